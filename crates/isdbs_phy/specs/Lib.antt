@@ -1,0 +1,5 @@
+pub mod Soft
+pub mod Points
+pub mod Layout
+pub mod Frame
+pub mod Reading
