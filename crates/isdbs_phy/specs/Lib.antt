@@ -3,3 +3,4 @@ pub mod Points
 pub mod Layout
 pub mod Frame
 pub mod Reading
+pub mod Pieces
