@@ -6,3 +6,4 @@ pub mod Complement
 pub mod Step
 pub mod Maximum
 pub mod Window
+pub mod Traceback
