@@ -53,7 +53,11 @@ pub record Favours (s : ℕ) (us : List ℕ) (ms : ℕ → List Float) (n : ℕ)
 abbrev pub loss : ℕ → ℕ → ℕ
 loss w k = 132 * w + 2 * k + 2 * (k - 62)
 
--- the loss over the longest frame, 1,066 windows: 4.2942 of the margin
+-- the windows of the longest frame, the last one begun
+abbrev pub windows : ℕ
+windows = 1066
+
+-- the loss over the longest frame, 132 in each window: 4.2942 of the margin
 abbrev pub frameLoss : ℕ
 frameLoss = 140712
 

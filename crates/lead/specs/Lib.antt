@@ -7,3 +7,4 @@ pub mod Step
 pub mod Maximum
 pub mod Window
 pub mod Traceback
+pub mod Sent

@@ -15,7 +15,7 @@ use Rattle.ieee.specs.Rounding.{le-or-ge, pow2, pow2-add, pow2-pos}
 use Rattle.trellis.specs.Code.{isdb, label}
 use Rattle.trellis.specs.Step.{four, Tie, wins, nexts, renormalised}
 use Rattle.trellis.specs.Run.{startAt}
-use Rattle.lead.specs.Favour.{margin, left, Favour}
+use Rattle.lead.specs.Favour.{margin, windows, left, Favour}
 use Rattle.lead.specs.Lists.{getD-upto}
 use Rattle.lead.specs.Ties.{same, true-of, false-of}
 use Rattle.lead.specs.Step.{Leads, leads-next, decides}
@@ -37,7 +37,7 @@ pub record Costs (w k j : ℕ) : Type 0 where
   pub loss : left w k * pow2 134 ≡ left w (k + 1) * pow2 134 + 2 * pow2 j
   pub some : 0 < left w (k + 1) * pow2 134
 
-low-cost : (w k : ℕ) → w < 1066 → k < 62 → Costs w k 134
+low-cost : (w k : ℕ) → w < windows → k < 62 → Costs w k 134
 low-cost w k W K =
     let o = pow2-pos 134 in
     let e : pow2 149 ≡ 32768 * pow2 134 = pow2-add 15 134 in
@@ -48,7 +48,7 @@ low-cost w k W K =
     let d : left w k ≡ left w (k + 1) + 2 = omega arith in
     record { short = lit< tt; wide = omega arith; within = omega arith; less = omega arith; loss = ap (λ (x : ℕ). x * pow2 134) d ∙ add-mul (left w (k + 1)) 2 (pow2 134); some = omega arith }
 
-high-cost : (w k : ℕ) → w < 1066 → 62 ≤ k → k < 64 → Costs w k 135
+high-cost : (w k : ℕ) → w < windows → 62 ≤ k → k < 64 → Costs w k 135
 high-cost w k W h K =
     let o = pow2-pos 134 in
     let g : pow2 135 ≡ 2 * pow2 134 = pow2-add 1 134 in
@@ -61,7 +61,7 @@ high-cost w k W h K =
     let l : left w k * pow2 134 ≡ left w (k + 1) * pow2 134 + 4 * pow2 134 = ap (λ (x : ℕ). x * pow2 134) d ∙ add-mul (left w (k + 1)) 4 (pow2 134) in
     record { short = lit< tt; wide = omega arith; within = omega arith; less = omega arith; loss = omega arith; some = omega arith }
 
-cost : (w k : ℕ) → w < 1066 → k < 64 → (j : ℕ) × Costs w k j
+cost : (w k : ℕ) → w < windows → k < 64 → (j : ℕ) × Costs w k j
 cost w k W K = go (le-or-ge 62 k)
   where
     go : (62 ≤ k) ⊎ (k ≤ 62) → (j : ℕ) × Costs w k j
@@ -73,7 +73,7 @@ cost w k W K = go (le-or-ge 62 k)
         at-62 (inr n) = (134, low-cost w k W (omega arith))
 
 -- ---- one step of a window, and its end
-module _ (t : Tie) (pm m : List Float) (s u w k : ℕ) (S : s < 64) (U : u < 2) (W : w < 1066) (K : k < 64) (v : Favour m (label isdb u s)) (i : At pm s w k) where
+module _ (t : Tie) (pm m : List Float) (s u w k : ℕ) (S : s < 64) (U : u < 2) (W : w < windows) (K : k < 64) (v : Favour m (label isdb u s)) (i : At pm s w k) where
   pub step-at : At (nexts 32 (label isdb) t pm (four m)) (32 * u + s / 2) w (k + 1)
   step-at =
       let c = cost w k W K in
@@ -90,18 +90,18 @@ module _ (t : Tie) (pm m : List Float) (s u w k : ℕ) (S : s < 64) (U : u < 2) 
       let x = c .1 in
       decides t pm m s u S U v (c .0) (33 * k) (depth w k) (left w k * pow2 134) (left w (k + 1) * pow2 134) (omega arith) (x .wide) (x .short) (omega arith) (x .within) (x .less) (x .loss) (x .some) i
 
-pub lower-at : (pm : List Float) (s w k : ℕ) → s < 64 → w < 1066 → k ≤ 64 → At pm s w k → Leads (renormalised 32 pm) s (0 * pow2 148) (depth (w + 1) 0 * pow2 149) (left w k * pow2 134)
-lower-at pm s w k S W K i =
+pub renormalise-at : (pm : List Float) (s w k : ℕ) → s < 64 → w < windows → k ≤ 64 → At pm s w k → Leads (renormalised 32 pm) s (0 * pow2 148) (depth (w + 1) 0 * pow2 149) (left w k * pow2 134)
+renormalise-at pm s w k S W K i =
     let t : pow2 149 ≡ 2 * pow2 148 = pow2-add 1 148 in
     let a : (depth w k + 1056) * pow2 149 ≡ depth w k * pow2 149 + 1056 * pow2 149 = add-mul (depth w k) 1056 (pow2 149) in
     let b : (depth w k + 1056) * pow2 149 ≤ depth (w + 1) 0 * pow2 149 = mul-le-mul-right (pow2 149) (omega arith) in
     let c : 33 * k * pow2 148 ≤ 2112 * pow2 148 = mul-le-mul-right (pow2 148) (omega arith) in
     leads-renormalised pm s S (33 * k * pow2 148) (depth w k * pow2 149) 149 (depth (w + 1) 0) (left w k) (lit< tt) (omega arith) (omega arith) (omega arith) (omega arith) i
 
-pub wrap-at : (pm : List Float) (s w : ℕ) → s < 64 → w < 1066 → At pm s w 64 → At (renormalised 32 pm) s (w + 1) 0
+pub wrap-at : (pm : List Float) (s w : ℕ) → s < 64 → w < windows → At pm s w 64 → At (renormalised 32 pm) s (w + 1) 0
 wrap-at pm s w S W i =
     let e : left w 64 ≡ left (w + 1) 0 = omega arith in
-    subst (λ (n : ℕ). Leads (renormalised 32 pm) s (0 * pow2 148) (depth (w + 1) 0 * pow2 149) (n * pow2 134)) e (lower-at pm s w 64 S W (lit≤ tt) i)
+    subst (λ (n : ℕ). Leads (renormalised 32 pm) s (0 * pow2 148) (depth (w + 1) 0 * pow2 149) (n * pow2 134)) e (renormalise-at pm s w 64 S W (lit≤ tt) i)
 
 -- ---- the known start
 zero-num : Num binary32 (ofBits binary32 0)
