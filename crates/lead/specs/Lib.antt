@@ -8,3 +8,4 @@ pub mod Maximum
 pub mod Window
 pub mod Traceback
 pub mod Sent
+pub mod Known
