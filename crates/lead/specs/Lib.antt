@@ -9,3 +9,4 @@ pub mod Window
 pub mod Traceback
 pub mod Sent
 pub mod Known
+pub mod Frame
