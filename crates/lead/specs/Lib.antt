@@ -10,3 +10,4 @@ pub mod Traceback
 pub mod Sent
 pub mod Known
 pub mod Frame
+pub mod Ideal
