@@ -1,32 +1,29 @@
 -- The frame: N steps that favour an encoded input, the known bits after them, and a flush. The decoder puts out the inputs, whatever it releases on the way.
 -- Assumes nothing.
-use mathlib.Core.Path.{_≡_, refl, sym, ap, _∙_, subst}
+use mathlib.Core.Path.{_≡_, refl, sym, _∙_}
 use mathlib.Core.Bool.{Bool, true, false, cond}
 use mathlib.Core.List.{List, []}
 use Prim.Native.Nat.{ℕ, zero, suc, _+_, _*_, _/_, _%_, _-_, _<_, _≤_}
 use native.Mathlib.Nat.{not-suc-le-zero, le-refl, zero-add, add-zero, add-suc, mod-lt}
 use native.Mathlib.Omega.{arith}
 use lib.Dec.{T, ltb, ltb→lt, lt→ltb, lit<}
-use lib.ListN.{getD, length}
+use lib.ListN.{getD, length, take, length-take}
+use lib.Seq.{getD-take, ext-getD}
 use lib.Ieee.{Float}
 use Rattle.ieee.specs.Rounding.{pow2, pow2-add}
 use Rattle.trellis.specs.Code.{isdb, label, moved, stateAt}
-use Rattle.trellis.specs.Step.{four, known, Tie, best, renormalised, kept}
-use Rattle.trellis.specs.Run.{Decoder, startAt, valuesAt, wordAt, after, pushed, flushed}
-use Rattle.lead.specs.Favour.{longest, margin, Favours}
+use Rattle.trellis.specs.Step.{four, known, Tie, best}
+use Rattle.trellis.specs.Run.{Decoder, startAt, valuesAt, after, pushed, flushed}
+use Rattle.lead.specs.Favour.{longest, Favours}
 use Rattle.lead.specs.Ties.{true-of, false-of}
 use Rattle.lead.specs.Step.{Leads}
-use Rattle.lead.specs.Traceback.{Along, counted, after-values, after-counted, after-along, flushed-counted, flushed-along}
+use Rattle.lead.specs.Traceback.{Along, after-values, after-along, flushed-counted, flushed-along}
 use Rattle.lead.specs.Sent.{moved-is, state-small, best-at, kept-at, leftover, leftover-is, ended}
 use Rattle.lead.specs.Known.{known-best, known-kept}
 
 -- a decoder that starts at the known state s
 abbrev pub fresh : ℕ → Decoder
 fresh s = record { values = startAt 64 s; words = []; bits = [] }
-
--- given N steps of four metrics in one call, then c known bits, by the rule t for equals and with the traceback length tb
-abbrev pub frame : Tie → ℕ → ℕ → (ℕ → List Float) → ℕ → (ℕ → ℕ) → ℕ → Decoder
-frame t tb s ms N w c = after 32 (label isdb) t tb (λ k. known (w k)) (pushed 32 (label isdb) t tb (λ i. four (ms i)) (fresh s) N) c
 
 -- the bits are N sent inputs and c known bits
 pub record Decoded (us : List ℕ) (N : ℕ) (w : ℕ → ℕ) (c : ℕ) (bits : List ℕ) : Type 0 where
@@ -107,23 +104,38 @@ module _ (t : Tie) (tb s : ℕ) (us : List ℕ) (ms : ℕ → List Float) (N : �
   best-of : (j : ℕ) → best t (valuesAt 32 (label isdb) t (λ k. known (w k)) (call .values) j) 63 ≡ f (N + j)
   best-of = known-best (label isdb) t w (call .values) (λ j. f (N + j)) start-small moves (leftover t ms s us N few v) some (leftover-is t ms s us N few v .1) call-leads
 
-  frame-along : (c : ℕ) → Along 32 f (frame t tb s ms N w c .bits) (frame t tb s ms N w c .words) (N + c)
-  frame-along c =
+  abbrev calls : ℕ → Decoder
+  calls c = after 32 (label isdb) t tb (λ k. known (w k)) call c
+
+  calls-along : (c : ℕ) → Along 32 f (calls c .bits) (calls c .words) (N + c)
+  calls-along c =
       after-along 32 (label isdb) t tb (λ k. known (w k)) call f N call-along c
       (λ j l. rw (← add-suc N j) (known-kept (label isdb) t w (call .values) (λ j. f (N + j)) start-small moves (leftover t ms s us N few v) some (leftover-is t ms s us N few v .1) call-leads j))
       (λ j l. rw (← add-suc N j) (best-of (suc j)))
 
-  frame-best : (c : ℕ) → best t (frame t tb s ms N w c .values) 63 ≡ f (N + c)
-  frame-best c = rw (after-values 32 (label isdb) t tb (λ k. known (w k)) call c) (best-of c)
+  calls-best : (c : ℕ) → best t (calls c .values) 63 ≡ f (N + c)
+  calls-best c = rw (after-values 32 (label isdb) t tb (λ k. known (w k)) call c) (best-of c)
 
-  found : (c i : ℕ) → i < N + c → getD (flushed 32 (label isdb) t (frame t tb s ms N w c) .bits) i 0 ≡ both us N w i
-  found c i l =
-      flushed-along 32 (label isdb) t tb f (frame t tb s ms N w c) (N + c) (frame-best c) (frame-along c) i l ∙ path-input s (both us N w) i (v .start) (λ i _. both-small i) .1
+  -- ---- the flush
+  found : (c i : ℕ) → i < N + c → getD (flushed 32 (label isdb) t (calls c) .bits) i 0 ≡ both us N w i
+  found c i l = flushed-along 32 (label isdb) t f (calls c) (N + c) (calls-best c) (calls-along c) i l ∙ path-input s (both us N w) i (v .start) (λ i _. both-small i) .1
 
-  -- THE THEOREM of this crate: the sent inputs come out, then the known bits
-  pub decoded-sent : (c : ℕ) → Decoded us N w c (flushed 32 (label isdb) t (frame t tb s ms N w c) .bits)
-  decoded-sent c = record {
-    count = flushed-counted 32 (label isdb) t tb (frame t tb s ms N w c) ∙ frame-along c .count;
+  flushed-decoded : (c : ℕ) → Decoded us N w c (flushed 32 (label isdb) t (calls c) .bits)
+  flushed-decoded c = record {
+    count = flushed-counted 32 (label isdb) t (calls c) ∙ calls-along c .count;
     sent = λ i l. found c i (omega arith) ∙ both-sent us N w i l;
     known = λ j l. found c (N + j) (omega arith) ∙ both-known us N w j;
   }
+
+-- THE THEOREM: a decoder that starts at the sender's state s, takes N favoured steps in one call and c known bits in another, and is flushed, has put out the
+-- N inputs, then the known bits; by either rule for equals and for every traceback length tb
+pub decoded-sent : (t : Tie) (tb s : ℕ) (us : List ℕ) (ms : ℕ → List Float) (N : ℕ) → N ≤ longest → Favours s us ms N → (w : ℕ → ℕ) (c : ℕ)
+    → Decoded us N w c (flushed 32 (label isdb) t (after 32 (label isdb) t tb (λ k. known (w k)) (pushed 32 (label isdb) t tb (λ i. four (ms i)) (fresh s) N) c) .bits)
+decoded-sent t tb s us ms N few v w c = flushed-decoded t tb s us ms N few v w c
+
+-- as lists: the first N bits are the N inputs
+pub decoded-take : {us : List ℕ} {N : ℕ} {w : ℕ → ℕ} {c : ℕ} {bits : List ℕ} → length us ≡ N → Decoded us N w c bits → take N bits ≡ us
+decoded-take {us} {N} {w} {c} {bits} e d =
+    let k = d .count in
+    let l : length (take N bits) ≡ N = length-take N bits ∙ omega arith in
+    ext-getD 0 (take N bits) us (l ∙ sym e) (λ i h. getD-take N bits i 0 (omega arith) ∙ d .sent i (omega arith))

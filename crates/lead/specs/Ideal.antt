@@ -3,7 +3,7 @@
 use mathlib.Core.Path.{_≡_, refl}
 use mathlib.Core.Bool.{true, false, cond}
 use mathlib.Core.List.{List}
-use Prim.Native.Nat.{ℕ, zero, suc, _+_, _*_, _-_, _<_, _≤_}
+use Prim.Native.Nat.{ℕ, zero, suc, _*_, _-_, _<_, _≤_}
 use native.Mathlib.Omega.{arith}
 use lib.Dec.{T, eqb}
 use lib.ListN.{getD, length}
@@ -13,12 +13,12 @@ use Rattle.ieee.specs.Value.{hi, lo, Num}
 use Rattle.ieee.specs.Rounding.{pow2}
 use Rattle.trellis.specs.Lists.{upto}
 use Rattle.trellis.specs.Code.{isdb, label, stateAt}
-use Rattle.trellis.specs.Step.{Tie}
-use Rattle.trellis.specs.Run.{flushed}
+use Rattle.trellis.specs.Step.{four, known, Tie}
+use Rattle.trellis.specs.Run.{after, pushed, flushed}
 use Rattle.lead.specs.Favour.{longest, margin, none, most, least, Above, Favour, Favours}
 use Rattle.lead.specs.Complement.{small}
 use Rattle.lead.specs.Sent.{moved-is}
-use Rattle.lead.specs.Frame.{frame, Decoded, decoded-sent}
+use Rattle.lead.specs.Frame.{fresh, Decoded, decoded-sent}
 
 abbrev eight : Float
 eight = fin false 1 (pos 3)
@@ -92,5 +92,6 @@ module _ (s : ℕ) (us : List ℕ) (start : s < 64) (bits : (i : ℕ) → i < le
   }
 
   -- so every list of at most 68,208 bits is decoded from these metrics
-  pub received-decoded : (t : Tie) (tb : ℕ) (w : ℕ → ℕ) (c : ℕ) → length us ≤ longest → Decoded us (length us) w c (flushed 32 (label isdb) t (frame t tb s (received s us) (length us) w c) .bits)
-  received-decoded t tb w c l = decoded-sent t tb s us (received s us) (length us) l received-favours w c
+  pub received-decoded : (t : Tie) (tb : ℕ) → length us ≤ longest → (w : ℕ → ℕ) (c : ℕ)
+      → Decoded us (length us) w c (flushed 32 (label isdb) t (after 32 (label isdb) t tb (λ k. known (w k)) (pushed 32 (label isdb) t tb (λ i. four (received s us i)) (fresh s) (length us)) c) .bits)
+  received-decoded t tb l = decoded-sent t tb s us (received s us) (length us) l received-favours

@@ -2,21 +2,21 @@
 -- The sent state keeps its whole lead, and the decisions along the sent path still point along it. Assumes nothing.
 use mathlib.Core.Path.{_≡_, refl, sym, ap, _∙_, subst}
 use mathlib.Core.Logic.{_⊎_, inl, inr}
-use mathlib.Core.Bool.{Bool, true, false, cond}
+use mathlib.Core.Bool.{true, cond}
 use mathlib.Core.List.{List}
-use Prim.Native.Nat.{ℕ, zero, suc, _+_, _*_, _/_, _%_, _-_, _<_, _≤_, _^_}
+use Prim.Native.Nat.{ℕ, zero, suc, _+_, _*_, _/_, _%_, _-_, _<_, _≤_}
 use native.Mathlib.Nat.{zero-mul, mod-lt, mul-le-mul-right}
 use native.Mathlib.Omega.{arith}
-use lib.Dec.{T, eqb, eqb→eq, eqb-refl, lit<, lit≤}
+use lib.Dec.{eqb, eqb→eq, eqb-refl, lit<, lit≤}
 use lib.ListN.{getD}
 use lib.Ieee.{Float, nan, binary32, prec, add, neg, fits, ofBits}
 use Rattle.ieee.specs.Value.{hi, lo, Num, hi-neg, lo-neg, num-neg}
 use Rattle.ieee.specs.Order.{Lt}
 use Rattle.ieee.specs.Nearest.{near}
-use Rattle.ieee.specs.Rounding.{Rounds, rounds-self, fine-between, pow2, pow2-add, pow2-pos}
+use Rattle.ieee.specs.Rounding.{rounds-self, fine-between, pow2, pow2-add, pow2-pos}
 use Rattle.ieee.specs.Sums.{add-rounds}
 use Rattle.trellis.specs.Code.{moved}
-use Rattle.trellis.specs.Step.{Step, known, Tie, term, addPair, branch, cand, wins, next, nexts, word, best, renormalised, ruled, kept}
+use Rattle.trellis.specs.Step.{known, Tie, term, branch, cand, wins, next, nexts, best, ruled, kept}
 use Rattle.trellis.specs.Run.{settled, valuesAt, wordAt}
 use Rattle.lead.specs.Favour.{margin}
 use Rattle.lead.specs.Lists.{getD-upto, getD-nexts}

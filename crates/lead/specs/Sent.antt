@@ -1,18 +1,18 @@
 -- The sent state always leads: over at most 68,208 steps that favour the pairs of an encoded input, the sent state is the only best one after each step,
 -- and each decision along the sent path points along it, so a traceback finds the inputs. Assumes nothing.
-use mathlib.Core.Path.{_≡_, refl, sym, ap, _∙_, subst}
+use mathlib.Core.Path.{_≡_, refl, ap, _∙_, subst}
 use mathlib.Core.Logic.{_⊎_, inl, inr}
-use mathlib.Core.Bool.{Bool, true, false, cond}
+use mathlib.Core.Bool.{false, cond}
 use mathlib.Core.List.{List}
-use Prim.Native.Nat.{ℕ, zero, suc, _+_, _*_, _/_, _%_, _-_, _<_, _≤_, _^_}
+use Prim.Native.Nat.{ℕ, zero, suc, _+_, _*_, _/_, _%_, _<_, _≤_, _^_}
 use native.Mathlib.Nat.{mul-le-mul-right, mod-lt, le-refl}
 use native.Mathlib.Omega.{arith}
-use lib.Dec.{T, eqb, eqb→eq, lit<, lit≤}
+use lib.Dec.{T, eqb, eqb→eq, lit<}
 use lib.ListN.{getD, length}
 use lib.Ieee.{Float, nan, binary32, lt}
-use Rattle.ieee.specs.Value.{hi, lo, Num}
+use Rattle.ieee.specs.Value.{Num}
 use Rattle.ieee.specs.Order.{value→lt}
-use Rattle.ieee.specs.Rounding.{pow2, pow2-add, pow2-pos}
+use Rattle.ieee.specs.Rounding.{pow2, pow2-pos}
 use Rattle.trellis.specs.Lists.{upto, bit}
 use Rattle.trellis.specs.Code.{isdb, label, moved, stateAt}
 use Rattle.trellis.specs.Step.{Step, four, Tie, wins, nexts, word, best, renormalised, kept, traced}

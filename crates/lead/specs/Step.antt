@@ -1,19 +1,17 @@
 -- One step of the trellis keeps the lead of the sent state, less the rounding of two sums.
 -- Assumes nothing.
-use mathlib.Core.Path.{_≡_, refl, sym, ap, _∙_, subst}
+use mathlib.Core.Path.{_≡_, refl}
 use mathlib.Core.Logic.{_⊎_, inl, inr}
-use mathlib.Core.Bool.{Bool, true, false, not, cond}
-use mathlib.Core.List.{List, []}
-use Prim.Native.Nat.{ℕ, zero, suc, _+_, _*_, _/_, _%_, _-_, _<_, _≤_, _^_}
-use native.Mathlib.Nat.{le-trans, le-of-eq, le-of-lt, mul-le-mul-right, add-mul, mod-lt}
+use mathlib.Core.List.{List}
+use Prim.Native.Nat.{ℕ, _+_, _*_, _/_, _%_, _-_, _<_, _≤_}
+use native.Mathlib.Nat.{mul-le-mul-right, add-mul, mod-lt}
 use native.Mathlib.Omega.{arith}
-use lib.Dec.{T, eqb, eqb→eq, eqb-refl, lit<, lit≤}
-use lib.ListN.{getD, length}
-use lib.IntN.{pos, negsuc}
-use lib.Ieee.{Float, nan, fin, binary32, prec, le, lt, add, sub, fits, ofBits}
+use lib.Dec.{eqb, lit<}
+use lib.ListN.{getD}
+use lib.Ieee.{Float, nan, binary32, add, fits}
 use Rattle.ieee.specs.Value.{hi, lo, Num}
-use Rattle.ieee.specs.Order.{Lt, le→value, lt→value, value→lt}
-use Rattle.ieee.specs.Rounding.{Rounds, pow2, pow2-add, pow2-pos, fine-pow2, Near, rounds-near}
+use Rattle.ieee.specs.Order.{Lt, le→value}
+use Rattle.ieee.specs.Rounding.{pow2, pow2-add, fine-pow2, rounds-near}
 use Rattle.ieee.specs.Sums.{add-rounds}
 use Rattle.trellis.specs.Code.{isdb, label}
 use Rattle.trellis.specs.Step.{four, Tie, branch, cand, wins, next, nexts}
