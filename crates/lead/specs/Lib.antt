@@ -10,4 +10,5 @@ pub mod Traceback
 pub mod Sent
 pub mod Known
 pub mod Frame
+pub mod Unique
 pub mod Ideal
