@@ -19,7 +19,7 @@ use Rattle.lead.specs.Ties.{true-of, false-of}
 use Rattle.lead.specs.Step.{Leads}
 use Rattle.lead.specs.Traceback.{Along, after-values, after-along, flushed-counted, flushed-along}
 use Rattle.lead.specs.Sent.{moved-is, state-small, best-at, kept-at, leftover, leftover-is, ended}
-use Rattle.lead.specs.Known.{known-best, known-kept}
+use Rattle.lead.specs.Known.{ruledOut, known-best, known-kept}
 
 -- a decoder that starts at the known state s
 abbrev pub fresh : ℕ → Decoder
@@ -91,7 +91,7 @@ module _ (t : Tie) (tb s : ℕ) (us : List ℕ) (ms : ℕ → List Float) (N : �
   start-small : f (N + 0) < 64
   start-small = rw (add-zero N, path-sent s us N w N (le-refl N)) (state-small t ms s us N few v N (le-refl N))
 
-  call-leads : Leads (call .values) (f (N + 0)) (0 * pow2 148) (15625000 * pow2 155) (leftover t ms s us N few v * pow2 134)
+  call-leads : Leads (call .values) (f (N + 0)) (0 * pow2 148) ruledOut (leftover t ms s us N few v * pow2 134)
   call-leads =
       let i = ended t ms s us N few v in
       let e : pow2 155 ≡ 64 * pow2 149 = pow2-add 6 149 in
@@ -127,7 +127,7 @@ module _ (t : Tie) (tb s : ℕ) (us : List ℕ) (ms : ℕ → List Float) (N : �
     known = λ j l. found c (N + j) (omega arith) ∙ both-known us N w j;
   }
 
--- THE THEOREM: a decoder that starts at the sender's state s, takes N favoured steps in one call and c known bits in another, and is flushed, has put out the
+-- The theorem: a decoder that starts at the sender's state s, takes N favoured steps in one call and c known bits in another, and is flushed, has put out the
 -- N inputs, then the known bits; by either rule for equals and for every traceback length tb
 pub decoded-sent : (t : Tie) (tb s : ℕ) (us : List ℕ) (ms : ℕ → List Float) (N : ℕ) → N ≤ longest → Favours s us ms N → (w : ℕ → ℕ) (c : ℕ)
     → Decoded us N w c (flushed 32 (label isdb) t (after 32 (label isdb) t tb (λ k. known (w k)) (pushed 32 (label isdb) t tb (λ i. four (ms i)) (fresh s) N) c) .bits)

@@ -73,11 +73,15 @@ known-worth out pm c k b p =
     worth-trans (adds-nothing (add binary32 (getD pm r nan) (term (l / 2) (ofBits binary32 0))) (term (l % 2) (ofBits binary32 0)) (f .num) (y .num) (y .hi-is) (y .lo-is)) f
 
 -- ---- the states that the bit rules out
+-- 1.0e9, in units of 2 ^ -149
+abbrev pub ruledOut : ℕ
+ruledOut = 15625000 * pow2 155
+
 out-num : Num binary32 (ofBits binary32 0xce6e_6b28)
 unfolding fits ofBits
 out-num = record { fin-x = tt; fits-x = tt }
 
-out-is : (hi binary32 (ofBits binary32 0xce6e_6b28) ≡ 0) × (lo binary32 (ofBits binary32 0xce6e_6b28) ≡ 15625000 * pow2 155)
+out-is : (hi binary32 (ofBits binary32 0xce6e_6b28) ≡ 0) × (lo binary32 (ofBits binary32 0xce6e_6b28) ≡ ruledOut)
 unfolding hi lo pow2 ofBits
 out-is = (refl, refl)
 
@@ -96,7 +100,7 @@ unfolding ruled
 ruled-value out t pm c k K =
     getD-upto (λ k. cond (eqb (k / 32) (c % 2)) (getD (nexts 32 out t pm (known c)) k nan) (ofBits binary32 0xce6e_6b28)) nan 64 k K ∙ rw (getD-nexts 32 out t pm (known c) k K)
 
-module _ (out : ℕ → ℕ → ℕ) (t : Tie) (pm : List Float) (s c : ℕ) (S : s < 64) (M L : ℕ) (few : L ≤ margin * pow2 149) (some : 0 < L) (i : Leads pm s M (15625000 * pow2 155) L) where
+module _ (out : ℕ → ℕ → ℕ) (t : Tie) (pm : List Float) (s c : ℕ) (S : s < 64) (M L : ℕ) (few : L ≤ margin * pow2 149) (some : 0 < L) (i : Leads pm s M ruledOut L) where
   small : moved 32 (c % 2) s < 64
   small = moved-is (c % 2) s (mod-lt c (lit< tt)) S .0
 
@@ -106,7 +110,7 @@ module _ (out : ℕ → ℕ → ℕ) (t : Tie) (pm : List Float) (s c : ℕ) (S 
       subst (λ (r : ℕ). Worth (cand 32 out pm (known c) (moved 32 (c % 2) s) (s % 2)) (getD pm r nan)) n (known-worth out pm c (moved 32 (c % 2) s) (s % 2) (rw n (i .num s S)))
 
   -- not from the sent state
-  rival-path : (k b : ℕ) → k < 64 → b < 2 → (2 * (k % 32) + b ≡ s → ⊥) → Below (getD pm s nan) (cand 32 out pm (known c) k b) (15625000 * pow2 155) L
+  rival-path : (k b : ℕ) → k < 64 → b < 2 → (2 * (k % 32) + b ≡ s → ⊥) → Below (getD pm s nan) (cand 32 out pm (known c) k b) ruledOut L
   rival-path k b K b2 n =
       let R : 2 * (k % 32) + b < 64 = omega arith in
       let w = known-worth out pm c k b (i .num (2 * (k % 32) + b) R) in
@@ -114,7 +118,7 @@ module _ (out : ℕ → ℕ → ℕ) (t : Tie) (pm : List Float) (s c : ℕ) (S 
       let l = i .lead (2 * (k % 32) + b) R n in
       record { num = w .num; floor = omega arith; lead = omega arith }
 
-  beside : Below (getD pm s nan) (cand 32 out pm (known c) (moved 32 (c % 2) s) (1 - s % 2)) (15625000 * pow2 155) L
+  beside : Below (getD pm s nan) (cand 32 out pm (known c) (moved 32 (c % 2) s) (1 - s % 2)) ruledOut L
   beside = rival-path (moved 32 (c % 2) s) (1 - s % 2) small (omega arith) (λ f. omega arith)
 
   apart : Lt binary32 (cand 32 out pm (known c) (moved 32 (c % 2) s) (1 - s % 2)) (cand 32 out pm (known c) (moved 32 (c % 2) s) (s % 2))
@@ -130,16 +134,16 @@ module _ (out : ℕ → ℕ → ℕ) (t : Tie) (pm : List Float) (s c : ℕ) (S 
       rw (ruled-value out t pm c (moved 32 (c % 2) s) small, n, true-of (eqb (c % 2) (c % 2)) (eqb-refl (c % 2)), next-is 32 out t pm (known c) (moved 32 (c % 2) s) (s % 2) (mod-lt s (lit< tt)) (sent-path .num) (beside .num) apart)
       sent-path
 
-  rival-next : (k : ℕ) → k < 64 → k / 32 ≡ c % 2 → (k ≡ moved 32 (c % 2) s → ⊥) → Below (getD pm s nan) (next 32 out t pm (known c) k) (15625000 * pow2 155) L
+  rival-next : (k : ℕ) → k < 64 → k / 32 ≡ c % 2 → (k ≡ moved 32 (c % 2) s → ⊥) → Below (getD pm s nan) (next 32 out t pm (known c) k) ruledOut L
   unfolding next
   rival-next k K e n =
-      pick (λ z. Below (getD pm s nan) z (15625000 * pow2 155) L) (wins 32 out t pm (known c) k) (cand 32 out pm (known c) k 1) (cand 32 out pm (known c) k 0)
+      pick (λ z. Below (getD pm s nan) z ruledOut L) (wins 32 out t pm (known c) k) (cand 32 out pm (known c) k 1) (cand 32 out pm (known c) k 0)
       (rival-path k 1 K (lit< tt) (λ g. n (omega arith))) (rival-path k 0 K (lit< tt) (λ g. n (omega arith)))
 
-  rival-ruled : (k : ℕ) → k < 64 → (k ≡ moved 32 (c % 2) s → ⊥) → Below (getD pm s nan) (getD (ruledNexts out t pm c) k nan) (15625000 * pow2 155) L
+  rival-ruled : (k : ℕ) → k < 64 → (k ≡ moved 32 (c % 2) s → ⊥) → Below (getD pm s nan) (getD (ruledNexts out t pm c) k nan) ruledOut L
   rival-ruled k K n = rw (ruled-value out t pm c k K) (go (same (k / 32) (c % 2)))
     where
-      go : (k / 32 ≡ c % 2) ⊎ (k / 32 ≡ c % 2 → ⊥) → Below (getD pm s nan) (cond (eqb (k / 32) (c % 2)) (next 32 out t pm (known c) k) (ofBits binary32 0xce6e_6b28)) (15625000 * pow2 155) L
+      go : (k / 32 ≡ c % 2) ⊎ (k / 32 ≡ c % 2 → ⊥) → Below (getD pm s nan) (cond (eqb (k / 32) (c % 2)) (next 32 out t pm (known c) k) (ofBits binary32 0xce6e_6b28)) ruledOut L
       go (inl e) = let b : eqb (k / 32) (c % 2) ≡ true = rw e (true-of (eqb (c % 2) (c % 2)) (eqb-refl (c % 2))) in rw b (rival-next k K e n)
       go (inr e) =
           let o = out-is in
@@ -147,7 +151,7 @@ module _ (out : ℕ → ℕ → ℕ) (t : Tie) (pm : List Float) (s c : ℕ) (S 
           let d : pow2 155 ≡ 64 * pow2 149 = pow2-add 6 149 in
           rw (false-of (eqb (k / 32) (c % 2)) (λ b. e (eqb→eq (k / 32) (c % 2) b))) record { num = out-num; floor = omega arith; lead = omega arith }
 
-  leads-ruled : Leads (ruledNexts out t pm c) (moved 32 (c % 2) s) M (15625000 * pow2 155) L
+  leads-ruled : Leads (ruledNexts out t pm c) (moved 32 (c % 2) s) M ruledOut L
   leads-ruled = record {
     num = λ k K. num-at k K (same k (moved 32 (c % 2) s));
     floor = λ k K. floor-at k K (same k (moved 32 (c % 2) s));
@@ -160,13 +164,13 @@ module _ (out : ℕ → ℕ → ℕ) (t : Tie) (pm : List Float) (s c : ℕ) (S 
       num-at k K (inl e) = rw e (sent-ruled .num)
       num-at k K (inr n) = rival-ruled k K n .num
 
-      floor-at : (k : ℕ) → k < 64 → (k ≡ moved 32 (c % 2) s) ⊎ (k ≡ moved 32 (c % 2) s → ⊥) → lo binary32 (getD (ruledNexts out t pm c) k nan) ≤ hi binary32 (getD (ruledNexts out t pm c) k nan) + 15625000 * pow2 155
+      floor-at : (k : ℕ) → k < 64 → (k ≡ moved 32 (c % 2) s) ⊎ (k ≡ moved 32 (c % 2) s → ⊥) → lo binary32 (getD (ruledNexts out t pm c) k nan) ≤ hi binary32 (getD (ruledNexts out t pm c) k nan) + ruledOut
       floor-at k K (inl e) = rw e (let x = sent-ruled in let y = i .plus in omega arith)
       floor-at k K (inr n) = let y = rival-ruled k K n in omega arith
 
 -- ---- known bits w, one after the other, from path values of which the state f 0 leads by a * 2 ^ -15; f is the path of the bits
 module _ (out : ℕ → ℕ → ℕ) (t : Tie) (w : ℕ → ℕ) (pm : List Float) (f : ℕ → ℕ) (S : f 0 < 64) (moves : (j : ℕ) → f (suc j) ≡ moved 32 (w j % 2) (f j))
-    (a : ℕ) (A : 0 < a) (A' : a ≤ margin * 32768) (i : Leads pm (f 0) (0 * pow2 148) (15625000 * pow2 155) (a * pow2 134))
+    (a : ℕ) (A : 0 < a) (A' : a ≤ margin * 32768) (i : Leads pm (f 0) (0 * pow2 148) ruledOut (a * pow2 134))
   where
     small-at : (j : ℕ) → f j < 64
     small-at zero = S
@@ -181,7 +185,7 @@ module _ (out : ℕ → ℕ → ℕ) (t : Tie) (w : ℕ → ℕ) (pm : List Floa
         let e : pow2 149 ≡ 32768 * pow2 134 = pow2-add 15 134 in
         omega arith
 
-    leads-at : (j : ℕ) → Leads (valuesAt 32 out t (λ k. known (w k)) pm j) (f j) (0 * pow2 148) (15625000 * pow2 155) (a * pow2 134)
+    leads-at : (j : ℕ) → Leads (valuesAt 32 out t (λ k. known (w k)) pm j) (f j) (0 * pow2 148) ruledOut (a * pow2 134)
     unfolding valuesAt settled
     leads-at zero = i
     leads-at (suc j) =
@@ -189,7 +193,7 @@ module _ (out : ℕ → ℕ → ℕ) (t : Tie) (w : ℕ → ℕ) (pm : List Floa
         let pm' = valuesAt 32 out t (λ k. known (w k)) pm j in
         let m = small-at j in
         rw (moves j)
-        (leads-renormalised (ruled 32 (w j) (nexts 32 out t pm' (known (w j)))) (moved 32 (w j % 2) (f j)) (rw (moves j) at (small-at (suc j))) (0 * pow2 148) (15625000 * pow2 155) 155 15625000 a (lit< tt) (lit≤ tt) (omega arith) A (omega arith)
+        (leads-renormalised (ruled 32 (w j) (nexts 32 out t pm' (known (w j)))) (moved 32 (w j % 2) (f j)) (rw (moves j) at (small-at (suc j))) (0 * pow2 148) ruledOut 155 15625000 a (lit< tt) (lit≤ tt) (omega arith) A (omega arith)
         (leads-ruled out t pm' (f j) (w j) m (0 * pow2 148) (a * pow2 134) few-lead some-lead (leads-at j)))
 
     pub known-best : (j : ℕ) → best t (valuesAt 32 out t (λ k. known (w k)) pm j) 63 ≡ f j

@@ -1,4 +1,5 @@
--- One step of the trellis keeps the lead of the sent state, less the rounding of two sums.
+-- One step of four metrics keeps the lead of the sent state, less the rounding of two sums. A rival's sum is rounded monotonely, so it stays below the rounded
+-- (sent sum - lead), whose size is that of the sent sum: only the magnitude of the sent path's value matters. Values are in units of 2 ^ -149.
 -- Assumes nothing.
 use mathlib.Core.Path.{_≡_, refl}
 use mathlib.Core.Logic.{_⊎_, inl, inr}
@@ -47,12 +48,14 @@ unfolding hi lo pow2
 limits = (refl, refl, refl, refl, refl, refl)
 
 -- ---- one sum of the sent path, x + a, and one of a rival, y + b
+-- z is from 0 to M and at least A - C - E
 pub record Sent (z : Float) (A C M E : ℕ) : Type 0 where
   pub num : Num binary32 z
   pub plus : lo binary32 z ≡ 0
   pub cap : hi binary32 z ≤ M
   pub under : A + lo binary32 z ≤ hi binary32 z + C + E
 
+-- z is at least -B and at most A - C - L + E
 pub record Rival (z : Float) (A C B L E : ℕ) : Type 0 where
   pub num : Num binary32 z
   pub floor : lo binary32 z ≤ B
