@@ -4,16 +4,19 @@ use mathlib.Core.Path.{_≡_, refl, sym, ap, _∙_, subst}
 use mathlib.Core.Logic.{_⊎_, inl, inr}
 use mathlib.Core.Bool.{Bool, true, false, not, cond}
 use Prim.Native.Nat.{ℕ, zero, suc, _+_, _-_, _*_, _/_, _^_, _≤_, _<_}
-use native.Mathlib.Nat.{le-trans, le-of-eq, le-of-lt, le-antisymm, lt-irrefl, lt-of-lt-of-le, lt-of-le-of-lt, lt-of-not-le, eq-or-lt-of-le, le-of-mul-le-mul-right, mul-assoc, mul-one, mul-div-cancel, mul-le-mul-right, add-assoc, add-mul, pow-suc}
+use native.Mathlib.Nat.{le-trans, le-of-eq, le-of-lt, le-antisymm, lt-irrefl, lt-of-lt-of-le, lt-of-le-of-lt, lt-of-not-le, eq-or-lt-of-le, le-of-mul-le-mul-right, mul-assoc, mul-one, mul-div-cancel, mul-le-mul-right, add-assoc, one-mul, mul-pos, eq-zero-or-pos, pow-suc}
 use native.Mathlib.Omega.{arith}
-use lib.Dec.{T, ltb, ltb→lt, nltb→le}
+use lib.Dec.{T, ltb, ltb→lt, nltb→le, not-T}
 use lib.Pow.{pow-add, pow-pos, pow-mono, pow-lt, shl-lt}
-use lib.Ieee.{Float, nan, inf, fin, Format, prec, emax, low, up, down, size, odd, units, fits, hid, ones, top, ofBits, toBits}
+use lib.Ieee.{Float, nan, inf, fin, Format, prec, emax, low, up, down, size, odd, units, round, hid, ones, top, ofBits, toBits}
 use lib.Ieee.Digits.{size-lt, size-le}
-use lib.Ieee.Fits.{two, down-pos, odd-fits, inf-fits}
+use lib.Ieee.Fits.{two, down-pos, odd-fits, inf-fits, round-is}
+use lib.Ieee.Nearest.{closest, closest-same, div-same}
+use lib.Ieee.Order.{drop, kept}
 use lib.Ieee.Exact.{HasValue, odd-sign}
 use lib.Ieee.Scale.{overflow}
-use lib.Ieee.Bits.{ofBits-toBits}
+use lib.Ieee.Bits.{ofBits-toBits, cond-no}
+use Rattle.ieee.specs.Nearest.{rnd, rnd-mono, rnd-fix, kept-le, kept-ge}
 use Rattle.ieee.specs.Value.{pow-cancel}
 use Rattle.ieee.specs.Rounding.{prec-pos}
 
@@ -117,3 +120,67 @@ units-bits f s q k h g r = go (ltb (q * 2 ^ k) (overflow f)) (ltb→lt (q * 2 ^ 
         let e : toBits f x ≡ cond s (top f) 0 + (k * hid f + q) = value-bits f x s (q * 2 ^ k) (odd-sign (suc (prec f)) s q k (low f)) ∙ ap (λ (n : ℕ). cond s (top f) 0 + n) (pattern-is (prec f) q k (prec-pos f) h g) in
         ap (λ (n : ℕ). ofBits f n) (sym e) ∙ ofBits-toBits f x (odd-fits f (suc (prec f)) s q k (lt-of-le-of-lt h (pow-lt (le-of-eq refl))) h (l tt))
     go false l m = ap (λ (n : ℕ). ofBits f (cond s (top f) 0 + n)) (carried f q k h r (m tt)) ∙ inf-bits f s
+
+-- ---- the pattern of w * 2 ^ k over 2 ^ (low + c), rounded: j digits of it are dropped, and what is kept is w over 2 ^ d
+module _ (f : Format) (w k c d j : ℕ) (z : size (w * 2 ^ k / 2 ^ c) - prec f ≡ j) (x : k + d ≡ c + j) where
+  drop-is : drop (prec f) (w * 2 ^ k * 2 ^ low f) (2 ^ (low f + c)) ≡ j
+  drop-is =
+      ap (λ (n : ℕ). size n - prec f)
+      (div-same (w * 2 ^ k * 2 ^ low f) (2 ^ (low f + c)) (w * 2 ^ k) (2 ^ c) (pow-pos (low f + c)) (pow-pos c) (mul-assoc (w * 2 ^ k) (2 ^ low f) (2 ^ c) ∙ ap (λ (n : ℕ). w * 2 ^ k * n) (sym (pow-add 2 (low f) c))))
+      ∙ z
+
+  kept-is : kept (prec f) (w * 2 ^ k * 2 ^ low f) (2 ^ (low f + c)) ≡ closest w (2 ^ d)
+  kept-is =
+      ap (λ (n : ℕ). closest (w * 2 ^ k * 2 ^ low f) (2 ^ (low f + c) * 2 ^ n)) drop-is
+      ∙ closest-same (w * 2 ^ k * 2 ^ low f) (2 ^ (low f + c) * 2 ^ j) w (2 ^ d) (mul-pos (pow-pos (low f + c)) (pow-pos j)) (pow-pos d)
+      (fold w k (low f) d ∙ ap (λ (n : ℕ). w * 2 ^ n) (level k (low f) d c j x) ∙ ap (λ (n : ℕ). w * n) (pow-add 2 (low f + c) j))
+    where
+      fold : (w a b c : ℕ) → w * 2 ^ a * 2 ^ b * 2 ^ c ≡ w * 2 ^ (a + b + c)
+      fold w a b c =
+          ap (λ (n : ℕ). n * 2 ^ c) (mul-assoc w (2 ^ a) (2 ^ b) ∙ ap (λ (n : ℕ). w * n) (sym (pow-add 2 a b)))
+          ∙ mul-assoc w (2 ^ (a + b)) (2 ^ c)
+          ∙ ap (λ (n : ℕ). w * n) (sym (pow-add 2 (a + b) c))
+
+      level : (k l d c j : ℕ) → k + d ≡ c + j → k + l + d ≡ l + c + j
+      level k l d c j x = omega arith
+
+  pub closest-le : closest w (2 ^ d) ≤ 2 ^ prec f
+  closest-le = subst (λ (n : ℕ). n ≤ 2 ^ prec f) kept-is (kept-le (prec f) (w * 2 ^ k * 2 ^ low f) (2 ^ (low f + c)))
+
+  pub round-bits : (s : Bool) → j + 2 ≤ ones f → ofBits f (cond s (top f) 0 + (j * hid f + closest w (2 ^ d))) ≡ round f s (w * 2 ^ k) (2 ^ (low f + c))
+  round-bits s r =
+      let n = w * 2 ^ k * 2 ^ low f in
+      let D = 2 ^ (low f + c) in
+      let q = kept (prec f) n D in
+      let i = drop (prec f) n D in
+      ap (λ (a : ℕ). ofBits f (cond s (top f) 0 + (a * hid f + closest w (2 ^ d)))) (sym drop-is)
+      ∙ ap (λ (b : ℕ). ofBits f (cond s (top f) 0 + (i * hid f + b))) (sym kept-is)
+      ∙ units-bits f s q i (kept-le (prec f) n D) (elim (eq-zero-or-pos i) [ inl e ↦ inl e | inr h ↦ inr (kept-ge (prec f) n D (prec-pos f) h) ]) (subst (λ (a : ℕ). a + 2 ≤ ones f) (sym drop-is) r)
+      ∙ sym (round-is f s (w * 2 ^ k) D)
+
+-- from 2 ^ (emax + 1) on it is the infinity
+pub round-over : (f : Format) (s : Bool) (n c : ℕ) → 2 ^ (low f + suc (emax f) + c) ≤ n → round f s n (2 ^ (low f + c)) ≡ inf s
+unfolding units
+round-over f s n c h =
+    round-is f s n (2 ^ (low f + c))
+    ∙ cond-no (ltb (kept (prec f) (n * 2 ^ low f) D * 2 ^ drop (prec f) (n * 2 ^ low f) D) (overflow f)) (odd (suc (prec f)) s (kept (prec f) (n * 2 ^ low f) D) (drop (prec f) (n * 2 ^ low f) D) (low f)) (inf s)
+    (le→nltb (overflow f) (rnd (prec f) (n * 2 ^ low f) D) over)
+  where
+    D : ℕ
+    D = 2 ^ (low f + c)
+
+    le→nltb : (a b : ℕ) → a ≤ b → T (not (ltb b a))
+    le→nltb a b h = not-T (ltb b a) (λ (t : T (ltb b a)). lt-irrefl a (lt-of-le-of-lt h (ltb→lt b a t)))
+
+    enough : 1 * overflow f * 2 ^ (low f + c) ≤ n * 2 ^ low f
+    enough =
+        le-trans (le-of-eq (ap (λ (x : ℕ). x * 2 ^ (low f + c)) (one-mul (overflow f)) ∙ sym (pow-add 2 (low f + suc (emax f)) (low f + c)) ∙ ap (λ (x : ℕ). 2 ^ x) (swap (low f + suc (emax f)) (low f) c) ∙ pow-add 2 (low f + suc (emax f) + c) (low f)))
+        (mul-le-mul-right (2 ^ low f) h)
+      where
+        swap : (a l c : ℕ) → a + (l + c) ≡ a + c + l
+        swap a l c = omega arith
+
+    over : overflow f ≤ rnd (prec f) (n * 2 ^ low f) (2 ^ (low f + c))
+    over =
+        le-trans (le-of-eq (sym (rnd-fix (prec f) 1 (low f + suc (emax f)) (2 ^ (low f + c)) (prec-pos f) (pow-pos (low f + c)) (pow-pos (prec f)) ∙ one-mul (overflow f))))
+        (rnd-mono (prec f) (1 * overflow f * 2 ^ (low f + c)) (2 ^ (low f + c)) (n * 2 ^ low f) (2 ^ (low f + c)) (prec-pos f) (pow-pos (low f + c)) (pow-pos (low f + c)) (mul-le-mul-right (2 ^ (low f + c)) enough))

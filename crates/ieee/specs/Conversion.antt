@@ -12,7 +12,7 @@ use lib.Dec.{T, ltb, eqb, ltb→lt, eqb→eq}
 use lib.Ieee.{Float, nan, inf, fin, Format, prec, low, up, down, neg, fits, isNan, odd, units, round, lt, le, eq}
 use lib.Ieee.Fits.{down-pos, and-l, and-r, and-i, eq→eqb, nan-fits, inf-fits, neg-fits, round-fits, round-is}
 use lib.Ieee.Order.{drop, kept, round-mono}
-use lib.Ieee.Scale.{overflow}
+use lib.Ieee.Scale.{round-same, overflow}
 use lib.Ieee.Exact.{HasValue}
 use Rattle.ieee.specs.Nearest.{rnd, near, near-is}
 use Rattle.ieee.specs.Value.{mag, hi, lo, Num, shape, hi-of, lo-of, hi-fix, finite-of, hi-under}
@@ -32,6 +32,13 @@ unfolding rounded
 rounded-fits f nan = nan-fits f
 rounded-fits f (inf s) = inf-fits f s
 rounded-fits f (fin s m e) = round-fits f s (m * up e) (down e)
+
+-- by any fraction a / b that is its magnitude
+pub rounded-value : (f : Format) (x : Float) (s : Bool) (a b : ℕ) → 0 < b → HasValue x s a b → rounded f x ≡ round f s a b
+unfolding rounded
+rounded-value f nan s a b B v = absurd v
+rounded-value f (inf t) s a b B v = absurd v
+rounded-value f (fin t m e) s a b B v = ap (λ (r : Bool). round f r (m * up e) (down e)) (v .0) ∙ round-same f s (m * up e) (down e) a b (down-pos e) B (v .1)
 
 -- ---- the sign
 pub rounded-neg : (f : Format) (x : Float) → rounded f (neg x) ≡ neg (rounded f x)
