@@ -3,8 +3,8 @@
 use mathlib.Core.Path.{_≡_, refl, sym, ap, _∙_, subst}
 use mathlib.Core.Logic.{_⊎_, inl, inr}
 use mathlib.Core.Bool.{Bool, true, false, not, cond}
-use Prim.Native.Nat.{ℕ, zero, suc, _+_, _-_, _*_, _/_, _^_, _≤_, _<_}
-use native.Mathlib.Nat.{le-trans, le-of-eq, le-of-lt, le-antisymm, lt-irrefl, lt-of-lt-of-le, lt-of-le-of-lt, lt-of-not-le, eq-or-lt-of-le, le-of-mul-le-mul-right, mul-assoc, mul-one, mul-div-cancel, mul-le-mul-right, add-assoc, one-mul, mul-pos, eq-zero-or-pos, pow-suc}
+use Prim.Native.Nat.{ℕ, suc, _+_, _-_, _*_, _/_, _^_, _≤_, _<_}
+use native.Mathlib.Nat.{le-trans, le-of-eq, le-antisymm, lt-irrefl, lt-of-lt-of-le, lt-of-le-of-lt, lt-of-not-le, eq-or-lt-of-le, le-of-mul-le-mul-right, mul-assoc, mul-one, mul-div-cancel, mul-le-mul-right, add-assoc, one-mul, mul-pos, eq-zero-or-pos, pow-suc}
 use native.Mathlib.Omega.{arith}
 use lib.Dec.{T, ltb, ltb→lt, nltb→le, not-T}
 use lib.Pow.{pow-add, pow-pos, pow-mono, pow-lt, shl-lt}
@@ -32,7 +32,7 @@ pattern-at : (p n k w : ℕ) → size n - p ≡ k → n ≡ w * 2 ^ k → patter
 unfolding pattern
 pattern-at p n k w z e = ap (λ (j : ℕ). j * 2 ^ (p - 1) + n / 2 ^ j) z ∙ ap (λ (x : ℕ). k * 2 ^ (p - 1) + x / 2 ^ k) e ∙ ap (λ (x : ℕ). k * 2 ^ (p - 1) + x) (mul-div-cancel w (pow-pos k))
 
-pub double : (p : ℕ) → 0 < p → 2 ^ p ≡ 2 ^ (p - 1) * 2
+double : (p : ℕ) → 0 < p → 2 ^ p ≡ 2 ^ (p - 1) * 2
 double p h = ap (λ (x : ℕ). 2 ^ x) (up p h) ∙ pow-suc 2 (p - 1)
   where
     up : (p : ℕ) → 0 < p → p ≡ suc (p - 1)

@@ -2,23 +2,22 @@
 -- It keeps the order of all floats, infinities too (`rounded-mono`), leaves what the format holds as it is (`rounded-self`), and keeps the sign apart (`rounded-neg`).
 -- So a value between two that the format holds stays between them, and is then finite (`rounded-between`). Assumes nothing.
 use mathlib.Core.Path.{_≡_, refl, sym, ap, _∙_, subst}
-use mathlib.Core.Logic.{_⊎_, inl, inr}
-use mathlib.Core.Bool.{Bool, true, false, not, _&&_, _||_, Bool·beq, cond}
-use Prim.Native.Nat.{ℕ, zero, suc, _+_, _-_, _*_, _/_, _^_, _≤_, _<_, zero-le}
+use mathlib.Core.Logic.{inl, inr}
+use mathlib.Core.Bool.{Bool, true, false, not, _&&_, _||_, cond}
+use Prim.Native.Nat.{ℕ, zero, suc, _*_, _^_, _≤_, _<_}
 use native.Mathlib.Nat.{le-of-eq, le-of-lt, lt-irrefl, mul-pos, eq-zero-or-pos}
-use native.Mathlib.Omega.{arith}
 use lib.IntN.{ℤ, pos}
 use lib.Dec.{T, ltb, eqb, ltb→lt, eqb→eq}
-use lib.Ieee.{Float, nan, inf, fin, Format, prec, low, up, down, neg, fits, isNan, odd, units, round, lt, le, eq}
+use lib.Ieee.{Float, nan, inf, fin, Format, prec, low, up, down, neg, fits, odd, units, round, le}
 use lib.Ieee.Fits.{down-pos, and-l, and-r, and-i, eq→eqb, nan-fits, inf-fits, neg-fits, round-fits, round-is}
 use lib.Ieee.Order.{drop, kept, round-mono}
 use lib.Ieee.Scale.{round-same, overflow}
 use lib.Ieee.Exact.{HasValue}
-use Rattle.ieee.specs.Nearest.{rnd, near, near-is}
+use Rattle.ieee.specs.Nearest.{rnd, near-is}
 use Rattle.ieee.specs.Value.{mag, hi, lo, Num, shape, hi-of, lo-of, hi-fix, finite-of, hi-under}
 use Rattle.ieee.specs.Order.{or-l, or-r, or-split, sum-test, num-between, le→value}
 use Rattle.ieee.specs.Rounding.{prec-pos, round-at, round-neg, Between}
-use Rattle.ieee.specs.Zero.{plain, unique, plus-plain, round-zero}
+use Rattle.ieee.specs.Zero.{unique, plus-plain, round-zero}
 
 -- nearest to x, by `round`, which alone knows the format; an infinity and a NaN stay what they are
 unfoldable pub rounded : Format → Float → Float

@@ -3,11 +3,11 @@
 use mathlib.Core.Path.{_≡_, refl, sym, ap, _∙_, subst}
 use mathlib.Core.Bool.{Bool, true, false, not, _&&_, cond, true≢false, Bool·beq}
 use Prim.Native.Nat.{ℕ, zero, suc, _+_, _-_, _*_, _/_, _%_, _^_, _≤_, _<_, zero-le}
-use native.Mathlib.Nat.{le-trans, le-of-eq, le-antisymm, le-of-suc-le-suc, lt-irrefl, lt-of-not-le, not-le-of-lt, zero-lt-suc, mul-assoc, mul-left-comm, mul-one, one-mul, zero-mul, zero-div, mul-pos, pow-suc, pow-succ', eq-of-mul-eq-mul-right, add-zero}
+use native.Mathlib.Nat.{le-trans, le-of-eq, le-antisymm, lt-irrefl, lt-of-not-le, zero-lt-suc, mul-assoc, mul-left-comm, mul-one, one-mul, zero-mul, zero-div, mul-pos, pow-suc, pow-succ', eq-of-mul-eq-mul-right, add-zero}
 use native.Mathlib.Omega.{arith}
 use lib.IntN.{ℤ, pos, negsuc}
 use lib.Dec.{T, leb, ltb, eqb, eqb→eq, ltb→lt}
-use lib.Pow.{pow-pos, pow-lt}
+use lib.Pow.{pow-pos}
 use lib.Ieee.{Float, nan, inf, fin, Format, prec, emax, low, up, down, fits, odd, units, round, sum, add, sub, neg, binary32, binary64}
 use lib.Ieee.Fits.{up-pos, down-pos, and-l, round-is}
 use lib.Ieee.Exact.{HasValue, odd-sign}

@@ -1,18 +1,17 @@
 -- From the pattern of an f64 to that of the nearest f32, without signs. A pattern below the infinity's is k * 2 ^ 52 + w: w * 2 ^ k of the f64's smallest units,
 -- and 2 ^ 925 of these are one of the f32's.
-use mathlib.Core.Path.{_≡_, refl, sym, ap, _∙_, subst}
+use mathlib.Core.Path.{_≡_, refl, sym, ap, _∙_}
 use mathlib.Core.Logic.{_⊎_, inl, inr}
 use mathlib.Core.Bool.{Bool, cond}
 use Prim.Native.Nat.{ℕ, zero, suc, _+_, _-_, _*_, _/_, _%_, _^_, _≤_, _<_}
-use native.Mathlib.Nat.{le-trans, le-of-eq, le-of-lt, lt-of-lt-of-le, lt-of-le-of-lt, div-lt-iff-lt-mul, le-div-iff-mul-le, mul-le-mul-right, mul-le-mul, eq-or-lt-of-le, div-add-mod', mod-lt, zero-lt-suc}
+use native.Mathlib.Nat.{le-trans, le-of-eq, le-of-lt, lt-of-lt-of-le, div-lt-iff-lt-mul, le-div-iff-mul-le, mul-le-mul-right, mul-le-mul, eq-or-lt-of-le, div-add-mod', mod-lt}
 use native.Mathlib.Omega.{arith}
 use lib.Dec.{lit≤, lit<}
 use lib.Pow.{pow-add, pow-pos, pow-mono, shl-lt}
-use lib.Ieee.{Float, inf, Format, binary32, binary64, prec, low, size, units, round, hid, ones, top, ofBits}
+use lib.Ieee.{Float, binary32, binary64, size, units, round, hid, top, ofBits}
 use lib.Ieee.Digits.{size-le}
 use lib.Ieee.Exact.{units-val}
 use lib.Ieee.Nearest.{closest}
-use lib.Ieee.Scale.{overflow}
 use Rattle.ieee.specs.Bits.{size-exact, units-bits, inf-bits, round-bits, closest-le, round-over}
 use Rattle.ieee.specs.Conversion.{rounded, rounded-value}
 use Rattle.isdbs_phy.specs.Soft.{Narrowed}

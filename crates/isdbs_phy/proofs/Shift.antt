@@ -1,33 +1,32 @@
--- A number over 2 ^ d to the nearest, ties to even: by one sum and one shift (`shifted`), with a multiple added (`closest-add`), and below a half (`closest-none`).
+-- A number over another to the nearest, ties to even: by one comparison (`closest-up`, `closest-down`), with a multiple added (`closest-add`), and below a half (`closest-none`).
 use mathlib.Core.Path.{_≡_, refl, sym, ap, _∙_, subst}
-use Prim.Native.Nat.{ℕ, zero, suc, _+_, _-_, _*_, _/_, _%_, _^_, _≤_, _<_, compare, Ordering, Ordering·lt, Ordering·eq, Ordering·gt}
-use native.Mathlib.Nat.{le-antisymm, le-of-eq, lt-of-le-of-lt, one-mul, mod-eq-of-lt, le-of-suc-le-suc, div-lt-iff-lt-mul, le-div-iff-mul-le, div-add-mod', mod-lt, zero-lt-suc, mul-pos}
+use Prim.Native.Nat.{ℕ, suc, _+_, _*_, _/_, _%_, _^_, _≤_, _<_, compare, Ordering, Ordering·lt, Ordering·eq, Ordering·gt}
+use native.Mathlib.Nat.{le-antisymm, le-trans, le-of-eq, lt-of-le-of-lt, lt-of-lt-of-le, div-le-self, one-mul, mod-eq-of-lt, le-of-suc-le-suc, div-lt-iff-lt-mul, le-div-iff-mul-le, div-add-mod', mod-lt, zero-lt-suc}
 use native.Mathlib.Omega.{arith}
 use lib.Pow.{pow-pos, pow-lt, pow-mono}
 use lib.Ieee.{nearest}
 use lib.Ieee.Nearest.{closest}
 use Rattle.ieee.specs.Nearest.{Cmp, cmp}
-use Rattle.ieee.specs.Bits.{double}
 
 div-at : (n b v : ℕ) → 0 < b → v * b ≤ n → n < suc v * b → n / b ≡ v
 div-at n b v B h k = le-antisymm (le-of-suc-le-suc (div-lt-iff-lt-mul B .1 k)) (le-div-iff-mul-le B .1 h)
 
-twos : (w : ℕ) → w % 2 < 2
-twos w = mod-lt w (zero-lt-suc 1)
+-- ---- up where twice the rest and the last kept digit are above the unit
+up-at : (w r u : ℕ) (o : Ordering) → Cmp o (r * 2) u → u < 2 * r + w % 2 → w + 1 ≡ nearest w o
+up-at w r u Ordering·lt c h = let t = mod-lt w (zero-lt-suc 1) in absurd (omega arith)
+up-at w r u Ordering·eq c h = let t = mod-lt w (zero-lt-suc 1) in omega arith
+up-at w r u Ordering·gt c h = omega arith
 
-shift-at : (q h w r : ℕ) (o : Ordering) → 0 < h → Cmp o (r * 2) (h * 2) → w * (h * 2) + r ≡ q → r < h * 2 → (q + (h - 1) + w % 2) / (h * 2) ≡ nearest w o
-shift-at q h w r Ordering·lt H c e l = let t = twos w in div-at (q + (h - 1) + w % 2) (h * 2) w (mul-pos H (zero-lt-suc 1)) (omega arith) (omega arith)
-shift-at q h w r Ordering·eq H c e l = go (w % 2) (twos w)
-  where
-    go : (t : ℕ) → t < 2 → (q + (h - 1) + t) / (h * 2) ≡ w + t
-    go zero s = div-at (q + (h - 1) + 0) (h * 2) (w + 0) (mul-pos H (zero-lt-suc 1)) (omega arith) (omega arith)
-    go (suc zero) s = div-at (q + (h - 1) + 1) (h * 2) (w + 1) (mul-pos H (zero-lt-suc 1)) (omega arith) (omega arith)
-    go (suc (suc t)) s = absurd (omega arith)
-shift-at q h w r Ordering·gt H c e l = let t = twos w in div-at (q + (h - 1) + w % 2) (h * 2) (suc w) (mul-pos H (zero-lt-suc 1)) (omega arith) (omega arith)
+down-at : (w r u : ℕ) (o : Ordering) → Cmp o (r * 2) u → 2 * r + w % 2 ≤ u → w ≡ nearest w o
+down-at w r u Ordering·lt c h = refl
+down-at w r u Ordering·eq c h = omega arith
+down-at w r u Ordering·gt c h = absurd (omega arith)
 
-pub shifted : (q h : ℕ) → 0 < h → (q + (h - 1) + q / (h * 2) % 2) / (h * 2) ≡ closest q (h * 2)
-shifted q h H =
-    shift-at q h (q / (h * 2)) (q % (h * 2)) (compare (q % (h * 2) * 2) (h * 2)) H (cmp (q % (h * 2) * 2) (h * 2)) (div-add-mod' q (h * 2)) (mod-lt q (mul-pos H (zero-lt-suc 1)))
+pub closest-up : (q u v : ℕ) → v ≡ u → v < 2 * (q % v) + q / u % 2 → q / u + 1 ≡ closest q u
+closest-up q u v e h = up-at (q / u) (q % u) u (compare (q % u * 2) u) (cmp (q % u * 2) u) (subst (λ (z : ℕ). z < 2 * (q % z) + q / u % 2) e h)
+
+pub closest-down : (q u v : ℕ) → v ≡ u → 2 * (q % v) + q / u % 2 ≤ v → q / u ≡ closest q u
+closest-down q u v e h = down-at (q / u) (q % u) u (compare (q % u * 2) u) (cmp (q % u * 2) u) (subst (λ (z : ℕ). 2 * (q % z) + q / u % 2 ≤ z) e h)
 
 -- ---- an even multiple of the divisor more
 mod-at : (n b v r : ℕ) → 0 < b → r < b → n ≡ v * b + r → n % b ≡ r
@@ -71,14 +70,15 @@ closest-none a b B h =
     go Ordering·eq c = refl
     go Ordering·gt c = absurd (omega arith)
 
--- ---- as the code has it: v is the half of 2 ^ d
-pub shift-is : (q d v : ℕ) → 0 < d → v ≡ 2 ^ (d - 1) → (q + (v - 1) + q / 2 ^ d % 2) / 2 ^ d ≡ closest q (2 ^ d)
-shift-is q d v D e =
-    subst (λ (z : ℕ). (q + (v - 1) + q / z % 2) / z ≡ closest q z) (sym (double d D))
-    (subst (λ (h : ℕ). (q + (h - 1) + q / (2 ^ (d - 1) * 2) % 2) / (2 ^ (d - 1) * 2) ≡ closest q (2 ^ (d - 1) * 2)) (sym e) (shifted q (2 ^ (d - 1)) (pow-pos (d - 1))))
+-- ---- as the code has 2 ^ d
+pub unit-is : (d : ℕ) → d < 54 → 1 * 2 ^ d % 18446744073709551616 ≡ 2 ^ d
+unit-is d h = mod-eq-of-lt (lt-of-le-of-lt (le-of-eq (one-mul (2 ^ d))) (pow-lt {i = d} {j = 64} (omega arith))) ∙ one-mul (2 ^ d)
 
-pub half-is : (d : ℕ) → d < 54 → 1 * 2 ^ (d - 1) % 18446744073709551616 ≡ 2 ^ (d - 1)
-half-is d h = mod-eq-of-lt (lt-of-le-of-lt (le-of-eq (one-mul (2 ^ (d - 1)))) (pow-lt {i = d - 1} {j = 64} (omega arith))) ∙ one-mul (2 ^ (d - 1))
+pub unit-pos : (d : ℕ) → d < 54 → 0 < 1 * 2 ^ d % 18446744073709551616
+unit-pos d h = subst (λ (z : ℕ). 0 < z) (sym (unit-is d h)) (pow-pos d)
 
-pub half-le : (d v : ℕ) → d < 54 → v ≡ 2 ^ (d - 1) → (1 ≤ v) × (v ≤ 9007199254740992)
-half-le d v h e = subst (λ (z : ℕ). (1 ≤ z) × (z ≤ 9007199254740992)) (sym e) (pow-pos (d - 1), pow-mono {i = d - 1} {j = 53} (omega arith))
+pub rest-lt : (q d : ℕ) → d < 54 → q % (1 * 2 ^ d % 18446744073709551616) < 9007199254740992
+rest-lt q d h = lt-of-lt-of-le (mod-lt q (unit-pos d h)) (le-trans (le-of-eq (unit-is d h)) (pow-mono {i = d} {j = 53} (omega arith)))
+
+pub kept-le : (q d : ℕ) → q / 2 ^ d ≤ q
+kept-le q d = div-le-self q (2 ^ d)

@@ -57,10 +57,15 @@ fn subnormal(bits: u64) -> u64
 // q / 2^d to the nearest whole number, a tie to the even one.
 fn round_shift(q: u64, d: u64) -> u64
     requires { ⌜ q < 0x8000_0000_0000_0000 ⌝ }
-    requires { ⌜ 0 < d ⌝ }
     requires { ⌜ d < 54 ⌝ }
     ensures { λ r. ⌜ r ≡ closest q (2 ^ d) ⌝ }
 {
-    let half = 1u64 << (d - 1);
-    (q + (half - 1) + (q >> d) % 2) >> d
+    let unit = 1u64 << d;
+    let kept = q >> d;
+    let rest = q % unit;
+    if 2 * rest + kept % 2 > unit {
+        kept + 1
+    } else {
+        kept
+    }
 }

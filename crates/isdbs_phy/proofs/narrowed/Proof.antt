@@ -1,10 +1,6 @@
 use borrow.Author.Needs.{needs}
 use Rattle.isdbs_phy.proofs.narrowed.Statement.{statement}
 use Rattle.isdbs_phy.proofs.narrowed.Tie as tie
-use Rattle.isdbs_phy.proofs.narrowed.Reads as reads
-use Rattle.isdbs_phy.proofs.narrowed.Lts as lts
-use Rattle.isdbs_phy.proofs.round_shift.Reads as round-shift-reads
-use Rattle.isdbs_phy.proofs.subnormal.Reads as subnormal-reads
 use Rattle.isdbs_phy.proofs.Narrow.{normal, great}
 
 -- src/lib.rt:34:9

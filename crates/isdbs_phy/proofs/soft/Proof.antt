@@ -1,8 +1,5 @@
 use Rattle.isdbs_phy.proofs.soft.Statement.{statement}
 use Rattle.isdbs_phy.proofs.soft.Tie as tie
-use Rattle.isdbs_phy.proofs.soft.Reads as reads
-use Rattle.isdbs_phy.proofs.soft.Lts as lts
-use Rattle.isdbs_phy.proofs.narrowed.Reads as narrowed-reads
 use mathlib.Core.Path.{sym, ap, subst}
 use Prim.Native.Nat.{_/_}
 use native.Mathlib.Omega.{arith}

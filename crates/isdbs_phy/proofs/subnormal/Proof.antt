@@ -1,9 +1,6 @@
 use borrow.Author.Needs.{needs}
 use Rattle.isdbs_phy.proofs.subnormal.Statement.{statement}
 use Rattle.isdbs_phy.proofs.subnormal.Tie as tie
-use Rattle.isdbs_phy.proofs.subnormal.Reads as reads
-use Rattle.isdbs_phy.proofs.subnormal.Lts as lts
-use Rattle.isdbs_phy.proofs.round_shift.Reads as round-shift-reads
 use native.Mathlib.Omega.{arith}
 use Rattle.isdbs_phy.proofs.Narrow.{tiny, subnormal}
 
