@@ -1,12 +1,12 @@
 -- The frame of STD-B20: a header of 192 symbols, then 192 times 203 main-signal symbols and a burst of 4. Assumes nothing.
 use mathlib.Core.Bool.{cond}
 use mathlib.Core.List.{List, [], _∷_}
-use Prim.Native.Nat.{ℕ, zero, suc, _+_, _-_, _*_, _/_, _%_, _^_}
+use Prim.Native.Nat.{ℕ, _+_, _-_, _*_, _/_, _%_, _^_}
 use lib.Dec.{leb, ltb}
 use Rattle.refusal.specs.declared.Answer.the-variants.{Position}
 use Rattle.refusal.specs.Rows.{Row, firstRow}
 use Rattle.isdbs_core.specs.declared.frame as declared
-use Rattle.isdbs_core.specs.Lists.{either}
+use Rattle.isdbs_core.specs.Lists.{either, table}
 use Rattle.isdbs_core.specs.Answers.{position}
 
 -- a symbol of the frame: one of the header, main-signal symbol k, or symbol j of burst b
@@ -36,6 +36,5 @@ abbrev pub burstSymbolPosition : ℕ → ℕ → declared.Position.Position
 burstSymbolPosition b j = position (firstRow (burstRows b j)) (placeOf (burst b j))
 
 -- "the low 20 bits, high bit first": the low n bits of v
-unfoldable pub lowBits : ℕ → ℕ → List ℕ
-lowBits zero v = []
-lowBits (suc n) v = v / 2 ^ n % 2 ∷ lowBits n v
+abbrev pub lowBits : ℕ → ℕ → List ℕ
+lowBits n v = table (λ i. v / 2 ^ (n - 1 - i) % 2) n

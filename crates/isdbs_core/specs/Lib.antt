@@ -6,3 +6,4 @@ pub mod Tables
 pub mod RunsOf
 pub mod Symbols
 pub mod SlotPart
+pub mod ListLaws

@@ -17,7 +17,7 @@ module _ {A : Type 0} where
   abbrev pub padded : ℕ → A → List A → List A
   padded n d l = l ++ replicate (n - length l) d
 
-  -- f 0, f 1, .., f (n - 1), after which l
-  unfoldable pub table : (ℕ → A) → ℕ → List A → List A
-  table f zero l = l
-  table f (suc n) l = table f n (f n ∷ l)
+  -- f 0, f 1, .., f (n - 1)
+  unfoldable pub table : (ℕ → A) → ℕ → List A
+  table f zero = []
+  table f (suc n) = table f n ++ (f n ∷ [])

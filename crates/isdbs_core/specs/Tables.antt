@@ -54,5 +54,5 @@ abbrev pub slotMarks : Table → SlotMarks
 slotMarks t =
     record {
       answer = tableAnswer t;
-      slots = cond (accepted (tableAnswer t)) (table (λ s. mark (markAt (t .entries) s)) 48 []) (replicate 48 (mark None));
+      slots = cond (accepted (tableAnswer t)) (table (λ s. mark (markAt (t .entries) s)) 48) (replicate 48 (mark None));
     }

@@ -177,8 +177,12 @@ impl Combination {
     {
         match self {
             Combination::Bpsk1_2 => Modulation::Bpsk,
+            Combination::Qpsk1_2 => Modulation::Qpsk,
+            Combination::Qpsk2_3 => Modulation::Qpsk,
+            Combination::Qpsk3_4 => Modulation::Qpsk,
+            Combination::Qpsk5_6 => Modulation::Qpsk,
+            Combination::Qpsk7_8 => Modulation::Qpsk,
             Combination::Tc8psk2_3 => Modulation::Tc8psk,
-            _ => Modulation::Qpsk,
         }
     }
 
@@ -187,11 +191,13 @@ impl Combination {
         ensures { λ r. ⌜ r ≡ rateOf self ⌝ }
     {
         match self {
-            Combination::Bpsk1_2 | Combination::Qpsk1_2 => Ratio { num: 1, den: 2 },
-            Combination::Qpsk2_3 | Combination::Tc8psk2_3 => Ratio { num: 2, den: 3 },
+            Combination::Bpsk1_2 => Ratio { num: 1, den: 2 },
+            Combination::Qpsk1_2 => Ratio { num: 1, den: 2 },
+            Combination::Qpsk2_3 => Ratio { num: 2, den: 3 },
             Combination::Qpsk3_4 => Ratio { num: 3, den: 4 },
             Combination::Qpsk5_6 => Ratio { num: 5, den: 6 },
             Combination::Qpsk7_8 => Ratio { num: 7, den: 8 },
+            Combination::Tc8psk2_3 => Ratio { num: 2, den: 3 },
         }
     }
 
@@ -255,8 +261,13 @@ impl Combination {
         ensures { λ r. ⌜ r ≡ slotSteps self ⌝ }
     {
         match self {
+            Combination::Bpsk1_2 => 1_624,
+            Combination::Qpsk1_2 => 1_624,
+            Combination::Qpsk2_3 => 1_624,
+            Combination::Qpsk3_4 => 1_624,
+            Combination::Qpsk5_6 => 1_624,
+            Combination::Qpsk7_8 => 1_624,
             Combination::Tc8psk2_3 => 812,
-            _ => 1_624,
         }
     }
 
@@ -264,11 +275,13 @@ impl Combination {
         ensures { λ r. ⌜ r ≡ punctureOf self ⌝ }
     {
         match self {
+            Combination::Bpsk1_2 => MaybePuncture::None,
+            Combination::Qpsk1_2 => MaybePuncture::None,
             Combination::Qpsk2_3 => MaybePuncture::Some(Puncture::R2_3),
             Combination::Qpsk3_4 => MaybePuncture::Some(Puncture::R3_4),
             Combination::Qpsk5_6 => MaybePuncture::Some(Puncture::R5_6),
             Combination::Qpsk7_8 => MaybePuncture::Some(Puncture::R7_8),
-            _ => MaybePuncture::None,
+            Combination::Tc8psk2_3 => MaybePuncture::None,
         }
     }
 }

@@ -1,16 +1,13 @@
-use mathlib.Core.Path.{_≡_, refl}
+-- `has_slot` meets its contract. Assumes nothing.
+use borrow.Author.Tests.{le-leb, lt-leb}
 use Rattle.isdbs_core.proofs.slots.has_slot.Statement.{statement}
 use Rattle.isdbs_core.proofs.slots.has_slot.Tie as tie
-use Rattle.isdbs_core.proofs.slots.has_slot.Reads as reads
-use Rattle.isdbs_core.proofs.slots.has_slot.Lts as lts
 
--- src/slots.rt:216:1
 returns : tie.Need-returns
-returns c = refl
+returns c = simp (le-leb _ _ (c .before .if1 .taken))
 
--- src/slots.rt:216:1
 returns-2 : tie.Need-returns-2
-returns-2 c = refl
+returns-2 c = simp (lt-leb _ _ (c .if1 .left))
 
 pub has-slot-spec : {M : Type 1} → statement M
 has-slot-spec = tie.close (tie.spec returns returns-2)

