@@ -7,3 +7,4 @@ pub mod RunsOf
 pub mod Symbols
 pub mod SlotPart
 pub mod ListLaws
+pub mod CombinationLaws

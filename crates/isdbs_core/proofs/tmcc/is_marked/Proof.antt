@@ -1,21 +1,17 @@
+-- `is_marked` meets its contract. Assumes nothing.
+use Rattle.isdbs_core.specs.CombinationLaws.{unit-fits}
 use borrow.Author.Needs.{needs}
 use Rattle.isdbs_core.proofs.tmcc.is_marked.Statement.{statement}
 use Rattle.isdbs_core.proofs.tmcc.is_marked.Tie as tie
-use Rattle.isdbs_core.proofs.tmcc.is_marked.Reads as reads
-use Rattle.isdbs_core.proofs.tmcc.is_marked.Lts as lts
-use Rattle.isdbs_core.proofs.combination.Combination.slot_unit.Reads as slot-unit-reads
 
--- src/tmcc.rt:73:9
 slot-unit-requires : tie.Need-slot-unit-requires
 slot-unit-requires c κs = search needs
 
--- src/tmcc.rt:74:5
 rem-result : tie.Need-rem-result
-rem-result c = ?
+rem-result c = rw (c .before .slot-unit .ensures) (unit-fits (c .before .before .args .c) .some)
 
--- src/tmcc.rt:70:1
 returns : tie.Need-returns
-returns c = ?
+returns c = simp (c .before .before .slot-unit .ensures)
 
 pub is-marked-spec : {M : Type 1} → statement M
 is-marked-spec = tie.close (tie.spec slot-unit-requires rem-result returns)

@@ -1,38 +1,32 @@
+-- `mark_in` meets its contract. Assumes nothing.
 use borrow.Author.Needs.{needs}
 use Rattle.isdbs_core.proofs.tmcc.mark_in.Statement.{statement}
 use Rattle.isdbs_core.proofs.tmcc.mark_in.Tie as tie
-use Rattle.isdbs_core.proofs.tmcc.mark_in.Reads as reads
-use Rattle.isdbs_core.proofs.tmcc.mark_in.Lts as lts
-use Rattle.isdbs_core.proofs.tmcc.Entry.combination.Reads as combination-reads
-use Rattle.isdbs_core.proofs.tmcc.is_marked.Reads as is-marked-reads
 
--- src/tmcc.rt:81:11
 combination-requires : tie.Need-combination-requires
 combination-requires c κs = search needs
 
--- src/tmcc.rt:82:32
 enum-known-c : tie.Need-enum-known-c
 enum-known-c c = search needs
 
--- src/tmcc.rt:83:16
 is-marked-requires : tie.Need-is-marked-requires
 is-marked-requires c κs = search needs
 
--- src/tmcc.rt:89:35
 enum-told : tie.Need-enum-told
 enum-told c = search needs
 
--- src/tmcc.rt:78:1
 returns : tie.Need-returns
-returns c = ?
+returns c =
+    let at = c .before .before .before .before .before in
+    rw (← at .combination .ensures, c .before .before .before .c .given .1, ← c .before .is-marked .ensures, c .if1 .taken)
 
--- src/tmcc.rt:78:1
 returns-2 : tie.Need-returns-2
-returns-2 c = ?
+returns-2 c =
+    let at = c .before .before .before .before .before in
+    rw (← at .combination .ensures, c .before .before .before .c .given .1, ← c .before .is-marked .ensures, c .if1 .left)
 
--- src/tmcc.rt:78:1
 returns-3 : tie.Need-returns-3
-returns-3 c = ?
+returns-3 c = rw (← c .before .before .combination .ensures, c .enum-told .given .1)
 
 pub mark-in-spec : {M : Type 1} → statement M
 mark-in-spec =
