@@ -1,2 +1,4 @@
 pub mod Words
 pub mod Entries
+pub mod Calls
+pub mod Built

@@ -8,3 +8,4 @@ pub mod Symbols
 pub mod SlotPart
 pub mod ListLaws
 pub mod CombinationLaws
+pub mod RunLaws

@@ -1,12 +1,12 @@
 -- Laws of tables and padded lists. Assumes nothing.
 use mathlib.Core.Path.{_≡_, refl, sym, _∙_, ap}
 use mathlib.Core.Logic.{⊎-elim}
-use mathlib.Core.List.{List, [], _∷_, _++_}
+use mathlib.Core.List.{List, [], _∷_, _++_, append-assoc}
 use Prim.Native.Nat.{ℕ, zero, suc, _+_, _-_, _≤_, _<_}
 use native.Mathlib.Omega.{arith}
 use native.Mathlib.Nat.{not-suc-le-zero, ne-of-lt, eq-or-lt-of-le}
 use lib.ListN.{length, getD, set, replicate, length-append, length-replicate, length-set, List·getD-append}
-use lib.Seq.{getD-at, getD-set-same, getD-set-other, ext-getD}
+use lib.Seq.{getD-at, getD-set-same, getD-set-other, set-append-seam, ext-getD}
 use borrow.Author.Count.{below-none, below-more}
 use Rattle.isdbs_core.specs.Lists.{padded, table}
 
@@ -51,3 +51,13 @@ module _ {A : Type 0} where
   -- the front of a padded list is the list
   pub padded-at : (n : ℕ) (d : A) (l : List A) (i : ℕ) → i < length l → getD (padded n d l) i d ≡ getD l i d
   padded-at n d l i h = List·getD-append l (replicate (n - length l) d) d i h
+
+  set-front : (l : List A) (d x : A) (m k : ℕ) → m ≡ suc k → set (l ++ replicate m d) (length l) x ≡ l ++ (x ∷ replicate k d)
+  set-front l d x m k e = rw e (set-append-seam l d (replicate k d) x)
+
+  -- one more at the front of the filler
+  pub padded-more : (n : ℕ) (d x : A) (l : List A) → length l < n → set (padded n d l) (length l) x ≡ padded n d (l ++ (x ∷ []))
+  padded-more n d x l h =
+      let e : n - length (l ++ (x ∷ [])) ≡ n - length l - 1 = simp length-append (omega arith) in
+      set-front l d x (n - length l) (n - length l - 1) (omega arith)
+      ∙ rw e (sym (append-assoc l (x ∷ []) (replicate (n - length l - 1) d)))

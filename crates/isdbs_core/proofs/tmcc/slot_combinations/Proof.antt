@@ -1,60 +1,80 @@
+-- `slot_combinations` meets its contract: the slots below s are marked. Assumes nothing.
+use Prim.Native.Nat.{ℕ, _-_, _≤_, _<_}
+use Rattle.isdbs_core.proofs.Calls.{accepts, refuses}
+use Rattle.isdbs_core.specs.ListLaws.{Written, written-none, written-more, written-all}
+use Rattle.isdbs_core.specs.Tables.{tableAnswer, markAt, mark}
+use Rattle.isdbs_core.specs.declared.combination.MaybeCombination.the-variants.{None}
+use Rattle.isdbs_core.specs.declared.tmcc.SlotMark.{SlotMark}
+use Rattle.isdbs_core.specs.declared.tmcc.Table.{Table}
+use borrow.Author.Needs.{needs}
+use lib.ListN.{length, length-set, replicate}
+use mathlib.Core.Path.{_≡_, refl, sym, _∙_, ap}
+use native.Mathlib.Omega.{arith}
 use Rattle.isdbs_core.proofs.tmcc.slot_combinations.Statement.{statement}
 use Rattle.isdbs_core.proofs.tmcc.slot_combinations.Tie as tie
-use Rattle.isdbs_core.proofs.tmcc.slot_combinations.Reads as reads
-use Rattle.isdbs_core.proofs.tmcc.slot_combinations.Lts as lts
-use Rattle.isdbs_core.proofs.tmcc.mark_at.Reads as mark-at-reads
-use Rattle.isdbs_core.proofs.tmcc.table_answer.Reads as table-answer-reads
-use Rattle.refusal.proofs.number.Reads as number-reads
+
+-- what belongs at slot s
+abbrev marks : Table → ℕ → SlotMark
+marks t s = mark (markAt (t .entries) s)
 
 abbrev Inv-loop : tie.InvT-loop
-Inv-loop t answer slots₀ s₀ slots s = ?
+Inv-loop t answer slots₀ s₀ slots s = (s ≤ 48) × (length slots ≡ 48) × Written (marks t) (mark None) s slots
 
 abbrev μ-loop : tie.MeasureT-loop
-μ-loop t answer slots₀ s₀ slots s = ?
+μ-loop t answer slots₀ s₀ slots s = 48 - s
 
--- src/tmcc.rt:113:9
 table-answer-requires : tie.Need-table-answer-requires Inv-loop μ-loop
-table-answer-requires c κs = ?
+table-answer-requires c κs = tt
 
--- src/tmcc.rt:118:8
 number-requires : tie.Need-number-requires Inv-loop μ-loop
-number-requires c κs = ?
+number-requires c κs = tt
 
--- src/tmcc.rt:119:9
 loop-holds : tie.Need-loop-holds Inv-loop μ-loop
-loop-holds c = ?
+loop-holds c = (omega arith, refl, written-none (marks (c .before .before .before .args .t)) (mark None) (replicate 48 (mark None)))
 
--- src/tmcc.rt:120:17
 mark-at-requires : tie.Need-mark-at-requires Inv-loop μ-loop
-mark-at-requires c κs = ?
+mark-at-requires c κs = tt
 
--- src/tmcc.rt:121:13
 mul-slots : tie.Need-mul-slots Inv-loop μ-loop
-mul-slots c = ?
+mul-slots c = search needs
 
--- src/tmcc.rt:121:13
 array-set-from-slots : tie.Need-array-set-from-slots Inv-loop μ-loop
-array-set-from-slots c = ?
+array-set-from-slots c = search needs
 
--- src/tmcc.rt:119:13
 add-s : tie.Need-add-s Inv-loop μ-loop
-add-s c = ?
+add-s c = search needs
 
--- src/tmcc.rt:119:9
 loop-less : tie.Need-loop-less Inv-loop μ-loop
-loop-less c = ?
+loop-less c = search needs
 
--- src/tmcc.rt:119:9
 loop-again : tie.Need-loop-again Inv-loop μ-loop
-loop-again c = ?
+loop-again c =
+    let at = c .before .before in
+    let t = at .before .before .before .before .args .t in (
+      omega arith,
+      simp length-set (at .loop .inv .1),
+      written-more (marks t) (mark None) (at .loop .s) (at .loop .slots) _ (omega arith) (at .loop .inv .2) (ap mark (c .mark-at .ensures)),
+    )
 
--- src/tmcc.rt:110:1
 returns : tie.Need-returns Inv-loop μ-loop
-returns c = ?
+returns c =
+    let at = c .before in
+    let st = at .before .before .before in
+    let e : at .loop .s ≡ 48 = omega arith in
+    let all = written-all (marks (st .before .args .t)) (mark None) 48 (at .loop .slots) (at .loop .inv .1) (rw e at (at .loop .inv .2)) in
+    rw (
+      all,
+      st .table-answer .ensures,
+      accepts (st .table-answer .result) (tableAnswer (st .before .args .t)) _ (st .table-answer .ensures) (at .before .before .number .ensures) (at .before .if1 .taken),
+    )
 
--- src/tmcc.rt:110:1
 returns-2 : tie.Need-returns-2 Inv-loop μ-loop
-returns-2 c = ?
+returns-2 c =
+    let st = c .before .before in
+    rw (
+      st .table-answer .ensures,
+      refuses (st .table-answer .result) (tableAnswer (st .before .args .t)) _ (st .table-answer .ensures) (c .before .number .ensures) (c .if1 .left),
+    )
 
 pub slot-combinations-spec : {M : Type 1} → statement M
 slot-combinations-spec =
