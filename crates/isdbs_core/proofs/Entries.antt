@@ -2,14 +2,17 @@
 use mathlib.Core.Path.{_≡_, refl, sym, _∙_, ap}
 use mathlib.Core.Bool.{cond}
 use mathlib.Core.List.{List, [], _∷_, _++_}
-use Prim.Native.Nat.{ℕ, suc, _+_, _-_, _≤_, _<_}
+use Prim.Native.Nat.{ℕ, suc, _+_, _-_, _%_, _≤_, _<_}
 use native.Mathlib.Numerals.{add-one}
 use native.Mathlib.Nat.{add-assoc}
 use lib.Dec.{ltb}
 use lib.ListN.{length, getD, drop, drop-of-length-le}
 use lib.Seq.{drop-cons}
 use Rattle.isdbs_core.specs.declared.combination.MaybeCombination.the-variants.{None}
+use Rattle.isdbs_core.specs.declared.combination.CombinationWord.{CombinationWord}
 use Rattle.isdbs_core.specs.declared.tmcc.Entry.{Entry}
+use Rattle.isdbs_core.specs.Combinations.{wordMeans, assignedOf}
+use Rattle.isdbs_core.specs.CombinationLaws.{assigned}
 use Rattle.isdbs_core.specs.Tables.{slotSum, entryCombination, markIn, markAt}
 
 -- what stands past the end of a list of entries
@@ -37,3 +40,7 @@ module _ (es : List Entry) (i : ℕ) where
   pub mark-end : (k : ℕ) → length es ≤ i → markAt (drop i es) k ≡ None
   unfolding markAt
   mark-end k h = rw (drop-of-length-le es h)
+
+-- what an entry's word was read as has the entry's combination
+pub entry-word : (e : Entry) (x : CombinationWord) → x ≡ wordMeans (e .word) → entryCombination e ≡ assignedOf x
+entry-word e x q = sym (assigned (e .word % 16) (entryCombination e)) ∙ ap assignedOf (sym q)

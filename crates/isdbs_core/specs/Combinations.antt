@@ -175,3 +175,20 @@ periodOf «R7_8» = 7
 -- the pairs as four records and a count, with (0, 0) past the count
 abbrev pub fourPairs : Puncture → BitPairs
 fourPairs p = record { count = length (pairsOf p); pairs = padded 4 (pair 0 0) (pairsOf p) }
+
+-- a period of a combination: as many steps as symbols carry whole. Unpunctured, a step is a period: BPSK sends X then Y, QPSK and TC8PSK one symbol
+abbrev pub periodSteps : MaybePuncture → ℕ
+periodSteps (puncture.Some p) = periodOf p
+periodSteps puncture.None = 1
+
+abbrev pub periodSymbols : MaybePuncture → Modulation → ℕ
+periodSymbols (puncture.Some p) m = length (pairsOf p)
+periodSymbols puncture.None Bpsk = 2
+periodSymbols puncture.None Qpsk = 1
+periodSymbols puncture.None Tc8psk = 1
+
+-- information bits of a step: TC8PSK takes C2 uncoded besides the coded bit
+abbrev pub stepBits : Modulation → ℕ
+stepBits Bpsk = 1
+stepBits Qpsk = 1
+stepBits Tc8psk = 2

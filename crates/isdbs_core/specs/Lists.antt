@@ -21,3 +21,8 @@ module _ {A : Type 0} where
   unfoldable pub table : (ℕ → A) → ℕ → List A
   table f zero = []
   table f (suc n) = table f n ++ (f n ∷ [])
+
+  -- P holds of each
+  abbrev pub Each : (A → Type 0) → List A → Type 0
+  Each P [] = Unit
+  Each P (x ∷ xs) = P x × Each P xs

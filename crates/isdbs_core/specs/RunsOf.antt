@@ -1,8 +1,8 @@
 -- Document 01, "Runs and points": the runs of a table. Assumes nothing.
 use mathlib.Core.Bool.{cond}
 use mathlib.Core.List.{List, [], _∷_, _++_}
-use Prim.Native.Nat.{ℕ, _+_, _*_, _/_, _<_, _≤_}
-use lib.ListN.{length, getD}
+use Prim.Native.Nat.{ℕ, _+_, _*_, _/_, _≤_}
+use lib.ListN.{length}
 use Rattle.refusal.specs.declared.Answer.{Answer}
 use Rattle.isdbs_core.specs.declared.combination.Combination.{Combination}
 use Rattle.isdbs_core.specs.declared.combination.Combination.the-variants.{«Bpsk1_2»}
@@ -96,7 +96,3 @@ pub record RunFits (r : Run) : Type 0 where
   pub slots : r .«slot_end» ≤ 48
   pub starts : r .«symbol_start» ≤ r .«symbol_end»
   pub ends : r .«symbol_end» ≤ 38976
-
--- each of a list does
-abbrev pub RunsFit : List Run → Type 0
-RunsFit rs = (i : ℕ) → i < length rs → RunFits (getD rs i noRun)

@@ -13,7 +13,8 @@ use refusal::Answer;
 ghost use mathlib.Core.Path.{_≡_};
 ghost use Prim.Native.Nat.{_<_, _≤_};
 ghost use Rattle.isdbs_core.specs.Combinations.{pairsOf};
-ghost use Rattle.isdbs_core.specs.RunsOf.{runOf, runsOf, fourOf, fourRuns, RunFits, RunsFit};
+ghost use Rattle.isdbs_core.specs.RunsOf.{runOf, runsOf, fourOf, fourRuns, RunFits};
+ghost use Rattle.isdbs_core.specs.Lists.{Each};
 ghost use Rattle.isdbs_core.specs.Symbols.{pairHolds, firstPair, hasSlot, symbolOfBit, bitSymbol, markedBefore, runByte, byteIn, slotByteSymbol};
 ghost use Rattle.isdbs_core.specs.SlotPart.{slotPartAnswer, slotPart};
 
@@ -221,7 +222,7 @@ fn has_slot(r: Run, slot: usize) -> bool
 
 // Byte of a slot, in the run that has the slot.
 fn byte_in(runs: [Run; 4], slot: usize, byte: usize) -> SlotByte
-    requires { ⌜ RunsFit runs ⌝ }
+    requires { ⌜ Each RunFits runs ⌝ }
     ensures { λ a. ⌜ a ≡ byteIn runs slot byte ⌝ }
 {
     for i in 0..4 {

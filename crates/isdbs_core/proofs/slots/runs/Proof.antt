@@ -1,31 +1,37 @@
-use borrow.Author.Needs.{needs}
+-- `runs` meets its contract. Assumes nothing.
+use Rattle.isdbs_core.proofs.Calls.{accepts, refuses}
+use Rattle.isdbs_core.specs.RunsOf.{validIn}
+use Rattle.isdbs_core.specs.Tables.{tableAnswer}
+use mathlib.Core.Path.{_≡_, refl, sym, _∙_, ap}
 use Rattle.isdbs_core.proofs.slots.runs.Statement.{statement}
 use Rattle.isdbs_core.proofs.slots.runs.Tie as tie
-use Rattle.isdbs_core.proofs.slots.runs.Reads as reads
-use Rattle.isdbs_core.proofs.slots.runs.Lts as lts
-use Rattle.isdbs_core.proofs.slots.runs_as.Reads as runs-as-reads
-use Rattle.isdbs_core.proofs.tmcc.table_answer.Reads as table-answer-reads
-use Rattle.refusal.proofs.number.Reads as number-reads
 
--- src/slots.rt:109:9
 table-answer-requires : tie.Need-table-answer-requires
-table-answer-requires c κs = search needs
+table-answer-requires c κs = tt
 
--- src/slots.rt:110:8
 number-requires : tie.Need-number-requires
-number-requires c κs = search needs
+number-requires c κs = tt
 
--- src/slots.rt:111:9
 runs-as-requires : tie.Need-runs-as-requires
-runs-as-requires c κs = search needs
+runs-as-requires c κs = tt
 
--- src/slots.rt:106:1
 returns : tie.Need-returns
-returns c = ?
+returns c =
+    let st = c .before .before .before in
+    c .runs-as .ensures
+    ∙ rw (
+      st .table-answer .ensures,
+      accepts (st .table-answer .result) (tableAnswer (st .before .args .t)) _ (st .table-answer .ensures) (c .before .before .number .ensures) (c .before .if1 .taken),
+    )
 
--- src/slots.rt:106:1
 returns-2 : tie.Need-returns-2
-returns-2 c = ?
+unfolding validIn
+returns-2 c =
+    let st = c .before .before in
+    rw (
+      st .table-answer .ensures,
+      refuses (st .table-answer .result) (tableAnswer (st .before .args .t)) _ (st .table-answer .ensures) (c .before .number .ensures) (c .if1 .left),
+    )
 
 pub runs-spec : {M : Type 1} → statement M
 runs-spec =

@@ -1,96 +1,150 @@
+-- `runs_as` meets its contract: the runs of the entries passed are laid. Assumes nothing.
+use Prim.Native.Nat.{_*_, _-_, _≤_, _<_}
+use Rattle.isdbs_core.proofs.Built.{Built, built-none, built-skip, built-more, built-end}
+use Rattle.isdbs_core.proofs.Entries.{noEntry, entry-word}
+use Rattle.isdbs_core.proofs.combination.CombinationWord.{enum}
+use Rattle.isdbs_core.specs.Combinations.{assignedOf}
+use Rattle.isdbs_core.specs.RunLaws.{entry-fits}
+use Rattle.isdbs_core.specs.Tables.{entryCombination}
+use Rattle.isdbs_core.specs.declared.combination.CombinationWord.the-variants.{Assigned, Dummy, Reserved}
+use Rattle.isdbs_core.specs.declared.combination.CombinationWord.{CombinationWord}
+use Rattle.isdbs_core.specs.declared.combination.MaybeCombination.the-variants.{Some, None}
+use denote.Enum.Declared.{tagOf, declared}
+use lib.ListN.{length, getD, length-map}
+use mathlib.Core.Logic.{_⊎_, inl, inr}
+use mathlib.Core.Path.{_≡_, refl, sym, _∙_, ap}
+use native.Mathlib.Omega.{arith}
 use Rattle.isdbs_core.proofs.slots.runs_as.Statement.{statement}
 use Rattle.isdbs_core.proofs.slots.runs_as.Tie as tie
-use Rattle.isdbs_core.proofs.slots.runs_as.Reads as reads
-use Rattle.isdbs_core.proofs.slots.runs_as.Lts as lts
-use Rattle.isdbs_core.proofs.combination.CombinationWord.from_word.Reads as from-word-reads
-use Rattle.isdbs_core.proofs.slots.run_of.Reads as run-of-reads
+
+-- a word that is not the first variant has no combination
+no-assigned : (x : CombinationWord) → (tagOf (declared enum) x ≡ 1) ⊎ (tagOf (declared enum) x ≡ 2) → assignedOf x ≡ None
+no-assigned (Assigned c) (inl h) = absurd (omega arith)
+no-assigned (Assigned c) (inr h) = absurd (omega arith)
+no-assigned Dummy h = refl
+no-assigned (Reserved w) h = refl
 
 abbrev Inv-loop : tie.InvT-loop
-Inv-loop answer t runs₀ count₀ slot₀ symbol₀ valid-slots₀ i₀ runs count slot symbol valid-slots i =
-    ?
+Inv-loop answer t runs₀ count₀ slot₀ symbol₀ valid-slots₀ i₀ runs count slot symbol valid-slots i = (i ≤ 4) × (slot ≤ 255 * i) × (symbol ≤ 207060 * i) × (valid-slots ≤ 255 * i) × Built (t .entries) i count slot symbol valid-slots runs
 
 abbrev μ-loop : tie.MeasureT-loop
-μ-loop answer t runs₀ count₀ slot₀ symbol₀ valid-slots₀ i₀ runs count slot symbol valid-slots i = ?
+μ-loop answer t runs₀ count₀ slot₀ symbol₀ valid-slots₀ i₀ runs count slot symbol valid-slots i = 4 - i
 
--- src/slots.rt:82:5
 loop-holds : tie.Need-loop-holds Inv-loop μ-loop
-loop-holds c = ?
+loop-holds c = (omega arith, omega arith, omega arith, omega arith, built-none (c .args .t2 .entries))
 
--- src/slots.rt:83:17
 mul-e : tie.Need-mul-e Inv-loop μ-loop
-mul-e c = ?
+mul-e c = omega arith
 
--- src/slots.rt:83:17
 element-copy-out-e : tie.Need-element-copy-out-e Inv-loop μ-loop
-element-copy-out-e c = ?
+element-copy-out-e c = omega arith
 
--- src/slots.rt:84:17
 cast-n : tie.Need-cast-n Inv-loop μ-loop
-cast-n c = ?
+cast-n c = omega arith
 
--- src/slots.rt:85:13
 from-word-requires : tie.Need-from-word-requires Inv-loop μ-loop
-from-word-requires c κs = ?
+from-word-requires c κs = tt
 
--- src/slots.rt:86:39
 enum-known-word : tie.Need-enum-known-word Inv-loop μ-loop
-enum-known-word c = ?
+enum-known-word c = c .match .keys1
 
--- src/slots.rt:87:13
 add-slot : tie.Need-add-slot Inv-loop μ-loop
-add-slot c = ?
+add-slot c = omega arith
 
--- src/slots.rt:88:13
 add-i : tie.Need-add-i Inv-loop μ-loop
-add-i c = ?
+add-i c = omega arith
 
--- src/slots.rt:82:5
 loop-less : tie.Need-loop-less Inv-loop μ-loop
-loop-less c = ?
+loop-less c = omega arith
 
--- src/slots.rt:82:5
 loop-again : tie.Need-loop-again Inv-loop μ-loop
-loop-again c = ?
+loop-again c =
+    let at = c .before .before .before .before .before in
+    let es = at .before .args .t2 .entries in
+    let four : length es ≡ 4 = simp length-map at (at .before .good .1 .0 .1 .1 .0 .1 .0 .1) in
+    let h : at .loop .i < length es = omega arith in
+    let e = getD es (at .loop .i) noEntry in
+    let none = entry-word e _ (c .before .from-word .ensures) ∙ no-assigned (c .before .from-word .result) (c .match .keys2) in
+    (omega arith, omega arith, omega arith, omega arith, built-skip es (at .loop .inv .4) h none)
 
--- src/slots.rt:90:13
 run-of-requires : tie.Need-run-of-requires Inv-loop μ-loop
-run-of-requires c κs = ?
+run-of-requires c κs = (omega arith, omega arith, omega arith)
 
--- src/slots.rt:91:9
 mul-runs : tie.Need-mul-runs Inv-loop μ-loop
-mul-runs c = ?
+mul-runs c =
+    let at = c .before .before .before .before .before .before .before .before in
+    let es = at .before .args .t2 .entries in
+    let e = getD es (at .loop .i) noEntry in
+    let k = c .before .before .word .given .0 .0 in
+    let fits = entry-fits k (e .slots) in
+    let b = at .loop .inv .4 in
+    let few = b .few in
+    let counted = b .counted in omega arith
 
--- src/slots.rt:91:9
 array-set-from-runs : tie.Need-array-set-from-runs Inv-loop μ-loop
-array-set-from-runs c = ?
+array-set-from-runs c =
+    let at = c .before .before .before .before .before .before .before .before in
+    let es = at .before .args .t2 .entries in
+    let e = getD es (at .loop .i) noEntry in
+    let k = c .before .before .word .given .0 .0 in
+    let fits = entry-fits k (e .slots) in
+    let b = at .loop .inv .4 in
+    let few = b .few in
+    let counted = b .counted in omega arith
 
--- src/slots.rt:92:9
 add-count : tie.Need-add-count Inv-loop μ-loop
-add-count c = ?
+add-count c =
+    let at = c .before .before .before .before .before .before .before .before in
+    let es = at .before .args .t2 .entries in
+    let e = getD es (at .loop .i) noEntry in
+    let k = c .before .before .word .given .0 .0 in
+    let fits = entry-fits k (e .slots) in
+    let b = at .loop .inv .4 in
+    let few = b .few in
+    let counted = b .counted in omega arith
 
--- src/slots.rt:93:9
 add-slot-2 : tie.Need-add-slot-2 Inv-loop μ-loop
-add-slot-2 c = ?
+add-slot-2 c = omega arith
 
--- src/slots.rt:95:9
 add-valid-slots : tie.Need-add-valid-slots Inv-loop μ-loop
-add-valid-slots c = ?
+add-valid-slots c =
+    let at = c .before .before .before .before .before .before .before .before .before in
+    let es = at .before .args .t2 .entries in
+    let e = getD es (at .loop .i) noEntry in
+    let k = c .before .before .before .word .given .0 .0 in
+    let fits = entry-fits k (e .slots) in
+    let b = at .loop .inv .4 in
+    let few = b .few in
+    let counted = b .counted in
+    rw (c .before .run-of .ensures) (omega arith)
 
--- src/slots.rt:82:9
 add-i-2 : tie.Need-add-i-2 Inv-loop μ-loop
-add-i-2 c = ?
+add-i-2 c = omega arith
 
--- src/slots.rt:82:5
 loop-less-2 : tie.Need-loop-less-2 Inv-loop μ-loop
-loop-less-2 c = ?
+loop-less-2 c = omega arith
 
--- src/slots.rt:82:5
 loop-again-2 : tie.Need-loop-again-2 Inv-loop μ-loop
-loop-again-2 c = ?
+loop-again-2 c =
+    let at = c .before .before .before .before .before .before .before .before .before in
+    let es = at .before .args .t2 .entries in
+    let e = getD es (at .loop .i) noEntry in
+    let k = c .before .before .before .word .given .0 .0 in
+    let fits = entry-fits k (e .slots) in
+    let b = at .loop .inv .4 in
+    let few = b .few in
+    let counted = b .counted in
+    let four : length es ≡ 4 = simp length-map at (at .before .good .1 .0 .1 .1 .0 .1 .0 .1) in
+    let h : at .loop .i < length es = omega arith in
+    let some : entryCombination e ≡ Some k = entry-word e _ (c .before .before .before .before .before .from-word .ensures) ∙ ap assignedOf (c .before .before .before .word .given .1) in
+    rw (c .before .run-of .ensures) (omega arith, omega arith, omega arith, omega arith, built-more es b h k (omega arith) some)
 
--- src/slots.rt:74:1
 returns : tie.Need-returns Inv-loop μ-loop
-returns c = ?
+returns c =
+    let at = c .before in
+    let es = at .before .args .t2 .entries in
+    let four : length es ≡ 4 = simp length-map at (at .before .good .1 .0 .1 .1 .0 .1 .0 .1) in
+    built-end es (at .before .args .answer) (at .loop .inv .4) (omega arith)
 
 pub runs-as-spec : {M : Type 1} → statement M
 runs-as-spec =
