@@ -63,14 +63,14 @@ period-fits «R7_8» = record { some = lit< tt; fewer = lit≤ tt; most = lit≤
 
 pub record EfficiencyFits (c : Combination) : Type 0 where
   pub some : 0 < efficiencyOf c .num
-  pub den : efficiencyOf c .den ≤ 2 * efficiencyOf c .num
+  pub most : efficiencyOf c .den ≤ 8
 
--- a symbol carries at least half a bit
+-- an efficiency is above 0
 pub efficiency-fits : (c : Combination) → EfficiencyFits c
-efficiency-fits «Bpsk1_2» = record { some = lit< tt; den = lit≤ tt }
-efficiency-fits «Qpsk1_2» = record { some = lit< tt; den = lit≤ tt }
-efficiency-fits «Qpsk2_3» = record { some = lit< tt; den = lit≤ tt }
-efficiency-fits «Qpsk3_4» = record { some = lit< tt; den = lit≤ tt }
-efficiency-fits «Qpsk5_6» = record { some = lit< tt; den = lit≤ tt }
-efficiency-fits «Qpsk7_8» = record { some = lit< tt; den = lit≤ tt }
-efficiency-fits «Tc8psk2_3» = record { some = lit< tt; den = lit≤ tt }
+efficiency-fits «Bpsk1_2» = record { some = lit< tt; most = lit≤ tt }
+efficiency-fits «Qpsk1_2» = record { some = lit< tt; most = lit≤ tt }
+efficiency-fits «Qpsk2_3» = record { some = lit< tt; most = lit≤ tt }
+efficiency-fits «Qpsk3_4» = record { some = lit< tt; most = lit≤ tt }
+efficiency-fits «Qpsk5_6» = record { some = lit< tt; most = lit≤ tt }
+efficiency-fits «Qpsk7_8» = record { some = lit< tt; most = lit≤ tt }
+efficiency-fits «Tc8psk2_3» = record { some = lit< tt; most = lit≤ tt }

@@ -9,3 +9,6 @@ pub mod SlotPart
 pub mod ListLaws
 pub mod CombinationLaws
 pub mod RunLaws
+pub mod SymbolLaws
+pub mod PartLaws
+pub mod PlaceLaws
