@@ -2,3 +2,4 @@ pub mod Words
 pub mod Entries
 pub mod Calls
 pub mod Built
+pub mod Pairs

@@ -1,55 +1,64 @@
+-- `first_pair` meets its contract: the pairs passed do not hold the input. Assumes nothing.
+use Prim.Native.Nat.{_-_, _≤_}
+use Rattle.isdbs_core.proofs.Pairs.{front, Passed, pair-next, pair-found, pair-none}
+use Rattle.isdbs_core.specs.CombinationLaws.{period-fits}
+use mathlib.Core.Path.{_≡_, refl, sym, _∙_, ap}
+use native.Mathlib.Omega.{arith}
 use Rattle.isdbs_core.proofs.slots.first_pair.Statement.{statement}
 use Rattle.isdbs_core.proofs.slots.first_pair.Tie as tie
-use Rattle.isdbs_core.proofs.slots.first_pair.Reads as reads
-use Rattle.isdbs_core.proofs.slots.first_pair.Lts as lts
-use Rattle.isdbs_core.proofs.combination.Puncture.pairs.Reads as pairs-reads
-use Rattle.isdbs_core.proofs.slots.holds.Reads as holds-reads
 
 abbrev Inv-loop : tie.InvT-loop
-Inv-loop i pairs count j₀ j = ?
+Inv-loop i pairs count j₀ j = Passed i (front count pairs) count j
 
 abbrev μ-loop : tie.MeasureT-loop
-μ-loop i pairs count j₀ j = ?
+μ-loop i pairs count j₀ j = count - j
 
--- src/slots.rt:133:9
 pairs-requires : tie.Need-pairs-requires Inv-loop μ-loop
-pairs-requires c κs = ?
+pairs-requires c κs = tt
 
--- src/slots.rt:137:9
 loop-holds : tie.Need-loop-holds Inv-loop μ-loop
-loop-holds c = ?
+loop-holds c = (omega arith, omega arith)
 
--- src/slots.rt:141:18
 mul-holds : tie.Need-mul-holds Inv-loop μ-loop
-mul-holds c = ?
+mul-holds c =
+    let at = c .before in
+    let st = at .before .before in
+    let k : st .pairs .result .count ≤ 4 = rw (st .pairs .ensures) (period-fits (st .before .args .p) .most) in
+    omega arith
 
--- src/slots.rt:141:18
 array-copy-out-holds : tie.Need-array-copy-out-holds Inv-loop μ-loop
-array-copy-out-holds c = ?
+array-copy-out-holds c =
+    let at = c .before in
+    let st = at .before .before in
+    let k : st .pairs .result .count ≤ 4 = rw (st .pairs .ensures) (period-fits (st .before .args .p) .most) in
+    omega arith
 
--- src/slots.rt:141:12
 holds-requires : tie.Need-holds-requires Inv-loop μ-loop
-holds-requires c κs = ?
+holds-requires c κs = tt
 
--- src/slots.rt:144:9
 add-j : tie.Need-add-j Inv-loop μ-loop
-add-j c = ?
+add-j c = omega arith
 
--- src/slots.rt:137:9
 loop-less : tie.Need-loop-less Inv-loop μ-loop
-loop-less c = ?
+loop-less c = omega arith
 
--- src/slots.rt:137:9
 loop-again : tie.Need-loop-again Inv-loop μ-loop
-loop-again c = ?
+loop-again c =
+    let at = c .before .before .before .before in
+    let st = at .before .before in
+    pair-next (st .before .args .p) (st .pairs .result) (st .pairs .ensures) (st .before .args .i) (at .loop .j) (at .loop .inv) (c .before .holds .result) (c .before .holds .ensures) (omega arith) (c .if2 .left)
 
--- src/slots.rt:130:1
 returns : tie.Need-returns Inv-loop μ-loop
-returns c = ?
+returns c =
+    let at = c .before in
+    let st = at .before .before in
+    pair-none (st .before .args .p) (st .pairs .result) (st .pairs .ensures) (st .before .args .i) (at .loop .j) (at .loop .inv) (omega arith)
 
--- src/slots.rt:130:1
 returns-2 : tie.Need-returns-2 Inv-loop μ-loop
-returns-2 c = ?
+returns-2 c =
+    let at = c .before .before .before .before in
+    let st = at .before .before in
+    pair-found (st .before .args .p) (st .pairs .result) (st .pairs .ensures) (st .before .args .i) (at .loop .j) (at .loop .inv) (c .before .holds .result) (c .before .holds .ensures) (omega arith) (c .if2 .taken)
 
 pub first-pair-spec : {M : Type 1} → statement M
 first-pair-spec =
