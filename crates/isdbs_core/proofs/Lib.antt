@@ -3,3 +3,4 @@ pub mod Entries
 pub mod Calls
 pub mod Built
 pub mod Pairs
+pub mod Bytes
