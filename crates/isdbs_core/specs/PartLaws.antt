@@ -7,7 +7,7 @@ use native.Mathlib.Omega.{arith}
 use lib.Dec.{ltb, leb, eqb}
 use lib.ListN.{length, getD, take, drop, length-take, length-drop}
 use lib.Seq.{getD-take, getD-drop, take-add}
-use borrow.Author.Tests.{leb-false, eqb-true, ltb-false, not-false}
+use borrow.Author.Tests.{leb-false, eqb-true, ltb-false, not-false, le-leb, lt-leb, eq-eqb, ne-eqb}
 use Rattle.refusal.specs.declared.Answer.{Answer}
 use Rattle.refusal.specs.declared.Answer.the-variants.{Accepted, Table, Position, Length}
 use Rattle.refusal.specs.Rows.{Row, firstRow}
@@ -42,6 +42,9 @@ first-of false a h = never (sym h)
 pub before-rows : (t : declared.Table) (rows : List Row) → accepted (tableAnswer t) ≡ false → firstRow (tableRows t ++ rows) ≡ tableAnswer t
 before-rows t rows h = first-of (ltb 48 (slotSum (t .entries))) (firstRow rows) h
 
+pub table-accepts : (t : declared.Table) → accepted (tableAnswer t) ≡ true → tableAnswer t ≡ Accepted
+table-accepts t h = rw (over (ltb 48 (slotSum (t .entries))) h)
+
 -- ---- the part
 
 -- what an accepted part rests on
@@ -59,6 +62,20 @@ pub part-whole : (bytes : List ℕ) (t : declared.Table) (k : ℕ) → accepted 
 part-whole bytes t k h =
     let r = three (ltb 48 (slotSum (t .entries))) (leb (validTotal t) k) (not (eqb (length bytes) (loadBytes t))) h in
     record { below = leb-false (validTotal t) k (r .1); whole = eqb-true (length bytes) (loadBytes t) (not-false (eqb (length bytes) (loadBytes t)) (r .2)) }
+
+-- the answer by its rows
+module _ (bytes : List ℕ) (t : declared.Table) (k : ℕ) where
+  pub by-table : accepted (tableAnswer t) ≡ false → slotPartAnswer bytes t k ≡ tableAnswer t
+  by-table h = before-rows t ((Position, leb (validTotal t) k) ∷ (Length, not (eqb (length bytes) (loadBytes t))) ∷ []) h
+
+  pub by-position : accepted (tableAnswer t) ≡ true → validTotal t ≤ k → slotPartAnswer bytes t k ≡ Position
+  by-position h l = rw (over (ltb 48 (slotSum (t .entries))) h, le-leb (validTotal t) k l)
+
+  pub by-length : accepted (tableAnswer t) ≡ true → k < validTotal t → (length bytes ≡ loadBytes t → ⊥) → slotPartAnswer bytes t k ≡ Length
+  by-length h l n = rw (over (ltb 48 (slotSum (t .entries))) h, lt-leb (validTotal t) k l, ne-eqb (length bytes) (loadBytes t) n)
+
+  pub by-none : accepted (tableAnswer t) ≡ true → k < validTotal t → length bytes ≡ loadBytes t → slotPartAnswer bytes t k ≡ Accepted
+  by-none h l e = rw (over (ltb 48 (slotSum (t .entries))) h, lt-leb (validTotal t) k l, eq-eqb (length bytes) (loadBytes t) e)
 
 module _ (bytes : List ℕ) (t : declared.Table) (k : ℕ) (h : accepted (slotPartAnswer bytes t k) ≡ true) where
   pub part-is : slotPart bytes t k ≡ take 203 (drop (203 * k) bytes)

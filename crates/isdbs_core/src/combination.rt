@@ -310,7 +310,12 @@ impl Puncture {
             },
             Puncture::R7_8 => BitPairs {
                 count: 4,
-                pairs: [x1y1, BitPair { p1: 3, p0: 5 }, y4x5, BitPair { p1: 11, p0: 12 }],
+                pairs: [
+                    x1y1,
+                    BitPair { p1: 3, p0: 5 },
+                    y4x5,
+                    BitPair { p1: 11, p0: 12 },
+                ],
             },
         }
     }

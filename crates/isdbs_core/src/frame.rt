@@ -39,17 +39,22 @@ pub const SUPERFRAME_SYMBOLS: usize = 319_488;
 
 // The sync words: W1 starts every header, W2 ends that of the first frame of a superframe, W3 the others.
 pub const W1: u16 = 0x1B95;
+
 pub const W2: u16 = 0xA340;
+
 pub const W3: u16 = 0x5CBF;
 
 // The last 20 bits of W1, W2, W3 after the inner code.
 pub const W1_CODED_TAIL: u32 = 0xECD28;
+
 pub const W2_CODED_TAIL: u32 = 0x0B677;
+
 pub const W3_CODED_TAIL: u32 = 0xF4988;
 // Length of a coded tail in bits.
 pub const CODED_TAIL_BITS: usize = 20;
 // Header symbols where the tails of W1 and of W2 or W3 start.
 pub const W1_TAIL_AT: usize = 12;
+
 pub const W23_TAIL_AT: usize = 172;
 
 // A position, or why there is none.
