@@ -3,17 +3,17 @@
 -- Assumes nothing.
 use mathlib.Core.Path.{_≡_, refl, sym, ap, _∙_, subst}
 use mathlib.Core.Logic.{_⊎_, inl, inr}
-use mathlib.Core.Bool.{Bool, true, false, not, cond}
-use mathlib.Core.List.{List, [], map}
-use Prim.Native.Nat.{ℕ, zero, suc, _+_, _*_, _/_, _%_, _-_, _<_, _≤_, _^_}
-use native.Mathlib.Nat.{mul-le-mul-right, add-mul, zero-mul}
+use mathlib.Core.Bool.{Bool, true, false, cond}
+use mathlib.Core.List.{List, map}
+use Prim.Native.Nat.{ℕ, zero, suc, _+_, _*_, _<_, _≤_}
+use native.Mathlib.Nat.{mul-le-mul-right, zero-mul}
 use native.Mathlib.Omega.{arith}
 use lib.Dec.{T, lit<, lit≤}
-use lib.ListN.{getD, length, List·getD-map}
-use lib.Ieee.{Float, nan, binary32, lt, add, sub, neg, fits, ofBits}
+use lib.ListN.{getD, List·getD-map}
+use lib.Ieee.{Float, nan, binary32, lt, add, sub, fits, ofBits}
 use Rattle.ieee.specs.Value.{hi, lo, Num}
 use Rattle.ieee.specs.Order.{Lt, lt→value, value→lt}
-use Rattle.ieee.specs.Rounding.{Rounds, pow2, pow2-add, pow2-pos, fine-pow2}
+use Rattle.ieee.specs.Rounding.{Rounds, pow2, pow2-pos, fine-pow2}
 use Rattle.ieee.specs.Sums.{sub-rounds}
 use Rattle.trellis.specs.Step.{Tie, takes, top, best, renormalised}
 use Rattle.lead.specs.Round.{rounds-cap, rounds-floor, rounds-deep, rounds-up}

@@ -1,8 +1,8 @@
 -- What a rounded P - N keeps: bounds q * 2 ^ j that the format's digits hold pass through the rounding, and a result is off by half a last digit
 -- at most from every bound of P - N, held by the format or not. `pow2 j` is 2 ^ j kept shut. Assumes nothing.
-use mathlib.Core.Path.{_≡_, refl, sym, ap, _∙_, subst}
+use mathlib.Core.Path.{_≡_, sym, ap, _∙_}
 use mathlib.Core.Logic.{_⊎_, inl, inr}
-use Prim.Native.Nat.{ℕ, zero, suc, _+_, _-_, _*_, _^_, _≤_, _<_}
+use Prim.Native.Nat.{ℕ, suc, _+_, _-_, _*_, _^_, _≤_, _<_}
 use native.Mathlib.Nat.{le-trans, le-of-eq}
 use native.Mathlib.Omega.{arith}
 use lib.Ieee.{Float, Format, prec}

@@ -1,18 +1,18 @@
 -- The sent state always leads: over at most 68,208 steps that favour the pairs of an encoded input, the sent state is the only best one after each step,
 -- and each decision along the sent path points along it, so a traceback finds the inputs. Assumes nothing.
-use mathlib.Core.Path.{_≡_, refl, sym, ap, _∙_, subst}
+use mathlib.Core.Path.{_≡_, refl, ap, _∙_, subst}
 use mathlib.Core.Logic.{_⊎_, inl, inr}
-use mathlib.Core.Bool.{Bool, true, false, cond}
+use mathlib.Core.Bool.{false, cond}
 use mathlib.Core.List.{List}
-use Prim.Native.Nat.{ℕ, zero, suc, _+_, _*_, _/_, _%_, _-_, _<_, _≤_, _^_}
+use Prim.Native.Nat.{ℕ, zero, suc, _+_, _-_, _*_, _/_, _%_, _<_, _≤_, _^_}
 use native.Mathlib.Nat.{mul-le-mul-right, mod-lt, le-refl}
 use native.Mathlib.Omega.{arith}
-use lib.Dec.{T, eqb, eqb→eq, lit<, lit≤}
+use lib.Dec.{T, eqb, eqb→eq, lit<}
 use lib.ListN.{getD, length}
 use lib.Ieee.{Float, nan, binary32, lt}
 use Rattle.ieee.specs.Value.{hi, lo, Num}
 use Rattle.ieee.specs.Order.{value→lt}
-use Rattle.ieee.specs.Rounding.{pow2, pow2-add, pow2-pos}
+use Rattle.ieee.specs.Rounding.{pow2, pow2-pos}
 use Rattle.trellis.specs.Lists.{upto, bit}
 use Rattle.trellis.specs.Code.{isdb, label, moved, stateAt}
 use Rattle.trellis.specs.Step.{Step, four, Tie, wins, nexts, word, best, renormalised, kept, traced}
@@ -131,7 +131,6 @@ module _ (t : Tie) (ms : ℕ → List Float) (s : ℕ) (us : List ℕ) (N : ℕ)
   pub leftover : ℕ
   leftover = left (N / 64) (N % 64)
 
-  -- the named bound: rounding took frameLoss of the margin at most
   pub leftover-is : (margin * 32768 ≤ leftover + frameLoss) × (leftover ≤ margin * 32768)
   unfolding leftover
   leftover-is = let m = mod-lt N (lit< {m = 0} {n = 64} tt) in (omega arith, omega arith)
@@ -142,3 +141,13 @@ module _ (t : Tie) (ms : ℕ → List Float) (s : ℕ) (us : List ℕ) (N : ℕ)
       let i = renormalise-at (values t ms s N) (stateAt 32 s us N) (N / 64) (N % 64) (state-small N (le-refl N)) (omega arith) (omega (arith, mod-lt N (lit< {m = 0} {n = 64} tt))) (holds N (le-refl N)) in
       let b : depth (N / 64 + 1) 0 * pow2 149 ≤ depth windows 0 * pow2 149 = mul-le-mul-right (pow2 149) (omega arith) in
       record { num = i .num; floor = λ r R. let f = i .floor r R in omega arith; plus = i .plus; cap = i .cap; lead = i .lead }
+
+  -- so rounding took frameLoss units of 2 ^ -15 of the margin at most: every other state is 2.7 or more below the sent one
+  pub led-by : (r : ℕ) → r < 64 → (r ≡ stateAt 32 s us N → ⊥)
+      → hi binary32 (getD (renormalised 32 (values t ms s N)) r nan) + lo binary32 (getD (renormalised 32 (values t ms s N)) (stateAt 32 s us N) nan) + (margin * 32768 - frameLoss) * pow2 134
+      ≤ hi binary32 (getD (renormalised 32 (values t ms s N)) (stateAt 32 s us N) nan) + lo binary32 (getD (renormalised 32 (values t ms s N)) r nan)
+  led-by r R n =
+      let l = ended .lead r R n in
+      let b = leftover-is in
+      let m : (margin * 32768 - frameLoss) * pow2 134 ≤ leftover * pow2 134 = mul-le-mul-right (pow2 134) (omega arith) in
+      omega arith

@@ -1,19 +1,18 @@
--- One step of the trellis keeps the lead of the sent state, less the rounding of two sums.
+-- One step of four metrics keeps the lead of the sent state, less the rounding of two sums. A rival's sum is rounded monotonely, so it stays below the rounded
+-- (sent sum - lead), whose size is that of the sent sum: only the magnitude of the sent path's value matters. Values are in units of 2 ^ -149.
 -- Assumes nothing.
-use mathlib.Core.Path.{_≡_, refl, sym, ap, _∙_, subst}
+use mathlib.Core.Path.{_≡_, refl}
 use mathlib.Core.Logic.{_⊎_, inl, inr}
-use mathlib.Core.Bool.{Bool, true, false, not, cond}
-use mathlib.Core.List.{List, []}
-use Prim.Native.Nat.{ℕ, zero, suc, _+_, _*_, _/_, _%_, _-_, _<_, _≤_, _^_}
-use native.Mathlib.Nat.{le-trans, le-of-eq, le-of-lt, mul-le-mul-right, add-mul, mod-lt}
+use mathlib.Core.List.{List}
+use Prim.Native.Nat.{ℕ, _+_, _*_, _/_, _%_, _-_, _<_, _≤_}
+use native.Mathlib.Nat.{mul-le-mul-right, add-mul, mod-lt}
 use native.Mathlib.Omega.{arith}
-use lib.Dec.{T, eqb, eqb→eq, eqb-refl, lit<, lit≤}
-use lib.ListN.{getD, length}
-use lib.IntN.{pos, negsuc}
-use lib.Ieee.{Float, nan, fin, binary32, prec, le, lt, add, sub, fits, ofBits}
+use lib.Dec.{eqb, lit<}
+use lib.ListN.{getD}
+use lib.Ieee.{Float, nan, binary32, add, fits}
 use Rattle.ieee.specs.Value.{hi, lo, Num}
-use Rattle.ieee.specs.Order.{Lt, le→value, lt→value, value→lt}
-use Rattle.ieee.specs.Rounding.{Rounds, pow2, pow2-add, pow2-pos, fine-pow2, Near, rounds-near}
+use Rattle.ieee.specs.Order.{Lt, le→value}
+use Rattle.ieee.specs.Rounding.{pow2, pow2-add, fine-pow2, rounds-near}
 use Rattle.ieee.specs.Sums.{add-rounds}
 use Rattle.trellis.specs.Code.{isdb, label}
 use Rattle.trellis.specs.Step.{four, Tie, branch, cand, wins, next, nexts}
@@ -49,12 +48,14 @@ unfolding hi lo pow2
 limits = (refl, refl, refl, refl, refl, refl)
 
 -- ---- one sum of the sent path, x + a, and one of a rival, y + b
+-- z is from 0 to M and at least A - C - E
 pub record Sent (z : Float) (A C M E : ℕ) : Type 0 where
   pub num : Num binary32 z
   pub plus : lo binary32 z ≡ 0
   pub cap : hi binary32 z ≤ M
   pub under : A + lo binary32 z ≤ hi binary32 z + C + E
 
+-- z is at least -B and at most A - C - L + E
 pub record Rival (z : Float) (A C B L E : ℕ) : Type 0 where
   pub num : Num binary32 z
   pub floor : lo binary32 z ≤ B

@@ -4,7 +4,7 @@ use mathlib.Core.Path.{_≡_, refl, sym, ap, _∙_, subst}
 use mathlib.Core.Logic.{_⊎_, inl, inr}
 use mathlib.Core.Bool.{Bool, true, false, cond}
 use mathlib.Core.List.{List, [], _∷_, _++_}
-use Prim.Native.Nat.{ℕ, zero, suc, _+_, _*_, _/_, _%_, _-_, _<_, _≤_, _^_}
+use Prim.Native.Nat.{ℕ, zero, suc, _+_, _*_, _/_, _-_, _<_, _≤_}
 use native.Mathlib.Nat.{add-zero, add-suc, le-refl, le-of-eq}
 use native.Mathlib.Omega.{arith}
 use lib.Dec.{T, leb, leb→le}
@@ -169,7 +169,8 @@ module _ (half : ℕ) (out : ℕ → ℕ → ℕ) (t : Tie) (tb : ℕ) where
           settles : settled half out t n (steps n) (nexts half out t (after half out t tb steps d n .values) (steps n)) ≡ valuesAt half out t steps (d .values) (suc n)
           settles = rw (after-values n)
 
-  -- ---- the flush: all bits
+-- ---- the flush: all bits
+module _ (half : ℕ) (out : ℕ → ℕ → ℕ) (t : Tie) where
   pub flushed-counted : (d : Decoder) → length (flushed half out t d .bits) ≡ counted d
   flushed-counted d = length-append (d .bits) (decoded half out t d) ∙ ap (λ (x : ℕ). length (d .bits) + x) (length-traced half (d .words) (best t (d .values) (2 * half - 1)))
 

@@ -1,13 +1,13 @@
 -- The lead of the sent state within a window of 64 steps: what a step costs, what the subtraction of the maximum leaves, and the known start.
 -- Assumes nothing.
-use mathlib.Core.Path.{_≡_, refl, sym, ap, _∙_, subst}
+use mathlib.Core.Path.{_≡_, refl, ap, _∙_, subst}
 use mathlib.Core.Logic.{_⊎_, inl, inr}
-use mathlib.Core.Bool.{Bool, true, false, cond}
+use mathlib.Core.Bool.{cond}
 use mathlib.Core.List.{List}
-use Prim.Native.Nat.{ℕ, zero, suc, _+_, _*_, _/_, _%_, _-_, _<_, _≤_, _^_}
+use Prim.Native.Nat.{ℕ, _+_, _*_, _/_, _%_, _<_, _≤_}
 use native.Mathlib.Nat.{mul-le-mul-right, add-mul, mod-eq-of-lt}
 use native.Mathlib.Omega.{arith}
-use lib.Dec.{T, eqb, eqb→eq, eqb-refl, lit<, lit≤}
+use lib.Dec.{eqb, eqb→eq, eqb-refl, lit<, lit≤}
 use lib.ListN.{getD}
 use lib.Ieee.{Float, nan, binary32, fits, ofBits}
 use Rattle.ieee.specs.Value.{hi, lo, Num}
