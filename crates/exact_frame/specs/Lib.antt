@@ -1,3 +1,5 @@
 pub mod Places
 pub mod Sizes
 pub mod Order
+pub mod Floats
+pub mod Steps

@@ -35,10 +35,10 @@ has l a = ltb (placeIn a l) (length l)
 
 unfoldable each : List ℕ → ℕ → Bool
 each l zero = true
-each l (suc r) = each l r && (has l (2 * r) || has l (2 * r + 1))
+each l (suc r) = each l r && (has l (2 * r + 0) || has l (2 * r + 1))
 
 abbrev pub Kept : List ℕ → ℕ → Type 0
-Kept l r = (placeIn (2 * r) l < length l) ⊎ (placeIn (2 * r + 1) l < length l)
+Kept l r = (placeIn (2 * r + 0) l < length l) ⊎ (placeIn (2 * r + 1) l < length l)
 
 either-of : (a b : Bool) → T (a || b) → T a ⊎ T b
 either-of true b h = inl tt
@@ -48,16 +48,16 @@ both-of : (a b : Bool) → T (a && b) → T a × T b
 both-of true b h = (tt, h)
 both-of false b h = absurd h
 
-kept-of : (l : List ℕ) (r : ℕ) → T (has l (2 * r)) ⊎ T (has l (2 * r + 1)) → Kept l r
-kept-of l r (inl h) = inl (ltb→lt (placeIn (2 * r) l) (length l) h)
+kept-of : (l : List ℕ) (r : ℕ) → T (has l (2 * r + 0)) ⊎ T (has l (2 * r + 1)) → Kept l r
+kept-of l r (inl h) = inl (ltb→lt (placeIn (2 * r + 0) l) (length l) h)
 kept-of l r (inr h) = inr (ltb→lt (placeIn (2 * r + 1) l) (length l) h)
 
 each-kept : (l : List ℕ) (n : ℕ) → T (each l n) → (r : ℕ) → r < n → Kept l r
 unfolding each
 each-kept l zero h r s = absurd (not-suc-le-zero s)
 each-kept l (suc n) h r s =
-    let p = both-of (each l n) (has l (2 * n) || has l (2 * n + 1)) h in
-    below-more (Kept l) n (each-kept l n (p .0)) (kept-of l n (either-of (has l (2 * n)) (has l (2 * n + 1)) (p .1))) r (omega arith)
+    let p = both-of (each l n) (has l (2 * n + 0) || has l (2 * n + 1)) h in
+    below-more (Kept l) n (each-kept l n (p .0)) (kept-of l n (either-of (has l (2 * n + 0)) (has l (2 * n + 1)) (p .1))) r (omega arith)
 
 -- ---- the combinations
 -- a combination whose symbols carry w coded bits each
@@ -90,22 +90,22 @@ kind «Qpsk7_8» = two refl (record { period = lit< tt; count = lit< tt; kept = 
 kind «Tc8psk2_3» = three refl (record { symbols = λ u. omega arith; bits = λ u. omega arith })
 
 -- ---- the bit of step k of a segment that is sent: X where b is 0, Y where it is 1
-module _ (at : ℕ → ℕ) (g : Segment) (k b : ℕ) where
+module _ (g : Segment) (k b : ℕ) where
   abbrev order : List ℕ
   order = orderOf (g .combination)
 
   abbrev p : ℕ
   p = stepsPerPeriod (g .combination)
 
-  abbrev mother : ℕ
+  abbrev pub mother : ℕ
   mother = 2 * (k % p) + b
 
   -- its number among the bits that the segment sends
   abbrev pub number : ℕ
   number = k / p * length order + placeIn mother order
 
-  pub sent-at : 0 < p → b < 2 → placeIn mother order < length order → sentBit at g number ≡ codedBit b (at (g .step + k))
-  sent-at P B h =
+  pub sent-at : (at : ℕ → ℕ) → 0 < p → b < 2 → placeIn mother order < length order → sentBit at g number ≡ codedBit b (at (g .step + k))
+  sent-at at P B h =
       let n = length order in
       let i = placeIn mother order in
       let e1 : number % n ≡ i = mul-add-mod-self-right (k / p) n i ∙ mod-eq-of-lt h in
