@@ -8,8 +8,9 @@ use native.Mathlib.Nat.{mod-lt, div-add-mod'}
 use native.Mathlib.Omega.{arith}
 use lib.Dec.{T, eqb, ltb, lt→ltb, ltb→lt, lit<}
 use lib.ListN.{getD, length}
-use lib.Ieee.{Float, nan, binary32, mul, ofBits}
+use lib.Ieee.{Float, nan, binary32, mul, lt, ofBits}
 use Rattle.trellis.specs.Code.{isdb, output, label, stateAt}
+use Rattle.trellis.specs.Lists.{bit}
 use Rattle.trellis.specs.Step.{term}
 use Rattle.lead.specs.Favour.{Favour, Favours}
 use Rattle.lead.specs.Ties.{true-of, false-of}
@@ -24,12 +25,12 @@ use Rattle.isdbs_core.specs.RunsOf.{frameSteps, loadBytes}
 use Rattle.isdbs_phy.specs.declared.Cplx.{Cplx}
 use Rattle.isdbs_phy.specs.declared.demod.Mapping.{Mapping}
 use Rattle.isdbs_phy.specs.Soft.{softOf}
-use Rattle.isdbs_phy.specs.Points.{point, unused, one64, root64, psk8Of, subset, turned, qpskOf}
+use Rattle.isdbs_phy.specs.Points.{point, unused, zero64, one64, root64, psk8Of, subset, turned, qpskOf}
 use Rattle.isdbs_phy.specs.Layout.{Segment, segments, orderOf, stepsPerPeriod, placeIn, loadBit, atStep}
 use Rattle.isdbs_phy.specs.Frame.{inputIn, inputs, labelAt, codedBit, sentBit, pointBy, pointIn, pointAt, startState}
-use Rattle.isdbs_phy.specs.Reading.{Received, symbolAt, scaled, partOf, carrier, softAt, metricsBy, metricsIn, metricsAt}
+use Rattle.isdbs_phy.specs.Reading.{Received, symbolAt, scaled, partOf, carrier, softAt, pairMetrics, correlation, metricsBy, metricsIn, metricsAt}
 use Rattle.margins.specs.Margins.{keeps, holds, isBpsk, freeRe, freeIm, Within}
-use Rattle.exact_frame.specs.Places.{In, Found, among-at, find}
+use Rattle.exact_frame.specs.Places.{In, Found, fill-member, among-at, find}
 use Rattle.exact_frame.specs.Sizes.{Whole, symbolSum, table-steps, table-symbols, table-whole, symbol-fits}
 use Rattle.exact_frame.specs.Order.{Sends, Pairs, Kind, one, two, three, kind, Kept, mother, number, sent-at}
 use Rattle.exact_frame.specs.Floats.{eight, Floats}
@@ -52,6 +53,25 @@ coded-small b l h = either-small (eqb (b % 2) 0) (l / 2) (l % 2) (omega arith) (
 subset-small : (w : Bool) (l : ℕ) → l < 4 → subset w l < 4
 subset-small true l h = omega arith
 subset-small false l h = h
+
+-- ---- QPSK: the parts of a symbol that carry p1 and p0
+carries : (F : Floats) (reverse conjugate : Bool) (p1 p0 : ℕ) (x y : Float) → p1 < 2 → p0 < 2 → T (keeps (qpskOf reverse p1 p0 .re) x)
+    → T (keeps (turned conjugate (qpskOf reverse p1 p0 .im)) y) → (h : ℕ) → h < 2 → T (keeps (term (cond (eqb h 0) p1 p0) root64) (partOf reverse (point x (turned conjugate y)) h))
+carries F true conjugate p1 p0 x y P1 P0 X Y zero h = F .turned-root conjugate p1 y P1 Y
+carries F true conjugate p1 p0 x y P1 P0 X Y (suc zero) h = X
+carries F true conjugate p1 p0 x y P1 P0 X Y (suc (suc n)) h = absurd (omega arith)
+carries F false conjugate p1 p0 x y P1 P0 X Y zero h = X
+carries F false conjugate p1 p0 x y P1 P0 X Y (suc zero) h = F .turned-root conjugate p0 y P0 Y
+carries F false conjugate p1 p0 x y P1 P0 X Y (suc (suc n)) h = absurd (omega arith)
+
+-- the bit of number n is the first or the second of its pair
+of-pair : (f : ℕ → ℕ) (n : ℕ) → cond (eqb (n % 2) 0) (f (2 * (n / 2))) (f (2 * (n / 2) + 1)) ≡ f n
+of-pair f n = go (n % 2) (n / 2) (mod-lt n (lit< tt)) (div-add-mod' n 2)
+  where
+    go : (h q : ℕ) → h < 2 → q * 2 + h ≡ n → cond (eqb h 0) (f (2 * q)) (f (2 * q + 1)) ≡ f n
+    go zero q l e = ap f (omega arith)
+    go (suc zero) q l e = ap f (omega arith)
+    go (suc (suc h)) q l e = absurd (omega arith)
 
 -- ---- a frame within the margins, as it is read at the scale 8
 abbrev pub received : List Float → List Float → Mapping → Received
@@ -109,3 +129,118 @@ module _ (t : Table) (fit : slotSum (t .entries) ≤ 48) (m : Mapping) (first : 
         subst (λ (x : Modulation). F .Speaks (sentBit at g n) (scaled r g (carrier x r g n))) (sym e)
         (F .one-speaks (sentBit at g n) (symbolAt r (g .symbol + n) .re) (sent-small g n)
         (subst (λ (x : Modulation). T (keeps (pointBy x m load at g n .re) (symbolAt r (g .symbol + n) .re))) e (re-keeps g i n l)))
+
+    two-at : modulationOf c ≡ Qpsk → (n : ℕ) → n < 2 * g .symbols → SpeaksAt n
+    unfolding pointBy
+    two-at e n l =
+        let j = n / 2 in
+        let J : j < g .symbols = omega arith in
+        let z = symbolAt r (g .symbol + j) in
+        let reverse = m .«qpsk_p1_on_q» in
+        let x : T (keeps (qpskOf reverse (sentBit at g (2 * j)) (sentBit at g (2 * j + 1)) .re) (getD re (g .symbol + j) nan)) =
+        subst (λ (x : Modulation). T (keeps (pointBy x m load at g j .re) (getD re (g .symbol + j) nan))) e (re-keeps g i j J) in
+        let y : T (keeps (turned (m .conjugate) (qpskOf reverse (sentBit at g (2 * j)) (sentBit at g (2 * j + 1)) .im)) (getD im (g .symbol + j) nan)) =
+        subst (λ (x : Modulation). T (keeps (turned (m .conjugate) (pointBy x m load at g j .im)) (getD im (g .symbol + j) nan))) e (im-keeps g i j J (ap isBpsk e)) in
+        let k : T (keeps (term (sentBit at g n) root64) (partOf reverse z (n % 2))) =
+        subst (λ (b : ℕ). T (keeps (term b root64) (partOf reverse z (n % 2)))) (of-pair (sentBit at g) n)
+        (carries F reverse (m .conjugate) (sentBit at g (2 * j)) (sentBit at g (2 * j + 1)) (getD re (g .symbol + j) nan) (getD im (g .symbol + j) nan)
+        (sent-small g (2 * j)) (sent-small g (2 * j + 1)) x y (n % 2) (mod-lt n (lit< tt))) in
+        subst (λ (x : Modulation). F .Speaks (sentBit at g n) (scaled r g (carrier x r g n))) (sym e)
+        (F .root-speaks (sentBit at g n) (partOf reverse z (n % 2)) (sent-small g n) k)
+
+    -- ---- a step of a BPSK or QPSK segment
+    abbrev n : ℕ
+    n = length (orderOf c)
+
+    module _ (w : ℕ) (s : Sends c w) (speaks : (n : ℕ) → n < w * g .symbols → SpeaksAt n) (k : ℕ) (K : k < g .steps) where
+      number-small : (b : ℕ) → placeIn (mother g k b) (orderOf c) < n → number g k b < w * g .symbols
+      number-small b h =
+          let o = table-whole t g i in
+          rw (o .symbols-are) (s .room (o .units) k (placeIn (mother g k b) (orderOf c)) (rw (o .steps-are) at K) h)
+
+      soft-speaks : (b : ℕ) → b < 2 → placeIn (mother g k b) (orderOf c) < n → F .Speaks (codedBit b (at (g .step + k))) (softAt r g k b)
+      unfolding softAt
+      soft-speaks b B h =
+          rw (true-of (ltb (placeIn (mother g k b) (orderOf c)) n) (lt→ltb (placeIn (mother g k b) (orderOf c)) n h), ← sent-at g k b at (s .period) B h)
+          (speaks (number g k b) (number-small b h))
+
+      soft-says : (b : ℕ) → b < 2 → (softAt r g k b ≡ ofBits binary32 0) ⊎ F .Speaks (codedBit b (at (g .step + k))) (softAt r g k b)
+      unfolding softAt
+      soft-says b B = go (ltb (placeIn (mother g k b) (orderOf c)) n) refl
+        where
+          go : (t : Bool) → ltb (placeIn (mother g k b) (orderOf c)) n ≡ t → (softAt r g k b ≡ ofBits binary32 0) ⊎ F .Speaks (codedBit b (at (g .step + k))) (softAt r g k b)
+          go true e = inr (soft-speaks b B (ltb→lt (placeIn (mother g k b) (orderOf c)) n (subst T (sym e) tt)))
+          go false e = inl (rw e)
+
+      pair-at : Favour (pairMetrics (softAt r g k 0) (softAt r g k 1)) (at (g .step + k))
+      pair-at = F .pair-favours (softAt r g k 0) (softAt r g k 1) (at (g .step + k)) (label-at-small (g .step + k)) (go (s .kept (k % stepsPerPeriod c) (mod-lt k (s .period))))
+        where
+          go : Kept (orderOf c) (k % stepsPerPeriod c)
+              → (F .Speaks (at (g .step + k) / 2) (softAt r g k 0) × ((softAt r g k 1 ≡ ofBits binary32 0) ⊎ F .Speaks (at (g .step + k) % 2) (softAt r g k 1)))
+                  ⊎ (((softAt r g k 0 ≡ ofBits binary32 0) ⊎ F .Speaks (at (g .step + k) / 2) (softAt r g k 0)) × F .Speaks (at (g .step + k) % 2) (softAt r g k 1))
+          go (inl h) = inl (soft-speaks 0 (lit< tt) h, soft-says 1 (lit< tt))
+          go (inr h) = inr (soft-says 0 (lit< tt), soft-speaks 1 (lit< tt) h)
+
+    -- ---- a step of a TC8PSK segment
+    module _ (e : modulationOf c ≡ Tc8psk) (s : Pairs c) (k : ℕ) (K : k < g .steps) where
+      abbrev z : Cplx
+      z = symbolAt r (g .symbol + k)
+
+      abbrev c2 : ℕ
+      c2 = loadBit load (g .bit + 2 * k)
+
+      abbrev p : Cplx
+      p = psk8Of (4 * c2 + subset (m .«tc8psk_c1_is_y») (at (g .step + k)))
+
+      symbol-small : k < g .symbols
+      symbol-small = let o = table-whole t g i in let q = s .symbols (o .units) in omega (arith, o .symbols-are, o .steps-are)
+
+      tc-re : T (keeps (p .re) (z .re))
+      unfolding pointBy
+      tc-re = subst (λ (x : Modulation). T (keeps (pointBy x m load at g k .re) (z .re))) e (re-keeps g i k symbol-small)
+
+      tc-im : T (keeps (p .im) (z .im))
+      unfolding pointBy
+      tc-im =
+          let l = subset (m .«tc8psk_c1_is_y») (at (g .step + k)) in
+          let small : 4 * c2 + l < 8 = omega (arith, load-bit-small load (g .bit + 2 * k), subset-small (m .«tc8psk_c1_is_y») (at (g .step + k)) (label-at-small (g .step + k))) in
+          F .turned-psk8 (m .conjugate) (4 * c2 + l) (getD im (g .symbol + k) nan) small
+          (subst (λ (x : Modulation). T (keeps (turned (m .conjugate) (pointBy x m load at g k .im)) (getD im (g .symbol + k) nan))) e (im-keeps g i k symbol-small (ap isBpsk e)))
+
+      tc-at : Favour (metricsBy Tc8psk r g k) (at (g .step + k))
+      unfolding metricsBy
+      tc-at = F .tc-favours (m .«tc8psk_c1_is_y») c2 (at (g .step + k)) z (load-bit-small load (g .bit + 2 * k)) (label-at-small (g .step + k)) tc-re tc-im
+
+      pub tc-bit : bit (lt (correlation z (psk8Of (subset (m .«tc8psk_c1_is_y») (at (g .step + k))))) zero64) ≡ c2
+      tc-bit = F .tc-uncoded (m .«tc8psk_c1_is_y») c2 (at (g .step + k)) z (load-bit-small load (g .bit + 2 * k)) (label-at-small (g .step + k)) tc-re tc-im
+
+    -- ---- a step of any segment
+    in-favours : (k : ℕ) → k < g .steps → Favour (metricsIn r g k) (at (g .step + k))
+    unfolding metricsBy
+    in-favours k K = go (kind c)
+      where
+        go : Kind c → Favour (metricsIn r g k) (at (g .step + k))
+        go (one e s) =
+            subst (λ (x : Modulation). Favour (metricsBy x r g k) (at (g .step + k))) (sym e)
+            (pair-at 1 s (λ n l. one-at e n (omega arith)) k K)
+        go (two e s) =
+            subst (λ (x : Modulation). Favour (metricsBy x r g k) (at (g .step + k))) (sym e)
+            (pair-at 2 s (two-at e) k K)
+        go (three e s) =
+            subst (λ (x : Modulation). Favour (metricsBy x r g k) (at (g .step + k))) (sym e)
+            (tc-at e s k K)
+
+  -- ---- the frame's steps
+  pub step-favours : (F : Floats) (k : ℕ) → k < frameSteps t → Favour (metricsAt t r k) (at k)
+  unfolding metricsAt
+  step-favours F k l =
+      let f = find (λ g. g .step) (λ g. g .steps) (segments t) 0 (frameSteps t) k (table-steps t) (omega arith) l in
+      let g = f .segment in
+      rw (f .place-is, among-at (λ g. g .step) (λ g. g .steps) [] (metricsIn r) g (segments t) 0 (frameSteps t) (f .member) (table-steps t) (f .place) (f .small))
+      (in-favours F g (f .member) (f .place) (f .small))
+
+  input-at : (g : Segment) → In g (segments t) → (k : ℕ) → k < g .steps → getD (inputs t load) (g .step + k) 0 ≡ inputIn load g k
+  unfolding inputs
+  input-at g i k l =
+      getD-upto (atStep 0 (inputIn load) t) 0 (frameSteps t) (g .step + k) (omega (arith, fill-member (λ g. g .step) (λ g. g .steps) g (segments t) 0 (frameSteps t) i (table-steps t) .1))
+      ∙ among-at (λ g. g .step) (λ g. g .steps) 0 (inputIn load) g (segments t) 0 (frameSteps t) i (table-steps t) k l
