@@ -3,3 +3,4 @@ pub mod Sizes
 pub mod Order
 pub mod Floats
 pub mod Steps
+pub mod Bytes

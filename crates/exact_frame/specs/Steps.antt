@@ -239,7 +239,8 @@ module _ (t : Table) (fit : slotSum (t .entries) ≤ 48) (m : Mapping) (first : 
       rw (f .place-is, among-at (λ g. g .step) (λ g. g .steps) [] (metricsIn r) g (segments t) 0 (frameSteps t) (f .member) (table-steps t) (f .place) (f .small))
       (in-favours F g (f .member) (f .place) (f .small))
 
-  input-at : (g : Segment) → In g (segments t) → (k : ℕ) → k < g .steps → getD (inputs t load) (g .step + k) 0 ≡ inputIn load g k
+  -- the frame's input at a step of a segment
+  pub input-at : (g : Segment) → In g (segments t) → (k : ℕ) → k < g .steps → getD (inputs t load) (g .step + k) 0 ≡ inputIn load g k
   unfolding inputs
   input-at g i k l =
       getD-upto (atStep 0 (inputIn load) t) 0 (frameSteps t) (g .step + k) (omega (arith, fill-member (λ g. g .step) (λ g. g .steps) g (segments t) 0 (frameSteps t) i (table-steps t) .1))
