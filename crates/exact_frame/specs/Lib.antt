@@ -4,3 +4,4 @@ pub mod Order
 pub mod Floats
 pub mod Steps
 pub mod Bytes
+pub mod Exact

@@ -1,0 +1,115 @@
+-- Demand 3: "a frame whose points lie within the margins of a full load decodes to exactly that load". For every table that row 1 accepts, every `Mapping`, both
+-- values of `first`, a known start and the scale 8. Assumes nothing.
+use mathlib.Core.Path.{_≡_, refl, sym, _∙_, ap, subst}
+use mathlib.Core.Logic.{_⊎_, inl, inr}
+use mathlib.Core.Bool.{Bool, true, false, cond}
+use mathlib.Core.List.{List, [], _∷_}
+use Prim.Native.Nat.{ℕ, zero, suc, _+_, _*_, _/_, _%_, _<_, _≤_, _-_, _^_}
+use native.Mathlib.Nat.{mod-lt, div-add-mod'}
+use native.Mathlib.Omega.{arith}
+use lib.Dec.{T, eqb, lit<}
+use lib.ListN.{getD, length}
+use lib.Ieee.{Float}
+use Rattle.trellis.specs.Lists.{upto}
+use Rattle.trellis.specs.Code.{stateAt}
+use Rattle.trellis.specs.Step.{lower}
+use Rattle.lead.specs.Favour.{Favours}
+use Rattle.lead.specs.Frame.{decoded-sent}
+use Rattle.isdbs_core.specs.declared.combination.Modulation.{Modulation}
+use Rattle.isdbs_core.specs.declared.combination.Modulation.the-variants.{Bpsk, Qpsk, Tc8psk}
+use Rattle.isdbs_core.specs.declared.tmcc.Table.{Table}
+use Rattle.isdbs_core.specs.Combinations.{modulationOf, unitOf, slotSteps}
+use Rattle.isdbs_core.specs.Tables.{slotSum}
+use Rattle.isdbs_core.specs.RunsOf.{frameSteps, loadBytes}
+use Rattle.isdbs_phy.specs.declared.demod.Mapping.{Mapping}
+use Rattle.isdbs_phy.specs.Layout.{Segment, segments, atBit, loadBit, wordBit}
+use Rattle.isdbs_phy.specs.Frame.{coded, inputIn, inputs, labelAt, stateAfter, startState}
+use Rattle.isdbs_phy.specs.Reading.{Received, metricsAt, decodedBits, uncoded, bitBy, bitIn, bytesFrom, decodedBytes}
+use Rattle.margins.specs.Margins.{Within, FullLoad}
+use Rattle.exact_frame.specs.Places.{In, fill-member, among-at, find}
+use Rattle.exact_frame.specs.Sizes.{Whole, table-steps, table-bits, table-whole, few-steps}
+use Rattle.exact_frame.specs.Order.{Sends, Pairs, Kind, one, two, three, kind}
+use Rattle.exact_frame.specs.Floats.{Floats}
+use Rattle.exact_frame.specs.Steps.{load-bit-small, received, step-favours, input-at, tc-bit}
+use Rattle.exact_frame.specs.Bytes.{label-alike, bytes-are}
+
+start-small : (first : Bool) → startState first < 64
+unfolding stateAfter stateAt upto
+start-small true = lit< tt
+start-small false = lit< tt
+
+-- the two bits of a TC8PSK step
+two-bits : (load : List ℕ) (f h : ℕ → ℕ) (b i : ℕ) → f (i / 2) ≡ loadBit load (b + 2 * (i / 2)) → h (i / 2) ≡ loadBit load (b + (2 * (i / 2) + 1))
+    → cond (eqb (i % 2) 0) (f (i / 2)) (h (i / 2)) ≡ loadBit load (b + i)
+two-bits load f h b i x y = go (i % 2) (i / 2) (mod-lt i (lit< tt)) (div-add-mod' i 2) x y
+  where
+    go : (r q : ℕ) → r < 2 → q * 2 + r ≡ i → f q ≡ loadBit load (b + 2 * q) → h q ≡ loadBit load (b + (2 * q + 1)) → cond (eqb r 0) (f q) (h q) ≡ loadBit load (b + i)
+    go zero q l e x y = x ∙ ap (loadBit load) (omega arith)
+    go (suc zero) q l e x y = y ∙ ap (loadBit load) (omega arith)
+    go (suc (suc r)) q l e x y = absurd (omega arith)
+
+module _ (F : Floats) (t : Table) (fit : slotSum (t .entries) ≤ 48) (m : Mapping) (first : Bool) (load : List ℕ) (re im : List Float) (within : Within re im load t m first) where
+  abbrev r : Received
+  r = received re im m
+
+  -- ---- the decoder's bits
+  input-small : (k : ℕ) → k < frameSteps t → getD (inputs t load) k 0 < 2
+  input-small k l =
+      let f = find (λ g. g .step) (λ g. g .steps) (segments t) 0 (frameSteps t) k (table-steps t) (omega arith) l in
+      let g = f .segment in
+      rw (f .place-is, input-at t fit m first load re im within g (f .member) (f .place) (f .small))
+      (load-bit-small load (g .bit + coded (modulationOf (g .combination)) (f .place)))
+
+  favours : Favours (startState first) (inputs t load) (metricsAt t r) (frameSteps t)
+  favours = record { start = start-small first; bits = input-small; steps = step-favours t fit m first load re im within F }
+
+  abbrev us : List ℕ
+  us = decodedBits t r true first
+
+  sent-bits : (i : ℕ) → i < frameSteps t → getD us i 0 ≡ getD (inputs t load) i 0
+  unfolding decodedBits
+  sent-bits = decoded-sent lower 128 (startState first) (inputs t load) (metricsAt t r) (frameSteps t) (few-steps t fit) favours (wordBit 0x1b95) 16 .sent
+
+  -- ---- the bits of the bytes
+  module _ (g : Segment) (i : In g (segments t)) where
+    sent-input : (k : ℕ) → k < g .steps → getD us (g .step + k) 0 ≡ inputIn load g k
+    sent-input k l =
+        sent-bits (g .step + k) (omega (arith, fill-member (λ g. g .step) (λ g. g .steps) g (segments t) 0 (frameSteps t) i (table-steps t) .1))
+        ∙ input-at t fit m first load re im within g i k l
+
+    sent-label : (k : ℕ) → k < g .steps → labelAt (startState first) us (g .step + k) ≡ labelAt (startState first) (inputs t load) (g .step + k)
+    sent-label k l =
+        label-alike (startState first) us (inputs t load) (frameSteps t) sent-bits (g .step + k)
+        (omega (arith, fill-member (λ g. g .step) (λ g. g .steps) g (segments t) 0 (frameSteps t) i (table-steps t) .1))
+
+    bit-in : (k : ℕ) → k < g .bits → bitIn r (labelAt (startState first) us) us g k ≡ loadBit load (g .bit + k)
+    unfolding bitBy
+    bit-in k K = go (kind (g .combination))
+      where
+        plain : slotSteps (g .combination) ≡ 1624 → k < g .steps
+        plain e = let o = table-whole t g i in let s : g .steps ≡ g .bits = o .steps-are ∙ ap (λ (x : ℕ). x * (o .units * unitOf (g .combination) .valid)) e ∙ sym (o .bits-are) in omega arith
+
+        half : Pairs (g .combination) → k / 2 < g .steps
+        half s = let o = table-whole t g i in let b = s .bits (o .units) in omega (arith, o .steps-are, o .bits-are)
+
+        go : Kind (g .combination) → bitBy (modulationOf (g .combination)) r (labelAt (startState first) us) us g k ≡ loadBit load (g .bit + k)
+        go (one e s) =
+            rw e (sent-input k (plain (s .steps)) ∙ ap (λ (x : Modulation). loadBit load (g .bit + coded x k)) e)
+        go (two e s) =
+            rw e (sent-input k (plain (s .steps)) ∙ ap (λ (x : Modulation). loadBit load (g .bit + coded x k)) e)
+        go (three e s) =
+            rw e
+            (two-bits load (uncoded r (labelAt (startState first) us) g) (λ q. getD us (g .step + q) 0) (g .bit) k
+            (rw (sent-label (k / 2) (half s)) (tc-bit t fit m first load re im within F g i e s (k / 2) (half s)))
+            (sent-input (k / 2) (half s) ∙ ap (λ (x : Modulation). loadBit load (g .bit + coded x (k / 2))) e))
+
+  bit-at : (n : ℕ) → n < 8 * loadBytes t → atBit 0 (bitIn r (labelAt (startState first) us) us) t n ≡ loadBit load n
+  bit-at n l =
+      let f = find (λ g. g .bit) (λ g. g .bits) (segments t) 0 (8 * loadBytes t) n (table-bits t) (omega arith) l in
+      let g = f .segment in
+      rw (f .place-is, among-at (λ g. g .bit) (λ g. g .bits) 0 (bitIn r (labelAt (startState first) us) us) g (segments t) 0 (8 * loadBytes t) (f .member) (table-bits t) (f .place) (f .small))
+      (bit-in g (f .member) (f .place) (f .small))
+
+  exact : FullLoad load (loadBytes t) → decodedBytes t r true first ≡ load
+  unfolding bytesFrom
+  exact full = bytes-are load (loadBytes t) (λ n. atBit 0 (bitIn r (labelAt (startState first) us) us) t n) full bit-at
