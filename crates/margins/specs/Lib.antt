@@ -1,1 +1,4 @@
 pub mod Margins
+pub mod Fractions
+pub mod Intervals
+pub mod Speaks
