@@ -7,13 +7,12 @@ use native.Mathlib.Omega.{arith}
 use lib.IntN.{negsuc}
 use lib.Dec.{T}
 use lib.Ieee.{Float, fin, binary32, neg, eq, le, mul, ofBits, round}
-use lib.Ieee.Fits.{and-l, and-r}
-use lib.Ieee.Scale.{finite}
 use Rattle.ieee.specs.Value.{Num}
 use Rattle.trellis.specs.Step.{term}
 use Rattle.isdbs_phy.specs.Points.{one64, root64}
 use Rattle.isdbs_phy.specs.Soft.{softOf}
-use Rattle.margins.specs.Margins.{keeps, between, low1, high1, lowRoot, highRoot}
+use Rattle.margins.specs.Margins.{keeps, low1, high1, lowRoot, highRoot}
+use Rattle.margins.specs.Clean.{between-inside}
 use Rattle.margins.specs.Intervals.{Inside, inside-neg, eight, scaledUp, Scaled, scaled-inside}
 
 -- 5.4375 = 8 * 87/128 and 8.25 = 8 * 33/32
@@ -31,9 +30,6 @@ pub record Speaks (b : ℕ) (x : Float) : Type 0 where
 -- or it is 0, where the bit was not sent: "Erased soft values are 0"
 abbrev pub Said : ℕ → Float → Type 0
 Said b x = (x ≡ ofBits binary32 0) ⊎ Speaks b x
-
-pub between-inside : (a b x : Float) → T (between a b x) → Inside a b x
-between-inside a b x t = record { from = and-l (le a x) (le x b) t; to = and-r (le a x) (le x b) t }
 
 plus : {z : Float} → Scaled clearly fully z → Speaks 0 z
 plus s = record { num = s .num; inside = s .inside }
