@@ -38,7 +38,7 @@ kept-le p n den =
 all-in-use : (z p : ℕ) → 0 < p → 0 < z - p → p - 1 + (z - p) < z
 all-in-use z p P h = omega arith
 
-kept-ge : (p n den : ℕ) → 0 < p → 0 < drop p n den → 2 ^ (p - 1) ≤ kept p n den
+pub kept-ge : (p n den : ℕ) → 0 < p → 0 < drop p n den → 2 ^ (p - 1) ≤ kept p n den
 kept-ge p n den P K =
     let k = drop p n den in
     let u = den * 2 ^ k in
