@@ -30,10 +30,14 @@ use Rattle.isdbs_phy.specs.Layout.{Segment, segments, orderOf, stepsPerPeriod, 
 use Rattle.isdbs_phy.specs.Frame.{inputIn, inputs, labelAt, codedBit, sentBit, pointBy, pointIn, pointAt, startState}
 use Rattle.isdbs_phy.specs.Reading.{Received, symbolAt, scaled, partOf, carrier, softAt, pairMetrics, correlation, metricsBy, metricsIn, metricsAt}
 use Rattle.margins.specs.Margins.{keeps, holds, isBpsk, freeRe, freeIm, Within}
+use Rattle.margins.specs.Clean.{clean-root, term-clean, psk8-clean, turned-keeps}
+use Rattle.margins.specs.Intervals.{eight}
+use Rattle.margins.specs.Speaks.{Speaks, Said, one-speaks, root-speaks}
+use Rattle.margins.specs.Pairs.{pair-favours}
 use Rattle.exact_frame.specs.Places.{In, Found, fill-member, among-at, find}
 use Rattle.exact_frame.specs.Sizes.{Whole, symbolSum, table-steps, table-symbols, table-whole, symbol-fits}
 use Rattle.exact_frame.specs.Order.{Sends, Pairs, Kind, one, two, three, kind, Kept, mother, number, sent-at}
-use Rattle.exact_frame.specs.Floats.{eight, Floats}
+use Rattle.exact_frame.specs.Floats.{Floats}
 
 -- ---- bits
 pub label-small : (u s : ℕ) → label isdb u s < 4
@@ -55,14 +59,14 @@ subset-small true l h = omega arith
 subset-small false l h = h
 
 -- ---- QPSK: the parts of a symbol that carry p1 and p0
-carries : (F : Floats) (reverse conjugate : Bool) (p1 p0 : ℕ) (x y : Float) → p1 < 2 → p0 < 2 → T (keeps (qpskOf reverse p1 p0 .re) x)
+carries : (reverse conjugate : Bool) (p1 p0 : ℕ) (x y : Float) → p1 < 2 → p0 < 2 → T (keeps (qpskOf reverse p1 p0 .re) x)
     → T (keeps (turned conjugate (qpskOf reverse p1 p0 .im)) y) → (h : ℕ) → h < 2 → T (keeps (term (cond (eqb h 0) p1 p0) root64) (partOf reverse (point x (turned conjugate y)) h))
-carries F true conjugate p1 p0 x y P1 P0 X Y zero h = F .turned-root conjugate p1 y P1 Y
-carries F true conjugate p1 p0 x y P1 P0 X Y (suc zero) h = X
-carries F true conjugate p1 p0 x y P1 P0 X Y (suc (suc n)) h = absurd (omega arith)
-carries F false conjugate p1 p0 x y P1 P0 X Y zero h = X
-carries F false conjugate p1 p0 x y P1 P0 X Y (suc zero) h = F .turned-root conjugate p0 y P0 Y
-carries F false conjugate p1 p0 x y P1 P0 X Y (suc (suc n)) h = absurd (omega arith)
+carries true conjugate p1 p0 x y P1 P0 X Y zero h = turned-keeps conjugate (term p1 root64) y (term-clean p1 root64 clean-root) Y
+carries true conjugate p1 p0 x y P1 P0 X Y (suc zero) h = X
+carries true conjugate p1 p0 x y P1 P0 X Y (suc (suc n)) h = absurd (omega arith)
+carries false conjugate p1 p0 x y P1 P0 X Y zero h = X
+carries false conjugate p1 p0 x y P1 P0 X Y (suc zero) h = turned-keeps conjugate (term p0 root64) y (term-clean p0 root64 clean-root) Y
+carries false conjugate p1 p0 x y P1 P0 X Y (suc (suc n)) h = absurd (omega arith)
 
 -- the bit of number n is the first or the second of its pair
 of-pair : (f : ℕ → ℕ) (n : ℕ) → cond (eqb (n % 2) 0) (f (2 * (n / 2))) (f (2 * (n / 2) + 1)) ≡ f n
@@ -121,13 +125,13 @@ module _ (t : Table) (fit : slotSum (t .entries) ≤ 48) (m : Mapping) (first : 
 
     -- the bit that is sent n-th, read at its part
     abbrev SpeaksAt : ℕ → Type 0
-    SpeaksAt n = F .Speaks (sentBit at g n) (scaled r g (carrier (modulationOf c) r g n))
+    SpeaksAt n = Speaks (sentBit at g n) (scaled r g (carrier (modulationOf c) r g n))
 
     one-at : modulationOf c ≡ Bpsk → (n : ℕ) → n < g .symbols → SpeaksAt n
     unfolding pointBy
     one-at e n l =
-        subst (λ (x : Modulation). F .Speaks (sentBit at g n) (scaled r g (carrier x r g n))) (sym e)
-        (F .one-speaks (sentBit at g n) (symbolAt r (g .symbol + n) .re) (sent-small g n)
+        subst (λ (x : Modulation). Speaks (sentBit at g n) (scaled r g (carrier x r g n))) (sym e)
+        (one-speaks (sentBit at g n) (symbolAt r (g .symbol + n) .re) (sent-small g n)
         (subst (λ (x : Modulation). T (keeps (pointBy x m load at g n .re) (symbolAt r (g .symbol + n) .re))) e (re-keeps g i n l)))
 
     two-at : modulationOf c ≡ Qpsk → (n : ℕ) → n < 2 * g .symbols → SpeaksAt n
@@ -143,10 +147,10 @@ module _ (t : Table) (fit : slotSum (t .entries) ≤ 48) (m : Mapping) (first : 
         subst (λ (x : Modulation). T (keeps (turned (m .conjugate) (pointBy x m load at g j .im)) (getD im (g .symbol + j) nan))) e (im-keeps g i j J (ap isBpsk e)) in
         let k : T (keeps (term (sentBit at g n) root64) (partOf reverse z (n % 2))) =
         subst (λ (b : ℕ). T (keeps (term b root64) (partOf reverse z (n % 2)))) (of-pair (sentBit at g) n)
-        (carries F reverse (m .conjugate) (sentBit at g (2 * j)) (sentBit at g (2 * j + 1)) (getD re (g .symbol + j) nan) (getD im (g .symbol + j) nan)
+        (carries reverse (m .conjugate) (sentBit at g (2 * j)) (sentBit at g (2 * j + 1)) (getD re (g .symbol + j) nan) (getD im (g .symbol + j) nan)
         (sent-small g (2 * j)) (sent-small g (2 * j + 1)) x y (n % 2) (mod-lt n (lit< tt))) in
-        subst (λ (x : Modulation). F .Speaks (sentBit at g n) (scaled r g (carrier x r g n))) (sym e)
-        (F .root-speaks (sentBit at g n) (partOf reverse z (n % 2)) (sent-small g n) k)
+        subst (λ (x : Modulation). Speaks (sentBit at g n) (scaled r g (carrier x r g n))) (sym e)
+        (root-speaks (sentBit at g n) (partOf reverse z (n % 2)) (sent-small g n) k)
 
     -- ---- a step of a BPSK or QPSK segment
     abbrev n : ℕ
@@ -158,26 +162,26 @@ module _ (t : Table) (fit : slotSum (t .entries) ≤ 48) (m : Mapping) (first : 
           let o = table-whole t g i in
           rw (o .symbols-are) (s .room (o .units) k (placeIn (mother g k b) (orderOf c)) (rw (o .steps-are) at K) h)
 
-      soft-speaks : (b : ℕ) → b < 2 → placeIn (mother g k b) (orderOf c) < n → F .Speaks (codedBit b (at (g .step + k))) (softAt r g k b)
+      soft-speaks : (b : ℕ) → b < 2 → placeIn (mother g k b) (orderOf c) < n → Speaks (codedBit b (at (g .step + k))) (softAt r g k b)
       unfolding softAt
       soft-speaks b B h =
           rw (true-of (ltb (placeIn (mother g k b) (orderOf c)) n) (lt→ltb (placeIn (mother g k b) (orderOf c)) n h), ← sent-at g k b at (s .period) B h)
           (speaks (number g k b) (number-small b h))
 
-      soft-says : (b : ℕ) → b < 2 → (softAt r g k b ≡ ofBits binary32 0) ⊎ F .Speaks (codedBit b (at (g .step + k))) (softAt r g k b)
+      soft-says : (b : ℕ) → b < 2 → Said (codedBit b (at (g .step + k))) (softAt r g k b)
       unfolding softAt
       soft-says b B = go (ltb (placeIn (mother g k b) (orderOf c)) n) refl
         where
-          go : (t : Bool) → ltb (placeIn (mother g k b) (orderOf c)) n ≡ t → (softAt r g k b ≡ ofBits binary32 0) ⊎ F .Speaks (codedBit b (at (g .step + k))) (softAt r g k b)
+          go : (t : Bool) → ltb (placeIn (mother g k b) (orderOf c)) n ≡ t → Said (codedBit b (at (g .step + k))) (softAt r g k b)
           go true e = inr (soft-speaks b B (ltb→lt (placeIn (mother g k b) (orderOf c)) n (subst T (sym e) tt)))
           go false e = inl (rw e)
 
       pair-at : Favour (pairMetrics (softAt r g k 0) (softAt r g k 1)) (at (g .step + k))
-      pair-at = F .pair-favours (softAt r g k 0) (softAt r g k 1) (at (g .step + k)) (label-at-small (g .step + k)) (go (s .kept (k % stepsPerPeriod c) (mod-lt k (s .period))))
+      pair-at = pair-favours (softAt r g k 0) (softAt r g k 1) (at (g .step + k)) (label-at-small (g .step + k)) (go (s .kept (k % stepsPerPeriod c) (mod-lt k (s .period))))
         where
           go : Kept (orderOf c) (k % stepsPerPeriod c)
-              → (F .Speaks (at (g .step + k) / 2) (softAt r g k 0) × ((softAt r g k 1 ≡ ofBits binary32 0) ⊎ F .Speaks (at (g .step + k) % 2) (softAt r g k 1)))
-                  ⊎ (((softAt r g k 0 ≡ ofBits binary32 0) ⊎ F .Speaks (at (g .step + k) / 2) (softAt r g k 0)) × F .Speaks (at (g .step + k) % 2) (softAt r g k 1))
+              → (Speaks (at (g .step + k) / 2) (softAt r g k 0) × Said (at (g .step + k) % 2) (softAt r g k 1))
+                  ⊎ (Said (at (g .step + k) / 2) (softAt r g k 0) × Speaks (at (g .step + k) % 2) (softAt r g k 1))
           go (inl h) = inl (soft-speaks 0 (lit< tt) h, soft-says 1 (lit< tt))
           go (inr h) = inr (soft-says 0 (lit< tt), soft-speaks 1 (lit< tt) h)
 
@@ -204,7 +208,7 @@ module _ (t : Table) (fit : slotSum (t .entries) ≤ 48) (m : Mapping) (first : 
       tc-im =
           let l = subset (m .«tc8psk_c1_is_y») (at (g .step + k)) in
           let small : 4 * c2 + l < 8 = omega (arith, load-bit-small load (g .bit + 2 * k), subset-small (m .«tc8psk_c1_is_y») (at (g .step + k)) (label-at-small (g .step + k))) in
-          F .turned-psk8 (m .conjugate) (4 * c2 + l) (getD im (g .symbol + k) nan) small
+          turned-keeps (m .conjugate) (psk8Of (4 * c2 + l) .im) (getD im (g .symbol + k) nan) (psk8-clean (4 * c2 + l) small .1)
           (subst (λ (x : Modulation). T (keeps (turned (m .conjugate) (pointBy x m load at g k .im)) (getD im (g .symbol + k) nan))) e (im-keeps g i k symbol-small (ap isBpsk e)))
 
       tc-at : Favour (metricsBy Tc8psk r g k) (at (g .step + k))
