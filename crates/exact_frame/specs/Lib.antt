@@ -5,3 +5,4 @@ pub mod Floats
 pub mod Steps
 pub mod Bytes
 pub mod Exact
+pub mod Frames

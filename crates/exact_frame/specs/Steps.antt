@@ -54,7 +54,7 @@ either-small false a b h k = k
 coded-small : (b l : ℕ) → l < 4 → codedBit b l < 2
 coded-small b l h = either-small (eqb (b % 2) 0) (l / 2) (l % 2) (omega arith) (mod-lt l (lit< tt))
 
-subset-small : (w : Bool) (l : ℕ) → l < 4 → subset w l < 4
+pub subset-small : (w : Bool) (l : ℕ) → l < 4 → subset w l < 4
 subset-small true l h = omega arith
 subset-small false l h = h
 
