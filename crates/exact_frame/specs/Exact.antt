@@ -29,24 +29,15 @@ use Rattle.margins.specs.Margins.{Within, FullLoad}
 use Rattle.exact_frame.specs.Places.{In, fill-member, among-at, find}
 use Rattle.exact_frame.specs.Sizes.{Whole, table-steps, table-bits, table-whole, few-steps}
 use Rattle.exact_frame.specs.Order.{Sends, Pairs, Kind, one, two, three, kind}
+use Rattle.exact_frame.specs.Bits.{load-bit-small, of-pair}
 use Rattle.exact_frame.specs.Floats.{Floats}
-use Rattle.exact_frame.specs.Steps.{load-bit-small, received, step-favours, input-at, tc-bit}
+use Rattle.exact_frame.specs.Steps.{received, step-favours, input-at, tc-bit}
 use Rattle.exact_frame.specs.Bytes.{label-alike, bytes-are}
 
 start-small : (first : Bool) → startState first < 64
 unfolding stateAfter stateAt upto
 start-small true = lit< tt
 start-small false = lit< tt
-
--- the two bits of a TC8PSK step
-two-bits : (load : List ℕ) (f h : ℕ → ℕ) (b i : ℕ) → f (i / 2) ≡ loadBit load (b + 2 * (i / 2)) → h (i / 2) ≡ loadBit load (b + (2 * (i / 2) + 1))
-    → cond (eqb (i % 2) 0) (f (i / 2)) (h (i / 2)) ≡ loadBit load (b + i)
-two-bits load f h b i x y = go (i % 2) (i / 2) (mod-lt i (lit< tt)) (div-add-mod' i 2) x y
-  where
-    go : (r q : ℕ) → r < 2 → q * 2 + r ≡ i → f q ≡ loadBit load (b + 2 * q) → h q ≡ loadBit load (b + (2 * q + 1)) → cond (eqb r 0) (f q) (h q) ≡ loadBit load (b + i)
-    go zero q l e x y = x ∙ ap (loadBit load) (omega arith)
-    go (suc zero) q l e x y = y ∙ ap (loadBit load) (omega arith)
-    go (suc (suc r)) q l e x y = absurd (omega arith)
 
 module _ (F : Floats) (t : Table) (fit : slotSum (t .entries) ≤ 48) (m : Mapping) (first : Bool) (load : List ℕ) (re im : List Float) (within : Within re im load t m first) where
   abbrev r : Received
@@ -98,10 +89,12 @@ module _ (F : Floats) (t : Table) (fit : slotSum (t .entries) ≤ 48) (m : Mappi
         go (two e s) =
             rw e (sent-input k (plain (s .steps)) ∙ ap (λ (x : Modulation). loadBit load (g .bit + coded x k)) e)
         go (three e s) =
+            let c2 : uncoded r (labelAt (startState first) us) g (k / 2) ≡ loadBit load (g .bit + 2 * (k / 2)) =
+            rw (sent-label (k / 2) (half s)) (tc-bit t fit m first load re im within F g i e s (k / 2) (half s)) in
+            let u : getD us (g .step + k / 2) 0 ≡ loadBit load (g .bit + (2 * (k / 2) + 1)) =
+            sent-input (k / 2) (half s) ∙ ap (λ (x : Modulation). loadBit load (g .bit + coded x (k / 2))) e in
             rw e
-            (two-bits load (uncoded r (labelAt (startState first) us) g) (λ q. getD us (g .step + q) 0) (g .bit) k
-            (rw (sent-label (k / 2) (half s)) (tc-bit t fit m first load re im within F g i e s (k / 2) (half s)))
-            (sent-input (k / 2) (half s) ∙ ap (λ (x : Modulation). loadBit load (g .bit + coded x (k / 2))) e))
+            (rw (c2, u) (of-pair (λ n. loadBit load (g .bit + n)) k))
 
   bit-at : (n : ℕ) → n < 8 * loadBytes t → atBit 0 (bitIn r (labelAt (startState first) us) us) t n ≡ loadBit load n
   bit-at n l =

@@ -23,7 +23,7 @@ use Rattle.isdbs_phy.specs.Layout.{Segment, segments, among, atSymbol, loadBit}
 use Rattle.isdbs_phy.specs.Frame.{inputs, labelAt, sentBit, pointBy, pointIn, pointAt, frameRe, frameIm, startState}
 use Rattle.margins.specs.Margins.{keeps, anyAccepted, holds, freeRe, freeIm, Within}
 use Rattle.margins.specs.Clean.{Clean, clean-zero, clean-minus-zero, clean-one, clean-minus-one, clean-root, clean-minus-root, turned-clean, term-clean, psk8-clean, lowEnd, highEnd, keeps-accepted, clean-within, Other}
-use Rattle.exact_frame.specs.Steps.{label-small, subset-small, load-bit-small}
+use Rattle.exact_frame.specs.Bits.{label-small, subset-small, load-bit-small}
 
 -- ---- "A sample that is not finite or beyond 1,024 is refused": no part within the margins is one
 holds-accepted : (free : Bool) (clean x : Float) → T (holds free clean x) → T (anyAccepted x)

@@ -37,45 +37,8 @@ use Rattle.margins.specs.Pairs.{pair-favours}
 use Rattle.exact_frame.specs.Places.{In, Found, fill-member, among-at, find}
 use Rattle.exact_frame.specs.Sizes.{Whole, symbolSum, table-steps, table-symbols, table-whole, symbol-fits}
 use Rattle.exact_frame.specs.Order.{Sends, Pairs, Kind, one, two, three, kind, Kept, mother, number, sent-at}
+use Rattle.exact_frame.specs.Bits.{label-small, load-bit-small, coded-small, subset-small, carries, of-pair}
 use Rattle.exact_frame.specs.Floats.{Floats}
-
--- ---- bits
-pub label-small : (u s : ℕ) → label isdb u s < 4
-unfolding label output
-label-small u s = omega arith
-
-pub load-bit-small : (load : List ℕ) (n : ℕ) → loadBit load n < 2
-load-bit-small load n = mod-lt (getD load (n / 8) 0 / 2 ^ (7 - n % 8)) (lit< tt)
-
-either-small : (t : Bool) (a b : ℕ) → a < 2 → b < 2 → cond t a b < 2
-either-small true a b h k = h
-either-small false a b h k = k
-
-coded-small : (b l : ℕ) → l < 4 → codedBit b l < 2
-coded-small b l h = either-small (eqb (b % 2) 0) (l / 2) (l % 2) (omega arith) (mod-lt l (lit< tt))
-
-pub subset-small : (w : Bool) (l : ℕ) → l < 4 → subset w l < 4
-subset-small true l h = omega arith
-subset-small false l h = h
-
--- ---- QPSK: the parts of a symbol that carry p1 and p0
-carries : (reverse conjugate : Bool) (p1 p0 : ℕ) (x y : Float) → p1 < 2 → p0 < 2 → T (keeps (qpskOf reverse p1 p0 .re) x)
-    → T (keeps (turned conjugate (qpskOf reverse p1 p0 .im)) y) → (h : ℕ) → h < 2 → T (keeps (term (cond (eqb h 0) p1 p0) root64) (partOf reverse (point x (turned conjugate y)) h))
-carries true conjugate p1 p0 x y P1 P0 X Y zero h = turned-keeps conjugate (term p1 root64) y (term-clean p1 root64 clean-root) Y
-carries true conjugate p1 p0 x y P1 P0 X Y (suc zero) h = X
-carries true conjugate p1 p0 x y P1 P0 X Y (suc (suc n)) h = absurd (omega arith)
-carries false conjugate p1 p0 x y P1 P0 X Y zero h = X
-carries false conjugate p1 p0 x y P1 P0 X Y (suc zero) h = turned-keeps conjugate (term p0 root64) y (term-clean p0 root64 clean-root) Y
-carries false conjugate p1 p0 x y P1 P0 X Y (suc (suc n)) h = absurd (omega arith)
-
--- the bit of number n is the first or the second of its pair
-of-pair : (f : ℕ → ℕ) (n : ℕ) → cond (eqb (n % 2) 0) (f (2 * (n / 2))) (f (2 * (n / 2) + 1)) ≡ f n
-of-pair f n = go (n % 2) (n / 2) (mod-lt n (lit< tt)) (div-add-mod' n 2)
-  where
-    go : (h q : ℕ) → h < 2 → q * 2 + h ≡ n → cond (eqb h 0) (f (2 * q)) (f (2 * q + 1)) ≡ f n
-    go zero q l e = ap f (omega arith)
-    go (suc zero) q l e = ap f (omega arith)
-    go (suc (suc h)) q l e = absurd (omega arith)
 
 -- ---- a frame within the margins, as it is read at the scale 8
 abbrev pub received : List Float → List Float → Mapping → Received
@@ -148,7 +111,7 @@ module _ (t : Table) (fit : slotSum (t .entries) ≤ 48) (m : Mapping) (first : 
         let k : T (keeps (term (sentBit at g n) root64) (partOf reverse z (n % 2))) =
         subst (λ (b : ℕ). T (keeps (term b root64) (partOf reverse z (n % 2)))) (of-pair (sentBit at g) n)
         (carries reverse (m .conjugate) (sentBit at g (2 * j)) (sentBit at g (2 * j + 1)) (getD re (g .symbol + j) nan) (getD im (g .symbol + j) nan)
-        (sent-small g (2 * j)) (sent-small g (2 * j + 1)) x y (n % 2) (mod-lt n (lit< tt))) in
+        x y (n % 2) (mod-lt n (lit< tt))) in
         subst (λ (x : Modulation). Speaks (sentBit at g n) (scaled r g (carrier x r g n))) (sym e)
         (root-speaks (sentBit at g n) (partOf reverse z (n % 2)) (sent-small g n) k)
 
