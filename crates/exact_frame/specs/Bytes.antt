@@ -1,13 +1,12 @@
 -- The bits of bytes, and the states of inputs that begin alike. Assumes nothing.
-use mathlib.Core.Path.{_≡_, refl, sym, _∙_, ap, subst}
-use mathlib.Core.List.{List, [], _∷_}
+use mathlib.Core.Path.{_≡_, refl, sym, _∙_}
+use mathlib.Core.List.{List}
 use Prim.Native.Nat.{ℕ, zero, suc, _+_, _*_, _/_, _%_, _<_, _≤_, _-_, _^_}
-use native.Mathlib.Nat.{le-refl}
 use native.Mathlib.Omega.{arith}
-use lib.ListN.{getD, length}
+use lib.ListN.{getD}
 use lib.Seq.{ext-getD}
 use Rattle.trellis.specs.Lists.{upto}
-use Rattle.trellis.specs.Code.{isdb, label, moved, stateAt}
+use Rattle.trellis.specs.Code.{stateAt}
 use Rattle.lead.specs.Lists.{length-upto, getD-upto}
 use Rattle.isdbs_phy.specs.Layout.{loadBit, byteOf}
 use Rattle.isdbs_phy.specs.Frame.{labelAt}

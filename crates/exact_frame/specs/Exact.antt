@@ -1,22 +1,19 @@
 -- Demand 3: "a frame whose points lie within the margins of a full load decodes to exactly that load". For every table that row 1 accepts, every `Mapping`, both
 -- values of `first`, a known start and the scale 8. Assumes nothing.
-use mathlib.Core.Path.{_≡_, refl, sym, _∙_, ap, subst}
-use mathlib.Core.Logic.{_⊎_, inl, inr}
-use mathlib.Core.Bool.{Bool, true, false, cond}
-use mathlib.Core.List.{List, [], _∷_}
-use Prim.Native.Nat.{ℕ, zero, suc, _+_, _*_, _/_, _%_, _<_, _≤_, _-_, _^_}
-use native.Mathlib.Nat.{mod-lt, div-add-mod'}
+use mathlib.Core.Path.{_≡_, sym, _∙_, ap}
+use mathlib.Core.Bool.{Bool, true, false}
+use mathlib.Core.List.{List}
+use Prim.Native.Nat.{ℕ, _+_, _*_, _/_, _<_, _≤_}
 use native.Mathlib.Omega.{arith}
-use lib.Dec.{T, eqb, lit<}
-use lib.ListN.{getD, length}
-use lib.Ieee.{Float}
+use lib.Dec.{lit<}
+use lib.ListN.{getD}
+use lib.Ieee.{Float, binary32, ofBits}
 use Rattle.trellis.specs.Lists.{upto}
 use Rattle.trellis.specs.Code.{stateAt}
 use Rattle.trellis.specs.Step.{lower}
 use Rattle.lead.specs.Favour.{Favours}
 use Rattle.lead.specs.Frame.{decoded-sent}
 use Rattle.isdbs_core.specs.declared.combination.Modulation.{Modulation}
-use Rattle.isdbs_core.specs.declared.combination.Modulation.the-variants.{Bpsk, Qpsk, Tc8psk}
 use Rattle.isdbs_core.specs.declared.tmcc.Table.{Table}
 use Rattle.isdbs_core.specs.Combinations.{modulationOf, unitOf, slotSteps}
 use Rattle.isdbs_core.specs.Tables.{slotSum}
@@ -27,8 +24,8 @@ use Rattle.isdbs_phy.specs.Frame.{coded, inputIn, inputs, labelAt, stateAfter, 
 use Rattle.isdbs_phy.specs.Reading.{Received, metricsAt, decodedBits, uncoded, bitBy, bitIn, bytesFrom, decodedBytes}
 use Rattle.margins.specs.Margins.{Within, FullLoad}
 use Rattle.exact_frame.specs.Places.{In, fill-member, among-at, find}
-use Rattle.exact_frame.specs.Sizes.{Whole, table-steps, table-bits, table-whole, few-steps}
-use Rattle.exact_frame.specs.Order.{Sends, Pairs, Kind, one, two, three, kind}
+use Rattle.exact_frame.specs.Sizes.{table-steps, table-bits, table-whole, few-steps}
+use Rattle.exact_frame.specs.Order.{Pairs, Kind, one, two, three, kind}
 use Rattle.exact_frame.specs.Bits.{load-bit-small, of-pair}
 use Rattle.exact_frame.specs.Floats.{Floats}
 use Rattle.exact_frame.specs.Steps.{received, step-favours, input-at, tc-bit}
@@ -106,3 +103,14 @@ module _ (F : Floats) (t : Table) (fit : slotSum (t .entries) ≤ 48) (m : Mappi
   exact : FullLoad load (loadBytes t) → decodedBytes t r true first ≡ load
   unfolding bytesFrom
   exact full = bytes-are load (loadBytes t) (λ n. atBit 0 (bitIn r (labelAt (startState first) us) us) t n) full bit-at
+
+-- THE THEOREM: with a table that row 1 accepts, a full load, and points within its margins, the decoded bytes are the load
+pub decoded-load : (F : Floats) (t : Table) → slotSum (t .entries) ≤ 48 → (m : Mapping) (first : Bool) (load : List ℕ) → FullLoad load (loadBytes t) → (re im : List Float)
+    → Within re im load t m first → decodedBytes t (record { re = re; im = im; mapping = m; scale = λ c. ofBits binary32 0x4100_0000 }) true first ≡ load
+decoded-load F t fit m first load full re im within = exact F t fit m first load re im within full
+
+-- so points lie within the margins of at most one full load
+pub one-load : (F : Floats) (t : Table) → slotSum (t .entries) ≤ 48 → (m : Mapping) (first : Bool) (load1 load2 : List ℕ) → FullLoad load1 (loadBytes t) → FullLoad load2 (loadBytes t)
+    → (re im : List Float) → Within re im load1 t m first → Within re im load2 t m first → load1 ≡ load2
+one-load F t fit m first load1 load2 full1 full2 re im within1 within2 =
+    sym (decoded-load F t fit m first load1 full1 re im within1) ∙ decoded-load F t fit m first load2 full2 re im within2

@@ -1,18 +1,15 @@
 -- placeholder for M1
 use mathlib.Core.Path.{_≡_}
-use mathlib.Core.Logic.{_⊎_, inl, inr}
-use mathlib.Core.Bool.{Bool, true, false, cond}
-use mathlib.Core.List.{List}
-use Prim.Native.Nat.{ℕ, _+_, _*_, _/_, _%_, _<_}
+use mathlib.Core.Bool.{Bool}
+use Prim.Native.Nat.{ℕ, _+_, _*_, _<_}
 use lib.Dec.{T}
-use lib.Ieee.{Float, binary32, mul, lt, ofBits}
+use lib.Ieee.{binary32, mul, lt}
 use Rattle.trellis.specs.Lists.{upto, bit}
-use Rattle.trellis.specs.Step.{term}
 use Rattle.lead.specs.Favour.{Favour}
 use Rattle.isdbs_phy.specs.declared.Cplx.{Cplx}
 use Rattle.isdbs_phy.specs.Soft.{softOf}
-use Rattle.isdbs_phy.specs.Points.{zero64, one64, root64, psk8Of, subset, turned}
-use Rattle.isdbs_phy.specs.Reading.{pairMetrics, correlation, absolute}
+use Rattle.isdbs_phy.specs.Points.{zero64, psk8Of, subset}
+use Rattle.isdbs_phy.specs.Reading.{correlation, absolute}
 use Rattle.margins.specs.Margins.{keeps}
 use Rattle.margins.specs.Intervals.{eight}
 

@@ -1,15 +1,14 @@
 -- Which frames lie within the margins. Each part of such a frame is one that decoding accepts; the encoded frame is one, whatever is lent past it; and so are
 -- the frames with each part at an end of its margin, in which every part is another one. Assumes nothing.
-use mathlib.Core.Path.{_≡_, refl, sym, _∙_, ap, subst}
-use mathlib.Core.Bool.{Bool, true, false, not, cond}
+use mathlib.Core.Path.{_≡_, _∙_}
+use mathlib.Core.Bool.{Bool, true, false, cond}
 use mathlib.Core.List.{List, [], _∷_, _++_}
-use Prim.Native.Nat.{ℕ, zero, suc, _+_, _*_, _-_, _<_, _≤_}
+use Prim.Native.Nat.{ℕ, _+_, _*_, _-_, _<_, _≤_}
 use native.Mathlib.Omega.{arith}
-use lib.Dec.{T, eqb, ltb}
+use lib.Dec.{T, ltb}
 use lib.ListN.{getD, length, length-append, List·getD-append}
 use lib.Ieee.{Float, nan, fits, neg, eq, le, ofBits}
 use Rattle.trellis.specs.Lists.{upto}
-use Rattle.trellis.specs.Step.{term}
 use Rattle.trellis.specs.Code.{stateAt}
 use Rattle.lead.specs.Lists.{length-upto, getD-upto}
 use Rattle.isdbs_core.specs.declared.combination.Modulation.{Modulation}
@@ -18,7 +17,7 @@ use Rattle.isdbs_core.specs.declared.tmcc.Table.{Table}
 use Rattle.isdbs_core.specs.Combinations.{modulationOf}
 use Rattle.isdbs_phy.specs.declared.Cplx.{Cplx}
 use Rattle.isdbs_phy.specs.declared.demod.Mapping.{Mapping}
-use Rattle.isdbs_phy.specs.Points.{unused, one64, root64, turned, qpskOf, subset}
+use Rattle.isdbs_phy.specs.Points.{unused, one64, root64, qpskOf, subset}
 use Rattle.isdbs_phy.specs.Layout.{Segment, segments, among, atSymbol, loadBit}
 use Rattle.isdbs_phy.specs.Frame.{inputs, labelAt, sentBit, pointBy, pointIn, pointAt, frameRe, frameIm, startState}
 use Rattle.margins.specs.Margins.{keeps, anyAccepted, holds, freeRe, freeIm, Within}

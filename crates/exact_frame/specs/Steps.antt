@@ -1,41 +1,40 @@
 -- Each step of a frame that lies within the margins favours the pair that the encoder sends there. Assumes nothing.
 use mathlib.Core.Path.{_≡_, refl, sym, _∙_, ap, subst}
 use mathlib.Core.Logic.{_⊎_, inl, inr}
-use mathlib.Core.Bool.{Bool, true, false, cond}
-use mathlib.Core.List.{List, [], _∷_}
-use Prim.Native.Nat.{ℕ, zero, suc, _+_, _*_, _/_, _%_, _<_, _≤_, _-_, _^_}
-use native.Mathlib.Nat.{mod-lt, div-add-mod'}
+use mathlib.Core.Bool.{Bool, true, false}
+use mathlib.Core.List.{List, []}
+use Prim.Native.Nat.{ℕ, _+_, _*_, _/_, _%_, _<_, _≤_}
+use native.Mathlib.Nat.{mod-lt}
 use native.Mathlib.Omega.{arith}
-use lib.Dec.{T, eqb, ltb, lt→ltb, ltb→lt, lit<}
+use lib.Dec.{T, ltb, lt→ltb, ltb→lt, lit<}
 use lib.ListN.{getD, length}
-use lib.Ieee.{Float, nan, binary32, mul, lt, ofBits}
-use Rattle.trellis.specs.Code.{isdb, output, label, stateAt}
+use lib.Ieee.{Float, nan, lt}
+use Rattle.trellis.specs.Code.{stateAt}
 use Rattle.trellis.specs.Lists.{bit}
 use Rattle.trellis.specs.Step.{term}
-use Rattle.lead.specs.Favour.{Favour, Favours}
-use Rattle.lead.specs.Ties.{true-of, false-of}
+use Rattle.lead.specs.Favour.{Favour}
+use Rattle.lead.specs.Ties.{true-of}
 use Rattle.lead.specs.Lists.{getD-upto}
 use Rattle.isdbs_core.specs.declared.combination.Combination.{Combination}
 use Rattle.isdbs_core.specs.declared.combination.Modulation.{Modulation}
 use Rattle.isdbs_core.specs.declared.combination.Modulation.the-variants.{Bpsk, Qpsk, Tc8psk}
 use Rattle.isdbs_core.specs.declared.tmcc.Table.{Table}
-use Rattle.isdbs_core.specs.Combinations.{modulationOf, unitOf, slotSteps}
+use Rattle.isdbs_core.specs.Combinations.{modulationOf}
 use Rattle.isdbs_core.specs.Tables.{slotSum}
-use Rattle.isdbs_core.specs.RunsOf.{frameSteps, loadBytes}
+use Rattle.isdbs_core.specs.RunsOf.{frameSteps}
 use Rattle.isdbs_phy.specs.declared.Cplx.{Cplx}
 use Rattle.isdbs_phy.specs.declared.demod.Mapping.{Mapping}
-use Rattle.isdbs_phy.specs.Soft.{softOf}
-use Rattle.isdbs_phy.specs.Points.{point, unused, zero64, one64, root64, psk8Of, subset, turned, qpskOf}
+use Rattle.isdbs_phy.specs.Points.{point, unused, zero64, root64, psk8Of, subset, turned, qpskOf}
 use Rattle.isdbs_phy.specs.Layout.{Segment, segments, orderOf, stepsPerPeriod, placeIn, loadBit, atStep}
 use Rattle.isdbs_phy.specs.Frame.{inputIn, inputs, labelAt, codedBit, sentBit, pointBy, pointIn, pointAt, startState}
 use Rattle.isdbs_phy.specs.Reading.{Received, symbolAt, scaled, partOf, carrier, softAt, pairMetrics, correlation, metricsBy, metricsIn, metricsAt}
-use Rattle.margins.specs.Margins.{keeps, holds, isBpsk, freeRe, freeIm, Within}
-use Rattle.margins.specs.Clean.{clean-root, term-clean, psk8-clean, turned-keeps}
+use Rattle.margins.specs.Margins.{keeps, isBpsk, Within}
+use Rattle.margins.specs.Clean.{psk8-clean, turned-keeps}
 use Rattle.margins.specs.Intervals.{eight}
 use Rattle.margins.specs.Speaks.{Speaks, Said, one-speaks, root-speaks}
 use Rattle.margins.specs.Pairs.{pair-favours}
-use Rattle.exact_frame.specs.Places.{In, Found, fill-member, among-at, find}
-use Rattle.exact_frame.specs.Sizes.{Whole, symbolSum, table-steps, table-symbols, table-whole, symbol-fits}
+use Rattle.exact_frame.specs.Places.{In, fill-member, among-at, find}
+use Rattle.exact_frame.specs.Sizes.{symbolSum, table-steps, table-symbols, table-whole, symbol-fits}
 use Rattle.exact_frame.specs.Order.{Sends, Pairs, Kind, one, two, three, kind, Kept, mother, number, sent-at}
 use Rattle.exact_frame.specs.Bits.{label-small, load-bit-small, coded-small, subset-small, carries, of-pair}
 use Rattle.exact_frame.specs.Floats.{Floats}
