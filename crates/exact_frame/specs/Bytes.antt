@@ -48,8 +48,16 @@ load-bit-at load j i h =
 -- the bytes of a load are made of its bits
 pub load-byte : (load : List ℕ) (j : ℕ) → getD load j 0 < 256 → byteOf (λ i. loadBit load (8 * j + i)) ≡ getD load j 0
 load-byte load j h =
-    rw (load-bit-at load j 0 (omega arith), load-bit-at load j 1 (omega arith), load-bit-at load j 2 (omega arith), load-bit-at load j 3 (omega arith),
-    load-bit-at load j 4 (omega arith), load-bit-at load j 5 (omega arith), load-bit-at load j 6 (omega arith), load-bit-at load j 7 (omega arith))
+    rw (
+      load-bit-at load j 0 (omega arith),
+      load-bit-at load j 1 (omega arith),
+      load-bit-at load j 2 (omega arith),
+      load-bit-at load j 3 (omega arith),
+      load-bit-at load j 4 (omega arith),
+      load-bit-at load j 5 (omega arith),
+      load-bit-at load j 6 (omega arith),
+      load-bit-at load j 7 (omega arith),
+    )
     (byte-is (getD load j 0) h)
 
 -- so a list of bytes with a full load's bits is the load
@@ -58,8 +66,16 @@ pub bytes-are : (load : List ℕ) (count : ℕ) (f : ℕ → ℕ) → FullLoad l
 bytes-are load count f full h =
     ext-getD 0 (upto (λ j. byteOf (λ i. f (8 * j + i))) count) load (length-upto (λ j. byteOf (λ i. f (8 * j + i))) count ∙ sym (full .size))
     (λ j l.
-        let J : j < count = rw (length-upto (λ j. byteOf (λ i. f (8 * j + i))) count) at l in
-        getD-upto (λ j. byteOf (λ i. f (8 * j + i))) 0 count j J
-        ∙ rw (h (8 * j + 0) (omega arith), h (8 * j + 1) (omega arith), h (8 * j + 2) (omega arith), h (8 * j + 3) (omega arith),
-          h (8 * j + 4) (omega arith), h (8 * j + 5) (omega arith), h (8 * j + 6) (omega arith), h (8 * j + 7) (omega arith))
-          (load-byte load j (full .bytes j J)))
+    let J : j < count = rw (length-upto (λ j. byteOf (λ i. f (8 * j + i))) count) at l in
+    getD-upto (λ j. byteOf (λ i. f (8 * j + i))) 0 count j J
+    ∙ rw (
+      h (8 * j + 0) (omega arith),
+      h (8 * j + 1) (omega arith),
+      h (8 * j + 2) (omega arith),
+      h (8 * j + 3) (omega arith),
+      h (8 * j + 4) (omega arith),
+      h (8 * j + 5) (omega arith),
+      h (8 * j + 6) (omega arith),
+      h (8 * j + 7) (omega arith),
+    )
+    (load-byte load j (full .bytes j J)))

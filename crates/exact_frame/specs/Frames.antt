@@ -1,13 +1,13 @@
 -- Which frames lie within the margins. Each part of such a frame is one that decoding accepts; the encoded frame is one, whatever is lent past it; and so are
 -- the frames with each part at an end of its margin, in which every part is another one. Assumes nothing.
 use mathlib.Core.Path.{_≡_, _∙_}
-use mathlib.Core.Bool.{Bool, true, false, cond}
+use mathlib.Core.Bool.{Bool, true, false, not, cond}
 use mathlib.Core.List.{List, [], _∷_, _++_}
 use Prim.Native.Nat.{ℕ, _+_, _*_, _-_, _<_, _≤_}
 use native.Mathlib.Omega.{arith}
 use lib.Dec.{T, ltb}
 use lib.ListN.{getD, length, length-append, List·getD-append}
-use lib.Ieee.{Float, nan, fits, neg, eq, le, ofBits}
+use lib.Ieee.{Float, nan, binary64, fits, neg, eq, le, ofBits}
 use Rattle.trellis.specs.Lists.{upto}
 use Rattle.trellis.specs.Code.{stateAt}
 use Rattle.lead.specs.Lists.{length-upto, getD-upto}
@@ -17,7 +17,7 @@ use Rattle.isdbs_core.specs.declared.tmcc.Table.{Table}
 use Rattle.isdbs_core.specs.Combinations.{modulationOf}
 use Rattle.isdbs_phy.specs.declared.Cplx.{Cplx}
 use Rattle.isdbs_phy.specs.declared.demod.Mapping.{Mapping}
-use Rattle.isdbs_phy.specs.Points.{unused, one64, root64, qpskOf, subset}
+use Rattle.isdbs_phy.specs.Points.{unused, zero64, one64, root64, qpskOf, subset}
 use Rattle.isdbs_phy.specs.Layout.{Segment, segments, among, atSymbol, loadBit}
 use Rattle.isdbs_phy.specs.Frame.{inputs, labelAt, sentBit, pointBy, pointIn, pointAt, frameRe, frameIm, startState}
 use Rattle.margins.specs.Margins.{keeps, anyAccepted, holds, freeRe, freeIm, Within}
@@ -115,23 +115,30 @@ module _ (t : Table) (m : Mapping) (load : List ℕ) (first : Bool) where
   encoded-within = shifted-within (λ y. y) (λ y. y) clean-within clean-within
 
 -- ---- other frames: each part at the lower or the upper end of its margin
+-- a test that the six clean parts pass
+clean-all : (test : Float → Bool) → T (test zero64) → T (test (neg zero64)) → T (test one64) → T (test (neg one64)) → T (test root64) → T (test (neg root64)) → (y : Float) → Clean y → T (test y)
+clean-all test a b c d e f y clean-zero = a
+clean-all test a b c d e f y clean-minus-zero = b
+clean-all test a b c d e f y clean-one = c
+clean-all test a b c d e f y clean-minus-one = d
+clean-all test a b c d e f y clean-root = e
+clean-all test a b c d e f y clean-minus-root = f
+
 low-other : (y : Float) → Clean y → Other y (lowEnd y)
 unfolding keeps eq le neg ofBits fits
-low-other y clean-zero = record { holds = tt; apart = tt; keeps-it = tt }
-low-other y clean-minus-zero = record { holds = tt; apart = tt; keeps-it = tt }
-low-other y clean-one = record { holds = tt; apart = tt; keeps-it = tt }
-low-other y clean-minus-one = record { holds = tt; apart = tt; keeps-it = tt }
-low-other y clean-root = record { holds = tt; apart = tt; keeps-it = tt }
-low-other y clean-minus-root = record { holds = tt; apart = tt; keeps-it = tt }
+low-other y c = record {
+  holds = clean-all (λ y. fits binary64 (lowEnd y)) tt tt tt tt tt tt y c;
+  apart = clean-all (λ y. not (eq (lowEnd y) y)) tt tt tt tt tt tt y c;
+  keeps-it = clean-all (λ y. keeps y (lowEnd y)) tt tt tt tt tt tt y c;
+}
 
 high-other : (y : Float) → Clean y → Other y (highEnd y)
 unfolding keeps eq le neg ofBits fits
-high-other y clean-zero = record { holds = tt; apart = tt; keeps-it = tt }
-high-other y clean-minus-zero = record { holds = tt; apart = tt; keeps-it = tt }
-high-other y clean-one = record { holds = tt; apart = tt; keeps-it = tt }
-high-other y clean-minus-one = record { holds = tt; apart = tt; keeps-it = tt }
-high-other y clean-root = record { holds = tt; apart = tt; keeps-it = tt }
-high-other y clean-minus-root = record { holds = tt; apart = tt; keeps-it = tt }
+high-other y c = record {
+  holds = clean-all (λ y. fits binary64 (highEnd y)) tt tt tt tt tt tt y c;
+  apart = clean-all (λ y. not (eq (highEnd y) y)) tt tt tt tt tt tt y c;
+  keeps-it = clean-all (λ y. keeps y (highEnd y)) tt tt tt tt tt tt y c;
+}
 
 module _ (t : Table) (m : Mapping) (load : List ℕ) (first : Bool) (xs ys : List Float) where
   -- the real parts at the lower ends, the imaginary ones at the upper ends

@@ -1,9 +1,9 @@
 -- The segments of a table lie end to end in symbols, in steps and in bits; each has whole units; an accepted table's symbols fit the frame and its steps
 -- are at most 68,208. Assumes nothing.
-use mathlib.Core.Path.{_≡_, refl}
+use mathlib.Core.Path.{_≡_, refl, sym}
 use mathlib.Core.List.{List, [], _∷_, _++_}
-use Prim.Native.Nat.{ℕ, _+_, _-_, _*_, _<_, _≤_}
-use native.Mathlib.Nat.{add-assoc, add-zero, zero-add}
+use Prim.Native.Nat.{ℕ, _+_, _-_, _*_, _/_, _<_, _≤_}
+use native.Mathlib.Nat.{add-assoc, add-zero, zero-add, mul-assoc, mul-comm, mul-le-mul-right, div-mul-le-self}
 use native.Mathlib.Omega.{arith}
 use Rattle.isdbs_core.specs.declared.combination.Combination.{Combination}
 use Rattle.isdbs_core.specs.declared.combination.Combination.the-variants.{«Bpsk1_2», «Qpsk1_2», «Qpsk2_3», «Qpsk3_4», «Qpsk5_6», «Qpsk7_8», «Tc8psk2_3»}
@@ -58,14 +58,13 @@ fill-symbols (e ∷ es) slot symbol s b =
 
 -- ---- how much an entry of n slots takes
 symbols-few : (c : Combination) (n : ℕ) → symbolsIn c n ≤ 812 * n
-symbols-few «Bpsk1_2» n = omega arith
-symbols-few «Qpsk1_2» n = omega arith
-symbols-few «Qpsk2_3» n = omega arith
-symbols-few «Qpsk3_4» n = omega arith
-symbols-few «Qpsk5_6» n = omega arith
-symbols-few «Qpsk7_8» n = omega arith
-symbols-few «Tc8psk2_3» n = omega arith
+symbols-few c n =
+    let s = unitOf c .slots in
+    let e : n / s * (s * 812) ≡ n / s * s * 812 = sym (mul-assoc (n / s) s 812) in
+    let h : n / s * s * 812 ≤ n * 812 = mul-le-mul-right 812 (div-mul-le-self n s) in
+    rw (e, mul-comm 812 n) h
 
+-- at most 7 valid slots of 8, and 1,624 steps for each
 steps-few : (c : Combination) (n : ℕ) → slotSteps c * (unitsIn c n * unitOf c .valid) ≤ 1421 * n
 steps-few «Bpsk1_2» n = omega arith
 steps-few «Qpsk1_2» n = omega arith

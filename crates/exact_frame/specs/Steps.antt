@@ -143,7 +143,7 @@ module _ (t : Table) (fit : slotSum (t .entries) ≤ 48) (m : Mapping) (first : 
         where
           go : Kept (orderOf c) (k % stepsPerPeriod c)
               → (Speaks (at (g .step + k) / 2) (softAt r g k 0) × Said (at (g .step + k) % 2) (softAt r g k 1))
-                  ⊎ (Said (at (g .step + k) / 2) (softAt r g k 0) × Speaks (at (g .step + k) % 2) (softAt r g k 1))
+              ⊎ (Said (at (g .step + k) / 2) (softAt r g k 0) × Speaks (at (g .step + k) % 2) (softAt r g k 1))
           go (inl h) = inl (soft-speaks 0 (lit< tt) h, soft-says 1 (lit< tt))
           go (inr h) = inr (soft-says 0 (lit< tt), soft-speaks 1 (lit< tt) h)
 
