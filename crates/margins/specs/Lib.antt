@@ -5,3 +5,4 @@ pub mod Clean
 pub mod Speaks
 pub mod Metrics
 pub mod Pairs
+pub mod Tc8psk
