@@ -27,7 +27,6 @@ use Rattle.exact_frame.specs.Places.{In, fill-member, among-at, find}
 use Rattle.exact_frame.specs.Sizes.{table-steps, table-bits, table-whole, few-steps}
 use Rattle.exact_frame.specs.Order.{Pairs, Kind, one, two, three, kind}
 use Rattle.exact_frame.specs.Bits.{load-bit-small, of-pair}
-use Rattle.exact_frame.specs.Floats.{Floats}
 use Rattle.exact_frame.specs.Steps.{received, step-favours, input-at, tc-bit}
 use Rattle.exact_frame.specs.Bytes.{label-alike, bytes-are}
 
@@ -36,7 +35,7 @@ unfolding stateAfter stateAt upto
 start-small true = lit< tt
 start-small false = lit< tt
 
-module _ (F : Floats) (t : Table) (fit : slotSum (t .entries) ≤ 48) (m : Mapping) (first : Bool) (load : List ℕ) (re im : List Float) (within : Within re im load t m first) where
+module _ (t : Table) (fit : slotSum (t .entries) ≤ 48) (m : Mapping) (first : Bool) (load : List ℕ) (re im : List Float) (within : Within re im load t m first) where
   abbrev r : Received
   r = received re im m
 
@@ -49,7 +48,7 @@ module _ (F : Floats) (t : Table) (fit : slotSum (t .entries) ≤ 48) (m : Mappi
       (load-bit-small load (g .bit + coded (modulationOf (g .combination)) (f .place)))
 
   favours : Favours (startState first) (inputs t load) (metricsAt t r) (frameSteps t)
-  favours = record { start = start-small first; bits = input-small; steps = step-favours t fit m first load re im within F }
+  favours = record { start = start-small first; bits = input-small; steps = step-favours t fit m first load re im within }
 
   abbrev us : List ℕ
   us = decodedBits t r true first
@@ -87,7 +86,7 @@ module _ (F : Floats) (t : Table) (fit : slotSum (t .entries) ≤ 48) (m : Mappi
             rw e (sent-input k (plain (s .steps)) ∙ ap (λ (x : Modulation). loadBit load (g .bit + coded x k)) e)
         go (three e s) =
             let c2 : uncoded r (labelAt (startState first) us) g (k / 2) ≡ loadBit load (g .bit + 2 * (k / 2)) =
-            rw (sent-label (k / 2) (half s)) (tc-bit t fit m first load re im within F g i e s (k / 2) (half s)) in
+            rw (sent-label (k / 2) (half s)) (tc-bit t fit m first load re im within g i e s (k / 2) (half s)) in
             let u : getD us (g .step + k / 2) 0 ≡ loadBit load (g .bit + (2 * (k / 2) + 1)) =
             sent-input (k / 2) (half s) ∙ ap (λ (x : Modulation). loadBit load (g .bit + coded x (k / 2))) e in
             rw e
@@ -105,12 +104,12 @@ module _ (F : Floats) (t : Table) (fit : slotSum (t .entries) ≤ 48) (m : Mappi
   exact full = bytes-are load (loadBytes t) (λ n. atBit 0 (bitIn r (labelAt (startState first) us) us) t n) full bit-at
 
 -- THE THEOREM: with a table that row 1 accepts, a full load, and points within its margins, the decoded bytes are the load
-pub decoded-load : (F : Floats) (t : Table) → slotSum (t .entries) ≤ 48 → (m : Mapping) (first : Bool) (load : List ℕ) → FullLoad load (loadBytes t) → (re im : List Float)
+pub decoded-load : (t : Table) → slotSum (t .entries) ≤ 48 → (m : Mapping) (first : Bool) (load : List ℕ) → FullLoad load (loadBytes t) → (re im : List Float)
     → Within re im load t m first → decodedBytes t (record { re = re; im = im; mapping = m; scale = λ c. ofBits binary32 0x4100_0000 }) true first ≡ load
-decoded-load F t fit m first load full re im within = exact F t fit m first load re im within full
+decoded-load t fit m first load full re im within = exact t fit m first load re im within full
 
 -- so points lie within the margins of at most one full load
-pub one-load : (F : Floats) (t : Table) → slotSum (t .entries) ≤ 48 → (m : Mapping) (first : Bool) (load1 load2 : List ℕ) → FullLoad load1 (loadBytes t) → FullLoad load2 (loadBytes t)
+pub one-load : (t : Table) → slotSum (t .entries) ≤ 48 → (m : Mapping) (first : Bool) (load1 load2 : List ℕ) → FullLoad load1 (loadBytes t) → FullLoad load2 (loadBytes t)
     → (re im : List Float) → Within re im load1 t m first → Within re im load2 t m first → load1 ≡ load2
-one-load F t fit m first load1 load2 full1 full2 re im within1 within2 =
-    sym (decoded-load F t fit m first load1 full1 re im within1) ∙ decoded-load F t fit m first load2 full2 re im within2
+one-load t fit m first load1 load2 full1 full2 re im within1 within2 =
+    sym (decoded-load t fit m first load1 full1 re im within1) ∙ decoded-load t fit m first load2 full2 re im within2

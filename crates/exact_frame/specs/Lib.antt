@@ -2,7 +2,6 @@ pub mod Places
 pub mod Sizes
 pub mod Order
 pub mod Bits
-pub mod Floats
 pub mod Steps
 pub mod Bytes
 pub mod Exact

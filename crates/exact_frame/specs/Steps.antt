@@ -33,11 +33,11 @@ use Rattle.margins.specs.Clean.{psk8-clean, turned-keeps}
 use Rattle.margins.specs.Intervals.{eight}
 use Rattle.margins.specs.Speaks.{Speaks, Said, one-speaks, root-speaks}
 use Rattle.margins.specs.Pairs.{pair-favours}
+use Rattle.margins.specs.Tc8psk.{tc-favours, tc-uncoded}
 use Rattle.exact_frame.specs.Places.{In, fill-member, among-at, find}
 use Rattle.exact_frame.specs.Sizes.{symbolSum, table-steps, table-symbols, table-whole, symbol-fits}
 use Rattle.exact_frame.specs.Order.{Sends, Pairs, Kind, one, two, three, kind, Kept, mother, number, sent-at}
 use Rattle.exact_frame.specs.Bits.{label-small, load-bit-small, coded-small, subset-small, carries, of-pair}
-use Rattle.exact_frame.specs.Floats.{Floats}
 
 -- ---- a frame within the margins, as it is read at the scale 8
 abbrev pub received : List Float → List Float → Mapping → Received
@@ -81,7 +81,7 @@ module _ (t : Table) (fit : slotSum (t .entries) ≤ 48) (m : Mapping) (first : 
       let k = g .step + (i / n * stepsPerPeriod c + a / 2) in
       coded-small a (at k) (label-at-small k)
 
-  module _ (F : Floats) (g : Segment) (i : In g (segments t)) where
+  module _ (g : Segment) (i : In g (segments t)) where
     abbrev c : Combination
     c = g .combination
 
@@ -175,10 +175,10 @@ module _ (t : Table) (fit : slotSum (t .entries) ≤ 48) (m : Mapping) (first : 
 
       tc-at : Favour (metricsBy Tc8psk r g k) (at (g .step + k))
       unfolding metricsBy
-      tc-at = F .tc-favours (m .«tc8psk_c1_is_y») c2 (at (g .step + k)) z (load-bit-small load (g .bit + 2 * k)) (label-at-small (g .step + k)) tc-re tc-im
+      tc-at = tc-favours (m .«tc8psk_c1_is_y») c2 (at (g .step + k)) z (load-bit-small load (g .bit + 2 * k)) (label-at-small (g .step + k)) tc-re tc-im
 
       pub tc-bit : bit (lt (correlation z (psk8Of (subset (m .«tc8psk_c1_is_y») (at (g .step + k))))) zero64) ≡ c2
-      tc-bit = F .tc-uncoded (m .«tc8psk_c1_is_y») c2 (at (g .step + k)) z (load-bit-small load (g .bit + 2 * k)) (label-at-small (g .step + k)) tc-re tc-im
+      tc-bit = tc-uncoded (m .«tc8psk_c1_is_y») c2 (at (g .step + k)) z (load-bit-small load (g .bit + 2 * k)) (label-at-small (g .step + k)) tc-re tc-im
 
     -- ---- a step of any segment
     in-favours : (k : ℕ) → k < g .steps → Favour (metricsIn r g k) (at (g .step + k))
@@ -197,13 +197,13 @@ module _ (t : Table) (fit : slotSum (t .entries) ≤ 48) (m : Mapping) (first : 
             (tc-at e s k K)
 
   -- ---- the frame's steps
-  pub step-favours : (F : Floats) (k : ℕ) → k < frameSteps t → Favour (metricsAt t r k) (at k)
+  pub step-favours : (k : ℕ) → k < frameSteps t → Favour (metricsAt t r k) (at k)
   unfolding metricsAt
-  step-favours F k l =
+  step-favours k l =
       let f = find (λ g. g .step) (λ g. g .steps) (segments t) 0 (frameSteps t) k (table-steps t) (omega arith) l in
       let g = f .segment in
       rw (f .place-is, among-at (λ g. g .step) (λ g. g .steps) [] (metricsIn r) g (segments t) 0 (frameSteps t) (f .member) (table-steps t) (f .place) (f .small))
-      (in-favours F g (f .member) (f .place) (f .small))
+      (in-favours g (f .member) (f .place) (f .small))
 
   -- the frame's input at a step of a segment
   pub input-at : (g : Segment) → In g (segments t) → (k : ℕ) → k < g .steps → getD (inputs t load) (g .step + k) 0 ≡ inputIn load g k
