@@ -15,16 +15,16 @@ use Rattle.isdbs_core.specs.declared.slots.Run.{Run}
 use Rattle.isdbs_core.specs.Combinations.{unitOf, slotSteps}
 use Rattle.isdbs_core.specs.Tables.{slotSum, entryCombination}
 use Rattle.isdbs_core.specs.RunsOf.{unitsIn, symbolsIn, runOf, entryRuns, entrySymbols, runsFrom, runsOf, validIn, validTotal, loadBytes, stepsOf, stepsIn, frameSteps}
-use Rattle.isdbs_phy.specs.Layout.{Segment, segmentOf, segmentsFrom, segments}
-use Rattle.exact_frame.specs.Places.{In, here, there, Fill, fill-member}
+use Rattle.isdbs_phy.specs.Layout.{Segment, segmentOf, segmentsFrom, segments, atSymbol, atStep, atBit}
+use Rattle.exact_frame.specs.Places.{In, here, there, Fill, Found, fill-member, among-at, find}
 
 -- ---- steps and bits
-pub fill-steps : (rs : List Run) (s b : ℕ) → Fill (λ g. g .step) (λ g. g .steps) (segmentsFrom rs s b) s (s + stepsIn rs)
+fill-steps : (rs : List Run) (s b : ℕ) → Fill (λ g. g .step) (λ g. g .steps) (segmentsFrom rs s b) s (s + stepsIn rs)
 unfolding Fill segmentsFrom stepsIn
 fill-steps [] s b = omega arith
 fill-steps (r ∷ rs) s b = (refl, rw (← add-assoc s (stepsOf r) (stepsIn rs)) (fill-steps rs (s + stepsOf r) (b + 1624 * r .«valid_slots»)))
 
-pub fill-bits : (rs : List Run) (s b : ℕ) → Fill (λ g. g .bit) (λ g. g .bits) (segmentsFrom rs s b) b (b + 1624 * validIn rs)
+fill-bits : (rs : List Run) (s b : ℕ) → Fill (λ g. g .bit) (λ g. g .bits) (segmentsFrom rs s b) b (b + 1624 * validIn rs)
 unfolding Fill segmentsFrom validIn
 fill-bits [] s b = omega arith
 fill-bits (r ∷ rs) s b =
@@ -32,7 +32,7 @@ fill-bits (r ∷ rs) s b =
     (refl, rw e (fill-bits rs (s + stepsOf r) (b + 1624 * r .«valid_slots»)))
 
 -- ---- symbols
-unfoldable pub symbolSum : List Entry → ℕ
+unfoldable symbolSum : List Entry → ℕ
 symbolSum [] = 0
 symbolSum (e ∷ es) = entrySymbols (entryCombination e) (e .slots) + symbolSum es
 
@@ -48,7 +48,7 @@ entry-symbols (Some c) n slot symbol end rs s b h =
     (refl, rw e (h (s + stepsOf r) (b + 1624 * r .«valid_slots»)))
 entry-symbols None n slot symbol end rs s b h = rw (add-zero symbol) at (h s b)
 
-pub fill-symbols : (es : List Entry) (slot symbol s b : ℕ) → FillSymbols (segmentsFrom (runsFrom es slot symbol) s b) symbol (symbol + symbolSum es)
+fill-symbols : (es : List Entry) (slot symbol s b : ℕ) → FillSymbols (segmentsFrom (runsFrom es slot symbol) s b) symbol (symbol + symbolSum es)
 unfolding Fill segmentsFrom runsFrom symbolSum
 fill-symbols [] slot symbol s b = omega arith
 fill-symbols (e ∷ es) slot symbol s b =
@@ -125,21 +125,43 @@ from-whole (e ∷ es) slot symbol s b g m =
 
 -- ---- a table
 module _ (t : Table) where
-  pub table-steps : Fill (λ g. g .step) (λ g. g .steps) (segments t) 0 (frameSteps t)
+  table-steps : Fill (λ g. g .step) (λ g. g .steps) (segments t) 0 (frameSteps t)
   table-steps = rw (zero-add (frameSteps t)) at (fill-steps (runsOf t) 0 0)
 
-  pub table-bits : Fill (λ g. g .bit) (λ g. g .bits) (segments t) 0 (8 * loadBytes t)
+  table-bits : Fill (λ g. g .bit) (λ g. g .bits) (segments t) 0 (8 * loadBytes t)
   table-bits = let e : 8 * loadBytes t ≡ 0 + 1624 * validTotal t = omega arith in rw e (fill-bits (runsOf t) 0 0)
 
-  pub table-symbols : FillSymbols (segments t) 0 (symbolSum (t .entries))
+  table-symbols : FillSymbols (segments t) 0 (symbolSum (t .entries))
   table-symbols = rw (zero-add (symbolSum (t .entries))) at (fill-symbols (t .entries) 0 0 0 0)
 
   pub table-whole : (g : Segment) → In g (segments t) → Whole g
   table-whole = from-whole (t .entries) 0 0 0 0
 
+  -- a table that row 1 accepts has 68,208 steps at most, and its symbols lie in the frame
   pub few-steps : slotSum (t .entries) ≤ 48 → frameSteps t ≤ 68208
   few-steps h = omega (arith, step-sum-few (t .entries) 0 0)
 
   pub symbol-fits : slotSum (t .entries) ≤ 48 → (g : Segment) → In g (segments t) → (j : ℕ) → j < g .symbols → g .symbol + j < 38976
   symbol-fits h g m j l =
       omega (arith, symbol-sum-few (t .entries), fill-member (λ g. g .symbol) (λ g. g .symbols) g (segments t) 0 (symbolSum (t .entries)) m table-symbols .1)
+
+  pub step-fits : (g : Segment) → In g (segments t) → (k : ℕ) → k < g .steps → g .step + k < frameSteps t
+  step-fits g m k l = omega (arith, fill-member (λ g. g .step) (λ g. g .steps) g (segments t) 0 (frameSteps t) m table-steps .1)
+
+  -- what stands at a symbol, a step or a bit of a segment
+  module _ {A : Type 0} (none : A) (f : Segment → ℕ → A) (g : Segment) (m : In g (segments t)) (k : ℕ) where
+    pub at-symbol : k < g .symbols → atSymbol none f t (g .symbol + k) ≡ f g k
+    at-symbol l = among-at (λ g. g .symbol) (λ g. g .symbols) none f g (segments t) 0 (symbolSum (t .entries)) m table-symbols k l
+
+    pub at-step : k < g .steps → atStep none f t (g .step + k) ≡ f g k
+    at-step l = among-at (λ g. g .step) (λ g. g .steps) none f g (segments t) 0 (frameSteps t) m table-steps k l
+
+    pub at-bit : k < g .bits → atBit none f t (g .bit + k) ≡ f g k
+    at-bit l = among-at (λ g. g .bit) (λ g. g .bits) none f g (segments t) 0 (8 * loadBytes t) m table-bits k l
+
+  -- each step and each bit of the load is one of a segment
+  pub find-step : (k : ℕ) → k < frameSteps t → Found (λ g. g .step) (λ g. g .steps) (segments t) k
+  find-step k l = find (λ g. g .step) (λ g. g .steps) (segments t) 0 (frameSteps t) k table-steps (omega arith) l
+
+  pub find-bit : (n : ℕ) → n < 8 * loadBytes t → Found (λ g. g .bit) (λ g. g .bits) (segments t) n
+  find-bit n l = find (λ g. g .bit) (λ g. g .bits) (segments t) 0 (8 * loadBytes t) n table-bits (omega arith) l

@@ -1,5 +1,5 @@
 -- Each step of a frame that lies within the margins favours the pair that the encoder sends there. Assumes nothing.
-use mathlib.Core.Path.{_≡_, refl, sym, _∙_, ap, subst}
+use mathlib.Core.Path.{_≡_, refl, sym, ap, subst}
 use mathlib.Core.Logic.{_⊎_, inl, inr}
 use mathlib.Core.Bool.{Bool, true, false}
 use mathlib.Core.List.{List, []}
@@ -14,7 +14,6 @@ use Rattle.trellis.specs.Lists.{bit}
 use Rattle.trellis.specs.Step.{term}
 use Rattle.lead.specs.Favour.{Favour}
 use Rattle.lead.specs.Ties.{true-of}
-use Rattle.lead.specs.Lists.{getD-upto}
 use Rattle.isdbs_core.specs.declared.combination.Combination.{Combination}
 use Rattle.isdbs_core.specs.declared.combination.Modulation.{Modulation}
 use Rattle.isdbs_core.specs.declared.combination.Modulation.the-variants.{Bpsk, Qpsk, Tc8psk}
@@ -25,8 +24,8 @@ use Rattle.isdbs_core.specs.RunsOf.{frameSteps}
 use Rattle.isdbs_phy.specs.declared.Cplx.{Cplx}
 use Rattle.isdbs_phy.specs.declared.demod.Mapping.{Mapping}
 use Rattle.isdbs_phy.specs.Points.{point, unused, zero64, root64, psk8Of, subset, turned, qpskOf}
-use Rattle.isdbs_phy.specs.Layout.{Segment, segments, orderOf, stepsPerPeriod, placeIn, loadBit, atStep}
-use Rattle.isdbs_phy.specs.Frame.{inputIn, inputs, labelAt, codedBit, sentBit, pointBy, pointIn, pointAt, startState}
+use Rattle.isdbs_phy.specs.Layout.{Segment, segments, orderOf, stepsPerPeriod, placeIn, loadBit}
+use Rattle.isdbs_phy.specs.Frame.{inputs, labelAt, codedBit, sentBit, pointBy, pointIn, pointAt, startState}
 use Rattle.isdbs_phy.specs.Reading.{Received, symbolAt, scaled, partOf, carrier, softAt, pairMetrics, correlation, metricsBy, metricsIn, metricsAt}
 use Rattle.margins.specs.Margins.{keeps, isBpsk, Within}
 use Rattle.margins.specs.Clean.{psk8-clean, turned-keeps}
@@ -34,8 +33,8 @@ use Rattle.margins.specs.Intervals.{eight}
 use Rattle.margins.specs.Speaks.{Speaks, Said, one-speaks, root-speaks}
 use Rattle.margins.specs.Pairs.{pair-favours}
 use Rattle.margins.specs.Tc8psk.{tc-favours, tc-uncoded}
-use Rattle.exact_frame.specs.Places.{In, fill-member, among-at, find}
-use Rattle.exact_frame.specs.Sizes.{symbolSum, table-steps, table-symbols, table-whole, symbol-fits}
+use Rattle.exact_frame.specs.Places.{In}
+use Rattle.exact_frame.specs.Sizes.{table-whole, symbol-fits, at-symbol, at-step, find-step}
 use Rattle.exact_frame.specs.Order.{Sends, Pairs, Kind, one, two, three, kind, Kept, mother, number, sent-at}
 use Rattle.exact_frame.specs.Bits.{label-small, load-bit-small, coded-small, subset-small, carries, of-pair}
 
@@ -54,19 +53,18 @@ module _ (t : Table) (fit : slotSum (t .entries) ≤ 48) (m : Mapping) (first : 
   point-at : (g : Segment) → In g (segments t) → (j : ℕ) → j < g .symbols
       → pointAt t m load (startState first) (g .symbol + j) ≡ point (pointIn m load at g j .re) (turned (m .conjugate) (pointIn m load at g j .im))
   unfolding pointAt
-  point-at g i j l =
-      rw (among-at (λ g. g .symbol) (λ g. g .symbols) unused (pointIn m load at) g (segments t) 0 (symbolSum (t .entries)) i (table-symbols t) j l)
+  point-at g i j l = rw (at-symbol t unused (pointIn m load at) g i j l)
 
   -- its parts keep the margins
   re-keeps : (g : Segment) → In g (segments t) → (j : ℕ) → j < g .symbols → T (keeps (pointIn m load at g j .re) (symbolAt r (g .symbol + j) .re))
   re-keeps g i j l =
-      rw (among-at (λ g. g .symbol) (λ g. g .symbols) true (λ g j. false) g (segments t) 0 (symbolSum (t .entries)) i (table-symbols t) j l, point-at g i j l)
+      rw (at-symbol t true (λ g j. false) g i j l, point-at g i j l)
       at (within .re-parts (g .symbol + j) (symbol-fits t fit g i j l))
 
   im-keeps : (g : Segment) → In g (segments t) → (j : ℕ) → j < g .symbols → isBpsk (modulationOf (g .combination)) ≡ false
       → T (keeps (turned (m .conjugate) (pointIn m load at g j .im)) (getD im (g .symbol + j) nan))
   im-keeps g i j l e =
-      rw (among-at (λ g. g .symbol) (λ g. g .symbols) true (λ g j. isBpsk (modulationOf (g .combination))) g (segments t) 0 (symbolSum (t .entries)) i (table-symbols t) j l, e, point-at g i j l)
+      rw (at-symbol t true (λ g j. isBpsk (modulationOf (g .combination))) g i j l, e, point-at g i j l)
       at (within .im-parts (g .symbol + j) (symbol-fits t fit g i j l))
 
   -- ---- the bits that a BPSK or QPSK segment sends
@@ -200,14 +198,5 @@ module _ (t : Table) (fit : slotSum (t .entries) ≤ 48) (m : Mapping) (first : 
   pub step-favours : (k : ℕ) → k < frameSteps t → Favour (metricsAt t r k) (at k)
   unfolding metricsAt
   step-favours k l =
-      let f = find (λ g. g .step) (λ g. g .steps) (segments t) 0 (frameSteps t) k (table-steps t) (omega arith) l in
-      let g = f .segment in
-      rw (f .place-is, among-at (λ g. g .step) (λ g. g .steps) [] (metricsIn r) g (segments t) 0 (frameSteps t) (f .member) (table-steps t) (f .place) (f .small))
-      (in-favours g (f .member) (f .place) (f .small))
-
-  -- the frame's input at a step of a segment
-  pub input-at : (g : Segment) → In g (segments t) → (k : ℕ) → k < g .steps → getD (inputs t load) (g .step + k) 0 ≡ inputIn load g k
-  unfolding inputs
-  input-at g i k l =
-      getD-upto (atStep 0 (inputIn load) t) 0 (frameSteps t) (g .step + k) (omega (arith, fill-member (λ g. g .step) (λ g. g .steps) g (segments t) 0 (frameSteps t) i (table-steps t) .1))
-      ∙ among-at (λ g. g .step) (λ g. g .steps) 0 (inputIn load) g (segments t) 0 (frameSteps t) i (table-steps t) k l
+      let f = find-step t k l in
+      rw (f .place-is, at-step t [] (metricsIn r) (f .segment) (f .member) (f .place) (f .small)) (in-favours (f .segment) (f .member) (f .place) (f .small))
