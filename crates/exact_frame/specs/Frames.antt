@@ -15,14 +15,19 @@ use Rattle.isdbs_core.specs.declared.combination.Modulation.{Modulation}
 use Rattle.isdbs_core.specs.declared.combination.Modulation.the-variants.{Bpsk, Qpsk, Tc8psk}
 use Rattle.isdbs_core.specs.declared.tmcc.Table.{Table}
 use Rattle.isdbs_core.specs.Combinations.{modulationOf}
+use Rattle.isdbs_core.specs.Tables.{slotSum}
+use Rattle.isdbs_core.specs.RunsOf.{loadBytes}
 use Rattle.isdbs_phy.specs.declared.Cplx.{Cplx}
 use Rattle.isdbs_phy.specs.declared.demod.Mapping.{Mapping}
 use Rattle.isdbs_phy.specs.Points.{unused, zero64, one64, root64, qpskOf, subset}
 use Rattle.isdbs_phy.specs.Layout.{Segment, segments, among, atSymbol, loadBit}
 use Rattle.isdbs_phy.specs.Frame.{inputs, labelAt, sentBit, pointBy, pointIn, pointAt, frameRe, frameIm, startState}
-use Rattle.margins.specs.Margins.{keeps, anyAccepted, holds, freeRe, freeIm, Within}
+use Rattle.isdbs_phy.specs.Reading.{decodedBytes}
+use Rattle.margins.specs.Margins.{keeps, anyAccepted, holds, freeRe, freeIm, Within, FullLoad}
 use Rattle.margins.specs.Clean.{Clean, clean-zero, clean-minus-zero, clean-one, clean-minus-one, clean-root, clean-minus-root, turned-clean, term-clean, psk8-clean, lowEnd, highEnd, keeps-accepted, clean-within, Other}
 use Rattle.exact_frame.specs.Bits.{label-small, subset-small, load-bit-small}
+use Rattle.exact_frame.specs.Steps.{received}
+use Rattle.exact_frame.specs.Exact.{decoded-load}
 
 -- ---- "A sample that is not finite or beyond 1,024 is refused": no part within the margins is one
 holds-accepted : (free : Bool) (clean x : Float) → T (holds free clean x) → T (anyAccepted x)
@@ -151,3 +156,9 @@ module _ (t : Table) (m : Mapping) (load : List ℕ) (first : Bool) (xs ys : Lis
 
   pub im-other : (k : ℕ) → k < 38976 → Other (imPart t m load first k) (getD (shifted highEnd (imPart t m load first) ys) k nan)
   im-other k h = rw (shifted-at highEnd (imPart t m load first) ys k h) (high-other (imPart t m load first k) (point-clean t m load (startState first) k .1))
+
+-- ---- so the encoded frame decodes to its load
+pub encoded-decodes : (t : Table) → slotSum (t .entries) ≤ 48 → (m : Mapping) (first : Bool) (load : List ℕ) → FullLoad load (loadBytes t) → (xs ys : List Float)
+    → decodedBytes t (received (frameRe t m load (startState first) ++ xs) (frameIm t m load (startState first) ++ ys) m) true first ≡ load
+encoded-decodes t fit m first load full xs ys =
+    decoded-load t fit m first load full (frameRe t m load (startState first) ++ xs) (frameIm t m load (startState first) ++ ys) (encoded-within t m load first xs ys)
