@@ -1,6 +1,6 @@
 -- The clean parts of points, and laws of their margins: a margin mirrors with its clean part (`turned-keeps`), holds the clean part itself (`clean-within`) and other values (`clean-not-alone`),
 -- and lies within what every part may be (`keeps-accepted`). Assumes nothing.
-use mathlib.Core.Path.{_≡_, refl, sym, ap, subst}
+use mathlib.Core.Path.{_≡_, refl, subst}
 use mathlib.Core.Bool.{Bool, true, false, not, cond}
 use Prim.Native.Nat.{ℕ, zero, suc, _<_}
 use native.Mathlib.Omega.{arith}

@@ -1,10 +1,10 @@
 -- The order of finite floats, whatever their digits, as that of fractions: `le x y` says (above x - below x) / under x ≤ (above y - below y) / under y (`le→order`, `order→le`).
 -- It goes through (`le-through`), and a product with a constant that is not negative keeps it (`mul-keeps`). So a received part need not fit its format here.
 -- Assumes nothing.
-use mathlib.Core.Path.{_≡_, refl, sym, ap, _∙_, subst}
+use mathlib.Core.Path.{_≡_, refl, sym, ap, _∙_}
 use mathlib.Core.Logic.{inl, inr}
 use mathlib.Core.Bool.{Bool, true, false, _&&_, _||_}
-use Prim.Native.Nat.{ℕ, suc, _+_, _*_, _^_, _≤_, _<_, zero-le}
+use Prim.Native.Nat.{ℕ, suc, _+_, _*_, _^_, _≤_, _<_}
 use native.Mathlib.Nat.{le-of-eq, le-of-lt, eq-or-lt-of-le, mul-one, one-mul, suc-add, mul-le-mul-right, le-of-mul-le-mul-right}
 use native.Mathlib.Omega.{arith}
 use lib.IntN.{ℤ, pos, negsuc}

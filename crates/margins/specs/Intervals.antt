@@ -1,22 +1,21 @@
 -- Intervals of floats, ends included, through the operations of the demapper. The ends of a result are the same operations on the ends, so a bound at closed ends is computed.
 -- A part need only lie between finite ends; results of operations fit their format. Assumes nothing.
-use mathlib.Core.Path.{_≡_, refl, sym, ap, _∙_, subst}
+use mathlib.Core.Path.{_≡_, refl}
 use mathlib.Core.Bool.{Bool, true, false, cond}
-use Prim.Native.Nat.{ℕ, _+_, _-_, _≤_, _<_}
+use Prim.Native.Nat.{ℕ, _+_, _-_, _≤_}
 use native.Mathlib.Nat.{lt-of-le-of-lt}
 use native.Mathlib.Omega.{arith}
-use lib.IntN.{ℤ}
 use lib.Dec.{T}
-use lib.Ieee.{Float, nan, inf, fin, Format, binary32, binary64, prec, fits, neg, add, mul, le, ofBits}
+use lib.Ieee.{Float, nan, inf, fin, Format, binary32, prec, fits, neg, add, mul, le, ofBits}
 use lib.Ieee.Fits.{mul-fits}
 use lib.Ieee.Scale.{finite}
 use Rattle.ieee.specs.Nearest.{near-mono}
 use Rattle.ieee.specs.Value.{hi, lo, Num}
-use Rattle.ieee.specs.Order.{Le, le→value, value→le, num-between}
+use Rattle.ieee.specs.Order.{le→value, value→le, num-between}
 use Rattle.ieee.specs.Rounding.{prec-pos, Fine, rounds-mono}
 use Rattle.ieee.specs.Sums.{add-rounds, add-fine}
 use Rattle.ieee.specs.Constants.{mul-neg}
-use Rattle.ieee.specs.Conversion.{rounded, rounded-fits, rounded-mono, le-neg}
+use Rattle.ieee.specs.Conversion.{rounded, rounded-mono, le-neg}
 use Rattle.isdbs_phy.specs.Soft.{softOf}
 use Rattle.margins.specs.Fractions.{finite-between, le-through, mul-keeps}
 

@@ -5,4 +5,6 @@ pub mod Clean
 pub mod Speaks
 pub mod Metrics
 pub mod Pairs
+pub mod Correlation
+pub mod Absolute
 pub mod Tc8psk

@@ -1,13 +1,11 @@
 -- The values of the constants of f32 that bound soft values and metrics, in units of 1/16, and what makes four metrics favour a pair. Assumes nothing.
 use mathlib.Core.Path.{_≡_, refl, sym, subst}
-use mathlib.Core.Bool.{false}
-use Prim.Native.Nat.{ℕ, _+_, _*_, _-_, _^_, _≤_, _<_}
+use Prim.Native.Nat.{ℕ, _+_, _*_, _-_, _≤_, _<_}
 use native.Mathlib.Nat.{mul-le-mul-right}
 use native.Mathlib.Omega.{arith}
-use lib.IntN.{pos, negsuc}
 use lib.Dec.{T}
 use lib.ListN.{getD}
-use lib.Ieee.{Float, nan, fin, binary32, fits, neg, le}
+use lib.Ieee.{Float, nan, binary32, fits, le}
 use Rattle.ieee.specs.Value.{hi, lo, Num}
 use Rattle.ieee.specs.Rounding.{pow2, pow2-add}
 use Rattle.trellis.specs.Lists.{upto}

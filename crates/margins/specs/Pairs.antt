@@ -1,15 +1,14 @@
 -- Two soft values that speak for a pair (X, Y), one of them at least, make four metrics that favour the pair. Every metric is a rounded sum of ±lx and ±ly, so all follows
 -- from the exact sums, since rounding keeps the order. Assumes nothing.
-use mathlib.Core.Path.{_≡_, refl, sym, ap, _∙_, subst}
+use mathlib.Core.Path.{_≡_, refl, sym, subst}
 use mathlib.Core.Logic.{_⊎_, inl, inr}
 use mathlib.Core.Bool.{Bool, true, false, cond}
 use mathlib.Core.List.{List}
 use Prim.Native.Nat.{ℕ, zero, suc, _+_, _*_, _-_, _/_, _%_, _≤_, _<_}
 use native.Mathlib.Nat.{mul-le-mul-right}
 use native.Mathlib.Omega.{arith}
-use lib.IntN.{negsuc}
 use lib.Dec.{eqb, lit≤}
-use lib.Ieee.{Float, fin, binary32, fits, neg, add, sub, le, ofBits}
+use lib.Ieee.{Float, binary32, fits, neg, add, sub, ofBits}
 use Rattle.ieee.specs.Value.{hi, lo, Num, hi-neg, lo-neg, num-neg}
 use Rattle.ieee.specs.Order.{Le, le→value, value→le}
 use Rattle.ieee.specs.Rounding.{pow2, Rounds, fine-between, rounds-mono, rounds-le, rounds-ge}

@@ -13,7 +13,7 @@ use Rattle.isdbs_phy.specs.Points.{one64, root64}
 use Rattle.isdbs_phy.specs.Soft.{softOf}
 use Rattle.margins.specs.Margins.{keeps, low1, high1, lowRoot, highRoot}
 use Rattle.margins.specs.Clean.{between-inside}
-use Rattle.margins.specs.Intervals.{Inside, inside-neg, eight, scaledUp, Scaled, scaled-inside}
+use Rattle.margins.specs.Intervals.{Inside, inside-neg, eight, Scaled, scaled-inside}
 
 -- 5.4375 = 8 * 87/128 and 8.25 = 8 * 33/32
 abbrev pub clearly : Float
