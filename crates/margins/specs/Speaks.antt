@@ -10,6 +10,7 @@ use lib.Ieee.{Float, fin, binary32, neg, eq, le, mul, ofBits, round}
 use Rattle.ieee.specs.Value.{Num}
 use Rattle.trellis.specs.Step.{term}
 use Rattle.isdbs_phy.specs.Points.{one64, root64}
+use Rattle.ieee.specs.Conversion.{rounded}
 use Rattle.isdbs_phy.specs.Soft.{softOf}
 use Rattle.margins.specs.Margins.{keeps, low1, high1, lowRoot, highRoot}
 use Rattle.margins.specs.Clean.{between-inside}
@@ -39,13 +40,13 @@ unfolding neg
 minus {z} s = record { num = s .num; inside = inside-neg (neg fully) (neg clearly) z (s .inside) }
 
 pub one-speaks : (b : ℕ) (x : Float) → b < 2 → T (keeps (term b one64) x) → Speaks b (mul binary32 (softOf x) eight)
-unfolding keeps eq neg le ofBits softOf mul round
+unfolding keeps eq neg le ofBits softOf rounded mul round
 one-speaks zero x h t = plus (scaled-inside low1 high1 clearly fully x tt tt tt tt tt tt tt tt (between-inside low1 high1 x t))
 one-speaks (suc zero) x h t = minus (scaled-inside (neg high1) (neg low1) (neg fully) (neg clearly) x tt tt tt tt tt tt tt tt (between-inside (neg high1) (neg low1) x t))
 one-speaks (suc (suc b)) x h t = absurd (omega arith)
 
 pub root-speaks : (b : ℕ) (x : Float) → b < 2 → T (keeps (term b root64) x) → Speaks b (mul binary32 (softOf x) eight)
-unfolding keeps eq neg le ofBits softOf mul round
+unfolding keeps eq neg le ofBits softOf rounded mul round
 root-speaks zero x h t = plus (scaled-inside lowRoot highRoot clearly fully x tt tt tt tt tt tt tt tt (between-inside lowRoot highRoot x t))
 root-speaks (suc zero) x h t = minus (scaled-inside (neg highRoot) (neg lowRoot) (neg fully) (neg clearly) x tt tt tt tt tt tt tt tt (between-inside (neg highRoot) (neg lowRoot) x t))
 root-speaks (suc (suc b)) x h t = absurd (omega arith)

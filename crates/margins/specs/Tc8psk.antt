@@ -18,6 +18,7 @@ use Rattle.ieee.specs.Rounding.{pow2}
 use Rattle.trellis.specs.Lists.{upto, bit}
 use Rattle.isdbs_phy.specs.declared.Cplx.{Cplx}
 use Rattle.isdbs_phy.specs.Points.{zero64, psk8Of, subset}
+use Rattle.ieee.specs.Conversion.{rounded}
 use Rattle.isdbs_phy.specs.Soft.{softOf}
 use Rattle.isdbs_phy.specs.Reading.{correlation, absolute}
 use Rattle.lead.specs.Favour.{none, most, least, margin, Above, Favour}
@@ -120,13 +121,13 @@ unfolding hi lo fits pow2
 crossMost8-is = record { num = record { fin-x = tt; fits-x = tt }; hi-is = refl; lo-is = refl }
 
 scaled-most : (a b : Bool) (x : Float) → Inside none (cond a ownMost (cond b crossMost otherMost)) x → Scaled none (cond a ownMost8 (cond b crossMost8 otherMost8)) (scaledUp x)
-unfolding softOf mul round le lt eq ofBits
+unfolding softOf rounded mul round le lt eq ofBits
 scaled-most true b x i = scaled-inside none ownMost none ownMost8 x tt tt tt tt tt tt tt tt i
 scaled-most false true x i = scaled-inside none crossMost none crossMost8 x tt tt tt tt tt tt tt tt i
 scaled-most false false x i = scaled-inside none otherMost none otherMost8 x tt tt tt tt tt tt tt tt i
 
 scaled-own : (a b : Bool) (x : Float) → Inside ownLeast (cond a ownMost (cond b crossMost otherMost)) x → Scaled ownLeast8 ownMost8 (scaledUp x)
-unfolding softOf mul round le lt eq ofBits
+unfolding softOf rounded mul round le lt eq ofBits
 scaled-own true b x i = scaled-inside ownLeast ownMost ownLeast8 ownMost8 x tt tt tt tt tt tt tt tt i
 scaled-own false true x i = scaled-inside ownLeast crossMost ownLeast8 ownMost8 x tt tt tt tt tt tt tt tt i
 scaled-own false false x i = scaled-inside ownLeast otherMost ownLeast8 ownMost8 x tt tt tt tt tt tt tt tt i
