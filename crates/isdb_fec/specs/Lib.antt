@@ -1,3 +1,6 @@
 pub mod Values
 pub mod Rows
 pub mod Calls
+pub mod Laid
+pub mod Upto
+pub mod Answers
