@@ -5,12 +5,12 @@ use native.Mathlib.Omega.{arith}
 use borrow.Author.Needs.{needs}
 use borrow.Author.Tests.{lt-ltb, le-ltb, eq-eqb, ne-eqb}
 use Rattle.refusal.specs.declared.Answer.the-variants.{Traceback}
-use Rattle.isdb_fec.specs.Answers.{accepted, refused}
+use Rattle.isdb_fec.specs.Answers.{accepted, refused, numbered}
 use Rattle.isdb_fec.proofs.conv.fresh.Statement.{statement}
 use Rattle.isdb_fec.proofs.conv.fresh.Tie as tie
 
 returns : tie.Need-returns
-returns c = (rw (lt-ltb 1024 (c .before .args .traceback) (c .if1 .taken)) refl, refused Traceback (omega arith) (record { values = refl; held-is = refl; traceback-is = refl }))
+returns c = (rw (lt-ltb 1024 (c .before .args .traceback) (c .if1 .taken)) refl, refused Traceback (numbered Traceback (omega arith)) (record { values = refl; held-is = refl; traceback-is = refl }))
 
 returns-2 : tie.Need-returns-2
 returns-2 c =

@@ -4,14 +4,14 @@ use Prim.Native.Nat.{ℕ, suc, _+_, _-_, _*_, _/_, _%_, _<_, _≤_}
 use native.Mathlib.Omega.{arith}
 use borrow.Author.Needs.{needs}
 use Rattle.refusal.specs.declared.Answer.the-variants.{State}
-use Rattle.isdb_fec.specs.Answers.{accepted, refused}
+use Rattle.isdb_fec.specs.Answers.{accepted, refused, numbered}
 use borrow.Author.Tests.{lt-ltb, le-ltb}
 use borrow.Author.Needs.{needs}
 use Rattle.isdb_fec.proofs.conv.ConvEncoder.push.Statement.{statement}
 use Rattle.isdb_fec.proofs.conv.ConvEncoder.push.Tie as tie
 
 returns : tie.Need-returns
-returns c = (rw (lt-ltb 63 (c .before .args .self .state) (c .if1 .taken)) refl, refused State (omega arith) (refl, refl, refl))
+returns c = (rw (lt-ltb 63 (c .before .args .self .state) (c .if1 .taken)) refl, refused State (numbered State (omega arith)) (refl, refl, refl))
 
 encode-bit-requires : tie.Need-encode-bit-requires
 encode-bit-requires c κs = search needs
