@@ -4,3 +4,5 @@ pub mod Calls
 pub mod Laid
 pub mod Upto
 pub mod Answers
+pub mod Traced
+pub mod Steps
