@@ -6,3 +6,6 @@ pub mod Upto
 pub mod Answers
 pub mod Traced
 pub mod Steps
+pub mod Count
+pub mod Holding
+pub mod Whole
