@@ -110,3 +110,7 @@ module _ (tb : ℕ) (xs : ℕ → trellis.Step) (d : Decoder) (least : 1 ≤ tb)
       let ri = releases-is tb (length (d .words)) i most in
       let rn = releases-is tb (length (d .words)) n most in
       omega arith
+
+-- no more bits leave than there are
+pub releases-le : (tb h n : ℕ) → tb ≤ 1024 → 4096 * releases tb h n ≤ h + n
+releases-le tb h n most = let r = releases-is tb h n most in omega arith

@@ -15,7 +15,7 @@ use Rattle.trellis.specs.Step as trellis
 use Rattle.trellis.specs.Run.{Decoder, block, after, decisionsAfter}
 use Rattle.isdb_fec.specs.declared.conv.At.{At}
 use Rattle.isdb_fec.specs.Rows.{releases}
-use Rattle.isdb_fec.specs.Calls.{nexts, word, settle, bestState, traced, stepOnce, steps, flush, holding, Holds, Stepped, Room}
+use Rattle.isdb_fec.specs.Calls.{nexts, word, settle, bestState, traced, stepOnce, steps, call, flush, holding, Holds, Stepped, Room}
 use Rattle.isdb_fec.specs.Laid.{laid-laid, take-laid, length-laid, laid-after}
 use Rattle.isdb_fec.specs.Traced.{length-traced}
 use Rattle.isdb_fec.specs.Steps.{grown, unreleased, releasing}
@@ -180,3 +180,52 @@ module _ (tb : ℕ) (xs : ℕ → trellis.Step) (d : Decoder) (dec₀ out₀ : L
     steps-next r pm′ dec′ out′ s =
         rw (add-one i)
         (holds-next tb i (xs i) (steps tb xs d i) dec₀ out₀ r pm pm′ held count dec dec′ out out′ (counted tb xs d least most few i .few) h s)
+
+-- the maximum is subtracted at the end of a call of soft values or metrics
+pub holds-closed : (tb : ℕ) (xs : ℕ → trellis.Step) (d : Decoder) (n : ℕ) (dec₀ out₀ : List ℕ) (pm low : List Float) (held count : ℕ) (dec out : List ℕ)
+    → Holds tb dec₀ out₀ (steps tb xs d n) pm held count dec out → low ≡ trellis.renormalised 32 pm
+    → Holds tb dec₀ out₀ (call tb xs d n) low held count dec out
+holds-closed tb xs d n dec₀ out₀ pm low held count dec out h e =
+    record {
+      values = e ∙ ap (λ (y : List Float). trellis.renormalised 32 y) (h .values);
+      held-is = h .held-is;
+      count-is = h .count-is;
+      words = h .words;
+      bits = h .bits;
+    }
+
+-- after `finish`: the bits of the flush, and how many they are
+pub holds-flushed : (tb : ℕ) (d : Decoder) (dec₀ out₀ : List ℕ) (pm : List Float) (held count : ℕ) (dec out out′ : List ℕ) (r : ℕ)
+    → Holds tb dec₀ out₀ d pm held count dec out
+    → r ≡ count + held
+    → out′ ≡ take count out ++ laid (traced (take held dec) (bestState pm)) (drop count out)
+    → (r ≡ length (flush d .bits)) × (out′ ≡ laid (flush d .bits) out₀)
+holds-flushed tb d dec₀ out₀ pm held count dec out out′ r h er eo =
+    let same = holding-is tb d dec₀ out₀ pm held count dec out h in
+    let new = traced (d .words) (bestState (d .values)) in
+    let bits-are : traced (take held dec) (bestState pm) ≡ new = ap (λ (y : Decoder). traced (y .words) (bestState (y .values))) same in
+    let el : length (d .bits ++ new) ≡ length (d .bits) + length new = length-append (d .bits) new in
+    let en : length new ≡ length (d .words) = length-traced (d .words) (bestState (d .values)) in
+    let eh = h .held-is in
+    let ec = h .count-is in (
+      er ∙ omega arith,
+      eo ∙ ap (λ (y : List ℕ). take count out ++ laid y (drop count out)) bits-are
+          ∙ ap (λ (y : List ℕ). take count y ++ laid new (drop count y)) (h .bits)
+          ∙ ap (λ (k : ℕ). take k (laid (d .bits) out₀) ++ laid new (drop k (laid (d .bits) out₀))) ec
+          ∙ laid-after (d .bits) new out₀,
+    )
+
+-- and the decisions, once all that the call may have used are set to 0
+pub holds-cleared : (tb : ℕ) (d : Decoder) (dec₀ out₀ : List ℕ) (pm : List Float) (held count : ℕ) (dec dec′ out : List ℕ)
+    → length (d .words) < 4096 + tb
+    → Holds tb dec₀ out₀ d pm held count dec out
+    → dec′ ≡ laid (replicate held 0) dec
+    → laid (replicate (block + tb) 0) dec′ ≡ laid (replicate (block + tb) 0) dec₀
+holds-cleared tb d dec₀ out₀ pm held count dec dec′ out few h e =
+    let zeros : length (replicate {A = ℕ} (4096 + tb) 0) ≡ 4096 + tb = length-replicate (4096 + tb) 0 in
+    let some : length (replicate {A = ℕ} held 0) ≡ held = length-replicate held 0 in
+    let eh = h .held-is in
+    ap (λ (y : List ℕ). laid (replicate (block + tb) 0) y) e
+    ∙ laid-laid (replicate held 0) (replicate (block + tb) 0) dec (omega arith)
+    ∙ ap (λ (y : List ℕ). laid (replicate (block + tb) 0) y) (h .words)
+    ∙ cleared tb (d .words) (d .bits) dec₀ few

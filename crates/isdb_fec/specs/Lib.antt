@@ -9,3 +9,4 @@ pub mod Steps
 pub mod Count
 pub mod Holding
 pub mod Whole
+pub mod Pieces
