@@ -1,0 +1,4 @@
+pub mod LeafLists
+pub mod LeafTable
+pub mod LeafSigns
+pub mod LeafStep
