@@ -9,9 +9,7 @@ use Rattle.isdbs_core.specs.declared.frame.Position.the-variants.{At}
 use Rattle.isdbs_core.specs.declared.tmcc.Entry.{Entry}
 use Rattle.isdbs_core.specs.declared.tmcc.Table.{Table}
 use Rattle.isdbs_core.specs.declared.slots.Run.{Run}
-use Rattle.isdbs_core.specs.Lists.{table}
 use Rattle.isdbs_core.specs.Frame.{mainSymbolPosition, burstSymbolPosition}
-use Rattle.isdbs_core.specs.Combinations.{above}
 use Rattle.isdbs_core.specs.Tables.{slotSum, tableAnswer}
 use Rattle.isdbs_core.specs.RunsOf.{runsFrom, runsOf, validIn, validTotal}
 use Rattle.isdbs_core.specs.Symbols.{firstPair, bitSymbol}
@@ -69,10 +67,10 @@ abbrev pub All : List Example → Type 0
 All [] = Unit
 All (e ∷ es) = (e .says) × All es
 
-all : (es : List Example) → All es
-all [] = tt
-all (e ∷ es) = (e .holds, all es)
+each : (es : List Example) → All es
+each [] = tt
+each (e ∷ es) = (e .holds, each es)
 
 -- the lettered examples hold
 pub hold : All lettered
-hold = all lettered
+hold = each lettered
