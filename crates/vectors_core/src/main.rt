@@ -73,6 +73,26 @@ fn entry(word: u8, slots: u8) -> Entry {
     Entry { word, slots }
 }
 
+// Two entries, the others not in use.
+fn two(w: u8, n: u8, v: u8, m: u8) -> Table {
+    table(entry(w, n), entry(v, m), tmcc::DUMMY, tmcc::DUMMY)
+}
+
+// One entry.
+fn one(w: u8, n: u8) -> Table {
+    two(w, n, 15, 0)
+}
+
+// Four entries of one word, the last of m slots.
+fn four(w: u8, n: u8, m: u8) -> Table {
+    table(entry(w, n), entry(w, n), entry(w, n), entry(w, m))
+}
+
+// Each entry has fewer slots than a unit.
+fn under() -> Table {
+    table(entry(1, 3), entry(6, 7), entry(5, 5), entry(2, 1))
+}
+
 // A run: combination's word, slots, valid slots, symbols.
 fn run(r: Run) {
     text(b" |");
@@ -200,16 +220,17 @@ fn tail(name: &[u8], t: u32) {
     text(b"\n");
 }
 
+fn maybe(c: MaybeCombination) {
+    match c {
+        MaybeCombination::Some(c) => word(c),
+        MaybeCombination::None => text(b" none"),
+    }
+}
+
 fn assigned(name: &[u8], w: u8) {
     text(name);
-    match Combination::from_word(w) {
-        MaybeCombination::Some(c) => word(c),
-        MaybeCombination::None => text(b" none"),
-    }
-    match entry(w, 0).combination() {
-        MaybeCombination::Some(c) => word(c),
-        MaybeCombination::None => text(b" none"),
-    }
+    maybe(Combination::from_word(w));
+    maybe(entry(w, 0).combination());
     text(b"\n");
 }
 
@@ -245,8 +266,7 @@ fn front(bytes: &[u8], n: usize) -> &[u8] {
 
 // 2 valid slots, a load of 406 bytes; then one byte too many or too few, and a slot too many.
 fn parts(bytes: &[u8]) {
-    let none = tmcc::DUMMY;
-    let t = table(entry(3, 5), none, none, none);
+    let t = one(3, 5);
     text(b"part 0:");
     part(front(bytes, 406), t, 0);
     text(b"part 1:");
@@ -260,114 +280,98 @@ fn parts(bytes: &[u8]) {
     text(b"405 bytes:");
     part(front(bytes, 405), t, 0);
     text(b"49 slots:");
-    part(front(bytes, 406), table(entry(3, 49), none, none, none), 9);
+    part(front(bytes, 406), one(3, 49), 9);
     text(b"no valid slot:");
-    part(front(bytes, 0), table(none, none, none, none), 0);
+    part(front(bytes, 0), one(15, 0), 0);
+}
+
+fn at(t: Table, slot: usize, byte: usize) {
+    slot_byte(slots::slot_byte_symbol(t, slot, byte));
 }
 
 fn slot_bytes() {
-    let none = tmcc::DUMMY;
-    let bench = table(entry(7, 48), none, none, none);
+    let bench = one(7, 48);
     text(b"bytes, TC8PSK x 48:");
-    slot_byte(slots::slot_byte_symbol(bench, 0, 0));
-    slot_byte(slots::slot_byte_symbol(bench, 1, 0));
-    slot_byte(slots::slot_byte_symbol(bench, 47, 0));
-    slot_byte(slots::slot_byte_symbol(bench, 47, 202));
-    slot_byte(slots::slot_byte_symbol(bench, 47, 203));
-    slot_byte(slots::slot_byte_symbol(bench, 48, 0));
-    text(b"\nbytes, BPSK 4, QPSK 2/3 5:");
-    let mixed = table(entry(1, 4), entry(3, 5), none, none);
-    slot_byte(slots::slot_byte_symbol(mixed, 0, 9));
-    slot_byte(slots::slot_byte_symbol(mixed, 1, 0));
-    slot_byte(slots::slot_byte_symbol(mixed, 4, 9));
-    slot_byte(slots::slot_byte_symbol(mixed, 5, 9));
-    slot_byte(slots::slot_byte_symbol(mixed, 6, 0));
-    slot_byte(slots::slot_byte_symbol(mixed, 7, 0));
-    slot_byte(slots::slot_byte_symbol(mixed, 8, 0));
-    slot_byte(slots::slot_byte_symbol(table(entry(7, 49), none, none, none), 0, 0));
+    at(bench, 0, 0);
+    at(bench, 1, 0);
+    at(bench, 47, 0);
+    at(bench, 47, 202);
+    at(bench, 47, 203);
+    at(bench, 48, 0);
+    text(b"\n");
+}
+
+fn mixed_bytes() {
+    let mixed = two(1, 4, 3, 5);
+    text(b"bytes, BPSK 4, QPSK 2/3 5:");
+    at(mixed, 0, 9);
+    at(mixed, 1, 0);
+    at(mixed, 4, 9);
+    at(mixed, 5, 9);
+    at(mixed, 6, 0);
+    at(mixed, 7, 0);
+    at(mixed, 8, 0);
+    at(one(7, 49), 0, 0);
     text(b"\n");
 }
 
 fn tables() {
-    let none = tmcc::DUMMY;
-    runs(
-        b"48 slots:",
-        table(entry(6, 12), entry(6, 12), entry(6, 12), entry(6, 12)),
-    );
-    runs(
-        b"49 slots:",
-        table(entry(6, 12), entry(6, 12), entry(6, 12), entry(6, 13)),
-    );
-    runs(
-        b"200 and 56:",
-        table(entry(7, 200), entry(7, 56), none, none),
-    );
-    runs(b"word 0x17:", table(entry(0x17, 1), none, none, none));
-    runs(b"QPSK 7/8 x 48:", table(entry(6, 48), none, none, none));
-    runs(b"TC8PSK x 48:", table(entry(7, 48), none, none, none));
-    runs(
-        b"empty QPSK 1/2, TC8PSK 1:",
-        table(entry(2, 0), entry(7, 1), none, none),
-    );
-    runs(
-        b"under a unit:",
-        table(entry(1, 3), entry(6, 7), entry(5, 5), entry(2, 1)),
-    );
-    runs(b"QPSK 2/3, 5:", table(entry(3, 5), none, none, none));
-    runs(
-        b"15 x 10, QPSK 1/2, 2:",
-        table(entry(15, 10), entry(2, 2), none, none),
-    );
-    runs(
-        b"BPSK 4, TC8PSK 44:",
-        table(entry(1, 4), entry(7, 44), none, none),
-    );
+    runs(b"48 slots:", four(6, 12, 12));
+    runs(b"49 slots:", four(6, 12, 13));
+    runs(b"200 and 56:", two(7, 200, 7, 56));
+    runs(b"word 0x17:", one(0x17, 1));
+    runs(b"QPSK 7/8 x 48:", one(6, 48));
+    runs(b"TC8PSK x 48:", one(7, 48));
+}
+
+fn more_tables() {
+    runs(b"empty QPSK 1/2, TC8PSK 1:", two(2, 0, 7, 1));
+    runs(b"under a unit:", under());
+    runs(b"QPSK 2/3, 5:", one(3, 5));
+    runs(b"15 x 10, QPSK 1/2, 2:", two(15, 10, 2, 2));
+    runs(b"BPSK 4, TC8PSK 44:", two(1, 4, 7, 44));
 }
 
 fn loads() {
-    let none = tmcc::DUMMY;
-    load(
-        b"load and steps, QPSK 7/8 x 48:",
-        table(entry(6, 48), none, none, none),
-    );
-    load(
-        b"load and steps, TC8PSK x 48:",
-        table(entry(7, 48), none, none, none),
-    );
+    load(b"load and steps, QPSK 7/8 x 48:", one(6, 48));
+    load(b"load and steps, TC8PSK x 48:", one(7, 48));
 }
 
 fn all_marks() {
-    let none = tmcc::DUMMY;
-    marks(
-        b"marks, under a unit:",
-        table(entry(1, 3), entry(6, 7), entry(5, 5), entry(2, 1)),
-    );
-    marks(b"marks, QPSK 2/3, 5:", table(entry(3, 5), none, none, none));
-    marks(
-        b"marks, 15 x 10, QPSK 1/2, 2:",
-        table(entry(15, 10), entry(2, 2), none, none),
-    );
-    marks(b"marks, 49 slots:", table(entry(7, 49), none, none, none));
+    marks(b"marks, under a unit:", under());
+    marks(b"marks, QPSK 2/3, 5:", one(3, 5));
+    marks(b"marks, 15 x 10, QPSK 1/2, 2:", two(15, 10, 2, 2));
+    marks(b"marks, 49 slots:", one(7, 49));
 }
 
-fn main() {
-    tables();
-    loads();
-    all_marks();
-    bits_of_2_3();
-    other_bits();
-    places();
+fn tails() {
     tail(b"W1 tail:", frame::W1_CODED_TAIL);
     tail(b"W2 tail:", frame::W2_CODED_TAIL);
     tail(b"high bits ignored:", 0xFFF0_0001);
+}
+
+fn words() {
     assigned(b"word 0x17, whole and low 4 bits:", 0x17);
     assigned(b"word 7:", 7);
     assigned(b"word 0:", 0);
     assigned(b"word 8:", 8);
     assigned(b"word 15:", 15);
+}
+
+fn main() {
+    tables();
+    more_tables();
+    loads();
+    all_marks();
+    bits_of_2_3();
+    other_bits();
+    places();
+    tails();
+    words();
     let mut bytes = [0u8; 407];
     fill(&mut bytes);
     parts(&bytes);
     slot_bytes();
+    mixed_bytes();
     text(b"end\n");
 }
