@@ -368,7 +368,7 @@ fn main() {
     places();
     tails();
     words();
-    let mut bytes = [0u8; 407];
+    let mut bytes = io::buffer();
     fill(&mut bytes);
     parts(&bytes);
     slot_bytes();
