@@ -1,0 +1,5 @@
+pub mod Lists
+pub mod Code
+pub mod Step
+pub mod Run
+pub mod Examples

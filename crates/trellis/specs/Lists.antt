@@ -1,0 +1,23 @@
+-- Lists and numbers made from a function of the index. Assumes nothing.
+use mathlib.Core.Bool.{Bool, true, false}
+use mathlib.Core.List.{List, [], _∷_, _++_}
+use Prim.Native.Nat.{ℕ, zero, suc, _+_, _*_, _^_}
+use lib.ListN.{length, drop}
+
+-- the first n values of f
+unfoldable pub upto : {A : Type 0} → (ℕ → A) → ℕ → List A
+upto f zero = []
+upto f (suc n) = upto f n ++ (f n ∷ [])
+
+abbrev pub bit : Bool → ℕ
+bit true = 1
+bit false = 0
+
+-- the number whose lowest n bits are as f says
+unfoldable pub packed : (ℕ → Bool) → ℕ → ℕ
+packed f zero = 0
+packed f (suc n) = packed f n + bit (f n) * 2 ^ n
+
+-- `front` written over the beginning of `whole`, and the rest as it was
+abbrev pub laid : {A : Type 0} → List A → List A → List A
+laid front whole = front ++ drop (length front) whole

@@ -1,0 +1,86 @@
+-- A decoder's calls as functions of a sequence of steps. Document 01, "The decoder and encoder". Assumes nothing.
+use mathlib.Core.Bool.{Bool, true, false, cond}
+use mathlib.Core.List.{List, [], _∷_, _++_}
+use Prim.Native.Nat.{ℕ, zero, suc, _+_, _-_, _*_, _%_}
+use lib.ListN.{getD, length, take, drop, replicate}
+use lib.Dec.{eqb, leb, ltb}
+use lib.Ieee.{Float, binary32, ofBits}
+use Rattle.trellis.specs.Lists.{upto, laid}
+use Rattle.trellis.specs.Step.{Step, pair, four, known, Tie, nexts, word, best, renormalised, ruled, traced}
+
+-- the path values, the held decision words (oldest first), and the bits that the call has put out so far
+pub record Decoder : Type 0 where
+  pub values : List Float
+  pub words : List ℕ
+  pub bits : List ℕ
+
+-- "Path values start 0 at the given state (mod 64), -1,000,000 elsewhere"; n is the number of states
+unfoldable pub startAt : ℕ → ℕ → List Float
+startAt n s = upto (λ k. cond (eqb k (s % n)) (ofBits binary32 0) (ofBits binary32 0xc974_2400)) n
+
+-- "Unknown start sets all 64 path values to 0"
+unfoldable pub startUnknown : ℕ → List Float
+startUnknown n = upto (λ k. ofBits binary32 0) n
+
+-- "4,096 bits leave"
+abbrev pub block : ℕ
+block = 4096
+
+module _ (half : ℕ) (out : ℕ → ℕ → ℕ) (t : Tie) where
+  -- the path values once the step of index i in its call has added: "The maximum is subtracted after each 64th step of a call"; of a
+  -- known bit "the 32 states that the bit rules out are set to -1.0e9 and the maximum is subtracted"
+  unfoldable pub settled : ℕ → Step → List Float → List Float
+  settled i (pair lx ly) pm = cond (eqb (i % 64) 63) (renormalised half pm) pm
+  settled i (four m) pm = cond (eqb (i % 64) 63) (renormalised half pm) pm
+  settled i (known b) pm = renormalised half (ruled half b pm)
+
+  -- the path values after n steps of a call
+  unfoldable pub valuesAt : (ℕ → Step) → List Float → ℕ → List Float
+  valuesAt steps pm zero = pm
+  valuesAt steps pm (suc n) = settled n (steps n) (nexts half out t (valuesAt steps pm n) (steps n))
+
+  -- the decision word of step n of a call
+  abbrev pub wordAt : (ℕ → Step) → List Float → ℕ → ℕ
+  wordAt steps pm n = word half out t (valuesAt steps pm n) (steps n)
+
+  -- the bits that the held words give, traced from the best state
+  abbrev pub decoded : Decoder → List ℕ
+  decoded d = traced half (d .words) (best t (d .values) (2 * half - 1))
+
+  -- "At 4,096 + traceback held decisions, the lowest best state is traced and 4,096 bits leave"
+  unfoldable pub released : ℕ → Decoder → Decoder
+  released tb d =
+      cond (leb (block + tb) (length (d .words)))
+      (record { values = d .values; words = drop block (d .words); bits = d .bits ++ take block (decoded d) })
+      d
+
+  -- step i of a call, and the release that may follow it
+  unfoldable pub stepped : ℕ → ℕ → Step → Decoder → Decoder
+  stepped tb i x d =
+      released tb
+      (record {
+        values = settled i x (nexts half out t (d .values) x);
+        words = d .words ++ (word half out t (d .values) x ∷ []);
+        bits = d .bits;
+      })
+
+  -- n steps of a call
+  unfoldable pub after : ℕ → (ℕ → Step) → Decoder → ℕ → Decoder
+  after tb steps d zero = d
+  after tb steps d (suc n) = stepped tb n (steps n) (after tb steps d n)
+
+  -- a whole call of n soft-value or metric steps: the maximum is subtracted "at the call's end". A call of known bits is `after` alone.
+  abbrev pub closed : Decoder → Decoder
+  closed d = record { values = renormalised half (d .values); words = d .words; bits = d .bits }
+
+  abbrev pub pushed : ℕ → (ℕ → Step) → Decoder → ℕ → Decoder
+  pushed tb steps d n = closed (after tb steps d n)
+
+  -- "Flush emits all held bits ..; path values stay"
+  abbrev pub flushed : Decoder → Decoder
+  flushed d = record { values = d .values; words = []; bits = d .bits ++ decoded d }
+
+-- The lent decisions after a call that leaves the words ws and has put out the bits bs: "held words move down and freed words become 0",
+-- so once a release took place the first 4,096 + traceback words are the held ones and zeros; the rest is as before.
+abbrev pub decisionsAfter : ℕ → List ℕ → List ℕ → List ℕ → List ℕ
+decisionsAfter tb ws bs before = laid ws (cond (ltb 0 (length bs)) (laid (replicate (block + tb) 0) before) before)
