@@ -1,0 +1,9 @@
+pub mod Nearest
+pub mod Value
+pub mod Order
+pub mod Rounding
+pub mod Sums
+pub mod Zero
+pub mod Whole
+pub mod Products
+pub mod Constants
