@@ -7,3 +7,5 @@ pub mod Branches
 pub mod Decoded
 pub mod Integers
 pub mod Starts
+pub mod Calls
+pub mod Examples

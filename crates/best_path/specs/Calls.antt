@@ -1,0 +1,203 @@
+-- What a fresh decoder reads from one call of at most 4,096 steps and a flush, as crate `trellis` defines the calls. Assumes nothing.
+use mathlib.Core.Path.{_≡_, refl, sym, ap, _∙_, subst}
+use mathlib.Core.Bool.{Bool, true, false, not, cond}
+use mathlib.Core.List.{List, [], _∷_, _++_, append-assoc, append-nil}
+use Prim.Native.Nat.{ℕ, zero, suc, _+_, _-_, _*_, _/_, _%_, _^_, _≤_, _<_}
+use native.Mathlib.Nat.{mod-lt, le-of-eq}
+use native.Mathlib.Omega.{arith}
+use lib.IntN.{ℤ}
+use lib.Dec.{T, eqb, leb, leb→le, lit≤}
+use lib.ListN.{getD, length, take, drop, length-append, length-map}
+use lib.Ieee.{Float, nan, binary32, sub, ofBits}
+use Rattle.trellis.specs.Lists.{bit, upto}
+use Rattle.trellis.specs.Code.{Code, isdb, stateAt, output, label}
+use Rattle.trellis.specs.Step.{Step, pair, four, Tie, lower, nexts, next, word, top, best, renormalised, back, input, traced}
+use Rattle.trellis.specs.Run.{Decoder, startAt, startUnknown, block, settled, valuesAt, wordAt, decoded, released, stepped, after, closed, pushed, flushed}
+use Rattle.best_path.specs.Paths.{Path, Best, Reading, Any, This, Quadruples}
+use Rattle.best_path.specs.Tracks.{Adds, times, Follows, length-upto, getD-upto}
+use Rattle.best_path.specs.Decoded.{Did, Ended}
+use Rattle.best_path.specs.Integers.{parts-of, quadruples, Pairs, signs, pairs}
+use Rattle.best_path.specs.Starts.{Given, Unknown, best-given, best-unknown}
+
+-- ---- a call without a release
+module _ (half : ℕ) (out : ℕ → ℕ → ℕ) (t : Tie) where
+  unreleased : (tb : ℕ) (d : Decoder) → length (d .words) < block + tb → released half out t tb d ≡ d
+  unfolding released
+  unreleased tb d h = go (leb (block + tb) (length (d .words))) (leb→le (block + tb) (length (d .words)))
+    where
+      go : (w : Bool) → (T w → block + tb ≤ length (d .words)) → cond w (record { values = d .values; words = drop block (d .words); bits = d .bits ++ take block (decoded half out t d) }) d ≡ d
+      go true g = absurd (omega (arith, g tt))
+      go false g = refl
+
+  one-more : (tb i : ℕ) (x : Step) (pm : List Float) (a b bs : List ℕ) → length a + suc (length b) < block + tb → stepped half out t tb i x (record { values = pm; words = a ++ b; bits = bs }) ≡ record { values = settled half out t i x (nexts half out t pm x); words = a ++ (b ++ (word half out t pm x ∷ [])); bits = bs }
+  unfolding stepped
+  one-more tb i x pm a b bs h =
+      let w = word half out t pm x ∷ [] in
+      let d : Decoder = record { values = settled half out t i x (nexts half out t pm x); words = (a ++ b) ++ w; bits = bs } in
+      unreleased tb d (rw (length-append (a ++ b) w, length-append a b) (omega arith))
+      ∙ ap (λ (ws : List ℕ). record { values = settled half out t i x (nexts half out t pm x); words = ws; bits = bs }) (append-assoc a b w)
+
+  -- while fewer than 4,096 + traceback decisions are held none leaves: the words are those of all steps, oldest first
+  pub after-held : (tb : ℕ) (steps : ℕ → Step) (d : Decoder) (n : ℕ) → length (d .words) + n < block + tb → after half out t tb steps d n ≡ record { values = valuesAt half out t steps (d .values) n; words = d .words ++ upto (wordAt half out t steps (d .values)) n; bits = d .bits }
+  unfolding after valuesAt upto
+  after-held tb steps d zero h = ap (λ (ws : List ℕ). record { values = d .values; words = ws; bits = d .bits }) (sym (append-nil (d .words)))
+  after-held tb steps d (suc n) h = rw (after-held tb steps d n (omega arith)) (one-more tb n (steps n) (valuesAt half out t steps (d .values) n) (d .words) (upto (wordAt half out t steps (d .values)) n) (d .bits) (omega (arith, length-upto (wordAt half out t steps (d .values)) n)))
+
+-- ---- the path values of a call
+module _ (half : ℕ) (out : ℕ → ℕ → ℕ) (t : Tie) where
+  -- the step x is no known bit, so that the maximum is subtracted only after each 64th step
+  abbrev pub Plain : Step → Type 0
+  Plain x = (i : ℕ) (pm : List Float) → settled half out t i x pm ≡ times half (bit (eqb (i % 64) 63)) pm
+
+  sixty : (w : Bool) (pm : List Float) → cond w (renormalised half pm) pm ≡ times half (bit w) pm
+  unfolding times
+  sixty true pm = refl
+  sixty false pm = refl
+
+  pub plain-four : (m : List Float) → Plain (four m)
+  unfolding settled
+  plain-four m i pm = sixty (eqb (i % 64) 63) pm
+
+  pub plain-pair : (lx ly : Float) → Plain (pair lx ly)
+  unfolding settled
+  plain-pair lx ly i pm = sixty (eqb (i % 64) 63) pm
+
+  renormalised-length : (pm : List Float) → length (renormalised half pm) ≡ length pm
+  unfolding renormalised
+  renormalised-length pm = length-map pm (λ x. sub binary32 x (top pm (2 * half)))
+
+  times-length : (j : ℕ) (pm : List Float) → length (times half j pm) ≡ length pm
+  unfolding times
+  times-length zero pm = refl
+  times-length (suc j) pm = renormalised-length (times half j pm) ∙ times-length j pm
+
+  nexts-length : (pm : List Float) (x : Step) → length (nexts half out t pm x) ≡ 2 * half
+  unfolding nexts
+  nexts-length pm x = length-upto (next half out t pm x) (2 * half)
+
+  module _ (steps : ℕ → Step) (n : ℕ) (plain : (k : ℕ) → k < n → Plain (steps k)) (pm : List Float) (long : 2 * half ≤ length pm) where
+    one-step : (k : ℕ) → k < n → valuesAt half out t steps pm (suc k) ≡ times half (bit (eqb (k % 64) 63)) (nexts half out t (valuesAt half out t steps pm k) (steps k))
+    unfolding valuesAt
+    one-step k h = plain k h k (nexts half out t (valuesAt half out t steps pm k) (steps k))
+
+    values-long : (k : ℕ) → k ≤ n → 2 * half ≤ length (valuesAt half out t steps pm k)
+    unfolding valuesAt
+    values-long zero h = long
+    values-long (suc k) h = le-of-eq (sym (ap length (one-step k h) ∙ times-length (bit (eqb (k % 64) 63)) (nexts half out t (valuesAt half out t steps pm k) (steps k)) ∙ nexts-length (valuesAt half out t steps pm k) (steps k)))
+
+    pub follows : Follows half out t steps n (valuesAt half out t steps pm)
+    follows = record {
+      long = values-long;
+      low = λ k. bit (eqb (k % 64) 63);
+      moves = λ k h s l. ap (λ (x : List Float). getD x s nan) (one-step k h);
+    }
+
+-- ---- one call and a flush
+module _ (half : ℕ) (out : ℕ → ℕ → ℕ) (t : Tie) where
+  -- the bits of one call of n steps and a flush, from the path values pm and no held decision
+  abbrev pub readBits : ℕ → (ℕ → Step) → List Float → ℕ → List ℕ
+  readBits tb steps pm n = flushed half out t (pushed half out t tb steps (record { values = pm; words = []; bits = [] }) n) .bits
+
+  module _ (tb : ℕ) (some-tb : 0 < tb) (steps : ℕ → Step) (pm : List Float) (n : ℕ) (few : n ≤ 4096) where
+    abbrev words : List ℕ
+    words = upto (wordAt half out t steps pm) n
+
+    -- the path values at the call's end, and the state that is traced
+    abbrev last : List Float
+    last = renormalised half (valuesAt half out t steps pm n)
+
+    abbrev pub endState : ℕ
+    endState = best t last (2 * half - 1)
+
+    pub read-traced : readBits tb steps pm n ≡ traced half words endState
+    read-traced = ap (λ (d : Decoder). flushed half out t (closed half out t d) .bits) (after-held half out t tb steps (record { values = pm; words = []; bits = [] }) n (omega arith))
+
+    read-is : readBits tb steps pm n ≡ upto (input half words n endState) n
+    unfolding traced
+    read-is = read-traced ∙ ap (λ (z : ℕ). upto (input half words z endState) z) (length-upto (wordAt half out t steps pm) n)
+
+    did : (plain : (k : ℕ) → k < n → Plain half out t (steps k)) → 2 * half ≤ length pm → Did half out t steps n (valuesAt half out t steps pm) words endState (readBits tb steps pm n)
+    did plain long = record {
+      follows = follows half out t steps n plain pm long;
+      words = λ k h. getD-upto (wordAt half out t steps pm) 0 n k h;
+      length-bits = ap length read-is ∙ length-upto (input half words n endState) n;
+      bits = λ k h. ap (λ (x : List ℕ). getD x k 0) read-is ∙ getD-upto (input half words n endState) 0 n k h;
+    }
+
+    ended : (plain : (k : ℕ) → k < n → Plain half out t (steps k)) → 2 * half ≤ length pm → Ended half t n (valuesAt half out t steps pm) endState
+    unfolding times
+    ended plain long = record {
+      last = last;
+      long = rw (renormalised-length half out t (valuesAt half out t steps pm n)) (values-long half out t steps n plain pm long n (omega arith));
+      again = 1;
+      same = λ s l. refl;
+      is-best = refl;
+    }
+
+-- ---- the two starts
+start-given : (half s : ℕ) → 0 < half → Given half (s % (2 * half)) (startAt (2 * half) s)
+unfolding startAt
+start-given half s h = record {
+  state = mod-lt s (omega arith);
+  count = le-of-eq (sym (length-upto (λ k. cond (eqb k (s % (2 * half))) (ofBits binary32 0) (ofBits binary32 0xc974_2400)) (2 * half)));
+  values = λ k l. getD-upto (λ k. cond (eqb k (s % (2 * half))) (ofBits binary32 0) (ofBits binary32 0xc974_2400)) nan (2 * half) k l;
+}
+
+start-unknown : (half : ℕ) → Unknown half (startUnknown (2 * half))
+unfolding startUnknown
+start-unknown half = record {
+  count = le-of-eq (sym (length-upto (λ k. ofBits binary32 0) (2 * half)));
+  values = λ k l. getD-upto (λ k. ofBits binary32 0) nan (2 * half) k l;
+}
+
+-- ---- THE THEOREMS, over any trellis, either rule for equals, any traceback
+module _ (half : ℕ) (some : 0 < half) (out : ℕ → ℕ → ℕ) (labels : (u s : ℕ) → out u s < 4) (t : Tie) (tb : ℕ) (some-tb : 0 < tb) where
+  -- steps that add whole numbers
+  module _ (steps : ℕ → Step) (m : ℕ → ℕ → ℤ) (n : ℕ) (few : n ≤ 4096) (plain : (k : ℕ) → k < n → Plain half out t (steps k)) (ads : (k : ℕ) → k < n → Adds (steps k) (λ c. parts-of (m k c))) where
+    pub steps-given : (s : ℕ) → Best half out t (This (s % (2 * half))) Any m n (s % (2 * half)) (readBits half out t tb steps (startAt (2 * half) s) n)
+    unfolding valuesAt
+    steps-given s =
+        let pm = startAt (2 * half) s in
+        let g = start-given half s some in
+        best-given half some out labels t steps m n few ads (valuesAt half out t steps pm) (words half out t tb some-tb steps pm n few) (endState half out t tb some-tb steps pm n few) (readBits half out t tb steps pm n) (did half out t tb some-tb steps pm n few plain (g .count)) (s % (2 * half)) g (ended half out t tb some-tb steps pm n few plain (g .count))
+
+    pub steps-unknown : Reading half out t Any m n (readBits half out t tb steps (startUnknown (2 * half)) n)
+    unfolding valuesAt
+    steps-unknown =
+        let pm = startUnknown (2 * half) in
+        let g = start-unknown half in
+        let ws = words half out t tb some-tb steps pm n few in
+        let e = endState half out t tb some-tb steps pm n few in (
+          back half ws n e n,
+          best-unknown half some out labels t steps m n few ads (valuesAt half out t steps pm) ws e (readBits half out t tb steps pm n) (did half out t tb some-tb steps pm n few plain (g .count)) g (ended half out t tb some-tb steps pm n few plain (g .count)),
+        )
+
+  -- quadruples of whole numbers within 16
+  module _ (ms : ℕ → List Float) (m : ℕ → ℕ → ℤ) (n : ℕ) (few : n ≤ 4096) (quads : Quadruples ms m n) where
+    pub quadruples-given : (s : ℕ) → Reading half out t (This (s % (2 * half))) m n (readBits half out t tb (λ k. four (ms k)) (startAt (2 * half) s) n)
+    quadruples-given s = (s % (2 * half), steps-given (λ k. four (ms k)) m n few (λ k h. plain-four half out t (ms k)) (quadruples ms m n quads) s)
+
+    pub quadruples-unknown : Reading half out t Any m n (readBits half out t tb (λ k. four (ms k)) (startUnknown (2 * half)) n)
+    quadruples-unknown = steps-unknown (λ k. four (ms k)) m n few (λ k h. plain-four half out t (ms k)) (quadruples ms m n quads)
+
+  -- pairs of whole numbers within 8
+  module _ (lx ly : ℕ → Float) (x y : ℕ → ℤ) (n : ℕ) (few : n ≤ 4096) (two : Pairs lx ly x y n) where
+    pub pairs-given : (s : ℕ) → Reading half out t (This (s % (2 * half))) (signs x y) n (readBits half out t tb (λ k. pair (lx k) (ly k)) (startAt (2 * half) s) n)
+    pairs-given s = (s % (2 * half), steps-given (λ k. pair (lx k) (ly k)) (signs x y) n few (λ k h. plain-pair half out t (lx k) (ly k)) (pairs lx ly x y n two) s)
+
+    pub pairs-unknown : Reading half out t Any (signs x y) n (readBits half out t tb (λ k. pair (lx k) (ly k)) (startUnknown (2 * half)) n)
+    pairs-unknown = steps-unknown (λ k. pair (lx k) (ly k)) (signs x y) n few (λ k h. plain-pair half out t (lx k) (ly k)) (pairs lx ly x y n two)
+
+-- ---- the ISDB code
+pub label-under : (c : Code) (u s : ℕ) → label c u s < 4
+unfolding label output
+label-under c u s = omega arith
+
+-- At most 4,096 quadruples of whole numbers within 16, a fresh decoder of the ISDB code at the state s (mod 64): the bits of one call and a
+-- flush are the inputs of the path of greatest sum from that state, the first of equals.
+pub isdb-given : (tb : ℕ) → 0 < tb → (ms : ℕ → List Float) (m : ℕ → ℕ → ℤ) (n : ℕ) → n ≤ 4096 → Quadruples ms m n → (s : ℕ) → Reading 32 (label isdb) lower (This (s % 64)) m n (readBits 32 (label isdb) lower tb (λ k. four (ms k)) (startAt 64 s) n)
+isdb-given tb h = quadruples-given 32 (lit≤ tt) (label isdb) (label-under isdb) lower tb h
+
+-- The same of an unknown start: the path of greatest sum from any state.
+pub isdb-unknown : (tb : ℕ) → 0 < tb → (ms : ℕ → List Float) (m : ℕ → ℕ → ℤ) (n : ℕ) → n ≤ 4096 → Quadruples ms m n → Reading 32 (label isdb) lower Any m n (readBits 32 (label isdb) lower tb (λ k. four (ms k)) (startUnknown 64) n)
+isdb-unknown tb h = quadruples-unknown 32 (lit≤ tt) (label isdb) (label-under isdb) lower tb h
