@@ -9,24 +9,25 @@ use lib.ListN.{getD}
 use lib.Ieee.{Float, nan, binary32, neg, add}
 use Rattle.ieee.specs.Whole.{On, on-neg}
 use Rattle.trellis.specs.Step.{Step, pair, four, branch, term}
+use Rattle.best_path.specs.Paths.{bound}
 use Rattle.best_path.specs.Viterbi.{Z, plus}
 use Rattle.best_path.specs.Exact.{Whole, Is, is-add}
 use Rattle.best_path.specs.Tracks.{Small, Adds}
 
--- ---- four metrics, whole and within 16
+-- ---- four metrics, whole and within the bound
 pub record Metrics (mf : List Float) (mz : ℕ → Z) : Type 0 where
   pub whole : (c : ℕ) → c < 4 → Whole (getD mf c nan) (mz c .0) (mz c .1)
-  pub top-16 : (c : ℕ) → c < 4 → mz c .0 ≤ 16
-  pub low-16 : (c : ℕ) → c < 4 → mz c .1 ≤ 16
+  pub high-most : (c : ℕ) → c < 4 → mz c .0 ≤ bound
+  pub deep-most : (c : ℕ) → c < 4 → mz c .1 ≤ bound
 
 pub four-adds : (mf : List Float) (mz : ℕ → Z) → Metrics mf mz → Adds (four mf) mz
 unfolding branch
 four-adds mf mz g = record {
-  high = g .top-16;
-  deep = g .low-16;
+  high = g .high-most;
+  deep = g .deep-most;
   exact = λ c l x z off h w.
-      let a = g .top-16 c l in
-      let b = g .low-16 c l in
+      let a = g .high-most c l in
+      let b = g .deep-most c l in
       is-add x (getD mf c nan) z off (mz c) h (g .whole c l) (omega arith, omega arith);
 }
 
@@ -46,8 +47,8 @@ pub record Softs (lx ly : Float) (mz : ℕ → Z) : Type 0 where
   pub whole-y : Whole ly (y .0) (y .1)
   pub x-8 : (x .0 ≤ 8) × (x .1 ≤ 8)
   pub y-8 : (y .0 ≤ 8) × (y .1 ≤ 8)
-  pub top-16 : (c : ℕ) → c < 4 → mz c .0 ≤ 16
-  pub low-16 : (c : ℕ) → c < 4 → mz c .1 ≤ 16
+  pub high-most : (c : ℕ) → c < 4 → mz c .0 ≤ bound
+  pub deep-most : (c : ℕ) → c < 4 → mz c .1 ≤ bound
   -- as whole numbers the same
   pub is : (c : ℕ) → c < 4 → mz c .0 + duoZ x y c .1 ≡ mz c .1 + duoZ x y c .0
 
@@ -73,8 +74,8 @@ two-adds f a b z off x y h w p q u v =
 pub pair-adds : (lx ly : Float) (mz : ℕ → Z) → Softs lx ly mz → Adds (pair lx ly) mz
 unfolding branch
 pair-adds lx ly mz g = record {
-  high = g .top-16;
-  deep = g .low-16;
+  high = g .high-most;
+  deep = g .deep-most;
   exact = λ c l f z off h w.
       let x = turnedZ (eqb (c / 2) 1) (g .x) in
       let y = turnedZ (eqb (c % 2) 1) (g .y) in

@@ -13,7 +13,7 @@ use Rattle.trellis.specs.Lists.{bit, upto}
 use Rattle.trellis.specs.Code.{Code, isdb, stateAt, output, label}
 use Rattle.trellis.specs.Step.{Step, pair, four, Tie, lower, nexts, next, word, top, best, renormalised, back, input, traced}
 use Rattle.trellis.specs.Run.{Decoder, startAt, startUnknown, block, settled, valuesAt, wordAt, decoded, released, stepped, after, closed, pushed, flushed}
-use Rattle.best_path.specs.Paths.{Path, Best, Reading, Any, This, Quadruples}
+use Rattle.best_path.specs.Paths.{bound, longest, Path, Best, Reading, Any, This, Quadruples}
 use Rattle.best_path.specs.Tracks.{Adds, times, Follows, length-upto, getD-upto}
 use Rattle.best_path.specs.Decoded.{Did, Ended}
 use Rattle.best_path.specs.Integers.{parts-of, quadruples, Pairs, signs, pairs}
@@ -98,7 +98,7 @@ module _ (half : ℕ) (out : ℕ → ℕ → ℕ) (t : Tie) where
   abbrev pub readBits : ℕ → (ℕ → Step) → List Float → ℕ → List ℕ
   readBits tb steps pm n = flushed half out t (pushed half out t tb steps (record { values = pm; words = []; bits = [] }) n) .bits
 
-  module _ (tb : ℕ) (some-tb : 0 < tb) (steps : ℕ → Step) (pm : List Float) (n : ℕ) (few : n ≤ 4096) where
+  module _ (tb : ℕ) (some-tb : 0 < tb) (steps : ℕ → Step) (pm : List Float) (n : ℕ) (few : n ≤ longest) where
     abbrev words : List ℕ
     words = upto (wordAt half out t steps pm) n
 
@@ -153,7 +153,7 @@ start-unknown half = record {
 -- ---- THE THEOREMS, over any trellis, either rule for equals, any traceback
 module _ (half : ℕ) (some : 0 < half) (out : ℕ → ℕ → ℕ) (labels : (u s : ℕ) → out u s < 4) (t : Tie) (tb : ℕ) (some-tb : 0 < tb) where
   -- steps that add whole numbers
-  module _ (steps : ℕ → Step) (m : ℕ → ℕ → ℤ) (n : ℕ) (few : n ≤ 4096) (plain : (k : ℕ) → k < n → Plain half out t (steps k)) (ads : (k : ℕ) → k < n → Adds (steps k) (λ c. parts-of (m k c))) where
+  module _ (steps : ℕ → Step) (m : ℕ → ℕ → ℤ) (n : ℕ) (few : n ≤ longest) (plain : (k : ℕ) → k < n → Plain half out t (steps k)) (ads : (k : ℕ) → k < n → Adds (steps k) (λ c. parts-of (m k c))) where
     pub steps-given : (s : ℕ) → Best half out t (This (s % (2 * half))) Any m n (s % (2 * half)) (readBits half out t tb steps (startAt (2 * half) s) n)
     unfolding valuesAt
     steps-given s =
@@ -172,8 +172,8 @@ module _ (half : ℕ) (some : 0 < half) (out : ℕ → ℕ → ℕ) (labels : (u
           best-unknown half some out labels t steps m n few ads (valuesAt half out t steps pm) ws e (readBits half out t tb steps pm n) (did half out t tb some-tb steps pm n few plain (g .count)) g (ended half out t tb some-tb steps pm n few plain (g .count)),
         )
 
-  -- quadruples of whole numbers within 16
-  module _ (ms : ℕ → List Float) (m : ℕ → ℕ → ℤ) (n : ℕ) (few : n ≤ 4096) (quads : Quadruples ms m n) where
+  -- quadruples of whole numbers within the bound
+  module _ (ms : ℕ → List Float) (m : ℕ → ℕ → ℤ) (n : ℕ) (few : n ≤ longest) (quads : Quadruples ms m n) where
     pub quadruples-given : (s : ℕ) → Reading half out t (This (s % (2 * half))) m n (readBits half out t tb (λ k. four (ms k)) (startAt (2 * half) s) n)
     quadruples-given s = (s % (2 * half), steps-given (λ k. four (ms k)) m n few (λ k h. plain-four half out t (ms k)) (quadruples ms m n quads) s)
 
@@ -181,7 +181,7 @@ module _ (half : ℕ) (some : 0 < half) (out : ℕ → ℕ → ℕ) (labels : (u
     quadruples-unknown = steps-unknown (λ k. four (ms k)) m n few (λ k h. plain-four half out t (ms k)) (quadruples ms m n quads)
 
   -- pairs of whole numbers within 8
-  module _ (lx ly : ℕ → Float) (x y : ℕ → ℤ) (n : ℕ) (few : n ≤ 4096) (two : Pairs lx ly x y n) where
+  module _ (lx ly : ℕ → Float) (x y : ℕ → ℤ) (n : ℕ) (few : n ≤ longest) (two : Pairs lx ly x y n) where
     pub pairs-given : (s : ℕ) → Reading half out t (This (s % (2 * half))) (signs x y) n (readBits half out t tb (λ k. pair (lx k) (ly k)) (startAt (2 * half) s) n)
     pairs-given s = (s % (2 * half), steps-given (λ k. pair (lx k) (ly k)) (signs x y) n few (λ k h. plain-pair half out t (lx k) (ly k)) (pairs lx ly x y n two) s)
 
@@ -193,11 +193,11 @@ pub label-under : (c : Code) (u s : ℕ) → label c u s < 4
 unfolding label output
 label-under c u s = omega arith
 
--- At most 4,096 quadruples of whole numbers within 16, a fresh decoder of the ISDB code at the state s (mod 64): the bits of one call and a
+-- At most 4,096 quadruples of whole numbers within the bound, a fresh decoder of the ISDB code at the state s (mod 64): the bits of one call and a
 -- flush are the inputs of the path of greatest sum from that state, the first of equals.
-pub isdb-given : (tb : ℕ) → 0 < tb → (ms : ℕ → List Float) (m : ℕ → ℕ → ℤ) (n : ℕ) → n ≤ 4096 → Quadruples ms m n → (s : ℕ) → Reading 32 (label isdb) lower (This (s % 64)) m n (readBits 32 (label isdb) lower tb (λ k. four (ms k)) (startAt 64 s) n)
+pub isdb-given : (tb : ℕ) → 0 < tb → (ms : ℕ → List Float) (m : ℕ → ℕ → ℤ) (n : ℕ) → n ≤ longest → Quadruples ms m n → (s : ℕ) → Reading 32 (label isdb) lower (This (s % 64)) m n (readBits 32 (label isdb) lower tb (λ k. four (ms k)) (startAt 64 s) n)
 isdb-given tb h = quadruples-given 32 (lit≤ tt) (label isdb) (label-under isdb) lower tb h
 
 -- The same of an unknown start: the path of greatest sum from any state.
-pub isdb-unknown : (tb : ℕ) → 0 < tb → (ms : ℕ → List Float) (m : ℕ → ℕ → ℤ) (n : ℕ) → n ≤ 4096 → Quadruples ms m n → Reading 32 (label isdb) lower Any m n (readBits 32 (label isdb) lower tb (λ k. four (ms k)) (startUnknown 64) n)
+pub isdb-unknown : (tb : ℕ) → 0 < tb → (ms : ℕ → List Float) (m : ℕ → ℕ → ℤ) (n : ℕ) → n ≤ longest → Quadruples ms m n → Reading 32 (label isdb) lower Any m n (readBits 32 (label isdb) lower tb (λ k. four (ms k)) (startUnknown 64) n)
 isdb-unknown tb h = quadruples-unknown 32 (lit≤ tt) (label isdb) (label-under isdb) lower tb h

@@ -14,6 +14,7 @@ use borrow.Author.Count.{below-more}
 use lib.Ieee.{Float, nan, binary32}
 use Rattle.trellis.specs.Lists.{bit, packed}
 use Rattle.trellis.specs.Step.{Step, Tie, wins, word, best, kept, back, input}
+use Rattle.best_path.specs.Paths.{longest}
 use Rattle.best_path.specs.Viterbi.{Z, value, decision, pred, origin, inputs}
 use Rattle.best_path.specs.Greatest.{inputs-length, pred-under, end, end-under, Greatest, greatest, greatest-to}
 use Rattle.best_path.specs.Exact.{Whole}
@@ -138,7 +139,7 @@ pub record Ended (half : ℕ) (t : Tie) (n : ℕ) (pms : ℕ → List Float) (e 
   pub same : Alike half last (times half again (pms n))
   pub is-best : e ≡ best t last (2 * half - 1)
 
-module _ (half : ℕ) (pos : 0 < half) (out : ℕ → ℕ → ℕ) (labels : (u s : ℕ) → out u s < 4) (t : Tie) (v : ℕ → Z) (m : ℕ → ℕ → Z) (steps : ℕ → Step) (n : ℕ) (few : n ≤ 4096) (pms : ℕ → List Float)
+module _ (half : ℕ) (pos : 0 < half) (out : ℕ → ℕ → ℕ) (labels : (u s : ℕ) → out u s < 4) (t : Tie) (v : ℕ → Z) (m : ℕ → ℕ → Z) (steps : ℕ → Step) (n : ℕ) (few : n ≤ longest) (pms : ℕ → List Float)
     (st : Started half (pms 0) v) (ads : (k : ℕ) → k < n → Adds (steps k) (m k)) (ws : List ℕ) (e : ℕ) (us : List ℕ) (did : Did half out t steps n pms ws e us) where
   tr0 : Tracks half (pms 0) v (0, 0) 0
   tr0 = start-tracks half (pms 0) v st

@@ -18,7 +18,7 @@ use Rattle.ieee.specs.Rounding.{pow2}
 use Rattle.ieee.specs.Whole.{On, hiZ, loZ, ofInt-on}
 use Rattle.trellis.specs.Code.{stateAt}
 use Rattle.trellis.specs.Step.{Step, pair, four}
-use Rattle.best_path.specs.Paths.{labelAt, sumℤ, Integer, Quadruples}
+use Rattle.best_path.specs.Paths.{bound, labelAt, sumℤ, Integer, Quadruples}
 use Rattle.best_path.specs.Viterbi.{Z, plus, Le, sum}
 use Rattle.best_path.specs.Exact.{Whole}
 use Rattle.best_path.specs.Tracks.{Adds}
@@ -91,7 +91,7 @@ eq-finite (inf s) (inf t) h e = absurd h
 eq-finite (inf s) (fin t n d) h e = absurd e
 eq-finite (fin s k d) y h e = tt
 
-in-float : (z : ℤ) → natAbs z ≤ 16 → T (inFloat binary32 z)
+in-float : (z : ℤ) → natAbs z ≤ bound → T (inFloat binary32 z)
 unfolding inFloat
 in-float (pos n) h = le→leb n 16777216 (omega arith)
 in-float (negsuc n) h = lt→ltb n 16777216 (omega arith)
@@ -102,7 +102,7 @@ pick (pos n) u hx lx e (inr w) = (omega arith, omega arith)
 pick (negsuc n) u hx lx e (inl w) = (omega arith, omega arith)
 pick (negsuc n) u hx lx e (inr w) = (omega arith, omega arith)
 
-pub integer-whole : (b : ℕ) (x : Float) (z : ℤ) → b ≤ 16 → Integer b x z → Whole x (hiZ z) (loZ z)
+pub integer-whole : (b : ℕ) (x : Float) (z : ℤ) → b ≤ bound → Integer b x z → Whole x (hiZ z) (loZ z)
 integer-whole b x z few i =
     let w = i .within in
     let y = ofInt binary32 z in
@@ -124,9 +124,9 @@ lo-most b (negsuc n) h = h
 
 pub quadruples : (ms : ℕ → List Float) (m : ℕ → ℕ → ℤ) (n : ℕ) → Quadruples ms m n → (k : ℕ) → k < n → Adds (four (ms k)) (λ c. parts-of (m k c))
 quadruples ms m n q k h = four-adds (ms k) (λ c. parts-of (m k c)) (record {
-  whole = λ c l. integer-whole 16 (getD (ms k) c nan) (m k c) (lit≤ tt) (q k c h l);
-  top-16 = λ c l. hi-most 16 (m k c) (q k c h l .within);
-  low-16 = λ c l. lo-most 16 (m k c) (q k c h l .within);
+  whole = λ c l. integer-whole bound (getD (ms k) c nan) (m k c) (lit≤ tt) (q k c h l);
+  high-most = λ c l. hi-most bound (m k c) (q k c h l .within);
+  deep-most = λ c l. lo-most bound (m k c) (q k c h l .within);
 })
 
 -- ---- two soft values
@@ -154,8 +154,8 @@ turn-8 : (w : Bool) (z : ℤ) → natAbs z ≤ 8 → (hiZ (turnedℤ w z) ≤ 8)
 turn-8 true z h = let s = swap z in let a = hi-most 8 z h in let b = lo-most 8 z h in (omega arith, omega arith)
 turn-8 false z h = (hi-most 8 z h, lo-most 8 z h)
 
-sum-16 : (a b : ℤ) → (hiZ a ≤ 8) × (loZ a ≤ 8) → (hiZ b ≤ 8) × (loZ b ≤ 8) → (hiZ (a +ℤ b) ≤ 16) × (loZ (a +ℤ b) ≤ 16)
-sum-16 a b h k = let r = parts a b in (omega arith, omega arith)
+sum-most : (a b : ℤ) → (hiZ a ≤ 8) × (loZ a ≤ 8) → (hiZ b ≤ 8) × (loZ b ≤ 8) → (hiZ (a +ℤ b) ≤ bound) × (loZ (a +ℤ b) ≤ bound)
+sum-most a b h k = let r = parts a b in (omega arith, omega arith)
 
 pub pairs : (lx ly : ℕ → Float) (x y : ℕ → ℤ) (n : ℕ) → Pairs lx ly x y n → (k : ℕ) → k < n → Adds (pair (lx k) (ly k)) (λ c. parts-of (signs x y k c))
 pairs lx ly x y n q k h =
@@ -169,8 +169,8 @@ pairs lx ly x y n q k h =
       whole-y = integer-whole 8 (ly k) (y k) (lit≤ tt) iy;
       x-8 = (hi-most 8 (x k) (ix .within), lo-most 8 (x k) (ix .within));
       y-8 = (hi-most 8 (y k) (iy .within), lo-most 8 (y k) (iy .within));
-      top-16 = λ c l. sum-16 (turnedℤ (eqb (c / 2) 1) (x k)) (turnedℤ (eqb (c % 2) 1) (y k)) (turn-8 (eqb (c / 2) 1) (x k) (ix .within)) (turn-8 (eqb (c % 2) 1) (y k) (iy .within)) .0;
-      low-16 = λ c l. sum-16 (turnedℤ (eqb (c / 2) 1) (x k)) (turnedℤ (eqb (c % 2) 1) (y k)) (turn-8 (eqb (c / 2) 1) (x k) (ix .within)) (turn-8 (eqb (c % 2) 1) (y k) (iy .within)) .1;
+      high-most = λ c l. sum-most (turnedℤ (eqb (c / 2) 1) (x k)) (turnedℤ (eqb (c % 2) 1) (y k)) (turn-8 (eqb (c / 2) 1) (x k) (ix .within)) (turn-8 (eqb (c % 2) 1) (y k) (iy .within)) .0;
+      deep-most = λ c l. sum-most (turnedℤ (eqb (c / 2) 1) (x k)) (turnedℤ (eqb (c % 2) 1) (y k)) (turn-8 (eqb (c / 2) 1) (x k) (ix .within)) (turn-8 (eqb (c % 2) 1) (y k) (iy .within)) .1;
       is = λ c l. whole-sum (eqb (c / 2) 1) (eqb (c % 2) 1) (x k) (y k);
     })
   where

@@ -12,10 +12,24 @@ use lib.Ieee.{Float, nan, binary32, eq, fits, ofInt}
 use Rattle.trellis.specs.Code.{stateAt}
 use Rattle.trellis.specs.Step.{Tie, lower, upper}
 
+-- the theorem's numbers: at most 4,096 quadruples, of whole numbers within 16 of 0
+abbrev pub longest : ℕ
+longest = 4096
+
+abbrev pub bound : ℕ
+bound = 16
+
 -- of two numbers a comes before b: the smaller under `lower`, the larger under `upper`
 abbrev pub Ahead : Tie → ℕ → ℕ → Type 0
 Ahead lower a b = a < b
 Ahead upper a b = b < a
+
+-- any state; this one
+abbrev pub Any : ℕ → Type 0
+Any z = Unit {0}
+
+abbrev pub This : ℕ → ℕ → Type 0
+This s z = z ≡ s
 
 module _ (half : ℕ) where
   -- the start is a state, and the first n inputs are bits
@@ -59,14 +73,7 @@ module _ (half : ℕ) (out : ℕ → ℕ → ℕ) where
 
   -- us are the inputs of the best path of n steps whose start is in `from`, wherever it ends
   abbrev pub Reading : Tie → (ℕ → Type 0) → (ℕ → ℕ → ℤ) → ℕ → List ℕ → Type 0
-  Reading t from m n us = (s : ℕ) × Best t from (λ z. Unit {0}) m n s us
-
--- any state; this one
-abbrev pub Any : ℕ → Type 0
-Any z = Unit {0}
-
-abbrev pub This : ℕ → ℕ → Type 0
-This s z = z ≡ s
+  Reading t from m n us = (s : ℕ) × Best t from Any m n s us
 
 -- the float x is the whole number z, as IEEE's equality has it, so -0.0 is 0 too; it is within b of 0
 pub record Integer (b : ℕ) (x : Float) (z : ℤ) : Type 0 where
@@ -74,6 +81,6 @@ pub record Integer (b : ℕ) (x : Float) (z : ℤ) : Type 0 where
   pub equal : T (eq x (ofInt binary32 z))
   pub within : natAbs z ≤ b
 
--- the first n quadruples hold whole numbers within 16 of 0: m k c is what quadruple k has for the coded pair c
+-- the first n quadruples hold whole numbers within the bound: m k c is what quadruple k has for the coded pair c
 abbrev pub Quadruples : (ℕ → List Float) → (ℕ → ℕ → ℤ) → ℕ → Type 0
-Quadruples ms m n = (k c : ℕ) → k < n → c < 4 → Integer 16 (getD (ms k) c nan) (m k c)
+Quadruples ms m n = (k c : ℕ) → k < n → c < 4 → Integer bound (getD (ms k) c nan) (m k c)

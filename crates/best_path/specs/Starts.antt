@@ -16,7 +16,7 @@ use Rattle.ieee.specs.Whole.{On, hiZ, loZ}
 use Rattle.ieee.specs.Whole.{hiZ, loZ}
 use Rattle.trellis.specs.Code.{stateAt}
 use Rattle.trellis.specs.Step.{Step, Tie, back}
-use Rattle.best_path.specs.Paths.{Walk, Path, labelAt, sumℤ, Best, Any, This}
+use Rattle.best_path.specs.Paths.{bound, longest, Walk, Path, labelAt, sumℤ, Best, Any, This}
 use Rattle.best_path.specs.Viterbi.{Z, plus, Le, sum}
 use Rattle.best_path.specs.Greatest.{Greatest, one-first}
 use Rattle.best_path.specs.Exact.{Whole}
@@ -24,11 +24,18 @@ use Rattle.best_path.specs.Tracks.{Adds}
 use Rattle.best_path.specs.Decoded.{Started, Did, Ended, decoded, decoded-to}
 use Rattle.best_path.specs.Integers.{parts-of, sum-val, le-val, same-val, ≤ℤ-antisymm}
 
+-- ---- "0 at the given state .., -1,000,000 elsewhere": how far behind the other states start
+abbrev behind : ℕ
+behind = 1000000
+
+abbrev pub behindF : Float
+behindF = ofBits binary32 0xc974_2400
+
 -- ---- path values at the start: 0 at the given state and -1,000,000 elsewhere, or 0 everywhere
 pub record Given (half s : ℕ) (pm : List Float) : Type 0 where
   pub state : s < 2 * half
   pub count : 2 * half ≤ length pm
-  pub values : (k : ℕ) → k < 2 * half → getD pm k nan ≡ cond (eqb k s) (ofBits binary32 0) (ofBits binary32 0xc974_2400)
+  pub values : (k : ℕ) → k < 2 * half → getD pm k nan ≡ cond (eqb k s) (ofBits binary32 0) behindF
 
 pub record Unknown (half : ℕ) (pm : List Float) : Type 0 where
   pub count : 2 * half ≤ length pm
@@ -39,13 +46,13 @@ none : Whole (ofBits binary32 0) 0 0
 unfolding ofBits fits hi lo pow2
 none = record { num = record { fin-x = tt; fits-x = tt }; hi-is = refl; lo-is = refl }
 
-million : Whole (ofBits binary32 0xc974_2400) 0 1000000
+behind-is : Whole behindF 0 behind
 unfolding ofBits fits hi lo pow2
-million = record { num = record { fin-x = tt; fits-x = tt }; hi-is = refl; lo-is = refl }
+behind-is = record { num = record { fin-x = tt; fits-x = tt }; hi-is = refl; lo-is = refl }
 
 -- ---- the start values in whole numbers
 unfoldable pub given : ℕ → ℕ → Z
-given s k = cond (eqb k s) (0, 0) (0, 1000000)
+given s k = cond (eqb k s) (0, 0) (0, behind)
 
 abbrev pub level : ℕ → Z
 level k = (0, 0)
@@ -59,15 +66,15 @@ given-started half s pm g = record {
   deep = λ k l. c (eqb k s);
 }
   where
-    a : (w : Bool) → Whole (cond w (ofBits binary32 0) (ofBits binary32 0xc974_2400)) (cond {A = Z} w (0, 0) (0, 1000000) .0) (cond {A = Z} w (0, 0) (0, 1000000) .1)
+    a : (w : Bool) → Whole (cond w (ofBits binary32 0) behindF) (cond {A = Z} w (0, 0) (0, behind) .0) (cond {A = Z} w (0, 0) (0, behind) .1)
     a true = none
-    a false = million
+    a false = behind-is
 
-    b : (w : Bool) → cond {A = Z} w (0, 0) (0, 1000000) .0 ≤ 1000000
+    b : (w : Bool) → cond {A = Z} w (0, 0) (0, behind) .0 ≤ 1000000
     b true = lit≤ tt
     b false = lit≤ tt
 
-    c : (w : Bool) → cond {A = Z} w (0, 0) (0, 1000000) .1 ≤ 1000000
+    c : (w : Bool) → cond {A = Z} w (0, 0) (0, behind) .1 ≤ 1000000
     c true = lit≤ tt
     c false = lit≤ tt
 
@@ -80,11 +87,11 @@ unknown-started half pm g = record {
 }
 
 -- ---- a wrong start loses
-module _ (half : ℕ) (out : ℕ → ℕ → ℕ) (labels : (u s : ℕ) → out u s < 4) (t : Tie) (m : ℕ → ℕ → ℤ) (n : ℕ) (small : (k c : ℕ) → k < n → c < 4 → (hiZ (m k c) ≤ 16) × (loZ (m k c) ≤ 16)) where
+module _ (half : ℕ) (out : ℕ → ℕ → ℕ) (labels : (u s : ℕ) → out u s < 4) (t : Tie) (m : ℕ → ℕ → ℤ) (n : ℕ) (small : (k c : ℕ) → k < n → c < 4 → (hiZ (m k c) ≤ bound) × (loZ (m k c) ≤ bound)) where
   abbrev mz : ℕ → ℕ → Z
   mz k c = parts-of (m k c)
 
-  sum-high : (s : ℕ) (us : List ℕ) (k : ℕ) → k ≤ n → sum half out mz s us k .0 ≤ 16 * k
+  sum-high : (s : ℕ) (us : List ℕ) (k : ℕ) → k ≤ n → sum half out mz s us k .0 ≤ bound * k
   unfolding sum
   sum-high s us zero h = omega arith
   sum-high s us (suc k) h =
@@ -93,7 +100,7 @@ module _ (half : ℕ) (out : ℕ → ℕ → ℕ) (labels : (u s : ℕ) → out 
       let j = small k c h (labels (getD us k 0) (stateAt half s us k)) in
       omega arith
 
-  sum-deep : (s : ℕ) (us : List ℕ) (k : ℕ) → k ≤ n → sum half out mz s us k .1 ≤ 16 * k
+  sum-deep : (s : ℕ) (us : List ℕ) (k : ℕ) → k ≤ n → sum half out mz s us k .1 ≤ bound * k
   unfolding sum
   sum-deep s us zero h = omega arith
   sum-deep s us (suc k) h =
@@ -106,15 +113,15 @@ module _ (half : ℕ) (out : ℕ → ℕ → ℕ) (labels : (u s : ℕ) → out 
   unfolding given
   given-here s k e = rw e (go (eqb s s) (eqb-refl s))
     where
-      go : (w : Bool) → T w → cond {A = Z} w (0, 0) (0, 1000000) ≡ (0, 0)
+      go : (w : Bool) → T w → cond {A = Z} w (0, 0) (0, behind) ≡ (0, 0)
       go true h = refl
       go false h = absurd h
 
-  given-cases : (s k : ℕ) → (k ≡ s) ⊎ (given s k ≡ (0, 1000000))
+  given-cases : (s k : ℕ) → (k ≡ s) ⊎ (given s k ≡ (0, behind))
   unfolding given
   given-cases s k = go (eqb k s) (eqb→eq k s)
     where
-      go : (w : Bool) → (T w → k ≡ s) → (k ≡ s) ⊎ (cond {A = Z} w (0, 0) (0, 1000000) ≡ (0, 1000000))
+      go : (w : Bool) → (T w → k ≡ s) → (k ≡ s) ⊎ (cond {A = Z} w (0, 0) (0, behind) ≡ (0, behind))
       go true h = inl (h tt)
       go false h = inr refl
 
@@ -122,13 +129,13 @@ module _ (half : ℕ) (out : ℕ → ℕ → ℕ) (labels : (u s : ℕ) → out 
   zeros-walk s h = record { start = h; bits = λ k l. rw (getD-replicate {A = ℕ} n k 0 0 l) (lit≤ tt) }
 
   -- the path vs from the given start keeps every path from another below it
-  begins-there : (to : ℕ → Type 0) (s₀ s : ℕ) (us vs : List ℕ) → n ≤ 4096 → Walk half n s₀ vs → to (stateAt half s₀ vs n) → Greatest half out t (given s₀) mz to n s us → s ≡ s₀
+  begins-there : (to : ℕ → Type 0) (s₀ s : ℕ) (us vs : List ℕ) → n ≤ longest → Walk half n s₀ vs → to (stateAt half s₀ vs n) → Greatest half out t (given s₀) mz to n s us → s ≡ s₀
   begins-there to s₀ s us vs few w z g =
       ⊎-elim (λ e. e)
       (λ e.
       let a = g .most s₀ vs w z in
       let b0 : given s₀ s .0 ≡ 0 = ap (λ (z : Z). z .0) e in
-      let b1 : given s₀ s .1 ≡ 1000000 = ap (λ (z : Z). z .1) e in
+      let b1 : given s₀ s .1 ≡ behind = ap (λ (z : Z). z .1) e in
       let c0 : given s₀ s₀ .0 ≡ 0 = ap (λ (z : Z). z .0) (given-here s₀ s₀ refl) in
       let c1 : given s₀ s₀ .1 ≡ 0 = ap (λ (z : Z). z .1) (given-here s₀ s₀ refl) in
       let d = sum-high s us n (omega arith) in
@@ -136,7 +143,7 @@ module _ (half : ℕ) (out : ℕ → ℕ → ℕ) (labels : (u s : ℕ) → out 
       absurd (omega arith))
       (given-cases s₀ s)
 
-  given-best : (to : ℕ → Type 0) (s₀ s : ℕ) (us vs : List ℕ) → n ≤ 4096 → Walk half n s₀ vs → to (stateAt half s₀ vs n) → Greatest half out t (given s₀) mz to n s us → Best half out t (This s₀) to m n s us
+  given-best : (to : ℕ → Type 0) (s₀ s : ℕ) (us vs : List ℕ) → n ≤ longest → Walk half n s₀ vs → to (stateAt half s₀ vs n) → Greatest half out t (given s₀) mz to n s us → Best half out t (This s₀) to m n s us
   given-best to s₀ s us vs few w z g =
       let here = begins-there to s₀ s us vs few w z g in
       let b0 : given s₀ s .0 ≡ 0 = ap (λ (z : Z). z .0) (given-here s₀ s here) in
@@ -171,10 +178,10 @@ module _ (half : ℕ) (out : ℕ → ℕ → ℕ) (labels : (u s : ℕ) → out 
   }
 
 -- ---- THE THEOREMS: what the decoder gave out are the inputs of the first path of greatest sum
-module _ (half : ℕ) (some : 0 < half) (out : ℕ → ℕ → ℕ) (labels : (u s : ℕ) → out u s < 4) (t : Tie) (steps : ℕ → Step) (m : ℕ → ℕ → ℤ) (n : ℕ) (few : n ≤ 4096)
+module _ (half : ℕ) (some : 0 < half) (out : ℕ → ℕ → ℕ) (labels : (u s : ℕ) → out u s < 4) (t : Tie) (steps : ℕ → Step) (m : ℕ → ℕ → ℤ) (n : ℕ) (few : n ≤ longest)
     (ads : (k : ℕ) → k < n → Adds (steps k) (λ c. parts-of (m k c))) (pms : ℕ → List Float)
     (ws : List ℕ) (e : ℕ) (us : List ℕ) (did : Did half out t steps n pms ws e us) where
-  small : (k c : ℕ) → k < n → c < 4 → (hiZ (m k c) ≤ 16) × (loZ (m k c) ≤ 16)
+  small : (k c : ℕ) → k < n → c < 4 → (hiZ (m k c) ≤ bound) × (loZ (m k c) ≤ bound)
   small k c h l = (ads k h .high c l, ads k h .deep c l)
 
   -- from the given start, traced from the best state

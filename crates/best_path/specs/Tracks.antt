@@ -12,6 +12,7 @@ use borrow.Author.Count.{below-more}
 use lib.Ieee.{Float, nan, binary32, add, sub, lt, le, ofBits}
 use Rattle.trellis.specs.Lists.{upto}
 use Rattle.trellis.specs.Step.{Step, Tie, lower, upper, takes, branch, cand, wins, next, nexts, top, best, renormalised}
+use Rattle.best_path.specs.Paths.{bound, longest}
 use Rattle.best_path.specs.Viterbi.{Z, plus, candZ, winsZ, nextZ, value, decision, bestZ}
 use Rattle.best_path.specs.Greatest.{best-under}
 use Rattle.best_path.specs.Exact.{Is, Near, takes-is, is-sub, least, least-below}
@@ -41,17 +42,17 @@ first-of true x y h = refl
 first-of false x y h = absurd h
 
 -- ---- what is asked of a branch
--- no part of z, or of off, is above 1,100,000
+-- no part of z, or of off, is above 4,000,000
 pub record Small (z off : Z) : Type 0 where
-  pub z-high : z .0 ≤ 1100000
-  pub z-deep : z .1 ≤ 1100000
-  pub off-high : off .0 ≤ 1100000
-  pub off-deep : off .1 ≤ 1100000
+  pub z-high : z .0 ≤ 4000000
+  pub z-deep : z .1 ≤ 4000000
+  pub off-high : off .0 ≤ 4000000
+  pub off-deep : off .1 ≤ 4000000
 
--- The step x adds what mz says of each label, exactly, and it is within 16.
+-- The step x adds what mz says of each label, exactly, and it is within the bound.
 pub record Adds (x : Step) (mz : ℕ → Z) : Type 0 where
-  pub high : (l : ℕ) → l < 4 → mz l .0 ≤ 16
-  pub deep : (l : ℕ) → l < 4 → mz l .1 ≤ 16
+  pub high : (l : ℕ) → l < 4 → mz l .0 ≤ bound
+  pub deep : (l : ℕ) → l < 4 → mz l .1 ≤ bound
   pub exact : (l : ℕ) → l < 4 → (y : Float) (z off : Z) → Is y z off → Small z off → Is (branch x y l) (plus z (mz l)) off
 
 -- ---- path values from step to step
@@ -77,10 +78,10 @@ module _ (half : ℕ) where
   pub record Tracks (pm : List Float) (val : ℕ → Z) (off : Z) (k : ℕ) : Type 0 where
     pub count : 2 * half ≤ length pm
     pub each : (s : ℕ) → s < 2 * half → Is (getD pm s nan) (val s) off
-    pub high : (s : ℕ) → s < 2 * half → val s .0 ≤ 1000000 + 16 * k
-    pub deep : (s : ℕ) → s < 2 * half → val s .1 ≤ 1000000 + 16 * k
-    pub off-high : off .0 ≤ 1000000 + 16 * k
-    pub off-deep : off .1 ≤ 1000000 + 16 * k
+    pub high : (s : ℕ) → s < 2 * half → val s .0 ≤ 1000000 + bound * k
+    pub deep : (s : ℕ) → s < 2 * half → val s .1 ≤ 1000000 + bound * k
+    pub off-high : off .0 ≤ 1000000 + bound * k
+    pub off-deep : off .1 ≤ 1000000 + bound * k
 
   from-under : (s b : ℕ) → 0 < half → b < 2 → 2 * (s % half) + b < 2 * half
   from-under s b h l = let r = mod-lt s h in omega arith
@@ -96,7 +97,7 @@ tracks-like half pm new val off k tr long same = record {
 }
 
 module _ (half : ℕ) (pos : 0 < half) (out : ℕ → ℕ → ℕ) (labels : (u s : ℕ) → out u s < 4) (t : Tie) where
-  module _ (pm : List Float) (x : Step) (val mz : ℕ → Z) (off : Z) (k : ℕ) (tr : Tracks half pm val off k) (ad : Adds x mz) (few : k < 4096) where
+  module _ (pm : List Float) (x : Step) (val mz : ℕ → Z) (off : Z) (k : ℕ) (tr : Tracks half pm val off k) (ad : Adds x mz) (few : k < longest) where
     cand-is : (s b : ℕ) → b < 2 → Is (cand half out pm x s b) (candZ half out val mz s b) off
     unfolding cand candZ
     cand-is s b l =
@@ -110,7 +111,7 @@ module _ (half : ℕ) (pos : 0 < half) (out : ℕ → ℕ → ℕ) (labels : (u 
         let d = tr .off-deep in
         ad .exact c lc (getD pm q nan) (val q) off (tr .each q lq) (record { z-high = omega arith; z-deep = omega arith; off-high = omega arith; off-deep = omega arith })
 
-    cand-high : (s b : ℕ) → b < 2 → candZ half out val mz s b .0 ≤ 1000000 + 16 * suc k
+    cand-high : (s b : ℕ) → b < 2 → candZ half out val mz s b .0 ≤ 1000000 + bound * suc k
     unfolding candZ
     cand-high s b l =
         let q = 2 * (s % half) + b in
@@ -118,7 +119,7 @@ module _ (half : ℕ) (pos : 0 < half) (out : ℕ → ℕ → ℕ) (labels : (u 
         let m = ad .high (out (s / half) q) (labels (s / half) q) in
         omega arith
 
-    cand-deep : (s b : ℕ) → b < 2 → candZ half out val mz s b .1 ≤ 1000000 + 16 * suc k
+    cand-deep : (s b : ℕ) → b < 2 → candZ half out val mz s b .1 ≤ 1000000 + bound * suc k
     unfolding candZ
     cand-deep s b l =
         let q = 2 * (s % half) + b in
@@ -138,19 +139,19 @@ module _ (half : ℕ) (pos : 0 < half) (out : ℕ → ℕ → ℕ) (labels : (u 
         go true = cand-is s 1 (omega arith)
         go false = cand-is s 0 (omega arith)
 
-    next-high : (s : ℕ) → nextZ half out t val mz s .0 ≤ 1000000 + 16 * suc k
+    next-high : (s : ℕ) → nextZ half out t val mz s .0 ≤ 1000000 + bound * suc k
     unfolding nextZ
     next-high s = go (winsZ half out t val mz s)
       where
-        go : (w : Bool) → cond w (candZ half out val mz s 1) (candZ half out val mz s 0) .0 ≤ 1000000 + 16 * suc k
+        go : (w : Bool) → cond w (candZ half out val mz s 1) (candZ half out val mz s 0) .0 ≤ 1000000 + bound * suc k
         go true = cand-high s 1 (omega arith)
         go false = cand-high s 0 (omega arith)
 
-    next-deep : (s : ℕ) → nextZ half out t val mz s .1 ≤ 1000000 + 16 * suc k
+    next-deep : (s : ℕ) → nextZ half out t val mz s .1 ≤ 1000000 + bound * suc k
     unfolding nextZ
     next-deep s = go (winsZ half out t val mz s)
       where
-        go : (w : Bool) → cond w (candZ half out val mz s 1) (candZ half out val mz s 0) .1 ≤ 1000000 + 16 * suc k
+        go : (w : Bool) → cond w (candZ half out val mz s 1) (candZ half out val mz s 0) .1 ≤ 1000000 + bound * suc k
         go true = cand-deep s 1 (omega arith)
         go false = cand-deep s 0 (omega arith)
 
@@ -169,7 +170,7 @@ module _ (half : ℕ) (pos : 0 < half) (out : ℕ → ℕ → ℕ) (labels : (u 
         }
 
   -- ---- what is taken off is one of the values
-  module _ (pm : List Float) (val : ℕ → Z) (off : Z) (k : ℕ) (tr : Tracks half pm val off k) (few : k ≤ 4096) where
+  module _ (pm : List Float) (val : ℕ → Z) (off : Z) (k : ℕ) (tr : Tracks half pm val off k) (few : k ≤ longest) where
     abbrev Held : Float → Type 0
     Held x = (j : ℕ) × (j < 2 * half) × (x ≡ getD pm j nan)
 
@@ -217,7 +218,7 @@ module _ (half : ℕ) (pos : 0 < half) (out : ℕ → ℕ → ℕ) (labels : (u 
           },
         )
 
-  pub times-step : (pm : List Float) (val : ℕ → Z) (k : ℕ) → k ≤ 4096 → (j : ℕ) → (o : Z) × Tracks half pm val o k → (o : Z) × Tracks half (times half j pm) val o k
+  pub times-step : (pm : List Float) (val : ℕ → Z) (k : ℕ) → k ≤ longest → (j : ℕ) → (o : Z) × Tracks half pm val o k → (o : Z) × Tracks half (times half j pm) val o k
   unfolding times
   times-step pm val k few zero r = r
   times-step pm val k few (suc j) r =
@@ -225,14 +226,14 @@ module _ (half : ℕ) (pos : 0 < half) (out : ℕ → ℕ → ℕ) (labels : (u 
       lower-step (times half j pm) val (q .0) k (q .1) few
 
   -- ---- all steps
-  module _ (v : ℕ → Z) (m : ℕ → ℕ → Z) (steps : ℕ → Step) (n : ℕ) (pms : ℕ → List Float) (fo : Follows half out t steps n pms) (few : n ≤ 4096)
+  module _ (v : ℕ → Z) (m : ℕ → ℕ → Z) (steps : ℕ → Step) (n : ℕ) (pms : ℕ → List Float) (fo : Follows half out t steps n pms) (few : n ≤ longest)
       (start : Tracks half (pms 0) v (0, 0) 0) (ads : (k : ℕ) → k < n → Adds (steps k) (m k)) where
     pub tracks : (k : ℕ) → k ≤ n → (off : Z) × Tracks half (pms k) (value half out t v m k) off k
     unfolding value
     tracks zero h = ((0, 0), start)
     tracks (suc k) h =
         let r = tracks k (omega arith) in
-        let h' : suc k ≤ 4096 = omega arith in
+        let h' : suc k ≤ longest = omega arith in
         let s = step (pms k) (steps k) (value half out t v m k) (m k) (r .0) k (r .1) (ads k h) (omega arith) in
         let q = times-step (nexts half out t (pms k) (steps k)) (nextZ half out t (value half out t v m k) (m k)) (suc k) h' (fo .low k) (r .0, s) in
         (q .0, tracks-like half (times half (fo .low k) (nexts half out t (pms k) (steps k))) (pms (suc k)) (nextZ half out t (value half out t v m k) (m k)) (q .0) (suc k) (q .1) (fo .long (suc k) h) (fo .moves k h))
