@@ -62,7 +62,7 @@ module _ (half : ℕ) (out : ℕ → ℕ → ℕ) (t : Tie) where
   unfolding settled
   plain-pair lx ly i pm = sixty (eqb (i % 64) 63) pm
 
-  renormalised-length : (pm : List Float) → length (renormalised half pm) ≡ length pm
+  pub renormalised-length : (pm : List Float) → length (renormalised half pm) ≡ length pm
   unfolding renormalised
   renormalised-length pm = length-map pm (λ x. sub binary32 x (top pm (2 * half)))
 
@@ -79,6 +79,12 @@ module _ (half : ℕ) (out : ℕ → ℕ → ℕ) (t : Tie) where
     one-step : (k : ℕ) → k < n → valuesAt half out t steps pm (suc k) ≡ times half (bit (eqb (k % 64) 63)) (nexts half out t (valuesAt half out t steps pm k) (steps k))
     unfolding valuesAt
     one-step k h = plain k h k (nexts half out t (valuesAt half out t steps pm k) (steps k))
+
+    -- as many as there are states, where the start has as many
+    pub values-count : length pm ≡ 2 * half → (k : ℕ) → k ≤ n → length (valuesAt half out t steps pm k) ≡ 2 * half
+    unfolding valuesAt
+    values-count e zero h = e
+    values-count e (suc k) h = ap length (one-step k h) ∙ times-length (bit (eqb (k % 64) 63)) (nexts half out t (valuesAt half out t steps pm k) (steps k)) ∙ nexts-length (valuesAt half out t steps pm k) (steps k)
 
     values-long : (k : ℕ) → k ≤ n → 2 * half ≤ length (valuesAt half out t steps pm k)
     unfolding valuesAt
@@ -135,7 +141,7 @@ module _ (half : ℕ) (out : ℕ → ℕ → ℕ) (t : Tie) where
     }
 
 -- ---- the two starts
-start-given : (half s : ℕ) → 0 < half → Given half (s % (2 * half)) (startAt (2 * half) s)
+pub start-given : (half s : ℕ) → 0 < half → Given half (s % (2 * half)) (startAt (2 * half) s)
 unfolding startAt
 start-given half s h = record {
   state = mod-lt s (omega arith);
@@ -143,7 +149,7 @@ start-given half s h = record {
   values = λ k l. getD-upto (λ k. cond (eqb k (s % (2 * half))) (ofBits binary32 0) (ofBits binary32 0xc974_2400)) nan (2 * half) k l;
 }
 
-start-unknown : (half : ℕ) → Unknown half (startUnknown (2 * half))
+pub start-unknown : (half : ℕ) → Unknown half (startUnknown (2 * half))
 unfolding startUnknown
 start-unknown half = record {
   count = le-of-eq (sym (length-upto (λ k. ofBits binary32 0) (2 * half)));
