@@ -17,7 +17,7 @@ use Rattle.best_path.specs.Paths.{bound, longest, Path, Best, Reading, A
 use Rattle.best_path.specs.Tracks.{Adds, times, Follows, length-upto, getD-upto}
 use Rattle.best_path.specs.Decoded.{Did, Ended}
 use Rattle.best_path.specs.Integers.{parts-of, quadruples, Pairs, signs, pairs}
-use Rattle.best_path.specs.Starts.{Given, Unknown, best-given, best-unknown}
+use Rattle.best_path.specs.Starts.{Given, Unknown, best-given, best-unknown, best-between}
 
 -- ---- a call without a release
 module _ (half : ℕ) (out : ℕ → ℕ → ℕ) (t : Tie) where
@@ -98,47 +98,48 @@ module _ (half : ℕ) (out : ℕ → ℕ → ℕ) (t : Tie) where
       moves = λ k h s l. ap (λ (x : List Float). getD x s nan) (one-step k h);
     }
 
--- ---- one call and a flush
-module _ (half : ℕ) (out : ℕ → ℕ → ℕ) (t : Tie) where
-  -- the bits of one call of n steps and a flush, from the path values pm and no held decision
-  abbrev pub readBits : ℕ → (ℕ → Step) → List Float → ℕ → List ℕ
-  readBits tb steps pm n = flushed half out t (pushed half out t tb steps (record { values = pm; words = []; bits = [] }) n) .bits
+-- ---- what is held after a call, and what is read from it
+module _ (half : ℕ) (out : ℕ → ℕ → ℕ) (t : Tie) (steps : ℕ → Step) (pm : List Float) (n : ℕ) where
+  -- the words of all steps, the path values at the call's end, and the best state
+  abbrev pub heldWords : List ℕ
+  heldWords = upto (wordAt half out t steps pm) n
 
-  module _ (tb : ℕ) (some-tb : 0 < tb) (steps : ℕ → Step) (pm : List Float) (n : ℕ) (few : n ≤ longest) where
-    abbrev words : List ℕ
-    words = upto (wordAt half out t steps pm) n
+  abbrev pub endValues : List Float
+  endValues = renormalised half (valuesAt half out t steps pm n)
 
-    -- the path values at the call's end, and the state that is traced
-    abbrev last : List Float
-    last = renormalised half (valuesAt half out t steps pm n)
+  abbrev pub endState : ℕ
+  endState = best t endValues (2 * half - 1)
 
-    abbrev pub endState : ℕ
-    endState = best t last (2 * half - 1)
+  traced-is : (e : ℕ) → traced half heldWords e ≡ upto (input half heldWords n e) n
+  unfolding traced
+  traced-is e = ap (λ (z : ℕ). upto (input half heldWords z e) z) (length-upto (wordAt half out t steps pm) n)
 
-    pub read-traced : readBits tb steps pm n ≡ traced half words endState
-    read-traced = ap (λ (d : Decoder). flushed half out t (closed half out t d) .bits) (after-held half out t tb steps (record { values = pm; words = []; bits = [] }) n (omega arith))
-
-    read-is : readBits tb steps pm n ≡ upto (input half words n endState) n
-    unfolding traced
-    read-is = read-traced ∙ ap (λ (z : ℕ). upto (input half words z endState) z) (length-upto (wordAt half out t steps pm) n)
-
-    did : (plain : (k : ℕ) → k < n → Plain half out t (steps k)) → 2 * half ≤ length pm → Did half out t steps n (valuesAt half out t steps pm) words endState (readBits tb steps pm n)
-    did plain long = record {
+  module _ (plain : (k : ℕ) → k < n → Plain half out t (steps k)) (long : 2 * half ≤ length pm) where
+    pub did : (e : ℕ) → Did half out t steps n (valuesAt half out t steps pm) heldWords e (traced half heldWords e)
+    did e = record {
       follows = follows half out t steps n plain pm long;
       words = λ k h. getD-upto (wordAt half out t steps pm) 0 n k h;
-      length-bits = ap length read-is ∙ length-upto (input half words n endState) n;
-      bits = λ k h. ap (λ (x : List ℕ). getD x k 0) read-is ∙ getD-upto (input half words n endState) 0 n k h;
+      length-bits = ap length (traced-is e) ∙ length-upto (input half heldWords n e) n;
+      bits = λ k h. ap (λ (x : List ℕ). getD x k 0) (traced-is e) ∙ getD-upto (input half heldWords n e) 0 n k h;
     }
 
-    ended : (plain : (k : ℕ) → k < n → Plain half out t (steps k)) → 2 * half ≤ length pm → Ended half t n (valuesAt half out t steps pm) endState
+    pub ended : Ended half t n (valuesAt half out t steps pm) endState
     unfolding times
-    ended plain long = record {
-      last = last;
+    ended = record {
+      last = endValues;
       long = rw (renormalised-length half out t (valuesAt half out t steps pm n)) (values-long half out t steps n plain pm long n (omega arith));
       again = 1;
       same = λ s l. refl;
       is-best = refl;
     }
+
+module _ (half : ℕ) (out : ℕ → ℕ → ℕ) (t : Tie) where
+  -- the bits of one call of n steps and a flush, from the path values pm and no held decision
+  abbrev pub readBits : ℕ → (ℕ → Step) → List Float → ℕ → List ℕ
+  readBits tb steps pm n = flushed half out t (pushed half out t tb steps (record { values = pm; words = []; bits = [] }) n) .bits
+
+  pub read-traced : (tb : ℕ) → 0 < tb → (steps : ℕ → Step) (pm : List Float) (n : ℕ) → n ≤ longest → readBits tb steps pm n ≡ traced half (heldWords half out t steps pm n) (endState half out t steps pm n)
+  read-traced tb some steps pm n few = ap (λ (d : Decoder). flushed half out t (closed half out t d) .bits) (after-held half out t tb steps (record { values = pm; words = []; bits = [] }) n (omega arith))
 
 -- ---- the two starts
 pub start-given : (half s : ℕ) → 0 < half → Given half (s % (2 * half)) (startAt (2 * half) s)
@@ -157,42 +158,60 @@ start-unknown half = record {
 }
 
 -- ---- THE THEOREMS, over any trellis, either rule for equals, any traceback
-module _ (half : ℕ) (some : 0 < half) (out : ℕ → ℕ → ℕ) (labels : (u s : ℕ) → out u s < 4) (t : Tie) (tb : ℕ) (some-tb : 0 < tb) where
+module _ (half : ℕ) (some : 0 < half) (out : ℕ → ℕ → ℕ) (labels : (u s : ℕ) → out u s < 4) (t : Tie) where
   -- steps that add whole numbers
   module _ (steps : ℕ → Step) (m : ℕ → ℕ → ℤ) (n : ℕ) (few : n ≤ longest) (plain : (k : ℕ) → k < n → Plain half out t (steps k)) (ads : (k : ℕ) → k < n → Adds (steps k) (λ c. parts-of (m k c))) where
-    pub steps-given : (s : ℕ) → Best half out t (This (s % (2 * half))) Any m n (s % (2 * half)) (readBits half out t tb steps (startAt (2 * half) s) n)
+    -- traced from the best state, from a given start
+    pub traced-given : (s : ℕ) → Best half out t (This (s % (2 * half))) Any m n (s % (2 * half)) (traced half (heldWords half out t steps (startAt (2 * half) s) n) (endState half out t steps (startAt (2 * half) s) n))
     unfolding valuesAt
-    steps-given s =
+    traced-given s =
         let pm = startAt (2 * half) s in
         let g = start-given half s some in
-        best-given half some out labels t steps m n few ads (valuesAt half out t steps pm) (words half out t tb some-tb steps pm n few) (endState half out t tb some-tb steps pm n few) (readBits half out t tb steps pm n) (did half out t tb some-tb steps pm n few plain (g .count)) (s % (2 * half)) g (ended half out t tb some-tb steps pm n few plain (g .count))
+        let e = endState half out t steps pm n in
+        let ws = heldWords half out t steps pm n in
+        best-given half some out labels t steps m n few ads (valuesAt half out t steps pm) ws e (traced half ws e) (did half out t steps pm n plain (g .count) e) (s % (2 * half)) g (ended half out t steps pm n plain (g .count))
 
-    pub steps-unknown : Reading half out t Any m n (readBits half out t tb steps (startUnknown (2 * half)) n)
+    -- from any start
+    pub traced-unknown : Reading half out t Any m n (traced half (heldWords half out t steps (startUnknown (2 * half)) n) (endState half out t steps (startUnknown (2 * half)) n))
     unfolding valuesAt
-    steps-unknown =
+    traced-unknown =
         let pm = startUnknown (2 * half) in
         let g = start-unknown half in
-        let ws = words half out t tb some-tb steps pm n few in
-        let e = endState half out t tb some-tb steps pm n few in (
-          back half ws n e n,
-          best-unknown half some out labels t steps m n few ads (valuesAt half out t steps pm) ws e (readBits half out t tb steps pm n) (did half out t tb some-tb steps pm n few plain (g .count)) g (ended half out t tb some-tb steps pm n few plain (g .count)),
-        )
+        let ws = heldWords half out t steps pm n in
+        let e = endState half out t steps pm n in
+        (back half ws n e n, best-unknown half some out labels t steps m n few ads (valuesAt half out t steps pm) ws e (traced half ws e) (did half out t steps pm n plain (g .count) e) g (ended half out t steps pm n plain (g .count)))
+
+    -- traced from the state e, from a given start from which some path vs leads to e
+    pub traced-between : (s e : ℕ) (vs : List ℕ) → e < 2 * half → Path half n (s % (2 * half)) vs → stateAt half (s % (2 * half)) vs n ≡ e → Best half out t (This (s % (2 * half))) (This e) m n (s % (2 * half)) (traced half (heldWords half out t steps (startAt (2 * half) s) n) e)
+    unfolding valuesAt
+    traced-between s e vs l p z =
+        let pm = startAt (2 * half) s in
+        let g = start-given half s some in
+        let ws = heldWords half out t steps pm n in
+        best-between half some out labels t steps m n few ads (valuesAt half out t steps pm) ws e (traced half ws e) (did half out t steps pm n plain (g .count) e) (s % (2 * half)) vs g l p z
+
+    -- what one call and a flush read
+    pub steps-given : (tb : ℕ) → 0 < tb → (s : ℕ) → Best half out t (This (s % (2 * half))) Any m n (s % (2 * half)) (readBits half out t tb steps (startAt (2 * half) s) n)
+    steps-given tb h s = subst (λ (us : List ℕ). Best half out t (This (s % (2 * half))) Any m n (s % (2 * half)) us) (sym (read-traced half out t tb h steps (startAt (2 * half) s) n few)) (traced-given s)
+
+    pub steps-unknown : (tb : ℕ) → 0 < tb → Reading half out t Any m n (readBits half out t tb steps (startUnknown (2 * half)) n)
+    steps-unknown tb h = subst (λ (us : List ℕ). Reading half out t Any m n us) (sym (read-traced half out t tb h steps (startUnknown (2 * half)) n few)) traced-unknown
 
   -- quadruples of whole numbers within the bound
-  module _ (ms : ℕ → List Float) (m : ℕ → ℕ → ℤ) (n : ℕ) (few : n ≤ longest) (quads : Quadruples ms m n) where
+  module _ (ms : ℕ → List Float) (m : ℕ → ℕ → ℤ) (n : ℕ) (few : n ≤ longest) (quads : Quadruples ms m n) (tb : ℕ) (some-tb : 0 < tb) where
     pub quadruples-given : (s : ℕ) → Reading half out t (This (s % (2 * half))) m n (readBits half out t tb (λ k. four (ms k)) (startAt (2 * half) s) n)
-    quadruples-given s = (s % (2 * half), steps-given (λ k. four (ms k)) m n few (λ k h. plain-four half out t (ms k)) (quadruples ms m n quads) s)
+    quadruples-given s = (s % (2 * half), steps-given (λ k. four (ms k)) m n few (λ k h. plain-four half out t (ms k)) (quadruples ms m n quads) tb some-tb s)
 
     pub quadruples-unknown : Reading half out t Any m n (readBits half out t tb (λ k. four (ms k)) (startUnknown (2 * half)) n)
-    quadruples-unknown = steps-unknown (λ k. four (ms k)) m n few (λ k h. plain-four half out t (ms k)) (quadruples ms m n quads)
+    quadruples-unknown = steps-unknown (λ k. four (ms k)) m n few (λ k h. plain-four half out t (ms k)) (quadruples ms m n quads) tb some-tb
 
-  -- pairs of whole numbers within 8
-  module _ (lx ly : ℕ → Float) (x y : ℕ → ℤ) (n : ℕ) (few : n ≤ longest) (two : Pairs lx ly x y n) where
+  -- pairs of whole numbers within half of it
+  module _ (lx ly : ℕ → Float) (x y : ℕ → ℤ) (n : ℕ) (few : n ≤ longest) (two : Pairs lx ly x y n) (tb : ℕ) (some-tb : 0 < tb) where
     pub pairs-given : (s : ℕ) → Reading half out t (This (s % (2 * half))) (signs x y) n (readBits half out t tb (λ k. pair (lx k) (ly k)) (startAt (2 * half) s) n)
-    pairs-given s = (s % (2 * half), steps-given (λ k. pair (lx k) (ly k)) (signs x y) n few (λ k h. plain-pair half out t (lx k) (ly k)) (pairs lx ly x y n two) s)
+    pairs-given s = (s % (2 * half), steps-given (λ k. pair (lx k) (ly k)) (signs x y) n few (λ k h. plain-pair half out t (lx k) (ly k)) (pairs lx ly x y n two) tb some-tb s)
 
     pub pairs-unknown : Reading half out t Any (signs x y) n (readBits half out t tb (λ k. pair (lx k) (ly k)) (startUnknown (2 * half)) n)
-    pairs-unknown = steps-unknown (λ k. pair (lx k) (ly k)) (signs x y) n few (λ k h. plain-pair half out t (lx k) (ly k)) (pairs lx ly x y n two)
+    pairs-unknown = steps-unknown (λ k. pair (lx k) (ly k)) (signs x y) n few (λ k h. plain-pair half out t (lx k) (ly k)) (pairs lx ly x y n two) tb some-tb
 
 -- ---- the ISDB code
 pub label-under : (c : Code) (u s : ℕ) → label c u s < 4
@@ -202,8 +221,8 @@ label-under c u s = omega arith
 -- At most 4,096 quadruples of whole numbers within the bound, a fresh decoder of the ISDB code at the state s (mod 64): the bits of one call and a
 -- flush are the inputs of the path of greatest sum from that state, the first of equals.
 pub isdb-given : (tb : ℕ) → 0 < tb → (ms : ℕ → List Float) (m : ℕ → ℕ → ℤ) (n : ℕ) → n ≤ longest → Quadruples ms m n → (s : ℕ) → Reading 32 (label isdb) lower (This (s % 64)) m n (readBits 32 (label isdb) lower tb (λ k. four (ms k)) (startAt 64 s) n)
-isdb-given tb h = quadruples-given 32 (lit≤ tt) (label isdb) (label-under isdb) lower tb h
+isdb-given tb h ms m n few quads = quadruples-given 32 (lit≤ tt) (label isdb) (label-under isdb) lower ms m n few quads tb h
 
 -- The same of an unknown start: the path of greatest sum from any state.
 pub isdb-unknown : (tb : ℕ) → 0 < tb → (ms : ℕ → List Float) (m : ℕ → ℕ → ℤ) (n : ℕ) → n ≤ longest → Quadruples ms m n → Reading 32 (label isdb) lower Any m n (readBits 32 (label isdb) lower tb (λ k. four (ms k)) (startUnknown 64) n)
-isdb-unknown tb h = quadruples-unknown 32 (lit≤ tt) (label isdb) (label-under isdb) lower tb h
+isdb-unknown tb h ms m n few quads = quadruples-unknown 32 (lit≤ tt) (label isdb) (label-under isdb) lower ms m n few quads tb h
