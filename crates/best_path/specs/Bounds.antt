@@ -13,7 +13,7 @@ use Rattle.trellis.specs.Run.{startAt, startUnknown, valuesAt}
 use Rattle.best_path.specs.Paths.{bound, longest, Integer}
 use Rattle.best_path.specs.Viterbi.{Z, value}
 use Rattle.best_path.specs.Exact.{Whole, Is, Near, le-from}
-use Rattle.best_path.specs.Tracks.{Tracks, Adds, tracks, lower-step}
+use Rattle.best_path.specs.Tracks.{Tracks, Adds, tracks, renormalised-step}
 use Rattle.best_path.specs.Decoded.{Started, start-tracks}
 use Rattle.best_path.specs.Integers.{parts-of, integer-whole, hi-most, lo-most}
 use Rattle.best_path.specs.Starts.{given, level, given-started, unknown-started}
@@ -67,5 +67,5 @@ module _ (half : ℕ) (pos : 0 < half) (limit : Float) (b : ℕ) (lim : Whole li
       let v = w .sizes in
       let fo = follows half out t steps n plain pm (w .started .count) in
       let r = tracks half pos out labels t v m steps n (valuesAt half out t steps pm) fo few (start-tracks half pm v (w .started)) ads n (omega arith) in
-      let q = lower-step half pos out labels t (valuesAt half out t steps pm n) (value half out t v m n) (r .0) n (r .1) few in
+      let q = renormalised-step half pos out labels t (valuesAt half out t steps pm n) (value half out t v m n) (r .0) n (r .1) few in
       tracks-inside (renormalised half (valuesAt half out t steps pm n)) (value half out t v m n) (q .0) n few (q .1)

@@ -131,7 +131,7 @@ pub record Did (half : ℕ) (out : ℕ → ℕ → ℕ) (t : Tie) (steps : ℕ �
   pub length-bits : length us ≡ n
   pub bits : (k : ℕ) → k < n → getD us k 0 ≡ input half ws n e k
 
--- e is the best end state of the last values, lowered some times more
+-- e is the best end state of the last values, after the maximum is subtracted some times more
 pub record Ended (half : ℕ) (t : Tie) (n : ℕ) (pms : ℕ → List Float) (e : ℕ) : Type 0 where
   pub last : List Float
   pub long : 2 * half ≤ length last
@@ -162,7 +162,7 @@ module _ (half : ℕ) (pos : 0 < half) (out : ℕ → ℕ → ℕ) (labels : (u 
       subst (λ (x : List ℕ). Greatest half out t v m to n (back half ws n e n) x) (sym (us-is l))
       (subst (λ (x : ℕ). Greatest half out t v m to n x (inputs half out t v m n e)) (sym (back-start half pos out t v m n ws said e l)) g)
 
-  -- THEOREM, a given end: the traced start and the bits are the first of the paths of greatest total that end in e
+  -- a given end: the traced start and the bits are the first of the paths of greatest total that end in e
   pub decoded-to : e < 2 * half → Greatest half out t v m (λ z. z ≡ e) n (back half ws n e n) us
   decoded-to l = carried (λ z. z ≡ e) l (greatest-to half out t v m n e l)
 
@@ -175,7 +175,7 @@ module _ (half : ℕ) (pos : 0 < half) (out : ℕ → ℕ → ℕ) (labels : (u 
       let tr = tracks-like half (times half (en .again) (pms n)) (en .last) val (q .0) n (q .1) (en .long) (en .same) in
       en .is-best ∙ best-same half t (en .last) val (q .0) n tr (2 * half - 1) (omega arith)
 
-  -- THEOREM, from the best state: the first of all paths of greatest total
+  -- from the best state: the first of all paths of greatest total
   pub decoded : Ended half t n pms e → Greatest half out t v m (λ z. Unit {0}) n (back half ws n e n) us
   decoded en =
       let i = e-is en in

@@ -268,7 +268,7 @@ module _ (half : ℕ) (out : ℕ → ℕ → ℕ) (t : Tie) (v : ℕ → Z) (m :
   unfoldable pub end : ℕ → ℕ
   end n = bestZ t (value half out t v m n) (2 * half - 1)
 
-  -- THEOREM 1: the traced path from s ends in s, its total is the value at s, and no path into s is greater; of equals it is first
+  -- The survivor of s: the traced path from s ends in s, its total is the value at s, and no path into s is greater; of equals it is first
   pub record Survivor (n s : ℕ) : Type 0 where
     pub traced-path : Traced half out t v m n s
     pub over-all : (r : ℕ) (vs : List ℕ) → Walk half n r vs → stateAt half r vs n ≡ s → Into half out t v m n s r vs
@@ -283,7 +283,7 @@ module _ (half : ℕ) (out : ℕ → ℕ → ℕ) (t : Tie) (v : ℕ → Z) (m :
     pub most : (r : ℕ) (vs : List ℕ) → Walk half n r vs → to (stateAt half r vs n) → Le (total half out v m r vs n) (total half out v m s us n)
     pub first : (r : ℕ) (vs : List ℕ) → Walk half n r vs → to (stateAt half r vs n) → Le (total half out v m s us n) (total half out v m r vs n) → First half t s us r vs n
 
-  -- THEOREM 1 once more, in this form: the traced path from s among the paths that end in s
+  -- the survivor of s, among the paths that end in s
   pub greatest-to : (n s : ℕ) → s < 2 * half → Greatest (λ z. z ≡ s) n (origin half out t v m n s) (inputs half out t v m n s)
   greatest-to n s l =
       let tr = traced half out t v m n s l in
@@ -297,7 +297,7 @@ module _ (half : ℕ) (out : ℕ → ℕ → ℕ) (t : Tie) (v : ℕ → Z) (m :
         first = λ r vs w e k. inr (tr .ends ∙ sym e, su .over-all r vs w e .first (omega arith));
       }
 
-  -- THEOREMS 2 and 3: the traced path from the end state, among all
+  -- the survivor of the best end state, among all paths
   pub end-under : (n : ℕ) → 0 < half → end n < 2 * half
   unfolding end
   end-under n h = omega (arith, best-under t (value half out t v m n) (2 * half - 1))

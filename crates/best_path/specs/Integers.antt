@@ -1,4 +1,4 @@
--- From pairs to integers, from floats to pairs, and the starts. Assumes nothing.
+-- Integers as pairs, and floats that are integers. Assumes nothing.
 use mathlib.Core.Path.{_≡_, refl, sym, ap, _∙_, subst}
 use mathlib.Core.Logic.{_⊎_, inl, inr, ⊎-elim}
 use mathlib.Core.Bool.{Bool, true, false, not, cond}
@@ -66,7 +66,7 @@ anti (negsuc a) (negsuc b) h k = let x = leb→le b a h in let y = leb→le a b 
 pub ≤ℤ-antisymm : {a b : ℤ} → a ≤ℤ b → b ≤ℤ a → a ≡ b
 ≤ℤ-antisymm {a} {b} h k = anti a b (h .le) (k .le)
 
--- equal integers, so neither parts-of is below the other
+-- equal integers, so neither pair is below the other
 pub same-val : (a b : ℤ) (p q : Z) → Val a p → Val b q → a ≡ b → Le q p
 same-val a b p q h k e =
     let x : hiZ a ≡ hiZ b = ap hiZ e in

@@ -177,7 +177,7 @@ module _ (half : ℕ) (out : ℕ → ℕ → ℕ) (labels : (u s : ℕ) → out 
         g .first r vs (p .walk) z (omega arith);
   }
 
--- ---- THE THEOREMS: what the decoder gave out are the inputs of the first path of greatest sum
+-- ---- what the decoder gave out are the inputs of the first path of greatest sum
 module _ (half : ℕ) (some : 0 < half) (out : ℕ → ℕ → ℕ) (labels : (u s : ℕ) → out u s < 4) (t : Tie) (steps : ℕ → Step) (m : ℕ → ℕ → ℤ) (n : ℕ) (few : n ≤ longest)
     (ads : (k : ℕ) → k < n → Adds (steps k) (λ c. parts-of (m k c))) (pms : ℕ → List Float)
     (ws : List ℕ) (e : ℕ) (us : List ℕ) (did : Did half out t steps n pms ws e us) where

@@ -193,9 +193,9 @@ module _ (half : ℕ) (pos : 0 < half) (out : ℕ → ℕ → ℕ) (labels : (u 
         let e : suc (2 * half - 1) ≡ 2 * half = omega arith in
         subst (λ (z : ℕ). Held (top pm z)) e (top-held (2 * half - 1) (omega arith))
 
-    pub lower-step : (o : Z) × Tracks half (renormalised half pm) val o k
+    pub renormalised-step : (o : Z) × Tracks half (renormalised half pm) val o k
     unfolding renormalised
-    lower-step =
+    renormalised-step =
         let r = top-all in
         let j = r .0 in
         let jh = tr .high j (r .1) in
@@ -223,7 +223,7 @@ module _ (half : ℕ) (pos : 0 < half) (out : ℕ → ℕ → ℕ) (labels : (u 
   times-step pm val k few zero r = r
   times-step pm val k few (suc j) r =
       let q = times-step pm val k few j r in
-      lower-step (times half j pm) val (q .0) k (q .1) few
+      renormalised-step (times half j pm) val (q .0) k (q .1) few
 
   -- ---- all steps
   module _ (v : ℕ → Z) (m : ℕ → ℕ → Z) (steps : ℕ → Step) (n : ℕ) (pms : ℕ → List Float) (fo : Follows half out t steps n pms) (few : n ≤ longest)
@@ -244,7 +244,7 @@ module _ (half : ℕ) (pos : 0 < half) (out : ℕ → ℕ → ℕ) (labels : (u 
         let r = tracks k (omega arith) in
         wins-same (pms k) (steps k) (value half out t v m k) (m k) (r .0) k (r .1) (ads k h) (omega arith) s
 
--- the best end state is the same, also after the values are lowered once more
+-- the best end state is the same, also after the maximum is subtracted once more
 pub best-same : (half : ℕ) (t : Tie) (pm : List Float) (val : ℕ → Z) (off : Z) (k : ℕ) → Tracks half pm val off k → (i : ℕ) → i < 2 * half → best t pm i ≡ bestZ t val i
 unfolding best bestZ
 best-same half t pm val off k tr zero h = refl

@@ -19,9 +19,6 @@ plus a b = (a .0 + b .0, a .1 + b .1)
 abbrev pub Le : Z → Z → Type 0
 Le a b = a .0 + b .1 ≤ b .0 + a .1
 
-abbrev pub Lt : Z → Z → Type 0
-Lt a b = a .0 + b .1 < b .0 + a .1
-
 -- whether the upper one, of value b, takes over from the lower one, of value a
 abbrev pub beats : Tie → Z → Z → Bool
 beats lower a b = ltb (a .0 + b .1) (b .0 + a .1)
