@@ -6,11 +6,12 @@ use Prim.Native.Nat.{ℕ, zero, suc, _+_, _-_, _*_, _/_, _%_, _^_, _≤_, _<_}
 use native.Mathlib.Nat.{mod-lt, le-of-eq}
 use native.Mathlib.Omega.{arith}
 use lib.IntN.{ℤ}
+use lib.Pow.{pow-pos}
 use lib.Dec.{T, eqb, leb, leb→le, lit≤}
 use lib.ListN.{getD, length, take, drop, length-append, length-map}
 use lib.Ieee.{Float, nan, binary32, sub, ofBits}
 use Rattle.trellis.specs.Lists.{bit, upto}
-use Rattle.trellis.specs.Code.{Code, isdb, stateAt, output, label}
+use Rattle.trellis.specs.Code.{Code, isdb, half, stateAt, output, label}
 use Rattle.trellis.specs.Step.{Step, pair, four, Tie, lower, nexts, next, word, top, best, renormalised, back, input, traced}
 use Rattle.trellis.specs.Run.{Decoder, startAt, startUnknown, block, settled, valuesAt, wordAt, decoded, released, stepped, after, closed, pushed, flushed}
 use Rattle.best_path.specs.Paths.{bound, longest, Path, Best, Reading, Any, This, Quadruples}
@@ -213,16 +214,23 @@ module _ (half : ℕ) (some : 0 < half) (out : ℕ → ℕ → ℕ) (labels : (u
     pub pairs-unknown : Reading half out t Any (signs x y) n (readBits half out t tb (λ k. pair (lx k) (ly k)) (startUnknown (2 * half)) n)
     pairs-unknown = steps-unknown (λ k. pair (lx k) (ly k)) (signs x y) n few (λ k h. plain-pair half out t (lx k) (ly k)) (pairs lx ly x y n two) tb some-tb
 
--- ---- the ISDB code
+-- ---- a code of any constraint length and generators, and the ISDB code
 pub label-under : (c : Code) (u s : ℕ) → label c u s < 4
 unfolding label output
 label-under c u s = omega arith
 
--- At most 4,096 quadruples of whole numbers within the bound, a fresh decoder of the ISDB code at the state s (mod 64): the bits of one call and a
--- flush are the inputs of the path of greatest sum from that state, the first of equals.
-pub isdb-given : (tb : ℕ) → 0 < tb → (ms : ℕ → List Float) (m : ℕ → ℕ → ℤ) (n : ℕ) → n ≤ longest → Quadruples ms m n → (s : ℕ) → Reading 32 (label isdb) lower (This (s % 64)) m n (readBits 32 (label isdb) lower tb (λ k. four (ms k)) (startAt 64 s) n)
-isdb-given tb h ms m n few quads = quadruples-given 32 (lit≤ tt) (label isdb) (label-under isdb) lower ms m n few quads tb h
+module _ (c : Code) (t : Tie) (tb : ℕ) (some-tb : 0 < tb) (ms : ℕ → List Float) (m : ℕ → ℕ → ℤ) (n : ℕ) (few : n ≤ longest) (quads : Quadruples ms m n) where
+  -- At most 4,096 quadruples of whole numbers within 16, a fresh decoder at the state s (mod the number of states): the bits of one call and a
+  -- flush are the inputs of the path of greatest sum from that state, the first of equals.
+  pub code-given : (s : ℕ) → Reading (half c) (label c) t (This (s % (2 * half c))) m n (readBits (half c) (label c) t tb (λ k. four (ms k)) (startAt (2 * half c) s) n)
+  code-given s = quadruples-given (half c) (pow-pos (c .constraint - 2)) (label c) (label-under c) t ms m n few quads tb some-tb s
 
--- The same of an unknown start: the path of greatest sum from any state.
+  -- The same of an unknown start: the path of greatest sum from any state.
+  pub code-unknown : Reading (half c) (label c) t Any m n (readBits (half c) (label c) t tb (λ k. four (ms k)) (startUnknown (2 * half c)) n)
+  code-unknown = quadruples-unknown (half c) (pow-pos (c .constraint - 2)) (label c) (label-under c) t ms m n few quads tb some-tb
+
+pub isdb-given : (tb : ℕ) → 0 < tb → (ms : ℕ → List Float) (m : ℕ → ℕ → ℤ) (n : ℕ) → n ≤ longest → Quadruples ms m n → (s : ℕ) → Reading 32 (label isdb) lower (This (s % 64)) m n (readBits 32 (label isdb) lower tb (λ k. four (ms k)) (startAt 64 s) n)
+isdb-given tb h ms m n few quads = code-given isdb lower tb h ms m n few quads
+
 pub isdb-unknown : (tb : ℕ) → 0 < tb → (ms : ℕ → List Float) (m : ℕ → ℕ → ℤ) (n : ℕ) → n ≤ longest → Quadruples ms m n → Reading 32 (label isdb) lower Any m n (readBits 32 (label isdb) lower tb (λ k. four (ms k)) (startUnknown 64) n)
-isdb-unknown tb h ms m n few quads = quadruples-unknown 32 (lit≤ tt) (label isdb) (label-under isdb) lower ms m n few quads tb h
+isdb-unknown tb h ms m n few quads = code-unknown isdb lower tb h ms m n few quads
