@@ -423,6 +423,14 @@ const SY: [[[f32; 32]; 2]; 2] = [
     ],
 ];
 
+// The number of states, which the type of the path values fixes.
+fn states(pm: &[f32; 64]) -> usize
+    ensures { λ r. ⌜ (r ≡ 64) × (length (now (pm .entry)) ≡ 64) ⌝ }
+{
+    let values: &[f32] = pm;
+    values.len()
+}
+
 // The term of a soft value x on a branch whose sign is s.
 fn term(s: f32, x: f32) -> f32
     ensures { λ r. ⌜ r ≡ cond (lt s (ofBits binary32 0)) (neg x) x ⌝ }
@@ -454,12 +462,13 @@ fn wide(x: u32) -> u64
 fn acs(pm: &mut [f32; 64], lx: f32, ly: f32) -> u64
     ensures { λ r. ⌜ (now (pm .exit) ≡ nexts (now (pm .entry)) (pair lx ly)) × (r ≡ word (now (pm .entry)) (pair lx ly)) ⌝ }
 {
+    let n = states(pm);
     let old = *pm;
     let sx = SX;
     let sy = SY;
     let mut low: u32 = 0;
     let mut high: u32 = 0;
-    for j in 0..HALF {
+    for j in 0..n / 2 {
         let even = old[2 * j];
         let odd = old[2 * j + 1];
         let m0 = even + term(sx[0][0][j], lx) + term(sy[0][0][j], ly);
@@ -489,12 +498,13 @@ fn metric(m: [f32; 4], x: f32, y: f32) -> f32
 fn acs4(pm: &mut [f32; 64], m: [f32; 4]) -> u64
     ensures { λ r. ⌜ (now (pm .exit) ≡ nexts (now (pm .entry)) (four m)) × (r ≡ word (now (pm .entry)) (four m)) ⌝ }
 {
+    let n = states(pm);
     let old = *pm;
     let sx = SX;
     let sy = SY;
     let mut low: u32 = 0;
     let mut high: u32 = 0;
-    for j in 0..HALF {
+    for j in 0..n / 2 {
         let even = old[2 * j];
         let odd = old[2 * j + 1];
         let m0 = even + metric(m, sx[0][0][j], sy[0][0][j]);
@@ -524,8 +534,9 @@ fn greatest(pm: &[f32; 64]) -> f32
 pub fn renormalise(pm: &mut [f32; 64])
     ensures { λ _. ⌜ now (pm .exit) ≡ renormalised 32 (now (pm .entry)) ⌝ }
 {
+    let n = states(pm);
     let t = greatest(pm);
-    for s in 0..STATES {
+    for s in 0..n {
         pm[s] = pm[s] - t;
     }
 }
@@ -535,7 +546,8 @@ fn rule_out(pm: &mut [f32; 64], b: u8)
     ensures { λ _. ⌜ now (pm .exit) ≡ ruled 32 b (now (pm .entry)) ⌝ }
 {
     let kept = (b % 2) as usize;
-    for s in 0..STATES {
+    let n = states(pm);
+    for s in 0..n {
         if s / HALF != kept {
             pm[s] = -1.0e9;
         }
