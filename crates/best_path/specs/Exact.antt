@@ -110,15 +110,15 @@ is-sub x y z off o h k w =
 abbrev pub least : Float
 least = ofBits binary32 0xff7f_ffff
 
-least-num : Num binary32 least
+pub least-num : Num binary32 least
 unfolding ofBits fits
 least-num = record { fin-x = tt; fits-x = tt }
 
-least-hi : hi binary32 least ≡ 0
+pub least-hi : hi binary32 least ≡ 0
 unfolding ofBits hi
 least-hi = refl
 
-least-lo : lo binary32 least ≡ 16777215 * pow2 253
+pub least-lo : lo binary32 least ≡ 16777215 * pow2 253
 unfolding ofBits lo pow2
 least-lo = refl
 

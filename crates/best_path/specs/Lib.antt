@@ -9,4 +9,5 @@ pub mod Integers
 pub mod Starts
 pub mod Calls
 pub mod Bounds
+pub mod Range
 pub mod Examples

@@ -25,7 +25,7 @@ use Rattle.best_path.specs.Decoded.{Started, Did, Ended, decoded, decode
 use Rattle.best_path.specs.Integers.{parts-of, sum-val, le-val, same-val, ≤ℤ-antisymm}
 
 -- ---- "0 at the given state .., -1,000,000 elsewhere": how far behind the other states start
-abbrev behind : ℕ
+abbrev pub behind : ℕ
 behind = 1000000
 
 abbrev pub behindF : Float
@@ -42,11 +42,11 @@ pub record Unknown (half : ℕ) (pm : List Float) : Type 0 where
   pub values : (k : ℕ) → k < 2 * half → getD pm k nan ≡ ofBits binary32 0
 
 -- ---- the two numbers as floats
-none : Whole (ofBits binary32 0) 0 0
+pub none : Whole (ofBits binary32 0) 0 0
 unfolding ofBits fits hi lo pow2
 none = record { num = record { fin-x = tt; fits-x = tt }; hi-is = refl; lo-is = refl }
 
-behind-is : Whole behindF 0 behind
+pub behind-is : Whole behindF 0 behind
 unfolding ofBits fits hi lo pow2
 behind-is = record { num = record { fin-x = tt; fits-x = tt }; hi-is = refl; lo-is = refl }
 

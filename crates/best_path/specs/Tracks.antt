@@ -32,12 +32,12 @@ getD-upto f d (suc n) i h =
     (getD-at (upto f n) (f n) [] d n (length-upto f n))
     i (omega arith)
 
-getD-map-in : {A : Type 0} (f : A → A) (d : A) (l : List A) (i : ℕ) → i < length l → getD (map f l) i d ≡ f (getD l i d)
+pub getD-map-in : {A : Type 0} (f : A → A) (d : A) (l : List A) (i : ℕ) → i < length l → getD (map f l) i d ≡ f (getD l i d)
 getD-map-in f d [] i h = absurd (not-suc-le-zero h)
 getD-map-in f d (x ∷ l) zero h = refl
 getD-map-in f d (x ∷ l) (suc i) h = getD-map-in f d l i (omega arith)
 
-first-of : {A : Type 0} (b : Bool) (x y : A) → T b → cond b x y ≡ x
+pub first-of : {A : Type 0} (b : Bool) (x y : A) → T b → cond b x y ≡ x
 first-of true x y h = refl
 first-of false x y h = absurd h
 
