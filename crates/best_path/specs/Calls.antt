@@ -46,6 +46,24 @@ module _ (half : ℕ) (out : ℕ → ℕ → ℕ) (t : Tie) where
 
 -- ---- the path values of a call
 module _ (half : ℕ) (out : ℕ → ℕ → ℕ) (t : Tie) where
+  released-values : (tb : ℕ) (d : Decoder) → released half out t tb d .values ≡ d .values
+  unfolding released
+  released-values tb d = go (leb (block + tb) (length (d .words)))
+    where
+      go : (w : Bool) → cond w (record { values = d .values; words = drop block (d .words); bits = d .bits ++ take block (decoded half out t d) }) d .values ≡ d .values
+      go true = refl
+      go false = refl
+
+  -- releases leave them as they are
+  pub after-values : (tb : ℕ) (steps : ℕ → Step) (d : Decoder) (n : ℕ) → after half out t tb steps d n .values ≡ valuesAt half out t steps (d .values) n
+  unfolding after valuesAt stepped
+  after-values tb steps d zero = refl
+  after-values tb steps d (suc n) =
+      let e = after half out t tb steps d n in
+      released-values tb (record { values = settled half out t n (steps n) (nexts half out t (e .values) (steps n)); words = e .words ++ (word half out t (e .values) (steps n) ∷ []); bits = e .bits })
+      ∙ ap (λ (pm : List Float). settled half out t n (steps n) (nexts half out t pm (steps n))) (after-values tb steps d n)
+
+module _ (half : ℕ) (out : ℕ → ℕ → ℕ) (t : Tie) where
   -- the step x is no known bit, so that the maximum is subtracted only after each 64th step
   abbrev pub Plain : Step → Type 0
   Plain x = (i : ℕ) (pm : List Float) → settled half out t i x pm ≡ times half (bit (eqb (i % 64) 63)) pm

@@ -460,6 +460,9 @@ within-inside limit x b w h v =
     let g = v .high in
     (value→le binary32 (neg limit) x (on-neg w .num) (v .num) (omega arith), value→le binary32 x limit (v .num) (w .num) (omega arith))
 
+pub start-inside : (limit : Float) (b : ℕ) → Whole limit b 0 → 16 * 16700000 ≤ b → (pm : List Float) → Stretch 0 pm → (s : ℕ) → s < 64 → Inside limit (getD pm s nan)
+start-inside limit b w h pm i s l = within-inside limit (getD pm s nan) b w h (wider (getD pm s nan) D 0 16700000 0 (i .all s l) (lit≤ tt) (lit≤ tt))
+
 -- ---- a call
 module _ (out : ℕ → ℕ → ℕ) (labels : (u s : ℕ) → out u s < 4) (t : Tie) (ms : ℕ → List Float) (n : ℕ) (small : (k l : ℕ) → k < n → l < 4 → Within (getD (ms k) l nan) 65536 65536) (pm : List Float) (start : Stretch 0 pm) where
   abbrev values : ℕ → List Float

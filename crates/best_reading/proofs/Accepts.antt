@@ -1,33 +1,36 @@
--- Whole quadruples and memory enough: no row of either call holds. Assumes nothing.
+-- Which rows hold, and what a reading of whole quadruples is. Assumes nothing.
 use mathlib.Core.Path.{_≡_, refl, sym, ap, _∙_, subst}
 use mathlib.Core.Bool.{Bool, true, false, not, cond, _&&_, _||_}
 use mathlib.Core.List.{List, [], _∷_, _++_}
 use Prim.Native.Nat.{ℕ, zero, suc, _+_, _-_, _*_, _/_, _%_, _≤_, _<_}
 use native.Mathlib.Omega.{arith}
 use lib.IntN.{ℤ}
-use lib.Dec.{T, eqb, leb, ltb, leb→le, ltb→lt, lt→ltb, lit≤, lit<}
+use lib.Dec.{T, eqb, leb, ltb, leb→le, ltb→lt, lt→ltb, nltb→le, lit≤, lit<}
 use lib.ListN.{length, getD}
 use lib.Ieee.{Float, nan, binary32, neg, le, ofBits, fits}
 use Rattle.ieee.specs.Value.{hi, lo}
 use Rattle.ieee.specs.Rounding.{pow2}
 use Rattle.refusal.specs.Rows.{firstRow}
+use Rattle.refusal.specs.declared.Answer.{Answer}
 use Rattle.refusal.specs.declared.Answer.the-variants.{Accepted, Traceback, State, Length, Sample, Space}
 use Rattle.trellis.specs.Lists.{upto}
 use Rattle.trellis.specs.Code.{isdb, label}
 use Rattle.trellis.specs.Step.{Step, four, lower, renormalised}
-use Rattle.trellis.specs.Run.{Decoder, block, startAt, startUnknown, valuesAt, wordAt, closed}
+use Rattle.trellis.specs.Run.{Decoder, block, startAt, startUnknown, valuesAt}
 use Rattle.best_path.specs.Paths.{longest, bound, Integer, Quadruples, Reading}
 use Rattle.best_path.specs.Exact.{Whole}
 use Rattle.best_path.specs.Tracks.{length-upto}
-use Rattle.best_path.specs.Integers.{quadruples, parts-of}
-use Rattle.best_path.specs.Calls.{after-held, Plain, plain-four, renormalised-length, values-count, label-under, readBits, isdb-given, isdb-unknown}
-use Rattle.best_path.specs.Bounds.{Inside, integer-inside, Whole-start, given-whole, unknown-whole, start-inside, call-inside}
+use Rattle.best_path.specs.Calls.{after-values, plain-four, Plain, renormalised-length, values-count, label-under, readBits, isdb-given, isdb-unknown}
+use Rattle.best_path.specs.Bounds.{Inside, integer-inside}
+use Rattle.best_path.specs.Range.{Within, Stretch, given-stretch, unknown-stretch, start-inside, inside-within, within-inside, call-range}
+use Rattle.isdb_fec.specs.Answers.{numbered}
 use Rattle.isdb_fec.specs.Values.{within, someBeyond, pathLimit, streamLimit}
-use Rattle.isdb_fec.specs.Rows.{stepsShort, shortOf, releases}
+use Rattle.isdb_fec.specs.Rows.{pushMetricsRows, flushRows, stepsShort, shortOf, releases}
 use Rattle.isdb_fec.specs.Calls.{fourSteps, flush}
+use Rattle.isdb_fec.specs.Count.{counted, releases-le}
 use Rattle.best_reading.specs.declared.Start.{Start}
 use Rattle.best_reading.specs.declared.Start.the-variants.{Given, Unknown}
-use Rattle.best_reading.specs.Calls.{startValues, StartsIn, fresh, read, pushRows, flushRowsOf, quadruple}
+use Rattle.best_reading.specs.Calls.{startValues, StartsIn, fresh, read, stateOf, readingRows, quadruple}
 
 -- ---- tests that fail
 is-false : (b : Bool) → (T b → ⊥) → b ≡ false
@@ -63,21 +66,126 @@ stream-limit : Whole streamLimit 1048576 0
 unfolding ofBits fits hi lo pow2
 stream-limit = record { num = record { fin-x = tt; fits-x = tt }; hi-is = refl; lo-is = refl }
 
--- ---- the start
-start-whole : (start : Start) → Whole-start 32 (startValues start)
-start-whole (Given s) = given-whole 32 (lit< tt) s
-start-whole Unknown = unknown-whole 32
+-- and a test that failed, of each value
+all-inside : (limit : Float) (xs : List Float) → someBeyond limit xs ≡ false → (i : ℕ) → i < length xs → Inside limit (getD xs i nan)
+unfolding someBeyond
+all-inside limit [] e i h = absurd (omega arith)
+all-inside limit (x ∷ xs) e i h = go (le (neg limit) x) (le x limit) refl refl (all-inside limit xs) e i h
+  where
+    go : (a b : Bool) → le (neg limit) x ≡ a → le x limit ≡ b → (someBeyond limit xs ≡ false → (j : ℕ) → j < length xs → Inside limit (getD xs j nan)) → (not (a && b) || someBeyond limit xs) ≡ false → (i : ℕ) → i < length (x ∷ xs) → Inside limit (getD (x ∷ xs) i nan)
+    go true true ea eb ih e zero h = (subst T (sym ea) tt, subst T (sym eb) tt)
+    go true true ea eb ih e (suc i) h = ih e i (omega arith)
+    go true false ea eb ih e i h = absurd (subst T e tt)
+    go false b ea eb ih e i h = absurd (subst T e tt)
 
-start-count : (start : Start) → length (startValues start) ≡ 64
-unfolding startAt startUnknown
-start-count (Given s) = length-upto (λ k. cond (eqb k (s % 64)) (ofBits binary32 0) (ofBits binary32 0xc974_2400)) 64
-start-count Unknown = length-upto (λ k. ofBits binary32 0) 64
+-- ---- the start
+start-stretch : (start : Start) → Stretch 0 (startValues start)
+start-stretch (Given s) = given-stretch s
+start-stretch Unknown = unknown-stretch
 
 start-fine : (start : Start) → someBeyond pathLimit (startValues start) ≡ false
-start-fine start = none-beyond pathLimit (startValues start) (λ i h. let c = start-count start in start-inside 32 (lit< tt) pathLimit 4294967296 path-limit (lit≤ tt) (startValues start) (start-whole start) i (omega arith))
+start-fine start =
+    let i = start-stretch start in
+    let c = i .count in
+    none-beyond pathLimit (startValues start) (λ k h. start-inside pathLimit 4294967296 path-limit (lit≤ tt) (startValues start) i k (omega arith))
 
+-- ---- the rows of `push_metrics`
+module _ (start : Start) (xs : List Float) where
+  push-rows : (D O : ℕ) → firstRow (pushMetricsRows (fresh start) xs D O) ≡ cond (not (eqb (length xs % 4) 0)) Length (cond (someBeyond streamLimit xs) Sample (cond (stepsShort (length xs / 4) (fresh start) D O) Space Accepted))
+  push-rows D O = ap (λ (w : Bool). cond w State (cond (not (eqb (length xs % 4) 0)) Length (cond (someBeyond streamLimit xs) Sample (cond (stepsShort (length xs / 4) (fresh start) D O) Space Accepted)))) (start-fine start)
+
+  -- with a place for each bit they are those of the reading
+  pub same-rows : (D O : ℕ) → length xs / 4 ≤ O → firstRow (pushMetricsRows (fresh start) xs D O) ≡ firstRow (readingRows xs D O)
+  same-rows D O h =
+      let r = releases-le 128 0 (length xs / 4) (lit≤ tt) in
+      push-rows D O
+      ∙ ap (λ (w : Bool). cond (not (eqb (length xs % 4) 0)) Length (cond (someBeyond streamLimit xs) Sample (cond (w || ltb D (block + 128)) Space Accepted))) (not-less O (block * releases 128 0 (length xs / 4)) (omega arith) ∙ sym (not-less O (length xs / 4) h))
+
+  -- with too few they are those of `push_metrics` that is lent no decisions
+  pub short-rows : (D O : ℕ) → O < length xs / 4 → firstRow (pushMetricsRows (fresh start) xs 0 O) ≡ firstRow (readingRows xs D O)
+  short-rows D O h =
+      push-rows 0 O
+      ∙ go (not (eqb (length xs % 4) 0)) (someBeyond streamLimit xs) (ltb O (block * releases 128 0 (length xs / 4))) (ltb O (length xs / 4)) (lt→ltb O (length xs / 4) h)
+    where
+      go : (l m a b : Bool) → T b → cond l Length (cond m Sample (cond (a || true) Space Accepted)) ≡ cond l Length (cond m Sample (cond (b || ltb D (block + 128)) Space Accepted))
+      go l m true true h = refl
+      go l m false true h = refl
+      go l m a false h = absurd h
+
+  pub short-refused : (D O : ℕ) → O < length xs / 4 → firstRow (readingRows xs D O) ≡ Accepted → ⊥
+  short-refused D O h = go (not (eqb (length xs % 4) 0)) (someBeyond streamLimit xs) (ltb O (length xs / 4)) (lt→ltb O (length xs / 4) h)
+    where
+      go : (l m b : Bool) → T b → cond l Length (cond m Sample (cond (b || ltb D (block + 128)) Space Accepted)) ≡ Accepted → ⊥
+      go true m b h e = numbered Length (omega arith) e
+      go false true b h e = numbered Sample (omega arith) e
+      go false false true h e = numbered Space (omega arith) e
+      go false false false h e = absurd h
+
+  -- what an accepted reading tells
+  record Passed (D O : ℕ) : Type 0 where
+    sample : someBeyond streamLimit xs ≡ false
+    places : length xs / 4 ≤ O
+    words : block + 128 ≤ D
+
+  passed : (D O : ℕ) → firstRow (readingRows xs D O) ≡ Accepted → Passed D O
+  passed D O = go (not (eqb (length xs % 4) 0)) (someBeyond streamLimit xs) refl (ltb O (length xs / 4)) (ltb D (block + 128)) (nltb→le O (length xs / 4)) (nltb→le D (block + 128))
+    where
+      go : (l m : Bool) → someBeyond streamLimit xs ≡ m → (a b : Bool) → (T (not a) → length xs / 4 ≤ O) → (T (not b) → block + 128 ≤ D) → cond l Length (cond m Sample (cond (a || b) Space Accepted)) ≡ Accepted → Passed D O
+      go true m em a b f g e = absurd (numbered Length (omega arith) e)
+      go false true em a b f g e = absurd (numbered Sample (omega arith) e)
+      go false false em true b f g e = absurd (numbered Space (omega arith) e)
+      go false false em false true f g e = absurd (numbered Space (omega arith) e)
+      go false false em false false f g e = record { sample = em; places = f tt; words = g tt }
+
+  -- ---- the rows of `flush`: none holds
+  module _ (fit : (i : ℕ) → T (fits binary32 (getD xs i nan))) where
+    abbrev n : ℕ
+    n = length xs / 4
+
+    small : someBeyond streamLimit xs ≡ false → (k l : ℕ) → k < n → l < 4 → Within (getD (quadruple xs k) l nan) 65536 65536
+    small e k l h g = go l g
+      where
+        each : (i : ℕ) → i < length xs → Within (getD xs i nan) 65536 65536
+        each i h = inside-within streamLimit (getD xs i nan) stream-limit (fit i) (all-inside streamLimit xs e i h)
+
+        go : (l : ℕ) → l < 4 → Within (getD (quadruple xs k) l nan) 65536 65536
+        go zero g = each (4 * k) (omega arith)
+        go (suc zero) g = each (4 * k + 1) (omega arith)
+        go (suc (suc zero)) g = each (4 * k + 2) (omega arith)
+        go (suc (suc (suc zero))) g = each (4 * k + 3) (omega arith)
+        go (suc (suc (suc (suc l)))) g = absurd (omega arith)
+
+    abbrev begun : Decoder
+    begun = record { values = startValues start; words = []; bits = [] }
+
+    values-fine : someBeyond streamLimit xs ≡ false → someBeyond pathLimit (read start xs .values) ≡ false
+    values-fine e =
+        let pm = startValues start in
+        let i = start-stretch start in
+        let c = i .count in
+        let v = valuesAt 32 (label isdb) lower (fourSteps xs) pm n in
+        let plain : (k : ℕ) → k < n → Plain 32 (label isdb) lower (fourSteps xs k) = λ k h. plain-four 32 (label isdb) lower (quadruple xs k) in
+        let w : length (renormalised 32 v) ≡ 64 = renormalised-length 32 (label isdb) lower v ∙ values-count 32 (label isdb) lower (fourSteps xs) n plain pm (omega arith) c n (omega arith) in
+        ap (λ (l : List Float). someBeyond pathLimit (renormalised 32 l)) (after-values 32 (label isdb) lower 128 (fourSteps xs) begun n)
+        ∙ none-beyond pathLimit (renormalised 32 v) (λ s h. within-inside pathLimit (getD (renormalised 32 v) s nan) 4294967296 path-limit (lit≤ tt) (call-range (label isdb) (label-under isdb) lower (quadruple xs) n (small e) pm i s (omega arith)))
+
+    pub flush-accepts : (D O : ℕ) → firstRow (readingRows xs D O) ≡ Accepted → firstRow (flushRows (stateOf (read start xs)) D (O - length (read start xs .bits))) ≡ Accepted
+    flush-accepts D O a =
+        let p = passed D O a in
+        let pl = p .places in
+        let c = counted 128 (fourSteps xs) begun (lit≤ tt) (lit≤ tt) (lit< tt) n in
+        let f = c .few in
+        let wl = c .words-left in
+        let bo = c .bits-out in
+        let d = read start xs in
+        go (leb (block + 128) (length (d .words))) (someBeyond pathLimit (d .values)) (ltb (O - length (d .bits)) (length (d .words))) (ltb D (block + 128))
+        (not-most (block + 128) (length (d .words)) f) (values-fine (p .sample)) (not-less (O - length (d .bits)) (length (d .words)) (omega arith)) (not-less D (block + 128) (p .words))
+      where
+        go : (a b c d : Bool) → a ≡ false → b ≡ false → c ≡ false → d ≡ false → cond (a || b) State (cond (c || d) Space Accepted) ≡ Accepted
+        go a b c d ea eb ec ed = rw (ea, eb, ec, ed) refl
+
+-- ---- whole quadruples
 module _ (start : Start) (xs : List Float) (n : ℕ) (m : ℕ → ℕ → ℤ) (count : length xs ≡ 4 * n) (few : n ≤ longest) (quads : Quadruples (quadruple xs) m n) where
-  -- ---- the metrics
   metric-inside : (i : ℕ) → i < length xs → Inside streamLimit (getD xs i nan)
   metric-inside i h =
       let k = i / 4 in
@@ -90,60 +198,16 @@ module _ (start : Start) (xs : List Float) (n : ℕ) (m : ℕ → ℕ → ℤ) (
       go (suc (suc (suc zero))) l e = ap (λ (j : ℕ). getD xs j nan) (sym e)
       go (suc (suc (suc (suc c)))) l e = absurd (omega arith)
 
-  metrics-fine : someBeyond streamLimit xs ≡ false
-  metrics-fine = none-beyond streamLimit xs metric-inside
-
   in-fours : not (eqb (length xs % 4) 0) ≡ false
   in-fours = let e : length xs % 4 ≡ 0 = omega arith in rw e refl
 
-  enough : (D O : ℕ) → block + 128 ≤ D → stepsShort (length xs / 4) (fresh start) D O ≡ false
-  enough D O h = go (ltb (0 + length xs / 4) (block + 128)) (ltb D (block + 128)) (lt→ltb (0 + length xs / 4) (block + 128) (omega arith)) (not-less D (block + 128) h)
+  pub whole-accepts : (D O : ℕ) → block + 128 ≤ D → n ≤ O → firstRow (readingRows xs D O) ≡ Accepted
+  whole-accepts D O h k = go (not (eqb (length xs % 4) 0)) (someBeyond streamLimit xs) (ltb O (length xs / 4)) (ltb D (block + 128)) in-fours (none-beyond streamLimit xs metric-inside) (not-less O (length xs / 4) (omega arith)) (not-less D (block + 128) h)
     where
-      go : (a b : Bool) → T a → b ≡ false → (ltb O (block * cond a 0 ((0 + length xs / 4 - 128) / block)) || b) ≡ false
-      go true b h e = rw (not-less O 0 (omega arith)) e
-      go false b h e = absurd h
-
-  pub push-accepts : (D O : ℕ) → block + 128 ≤ D → firstRow (pushRows start xs D O) ≡ Accepted
-  push-accepts D O h = go (someBeyond pathLimit (startValues start)) (not (eqb (length xs % 4) 0)) (someBeyond streamLimit xs) (stepsShort (length xs / 4) (fresh start) D O) (start-fine start) in-fours metrics-fine (enough D O h)
-    where
-      go : (a b c d : Bool) → a ≡ false → b ≡ false → c ≡ false → d ≡ false → cond a State (cond b Length (cond c Sample (cond d Space Accepted))) ≡ Accepted
+      go : (a b c d : Bool) → a ≡ false → b ≡ false → c ≡ false → d ≡ false → cond a Length (cond b Sample (cond (c || d) Space Accepted)) ≡ Accepted
       go a b c d ea eb ec ed = rw (ea, eb, ec, ed) refl
 
-  -- ---- what the metrics leave
-  abbrev steps : ℕ → Step
-  steps k = four (quadruple xs k)
-
-  abbrev held : Decoder
-  held = record {
-    values = renormalised 32 (valuesAt 32 (label isdb) lower steps (startValues start) n);
-    words = upto (wordAt 32 (label isdb) lower steps (startValues start)) n;
-    bits = [];
-  }
-
-  pub read-is : read start xs ≡ held
-  read-is =
-      let e : length xs / 4 ≡ n = omega arith in
-      rw e (ap (λ (d : Decoder). closed 32 (label isdb) lower d) (after-held 32 (label isdb) lower 128 steps (record { values = startValues start; words = []; bits = [] }) n (omega arith)))
-
-  values-fine : someBeyond pathLimit (held .values) ≡ false
-  values-fine =
-      let plain : (k : ℕ) → k < n → Plain 32 (label isdb) lower (steps k) = λ k h. plain-four 32 (label isdb) lower (quadruple xs k) in
-      let c = start-whole start .started .count in
-      let count64 : length (held .values) ≡ 64 = renormalised-length 32 (label isdb) lower (valuesAt 32 (label isdb) lower steps (startValues start) n) ∙ values-count 32 (label isdb) lower steps n plain (startValues start) c (start-count start) n (omega arith) in
-      none-beyond pathLimit (held .values) (λ i h. call-inside 32 (lit< tt) pathLimit 4294967296 path-limit (lit≤ tt) (label isdb) (label-under isdb) lower steps (λ k c. parts-of (m k c)) n few plain (quadruples (quadruple xs) m n quads) (startValues start) (start-whole start) i (omega arith))
-
-  pub flush-accepts : (D O : ℕ) → block + 128 ≤ D → n ≤ O → firstRow (flushRowsOf (read start xs) D O) ≡ Accepted
-  flush-accepts D O h k = ap (λ (d : Decoder). firstRow (flushRowsOf d D O)) read-is ∙ go (leb (block + 128) (length (held .words))) (someBeyond pathLimit (held .values)) (ltb (O - 0) (length (held .words))) (ltb D (block + 128))
-      (rw w (not-most (block + 128) n (omega arith))) values-fine (rw w (not-less (O - 0) n (omega arith))) (not-less D (block + 128) h)
-    where
-      w : length (held .words) ≡ n
-      w = length-upto (wordAt 32 (label isdb) lower steps (startValues start)) n
-
-      go : (a b c d : Bool) → a ≡ false → b ≡ false → c ≡ false → d ≡ false → cond (a || b) State (cond (c || d) Space Accepted) ≡ Accepted
-      go a b c d ea eb ec ed = rw (ea, eb, ec, ed) refl
-
-  -- ---- the bits
-  bits-are : (start : Start) → Reading 32 (label isdb) lower (StartsIn start) m n (readBits 32 (label isdb) lower 128 steps (startValues start) n)
+  bits-are : (start : Start) → Reading 32 (label isdb) lower (StartsIn start) m n (readBits 32 (label isdb) lower 128 (λ k. four (quadruple xs k)) (startValues start) n)
   bits-are (Given s) = isdb-given 128 (lit< tt) (quadruple xs) m n few quads s
   bits-are Unknown = isdb-unknown 128 (lit< tt) (quadruple xs) m n few quads
 

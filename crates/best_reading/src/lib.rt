@@ -49,18 +49,22 @@ fn finished(pushed: Released, decisions: &mut [u64], out: &mut [u8]) -> Released
     }
 }
 
-// The reading of the metrics, four for each step: a fresh decoder of traceback 128, `push_metrics`, `flush`.
+// The reading of the metrics, four for each step: a fresh decoder of traceback 128, `push_metrics`, `flush`. Where the output has too few
+// places for the bits, no decisions are lent to `push_metrics`: it refuses by the first of its rows, and nothing is written.
 pub fn greatest_sum_reading(
     metrics: &[f32],
     start: Start,
     decisions: &mut [u64],
     out: &mut [u8],
 ) -> Released
-    ensures answers { λ r. ⌜ r .answer ≡ firstRow (readingRows start (now (metrics .entry)) (length (now (decisions .entry))) (length (now (out .entry)))) ⌝ }
+    ensures answers { λ r. ⌜ r .answer ≡ firstRow (readingRows (now (metrics .entry)) (length (now (decisions .entry))) (length (now (out .entry)))) ⌝ }
     ensures leaves { λ r. ⌜ Left start (now (metrics .entry)) r (now (decisions .entry)) (now (decisions .exit)) (now (out .entry)) (now (out .exit)) ⌝ }
     ensures greatest { λ r. ⌜ GreatestSum start (now (metrics .entry)) r (length (now (decisions .entry))) (length (now (out .entry))) (now (out .exit)) ⌝ }
 {
     let dec = started(start);
+    if out.len() < metrics.len() / 4 {
+        return dec.push_metrics(metrics, &mut decisions[0..0], out);
+    }
     let pushed = dec.push_metrics(metrics, decisions, out);
     let answer = pushed.answer;
     let Answer::Accepted = answer else {
