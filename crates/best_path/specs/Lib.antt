@@ -8,6 +8,5 @@ pub mod Decoded
 pub mod Integers
 pub mod Starts
 pub mod Calls
-pub mod Bounds
 pub mod Range
 pub mod Examples

@@ -9,20 +9,22 @@ use native.Mathlib.Omega.{arith}
 use lib.Dec.{T, T-not, eqb, eqb→eq, eqb-refl, lit<, lit≤}
 use lib.Pow.{pow-mono}
 use borrow.Author.Count.{below-more}
+use lib.IntN.{ℤ}
 use lib.ListN.{getD, length, length-map}
 use lib.Ieee.{Float, nan, binary32, neg, add, sub, lt, le, ofBits, fits}
 use Rattle.ieee.specs.Value.{hi, lo, Num}
 use Rattle.ieee.specs.Order.{Le, lt→value, not-lt→value, le→value, not-le→value, value→lt, value→le, num-between}
 use Rattle.ieee.specs.Rounding.{pow2, pow2-add, pow2-pos, rounds-le, rounds-ge}
 use Rattle.ieee.specs.Sums.{add-near, sub-near}
-use Rattle.ieee.specs.Whole.{On, on-neg}
+use Rattle.ieee.specs.Whole.{On, on-neg, hiZ, loZ}
 use Rattle.trellis.specs.Lists.{upto}
 use Rattle.trellis.specs.Step.{Step, four, Tie, lower, upper, takes, branch, cand, wins, next, nexts, top, renormalised}
 use Rattle.trellis.specs.Run.{startAt, startUnknown, settled, valuesAt}
-use Rattle.best_path.specs.Exact.{Whole, least, least-num, least-hi, least-lo}
+use Rattle.best_path.specs.Paths.{bound, Integer}
+use Rattle.best_path.specs.Integers.{integer-whole, hi-most, lo-most}
+use Rattle.best_path.specs.Exact.{Whole, le-from, least, least-num, least-hi, least-lo}
 use Rattle.best_path.specs.Starts.{Given, Unknown, behind, behindF, none, behind-is}
 use Rattle.best_path.specs.Calls.{start-given, start-unknown}
-use Rattle.best_path.specs.Bounds.{Inside}
 use Rattle.best_path.specs.Tracks.{length-upto, getD-upto, getD-map-in, first-of}
 
 -- 16, in units of 2 ^ -149
@@ -433,6 +435,18 @@ unknown-stretch = record {
   where
     g : Unknown 32 (startUnknown 64)
     g = start-unknown 32
+
+-- from -limit to limit
+abbrev pub Inside : Float → Float → Type 0
+Inside limit x = T (le (neg limit) x) × T (le x limit)
+
+-- a whole number within the bound
+pub integer-inside : (limit x : Float) (b : ℕ) (z : ℤ) → Whole limit b 0 → bound ≤ b → Integer bound x z → Inside limit x
+integer-inside limit x b z l h i =
+    let p = hi-most bound z (i .within) in
+    let n = lo-most bound z (i .within) in
+    let w = integer-whole bound x z (omega arith) i in
+    (le-from (neg limit) x 0 b (hiZ z) (loZ z) (on-neg l) w (omega arith), le-from x limit (hiZ z) (loZ z) b 0 w l (omega arith))
 
 -- a number within 1,048,576 = 16 * 65536
 pub inside-within : (limit x : Float) → Whole limit 1048576 0 → T (fits binary32 x) → Inside limit x → Within x 65536 65536

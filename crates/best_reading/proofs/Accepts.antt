@@ -21,8 +21,7 @@ use Rattle.best_path.specs.Paths.{longest, bound, Integer, Quadruples, Reading}
 use Rattle.best_path.specs.Exact.{Whole}
 use Rattle.best_path.specs.Tracks.{length-upto}
 use Rattle.best_path.specs.Calls.{after-values, plain-four, Plain, renormalised-length, values-count, label-under, readBits, isdb-given, isdb-unknown}
-use Rattle.best_path.specs.Bounds.{Inside, integer-inside}
-use Rattle.best_path.specs.Range.{Within, Stretch, given-stretch, unknown-stretch, start-inside, inside-within, within-inside, call-range}
+use Rattle.best_path.specs.Range.{Inside, integer-inside, Within, Stretch, given-stretch, unknown-stretch, start-inside, inside-within, within-inside, call-range}
 use Rattle.isdb_fec.specs.Answers.{numbered}
 use Rattle.isdb_fec.specs.Values.{within, someBeyond, pathLimit, streamLimit}
 use Rattle.isdb_fec.specs.Rows.{pushMetricsRows, flushRows, stepsShort, shortOf, releases}
