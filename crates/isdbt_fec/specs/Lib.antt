@@ -1,0 +1,10 @@
+pub mod Table
+pub mod Puncture
+pub mod Rows
+pub mod Calls
+pub mod Each
+pub mod Upto
+pub mod Compiled
+pub mod Sizes
+pub mod Kept
+pub mod Encode
