@@ -6,5 +6,8 @@ pub mod Each
 pub mod Upto
 pub mod Compiled
 pub mod Sizes
+pub mod Numbers
 pub mod Kept
 pub mod Encode
+pub mod Spread
+pub mod Decode

@@ -4,12 +4,14 @@ use mathlib.Core.Bool.{Bool, true, false, cond}
 use mathlib.Core.List.{List, [], _∷_}
 use Prim.Native.Nat.{ℕ, zero, suc, _+_, _-_, _*_, _/_, _%_, _<_, _≤_}
 use native.Mathlib.Omega.{arith}
+use lib.Dec.{T, ltb, ltb→lt}
 use lib.ListN.{length, getD, take}
 use lib.Seq.{getD-take}
 use Rattle.isdbt_fec.specs.declared.conv.CodeRate.{CodeRate}
 use Rattle.isdbt_fec.specs.declared.conv.CodeRate.the-variants.{R1_2, R2_3, R3_4, R5_6, R7_8}
 use Rattle.isdbt_fec.specs.Table.{period, sent, order, compiled}
 use Rattle.isdbt_fec.specs.Puncture.{place}
+use Rattle.isdbt_fec.specs.Each.{all, each}
 
 -- a period has 1 to 7 inputs, and more bits are sent for them than they are, at most two for each
 pub record Sizes (p n : ℕ) : Type 0 where
@@ -37,6 +39,18 @@ in-order R7_8 = refl
 pub order-at : (rate : CodeRate) (j : ℕ) → j < sent rate → getD (compiled rate .order) j 0 ≡ getD (order rate) j 0
 order-at rate j h =
     sym (getD-take (sent rate) (compiled rate .order) j 0 h) ∙ ap (λ (l : List ℕ). getD l j 0) (in-order rate)
+
+-- a sent bit is one of the period's mother bits
+all-below : (rate : CodeRate) → T (all (sent rate) (λ j. ltb (getD (order rate) j 0) (2 * period rate)))
+all-below R1_2 = tt
+all-below R2_3 = tt
+all-below R3_4 = tt
+all-below R5_6 = tt
+all-below R7_8 = tt
+
+pub order-below : (rate : CodeRate) (j : ℕ) → j < sent rate → getD (order rate) j 0 < 2 * period rate
+order-below rate j h =
+    ltb→lt (getD (order rate) j 0) (2 * period rate) (each (sent rate) (λ j. ltb (getD (order rate) j 0) (2 * period rate)) (all-below rate) j h)
 
 -- the sent bit j of the period b
 pub place-in : (rate : CodeRate) (b j : ℕ) → j < sent rate → place rate (b * sent rate + j) ≡ 2 * (b * period rate) + getD (order rate) j 0

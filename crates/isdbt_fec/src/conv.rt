@@ -3,7 +3,7 @@
 ghost use mathlib.Core.Path.{_≡_};
 ghost use mathlib.Core.Bool.{cond};
 ghost use Prim.Native.Nat.{ℕ, _+_, _-_, _*_, _<_, _≤_, _/_, _%_};
-ghost use lib.ListN.{length, getD, take};
+ghost use lib.ListN.{length, getD, take, replicate};
 ghost use lib.Dec.{ltb};
 ghost use Rattle.refusal.specs.Rows.{firstRow};
 ghost use Rattle.trellis.specs.Lists.{upto, laid};
@@ -11,11 +11,19 @@ ghost use Rattle.trellis.specs.Code.{stateAt};
 ghost use Rattle.isdb_fec.specs.Calls.{Either};
 ghost use Rattle.isdbt_fec.specs.Table.{period, sent, rowOf, specOf, compiled};
 ghost use Rattle.isdbt_fec.specs.Puncture.{inputs, mother, punctured, spread, depunctured};
-ghost use Rattle.isdbt_fec.specs.Rows.{encodeRows, depunctureRows};
-ghost use Rattle.isdbt_fec.specs.Calls.{Encodes, Unencoded, Depunctures, Untouched};
+ghost use Rattle.isdbt_fec.specs.Rows.{depth, encodeRows, depunctureRows, decodeRows};
+ghost use Rattle.isdbt_fec.specs.Calls.{Encodes, Unencoded, Depunctures, Untouched, decodedBits, Decodes, Undecoded};
 use refusal::Answer;
+use isdb_fec::conv::At;
 use isdb_fec::conv::ConvEncoder;
+use isdb_fec::conv::Step;
+use isdb_fec::conv::advance;
+use isdb_fec::conv::clear;
 use isdb_fec::conv::encode_bit;
+use isdb_fec::conv::finish;
+use isdb_fec::conv::renormalise;
+use isdb_fec::conv::some_beyond;
+use isdb_fec::conv::start_at;
 
 pub enum CodeRate {
     R1_2,
@@ -278,7 +286,7 @@ pub fn encode_punctured(enc: ConvEncoder, rate: CodeRate, bits: &[u8], out: &mut
 
 // The value for the mother bit `place` of the period whose sent values begin at `base`; 0 where it is not sent.
 fn value_at(order: &[usize; 8], n: usize, llrs: &[f32], base: usize, place: usize) -> f32
-    requires { ⌜ (n ≤ 8) × (base + n ≤ length (now llrs)) ⌝ }
+    requires { ⌜ (n ≤ 8) × (n ≤ length (now order)) × (base + n ≤ length (now llrs)) ⌝ }
     ensures { λ r. ⌜ r ≡ spread (take n (now (order .entry))) (now (llrs .entry)) base place ⌝ }
 {
     for i in 0..n {
@@ -291,7 +299,7 @@ fn value_at(order: &[usize; 8], n: usize, llrs: &[f32], base: usize, place: usiz
 
 // The soft value of the mother bit k of a call, where each period has n sent values and 2 * period mother bits.
 fn soft_at(order: &[usize; 8], n: usize, period: usize, llrs: &[f32], k: usize) -> f32
-    requires { ⌜ (n ≤ 8) × (1 ≤ period) × (period ≤ 7) × (n * (k / (2 * period)) + n ≤ length (now llrs)) ⌝ }
+    requires { ⌜ (n ≤ 8) × (n ≤ length (now order)) × (1 ≤ period) × (period ≤ 7) × (n * (k / (2 * period)) + n ≤ length (now llrs)) ⌝ }
     ensures { λ r. ⌜ r ≡ spread (take n (now (order .entry))) (now (llrs .entry)) (n * (k / (2 * period))) (k % (2 * period)) ⌝ }
 {
     let width = 2 * period;
@@ -342,6 +350,79 @@ pub fn depuncture(rate: CodeRate, llrs: &[f32], out: &mut [f32]) -> Done
         return Done { answer, count: 0 };
     };
     let count = depuncture_periods(rate, llrs, out);
+    Done {
+        answer: Answer::Accepted,
+        count,
+    }
+}
+
+// A traceback of 0 acts as 1.
+fn depth_of(traceback: usize) -> usize
+    ensures { λ r. ⌜ r ≡ depth traceback ⌝ }
+{
+    if traceback == 0 { 1 } else { traceback }
+}
+
+// The answer to a decoding with `decisions` words into `space` places.
+fn answer_decode(rate: CodeRate, llrs: &[f32], traceback: usize, decisions: usize, space: usize) -> Answer
+    ensures { λ r. ⌜ r ≡ firstRow (decodeRows rate (now (llrs .entry)) traceback decisions space) ⌝ }
+{
+    let p = Puncturing::new(rate);
+    if traceback > 1024 {
+        return Answer::Traceback;
+    }
+    if llrs.len() % p.n != 0 {
+        return Answer::Length;
+    }
+    if some_beyond(llrs, 1048576.0) {
+        return Answer::Sample;
+    }
+    if few(space, p.period, llrs.len() / p.n) {
+        return Answer::Space;
+    }
+    if decisions < 4096 + depth_of(traceback) {
+        return Answer::Space;
+    }
+    Answer::Accepted
+}
+
+// Decodes whole periods from state 0: a push of all pairs, and a flush. How many bits that is.
+fn decode_periods(rate: CodeRate, llrs: &[f32], traceback: usize, decisions: &mut [u64], out: &mut [u8]) -> usize
+    requires { ⌜ (1 ≤ traceback) × (traceback ≤ 1024) × (4096 + traceback ≤ length (now decisions)) × (length (now llrs) / sent rate * period rate ≤ length (now out)) ⌝ }
+    ensures { λ r. ⌜ (r ≡ length (now (llrs .entry)) / sent rate * period rate)
+        × (now (decisions .exit) ≡ laid (replicate (4096 + traceback) 0) (now (decisions .entry)))
+        × (now (out .exit) ≡ laid (decodedBits rate (now (llrs .entry)) traceback) (now (out .entry))) ⌝ }
+{
+    let p = Puncturing::new(rate);
+    let period = p.period;
+    let n = p.n;
+    let order = p.order;
+    let mut pm = start_at(0);
+    let mut at = At { held: 0, count: 0 };
+    let count = llrs.len() / n * period;
+    for i in 0..count {
+        let lx = soft_at(&order, n, period, llrs, 2 * i);
+        let ly = soft_at(&order, n, period, llrs, 2 * i + 1);
+        at = advance(&mut pm, at, traceback, i, Step::Pair(lx, ly), decisions, out);
+    }
+    renormalise(&mut pm);
+    let bits = finish(&pm, at, decisions, out);
+    clear(decisions, 4096 + traceback);
+    bits
+}
+
+// Decodes a complete punctured block from state 0: depuncturing, the Viterbi decoder, its flush. The bits go to the front of `out`.
+pub fn decode_punctured(rate: CodeRate, llrs: &[f32], traceback: usize, decisions: &mut [u64], out: &mut [u8]) -> Done
+    ensures answers { λ r. ⌜ r .answer ≡ firstRow (decodeRows rate (now (llrs .entry)) traceback (length (now (decisions .entry))) (length (now (out .entry)))) ⌝ }
+    ensures leaves { λ r. ⌜ Either (r .answer)
+        (Decodes rate (now (llrs .entry)) traceback r (now (decisions .entry)) (now (decisions .exit)) (now (out .entry)) (now (out .exit)))
+        (Undecoded r (now (decisions .entry)) (now (decisions .exit)) (now (out .entry)) (now (out .exit))) ⌝ }
+{
+    let answer = answer_decode(rate, llrs, traceback, decisions.len(), out.len());
+    let Answer::Accepted = answer else {
+        return Done { answer, count: 0 };
+    };
+    let count = decode_periods(rate, llrs, depth_of(traceback), decisions, out);
     Done {
         answer: Answer::Accepted,
         count,

@@ -1,3 +1,4 @@
+use native.Mathlib.Nat.{not-suc-le-zero}
 use mathlib.Core.Path.{_≡_, refl, sym, _∙_, ap}
 use mathlib.Core.Bool.{Bool, true, false, cond, not}
 use mathlib.Core.List.{List, [], _∷_, _++_}
@@ -28,7 +29,8 @@ abbrev μ-loop : tie.MeasureT-loop
 
 -- src/conv.rt:170:5
 loop-holds : tie.Need-loop-holds Inv-loop μ-loop
-loop-holds c = ?
+unfolding stateAt
+loop-holds c = (search needs, refl, refl, (λ k h. absurd (not-suc-le-zero h)))
 
 -- src/conv.rt:171:31
 shared-slice-read-encode-bit : tie.Need-shared-slice-read-encode-bit Inv-loop μ-loop
@@ -36,7 +38,10 @@ shared-slice-read-encode-bit c = search needs
 
 -- src/conv.rt:171:13
 encode-bit-requires : tie.Need-encode-bit-requires Inv-loop μ-loop
-encode-bit-requires c κs = ?
+encode-bit-requires c κs = 
+    let at = c .before .before in
+    let a = at .before .before .args in
+    rw (at .loop .inv .1) (state-below (a .state) (a .bits .now) (at .loop .i) (at .before .before .pre .0))
 
 -- src/conv.rt:172:11
 mul-m : tie.Need-mul-m Inv-loop μ-loop
@@ -68,11 +73,31 @@ loop-less c = search needs
 
 -- src/conv.rt:170:5
 loop-again : tie.Need-loop-again Inv-loop μ-loop
-loop-again c = ?
+loop-again c = 
+    let at = c .before .before .before in
+    let a = at .before .before .args in
+    let us = inputs (a .bits .now) in
+    let i = at .loop .i in
+    let m = at .loop .m in
+    let inv = at .loop .inv in
+    let x = c .encode-bit .result .x in
+    let y = c .encode-bit .result .y in
+    let e = c .encode-bit .ensures in
+    let u = sym (input-at (a .bits .now) i) in
+    let room : 2 * i + 1 < length m = omega arith in (
+      omega arith,
+      rw (inv .1, u) at (e .2) ∙ sym (state-next (a .state) us i),
+      length-set (set m (2 * i) x) (2 * i + 1) y ∙ length-set m (2 * i) x ∙ inv .2,
+      written-pair (mother (a .state) us) m i x y room (rw (inv .1, u) at (e .0) ∙ sym (mother-x (a .state) us i)) (rw (inv .1, u) at (e .1) ∙ sym (mother-y (a .state) us i)) (inv .3),
+    )
 
 -- src/conv.rt:163:1
 returns : tie.Need-returns Inv-loop μ-loop
-returns c = ?
+returns c = 
+    let at = c .before in
+    let n = length (at .before .before .args .bits .now) in
+    let e : at .loop .i ≡ n = omega arith in
+    (rw e at (at .loop .inv .1), rw e at (at .loop .inv .3))
 
 pub encode-period-spec : {M : Type 1} → statement M
 encode-period-spec =

@@ -13,7 +13,7 @@ use Rattle.isdbt_fec.specs.declared.conv.Puncturing.{Puncturing}
 use Rattle.isdbt_fec.specs.Table.{period, sent, order, compiled}
 use Rattle.isdbt_fec.specs.Puncture.{inputs, mother, place, punctured, spread, softAt, depunctured}
 use Rattle.isdbt_fec.specs.Sizes.{sizes, in-order, order-at, place-in, values-there}
-use native.Mathlib.Nat.{div-lt-iff-lt-mul}
+use Rattle.isdbt_fec.specs.Numbers.{few-places}
 use Rattle.isdbt_fec.proofs.conv.few.Statement.{statement}
 use Rattle.isdbt_fec.proofs.conv.few.Tie as tie
 use Rattle.isdbt_fec.proofs.conv.few.Reads as reads
@@ -25,7 +25,7 @@ div-result c = search needs
 
 -- src/conv.rt:229:1
 returns : tie.Need-returns
-returns c = ?
+returns c = let a = c .args in few-places (a .space) (a .per) (a .blocks) (c .pre) (ltb (a .space) (a .blocks * a .per)) refl
 
 pub few-spec : {M : Type 1} → statement M
 few-spec = tie.close (tie.spec div-result returns)
