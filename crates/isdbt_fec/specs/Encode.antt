@@ -133,7 +133,7 @@ module _ (rate : CodeRate) (p : Puncturing) (e : p ≡ compiled rate) (s : ℕ) 
     next-state st r es er =
         let part = inputs (take (p .period) (drop (b * p .period) bits)) in
         er ∙ ap (λ (k : ℕ). stateAt 32 st part k) part-length ∙ ap (λ (x : ℕ). stateAt 32 x part (p .period)) es
-        ∙ part-state s (b * p .period) (p .period) bits (p .period) le-refl
+        ∙ part-state s (b * p .period) (p .period) bits (p .period) (le-refl (p .period))
         ∙ ap (λ (k : ℕ). stateAt 32 s (inputs bits) k) (sym (one-more b (p .period)))
 
   -- the end: whole periods are all the bits
@@ -152,13 +152,13 @@ module _ (rate : CodeRate) (p : Puncturing) (e : p ≡ compiled rate) (s : ℕ) 
 
 -- the period b lies inside, with its bits and with what is sent for them
 inside : (rate : CodeRate) (count out b : ℕ) → b < count / period rate → count / period rate * sent rate ≤ out
-    → (b * period rate + period rate ≤ count) × (b * sent rate + sent rate ≤ out)
-inside R1_2 count out b h g = (omega arith, omega arith)
-inside R2_3 count out b h g = (omega arith, omega arith)
-inside R3_4 count out b h g = (omega arith, omega arith)
-inside R5_6 count out b h g = (omega arith, omega arith)
-inside R7_8 count out b h g = (omega arith, omega arith)
+    → (b * period rate + period rate ≤ count) × (b * sent rate + sent rate ≤ out) × (b < count)
+inside R1_2 count out b h g = (omega arith, omega arith, omega arith)
+inside R2_3 count out b h g = (omega arith, omega arith, omega arith)
+inside R3_4 count out b h g = (omega arith, omega arith, omega arith)
+inside R5_6 count out b h g = (omega arith, omega arith, omega arith)
+inside R7_8 count out b h g = (omega arith, omega arith, omega arith)
 
 pub block-inside : (rate : CodeRate) (p : Puncturing) (count out b : ℕ) → p ≡ compiled rate → b < count / p .period → count / period rate * sent rate ≤ out
-    → (b * p .period + p .period ≤ count) × (b * p .n + p .n ≤ out)
+    → (b * p .period + p .period ≤ count) × (b * p .n + p .n ≤ out) × (b < count)
 block-inside rate p count out b e = rw e (inside rate count out b)

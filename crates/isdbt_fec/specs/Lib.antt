@@ -11,3 +11,4 @@ pub mod Kept
 pub mod Encode
 pub mod Spread
 pub mod Decode
+pub mod Answers

@@ -309,7 +309,8 @@ loop-again c =
     ∙ ap (λ (x : List ℕ). take (b * n) x ++ laid (upto g n) (drop (b * n) x)) (inv .3)
     ∙ upto-after f g (b * n) n (a .out .now) same
     ∙ ap (λ (k : ℕ). laid (upto f k) (a .out .now)) (sym next) in
-    let sent-length : length (upto f ((b + 1) * n)) ≡ (b + 1) * n = length-upto f ((b + 1) * n) in (
+    let sent-length : length (upto f ((b + 1) * n)) ≡ (b + 1) * n = length-upto f ((b + 1) * n) in
+    let test : b < length bits / p .period = c .before .before .before .before .before .before .before .before .before .loop-test .taken in (
       omega arith,
       ap length whole ∙ length-laid (upto f ((b + 1) * n)) (a .out .now) (omega arith),
       next-state rate p e (a .state) bits b (fit .0) (at .loop .s) (coded .result .state) (inv .2) (q .0),
