@@ -82,7 +82,7 @@ nothing a b t =
     let o = eqb→eq b 0 (and-r (eqb b a) (eqb b 0) t) in
     and-i (eqb a b) (eqb a 0) (eq→eqb {a = a} {b = b} (sym e)) (eq→eqb {a = a} {b = 0} (sym e ∙ o))
 
-le-neg : (x y : Float) → T (le y x) → T (le (neg x) (neg y))
+pub le-neg : (x y : Float) → T (le y x) → T (le (neg x) (neg y))
 unfolding le neg
 le-neg nan nan t = t
 le-neg nan (inf u) t = t

@@ -1,1 +1,6 @@
 pub mod Soft
+pub mod Points
+pub mod Layout
+pub mod Frame
+pub mod Reading
+pub mod Pieces

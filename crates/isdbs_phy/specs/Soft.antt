@@ -14,6 +14,10 @@ use Rattle.ieee.specs.Order.{Le}
 use Rattle.ieee.specs.Rounding.{pow2}
 use Rattle.ieee.specs.Conversion.{rounded, rounded-between}
 
+-- the soft value of a part, before the scale
+unfoldable pub softOf : Float → Float
+softOf x = rounded binary32 x
+
 -- ---- what the code works out: r is the pattern of the f32 nearest to the f64 of the pattern b, both without the sign, whichever sign is put before both
 pub record Narrowed (b r : ℕ) : Type 0 where
   pub small : r ≤ 0x7f80_0000

@@ -1,4 +1,6 @@
 // Signal points, and their parts as soft values.
+pub mod demod;
+
 ghost use mathlib.Core.Path.{_≡_};
 ghost use Prim.Native.Nat.{_^_, _≤_, _<_};
 ghost use lib.Ieee.{binary32};

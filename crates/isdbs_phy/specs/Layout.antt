@@ -1,0 +1,101 @@
+-- Where the symbols, the trellis steps and the load's bits of each run lie in the frame. Assumes nothing.
+use mathlib.Core.Bool.{Bool, cond}
+use mathlib.Core.List.{List, [], _∷_, _++_}
+use Prim.Native.Nat.{ℕ, zero, suc, _+_, _-_, _*_, _/_, _%_, _^_}
+use lib.ListN.{getD, length}
+use lib.Dec.{eqb, ltb}
+use Rattle.isdbs_core.specs.declared.combination.Combination.{Combination}
+use Rattle.isdbs_core.specs.declared.combination.Combination.the-variants.{«Bpsk1_2»}
+use Rattle.isdbs_core.specs.declared.combination.MaybePuncture.{MaybePuncture}
+use Rattle.isdbs_core.specs.declared.combination.MaybePuncture.the-variants.{Some, None}
+use Rattle.isdbs_core.specs.declared.combination.BitPair.{BitPair}
+use Rattle.isdbs_core.specs.declared.slots.Run.{Run}
+use Rattle.isdbs_core.specs.declared.tmcc.Table.{Table}
+use Rattle.isdbs_core.specs.Combinations.{punctureOf, pairsOf, periodOf}
+use Rattle.isdbs_core.specs.RunsOf.{runsOf, stepsOf}
+
+-- ---- the code of a combination
+-- the mother bits of one period in the order in which they are sent: the pairs' first and second bits; X then Y where nothing is punctured
+unfoldable pub sentOrder : List BitPair → List ℕ
+sentOrder [] = []
+sentOrder (p ∷ ps) = p .p1 ∷ p .p0 ∷ sentOrder ps
+
+abbrev pub orderIn : MaybePuncture → List ℕ
+orderIn (Some p) = sentOrder (pairsOf p)
+orderIn None = 0 ∷ 1 ∷ []
+
+abbrev pub orderOf : Combination → List ℕ
+orderOf c = orderIn (punctureOf c)
+
+-- the steps of one period
+abbrev pub periodIn : MaybePuncture → ℕ
+periodIn (Some p) = periodOf p
+periodIn None = 1
+
+abbrev pub stepsPerPeriod : Combination → ℕ
+stepsPerPeriod c = periodIn (punctureOf c)
+
+-- where a list has the number a first; its length where it has not
+unfoldable pub placeIn : ℕ → List ℕ → ℕ
+placeIn a [] = 0
+placeIn a (b ∷ bs) = cond (eqb a b) 0 (suc (placeIn a bs))
+
+-- ---- segments
+-- a run with the first and the number of its symbols, its trellis steps and its bits of the load
+pub record Segment : Type 0 where
+  pub combination : Combination
+  pub symbol : ℕ
+  pub symbols : ℕ
+  pub step : ℕ
+  pub steps : ℕ
+  pub bit : ℕ
+  pub bits : ℕ
+
+-- "A valid slot is 1,624 bits"
+abbrev pub segmentOf : Run → ℕ → ℕ → Segment
+segmentOf r step bit =
+    record {
+      combination = r .combination;
+      symbol = r .«symbol_start»;
+      symbols = r .«symbol_end» - r .«symbol_start»;
+      step = step;
+      steps = stepsOf r;
+      bit = bit;
+      bits = 1624 * r .«valid_slots»;
+    }
+
+unfoldable pub segmentsFrom : List Run → ℕ → ℕ → List Segment
+segmentsFrom [] step bit = []
+segmentsFrom (r ∷ rs) step bit = segmentOf r step bit ∷ segmentsFrom rs (step + stepsOf r) (bit + 1624 * r .«valid_slots»)
+
+abbrev pub segments : Table → List Segment
+segments t = segmentsFrom (runsOf t) 0 0
+
+-- What f says of place k: f of the segment that has k, and of k's place in it; `none` past all of them. Segments lie end to end, so
+-- it is the first that ends past k. `first` and `size` pick symbols, steps or bits.
+unfoldable pub among : {A : Type 0} → (Segment → ℕ) → (Segment → ℕ) → A → (Segment → ℕ → A) → List Segment → ℕ → A
+among first size none f [] k = none
+among first size none f (g ∷ gs) k = cond (ltb k (first g + size g)) (f g (k - first g)) (among first size none f gs k)
+
+module _ {A : Type 0} (none : A) (f : Segment → ℕ → A) (t : Table) where
+  abbrev pub atSymbol : ℕ → A
+  atSymbol = among (λ g. g .symbol) (λ g. g .symbols) none f (segments t)
+
+  abbrev pub atStep : ℕ → A
+  atStep = among (λ g. g .step) (λ g. g .steps) none f (segments t)
+
+  abbrev pub atBit : ℕ → A
+  atBit = among (λ g. g .bit) (λ g. g .bits) none f (segments t)
+
+-- ---- bits and bytes, high bit first
+-- bit n of a load; "Missing bits are 0, surplus ones ignored"
+abbrev pub loadBit : List ℕ → ℕ → ℕ
+loadBit load n = getD load (n / 8) 0 / 2 ^ (7 - n % 8) % 2
+
+-- the byte whose bits, high bit first, are f 0 to f 7
+abbrev pub byteOf : (ℕ → ℕ) → ℕ
+byteOf f = f 0 * 128 + f 1 * 64 + f 2 * 32 + f 3 * 16 + f 4 * 8 + f 5 * 4 + f 6 * 2 + f 7
+
+-- bit i of a 16-bit word, high bit first
+abbrev pub wordBit : ℕ → ℕ → ℕ
+wordBit w i = w / 2 ^ (15 - i) % 2

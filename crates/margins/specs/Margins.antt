@@ -1,0 +1,81 @@
+-- The margins of demand 3. Document 01, "A capture enters `decode_frame`": "Margins of demand 3, per part as lent, before decoding conjugates".
+-- Definitions only. Assumes nothing.
+use mathlib.Core.Path.{_≡_}
+use mathlib.Core.Bool.{Bool, true, false, cond, _&&_}
+use mathlib.Core.List.{List}
+use Prim.Native.Nat.{ℕ, _+_, _<_, _≤_}
+use lib.ListN.{getD, length}
+use lib.Dec.{T}
+use lib.Ieee.{Float, nan, binary64, neg, eq, le, ofBits}
+use Rattle.isdbs_core.specs.declared.combination.Modulation.{Modulation}
+use Rattle.isdbs_core.specs.declared.combination.Modulation.the-variants.{Bpsk, Qpsk, Tc8psk}
+use Rattle.isdbs_core.specs.declared.tmcc.Table.{Table}
+use Rattle.isdbs_core.specs.Combinations.{modulationOf}
+use Rattle.isdbs_phy.specs.declared.demod.Mapping.{Mapping}
+use Rattle.isdbs_phy.specs.Points.{zero64, one64, root64}
+use Rattle.isdbs_phy.specs.Layout.{Segment, atSymbol}
+use Rattle.isdbs_phy.specs.Frame.{pointAt, startState}
+
+-- "A margin's ends belong to it"
+abbrev pub between : Float → Float → Float → Bool
+between a b x = le a x && le x b
+
+-- 1/32, 31/32, 33/32, 87/128, 94/128, 1024
+abbrev pub near0 : Float
+near0 = ofBits binary64 0x3fa0_0000_0000_0000
+
+abbrev pub low1 : Float
+low1 = ofBits binary64 0x3fef_0000_0000_0000
+
+abbrev pub high1 : Float
+high1 = ofBits binary64 0x3ff0_8000_0000_0000
+
+abbrev pub lowRoot : Float
+lowRoot = ofBits binary64 0x3fe5_c000_0000_0000
+
+abbrev pub highRoot : Float
+highRoot = ofBits binary64 0x3fe7_8000_0000_0000
+
+abbrev pub limit : Float
+limit = ofBits binary64 0x4090_0000_0000_0000
+
+-- "clean 0 within 1/32; clean 1 from 31/32 to 33/32; clean 1/√2 from 87/128 to 94/128; negatives mirrored", "-0.0 being a clean 0"
+unfoldable pub keeps : Float → Float → Bool
+keeps clean x =
+    cond (eq clean zero64) (between (neg near0) near0 x)
+    (cond (eq clean one64) (between low1 high1 x)
+    (cond (eq clean (neg one64)) (between (neg high1) (neg low1) x)
+    (cond (eq clean root64) (between lowRoot highRoot x) (between (neg highRoot) (neg lowRoot) x))))
+
+-- any accepted value: finite and within 1,024
+abbrev pub anyAccepted : Float → Bool
+anyAccepted x = between (neg limit) limit x
+
+-- "A BPSK imaginary part and a point outside every run may hold any accepted value"
+abbrev pub isBpsk : Modulation → Bool
+isBpsk Bpsk = true
+isBpsk Qpsk = false
+isBpsk Tc8psk = false
+
+abbrev pub freeRe : Table → ℕ → Bool
+freeRe = atSymbol true (λ g j. false)
+
+abbrev pub freeIm : Table → ℕ → Bool
+freeIm = atSymbol true (λ g j. isBpsk (modulationOf (g .combination)))
+
+abbrev pub holds : Bool → Float → Float → Bool
+holds free clean x = cond free (anyAccepted x) (keeps clean x)
+
+-- The received parts re and im, "any 38,976 points, whatever is lent past them", lie within the margins of the load: "every part of
+-- every point keeps the margin of the same part in the frame that `encode_frame_with_state` makes of that load with this table and
+-- `Mapping` from the start state for `first`"
+pub record Within (re im : List Float) (load : List ℕ) (t : Table) (m : Mapping) (first : Bool) : Type 0 where
+  pub re-count : 38976 ≤ length re
+  pub im-count : 38976 ≤ length im
+  pub re-parts : (k : ℕ) → k < 38976 → T (holds (freeRe t k) (pointAt t m load (startState first) k .re) (getD re k nan))
+  pub im-parts : (k : ℕ) → k < 38976 → T (holds (freeIm t k) (pointAt t m load (startState first) k .im) (getD im k nan))
+
+-- "a full load is 203 bytes for each" valid slot
+pub record FullLoad (load : List ℕ) (count : ℕ) : Type 0 where
+  pub size : length load ≡ count
+  pub bytes : (k : ℕ) → k < count → getD load k 0 < 256
