@@ -936,8 +936,8 @@ impl ViterbiDecoder {
         };
         let n = pairs.len() / 2;
         for i in 0..n {
-            let x = Step::Pair(pairs[2 * i], pairs[2 * i + 1]);
-            at = advance(&mut pm, at, traceback, i, x, decisions, out);
+            let pair = Step::Pair(pairs[2 * i], pairs[2 * i + 1]);
+            at = advance(&mut pm, at, traceback, i, pair, decisions, out);
         }
         renormalise(&mut pm);
         Released {
@@ -974,13 +974,13 @@ impl ViterbiDecoder {
         };
         let n = metrics.len() / 4;
         for i in 0..n {
-            let x = Step::Four(
+            let four = Step::Four(
                 metrics[4 * i],
                 metrics[4 * i + 1],
                 metrics[4 * i + 2],
                 metrics[4 * i + 3],
             );
-            at = advance(&mut pm, at, traceback, i, x, decisions, out);
+            at = advance(&mut pm, at, traceback, i, four, decisions, out);
         }
         renormalise(&mut pm);
         Released {
@@ -1016,8 +1016,8 @@ impl ViterbiDecoder {
             count: 0,
         };
         for i in 0..bits.len() {
-            let x = Step::Known(bits[i]);
-            at = advance(&mut pm, at, traceback, i, x, decisions, out);
+            let known = Step::Known(bits[i]);
+            at = advance(&mut pm, at, traceback, i, known, decisions, out);
         }
         Released {
             answer: Answer::Accepted,
