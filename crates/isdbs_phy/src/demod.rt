@@ -7,23 +7,24 @@ use isdbs_core::combination::Combination;
 use isdbs_core::combination::MaybePuncture;
 use isdbs_core::combination::Modulation;
 use isdbs_core::slots::Run;
-use isdbs_core::slots::runs;
 use isdbs_core::tmcc::Table;
 use refusal::Answer;
 ghost use mathlib.Core.Path.{_≡_};
 ghost use mathlib.Core.Bool.{true, false, cond};
-ghost use Prim.Native.Nat.{ℕ, _+_, _*_, _/_, _%_, _<_, _≤_};
+ghost use Prim.Native.Nat.{ℕ, _+_, _*_, _/_, _%_, _<_, _≤_, _^_};
 ghost use lib.ListN.{length, getD};
 ghost use lib.Ieee.{binary32, ofBits};
 ghost use Rattle.refusal.specs.Rows.{firstRow};
 ghost use Rattle.trellis.specs.Lists.{upto, laid};
-ghost use Rattle.trellis.specs.Code.{isdb, label, stateAt};
-ghost use Rattle.isdbs_core.specs.Combinations.{modulationOf};
+ghost use Rattle.trellis.specs.Code.{isdb, label, moved, stateAt};
+ghost use Rattle.trellis.specs.Step.{term};
+ghost use Rattle.isdbs_core.specs.declared.combination.Combination.the-variants.{«Bpsk1_2», «Tc8psk2_3»};
+ghost use Rattle.isdbs_core.specs.Combinations.{modulationOf, punctureOf};
 ghost use Rattle.isdbs_core.specs.RunsOf.{runsOf};
 ghost use Rattle.isdbs_phy.specs.Points.{psk8Of, qpskOf, subset, turned};
 ghost use Rattle.isdbs_phy.specs.Layout.{orderOf, stepsPerPeriod, loadBit, sentOrder};
 ghost use Rattle.isdbs_phy.specs.Frame.{labelAt, stateAfter, startState, frameRe, frameIm, endState};
-ghost use Rattle.isdbs_phy.specs.Pieces.{pieceState, pieceSymbols, pieceRe, pieceIm, PatternOf};
+ghost use Rattle.isdbs_phy.specs.Pieces.{PieceEncoded, PeriodEncoded, PatternOf, motherBit};
 
 // 1 / sqrt 2 as an f64.
 const ROOT: f64 = 0.7071067811865476;
@@ -103,7 +104,9 @@ pub fn psk8_point(label: u8) -> Cplx
 }
 
 // +s for the bit 0, -s for the bit 1.
-fn sign_of(b: u8, s: f64) -> f64 {
+fn sign_of(b: u8, s: f64) -> f64
+    ensures { λ r. ⌜ r ≡ term (b % 2) s ⌝ }
+{
     if b % 2 == 1 { -s } else { s }
 }
 
@@ -148,6 +151,115 @@ fn load_bit(bytes: &[u8], n: usize) -> u8
     }
 }
 
+// The QPSK point of (P1, P0) under a mapping.
+fn qpsk_mapped(p1_on_q: bool, p1: u8, p0: u8) -> Cplx
+    ensures { λ r. ⌜ r ≡ qpskOf «p1_on_q» (p1 % 2) (p0 % 2) ⌝ }
+{
+    let q = qpsk_point(p1, p0);
+    if p1_on_q {
+        Cplx { re: q.im, im: q.re }
+    } else {
+        q
+    }
+}
+
+// 2 C1 + C0 from 2 X + Y.
+fn subset_of(c1_is_y: bool, l: u8) -> u8
+    requires { ⌜ l < 4 ⌝ }
+    ensures { λ r. ⌜ (r ≡ subset «c1_is_y» l) × (r < 4) ⌝ }
+{
+    if c1_is_y { 2 * (l % 2) + l / 2 } else { l }
+}
+
+// 2 X + Y of a trellis step, and the state after it.
+pub struct Sent {
+    pub state: u8,
+    pub label: u8,
+}
+
+// The trellis step that bit n of the load makes.
+fn encode_step(bytes: &[u8], n: usize, state: u8) -> Sent
+    requires { ⌜ state < 64 ⌝ }
+    ensures { λ r. ⌜ (r .label ≡ label isdb (loadBit (now (bytes .entry)) n) state) × (r .state ≡ moved 32 (loadBit (now (bytes .entry)) n) state) × (r .state < 64) × (r .label < 4) ⌝ }
+{
+    let c = encode_bit(state, load_bit(bytes, n));
+    Sent {
+        state: c.state,
+        label: 2 * c.x + c.y,
+    }
+}
+
+// A run of BPSK: X, then Y, on successive symbols.
+fn encode_bpsk(bytes: &[u8], bit: usize, n: usize, start: u8, m: Mapping, re: &mut [f64], im: &mut [f64]) -> u8
+    requires { ⌜ (start < 64) × (bit + n < 2 ^ 32) × (2 * n ≤ length (now re)) × (2 * n ≤ length (now im)) ⌝ }
+    ensures { λ r. ⌜ PieceEncoded «Bpsk1_2» m (now (bytes .entry)) bit n start r (now (re .entry)) (now (re .exit)) (now (im .entry)) (now (im .exit)) ⌝ }
+{
+    let y = mirror(m.conjugate, 0.0);
+    let mut state = start;
+    let mut k: usize = 0;
+    while k < n {
+        let sent = encode_step(bytes, bit + k, state);
+        state = sent.state;
+        re[2 * k] = sign_of(sent.label / 2, 1.0);
+        re[2 * k + 1] = sign_of(sent.label, 1.0);
+        im[2 * k] = y;
+        im[2 * k + 1] = y;
+        k += 1;
+    }
+    state
+}
+
+// A run of TC8PSK: C2 uncoded, then one coded bit.
+fn encode_tc8psk(bytes: &[u8], bit: usize, n: usize, start: u8, m: Mapping, re: &mut [f64], im: &mut [f64]) -> u8
+    requires { ⌜ (start < 64) × (bit + 2 * n < 2 ^ 32) × (n ≤ length (now re)) × (n ≤ length (now im)) ⌝ }
+    ensures { λ r. ⌜ PieceEncoded «Tc8psk2_3» m (now (bytes .entry)) bit n start r (now (re .entry)) (now (re .exit)) (now (im .entry)) (now (im .exit)) ⌝ }
+{
+    let mut state = start;
+    let mut k: usize = 0;
+    while k < n {
+        let c2 = load_bit(bytes, bit + 2 * k);
+        let sent = encode_step(bytes, bit + 2 * k + 1, state);
+        let p = psk8_point(4 * c2 + subset_of(m.tc8psk_c1_is_y, sent.label));
+        state = sent.state;
+        re[k] = p.re;
+        im[k] = mirror(m.conjugate, p.im);
+        k += 1;
+    }
+    state
+}
+
+// The labels of a period, and the state after it.
+pub struct Period {
+    pub state: u8,
+    pub labels: [u8; 8],
+}
+
+// The trellis steps of n bits from bit `bit` of the load on.
+fn encode_period(bytes: &[u8], bit: usize, n: usize, start: u8) -> Period
+    requires { ⌜ (start < 64) × (n ≤ 8) × (bit + n < 2 ^ 32) ⌝ }
+    ensures { λ r. ⌜ PeriodEncoded (now (bytes .entry)) bit n start r ⌝ }
+{
+    let mut labels = [0u8; 8];
+    let mut state = start;
+    let mut k: usize = 0;
+    while k < n {
+        let sent = encode_step(bytes, bit + k, state);
+        state = sent.state;
+        labels[k] = sent.label;
+        k += 1;
+    }
+    Period { state, labels }
+}
+
+// Mother bit a of a period.
+fn mother_bit(labels: &[u8; 8], a: usize) -> u8
+    requires { ⌜ a / 2 < 8 ⌝ }
+    ensures { λ r. ⌜ r ≡ motherBit (now (labels .entry)) a ⌝ }
+{
+    let l = labels[a / 2];
+    if a % 2 == 0 { l / 2 } else { l % 2 }
+}
+
 // The steps and the pairs of a period of a QPSK code.
 pub struct Pattern {
     pub period: usize,
@@ -156,10 +268,11 @@ pub struct Pattern {
 }
 
 // The pattern of a combination; unpunctured, one step and the pair X Y.
-fn pattern(c: Combination) -> Pattern
-    ensures { λ r. ⌜ PatternOf c r ⌝ }
+fn pattern_of(c: Combination) -> Pattern
+    ensures { λ r. ⌜ PatternOf (punctureOf c) r ⌝ }
 {
-    match c.puncturing() {
+    let code = c.puncturing();
+    match code {
         MaybePuncture::Some(p) => {
             let all = p.pairs();
             let pairs = all.pairs;
