@@ -4,3 +4,5 @@ pub mod Layout
 pub mod Frame
 pub mod Reading
 pub mod Pieces
+pub mod LawsUpto
+pub mod LawsState

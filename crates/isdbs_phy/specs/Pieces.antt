@@ -17,7 +17,7 @@ use Rattle.isdbs_phy.specs.declared.Cplx.{Cplx}
 use Rattle.isdbs_phy.specs.declared.demod.Mapping.{Mapping}
 use Rattle.isdbs_phy.specs.declared.demod.Pattern.{Pattern}
 use Rattle.isdbs_phy.specs.declared.demod.Period.{Period}
-use Rattle.isdbs_phy.specs.Points.{point, turned}
+use Rattle.isdbs_phy.specs.Points.{point, qpskOf, turned}
 use Rattle.isdbs_phy.specs.Layout.{Segment, orderIn, periodIn, orderOf, stepsPerPeriod, loadBit}
 use Rattle.isdbs_phy.specs.Frame.{inputIn, labelAt, pointIn, codedBit}
 
@@ -96,3 +96,12 @@ pub record PatternOf (p : MaybePuncture) (r : Pattern) : Type 0 where
 -- the mother bit a of a period whose steps have the labels ls
 abbrev pub motherBit : List ℕ → ℕ → ℕ
 motherBit ls a = codedBit a (getD ls (a / 2) 0)
+
+-- the point that pair i of a period gives
+abbrev pub pairPoint : Mapping → List ℕ → List BitPair → ℕ → Cplx
+pairPoint m ls ps i =
+    mapped m (qpskOf (m .«qpsk_p1_on_q») (motherBit ls (getD ps i noPair .p1) % 2) (motherBit ls (getD ps i noPair .p0) % 2))
+
+-- the pairs name steps of a period only
+abbrev pub PairsWithin : ℕ → List BitPair → Type 0
+PairsWithin count ps = (i : ℕ) → i < count → (getD ps i noPair .p1 / 2 < 8) × (getD ps i noPair .p0 / 2 < 8)

@@ -19,12 +19,13 @@ ghost use Rattle.trellis.specs.Lists.{upto, laid};
 ghost use Rattle.trellis.specs.Code.{isdb, label, moved, stateAt};
 ghost use Rattle.trellis.specs.Step.{term};
 ghost use Rattle.isdbs_core.specs.declared.combination.Combination.the-variants.{«Bpsk1_2», «Tc8psk2_3»};
+ghost use Rattle.isdbs_core.specs.declared.combination.Modulation.the-variants.{Qpsk};
 ghost use Rattle.isdbs_core.specs.Combinations.{modulationOf, punctureOf};
 ghost use Rattle.isdbs_core.specs.RunsOf.{runsOf};
-ghost use Rattle.isdbs_phy.specs.Points.{psk8Of, qpskOf, subset, turned};
-ghost use Rattle.isdbs_phy.specs.Layout.{orderOf, stepsPerPeriod, loadBit, sentOrder};
+ghost use Rattle.isdbs_phy.specs.Points.{zero64, psk8Of, qpskOf, subset, turned};
+ghost use Rattle.isdbs_phy.specs.Layout.{orderOf, stepsPerPeriod, loadBit, wordBit};
 ghost use Rattle.isdbs_phy.specs.Frame.{labelAt, stateAfter, startState, frameRe, frameIm, endState};
-ghost use Rattle.isdbs_phy.specs.Pieces.{PieceEncoded, PeriodEncoded, PatternOf, motherBit};
+ghost use Rattle.isdbs_phy.specs.Pieces.{pieceSymbols, PieceEncoded, PeriodEncoded, PatternOf, PairsWithin, motherBit, pairPoint};
 
 // 1 / sqrt 2 as an f64.
 const ROOT: f64 = 0.7071067811865476;
@@ -120,14 +121,24 @@ pub fn qpsk_point(p1: u8, p0: u8) -> Cplx
     }
 }
 
+// Bit i of a word, high bit first.
+fn word_bit(word: u16, i: usize) -> u8
+    requires { ⌜ i < 16 ⌝ }
+    ensures { λ r. ⌜ r ≡ wordBit word i ⌝ }
+{
+    ((word >> (15 - i)) % 2) as u8
+}
+
 // The encoder's state after a 16-bit word.
 pub fn state_after(word: u16) -> u8
     ensures { λ r. ⌜ r ≡ stateAfter word ⌝ }
 {
     let mut state: u8 = 0;
-    for i in 0..16 {
-        let c = encode_bit(state, ((word >> (15 - i)) % 2) as u8);
+    let mut i: usize = 0;
+    while i < 16 {
+        let c = encode_bit(state, word_bit(word, i));
         state = c.state;
+        i += 1;
     }
     state
 }
@@ -194,15 +205,15 @@ fn encode_bpsk(bytes: &[u8], bit: usize, n: usize, start: u8, m: Mapping, re: &m
     requires { ⌜ (start < 64) × (bit + n < 2 ^ 32) × (2 * n ≤ length (now re)) × (2 * n ≤ length (now im)) ⌝ }
     ensures { λ r. ⌜ PieceEncoded «Bpsk1_2» m (now (bytes .entry)) bit n start r (now (re .entry)) (now (re .exit)) (now (im .entry)) (now (im .exit)) ⌝ }
 {
-    let y = mirror(m.conjugate, 0.0);
     let mut state = start;
     let mut k: usize = 0;
     while k < n {
         let sent = encode_step(bytes, bit + k, state);
         state = sent.state;
+        let y = mirror(m.conjugate, 0.0);
         re[2 * k] = sign_of(sent.label / 2, 1.0);
-        re[2 * k + 1] = sign_of(sent.label, 1.0);
         im[2 * k] = y;
+        re[2 * k + 1] = sign_of(sent.label, 1.0);
         im[2 * k + 1] = y;
         k += 1;
     }
@@ -290,6 +301,76 @@ fn pattern_of(c: Combination) -> Pattern
                 pairs: [xy, xy, xy, xy],
             }
         }
+    }
+}
+
+// The points of a period's pairs.
+fn put_pairs(labels: &[u8; 8], pairs: [BitPair; 4], count: usize, m: Mapping, re: &mut [f64], im: &mut [f64])
+    requires { ⌜ (count ≤ 4) × (count ≤ length (now re)) × (count ≤ length (now im)) × PairsWithin count pairs ⌝ }
+    ensures { λ _. ⌜ (now (re .exit) ≡ laid (upto (λ i. pairPoint m (now (labels .entry)) pairs i .re) count) (now (re .entry))) × (now (im .exit) ≡ laid (upto (λ i. pairPoint m (now (labels .entry)) pairs i .im) count) (now (im .entry))) ⌝ }
+{
+    let mut i: usize = 0;
+    while i < count {
+        let pair = pairs[i];
+        let p1 = mother_bit(labels, pair.p1);
+        let p0 = mother_bit(labels, pair.p0);
+        let p = qpsk_mapped(m.qpsk_p1_on_q, p1, p0);
+        re[i] = p.re;
+        im[i] = mirror(m.conjugate, p.im);
+        i += 1;
+    }
+}
+
+// A run of QPSK, period by period.
+fn encode_qpsk(bytes: &[u8], c: Combination, bit: usize, n: usize, start: u8, m: Mapping, re: &mut [f64], im: &mut [f64]) -> u8
+    requires { ⌜ (modulationOf c ≡ Qpsk) × (start < 64) × (bit + n < 2 ^ 32) × (n ≡ n / stepsPerPeriod c * stepsPerPeriod c) × (pieceSymbols c n ≤ length (now re)) × (pieceSymbols c n ≤ length (now im)) ⌝ }
+    ensures { λ r. ⌜ PieceEncoded c m (now (bytes .entry)) bit n start r (now (re .entry)) (now (re .exit)) (now (im .entry)) (now (im .exit)) ⌝ }
+{
+    let p = pattern_of(c);
+    let period = p.period;
+    let count = p.count;
+    let pairs = p.pairs;
+    let periods = n / period;
+    let mut state = start;
+    let mut done: usize = 0;
+    let mut j: usize = 0;
+    let mut q: usize = 0;
+    while q < periods {
+        let e = encode_period(bytes, bit + done, period, state);
+        let labels = e.labels;
+        state = e.state;
+        put_pairs(&labels, pairs, count, m, &mut re[j..], &mut im[j..]);
+        done += period;
+        j += count;
+        q += 1;
+    }
+    state
+}
+
+// A run of n steps, whose first bit is bit `bit` of the load.
+fn encode_run(bytes: &[u8], c: Combination, bit: usize, n: usize, start: u8, m: Mapping, re: &mut [f64], im: &mut [f64]) -> u8
+    requires { ⌜ (start < 64) × (bit + 2 * n < 2 ^ 32) × (n ≡ n / stepsPerPeriod c * stepsPerPeriod c) × (pieceSymbols c n ≤ length (now re)) × (pieceSymbols c n ≤ length (now im)) ⌝ }
+    ensures { λ r. ⌜ PieceEncoded c m (now (bytes .entry)) bit n start r (now (re .entry)) (now (re .exit)) (now (im .entry)) (now (im .exit)) ⌝ }
+{
+    let modulation = c.modulation();
+    match modulation {
+        Modulation::Bpsk => encode_bpsk(bytes, bit, n, start, m, re, im),
+        Modulation::Qpsk => encode_qpsk(bytes, c, bit, n, start, m, re, im),
+        Modulation::Tc8psk => encode_tc8psk(bytes, bit, n, start, m, re, im),
+    }
+}
+
+// n unused points.
+fn put_unused(n: usize, m: Mapping, re: &mut [f64], im: &mut [f64])
+    requires { ⌜ (n ≤ length (now re)) × (n ≤ length (now im)) ⌝ }
+    ensures { λ _. ⌜ (now (re .exit) ≡ laid (upto (λ i. zero64) n) (now (re .entry))) × (now (im .exit) ≡ laid (upto (λ i. turned (m .conjugate) zero64) n) (now (im .entry))) ⌝ }
+{
+    let y = mirror(m.conjugate, 0.0);
+    let mut i: usize = 0;
+    while i < n {
+        re[i] = 0.0;
+        im[i] = y;
+        i += 1;
     }
 }
 

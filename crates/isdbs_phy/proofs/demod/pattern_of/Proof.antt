@@ -1,39 +1,31 @@
+-- `demod::pattern_of` meets its contract. Assumes nothing.
+use Rattle.isdbs_phy.proofs.Patterns.{pattern-some, pattern-none}
 use borrow.Author.Needs.{needs}
 use Rattle.isdbs_phy.proofs.demod.pattern_of.Statement.{statement}
 use Rattle.isdbs_phy.proofs.demod.pattern_of.Tie as tie
-use Rattle.isdbs_phy.proofs.demod.pattern_of.Reads as reads
-use Rattle.isdbs_phy.proofs.demod.pattern_of.Lts as lts
-use Rattle.isdbs_core.proofs.combination.Combination.puncturing.Reads as puncturing-reads
-use Rattle.isdbs_core.proofs.combination.Puncture.pairs.Reads as pairs-reads
-use Rattle.isdbs_core.proofs.combination.Puncture.period.Reads as period-reads
 
--- src/demod.rt:274:9
 puncturing-requires : tie.Need-puncturing-requires
 puncturing-requires c κs = search needs
 
--- src/demod.rt:276:29
 enum-known-code : tie.Need-enum-known-code
-enum-known-code c = search needs
+enum-known-code c = c .match .keys1
 
--- src/demod.rt:277:17
 pairs-requires : tie.Need-pairs-requires
 pairs-requires c κs = search needs
 
--- src/demod.rt:280:25
 period-requires : tie.Need-period-requires
 period-requires c κs = search needs
 
--- src/demod.rt:286:17
 enum-told : tie.Need-enum-told
 enum-told c = search needs
 
--- src/demod.rt:271:1
 returns : tie.Need-returns
-returns c = ?
+returns c =
+    rw (c .period .ensures, c .before .before .pairs .ensures, ← c .before .before .before .before .before .before .puncturing .ensures, c .before .before .before .before .code .given .1)
+    (pattern-some _)
 
--- src/demod.rt:271:1
 returns-2 : tie.Need-returns-2
-returns-2 c = ?
+returns-2 c = rw (← c .before .before .puncturing .ensures, c .enum-told .given .1) pattern-none
 
 pub pattern-of-spec : {M : Type 1} → statement M
 pattern-of-spec =

@@ -1,0 +1,3 @@
+pub mod Encode
+pub mod Patterns
+pub mod Written
