@@ -1,3 +1,4 @@
 pub mod Encode
 pub mod Patterns
 pub mod Written
+pub mod EncodeQpsk

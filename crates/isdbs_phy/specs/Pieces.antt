@@ -105,3 +105,13 @@ pairPoint m ls ps i =
 -- the pairs name steps of a period only
 abbrev pub PairsWithin : ℕ → List BitPair → Type 0
 PairsWithin count ps = (i : ℕ) → i < count → (getD ps i noPair .p1 / 2 < 8) × (getD ps i noPair .p0 / 2 < 8)
+
+-- point j of a QPSK run whose pattern has `period` steps and `count` pairs; `at` gives 2 X + Y at each step of the run
+abbrev pub patternBit : (ℕ → ℕ) → ℕ → ℕ → ℕ
+patternBit at base a = codedBit a (at (base + a / 2))
+
+unfoldable pub patternPoint : Mapping → (ℕ → ℕ) → ℕ → ℕ → List BitPair → ℕ → Cplx
+patternPoint m at period count ps j =
+    let pair = getD ps (j % count) noPair in
+    let base = j / count * period in
+    mapped m (qpskOf (m .«qpsk_p1_on_q») (patternBit at base (pair .p1)) (patternBit at base (pair .p0)))

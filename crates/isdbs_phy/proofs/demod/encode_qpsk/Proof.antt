@@ -1,106 +1,93 @@
+-- `demod::encode_qpsk` meets its contract. Assumes nothing.
+use borrow.Author.Needs.{needs}
+use mathlib.Core.Path.{_≡_, refl, sym, _∙_, ap}
+use Prim.Native.Nat.{ℕ, _+_, _*_, _-_, _/_, _%_, _<_, _≤_}
+use native.Mathlib.Omega.{arith}
+use lib.ListN.{length, getD, take, drop}
+use Rattle.isdbs_phy.specs.Frame.{labelAt}
+use Rattle.isdbs_phy.specs.Pieces.{plainInputs, patternPoint}
+use Rattle.isdbs_phy.proofs.Encode.{Going, going-start}
+use Rattle.isdbs_phy.proofs.EncodeQpsk.{Room}
 use Rattle.isdbs_phy.proofs.demod.encode_qpsk.Statement.{statement}
 use Rattle.isdbs_phy.proofs.demod.encode_qpsk.Tie as tie
-use Rattle.isdbs_phy.proofs.demod.encode_qpsk.Reads as reads
-use Rattle.isdbs_phy.proofs.demod.encode_qpsk.Lts as lts
-use Rattle.isdbs_phy.proofs.demod.encode_period.Reads as encode-period-reads
-use Rattle.isdbs_phy.proofs.demod.pattern_of.Reads as pattern-of-reads
-use Rattle.isdbs_phy.proofs.demod.put_pairs.Reads as put-pairs-reads
 
 abbrev Inv-loop : tie.InvT-loop
 Inv-loop bytes bit n start m re₀ im₀ period count pairs periods state₀ done₀ j₀ q₀ re im state done j q =
-    ?
+    (q ≤ periods)
+    × (done ≡ q * period)
+    × (j ≡ q * count)
+    × Room periods period count n (length re₀) (length im₀)
+    × Going (plainInputs bytes bit n) start (λ k. patternPoint m (labelAt start (plainInputs bytes bit n)) period count pairs k .re)
+        (λ k. patternPoint m (labelAt start (plainInputs bytes bit n)) period count pairs k .im) re₀ im₀ re im state done j
 
 abbrev μ-loop : tie.MeasureT-loop
-μ-loop bytes bit n start m re₀ im₀ period count pairs periods state₀ done₀ j₀ q₀ re im state done j q =
-    ?
+μ-loop bytes bit n start m re₀ im₀ period count pairs periods state₀ done₀ j₀ q₀ re im state done j q = periods - q
 
--- src/demod.rt:329:9
 pattern-of-requires : tie.Need-pattern-of-requires Inv-loop μ-loop
 pattern-of-requires c κs = search needs
 
--- src/demod.rt:333:19
 div-periods : tie.Need-div-periods Inv-loop μ-loop
-div-periods c = search needs
+div-periods c = c .before .pattern-of .ensures .some
 
--- src/demod.rt:338:5
 loop-holds : tie.Need-loop-holds Inv-loop μ-loop
-loop-holds c = search needs
+loop-holds c = ?
 
--- src/demod.rt:339:38
 add-encode-period : tie.Need-add-encode-period Inv-loop μ-loop
-add-encode-period c = search needs
+add-encode-period c = ?
 
--- src/demod.rt:339:13
 encode-period-requires : tie.Need-encode-period-requires Inv-loop μ-loop
-encode-period-requires c κs = search needs
+encode-period-requires c κs = ?
 
--- src/demod.rt:342:45
 mul-put-pairs : tie.Need-mul-put-pairs Inv-loop μ-loop
-mul-put-pairs c = search needs
+mul-put-pairs c = ?
 
--- src/demod.rt:342:45
 sub-put-pairs : tie.Need-sub-put-pairs Inv-loop μ-loop
-sub-put-pairs c = search needs
+sub-put-pairs c = ?
 
--- src/demod.rt:342:45
 part-put-pairs-start : tie.Need-part-put-pairs-start Inv-loop μ-loop
-part-put-pairs-start c = search needs
+part-put-pairs-start c = ?
 
--- src/demod.rt:342:45
 part-put-pairs-end : tie.Need-part-put-pairs-end Inv-loop μ-loop
-part-put-pairs-end c = search needs
+part-put-pairs-end c = ?
 
--- src/demod.rt:342:59
 mul-put-pairs-2 : tie.Need-mul-put-pairs-2 Inv-loop μ-loop
-mul-put-pairs-2 c = search needs
+mul-put-pairs-2 c = ?
 
--- src/demod.rt:342:59
 sub-put-pairs-2 : tie.Need-sub-put-pairs-2 Inv-loop μ-loop
-sub-put-pairs-2 c = search needs
+sub-put-pairs-2 c = ?
 
--- src/demod.rt:342:59
 part-put-pairs-start-2 : tie.Need-part-put-pairs-start-2 Inv-loop μ-loop
-part-put-pairs-start-2 c = search needs
+part-put-pairs-start-2 c = ?
 
--- src/demod.rt:342:59
 part-put-pairs-end-2 : tie.Need-part-put-pairs-end-2 Inv-loop μ-loop
-part-put-pairs-end-2 c = search needs
+part-put-pairs-end-2 c = ?
 
--- src/demod.rt:342:9
 put-pairs-requires : tie.Need-put-pairs-requires Inv-loop μ-loop
-put-pairs-requires c κs = search needs
+put-pairs-requires c κs = ?
 
--- src/demod.rt:343:9
 add-done : tie.Need-add-done Inv-loop μ-loop
-add-done c = search needs
+add-done c = ?
 
--- src/demod.rt:344:9
 add-j : tie.Need-add-j Inv-loop μ-loop
-add-j c = search needs
+add-j c = ?
 
--- src/demod.rt:345:9
 add-q : tie.Need-add-q Inv-loop μ-loop
 add-q c = search needs
 
--- src/demod.rt:338:5
 loop-less : tie.Need-loop-less Inv-loop μ-loop
 loop-less c = search needs
 
--- src/demod.rt:338:5
 loop-again : tie.Need-loop-again Inv-loop μ-loop
-loop-again c = search needs
+loop-again c = (?, ?, ?, ?, record { small = ?; state-is = ?; points = record { re-is = ?; im-is = ?; re-length = ?; im-length = ? } })
 
--- src/demod.rt:325:1
 same-length : tie.Need-same-length Inv-loop μ-loop
-same-length c = search needs
+same-length c = ?
 
--- src/demod.rt:325:1
 same-length-2 : tie.Need-same-length-2 Inv-loop μ-loop
-same-length-2 c = search needs
+same-length-2 c = ?
 
--- src/demod.rt:325:1
 returns : tie.Need-returns Inv-loop μ-loop
-returns c = search needs
+returns c = ?
 
 pub encode-qpsk-spec : {M : Type 1} → statement M
 encode-qpsk-spec =
