@@ -7,3 +7,5 @@ pub mod Zero
 pub mod Whole
 pub mod Products
 pub mod Constants
+pub mod Conversion
+pub mod Bits

@@ -38,7 +38,7 @@ kept-le p n den =
 all-in-use : (z p : ℕ) → 0 < p → 0 < z - p → p - 1 + (z - p) < z
 all-in-use z p P h = omega arith
 
-kept-ge : (p n den : ℕ) → 0 < p → 0 < drop p n den → 2 ^ (p - 1) ≤ kept p n den
+pub kept-ge : (p n den : ℕ) → 0 < p → 0 < drop p n den → 2 ^ (p - 1) ≤ kept p n den
 kept-ge p n den P K =
     let k = drop p n den in
     let u = den * 2 ^ k in
@@ -70,12 +70,12 @@ pub rnd-same : (p a b c d : ℕ) → 0 < p → 0 < b → 0 < d → a * d ≡ c *
 rnd-same p a b c d P B D e = le-antisymm (rnd-mono p a b c d P B D (le-of-eq e)) (rnd-mono p c d a b P D B (le-of-eq (sym e)))
 
 -- ---- what `compare` says (as in `lib.Ieee.Nearest`, where it is private)
-abbrev Cmp : Ordering → ℕ → ℕ → Type 0
+abbrev pub Cmp : Ordering → ℕ → ℕ → Type 0
 Cmp Ordering·lt a b = a < b
 Cmp Ordering·eq a b = a ≡ b
 Cmp Ordering·gt a b = b < a
 
-cmp : (a b : ℕ) → Cmp (compare a b) a b
+pub cmp : (a b : ℕ) → Cmp (compare a b) a b
 cmp a b = go (compare a b) (leb→le a b) (nleb→lt a b) (eqb→eq a b) (λ (e : a ≡ b). subst (λ (x : ℕ). T (eqb a x)) e (eqb-refl a))
   where
     go : (o : Ordering) → (T (isLe o) → a ≤ b) → (T (not (isLe o)) → b < a) → (T (isEq o) → a ≡ b) → (a ≡ b → T (isEq o)) → Cmp o a b
@@ -107,20 +107,20 @@ pick w b r a Ordering·eq c e l =
     elim (parity w) [ inl z ↦ subst (λ (x : ℕ). Within (x * b) a b) (sym z) (stay w b r a e (le-of-eq c)) | inr z ↦ subst (λ (x : ℕ). Within (x * b) a b) (sym z) (step w b r a e l (le-of-eq (sym c))) ]
 pick w b r a Ordering·gt c e l = step w b r a e l (omega arith)
 
-pub closest-err : (a b : ℕ) → 0 < b → Within (closest a b * b) a b
+closest-err : (a b : ℕ) → 0 < b → Within (closest a b * b) a b
 closest-err a b B = pick (a / b) b (a % b) a (compare (a % b * 2) b) (cmp (a % b * 2) b) (div-add-mod' a b) (mod-lt a B)
 
 -- ---- the error of `rnd`, for a fraction below 2 ^ (p + j): half of 2 ^ j at most
 spare : (z p l : ℕ) → z ≤ p + l → z - p ≤ l
 spare z p l h = omega arith
 
-pub drop-le : (p n d j : ℕ) → 0 < d → n < 2 ^ (p + j) * d → drop p n d ≤ j
+drop-le : (p n d j : ℕ) → 0 < d → n < 2 ^ (p + j) * d → drop p n d ≤ j
 drop-le p n d j D h = spare (size (n / d)) p j (size-le (n / d) (p + j) (div-lt-iff-lt-mul D .1 h))
 
 widen : (c a b e : ℕ) → b ≤ e → Within c a b → Within c a e
 widen c a b e h w = omega arith
 
-pub rnd-err : (p n d j : ℕ) → 0 < d → n < 2 ^ (p + j) * d → Within (rnd p n d * d) n (d * 2 ^ j)
+rnd-err : (p n d j : ℕ) → 0 < d → n < 2 ^ (p + j) * d → Within (rnd p n d * d) n (d * 2 ^ j)
 rnd-err p n d j D h =
     let k = drop p n d in
     let u = d * 2 ^ k in
@@ -132,7 +132,7 @@ above-zero : (u : ℕ) → 0 < u → compare 0 u ≡ Ordering·lt
 above-zero zero h = absurd (lt-irrefl 0 h)
 above-zero (suc u) h = compare·zero-suc u
 
-pub closest-exact : (q u : ℕ) → 0 < u → closest (q * u) u ≡ q
+closest-exact : (q u : ℕ) → 0 < u → closest (q * u) u ≡ q
 closest-exact q u h =
     ap (λ (x : ℕ). nearest x (compare (q * u % u * 2) u)) (mul-div-cancel q h)
     ∙ ap (λ (x : ℕ). nearest q (compare (x * 2) u)) (mul-mod-left q u)

@@ -80,15 +80,15 @@ cross f s m e t n d p q =
     (right-units f n (mag f (fin t n d)) d e (shape f t n d (q .fits-x) .value))
 
 -- ---- tests
-or-l : (a b : Bool) → T a → T (a || b)
+pub or-l : (a b : Bool) → T a → T (a || b)
 or-l true b t = tt
 or-l false b t = absurd t
 
-or-r : (a b : Bool) → T b → T (a || b)
+pub or-r : (a b : Bool) → T b → T (a || b)
 or-r true b t = tt
 or-r false b t = t
 
-or-split : (a b : Bool) → T (a || b) → T a ⊎ T b
+pub or-split : (a b : Bool) → T (a || b) → T a ⊎ T b
 or-split true b t = inl tt
 or-split false b t = inr t
 
@@ -99,7 +99,7 @@ lt-or : (a b : ℕ) (c : Bool) → (T c → a ≡ b) → T (ltb a b || c) → a 
 lt-or a b c k t = elim (or-split (ltb a b) c t) [ inl u ↦ le-of-lt (ltb→lt a b u) | inr u ↦ le-of-eq (k u) ]
 
 -- ---- the sum of a and b is 0 or above
-sum-test : (a b : ℕ) → T (ltb 0 (a + b) || (eqb a b && eqb a 0))
+pub sum-test : (a b : ℕ) → T (ltb 0 (a + b) || (eqb a b && eqb a 0))
 sum-test a b = of-le 0 (a + b) (eqb a b && eqb a 0) (λ (e : 0 ≡ a + b). and-i (eqb a b) (eqb a 0) (eq→eqb {a = a} {b = b} (omega arith)) (eq→eqb {a = a} {b = 0} (omega arith))) zero-le
 
 -- a and b are 0 where A and B are

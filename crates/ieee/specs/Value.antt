@@ -42,7 +42,7 @@ pub record Num (f : Format) (x : Float) : Type 0 where
   pub fits-x : T (fits f x)
 
 -- ---- what fits is a whole number of units, m * 2 ^ j
-pow-cancel : (i j : ℕ) → 2 ^ i ≤ 2 ^ j → i ≤ j
+pub pow-cancel : (i j : ℕ) → 2 ^ i ≤ 2 ^ j → i ≤ j
 pow-cancel i j h = le-of-suc-le-suc (lt-of-not-le (λ (g : suc j ≤ i). not-le-of-lt (pow-lt g) h))
 
 pub record Shape (f : Format) (m : ℕ) (e : ℤ) (n : ℕ) : Type 0 where

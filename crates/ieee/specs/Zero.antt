@@ -3,18 +3,18 @@
 use mathlib.Core.Path.{_≡_, refl, sym, ap, _∙_, subst}
 use mathlib.Core.Bool.{Bool, true, false, not, _&&_, cond, true≢false, Bool·beq}
 use Prim.Native.Nat.{ℕ, zero, suc, _+_, _-_, _*_, _/_, _%_, _^_, _≤_, _<_, zero-le}
-use native.Mathlib.Nat.{le-trans, le-of-eq, le-antisymm, le-of-suc-le-suc, lt-irrefl, lt-of-not-le, not-le-of-lt, zero-lt-suc, mul-assoc, mul-left-comm, mul-one, one-mul, zero-mul, zero-div, mul-pos, pow-suc, pow-succ', eq-of-mul-eq-mul-right, add-zero}
+use native.Mathlib.Nat.{le-trans, le-of-eq, le-antisymm, lt-irrefl, lt-of-not-le, zero-lt-suc, mul-assoc, mul-left-comm, mul-one, one-mul, zero-mul, zero-div, mul-pos, pow-suc, pow-succ', eq-of-mul-eq-mul-right, add-zero}
 use native.Mathlib.Omega.{arith}
 use lib.IntN.{ℤ, pos, negsuc}
 use lib.Dec.{T, leb, ltb, eqb, eqb→eq, ltb→lt}
-use lib.Pow.{pow-pos, pow-lt}
+use lib.Pow.{pow-pos}
 use lib.Ieee.{Float, nan, inf, fin, Format, prec, emax, low, up, down, fits, odd, units, round, sum, add, sub, neg, binary32, binary64}
 use lib.Ieee.Fits.{up-pos, down-pos, and-l, round-is}
 use lib.Ieee.Exact.{HasValue, odd-sign}
 use lib.Ieee.Order.{drop, kept}
 use lib.Ieee.Scale.{overflow, round-same}
 use Rattle.ieee.specs.Nearest.{near, near-is, near-mono, near-fix}
-use Rattle.ieee.specs.Value.{mag, hi, lo, Num, shape, num-neg}
+use Rattle.ieee.specs.Value.{pow-cancel, mag, hi, lo, Num, shape, num-neg}
 use Rattle.ieee.specs.Order.{left-units, right-units, Cross, crossed}
 use Rattle.ieee.specs.Rounding.{prec-pos, fine-between, rounds-self}
 use Rattle.ieee.specs.Sums.{round-add, round-sub, round-bus, add-rounds}
@@ -43,11 +43,8 @@ is-odd f s m e t =
     (and-l (eqb (suc m % 2) 1 && ltb (suc m) (2 ^ prec f) && leb (down e) (2 ^ low f)) (ltb (suc m * up e) (2 ^ suc (emax f) * down e)) t)))
 
 -- ---- an exponent is given by up / down
-pow-le : (i j : ℕ) → 2 ^ i ≤ 2 ^ j → i ≤ j
-pow-le i j h = le-of-suc-le-suc (lt-of-not-le (λ (g : suc j ≤ i). not-le-of-lt (pow-lt g) h))
-
 pow-inj : (i j : ℕ) → 2 ^ i ≡ 2 ^ j → i ≡ j
-pow-inj i j e = le-antisymm (pow-le i j (le-of-eq e)) (pow-le j i (le-of-eq (sym e)))
+pow-inj i j e = le-antisymm (pow-cancel i j (le-of-eq e)) (pow-cancel j i (le-of-eq (sym e)))
 
 two-up : (p q : ℕ) → 0 < p → 0 < q → p * (2 * q) ≡ 1 → ⊥
 two-up p q P Q e = omega (arith, mul-pos P Q)
@@ -234,17 +231,20 @@ add-neutral f x y p q h a b =
     (r .lo-is ∙ ap (λ (n : ℕ). near (prec f) (n - (hi f x + hi f y))) N ∙ ap (λ (n : ℕ). near (prec f) (lo f x - n)) P ∙ sym (i .lo-is))
 
 -- ---- x - x
-round-zero : (f : Format) → round f false 0 1 ≡ fin false 0 (pos 0)
+over-one : (f : Format) (s : Bool) → round f s 0 1 ≡ fin s 0 (pos 0)
 unfolding round
-round-zero binary32 = refl
-round-zero binary64 = refl
+over-one binary32 s = refl
+over-one binary64 s = refl
+
+pub round-zero : (f : Format) (s : Bool) (c : ℕ) → 0 < c → round f s 0 c ≡ fin s 0 (pos 0)
+round-zero f s c C = round-same f s 0 c 0 1 C (zero-lt-suc 0) (sym (zero-mul c)) ∙ over-one f s
 
 sum-self : (f : Format) (s : Bool) (a c : ℕ) → 0 < c → sum f s a (not s) a c ≡ fin false 0 (pos 0)
 unfolding sum
 sum-self f s a c C = go s (ltb a a) (ltb→lt a a)
   where
     rest : round f false (a - a) c ≡ fin false 0 (pos 0)
-    rest = ap (λ (n : ℕ). round f false n c) (omega arith) ∙ round-same f false 0 c 0 1 C (zero-lt-suc 0) (sym (zero-mul c)) ∙ round-zero f
+    rest = ap (λ (n : ℕ). round f false n c) (omega arith) ∙ round-zero f false c C
 
     go : (s t : Bool) → (T t → a < a) → cond (Bool·beq s (not s)) (round f s (a + a) c) (cond t (round f (not s) (a - a) c) (round f (s && t) (a - a) c)) ≡ fin false 0 (pos 0)
     go false true h = absurd (lt-irrefl a (h tt))

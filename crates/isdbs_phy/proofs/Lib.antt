@@ -2,3 +2,6 @@ pub mod Encode
 pub mod Patterns
 pub mod Written
 pub mod EncodeQpsk
+pub mod Shift
+pub mod Narrow
+pub mod Sign
