@@ -5,3 +5,4 @@ pub mod EncodeQpsk
 pub mod Shift
 pub mod Narrow
 pub mod Sign
+pub mod EncodeFrame

@@ -6,3 +6,6 @@ pub mod Reading
 pub mod Pieces
 pub mod LawsUpto
 pub mod LawsState
+pub mod Places
+pub mod Sizes
+pub mod Encoding

@@ -7,12 +7,13 @@ use isdbs_core::combination::Combination;
 use isdbs_core::combination::MaybePuncture;
 use isdbs_core::combination::Modulation;
 use isdbs_core::slots::Run;
+use isdbs_core::slots::SLOT_BITS;
 use isdbs_core::tmcc::Table;
 use refusal::Answer;
 ghost use mathlib.Core.Path.{_≡_};
 ghost use mathlib.Core.Bool.{true, false, cond};
 ghost use Prim.Native.Nat.{ℕ, _+_, _*_, _/_, _%_, _<_, _≤_, _^_};
-ghost use lib.ListN.{length, getD};
+ghost use lib.ListN.{length, getD, take};
 ghost use lib.Ieee.{binary32, ofBits};
 ghost use Rattle.refusal.specs.Rows.{firstRow};
 ghost use Rattle.trellis.specs.Lists.{upto, laid};
@@ -25,6 +26,7 @@ ghost use Rattle.isdbs_core.specs.RunsOf.{runsOf};
 ghost use Rattle.isdbs_phy.specs.Points.{zero64, psk8Of, qpskOf, subset, turned};
 ghost use Rattle.isdbs_phy.specs.Layout.{orderOf, stepsPerPeriod, loadBit, wordBit};
 ghost use Rattle.isdbs_phy.specs.Frame.{labelAt, stateAfter, startState, frameRe, frameIm, endState};
+ghost use Rattle.isdbs_phy.specs.Encoding.{Tiled, RunsMade};
 ghost use Rattle.isdbs_phy.specs.Pieces.{pieceSymbols, PieceEncoded, PeriodEncoded, PatternOf, PairsWithin, motherBit, pairPoint};
 
 // 1 / sqrt 2 as an f64.
@@ -372,6 +374,35 @@ fn put_unused(n: usize, m: Mapping, re: &mut [f64], im: &mut [f64])
         im[i] = y;
         i += 1;
     }
+}
+
+// What the runs leave: the state after their last bit, and the symbol after their last one.
+pub struct RunsEncoded {
+    pub state: u8,
+    pub end: usize,
+}
+
+// The runs of a frame, one after the other; the state carries on.
+fn encode_runs(bytes: &[u8], list: [Run; 4], count: usize, start: u8, m: Mapping, re: &mut [f64], im: &mut [f64]) -> RunsEncoded
+    requires { ⌜ (count ≤ 4) × Tiled (take count list) × (start < 64) × (38976 ≤ length (now re)) × (38976 ≤ length (now im)) ⌝ }
+    ensures { λ r. ⌜ RunsMade (take count list) m (now (bytes .entry)) start r (now (re .entry)) (now (re .exit)) (now (im .entry)) (now (im .exit)) ⌝ }
+{
+    let mut state = start;
+    let mut bit: usize = 0;
+    let mut end: usize = 0;
+    let mut i: usize = 0;
+    while i < count {
+        let r = list[i];
+        let c = r.combination;
+        let first = r.symbol_start;
+        let valid = r.valid_slots;
+        let n = c.steps_per_slot() * valid;
+        state = encode_run(bytes, c, bit, n, state, m, &mut re[first..], &mut im[first..]);
+        bit += SLOT_BITS * valid;
+        end = r.symbol_end;
+        i += 1;
+    }
+    RunsEncoded { state, end }
 }
 
 // What encoding a frame answers: the encoder after the last bit, or as it was given.
