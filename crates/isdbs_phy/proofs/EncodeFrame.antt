@@ -7,6 +7,7 @@ use native.Mathlib.Nat.{zero-add, add-zero, add-assoc, not-suc-le-zero, mul-le-m
 use native.Mathlib.Omega.{arith}
 use lib.Ieee.{Float}
 use lib.ListN.{length, getD, take, drop}
+use lib.Seq.{getD-take}
 use Rattle.trellis.specs.Lists.{upto, laid}
 use Rattle.trellis.specs.Code.{stateAt}
 use Rattle.isdb_fec.specs.Upto.{getD-upto}
@@ -24,12 +25,12 @@ use Rattle.isdbs_phy.specs.declared.demod.Mapping.{Mapping}
 use Rattle.isdbs_phy.specs.Points.{unused, bpskOf, qpskOf, psk8Of, subset}
 use Rattle.isdbs_phy.specs.Layout.{Segment, segmentOf, segmentsFrom, among, sentOrder, orderOf, stepsPerPeriod, orderIn, periodIn, loadBit}
 use Rattle.isdbs_phy.specs.Frame.{inputIn, codedBit, sentBit, labelAt, pointIn, pointBy}
-use Rattle.isdbs_phy.specs.Pieces.{piece, pieceInputs, pieceLabel, pieceState, pieceSymbols, mapped, piecePoint}
+use Rattle.isdbs_phy.specs.Pieces.{piece, pieceInputs, pieceLabel, pieceState, pieceSymbols, mapped, piecePoint, pieceRe, pieceIm, PieceEncoded}
 use Rattle.isdbs_phy.specs.LawsState.{Follow, state-shift, label-shift}
 use Rattle.isdbs_phy.specs.Places.{In, Fill, fill-member, among-at, getD-in, before, before-more, fill-first}
 use Rattle.isdbs_phy.specs.Sizes.{Whole, fill-steps, fill-bits}
-use Rattle.isdbs_phy.specs.Encoding.{inputsOf, pointOf, Tiled}
-use Rattle.isdbs_phy.proofs.Encode.{Put, put-part, Going}
+use Rattle.isdbs_phy.specs.Encoding.{symbolsOf, inputsOf, pointOf, Tiled, RunsMade}
+use Rattle.isdbs_phy.proofs.Encode.{Put, put-part, Going, tail-back}
 use Rattle.isdbs_phy.proofs.Patterns.{pattern-some, pattern-none}
 
 -- ---- the coded bits that a run sends are of its steps
@@ -180,3 +181,96 @@ module _ (rs : List Run) (m : Mapping) (load : List ℕ) (s : ℕ) (tl : Tiled r
           (omega arith) (omega arith) (rw (z .symbols-are) at ere) (rw (z .symbols-are) at eim)
           (λ j l. ap (λ (p : Cplx). p .re) (point-of g i state (w .state-is) j l)) (λ j l. ap (λ (p : Cplx). p .im) (point-of g i state (w .state-is) j l));
       }
+
+-- ---- run i of a list
+abbrev symbolsAt : List Run → ℕ → ℕ
+symbolsAt rs i = before (λ g. g .symbols) (segmentsFrom rs 0 0) i
+
+abbrev stepsAt : List Run → ℕ → ℕ
+stepsAt rs i = before (λ g. g .steps) (segmentsFrom rs 0 0) i
+
+abbrev bitsAt : List Run → ℕ → ℕ
+bitsAt rs i = before (λ g. g .bits) (segmentsFrom rs 0 0) i
+
+pub record RunAt (rs : List Run) (i : ℕ) (r : Run) : Type 0 where
+  pub member : In (segmentOf r (stepsAt rs i) (bitsAt rs i)) (segmentsFrom rs 0 0)
+  pub starts : r .«symbol_start» ≡ symbolsAt rs i
+  pub ends : r .«symbol_end» ≡ symbolsAt rs (i + 1)
+  pub symbols : symbolsAt rs (i + 1) ≡ symbolsAt rs i + (r .«symbol_end» - r .«symbol_start»)
+  pub steps : stepsAt rs (i + 1) ≡ stepsAt rs i + stepsOf r
+  pub bits : bitsAt rs (i + 1) ≡ bitsAt rs i + 1624 * r .«valid_slots»
+  pub fits : symbolsAt rs (i + 1) ≤ 38976
+  pub size : Sized (r .combination) (r .«symbol_end» - r .«symbol_start») (stepsOf r) (1624 * r .«valid_slots»)
+  pub few-bits : 1624 * r .«valid_slots» ≤ 2 * (r .«symbol_end» - r .«symbol_start»)
+  pub few-steps : stepsOf r ≤ 77952
+
+run-at : (rs : List Run) → Tiled rs → (i : ℕ) → i < length rs → RunAt rs i (getD rs i noRun)
+run-at rs tl i h =
+    let segs = segmentsFrom rs 0 0 in
+    let d = noSegment in
+    let r = getD rs i noRun in
+    let l : i < length segs = rw (length-segments rs 0 0) h in
+    let g = segmentOf r (stepsAt rs i) (bitsAt rs i) in
+    let e : getD segs i d ≡ g = rw (zero-add (stepsAt rs i), zero-add (bitsAt rs i)) at (segment-at rs 0 0 i h) in
+    let mem : In g segs = rw e at (getD-in segs i d l) in
+    let symbol-is : r .«symbol_start» ≡ 0 + symbolsAt rs i = rw e at (fill-first (λ g. g .symbol) (λ g. g .symbols) segs 0 _ (tl .fill) i d l) in
+    let more : symbolsAt rs (i + 1) ≡ symbolsAt rs i + (r .«symbol_end» - r .«symbol_start») = rw e at (before-more (λ g. g .symbols) segs i d l) in
+    let o = tl .ordered i h in
+    let top = fill-member (λ g. g .symbol) (λ g. g .symbols) g segs 0 _ mem (tl .fill) .1 in
+    let fits = tl .fits in
+    let z = sized g (tl .whole g mem) in
+    let zb = z .few-bits in
+    let zs = z .few-steps in
+    record {
+      member = mem;
+      starts = omega arith;
+      ends = omega arith;
+      symbols = more;
+      steps = rw e at (before-more (λ g. g .steps) segs i d l);
+      bits = rw e at (before-more (λ g. g .bits) segs i d l);
+      fits = omega arith;
+      size = z;
+      few-bits = zb;
+      few-steps = omega arith;
+    }
+
+pub run-in : (list : List Run) (count i : ℕ) → length (take count list) ≡ count → Tiled (take count list) → i < count → RunAt (take count list) i (getD list i noRun)
+run-in list count i e tl h = rw (getD-take count list i noRun h) at (run-at (take count list) tl i (rw e h))
+
+-- ---- run i of the first `count` of a list, encoded over the parts from its first symbol on
+module _ (list : List Run) (count : ℕ) (m : Mapping) (load : List ℕ) (s : ℕ) where
+  abbrev rs : List Run
+  rs = take count list
+
+  pub run-more : length rs ≡ count → (tl : Tiled rs) → (i : ℕ) → i < count → {re₀ im₀ re im : List Float} {state : ℕ}
+      → Going (inputsOf rs load) s (λ k. pointOf rs m load s k .re) (λ k. pointOf rs m load s k .im) re₀ im₀ re im state (stepsAt rs i) (symbolsAt rs i)
+      → 38976 ≤ length re₀ → 38976 ≤ length im₀ → (bit n r : ℕ) → bit ≡ bitsAt rs i → n ≡ stepsOf (getD list i noRun) → {p q : List Float}
+      → PieceEncoded (getD list i noRun .combination) m load bit n state r
+          (take (length re - getD list i noRun .«symbol_start») (drop (getD list i noRun .«symbol_start») re)) p
+          (take (length im - getD list i noRun .«symbol_start») (drop (getD list i noRun .«symbol_start») im)) q
+      → Going (inputsOf rs load) s (λ k. pointOf rs m load s k .re) (λ k. pointOf rs m load s k .im) re₀ im₀
+          (take (getD list i noRun .«symbol_start») re ++ (p ++ drop (length re - getD list i noRun .«symbol_start») (drop (getD list i noRun .«symbol_start») re)))
+          (take (getD list i noRun .«symbol_start») im ++ (q ++ drop (length im - getD list i noRun .«symbol_start») (drop (getD list i noRun .«symbol_start») im)))
+          r (stepsAt rs (i + 1)) (symbolsAt rs (i + 1))
+  run-more el tl i h {re₀} {im₀} {re} {im} {state} w hr hi bit n r eb en {p} {q} t =
+      let run = getD list i noRun in
+      let start = run .«symbol_start» in
+      let a = run-in list count i el tl h in
+      let f = a .fits in
+      let g = segmentOf run (stepsAt rs i) (bitsAt rs i) in
+      let w' : Going (inputsOf rs load) s (λ k. pointOf rs m load s k .re) (λ k. pointOf rs m load s k .im) re₀ im₀ re im state (stepsAt rs i) start = rw (a .starts) w in
+      let t' : PieceEncoded (run .combination) m load (bitsAt rs i) (stepsOf run) state r (take (length re - start) (drop start re)) p (take (length im - start) (drop start im)) q =
+          rw (← eb, ← en) t in
+      let lr : start ≤ length re = omega (arith, w .points .re-length, a .starts, a .symbols) in
+      let li : start ≤ length im = omega (arith, w .points .im-length, a .starts, a .symbols) in
+      rw (a .steps, a .symbols, ← a .starts)
+      (going-run rs m load s tl g (a .member) w' hr hi (t' .small) (t' .state-is)
+      (tail-back start re (pieceRe (run .combination) m load (bitsAt rs i) (stepsOf run) state) lr (t' .re-is))
+      (tail-back start im (pieceIm (run .combination) m load (bitsAt rs i) (stepsOf run) state) li (t' .im-is)))
+
+-- ---- all runs
+pub runs-end : (rs : List Run) (m : Mapping) (load : List ℕ) (s : ℕ) {re₀ im₀ re im : List Float} {state k j : ℕ}
+    → Going (inputsOf rs load) s (λ k. pointOf rs m load s k .re) (λ k. pointOf rs m load s k .im) re₀ im₀ re im state k j
+    → (end : ℕ) → k ≡ stepsIn rs → j ≡ symbolsOf rs → end ≡ j → RunsMade rs m load s (record { state = state; end = end }) re₀ re im₀ im
+runs-end rs m load s w end ek ej ee =
+    record { end-is = ee ∙ ej; state-is = rw ek at (w .state-is); re-is = rw ej at (w .points .re-is); im-is = rw ej at (w .points .im-is) }

@@ -19,12 +19,12 @@ use Rattle.isdbs_phy.specs.Layout.{Segment, segmentOf, segmentsFrom, seg
 use Rattle.isdbs_phy.specs.Places.{In, here, there, Fill, Found, fill-member, among-at, find}
 
 -- ---- steps and bits
-fill-steps : (rs : List Run) (s b : ℕ) → Fill (λ g. g .step) (λ g. g .steps) (segmentsFrom rs s b) s (s + stepsIn rs)
+pub fill-steps : (rs : List Run) (s b : ℕ) → Fill (λ g. g .step) (λ g. g .steps) (segmentsFrom rs s b) s (s + stepsIn rs)
 unfolding Fill segmentsFrom stepsIn
 fill-steps [] s b = omega arith
 fill-steps (r ∷ rs) s b = (refl, rw (← add-assoc s (stepsOf r) (stepsIn rs)) (fill-steps rs (s + stepsOf r) (b + 1624 * r .«valid_slots»)))
 
-fill-bits : (rs : List Run) (s b : ℕ) → Fill (λ g. g .bit) (λ g. g .bits) (segmentsFrom rs s b) b (b + 1624 * validIn rs)
+pub fill-bits : (rs : List Run) (s b : ℕ) → Fill (λ g. g .bit) (λ g. g .bits) (segmentsFrom rs s b) b (b + 1624 * validIn rs)
 unfolding Fill segmentsFrom validIn
 fill-bits [] s b = omega arith
 fill-bits (r ∷ rs) s b =
@@ -32,7 +32,7 @@ fill-bits (r ∷ rs) s b =
     (refl, rw e (fill-bits rs (s + stepsOf r) (b + 1624 * r .«valid_slots»)))
 
 -- ---- symbols
-unfoldable symbolSum : List Entry → ℕ
+unfoldable pub symbolSum : List Entry → ℕ
 symbolSum [] = 0
 symbolSum (e ∷ es) = entrySymbols (entryCombination e) (e .slots) + symbolSum es
 
@@ -48,7 +48,7 @@ entry-symbols (Some c) n slot symbol end rs s b h =
     (refl, rw e (h (s + stepsOf r) (b + 1624 * r .«valid_slots»)))
 entry-symbols None n slot symbol end rs s b h = rw (add-zero symbol) at (h s b)
 
-fill-symbols : (es : List Entry) (slot symbol s b : ℕ) → FillSymbols (segmentsFrom (runsFrom es slot symbol) s b) symbol (symbol + symbolSum es)
+pub fill-symbols : (es : List Entry) (slot symbol s b : ℕ) → FillSymbols (segmentsFrom (runsFrom es slot symbol) s b) symbol (symbol + symbolSum es)
 unfolding Fill segmentsFrom runsFrom symbolSum
 fill-symbols [] slot symbol s b = omega arith
 fill-symbols (e ∷ es) slot symbol s b =
@@ -78,7 +78,7 @@ entry-symbols-few : (c : MaybeCombination) (n : ℕ) → entrySymbols c n ≤ 81
 entry-symbols-few (Some c) n = symbols-few c n
 entry-symbols-few None n = omega arith
 
-symbol-sum-few : (es : List Entry) → symbolSum es ≤ 812 * slotSum es
+pub symbol-sum-few : (es : List Entry) → symbolSum es ≤ 812 * slotSum es
 unfolding symbolSum slotSum
 symbol-sum-few [] = omega arith
 symbol-sum-few (e ∷ es) = omega (arith, entry-symbols-few (entryCombination e) (e .slots), symbol-sum-few es)

@@ -384,7 +384,7 @@ pub struct RunsEncoded {
 
 // The runs of a frame, one after the other; the state carries on.
 fn encode_runs(bytes: &[u8], list: [Run; 4], count: usize, start: u8, m: Mapping, re: &mut [f64], im: &mut [f64]) -> RunsEncoded
-    requires { ⌜ (count ≤ 4) × Tiled (take count list) × (start < 64) × (38976 ≤ length (now re)) × (38976 ≤ length (now im)) ⌝ }
+    requires { ⌜ (count ≤ 4) × (length (take count list) ≡ count) × Tiled (take count list) × (start < 64) × (38976 ≤ length (now re)) × (38976 ≤ length (now im)) ⌝ }
     ensures { λ r. ⌜ RunsMade (take count list) m (now (bytes .entry)) start r (now (re .entry)) (now (re .exit)) (now (im .entry)) (now (im .exit)) ⌝ }
 {
     let mut state = start;
