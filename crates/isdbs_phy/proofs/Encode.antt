@@ -58,9 +58,9 @@ module _ {f g : ℕ → Float} {re₀ im₀ re im : List Float} {j : ℕ} where
       → ((i : ℕ) → i < n → f' i ≡ f (j + i)) → ((i : ℕ) → i < n → g' i ≡ g (j + i)) → Put f g re₀ im₀ re' im' (j + n)
   put-part r f' g' n re' im' hr hi er ei ef eg =
       let a : re' ≡ laid (upto f (j + n)) re₀ =
-          er ∙ ap (λ (x : List Float). take j x ++ laid (upto f' n) (drop j x)) (r .re-is) ∙ laid-part f f' j n re₀ ef in
+      er ∙ ap (λ (x : List Float). take j x ++ laid (upto f' n) (drop j x)) (r .re-is) ∙ laid-part f f' j n re₀ ef in
       let b : im' ≡ laid (upto g (j + n)) im₀ =
-          ei ∙ ap (λ (x : List Float). take j x ++ laid (upto g' n) (drop j x)) (r .im-is) ∙ laid-part g g' j n im₀ eg in
+      ei ∙ ap (λ (x : List Float). take j x ++ laid (upto g' n) (drop j x)) (r .im-is) ∙ laid-part g g' j n im₀ eg in
       record {
         re-is = a;
         im-is = b;

@@ -155,10 +155,10 @@ module _ (rs : List Run) (m : Mapping) (load : List ℕ) (s : ℕ) (tl : Tiled r
       let vs = pieceInputs c load (g .bit) (g .steps) in
       let z = sized g (tl .whole g i) in
       let same : (k : ℕ) → k < g .steps → labelAt s us (g .step + k) ≡ labelAt state vs (0 + k) =
-          λ k l. label-shift s us (g .step) vs (g .steps) (follow g i) k l ∙ rw (zero-add k, e) in
+      λ k l. label-shift s us (g .step) vs (g .steps) (follow g i) k l ∙ rw (zero-add k, e) in
       ap (λ (p : Cplx). mapped m p) (
-        sym (point-same m load (labelAt s us) (labelAt state vs) g (g .steps) same (modulationOf c) j (in-range c (g .steps) j (rw (z .symbols-are) l)))
-        ∙ sym (among-at (λ g. g .symbol) (λ g. g .symbols) unused (pointIn m load (labelAt s us)) g segs 0 _ i (tl .fill) j l)
+      sym (point-same m load (labelAt s us) (labelAt state vs) g (g .steps) same (modulationOf c) j (in-range c (g .steps) j (rw (z .symbols-are) l)))
+      ∙ sym (among-at (λ g. g .symbol) (λ g. g .symbols) unused (pointIn m load (labelAt s us)) g segs 0 _ i (tl .fill) j l)
       )
 
   pub going-run : {re₀ im₀ re im re' im' : List Float} {state r : ℕ} (g : Segment) → In g segs
@@ -178,8 +178,8 @@ module _ (rs : List Run) (m : Mapping) (load : List ℕ) (s : ℕ) (tl : Tiled r
         small = small;
         state-is = er ∙ ap (λ (x : ℕ). stateAt 32 x vs (g .steps)) (w .state-is) ∙ sym (state-shift 32 s us (g .step) vs (g .steps) (follow g i));
         points = put-part (w .points) (λ j. piecePoint c m load (g .bit) (g .steps) state j .re) (λ j. piecePoint c m load (g .bit) (g .steps) state j .im) (g .symbols) re' im'
-          (omega arith) (omega arith) (rw (z .symbols-are) at ere) (rw (z .symbols-are) at eim)
-          (λ j l. ap (λ (p : Cplx). p .re) (point-of g i state (w .state-is) j l)) (λ j l. ap (λ (p : Cplx). p .im) (point-of g i state (w .state-is) j l));
+            (omega arith) (omega arith) (rw (z .symbols-are) at ere) (rw (z .symbols-are) at eim)
+            (λ j l. ap (λ (p : Cplx). p .re) (point-of g i state (w .state-is) j l)) (λ j l. ap (λ (p : Cplx). p .im) (point-of g i state (w .state-is) j l));
       }
 
 -- ---- run i of a list
@@ -246,12 +246,12 @@ module _ (list : List Run) (count : ℕ) (m : Mapping) (load : List ℕ) (s : �
       → Going (inputsOf rs load) s (λ k. pointOf rs m load s k .re) (λ k. pointOf rs m load s k .im) re₀ im₀ re im state (stepsAt rs i) (symbolsAt rs i)
       → 38976 ≤ length re₀ → 38976 ≤ length im₀ → (bit n r : ℕ) → bit ≡ bitsAt rs i → n ≡ stepsOf (getD list i noRun) → {p q : List Float}
       → PieceEncoded (getD list i noRun .combination) m load bit n state r
-          (take (length re - getD list i noRun .«symbol_start») (drop (getD list i noRun .«symbol_start») re)) p
-          (take (length im - getD list i noRun .«symbol_start») (drop (getD list i noRun .«symbol_start») im)) q
+      (take (length re - getD list i noRun .«symbol_start») (drop (getD list i noRun .«symbol_start») re)) p
+      (take (length im - getD list i noRun .«symbol_start») (drop (getD list i noRun .«symbol_start») im)) q
       → Going (inputsOf rs load) s (λ k. pointOf rs m load s k .re) (λ k. pointOf rs m load s k .im) re₀ im₀
-          (take (getD list i noRun .«symbol_start») re ++ (p ++ drop (length re - getD list i noRun .«symbol_start») (drop (getD list i noRun .«symbol_start») re)))
-          (take (getD list i noRun .«symbol_start») im ++ (q ++ drop (length im - getD list i noRun .«symbol_start») (drop (getD list i noRun .«symbol_start») im)))
-          r (stepsAt rs (i + 1)) (symbolsAt rs (i + 1))
+      (take (getD list i noRun .«symbol_start») re ++ (p ++ drop (length re - getD list i noRun .«symbol_start») (drop (getD list i noRun .«symbol_start») re)))
+      (take (getD list i noRun .«symbol_start») im ++ (q ++ drop (length im - getD list i noRun .«symbol_start») (drop (getD list i noRun .«symbol_start») im)))
+      r (stepsAt rs (i + 1)) (symbolsAt rs (i + 1))
   run-more el tl i h {re₀} {im₀} {re} {im} {state} w hr hi bit n r eb en {p} {q} t =
       let run = getD list i noRun in
       let start = run .«symbol_start» in
@@ -260,7 +260,7 @@ module _ (list : List Run) (count : ℕ) (m : Mapping) (load : List ℕ) (s : �
       let g = segmentOf run (stepsAt rs i) (bitsAt rs i) in
       let w' : Going (inputsOf rs load) s (λ k. pointOf rs m load s k .re) (λ k. pointOf rs m load s k .im) re₀ im₀ re im state (stepsAt rs i) start = rw (a .starts) w in
       let t' : PieceEncoded (run .combination) m load (bitsAt rs i) (stepsOf run) state r (take (length re - start) (drop start re)) p (take (length im - start) (drop start im)) q =
-          rw (← eb, ← en) t in
+      rw (← eb, ← en) t in
       let lr : start ≤ length re = omega (arith, w .points .re-length, a .starts, a .symbols) in
       let li : start ≤ length im = omega (arith, w .points .im-length, a .starts, a .symbols) in
       rw (a .steps, a .symbols, ← a .starts)

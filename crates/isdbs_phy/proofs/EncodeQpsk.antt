@@ -157,14 +157,14 @@ module _ (load : List ℕ) (bit n s : ℕ) (m : Mapping) (period count : ℕ) (p
       let vs = plainInputs load (bit + done) period in
       let f : Follow us done vs period = follow done (omega arith) in
       let labels : (k : ℕ) → k < period → getD (e .labels) k 0 ≡ at (q * period + k) =
-          λ k l. t .labels-are k l ∙ ap (λ (x : ℕ). labelAt x vs k) (r .state-is) ∙ sym (label-shift s us done vs period f k l) ∙ ap (λ (x : ℕ). at (x + k)) ed in
+      λ k l. t .labels-are k l ∙ ap (λ (x : ℕ). labelAt x vs k) (r .state-is) ∙ sym (label-shift s us done vs period f k l) ∙ ap (λ (x : ℕ). at (x + k)) ed in
       let points : (i : ℕ) → i < count → pairPoint m (e .labels) ps i ≡ patternPoint m at period count ps (j + i) =
-          λ i l. pair-point m at period count ps (e .labels) q i labels (label-small s us) w l ∙ ap (λ (x : ℕ). patternPoint m at period count ps (x + i)) (sym ej) in
+      λ i l. pair-point m at period count ps (e .labels) q i labels (label-small s us) w l ∙ ap (λ (x : ℕ). patternPoint m at period count ps (x + i)) (sym ej) in
       record {
         small = t .small;
         state-is = t .state-is ∙ ap (λ (x : ℕ). stateAt 32 x vs period) (r .state-is) ∙ sym (state-shift 32 s us done vs period f);
         points = put-part (r .points) (λ i. pairPoint m (e .labels) ps i .re) (λ i. pairPoint m (e .labels) ps i .im) count re' im' (omega arith) (omega arith) er ei
-          (λ i l. ap (λ (z : Cplx). z .re) (points i l)) (λ i l. ap (λ (z : Cplx). z .im) (points i l));
+            (λ i l. ap (λ (z : Cplx). z .re) (points i l)) (λ i l. ap (λ (z : Cplx). z .im) (points i l));
       }
 
 -- ---- the points of the run
@@ -183,16 +183,28 @@ module _ (c : Combination) (p : Pattern) (r : PatternOf (punctureOf c) p) (at : 
       let i = j % p .count in
       let h : 2 * i < 2 * p .count = omega (arith, within-count) in
       let e : 2 * j ≡ j / p .count * (2 * p .count) + 2 * i = omega (arith, split) in
-      rw (r .count-is, quotient (2 * p .count) (j / p .count) (2 * i) (2 * j) h e, remainder (2 * p .count) (j / p .count) (2 * i) (2 * j) h e,
-        ← r .first i within-count, ← r .period-is, zero-add (j / p .count * p .period + pair .p1 / 2))
+      rw (
+        r .count-is,
+        quotient (2 * p .count) (j / p .count) (2 * i) (2 * j) h e,
+        remainder (2 * p .count) (j / p .count) (2 * i) (2 * j) h e,
+        ← r .first i within-count,
+        ← r .period-is,
+        zero-add (j / p .count * p .period + pair .p1 / 2),
+      )
 
   sent-second : sentBit at (piece c bit) (2 * j + 1) ≡ patternBit at (j / p .count * p .period) (pair .p0)
   sent-second =
       let i = j % p .count in
       let h : 2 * i + 1 < 2 * p .count = omega (arith, within-count) in
       let e : 2 * j + 1 ≡ j / p .count * (2 * p .count) + (2 * i + 1) = omega (arith, split) in
-      rw (r .count-is, quotient (2 * p .count) (j / p .count) (2 * i + 1) (2 * j + 1) h e, remainder (2 * p .count) (j / p .count) (2 * i + 1) (2 * j + 1) h e,
-        ← r .second i within-count, ← r .period-is, zero-add (j / p .count * p .period + pair .p0 / 2))
+      rw (
+        r .count-is,
+        quotient (2 * p .count) (j / p .count) (2 * i + 1) (2 * j + 1) h e,
+        remainder (2 * p .count) (j / p .count) (2 * i + 1) (2 * j + 1) h e,
+        ← r .second i within-count,
+        ← r .period-is,
+        zero-add (j / p .count * p .period + pair .p0 / 2),
+      )
 
 pub piece-pattern : (c : Combination) (p : Pattern) (r : PatternOf (punctureOf c) p) (m : Mapping) (load : List ℕ) (bit n s j : ℕ) → modulationOf c ≡ Qpsk
     → patternPoint m (labelAt s (plainInputs load bit n)) (p .period) (p .count) (p .pairs) j ≡ piecePoint c m load bit n s j
@@ -200,9 +212,9 @@ unfolding patternPoint piecePoint
 piece-pattern c p r m load bit n s j e =
     let at = labelAt s (plainInputs load bit n) in
     sym (
-      ap (λ (us : List ℕ). mapped m (pointIn m load (labelAt s us) (piece c bit) j)) (plain c load bit n e)
-      ∙ ap (λ (z : Cplx). mapped m z) (in-qpsk c m load at bit j e ∙ ap (λ (x : ℕ). qpskOf (m .«qpsk_p1_on_q») x (sentBit at (piece c bit) (2 * j + 1))) (sent-first c p r at bit j)
-      ∙ ap (λ (x : ℕ). qpskOf (m .«qpsk_p1_on_q») (patternBit at (j / p .count * p .period) (getD (p .pairs) (j % p .count) noPair .p1)) x) (sent-second c p r at bit j))
+    ap (λ (us : List ℕ). mapped m (pointIn m load (labelAt s us) (piece c bit) j)) (plain c load bit n e)
+    ∙ ap (λ (z : Cplx). mapped m z) (in-qpsk c m load at bit j e ∙ ap (λ (x : ℕ). qpskOf (m .«qpsk_p1_on_q») x (sentBit at (piece c bit) (2 * j + 1))) (sent-first c p r at bit j)
+    ∙ ap (λ (x : ℕ). qpskOf (m .«qpsk_p1_on_q») (patternBit at (j / p .count * p .period) (getD (p .pairs) (j % p .count) noPair .p1)) x) (sent-second c p r at bit j))
     )
 
 -- ---- the whole run
@@ -215,9 +227,9 @@ module _ (c : Combination) (p : Pattern) (r : PatternOf (punctureOf c) p) (m : M
       let k : j ≡ pieceSymbols c n = ej ∙ ap (λ (x : ℕ). x * p .count) eq ∙ sym (symbols-qpsk c n e ∙ rw (half-order c p r, ← r .period-is)) in
       let point = piece-pattern c p r m load bit n s in
       let re-front : upto (qpskRe load bit n s m (p .period) (p .count) (p .pairs)) j ≡ upto (λ i. piecePoint c m load bit n s i .re) (pieceSymbols c n) =
-          rw k (upto-cong (qpskRe load bit n s m (p .period) (p .count) (p .pairs)) (λ i. piecePoint c m load bit n s i .re) (pieceSymbols c n) (λ i l. ap (λ (z : Cplx). z .re) (point i e))) in
+      rw k (upto-cong (qpskRe load bit n s m (p .period) (p .count) (p .pairs)) (λ i. piecePoint c m load bit n s i .re) (pieceSymbols c n) (λ i l. ap (λ (z : Cplx). z .re) (point i e))) in
       let im-front : upto (qpskIm load bit n s m (p .period) (p .count) (p .pairs)) j ≡ upto (λ i. piecePoint c m load bit n s i .im) (pieceSymbols c n) =
-          rw k (upto-cong (qpskIm load bit n s m (p .period) (p .count) (p .pairs)) (λ i. piecePoint c m load bit n s i .im) (pieceSymbols c n) (λ i l. ap (λ (z : Cplx). z .im) (point i e))) in
+      rw k (upto-cong (qpskIm load bit n s m (p .period) (p .count) (p .pairs)) (λ i. piecePoint c m load bit n s i .im) (pieceSymbols c n) (λ i l. ap (λ (z : Cplx). z .im) (point i e))) in
       record {
         small = g .small;
         state-is = g .state-is ∙ ap (λ (x : ℕ). stateAt 32 s (plainInputs load bit n) x) d ∙ ap (λ (us : List ℕ). stateAt 32 s us n) (sym (plain c load bit n e));

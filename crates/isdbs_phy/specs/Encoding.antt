@@ -6,12 +6,10 @@ use Prim.Native.Nat.{ℕ, _+_, _-_, _*_, _<_, _≤_}
 use lib.Dec.{ltb}
 use lib.Ieee.{Float}
 use lib.ListN.{length, getD}
-use Rattle.refusal.specs.declared.Answer.{Answer}
-use Rattle.refusal.specs.declared.Answer.the-variants.{Accepted, State, Space}
+use Rattle.refusal.specs.declared.Answer.the-variants.{State, Space}
 use Rattle.refusal.specs.Rows.{Row}
 use Rattle.trellis.specs.Lists.{upto, laid}
 use Rattle.trellis.specs.Code.{stateAt}
-use Rattle.isdb_fec.specs.declared.conv.ConvEncoder.{ConvEncoder}
 use Rattle.isdbs_core.specs.declared.slots.Run.{Run}
 use Rattle.isdbs_core.specs.declared.tmcc.Table.{Table}
 use Rattle.isdbs_core.specs.Lists.{either}
@@ -19,42 +17,35 @@ use Rattle.isdbs_core.specs.Tables.{tableRows}
 use Rattle.isdbs_core.specs.RunsOf.{stepsIn, noRun}
 use Rattle.isdbs_phy.specs.declared.Cplx.{Cplx}
 use Rattle.isdbs_phy.specs.declared.demod.Mapping.{Mapping}
-use Rattle.isdbs_phy.specs.declared.demod.FrameEncoded.{FrameEncoded}
 use Rattle.isdbs_phy.specs.declared.demod.RunsEncoded.{RunsEncoded}
 use Rattle.isdbs_phy.specs.Points.{unused}
 use Rattle.isdbs_phy.specs.Layout.{Segment, segmentsFrom, among}
-use Rattle.isdbs_phy.specs.Frame.{inputIn, labelAt, pointIn, frameRe, frameIm, endState}
+use Rattle.isdbs_phy.specs.Frame.{inputIn, labelAt, pointIn, frameRe, frameIm}
 use Rattle.isdbs_phy.specs.Pieces.{mapped}
 use Rattle.isdbs_phy.specs.Places.{In, Fill, before}
 use Rattle.isdbs_phy.specs.Sizes.{Whole}
 
--- refusal 9: "a lent output .. shorter than this call writes": 38,976 points
-abbrev pub shortParts : List Float → List Float → Bool
-shortParts re im = either (ltb (length re) 38976) (ltb (length im) 38976)
+-- refusal 9: "a lent output .. shorter than this call writes": 38,976 points, in parts of a and b elements
+abbrev pub shortParts : ℕ → ℕ → Bool
+shortParts a b = either (ltb a 38976) (ltb b 38976)
 
 -- the rows of `encode_frame`: 1 and 9
-abbrev pub encodeFrameRows : Table → List Float → List Float → List Row
-encodeFrameRows t re im = tableRows t ++ (Space, shortParts re im) ∷ []
+abbrev pub encodeFrameRows : Table → ℕ → ℕ → List Row
+encodeFrameRows t a b = tableRows t ++ (Space, shortParts a b) ∷ []
 
 -- the rows of `encode_frame_with_state`: 1, 4 ("encoder state above 63") and 9
-abbrev pub encodeRows : Table → ℕ → List Float → List Float → List Row
-encodeRows t s re im = tableRows t ++ (State, ltb 63 s) ∷ (Space, shortParts re im) ∷ []
+abbrev pub encodeRows : Table → ℕ → ℕ → ℕ → List Row
+encodeRows t s a b = tableRows t ++ (State, ltb 63 s) ∷ (Space, shortParts a b) ∷ []
 
 -- accepted: the frame lies over the beginning of the lent parts; what stands past its 38,976 points is as before
-pub record FrameMade (t : Table) (m : Mapping) (load : List ℕ) (s r : ℕ) (re₀ re im₀ im : List Float) : Type 0 where
-  pub state-is : r ≡ endState t load s
+pub record FrameLaid (t : Table) (m : Mapping) (load : List ℕ) (s : ℕ) (re₀ re im₀ im : List Float) : Type 0 where
   pub re-is : re ≡ laid (frameRe t m load s) re₀
   pub im-is : im ≡ laid (frameIm t m load s) im₀
 
--- refused: "states come back as given and no buffer changes"
-pub record FrameKept (enc r : ConvEncoder) (re₀ re im₀ im : List Float) : Type 0 where
-  pub state-is : r ≡ enc
+-- refused: "no buffer changes"
+pub record PartsKept (re₀ re im₀ im : List Float) : Type 0 where
   pub re-is : re ≡ re₀
   pub im-is : im ≡ im₀
-
--- one thing where the call is accepted, another where it is refused
-abbrev pub Either : Answer → Type 0 → Type 0 → Type 0
-Either a done kept = (a ≡ Accepted → done) × ((a ≡ Accepted → ⊥) → kept)
 
 -- ---- the frame as a list of runs makes it: with the runs of a table it is the table's
 abbrev pub symbolsOf : List Run → ℕ

@@ -6,15 +6,20 @@ use isdbs_core::combination::BitPair;
 use isdbs_core::combination::Combination;
 use isdbs_core::combination::MaybePuncture;
 use isdbs_core::combination::Modulation;
+use isdbs_core::frame::W2;
+use isdbs_core::frame::W3;
 use isdbs_core::slots::Run;
 use isdbs_core::slots::SLOT_BITS;
+use isdbs_core::slots::runs;
 use isdbs_core::tmcc::Table;
+use isdbs_core::tmcc::table_answer;
 use refusal::Answer;
 ghost use mathlib.Core.Path.{_≡_};
 ghost use mathlib.Core.Bool.{true, false, cond};
 ghost use Prim.Native.Nat.{ℕ, _+_, _*_, _/_, _%_, _<_, _≤_, _^_};
 ghost use lib.ListN.{length, getD, take};
 ghost use lib.Ieee.{binary32, ofBits};
+ghost use Rattle.refusal.specs.declared.Answer.the-variants.{Accepted};
 ghost use Rattle.refusal.specs.Rows.{firstRow};
 ghost use Rattle.trellis.specs.Lists.{upto, laid};
 ghost use Rattle.trellis.specs.Code.{isdb, label, moved, stateAt};
@@ -22,11 +27,12 @@ ghost use Rattle.trellis.specs.Step.{term};
 ghost use Rattle.isdbs_core.specs.declared.combination.Combination.the-variants.{«Bpsk1_2», «Tc8psk2_3»};
 ghost use Rattle.isdbs_core.specs.declared.combination.Modulation.the-variants.{Qpsk};
 ghost use Rattle.isdbs_core.specs.Combinations.{modulationOf, punctureOf};
-ghost use Rattle.isdbs_core.specs.RunsOf.{runsOf};
+ghost use Rattle.isdbs_core.specs.Tables.{tableAnswer};
+ghost use Rattle.isdb_fec.specs.Calls.{Either};
 ghost use Rattle.isdbs_phy.specs.Points.{zero64, psk8Of, qpskOf, subset, turned};
 ghost use Rattle.isdbs_phy.specs.Layout.{orderOf, stepsPerPeriod, loadBit, wordBit};
-ghost use Rattle.isdbs_phy.specs.Frame.{labelAt, stateAfter, startState, frameRe, frameIm, endState};
-ghost use Rattle.isdbs_phy.specs.Encoding.{Tiled, RunsMade};
+ghost use Rattle.isdbs_phy.specs.Frame.{stateAfter, startState, endState};
+ghost use Rattle.isdbs_phy.specs.Encoding.{encodeRows, encodeFrameRows, FrameLaid, PartsKept, Tiled, RunsMade};
 ghost use Rattle.isdbs_phy.specs.Pieces.{pieceSymbols, PieceEncoded, PeriodEncoded, PatternOf, PairsWithin, motherBit, pairPoint};
 
 // 1 / sqrt 2 as an f64.
@@ -203,7 +209,15 @@ fn encode_step(bytes: &[u8], n: usize, state: u8) -> Sent
 }
 
 // A run of BPSK: X, then Y, on successive symbols.
-fn encode_bpsk(bytes: &[u8], bit: usize, n: usize, start: u8, m: Mapping, re: &mut [f64], im: &mut [f64]) -> u8
+fn encode_bpsk(
+    bytes: &[u8],
+    bit: usize,
+    n: usize,
+    start: u8,
+    m: Mapping,
+    re: &mut [f64],
+    im: &mut [f64],
+) -> u8
     requires { ⌜ (start < 64) × (bit + n < 2 ^ 32) × (2 * n ≤ length (now re)) × (2 * n ≤ length (now im)) ⌝ }
     ensures { λ r. ⌜ PieceEncoded «Bpsk1_2» m (now (bytes .entry)) bit n start r (now (re .entry)) (now (re .exit)) (now (im .entry)) (now (im .exit)) ⌝ }
 {
@@ -223,7 +237,15 @@ fn encode_bpsk(bytes: &[u8], bit: usize, n: usize, start: u8, m: Mapping, re: &m
 }
 
 // A run of TC8PSK: C2 uncoded, then one coded bit.
-fn encode_tc8psk(bytes: &[u8], bit: usize, n: usize, start: u8, m: Mapping, re: &mut [f64], im: &mut [f64]) -> u8
+fn encode_tc8psk(
+    bytes: &[u8],
+    bit: usize,
+    n: usize,
+    start: u8,
+    m: Mapping,
+    re: &mut [f64],
+    im: &mut [f64],
+) -> u8
     requires { ⌜ (start < 64) × (bit + 2 * n < 2 ^ 32) × (n ≤ length (now re)) × (n ≤ length (now im)) ⌝ }
     ensures { λ r. ⌜ PieceEncoded «Tc8psk2_3» m (now (bytes .entry)) bit n start r (now (re .entry)) (now (re .exit)) (now (im .entry)) (now (im .exit)) ⌝ }
 {
@@ -307,7 +329,14 @@ fn pattern_of(c: Combination) -> Pattern
 }
 
 // The points of a period's pairs.
-fn put_pairs(labels: &[u8; 8], pairs: [BitPair; 4], count: usize, m: Mapping, re: &mut [f64], im: &mut [f64])
+fn put_pairs(
+    labels: &[u8; 8],
+    pairs: [BitPair; 4],
+    count: usize,
+    m: Mapping,
+    re: &mut [f64],
+    im: &mut [f64],
+)
     requires { ⌜ (count ≤ 4) × (count ≤ length (now re)) × (count ≤ length (now im)) × PairsWithin count pairs ⌝ }
     ensures { λ _. ⌜ (now (re .exit) ≡ laid (upto (λ i. pairPoint m (now (labels .entry)) pairs i .re) count) (now (re .entry))) × (now (im .exit) ≡ laid (upto (λ i. pairPoint m (now (labels .entry)) pairs i .im) count) (now (im .entry))) ⌝ }
 {
@@ -324,7 +353,16 @@ fn put_pairs(labels: &[u8; 8], pairs: [BitPair; 4], count: usize, m: Mapping, re
 }
 
 // A run of QPSK, period by period.
-fn encode_qpsk(bytes: &[u8], c: Combination, bit: usize, n: usize, start: u8, m: Mapping, re: &mut [f64], im: &mut [f64]) -> u8
+fn encode_qpsk(
+    bytes: &[u8],
+    c: Combination,
+    bit: usize,
+    n: usize,
+    start: u8,
+    m: Mapping,
+    re: &mut [f64],
+    im: &mut [f64],
+) -> u8
     requires { ⌜ (modulationOf c ≡ Qpsk) × (start < 64) × (bit + n < 2 ^ 32) × (n ≡ n / stepsPerPeriod c * stepsPerPeriod c) × (pieceSymbols c n ≤ length (now re)) × (pieceSymbols c n ≤ length (now im)) ⌝ }
     ensures { λ r. ⌜ PieceEncoded c m (now (bytes .entry)) bit n start r (now (re .entry)) (now (re .exit)) (now (im .entry)) (now (im .exit)) ⌝ }
 {
@@ -350,7 +388,16 @@ fn encode_qpsk(bytes: &[u8], c: Combination, bit: usize, n: usize, start: u8, m:
 }
 
 // A run of n steps, whose first bit is bit `bit` of the load.
-fn encode_run(bytes: &[u8], c: Combination, bit: usize, n: usize, start: u8, m: Mapping, re: &mut [f64], im: &mut [f64]) -> u8
+fn encode_run(
+    bytes: &[u8],
+    c: Combination,
+    bit: usize,
+    n: usize,
+    start: u8,
+    m: Mapping,
+    re: &mut [f64],
+    im: &mut [f64],
+) -> u8
     requires { ⌜ (start < 64) × (bit + 2 * n < 2 ^ 32) × (n ≡ n / stepsPerPeriod c * stepsPerPeriod c) × (pieceSymbols c n ≤ length (now re)) × (pieceSymbols c n ≤ length (now im)) ⌝ }
     ensures { λ r. ⌜ PieceEncoded c m (now (bytes .entry)) bit n start r (now (re .entry)) (now (re .exit)) (now (im .entry)) (now (im .exit)) ⌝ }
 {
@@ -383,7 +430,15 @@ pub struct RunsEncoded {
 }
 
 // The runs of a frame, one after the other; the state carries on.
-fn encode_runs(bytes: &[u8], list: [Run; 4], count: usize, start: u8, m: Mapping, re: &mut [f64], im: &mut [f64]) -> RunsEncoded
+fn encode_runs(
+    bytes: &[u8],
+    list: [Run; 4],
+    count: usize,
+    start: u8,
+    m: Mapping,
+    re: &mut [f64],
+    im: &mut [f64],
+) -> RunsEncoded
     requires { ⌜ (count ≤ 4) × (length (take count list) ≡ count) × Tiled (take count list) × (start < 64) × (38976 ≤ length (now re)) × (38976 ≤ length (now im)) ⌝ }
     ensures { λ r. ⌜ RunsMade (take count list) m (now (bytes .entry)) start r (now (re .entry)) (now (re .exit)) (now (im .entry)) (now (im .exit)) ⌝ }
 {
@@ -397,7 +452,16 @@ fn encode_runs(bytes: &[u8], list: [Run; 4], count: usize, start: u8, m: Mapping
         let first = r.symbol_start;
         let valid = r.valid_slots;
         let n = c.steps_per_slot() * valid;
-        state = encode_run(bytes, c, bit, n, state, m, &mut re[first..], &mut im[first..]);
+        state = encode_run(
+            bytes,
+            c,
+            bit,
+            n,
+            state,
+            m,
+            &mut re[first..],
+            &mut im[first..],
+        );
         bit += SLOT_BITS * valid;
         end = r.symbol_end;
         i += 1;
@@ -405,8 +469,99 @@ fn encode_runs(bytes: &[u8], list: [Run; 4], count: usize, start: u8, m: Mapping
     RunsEncoded { state, end }
 }
 
+// The frame of an accepted table, encoded from the state `start`; the state after its last bit.
+fn encode_main(bytes: &[u8], t: Table, start: u8, m: Mapping, re: &mut [f64], im: &mut [f64]) -> u8
+    requires { ⌜ (tableAnswer t ≡ Accepted) × (start < 64) × (38976 ≤ length (now re)) × (38976 ≤ length (now im)) ⌝ }
+    ensures state { λ r. ⌜ r ≡ endState t (now (bytes .entry)) start ⌝ }
+    ensures frame { λ _. ⌜ FrameLaid t m (now (bytes .entry)) start (now (re .entry)) (now (re .exit)) (now (im .entry)) (now (im .exit)) ⌝ }
+{
+    let all = runs(t);
+    let list = all.runs;
+    let made = encode_runs(bytes, list, all.count, start, m, re, im);
+    let end = made.end;
+    put_unused(MAIN - end, m, &mut re[end..], &mut im[end..]);
+    made.state
+}
+
+// Whether encoding is turned back: the parts have a and b elements.
+fn encode_answer(t: Table, state: u8, a: usize, b: usize) -> Answer
+    ensures { λ r. ⌜ r ≡ firstRow (encodeRows t state a b) ⌝ }
+{
+    let first = table_answer(t);
+    if refusal::number(first) != 0 {
+        return first;
+    }
+    if state > 63 {
+        return Answer::State;
+    }
+    if a < MAIN {
+        return Answer::Space;
+    }
+    if b < MAIN {
+        return Answer::Space;
+    }
+    Answer::Accepted
+}
+
 // What encoding a frame answers: the encoder after the last bit, or as it was given.
 pub struct FrameEncoded {
     pub answer: Answer,
     pub enc: ConvEncoder,
 }
+
+// The 38,976 points of a frame from its bytes, 203 for each valid slot, with the encoder as it is handed.
+pub fn encode_frame_with_state(
+    bytes: &[u8],
+    t: Table,
+    enc: ConvEncoder,
+    m: Mapping,
+    re: &mut [f64],
+    im: &mut [f64],
+) -> FrameEncoded
+    ensures answers { λ r. ⌜ r .answer ≡ firstRow (encodeRows t (enc .state) (length (now (re .entry))) (length (now (im .entry)))) ⌝ }
+    ensures state { λ r. ⌜ Either (r .answer) (r .enc .state ≡ endState t (now (bytes .entry)) (enc .state)) (r .enc ≡ enc) ⌝ }
+    ensures frame { λ r. ⌜ Either (r .answer) (FrameLaid t m (now (bytes .entry)) (enc .state) (now (re .entry)) (now (re .exit)) (now (im .entry)) (now (im .exit))) (PartsKept (now (re .entry)) (now (re .exit)) (now (im .entry)) (now (im .exit))) ⌝ }
+{
+    let state = enc.state;
+    let answer = encode_answer(t, state, re.len(), im.len());
+    if refusal::number(answer) != 0 {
+        return FrameEncoded { answer, enc };
+    }
+    let end = encode_main(bytes, t, state, m, re, im);
+    FrameEncoded {
+        answer,
+        enc: ConvEncoder { state: end },
+    }
+}
+
+// The state that W2 leaves before the first frame of a superframe, and W3 before the others.
+pub fn start_state(first: bool) -> u8
+    ensures { λ r. ⌜ (r ≡ startState first) × (r < 64) ⌝ }
+{
+    if first {
+        state_after(W2)
+    } else {
+        state_after(W3)
+    }
+}
+
+// The same from the start state of the frame's kind.
+pub fn encode_frame(
+    bytes: &[u8],
+    t: Table,
+    first: bool,
+    m: Mapping,
+    re: &mut [f64],
+    im: &mut [f64],
+) -> Answer
+    ensures answers { λ r. ⌜ r ≡ firstRow (encodeFrameRows t (length (now (re .entry))) (length (now (im .entry)))) ⌝ }
+    ensures frame { λ r. ⌜ Either r (FrameLaid t m (now (bytes .entry)) (startState first) (now (re .entry)) (now (re .exit)) (now (im .entry)) (now (im .exit))) (PartsKept (now (re .entry)) (now (re .exit)) (now (im .entry)) (now (im .exit))) ⌝ }
+{
+    let enc = ConvEncoder {
+        state: start_state(first),
+    };
+    let made = encode_frame_with_state(bytes, t, enc, m, re, im);
+    made.answer
+}
+
+// ---- decoding

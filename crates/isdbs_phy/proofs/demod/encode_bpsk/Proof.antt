@@ -111,9 +111,9 @@ loop-again c =
     let r1 = bpsk-x m bytes bit n start k in
     let r2 = bpsk-y m bytes bit n start k in
     let b = going-put a (c .before .sign-of .result) (c .before .before .before .mirror .result) (omega arith) (omega arith)
-      (c .before .sign-of .ensures ∙ ap (λ (z : ℕ). term z one64) x ∙ sym (ap (λ (z : Cplx). z .re) r1)) (c .before .before .before .mirror .ensures ∙ sym (ap (λ (z : Cplx). z .im) r1)) in
+    (c .before .sign-of .ensures ∙ ap (λ (z : ℕ). term z one64) x ∙ sym (ap (λ (z : Cplx). z .re) r1)) (c .before .before .before .mirror .ensures ∙ sym (ap (λ (z : Cplx). z .im) r1)) in
     let d = going-put b (c .sign-of2 .result) (c .before .before .before .mirror .result) (omega (arith, b .points .re-length)) (omega (arith, b .points .im-length))
-      (c .sign-of2 .ensures ∙ ap (λ (z : ℕ). term z one64) y ∙ sym (ap (λ (z : Cplx). z .re) r2)) (c .before .before .before .mirror .ensures ∙ sym (ap (λ (z : Cplx). z .im) r2)) in
+    (c .sign-of2 .ensures ∙ ap (λ (z : ℕ). term z one64) y ∙ sym (ap (λ (z : Cplx). z .re) r2)) (c .before .before .before .mirror .ensures ∙ sym (ap (λ (z : Cplx). z .im) r2)) in
     (omega arith, going-as d (omega arith))
 
 same-length : tie.Need-same-length Inv-loop μ-loop

@@ -62,7 +62,7 @@ loop-again c =
       rw (add-one k, g) (sent .1 ∙ ap (λ (x : ℕ). moved 32 (loadBit bytes (bit + k)) x) (inv .2)),
       length-set labels k (c .encode-step .result .label) ∙ inv .3,
       written-more 0 (labelAt start us) k labels (c .encode-step .result .label) l (inv .4)
-      (rw (g, ← inv .2) (sent .0)),
+          (rw (g, ← inv .2) (sent .0)),
     )
 
 returns : tie.Need-returns Inv-loop μ-loop

@@ -24,7 +24,7 @@ Inv-loop bytes bit n start m re₀ im₀ period count pairs periods state₀ don
     × (j ≡ q * count)
     × Room periods period count n (length re₀) (length im₀)
     × Going (plainInputs bytes bit n) start (λ k. patternPoint m (labelAt start (plainInputs bytes bit n)) period count pairs k .re)
-        (λ k. patternPoint m (labelAt start (plainInputs bytes bit n)) period count pairs k .im) re₀ im₀ re im state done j
+    (λ k. patternPoint m (labelAt start (plainInputs bytes bit n)) period count pairs k .im) re₀ im₀ re im state done j
 
 abbrev μ-loop : tie.MeasureT-loop
 μ-loop bytes bit n start m re₀ im₀ period count pairs periods state₀ done₀ j₀ q₀ re im state done j q = periods - q
@@ -77,7 +77,7 @@ part-put-pairs-end-2 c = let r = c .before .before .before .before .before .loop
 
 put-pairs-requires : tie.Need-put-pairs-requires Inv-loop μ-loop
 put-pairs-requires c κs =
-    let r = c .before .before .before .before .before .before .loop .inv .3 (c .before .before .before .before .before .before .loop .q) (c .before .before .before .before .before .loop-test .taken) in 
+    let r = c .before .before .before .before .before .before .loop .inv .3 (c .before .before .before .before .before .before .loop .q) (c .before .before .before .before .before .loop-test .taken) in
     let p = c .before .before .before .before .before .before .before .before .pattern-of .result in
     let s = c .before .before .before .before .before .before .before .before .pattern-of .ensures .short in
     let w = pattern-within (c .before .before .before .before .before .before .before .before .before .before .before .before .args .c) p (c .before .before .before .before .before .before .before .before .pattern-of .ensures) in
@@ -100,7 +100,7 @@ loop-less c = search needs
 
 loop-again : tie.Need-loop-again Inv-loop μ-loop
 loop-again c =
-    let r = c .before .before .before .before .before .before .before .before .before .before .before .loop .inv .3 (c .before .before .before .before .before .before .before .before .before .before .before .loop .q) (c .before .before .before .before .before .before .before .before .before .before .loop-test .taken) in 
+    let r = c .before .before .before .before .before .before .before .before .before .before .before .loop .inv .3 (c .before .before .before .before .before .before .before .before .before .before .before .loop .q) (c .before .before .before .before .before .before .before .before .before .before .loop-test .taken) in
     let p = c .before .before .before .before .before .before .before .before .before .before .before .before .before .pattern-of .result in
     let inv = c .before .before .before .before .before .before .before .before .before .before .before .loop .inv in
     let q = c .before .before .before .before .before .before .before .before .before .before .before .loop .q in (
@@ -109,10 +109,10 @@ loop-again c =
       rw (inv .2) (sym (add-mul q 1 (p .count) ∙ ap (λ (x : ℕ). q * p .count + x) (one-mul (p .count)))),
       inv .3,
       going-period (c .before .before .before .before .before .before .before .before .before .before .before .before .before .before .before .before .before .args .bytes .now) (c .before .before .before .before .before .before .before .before .before .before .before .before .before .before .before .before .before .args .bit) (c .before .before .before .before .before .before .before .before .before .before .before .before .before .before .before .before .before .args .n) (c .before .before .before .before .before .before .before .before .before .before .before .before .before .before .before .before .before .args .start) (c .before .before .before .before .before .before .before .before .before .before .before .before .before .before .before .before .before .args .m) (p .period) (p .count) (p .pairs)
-      (inv .4) q (inv .1) (inv .2) (r .0) (r .1) (r .2) (pattern-within (c .before .before .before .before .before .before .before .before .before .before .before .before .before .before .before .before .before .args .c) p (c .before .before .before .before .before .before .before .before .before .before .before .before .before .pattern-of .ensures))
-      (c .before .before .before .before .before .before .before .before .before .encode-period .result) (c .before .before .before .before .before .before .before .before .before .encode-period .ensures)
-      (tail-back (c .before .before .before .before .before .before .before .before .before .before .before .loop .j) (c .before .before .before .before .before .before .before .before .before .before .before .loop .re) (upto (λ i. pairPoint (c .before .before .before .before .before .before .before .before .before .before .before .before .before .before .before .before .before .args .m) (c .before .before .before .before .before .before .before .before .before .encode-period .result .labels) (p .pairs) i .re) (p .count)) (search needs) (c .before .before .before .before .put-pairs .ensures .0))
-      (tail-back (c .before .before .before .before .before .before .before .before .before .before .before .loop .j) (c .before .before .before .before .before .before .before .before .before .before .before .loop .im) (upto (λ i. pairPoint (c .before .before .before .before .before .before .before .before .before .before .before .before .before .before .before .before .before .args .m) (c .before .before .before .before .before .before .before .before .before .encode-period .result .labels) (p .pairs) i .im) (p .count)) (search needs) (c .before .before .before .before .put-pairs .ensures .1)),
+          (inv .4) q (inv .1) (inv .2) (r .0) (r .1) (r .2) (pattern-within (c .before .before .before .before .before .before .before .before .before .before .before .before .before .before .before .before .before .args .c) p (c .before .before .before .before .before .before .before .before .before .before .before .before .before .pattern-of .ensures))
+          (c .before .before .before .before .before .before .before .before .before .encode-period .result) (c .before .before .before .before .before .before .before .before .before .encode-period .ensures)
+          (tail-back (c .before .before .before .before .before .before .before .before .before .before .before .loop .j) (c .before .before .before .before .before .before .before .before .before .before .before .loop .re) (upto (λ i. pairPoint (c .before .before .before .before .before .before .before .before .before .before .before .before .before .before .before .before .before .args .m) (c .before .before .before .before .before .before .before .before .before .encode-period .result .labels) (p .pairs) i .re) (p .count)) (search needs) (c .before .before .before .before .put-pairs .ensures .0))
+          (tail-back (c .before .before .before .before .before .before .before .before .before .before .before .loop .j) (c .before .before .before .before .before .before .before .before .before .before .before .loop .im) (upto (λ i. pairPoint (c .before .before .before .before .before .before .before .before .before .before .before .before .before .before .before .before .before .args .m) (c .before .before .before .before .before .before .before .before .before .encode-period .result .labels) (p .pairs) i .im) (p .count)) (search needs) (c .before .before .before .before .put-pairs .ensures .1)),
     )
 
 same-length : tie.Need-same-length Inv-loop μ-loop

@@ -26,7 +26,7 @@ Inv-loop bytes count start m re₀ im₀ list state₀ bit₀ end₀ i₀ re im 
     × (end ≡ before (λ g. g .symbols) segs i)
     × (bit ≤ 2 * end)
     × Going (inputsOf rs bytes) start (λ k. pointOf rs m bytes start k .re) (λ k. pointOf rs m bytes start k .im) re₀ im₀ re im state
-        (before (λ g. g .steps) segs i) (before (λ g. g .symbols) segs i)
+    (before (λ g. g .steps) segs i) (before (λ g. g .symbols) segs i)
 
 abbrev μ-loop : tie.MeasureT-loop
 μ-loop bytes count start m re₀ im₀ list state₀ bit₀ end₀ i₀ re im state bit end i = count - i
@@ -79,13 +79,16 @@ part-encode-run-end-2 c = search needs
 
 encode-run-requires : tie.Need-encode-run-requires Inv-loop μ-loop
 encode-run-requires c κs =
-    let a = run-in (c .before .before .before .before .before .before .before .before .before .args .t2) (c .before .before .before .before .before .before .before .before .before .args .count) (c .before .before .before .before .before .loop .i) (c .before .before .before .before .before .before .before .before .before .pre .1) (c .before .before .before .before .before .before .before .before .before .pre .2) (c .before .before .before .before .loop-test .taken) in 
+    let a = run-in (c .before .before .before .before .before .before .before .before .before .args .t2) (c .before .before .before .before .before .before .before .before .before .args .count) (c .before .before .before .before .before .loop .i) (c .before .before .before .before .before .before .before .before .before .pre .1) (c .before .before .before .before .before .before .before .before .before .pre .2) (c .before .before .before .before .loop-test .taken) in
     let inv = c .before .before .before .before .before .loop .inv in
     let z = a .size in
-    rw (c .before .before .steps-per-slot .ensures)
-    (inv .4 .small, omega (arith, a .few-steps, inv .3, inv .2, a .symbols, a .fits), z .periods,
-    simp (length-take, length-drop) (omega (arith, z .symbols-are, a .starts, a .ends, a .symbols, a .fits, c .before .before .before .before .before .before .before .before .before .pre .4, inv .4 .points .re-length)),
-    simp (length-take, length-drop) (omega (arith, z .symbols-are, a .starts, a .ends, a .symbols, a .fits, c .before .before .before .before .before .before .before .before .before .pre .5, inv .4 .points .im-length)))
+    rw (c .before .before .steps-per-slot .ensures) (
+      inv .4 .small,
+      omega (arith, a .few-steps, inv .3, inv .2, a .symbols, a .fits),
+      z .periods,
+      simp (length-take, length-drop) (omega (arith, z .symbols-are, a .starts, a .ends, a .symbols, a .fits, c .before .before .before .before .before .before .before .before .before .pre .4, inv .4 .points .re-length)),
+      simp (length-take, length-drop) (omega (arith, z .symbols-are, a .starts, a .ends, a .symbols, a .fits, c .before .before .before .before .before .before .before .before .before .pre .5, inv .4 .points .im-length)),
+    )
 
 mul-bit : tie.Need-mul-bit Inv-loop μ-loop
 mul-bit c = let a = run-in (c .before .before .before .before .before .before .before .before .before .before .before .before .before .before .args .t2) (c .before .before .before .before .before .before .before .before .before .before .before .before .before .before .args .count) (c .before .before .before .before .before .before .before .before .before .before .loop .i) (c .before .before .before .before .before .before .before .before .before .before .before .before .before .before .pre .1) (c .before .before .before .before .before .before .before .before .before .before .before .before .before .before .pre .2) (c .before .before .before .before .before .before .before .before .before .loop-test .taken) in omega (arith, a .few-bits, a .symbols, a .fits)
@@ -101,7 +104,7 @@ loop-less c = search needs
 
 loop-again : tie.Need-loop-again Inv-loop μ-loop
 loop-again c =
-    let a = run-in (c .before .before .before .before .before .before .before .before .before .before .before .before .before .before .args .t2) (c .before .before .before .before .before .before .before .before .before .before .before .before .before .before .args .count) (c .before .before .before .before .before .before .before .before .before .before .loop .i) (c .before .before .before .before .before .before .before .before .before .before .before .before .before .before .pre .1) (c .before .before .before .before .before .before .before .before .before .before .before .before .before .before .pre .2) (c .before .before .before .before .before .before .before .before .before .loop-test .taken) in 
+    let a = run-in (c .before .before .before .before .before .before .before .before .before .before .before .before .before .before .args .t2) (c .before .before .before .before .before .before .before .before .before .before .before .before .before .before .args .count) (c .before .before .before .before .before .before .before .before .before .before .loop .i) (c .before .before .before .before .before .before .before .before .before .before .before .before .before .before .pre .1) (c .before .before .before .before .before .before .before .before .before .before .before .before .before .before .pre .2) (c .before .before .before .before .before .before .before .before .before .loop-test .taken) in
     let inv = c .before .before .before .before .before .before .before .before .before .before .loop .inv in
     let run = getD (c .before .before .before .before .before .before .before .before .before .before .before .before .before .before .args .t2) (c .before .before .before .before .before .before .before .before .before .before .loop .i) noRun in (
       omega (arith, c .before .before .before .before .before .before .before .before .before .loop-test .taken),
@@ -109,8 +112,8 @@ loop-again c =
       a .ends,
       omega (arith, inv .1, inv .2, inv .3, a .few-bits, a .ends, a .symbols),
       run-more (c .before .before .before .before .before .before .before .before .before .before .before .before .before .before .args .t2) (c .before .before .before .before .before .before .before .before .before .before .before .before .before .before .args .count) (c .before .before .before .before .before .before .before .before .before .before .before .before .before .before .args .m) (c .before .before .before .before .before .before .before .before .before .before .before .before .before .before .args .bytes .now) (c .before .before .before .before .before .before .before .before .before .before .before .before .before .before .args .start) (c .before .before .before .before .before .before .before .before .before .before .before .before .before .before .pre .1) (c .before .before .before .before .before .before .before .before .before .before .before .before .before .before .pre .2) (c .before .before .before .before .before .before .before .before .before .before .loop .i) (c .before .before .before .before .before .before .before .before .before .loop-test .taken)
-      (inv .4) (c .before .before .before .before .before .before .before .before .before .before .before .before .before .before .pre .4) (c .before .before .before .before .before .before .before .before .before .before .before .before .before .before .pre .5) (c .before .before .before .before .before .before .before .before .before .before .loop .bit) (c .before .before .before .before .before .before .before .steps-per-slot .result * run .«valid_slots») (c .before .before .before .before .encode-run .result) (inv .1)
-      (ap (λ (x : ℕ). x * run .«valid_slots») (c .before .before .before .before .before .before .before .steps-per-slot .ensures)) (c .before .before .before .before .encode-run .ensures),
+          (inv .4) (c .before .before .before .before .before .before .before .before .before .before .before .before .before .before .pre .4) (c .before .before .before .before .before .before .before .before .before .before .before .before .before .before .pre .5) (c .before .before .before .before .before .before .before .before .before .before .loop .bit) (c .before .before .before .before .before .before .before .steps-per-slot .result * run .«valid_slots») (c .before .before .before .before .encode-run .result) (inv .1)
+          (ap (λ (x : ℕ). x * run .«valid_slots») (c .before .before .before .before .before .before .before .steps-per-slot .ensures)) (c .before .before .before .before .encode-run .ensures),
     )
 
 same-length : tie.Need-same-length Inv-loop μ-loop

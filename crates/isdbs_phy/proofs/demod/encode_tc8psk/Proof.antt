@@ -98,19 +98,19 @@ loop-again c =
     let sent = c .before .before .before .encode-step .ensures in
     let l = c .before .before .before .encode-step .result .label in
     let e : l ≡ pieceLabel «Tc8psk2_3» bytes bit n start k =
-        piece-label «Tc8psk2_3» bytes bit n start k h l (c .before .before .before .before .before .before .loop .state) (inv .state-is) (rw (add-assoc bit (2 * k) 1) at (sent .0)) in
+    piece-label «Tc8psk2_3» bytes bit n start k h l (c .before .before .before .before .before .before .loop .state) (inv .state-is) (rw (add-assoc bit (2 * k) 1) at (sent .0)) in
     let c2 : c .before .before .before .before .load-bit .result < 2 = rw (c .before .before .before .before .load-bit .ensures) (mod-lt _ (lit< tt)) in
     let v = 4 * c .before .before .before .before .load-bit .result + c .before .before .subset-of .result in
     let small : v % 8 ≡ v = omega (arith, c .before .before .subset-of .ensures .1) in
     let w : v ≡ 4 * loadBit bytes (bit + 2 * k) + subset (m .«tc8psk_c1_is_y») (pieceLabel «Tc8psk2_3» bytes bit n start k) =
-        rw (c .before .before .before .before .load-bit .ensures, c .before .before .subset-of .ensures .0, e) in
+    rw (c .before .before .before .before .load-bit .ensures, c .before .before .subset-of .ensures .0, e) in
     let r = tc8psk-point m bytes bit n start k in
     let p : c .before .psk8-point .result ≡ psk8Of (4 * loadBit bytes (bit + 2 * k) + subset (m .«tc8psk_c1_is_y») (pieceLabel «Tc8psk2_3» bytes bit n start k)) =
-        c .before .psk8-point .ensures ∙ ap psk8Of (small ∙ w) in
+    c .before .psk8-point .ensures ∙ ap psk8Of (small ∙ w) in
     let a = going-step inv (c .before .before .before .encode-step .result .state) (sent .2) (rw (piece-input «Tc8psk2_3» bytes bit n start k h, ← add-assoc bit (2 * k) 1) (sent .1)) in
     let b = going-put a (c .before .psk8-point .result .re) (c .mirror .result) (omega arith) (omega arith)
-      (ap (λ (z : Cplx). z .re) p ∙ sym (ap (λ (z : Cplx). z .re) r))
-      (c .mirror .ensures ∙ ap (λ (z : Cplx). turned (m .conjugate) (z .im)) p ∙ sym (ap (λ (z : Cplx). z .im) r)) in
+    (ap (λ (z : Cplx). z .re) p ∙ sym (ap (λ (z : Cplx). z .re) r))
+    (c .mirror .ensures ∙ ap (λ (z : Cplx). turned (m .conjugate) (z .im)) p ∙ sym (ap (λ (z : Cplx). z .im) r)) in
     (omega arith, b)
 
 same-length : tie.Need-same-length Inv-loop μ-loop

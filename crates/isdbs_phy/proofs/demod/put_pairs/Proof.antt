@@ -61,7 +61,7 @@ loop-again c =
     let ls = c .before .before .before .before .before .before .before .before .before .args .labels .now in
     let pair = getD (c .before .before .before .before .before .before .before .before .before .args .t2) (c .before .before .before .before .before .before .loop .i) noPair in
     let p : c .before .qpsk-mapped .result ≡ qpskOf (c .before .before .before .before .before .before .before .before .before .args .m .«qpsk_p1_on_q») (motherBit ls (pair .p1) % 2) (motherBit ls (pair .p0) % 2) =
-        c .before .qpsk-mapped .ensures ∙ rw (c .before .before .before .mother-bit .ensures, c .before .before .mother-bit2 .ensures) in
+    c .before .qpsk-mapped .ensures ∙ rw (c .before .before .before .mother-bit .ensures, c .before .before .mother-bit2 .ensures) in
     (omega arith, put-one (c .before .before .before .before .before .before .loop .inv .1) (c .before .qpsk-mapped .result .re) (c .mirror .result) (omega arith) (omega arith) (ap (λ (z : Cplx). z .re) p) (c .mirror .ensures ∙ ap (λ (z : Cplx). turned (c .before .before .before .before .before .before .before .before .before .args .m .conjugate) (z .im)) p))
 
 same-length : tie.Need-same-length Inv-loop μ-loop
