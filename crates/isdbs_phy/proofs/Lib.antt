@@ -6,3 +6,5 @@ pub mod Shift
 pub mod Narrow
 pub mod Sign
 pub mod EncodeFrame
+pub mod EncodeAnswers
+pub mod EncodeTable
