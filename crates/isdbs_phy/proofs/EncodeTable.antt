@@ -119,7 +119,7 @@ module _ (t : Table) (m : Mapping) (load : List ℕ) (s : ℕ) (tl : Tiled (runs
         let li : r .end ≤ length im = omega (arith, end-small, im-length) in
         record {
           re-is = tail-back (r .end) re (upto (λ i. zero64) (38976 - r .end)) lr ep
-            ∙ rw (w .end-is, w .re-is) (laid-part (λ k. pointAt t m load s k .re) (λ i. zero64) (symbolsOf rs) n re₀ (λ i l. sym (ap (λ (z : Cplx). z .re) (past (symbolsOf rs + i) (omega arith)))) ∙ rw sum);
+              ∙ rw (w .end-is, w .re-is) (laid-part (λ k. pointAt t m load s k .re) (λ i. zero64) (symbolsOf rs) n re₀ (λ i l. sym (ap (λ (z : Cplx). z .re) (past (symbolsOf rs + i) (omega arith)))) ∙ rw sum);
           im-is = tail-back (r .end) im (upto (λ i. turned (m .conjugate) zero64) (38976 - r .end)) li eq
-            ∙ rw (w .end-is, w .im-is) (laid-part (λ k. pointAt t m load s k .im) (λ i. turned (m .conjugate) zero64) (symbolsOf rs) n im₀ (λ i l. sym (ap (λ (z : Cplx). z .im) (past (symbolsOf rs + i) (omega arith)))) ∙ rw sum);
+              ∙ rw (w .end-is, w .im-is) (laid-part (λ k. pointAt t m load s k .im) (λ i. turned (m .conjugate) zero64) (symbolsOf rs) n im₀ (λ i l. sym (ap (λ (z : Cplx). z .im) (past (symbolsOf rs + i) (omega arith)))) ∙ rw sum);
         }

@@ -112,8 +112,7 @@ returns c =
     let made = rw (runs-front (s .args .t) (s .pre .0) (c .before .before .before .before .before .before .before .before .before .before .before .before .before .before .before .runs .result) (c .before .before .before .before .before .before .before .before .before .before .before .before .before .before .before .runs .ensures)) at (c .before .before .before .before .before .before .before .before .before .before .before .encode-runs .ensures) in
     let small = end-small (s .args .t) (s .args .m) (s .args .bytes .now) (s .args .start) tl made (s .pre .2) (s .pre .3) in
     let lr = re-length (s .args .t) (s .args .m) (s .args .bytes .now) (s .args .start) tl made (s .pre .2) (s .pre .3) in
-    let li = im-length (s .args .t) (s .args .m) (s .args .bytes .now) (s .args .start) tl made (s .pre .2) (s .pre .3) in
-    (
+    let li = im-length (s .args .t) (s .args .m) (s .args .bytes .now) (s .args .start) tl made (s .pre .2) (s .pre .3) in (
       runs-state (s .args .t) (s .args .m) (s .args .bytes .now) (s .args .start) tl made (s .pre .2) (s .pre .3),
       frame-laid (s .args .t) (s .args .m) (s .args .bytes .now) (s .args .start) tl made (s .pre .2) (s .pre .3) (c .before .before .before .before .put-unused .ensures .0) (c .before .before .before .before .put-unused .ensures .1),
     )
