@@ -1,8 +1,6 @@
-use Prim.Native.Nat.{ℕ, _+_, _-_, _*_, _<_, _≤_}
-use mathlib.Core.Path.{_≡_, refl, sym, _∙_, subst}
-use native.Mathlib.Omega.{arith}
+-- `float_of` meets its contract. Assumes nothing.
+use mathlib.Core.Path.{sym, _∙_, subst}
 use borrow.Author.Needs.{needs}
-use lib.ListN.{length, set, length-set}
 use mathlib.Core.Bool.{Bool, not}
 use borrow.Author.Tests.{le-ltb}
 use lib.Dec.{T}
@@ -10,18 +8,13 @@ use lib.Ieee.{binary32}
 use lib.Ieee.Bits.{nanBits-above}
 use Rattle.vectors_isdbt.proofs.float_of.Statement.{statement}
 use Rattle.vectors_isdbt.proofs.float_of.Tie as tie
-use Rattle.vectors_isdbt.proofs.float_of.Reads as reads
-use Rattle.vectors_isdbt.proofs.float_of.Lts as lts
 
--- src/main.rt:30:9
 float-from-bits-result : tie.Need-float-from-bits-result
 float-from-bits-result c = subst (λ (b : Bool). T (not b)) (sym (nanBits-above binary32 (c .before .args .bits) ∙ le-ltb _ _ (c .if1 .taken))) tt
 
--- src/main.rt:28:1
 returns : tie.Need-returns
 returns c = search needs
 
--- src/main.rt:28:1
 returns-2 : tie.Need-returns-2
 returns-2 c = search needs
 
