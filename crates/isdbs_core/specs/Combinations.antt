@@ -192,3 +192,11 @@ abbrev pub stepBits : Modulation → ℕ
 stepBits Bpsk = 1
 stepBits Qpsk = 1
 stepBits Tc8psk = 2
+
+-- pairs of the bits of a list, two by two
+abbrev pub pairsFrom : ℕ → List ℕ → BitPairs
+pairsFrom n b =
+    record {
+      count = n;
+      pairs = pair (getD b 0 0) (getD b 1 0) ∷ pair (getD b 2 0) (getD b 3 0) ∷ pair (getD b 4 0) (getD b 5 0) ∷ pair (getD b 6 0) (getD b 7 0) ∷ [];
+    }

@@ -49,10 +49,10 @@ markAt (e ∷ es) s = cond (ltb s (e .slots)) (markIn (entryCombination e) s) (m
 abbrev pub mark : MaybeCombination → SlotMark
 mark m = record { mark = m }
 
--- the marks of the 48 slots; refused: none
+-- the marks of the 48 slots
+abbrev pub marksOf : Table → List SlotMark
+marksOf t = table (λ s. mark (markAt (t .entries) s)) 48
+
+-- the answer of `slot_combinations`; refused: none marked
 abbrev pub slotMarks : Table → SlotMarks
-slotMarks t =
-    record {
-      answer = tableAnswer t;
-      slots = cond (accepted (tableAnswer t)) (table (λ s. mark (markAt (t .entries) s)) 48) (replicate 48 (mark None));
-    }
+slotMarks t = record { answer = tableAnswer t; slots = cond (accepted (tableAnswer t)) (marksOf t) (replicate 48 (mark None)) }

@@ -1,7 +1,7 @@
 // Modulation-code combinations, their words, slot units and punctured codes.
 ghost use mathlib.Core.Path.{_≡_};
 ghost use Prim.Native.Nat.{_*_};
-ghost use Rattle.isdbs_core.specs.Combinations.{combinationOf, wordMeans, assignedOf, wordOf, codeOf, modulationOf, symbolBits, rateOf, efficiencyOf, rankOf, unitOf, slotSteps, punctureOf, fourPairs, periodOf};
+ghost use Rattle.isdbs_core.specs.Combinations.{combinationOf, wordMeans, assignedOf, wordOf, codeOf, modulationOf, symbolBits, rateOf, efficiencyOf, rankOf, unitOf, slotSteps, punctureOf, pairsFrom, fourPairs, periodOf};
 
 // A modulation-code combination of the main signal.
 pub enum Combination {
@@ -286,37 +286,31 @@ impl Combination {
     }
 }
 
+// Four pairs and a count, of mother bits in the order sent.
+fn bit_pairs(count: usize, b: [usize; 8]) -> BitPairs
+    ensures { λ r. ⌜ r ≡ pairsFrom count b ⌝ }
+{
+    BitPairs {
+        count,
+        pairs: [
+            BitPair { p1: b[0], p0: b[1] },
+            BitPair { p1: b[2], p0: b[3] },
+            BitPair { p1: b[4], p0: b[5] },
+            BitPair { p1: b[6], p0: b[7] },
+        ],
+    }
+}
+
 impl Puncture {
     // The pairs of a period, in the order sent: the first bit of a pair is p1, the second p0.
     pub fn pairs(self) -> BitPairs
         ensures { λ r. ⌜ r ≡ fourPairs self ⌝ }
     {
-        let x1y1 = BitPair { p1: 0, p0: 1 };
-        let y2x3 = BitPair { p1: 3, p0: 4 };
-        let y4x5 = BitPair { p1: 7, p0: 8 };
-        let none = BitPair { p1: 0, p0: 0 };
         match self {
-            Puncture::R2_3 => BitPairs {
-                count: 3,
-                pairs: [x1y1, y2x3, BitPair { p1: 5, p0: 7 }, none],
-            },
-            Puncture::R3_4 => BitPairs {
-                count: 2,
-                pairs: [x1y1, y2x3, none, none],
-            },
-            Puncture::R5_6 => BitPairs {
-                count: 3,
-                pairs: [x1y1, y2x3, y4x5, none],
-            },
-            Puncture::R7_8 => BitPairs {
-                count: 4,
-                pairs: [
-                    x1y1,
-                    BitPair { p1: 3, p0: 5 },
-                    y4x5,
-                    BitPair { p1: 11, p0: 12 },
-                ],
-            },
+            Puncture::R2_3 => bit_pairs(3, [0, 1, 3, 4, 5, 7, 0, 0]),
+            Puncture::R3_4 => bit_pairs(2, [0, 1, 3, 4, 0, 0, 0, 0]),
+            Puncture::R5_6 => bit_pairs(3, [0, 1, 3, 4, 7, 8, 0, 0]),
+            Puncture::R7_8 => bit_pairs(4, [0, 1, 3, 5, 7, 8, 11, 12]),
         }
     }
 

@@ -4,8 +4,8 @@ use crate::combination::CombinationWord;
 use crate::combination::MaybeCombination;
 use refusal::Answer;
 ghost use mathlib.Core.Path.{_≡_};
-ghost use Prim.Native.Nat.{ℕ, _+_, _<_};
-ghost use Rattle.isdbs_core.specs.Tables.{entryCombination, slotSum, tableAnswer, marked, markIn, markAt, slotMarks};
+ghost use lib.ListN.{replicate};
+ghost use Rattle.isdbs_core.specs.Tables.{entryCombination, slotSum, tableAnswer, marked, markIn, markAt, mark, marksOf, slotMarks};
 
 // Combinations that a table carries.
 pub const CM: usize = 4;
@@ -106,20 +106,37 @@ fn mark_at(t: Table, s: usize) -> MaybeCombination
     MaybeCombination::None
 }
 
+// No slot marked.
+fn no_marks() -> [SlotMark; 48]
+    ensures { λ r. ⌜ r ≡ replicate 48 (mark MaybeCombination.None) ⌝ }
+{
+    [SlotMark {
+        mark: MaybeCombination::None,
+    }; 48]
+}
+
+// The marks of the slots of any table.
+fn marks(t: Table) -> [SlotMark; 48]
+    ensures { λ r. ⌜ r ≡ marksOf t ⌝ }
+{
+    let mut slots = no_marks();
+    for s in 0..48 {
+        let m = mark_at(t, s);
+        slots[s] = SlotMark { mark: m };
+    }
+    slots
+}
+
 // The combination of each of the 48 slots, by its place in its unit.
 pub fn slot_combinations(t: Table) -> SlotMarks
     ensures { λ r. ⌜ r ≡ slotMarks t ⌝ }
 {
     let answer = table_answer(t);
-    let none = SlotMark {
-        mark: MaybeCombination::None,
-    };
-    let mut slots = [none; 48];
     if refusal::number(answer) == 0 {
-        for s in 0..48 {
-            let m = mark_at(t, s);
-            slots[s] = SlotMark { mark: m };
-        }
+        let slots = marks(t);
+        SlotMarks { answer, slots }
+    } else {
+        let slots = no_marks();
+        SlotMarks { answer, slots }
     }
-    SlotMarks { answer, slots }
 }
