@@ -332,7 +332,7 @@ fn decoders(all: &mut (u64, u64), scale: u64) {
 
 #[cfg(encode)]
 fn encoding(all: &mut (u64, u64), scale: u64) {
-    let mut check = |kind: &mut Kind, t: u64, m: u8, state: u8, bytes: &[u8]| {
+    let check = |kind: &mut Kind, t: u64, m: u8, state: u8, bytes: &[u8]| {
         let Some((want, end)) = reference_frame(bytes, t, m, state) else { return };
         let (mut re, mut im) = (vec![7.5f64; MAIN + 2], vec![-7.5f64; MAIN + 1]);
         let mut got = 0xa5;
@@ -379,7 +379,7 @@ fn encoding(all: &mut (u64, u64), scale: u64) {
 
 #[cfg(decode)]
 fn decoding(all: &mut (u64, u64), scale: u64) {
-    let mut check = |kind: &mut Kind, points: &[Cplx], s: &calls::Settings| {
+    let check = |kind: &mut Kind, points: &[Cplx], s: &calls::Settings| {
         let (known, first) = (s.known != 0, s.first != 0);
         let want = isdbs_phy::demod::decode_frame(points, &info(s.table), first, &options(s.mapping, known, s.scale)).bytes;
         let bits = decoded_bits(&want, s.table);
@@ -455,7 +455,7 @@ fn isdbt(all: &mut (u64, u64), scale: u64) {
         }
         enc
     };
-    let mut check = |kind: &mut Kind, rate: usize, state: u8, bits: &[u8]| {
+    let check = |kind: &mut Kind, rate: usize, state: u8, bits: &[u8]| {
         let mut enc = encoder(state);
         let mut want = Vec::new();
         isdbt_fec::conv::encode_punctured(&mut enc, &Puncturing::new(rates[rate]), bits, &mut want);

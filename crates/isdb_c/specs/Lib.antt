@@ -2,3 +2,4 @@ pub mod Forms
 pub mod Rows
 pub mod Decoders
 pub mod Rates
+pub mod Mappings

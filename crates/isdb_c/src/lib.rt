@@ -3,3 +3,4 @@
 pub mod conv;
 pub mod isdbt;
 pub mod table;
+pub mod frame;
