@@ -66,6 +66,12 @@ uint32_t isdbs_runs(uint64_t table, uint32_t *out, size_t out_len, uint32_t *cou
 /* The symbol, from the start of its run, that carries the first coded bit of information bit `bit`. Row 2. */
 uint32_t isdbs_bit_symbol(uint8_t word, uint64_t bit, uint64_t *out);
 
+/* The 38,976 points of a frame as real and imaginary parts, from its bytes (203 for each valid slot; missing bits are 0, surplus ones ignored), the
+ * encoder starting at `state`: 0 for the first frame of a superframe and 63 for the others. *end is its state after the last bit. Points outside
+ * every run are (0, 0). Needs 38,976 places of either part and writes as many. Rows 1, 4, 9. */
+uint32_t isdbs_encode_frame(const uint8_t *bytes, size_t bytes_len, uint64_t table, uint8_t mapping, uint8_t state,
+                            double *re, size_t re_len, double *im, size_t im_len, uint8_t *end);
+
 /* The decoder of the code of constraint length 7 with generators 171 and 133 octal. Its state is the caller's: 64 path values (0 at a known start
  * state and -1,000,000 elsewhere, or all 0), how many decision words are held (0) and the traceback (1 to 1,024). The held words are the first of
  * `decisions`. A call takes its steps one by one; as 4,096 + traceback words are held, 4,096 bits leave to `out`, one in a byte. *count is how many.

@@ -1,4 +1,4 @@
-// Times beside the given Rust, from one run: each piece of work on both sides in turn, the least time of each over the rounds.
+// Times beside the given Rust, from one run: each piece of work on both sides in turn, the least processor time of each over the rounds.
 // speed [ROUNDS] (default 15). Prints a table for docs/PERFORMANCE.md.
 mod calls;
 mod common;
@@ -8,7 +8,6 @@ use isdb_fec::ViterbiDecoder;
 use std::alloc::{GlobalAlloc, Layout, System};
 use std::hint::black_box;
 use std::sync::atomic::{AtomicUsize, Ordering::Relaxed};
-use std::time::Instant;
 
 /// Counts what the Rust allocates.
 struct Counting;
@@ -40,12 +39,23 @@ fn held_by(f: impl FnOnce()) -> usize {
     MOST.load(Relaxed) - before
 }
 
+unsafe extern "C" {
+    fn clock_gettime(clock: i32, time: *mut [i64; 2]) -> i32;
+}
+
+/// The processor time of this thread in nanoseconds: what other programs take is not in it.
+fn processor_time() -> i64 {
+    let mut time = [0; 2];
+    assert_eq!(unsafe { clock_gettime(3, &mut time) }, 0);
+    time[0] * 1_000_000_000 + time[1]
+}
+
 /// The least time of either side in nanoseconds, in turn.
 fn beside(rounds: usize, mut rust: impl FnMut(), mut here: impl FnMut()) -> (f64, f64) {
     let time = |f: &mut dyn FnMut()| {
-        let from = Instant::now();
+        let from = processor_time();
         f();
-        from.elapsed().as_nanos() as f64
+        (processor_time() - from) as f64
     };
     (0..rounds).fold((f64::MAX, f64::MAX), |(a, b), _| (a.min(time(&mut rust)), b.min(time(&mut here))))
 }
@@ -137,6 +147,65 @@ fn encoding(rounds: usize) {
     }
 }
 
+/// The same code in libfec (viterbi27): 8-bit soft values, one traceback over the whole block. Context, no reference.
+#[cfg(peer)]
+mod peer {
+    use super::*;
+    use std::ffi::c_void;
+
+    unsafe extern "C" {
+        fn create_viterbi27(len: i32) -> *mut c_void;
+        fn set_viterbi27_polynomial(polys: *const i32);
+        fn init_viterbi27(v: *mut c_void, start: i32) -> i32;
+        fn update_viterbi27_blk(v: *mut c_void, symbols: *const u8, pairs: i32) -> i32;
+        fn chainback_viterbi27(v: *mut c_void, data: *mut u8, bits: u32, end: u32) -> i32;
+    }
+
+    pub fn row(rounds: usize) {
+        let n = 65_536;
+        let mut draws = Draws(0x9ee4);
+        let mut enc = isdb_fec::ConvEncoder::new();
+        // the last six bits lead back to state 0
+        let bits: Vec<u8> = (0..n).map(|i| if i < n - 6 { (draws.next() >> 63) as u8 } else { 0 }).collect();
+        let mut pairs: Vec<f32> = Vec::new();
+        for &b in &bits {
+            let (x, y) = enc.push(b);
+            for c in [x, y] {
+                let noise = (draws.next() >> 40) as f32 / 16_777_216.0 - 0.5;
+                pairs.push(1.0 - 2.0 * f32::from(c) + 1.5 * noise);
+            }
+        }
+        let symbols: Vec<u8> = pairs.iter().map(|x| (127.5 - 60.0 * x) as u8).collect();
+        let mut packed = vec![0u8; n / 8];
+        let mut decisions = vec![0u64; 4224];
+        let mut out = vec![0u8; n + 4096];
+        let fresh = *ViterbiDecoder::new(128).path_values();
+        // 171 and 133 octal, with the newest input as the low bit
+        let v = unsafe {
+            set_viterbi27_polynomial([0x4f, 0x6d].as_ptr());
+            create_viterbi27(n as i32)
+        };
+        let (peer, here) = beside(
+            rounds,
+            || unsafe {
+                init_viterbi27(v, 0);
+                update_viterbi27_blk(v, symbols.as_ptr(), n as i32);
+                chainback_viterbi27(v, packed.as_mut_ptr(), n as u32 - 6, 0);
+            },
+            || {
+                let mut pm = fresh;
+                let (mut held, mut count) = (0, 0);
+                assert_eq!(calls::feed(&mut pm, &mut held, 128, Feed::Pairs(&pairs), &mut decisions, &mut out, &mut count), 0);
+                let released = count as usize;
+                assert_eq!(calls::feed(&mut pm, &mut held, 128, Feed::Flush, &mut decisions, &mut out[released..], &mut count), 0);
+            },
+        );
+        let wrong = |bit: &dyn Fn(usize) -> u8| (0..n - 6).filter(|&i| bit(i) != bits[i]).count();
+        println!();
+        println!("libfec viterbi27 (8-bit soft values): {:.1} ns per step, {} wrong bits; push here (f32): {:.1} ns per step, {} wrong bits", peer / n as f64, wrong(&|i| packed[i / 8] >> (7 - i % 8) & 1), here / n as f64, wrong(&|i| out[i]));
+    }
+}
+
 fn main() {
     let rounds = std::env::args().nth(1).map_or(15, |s| s.parse().expect("a number"));
     println!("| work | Rust | here | Rust | here | ratio | Rust holds | lent here |");
@@ -146,4 +215,6 @@ fn main() {
     #[cfg(encode)]
     encoding(rounds);
     decoder(rounds);
+    #[cfg(peer)]
+    peer::row(rounds);
 }
