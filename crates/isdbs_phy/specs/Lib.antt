@@ -4,3 +4,5 @@ pub mod Layout
 pub mod Frame
 pub mod Reading
 pub mod Pieces
+pub mod DecodeRows
+pub mod Steps

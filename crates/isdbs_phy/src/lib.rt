@@ -1,5 +1,6 @@
 // Signal points, and their parts as soft values.
 pub mod demod;
+mod metrics;
 
 ghost use mathlib.Core.Path.{_≡_};
 ghost use Prim.Native.Nat.{_^_, _≤_, _<_};
