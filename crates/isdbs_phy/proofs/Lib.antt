@@ -1,3 +1,5 @@
 pub mod Shift
 pub mod Narrow
 pub mod Sign
+pub mod ByStep
+pub mod Codes

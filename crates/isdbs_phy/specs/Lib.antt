@@ -4,5 +4,7 @@ pub mod Layout
 pub mod Frame
 pub mod Reading
 pub mod Pieces
+pub mod LawsUpto
+pub mod LawsState
 pub mod DecodeRows
 pub mod Steps

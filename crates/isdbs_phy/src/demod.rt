@@ -1,6 +1,17 @@
+// The main signal of a frame: bytes to points and points to bytes. After demod.rs of isdbs-phy.
+use crate::Cplx;
+use isdb_fec::conv::encode_bit;
 ghost use mathlib.Core.Path.{_≡_};
 ghost use mathlib.Core.Bool.{true, false, cond};
+ghost use Prim.Native.Nat.{ℕ, _+_, _*_, _/_, _%_, _<_, _≤_, _^_};
 ghost use lib.Ieee.{binary32, ofBits};
+ghost use Rattle.isdbs_phy.specs.Points.{psk8Of, turned};
+ghost use Rattle.isdbs_phy.specs.Layout.{wordBit};
+ghost use Rattle.isdbs_phy.specs.Frame.{stateAfter};
+
+// 1 / sqrt 2 as an f64.
+const ROOT: f64 = 0.7071067811865476;
+
 // How coded bits map to points.
 pub struct Mapping {
     // The imaginary part of every point is negated.
@@ -45,5 +56,59 @@ impl DemodOptions {
             llr_scale: 8.0,
         }
     }
+}
+
+// The 8PSK point of the label C2 C1 C0; the low three bits count.
+pub fn psk8_point(label: u8) -> Cplx
+    ensures { λ r. ⌜ r ≡ psk8Of (label % 8) ⌝ }
+{
+    match label % 8 {
+        0 => Cplx { re: 1.0, im: 0.0 },
+        1 => Cplx { re: ROOT, im: ROOT },
+        2 => Cplx {
+            re: -ROOT,
+            im: ROOT,
+        },
+        3 => Cplx { re: 0.0, im: 1.0 },
+        4 => Cplx { re: -1.0, im: 0.0 },
+        5 => Cplx {
+            re: -ROOT,
+            im: -ROOT,
+        },
+        6 => Cplx {
+            re: ROOT,
+            im: -ROOT,
+        },
+        _ => Cplx { re: 0.0, im: -1.0 },
+    }
+}
+
+// Bit i of a word, high bit first.
+pub(crate) fn word_bit(word: u16, i: usize) -> u8
+    requires { ⌜ i < 16 ⌝ }
+    ensures { λ r. ⌜ r ≡ wordBit word i ⌝ }
+{
+    ((word >> (15 - i)) % 2) as u8
+}
+
+// The encoder's state after a 16-bit word.
+pub fn state_after(word: u16) -> u8
+    ensures { λ r. ⌜ r ≡ stateAfter word ⌝ }
+{
+    let mut state: u8 = 0;
+    let mut i: usize = 0;
+    while i < 16 {
+        let c = encode_bit(state, word_bit(word, i));
+        state = c.state;
+        i += 1;
+    }
+    state
+}
+
+// The imaginary part, negated where the mapping says so.
+pub(crate) fn mirror(conjugate: bool, y: f64) -> f64
+    ensures { λ r. ⌜ r ≡ turned conjugate y ⌝ }
+{
+    if conjugate { -y } else { y }
 }
 
