@@ -3,3 +3,7 @@ pub mod Narrow
 pub mod Sign
 pub mod ByStep
 pub mod Codes
+pub mod Carried
+pub mod Digits
+pub mod Among
+pub mod Parts

@@ -8,3 +8,4 @@ pub mod LawsUpto
 pub mod LawsState
 pub mod DecodeRows
 pub mod Steps
+pub mod Runs

@@ -65,7 +65,25 @@ pieceBit c re im m s us i = bitIn (received re im m nan) (labelAt s us) us (piec
 abbrev pub Bits : List ℕ → ℕ → Type 0
 Bits us n = (i : ℕ) → i < n → getD us i 0 < 2
 
--- the number whose first n digits in base b, the highest first, are f 0, f 1, ..
-unfoldable pub digits : ℕ → (ℕ → ℕ) → ℕ → ℕ
-digits b f zero = 0
-digits b f (suc n) = b * digits b f n + f n
+-- the number whose first n binary digits, the highest first, are f 0, f 1, ..
+unfoldable pub digits : (ℕ → ℕ) → ℕ → ℕ
+digits f zero = 0
+digits f (suc n) = 2 * digits f n + f n
+
+-- the steps that give n bytes of a run
+abbrev pub stepsOfBytesBy : Modulation → ℕ → ℕ
+stepsOfBytesBy Bpsk n = 8 * n
+stepsOfBytesBy Qpsk n = 8 * n
+stepsOfBytesBy Tc8psk n = 4 * n
+
+abbrev pub stepsOfBytes : Combination → ℕ → ℕ
+stepsOfBytes c n = stepsOfBytesBy (modulationOf c) n
+
+-- the decoded bits, and of TC8PSK the points, that give n bytes of a run
+abbrev pub PackRoomBy : Modulation → ℕ → ℕ → ℕ → ℕ → List ℕ → Type 0
+PackRoomBy Bpsk n re im len us = (8 * n ≤ len) × Bits us (8 * n)
+PackRoomBy Qpsk n re im len us = (8 * n ≤ len) × Bits us (8 * n)
+PackRoomBy Tc8psk n re im len us = (4 * n ≤ re) × (4 * n ≤ im) × (4 * n ≤ len) × Bits us (4 * n)
+
+abbrev pub PackRoom : Combination → ℕ → ℕ → ℕ → ℕ → List ℕ → Type 0
+PackRoom c n re im len us = PackRoomBy (modulationOf c) n re im len us

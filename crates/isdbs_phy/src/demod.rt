@@ -5,7 +5,7 @@ ghost use mathlib.Core.Path.{_≡_};
 ghost use mathlib.Core.Bool.{true, false, cond};
 ghost use Prim.Native.Nat.{ℕ, _+_, _*_, _/_, _%_, _<_, _≤_, _^_};
 ghost use lib.Ieee.{binary32, ofBits};
-ghost use Rattle.isdbs_phy.specs.Points.{psk8Of, turned};
+ghost use Rattle.isdbs_phy.specs.Points.{psk8Of, subset, turned};
 ghost use Rattle.isdbs_phy.specs.Layout.{wordBit};
 ghost use Rattle.isdbs_phy.specs.Frame.{stateAfter};
 
@@ -112,3 +112,11 @@ pub(crate) fn mirror(conjugate: bool, y: f64) -> f64
     if conjugate { -y } else { y }
 }
 
+
+// 2 C1 + C0 from 2 X + Y.
+pub(crate) fn subset_of(c1_is_y: bool, l: u8) -> u8
+    requires { ⌜ l < 4 ⌝ }
+    ensures { λ r. ⌜ (r ≡ subset «c1_is_y» l) × (r < 4) ⌝ }
+{
+    if c1_is_y { 2 * (l % 2) + l / 2 } else { l }
+}

@@ -1,6 +1,8 @@
 // Signal points, and their parts as soft values.
 pub mod demod;
+mod fec;
 mod metrics;
+mod reading;
 
 ghost use mathlib.Core.Path.{_≡_};
 ghost use Prim.Native.Nat.{_^_, _≤_, _<_};

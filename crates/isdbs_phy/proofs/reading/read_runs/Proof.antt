@@ -1,0 +1,142 @@
+use borrow.Author.Needs.{needs}
+use Rattle.isdbs_phy.proofs.Among.{stepsTo}
+use Rattle.isdbs_phy.specs.Runs.{frameMetrics, freshFrom}
+use Rattle.isdbs_phy.specs.Steps.{received}
+use Rattle.isdbs_core.specs.RunsOf.{runsOf}
+use Rattle.isdb_fec.specs.Calls.{steps, Holds}
+use lib.ListN.{length, getD, drop, take}
+use native.Mathlib.Numerals.{add-one}
+use native.Mathlib.Omega.{arith}
+use Prim.Native.Nat.{ℕ, suc, _+_, _-_, _*_, _/_, _%_, _<_, _≤_}
+use mathlib.Core.Path.{_≡_, refl, sym, _∙_, ap}
+use Rattle.isdbs_phy.proofs.reading.read_runs.Statement.{statement}
+use Rattle.isdbs_phy.proofs.reading.read_runs.Tie as tie
+use Rattle.isdbs_phy.proofs.reading.read_runs.Reads as reads
+use Rattle.isdbs_phy.proofs.reading.read_runs.Lts as lts
+use Rattle.isdbs_core.proofs.combination.Combination.steps_per_slot.Reads as steps-per-slot-reads
+use Rattle.isdbs_core.proofs.slots.runs.Reads as runs-reads
+use Rattle.isdbs_phy.proofs.reading.read_run.Reads as read-run-reads
+
+abbrev Inv-loop : tie.InvT-loop
+Inv-loop m scale pm₀ re im decisions₀ bits₀ count list at₀ step₀ i₀ pm decisions bits at step i = (i ≤ length (runsOf t)) × (length decisions ≡ length decisions₀) × (length bits ≡ length bits₀) × (step ≡ stepsTo (runsOf t) i) × (at .held < 4224) × (at .held + at .count ≡ step) × Holds 128 decisions₀ bits₀ (steps 128 (frameMetrics t (received re im m scale)) (freshFrom pm₀) step) pm (at .held) (at .count) decisions bits
+
+
+abbrev μ-loop : tie.MeasureT-loop
+μ-loop m scale pm₀ re im decisions₀ bits₀ count list at₀ step₀ i₀ pm decisions bits at step i = count - i
+
+-- src/reading.rt:78:9
+runs-requires : tie.Need-runs-requires Inv-loop μ-loop
+runs-requires c κs = search needs
+
+-- src/reading.rt:83:5
+loop-holds : tie.Need-loop-holds Inv-loop μ-loop
+loop-holds c = search needs
+
+-- src/reading.rt:84:17
+mul-r : tie.Need-mul-r Inv-loop μ-loop
+mul-r c = search needs
+
+-- src/reading.rt:84:17
+array-copy-out-r : tie.Need-array-copy-out-r Inv-loop μ-loop
+array-copy-out-r c = search needs
+
+-- src/reading.rt:86:17
+steps-per-slot-requires : tie.Need-steps-per-slot-requires Inv-loop μ-loop
+steps-per-slot-requires c κs = search needs
+
+-- src/reading.rt:86:17
+mul-n : tie.Need-mul-n Inv-loop μ-loop
+mul-n c = search needs
+
+-- src/reading.rt:88:53
+mul-read-run : tie.Need-mul-read-run Inv-loop μ-loop
+mul-read-run c = search needs
+
+-- src/reading.rt:88:53
+sub-read-run : tie.Need-sub-read-run Inv-loop μ-loop
+sub-read-run c = search needs
+
+-- src/reading.rt:88:53
+part-read-run-start : tie.Need-part-read-run-start Inv-loop μ-loop
+part-read-run-start c = search needs
+
+-- src/reading.rt:88:53
+part-read-run-end : tie.Need-part-read-run-end Inv-loop μ-loop
+part-read-run-end c = search needs
+
+-- src/reading.rt:88:66
+mul-read-run-2 : tie.Need-mul-read-run-2 Inv-loop μ-loop
+mul-read-run-2 c = search needs
+
+-- src/reading.rt:88:66
+sub-read-run-2 : tie.Need-sub-read-run-2 Inv-loop μ-loop
+sub-read-run-2 c = search needs
+
+-- src/reading.rt:88:66
+part-read-run-start-2 : tie.Need-part-read-run-start-2 Inv-loop μ-loop
+part-read-run-start-2 c = search needs
+
+-- src/reading.rt:88:66
+part-read-run-end-2 : tie.Need-part-read-run-end-2 Inv-loop μ-loop
+part-read-run-end-2 c = search needs
+
+-- src/reading.rt:88:9
+read-run-requires : tie.Need-read-run-requires Inv-loop μ-loop
+read-run-requires c κs = search needs
+
+-- src/reading.rt:89:16
+add-step : tie.Need-add-step Inv-loop μ-loop
+add-step c = search needs
+
+-- src/reading.rt:83:9
+add-i : tie.Need-add-i Inv-loop μ-loop
+add-i c = search needs
+
+-- src/reading.rt:83:5
+loop-less : tie.Need-loop-less Inv-loop μ-loop
+loop-less c = search needs
+
+-- src/reading.rt:83:5
+loop-again : tie.Need-loop-again Inv-loop μ-loop
+loop-again c = search needs
+
+-- src/reading.rt:74:1
+same-length : tie.Need-same-length Inv-loop μ-loop
+same-length c = search needs
+
+-- src/reading.rt:74:1
+same-length-2 : tie.Need-same-length-2 Inv-loop μ-loop
+same-length-2 c = search needs
+
+-- src/reading.rt:74:1
+returns : tie.Need-returns Inv-loop μ-loop
+returns c = search needs
+
+pub read-runs-spec : {M : Type 1} → statement M
+read-runs-spec =
+    tie.close
+    (tie.spec
+    Inv-loop
+    μ-loop
+    runs-requires
+    loop-holds
+    mul-r
+    array-copy-out-r
+    steps-per-slot-requires
+    mul-n
+    mul-read-run
+    sub-read-run
+    part-read-run-start
+    part-read-run-end
+    mul-read-run-2
+    sub-read-run-2
+    part-read-run-start-2
+    part-read-run-end-2
+    read-run-requires
+    add-step
+    add-i
+    loop-less
+    loop-again
+    same-length
+    same-length-2
+    returns)
