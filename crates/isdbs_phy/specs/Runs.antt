@@ -17,7 +17,7 @@ use Rattle.isdbs_core.specs.RunsOf.{frameSteps, loadBytes}
 use Rattle.isdbs_phy.specs.declared.demod.Mapping.{Mapping}
 use Rattle.isdbs_phy.specs.Layout.{wordBit, atBit, byteOf}
 use Rattle.isdbs_phy.specs.Frame.{labelAt}
-use Rattle.isdbs_phy.specs.Reading.{Received, metricsAt, bitIn}
+use Rattle.isdbs_phy.specs.Reading.{Received, metricsAt, bitIn, decodedBits, decodedBytes}
 use Rattle.isdbs_phy.specs.Steps.{received, pieceMetrics}
 
 -- n steps ys of a call, the first of which is its step i0. Whatever the call's other steps are: the decoder that the values and slices held goes
@@ -61,3 +61,14 @@ pub record Ended (pm : List Float) (at : At) (dec out dec′ out′ : List ℕ) 
 abbrev pub byteAt : Table → Received → ℕ → List ℕ → ℕ → ℕ
 byteAt t r s us j = byteOf (λ i. atBit 0 (bitIn r (labelAt s us) us) t (8 * j + i))
 
+
+-- the bits of a frame whose path values start as pm
+abbrev pub bitsFrom : Table → Received → List Float → List ℕ
+bitsFrom t r pm = endedBits (steps 128 (frameMetrics t r) (freshFrom pm) (frameSteps t))
+
+-- "Afterwards the bit buffer begins with steps + 16 decoded bits, one per byte; the first 4,224 decision words are 0; the byte output begins with
+-- 203 bytes per valid slot; all else is unchanged."
+pub record FrameRead (t : Table) (r : Received) (knownStart first : Bool) (decisions₀ decisions bits₀ bits bytes₀ bytes : List ℕ) : Type 0 where
+  pub words : decisions ≡ laid (replicate 4224 0) decisions₀
+  pub decoded : bits ≡ laid (decodedBits t r knownStart first) bits₀
+  pub load : bytes ≡ laid (decodedBytes t r knownStart first) bytes₀

@@ -1,6 +1,8 @@
 // The core of frame decoding: points to decoded bits, and these to bytes. No row is checked here.
+use crate::demod::DemodOptions;
 use crate::demod::Mapping;
 use crate::demod::psk8_point;
+use crate::demod::state_after;
 use crate::demod::subset_of;
 use crate::demod::word_bit;
 use crate::fec::advance;
@@ -16,19 +18,25 @@ use isdb_fec::conv::At;
 use isdb_fec::conv::Step;
 use isdb_fec::conv::clear;
 use isdb_fec::conv::encode_bit;
+use isdb_fec::conv::start_at;
+use isdb_fec::conv::start_unknown;
 use isdbs_core::combination::Combination;
 use isdbs_core::combination::Modulation;
 use isdbs_core::frame::W1;
+use isdbs_core::frame::W2;
+use isdbs_core::frame::W3;
 use isdbs_core::slots::runs;
 use isdbs_core::tmcc::Table;
 ghost use mathlib.Core.Path.{_≡_};
 ghost use mathlib.Core.Bool.{Bool, cond};
 ghost use mathlib.Core.List.{[], _∷_};
 ghost use Prim.Native.Nat.{ℕ, _+_, _*_, _/_, _%_, _<_, _≤_, _^_};
-ghost use lib.ListN.{length, getD};
+ghost use lib.ListN.{length, getD, replicate};
 ghost use lib.Ieee.{Float, nan, lt};
 ghost use Rattle.trellis.specs.Lists.{upto, laid, bit};
 ghost use Rattle.trellis.specs.Code.{stateAt};
+ghost use Rattle.trellis.specs.Run.{startAt, startUnknown};
+ghost use Rattle.isdbs_phy.specs.Frame.{startState};
 ghost use Rattle.isdbs_core.specs.declared.combination.Combination.the-variants.{«Tc8psk2_3»};
 ghost use Rattle.isdbs_core.specs.Tables.{slotSum};
 ghost use Rattle.isdbs_core.specs.RunsOf.{frameSteps, loadBytes};
@@ -36,7 +44,7 @@ ghost use Rattle.isdbs_phy.specs.Points.{zero64, point, turned, psk8Of, 
 ghost use Rattle.isdbs_phy.specs.Layout.{byteOf};
 ghost use Rattle.isdbs_phy.specs.Reading.{correlation};
 ghost use Rattle.isdbs_phy.specs.Steps.{Covers, Bits, digits, received, pieceBit, stepsOfBytes, PackRoom};
-ghost use Rattle.isdbs_phy.specs.Runs.{runSteps, Carried, RunsRead, Ended, byteAt};
+ghost use Rattle.isdbs_phy.specs.Runs.{runSteps, Carried, RunsRead, Ended, byteAt, bitsFrom, FrameRead};
 
 // The words that a frame's decoder holds at most: 4,096 and its traceback.
 const WORDS: usize = 4224;
@@ -217,4 +225,45 @@ fn write_bytes(t: Table, m: Mapping, start: u8, re: &[f64], im: &[f64], bits: &[
         step = step + c.steps_per_slot() * r.valid_slots;
         done = done + n;
     }
+}
+
+// The decoded bits of a frame: one for each step, then the 16 of W1. The path values start as pm.
+fn decode_bits(t: Table, m: Mapping, scale: f32, start: [f32; 64], re: &[f64], im: &[f64], decisions: &mut [u64], bits: &mut [u8])
+    requires { ⌜ (slotSum (t .entries) ≤ 48) × (38976 ≤ length (now re)) × (38976 ≤ length (now im)) × (4224 ≤ length (now decisions)) × (frameSteps t + 16 ≤ length (now bits)) ⌝ }
+    ensures { λ _. ⌜ (now (bits .exit) ≡ laid (bitsFrom t (received (now (re .entry)) (now (im .entry)) m scale) start) (now (bits .entry))) × (now (decisions .exit) ≡ laid (replicate 4224 0) (now (decisions .entry))) ⌝ }
+{
+    let mut pm = start;
+    let at = read_runs(t, m, scale, &mut pm, re, im, decisions, bits);
+    read_end(&mut pm, at, decisions, bits);
+}
+
+// The path values before a frame.
+fn start_values(known_start: bool, state: u8) -> [f32; 64]
+    ensures { λ r. ⌜ r ≡ cond «known_start» (startAt 64 state) (startUnknown 64) ⌝ }
+{
+    if known_start {
+        start_at(state)
+    } else {
+        start_unknown()
+    }
+}
+
+// The state that the header's W2 or W3 leaves.
+fn start_state(first: bool) -> u8
+    ensures { λ r. ⌜ (r ≡ startState first) × (r < 64) ⌝ }
+{
+    if first { state_after(W2) } else { state_after(W3) }
+}
+
+// A whole frame: its decoded bits, and its bytes.
+pub fn decode(t: Table, first: bool, o: DemodOptions, re: &[f64], im: &[f64], steps: usize, decisions: &mut [u64], bits: &mut [u8], bytes: &mut [u8])
+    requires { ⌜ (steps ≡ frameSteps t) × (slotSum (t .entries) ≤ 48) × (38976 ≤ length (now re)) × (38976 ≤ length (now im)) × (4224 ≤ length (now decisions)) × (frameSteps t + 16 ≤ length (now bits)) × (loadBytes t ≤ length (now bytes)) ⌝ }
+    ensures { λ _. ⌜ FrameRead t (received (now (re .entry)) (now (im .entry)) (o .mapping) (o .«llr_scale»)) (o .«known_start») first (now (decisions .entry)) (now (decisions .exit)) (now (bits .entry)) (now (bits .exit)) (now (bytes .entry)) (now (bytes .exit)) ⌝ }
+{
+    let state = start_state(first);
+    let m = o.mapping;
+    let start = start_values(o.known_start, state);
+    decode_bits(t, m, o.llr_scale, start, re, im, decisions, bits);
+    let end = steps + 16;
+    write_bytes(t, m, state, re, im, &bits[0..end], bytes);
 }
