@@ -1,14 +1,15 @@
 -- Bit patterns. q * 2 ^ k units, q having at most prec digits, and all of them where k is above 0, have the pattern k * hid + q with the sign before it (`units-bits`):
--- the leading digit adds one to the exponent's field, and a carry out of the digits gives the next field, up to the infinity's (`inf-bits`). Assumes nothing.
+-- the leading digit adds one to the exponent's field, and a carry out of the digits gives the next field, up to the infinity's (`inf-bits`).
+-- So the pattern of a fraction's rounded value is one sum (`round-bits`), up to overflow (`round-over`). Assumes nothing.
 use mathlib.Core.Path.{_≡_, refl, sym, ap, _∙_, subst}
 use mathlib.Core.Logic.{_⊎_, inl, inr}
-use mathlib.Core.Bool.{Bool, true, false, not, cond}
+use mathlib.Core.Bool.{Bool, true, false, not, cond, true≢false}
 use Prim.Native.Nat.{ℕ, suc, _+_, _-_, _*_, _/_, _^_, _≤_, _<_}
 use native.Mathlib.Nat.{le-trans, le-of-eq, le-antisymm, lt-irrefl, lt-of-lt-of-le, lt-of-le-of-lt, lt-of-not-le, eq-or-lt-of-le, le-of-mul-le-mul-right, mul-assoc, mul-one, mul-div-cancel, mul-le-mul-right, add-assoc, one-mul, mul-pos, eq-zero-or-pos, pow-suc}
 use native.Mathlib.Omega.{arith}
 use lib.Dec.{T, ltb, ltb→lt, nltb→le, not-T}
 use lib.Pow.{pow-add, pow-pos, pow-mono, pow-lt, shl-lt}
-use lib.Ieee.{Float, nan, inf, fin, Format, prec, emax, low, up, down, size, odd, units, round, hid, ones, top, ofBits, toBits}
+use lib.Ieee.{Float, nan, inf, fin, isNan, ne, Format, prec, emax, low, up, down, size, odd, units, round, hid, ones, top, ofBits, toBits}
 use lib.Ieee.Digits.{size-lt, size-le}
 use lib.Ieee.Fits.{two, down-pos, odd-fits, inf-fits, round-is}
 use lib.Ieee.Nearest.{closest, closest-same, div-same}
@@ -16,9 +17,17 @@ use lib.Ieee.Order.{drop, kept}
 use lib.Ieee.Exact.{HasValue, odd-sign}
 use lib.Ieee.Scale.{overflow}
 use lib.Ieee.Bits.{ofBits-toBits, cond-no}
+use lib.Ieee.Compare.{nan-differs}
 use Rattle.ieee.specs.Nearest.{rnd, rnd-mono, rnd-fix, kept-le, kept-ge}
 use Rattle.ieee.specs.Value.{pow-cancel}
 use Rattle.ieee.specs.Rounding.{prec-pos}
+
+-- ---- a float that does not differ from itself is no NaN
+pub number : (x : Float) → ne x x ≡ false → T (not (isNan x))
+unfolding isNan
+number nan e = absurd (true≢false (sym nan-differs ∙ e))
+number (inf s) e = tt
+number (fin s m d) e = tt
 
 -- ---- a number's size
 pub size-exact : (a n : ℕ) → 2 ^ a ≤ n → n < 2 ^ suc a → size n ≡ suc a

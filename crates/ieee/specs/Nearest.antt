@@ -107,20 +107,20 @@ pick w b r a Ordering·eq c e l =
     elim (parity w) [ inl z ↦ subst (λ (x : ℕ). Within (x * b) a b) (sym z) (stay w b r a e (le-of-eq c)) | inr z ↦ subst (λ (x : ℕ). Within (x * b) a b) (sym z) (step w b r a e l (le-of-eq (sym c))) ]
 pick w b r a Ordering·gt c e l = step w b r a e l (omega arith)
 
-pub closest-err : (a b : ℕ) → 0 < b → Within (closest a b * b) a b
+closest-err : (a b : ℕ) → 0 < b → Within (closest a b * b) a b
 closest-err a b B = pick (a / b) b (a % b) a (compare (a % b * 2) b) (cmp (a % b * 2) b) (div-add-mod' a b) (mod-lt a B)
 
 -- ---- the error of `rnd`, for a fraction below 2 ^ (p + j): half of 2 ^ j at most
 spare : (z p l : ℕ) → z ≤ p + l → z - p ≤ l
 spare z p l h = omega arith
 
-pub drop-le : (p n d j : ℕ) → 0 < d → n < 2 ^ (p + j) * d → drop p n d ≤ j
+drop-le : (p n d j : ℕ) → 0 < d → n < 2 ^ (p + j) * d → drop p n d ≤ j
 drop-le p n d j D h = spare (size (n / d)) p j (size-le (n / d) (p + j) (div-lt-iff-lt-mul D .1 h))
 
 widen : (c a b e : ℕ) → b ≤ e → Within c a b → Within c a e
 widen c a b e h w = omega arith
 
-pub rnd-err : (p n d j : ℕ) → 0 < d → n < 2 ^ (p + j) * d → Within (rnd p n d * d) n (d * 2 ^ j)
+rnd-err : (p n d j : ℕ) → 0 < d → n < 2 ^ (p + j) * d → Within (rnd p n d * d) n (d * 2 ^ j)
 rnd-err p n d j D h =
     let k = drop p n d in
     let u = d * 2 ^ k in
@@ -132,7 +132,7 @@ above-zero : (u : ℕ) → 0 < u → compare 0 u ≡ Ordering·lt
 above-zero zero h = absurd (lt-irrefl 0 h)
 above-zero (suc u) h = compare·zero-suc u
 
-pub closest-exact : (q u : ℕ) → 0 < u → closest (q * u) u ≡ q
+closest-exact : (q u : ℕ) → 0 < u → closest (q * u) u ≡ q
 closest-exact q u h =
     ap (λ (x : ℕ). nearest x (compare (q * u % u * 2) u)) (mul-div-cancel q h)
     ∙ ap (λ (x : ℕ). nearest q (compare (x * 2) u)) (mul-mod-left q u)

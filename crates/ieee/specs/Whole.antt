@@ -71,12 +71,12 @@ nil : (f : Format) → 0 ≡ 0 * pow2 (low f)
 nil f = sym (zero-mul (pow2 (low f)))
 
 -- x is the whole number n, or -n
-pub on-plus : (f : Format) (x : Float) (n : ℕ) → T (fits f x) → HasValue x false n 1 → On f x (low f) n 0
+on-plus : (f : Format) (x : Float) (n : ℕ) → T (fits f x) → HasValue x false n 1 → On f x (low f) n 0
 on-plus f x n t v =
     let w = in-units f x false n v in
     record { num = record { fin-x = finite-of x false n 1 v; fits-x = t }; hi-is = hi-of f x false (n * 2 ^ low f) w ∙ turn f n; lo-is = lo-of f x false (n * 2 ^ low f) w ∙ nil f }
 
-pub on-minus : (f : Format) (x : Float) (n : ℕ) → T (fits f x) → HasValue x true n 1 → On f x (low f) 0 n
+on-minus : (f : Format) (x : Float) (n : ℕ) → T (fits f x) → HasValue x true n 1 → On f x (low f) 0 n
 on-minus f x n t v =
     let w = in-units f x true n v in
     record { num = record { fin-x = finite-of x true n 1 v; fits-x = t }; hi-is = hi-of f x true (n * 2 ^ low f) w ∙ nil f; lo-is = lo-of f x true (n * 2 ^ low f) w ∙ turn f n }
@@ -86,7 +86,7 @@ unfolding ofInt inFloat
 ofInt-on f (pos n) t = on-plus f (round f false n 1) n (ofInt-fits f (pos n)) (round-whole f false n (leb→le n (2 ^ prec f) t))
 ofInt-on f (negsuc n) t = on-minus f (round f true (suc n) 1) (suc n) (ofInt-fits f (negsuc n)) (round-whole f true (suc n) (ltb→lt n (2 ^ prec f) t))
 
-pub ofInt-plain : (f : Format) (z : ℤ) → T (inFloat f z) → T (plain (ofInt f z))
+ofInt-plain : (f : Format) (z : ℤ) → T (inFloat f z) → T (plain (ofInt f z))
 unfolding ofInt inFloat
 ofInt-plain f (pos n) t = plus-plain f n 1
 ofInt-plain f (negsuc n) t = value-plain (round f true (suc n) 1) true (suc n) 1 (round-whole f true (suc n) (ltb→lt n (2 ^ prec f) t)) (zero-lt-suc n)

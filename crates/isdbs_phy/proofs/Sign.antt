@@ -1,20 +1,13 @@
 -- The sign's bit moved from an f64's pattern to an f32's, and which patterns are no NaN's.
 use mathlib.Core.Path.{_≡_, refl, sym, ap, _∙_, subst}
-use mathlib.Core.Bool.{Bool, true, false, not, cond, true≢false}
+use mathlib.Core.Bool.{Bool, true, false, not, cond}
 use Prim.Native.Nat.{ℕ, zero, suc, _+_, _*_, _/_, _%_, _≤_, _<_}
 use native.Mathlib.Omega.{arith}
 use lib.Dec.{T, ltb, ltb→lt, nltb→le, not-T}
-use lib.Ieee.{Float, nan, inf, fin, binary32, binary64, fits, isNan, ne, ofBits, toBits, nanBits}
+use lib.Ieee.{Float, binary32, binary64, fits, isNan, ofBits, toBits, nanBits}
 use lib.Ieee.Bits.{ofBits-toBits, toBits-lt, nanBits-is, nanBits-above}
-use lib.Ieee.Compare.{nan-differs}
 use Rattle.ieee.specs.Conversion.{rounded}
 use Rattle.isdbs_phy.specs.Soft.{Narrowed}
-
-pub number : (x : Float) → ne x x ≡ false → T (not (isNan x))
-unfolding isNan
-number nan e = absurd (true≢false (sym nan-differs ∙ e))
-number (inf s) e = tt
-number (fin s m e') e = tt
 
 -- an f64's pattern without the sign is the infinity's at most
 pub at-most-inf : (x : Float) → T (fits binary64 x) → T (not (isNan x)) → toBits binary64 x % 9223372036854775808 ≤ 9218868437227405312
@@ -22,8 +15,8 @@ at-most-inf x t n =
     nltb→le 9218868437227405312 (toBits binary64 x % 9223372036854775808)
     (subst (λ (b : Bool). T (not b)) (sym (nanBits-is binary64 (toBits binary64 x) ∙ ap isNan (ofBits-toBits binary64 x t)) ∙ nanBits-above binary64 (toBits binary64 x)) n)
 
-pub no-nan : (b r : ℕ) → r ≤ 2139095040 → T (not (nanBits binary32 (b * 2147483648 + r)))
-no-nan b r h =
+pub pattern-ok : (b r : ℕ) → r ≤ 2139095040 → T (not (nanBits binary32 (b * 2147483648 + r)))
+pattern-ok b r h =
     subst (λ (t : Bool). T (not t)) (sym (nanBits-above binary32 (b * 2147483648 + r)))
     (not-T (ltb 2139095040 ((b * 2147483648 + r) % 2147483648)) (λ (t : T (ltb 2139095040 ((b * 2147483648 + r) % 2147483648))). clash b r h (ltb→lt 2139095040 ((b * 2147483648 + r) % 2147483648) t)))
   where

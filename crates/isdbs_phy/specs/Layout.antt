@@ -54,15 +54,15 @@ pub record Segment : Type 0 where
 -- "A valid slot is 1,624 bits"
 abbrev pub segmentOf : Run → ℕ → ℕ → Segment
 segmentOf r step bit =
-    record
-      { combination = r .combination
-      ; symbol = r .«symbol_start»
-      ; symbols = r .«symbol_end» - r .«symbol_start»
-      ; step = step
-      ; steps = stepsOf r
-      ; bit = bit
-      ; bits = 1624 * r .«valid_slots»
-      }
+    record {
+      combination = r .combination;
+      symbol = r .«symbol_start»;
+      symbols = r .«symbol_end» - r .«symbol_start»;
+      step = step;
+      steps = stepsOf r;
+      bit = bit;
+      bits = 1624 * r .«valid_slots»;
+    }
 
 unfoldable pub segmentsFrom : List Run → ℕ → ℕ → List Segment
 segmentsFrom [] step bit = []

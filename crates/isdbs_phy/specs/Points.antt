@@ -35,14 +35,14 @@ qpskOf reverse p1 p0 = cond reverse (point (term p0 root64) (term p1 root64)) (p
 -- "8PSK labels 000 001 011 010 100 101 111 110 sit at 0, 45 .. 315 degrees, the parts being 0, ±1, ±s exactly": by label
 abbrev pub psk8Points : List Cplx
 psk8Points =
-    point one64 zero64 -- 000, 0 degrees
-    ∷ point root64 root64 -- 001, 45
-    ∷ point (neg root64) root64 -- 010, 135
-    ∷ point zero64 one64 -- 011, 90
-    ∷ point (neg one64) zero64 -- 100, 180
-    ∷ point (neg root64) (neg root64) -- 101, 225
-    ∷ point root64 (neg root64) -- 110, 315
-    ∷ point zero64 (neg one64) -- 111, 270
+    point one64 zero64  -- 000, 0 degrees
+    ∷ point root64 root64  -- 001, 45
+    ∷ point (neg root64) root64  -- 010, 135
+    ∷ point zero64 one64  -- 011, 90
+    ∷ point (neg one64) zero64  -- 100, 180
+    ∷ point (neg root64) (neg root64)  -- 101, 225
+    ∷ point root64 (neg root64)  -- 110, 315
+    ∷ point zero64 (neg one64)  -- 111, 270
     ∷ []
 
 abbrev pub psk8Of : ℕ → Cplx

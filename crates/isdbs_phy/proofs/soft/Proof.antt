@@ -6,8 +6,9 @@ use native.Mathlib.Omega.{arith}
 use lib.Dec.{T}
 use lib.Ieee.{Float, binary32, binary64, div, ofBits, toBits}
 use lib.Ieee.Compare.{differs-from-itself}
+use Rattle.ieee.specs.Bits.{number}
 use Rattle.ieee.specs.Conversion.{rounded}
-use Rattle.isdbs_phy.proofs.Sign.{number, at-most-inf, no-nan, sign-lt, whole}
+use Rattle.isdbs_phy.proofs.Sign.{at-most-inf, pattern-ok, sign-lt, whole}
 
 -- src/lib.rt:20:9
 returns : tie.Need-returns
@@ -36,7 +37,7 @@ cast-result c = let s = sign-lt (c .before .before .args .x) (subst T (sym (c .b
 
 -- src/lib.rt:25:5
 float-from-bits-result : tie.Need-float-from-bits-result
-float-from-bits-result c = no-nan (toBits binary64 (c .before .before .args .x) / 9223372036854775808) (c .narrowed .result) (c .narrowed .ensures .small)
+float-from-bits-result c = pattern-ok (toBits binary64 (c .before .before .args .x) / 9223372036854775808) (c .narrowed .result) (c .narrowed .ensures .small)
 
 -- src/lib.rt:16:1
 returns-2 : tie.Need-returns-2

@@ -1,0 +1,257 @@
+// What the programs share: the generator, tables and mappings as the C calls have them, and the reference's frames.
+#![allow(dead_code)]
+use isdb_fec::ViterbiDecoder;
+use isdbs_core::combination::{Combination, CombinationWord, Modulation};
+use isdbs_core::frame::{W1, W2, W3};
+use isdbs_core::slots::runs;
+use isdbs_core::tmcc::{CombinationEntry, TmccInfo};
+use isdbs_phy::demod::{DemodOptions, Mapping, state_after};
+
+pub type Cplx = isdbs_phy::Cplx;
+pub const MAIN: usize = 38_976;
+
+pub fn step(mut x: u64) -> u64 {
+    x ^= x << 13;
+    x ^= x >> 7;
+    x ^= x << 17;
+    x
+}
+
+/// The generator of README.md.
+pub struct Draws(pub u64);
+
+impl Draws {
+    pub fn next(&mut self) -> u64 {
+        self.0 = step(self.0);
+        self.0
+    }
+
+    pub fn below(&mut self, n: u64) -> u64 {
+        (self.next() >> 16) % n
+    }
+
+    pub fn pick<T: Copy>(&mut self, from: &[T]) -> T {
+        from[self.below(from.len() as u64) as usize]
+    }
+
+    pub fn bytes(&mut self, n: usize) -> Vec<u8> {
+        (0..n).map(|_| (self.next() >> 56) as u8).collect()
+    }
+}
+
+pub fn load(seed: u64, n: usize) -> Vec<u8> {
+    Draws(seed).bytes(n)
+}
+
+pub fn digest(words: impl Iterator<Item = u64>) -> u64 {
+    words.fold(0x9e37_79b9_7f4a_7c15, |h, w| step(h ^ w))
+}
+
+/// A table of the C calls from (word, slots).
+pub fn table(entries: &[(u8, u8)]) -> u64 {
+    (0..4).fold(0, |t, i| {
+        let (word, slots) = entries.get(i).copied().unwrap_or((15, 0));
+        t | u64::from(word) << (16 * i) | u64::from(slots) << (16 * i + 8)
+    })
+}
+
+pub fn entries(table: u64) -> [(u8, u8); 4] {
+    std::array::from_fn(|i| ((table >> (16 * i)) as u8, (table >> (16 * i + 8)) as u8))
+}
+
+pub fn slot_sum(table: u64) -> usize {
+    entries(table).iter().map(|e| usize::from(e.1)).sum()
+}
+
+pub fn info(table: u64) -> TmccInfo {
+    TmccInfo {
+        order_of_change: 0,
+        combinations: entries(table).map(|(word, slots)| CombinationEntry { word: CombinationWord::from_word(word), slots }),
+        relative_ts: [0; 48],
+        ts_ids: [0; 8],
+        emergency: false,
+        uplink: 0,
+        reserved: 0,
+    }
+}
+
+pub fn mapping(m: u8) -> Mapping {
+    Mapping { conjugate: m & 1 != 0, qpsk_p1_on_q: m & 2 != 0, tc8psk_c1_is_y: m & 4 != 0 }
+}
+
+pub fn options(m: u8, known: bool, scale: f32) -> DemodOptions {
+    DemodOptions { mapping: mapping(m), known_start: known, llr_scale: scale }
+}
+
+pub fn valid_slots(table: u64) -> usize {
+    runs(&info(table)).iter().map(|r| r.valid_slots).sum()
+}
+
+fn steps_of(c: Combination, valid: usize) -> usize {
+    if c.modulation() == Modulation::Tc8psk { valid * 812 } else { valid * 1624 }
+}
+
+/// Trellis steps of a frame.
+pub fn steps(table: u64) -> usize {
+    runs(&info(table)).iter().map(|r| steps_of(r.combination, r.valid_slots)).sum()
+}
+
+pub fn start(first: bool) -> u8 {
+    state_after(if first { W2 } else { W3 })
+}
+
+/// The reference's frame and end state from any start state, where it can be had: from 0 and 63 by the call itself; from others on tables whose last
+/// entry is free and that leave a slot, as the rest of a frame with one TC8PSK slot before, whose last six coded bits are the state.
+pub fn reference_frame(bytes: &[u8], t: u64, m: u8, state: u8) -> Option<(Vec<Cplx>, u8)> {
+    for first in [true, false] {
+        if state == start(first) {
+            let (points, enc) = isdbs_phy::demod::encode_frame_with_state(bytes, &info(t), first, mapping(m));
+            return Some((points, enc.state()));
+        }
+    }
+    let e = entries(t);
+    if slot_sum(t) > 47 || e[3].1 != 0 {
+        return None;
+    }
+    let before = table(&[(7, 1), e[0], e[1], e[2]]);
+    let mut all = vec![0u8; 203];
+    // the coded bit of a symbol is the second of two: 12 bits end in six of them, the oldest (bit 0 of the state) first
+    let bits = (0..6).fold(0u16, |w, i| w << 2 | u16::from(state >> i & 1));
+    all[201..].copy_from_slice(&bits.to_be_bytes());
+    all.extend_from_slice(bytes);
+    let (mut points, enc) = isdbs_phy::demod::encode_frame_with_state(&all, &info(before), true, mapping(m));
+    points.drain(..812);
+    // behind the frame it is as unused points are
+    let unused = Cplx::new(0.0, if m & 1 != 0 { -0.0 } else { 0.0 });
+    points.resize(MAIN, unused);
+    Some((points, enc.state()))
+}
+
+/// The points of a recipe of README.md, from the clean frame.
+pub fn received(clean: &[Cplx], seed: u64, kind: u8, amplitude: f64) -> Vec<Cplx> {
+    let mut draws = Draws(seed ^ 0x5555_5555_5555_5555);
+    let mut part = |clean: f64| {
+        let r = draws.next();
+        let u = f64::from_bits(0x3ff0_0000_0000_0000 + (r >> 12)) - 1.5;
+        if kind == 0 {
+            return clean + u * amplitude;
+        }
+        match r % 8 {
+            0 => 1024.0,
+            1 => -1024.0,
+            2 => -0.0,
+            3 => f64::from_bits(1),
+            4 => f64::from_bits(0xb6a0_0000_0000_0000),
+            5 => 0.0,
+            6 => clean,
+            _ => u * 2048.0,
+        }
+    };
+    clean
+        .iter()
+        .map(|v| {
+            let re = part(v.re);
+            Cplx::new(re, part(v.im))
+        })
+        .collect()
+}
+
+/// The branch metrics of a frame, a quadruple for each step, worked out here from document 01.
+pub fn metrics(points: &[Cplx], t: u64, m: u8, scale: f32) -> Vec<[f32; 4]> {
+    let mut out = Vec::new();
+    let pair = |lx: f32, ly: f32| [lx + ly, lx - ly, -lx + ly, -lx - ly];
+    let at = |k: usize| Cplx::new(points[k].re, if m & 1 != 0 { -points[k].im } else { points[k].im });
+    let l = |x: f64| x as f32 * scale;
+    for r in runs(&info(t)) {
+        let c = r.combination;
+        let n = steps_of(c, r.valid_slots);
+        let from = r.symbols.start;
+        // mother bits kept in a period, in the order of transmission: 2(i-1) for Xi, 2(i-1)+1 for Yi
+        let (period, kept): (usize, &[usize]) = match c {
+            Combination::Qpsk2_3 => (4, &[0, 1, 3, 4, 5, 7]),
+            Combination::Qpsk3_4 => (3, &[0, 1, 3, 4]),
+            Combination::Qpsk5_6 => (5, &[0, 1, 3, 4, 7, 8]),
+            Combination::Qpsk7_8 => (7, &[0, 1, 3, 5, 7, 8, 11, 12]),
+            _ => (1, &[0, 1]),
+        };
+        match c.modulation() {
+            Modulation::Bpsk => out.extend((0..n).map(|k| pair(l(at(from + 2 * k).re), l(at(from + 2 * k + 1).re)))),
+            Modulation::Qpsk => {
+                for p in 0..n / period {
+                    let mut mother = [0f32; 14];
+                    for (i, &k) in kept.iter().enumerate() {
+                        let v = at(from + p * kept.len() / 2 + i / 2);
+                        mother[k] = l(if (i % 2 == 0) == (m & 2 == 0) { v.re } else { v.im });
+                    }
+                    out.extend((0..period).map(|i| pair(mother[2 * i], mother[2 * i + 1])));
+                }
+            }
+            Modulation::Tc8psk => {
+                for k in 0..n {
+                    let v = at(from + k);
+                    let mut four = [0f32; 4];
+                    for label in 0..4u8 {
+                        let p = isdbs_phy::demod::psk8_point(label);
+                        let (c1, c0) = (label >> 1, label & 1);
+                        let place = if m & 4 != 0 { 2 * c0 + c1 } else { label };
+                        four[usize::from(place)] = (v.re * p.re + v.im * p.im).abs() as f32 * scale;
+                    }
+                    out.push(four);
+                }
+            }
+        }
+    }
+    out
+}
+
+/// All steps + 16 bits of a frame, by the reference's decoder over `metrics`.
+pub fn reference_bits(points: &[Cplx], t: u64, m: u8, first: bool, known: bool, scale: f32) -> Vec<u8> {
+    let mut decoder = if known { ViterbiDecoder::with_state(128, start(first)) } else { ViterbiDecoder::new_unknown_state(128) };
+    let mut bits = Vec::new();
+    decoder.push_metrics(&metrics(points, t, m, scale), &mut bits);
+    decoder.push_known(&std::array::from_fn::<u8, 16, _>(|i| (W1 >> (15 - i) & 1) as u8), &mut bits);
+    decoder.flush(&mut bits);
+    bits
+}
+
+/// The bits of a decoded frame, from its bytes (C2 left out) and the 16 known bits: what the decoder gave.
+pub fn decoded_bits(bytes: &[u8], t: u64) -> Vec<u8> {
+    let mut all = bytes.iter().flat_map(|&b| (0..8).rev().map(move |i| b >> i & 1));
+    let mut bits = Vec::new();
+    for r in runs(&info(t)) {
+        for _ in 0..steps_of(r.combination, r.valid_slots) {
+            if r.combination.modulation() == Modulation::Tc8psk {
+                all.next();
+            }
+            bits.push(all.next().unwrap());
+        }
+    }
+    bits.extend((0..16).rev().map(|i| (W1 >> i & 1) as u8));
+    bits
+}
+
+/// Tables of every kind: whole frames of one combination, mixed ones, left-over slots, unassigned and reserved words, high word bits, empty.
+pub fn some_tables() -> Vec<u64> {
+    let mut all: Vec<u64> = (1..8).map(|w| table(&[(w, 48)])).collect();
+    all.extend(
+        [
+            &[(1, 4), (7, 44)][..],
+            &[(7, 22), (6, 8), (3, 9), (1, 8)],
+            &[(7, 10), (5, 12), (4, 16), (2, 10)],
+            &[(6, 24), (5, 24)],
+            &[(3, 3), (5, 6), (3, 3), (5, 36)],
+            &[(3, 5), (4, 7), (6, 15), (7, 21)],
+            &[(15, 10), (2, 2)],
+            &[(0, 3), (7, 4), (9, 5), (1, 36)],
+            &[(2, 0), (7, 1)],
+            &[(1, 3), (6, 7), (5, 5), (2, 1)],
+            &[(0x17, 20), (0xf6, 8), (0x21, 8), (0x8f, 12)],
+            &[(7, 1), (1, 4), (7, 1), (2, 42)],
+            &[(4, 4), (2, 2), (1, 4)],
+            &[(7, 47)],
+            &[],
+        ]
+        .map(table),
+    );
+    all
+}

@@ -1,0 +1,1 @@
+// Not given, not used.

@@ -1,0 +1,2 @@
+// The root of isdbt-fec.
+pub mod conv;

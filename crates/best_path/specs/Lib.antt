@@ -1,0 +1,12 @@
+pub mod Paths
+pub mod Viterbi
+pub mod Greatest
+pub mod Exact
+pub mod Tracks
+pub mod Branches
+pub mod Decoded
+pub mod Integers
+pub mod Starts
+pub mod Calls
+pub mod Range
+pub mod Examples

@@ -1,0 +1,3 @@
+pub mod Parts
+pub mod Accepts
+pub mod Compose

@@ -1,0 +1,52 @@
+-- `best_reading::started` meets its contract. Assumes nothing.
+use mathlib.Core.Path.{_≡_, ap}
+use borrow.Author.Needs.{needs}
+use Rattle.best_reading.specs.Calls.{startValues}
+use Rattle.best_reading.proofs.Compose.{fresh-is}
+use Rattle.best_reading.proofs.started.Statement.{statement}
+use Rattle.best_reading.proofs.started.Tie as tie
+use Rattle.best_reading.proofs.started.Reads as reads
+use Rattle.best_reading.proofs.started.Lts as lts
+use Rattle.isdb_fec.proofs.conv.ViterbiDecoder.new_unknown_state.Reads as new-unknown-state-reads
+use Rattle.isdb_fec.proofs.conv.ViterbiDecoder.with_state.Reads as with-state-reads
+
+-- src/lib.rt:24:22
+enum-known-start : tie.Need-enum-known-start
+enum-known-start c = search needs
+
+-- src/lib.rt:25:17
+with-state-requires : tie.Need-with-state-requires
+with-state-requires c κs = search needs
+
+-- src/lib.rt:29:17
+enum-told : tie.Need-enum-told
+enum-told c = search needs
+
+-- src/lib.rt:29:17
+new-unknown-state-requires : tie.Need-new-unknown-state-requires
+new-unknown-state-requires c κs = search needs
+
+-- src/lib.rt:20:1
+returns : tie.Need-returns
+returns c =
+    let g = c .before .with-state .ensures in
+    let k = c .before .before .before .start .given in
+    fresh-is (c .before .before .before .before .before .args .start) _ (c .before .with-state .result .answer) (c .before .with-state .result .dec) (ap startValues (k .1)) (g .0) (g .1)
+
+-- src/lib.rt:20:1
+returns-2 : tie.Need-returns-2
+returns-2 c =
+    let g = c .before .new-unknown-state .ensures in
+    let k = c .before .before .enum-told .given in
+    fresh-is (c .before .before .before .before .args .start) _ (c .before .new-unknown-state .result .answer) (c .before .new-unknown-state .result .dec) (ap startValues (k .1)) (g .0) (g .1)
+
+pub started-spec : {M : Type 1} → statement M
+started-spec =
+    tie.close
+    (tie.spec
+    enum-known-start
+    with-state-requires
+    enum-told
+    new-unknown-state-requires
+    returns
+    returns-2)

@@ -1,0 +1,83 @@
+-- A reading: a fresh decoder of traceback 128, `push_metrics`, `flush` behind the bits that came out. Assumes nothing.
+use mathlib.Core.Path.{_≡_}
+use mathlib.Core.Bool.{not, _||_}
+use mathlib.Core.List.{List, [], _∷_, _++_}
+use Prim.Native.Nat.{ℕ, _+_, _-_, _*_, _/_, _%_, _≤_}
+use lib.Dec.{eqb, ltb}
+use lib.IntN.{ℤ}
+use lib.ListN.{length, getD, take, drop, replicate}
+use lib.Ieee.{Float, nan}
+use Rattle.refusal.specs.Rows.{Row, firstRow}
+use Rattle.refusal.specs.declared.Answer.the-variants.{Accepted, Length, Sample, Space}
+use Rattle.trellis.specs.Lists.{laid}
+use Rattle.trellis.specs.Code.{isdb, label}
+use Rattle.trellis.specs.Step.{lower}
+use Rattle.trellis.specs.Run.{Decoder, block, startAt, startUnknown, decisionsAfter}
+use Rattle.best_path.specs.Paths.{longest, Quadruples, Reading}
+use Rattle.isdb_fec.specs.declared.conv.ViterbiDecoder.{ViterbiDecoder}
+use Rattle.isdb_fec.specs.declared.conv.Released.{Released}
+use Rattle.isdb_fec.specs.Values.{someBeyond, streamLimit}
+use Rattle.isdb_fec.specs.Rows.{flushRows}
+use Rattle.isdb_fec.specs.Calls.{fourSteps, call, flush, Flushes, Unchanged, Either}
+use Rattle.best_reading.specs.declared.Start.{Start}
+use Rattle.best_reading.specs.declared.Start.the-variants.{Given, Unknown}
+
+-- the path values of the fresh decoder, and the states in which a path may start
+abbrev pub startValues : Start → List Float
+startValues (Given s) = startAt 64 s
+startValues Unknown = startUnknown 64
+
+abbrev pub StartsIn : Start → ℕ → Type 0
+StartsIn (Given s) z = z ≡ s % 64
+StartsIn Unknown z = Unit {0}
+
+-- the fresh decoder, and the decoder with its held words and its bits once the metrics xs have been pushed
+abbrev pub fresh : Start → ViterbiDecoder
+fresh start = record { pm = startValues start; held = 0; traceback = 128 }
+
+abbrev pub read : Start → List Float → Decoder
+read start xs = call 128 (fourSteps xs) (record { values = startValues start; words = []; bits = [] }) (length xs / 4)
+
+-- the rows of a reading that is lent `decisions` words and `out` places: 5 "metrics not in fours"; 7 "not finite; beyond .. 1,048,576 for a
+-- stream value"; 9, a place for each bit, and "decisions always need 4,096 + traceback"
+abbrev pub readingRows : List Float → ℕ → ℕ → List Row
+readingRows xs decisions out =
+    (Length, not (eqb (length xs % 4) 0)) ∷ (Sample, someBeyond streamLimit xs) ∷ (Space, ltb out (length xs / 4) || ltb decisions (block + 128)) ∷ []
+
+-- the state of a decoder of traceback 128 whose words are held in the lent decisions
+abbrev pub stateOf : Decoder → ViterbiDecoder
+stateOf d = record { pm = d .values; held = length (d .words); traceback = 128 }
+
+-- the flush of what a call left, behind the bits that it put out: the answer is the flush's own
+pub record Flushed (before after : Released) (decisions₀ decisions out₀ out : List ℕ) : Type 0 where
+  pub rest : Released
+  pub end : List ℕ
+  pub answers : rest .answer ≡ firstRow (flushRows (before .dec) (length decisions₀) (length out₀ - before .count))
+  pub leaves : Either (rest .answer) (Flushes (before .dec) rest decisions₀ decisions (drop (before .count) out₀) end) (Unchanged (before .dec) rest decisions₀ decisions (drop (before .count) out₀) end)
+  pub out-is : out ≡ take (before .count) out₀ ++ end
+  pub after-is : after ≡ record { answer = rest .answer; dec = rest .dec; count = before .count + rest .count }
+
+-- what an accepted reading leaves: all bits, one for each quadruple, at the front of the output, and the held words zeroed
+pub record Finished (d : Decoder) (r : Released) (decisions₀ decisions out₀ out : List ℕ) : Type 0 where
+  pub values : r .dec .pm ≡ d .values
+  pub held-is : r .dec .held ≡ 0
+  pub traceback-is : r .dec .traceback ≡ 128
+  pub count-is : r .count ≡ length (flush d .bits)
+  pub words : decisions ≡ laid (replicate (length (d .words)) 0) (decisionsAfter 128 (d .words) (d .bits) decisions₀)
+  pub bits : out ≡ laid (flush d .bits) out₀
+
+-- accepted, that; refused, the fresh decoder and the lent memory are as they were
+abbrev pub Left : Start → List Float → Released → List ℕ → List ℕ → List ℕ → List ℕ → Type 0
+Left start xs r decisions₀ decisions out₀ out =
+    Either (r .answer) (Finished (read start xs) r decisions₀ decisions out₀ out) (Unchanged (fresh start) r decisions₀ decisions out₀ out)
+
+-- quadruple k of a flat list
+abbrev pub quadruple : List Float → ℕ → List Float
+quadruple xs k = getD xs (4 * k) nan ∷ getD xs (4 * k + 1) nan ∷ getD xs (4 * k + 2) nan ∷ getD xs (4 * k + 3) nan ∷ []
+
+-- Viterbi's rule: of at most 4,096 quadruples of whole numbers within 16 of 0, with memory enough lent, the reading is accepted, has a bit for
+-- each quadruple, and its bits are the inputs of a path of greatest sum from the given start, or from any where none is given; of equals the first
+abbrev pub GreatestSum : Start → List Float → Released → ℕ → ℕ → List ℕ → Type 0
+GreatestSum start xs r decisions space out =
+    (n : ℕ) (m : ℕ → ℕ → ℤ) → length xs ≡ 4 * n → n ≤ longest → Quadruples (quadruple xs) m n → block + 128 ≤ decisions → n ≤ space
+    → (r .answer ≡ Accepted) × (r .count ≡ n) × Reading 32 (label isdb) lower (StartsIn start) m n (take n out)

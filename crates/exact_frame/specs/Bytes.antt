@@ -1,0 +1,81 @@
+-- The bits of bytes, and the states of inputs that begin alike. Assumes nothing.
+use mathlib.Core.Path.{_≡_, refl, sym, _∙_}
+use mathlib.Core.List.{List}
+use Prim.Native.Nat.{ℕ, zero, suc, _+_, _*_, _/_, _%_, _<_, _≤_, _-_, _^_}
+use native.Mathlib.Omega.{arith}
+use lib.ListN.{getD}
+use lib.Seq.{ext-getD}
+use Rattle.trellis.specs.Lists.{upto}
+use Rattle.trellis.specs.Code.{stateAt}
+use Rattle.lead.specs.Lists.{length-upto, getD-upto}
+use Rattle.isdbs_phy.specs.Layout.{loadBit, byteOf}
+use Rattle.isdbs_phy.specs.Frame.{labelAt}
+use Rattle.margins.specs.Margins.{FullLoad}
+
+-- ---- inputs that are alike up to n leave the same labels
+module _ (s : ℕ) (us vs : List ℕ) (n : ℕ) (same : (i : ℕ) → i < n → getD us i 0 ≡ getD vs i 0) where
+  state-alike : (k : ℕ) → k ≤ n → stateAt 32 s us k ≡ stateAt 32 s vs k
+  unfolding stateAt
+  state-alike zero h = refl
+  state-alike (suc k) h = rw (same k h, state-alike k (omega arith))
+
+  pub label-alike : (k : ℕ) → k < n → labelAt s us k ≡ labelAt s vs k
+  label-alike k h = rw (same k h, state-alike k (omega arith))
+
+-- ---- bytes
+digits : (b b1 b2 b3 b4 b5 b6 b7 r0 r1 r2 r3 r4 r5 r6 : ℕ) → b ≡ 2 * b1 + r0 → b1 ≡ 2 * b2 + r1 → b2 ≡ 2 * b3 + r2 → b3 ≡ 2 * b4 + r3 → b4 ≡ 2 * b5 + r4
+    → b5 ≡ 2 * b6 + r5 → b6 ≡ 2 * b7 + r6 → b7 * 128 + r6 * 64 + r5 * 32 + r4 * 16 + r3 * 8 + r2 * 4 + r1 * 2 + r0 ≡ b
+digits b b1 b2 b3 b4 b5 b6 b7 r0 r1 r2 r3 r4 r5 r6 e0 e1 e2 e3 e4 e5 e6 = omega arith
+
+top-bit : (b : ℕ) → b < 256 → b / 128 % 2 ≡ b / 128
+top-bit b h = omega arith
+
+lowest-bit : (b : ℕ) → b / 1 % 2 ≡ b % 2
+lowest-bit b = omega arith
+
+byte-is : (b : ℕ) → b < 256 → b / 128 % 2 * 128 + b / 64 % 2 * 64 + b / 32 % 2 * 32 + b / 16 % 2 * 16 + b / 8 % 2 * 8 + b / 4 % 2 * 4 + b / 2 % 2 * 2 + b / 1 % 2 ≡ b
+byte-is b h =
+    rw (top-bit b h, lowest-bit b)
+    (digits b (b / 2) (b / 4) (b / 8) (b / 16) (b / 32) (b / 64) (b / 128) (b % 2) (b / 2 % 2) (b / 4 % 2) (b / 8 % 2) (b / 16 % 2) (b / 32 % 2) (b / 64 % 2)
+    (omega arith) (omega arith) (omega arith) (omega arith) (omega arith) (omega arith) (omega arith))
+
+load-bit-at : (load : List ℕ) (j i : ℕ) → i < 8 → loadBit load (8 * j + i) ≡ getD load j 0 / 2 ^ (7 - i) % 2
+load-bit-at load j i h =
+    let q : (8 * j + i) / 8 ≡ j = omega arith in
+    let r : (8 * j + i) % 8 ≡ i = omega arith in
+    rw (q, r)
+
+-- the bytes of a load are made of its bits
+pub load-byte : (load : List ℕ) (j : ℕ) → getD load j 0 < 256 → byteOf (λ i. loadBit load (8 * j + i)) ≡ getD load j 0
+load-byte load j h =
+    rw (
+      load-bit-at load j 0 (omega arith),
+      load-bit-at load j 1 (omega arith),
+      load-bit-at load j 2 (omega arith),
+      load-bit-at load j 3 (omega arith),
+      load-bit-at load j 4 (omega arith),
+      load-bit-at load j 5 (omega arith),
+      load-bit-at load j 6 (omega arith),
+      load-bit-at load j 7 (omega arith),
+    )
+    (byte-is (getD load j 0) h)
+
+-- so a list of bytes with a full load's bits is the load
+pub bytes-are : (load : List ℕ) (count : ℕ) (f : ℕ → ℕ) → FullLoad load count → ((n : ℕ) → n < 8 * count → f n ≡ loadBit load n)
+    → upto (λ j. byteOf (λ i. f (8 * j + i))) count ≡ load
+bytes-are load count f full h =
+    ext-getD 0 (upto (λ j. byteOf (λ i. f (8 * j + i))) count) load (length-upto (λ j. byteOf (λ i. f (8 * j + i))) count ∙ sym (full .size))
+    (λ j l.
+    let J : j < count = rw (length-upto (λ j. byteOf (λ i. f (8 * j + i))) count) at l in
+    getD-upto (λ j. byteOf (λ i. f (8 * j + i))) 0 count j J
+    ∙ rw (
+      h (8 * j + 0) (omega arith),
+      h (8 * j + 1) (omega arith),
+      h (8 * j + 2) (omega arith),
+      h (8 * j + 3) (omega arith),
+      h (8 * j + 4) (omega arith),
+      h (8 * j + 5) (omega arith),
+      h (8 * j + 6) (omega arith),
+      h (8 * j + 7) (omega arith),
+    )
+    (load-byte load j (full .bytes j J)))

@@ -1,0 +1,116 @@
+-- Demand 3 for the whole frame: the bytes that decoding reads from points within the margins of a full load are that load. "This is a single claim about the whole
+-- frame with all its runs": for every table that row 1 accepts, every `Mapping`, both values of `first`, a known start and the scale 8 for every combination.
+-- Assumes nothing.
+use mathlib.Core.Path.{_≡_, sym, _∙_, ap}
+use mathlib.Core.Bool.{Bool, true, false}
+use mathlib.Core.List.{List}
+use Prim.Native.Nat.{ℕ, _+_, _*_, _/_, _<_, _≤_}
+use native.Mathlib.Omega.{arith}
+use lib.Dec.{lit<}
+use lib.ListN.{getD}
+use lib.Ieee.{Float, binary32, ofBits}
+use Rattle.trellis.specs.Lists.{upto}
+use Rattle.trellis.specs.Code.{stateAt}
+use Rattle.trellis.specs.Step.{lower}
+use Rattle.lead.specs.Favour.{Favours}
+use Rattle.lead.specs.Lists.{getD-upto}
+use Rattle.lead.specs.Frame.{decoded-sent}
+use Rattle.isdbs_core.specs.declared.combination.Modulation.{Modulation}
+use Rattle.isdbs_core.specs.declared.tmcc.Table.{Table}
+use Rattle.isdbs_core.specs.Combinations.{modulationOf, unitOf, slotSteps}
+use Rattle.isdbs_core.specs.Tables.{slotSum}
+use Rattle.isdbs_core.specs.RunsOf.{frameSteps, loadBytes}
+use Rattle.isdbs_phy.specs.declared.demod.Mapping.{Mapping}
+use Rattle.isdbs_phy.specs.Layout.{Segment, segments, atStep, atBit, loadBit, wordBit}
+use Rattle.isdbs_phy.specs.Frame.{coded, inputIn, inputs, labelAt, stateAfter, startState}
+use Rattle.isdbs_phy.specs.Reading.{Received, metricsAt, decodedBits, uncoded, bitBy, bitIn, bytesFrom, decodedBytes}
+use Rattle.margins.specs.Margins.{Within, FullLoad}
+use Rattle.exact_frame.specs.Places.{In}
+use Rattle.exact_frame.specs.Sizes.{table-whole, few-steps, step-fits, at-step, at-bit, find-step, find-bit}
+use Rattle.exact_frame.specs.Order.{Pairs, Kind, one, two, three, kind}
+use Rattle.exact_frame.specs.Bits.{load-bit-small, of-pair}
+use Rattle.exact_frame.specs.Steps.{received, step-favours, tc-bit}
+use Rattle.exact_frame.specs.Bytes.{label-alike, bytes-are}
+
+start-small : (first : Bool) → startState first < 64
+unfolding stateAfter stateAt upto
+start-small true = lit< tt
+start-small false = lit< tt
+
+-- the input of the frame's code at a step of a segment, a bit of the load
+input-at : (t : Table) (load : List ℕ) (g : Segment) → In g (segments t) → (k : ℕ) → k < g .steps → getD (inputs t load) (g .step + k) 0 ≡ inputIn load g k
+unfolding inputs
+input-at t load g i k l =
+    getD-upto (atStep 0 (inputIn load) t) 0 (frameSteps t) (g .step + k) (step-fits t g i k l) ∙ at-step t 0 (inputIn load) g i k l
+
+input-small : (t : Table) (load : List ℕ) (k : ℕ) → k < frameSteps t → getD (inputs t load) k 0 < 2
+input-small t load k l =
+    let f = find-step t k l in
+    let g = f .segment in
+    rw (f .place-is, input-at t load g (f .member) (f .place) (f .small)) (load-bit-small load (g .bit + coded (modulationOf (g .combination)) (f .place)))
+
+module _ (t : Table) (fit : slotSum (t .entries) ≤ 48) (m : Mapping) (first : Bool) (load : List ℕ) (re im : List Float) (within : Within re im load t m first) where
+  abbrev r : Received
+  r = received re im m
+
+  -- ---- the decoder's bits
+  favours : Favours (startState first) (inputs t load) (metricsAt t r) (frameSteps t)
+  favours = record { start = start-small first; bits = input-small t load; steps = step-favours t fit m first load re im within }
+
+  abbrev us : List ℕ
+  us = decodedBits t r true first
+
+  sent-bits : (i : ℕ) → i < frameSteps t → getD us i 0 ≡ getD (inputs t load) i 0
+  unfolding decodedBits
+  sent-bits = decoded-sent lower 128 (startState first) (inputs t load) (metricsAt t r) (frameSteps t) (few-steps t fit) favours (wordBit 0x1b95) 16 .sent
+
+  -- ---- the bits of the bytes
+  module _ (g : Segment) (i : In g (segments t)) where
+    sent-input : (k : ℕ) → k < g .steps → getD us (g .step + k) 0 ≡ inputIn load g k
+    sent-input k l = sent-bits (g .step + k) (step-fits t g i k l) ∙ input-at t load g i k l
+
+    sent-label : (k : ℕ) → k < g .steps → labelAt (startState first) us (g .step + k) ≡ labelAt (startState first) (inputs t load) (g .step + k)
+    sent-label k l = label-alike (startState first) us (inputs t load) (frameSteps t) sent-bits (g .step + k) (step-fits t g i k l)
+
+    bit-in : (k : ℕ) → k < g .bits → bitIn r (labelAt (startState first) us) us g k ≡ loadBit load (g .bit + k)
+    unfolding bitBy
+    bit-in k K = go (kind (g .combination))
+      where
+        plain : slotSteps (g .combination) ≡ 1624 → k < g .steps
+        plain e = let o = table-whole t g i in let s : g .steps ≡ g .bits = o .steps-are ∙ ap (λ (x : ℕ). x * (o .units * unitOf (g .combination) .valid)) e ∙ sym (o .bits-are) in omega arith
+
+        half : Pairs (g .combination) → k / 2 < g .steps
+        half s = let o = table-whole t g i in let b = s .bits (o .units) in omega (arith, o .steps-are, o .bits-are)
+
+        go : Kind (g .combination) → bitBy (modulationOf (g .combination)) r (labelAt (startState first) us) us g k ≡ loadBit load (g .bit + k)
+        go (one e s) =
+            rw e (sent-input k (plain (s .steps)) ∙ ap (λ (x : Modulation). loadBit load (g .bit + coded x k)) e)
+        go (two e s) =
+            rw e (sent-input k (plain (s .steps)) ∙ ap (λ (x : Modulation). loadBit load (g .bit + coded x k)) e)
+        go (three e s) =
+            let c2 : uncoded r (labelAt (startState first) us) g (k / 2) ≡ loadBit load (g .bit + 2 * (k / 2)) =
+            rw (sent-label (k / 2) (half s)) (tc-bit t fit m first load re im within g i e s (k / 2) (half s)) in
+            let u : getD us (g .step + k / 2) 0 ≡ loadBit load (g .bit + (2 * (k / 2) + 1)) =
+            sent-input (k / 2) (half s) ∙ ap (λ (x : Modulation). loadBit load (g .bit + coded x (k / 2))) e in
+            rw e
+            (rw (c2, u) (of-pair (λ n. loadBit load (g .bit + n)) k))
+
+  bit-at : (n : ℕ) → n < 8 * loadBytes t → atBit 0 (bitIn r (labelAt (startState first) us) us) t n ≡ loadBit load n
+  bit-at n l =
+      let f = find-bit t n l in
+      rw (f .place-is, at-bit t 0 (bitIn r (labelAt (startState first) us) us) (f .segment) (f .member) (f .place) (f .small)) (bit-in (f .segment) (f .member) (f .place) (f .small))
+
+  exact : FullLoad load (loadBytes t) → decodedBytes t r true first ≡ load
+  unfolding bytesFrom
+  exact full = bytes-are load (loadBytes t) (λ n. atBit 0 (bitIn r (labelAt (startState first) us) us) t n) full bit-at
+
+-- THE THEOREM: "Demand 3 compares the whole load, byte by byte, with as many bytes at the front of the byte output"
+pub decoded-load : (t : Table) → slotSum (t .entries) ≤ 48 → (m : Mapping) (first : Bool) (load : List ℕ) → FullLoad load (loadBytes t) → (re im : List Float)
+    → Within re im load t m first → decodedBytes t (record { re = re; im = im; mapping = m; scale = λ c. ofBits binary32 0x4100_0000 }) true first ≡ load
+decoded-load t fit m first load full re im within = exact t fit m first load re im within full
+
+-- so points lie within the margins of at most one full load
+pub one-load : (t : Table) → slotSum (t .entries) ≤ 48 → (m : Mapping) (first : Bool) (load1 load2 : List ℕ) → FullLoad load1 (loadBytes t) → FullLoad load2 (loadBytes t)
+    → (re im : List Float) → Within re im load1 t m first → Within re im load2 t m first → load1 ≡ load2
+one-load t fit m first load1 load2 full1 full2 re im within1 within2 =
+    sym (decoded-load t fit m first load1 full1 re im within1) ∙ decoded-load t fit m first load2 full2 re im within2

@@ -1,0 +1,76 @@
+-- The lettered examples of document 01: one list, and one theorem that all of it holds, over the definitions that the contracts cite. Assumes nothing.
+use mathlib.Core.Path.{_≡_, refl}
+use mathlib.Core.List.{List, [], _∷_}
+use Prim.Native.Nat.{ℕ}
+use Rattle.refusal.specs.declared.Answer.the-variants.{Accepted}
+use Rattle.isdbs_core.specs.declared.combination.Combination.{Combination}
+use Rattle.isdbs_core.specs.declared.combination.Combination.the-variants.{«Bpsk1_2», «Qpsk1_2», «Qpsk2_3», «Qpsk7_8», «Tc8psk2_3»}
+use Rattle.isdbs_core.specs.declared.frame.Position.the-variants.{At}
+use Rattle.isdbs_core.specs.declared.tmcc.Entry.{Entry}
+use Rattle.isdbs_core.specs.declared.tmcc.Table.{Table}
+use Rattle.isdbs_core.specs.declared.slots.Run.{Run}
+use Rattle.isdbs_core.specs.Frame.{mainSymbolPosition, burstSymbolPosition}
+use Rattle.isdbs_core.specs.Tables.{slotSum, tableAnswer}
+use Rattle.isdbs_core.specs.RunsOf.{runsFrom, runsOf, validIn, validTotal}
+use Rattle.isdbs_core.specs.Symbols.{firstPair, bitSymbol}
+
+-- entry of a word and its slots; a table of two, the others not in use
+abbrev entry : ℕ → ℕ → Entry
+entry w n = record { word = w; slots = n }
+
+abbrev two : Entry → Entry → Table
+two a b = record { entries = a ∷ b ∷ entry 15 0 ∷ entry 15 0 ∷ [] }
+
+-- a run of slots a up to b, with v valid ones, of symbols s up to e
+abbrev run : Combination → ℕ → ℕ → ℕ → ℕ → ℕ → Run
+run c a b v s e = record { combination = c; «slot_start» = a; «slot_end» = b; «valid_slots» = v; «symbol_start» = s; «symbol_end» = e }
+
+-- "BPSK 4 slots, TC8PSK 44: symbols 0 to 3,247 and 3,248 to 38,975; 45 valid slots."
+abbrev pub D : Type 0
+D =
+    (tableAnswer (two (entry 1 4) (entry 7 44)) ≡ Accepted)
+    × (runsOf (two (entry 1 4) (entry 7 44)) ≡ run «Bpsk1_2» 0 4 1 0 3248 ∷ run «Tc8psk2_3» 4 48 44 3248 38976 ∷ [])
+    × (validTotal (two (entry 1 4) (entry 7 44)) ≡ 45)
+
+-- "QPSK 2/3, 5 slots: 2 valid, 2,436 symbols."
+abbrev pub E : Type 0
+E = runsOf (two (entry 3 5) (entry 15 0)) ≡ run «Qpsk2_3» 0 5 2 0 2436 ∷ []
+
+-- "Word 15 (no combination), 10 slots, then QPSK 1/2, 2: slots 10 and 11, symbols 0 to 1,623."
+abbrev pub F : Type 0
+F = runsOf (two (entry 15 10) (entry 2 2)) ≡ run «Qpsk1_2» 10 12 1 0 1624 ∷ []
+
+-- "`bit_symbol` 7/8: bits 4, 6, 7 → 2, 3, 4."
+abbrev pub G : Type 0
+G = (bitSymbol «Qpsk7_8» 4 ≡ At 2) × (bitSymbol «Qpsk7_8» 6 ≡ At 3) × (bitSymbol «Qpsk7_8» 7 ≡ At 4)
+
+-- "Main 203 → 399; 38,975 → 39,931; burst 191, 3 → 39,935."
+abbrev pub H : Type 0
+H = (mainSymbolPosition 203 ≡ At 399) × (mainSymbolPosition 38975 ≡ At 39931) × (burstSymbolPosition 191 3 ≡ At 39935)
+
+-- the list: each statement with its proof, so that an example is a line
+pub record Example : Type 1 where
+  pub says : Type 0
+  pub holds : says
+
+abbrev pub lettered : List Example
+unfolding slotSum runsFrom validIn firstPair
+lettered =
+    record { says = D; holds = (refl, refl, refl) }
+    ∷ record { says = E; holds = refl }
+    ∷ record { says = F; holds = refl }
+    ∷ record { says = G; holds = (refl, refl, refl) }
+    ∷ record { says = H; holds = (refl, refl, refl) }
+    ∷ []
+
+abbrev pub All : List Example → Type 0
+All [] = Unit
+All (e ∷ es) = (e .says) × All es
+
+each : (es : List Example) → All es
+each [] = tt
+each (e ∷ es) = (e .holds, each es)
+
+-- the lettered examples hold
+pub hold : All lettered
+hold = each lettered

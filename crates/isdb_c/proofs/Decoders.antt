@@ -1,0 +1,123 @@
+-- A call of the decoder as the C call hands it back: answered, and the lent places, from what the library's call leaves. Assumes nothing.
+use mathlib.Core.Path.{_≡_, refl, sym, _∙_, ap}
+use mathlib.Core.Bool.{Bool, true, false, cond, not}
+use mathlib.Core.List.{List, [], _∷_}
+use Prim.Native.Nat.{ℕ}
+use native.Mathlib.Omega.{arith}
+use lib.Dec.{eqb}
+use lib.ListN.{length}
+use lib.Ieee.{Float}
+use borrow.Author.Tests.{eq-eqb, ne-eqb, eqb-true, eqb-false}
+use Rattle.refusal.specs.declared.Answer.{Answer}
+use Rattle.refusal.specs.declared.Answer.the-variants.{Accepted, Table, Position, Traceback, State, Length, Symbols, Sample, Scale, Space}
+use Rattle.refusal.specs.Rows.{Row, numberOf, firstRow}
+use Rattle.trellis.specs.Run.{Decoder}
+use Rattle.isdb_fec.specs.declared.conv.ViterbiDecoder.{ViterbiDecoder}
+use Rattle.isdb_fec.specs.declared.conv.Released.{Released}
+use Rattle.isdb_fec.specs.Calls.{Either, Leaves, Flushes, Unchanged}
+use Rattle.isdb_c.specs.Rows.{answered, left}
+use Rattle.isdb_c.specs.Decoders.{notStates, Stored, Flushed}
+
+-- only accepted has the number 0
+pub zero-accepted : (a : Answer) → numberOf a ≡ 0 → a ≡ Accepted
+zero-accepted Accepted e = refl
+zero-accepted Table e = absurd (omega arith)
+zero-accepted Position e = absurd (omega arith)
+zero-accepted Traceback e = absurd (omega arith)
+zero-accepted State e = absurd (omega arith)
+zero-accepted Length e = absurd (omega arith)
+zero-accepted Symbols e = absurd (omega arith)
+zero-accepted Sample e = absurd (omega arith)
+zero-accepted Scale e = absurd (omega arith)
+zero-accepted Space e = absurd (omega arith)
+
+-- a slice that is not 64 long answers 5, before all else
+pub not-states : (pm : List Float) (rows : List Row) → (length pm ≡ 64 → ⊥) → 5 ≡ answered (notStates pm ∷ rows)
+not-states pm rows h = rw (ne-eqb (length pm) 64 h)
+
+-- and where it is 64 long the other rows decide
+pub states-answer : (pm : List Float) (rows : List Row) (n : ℕ) (a : Answer) → length pm ≡ 64 → n ≡ numberOf a → a ≡ firstRow rows → n ≡ answered (notStates pm ∷ rows)
+states-answer pm rows n a h e f = rw (eq-eqb (length pm) 64 h) (e ∙ ap numberOf f)
+
+-- where nothing is stored
+pub unstored : (n tb : ℕ) (d : Decoder) (pm : List Float) (held count : ℕ) (decisions out : List ℕ) → (n ≡ 0 → ⊥) → Stored n tb d pm pm held held count count decisions decisions out out
+unstored n tb d pm held count decisions out h =
+    let e = ne-eqb n 0 h in
+    record { values = rw e; held-is = rw e; count-is = rw e; words = rw e; bits = rw e }
+
+pub unflushed : (n : ℕ) (v : ViterbiDecoder) (count : ℕ) (decisions out : List ℕ) → (n ≡ 0 → ⊥) → Flushed n v (v .pm) (v .held) count count decisions decisions out out
+unflushed n v count decisions out h =
+    let e = ne-eqb n 0 h in
+    record { values = refl; held-is = rw e; count-is = rw e; words = rw e; bits = rw e }
+
+module _ (v : ViterbiDecoder) (r : Released) (n : ℕ) (pm : List Float) (held count₀ count : ℕ) (decisions₀ decisions out₀ out : List ℕ)
+    (en : n ≡ numberOf (r .answer)) (ep : pm ≡ left n (r .dec .pm) (v .pm)) (eh : held ≡ left n (r .dec .held) (v .held)) (ec : count ≡ left n (r .count) count₀) where
+  refuses : (n ≡ 0 → ⊥) → r .answer ≡ Accepted → ⊥
+  refuses h e = h (en ∙ ap numberOf e)
+
+  store-leaves : (d : Decoder) → n ≡ 0 → Leaves (v .traceback) d r decisions₀ decisions out₀ out → Stored n (v .traceback) d (v .pm) pm (v .held) held count₀ count decisions₀ decisions out₀ out
+  store-leaves d z l =
+      let e = eq-eqb n 0 z in
+      record {
+        values = ep ∙ rw e (l .values);
+        held-is = eh ∙ rw e (l .held-is);
+        count-is = ec ∙ rw e (l .count-is);
+        words = rw e (l .words);
+        bits = rw e (l .bits);
+      }
+
+  store-kept : (d : Decoder) → (n ≡ 0 → ⊥) → Unchanged v r decisions₀ decisions out₀ out → Stored n (v .traceback) d (v .pm) pm (v .held) held count₀ count decisions₀ decisions out₀ out
+  store-kept d h u =
+      let e = ne-eqb n 0 h in
+      record { values = ep ∙ rw e refl; held-is = eh ∙ rw e refl; count-is = ec ∙ rw e refl; words = rw e (u .words); bits = rw e (u .bits) }
+
+  stored-by : (d : Decoder) (b : Bool) → eqb n 0 ≡ b → Either (r .answer) (Leaves (v .traceback) d r decisions₀ decisions out₀ out) (Unchanged v r decisions₀ decisions out₀ out)
+      → Stored n (v .traceback) d (v .pm) pm (v .held) held count₀ count decisions₀ decisions out₀ out
+  stored-by d true t l =
+      let z = eqb-true n 0 t in
+      store-leaves d z (l .0 (zero-accepted (r .answer) (sym en ∙ z)))
+  stored-by d false t l = let h = eqb-false n 0 t in store-kept d h (l .1 (refuses h))
+
+  pub stored : (d : Decoder) → Either (r .answer) (Leaves (v .traceback) d r decisions₀ decisions out₀ out) (Unchanged v r decisions₀ decisions out₀ out)
+      → Stored n (v .traceback) d (v .pm) pm (v .held) held count₀ count decisions₀ decisions out₀ out
+  stored d l = stored-by d (eqb n 0) refl l
+
+  flush-leaves : n ≡ 0 → Flushes v r decisions₀ decisions out₀ out → Flushed n v pm held count₀ count decisions₀ decisions out₀ out
+  flush-leaves z l =
+      let e = eq-eqb n 0 z in
+      record {
+        values = ep ∙ rw e (l .values);
+        held-is = eh ∙ rw e (l .held-is);
+        count-is = ec ∙ rw e (l .count-is);
+        words = rw e (l .words);
+        bits = rw e (l .bits);
+      }
+
+  flush-kept : (n ≡ 0 → ⊥) → Unchanged v r decisions₀ decisions out₀ out → Flushed n v pm held count₀ count decisions₀ decisions out₀ out
+  flush-kept h u =
+      let e = ne-eqb n 0 h in
+      record { values = ep ∙ rw e refl; held-is = eh ∙ rw e refl; count-is = ec ∙ rw e refl; words = rw e (u .words); bits = rw e (u .bits) }
+
+  flushed-by : (b : Bool) → eqb n 0 ≡ b → Either (r .answer) (Flushes v r decisions₀ decisions out₀ out) (Unchanged v r decisions₀ decisions out₀ out) → Flushed n v pm held count₀ count decisions₀ decisions out₀ out
+  flushed-by true t l =
+      let z = eqb-true n 0 t in
+      flush-leaves z (l .0 (zero-accepted (r .answer) (sym en ∙ z)))
+  flushed-by false t l = let h = eqb-false n 0 t in flush-kept h (l .1 (refuses h))
+
+  pub flushed : Either (r .answer) (Flushes v r decisions₀ decisions out₀ out) (Unchanged v r decisions₀ decisions out₀ out) → Flushed n v pm held count₀ count decisions₀ decisions out₀ out
+  flushed l = flushed-by (eqb n 0) refl l
+
+module _ (v w : ViterbiDecoder) (ev : v ≡ w) (rows : ViterbiDecoder → List Row) (r : Released) (n : ℕ) (pm : List Float) (held count₀ count : ℕ) (decisions₀ decisions out₀ out : List ℕ)
+    (states : length (w .pm) ≡ 64) (en : n ≡ numberOf (r .answer)) (ep : pm ≡ left n (r .dec .pm) (w .pm)) (eh : held ≡ left n (r .dec .held) (w .held)) (ec : count ≡ left n (r .count) count₀)
+    (ea : r .answer ≡ firstRow (rows v)) where
+  number : n ≡ answered (notStates (w .pm) ∷ rows w)
+  number = states-answer (w .pm) (rows w) n (r .answer) states en (rw ev at ea)
+
+  -- a call on the decoder w, of which v is a copy
+  pub pushed : (d : ViterbiDecoder → Decoder) → Either (r .answer) (Leaves (v .traceback) (d v) r decisions₀ decisions out₀ out) (Unchanged v r decisions₀ decisions out₀ out)
+      → (n ≡ answered (notStates (w .pm) ∷ rows w)) × Stored n (w .traceback) (d w) (w .pm) pm (w .held) held count₀ count decisions₀ decisions out₀ out
+  pushed d l = (number, stored w r n pm held count₀ count decisions₀ decisions out₀ out en ep eh ec (d w) (rw ev at l))
+
+  pub flush-done : Either (r .answer) (Flushes v r decisions₀ decisions out₀ out) (Unchanged v r decisions₀ decisions out₀ out)
+      → (n ≡ answered (notStates (w .pm) ∷ rows w)) × Flushed n w pm held count₀ count decisions₀ decisions out₀ out
+  flush-done l = (number, flushed w r n pm held count₀ count decisions₀ decisions out₀ out en ep eh ec (rw ev at l))

@@ -1,0 +1,38 @@
+-- A decoder as the C calls lend it, and what a call leaves of it. Assumes nothing.
+use mathlib.Core.Path.{_≡_}
+use mathlib.Core.Bool.{not}
+use mathlib.Core.List.{List}
+use Prim.Native.Nat.{ℕ}
+use lib.Dec.{eqb}
+use lib.ListN.{length, replicate}
+use lib.Ieee.{Float}
+use Rattle.refusal.specs.declared.Answer.the-variants.{Length}
+use Rattle.refusal.specs.Rows.{Row}
+use Rattle.trellis.specs.Lists.{laid}
+use Rattle.trellis.specs.Run.{Decoder, decisionsAfter}
+use Rattle.isdb_fec.specs.declared.conv.ViterbiDecoder.{ViterbiDecoder}
+use Rattle.isdb_fec.specs.Calls.{flush, handed}
+use Rattle.isdb_c.specs.Rows.{left}
+
+abbrev pub decoderOf : List Float → ℕ → ℕ → ViterbiDecoder
+decoderOf pm held traceback = record { pm = pm; held = held; traceback = traceback }
+
+-- "a `pm` slice that is not 64 long answers 5, before all else"
+abbrev pub notStates : List Float → Row
+notStates pm = (Length, not (eqb (length pm) 64))
+
+-- what a call leaves in the lent path values, counts and slices: the decoder d where it accepts, else what was there
+pub record Stored (answer tb : ℕ) (d : Decoder) (pm₀ pm : List Float) (held₀ held count₀ count : ℕ) (decisions₀ decisions out₀ out : List ℕ) : Type 0 where
+  pub values : pm ≡ left answer (d .values) pm₀
+  pub held-is : held ≡ left answer (length (d .words)) held₀
+  pub count-is : count ≡ left answer (length (d .bits)) count₀
+  pub words : decisions ≡ left answer (decisionsAfter tb (d .words) (d .bits) decisions₀) decisions₀
+  pub bits : out ≡ left answer (laid (d .bits) out₀) out₀
+
+-- what a flush leaves: the bits of all held words, which become 0; the path values stay
+pub record Flushed (answer : ℕ) (v : ViterbiDecoder) (pm : List Float) (held count₀ count : ℕ) (decisions₀ decisions out₀ out : List ℕ) : Type 0 where
+  pub values : pm ≡ v .pm
+  pub held-is : held ≡ left answer 0 (v .held)
+  pub count-is : count ≡ left answer (v .held) count₀
+  pub words : decisions ≡ left answer (laid (replicate (v .held) 0) decisions₀) decisions₀
+  pub bits : out ≡ left answer (laid (flush (handed v decisions₀) .bits) out₀) out₀

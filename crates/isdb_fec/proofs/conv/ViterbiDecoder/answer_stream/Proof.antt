@@ -1,0 +1,87 @@
+-- `conv::ViterbiDecoder::answer_stream` meets its contract. Assumes nothing.
+use mathlib.Core.Path.{_≡_, refl, sym, _∙_, ap}
+use Prim.Native.Nat.{ℕ, suc, _+_, _-_, _*_, _/_, _%_, _<_, _≤_}
+use native.Mathlib.Omega.{arith}
+use borrow.Author.Needs.{needs}
+use mathlib.Core.Bool.{Bool, true, false, cond, not}
+use lib.Dec.{eqb}
+use lib.ListN.{length}
+use borrow.Author.Tests.{lt-ltb, le-ltb, le-leb, lt-leb, eq-eqb, ne-eqb}
+use Rattle.isdb_fec.specs.Values.{someBeyond, streamLimit}
+use Rattle.isdb_fec.specs.Rows.{badTraceback, badState, shortOf, stepsShort}
+use Rattle.refusal.specs.declared.Answer.the-variants.{Accepted, Length, Sample, Space}
+use Rattle.isdb_fec.specs.Answers.{refused-first, passed-first, sound}
+use Rattle.isdb_fec.proofs.Told.{told}
+use borrow.Author.Needs.{needs}
+use Rattle.isdb_fec.proofs.conv.ViterbiDecoder.answer_stream.Statement.{statement}
+use Rattle.isdb_fec.proofs.conv.ViterbiDecoder.answer_stream.Tie as tie
+
+answer-handed-requires : tie.Need-answer-handed-requires
+answer-handed-requires c κs = search needs
+
+enum-told : tie.Need-enum-told
+enum-told c = search needs
+
+returns : tie.Need-returns
+returns c =
+    let a = c .before .before .before .args in
+    let xs = a .values .now in
+    refused-first (badTraceback (a .self)) (badState (a .self)) (c .before .answer-handed .result)
+    (cond (not (eqb (length xs % a .per) 0)) Length (cond (someBeyond streamLimit xs) Sample (cond (stepsShort (length xs / a .per) (a .self) (a .decisions) (a .out)) Space Accepted)))
+    (c .before .answer-handed .ensures) (told (c .before .answer-handed .result) (c .match .keys2))
+
+rem-if1 : tie.Need-rem-if1
+rem-if1 c = search needs
+
+returns-2 : tie.Need-returns-2
+returns-2 c =
+    let told = c .before in
+    let a = told .before .before .before .before .args in
+    let p = passed-first (badTraceback (a .self)) (badState (a .self)) (sym (told .enum-told .given .1) ∙ told .before .before .answer-handed .ensures) in
+    rw (p .0, p .1, ne-eqb (length (a .values .now) % a .per) 0 (c .if1 .taken)) refl
+
+some-beyond-requires : tie.Need-some-beyond-requires
+some-beyond-requires c κs = search needs
+
+returns-3 : tie.Need-returns-3
+returns-3 c =
+    let told = c .before .before .before in
+    let a = told .before .before .before .before .args in
+    let p = passed-first (badTraceback (a .self)) (badState (a .self)) (sym (told .enum-told .given .1) ∙ told .before .before .answer-handed .ensures) in
+    rw (p .0, p .1, eq-eqb (length (a .values .now) % a .per) 0 (c .before .before .if1 .left), sym (c .before .some-beyond .ensures) ∙ c .if2 .taken) refl
+
+div-answer-space : tie.Need-div-answer-space
+div-answer-space c = search needs
+
+answer-space-requires : tie.Need-answer-space-requires
+answer-space-requires c κs =
+    let told = c .before .before .before in
+    let h = sound (told .before .before .before .before .args .self) (sym (told .enum-told .given .1) ∙ told .before .before .answer-handed .ensures) in
+    (h .least, h .most, h .fewer)
+
+returns-4 : tie.Need-returns-4
+returns-4 c =
+    let told = c .before .before .before .before in
+    let a = told .before .before .before .before .args in
+    let p = passed-first (badTraceback (a .self)) (badState (a .self)) (sym (told .enum-told .given .1) ∙ told .before .before .answer-handed .ensures) in
+    rw (
+      p .0,
+      p .1,
+      eq-eqb (length (a .values .now) % a .per) 0 (c .before .before .before .if1 .left),
+      sym (c .before .before .some-beyond .ensures) ∙ c .before .if2 .left,
+    ) (c .answer-space .ensures)
+
+pub answer-stream-spec : {M : Type 1} → statement M
+answer-stream-spec =
+    tie.close
+    (tie.spec
+    answer-handed-requires
+    enum-told
+    returns
+    rem-if1
+    returns-2
+    some-beyond-requires
+    returns-3
+    div-answer-space
+    answer-space-requires
+    returns-4)

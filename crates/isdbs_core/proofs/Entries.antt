@@ -1,0 +1,46 @@
+-- One entry more: what the recursions over a table's entries say at an index. Assumes nothing.
+use mathlib.Core.Path.{_≡_, refl, sym, _∙_, ap}
+use mathlib.Core.Bool.{cond}
+use mathlib.Core.List.{List, [], _∷_, _++_}
+use Prim.Native.Nat.{ℕ, suc, _+_, _-_, _%_, _≤_, _<_}
+use native.Mathlib.Numerals.{add-one}
+use native.Mathlib.Nat.{add-assoc}
+use lib.Dec.{ltb}
+use lib.ListN.{length, getD, drop, drop-of-length-le}
+use lib.Seq.{drop-cons}
+use Rattle.isdbs_core.specs.declared.combination.MaybeCombination.the-variants.{None}
+use Rattle.isdbs_core.specs.declared.combination.CombinationWord.{CombinationWord}
+use Rattle.isdbs_core.specs.declared.tmcc.Entry.{Entry}
+use Rattle.isdbs_core.specs.Combinations.{wordMeans, assignedOf}
+use Rattle.isdbs_core.specs.CombinationLaws.{assigned}
+use Rattle.isdbs_core.specs.Tables.{slotSum, entryCombination, markIn, markAt}
+
+-- what stands past the end of a list of entries
+abbrev pub noEntry : Entry
+noEntry = record { word = 0; slots = 0 }
+
+module _ (es : List Entry) (i : ℕ) where
+  pub next : i < length es → drop i es ≡ getD es i noEntry ∷ drop (i + 1) es
+  next h = rw (add-one i) (drop-cons es i noEntry h)
+
+  pub sum-more : (sum : ℕ) → i < length es → (sum + getD es i noEntry .slots) + slotSum (drop (i + 1) es) ≡ sum + slotSum (drop i es)
+  unfolding slotSum
+  sum-more sum h = rw (next h) (add-assoc sum (getD es i noEntry .slots) (slotSum (drop (i + 1) es)))
+
+  pub mark-more : (k : ℕ) → i < length es →
+      markAt (drop i es) k
+      ≡ cond (ltb k (getD es i noEntry .slots)) (markIn (entryCombination (getD es i noEntry)) k) (markAt (drop (i + 1) es) (k - getD es i noEntry .slots))
+  unfolding markAt
+  mark-more k h = rw (next h)
+
+  pub sum-end : length es ≤ i → slotSum (drop i es) ≡ 0
+  unfolding slotSum
+  sum-end h = rw (drop-of-length-le es h)
+
+  pub mark-end : (k : ℕ) → length es ≤ i → markAt (drop i es) k ≡ None
+  unfolding markAt
+  mark-end k h = rw (drop-of-length-le es h)
+
+-- what an entry's word was read as has the entry's combination
+pub entry-word : (e : Entry) (x : CombinationWord) → x ≡ wordMeans (e .word) → entryCombination e ≡ assignedOf x
+entry-word e x q = sym (assigned (e .word % 16) (entryCombination e)) ∙ ap assignedOf (sym q)

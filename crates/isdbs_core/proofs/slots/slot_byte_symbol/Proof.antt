@@ -1,0 +1,50 @@
+-- `slot_byte_symbol` meets its contract. Assumes nothing.
+use Rattle.isdbs_core.proofs.Calls.{accepts, refuses, runs-answer, runs-are, runs-in}
+use Rattle.isdbs_core.specs.RunsOf.{runsOf}
+use Rattle.isdbs_core.specs.SymbolLaws.{byte-padded}
+use Rattle.isdbs_core.specs.Symbols.{byteIn}
+use Rattle.isdbs_core.specs.Tables.{tableAnswer}
+use Rattle.isdbs_core.specs.declared.slots.Run.{Run}
+use mathlib.Core.List.{List}
+use mathlib.Core.Path.{_≡_, refl, sym, _∙_, ap}
+use Rattle.isdbs_core.proofs.slots.slot_byte_symbol.Statement.{statement}
+use Rattle.isdbs_core.proofs.slots.slot_byte_symbol.Tie as tie
+
+runs-requires : tie.Need-runs-requires
+runs-requires c κs = tt
+
+number-requires : tie.Need-number-requires
+number-requires c κs = tt
+
+byte-in-requires : tie.Need-byte-in-requires
+byte-in-requires c κs =
+    let st = c .before .before .before in
+    let t = st .before .args .t in
+    let r = st .runs .result in
+    let e = st .runs .ensures in
+    let ok = accepts (r .answer) (tableAnswer t) _ (runs-answer t r e) (c .before .before .number .ensures) (c .before .if1 .taken) in
+    runs-in t r e ok
+
+returns : tie.Need-returns
+returns c =
+    let st = c .before .before .before .before in
+    let t = st .before .args .t in
+    let r = st .runs .result in
+    let e = st .runs .ensures in
+    let ok = accepts (r .answer) (tableAnswer t) _ (runs-answer t r e) (c .before .before .before .number .ensures) (c .before .before .if1 .taken) in
+    let slot = st .before .args .slot in
+    let byte = st .before .args .byte in
+    c .byte-in .ensures ∙ ap (λ (l : List Run). byteIn l slot byte) (runs-are t r e ok) ∙ byte-padded 4 (runsOf t) slot byte ∙ rw ok
+
+returns-2 : tie.Need-returns-2
+returns-2 c =
+    let st = c .before .before in
+    let t = st .before .args .t in
+    let r = st .runs .result in
+    let e = st .runs .ensures in
+    let no = refuses (r .answer) (tableAnswer t) _ (runs-answer t r e) (c .before .number .ensures) (c .if1 .left) in
+    rw (runs-answer t r e, no)
+
+pub slot-byte-symbol-spec : {M : Type 1} → statement M
+slot-byte-symbol-spec =
+    tie.close (tie.spec runs-requires number-requires byte-in-requires returns returns-2)

@@ -1,0 +1,78 @@
+-- Where the bits of a run and the bytes of a slot lie in the frame, as slots.rs has them. Assumes nothing.
+use mathlib.Core.Bool.{Bool, cond}
+use mathlib.Core.List.{List, [], _∷_}
+use Prim.Native.Nat.{ℕ, zero, suc, _+_, _-_, _*_, _/_, _%_}
+use lib.Dec.{leb, ltb, eqb}
+use lib.ListN.{length}
+use Rattle.refusal.specs.declared.Answer.the-variants.{Position}
+use Rattle.refusal.specs.Rows.{Row, firstRow}
+use Rattle.isdbs_core.specs.declared.frame.Position as place
+use Rattle.isdbs_core.specs.declared.combination.Combination.{Combination}
+use Rattle.isdbs_core.specs.declared.combination.Puncture.{Puncture}
+use Rattle.isdbs_core.specs.declared.combination.MaybePuncture.{MaybePuncture}
+use Rattle.isdbs_core.specs.declared.combination.MaybePuncture.the-variants.{Some, None}
+use Rattle.isdbs_core.specs.declared.combination.Ratio.{Ratio}
+use Rattle.isdbs_core.specs.declared.combination.BitPair.{BitPair}
+use Rattle.isdbs_core.specs.declared.tmcc.Table.{Table}
+use Rattle.isdbs_core.specs.declared.slots.Run.{Run}
+use Rattle.isdbs_core.specs.declared.slots.SlotByte.{SlotByte}
+use Rattle.isdbs_core.specs.declared.slots.SlotByte.the-variants.{At, Nothing, Refused}
+use Rattle.isdbs_core.specs.Lists.{both, either}
+use Rattle.isdbs_core.specs.Answers.{accepted, position}
+use Rattle.isdbs_core.specs.Frame.{main, placeOf}
+use Rattle.isdbs_core.specs.Combinations.{efficiencyOf, punctureOf, pairsOf, periodOf}
+use Rattle.isdbs_core.specs.Tables.{tableAnswer, marked}
+use Rattle.isdbs_core.specs.RunsOf.{runsOf}
+
+-- a pair holds X or Y of input i of a period, from 0
+abbrev pub pairHolds : ℕ → BitPair → Bool
+pairHolds i p = either (eqb (p .p1 / 2) i) (eqb (p .p0 / 2) i)
+
+-- "the search for a bit's first pair": its index, and how many pairs there are where none holds it
+unfoldable pub firstPair : ℕ → List BitPair → ℕ
+firstPair i [] = 0
+firstPair i (p ∷ ps) = cond (pairHolds i p) 0 (suc (firstPair i ps))
+
+-- the symbol of a run, from its start, that carries the first coded bit of information bit b: so many pairs for each period before it, then
+-- the pair of its place in the period; unpunctured, as many symbols as b bits take at num / den bits a symbol
+abbrev pub symbolBy : MaybePuncture → Ratio → ℕ → ℕ
+symbolBy (Some p) r b = b / periodOf p * length (pairsOf p) + firstPair (b % periodOf p) (pairsOf p)
+symbolBy None r b = b * r .den / r .num
+
+abbrev pub symbolOfBit : Combination → ℕ → ℕ
+symbolOfBit c b = symbolBy (punctureOf c) (efficiencyOf c) b
+
+-- refusal 2: "bit above 1,000,000"
+abbrev pub bitRows : ℕ → List Row
+bitRows b = (Position, ltb 1000000 b) ∷ []
+
+abbrev pub bitSymbol : Combination → ℕ → place.Position
+bitSymbol c b = position (firstRow (bitRows b)) (symbolOfBit c b)
+
+-- the marked slots of a run before its slot k
+unfoldable pub markedBefore : Combination → ℕ → ℕ
+markedBefore c zero = 0
+markedBefore c (suc k) = cond (marked c k) (suc (markedBefore c k)) (markedBefore c k)
+
+-- main-signal symbol m of a run, if the run has it
+abbrev pub runSymbol : Run → ℕ → SlotByte
+runSymbol r m = cond (ltb m (r .«symbol_end»)) (At (placeOf (main m))) Nothing
+
+-- byte of slot k of a run: the bytes of the run's marked slots follow each other, 203 of 8 bits for each
+abbrev pub runByte : Run → ℕ → ℕ → SlotByte
+runByte r k byte =
+    cond (both (marked (r .combination) k) (ltb byte 203))
+    (runSymbol r (r .«symbol_start» + symbolOfBit (r .combination) (markedBefore (r .combination) k * 1624 + 8 * byte)))
+    Nothing
+
+abbrev pub hasSlot : Run → ℕ → Bool
+hasSlot r slot = both (leb (r .«slot_start») slot) (ltb slot (r .«slot_end»))
+
+-- in the run that has the slot; a slot that no run has is nowhere
+unfoldable pub byteIn : List Run → ℕ → ℕ → SlotByte
+byteIn [] slot byte = Nothing
+byteIn (r ∷ rs) slot byte =
+    cond (hasSlot r slot) (runByte r (slot - r .«slot_start») byte) (byteIn rs slot byte)
+
+abbrev pub slotByteSymbol : Table → ℕ → ℕ → SlotByte
+slotByteSymbol t slot byte = cond (accepted (tableAnswer t)) (byteIn (runsOf t) slot byte) (Refused (tableAnswer t))

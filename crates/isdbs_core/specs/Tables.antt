@@ -1,0 +1,58 @@
+-- Document 01: "a table of four entries (a word, of which the low 4 bits count, and an 8-bit slot count)". Assumes nothing.
+use mathlib.Core.Bool.{Bool, true, false, cond}
+use mathlib.Core.List.{List, [], _∷_, map}
+use Prim.Native.Nat.{ℕ, suc, _+_, _-_, _%_}
+use lib.Dec.{ltb}
+use lib.ListN.{replicate}
+use Rattle.refusal.specs.declared.Answer.{Answer}
+use Rattle.refusal.specs.declared.Answer.the-variants as answer
+use Rattle.refusal.specs.Rows.{Row, firstRow}
+use Rattle.isdbs_core.specs.declared.combination.Combination.{Combination}
+use Rattle.isdbs_core.specs.declared.combination.MaybeCombination.{MaybeCombination}
+use Rattle.isdbs_core.specs.declared.combination.MaybeCombination.the-variants.{Some, None}
+use Rattle.isdbs_core.specs.declared.tmcc.Entry.{Entry}
+use Rattle.isdbs_core.specs.declared.tmcc.Table.{Table}
+use Rattle.isdbs_core.specs.declared.tmcc.SlotMark.{SlotMark}
+use Rattle.isdbs_core.specs.declared.tmcc.SlotMarks.{SlotMarks}
+use Rattle.isdbs_core.specs.Lists.{table}
+use Rattle.isdbs_core.specs.Answers.{accepted}
+use Rattle.isdbs_core.specs.Combinations.{combinationOf, unitOf}
+
+-- "`CombinationEntry::combination` means the assigned combination of the word, or none"
+abbrev pub entryCombination : Entry → MaybeCombination
+entryCombination e = combinationOf (e .word % 16)
+
+unfoldable pub slotSum : List Entry → ℕ
+slotSum [] = 0
+slotSum (e ∷ es) = e .slots + slotSum es
+
+-- refusal 1: "slot counts sum above 48". The rows that every call with a table begins with
+abbrev pub tableRows : Table → List Row
+tableRows t = (answer.Table, ltb 48 (slotSum (t .entries))) ∷ []
+
+abbrev pub tableAnswer : Table → Answer
+tableAnswer t = firstRow (tableRows t)
+
+-- "`slot_combinations` goes by a slot's place in its unit, so it also marks some left-over slots": the place k in an entry is marked
+abbrev pub marked : Combination → ℕ → Bool
+marked c k = ltb (k % unitOf c .slots) (unitOf c .valid)
+
+abbrev pub markIn : MaybeCombination → ℕ → MaybeCombination
+markIn (Some c) k = cond (marked c k) (Some c) None
+markIn None k = None
+
+-- the mark of slot s: entries take their slots one after the other, and past them no slot is marked
+unfoldable pub markAt : List Entry → ℕ → MaybeCombination
+markAt [] s = None
+markAt (e ∷ es) s = cond (ltb s (e .slots)) (markIn (entryCombination e) s) (markAt es (s - e .slots))
+
+abbrev pub mark : MaybeCombination → SlotMark
+mark m = record { mark = m }
+
+-- the marks of the 48 slots
+abbrev pub marksOf : Table → List SlotMark
+marksOf t = table (λ s. mark (markAt (t .entries) s)) 48
+
+-- the answer of `slot_combinations`; refused: none marked
+abbrev pub slotMarks : Table → SlotMarks
+slotMarks t = record { answer = tableAnswer t; slots = cond (accepted (tableAnswer t)) (marksOf t) (replicate 48 (mark None)) }

@@ -1,0 +1,142 @@
+// The table record of the TMCC information, and the combination of each slot.
+use crate::combination::Combination;
+use crate::combination::CombinationWord;
+use crate::combination::MaybeCombination;
+use refusal::Answer;
+ghost use mathlib.Core.Path.{_≡_};
+ghost use lib.ListN.{replicate};
+ghost use Rattle.isdbs_core.specs.Tables.{entryCombination, slotSum, tableAnswer, marked, markIn, markAt, mark, marksOf, slotMarks};
+
+// Combinations that a table carries.
+pub const CM: usize = 4;
+
+// A table entry: a word, of which the low 4 bits count, and its slots.
+pub struct Entry {
+    pub word: u8,
+    pub slots: u8,
+}
+
+// An entry not in use.
+pub const DUMMY: Entry = Entry { word: 15, slots: 0 };
+
+impl Entry {
+    // The combination of the word, or none.
+    pub fn combination(self) -> MaybeCombination
+        ensures { λ r. ⌜ r ≡ entryCombination self ⌝ }
+    {
+        CombinationWord::from_word(self.word).combination()
+    }
+}
+
+pub struct Table {
+    pub entries: [Entry; 4],
+}
+
+// Slots that the entries take together.
+fn slot_sum(t: Table) -> usize
+    ensures { λ r. ⌜ r ≡ slotSum (t .entries) ⌝ }
+{
+    let mut sum: usize = 0;
+    for i in 0..4 {
+        let e = t.entries[i];
+        sum += e.slots as usize;
+    }
+    sum
+}
+
+// Whether a call with this table is turned back.
+pub fn table_answer(t: Table) -> Answer
+    ensures { λ r. ⌜ r ≡ tableAnswer t ⌝ }
+{
+    if slot_sum(t) > 48 {
+        Answer::Table
+    } else {
+        Answer::Accepted
+    }
+}
+
+// The mark of a slot.
+pub struct SlotMark {
+    pub mark: MaybeCombination,
+}
+
+// The marks of a frame's slots.
+pub struct SlotMarks {
+    pub answer: Answer,
+    pub slots: [SlotMark; 48],
+}
+
+// Whether place k of an entry is marked.
+pub(crate) fn is_marked(c: Combination, k: usize) -> bool
+    ensures { λ r. ⌜ r ≡ marked c k ⌝ }
+{
+    let u = c.slot_unit();
+    k % u.slots < u.valid
+}
+
+// The mark of place k of an entry.
+fn mark_in(e: Entry, k: usize) -> MaybeCombination
+    ensures { λ r. ⌜ r ≡ markIn (entryCombination e) k ⌝ }
+{
+    match e.combination() {
+        MaybeCombination::Some(c) => {
+            if is_marked(c, k) {
+                MaybeCombination::Some(c)
+            } else {
+                MaybeCombination::None
+            }
+        }
+        MaybeCombination::None => MaybeCombination::None,
+    }
+}
+
+// The mark of slot s.
+fn mark_at(t: Table, s: usize) -> MaybeCombination
+    ensures { λ r. ⌜ r ≡ markAt (t .entries) s ⌝ }
+{
+    let mut k = s;
+    for i in 0..4 {
+        let e = t.entries[i];
+        let n = e.slots as usize;
+        if k < n {
+            return mark_in(e, k);
+        }
+        k -= n;
+    }
+    MaybeCombination::None
+}
+
+// No slot marked.
+fn no_marks() -> [SlotMark; 48]
+    ensures { λ r. ⌜ r ≡ replicate 48 (mark MaybeCombination.None) ⌝ }
+{
+    [SlotMark {
+        mark: MaybeCombination::None,
+    }; 48]
+}
+
+// The marks of the slots of any table.
+fn marks(t: Table) -> [SlotMark; 48]
+    ensures { λ r. ⌜ r ≡ marksOf t ⌝ }
+{
+    let mut slots = no_marks();
+    for s in 0..48 {
+        let m = mark_at(t, s);
+        slots[s] = SlotMark { mark: m };
+    }
+    slots
+}
+
+// The combination of each of the 48 slots, by its place in its unit.
+pub fn slot_combinations(t: Table) -> SlotMarks
+    ensures { λ r. ⌜ r ≡ slotMarks t ⌝ }
+{
+    let answer = table_answer(t);
+    if refusal::number(answer) == 0 {
+        let slots = marks(t);
+        SlotMarks { answer, slots }
+    } else {
+        let slots = no_marks();
+        SlotMarks { answer, slots }
+    }
+}

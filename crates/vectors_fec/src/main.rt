@@ -1,0 +1,223 @@
+// The inner code on published and worked values: the coded tails of the synchronization words, the counts of released bits, and the
+// places where a decoder is easily wrong. `stdout` has the values of document 01.
+ghost use Prim.Native.Nat.{_≤_, _<_};
+use isdb_fec::conv::ConvEncoder;
+use isdb_fec::conv::ViterbiDecoder;
+use libc::STDOUT_FILENO;
+use refusal::Answer;
+
+const W1: u32 = 0x1b95;
+
+const W2: u32 = 0xa340;
+
+const W3: u32 = 0x5cbf;
+
+fn hex_digit(n: u32) -> u8
+    requires { ⌜ n < 16 ⌝ }
+{
+    if n < 10 {
+        48 + (n as u8)
+    } else {
+        55 + (n as u8)
+    }
+}
+
+fn print_hex(n: u32) {
+    let text = [
+        hex_digit(n / 65536 % 16),
+        hex_digit(n / 4096 % 16),
+        hex_digit(n / 256 % 16),
+        hex_digit(n / 16 % 16),
+        hex_digit(n % 16),
+    ];
+    io::write_all(STDOUT_FILENO, &text);
+}
+
+// The last 20 coded bits of the word's 16 bits, high bit first, from the state `start`: X then Y of each of the last ten steps.
+fn tail(word: u32, start: u8) -> u32 {
+    let mut enc = ConvEncoder { state: start };
+    let mut coded: u32 = 0;
+    for k in 0..16 {
+        let bit = ((word >> (15 - k)) % 2) as u8;
+        let p = enc.push(bit);
+        enc = p.enc;
+        coded = coded % 262144 * 4 + (p.x % 2) as u32 * 2 + (p.y % 2) as u32;
+    }
+    coded
+}
+
+fn print_tails(start: u8) {
+    print_hex(tail(W1, start));
+    io::write_all(STDOUT_FILENO, b" ");
+    print_hex(tail(W2, start));
+    io::write_all(STDOUT_FILENO, b" ");
+    print_hex(tail(W3, start));
+    io::write_all(STDOUT_FILENO, b"\n");
+}
+
+// How many bits n steps release, of known zeros from the state 0.
+fn released(traceback: usize, n: usize) -> usize {
+    let bits = [0u8; 4224];
+    let mut decisions = [0u64; 4224];
+    let mut out = [0u8; 4096];
+    if n > 4224 {
+        return 0;
+    }
+    let made = ViterbiDecoder::new(traceback);
+    let r = made.dec.push_known(&bits[..n], &mut decisions, &mut out);
+    r.count
+}
+
+fn print_count(n: usize) {
+    io::print_decimal(STDOUT_FILENO, n as u64);
+    io::write_all(STDOUT_FILENO, b"\n");
+}
+
+fn says(name: &[u8], holds: bool) {
+    io::write_all(STDOUT_FILENO, name);
+    if holds {
+        io::write_all(STDOUT_FILENO, b" holds\n");
+    } else {
+        io::write_all(STDOUT_FILENO, b" FAILS\n");
+    }
+}
+
+fn handed(pm: [f32; 64]) -> ViterbiDecoder {
+    ViterbiDecoder {
+        pm,
+        held: 0,
+        traceback: 128,
+    }
+}
+
+// The maximum is subtracted at the end of an empty call of soft values, and not at that of known bits.
+fn empty_calls() -> bool {
+    let mut pm = [1.0f32; 64];
+    pm[0] = 5.0;
+    let mut decisions = [0u64; 4224];
+    let mut out = [0u8; 4];
+    let pairs = [0.0f32; 2];
+    let bits = [0u8; 2];
+    let a = handed(pm).push(&pairs[..0], &mut decisions, &mut out);
+    let b = handed(pm).push_known(&bits[..0], &mut decisions, &mut out);
+    let p = a.dec.pm;
+    let q = b.dec.pm;
+    p[0] == 0.0 && p[1] == -4.0 && q[0] == 5.0 && q[1] == 1.0
+}
+
+// A pair step adds lx, then ly, each rounded; four metrics add once. State 0 has 2^24, where 1 is half a unit.
+fn two_additions() -> bool {
+    let mut pm = [0.0f32; 64];
+    pm[0] = 16777216.0;
+    let mut decisions = [0u64; 4224];
+    let mut out = [0u8; 4];
+    let pairs = [1.0f32; 2];
+    let metrics = [2.0f32, 0.0, 0.0, -2.0];
+    let a = handed(pm).push(&pairs, &mut decisions, &mut out);
+    let b = handed(pm).push_metrics(&metrics, &mut decisions, &mut out);
+    let p = a.dec.pm;
+    let q = b.dec.pm;
+    p[0] == 0.0 && p[32] == -2.0 && q[0] == 0.0 && q[32] == -4.0
+}
+
+// A known bit sets the states that it rules out before the maximum is subtracted.
+fn ruled_out() -> bool {
+    let pm = [1000.3f32; 64];
+    let bits = [0u8; 1];
+    let mut decisions = [0u64; 4224];
+    let mut out = [0u8; 4];
+    let a = handed(pm).push_known(&bits, &mut decisions, &mut out);
+    let p = a.dec.pm;
+    p[0] == 0.0 && p[32] == -1000001000.3
+}
+
+// Below -1.0e9 a known bit is not the decoded one.
+fn known_bit_loses() -> bool {
+    let pm = [-4.0e9f32; 64];
+    let bits = [0u8; 1];
+    let mut decisions = [0u64; 4224];
+    let mut out = [0u8; 4];
+    let a = handed(pm).push_known(&bits, &mut decisions, &mut out);
+    let p = a.dec.pm;
+    let b = a.dec.flush(&mut decisions, &mut out);
+    p[0] == -3.0e9 && p[32] == 0.0 && b.count == 1 && out[0] == 1
+}
+
+// A known start is no stronger than 1,000,000: the path of this one step does not begin in state 0.
+fn start_loses() -> bool {
+    let mut decisions = [0u64; 4224];
+    let mut out = [7u8; 4];
+    let metrics = [-1048576.0f32, 1048576.0, -1048576.0, -1048576.0];
+    let made = ViterbiDecoder::new(128);
+    let a = made.dec.push_metrics(&metrics, &mut decisions, &mut out);
+    let p = a.dec.pm;
+    let b = a.dec.flush(&mut decisions, &mut out);
+    p[0] < 0.0 && p[1] == 0.0 && b.count == 1 && out[0] == 0 && out[1] == 7
+}
+
+// An even predecessor keeps a tie, and the lowest of the best states is traced.
+fn ties() -> bool {
+    let mut decisions = [1u64; 4224];
+    let mut out = [7u8; 4];
+    let metrics = [0.0f32; 4];
+    let made = ViterbiDecoder::new_unknown_state(128);
+    let a = made.dec.push_metrics(&metrics, &mut decisions, &mut out);
+    let word = decisions[0];
+    let b = a.dec.flush(&mut decisions, &mut out);
+    word == 0 && b.count == 1 && out[0] == 0
+}
+
+fn number(r: Answer) -> usize {
+    refusal::number(r) as usize
+}
+
+// The first row that holds, from the top.
+fn refusals() -> bool {
+    let mut decisions = [0u64; 4224];
+    let mut out = [0u8; 4];
+    let not_a_number = 0.0f32 / 0.0f32;
+    let odd = [not_a_number; 3];
+    let wide = [1048576.0f32, -1048576.0];
+    let wider = [1048577.0f32, 0.0];
+    let pm = [not_a_number; 64];
+    let dec = handed([4294967296.0f32; 64]);
+    let zero = ViterbiDecoder {
+        pm,
+        held: 0,
+        traceback: 0,
+    };
+    let full = ViterbiDecoder {
+        pm: [0.0f32; 64],
+        held: 4224,
+        traceback: 128,
+    };
+    let a = zero.push(&odd, &mut decisions, &mut out);
+    let b = full.push(&odd, &mut decisions, &mut out);
+    let c = dec.push(&odd, &mut decisions, &mut out);
+    let d = dec.push(&wider, &mut decisions, &mut out);
+    let e = dec.push(&wide, &mut decisions[..4223], &mut out);
+    let f = dec.push(&wide, &mut decisions, &mut out);
+    number(a.answer) == 3
+        && number(b.answer) == 4
+        && number(c.answer) == 5
+        && number(d.answer) == 7
+        && number(e.answer) == 9
+        && number(f.answer) == 0
+}
+
+fn main() {
+    print_tails(0);
+    print_tails(17);
+    print_tails(63);
+    print_count(released(128, 4223));
+    print_count(released(128, 4224));
+    print_count(released(1, 4096));
+    print_count(released(0, 4097));
+    says(b"empty calls", empty_calls());
+    says(b"two additions", two_additions());
+    says(b"ruled out", ruled_out());
+    says(b"known bit loses", known_bit_loses());
+    says(b"start loses", start_loses());
+    says(b"ties", ties());
+    says(b"refusals", refusals());
+}

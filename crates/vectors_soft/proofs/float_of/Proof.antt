@@ -1,0 +1,24 @@
+use borrow.Author.Needs.{needs}
+use Rattle.vectors_soft.proofs.float_of.Statement.{statement}
+use Rattle.vectors_soft.proofs.float_of.Tie as tie
+use mathlib.Core.Path.{sym, _∙_, subst}
+use mathlib.Core.Bool.{Bool, not}
+use borrow.Author.Tests.{le-ltb}
+use lib.Dec.{T}
+use lib.Ieee.{binary64}
+use lib.Ieee.Bits.{nanBits-above}
+
+-- src/main.rt:11:9
+float-from-bits-result : tie.Need-float-from-bits-result
+float-from-bits-result c = subst (λ (b : Bool). T (not b)) (sym (nanBits-above binary64 (c .before .args .bits) ∙ le-ltb _ _ (c .if1 .taken))) tt
+
+-- src/main.rt:9:1
+returns : tie.Need-returns
+returns c = search needs
+
+-- src/main.rt:9:1
+returns-2 : tie.Need-returns-2
+returns-2 c = search needs
+
+pub float-of-spec : {M : Type 1} → statement M
+float-of-spec = tie.close (tie.spec float-from-bits-result returns returns-2)
