@@ -7,3 +7,5 @@ pub mod Carried
 pub mod Digits
 pub mod Among
 pub mod Parts
+pub mod FrameRuns
+pub mod Packing

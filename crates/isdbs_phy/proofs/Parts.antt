@@ -8,7 +8,7 @@ use native.Mathlib.Nat.{zero-add, div-lt-iff-lt-mul, mul-le-mul-right}
 use lib.Dec.{eqb, ltb}
 use lib.ListN.{length, getD, drop}
 use lib.Seq.{getD-drop}
-use lib.Ieee.{Float, nan, binary32, ofBits}
+use lib.Ieee.{Float, nan, lt, binary32, ofBits}
 use Rattle.trellis.specs.Lists.{upto}
 use Rattle.isdbs_core.specs.declared.combination.Combination.{Combination}
 use Rattle.isdbs_core.specs.declared.combination.Combination.the-variants.{«Bpsk1_2», «Qpsk1_2», «Qpsk2_3», «Qpsk3_4», «Qpsk5_6», «Qpsk7_8», «Tc8psk2_3»}
@@ -20,11 +20,11 @@ use Rattle.isdbs_core.specs.RunsOf.{stepsOf}
 use Rattle.isdbs_core.specs.RunLaws.{Whole}
 use Rattle.isdbs_phy.specs.declared.Cplx.{Cplx}
 use Rattle.isdbs_phy.specs.declared.demod.Mapping.{Mapping}
-use Rattle.isdbs_phy.specs.Points.{point, turned, psk8Of, subset}
+use Rattle.isdbs_phy.specs.Points.{point, turned, psk8Of, subset, zero64}
 use Rattle.isdbs_phy.specs.Layout.{Segment, segmentOf, orderOf, stepsPerPeriod, placeIn, sentOrder}
 use Rattle.isdbs_phy.specs.Pieces.{piece}
 use Rattle.isdbs_phy.specs.Frame.{labelAt}
-use Rattle.isdbs_phy.specs.Reading.{Received, symbolAt, carrier, softAt, scaled, pairMetrics, subsetMetrics, metricsBy, metricsIn, bitBy, bitIn, uncoded}
+use Rattle.isdbs_phy.specs.Reading.{Received, correlation, symbolAt, carrier, softAt, scaled, pairMetrics, subsetMetrics, metricsBy, metricsIn, bitBy, bitIn, uncoded}
 use Rattle.isdbs_phy.specs.Steps.{received, pieceMetrics, pieceBit, Reaches, ReachesBy, Covers}
 
 -- a symbol of a part
@@ -76,4 +76,14 @@ module _ (re im : List Float) (m : Mapping) (scale : Float) (r : Run) (step bit 
   unfolding bitBy
   bit-by Bpsk h = rw (zero-add i) (getD-drop step us i 0)
   bit-by Qpsk h = rw (zero-add i) (getD-drop step us i 0)
-  bit-by Tc8psk h = ?
+  bit-by Tc8psk h =
+      let j = i / 2 in
+      ap (λ (z : Cplx). cond (eqb (i % 2) 0) (Rattle.trellis.specs.Lists.bit (lt (correlation z (psk8Of (subset (m .«tc8psk_c1_is_y») (labelAt s (drop step us) (0 + j))))) zero64)) (getD (drop step us) (0 + j) 0)) (symbol-part re im m nan scale (r .«symbol_start») j)
+      ∙ ap (λ (x : ℕ). cond (eqb (i % 2) 0) (Rattle.trellis.specs.Lists.bit (lt (correlation (symbolAt (received re im m scale) (r .«symbol_start» + j)) (psk8Of (subset (m .«tc8psk_c1_is_y») (labelAt s (drop step us) x)))) zero64)) (getD (drop step us) x 0)) (zero-add j)
+      ∙ ap (λ (x : ℕ). cond (eqb (i % 2) 0) (Rattle.trellis.specs.Lists.bit (lt (correlation (symbolAt (received re im m scale) (r .«symbol_start» + j)) (psk8Of (subset (m .«tc8psk_c1_is_y») x))) zero64)) (getD (drop step us) j 0)) (h refl)
+      ∙ ap (λ (x : ℕ). cond (eqb (i % 2) 0) (uncoded (received re im m scale) at (segmentOf r step bit) j) x) (getD-drop step us j 0)
+
+  -- bit i of a run's bytes is the frame's
+  pub bit-part : (modulationOf (r .combination) ≡ Tc8psk → labelAt s (drop step us) (i / 2) ≡ at (step + i / 2))
+      → pieceBit (r .combination) (drop (r .«symbol_start») re) (drop (r .«symbol_start») im) m s (drop step us) i ≡ bitIn (received re im m scale) at us (segmentOf r step bit) i
+  bit-part h = bit-by (modulationOf (r .combination)) h

@@ -1,6 +1,5 @@
 // Signal points, and their parts as soft values.
 pub mod demod;
-mod fec;
 mod metrics;
 mod reading;
 

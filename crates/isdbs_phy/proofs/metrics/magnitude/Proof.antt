@@ -1,5 +1,5 @@
 use Rattle.isdbs_phy.proofs.ByStep.{sign-set, sign-clear}
-use Rattle.isdbs_phy.proofs.Sign.{number}
+use Rattle.ieee.specs.Bits.{number}
 use borrow.Author.Tests.{le-leb, lt-leb}
 use lib.Ieee.Compare.{differs-from-itself}
 use lib.Dec.{T}

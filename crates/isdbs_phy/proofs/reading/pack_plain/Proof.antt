@@ -1,3 +1,8 @@
+use Rattle.isdbs_phy.proofs.Packing.{state-more, byte-more, plain-is, tc8psk-is}
+use Rattle.isdbs_phy.proofs.FrameRuns.{tail-is}
+use Rattle.isdbs_phy.specs.LawsUpto.{length-laid-upto}
+use lib.Seq.{getD-drop}
+use lib.ListN.{length-drop, set}
 use borrow.Author.Needs.{needs}
 use Rattle.isdbs_phy.specs.Steps.{pieceBit}
 use Rattle.isdbs_phy.specs.Layout.{byteOf}
@@ -45,11 +50,21 @@ part-plain-byte-end c = search needs
 
 -- src/reading.rt:165:13
 plain-byte-requires : tie.Need-plain-byte-requires Inv-loop μ-loop
-plain-byte-requires c κs = search needs
+plain-byte-requires c κs = 
+    let st = c .before .before .before .before .before in
+    let j = c .before .before .loop .j in
+    let us = st .args .bits .now in
+    let t = c .before .loop-test .taken in
+    let e = length-drop (8 * j) us in
+    rw (tail-is (8 * j) us) (c .before .before .loop .inv .1, omega arith, λ i l. rw (getD-drop (8 * j) us i 0) (st .pre .3 (8 * j + i) (omega arith)))
 
 -- src/reading.rt:166:9
 slice-write-bytes : tie.Need-slice-write-bytes Inv-loop μ-loop
-slice-write-bytes c = search needs
+slice-write-bytes c = 
+    let st = c .before .before .before .before .before .before in
+    let j = c .before .before .before .loop .j in
+    let e = ap length (c .before .before .before .loop .inv .3) ∙ length-laid-upto (λ h. byteOf (λ i. getD (st .args .bits .now) (8 * h + i) 0)) j (st .args .bytes .now) (omega arith) in
+    omega arith
 
 -- src/reading.rt:163:9
 add-j : tie.Need-add-j Inv-loop μ-loop
@@ -61,15 +76,32 @@ loop-less c = search needs
 
 -- src/reading.rt:163:5
 loop-again : tie.Need-loop-again Inv-loop μ-loop
-loop-again c = search needs
+loop-again c = 
+    let st = c .before .before .before .before .before .before in
+    let j = c .before .before .before .loop .j in
+    let us = st .args .bits .now in
+    let h = c .before .before .before .loop .inv in
+    let n = rw (tail-is (8 * j) us) at (c .plain-byte .ensures) in
+    (
+      omega arith,
+      n .2,
+      state-more (st .args .start) us (8 * j) 8 (8 * (j + 1)) _ _ (omega arith) (h .2) (n .1),
+      byte-more (λ h. byteOf (λ i. getD (st .args .bits .now) (8 * h + i) 0)) j _ _ (st .args .bytes .now) (omega arith) (h .3) (plain-is us j _ (n .0)),
+    )
 
 -- src/reading.rt:158:1
 same-length : tie.Need-same-length Inv-loop μ-loop
-same-length c = search needs
+same-length c = 
+    let st = c .before .before .before .before in
+    ap length (c .before .loop .inv .3) ∙ length-laid-upto (λ h. byteOf (λ i. getD (st .args .bits .now) (8 * h + i) 0)) (c .before .loop .j) (st .args .bytes .now) (omega arith)
 
 -- src/reading.rt:158:1
 returns : tie.Need-returns Inv-loop μ-loop
-returns c = search needs
+returns c = 
+    let st = c .before .before .before .before in
+    let e : c .before .loop .j ≡ st .args .n = omega arith in
+    let h = rw e at (c .before .loop .inv) in
+    (h .3, h .2, h .1)
 
 pub pack-plain-spec : {M : Type 1} → statement M
 pack-plain-spec =

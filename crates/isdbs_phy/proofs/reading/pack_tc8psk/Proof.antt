@@ -1,3 +1,8 @@
+use Rattle.isdbs_phy.proofs.Packing.{state-more, byte-more, plain-is, tc8psk-is}
+use Rattle.isdbs_phy.proofs.FrameRuns.{tail-is}
+use Rattle.isdbs_phy.specs.LawsUpto.{length-laid-upto}
+use lib.Seq.{getD-drop}
+use lib.ListN.{length-drop, set}
 use borrow.Author.Needs.{needs}
 use Rattle.isdbs_phy.specs.Steps.{pieceBit}
 use Rattle.isdbs_phy.specs.Layout.{byteOf}
@@ -77,11 +82,24 @@ part-tc8psk-byte-end-3 c = search needs
 
 -- src/reading.rt:180:13
 tc8psk-byte-requires : tie.Need-tc8psk-byte-requires Inv-loop μ-loop
-tc8psk-byte-requires c κs = search needs
+tc8psk-byte-requires c κs = 
+    let st = c .before .before .before .before .before .before .before .before .before in
+    let j = c .before .before .before .before .loop .j in
+    let us = st .args .bits .now in
+    let t = c .before .before .before .loop-test .taken in
+    let e = length-drop (4 * j) us in
+    let er = length-drop (4 * j) (st .args .re .now) in
+    let ei = length-drop (4 * j) (st .args .im .now) in
+    rw (tail-is (4 * j) us, tail-is (4 * j) (st .args .re .now), tail-is (4 * j) (st .args .im .now))
+    (c .before .before .before .before .loop .inv .1, omega arith, omega arith, omega arith, λ i l. rw (getD-drop (4 * j) us i 0) (st .pre .5 (4 * j + i) (omega arith)))
 
 -- src/reading.rt:181:9
 slice-write-bytes : tie.Need-slice-write-bytes Inv-loop μ-loop
-slice-write-bytes c = search needs
+slice-write-bytes c = 
+    let st = c .before .before .before .before .before .before .before .before .before .before in
+    let j = c .before .before .before .before .before .loop .j in
+    let e = ap length (c .before .before .before .before .before .loop .inv .3) ∙ length-laid-upto (λ h. byteOf (λ i. pieceBit «Tc8psk2_3» (st .args .re .now) (st .args .im .now) (st .args .m) (st .args .start) (st .args .bits .now) (8 * h + i))) j (st .args .bytes .now) (omega arith) in
+    omega arith
 
 -- src/reading.rt:178:9
 add-j : tie.Need-add-j Inv-loop μ-loop
@@ -93,15 +111,32 @@ loop-less c = search needs
 
 -- src/reading.rt:178:5
 loop-again : tie.Need-loop-again Inv-loop μ-loop
-loop-again c = search needs
+loop-again c = 
+    let st = c .before .before .before .before .before .before .before .before .before .before in
+    let j = c .before .before .before .before .before .loop .j in
+    let us = st .args .bits .now in
+    let h = c .before .before .before .before .before .loop .inv in
+    let n = rw (tail-is (4 * j) us, tail-is (4 * j) (st .args .re .now), tail-is (4 * j) (st .args .im .now)) at (c .tc8psk-byte .ensures) in
+    (
+      omega arith,
+      n .2,
+      state-more (st .args .start) us (4 * j) 4 (4 * (j + 1)) _ _ (omega arith) (h .2) (n .1),
+      byte-more (λ h. byteOf (λ i. pieceBit «Tc8psk2_3» (st .args .re .now) (st .args .im .now) (st .args .m) (st .args .start) (st .args .bits .now) (8 * h + i))) j _ _ (st .args .bytes .now) (omega arith) (h .3) (tc8psk-is (st .args .re .now) (st .args .im .now) (st .args .m) (st .args .start) us j _ _ (h .2) (n .0)),
+    )
 
 -- src/reading.rt:173:1
 same-length : tie.Need-same-length Inv-loop μ-loop
-same-length c = search needs
+same-length c = 
+    let st = c .before .before .before .before .before .before in
+    ap length (c .before .loop .inv .3) ∙ length-laid-upto (λ h. byteOf (λ i. pieceBit «Tc8psk2_3» (st .args .re .now) (st .args .im .now) (st .args .m) (st .args .start) (st .args .bits .now) (8 * h + i))) (c .before .loop .j) (st .args .bytes .now) (omega arith)
 
 -- src/reading.rt:173:1
 returns : tie.Need-returns Inv-loop μ-loop
-returns c = search needs
+returns c = 
+    let st = c .before .before .before .before .before .before in
+    let e : c .before .loop .j ≡ st .args .n = omega arith in
+    let h = rw e at (c .before .loop .inv) in
+    (h .3, h .2, h .1)
 
 pub pack-tc8psk-spec : {M : Type 1} → statement M
 pack-tc8psk-spec =

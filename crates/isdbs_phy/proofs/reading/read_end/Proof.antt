@@ -14,9 +14,9 @@ use Rattle.isdbs_phy.proofs.reading.read_end.Reads as reads
 use Rattle.isdbs_phy.proofs.reading.read_end.Lts as lts
 use Rattle.isdb_fec.proofs.conv.clear.Reads as clear-reads
 use Rattle.isdbs_phy.proofs.demod.word_bit.Reads as word-bit-reads
-use Rattle.isdbs_phy.proofs.fec.advance.Reads as advance-reads
-use Rattle.isdbs_phy.proofs.fec.finish.Reads as finish-reads
-use Rattle.isdbs_phy.proofs.fec.renormalise.Reads as renormalise-reads
+use Rattle.isdb_fec.proofs.conv.advance.Reads as advance-reads
+use Rattle.isdb_fec.proofs.conv.finish.Reads as finish-reads
+use Rattle.isdb_fec.proofs.conv.renormalise.Reads as renormalise-reads
 
 abbrev Inv-loop : tie.InvT-loop
 Inv-loop pm₀ decisions₀ bits₀ now-at₀ i₀ pm decisions bits now-at i = (i ≤ 16) × (length decisions ≡ length decisions₀) × (length bits ≡ length bits₀) × Carried knownBits 0 i pm₀ now-at₀ decisions₀ bits₀ now-at pm decisions bits

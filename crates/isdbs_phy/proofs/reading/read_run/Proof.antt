@@ -12,7 +12,7 @@ use Rattle.isdbs_phy.proofs.reading.read_run.Statement.{statement}
 use Rattle.isdbs_phy.proofs.reading.read_run.Tie as tie
 use Rattle.isdbs_phy.proofs.reading.read_run.Reads as reads
 use Rattle.isdbs_phy.proofs.reading.read_run.Lts as lts
-use Rattle.isdbs_phy.proofs.fec.advance.Reads as advance-reads
+use Rattle.isdb_fec.proofs.conv.advance.Reads as advance-reads
 use Rattle.isdbs_phy.proofs.metrics.code_of.Reads as code-of-reads
 use Rattle.isdbs_phy.proofs.metrics.metrics.Reads as metrics-reads
 use Rattle.isdbs_phy.proofs.metrics.next_phase.Reads as next-phase-reads

@@ -1,3 +1,4 @@
+use Rattle.isdbs_phy.proofs.Among.{listMetrics}
 use borrow.Author.Needs.{needs}
 use Rattle.isdbs_phy.proofs.Among.{stepsTo}
 use Rattle.isdbs_phy.specs.Runs.{frameMetrics, freshFrom}
@@ -18,7 +19,7 @@ use Rattle.isdbs_core.proofs.slots.runs.Reads as runs-reads
 use Rattle.isdbs_phy.proofs.reading.read_run.Reads as read-run-reads
 
 abbrev Inv-loop : tie.InvT-loop
-Inv-loop m scale pm₀ re im decisions₀ bits₀ count list at₀ step₀ i₀ pm decisions bits at step i = (i ≤ length (runsOf t)) × (length decisions ≡ length decisions₀) × (length bits ≡ length bits₀) × (step ≡ stepsTo (runsOf t) i) × (at .held < 4224) × (at .held + at .count ≡ step) × Holds 128 decisions₀ bits₀ (steps 128 (frameMetrics t (received re im m scale)) (freshFrom pm₀) step) pm (at .held) (at .count) decisions bits
+Inv-loop m scale pm₀ re im decisions₀ bits₀ count list at₀ step₀ i₀ pm decisions bits at step i = (i ≤ count) × (length decisions ≡ length decisions₀) × (length bits ≡ length bits₀) × (step ≡ stepsTo (take count list) i) × (at .held < 4224) × (at .held + at .count ≡ step) × Holds 128 decisions₀ bits₀ (steps 128 (listMetrics (take count list) (received re im m scale)) (freshFrom pm₀) step) pm (at .held) (at .count) decisions bits
 
 
 abbrev μ-loop : tie.MeasureT-loop
@@ -30,7 +31,7 @@ runs-requires c κs = search needs
 
 -- src/reading.rt:83:5
 loop-holds : tie.Need-loop-holds Inv-loop μ-loop
-loop-holds c = search needs
+loop-holds c = ?
 
 -- src/reading.rt:84:17
 mul-r : tie.Need-mul-r Inv-loop μ-loop
@@ -38,7 +39,7 @@ mul-r c = search needs
 
 -- src/reading.rt:84:17
 array-copy-out-r : tie.Need-array-copy-out-r Inv-loop μ-loop
-array-copy-out-r c = search needs
+array-copy-out-r c = ?
 
 -- src/reading.rt:86:17
 steps-per-slot-requires : tie.Need-steps-per-slot-requires Inv-loop μ-loop
@@ -46,7 +47,7 @@ steps-per-slot-requires c κs = search needs
 
 -- src/reading.rt:86:17
 mul-n : tie.Need-mul-n Inv-loop μ-loop
-mul-n c = search needs
+mul-n c = ?
 
 -- src/reading.rt:88:53
 mul-read-run : tie.Need-mul-read-run Inv-loop μ-loop
@@ -82,11 +83,11 @@ part-read-run-end-2 c = search needs
 
 -- src/reading.rt:88:9
 read-run-requires : tie.Need-read-run-requires Inv-loop μ-loop
-read-run-requires c κs = search needs
+read-run-requires c κs = ?
 
 -- src/reading.rt:89:16
 add-step : tie.Need-add-step Inv-loop μ-loop
-add-step c = search needs
+add-step c = ?
 
 -- src/reading.rt:83:9
 add-i : tie.Need-add-i Inv-loop μ-loop
@@ -98,7 +99,7 @@ loop-less c = search needs
 
 -- src/reading.rt:83:5
 loop-again : tie.Need-loop-again Inv-loop μ-loop
-loop-again c = search needs
+loop-again c = ?
 
 -- src/reading.rt:74:1
 same-length : tie.Need-same-length Inv-loop μ-loop
@@ -110,7 +111,7 @@ same-length-2 c = search needs
 
 -- src/reading.rt:74:1
 returns : tie.Need-returns Inv-loop μ-loop
-returns c = search needs
+returns c = ?
 
 pub read-runs-spec : {M : Type 1} → statement M
 read-runs-spec =
