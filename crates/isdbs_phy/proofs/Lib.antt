@@ -9,3 +9,4 @@ pub mod Among
 pub mod Parts
 pub mod FrameRuns
 pub mod Packing
+pub mod FrameBytes

@@ -9,3 +9,4 @@ pub mod LawsState
 pub mod DecodeRows
 pub mod Steps
 pub mod Runs
+pub mod LawsDecoded

@@ -1,3 +1,7 @@
+use Rattle.isdbs_phy.specs.Frame.{stateAfter}
+use Rattle.trellis.specs.Code.{stateAt}
+use Rattle.trellis.specs.Lists.{upto}
+use native.Mathlib.Omega.{arith}
 use borrow.Author.Needs.{needs}
 use Rattle.isdbs_phy.proofs.reading.start_state.Statement.{statement}
 use Rattle.isdbs_phy.proofs.reading.start_state.Tie as tie
@@ -15,11 +19,13 @@ state-after-requires-2 c κs = search needs
 
 -- src/reading.rt:252:1
 returns : tie.Need-returns
-returns c = ?
+unfolding stateAfter stateAt upto
+returns c = let e = c .state-after .ensures in (rw (c .before .if1 .taken) e, omega arith)
 
 -- src/reading.rt:252:1
 returns-2 : tie.Need-returns-2
-returns-2 c = ?
+unfolding stateAfter stateAt upto
+returns-2 c = let e = c .state-after2 .ensures in (rw (c .before .if1 .left) e, omega arith)
 
 pub start-state-spec : {M : Type 1} → statement M
 start-state-spec =

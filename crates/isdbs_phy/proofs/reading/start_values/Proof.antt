@@ -16,11 +16,11 @@ start-unknown-requires c κs = search needs
 
 -- src/reading.rt:241:1
 returns : tie.Need-returns
-returns c = ?
+returns c = rw (c .before .if1 .taken) (c .start-at .ensures)
 
 -- src/reading.rt:241:1
 returns-2 : tie.Need-returns-2
-returns-2 c = search needs
+returns-2 c = rw (c .before .if1 .left) (c .start-unknown .ensures)
 
 pub start-values-spec : {M : Type 1} → statement M
 start-values-spec = tie.close (tie.spec start-at-requires start-unknown-requires returns returns-2)
