@@ -153,3 +153,7 @@ all-steps t count list l = rw (l .listed, l .counted, take-length (runsOf t))
 
 pub all-valid : (t : Table) (count : ℕ) (list : List Run) → Listed t count list → validTo (take count list) count ≡ validTotal t
 all-valid t count list l = rw (l .listed, l .counted, take-length (runsOf t))
+
+-- what was written over the front of a slice
+pub front-is : {A : Type 0} (b us w : List A) (n : ℕ) → b ≡ us ++ drop (length us) w → n ≡ length us → take n b ≡ us
+front-is {A} b us w n e q = ap (λ (z : List A). take n z) e ∙ take-at us (drop (length us) w) n (sym q)

@@ -1,3 +1,6 @@
+use Rattle.isdbs_phy.proofs.FrameRuns.{tail-is}
+use lib.ListN.{length-drop}
+use mathlib.Core.List.{_++_}
 use borrow.Author.Needs.{needs}
 use Rattle.isdbs_phy.proofs.FrameBytes.{listByte, written-tail, run-room, run-state, run-byte}
 use Rattle.isdbs_phy.proofs.FrameRuns.{listed-runs, steps-fit, valid-fit, next-steps, next-valid, all-valid}
@@ -361,11 +364,12 @@ pack-run-requires c κs =
     let hs = h .2 in
     let hd = h .3 in
     let lb = ap length (h .5 nan) ∙ length-laid-upto (listByte (take (rn .result .count) (rn .result .runs)) (received (st .args .re .now) (st .args .im .now) (st .args .m) nan) (st .args .start) (st .args .bits .now)) (c .before .before .before .before .before .before .before .loop .done) (st .args .bytes .now) (omega arith) in
+    let ld = length-drop (c .before .before .before .before .before .before .before .loop .done) (c .before .before .before .before .before .before .before .loop .bytes) in
     (
       h .1,
       omega arith,
       run-room (st .args .t) (rn .result .count) (rn .result .runs) l i g (st .args .re .now) (st .args .im .now) (st .args .m) (st .args .start) (st .args .bits .now) _ hs (st .pre .2) (st .pre .3) (st .pre .4) (st .pre .5),
-      ?,
+      rw (tail-is (c .before .before .before .before .before .before .before .loop .done) (c .before .before .before .before .before .before .before .loop .bytes)) (omega arith),
     )
 
 -- src/reading.rt:225:23
@@ -454,15 +458,69 @@ loop-less c = search needs
 
 -- src/reading.rt:219:5
 loop-again : tie.Need-loop-again Inv-loop μ-loop
-loop-again c = ?
+loop-again c = 
+    let st = c .before .before .before .before .before .before .before .before .before .before .before .before .before .before .before .before .before .before .before in
+    let rn = c .before .before .before .before .before .before .before .before .before .before .before .before .before .before .runs in
+    let l = listed-runs (st .args .t) (rn .result) (st .pre .1) (simp length-map at (st .good .0 .1 .1 .0 .1 .0 .1)) (rn .ensures) in
+    let i = c .before .before .before .before .before .before .before .before .before .before .before .before .loop .i in
+    let g = c .before .before .before .before .before .before .before .before .before .before .before .loop-test .taken in
+    let f = l .fits i g in
+    let fs = f .starts in
+    let fe = f .ends in
+    let few = l .few in
+    let sf = steps-fit (st .args .t) (rn .result .count) (rn .result .runs) l i g in
+    let vf = valid-fit (st .args .t) (rn .result .count) (rn .result .runs) l i g in
+    let sm = l .steps in
+    let vm = l .valid in
+    let h = c .before .before .before .before .before .before .before .before .before .before .before .before .loop .inv in
+    let hs = h .2 in
+    let hd = h .3 in
+    let lb = ap length (h .5 nan) ∙ length-laid-upto (listByte (take (rn .result .count) (rn .result .runs)) (received (st .args .re .now) (st .args .im .now) (st .args .m) nan) (st .args .start) (st .args .bits .now)) (c .before .before .before .before .before .before .before .before .before .before .before .before .loop .done) (st .args .bytes .now) (omega arith) in
+    let sp = c .before .steps-per-slot in
+    let r = getD (rn .result .runs) i noRun in
+    let en : sp .result * r .«valid_slots» ≡ stepsOf r = ap (λ (x : ℕ). x * r .«valid_slots») (sp .ensures) in
+    let step = c .before .before .before .before .before .before .before .before .before .before .before .before .loop .step in
+    let done = c .before .before .before .before .before .before .before .before .before .before .before .before .loop .done in
+    let x = c .before .before .before .before .before .before .before .before .before .before .before .before .loop .state in
+    let pr = c .before .before .before .before .pack-run in
+    let ns = next-steps (st .args .t) (rn .result .count) (rn .result .runs) l i g in
+    let nv = next-valid (st .args .t) (rn .result .count) (rn .result .runs) l i g in
+    (
+      omega arith,
+      pr .ensures .2,
+      omega arith,
+      omega arith,
+      rw en (run-state (st .args .t) (rn .result .count) (rn .result .runs) l i g (st .args .re .now) (st .args .im .now) (st .args .m) (st .args .start) (st .args .bits .now) step x _ (h .4) (pr .ensures .1)),
+      λ scale.
+          written-tail done (c .before .before .before .before .before .before .before .before .before .before .before .before .loop .bytes) _ (upto (λ j. byteOf (λ k. pieceBit (r .combination) (take (length (st .args .re .now) - r .«symbol_start») (drop (r .«symbol_start») (st .args .re .now))) (take (length (st .args .im .now) - r .«symbol_start») (drop (r .«symbol_start») (st .args .im .now))) (st .args .m) x (take (length (st .args .bits .now) - step) (drop step (st .args .bits .now))) (8 * j + k))) (203 * r .«valid_slots»)) (omega arith) (pr .ensures .0)
+          ∙ ap (λ (z : List ℕ). take done z ++ laid (upto (λ j. byteOf (λ k. pieceBit (r .combination) (take (length (st .args .re .now) - r .«symbol_start») (drop (r .«symbol_start») (st .args .re .now))) (take (length (st .args .im .now) - r .«symbol_start») (drop (r .«symbol_start») (st .args .im .now))) (st .args .m) x (take (length (st .args .bits .now) - step) (drop step (st .args .bits .now))) (8 * j + k))) (203 * r .«valid_slots»)) (drop done z)) (h .5 scale)
+          ∙ laid-part (listByte (take (rn .result .count) (rn .result .runs)) (received (st .args .re .now) (st .args .im .now) (st .args .m) scale) (st .args .start) (st .args .bits .now)) (λ j. byteOf (λ k. pieceBit (r .combination) (take (length (st .args .re .now) - r .«symbol_start») (drop (r .«symbol_start») (st .args .re .now))) (take (length (st .args .im .now) - r .«symbol_start») (drop (r .«symbol_start») (st .args .im .now))) (st .args .m) x (take (length (st .args .bits .now) - step) (drop step (st .args .bits .now))) (8 * j + k))) done (203 * r .«valid_slots») (st .args .bytes .now) (λ j q. run-byte (st .args .t) (rn .result .count) (rn .result .runs) l i g (st .args .re .now) (st .args .im .now) (st .args .m) (st .args .start) (st .args .bits .now) scale step done x hs hd (h .4) j q),
+    )
 
 -- src/reading.rt:209:1
 same-length : tie.Need-same-length Inv-loop μ-loop
-same-length c = ?
+same-length c = 
+    let st = c .before .before .before .before .before .before .before .before in
+    let rn = c .before .before .before .runs in
+    let l = listed-runs (st .args .t) (rn .result) (st .pre .1) (simp length-map at (st .good .0 .1 .1 .0 .1 .0 .1)) (rn .ensures) in
+    let h = c .before .loop .inv in
+    let e : c .before .loop .i ≡ rn .result .count = omega arith in
+    let hd = h .3 in
+    let ed : c .before .loop .done ≡ loadBytes (st .args .t) = (rw e at hd) ∙ ap (λ (z : ℕ). 203 * z) (all-valid (st .args .t) (rn .result .count) (rn .result .runs) l) in
+    let v = st .pre .6 in
+    ap length (h .5 nan) ∙ length-laid-upto (listByte (take (rn .result .count) (rn .result .runs)) (received (st .args .re .now) (st .args .im .now) (st .args .m) nan) (st .args .start) (st .args .bits .now)) (c .before .loop .done) (st .args .bytes .now) (omega arith)
 
 -- src/reading.rt:209:1
 returns : tie.Need-returns Inv-loop μ-loop
-returns c = ?
+returns c = 
+    let st = c .before .before .before .before .before .before .before .before in
+    let rn = c .before .before .before .runs in
+    let l = listed-runs (st .args .t) (rn .result) (st .pre .1) (simp length-map at (st .good .0 .1 .1 .0 .1 .0 .1)) (rn .ensures) in
+    let h = c .before .loop .inv in
+    let e : c .before .loop .i ≡ rn .result .count = omega arith in
+    let hd = h .3 in
+    let ed : c .before .loop .done ≡ loadBytes (st .args .t) = (rw e at hd) ∙ ap (λ (z : ℕ). 203 * z) (all-valid (st .args .t) (rn .result .count) (rn .result .runs) l) in
+    λ scale. rw (ed, l .listed) at (h .5 scale)
 
 pub write-bytes-spec : {M : Type 1} → statement M
 write-bytes-spec =
