@@ -157,3 +157,7 @@ all-valid t count list l = rw (l .listed, l .counted, take-length (runsOf t))
 -- what was written over the front of a slice
 pub front-is : {A : Type 0} (b us w : List A) (n : ℕ) → b ≡ us ++ drop (length us) w → n ≡ length us → take n b ≡ us
 front-is {A} b us w n e q = ap (λ (z : List A). take n z) e ∙ take-at us (drop (length us) w) n (sym q)
+
+-- the valid slots as `runs` counts them
+pub valid-sum : (t : Table) (r : FrameRuns) → slotSum (t .entries) ≤ 48 → r ≡ fourRuns t → r .«valid_slots» ≡ validTotal t
+valid-sum t r h e = ap (λ (z : FrameRuns). z .«valid_slots») (e ∙ accepted-runs t h)

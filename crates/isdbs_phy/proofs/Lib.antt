@@ -10,3 +10,4 @@ pub mod Parts
 pub mod FrameRuns
 pub mod Packing
 pub mod FrameBytes
+pub mod Rows

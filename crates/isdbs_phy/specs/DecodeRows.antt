@@ -8,6 +8,10 @@ use lib.ListN.{length, getD, take, replicate}
 use lib.Ieee.{Float, nan, binary32, binary64, neg, lt, le, ofBits}
 use Rattle.refusal.specs.Rows.{Row}
 use Rattle.refusal.specs.declared.Answer.the-variants.{Symbols, Sample, Scale, Space}
+use Rattle.refusal.specs.declared.Answer.{Answer}
+use Rattle.isdbs_core.specs.Answers.{accepted}
+use Rattle.isdbs_phy.specs.declared.demod.FrameDecoded.{FrameDecoded}
+use Rattle.isdbs_phy.specs.declared.demod.FrameDecoded.the-variants.{Decoded, Refused}
 use Rattle.isdbs_core.specs.declared.tmcc.Table.{Table}
 use Rattle.isdbs_core.specs.Tables.{tableRows}
 use Rattle.isdbs_core.specs.RunsOf.{frameSteps, loadBytes}
@@ -29,6 +33,10 @@ partLimit = ofBits binary64 0x4090_0000_0000_0000
 abbrev pub badScale : Float → Bool
 badScale s = not (lt (ofBits binary32 0) s) || lt (ofBits binary32 0x4280_0000) s
 
+-- 9: "a lent output or decision slice shorter than this call writes; decisions always need 4,096 + traceback"
+abbrev pub shortSpace : Table → ℕ → ℕ → ℕ → Bool
+shortSpace t decisions bits bytes = ltb decisions 4224 || (ltb bits (frameSteps t + 16) || ltb bytes (loadBytes t))
+
 -- the rows of `decode_frame`, over the lengths of the lent outputs
 abbrev pub decodeRows : Table → List Float → List Float → Float → ℕ → ℕ → ℕ → List Row
 decodeRows t re im scale decisions bits bytes =
@@ -36,5 +44,15 @@ decodeRows t re im scale decisions bits bytes =
     ++ (Symbols, ltb (length re) 38976 || ltb (length im) 38976)
     ∷ (Sample, someBeyond partLimit re 38976 || someBeyond partLimit im 38976)
     ∷ (Scale, badScale scale)
-    ∷ (Space, ltb decisions 4224 || (ltb bits (frameSteps t + 16) || ltb bytes (loadBytes t)))
+    ∷ (Space, shortSpace t decisions bits bytes)
     ∷ []
+
+-- the answer where no row holds: the bytes and the steps; else the row
+abbrev pub frameAnswer : Answer → Table → FrameDecoded
+frameAnswer a t = cond (accepted a) (Decoded (loadBytes t) (frameSteps t)) (Refused a)
+
+-- "no buffer changes"
+pub record Kept (decisions₀ decisions bits₀ bits bytes₀ bytes : List ℕ) : Type 0 where
+  pub words : decisions ≡ decisions₀
+  pub decoded : bits ≡ bits₀
+  pub load : bytes ≡ bytes₀

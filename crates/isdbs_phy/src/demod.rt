@@ -1,10 +1,21 @@
 // The main signal of a frame: bytes to points and points to bytes. After demod.rs of isdbs-phy.
 use crate::Cplx;
+use crate::answers::decode_answer;
+use crate::answers::frame_size;
+use crate::reading::decode;
 use isdb_fec::conv::encode_bit;
+use isdbs_core::tmcc::Table;
+use refusal::Answer;
 ghost use mathlib.Core.Path.{_≡_};
 ghost use mathlib.Core.Bool.{true, false, cond};
 ghost use Prim.Native.Nat.{ℕ, _+_, _*_, _/_, _%_, _<_, _≤_, _^_};
+ghost use lib.ListN.{length};
 ghost use lib.Ieee.{binary32, ofBits};
+ghost use Rattle.refusal.specs.Rows.{firstRow};
+ghost use Rattle.isdb_fec.specs.Calls.{Either};
+ghost use Rattle.isdbs_phy.specs.DecodeRows.{decodeRows, frameAnswer, Kept};
+ghost use Rattle.isdbs_phy.specs.Steps.{received};
+ghost use Rattle.isdbs_phy.specs.Runs.{FrameRead};
 ghost use Rattle.isdbs_phy.specs.Points.{psk8Of, subset, turned};
 ghost use Rattle.isdbs_phy.specs.Layout.{wordBit};
 ghost use Rattle.isdbs_phy.specs.Frame.{stateAfter};
@@ -119,4 +130,37 @@ pub(crate) fn subset_of(c1_is_y: bool, l: u8) -> u8
     ensures { λ r. ⌜ (r ≡ subset «c1_is_y» l) × (r < 4) ⌝ }
 {
     if c1_is_y { 2 * (l % 2) + l / 2 } else { l }
+}
+
+// ---- decoding
+
+// What decoding a frame answers: the bytes of its load and its trellis steps, or why it is turned back.
+pub enum FrameDecoded {
+    Decoded(usize, usize),
+    Refused(Answer),
+}
+
+// The main signal of a frame to bytes. `first`: the first frame of a superframe. Afterwards `bits` begins with the decoded bits, `bytes` with the load.
+pub fn decode_frame(
+    re: &[f64],
+    im: &[f64],
+    t: Table,
+    first: bool,
+    o: DemodOptions,
+    decisions: &mut [u64],
+    bits: &mut [u8],
+    bytes: &mut [u8],
+) -> FrameDecoded
+    ensures answers { λ r. ⌜ r ≡ frameAnswer (firstRow (decodeRows t (now (re .entry)) (now (im .entry)) (o .«llr_scale») (length (now (decisions .entry))) (length (now (bits .entry))) (length (now (bytes .entry))))) t ⌝ }
+    ensures leaves { λ _. ⌜ Either (firstRow (decodeRows t (now (re .entry)) (now (im .entry)) (o .«llr_scale») (length (now (decisions .entry))) (length (now (bits .entry))) (length (now (bytes .entry)))))
+        (FrameRead t (received (now (re .entry)) (now (im .entry)) (o .mapping) (o .«llr_scale»)) (o .«known_start») first (now (decisions .entry)) (now (decisions .exit)) (now (bits .entry)) (now (bits .exit)) (now (bytes .entry)) (now (bytes .exit)))
+        (Kept (now (decisions .entry)) (now (decisions .exit)) (now (bits .entry)) (now (bits .exit)) (now (bytes .entry)) (now (bytes .exit))) ⌝ }
+{
+    let answer = decode_answer(t, re, im, o.llr_scale, decisions.len(), bits.len(), bytes.len());
+    let Answer::Accepted = answer else {
+        return FrameDecoded::Refused(answer);
+    };
+    let size = frame_size(t);
+    decode(t, first, o, re, im, size.steps, decisions, bits, bytes);
+    FrameDecoded::Decoded(size.bytes, size.steps)
 }

@@ -1,5 +1,6 @@
 // Signal points, and their parts as soft values.
 pub mod demod;
+mod answers;
 mod metrics;
 mod reading;
 

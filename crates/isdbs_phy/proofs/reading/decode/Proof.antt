@@ -55,7 +55,7 @@ write-bytes-requires : tie.Need-write-bytes-requires
 write-bytes-requires c κs = 
     let st = c .before .before .before .before .before .before .before .before .before .before .before .before .before .before .before .before .before .before in
     let rx = received (st .args .re .now) (st .args .im .now) (st .args .o .mapping) (st .args .o .«llr_scale») in
-    let pm = c .before .before .before .before .before .before .before .before .before .before .before .start-values .result in
+    let pm = c .before .before .before .before .before .before .before .before .before .before .start-values .result in
     let db = c .before .before .before .before .before .before .before .decode-bits in
     let n = from-count (st .args .t) rx pm in
     let ps = st .pre .0 in
@@ -88,13 +88,13 @@ unfolding bytesFrom
 returns c = 
     let st = c .before .before .before .before .before .before .before .before .before .before .before .before .before .before .before .before .before .before .before .before .before in
     let rx = received (st .args .re .now) (st .args .im .now) (st .args .o .mapping) (st .args .o .«llr_scale») in
-    let pm = c .before .before .before .before .before .before .before .before .before .before .before .before .before .before .start-values .result in
+    let pm = c .before .before .before .before .before .before .before .before .before .before .before .before .before .start-values .result in
     let db = c .before .before .before .before .before .before .before .before .before .before .decode-bits in
     let n = from-count (st .args .t) rx pm in
     let ps = st .pre .0 in
     let front : take (st .args .steps + 16 - 0) (db .last .1 .1 .1 .1 .1 .1 .1 .0) ≡ bitsFrom (st .args .t) rx pm = front-is _ (bitsFrom (st .args .t) rx pm) (st .args .bits .now) (st .args .steps + 16 - 0) (db .ensures .0) (omega arith) in
     let es = c .before .before .before .before .before .before .before .before .before .before .before .before .before .before .before .start-state .ensures .0 in
-    let epm : pm ≡ startValues (st .args .o .«known_start») (st .args .first) = c .before .before .before .before .before .before .before .before .before .before .before .before .before .before .start-values .ensures ∙ ap (λ (z : ℕ). cond (st .args .o .«known_start») (startAt 64 z) (startUnknown 64)) es in
+    let epm : pm ≡ startValues (st .args .o .«known_start») (st .args .first) = c .before .before .before .before .before .before .before .before .before .before .before .before .before .start-values .ensures ∙ ap (λ (z : ℕ). cond (st .args .o .«known_start») (startAt 64 z) (startUnknown 64)) es in
     let whole : bitsFrom (st .args .t) rx pm ≡ decodedBits (st .args .t) rx (st .args .o .«known_start») (st .args .first) =
     ap (λ (z : List Float). bitsFrom (st .args .t) rx z) epm ∙ sym (decoded-from (st .args .t) rx (st .args .o .«known_start») (st .args .first)) in
     record {
