@@ -73,7 +73,7 @@ pub qpsk-metrics : (c : Combination) (re im : List Float) (m : Mapping) (scale :
 unfolding metricsBy
 qpsk-metrics c re im m scale k h =
     let x = soft-qpsk c re im m scale k 0 h
-      ∙ ap (λ (a : ℕ). placed re im m scale (k / stepsPerPeriod c * length (orderOf c)) (length (orderOf c)) (placeIn a (orderOf c))) (add-zero (2 * (k % stepsPerPeriod c))) in
+    ∙ ap (λ (a : ℕ). placed re im m scale (k / stepsPerPeriod c * length (orderOf c)) (length (orderOf c)) (placeIn a (orderOf c))) (add-zero (2 * (k % stepsPerPeriod c))) in
     let y = soft-qpsk c re im m scale k 1 h in
     ap (λ (o : Modulation). metricsBy o (received re im m scale) (piece c 0) k) h
     ∙ ap (λ (z : Float). pairMetrics z (softAt (received re im m scale) (piece c 0) k 1)) x

@@ -126,16 +126,15 @@ ended at r pm pm₁ pm₂ dec out dec₂ out₂ dec₃ out₃ dec₄ en kc ed eo
       let kh = k .held-is in
       let kf = kc .few in
       let lr : length (replicate {A = ℕ} (r .held) 0) ≡ r .held = length-replicate (r .held) 0 in
-      let lz : length (replicate {A = ℕ} 4224 0) ≡ 4224 = length-replicate {A = ℕ} 4224 0 in
-      (
+      let lz : length (replicate {A = ℕ} 4224 0) ≡ 4224 = length-replicate {A = ℕ} 4224 0 in (
         eo ∙ ap (λ (y : List ℕ). take (r .count) out₂ ++ laid (traced y (bestState pm₂)) (drop (r .count) out₂)) ws
-        ∙ ap (λ (y : List Float). take (r .count) out₂ ++ laid (traced (e .words) (bestState y)) (drop (r .count) out₂)) (k .values)
-        ∙ ap (λ (y : List ℕ). take (r .count) y ++ laid (traced (e .words) (bestState (e .values))) (drop (r .count) y)) (k .bits)
-        ∙ ap (λ (n : ℕ). take n (laid (e .bits) out₀) ++ laid (traced (e .words) (bestState (e .values))) (drop n (laid (e .bits) out₀))) (k .count-is)
-        ∙ laid-after (e .bits) (traced (e .words) (bestState (e .values))) out₀,
+            ∙ ap (λ (y : List Float). take (r .count) out₂ ++ laid (traced (e .words) (bestState y)) (drop (r .count) out₂)) (k .values)
+            ∙ ap (λ (y : List ℕ). take (r .count) y ++ laid (traced (e .words) (bestState (e .values))) (drop (r .count) y)) (k .bits)
+            ∙ ap (λ (n : ℕ). take n (laid (e .bits) out₀) ++ laid (traced (e .words) (bestState (e .values))) (drop n (laid (e .bits) out₀))) (k .count-is)
+            ∙ laid-after (e .bits) (traced (e .words) (bestState (e .values))) out₀,
         ec ∙ ap (λ (y : List ℕ). laid (replicate 4224 0) y) ed
-        ∙ laid-laid (replicate (r .held) 0) (replicate 4224 0) dec₂ (omega arith)
-        ∙ ap (λ (y : List ℕ). laid (replicate 4224 0) y) (k .words)
-        ∙ cleared 128 (e .words) (e .bits) dec₀ (omega arith),
+            ∙ laid-laid (replicate (r .held) 0) (replicate 4224 0) dec₂ (omega arith)
+            ∙ ap (λ (y : List ℕ). laid (replicate 4224 0) y) (k .words)
+            ∙ cleared 128 (e .words) (e .bits) dec₀ (omega arith),
       );
 }

@@ -68,4 +68,3 @@ list-7 = 0 ∷ 1 ∷ 2 ∷ 2 ∷ 2 ∷ 2 ∷ 2 ∷ 2 ∷ 2 ∷ 2 ∷ 2 ∷ 2 ∷
 pub places-7 : Placed list-7 «Tc8psk2_3» 2
 unfolding sentOrder placeIn
 places-7 = more list-7 «Tc8psk2_3» 1 (more list-7 «Tc8psk2_3» 0 (none list-7 «Tc8psk2_3») refl) refl
-

@@ -26,7 +26,7 @@ use Rattle.isdbs_core.specs.declared.combination.MaybeCombination.{MaybeCombina
 use Rattle.isdbs_core.specs.declared.combination.MaybeCombination.the-variants.{Some, None}
 use Rattle.isdbs_core.specs.Tables.{slotSum, entryCombination}
 use Rattle.isdbs_core.specs.RunsOf.{runsOf, runsFrom, entryRuns, entrySymbols, fourOf, fourRuns, stepsOf, frameSteps, validIn, validTotal, noRun, RunFits}
-use Rattle.isdbs_core.specs.RunLaws.{Whole, each-at} 
+use Rattle.isdbs_core.specs.RunLaws.{Whole, each-at}
 use Rattle.isdbs_core.specs.RunLaws as laws
 use Rattle.isdbs_phy.specs.declared.demod.Mapping.{Mapping}
 use Rattle.isdbs_phy.specs.Layout.{segmentOf, segmentsFrom, sentOrder}

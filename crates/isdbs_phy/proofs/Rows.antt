@@ -14,11 +14,12 @@ use borrow.Author.Tests.{ltb-false}
 use Rattle.refusal.specs.Rows.{numberOf, firstRow}
 use Rattle.refusal.specs.declared.Answer.{Answer}
 use Rattle.refusal.proofs.Answer as answer
-use Rattle.refusal.specs.declared.Answer.the-variants.{Accepted, Table, Symbols, Sample, Scale, Space}
+use Rattle.refusal.specs.declared.Answer.the-variants.{Accepted, Table, Position, Traceback, State, Length, Symbols, Sample, Scale, Space}
+use Rattle.isdbs_phy.specs.declared.demod.FrameDecoded.the-variants.{Refused}
 use Rattle.isdbs_core.specs.declared.tmcc.Table as declared
 use Rattle.isdbs_core.specs.Tables.{slotSum}
 use Rattle.isdbs_core.specs.RunsOf.{frameSteps, loadBytes}
-use Rattle.isdbs_phy.specs.DecodeRows.{within, someBeyond, partLimit, badScale, shortSpace, decodeRows}
+use Rattle.isdbs_phy.specs.DecodeRows.{within, someBeyond, partLimit, badScale, shortSpace, decodeRows, frameAnswer}
 
 -- what `let Answer::Accepted = .. else` tells where it leaves
 pub told : (a : Answer) → OneOf (1 ∷ 2 ∷ 3 ∷ 4 ∷ 5 ∷ 6 ∷ 7 ∷ 8 ∷ 9 ∷ []) (tagOf answer.the-type a) → a ≡ Accepted → ⊥
@@ -110,3 +111,16 @@ passed t re im scale decisions bits bytes h =
       places = ltb-false bits (frameSteps t + 16) (r .0);
       room = ltb-false bytes (loadBytes t) (r .1);
     }
+
+-- a refusal's answer
+pub refused-answer : (a : Answer) (t : declared.Table) → (a ≡ Accepted → ⊥) → Refused a ≡ frameAnswer a t
+refused-answer Accepted t n = absurd (n refl)
+refused-answer Table t n = refl
+refused-answer Position t n = refl
+refused-answer Traceback t n = refl
+refused-answer State t n = refl
+refused-answer Length t n = refl
+refused-answer Symbols t n = refl
+refused-answer Sample t n = refl
+refused-answer Scale t n = refl
+refused-answer Space t n = refl

@@ -61,7 +61,6 @@ pub record Ended (pm : List Float) (at : At) (dec out dec′ out′ : List ℕ) 
 abbrev pub byteAt : Table → Received → ℕ → List ℕ → ℕ → ℕ
 byteAt t r s us j = byteOf (λ i. atBit 0 (bitIn r (labelAt s us) us) t (8 * j + i))
 
-
 -- the bits of a frame whose path values start as pm
 abbrev pub bitsFrom : Table → Received → List Float → List ℕ
 bitsFrom t r pm = endedBits (steps 128 (frameMetrics t r) (freshFrom pm) (frameSteps t))

@@ -118,7 +118,15 @@ fn space_answer(t: Table, decisions: usize, bits: usize, bytes: usize) -> Answer
 }
 
 // The answer of `decode_frame`, over the lengths of the lent outputs.
-pub fn decode_answer(t: Table, re: &[f64], im: &[f64], scale: f32, decisions: usize, bits: usize, bytes: usize) -> Answer
+pub fn decode_answer(
+    t: Table,
+    re: &[f64],
+    im: &[f64],
+    scale: f32,
+    decisions: usize,
+    bits: usize,
+    bytes: usize,
+) -> Answer
     ensures { λ r. ⌜ r ≡ firstRow (decodeRows t (now (re .entry)) (now (im .entry)) scale decisions bits bytes) ⌝ }
 {
     let rs = runs(t);

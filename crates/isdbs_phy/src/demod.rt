@@ -123,7 +123,6 @@ pub(crate) fn mirror(conjugate: bool, y: f64) -> f64
     if conjugate { -y } else { y }
 }
 
-
 // 2 C1 + C0 from 2 X + Y.
 pub(crate) fn subset_of(c1_is_y: bool, l: u8) -> u8
     requires { ⌜ l < 4 ⌝ }
@@ -156,7 +155,15 @@ pub fn decode_frame(
         (FrameRead t (received (now (re .entry)) (now (im .entry)) (o .mapping) (o .«llr_scale»)) (o .«known_start») first (now (decisions .entry)) (now (decisions .exit)) (now (bits .entry)) (now (bits .exit)) (now (bytes .entry)) (now (bytes .exit)))
         (Kept (now (decisions .entry)) (now (decisions .exit)) (now (bits .entry)) (now (bits .exit)) (now (bytes .entry)) (now (bytes .exit))) ⌝ }
 {
-    let answer = decode_answer(t, re, im, o.llr_scale, decisions.len(), bits.len(), bytes.len());
+    let answer = decode_answer(
+        t,
+        re,
+        im,
+        o.llr_scale,
+        decisions.len(),
+        bits.len(),
+        bytes.len(),
+    );
     let Answer::Accepted = answer else {
         return FrameDecoded::Refused(answer);
     };

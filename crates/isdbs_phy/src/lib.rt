@@ -1,6 +1,6 @@
 // Signal points, and their parts as soft values.
-pub mod demod;
 mod answers;
+pub mod demod;
 mod metrics;
 mod reading;
 

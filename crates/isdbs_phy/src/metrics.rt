@@ -147,7 +147,15 @@ fn qpsk_part(re: &[f64], im: &[f64], m: Mapping, i: usize) -> f64
 }
 
 // The soft value at a place of the period that begins with the mother bit sent base-th; 0 where it is erased.
-fn qpsk_soft(re: &[f64], im: &[f64], m: Mapping, scale: f32, base: usize, place: usize, count: usize) -> f32
+fn qpsk_soft(
+    re: &[f64],
+    im: &[f64],
+    m: Mapping,
+    scale: f32,
+    base: usize,
+    place: usize,
+    count: usize,
+) -> f32
     requires { ⌜ (base + count ≤ 2 * length (now re)) × (base + count ≤ 2 * length (now im)) × (base + count < 2 ^ 32) ⌝ }
     ensures { λ r. ⌜ r ≡ cond (ltb place count) (mul binary32 (softOf (qpskPart (now (re .entry)) (now (im .entry)) m (base + place))) scale) (ofBits binary32 0) ⌝ }
 {
@@ -187,11 +195,7 @@ fn magnitude(x: f64) -> f64
         return x;
     }
     let bits = f64::to_bits(x);
-    if bits >= 0x8000_0000_0000_0000 {
-        -x
-    } else {
-        x
-    }
+    if bits >= 0x8000_0000_0000_0000 { -x } else { x }
 }
 
 // The metric of the two points of opposite sign, one of which is p.
@@ -228,7 +232,15 @@ pub fn symbol(re: &[f64], im: &[f64], conjugate: bool, k: usize) -> Cplx
 }
 
 // The metrics of step k of a run.
-pub fn metrics(re: &[f64], im: &[f64], m: Mapping, scale: f32, code: Code, p: Phase, k: usize) -> Step
+pub fn metrics(
+    re: &[f64],
+    im: &[f64],
+    m: Mapping,
+    scale: f32,
+    code: Code,
+    p: Phase,
+    k: usize,
+) -> Step
     requires { ⌜ CodeOf code × PhaseAt (code .combination) k p × (k < 2 ^ 30) × Reaches (code .combination) k (length (now re)) × Reaches (code .combination) k (length (now im)) ⌝ }
     ensures { λ r. ⌜ stepOf r ≡ four (pieceMetrics (code .combination) (now (re .entry)) (now (im .entry)) m scale k) ⌝ }
 {

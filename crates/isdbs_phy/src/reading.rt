@@ -5,9 +5,6 @@ use crate::demod::psk8_point;
 use crate::demod::state_after;
 use crate::demod::subset_of;
 use crate::demod::word_bit;
-use isdb_fec::conv::advance;
-use isdb_fec::conv::finish;
-use isdb_fec::conv::renormalise;
 use crate::metrics::Phase;
 use crate::metrics::code_of;
 use crate::metrics::correlation;
@@ -16,8 +13,11 @@ use crate::metrics::next_phase;
 use crate::metrics::symbol;
 use isdb_fec::conv::At;
 use isdb_fec::conv::Step;
+use isdb_fec::conv::advance;
 use isdb_fec::conv::clear;
 use isdb_fec::conv::encode_bit;
+use isdb_fec::conv::finish;
+use isdb_fec::conv::renormalise;
 use isdb_fec::conv::start_at;
 use isdb_fec::conv::start_unknown;
 use isdbs_core::combination::Combination;
@@ -48,6 +48,7 @@ ghost use Rattle.isdbs_phy.specs.Runs.{runSteps, Carried, RunsRead, Ende
 
 // The words that a frame's decoder holds at most: 4,096 and its traceback.
 const WORDS: usize = 4224;
+
 const TRACEBACK: usize = 128;
 
 // Reads n steps of a run; the first is step i0 of the frame.
@@ -79,7 +80,16 @@ fn read_run(
 }
 
 // Reads the runs of a frame. The steps are counted on over all of them.
-fn read_runs(t: Table, m: Mapping, scale: f32, pm: &mut [f32; 64], re: &[f64], im: &[f64], decisions: &mut [u64], bits: &mut [u8]) -> At
+fn read_runs(
+    t: Table,
+    m: Mapping,
+    scale: f32,
+    pm: &mut [f32; 64],
+    re: &[f64],
+    im: &[f64],
+    decisions: &mut [u64],
+    bits: &mut [u8],
+) -> At
     requires { ⌜ (slotSum (t .entries) ≤ 48) × (38976 ≤ length (now re)) × (38976 ≤ length (now im)) × (4224 ≤ length (now decisions)) × (frameSteps t ≤ length (now bits)) ⌝ }
     ensures { λ r. ⌜ RunsRead t (received (now (re .entry)) (now (im .entry)) m scale) (now (pm .entry)) (now (decisions .entry)) (now (bits .entry)) r (now (pm .exit)) (now (decisions .exit)) (now (bits .exit)) ⌝ }
 {
@@ -93,7 +103,19 @@ fn read_runs(t: Table, m: Mapping, scale: f32, pm: &mut [f32; 64], re: &[f64], i
         let c = r.combination;
         let n = c.steps_per_slot() * r.valid_slots;
         let from = r.symbol_start;
-        at = read_run(pm, at, step, n, c, m, scale, &re[from..], &im[from..], decisions, bits);
+        at = read_run(
+            pm,
+            at,
+            step,
+            n,
+            c,
+            m,
+            scale,
+            &re[from..],
+            &im[from..],
+            decisions,
+            bits,
+        );
         step = step + n;
     }
     at
@@ -178,7 +200,15 @@ fn pack_plain(bits: &[u8], n: usize, start: u8, bytes: &mut [u8]) -> u8
 }
 
 // The bytes of a run of TC8PSK.
-fn pack_tc8psk(re: &[f64], im: &[f64], m: Mapping, bits: &[u8], n: usize, start: u8, bytes: &mut [u8]) -> u8
+fn pack_tc8psk(
+    re: &[f64],
+    im: &[f64],
+    m: Mapping,
+    bits: &[u8],
+    n: usize,
+    start: u8,
+    bytes: &mut [u8],
+) -> u8
     requires { ⌜ (start < 64) × (n < 2 ^ 16) × (4 * n ≤ length (now re)) × (4 * n ≤ length (now im)) × (4 * n ≤ length (now bits)) × Bits (now bits) (4 * n) × (n ≤ length (now bytes)) ⌝ }
     ensures { λ r. ⌜ (now (bytes .exit) ≡ laid (upto (λ j. byteOf (λ i. pieceBit «Tc8psk2_3» (now (re .entry)) (now (im .entry)) m start (now (bits .entry)) (8 * j + i))) n) (now (bytes .entry))) × (r ≡ stateAt 32 start (now (bits .entry)) (4 * n)) × (r < 64) ⌝ }
 {
@@ -193,7 +223,16 @@ fn pack_tc8psk(re: &[f64], im: &[f64], m: Mapping, bits: &[u8], n: usize, start:
 }
 
 // The bytes of a run: n of them.
-fn pack_run(c: Combination, m: Mapping, re: &[f64], im: &[f64], bits: &[u8], n: usize, start: u8, bytes: &mut [u8]) -> u8
+fn pack_run(
+    c: Combination,
+    m: Mapping,
+    re: &[f64],
+    im: &[f64],
+    bits: &[u8],
+    n: usize,
+    start: u8,
+    bytes: &mut [u8],
+) -> u8
     requires { ⌜ (start < 64) × (n < 2 ^ 16) × PackRoom c n (length (now re)) (length (now im)) (length (now bits)) (now bits) × (n ≤ length (now bytes)) ⌝ }
     ensures { λ r. ⌜ (now (bytes .exit) ≡ laid (upto (λ j. byteOf (λ i. pieceBit c (now (re .entry)) (now (im .entry)) m start (now (bits .entry)) (8 * j + i))) n) (now (bytes .entry))) × (r ≡ stateAt 32 start (now (bits .entry)) (stepsOfBytes c n)) × (r < 64) ⌝ }
 {
@@ -206,7 +245,15 @@ fn pack_run(c: Combination, m: Mapping, re: &[f64], im: &[f64], bits: &[u8], n: 
 }
 
 // The bytes of a frame from its decoded bits, which are encoded again from the start state for C2.
-fn write_bytes(t: Table, m: Mapping, start: u8, re: &[f64], im: &[f64], bits: &[u8], bytes: &mut [u8])
+fn write_bytes(
+    t: Table,
+    m: Mapping,
+    start: u8,
+    re: &[f64],
+    im: &[f64],
+    bits: &[u8],
+    bytes: &mut [u8],
+)
     requires { ⌜ (start < 64) × (slotSum (t .entries) ≤ 48) × (38976 ≤ length (now re)) × (38976 ≤ length (now im)) × (frameSteps t ≤ length (now bits)) × Bits (now bits) (frameSteps t) × (loadBytes t ≤ length (now bytes)) ⌝ }
     ensures { λ _. ⌜ ((scale : Float) → now (bytes .exit) ≡ laid (upto (byteAt t (received (now (re .entry)) (now (im .entry)) m scale) start (now (bits .entry))) (loadBytes t)) (now (bytes .entry))) ⌝ }
 {
@@ -221,14 +268,32 @@ fn write_bytes(t: Table, m: Mapping, start: u8, re: &[f64], im: &[f64], bits: &[
         let c = r.combination;
         let from = r.symbol_start;
         let n = 203 * r.valid_slots;
-        state = pack_run(c, m, &re[from..], &im[from..], &bits[step..], n, state, &mut bytes[done..]);
+        state = pack_run(
+            c,
+            m,
+            &re[from..],
+            &im[from..],
+            &bits[step..],
+            n,
+            state,
+            &mut bytes[done..],
+        );
         step = step + c.steps_per_slot() * r.valid_slots;
         done = done + n;
     }
 }
 
 // The decoded bits of a frame: one for each step, then the 16 of W1. The path values start as pm.
-fn decode_bits(t: Table, m: Mapping, scale: f32, start: [f32; 64], re: &[f64], im: &[f64], decisions: &mut [u64], bits: &mut [u8])
+fn decode_bits(
+    t: Table,
+    m: Mapping,
+    scale: f32,
+    start: [f32; 64],
+    re: &[f64],
+    im: &[f64],
+    decisions: &mut [u64],
+    bits: &mut [u8],
+)
     requires { ⌜ (slotSum (t .entries) ≤ 48) × (38976 ≤ length (now re)) × (38976 ≤ length (now im)) × (4224 ≤ length (now decisions)) × (frameSteps t + 16 ≤ length (now bits)) ⌝ }
     ensures { λ _. ⌜ (now (bits .exit) ≡ laid (bitsFrom t (received (now (re .entry)) (now (im .entry)) m scale) start) (now (bits .entry))) × (now (decisions .exit) ≡ laid (replicate 4224 0) (now (decisions .entry))) ⌝ }
 {
@@ -252,11 +317,25 @@ fn start_values(known_start: bool, state: u8) -> [f32; 64]
 fn start_state(first: bool) -> u8
     ensures { λ r. ⌜ (r ≡ startState first) × (r < 64) ⌝ }
 {
-    if first { state_after(W2) } else { state_after(W3) }
+    if first {
+        state_after(W2)
+    } else {
+        state_after(W3)
+    }
 }
 
 // A whole frame: its decoded bits, and its bytes.
-pub fn decode(t: Table, first: bool, o: DemodOptions, re: &[f64], im: &[f64], steps: usize, decisions: &mut [u64], bits: &mut [u8], bytes: &mut [u8])
+pub fn decode(
+    t: Table,
+    first: bool,
+    o: DemodOptions,
+    re: &[f64],
+    im: &[f64],
+    steps: usize,
+    decisions: &mut [u64],
+    bits: &mut [u8],
+    bytes: &mut [u8],
+)
     requires { ⌜ (steps ≡ frameSteps t) × (slotSum (t .entries) ≤ 48) × (38976 ≤ length (now re)) × (38976 ≤ length (now im)) × (4224 ≤ length (now decisions)) × (frameSteps t + 16 ≤ length (now bits)) × (loadBytes t ≤ length (now bytes)) ⌝ }
     ensures { λ _. ⌜ FrameRead t (received (now (re .entry)) (now (im .entry)) (o .mapping) (o .«llr_scale»)) (o .«known_start») first (now (decisions .entry)) (now (decisions .exit)) (now (bits .entry)) (now (bits .exit)) (now (bytes .entry)) (now (bytes .exit)) ⌝ }
 {

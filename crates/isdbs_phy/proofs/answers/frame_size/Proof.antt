@@ -17,7 +17,6 @@ use Rattle.isdbs_core.proofs.slots.runs.Reads as runs-reads
 abbrev Inv-loop : tie.InvT-loop
 Inv-loop count list valid steps₀ i₀ steps i = (i ≤ count) × (steps ≡ stepsTo (take count list) i)
 
-
 abbrev μ-loop : tie.MeasureT-loop
 μ-loop count list valid steps₀ i₀ steps i = count - i
 
@@ -32,7 +31,7 @@ loop-holds c = (search needs, refl)
 
 -- src/answers.rt:73:17
 mul-r : tie.Need-mul-r Inv-loop μ-loop
-mul-r c = 
+mul-r c =
     let st = c .before .before .before .before in
     let rn = c .before .before .before .runs in
     let l = listed-runs (st .args .t) (rn .result) (st .pre) (simp length-map at (st .good .0 .1 .1 .0 .1 .0 .1)) (rn .ensures) in
@@ -47,7 +46,7 @@ mul-r c =
 
 -- src/answers.rt:73:17
 array-copy-out-r : tie.Need-array-copy-out-r Inv-loop μ-loop
-array-copy-out-r c = 
+array-copy-out-r c =
     let st = c .before .before .before .before in
     let rn = c .before .before .before .runs in
     let l = listed-runs (st .args .t) (rn .result) (st .pre) (simp length-map at (st .good .0 .1 .1 .0 .1 .0 .1)) (rn .ensures) in
@@ -66,7 +65,7 @@ steps-per-slot-requires c κs = search needs
 
 -- src/answers.rt:75:25
 mul-steps : tie.Need-mul-steps Inv-loop μ-loop
-mul-steps c = 
+mul-steps c =
     let st = c .before .before .before .before .before .before .before in
     let rn = c .before .before .before .before .before .before .runs in
     let l = listed-runs (st .args .t) (rn .result) (st .pre) (simp length-map at (st .good .0 .1 .1 .0 .1 .0 .1)) (rn .ensures) in
@@ -85,7 +84,7 @@ mul-steps c =
 
 -- src/answers.rt:75:17
 add-steps : tie.Need-add-steps Inv-loop μ-loop
-add-steps c = 
+add-steps c =
     let st = c .before .before .before .before .before .before .before in
     let rn = c .before .before .before .before .before .before .runs in
     let l = listed-runs (st .args .t) (rn .result) (st .pre) (simp length-map at (st .good .0 .1 .1 .0 .1 .0 .1)) (rn .ensures) in
@@ -112,7 +111,7 @@ loop-less c = search needs
 
 -- src/answers.rt:72:5
 loop-again : tie.Need-loop-again Inv-loop μ-loop
-loop-again c = 
+loop-again c =
     let st = c .before .before .before .before .before .before .before in
     let rn = c .before .before .before .before .before .before .runs in
     let l = listed-runs (st .args .t) (rn .result) (st .pre) (simp length-map at (st .good .0 .1 .1 .0 .1 .0 .1)) (rn .ensures) in
@@ -131,7 +130,7 @@ loop-again c =
 
 -- src/answers.rt:78:16
 mul-t16 : tie.Need-mul-t16 Inv-loop μ-loop
-mul-t16 c = 
+mul-t16 c =
     let st = c .before .before .before .before in
     let rn = c .before .before .before .runs in
     let l = listed-runs (st .args .t) (rn .result) (st .pre) (simp length-map at (st .good .0 .1 .1 .0 .1 .0 .1)) (rn .ensures) in
@@ -143,7 +142,7 @@ mul-t16 c =
 
 -- src/answers.rt:63:1
 returns : tie.Need-returns Inv-loop μ-loop
-returns c = 
+returns c =
     let st = c .before .before .before .before in
     let rn = c .before .before .before .runs in
     let l = listed-runs (st .args .t) (rn .result) (st .pre) (simp length-map at (st .good .0 .1 .1 .0 .1 .0 .1)) (rn .ensures) in

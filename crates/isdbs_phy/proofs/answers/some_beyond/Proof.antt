@@ -15,7 +15,6 @@ use Rattle.isdbs_phy.proofs.answers.beyond.Reads as beyond-reads
 abbrev Inv-loop : tie.InvT-loop
 Inv-loop xs n limit i₀ i = (i ≤ n) × (someBeyond limit xs i ≡ false)
 
-
 abbrev μ-loop : tie.MeasureT-loop
 μ-loop xs n limit i₀ i = n - i
 

@@ -46,6 +46,5 @@ returns-8 c =
     rw (seven n (mod-lt (c .before .args .label) (lit< tt)) (λ e. r .0 .0 .0 .0 .0 .0 .1 e) (λ e. r .0 .0 .0 .0 .0 .1 e) (λ e. r .0 .0 .0 .0 .1 e)
     (λ e. r .0 .0 .0 .1 e) (λ e. r .0 .0 .1 e) (λ e. r .0 .1 e) (λ e. r .1 e))
 
-
 pub psk8-point-spec : {M : Type 1} → statement M
 psk8-point-spec = tie.close (tie.spec returns returns-2 returns-3 returns-4 returns-5 returns-6 returns-7 returns-8)

@@ -28,7 +28,7 @@ enum-told-2 c = search needs
 
 -- src/metrics.rt:238:29
 qpsk-step-requires : tie.Need-qpsk-step-requires
-qpsk-step-requires c κs = 
+qpsk-step-requires c κs =
     let a = c .before .before .before .before in
     let co = a .args .code .combination in
     let k = a .args .k in
@@ -49,7 +49,7 @@ enum-told-3 c = search needs
 
 -- src/metrics.rt:240:17
 symbol-requires : tie.Need-symbol-requires
-symbol-requires c κs = 
+symbol-requires c κs =
     let a = c .before .before .before .before in
     let e = sym (a .pre .0 .modulation) ∙ c .enum-told3 .given .1 in
     (tc8psk-reach (a .args .code .combination) (a .args .k) _ e (a .pre .3), tc8psk-reach (a .args .code .combination) (a .args .k) _ e (a .pre .4))
@@ -60,13 +60,13 @@ subset-step-requires c κs = search needs
 
 -- src/metrics.rt:231:1
 returns : tie.Need-returns
-returns c = 
+returns c =
     let a = c .before .before .before .before .before in
     c .bpsk-step .ensures ∙ ap four (sym (bpsk-metrics (a .args .code .combination) (a .args .re .now) (a .args .im .now) (a .args .m) (a .args .scale) (a .args .k) (sym (a .pre .0 .modulation) ∙ c .before .enum-told .given .1)))
 
 -- src/metrics.rt:231:1
 returns-2 : tie.Need-returns-2
-returns-2 c = 
+returns-2 c =
     let a = c .before .before .before .before .before in
     let co = a .args .code .combination in
     let k = a .args .k in
@@ -77,7 +77,7 @@ returns-2 c =
 
 -- src/metrics.rt:231:1
 returns-3 : tie.Need-returns-3
-returns-3 c = 
+returns-3 c =
     let a = c .before .before .before .before .before .before in
     c .subset-step .ensures
     ∙ ap four (rw (c .before .symbol .ensures) (sym (tc8psk-metrics (a .args .code .combination) (a .args .re .now) (a .args .im .now) (a .args .m) (a .args .scale) (a .args .k) (sym (a .pre .0 .modulation) ∙ c .before .before .enum-told3 .given .1))))

@@ -52,15 +52,14 @@ part-write-bytes-end c = search needs
 
 -- src/reading.rt:268:5
 write-bytes-requires : tie.Need-write-bytes-requires
-write-bytes-requires c κs = 
+write-bytes-requires c κs =
     let st = c .before .before .before .before .before .before .before .before .before .before .before .before .before .before .before .before .before .before in
     let rx = received (st .args .re .now) (st .args .im .now) (st .args .o .mapping) (st .args .o .«llr_scale») in
     let pm = c .before .before .before .before .before .before .before .before .before .before .start-values .result in
     let db = c .before .before .before .before .before .before .before .decode-bits in
     let n = from-count (st .args .t) rx pm in
     let ps = st .pre .0 in
-    let front : take (st .args .steps + 16 - 0) (db .last .1 .1 .1 .1 .1 .1 .1 .0) ≡ bitsFrom (st .args .t) rx pm = front-is _ (bitsFrom (st .args .t) rx pm) (st .args .bits .now) (st .args .steps + 16 - 0) (db .ensures .0) (omega arith) in
-    (
+    let front : take (st .args .steps + 16 - 0) (db .last .1 .1 .1 .1 .1 .1 .1 .0) ≡ bitsFrom (st .args .t) rx pm = front-is _ (bitsFrom (st .args .t) rx pm) (st .args .bits .now) (st .args .steps + 16 - 0) (db .ensures .0) (omega arith) in (
       c .before .before .before .before .before .before .before .before .before .before .before .before .start-state .ensures .1,
       st .pre .1,
       st .pre .2,
@@ -85,7 +84,7 @@ same-length-3 c = search needs
 -- src/reading.rt:259:1
 returns : tie.Need-returns
 unfolding bytesFrom
-returns c = 
+returns c =
     let st = c .before .before .before .before .before .before .before .before .before .before .before .before .before .before .before .before .before .before .before .before .before in
     let rx = received (st .args .re .now) (st .args .im .now) (st .args .o .mapping) (st .args .o .«llr_scale») in
     let pm = c .before .before .before .before .before .before .before .before .before .before .before .before .before .start-values .result in

@@ -23,7 +23,6 @@ use Rattle.isdbs_phy.proofs.reading.plain_byte.Reads as plain-byte-read
 abbrev Inv-loop : tie.InvT-loop
 Inv-loop bits n start bytes₀ state₀ j₀ bytes state j = (j ≤ n) × (state < 64) × (state ≡ stateAt 32 start bits (8 * j)) × (bytes ≡ laid (upto (λ h. byteOf (λ i. getD bits (8 * h + i) 0)) j) bytes₀)
 
-
 abbrev μ-loop : tie.MeasureT-loop
 μ-loop bits n start bytes₀ state₀ j₀ bytes state j = n - j
 
@@ -50,7 +49,7 @@ part-plain-byte-end c = search needs
 
 -- src/reading.rt:165:13
 plain-byte-requires : tie.Need-plain-byte-requires Inv-loop μ-loop
-plain-byte-requires c κs = 
+plain-byte-requires c κs =
     let st = c .before .before .before .before .before in
     let j = c .before .before .loop .j in
     let us = st .args .bits .now in
@@ -60,7 +59,7 @@ plain-byte-requires c κs =
 
 -- src/reading.rt:166:9
 slice-write-bytes : tie.Need-slice-write-bytes Inv-loop μ-loop
-slice-write-bytes c = 
+slice-write-bytes c =
     let st = c .before .before .before .before .before .before in
     let j = c .before .before .before .loop .j in
     let e = ap length (c .before .before .before .loop .inv .3) ∙ length-laid-upto (λ h. byteOf (λ i. getD (st .args .bits .now) (8 * h + i) 0)) j (st .args .bytes .now) (omega arith) in
@@ -76,13 +75,12 @@ loop-less c = search needs
 
 -- src/reading.rt:163:5
 loop-again : tie.Need-loop-again Inv-loop μ-loop
-loop-again c = 
+loop-again c =
     let st = c .before .before .before .before .before .before in
     let j = c .before .before .before .loop .j in
     let us = st .args .bits .now in
     let h = c .before .before .before .loop .inv in
-    let n = rw (tail-is (8 * j) us) at (c .plain-byte .ensures) in
-    (
+    let n = rw (tail-is (8 * j) us) at (c .plain-byte .ensures) in (
       omega arith,
       n .2,
       state-more (st .args .start) us (8 * j) 8 (8 * (j + 1)) _ _ (omega arith) (h .2) (n .1),
@@ -91,13 +89,13 @@ loop-again c =
 
 -- src/reading.rt:158:1
 same-length : tie.Need-same-length Inv-loop μ-loop
-same-length c = 
+same-length c =
     let st = c .before .before .before .before in
     ap length (c .before .loop .inv .3) ∙ length-laid-upto (λ h. byteOf (λ i. getD (st .args .bits .now) (8 * h + i) 0)) (c .before .loop .j) (st .args .bytes .now) (omega arith)
 
 -- src/reading.rt:158:1
 returns : tie.Need-returns Inv-loop μ-loop
-returns c = 
+returns c =
     let st = c .before .before .before .before in
     let e : c .before .loop .j ≡ st .args .n = omega arith in
     let h = rw e at (c .before .loop .inv) in

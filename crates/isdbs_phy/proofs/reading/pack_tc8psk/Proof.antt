@@ -23,7 +23,6 @@ use Rattle.isdbs_phy.proofs.reading.tc8psk_byte.Reads as tc8psk-byte-re
 abbrev Inv-loop : tie.InvT-loop
 Inv-loop re im m bits n start bytes₀ state₀ j₀ bytes state j = (j ≤ n) × (state < 64) × (state ≡ stateAt 32 start bits (4 * j)) × (bytes ≡ laid (upto (λ h. byteOf (λ i. pieceBit «Tc8psk2_3» re im m start bits (8 * h + i))) j) bytes₀)
 
-
 abbrev μ-loop : tie.MeasureT-loop
 μ-loop re im m bits n start bytes₀ state₀ j₀ bytes state j = n - j
 
@@ -82,7 +81,7 @@ part-tc8psk-byte-end-3 c = search needs
 
 -- src/reading.rt:180:13
 tc8psk-byte-requires : tie.Need-tc8psk-byte-requires Inv-loop μ-loop
-tc8psk-byte-requires c κs = 
+tc8psk-byte-requires c κs =
     let st = c .before .before .before .before .before .before .before .before .before in
     let j = c .before .before .before .before .loop .j in
     let us = st .args .bits .now in
@@ -95,7 +94,7 @@ tc8psk-byte-requires c κs =
 
 -- src/reading.rt:181:9
 slice-write-bytes : tie.Need-slice-write-bytes Inv-loop μ-loop
-slice-write-bytes c = 
+slice-write-bytes c =
     let st = c .before .before .before .before .before .before .before .before .before .before in
     let j = c .before .before .before .before .before .loop .j in
     let e = ap length (c .before .before .before .before .before .loop .inv .3) ∙ length-laid-upto (λ h. byteOf (λ i. pieceBit «Tc8psk2_3» (st .args .re .now) (st .args .im .now) (st .args .m) (st .args .start) (st .args .bits .now) (8 * h + i))) j (st .args .bytes .now) (omega arith) in
@@ -111,13 +110,12 @@ loop-less c = search needs
 
 -- src/reading.rt:178:5
 loop-again : tie.Need-loop-again Inv-loop μ-loop
-loop-again c = 
+loop-again c =
     let st = c .before .before .before .before .before .before .before .before .before .before in
     let j = c .before .before .before .before .before .loop .j in
     let us = st .args .bits .now in
     let h = c .before .before .before .before .before .loop .inv in
-    let n = rw (tail-is (4 * j) us, tail-is (4 * j) (st .args .re .now), tail-is (4 * j) (st .args .im .now)) at (c .tc8psk-byte .ensures) in
-    (
+    let n = rw (tail-is (4 * j) us, tail-is (4 * j) (st .args .re .now), tail-is (4 * j) (st .args .im .now)) at (c .tc8psk-byte .ensures) in (
       omega arith,
       n .2,
       state-more (st .args .start) us (4 * j) 4 (4 * (j + 1)) _ _ (omega arith) (h .2) (n .1),
@@ -126,13 +124,13 @@ loop-again c =
 
 -- src/reading.rt:173:1
 same-length : tie.Need-same-length Inv-loop μ-loop
-same-length c = 
+same-length c =
     let st = c .before .before .before .before .before .before in
     ap length (c .before .loop .inv .3) ∙ length-laid-upto (λ h. byteOf (λ i. pieceBit «Tc8psk2_3» (st .args .re .now) (st .args .im .now) (st .args .m) (st .args .start) (st .args .bits .now) (8 * h + i))) (c .before .loop .j) (st .args .bytes .now) (omega arith)
 
 -- src/reading.rt:173:1
 returns : tie.Need-returns Inv-loop μ-loop
-returns c = 
+returns c =
     let st = c .before .before .before .before .before .before in
     let e : c .before .loop .j ≡ st .args .n = omega arith in
     let h = rw e at (c .before .loop .inv) in

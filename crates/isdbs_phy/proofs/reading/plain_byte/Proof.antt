@@ -15,7 +15,6 @@ use Rattle.isdbs_phy.proofs.reading.plain_byte.Lts as lts
 abbrev Inv-loop : tie.InvT-loop
 Inv-loop bits start byte₀ state₀ i₀ byte state i = (i ≤ 8) × (byte ≡ digits (λ j. getD bits j 0) i) × (state ≡ stateAt 32 start bits i) × (state < 64)
 
-
 abbrev μ-loop : tie.MeasureT-loop
 μ-loop bits start byte₀ state₀ i₀ byte state i = 8 - i
 
@@ -30,7 +29,7 @@ shared-slice-read-u c = search needs
 
 -- src/reading.rt:123:16
 mul-byte : tie.Need-mul-byte Inv-loop μ-loop
-mul-byte c = 
+mul-byte c =
     let st = c .before .before .before in
     let i = c .before .before .loop .i in
     let b = st .pre .2 i (omega arith) in
@@ -40,7 +39,7 @@ mul-byte c =
 
 -- src/reading.rt:123:16
 add-byte : tie.Need-add-byte Inv-loop μ-loop
-add-byte c = 
+add-byte c =
     let st = c .before .before .before in
     let i = c .before .before .loop .i in
     let b = st .pre .2 i (omega arith) in
@@ -50,7 +49,7 @@ add-byte c =
 
 -- src/reading.rt:124:17
 mul-state : tie.Need-mul-state Inv-loop μ-loop
-mul-state c = 
+mul-state c =
     let st = c .before .before .before in
     let i = c .before .before .loop .i in
     let b = st .pre .2 i (omega arith) in
@@ -60,7 +59,7 @@ mul-state c =
 
 -- src/reading.rt:124:17
 add-state : tie.Need-add-state Inv-loop μ-loop
-add-state c = 
+add-state c =
     let st = c .before .before .before in
     let i = c .before .before .loop .i in
     let b = st .pre .2 i (omega arith) in
@@ -79,13 +78,12 @@ loop-less c = search needs
 -- src/reading.rt:121:5
 loop-again : tie.Need-loop-again Inv-loop μ-loop
 unfolding digits stateAt
-loop-again c = 
+loop-again c =
     let st = c .before .before .before in
     let i = c .before .before .loop .i in
     let b = st .pre .2 i (omega arith) in
     let u = getD (st .args .bits .now) i 0 in
-    let h = c .before .before .loop .inv in
-    (
+    let h = c .before .before .loop .inv in (
       omega arith,
       rw (add-one i) (ap (λ (x : ℕ). 2 * x + u) (h .1)),
       rw (add-one i) (ap (λ (x : ℕ). 32 * u + x / 2) (h .2)),
@@ -94,7 +92,7 @@ loop-again c =
 
 -- src/reading.rt:115:1
 returns : tie.Need-returns Inv-loop μ-loop
-returns c = 
+returns c =
     let e : c .before .loop .i ≡ 8 = omega arith in
     let h = rw e at (c .before .loop .inv) in
     (h .1 ∙ sym (byte-digits (λ i. getD (c .before .before .args .bits .now) i 0)), h .2, h .3)

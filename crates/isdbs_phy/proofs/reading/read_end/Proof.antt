@@ -21,7 +21,6 @@ use Rattle.isdb_fec.proofs.conv.renormalise.Reads as renormalise-reads
 abbrev Inv-loop : tie.InvT-loop
 Inv-loop pm₀ decisions₀ bits₀ now-at₀ i₀ pm decisions bits now-at i = (i ≤ 16) × (length decisions ≡ length decisions₀) × (length bits ≡ length bits₀) × Carried knownBits 0 i pm₀ now-at₀ decisions₀ bits₀ now-at pm decisions bits
 
-
 abbrev μ-loop : tie.MeasureT-loop
 μ-loop pm₀ decisions₀ bits₀ now-at₀ i₀ pm decisions bits now-at i = 16 - i
 
@@ -51,11 +50,10 @@ loop-less c = search needs
 
 -- src/reading.rt:100:5
 loop-again : tie.Need-loop-again Inv-loop μ-loop
-loop-again c = 
+loop-again c =
     let h = c .before .before .before .before .before .before .before .before .before .before .loop .inv in
     let fits = c .before .before .before .before .before .before .before .before .before .before .before .before .before .before .before .pre .1 in
-    let ld = h .1 in
-    (
+    let ld = h .1 in (
       omega arith,
       search needs,
       search needs,
@@ -80,7 +78,7 @@ same-length-2 c = search needs
 
 -- src/reading.rt:94:1
 returns : tie.Need-returns Inv-loop μ-loop
-returns c = 
+returns c =
     let e : c .before .before .before .before .before .before .before .before .before .before .before .before .before .loop .i ≡ 16 = omega arith in
     ended _ _ _ _ _ _ _ _ _ _ _ _ (c .before .before .before .before .before .before .before .before .before .before .before .before .before .before .renormalise .ensures) (rw e at (c .before .before .before .before .before .before .before .before .before .before .before .before .before .loop .inv .3)) (c .before .before .before .before .before .before .before .before .finish .ensures .1) (c .before .before .before .before .before .before .before .before .finish .ensures .2) (c .before .before .clear .ensures)
 

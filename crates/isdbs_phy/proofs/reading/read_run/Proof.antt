@@ -20,7 +20,6 @@ use Rattle.isdbs_phy.proofs.metrics.next_phase.Reads as next-phase-read
 abbrev Inv-loop : tie.InvT-loop
 Inv-loop pm₀ i0 n m scale re im decisions₀ bits₀ code now-at₀ p₀ k₀ pm decisions bits now-at p k = (k ≤ n) × (length decisions ≡ length decisions₀) × (length bits ≡ length bits₀) × PhaseAt (code .combination) k p × Carried (runSteps (code .combination) re im m scale) i0 k pm₀ now-at₀ decisions₀ bits₀ now-at pm decisions bits
 
-
 abbrev μ-loop : tie.MeasureT-loop
 μ-loop pm₀ i0 n m scale re im decisions₀ bits₀ code now-at₀ p₀ k₀ pm decisions bits now-at p k = n - k
 
@@ -34,7 +33,7 @@ loop-holds c = (search needs, refl, refl, phase-start (c .code-of .result .combi
 
 -- src/reading.rt:65:13
 metrics-requires : tie.Need-metrics-requires Inv-loop μ-loop
-metrics-requires c κs = 
+metrics-requires c κs =
     let st = c .before .before .before .before .before .before .before in
     let co = c .before .before .code-of in
     let k = c .before .loop .k in
@@ -50,7 +49,7 @@ advance-requires c κs = search needs
 
 -- src/reading.rt:67:9
 next-phase-requires : tie.Need-next-phase-requires Inv-loop μ-loop
-next-phase-requires c κs = 
+next-phase-requires c κs =
     let co = c .before .before .before .before .before .before .before .before .before .before .before .code-of in
     let k = c .before .before .before .before .before .before .before .before .before .before .loop .k in
     let h = c .before .before .before .before .before .before .before .before .before .before .loop .inv .3 in
@@ -74,13 +73,12 @@ loop-less c = search needs
 
 -- src/reading.rt:64:5
 loop-again : tie.Need-loop-again Inv-loop μ-loop
-loop-again c = 
+loop-again c =
     let co = c .before .before .before .before .before .before .before .before .before .before .before .before .code-of in
     let k = c .before .before .before .before .before .before .before .before .before .before .before .loop .k in
     let h = c .before .before .before .before .before .before .before .before .before .before .before .loop .inv in
     let fits = c .before .before .before .before .before .before .before .before .before .before .before .before .before .before .before .before .before .pre .1 in
-    let ld = h .1 in
-    (
+    let ld = h .1 in (
       omega arith,
       search needs,
       search needs,
@@ -98,7 +96,7 @@ same-length-2 c = search needs
 
 -- src/reading.rt:45:1
 returns : tie.Need-returns Inv-loop μ-loop
-returns c = 
+returns c =
     let e : c .before .loop .k ≡ c .before .before .before .before .before .before .before .args .n = omega arith in
     rw (e, c .before .before .code-of .ensures .0) at (c .before .loop .inv .4)
 

@@ -27,7 +27,6 @@ use Rattle.isdbs_phy.proofs.reading.read_run.Reads as read-run-reads
 abbrev Inv-loop : tie.InvT-loop
 Inv-loop m scale pm₀ re im decisions₀ bits₀ count list at₀ step₀ i₀ pm decisions bits at step i = (i ≤ count) × (length decisions ≡ length decisions₀) × (length bits ≡ length bits₀) × (step ≡ stepsTo (take count list) i) × (at .held < 4224) × (at .held + at .count ≡ step) × Holds 128 decisions₀ bits₀ (steps 128 (listMetrics (take count list) (received re im m scale)) (freshFrom pm₀) step) pm (at .held) (at .count) decisions bits
 
-
 abbrev μ-loop : tie.MeasureT-loop
 μ-loop m scale pm₀ re im decisions₀ bits₀ count list at₀ step₀ i₀ pm decisions bits at step i = count - i
 
@@ -38,13 +37,13 @@ runs-requires c κs = search needs
 -- src/reading.rt:83:5
 loop-holds : tie.Need-loop-holds Inv-loop μ-loop
 unfolding after stepsIn
-loop-holds c = 
+loop-holds c =
     let st = c .before .before .before .before .before .before in
     (search needs, refl, refl, refl, search needs, refl, holds-start 128 (st .args .pm .now) 0 (st .args .decisions .now) (st .args .bits .now) (search needs))
 
 -- src/reading.rt:84:17
 mul-r : tie.Need-mul-r Inv-loop μ-loop
-mul-r c = 
+mul-r c =
     let st = c .before .before .before .before .before .before .before .before in
     let rn = c .before .before .before .runs in
     let l = listed-runs (st .args .t) (rn .result) (st .pre .0) (simp length-map at (st .good .0 .1 .1 .0 .1 .0 .1)) (rn .ensures) in
@@ -58,7 +57,7 @@ mul-r c =
 
 -- src/reading.rt:84:17
 array-copy-out-r : tie.Need-array-copy-out-r Inv-loop μ-loop
-array-copy-out-r c = 
+array-copy-out-r c =
     let st = c .before .before .before .before .before .before .before .before in
     let rn = c .before .before .before .runs in
     let l = listed-runs (st .args .t) (rn .result) (st .pre .0) (simp length-map at (st .good .0 .1 .1 .0 .1 .0 .1)) (rn .ensures) in
@@ -76,7 +75,7 @@ steps-per-slot-requires c κs = search needs
 
 -- src/reading.rt:86:17
 mul-n : tie.Need-mul-n Inv-loop μ-loop
-mul-n c = 
+mul-n c =
     let st = c .before .before .before .before .before .before .before .before .before .before .before in
     let rn = c .before .before .before .before .before .before .runs in
     let l = listed-runs (st .args .t) (rn .result) (st .pre .0) (simp length-map at (st .good .0 .1 .1 .0 .1 .0 .1)) (rn .ensures) in
@@ -96,7 +95,7 @@ mul-n c =
 
 -- src/reading.rt:88:53
 mul-read-run : tie.Need-mul-read-run Inv-loop μ-loop
-mul-read-run c = 
+mul-read-run c =
     let st = c .before .before .before .before .before .before .before .before .before .before .before .before in
     let rn = c .before .before .before .before .before .before .before .runs in
     let l = listed-runs (st .args .t) (rn .result) (st .pre .0) (simp length-map at (st .good .0 .1 .1 .0 .1 .0 .1)) (rn .ensures) in
@@ -110,7 +109,7 @@ mul-read-run c =
 
 -- src/reading.rt:88:53
 sub-read-run : tie.Need-sub-read-run Inv-loop μ-loop
-sub-read-run c = 
+sub-read-run c =
     let st = c .before .before .before .before .before .before .before .before .before .before .before .before in
     let rn = c .before .before .before .before .before .before .before .runs in
     let l = listed-runs (st .args .t) (rn .result) (st .pre .0) (simp length-map at (st .good .0 .1 .1 .0 .1 .0 .1)) (rn .ensures) in
@@ -124,7 +123,7 @@ sub-read-run c =
 
 -- src/reading.rt:88:53
 part-read-run-start : tie.Need-part-read-run-start Inv-loop μ-loop
-part-read-run-start c = 
+part-read-run-start c =
     let st = c .before .before .before .before .before .before .before .before .before .before .before .before in
     let rn = c .before .before .before .before .before .before .before .runs in
     let l = listed-runs (st .args .t) (rn .result) (st .pre .0) (simp length-map at (st .good .0 .1 .1 .0 .1 .0 .1)) (rn .ensures) in
@@ -142,7 +141,7 @@ part-read-run-end c = search needs
 
 -- src/reading.rt:88:66
 mul-read-run-2 : tie.Need-mul-read-run-2 Inv-loop μ-loop
-mul-read-run-2 c = 
+mul-read-run-2 c =
     let st = c .before .before .before .before .before .before .before .before .before .before .before .before .before in
     let rn = c .before .before .before .before .before .before .before .before .runs in
     let l = listed-runs (st .args .t) (rn .result) (st .pre .0) (simp length-map at (st .good .0 .1 .1 .0 .1 .0 .1)) (rn .ensures) in
@@ -156,7 +155,7 @@ mul-read-run-2 c =
 
 -- src/reading.rt:88:66
 sub-read-run-2 : tie.Need-sub-read-run-2 Inv-loop μ-loop
-sub-read-run-2 c = 
+sub-read-run-2 c =
     let st = c .before .before .before .before .before .before .before .before .before .before .before .before .before in
     let rn = c .before .before .before .before .before .before .before .before .runs in
     let l = listed-runs (st .args .t) (rn .result) (st .pre .0) (simp length-map at (st .good .0 .1 .1 .0 .1 .0 .1)) (rn .ensures) in
@@ -170,7 +169,7 @@ sub-read-run-2 c =
 
 -- src/reading.rt:88:66
 part-read-run-start-2 : tie.Need-part-read-run-start-2 Inv-loop μ-loop
-part-read-run-start-2 c = 
+part-read-run-start-2 c =
     let st = c .before .before .before .before .before .before .before .before .before .before .before .before .before in
     let rn = c .before .before .before .before .before .before .before .before .runs in
     let l = listed-runs (st .args .t) (rn .result) (st .pre .0) (simp length-map at (st .good .0 .1 .1 .0 .1 .0 .1)) (rn .ensures) in
@@ -188,7 +187,7 @@ part-read-run-end-2 c = search needs
 
 -- src/reading.rt:88:9
 read-run-requires : tie.Need-read-run-requires Inv-loop μ-loop
-read-run-requires c κs = 
+read-run-requires c κs =
     let st = c .before .before .before .before .before .before .before .before .before .before .before .before .before .before .before .before in
     let rn = c .before .before .before .before .before .before .before .before .before .before .before .runs in
     let l = listed-runs (st .args .t) (rn .result) (st .pre .0) (simp length-map at (st .good .0 .1 .1 .0 .1 .0 .1)) (rn .ensures) in
@@ -207,8 +206,7 @@ read-run-requires c κs =
     let h = c .before .before .before .before .before .before .before .before .before .loop .inv in
     let hd = h .1 in
     let hb = h .2 in
-    let hs = h .5 in
-    (
+    let hs = h .5 in (
       h .4,
       omega arith,
       omega arith,
@@ -219,7 +217,7 @@ read-run-requires c κs =
 
 -- src/reading.rt:89:16
 add-step : tie.Need-add-step Inv-loop μ-loop
-add-step c = 
+add-step c =
     let st = c .before .before .before .before .before .before .before .before .before .before .before .before .before .before .before .before .before .before .before .before .before in
     let rn = c .before .before .before .before .before .before .before .before .before .before .before .before .before .before .before .before .runs in
     let l = listed-runs (st .args .t) (rn .result) (st .pre .0) (simp length-map at (st .good .0 .1 .1 .0 .1 .0 .1)) (rn .ensures) in
@@ -247,7 +245,7 @@ loop-less c = search needs
 
 -- src/reading.rt:83:5
 loop-again : tie.Need-loop-again Inv-loop μ-loop
-loop-again c = 
+loop-again c =
     let st = c .before .before .before .before .before .before .before .before .before .before .before .before .before .before .before .before .before .before .before .before .before in
     let rn = c .before .before .before .before .before .before .before .before .before .before .before .before .before .before .before .before .runs in
     let l = listed-runs (st .args .t) (rn .result) (st .pre .0) (simp length-map at (st .good .0 .1 .1 .0 .1 .0 .1)) (rn .ensures) in
@@ -267,8 +265,7 @@ loop-again c =
     let hs = h .5 in
     let rd = c .before .before .before .before .read-run .ensures in
     let sm = rd .sum in
-    let ns = next-steps (st .args .t) (rn .result .count) (rn .result .runs) l i g in
-    (
+    let ns = next-steps (st .args .t) (rn .result .count) (rn .result .runs) l i g in (
       omega arith,
       search needs,
       search needs,
@@ -276,7 +273,7 @@ loop-again c =
       rd .few,
       omega arith,
       rd .carries (listMetrics (take (rn .result .count) (rn .result .runs)) (received (st .args .re .now) (st .args .im .now) (st .args .m) (st .args .scale))) (freshFrom (st .args .pm .now)) (st .args .decisions .now) (st .args .bits .now)
-      (λ k lt. step-is (st .args .t) (rn .result .count) (rn .result .runs) l i g (st .args .re .now) (st .args .im .now) (st .args .m) (st .args .scale) _ _ k is en lt) (h .6),
+          (λ k lt. step-is (st .args .t) (rn .result .count) (rn .result .runs) l i g (st .args .re .now) (st .args .im .now) (st .args .m) (st .args .scale) _ _ k is en lt) (h .6),
     )
 
 -- src/reading.rt:74:1
@@ -290,7 +287,7 @@ same-length-2 c = search needs
 -- src/reading.rt:74:1
 returns : tie.Need-returns Inv-loop μ-loop
 unfolding metricsAt
-returns c = 
+returns c =
     let st = c .before .before .before .before .before .before .before .before in
     let rn = c .before .before .before .runs in
     let l = listed-runs (st .args .t) (rn .result) (st .pre .0) (simp length-map at (st .good .0 .1 .1 .0 .1 .0 .1)) (rn .ensures) in

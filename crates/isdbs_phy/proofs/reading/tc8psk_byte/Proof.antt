@@ -24,7 +24,6 @@ use Rattle.isdbs_phy.proofs.reading.uncoded_bit.Reads as uncoded-bit-re
 abbrev Inv-loop : tie.InvT-loop
 Inv-loop re im m bits start byte₀ state₀ i₀ byte state i = (i ≤ 4) × (byte ≡ digits (pieceBit «Tc8psk2_3» re im m start bits) (2 * i)) × (state ≡ stateAt 32 start bits i) × (state < 64)
 
-
 abbrev μ-loop : tie.MeasureT-loop
 μ-loop re im m bits start byte₀ state₀ i₀ byte state i = 4 - i
 
@@ -43,7 +42,7 @@ encode-bit-requires c κs = search needs
 
 -- src/reading.rt:149:41
 mul-uncoded-bit : tie.Need-mul-uncoded-bit Inv-loop μ-loop
-mul-uncoded-bit c = 
+mul-uncoded-bit c =
     let st = c .before .before .before .before .before .before .before .before in
     let i = c .before .before .before .before .loop .i in
     let t = c .before .before .before .loop-test .taken in
@@ -60,7 +59,7 @@ mul-uncoded-bit c =
 
 -- src/reading.rt:149:41
 add-uncoded-bit : tie.Need-add-uncoded-bit Inv-loop μ-loop
-add-uncoded-bit c = 
+add-uncoded-bit c =
     let st = c .before .before .before .before .before .before .before .before .before in
     let i = c .before .before .before .before .before .loop .i in
     let t = c .before .before .before .before .loop-test .taken in
@@ -77,7 +76,7 @@ add-uncoded-bit c =
 
 -- src/reading.rt:149:13
 uncoded-bit-requires : tie.Need-uncoded-bit-requires Inv-loop μ-loop
-uncoded-bit-requires c κs = 
+uncoded-bit-requires c κs =
     let st = c .before .before .before .before .before .before .before .before .before in
     let i = c .before .before .before .before .before .loop .i in
     let t = c .before .before .before .before .loop-test .taken in
@@ -94,7 +93,7 @@ uncoded-bit-requires c κs =
 
 -- src/reading.rt:150:21
 mul-byte : tie.Need-mul-byte Inv-loop μ-loop
-mul-byte c = 
+mul-byte c =
     let st = c .before .before .before .before .before .before .before .before .before .before in
     let i = c .before .before .before .before .before .before .loop .i in
     let t = c .before .before .before .before .before .loop-test .taken in
@@ -115,7 +114,7 @@ mul-byte c =
 
 -- src/reading.rt:150:21
 add-byte : tie.Need-add-byte Inv-loop μ-loop
-add-byte c = 
+add-byte c =
     let st = c .before .before .before .before .before .before .before .before .before .before in
     let i = c .before .before .before .before .before .before .loop .i in
     let t = c .before .before .before .before .before .loop-test .taken in
@@ -136,7 +135,7 @@ add-byte c =
 
 -- src/reading.rt:150:16
 mul-byte-2 : tie.Need-mul-byte-2 Inv-loop μ-loop
-mul-byte-2 c = 
+mul-byte-2 c =
     let st = c .before .before .before .before .before .before .before .before .before .before in
     let i = c .before .before .before .before .before .before .loop .i in
     let t = c .before .before .before .before .before .loop-test .taken in
@@ -157,7 +156,7 @@ mul-byte-2 c =
 
 -- src/reading.rt:150:16
 add-byte-2 : tie.Need-add-byte-2 Inv-loop μ-loop
-add-byte-2 c = 
+add-byte-2 c =
     let st = c .before .before .before .before .before .before .before .before .before .before in
     let i = c .before .before .before .before .before .before .loop .i in
     let t = c .before .before .before .before .before .loop-test .taken in
@@ -187,7 +186,7 @@ loop-less c = search needs
 -- src/reading.rt:146:5
 loop-again : tie.Need-loop-again Inv-loop μ-loop
 unfolding stateAt
-loop-again c = 
+loop-again c =
     let st = c .before .before .before .before .before .before .before .before .before .before in
     let i = c .before .before .before .before .before .before .loop .i in
     let t = c .before .before .before .before .before .loop-test .taken in
@@ -203,18 +202,17 @@ loop-again c =
     let ed = h .1 in
     let lab = label-is _ _ (u % 2) s (en .0) (en .1) ∙ ap (λ (y : ℕ). label isdb y s) v in
     let ec = c .uncoded-bit .ensures in
-    let c2 = rw (← ec) at (bit-small (lt (correlation (point (getD (st .args .re .now) i nan) (turned (st .args .m .conjugate) (getD (st .args .im .now) i nan))) (psk8Of (subset (st .args .m .«tc8psk_c1_is_y») (2 * (c .before .before .before .encode-bit .result .x) + c .before .before .before .encode-bit .result .y)))) zero64)) in
-    (
+    let c2 = rw (← ec) at (bit-small (lt (correlation (point (getD (st .args .re .now) i nan) (turned (st .args .m .conjugate) (getD (st .args .im .now) i nan))) (psk8Of (subset (st .args .m .«tc8psk_c1_is_y») (2 * (c .before .before .before .encode-bit .result .x) + c .before .before .before .encode-bit .result .y)))) zero64)) in (
       omega arith,
       rw (digits-two f i, even-bit (st .args .re .now) (st .args .im .now) (st .args .m) (st .args .start) us i, odd-bit (st .args .re .now) (st .args .im .now) (st .args .m) (st .args .start) us i, ← h .1, ← h .2)
-      (rw (ec, lab) refl),
+          (rw (ec, lab) refl),
       rw (add-one i, ← h .2) (en .2 ∙ ap (λ (y : ℕ). 32 * y + s / 2) v),
       let z = en .2 in omega arith,
     )
 
 -- src/reading.rt:140:1
 returns : tie.Need-returns Inv-loop μ-loop
-returns c = 
+returns c =
     let st = c .before .before .before .before .before in
     let e : c .before .loop .i ≡ 4 = omega arith in
     let h = rw e at (c .before .loop .inv) in

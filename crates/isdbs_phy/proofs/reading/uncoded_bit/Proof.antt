@@ -35,7 +35,7 @@ cast-result c = search needs
 
 -- src/reading.rt:130:1
 returns : tie.Need-returns
-returns c = 
+returns c =
     let s = c .before .before .subset-of in
     let r : s .result % 8 ≡ s .result = let l = s .ensures .1 in omega arith in
     bool-bit (lt (c .correlation .result) (ofBits binary64 0)) ∙ rw (c .correlation .ensures, c .before .psk8-point .ensures, r, s .ensures .0, c .before .before .before .symbol .ensures)

@@ -29,7 +29,6 @@ use Rattle.isdbs_phy.proofs.reading.pack_run.Reads as pack-run-reads
 abbrev Inv-loop : tie.InvT-loop
 Inv-loop m start re im bits bytes₀ count list state₀ step₀ done₀ i₀ bytes state step done i = (i ≤ count) × (state < 64) × (step ≡ stepsTo (take count list) i) × (done ≡ 203 * validTo (take count list) i) × (state ≡ stateAt 32 start bits step) × ((scale : Float) → bytes ≡ laid (upto (listByte (take count list) (received re im m scale) start bits) done) bytes₀)
 
-
 abbrev μ-loop : tie.MeasureT-loop
 μ-loop m start re im bits bytes₀ count list state₀ step₀ done₀ i₀ bytes state step done i = count - i
 
@@ -44,7 +43,7 @@ loop-holds c = (search needs, c .before .before .before .before .before .before 
 
 -- src/reading.rt:220:17
 mul-r : tie.Need-mul-r Inv-loop μ-loop
-mul-r c = 
+mul-r c =
     let st = c .before .before .before .before .before .before .before .before in
     let rn = c .before .before .before .runs in
     let l = listed-runs (st .args .t) (rn .result) (st .pre .1) (simp length-map at (st .good .0 .1 .1 .0 .1 .0 .1)) (rn .ensures) in
@@ -66,7 +65,7 @@ mul-r c =
 
 -- src/reading.rt:220:17
 array-copy-out-r : tie.Need-array-copy-out-r Inv-loop μ-loop
-array-copy-out-r c = 
+array-copy-out-r c =
     let st = c .before .before .before .before .before .before .before .before in
     let rn = c .before .before .before .runs in
     let l = listed-runs (st .args .t) (rn .result) (st .pre .1) (simp length-map at (st .good .0 .1 .1 .0 .1 .0 .1)) (rn .ensures) in
@@ -88,7 +87,7 @@ array-copy-out-r c =
 
 -- src/reading.rt:223:17
 mul-n : tie.Need-mul-n Inv-loop μ-loop
-mul-n c = 
+mul-n c =
     let st = c .before .before .before .before .before .before .before .before .before .before in
     let rn = c .before .before .before .before .before .runs in
     let l = listed-runs (st .args .t) (rn .result) (st .pre .1) (simp length-map at (st .good .0 .1 .1 .0 .1 .0 .1)) (rn .ensures) in
@@ -110,7 +109,7 @@ mul-n c =
 
 -- src/reading.rt:224:32
 mul-pack-run : tie.Need-mul-pack-run Inv-loop μ-loop
-mul-pack-run c = 
+mul-pack-run c =
     let st = c .before .before .before .before .before .before .before .before .before .before in
     let rn = c .before .before .before .before .before .runs in
     let l = listed-runs (st .args .t) (rn .result) (st .pre .1) (simp length-map at (st .good .0 .1 .1 .0 .1 .0 .1)) (rn .ensures) in
@@ -132,7 +131,7 @@ mul-pack-run c =
 
 -- src/reading.rt:224:32
 sub-pack-run : tie.Need-sub-pack-run Inv-loop μ-loop
-sub-pack-run c = 
+sub-pack-run c =
     let st = c .before .before .before .before .before .before .before .before .before .before in
     let rn = c .before .before .before .before .before .runs in
     let l = listed-runs (st .args .t) (rn .result) (st .pre .1) (simp length-map at (st .good .0 .1 .1 .0 .1 .0 .1)) (rn .ensures) in
@@ -154,7 +153,7 @@ sub-pack-run c =
 
 -- src/reading.rt:224:32
 part-pack-run-start : tie.Need-part-pack-run-start Inv-loop μ-loop
-part-pack-run-start c = 
+part-pack-run-start c =
     let st = c .before .before .before .before .before .before .before .before .before .before in
     let rn = c .before .before .before .before .before .runs in
     let l = listed-runs (st .args .t) (rn .result) (st .pre .1) (simp length-map at (st .good .0 .1 .1 .0 .1 .0 .1)) (rn .ensures) in
@@ -180,7 +179,7 @@ part-pack-run-end c = search needs
 
 -- src/reading.rt:224:45
 mul-pack-run-2 : tie.Need-mul-pack-run-2 Inv-loop μ-loop
-mul-pack-run-2 c = 
+mul-pack-run-2 c =
     let st = c .before .before .before .before .before .before .before .before .before .before .before in
     let rn = c .before .before .before .before .before .before .runs in
     let l = listed-runs (st .args .t) (rn .result) (st .pre .1) (simp length-map at (st .good .0 .1 .1 .0 .1 .0 .1)) (rn .ensures) in
@@ -202,7 +201,7 @@ mul-pack-run-2 c =
 
 -- src/reading.rt:224:45
 sub-pack-run-2 : tie.Need-sub-pack-run-2 Inv-loop μ-loop
-sub-pack-run-2 c = 
+sub-pack-run-2 c =
     let st = c .before .before .before .before .before .before .before .before .before .before .before in
     let rn = c .before .before .before .before .before .before .runs in
     let l = listed-runs (st .args .t) (rn .result) (st .pre .1) (simp length-map at (st .good .0 .1 .1 .0 .1 .0 .1)) (rn .ensures) in
@@ -224,7 +223,7 @@ sub-pack-run-2 c =
 
 -- src/reading.rt:224:45
 part-pack-run-start-2 : tie.Need-part-pack-run-start-2 Inv-loop μ-loop
-part-pack-run-start-2 c = 
+part-pack-run-start-2 c =
     let st = c .before .before .before .before .before .before .before .before .before .before .before in
     let rn = c .before .before .before .before .before .before .runs in
     let l = listed-runs (st .args .t) (rn .result) (st .pre .1) (simp length-map at (st .good .0 .1 .1 .0 .1 .0 .1)) (rn .ensures) in
@@ -250,7 +249,7 @@ part-pack-run-end-2 c = search needs
 
 -- src/reading.rt:224:58
 sub-pack-run-3 : tie.Need-sub-pack-run-3 Inv-loop μ-loop
-sub-pack-run-3 c = 
+sub-pack-run-3 c =
     let st = c .before .before .before .before .before .before .before .before .before .before .before .before in
     let rn = c .before .before .before .before .before .before .before .runs in
     let l = listed-runs (st .args .t) (rn .result) (st .pre .1) (simp length-map at (st .good .0 .1 .1 .0 .1 .0 .1)) (rn .ensures) in
@@ -272,7 +271,7 @@ sub-pack-run-3 c =
 
 -- src/reading.rt:224:58
 part-pack-run-start-3 : tie.Need-part-pack-run-start-3 Inv-loop μ-loop
-part-pack-run-start-3 c = 
+part-pack-run-start-3 c =
     let st = c .before .before .before .before .before .before .before .before .before .before .before .before in
     let rn = c .before .before .before .before .before .before .before .runs in
     let l = listed-runs (st .args .t) (rn .result) (st .pre .1) (simp length-map at (st .good .0 .1 .1 .0 .1 .0 .1)) (rn .ensures) in
@@ -298,7 +297,7 @@ part-pack-run-end-3 c = search needs
 
 -- src/reading.rt:224:83
 sub-pack-run-4 : tie.Need-sub-pack-run-4 Inv-loop μ-loop
-sub-pack-run-4 c = 
+sub-pack-run-4 c =
     let st = c .before .before .before .before .before .before .before .before .before .before .before .before .before in
     let rn = c .before .before .before .before .before .before .before .before .runs in
     let l = listed-runs (st .args .t) (rn .result) (st .pre .1) (simp length-map at (st .good .0 .1 .1 .0 .1 .0 .1)) (rn .ensures) in
@@ -320,7 +319,7 @@ sub-pack-run-4 c =
 
 -- src/reading.rt:224:83
 part-pack-run-start-4 : tie.Need-part-pack-run-start-4 Inv-loop μ-loop
-part-pack-run-start-4 c = 
+part-pack-run-start-4 c =
     let st = c .before .before .before .before .before .before .before .before .before .before .before .before .before in
     let rn = c .before .before .before .before .before .before .before .before .runs in
     let l = listed-runs (st .args .t) (rn .result) (st .pre .1) (simp length-map at (st .good .0 .1 .1 .0 .1 .0 .1)) (rn .ensures) in
@@ -346,7 +345,7 @@ part-pack-run-end-4 c = search needs
 
 -- src/reading.rt:224:9
 pack-run-requires : tie.Need-pack-run-requires Inv-loop μ-loop
-pack-run-requires c κs = 
+pack-run-requires c κs =
     let st = c .before .before .before .before .before .before .before .before .before .before .before .before .before .before in
     let rn = c .before .before .before .before .before .before .before .before .before .runs in
     let l = listed-runs (st .args .t) (rn .result) (st .pre .1) (simp length-map at (st .good .0 .1 .1 .0 .1 .0 .1)) (rn .ensures) in
@@ -364,8 +363,7 @@ pack-run-requires c κs =
     let hs = h .2 in
     let hd = h .3 in
     let lb = ap length (h .5 nan) ∙ length-laid-upto (listByte (take (rn .result .count) (rn .result .runs)) (received (st .args .re .now) (st .args .im .now) (st .args .m) nan) (st .args .start) (st .args .bits .now)) (c .before .before .before .before .before .before .before .loop .done) (st .args .bytes .now) (omega arith) in
-    let ld = length-drop (c .before .before .before .before .before .before .before .loop .done) (c .before .before .before .before .before .before .before .loop .bytes) in
-    (
+    let ld = length-drop (c .before .before .before .before .before .before .before .loop .done) (c .before .before .before .before .before .before .before .loop .bytes) in (
       h .1,
       omega arith,
       run-room (st .args .t) (rn .result .count) (rn .result .runs) l i g (st .args .re .now) (st .args .im .now) (st .args .m) (st .args .start) (st .args .bits .now) _ hs (st .pre .2) (st .pre .3) (st .pre .4) (st .pre .5),
@@ -378,7 +376,7 @@ steps-per-slot-requires c κs = search needs
 
 -- src/reading.rt:225:23
 mul-step : tie.Need-mul-step Inv-loop μ-loop
-mul-step c = 
+mul-step c =
     let st = c .before .before .before .before .before .before .before .before .before .before .before .before .before .before .before .before .before .before .before in
     let rn = c .before .before .before .before .before .before .before .before .before .before .before .before .before .before .runs in
     let l = listed-runs (st .args .t) (rn .result) (st .pre .1) (simp length-map at (st .good .0 .1 .1 .0 .1 .0 .1)) (rn .ensures) in
@@ -403,7 +401,7 @@ mul-step c =
 
 -- src/reading.rt:225:16
 add-step : tie.Need-add-step Inv-loop μ-loop
-add-step c = 
+add-step c =
     let st = c .before .before .before .before .before .before .before .before .before .before .before .before .before .before .before .before .before .before .before in
     let rn = c .before .before .before .before .before .before .before .before .before .before .before .before .before .before .runs in
     let l = listed-runs (st .args .t) (rn .result) (st .pre .1) (simp length-map at (st .good .0 .1 .1 .0 .1 .0 .1)) (rn .ensures) in
@@ -428,7 +426,7 @@ add-step c =
 
 -- src/reading.rt:226:16
 add-done : tie.Need-add-done Inv-loop μ-loop
-add-done c = 
+add-done c =
     let st = c .before .before .before .before .before .before .before .before .before .before .before .before .before .before .before .before .before .before .before in
     let rn = c .before .before .before .before .before .before .before .before .before .before .before .before .before .before .runs in
     let l = listed-runs (st .args .t) (rn .result) (st .pre .1) (simp length-map at (st .good .0 .1 .1 .0 .1 .0 .1)) (rn .ensures) in
@@ -458,7 +456,7 @@ loop-less c = search needs
 
 -- src/reading.rt:219:5
 loop-again : tie.Need-loop-again Inv-loop μ-loop
-loop-again c = 
+loop-again c =
     let st = c .before .before .before .before .before .before .before .before .before .before .before .before .before .before .before .before .before .before .before in
     let rn = c .before .before .before .before .before .before .before .before .before .before .before .before .before .before .runs in
     let l = listed-runs (st .args .t) (rn .result) (st .pre .1) (simp length-map at (st .good .0 .1 .1 .0 .1 .0 .1)) (rn .ensures) in
@@ -484,8 +482,7 @@ loop-again c =
     let x = c .before .before .before .before .before .before .before .before .before .before .before .before .loop .state in
     let pr = c .before .before .before .before .pack-run in
     let ns = next-steps (st .args .t) (rn .result .count) (rn .result .runs) l i g in
-    let nv = next-valid (st .args .t) (rn .result .count) (rn .result .runs) l i g in
-    (
+    let nv = next-valid (st .args .t) (rn .result .count) (rn .result .runs) l i g in (
       omega arith,
       pr .ensures .2,
       omega arith,
@@ -499,7 +496,7 @@ loop-again c =
 
 -- src/reading.rt:209:1
 same-length : tie.Need-same-length Inv-loop μ-loop
-same-length c = 
+same-length c =
     let st = c .before .before .before .before .before .before .before .before in
     let rn = c .before .before .before .runs in
     let l = listed-runs (st .args .t) (rn .result) (st .pre .1) (simp length-map at (st .good .0 .1 .1 .0 .1 .0 .1)) (rn .ensures) in
@@ -512,7 +509,7 @@ same-length c =
 
 -- src/reading.rt:209:1
 returns : tie.Need-returns Inv-loop μ-loop
-returns c = 
+returns c =
     let st = c .before .before .before .before .before .before .before .before in
     let rn = c .before .before .before .runs in
     let l = listed-runs (st .args .t) (rn .result) (st .pre .1) (simp length-map at (st .good .0 .1 .1 .0 .1 .0 .1)) (rn .ensures) in

@@ -35,7 +35,7 @@ returns c = rw (lt-ltb 1024 (c .before .before .before .args .traceback) (c .if1
 
 -- src/conv.rt:374:8
 rem-if2 : tie.Need-rem-if2
-rem-if2 c = 
+rem-if2 c =
     let rate = c .before .before .before .before .args .rate in
     let e = numbers rate (c .before .before .new .result) (c .before .before .new .ensures) in
     let z = e .ranges in
@@ -43,7 +43,7 @@ rem-if2 c =
 
 -- src/conv.rt:375:9
 returns-2 : tie.Need-returns-2
-returns-2 c = 
+returns-2 c =
     let rate = c .before .before .before .before .before .args .rate in
     let e = numbers rate (c .before .before .before .new .result) (c .before .before .before .new .ensures) in
     let a = c .before .before .before .before .before .args in
@@ -55,7 +55,7 @@ some-beyond-requires c κs = search needs
 
 -- src/conv.rt:378:9
 returns-3 : tie.Need-returns-3
-returns-3 c = 
+returns-3 c =
     let rate = c .before .before .before .before .before .before .before .args .rate in
     let e = numbers rate (c .before .before .before .before .before .new .result) (c .before .before .before .before .before .new .ensures) in
     let a = c .before .before .before .before .before .before .before .args in
@@ -67,7 +67,7 @@ returns-3 c =
 
 -- src/conv.rt:380:29
 div-few : tie.Need-div-few
-div-few c = 
+div-few c =
     let rate = c .before .before .before .before .before .before .before .before .args .rate in
     let e = numbers rate (c .before .before .before .before .before .before .new .result) (c .before .before .before .before .before .before .new .ensures) in
     let z = e .ranges in
@@ -75,7 +75,7 @@ div-few c =
 
 -- src/conv.rt:380:8
 few-requires : tie.Need-few-requires
-few-requires c κs = 
+few-requires c κs =
     let rate = c .before .before .before .before .before .before .before .before .args .rate in
     let e = numbers rate (c .before .before .before .before .before .before .new .result) (c .before .before .before .before .before .before .new .ensures) in
     let z = e .ranges in
@@ -83,7 +83,7 @@ few-requires c κs =
 
 -- src/conv.rt:381:9
 returns-4 : tie.Need-returns-4
-returns-4 c = 
+returns-4 c =
     let rate = c .before .before .before .before .before .before .before .before .before .before .args .rate in
     let e = numbers rate (c .before .before .before .before .before .before .before .before .new .result) (c .before .before .before .before .before .before .before .before .new .ensures) in
     let a = c .before .before .before .before .before .before .before .before .before .before .args in
@@ -105,7 +105,7 @@ add-if5 c = let d = depth-range (c .before .before .before .before .before .befo
 
 -- src/conv.rt:384:9
 returns-5 : tie.Need-returns-5
-returns-5 c = 
+returns-5 c =
     let rate = c .before .before .before .before .before .before .before .before .before .before .before .before .args .rate in
     let e = numbers rate (c .before .before .before .before .before .before .before .before .before .before .new .result) (c .before .before .before .before .before .before .before .before .before .before .new .ensures) in
     let a = c .before .before .before .before .before .before .before .before .before .before .before .before .args in
@@ -120,7 +120,7 @@ returns-5 c =
 
 -- src/conv.rt:367:1
 returns-6 : tie.Need-returns-6
-returns-6 c = 
+returns-6 c =
     let rate = c .before .before .before .before .before .before .before .before .before .before .before .before .args .rate in
     let e = numbers rate (c .before .before .before .before .before .before .before .before .before .before .new .result) (c .before .before .before .before .before .before .before .before .before .before .new .ensures) in
     let a = c .before .before .before .before .before .before .before .before .before .before .before .before .args in

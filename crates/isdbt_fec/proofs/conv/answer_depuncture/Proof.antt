@@ -27,7 +27,7 @@ new-requires c κs = search needs
 
 -- src/conv.rt:323:8
 rem-if1 : tie.Need-rem-if1
-rem-if1 c = 
+rem-if1 c =
     let rate = c .before .before .args .rate in
     let e = numbers rate (c .before .new .result) (c .before .new .ensures) in
     let z = e .ranges in
@@ -35,7 +35,7 @@ rem-if1 c =
 
 -- src/conv.rt:324:9
 returns : tie.Need-returns
-returns c = 
+returns c =
     let rate = c .before .before .before .args .rate in
     let e = numbers rate (c .before .before .new .result) (c .before .before .new .ensures) in
     let a = c .before .before .before .args in
@@ -43,7 +43,7 @@ returns c =
 
 -- src/conv.rt:326:19
 mul-few : tie.Need-mul-few
-mul-few c = 
+mul-few c =
     let rate = c .before .before .before .before .args .rate in
     let e = numbers rate (c .before .before .before .new .result) (c .before .before .before .new .ensures) in
     let z = e .ranges in
@@ -51,7 +51,7 @@ mul-few c =
 
 -- src/conv.rt:326:33
 div-few : tie.Need-div-few
-div-few c = 
+div-few c =
     let rate = c .before .before .before .before .before .args .rate in
     let e = numbers rate (c .before .before .before .before .new .result) (c .before .before .before .before .new .ensures) in
     let z = e .ranges in
@@ -59,7 +59,7 @@ div-few c =
 
 -- src/conv.rt:326:8
 few-requires : tie.Need-few-requires
-few-requires c κs = 
+few-requires c κs =
     let rate = c .before .before .before .before .before .args .rate in
     let e = numbers rate (c .before .before .before .before .new .result) (c .before .before .before .before .new .ensures) in
     let z = e .ranges in
@@ -67,7 +67,7 @@ few-requires c κs =
 
 -- src/conv.rt:327:9
 returns-2 : tie.Need-returns-2
-returns-2 c = 
+returns-2 c =
     let rate = c .before .before .before .before .before .before .before .args .rate in
     let e = numbers rate (c .before .before .before .before .before .before .new .result) (c .before .before .before .before .before .before .new .ensures) in
     let a = c .before .before .before .before .before .before .before .args in
@@ -76,7 +76,7 @@ returns-2 c =
 
 -- src/conv.rt:319:1
 returns-3 : tie.Need-returns-3
-returns-3 c = 
+returns-3 c =
     let rate = c .before .before .before .before .before .before .before .args .rate in
     let e = numbers rate (c .before .before .before .before .before .before .new .result) (c .before .before .before .before .before .before .new .ensures) in
     let a = c .before .before .before .before .before .before .before .args in

@@ -31,7 +31,7 @@ returns c = rw (lt-ltb 63 (c .before .before .args .state) (c .if1 .taken)) refl
 
 -- src/conv.rt:244:8
 rem-if2 : tie.Need-rem-if2
-rem-if2 c = 
+rem-if2 c =
     let rate = c .before .before .before .args .rate in
     let e = numbers rate (c .before .before .new .result) (c .before .before .new .ensures) in
     let z = e .ranges in
@@ -39,7 +39,7 @@ rem-if2 c =
 
 -- src/conv.rt:245:9
 returns-2 : tie.Need-returns-2
-returns-2 c = 
+returns-2 c =
     let rate = c .before .before .before .before .args .rate in
     let e = numbers rate (c .before .before .before .new .result) (c .before .before .before .new .ensures) in
     let a = c .before .before .before .before .args in
@@ -47,7 +47,7 @@ returns-2 c =
 
 -- src/conv.rt:247:24
 div-few : tie.Need-div-few
-div-few c = 
+div-few c =
     let rate = c .before .before .before .before .before .args .rate in
     let e = numbers rate (c .before .before .before .before .new .result) (c .before .before .before .before .new .ensures) in
     let z = e .ranges in
@@ -55,7 +55,7 @@ div-few c =
 
 -- src/conv.rt:247:8
 few-requires : tie.Need-few-requires
-few-requires c κs = 
+few-requires c κs =
     let rate = c .before .before .before .before .before .args .rate in
     let e = numbers rate (c .before .before .before .before .new .result) (c .before .before .before .before .new .ensures) in
     let z = e .ranges in
@@ -63,7 +63,7 @@ few-requires c κs =
 
 -- src/conv.rt:248:9
 returns-3 : tie.Need-returns-3
-returns-3 c = 
+returns-3 c =
     let rate = c .before .before .before .before .before .before .before .args .rate in
     let e = numbers rate (c .before .before .before .before .before .before .new .result) (c .before .before .before .before .before .before .new .ensures) in
     let a = c .before .before .before .before .before .before .before .args in
@@ -72,7 +72,7 @@ returns-3 c =
 
 -- src/conv.rt:237:1
 returns-4 : tie.Need-returns-4
-returns-4 c = 
+returns-4 c =
     let rate = c .before .before .before .before .before .before .before .args .rate in
     let e = numbers rate (c .before .before .before .before .before .before .new .result) (c .before .before .before .before .before .before .new .ensures) in
     let a = c .before .before .before .before .before .before .before .args in

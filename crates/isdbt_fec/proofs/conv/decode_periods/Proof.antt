@@ -46,7 +46,7 @@ start-at-requires c κs = tt
 
 -- src/conv.rt:402:17
 div-count : tie.Need-div-count Inv-loop μ-loop
-div-count c = 
+div-count c =
     let start = c .before .before .before .before .before .before in
     let a = start .args in
     let rate = a .rate in
@@ -62,7 +62,7 @@ div-count c =
 
 -- src/conv.rt:402:17
 mul-count : tie.Need-mul-count Inv-loop μ-loop
-mul-count c = 
+mul-count c =
     let start = c .before .before .before .before .before .before in
     let a = start .args in
     let rate = a .rate in
@@ -77,7 +77,7 @@ mul-count c =
 
 -- src/conv.rt:403:5
 loop-holds : tie.Need-loop-holds Inv-loop μ-loop
-loop-holds c = 
+loop-holds c =
     let start = c .before .before .before .before .before .before in
     let a = start .args in
     let rate = a .rate in
@@ -99,7 +99,7 @@ loop-holds c =
 
 -- src/conv.rt:404:51
 mul-soft-at : tie.Need-mul-soft-at Inv-loop μ-loop
-mul-soft-at c = 
+mul-soft-at c =
     let start = c .before .before .before .before .before .before .before .before .before in
     let a = start .args in
     let rate = a .rate in
@@ -125,7 +125,7 @@ mul-soft-at c =
 
 -- src/conv.rt:404:13
 soft-at-requires : tie.Need-soft-at-requires Inv-loop μ-loop
-soft-at-requires c κs = 
+soft-at-requires c κs =
     let start = c .before .before .before .before .before .before .before .before .before in
     let a = start .args in
     let rate = a .rate in
@@ -151,7 +151,7 @@ soft-at-requires c κs =
 
 -- src/conv.rt:405:51
 mul-soft-at-2 : tie.Need-mul-soft-at-2 Inv-loop μ-loop
-mul-soft-at-2 c = 
+mul-soft-at-2 c =
     let start = c .before .before .before .before .before .before .before .before .before .before .before in
     let a = start .args in
     let rate = a .rate in
@@ -177,7 +177,7 @@ mul-soft-at-2 c =
 
 -- src/conv.rt:405:51
 add-soft-at : tie.Need-add-soft-at Inv-loop μ-loop
-add-soft-at c = 
+add-soft-at c =
     let start = c .before .before .before .before .before .before .before .before .before .before .before in
     let a = start .args in
     let rate = a .rate in
@@ -203,7 +203,7 @@ add-soft-at c =
 
 -- src/conv.rt:405:13
 soft-at-requires-2 : tie.Need-soft-at-requires-2 Inv-loop μ-loop
-soft-at-requires-2 c κs = 
+soft-at-requires-2 c κs =
     let start = c .before .before .before .before .before .before .before .before .before .before .before in
     let a = start .args in
     let rate = a .rate in
@@ -229,7 +229,7 @@ soft-at-requires-2 c κs =
 
 -- src/conv.rt:406:9
 advance-requires : tie.Need-advance-requires Inv-loop μ-loop
-advance-requires c κs = 
+advance-requires c κs =
     let start = c .before .before .before .before .before .before .before .before .before .before .before .before .before .before .before in
     let a = start .args in
     let rate = a .rate in
@@ -255,7 +255,7 @@ advance-requires c κs =
 
 -- src/conv.rt:403:9
 add-i : tie.Need-add-i Inv-loop μ-loop
-add-i c = 
+add-i c =
     let start = c .before .before .before .before .before .before .before .before .before .before .before .before .before .before .before .before .before .before .before .before in
     let a = start .args in
     let rate = a .rate in
@@ -285,7 +285,7 @@ loop-less c = search needs
 
 -- src/conv.rt:403:5
 loop-again : tie.Need-loop-again Inv-loop μ-loop
-loop-again c = 
+loop-again c =
     let start = c .before .before .before .before .before .before .before .before .before .before .before .before .before .before .before .before .before .before .before .before in
     let a = start .args in
     let rate = a .rate in
@@ -320,7 +320,7 @@ renormalise-requires c κs = tt
 
 -- src/conv.rt:409:9
 finish-requires : tie.Need-finish-requires Inv-loop μ-loop
-finish-requires c κs = 
+finish-requires c κs =
     let start = c .before .before .before .before .before .before .before .before .before .before .before .before .before in
     let a = start .args in
     let rate = a .rate in
@@ -358,7 +358,7 @@ add-clear c = omega arith
 
 -- src/conv.rt:410:5
 clear-requires : tie.Need-clear-requires Inv-loop μ-loop
-clear-requires c κs = 
+clear-requires c κs =
     let start = c .before .before .before .before .before .before .before .before .before .before .before .before .before .before .before .before .before .before .before in
     let a = start .args in
     let rate = a .rate in
@@ -390,7 +390,7 @@ clear-requires c κs =
 
 -- src/conv.rt:390:1
 same-length : tie.Need-same-length Inv-loop μ-loop
-same-length c = 
+same-length c =
     let start = c .before .before .before .before .before .before .before .before .before .before .before .before .before .before .before .before .before .before .before .before .before .before in
     let a = start .args in
     let rate = a .rate in
@@ -420,7 +420,7 @@ same-length c =
 
 -- src/conv.rt:390:1
 same-length-2 : tie.Need-same-length-2 Inv-loop μ-loop
-same-length-2 c = 
+same-length-2 c =
     let start = c .before .before .before .before .before .before .before .before .before .before .before .before .before .before .before .before .before .before .before .before .before .before in
     let a = start .args in
     let rate = a .rate in
@@ -450,7 +450,7 @@ same-length-2 c =
 
 -- src/conv.rt:390:1
 returns : tie.Need-returns Inv-loop μ-loop
-returns c = 
+returns c =
     let start = c .before .before .before .before .before .before .before .before .before .before .before .before .before .before .before .before .before .before .before .before .before .before in
     let a = start .args in
     let rate = a .rate in

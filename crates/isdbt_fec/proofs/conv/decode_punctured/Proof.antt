@@ -43,7 +43,7 @@ depth-of-requires c κs = search needs
 
 -- src/conv.rt:425:9
 decode-periods-requires : tie.Need-decode-periods-requires
-decode-periods-requires c κs = 
+decode-periods-requires c κs =
     let a = c .before .before .before .before .before .before .before .before .before .args in
     let rate = a .rate in
     let yes = sym (c .before .before .before .enum-told .given .1) ∙ c .before .before .before .before .before .answer-decode .ensures in
@@ -61,7 +61,7 @@ same-length-2 c = search needs
 
 -- src/conv.rt:415:1
 returns-2 : tie.Need-returns-2
-returns-2 c = 
+returns-2 c =
     let a = c .before .before .before .before .before .before .before .before .before .before .before .before .before .before .args in
     let rate = a .rate in
     let yes = sym (c .before .before .before .before .before .before .before .before .enum-told .given .1) ∙ c .before .before .before .before .before .before .before .before .before .before .answer-decode .ensures in

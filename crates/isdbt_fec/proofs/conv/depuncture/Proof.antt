@@ -38,7 +38,7 @@ returns c = (c .before .answer-depuncture .ensures, refused (c .before .answer-d
 
 -- src/conv.rt:352:9
 depuncture-periods-requires : tie.Need-depuncture-periods-requires
-depuncture-periods-requires c κs = 
+depuncture-periods-requires c κs =
     let a = c .before .before .before .before .before .before .args in
     let rate = a .rate in
     let yes = sym (c .before .enum-told .given .1) ∙ c .before .before .before .answer-depuncture .ensures in
@@ -51,7 +51,7 @@ same-length c = search needs
 
 -- src/conv.rt:342:1
 returns-2 : tie.Need-returns-2
-returns-2 c = 
+returns-2 c =
     let a = c .before .before .before .before .before .before .before .before .before .args in
     let rate = a .rate in
     let yes = sym (c .before .before .before .before .enum-told .given .1) ∙ c .before .before .before .before .before .before .answer-depuncture .ensures in

@@ -36,7 +36,7 @@ new-requires c κs = search needs
 
 -- src/conv.rt:319:17
 div-count : tie.Need-div-count Inv-loop μ-loop
-div-count c = 
+div-count c =
     let start = c .before .before .before .before in
     let a = start .args in
     let rate = a .rate in
@@ -48,7 +48,7 @@ div-count c =
 
 -- src/conv.rt:319:35
 mul-count : tie.Need-mul-count Inv-loop μ-loop
-mul-count c = 
+mul-count c =
     let start = c .before .before .before .before in
     let a = start .args in
     let rate = a .rate in
@@ -60,7 +60,7 @@ mul-count c =
 
 -- src/conv.rt:319:17
 mul-count-2 : tie.Need-mul-count-2 Inv-loop μ-loop
-mul-count-2 c = 
+mul-count-2 c =
     let start = c .before .before .before .before in
     let a = start .args in
     let rate = a .rate in
@@ -79,7 +79,7 @@ loop-holds c = (search needs, refl, refl)
 
 -- src/conv.rt:321:18
 soft-at-requires : tie.Need-soft-at-requires Inv-loop μ-loop
-soft-at-requires c κs = 
+soft-at-requires c κs =
     let start = c .before .before .before .before .before .before .before in
     let a = start .args in
     let rate = a .rate in
@@ -95,7 +95,7 @@ soft-at-requires c κs =
 
 -- src/conv.rt:321:9
 mul-out : tie.Need-mul-out Inv-loop μ-loop
-mul-out c = 
+mul-out c =
     let start = c .before .before .before .before .before .before .before .before in
     let a = start .args in
     let rate = a .rate in
@@ -111,7 +111,7 @@ mul-out c =
 
 -- src/conv.rt:321:9
 slice-write-out : tie.Need-slice-write-out Inv-loop μ-loop
-slice-write-out c = 
+slice-write-out c =
     let start = c .before .before .before .before .before .before .before .before in
     let a = start .args in
     let rate = a .rate in
@@ -127,7 +127,7 @@ slice-write-out c =
 
 -- src/conv.rt:320:9
 add-k : tie.Need-add-k Inv-loop μ-loop
-add-k c = 
+add-k c =
     let start = c .before .before .before .before .before .before .before .before in
     let a = start .args in
     let rate = a .rate in
@@ -147,7 +147,7 @@ loop-less c = search needs
 
 -- src/conv.rt:320:5
 loop-again : tie.Need-loop-again Inv-loop μ-loop
-loop-again c = 
+loop-again c =
     let start = c .before .before .before .before .before .before .before .before in
     let a = start .args in
     let rate = a .rate in
@@ -174,7 +174,7 @@ same-length c = c .before .loop .inv .1
 -- src/conv.rt:310:1
 returns : tie.Need-returns Inv-loop μ-loop
 unfolding depunctured
-returns c = 
+returns c =
     let start = c .before .before .before .before .before .before in
     let a = start .args in
     let rate = a .rate in

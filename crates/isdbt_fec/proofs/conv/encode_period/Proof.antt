@@ -38,7 +38,7 @@ shared-slice-read-encode-bit c = search needs
 
 -- src/conv.rt:171:13
 encode-bit-requires : tie.Need-encode-bit-requires Inv-loop μ-loop
-encode-bit-requires c κs = 
+encode-bit-requires c κs =
     let at = c .before .before in
     let a = at .before .before .args in
     rw (at .loop .inv .1) (state-below (a .state) (a .bits .now) (at .loop .i) (at .before .before .pre .0))
@@ -73,7 +73,7 @@ loop-less c = search needs
 
 -- src/conv.rt:170:5
 loop-again : tie.Need-loop-again Inv-loop μ-loop
-loop-again c = 
+loop-again c =
     let at = c .before .before .before in
     let a = at .before .before .args in
     let us = inputs (a .bits .now) in
@@ -93,7 +93,7 @@ loop-again c =
 
 -- src/conv.rt:163:1
 returns : tie.Need-returns Inv-loop μ-loop
-returns c = 
+returns c =
     let at = c .before in
     let n = length (at .before .before .args .bits .now) in
     let e : at .loop .i ≡ n = omega arith in

@@ -41,7 +41,7 @@ new-requires c κs = search needs
 
 -- src/conv.rt:212:17
 div-b-end : tie.Need-div-b-end Inv-loop μ-loop
-div-b-end c = 
+div-b-end c =
     let start = c .before .before .before .before in
     let a = start .args in
     let rate = a .rate in
@@ -54,7 +54,7 @@ div-b-end c =
 -- src/conv.rt:212:5
 loop-holds : tie.Need-loop-holds Inv-loop μ-loop
 unfolding stateAt upto
-loop-holds c = 
+loop-holds c =
     let start = c .before .before .before .before in
     let a = start .args in
     let rate = a .rate in
@@ -68,7 +68,7 @@ loop-holds c =
 
 -- src/conv.rt:213:20
 mul-from : tie.Need-mul-from Inv-loop μ-loop
-mul-from c = 
+mul-from c =
     let start = c .before .before .before .before .before .before in
     let a = start .args in
     let rate = a .rate in
@@ -84,7 +84,7 @@ mul-from c =
 
 -- src/conv.rt:214:18
 add-to : tie.Need-add-to Inv-loop μ-loop
-add-to c = 
+add-to c =
     let start = c .before .before .before .before .before .before in
     let a = start .args in
     let rate = a .rate in
@@ -100,7 +100,7 @@ add-to c =
 
 -- src/conv.rt:215:18
 mul-at : tie.Need-mul-at Inv-loop μ-loop
-mul-at c = 
+mul-at c =
     let start = c .before .before .before .before .before .before in
     let a = start .args in
     let rate = a .rate in
@@ -116,7 +116,7 @@ mul-at c =
 
 -- src/conv.rt:216:34
 sub-encode-period : tie.Need-sub-encode-period Inv-loop μ-loop
-sub-encode-period c = 
+sub-encode-period c =
     let start = c .before .before .before .before .before .before in
     let a = start .args in
     let rate = a .rate in
@@ -132,7 +132,7 @@ sub-encode-period c =
 
 -- src/conv.rt:216:34
 part-encode-period-start : tie.Need-part-encode-period-start Inv-loop μ-loop
-part-encode-period-start c = 
+part-encode-period-start c =
     let start = c .before .before .before .before .before .before in
     let a = start .args in
     let rate = a .rate in
@@ -148,7 +148,7 @@ part-encode-period-start c =
 
 -- src/conv.rt:216:34
 part-encode-period-end : tie.Need-part-encode-period-end Inv-loop μ-loop
-part-encode-period-end c = 
+part-encode-period-end c =
     let start = c .before .before .before .before .before .before in
     let a = start .args in
     let rate = a .rate in
@@ -164,7 +164,7 @@ part-encode-period-end c =
 
 -- src/conv.rt:216:13
 encode-period-requires : tie.Need-encode-period-requires Inv-loop μ-loop
-encode-period-requires c κs = 
+encode-period-requires c κs =
     let start = c .before .before .before .before .before .before .before in
     let a = start .args in
     let rate = a .rate in
@@ -184,7 +184,7 @@ encode-period-requires c κs =
 
 -- src/conv.rt:218:29
 sub-send : tie.Need-sub-send Inv-loop μ-loop
-sub-send c = 
+sub-send c =
     let start = c .before .before .before .before .before .before .before .before .before .before .before in
     let a = start .args in
     let rate = a .rate in
@@ -201,7 +201,7 @@ sub-send c =
 
 -- src/conv.rt:218:29
 part-send-start : tie.Need-part-send-start Inv-loop μ-loop
-part-send-start c = 
+part-send-start c =
     let start = c .before .before .before .before .before .before .before .before .before .before .before in
     let a = start .args in
     let rate = a .rate in
@@ -218,7 +218,7 @@ part-send-start c =
 
 -- src/conv.rt:218:29
 part-send-end : tie.Need-part-send-end Inv-loop μ-loop
-part-send-end c = 
+part-send-end c =
     let start = c .before .before .before .before .before .before .before .before .before .before .before in
     let a = start .args in
     let rate = a .rate in
@@ -235,7 +235,7 @@ part-send-end c =
 
 -- src/conv.rt:218:9
 send-requires : tie.Need-send-requires Inv-loop μ-loop
-send-requires c κs = 
+send-requires c κs =
     let start = c .before .before .before .before .before .before .before .before .before .before .before .before in
     let a = start .args in
     let rate = a .rate in
@@ -258,7 +258,7 @@ send-requires c κs =
 
 -- src/conv.rt:212:9
 add-b : tie.Need-add-b Inv-loop μ-loop
-add-b c = 
+add-b c =
     let start = c .before .before .before .before .before .before .before .before .before .before .before .before .before .before .before in
     let a = start .args in
     let rate = a .rate in
@@ -278,7 +278,7 @@ loop-less c = search needs
 
 -- src/conv.rt:212:5
 loop-again : tie.Need-loop-again Inv-loop μ-loop
-loop-again c = 
+loop-again c =
     let start = c .before .before .before .before .before .before .before .before .before .before .before .before .before .before .before in
     let a = start .args in
     let rate = a .rate in
@@ -323,7 +323,7 @@ same-length c = c .before .loop .inv .1
 
 -- src/conv.rt:202:1
 returns : tie.Need-returns Inv-loop μ-loop
-returns c = 
+returns c =
     let start = c .before .before .before .before .before .before in
     let a = start .args in
     let rate = a .rate in

@@ -43,7 +43,7 @@ new-requires c κs = search needs
 
 -- src/conv.rt:279:9
 encode-periods-requires : tie.Need-encode-periods-requires
-encode-periods-requires c κs = 
+encode-periods-requires c κs =
     let a = c .before .before .before .before .before .before .before .args in
     let rate = a .rate in
     let yes = sym (c .before .before .enum-told .given .1) ∙ c .before .before .before .before .answer-encode .ensures in
@@ -52,7 +52,7 @@ encode-periods-requires c κs =
 
 -- src/conv.rt:283:16
 div-t10 : tie.Need-div-t10
-div-t10 c = 
+div-t10 c =
     let rate = c .before .before .before .before .before .before .before .before .before .before .before .args .rate in
     let p = c .before .before .before .before .before .new .result in
     let z = numbers rate p (c .before .before .before .before .before .new .ensures) in
@@ -61,7 +61,7 @@ div-t10 c =
 
 -- src/conv.rt:283:16
 mul-t15 : tie.Need-mul-t15
-mul-t15 c = 
+mul-t15 c =
     let a = c .before .before .before .before .before .before .before .before .before .before .before .before .args in
     let rate = a .rate in
     let yes = sym (c .before .before .before .before .before .before .before .enum-told .given .1) ∙ c .before .before .before .before .before .before .before .before .before .answer-encode .ensures in
@@ -79,7 +79,7 @@ same-length c = search needs
 
 -- src/conv.rt:263:1
 returns-2 : tie.Need-returns-2
-returns-2 c = 
+returns-2 c =
     let a = c .before .before .before .before .before .before .before .before .before .before .before .before .args in
     let rate = a .rate in
     let yes = sym (c .before .before .before .before .before .before .before .enum-told .given .1) ∙ c .before .before .before .before .before .before .before .before .before .answer-encode .ensures in

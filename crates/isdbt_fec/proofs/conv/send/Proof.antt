@@ -56,7 +56,7 @@ loop-less c = search needs
 
 -- src/conv.rt:187:5
 loop-again : tie.Need-loop-again Inv-loop μ-loop
-loop-again c = 
+loop-again c =
     let at = c .before .before .before in
     let a = at .before .args in
     let f : ℕ → ℕ = λ k. getD (a .m .now) (getD (a .order .now) k 0) 0 in
@@ -73,7 +73,7 @@ same-length c = c .before .loop .inv .1
 
 -- src/conv.rt:183:1
 returns : tie.Need-returns Inv-loop μ-loop
-returns c = 
+returns c =
     let at = c .before in
     let e : at .loop .j ≡ at .before .args .n = omega arith in
     rw e at (at .loop .inv .2)

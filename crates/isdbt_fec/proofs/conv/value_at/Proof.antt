@@ -27,7 +27,7 @@ abbrev μ-loop : tie.MeasureT-loop
 
 -- src/conv.rt:284:5
 loop-holds : tie.Need-loop-holds Inv-loop μ-loop
-loop-holds c = 
+loop-holds c =
     let a = c .args in
     let z : a .base ≡ a .base + 0 = omega arith in
     (search needs, ap (λ (b : ℕ). spread (take (a .n) (a .order .now)) (a .llrs .now) b (a .place)) z)
@@ -54,7 +54,7 @@ shared-slice-read-result c = search needs
 
 -- src/conv.rt:286:13
 returns : tie.Need-returns Inv-loop μ-loop
-returns c = 
+returns c =
     let at = c .before .before .before .before in
     let a = at .before .args in
     let long = at .before .pre .1 in
@@ -70,7 +70,7 @@ loop-less c = search needs
 
 -- src/conv.rt:284:5
 loop-again : tie.Need-loop-again Inv-loop μ-loop
-loop-again c = 
+loop-again c =
     let at = c .before .before .before in
     let a = at .before .args in
     let long = at .before .pre .1 in
@@ -78,7 +78,7 @@ loop-again c =
 
 -- src/conv.rt:280:1
 returns-2 : tie.Need-returns-2 Inv-loop μ-loop
-returns-2 c = 
+returns-2 c =
     let at = c .before in
     let a = at .before .args in
     let long = at .before .pre .1 in
