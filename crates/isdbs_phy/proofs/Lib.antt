@@ -1,3 +1,7 @@
+pub mod Encode
+pub mod Patterns
+pub mod Written
+pub mod EncodeQpsk
 pub mod Shift
 pub mod Narrow
 pub mod Sign
@@ -11,3 +15,6 @@ pub mod FrameRuns
 pub mod Packing
 pub mod FrameBytes
 pub mod Rows
+pub mod EncodeFrame
+pub mod EncodeAnswers
+pub mod EncodeTable

@@ -10,3 +10,6 @@ pub mod DecodeRows
 pub mod Steps
 pub mod Runs
 pub mod LawsDecoded
+pub mod Places
+pub mod Sizes
+pub mod Encoding

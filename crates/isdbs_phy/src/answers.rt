@@ -1,6 +1,7 @@
 // The rows of `decode_frame`, in the order of the table, and the size of a frame's load.
 use isdbs_core::slots::runs;
 use isdbs_core::tmcc::Table;
+use isdbs_core::tmcc::table_answer;
 use refusal::Answer;
 ghost use mathlib.Core.Path.{_≡_};
 ghost use mathlib.Core.Bool.{cond, not, _||_};
@@ -129,8 +130,7 @@ pub fn decode_answer(
 ) -> Answer
     ensures { λ r. ⌜ r ≡ firstRow (decodeRows t (now (re .entry)) (now (im .entry)) scale decisions bits bytes) ⌝ }
 {
-    let rs = runs(t);
-    let table = rs.answer;
+    let table = table_answer(t);
     let Answer::Accepted = table else {
         return table;
     };

@@ -2,7 +2,7 @@
 use crate::demod::DemodOptions;
 use crate::demod::Mapping;
 use crate::demod::psk8_point;
-use crate::demod::state_after;
+use crate::demod::start_state;
 use crate::demod::subset_of;
 use crate::demod::word_bit;
 use crate::metrics::Phase;
@@ -23,8 +23,6 @@ use isdb_fec::conv::start_unknown;
 use isdbs_core::combination::Combination;
 use isdbs_core::combination::Modulation;
 use isdbs_core::frame::W1;
-use isdbs_core::frame::W2;
-use isdbs_core::frame::W3;
 use isdbs_core::slots::runs;
 use isdbs_core::tmcc::Table;
 ghost use mathlib.Core.Path.{_≡_};
@@ -36,7 +34,6 @@ ghost use lib.Ieee.{Float, nan, lt};
 ghost use Rattle.trellis.specs.Lists.{upto, laid, bit};
 ghost use Rattle.trellis.specs.Code.{stateAt};
 ghost use Rattle.trellis.specs.Run.{startAt, startUnknown};
-ghost use Rattle.isdbs_phy.specs.Frame.{startState};
 ghost use Rattle.isdbs_core.specs.declared.combination.Combination.the-variants.{«Tc8psk2_3»};
 ghost use Rattle.isdbs_core.specs.Tables.{slotSum};
 ghost use Rattle.isdbs_core.specs.RunsOf.{frameSteps, loadBytes};
@@ -310,17 +307,6 @@ fn start_values(known_start: bool, state: u8) -> [f32; 64]
         start_at(state)
     } else {
         start_unknown()
-    }
-}
-
-// The state that the header's W2 or W3 leaves.
-fn start_state(first: bool) -> u8
-    ensures { λ r. ⌜ (r ≡ startState first) × (r < 64) ⌝ }
-{
-    if first {
-        state_after(W2)
-    } else {
-        state_after(W3)
     }
 }
 

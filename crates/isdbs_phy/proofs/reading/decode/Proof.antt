@@ -18,7 +18,7 @@ use Rattle.isdbs_phy.proofs.reading.decode.Tie as tie
 use Rattle.isdbs_phy.proofs.reading.decode.Reads as reads
 use Rattle.isdbs_phy.proofs.reading.decode.Lts as lts
 use Rattle.isdbs_phy.proofs.reading.decode_bits.Reads as decode-bits-reads
-use Rattle.isdbs_phy.proofs.reading.start_state.Reads as start-state-reads
+use Rattle.isdbs_phy.proofs.demod.start_state.Reads as start-state-reads
 use Rattle.isdbs_phy.proofs.reading.start_values.Reads as start-values-reads
 use Rattle.isdbs_phy.proofs.reading.write_bytes.Reads as write-bytes-reads
 
