@@ -464,14 +464,16 @@ fn acs(pm: &mut [f32; 64], lx: f32, ly: f32) -> u64
 {
     let n = states(pm);
     let old = *pm;
-    let x00 = SX[0][0];
-    let x01 = SX[0][1];
-    let x10 = SX[1][0];
-    let x11 = SX[1][1];
-    let y00 = SY[0][0];
-    let y01 = SY[0][1];
-    let y10 = SY[1][0];
-    let y11 = SY[1][1];
+    let sx = SX;
+    let x00 = sx[0][0];
+    let x01 = sx[0][1];
+    let x10 = sx[1][0];
+    let x11 = sx[1][1];
+    let sy = SY;
+    let y00 = sy[0][0];
+    let y01 = sy[0][1];
+    let y10 = sy[1][0];
+    let y11 = sy[1][1];
     let mut low: u32 = 0;
     for j in 0..n / 2 {
         let m0 = old[2 * j] + term(x00[j], lx) + term(y00[j], ly);
@@ -506,14 +508,16 @@ fn acs4(pm: &mut [f32; 64], m: [f32; 4]) -> u64
 {
     let n = states(pm);
     let old = *pm;
-    let x00 = SX[0][0];
-    let x01 = SX[0][1];
-    let x10 = SX[1][0];
-    let x11 = SX[1][1];
-    let y00 = SY[0][0];
-    let y01 = SY[0][1];
-    let y10 = SY[1][0];
-    let y11 = SY[1][1];
+    let sx = SX;
+    let x00 = sx[0][0];
+    let x01 = sx[0][1];
+    let x10 = sx[1][0];
+    let x11 = sx[1][1];
+    let sy = SY;
+    let y00 = sy[0][0];
+    let y01 = sy[0][1];
+    let y10 = sy[1][0];
+    let y11 = sy[1][1];
     let mut low: u32 = 0;
     for j in 0..n / 2 {
         let m0 = old[2 * j] + metric(m, x00[j], y00[j]);
