@@ -283,7 +283,14 @@ fn main() {
     let mut decisions = [0u64; 4224];
     let mut bits = [0u8; 68224];
     let mut bytes = [0u8; 9744];
-    let agree = agreeing(file, &mut re, &mut im, &mut decisions, &mut bits, &mut bytes);
+    let agree = agreeing(
+        file,
+        &mut re,
+        &mut im,
+        &mut decisions,
+        &mut bits,
+        &mut bytes,
+    );
     libc::close(file);
     io::print_decimal(STDOUT_FILENO, agree as u64);
     io::write_all(STDOUT_FILENO, b" agree\n");
