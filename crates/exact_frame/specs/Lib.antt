@@ -6,3 +6,4 @@ pub mod Steps
 pub mod Bytes
 pub mod Exact
 pub mod Frames
+pub mod Call

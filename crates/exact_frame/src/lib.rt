@@ -1,1 +1,41 @@
-// Demand 3 for a whole frame: definitions and theorems in specs/, no code.
+// Demand 3: a received frame within the margins reads back exactly. The definitions and theorems are in specs/.
+ghost use mathlib.Core.Path.{_≡_};
+ghost use mathlib.Core.Bool.{true};
+ghost use lib.ListN.{length};
+ghost use Rattle.refusal.specs.Rows.{firstRow};
+ghost use Rattle.isdb_fec.specs.Calls.{Either};
+ghost use Rattle.isdbs_phy.specs.DecodeRows.{decodeRows, frameAnswer, Kept};
+ghost use Rattle.isdbs_phy.specs.Runs.{FrameRead};
+ghost use Rattle.exact_frame.specs.Steps.{received};
+ghost use Rattle.exact_frame.specs.Call.{eight, Exact};
+use isdbs_core::tmcc::Table;
+use isdbs_phy::demod::DemodOptions;
+use isdbs_phy::demod::FrameDecoded;
+use isdbs_phy::demod::Mapping;
+use isdbs_phy::demod::decode_frame;
+
+// decode_frame with a known start and the scale 8. For every table of at most 48 slots, every mapping and frame kind, every full load and every frame
+// within the load's margins, whatever the three lent slices held: the load comes back, or 9 where one of the slices is too short.
+pub fn read_frame(
+    re: &[f64],
+    im: &[f64],
+    t: Table,
+    first: bool,
+    mapping: Mapping,
+    decisions: &mut [u64],
+    bits: &mut [u8],
+    bytes: &mut [u8],
+) -> FrameDecoded
+    ensures answers { λ r. ⌜ r ≡ frameAnswer (firstRow (decodeRows t (now (re .entry)) (now (im .entry)) eight (length (now (decisions .entry))) (length (now (bits .entry))) (length (now (bytes .entry))))) t ⌝ }
+    ensures leaves { λ _. ⌜ Either (firstRow (decodeRows t (now (re .entry)) (now (im .entry)) eight (length (now (decisions .entry))) (length (now (bits .entry))) (length (now (bytes .entry)))))
+        (FrameRead t (received (now (re .entry)) (now (im .entry)) mapping) true first (now (decisions .entry)) (now (decisions .exit)) (now (bits .entry)) (now (bits .exit)) (now (bytes .entry)) (now (bytes .exit)))
+        (Kept (now (decisions .entry)) (now (decisions .exit)) (now (bits .entry)) (now (bits .exit)) (now (bytes .entry)) (now (bytes .exit))) ⌝ }
+    ensures exact { λ r. ⌜ Exact t mapping first (now (re .entry)) (now (im .entry)) (length (now (decisions .entry))) (length (now (bits .entry))) (length (now (bytes .entry))) r (now (bytes .exit)) ⌝ }
+{
+    let o = DemodOptions {
+        mapping,
+        known_start: true,
+        llr_scale: 8.0,
+    };
+    decode_frame(re, im, t, first, o, decisions, bits, bytes)
+}

@@ -13,6 +13,7 @@ use Rattle.isdbs_core.specs.declared.tmcc.Table.{Table}
 use Rattle.isdbs_core.specs.Combinations.{modulationOf}
 use Rattle.isdbs_phy.specs.declared.demod.Mapping.{Mapping}
 use Rattle.isdbs_phy.specs.Points.{zero64, one64, root64}
+use Rattle.isdbs_phy.specs.DecodeRows.{partLimit}
 use Rattle.isdbs_phy.specs.Layout.{Segment, atSymbol}
 use Rattle.isdbs_phy.specs.Frame.{pointAt, startState}
 
@@ -20,7 +21,7 @@ use Rattle.isdbs_phy.specs.Frame.{pointAt, startState}
 abbrev pub between : Float → Float → Float → Bool
 between a b x = le a x && le x b
 
--- 1/32, 31/32, 33/32, 87/128, 94/128, 1024
+-- 1/32, 31/32, 33/32, 87/128, 94/128, and row 7's limit of a part, 1,024
 abbrev pub near0 : Float
 near0 = ofBits binary64 0x3fa0_0000_0000_0000
 
@@ -37,7 +38,7 @@ abbrev pub highRoot : Float
 highRoot = ofBits binary64 0x3fe7_8000_0000_0000
 
 abbrev pub limit : Float
-limit = ofBits binary64 0x4090_0000_0000_0000
+limit = partLimit
 
 -- "clean 0 within 1/32; clean 1 from 31/32 to 33/32; clean 1/√2 from 87/128 to 94/128; negatives mirrored", "-0.0 being a clean 0"
 unfoldable pub keeps : Float → Float → Bool

@@ -1,0 +1,86 @@
+-- Demand 3 about the call `decode_frame`: from its contract and the margins alone. Assumes nothing.
+use mathlib.Core.Path.{_≡_, refl}
+use mathlib.Core.Logic.{_⊎_, inl, inr}
+use mathlib.Core.Bool.{Bool, true, false, cond, not, _&&_, _||_}
+use mathlib.Core.List.{List, [], _∷_, _++_}
+use Prim.Native.Nat.{ℕ, zero, suc, _+_, _-_, _*_, _<_, _≤_}
+use native.Mathlib.Omega.{arith}
+use lib.Dec.{T, ltb}
+use lib.ListN.{length, getD, take, drop}
+use lib.Seq.{take-at}
+use lib.Ieee.{Float, nan, binary32, binary64, neg, lt, le, ofBits}
+use borrow.Author.Tests.{le-ltb}
+use Rattle.refusal.specs.declared.Answer.{Answer}
+use Rattle.refusal.specs.declared.Answer.the-variants.{Accepted, Space}
+use Rattle.refusal.specs.Rows.{firstRow}
+use Rattle.trellis.specs.Lists.{laid}
+use Rattle.isdb_fec.specs.Calls.{Either}
+use Rattle.isdbs_core.specs.declared.tmcc.Table.{Table}
+use Rattle.isdbs_core.specs.Tables.{slotSum}
+use Rattle.isdbs_core.specs.RunsOf.{frameSteps, loadBytes}
+use Rattle.isdbs_phy.specs.declared.demod.Mapping.{Mapping}
+use Rattle.isdbs_phy.specs.declared.demod.FrameDecoded.{FrameDecoded}
+use Rattle.isdbs_phy.specs.declared.demod.FrameDecoded.the-variants.{Decoded, Refused}
+use Rattle.isdbs_phy.specs.DecodeRows.{within, someBeyond, partLimit, badScale, shortSpace, decodeRows, frameAnswer, Kept}
+use Rattle.isdbs_phy.specs.Runs.{FrameRead}
+use Rattle.margins.specs.Margins.{anyAccepted, Within, FullLoad}
+use Rattle.exact_frame.specs.Steps.{received}
+use Rattle.exact_frame.specs.Exact.{decoded-load}
+use Rattle.exact_frame.specs.Frames.{re-accepted, im-accepted}
+
+-- 8.0
+abbrev pub eight : Float
+eight = ofBits binary32 0x4100_0000
+
+-- what comes back: the load at the front of the byte output, or 9 where a lent slice is too short; nothing else
+pub data ReadsBack (t : Table) (load : List ℕ) (decisions bits space : ℕ) (r : FrameDecoded) (bytes : List ℕ) : Type 0 where
+  exactly : r ≡ Decoded (loadBytes t) (frameSteps t) → take (loadBytes t) bytes ≡ load → ReadsBack t load decisions bits space r bytes
+  short : r ≡ Refused Space → T (shortSpace t decisions bits space) → ReadsBack t load decisions bits space r bytes
+
+-- demand 3 of one call: whatever full load the received frame lies within the margins of, it reads back
+abbrev pub Exact : Table → Mapping → Bool → List Float → List Float → ℕ → ℕ → ℕ → FrameDecoded → List ℕ → Type 0
+Exact t m first re im decisions bits space r bytes =
+    (load : List ℕ) → slotSum (t .entries) ≤ 48 → FullLoad load (loadBytes t) → Within re im load t m first → ReadsBack t load decisions bits space r bytes
+
+none-beyond : (xs : List Float) (n : ℕ) → ((k : ℕ) → k < n → T (anyAccepted (getD xs k nan))) → someBeyond partLimit xs n ≡ false
+unfolding someBeyond
+none-beyond xs zero h = refl
+none-beyond xs (suc n) h = go (someBeyond partLimit xs n) (within partLimit (getD xs n nan)) (none-beyond xs n (λ k l. h k (omega arith))) (h n (omega arith))
+  where
+    go : (a b : Bool) → a ≡ false → T b → (a || not b) ≡ false
+    go true b e t = e
+    go false true e t = refl
+    go false false e t = absurd t
+
+false-or : (a b : Bool) → a ≡ false → b ≡ false → (a || b) ≡ false
+false-or a b p q = rw (p, q)
+
+-- within the margins, at the scale 8, only the last row can hold
+last-row : (t : Table) → slotSum (t .entries) ≤ 48 → (m : Mapping) (first : Bool) (load : List ℕ) (re im : List Float) → Within re im load t m first → (d b y : ℕ)
+    → firstRow (decodeRows t re im eight d b y) ≡ cond (shortSpace t d b y) Space Accepted
+unfolding ofBits lt
+last-row t fit m first load re im w d b y =
+    rw (
+      le-ltb 48 (slotSum (t .entries)) fit,
+      le-ltb (length re) 38976 (w .re-count),
+      le-ltb (length im) 38976 (w .im-count),
+      none-beyond re 38976 (re-accepted w),
+      none-beyond im 38976 (im-accepted w),
+    )
+
+-- THE THEOREM about the call: whatever the lent slices held, the load comes back, or a slice is too short
+pub read-back : (t : Table) → slotSum (t .entries) ≤ 48 → (m : Mapping) (first : Bool) (load : List ℕ) → FullLoad load (loadBytes t) → (re im : List Float) → Within re im load t m first
+    → (decisions₀ decisions bits₀ bits bytes₀ bytes : List ℕ) (r : FrameDecoded)
+    → r ≡ frameAnswer (firstRow (decodeRows t re im eight (length decisions₀) (length bits₀) (length bytes₀))) t
+    → Either (firstRow (decodeRows t re im eight (length decisions₀) (length bits₀) (length bytes₀)))
+    (FrameRead t (received re im m) true first decisions₀ decisions bits₀ bits bytes₀ bytes)
+    (Kept decisions₀ decisions bits₀ bits bytes₀ bytes)
+    → ReadsBack t load (length decisions₀) (length bits₀) (length bytes₀) r bytes
+read-back t fit m first load full re im w decisions₀ decisions bits₀ bits bytes₀ bytes r answers leaves =
+    go (shortSpace t (length decisions₀) (length bits₀) (length bytes₀)) refl (last-row t fit m first load re im w (length decisions₀) (length bits₀) (length bytes₀))
+  where
+    go : (s : Bool) → shortSpace t (length decisions₀) (length bits₀) (length bytes₀) ≡ s → firstRow (decodeRows t re im eight (length decisions₀) (length bits₀) (length bytes₀)) ≡ cond s Space Accepted → ReadsBack t load (length decisions₀) (length bits₀) (length bytes₀) r bytes
+    go true e h = short (rw h at answers) (rw e tt)
+    go false e h =
+        let f = leaves .0 h in
+        exactly (rw h at answers) (rw (f .load, decoded-load t fit m first load full re im w) (take-at load (drop (length load) bytes₀) (loadBytes t) (full .size)))
