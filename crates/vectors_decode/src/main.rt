@@ -1,0 +1,299 @@
+// `decode_frame` on 264 frames, held to what the given Rust makes of them: every combination alone and mixed, the empty table, all mappings, known and unknown
+// start, clean, noisy and random points, extreme parts, scales from the least subnormal to 64. data/decode.hex is written by compare/vectors.sh; compare/README.md
+// has its fields. Lines that differ are shown, then how many agree and differ.
+ghost use Prim.Native.Nat.{_≤_, _<_};
+use isdbs_core::tmcc::Entry;
+use isdbs_core::tmcc::Table;
+use isdbs_phy::demod::DemodOptions;
+use isdbs_phy::demod::FrameDecoded;
+use isdbs_phy::demod::Mapping;
+use isdbs_phy::demod::decode_frame;
+use isdbs_phy::demod::encode_frame;
+use libc::STDOUT_FILENO;
+use refusal::Answer;
+
+const LINES: u32 = 264;
+
+fn digit(byte: u8) -> u64 {
+    match byte {
+        b'0'..=b'9' => wide(byte - b'0'),
+        b'a'..=b'f' => wide(byte - b'a') + 10,
+        _ => 0,
+    }
+}
+
+fn wide(byte: u8) -> u64
+    ensures { λ r. ⌜ r < 256 ⌝ }
+{
+    byte as u64
+}
+
+// The number of the hexadecimal digits from..to, of which the last 16 count.
+fn number(line: &[u8; 118], from: usize, to: usize) -> u64
+    requires { ⌜ to ≤ 118 ⌝ }
+{
+    let mut value: u64 = 0;
+    for i in from..to {
+        value = value % 0x1000_0000_0000_0000 * 16 + digit(line[i]) % 16;
+    }
+    value
+}
+
+// The lists' generator.
+fn step(x: u64) -> u64 {
+    let a = x ^ (x << 13);
+    let b = a ^ (a >> 7);
+    b ^ (b << 17)
+}
+
+// Entry i of a table.
+fn entry(table: u64, i: u32) -> Entry
+    requires { ⌜ i < 4 ⌝ }
+{
+    let at = table >> (16 * i);
+    Entry {
+        word: (at % 256) as u8,
+        slots: (at / 256 % 256) as u8,
+    }
+}
+
+fn table_of(table: u64) -> Table {
+    let a = entry(table, 0);
+    let b = entry(table, 1);
+    let c = entry(table, 2);
+    let d = entry(table, 3);
+    Table {
+        entries: [a, b, c, d],
+    }
+}
+
+fn mapping_of(bits: u64) -> Mapping {
+    Mapping {
+        conjugate: bits % 2 == 1,
+        qpsk_p1_on_q: bits / 2 % 2 == 1,
+        tc8psk_c1_is_y: bits / 4 % 2 == 1,
+    }
+}
+
+// The first `count` bytes of the load of a seed.
+fn fill(bytes: &mut [u8; 9744], count: usize, seed: u64)
+    requires { ⌜ count ≤ 9744 ⌝ }
+{
+    let mut x = seed;
+    let mut i: usize = 0;
+    while i < count {
+        x = step(x);
+        bytes[i] = (x / 0x100_0000_0000_0000 % 256) as u8;
+        i += 1;
+    }
+}
+
+// The f64 of a pattern that is no NaN's.
+fn double_of(bits: u64) -> f64 {
+    if bits % 0x8000_0000_0000_0000 <= 0x7ff0_0000_0000_0000 {
+        f64::from_bits(bits)
+    } else {
+        0.0
+    }
+}
+
+// The f32 of a pattern that is no NaN's.
+fn float_of(bits: u32) -> f32 {
+    if bits % 0x8000_0000 <= 0x7f80_0000 {
+        f32::from_bits(bits)
+    } else {
+        0.0
+    }
+}
+
+// From -0.5 up to 0.5.
+fn around_0(draw: u64) -> f64 {
+    double_of(0x3ff0_0000_0000_0000 + (draw >> 12)) - 1.5
+}
+
+// A part of a point: the clean one with noise, or an extreme one.
+fn part(kind: u64, clean: f64, draw: u64, amplitude: f64) -> f64 {
+    if kind == 0 {
+        return clean + around_0(draw) * amplitude;
+    }
+    match draw % 8 {
+        0 => 1024.0,
+        1 => -1024.0,
+        2 => -0.0,
+        3 => double_of(1),
+        4 => double_of(0xb6a0_0000_0000_0000),
+        5 => 0.0,
+        6 => clean,
+        _ => around_0(draw) * 2048.0,
+    }
+}
+
+// Makes the received points of the clean ones.
+fn receive(re: &mut [f64; 38976], im: &mut [f64; 38976], kind: u64, seed: u64, amplitude: f64) {
+    let mut x = seed;
+    let mut k: usize = 0;
+    while k < 38976 {
+        x = step(x);
+        re[k] = part(kind, re[k], x, amplitude);
+        x = step(x);
+        im[k] = part(kind, im[k], x, amplitude);
+        k += 1;
+    }
+}
+
+// The lists' digest of the first n bytes.
+fn digest(bytes: &[u8], n: usize) -> u64 {
+    let mut h: u64 = 0x9e37_79b9_7f4a_7c15;
+    let mut k: usize = 0;
+    while k < n {
+        if k < bytes.len() {
+            h = step(h ^ wide(bytes[k]));
+        }
+        k += 1;
+    }
+    h
+}
+
+// The space that decoding is lent.
+fn decoded(
+    line: &[u8; 118],
+    re: &[f64],
+    im: &[f64],
+    decisions: &mut [u64],
+    bits: &mut [u8],
+    bytes: &mut [u8],
+) -> FrameDecoded {
+    let t = table_of(number(line, 0, 16));
+    let o = DemodOptions {
+        mapping: mapping_of(number(line, 17, 19)),
+        known_start: number(line, 23, 25) == 1,
+        llr_scale: float_of((number(line, 26, 34) % 0x1_0000_0000) as u32),
+    };
+    let first = number(line, 20, 22) == 1;
+    decode_frame(re, im, t, first, o, decisions, bits, bytes)
+}
+
+// The clean frame of the first `count` bytes.
+fn clean(line: &[u8; 118], bytes: &[u8], count: usize, re: &mut [f64], im: &mut [f64]) -> Answer {
+    let t = table_of(number(line, 0, 16));
+    let m = mapping_of(number(line, 17, 19));
+    let first = number(line, 20, 22) == 1;
+    if count <= bytes.len() {
+        return encode_frame(&bytes[0..count], t, first, m, re, im);
+    }
+    encode_frame(bytes, t, first, m, re, im)
+}
+
+// Whether the counts and the digests are the line's.
+fn matches(line: &[u8; 118], count: usize, steps: usize, bits: &[u8], bytes: &[u8]) -> bool {
+    if steps as u64 != number(line, 72, 80) {
+        return false;
+    }
+    if count as u64 != number(line, 81, 83) % 256 * 203 {
+        return false;
+    }
+    if steps > 68_208 {
+        return false;
+    }
+    if digest(bits, steps + 16) != number(line, 84, 100) {
+        return false;
+    }
+    digest(bytes, count) == number(line, 101, 117)
+}
+
+// Whether the line's frame is decoded as the Rust decodes it.
+fn agrees(
+    line: &[u8; 118],
+    re: &mut [f64; 38976],
+    im: &mut [f64; 38976],
+    decisions: &mut [u64; 4224],
+    bits: &mut [u8; 68224],
+    bytes: &mut [u8; 9744],
+) -> bool {
+    let count = (number(line, 81, 83) % 49 * 203) as usize;
+    let seed = number(line, 35, 51);
+    fill(bytes, count, seed);
+    let answer = clean(line, bytes, count, re, im);
+    if refusal::number(answer) != 0 {
+        return false;
+    }
+    receive(
+        re,
+        im,
+        number(line, 52, 54),
+        seed ^ 0x5555_5555_5555_5555,
+        double_of(number(line, 55, 71)),
+    );
+    let r = decoded(line, re, im, decisions, bits, bytes);
+    match r {
+        FrameDecoded::Decoded(n, steps) => matches(line, n, steps, bits, bytes),
+        FrameDecoded::Refused(_) => false,
+    }
+}
+
+// Whether a whole line was read and its frame agrees; a line where it does not is shown.
+fn passes(
+    file: i32,
+    re: &mut [f64; 38976],
+    im: &mut [f64; 38976],
+    decisions: &mut [u64; 4224],
+    bits: &mut [u8; 68224],
+    bytes: &mut [u8; 9744],
+) -> bool {
+    let mut line = [0u8; 118];
+    if io::read_full(file, &mut line) < 118 {
+        return false;
+    }
+    if agrees(&line, re, im, decisions, bits, bytes) {
+        return true;
+    }
+    io::write_all(STDOUT_FILENO, &line);
+    false
+}
+
+// How many of the lines pass: none of those that are missing.
+fn agreeing(
+    file: i32,
+    re: &mut [f64; 38976],
+    im: &mut [f64; 38976],
+    decisions: &mut [u64; 4224],
+    bits: &mut [u8; 68224],
+    bytes: &mut [u8; 9744],
+) -> u32
+    ensures { λ r. ⌜ r ≤ 264 ⌝ }
+{
+    let mut agree: u32 = 0;
+    for i in 0..LINES {
+        if passes(file, re, im, decisions, bits, bytes) {
+            agree = agree + 1;
+        }
+    }
+    agree
+}
+
+fn main() {
+    let path = b"decode.hex";
+    let file = os::open_read(path);
+    if file < 0 {
+        os::fail(path);
+        return;
+    }
+    let mut re = [0.0f64; 38976];
+    let mut im = [0.0f64; 38976];
+    let mut decisions = [0u64; 4224];
+    let mut bits = [0u8; 68224];
+    let mut bytes = [0u8; 9744];
+    let agree = agreeing(
+        file,
+        &mut re,
+        &mut im,
+        &mut decisions,
+        &mut bits,
+        &mut bytes,
+    );
+    libc::close(file);
+    io::print_decimal(STDOUT_FILENO, agree as u64);
+    io::write_all(STDOUT_FILENO, b" agree\n");
+    io::print_decimal(STDOUT_FILENO, (LINES - agree) as u64);
+    io::write_all(STDOUT_FILENO, b" differ\n");
+}
