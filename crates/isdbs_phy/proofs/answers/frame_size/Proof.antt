@@ -1,3 +1,4 @@
+-- `answers::frame_size` meets its contract. Assumes nothing.
 use borrow.Author.Needs.{needs}
 use Rattle.isdbs_phy.proofs.FrameRuns.{listed-runs, steps-fit, next-steps, all-steps, valid-sum}
 use Rattle.isdbs_phy.proofs.Among.{stepsTo}
@@ -9,10 +10,6 @@ use mathlib.Core.Bool.{true, false}
 use mathlib.Core.Path.{_≡_, refl, sym, _∙_, ap}
 use Rattle.isdbs_phy.proofs.answers.frame_size.Statement.{statement}
 use Rattle.isdbs_phy.proofs.answers.frame_size.Tie as tie
-use Rattle.isdbs_phy.proofs.answers.frame_size.Reads as reads
-use Rattle.isdbs_phy.proofs.answers.frame_size.Lts as lts
-use Rattle.isdbs_core.proofs.combination.Combination.steps_per_slot.Reads as steps-per-slot-reads
-use Rattle.isdbs_core.proofs.slots.runs.Reads as runs-reads
 
 abbrev Inv-loop : tie.InvT-loop
 Inv-loop count list valid steps₀ i₀ steps i = (i ≤ count) × (steps ≡ stepsTo (take count list) i)
@@ -20,16 +17,13 @@ Inv-loop count list valid steps₀ i₀ steps i = (i ≤ count) × (steps ≡ st
 abbrev μ-loop : tie.MeasureT-loop
 μ-loop count list valid steps₀ i₀ steps i = count - i
 
--- src/answers.rt:67:9
 runs-requires : tie.Need-runs-requires Inv-loop μ-loop
 runs-requires c κs = search needs
 
--- src/answers.rt:72:5
 loop-holds : tie.Need-loop-holds Inv-loop μ-loop
 unfolding stepsIn
 loop-holds c = (search needs, refl)
 
--- src/answers.rt:73:17
 mul-r : tie.Need-mul-r Inv-loop μ-loop
 mul-r c =
     let st = c .before .before .before .before in
@@ -44,7 +38,6 @@ mul-r c =
     let hs = c .before .loop .inv .1 in
     record { fits = omega arith }
 
--- src/answers.rt:73:17
 array-copy-out-r : tie.Need-array-copy-out-r Inv-loop μ-loop
 array-copy-out-r c =
     let st = c .before .before .before .before in
@@ -59,11 +52,9 @@ array-copy-out-r c =
     let hs = c .before .loop .inv .1 in
     omega arith
 
--- src/answers.rt:75:25
 steps-per-slot-requires : tie.Need-steps-per-slot-requires Inv-loop μ-loop
 steps-per-slot-requires c κs = search needs
 
--- src/answers.rt:75:25
 mul-steps : tie.Need-mul-steps Inv-loop μ-loop
 mul-steps c =
     let st = c .before .before .before .before .before .before .before in
@@ -82,7 +73,6 @@ mul-steps c =
     let ns = next-steps (st .args .t) (rn .result .count) (rn .result .runs) l i g in
     record { fits = omega arith }
 
--- src/answers.rt:75:17
 add-steps : tie.Need-add-steps Inv-loop μ-loop
 add-steps c =
     let st = c .before .before .before .before .before .before .before in
@@ -101,15 +91,12 @@ add-steps c =
     let ns = next-steps (st .args .t) (rn .result .count) (rn .result .runs) l i g in
     record { fits = omega arith }
 
--- src/answers.rt:72:9
 add-i : tie.Need-add-i Inv-loop μ-loop
 add-i c = search needs
 
--- src/answers.rt:72:5
 loop-less : tie.Need-loop-less Inv-loop μ-loop
 loop-less c = search needs
 
--- src/answers.rt:72:5
 loop-again : tie.Need-loop-again Inv-loop μ-loop
 loop-again c =
     let st = c .before .before .before .before .before .before .before in
@@ -128,7 +115,6 @@ loop-again c =
     let ns = next-steps (st .args .t) (rn .result .count) (rn .result .runs) l i g in
     (omega arith, omega arith)
 
--- src/answers.rt:78:16
 mul-t16 : tie.Need-mul-t16 Inv-loop μ-loop
 mul-t16 c =
     let st = c .before .before .before .before in
@@ -140,7 +126,6 @@ mul-t16 c =
     let v = valid-sum (st .args .t) (rn .result) (st .pre) (rn .ensures) in
     record { fits = omega arith }
 
--- src/answers.rt:63:1
 returns : tie.Need-returns Inv-loop μ-loop
 returns c =
     let st = c .before .before .before .before in

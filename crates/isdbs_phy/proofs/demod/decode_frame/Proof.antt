@@ -1,3 +1,4 @@
+-- `demod::decode_frame` meets its contract. Assumes nothing.
 use Rattle.isdbs_phy.proofs.Rows.{told, passed, refused-answer}
 use Rattle.isdbs_phy.specs.DecodeRows.{frameAnswer}
 use Rattle.isdb_fec.specs.Answers.{refused}
@@ -10,20 +11,13 @@ use mathlib.Core.Path.{_≡_, refl, sym, _∙_, ap}
 use borrow.Author.Needs.{needs}
 use Rattle.isdbs_phy.proofs.demod.decode_frame.Statement.{statement}
 use Rattle.isdbs_phy.proofs.demod.decode_frame.Tie as tie
-use Rattle.isdbs_phy.proofs.demod.decode_frame.Reads as reads
-use Rattle.isdbs_phy.proofs.demod.decode_frame.Lts as lts
-use Rattle.isdbs_phy.proofs.answers.decode_answer.Reads as decode-answer-reads
-use Rattle.isdbs_phy.proofs.answers.frame_size.Reads as frame-size-reads
-use Rattle.isdbs_phy.proofs.reading.decode.Reads as decode-reads
 
--- src/demod.rt:159:9
 decode-answer-requires : tie.Need-decode-answer-requires
 decode-answer-requires c κs = search needs
 
 enum-told : tie.Need-enum-told
 enum-told c = search needs
 
--- src/demod.rt:161:9
 returns : tie.Need-returns
 returns c =
     let st = c .before .before .before .before .before .before .before in
@@ -33,7 +27,6 @@ returns c =
       refused _ (λ q. n (da .ensures ∙ q)) (record { words = refl; decoded = refl; load = refl }),
     )
 
--- src/demod.rt:163:9
 frame-size-requires : tie.Need-frame-size-requires
 frame-size-requires c κs =
     let st = c .before .before .before .before .before .before .before .before in
@@ -42,7 +35,6 @@ frame-size-requires c κs =
     let p = passed (st .args .t) (st .args .re .now) (st .args .im .now) (st .args .o .«llr_scale») (length (st .args .decisions .now)) (length (st .args .bits .now)) (length (st .args .bytes .now)) ok in
     p .slots
 
--- src/demod.rt:164:5
 decode-requires : tie.Need-decode-requires
 decode-requires c κs =
     let st = c .before .before .before .before .before .before .before .before .before .before .before .before in
@@ -51,19 +43,15 @@ decode-requires c κs =
     let p = passed (st .args .t) (st .args .re .now) (st .args .im .now) (st .args .o .«llr_scale») (length (st .args .decisions .now)) (length (st .args .bits .now)) (length (st .args .bytes .now)) ok in
     (c .before .before .before .frame-size .ensures .1, p .slots, p .real, p .imaginary, p .words, p .places, p .room)
 
--- src/demod.rt:144:1
 same-length : tie.Need-same-length
 same-length c = search needs
 
--- src/demod.rt:144:1
 same-length-2 : tie.Need-same-length-2
 same-length-2 c = search needs
 
--- src/demod.rt:144:1
 same-length-3 : tie.Need-same-length-3
 same-length-3 c = search needs
 
--- src/demod.rt:144:1
 returns-2 : tie.Need-returns-2
 returns-2 c =
     let st = c .before .before .before .before .before .before .before .before .before .before .before .before .before .before .before .before .before .before .before in

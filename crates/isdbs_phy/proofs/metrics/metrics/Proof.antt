@@ -1,3 +1,4 @@
+-- `metrics::metrics` meets its contract. Assumes nothing.
 use Rattle.isdbs_phy.proofs.ByStep.{bpsk-metrics, qpsk-metrics, tc8psk-metrics, bpsk-reach, qpsk-reach, tc8psk-reach, period-small, place-small, base-small}
 use Rattle.isdbs_phy.specs.Layout.{stepsPerPeriod}
 use Rattle.trellis.specs.Step.{four}
@@ -7,26 +8,16 @@ use Prim.Native.Nat.{ℕ, _+_, _*_, _%_}
 use borrow.Author.Needs.{needs}
 use Rattle.isdbs_phy.proofs.metrics.metrics.Statement.{statement}
 use Rattle.isdbs_phy.proofs.metrics.metrics.Tie as tie
-use Rattle.isdbs_phy.proofs.metrics.metrics.Reads as reads
-use Rattle.isdbs_phy.proofs.metrics.metrics.Lts as lts
-use Rattle.isdbs_phy.proofs.metrics.bpsk_step.Reads as bpsk-step-reads
-use Rattle.isdbs_phy.proofs.metrics.qpsk_step.Reads as qpsk-step-reads
-use Rattle.isdbs_phy.proofs.metrics.subset_step.Reads as subset-step-reads
-use Rattle.isdbs_phy.proofs.metrics.symbol.Reads as symbol-reads
 
--- src/metrics.rt:237:29
 enum-told : tie.Need-enum-told
 enum-told c = search needs
 
--- src/metrics.rt:237:29
 bpsk-step-requires : tie.Need-bpsk-step-requires
 bpsk-step-requires c κs = let a = c .before .before .before .before in bpsk-reach (a .args .code .combination) (a .args .k) _ (sym (a .pre .0 .modulation) ∙ c .enum-told .given .1) (a .pre .3)
 
--- src/metrics.rt:238:29
 enum-told-2 : tie.Need-enum-told-2
 enum-told-2 c = search needs
 
--- src/metrics.rt:238:29
 qpsk-step-requires : tie.Need-qpsk-step-requires
 qpsk-step-requires c κs =
     let a = c .before .before .before .before in
@@ -43,28 +34,23 @@ qpsk-step-requires c κs =
     let l = a .pre .2 in
     (omega arith, omega arith, omega arith, omega arith)
 
--- src/metrics.rt:240:17
 enum-told-3 : tie.Need-enum-told-3
 enum-told-3 c = search needs
 
--- src/metrics.rt:240:17
 symbol-requires : tie.Need-symbol-requires
 symbol-requires c κs =
     let a = c .before .before .before .before in
     let e = sym (a .pre .0 .modulation) ∙ c .enum-told3 .given .1 in
     (tc8psk-reach (a .args .code .combination) (a .args .k) _ e (a .pre .3), tc8psk-reach (a .args .code .combination) (a .args .k) _ e (a .pre .4))
 
--- src/metrics.rt:241:13
 subset-step-requires : tie.Need-subset-step-requires
 subset-step-requires c κs = search needs
 
--- src/metrics.rt:231:1
 returns : tie.Need-returns
 returns c =
     let a = c .before .before .before .before .before in
     c .bpsk-step .ensures ∙ ap four (sym (bpsk-metrics (a .args .code .combination) (a .args .re .now) (a .args .im .now) (a .args .m) (a .args .scale) (a .args .k) (sym (a .pre .0 .modulation) ∙ c .before .enum-told .given .1)))
 
--- src/metrics.rt:231:1
 returns-2 : tie.Need-returns-2
 returns-2 c =
     let a = c .before .before .before .before .before in
@@ -75,7 +61,6 @@ returns-2 c =
     ∙ ap four (rw (a .pre .0 .count, a .pre .1 .base, a .pre .1 .place, a .pre .0 .places (2 * (k % stepsPerPeriod co)) (omega arith), a .pre .0 .places (2 * (k % stepsPerPeriod co) + 1) (omega arith))
     (sym (qpsk-metrics co (a .args .re .now) (a .args .im .now) (a .args .m) (a .args .scale) k (sym (a .pre .0 .modulation) ∙ c .before .enum-told2 .given .1))))
 
--- src/metrics.rt:231:1
 returns-3 : tie.Need-returns-3
 returns-3 c =
     let a = c .before .before .before .before .before .before in

@@ -1,3 +1,4 @@
+-- `reading::pack_plain` meets its contract. Assumes nothing.
 use Rattle.isdbs_phy.proofs.Packing.{state-more, byte-more, plain-is, tc8psk-is}
 use Rattle.isdbs_phy.proofs.FrameRuns.{tail-is}
 use Rattle.isdbs_phy.specs.LawsUpto.{length-laid-upto}
@@ -16,9 +17,6 @@ use Prim.Native.Nat.{ℕ, suc, _+_, _-_, _*_, _/_, _%_, _<_, _≤_}
 use mathlib.Core.Path.{_≡_, refl, sym, _∙_, ap}
 use Rattle.isdbs_phy.proofs.reading.pack_plain.Statement.{statement}
 use Rattle.isdbs_phy.proofs.reading.pack_plain.Tie as tie
-use Rattle.isdbs_phy.proofs.reading.pack_plain.Reads as reads
-use Rattle.isdbs_phy.proofs.reading.pack_plain.Lts as lts
-use Rattle.isdbs_phy.proofs.reading.plain_byte.Reads as plain-byte-reads
 
 abbrev Inv-loop : tie.InvT-loop
 Inv-loop bits n start bytes₀ state₀ j₀ bytes state j = (j ≤ n) × (state < 64) × (state ≡ stateAt 32 start bits (8 * j)) × (bytes ≡ laid (upto (λ h. byteOf (λ i. getD bits (8 * h + i) 0)) j) bytes₀)
@@ -26,28 +24,22 @@ Inv-loop bits n start bytes₀ state₀ j₀ bytes state j = (j ≤ n) × (state
 abbrev μ-loop : tie.MeasureT-loop
 μ-loop bits n start bytes₀ state₀ j₀ bytes state j = n - j
 
--- src/reading.rt:163:5
 loop-holds : tie.Need-loop-holds Inv-loop μ-loop
 unfolding upto stateAt
 loop-holds c = (search needs, search needs, refl, refl)
 
--- src/reading.rt:164:20
 mul-from : tie.Need-mul-from Inv-loop μ-loop
 mul-from c = search needs
 
--- src/reading.rt:165:28
 sub-plain-byte : tie.Need-sub-plain-byte Inv-loop μ-loop
 sub-plain-byte c = search needs
 
--- src/reading.rt:165:28
 part-plain-byte-start : tie.Need-part-plain-byte-start Inv-loop μ-loop
 part-plain-byte-start c = search needs
 
--- src/reading.rt:165:28
 part-plain-byte-end : tie.Need-part-plain-byte-end Inv-loop μ-loop
 part-plain-byte-end c = search needs
 
--- src/reading.rt:165:13
 plain-byte-requires : tie.Need-plain-byte-requires Inv-loop μ-loop
 plain-byte-requires c κs =
     let st = c .before .before .before .before .before in
@@ -57,7 +49,6 @@ plain-byte-requires c κs =
     let e = length-drop (8 * j) us in
     rw (tail-is (8 * j) us) (c .before .before .loop .inv .1, omega arith, λ i l. rw (getD-drop (8 * j) us i 0) (st .pre .3 (8 * j + i) (omega arith)))
 
--- src/reading.rt:166:9
 slice-write-bytes : tie.Need-slice-write-bytes Inv-loop μ-loop
 slice-write-bytes c =
     let st = c .before .before .before .before .before .before in
@@ -65,15 +56,12 @@ slice-write-bytes c =
     let e = ap length (c .before .before .before .loop .inv .3) ∙ length-laid-upto (λ h. byteOf (λ i. getD (st .args .bits .now) (8 * h + i) 0)) j (st .args .bytes .now) (omega arith) in
     omega arith
 
--- src/reading.rt:163:9
 add-j : tie.Need-add-j Inv-loop μ-loop
 add-j c = search needs
 
--- src/reading.rt:163:5
 loop-less : tie.Need-loop-less Inv-loop μ-loop
 loop-less c = search needs
 
--- src/reading.rt:163:5
 loop-again : tie.Need-loop-again Inv-loop μ-loop
 loop-again c =
     let st = c .before .before .before .before .before .before in
@@ -87,13 +75,11 @@ loop-again c =
       byte-more (λ h. byteOf (λ i. getD (st .args .bits .now) (8 * h + i) 0)) j _ _ (st .args .bytes .now) (omega arith) (h .3) (plain-is us j _ (n .0)),
     )
 
--- src/reading.rt:158:1
 same-length : tie.Need-same-length Inv-loop μ-loop
 same-length c =
     let st = c .before .before .before .before in
     ap length (c .before .loop .inv .3) ∙ length-laid-upto (λ h. byteOf (λ i. getD (st .args .bits .now) (8 * h + i) 0)) (c .before .loop .j) (st .args .bytes .now) (omega arith)
 
--- src/reading.rt:158:1
 returns : tie.Need-returns Inv-loop μ-loop
 returns c =
     let st = c .before .before .before .before in

@@ -1,3 +1,4 @@
+-- `reading::read_runs` meets its contract. Assumes nothing.
 use Rattle.isdbs_phy.proofs.FrameRuns.{listed-runs, steps-fit, next-steps, part-covers, step-is, all-steps}
 use Rattle.isdbs_phy.specs.Reading.{metricsAt}
 use Rattle.isdbs_core.specs.RunsOf.{stepsOf, stepsIn, frameSteps, noRun}
@@ -18,11 +19,6 @@ use Prim.Native.Nat.{ℕ, suc, _+_, _-_, _*_, _/_, _%_, _<_, _≤_}
 use mathlib.Core.Path.{_≡_, refl, sym, _∙_, ap}
 use Rattle.isdbs_phy.proofs.reading.read_runs.Statement.{statement}
 use Rattle.isdbs_phy.proofs.reading.read_runs.Tie as tie
-use Rattle.isdbs_phy.proofs.reading.read_runs.Reads as reads
-use Rattle.isdbs_phy.proofs.reading.read_runs.Lts as lts
-use Rattle.isdbs_core.proofs.combination.Combination.steps_per_slot.Reads as steps-per-slot-reads
-use Rattle.isdbs_core.proofs.slots.runs.Reads as runs-reads
-use Rattle.isdbs_phy.proofs.reading.read_run.Reads as read-run-reads
 
 abbrev Inv-loop : tie.InvT-loop
 Inv-loop m scale pm₀ re im decisions₀ bits₀ count list at₀ step₀ i₀ pm decisions bits at step i = (i ≤ count) × (length decisions ≡ length decisions₀) × (length bits ≡ length bits₀) × (step ≡ stepsTo (take count list) i) × (at .held < 4224) × (at .held + at .count ≡ step) × Holds 128 decisions₀ bits₀ (steps 128 (listMetrics (take count list) (received re im m scale)) (freshFrom pm₀) step) pm (at .held) (at .count) decisions bits
@@ -30,18 +26,15 @@ Inv-loop m scale pm₀ re im decisions₀ bits₀ count list at₀ step₀ i₀ 
 abbrev μ-loop : tie.MeasureT-loop
 μ-loop m scale pm₀ re im decisions₀ bits₀ count list at₀ step₀ i₀ pm decisions bits at step i = count - i
 
--- src/reading.rt:78:9
 runs-requires : tie.Need-runs-requires Inv-loop μ-loop
 runs-requires c κs = search needs
 
--- src/reading.rt:83:5
 loop-holds : tie.Need-loop-holds Inv-loop μ-loop
 unfolding after stepsIn
 loop-holds c =
     let st = c .before .before .before .before .before .before in
     (search needs, refl, refl, refl, search needs, refl, holds-start 128 (st .args .pm .now) 0 (st .args .decisions .now) (st .args .bits .now) (search needs))
 
--- src/reading.rt:84:17
 mul-r : tie.Need-mul-r Inv-loop μ-loop
 mul-r c =
     let st = c .before .before .before .before .before .before .before .before in
@@ -55,7 +48,6 @@ mul-r c =
     let few = l .few in
     record { fits = omega arith }
 
--- src/reading.rt:84:17
 array-copy-out-r : tie.Need-array-copy-out-r Inv-loop μ-loop
 array-copy-out-r c =
     let st = c .before .before .before .before .before .before .before .before in
@@ -69,11 +61,9 @@ array-copy-out-r c =
     let few = l .few in
     omega arith
 
--- src/reading.rt:86:17
 steps-per-slot-requires : tie.Need-steps-per-slot-requires Inv-loop μ-loop
 steps-per-slot-requires c κs = search needs
 
--- src/reading.rt:86:17
 mul-n : tie.Need-mul-n Inv-loop μ-loop
 mul-n c =
     let st = c .before .before .before .before .before .before .before .before .before .before .before in
@@ -93,7 +83,6 @@ mul-n c =
     let is = c .before .before .before .before .loop .inv .3 in
     record { fits = omega arith }
 
--- src/reading.rt:88:53
 mul-read-run : tie.Need-mul-read-run Inv-loop μ-loop
 mul-read-run c =
     let st = c .before .before .before .before .before .before .before .before .before .before .before .before in
@@ -107,7 +96,6 @@ mul-read-run c =
     let few = l .few in
     record { fits = omega arith }
 
--- src/reading.rt:88:53
 sub-read-run : tie.Need-sub-read-run Inv-loop μ-loop
 sub-read-run c =
     let st = c .before .before .before .before .before .before .before .before .before .before .before .before in
@@ -121,7 +109,6 @@ sub-read-run c =
     let few = l .few in
     omega arith
 
--- src/reading.rt:88:53
 part-read-run-start : tie.Need-part-read-run-start Inv-loop μ-loop
 part-read-run-start c =
     let st = c .before .before .before .before .before .before .before .before .before .before .before .before in
@@ -135,11 +122,9 @@ part-read-run-start c =
     let few = l .few in
     omega arith
 
--- src/reading.rt:88:53
 part-read-run-end : tie.Need-part-read-run-end Inv-loop μ-loop
 part-read-run-end c = search needs
 
--- src/reading.rt:88:66
 mul-read-run-2 : tie.Need-mul-read-run-2 Inv-loop μ-loop
 mul-read-run-2 c =
     let st = c .before .before .before .before .before .before .before .before .before .before .before .before .before in
@@ -153,7 +138,6 @@ mul-read-run-2 c =
     let few = l .few in
     record { fits = omega arith }
 
--- src/reading.rt:88:66
 sub-read-run-2 : tie.Need-sub-read-run-2 Inv-loop μ-loop
 sub-read-run-2 c =
     let st = c .before .before .before .before .before .before .before .before .before .before .before .before .before in
@@ -167,7 +151,6 @@ sub-read-run-2 c =
     let few = l .few in
     omega arith
 
--- src/reading.rt:88:66
 part-read-run-start-2 : tie.Need-part-read-run-start-2 Inv-loop μ-loop
 part-read-run-start-2 c =
     let st = c .before .before .before .before .before .before .before .before .before .before .before .before .before in
@@ -181,11 +164,9 @@ part-read-run-start-2 c =
     let few = l .few in
     omega arith
 
--- src/reading.rt:88:66
 part-read-run-end-2 : tie.Need-part-read-run-end-2 Inv-loop μ-loop
 part-read-run-end-2 c = search needs
 
--- src/reading.rt:88:9
 read-run-requires : tie.Need-read-run-requires Inv-loop μ-loop
 read-run-requires c κs =
     let st = c .before .before .before .before .before .before .before .before .before .before .before .before .before .before .before .before in
@@ -215,7 +196,6 @@ read-run-requires c κs =
       part-covers (st .args .t) (rn .result .count) (rn .result .runs) l i g (st .args .im .now) _ (st .pre .2) en,
     )
 
--- src/reading.rt:89:16
 add-step : tie.Need-add-step Inv-loop μ-loop
 add-step c =
     let st = c .before .before .before .before .before .before .before .before .before .before .before .before .before .before .before .before .before .before .before .before .before in
@@ -235,15 +215,12 @@ add-step c =
     let is = c .before .before .before .before .before .before .before .before .before .before .before .before .before .before .loop .inv .3 in
     record { fits = omega arith }
 
--- src/reading.rt:83:9
 add-i : tie.Need-add-i Inv-loop μ-loop
 add-i c = search needs
 
--- src/reading.rt:83:5
 loop-less : tie.Need-loop-less Inv-loop μ-loop
 loop-less c = search needs
 
--- src/reading.rt:83:5
 loop-again : tie.Need-loop-again Inv-loop μ-loop
 loop-again c =
     let st = c .before .before .before .before .before .before .before .before .before .before .before .before .before .before .before .before .before .before .before .before .before in
@@ -276,15 +253,12 @@ loop-again c =
           (λ k lt. step-is (st .args .t) (rn .result .count) (rn .result .runs) l i g (st .args .re .now) (st .args .im .now) (st .args .m) (st .args .scale) _ _ k is en lt) (h .6),
     )
 
--- src/reading.rt:74:1
 same-length : tie.Need-same-length Inv-loop μ-loop
 same-length c = search needs
 
--- src/reading.rt:74:1
 same-length-2 : tie.Need-same-length-2 Inv-loop μ-loop
 same-length-2 c = search needs
 
--- src/reading.rt:74:1
 returns : tie.Need-returns Inv-loop μ-loop
 unfolding metricsAt
 returns c =

@@ -1,3 +1,4 @@
+-- `reading::tc8psk_byte` meets its contract. Assumes nothing.
 use Rattle.isdbs_phy.proofs.Digits.{digits-six, piece-small}
 use Rattle.isdbs_phy.specs.Reading.{correlation}
 use Rattle.isdbs_phy.specs.Points.{point, turned, psk8Of, subset, zero64}
@@ -16,10 +17,6 @@ use Prim.Native.Nat.{ℕ, suc, _+_, _-_, _*_, _/_, _%_, _<_, _≤_}
 use mathlib.Core.Path.{_≡_, refl, sym, _∙_, ap}
 use Rattle.isdbs_phy.proofs.reading.tc8psk_byte.Statement.{statement}
 use Rattle.isdbs_phy.proofs.reading.tc8psk_byte.Tie as tie
-use Rattle.isdbs_phy.proofs.reading.tc8psk_byte.Reads as reads
-use Rattle.isdbs_phy.proofs.reading.tc8psk_byte.Lts as lts
-use Rattle.isdb_fec.proofs.conv.encode_bit.Reads as encode-bit-reads
-use Rattle.isdbs_phy.proofs.reading.uncoded_bit.Reads as uncoded-bit-reads
 
 abbrev Inv-loop : tie.InvT-loop
 Inv-loop re im m bits start byte₀ state₀ i₀ byte state i = (i ≤ 4) × (byte ≡ digits (pieceBit «Tc8psk2_3» re im m start bits) (2 * i)) × (state ≡ stateAt 32 start bits i) × (state < 64)
@@ -27,20 +24,16 @@ Inv-loop re im m bits start byte₀ state₀ i₀ byte state i = (i ≤ 4) × (b
 abbrev μ-loop : tie.MeasureT-loop
 μ-loop re im m bits start byte₀ state₀ i₀ byte state i = 4 - i
 
--- src/reading.rt:146:5
 loop-holds : tie.Need-loop-holds Inv-loop μ-loop
 unfolding digits stateAt
 loop-holds c = (search needs, refl, refl, search needs)
 
--- src/reading.rt:147:17
 shared-slice-read-u : tie.Need-shared-slice-read-u Inv-loop μ-loop
 shared-slice-read-u c = search needs
 
--- src/reading.rt:148:13
 encode-bit-requires : tie.Need-encode-bit-requires Inv-loop μ-loop
 encode-bit-requires c κs = search needs
 
--- src/reading.rt:149:41
 mul-uncoded-bit : tie.Need-mul-uncoded-bit Inv-loop μ-loop
 mul-uncoded-bit c =
     let st = c .before .before .before .before .before .before .before .before in
@@ -57,7 +50,6 @@ mul-uncoded-bit c =
     let ey = en .1 in
     record { fits = omega arith }
 
--- src/reading.rt:149:41
 add-uncoded-bit : tie.Need-add-uncoded-bit Inv-loop μ-loop
 add-uncoded-bit c =
     let st = c .before .before .before .before .before .before .before .before .before in
@@ -74,7 +66,6 @@ add-uncoded-bit c =
     let ey = en .1 in
     record { fits = omega arith }
 
--- src/reading.rt:149:13
 uncoded-bit-requires : tie.Need-uncoded-bit-requires Inv-loop μ-loop
 uncoded-bit-requires c κs =
     let st = c .before .before .before .before .before .before .before .before .before in
@@ -91,7 +82,6 @@ uncoded-bit-requires c κs =
     let ey = en .1 in
     (omega arith, omega arith, omega arith)
 
--- src/reading.rt:150:21
 mul-byte : tie.Need-mul-byte Inv-loop μ-loop
 mul-byte c =
     let st = c .before .before .before .before .before .before .before .before .before .before in
@@ -112,7 +102,6 @@ mul-byte c =
     let c2 = rw (← ec) at (bit-small (lt (correlation (point (getD (st .args .re .now) i nan) (turned (st .args .m .conjugate) (getD (st .args .im .now) i nan))) (psk8Of (subset (st .args .m .«tc8psk_c1_is_y») (2 * (c .before .before .before .encode-bit .result .x) + c .before .before .before .encode-bit .result .y)))) zero64)) in
     record { fits = omega arith }
 
--- src/reading.rt:150:21
 add-byte : tie.Need-add-byte Inv-loop μ-loop
 add-byte c =
     let st = c .before .before .before .before .before .before .before .before .before .before in
@@ -133,7 +122,6 @@ add-byte c =
     let c2 = rw (← ec) at (bit-small (lt (correlation (point (getD (st .args .re .now) i nan) (turned (st .args .m .conjugate) (getD (st .args .im .now) i nan))) (psk8Of (subset (st .args .m .«tc8psk_c1_is_y») (2 * (c .before .before .before .encode-bit .result .x) + c .before .before .before .encode-bit .result .y)))) zero64)) in
     record { fits = omega arith }
 
--- src/reading.rt:150:16
 mul-byte-2 : tie.Need-mul-byte-2 Inv-loop μ-loop
 mul-byte-2 c =
     let st = c .before .before .before .before .before .before .before .before .before .before in
@@ -154,7 +142,6 @@ mul-byte-2 c =
     let c2 = rw (← ec) at (bit-small (lt (correlation (point (getD (st .args .re .now) i nan) (turned (st .args .m .conjugate) (getD (st .args .im .now) i nan))) (psk8Of (subset (st .args .m .«tc8psk_c1_is_y») (2 * (c .before .before .before .encode-bit .result .x) + c .before .before .before .encode-bit .result .y)))) zero64)) in
     record { fits = omega arith }
 
--- src/reading.rt:150:16
 add-byte-2 : tie.Need-add-byte-2 Inv-loop μ-loop
 add-byte-2 c =
     let st = c .before .before .before .before .before .before .before .before .before .before in
@@ -175,15 +162,12 @@ add-byte-2 c =
     let c2 = rw (← ec) at (bit-small (lt (correlation (point (getD (st .args .re .now) i nan) (turned (st .args .m .conjugate) (getD (st .args .im .now) i nan))) (psk8Of (subset (st .args .m .«tc8psk_c1_is_y») (2 * (c .before .before .before .encode-bit .result .x) + c .before .before .before .encode-bit .result .y)))) zero64)) in
     record { fits = omega arith }
 
--- src/reading.rt:146:9
 add-i : tie.Need-add-i Inv-loop μ-loop
 add-i c = search needs
 
--- src/reading.rt:146:5
 loop-less : tie.Need-loop-less Inv-loop μ-loop
 loop-less c = search needs
 
--- src/reading.rt:146:5
 loop-again : tie.Need-loop-again Inv-loop μ-loop
 unfolding stateAt
 loop-again c =
@@ -210,7 +194,6 @@ loop-again c =
       let z = en .2 in omega arith,
     )
 
--- src/reading.rt:140:1
 returns : tie.Need-returns Inv-loop μ-loop
 returns c =
     let st = c .before .before .before .before .before in

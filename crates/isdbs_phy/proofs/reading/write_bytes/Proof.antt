@@ -1,3 +1,4 @@
+-- `reading::write_bytes` meets its contract. Assumes nothing.
 use Rattle.isdbs_phy.proofs.FrameRuns.{tail-is}
 use lib.ListN.{length-drop}
 use mathlib.Core.List.{_++_}
@@ -20,11 +21,6 @@ use mathlib.Core.List.{List, []}
 use mathlib.Core.Path.{_≡_, refl, sym, _∙_, ap}
 use Rattle.isdbs_phy.proofs.reading.write_bytes.Statement.{statement}
 use Rattle.isdbs_phy.proofs.reading.write_bytes.Tie as tie
-use Rattle.isdbs_phy.proofs.reading.write_bytes.Reads as reads
-use Rattle.isdbs_phy.proofs.reading.write_bytes.Lts as lts
-use Rattle.isdbs_core.proofs.combination.Combination.steps_per_slot.Reads as steps-per-slot-reads
-use Rattle.isdbs_core.proofs.slots.runs.Reads as runs-reads
-use Rattle.isdbs_phy.proofs.reading.pack_run.Reads as pack-run-reads
 
 abbrev Inv-loop : tie.InvT-loop
 Inv-loop m start re im bits bytes₀ count list state₀ step₀ done₀ i₀ bytes state step done i = (i ≤ count) × (state < 64) × (step ≡ stepsTo (take count list) i) × (done ≡ 203 * validTo (take count list) i) × (state ≡ stateAt 32 start bits step) × ((scale : Float) → bytes ≡ laid (upto (listByte (take count list) (received re im m scale) start bits) done) bytes₀)
@@ -32,16 +28,13 @@ Inv-loop m start re im bits bytes₀ count list state₀ step₀ done₀ i₀ by
 abbrev μ-loop : tie.MeasureT-loop
 μ-loop m start re im bits bytes₀ count list state₀ step₀ done₀ i₀ bytes state step done i = count - i
 
--- src/reading.rt:213:9
 runs-requires : tie.Need-runs-requires Inv-loop μ-loop
 runs-requires c κs = search needs
 
--- src/reading.rt:219:5
 loop-holds : tie.Need-loop-holds Inv-loop μ-loop
 unfolding stepsIn validIn stateAt upto
 loop-holds c = (search needs, c .before .before .before .before .before .before .pre .0, refl, refl, refl, λ scale. refl)
 
--- src/reading.rt:220:17
 mul-r : tie.Need-mul-r Inv-loop μ-loop
 mul-r c =
     let st = c .before .before .before .before .before .before .before .before in
@@ -63,7 +56,6 @@ mul-r c =
     let lb = ap length (h .5 nan) ∙ length-laid-upto (listByte (take (rn .result .count) (rn .result .runs)) (received (st .args .re .now) (st .args .im .now) (st .args .m) nan) (st .args .start) (st .args .bits .now)) (c .before .loop .done) (st .args .bytes .now) (omega arith) in
     record { fits = omega arith }
 
--- src/reading.rt:220:17
 array-copy-out-r : tie.Need-array-copy-out-r Inv-loop μ-loop
 array-copy-out-r c =
     let st = c .before .before .before .before .before .before .before .before in
@@ -85,7 +77,6 @@ array-copy-out-r c =
     let lb = ap length (h .5 nan) ∙ length-laid-upto (listByte (take (rn .result .count) (rn .result .runs)) (received (st .args .re .now) (st .args .im .now) (st .args .m) nan) (st .args .start) (st .args .bits .now)) (c .before .loop .done) (st .args .bytes .now) (omega arith) in
     omega arith
 
--- src/reading.rt:223:17
 mul-n : tie.Need-mul-n Inv-loop μ-loop
 mul-n c =
     let st = c .before .before .before .before .before .before .before .before .before .before in
@@ -107,7 +98,6 @@ mul-n c =
     let lb = ap length (h .5 nan) ∙ length-laid-upto (listByte (take (rn .result .count) (rn .result .runs)) (received (st .args .re .now) (st .args .im .now) (st .args .m) nan) (st .args .start) (st .args .bits .now)) (c .before .before .before .loop .done) (st .args .bytes .now) (omega arith) in
     record { fits = omega arith }
 
--- src/reading.rt:224:32
 mul-pack-run : tie.Need-mul-pack-run Inv-loop μ-loop
 mul-pack-run c =
     let st = c .before .before .before .before .before .before .before .before .before .before in
@@ -129,7 +119,6 @@ mul-pack-run c =
     let lb = ap length (h .5 nan) ∙ length-laid-upto (listByte (take (rn .result .count) (rn .result .runs)) (received (st .args .re .now) (st .args .im .now) (st .args .m) nan) (st .args .start) (st .args .bits .now)) (c .before .before .before .loop .done) (st .args .bytes .now) (omega arith) in
     record { fits = omega arith }
 
--- src/reading.rt:224:32
 sub-pack-run : tie.Need-sub-pack-run Inv-loop μ-loop
 sub-pack-run c =
     let st = c .before .before .before .before .before .before .before .before .before .before in
@@ -151,7 +140,6 @@ sub-pack-run c =
     let lb = ap length (h .5 nan) ∙ length-laid-upto (listByte (take (rn .result .count) (rn .result .runs)) (received (st .args .re .now) (st .args .im .now) (st .args .m) nan) (st .args .start) (st .args .bits .now)) (c .before .before .before .loop .done) (st .args .bytes .now) (omega arith) in
     omega arith
 
--- src/reading.rt:224:32
 part-pack-run-start : tie.Need-part-pack-run-start Inv-loop μ-loop
 part-pack-run-start c =
     let st = c .before .before .before .before .before .before .before .before .before .before in
@@ -173,11 +161,9 @@ part-pack-run-start c =
     let lb = ap length (h .5 nan) ∙ length-laid-upto (listByte (take (rn .result .count) (rn .result .runs)) (received (st .args .re .now) (st .args .im .now) (st .args .m) nan) (st .args .start) (st .args .bits .now)) (c .before .before .before .loop .done) (st .args .bytes .now) (omega arith) in
     omega arith
 
--- src/reading.rt:224:32
 part-pack-run-end : tie.Need-part-pack-run-end Inv-loop μ-loop
 part-pack-run-end c = search needs
 
--- src/reading.rt:224:45
 mul-pack-run-2 : tie.Need-mul-pack-run-2 Inv-loop μ-loop
 mul-pack-run-2 c =
     let st = c .before .before .before .before .before .before .before .before .before .before .before in
@@ -199,7 +185,6 @@ mul-pack-run-2 c =
     let lb = ap length (h .5 nan) ∙ length-laid-upto (listByte (take (rn .result .count) (rn .result .runs)) (received (st .args .re .now) (st .args .im .now) (st .args .m) nan) (st .args .start) (st .args .bits .now)) (c .before .before .before .before .loop .done) (st .args .bytes .now) (omega arith) in
     record { fits = omega arith }
 
--- src/reading.rt:224:45
 sub-pack-run-2 : tie.Need-sub-pack-run-2 Inv-loop μ-loop
 sub-pack-run-2 c =
     let st = c .before .before .before .before .before .before .before .before .before .before .before in
@@ -221,7 +206,6 @@ sub-pack-run-2 c =
     let lb = ap length (h .5 nan) ∙ length-laid-upto (listByte (take (rn .result .count) (rn .result .runs)) (received (st .args .re .now) (st .args .im .now) (st .args .m) nan) (st .args .start) (st .args .bits .now)) (c .before .before .before .before .loop .done) (st .args .bytes .now) (omega arith) in
     omega arith
 
--- src/reading.rt:224:45
 part-pack-run-start-2 : tie.Need-part-pack-run-start-2 Inv-loop μ-loop
 part-pack-run-start-2 c =
     let st = c .before .before .before .before .before .before .before .before .before .before .before in
@@ -243,11 +227,9 @@ part-pack-run-start-2 c =
     let lb = ap length (h .5 nan) ∙ length-laid-upto (listByte (take (rn .result .count) (rn .result .runs)) (received (st .args .re .now) (st .args .im .now) (st .args .m) nan) (st .args .start) (st .args .bits .now)) (c .before .before .before .before .loop .done) (st .args .bytes .now) (omega arith) in
     omega arith
 
--- src/reading.rt:224:45
 part-pack-run-end-2 : tie.Need-part-pack-run-end-2 Inv-loop μ-loop
 part-pack-run-end-2 c = search needs
 
--- src/reading.rt:224:58
 sub-pack-run-3 : tie.Need-sub-pack-run-3 Inv-loop μ-loop
 sub-pack-run-3 c =
     let st = c .before .before .before .before .before .before .before .before .before .before .before .before in
@@ -269,7 +251,6 @@ sub-pack-run-3 c =
     let lb = ap length (h .5 nan) ∙ length-laid-upto (listByte (take (rn .result .count) (rn .result .runs)) (received (st .args .re .now) (st .args .im .now) (st .args .m) nan) (st .args .start) (st .args .bits .now)) (c .before .before .before .before .before .loop .done) (st .args .bytes .now) (omega arith) in
     omega arith
 
--- src/reading.rt:224:58
 part-pack-run-start-3 : tie.Need-part-pack-run-start-3 Inv-loop μ-loop
 part-pack-run-start-3 c =
     let st = c .before .before .before .before .before .before .before .before .before .before .before .before in
@@ -291,11 +272,9 @@ part-pack-run-start-3 c =
     let lb = ap length (h .5 nan) ∙ length-laid-upto (listByte (take (rn .result .count) (rn .result .runs)) (received (st .args .re .now) (st .args .im .now) (st .args .m) nan) (st .args .start) (st .args .bits .now)) (c .before .before .before .before .before .loop .done) (st .args .bytes .now) (omega arith) in
     omega arith
 
--- src/reading.rt:224:58
 part-pack-run-end-3 : tie.Need-part-pack-run-end-3 Inv-loop μ-loop
 part-pack-run-end-3 c = search needs
 
--- src/reading.rt:224:83
 sub-pack-run-4 : tie.Need-sub-pack-run-4 Inv-loop μ-loop
 sub-pack-run-4 c =
     let st = c .before .before .before .before .before .before .before .before .before .before .before .before .before in
@@ -317,7 +296,6 @@ sub-pack-run-4 c =
     let lb = ap length (h .5 nan) ∙ length-laid-upto (listByte (take (rn .result .count) (rn .result .runs)) (received (st .args .re .now) (st .args .im .now) (st .args .m) nan) (st .args .start) (st .args .bits .now)) (c .before .before .before .before .before .before .loop .done) (st .args .bytes .now) (omega arith) in
     omega arith
 
--- src/reading.rt:224:83
 part-pack-run-start-4 : tie.Need-part-pack-run-start-4 Inv-loop μ-loop
 part-pack-run-start-4 c =
     let st = c .before .before .before .before .before .before .before .before .before .before .before .before .before in
@@ -339,11 +317,9 @@ part-pack-run-start-4 c =
     let lb = ap length (h .5 nan) ∙ length-laid-upto (listByte (take (rn .result .count) (rn .result .runs)) (received (st .args .re .now) (st .args .im .now) (st .args .m) nan) (st .args .start) (st .args .bits .now)) (c .before .before .before .before .before .before .loop .done) (st .args .bytes .now) (omega arith) in
     omega arith
 
--- src/reading.rt:224:83
 part-pack-run-end-4 : tie.Need-part-pack-run-end-4 Inv-loop μ-loop
 part-pack-run-end-4 c = search needs
 
--- src/reading.rt:224:9
 pack-run-requires : tie.Need-pack-run-requires Inv-loop μ-loop
 pack-run-requires c κs =
     let st = c .before .before .before .before .before .before .before .before .before .before .before .before .before .before in
@@ -370,11 +346,9 @@ pack-run-requires c κs =
       rw (tail-is (c .before .before .before .before .before .before .before .loop .done) (c .before .before .before .before .before .before .before .loop .bytes)) (omega arith),
     )
 
--- src/reading.rt:225:23
 steps-per-slot-requires : tie.Need-steps-per-slot-requires Inv-loop μ-loop
 steps-per-slot-requires c κs = search needs
 
--- src/reading.rt:225:23
 mul-step : tie.Need-mul-step Inv-loop μ-loop
 mul-step c =
     let st = c .before .before .before .before .before .before .before .before .before .before .before .before .before .before .before .before .before .before .before in
@@ -399,7 +373,6 @@ mul-step c =
     let en : sp .result * r .«valid_slots» ≡ stepsOf r = ap (λ (x : ℕ). x * r .«valid_slots») (sp .ensures) in
     record { fits = omega arith }
 
--- src/reading.rt:225:16
 add-step : tie.Need-add-step Inv-loop μ-loop
 add-step c =
     let st = c .before .before .before .before .before .before .before .before .before .before .before .before .before .before .before .before .before .before .before in
@@ -424,7 +397,6 @@ add-step c =
     let en : sp .result * r .«valid_slots» ≡ stepsOf r = ap (λ (x : ℕ). x * r .«valid_slots») (sp .ensures) in
     record { fits = omega arith }
 
--- src/reading.rt:226:16
 add-done : tie.Need-add-done Inv-loop μ-loop
 add-done c =
     let st = c .before .before .before .before .before .before .before .before .before .before .before .before .before .before .before .before .before .before .before in
@@ -446,15 +418,12 @@ add-done c =
     let lb = ap length (h .5 nan) ∙ length-laid-upto (listByte (take (rn .result .count) (rn .result .runs)) (received (st .args .re .now) (st .args .im .now) (st .args .m) nan) (st .args .start) (st .args .bits .now)) (c .before .before .before .before .before .before .before .before .before .before .before .before .loop .done) (st .args .bytes .now) (omega arith) in
     record { fits = omega arith }
 
--- src/reading.rt:219:9
 add-i : tie.Need-add-i Inv-loop μ-loop
 add-i c = search needs
 
--- src/reading.rt:219:5
 loop-less : tie.Need-loop-less Inv-loop μ-loop
 loop-less c = search needs
 
--- src/reading.rt:219:5
 loop-again : tie.Need-loop-again Inv-loop μ-loop
 loop-again c =
     let st = c .before .before .before .before .before .before .before .before .before .before .before .before .before .before .before .before .before .before .before in
@@ -494,7 +463,6 @@ loop-again c =
           ∙ laid-part (listByte (take (rn .result .count) (rn .result .runs)) (received (st .args .re .now) (st .args .im .now) (st .args .m) scale) (st .args .start) (st .args .bits .now)) (λ j. byteOf (λ k. pieceBit (r .combination) (take (length (st .args .re .now) - r .«symbol_start») (drop (r .«symbol_start») (st .args .re .now))) (take (length (st .args .im .now) - r .«symbol_start») (drop (r .«symbol_start») (st .args .im .now))) (st .args .m) x (take (length (st .args .bits .now) - step) (drop step (st .args .bits .now))) (8 * j + k))) done (203 * r .«valid_slots») (st .args .bytes .now) (λ j q. run-byte (st .args .t) (rn .result .count) (rn .result .runs) l i g (st .args .re .now) (st .args .im .now) (st .args .m) (st .args .start) (st .args .bits .now) scale step done x hs hd (h .4) j q),
     )
 
--- src/reading.rt:209:1
 same-length : tie.Need-same-length Inv-loop μ-loop
 same-length c =
     let st = c .before .before .before .before .before .before .before .before in
@@ -507,7 +475,6 @@ same-length c =
     let v = st .pre .6 in
     ap length (h .5 nan) ∙ length-laid-upto (listByte (take (rn .result .count) (rn .result .runs)) (received (st .args .re .now) (st .args .im .now) (st .args .m) nan) (st .args .start) (st .args .bits .now)) (c .before .loop .done) (st .args .bytes .now) (omega arith)
 
--- src/reading.rt:209:1
 returns : tie.Need-returns Inv-loop μ-loop
 returns c =
     let st = c .before .before .before .before .before .before .before .before in
