@@ -23,21 +23,24 @@
  *
  * A mapping is one byte: bit 0 conjugate, bit 1 qpsk_p1_on_q, bit 2 tc8psk_c1_is_y (4 is the usual one). Its other bits do not count.
  *
- * Example:
+ * Example (compare/c/example.c):
  *
  *   #include <stdio.h>
  *   #include "isdb.h"
  *
+ *   static double re[38976], im[38976];
+ *   static uint64_t decisions[4224];
+ *   static uint8_t bits[7 * 1624 + 16], bytes[7 * 203];
+ *
  *   int main(void) {
- *       uint64_t table = 7 | 44 << 8 | (uint64_t)(1 | 4 << 8) << 16 | (uint64_t)0x000f000f << 32;  // 44 slots of TC8PSK, then 4 of BPSK
- *       uint32_t runs[24], count;
- *       uint32_t answer = isdbs_runs(table, runs, 24, &count);
- *       if (answer != 0) {
- *           printf("refused: row %u\n", answer);
- *           return 1;
- *       }
- *       for (uint32_t i = 0; i < count; i++)
- *           printf("word %u: symbols %u to %u\n", runs[6 * i], runs[6 * i + 4], runs[6 * i + 5] - 1);
+ *       uint64_t table = 6 | 8 << 8 | (uint64_t)0x000f000f000f << 16; // 8 slots of QPSK 7/8, of which 7 are valid; no other entry
+ *       uint8_t load[7 * 203], end;
+ *       for (int i = 0; i < 7 * 203; i++) load[i] = (uint8_t)(i * 37);
+ *       uint32_t made = isdbs_encode_frame(load, sizeof load, table, 4, 0, re, 38976, im, 38976, &end);
+ *       uint32_t read = isdbs_decode_frame(re, 38976, im, 38976, table, 4, 1, 1, 8.0f, decisions, 4224, bits, sizeof bits, bytes, sizeof bytes);
+ *       int same = 0;
+ *       for (int i = 0; i < 7 * 203; i++) same += bytes[i] == load[i];
+ *       printf("answers %u and %u, %d of %d bytes the same\n", made, read, same, 7 * 203);
  *       return 0;
  *   }
  *
@@ -71,6 +74,14 @@ uint32_t isdbs_bit_symbol(uint8_t word, uint64_t bit, uint64_t *out);
  * every run are (0, 0). Needs 38,976 places of either part and writes as many. Rows 1, 4, 9. */
 uint32_t isdbs_encode_frame(const uint8_t *bytes, size_t bytes_len, uint64_t table, uint8_t mapping, uint8_t state,
                             double *re, size_t re_len, double *im, size_t im_len, uint8_t *end);
+
+/* The bytes of a frame from its 38,976 points; points past them are not read. `first`: the first frame of a superframe (any number but 0).
+ * `known_start`: the decoder starts in that frame's start state (any number but 0), else in no known one. `llr_scale` (usually 8) scales the soft values.
+ * Afterwards `bits` begins with steps + 16 decoded bits, one in a byte, the first 4,224 words of `decisions` are 0, and `bytes` begins with 203 bytes
+ * for each valid slot. A trellis step is an information bit; TC8PSK takes two bits a step. At most 68,224 bits and 9,744 bytes. Rows 1, 6, 7, 8, 9. */
+uint32_t isdbs_decode_frame(const double *re, size_t re_len, const double *im, size_t im_len, uint64_t table, uint8_t mapping,
+                            uint8_t first, uint8_t known_start, float llr_scale,
+                            uint64_t *decisions, size_t decisions_len, uint8_t *bits, size_t bits_len, uint8_t *bytes, size_t bytes_len);
 
 /* The decoder of the code of constraint length 7 with generators 171 and 133 octal. Its state is the caller's: 64 path values (0 at a known start
  * state and -1,000,000 elsewhere, or all 0), how many decision words are held (0) and the traceback (1 to 1,024). The held words are the first of

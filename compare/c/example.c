@@ -1,16 +1,19 @@
-/* The example of include/isdb.h: the runs of a table. */
+/* The example of include/isdb.h: a frame of one QPSK 7/8 unit is made and read again. */
 #include <stdio.h>
 #include "isdb.h"
 
+static double re[38976], im[38976];
+static uint64_t decisions[4224];
+static uint8_t bits[7 * 1624 + 16], bytes[7 * 203];
+
 int main(void) {
-    uint64_t table = 7 | 44 << 8 | (uint64_t)(1 | 4 << 8) << 16 | (uint64_t)0x000f000f << 32; /* 44 slots of TC8PSK, then 4 of BPSK */
-    uint32_t runs[24], count;
-    uint32_t answer = isdbs_runs(table, runs, 24, &count);
-    if (answer != 0) {
-        printf("refused: row %u\n", answer);
-        return 1;
-    }
-    for (uint32_t i = 0; i < count; i++)
-        printf("word %u: symbols %u to %u\n", runs[6 * i], runs[6 * i + 4], runs[6 * i + 5] - 1);
+    uint64_t table = 6 | 8 << 8 | (uint64_t)0x000f000f000f << 16; /* 8 slots of QPSK 7/8, of which 7 are valid; no other entry */
+    uint8_t load[7 * 203], end;
+    for (int i = 0; i < 7 * 203; i++) load[i] = (uint8_t)(i * 37);
+    uint32_t made = isdbs_encode_frame(load, sizeof load, table, 4, 0, re, 38976, im, 38976, &end);
+    uint32_t read = isdbs_decode_frame(re, 38976, im, 38976, table, 4, 1, 1, 8.0f, decisions, 4224, bits, sizeof bits, bytes, sizeof bytes);
+    int same = 0;
+    for (int i = 0; i < 7 * 203; i++) same += bytes[i] == load[i];
+    printf("answers %u and %u, %d of %d bytes the same\n", made, read, same, 7 * 203);
     return 0;
 }

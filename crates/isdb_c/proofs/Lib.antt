@@ -3,3 +3,4 @@ pub mod Runs
 pub mod Answers
 pub mod Decoders
 pub mod Rates
+pub mod Frames

@@ -1,14 +1,19 @@
 // Calls on whole frames.
 use crate::table::table_of;
 use isdb_fec::conv::ConvEncoder;
+use isdbs_phy::demod::DemodOptions;
+use isdbs_phy::demod::FrameDecoded;
 use isdbs_phy::demod::Mapping;
 ghost use mathlib.Core.Path.{_≡_};
-ghost use lib.ListN.{length};
+ghost use lib.ListN.{length, replicate};
 ghost use Rattle.trellis.specs.Lists.{laid};
 ghost use Rattle.isdbs_phy.specs.Frame.{endState, frameRe, frameIm};
 ghost use Rattle.isdbs_phy.specs.Encoding.{encodeRows};
+ghost use Rattle.isdbs_phy.specs.DecodeRows.{decodeRows};
+ghost use Rattle.isdbs_phy.specs.Steps.{received};
+ghost use Rattle.isdbs_phy.specs.Reading.{decodedBits, decodedBytes};
 ghost use Rattle.isdb_c.specs.Forms.{tableOf};
-ghost use Rattle.isdb_c.specs.Mappings.{mappingOf};
+ghost use Rattle.isdb_c.specs.Mappings.{mappingOf, isSet};
 ghost use Rattle.isdb_c.specs.Rows.{answered, left};
 
 // The mapping of a number.
@@ -50,4 +55,37 @@ pub extern "C" fn isdbs_encode_frame(
     let after = made.enc;
     *end = after.state;
     0
+}
+
+// The bytes of a frame from its 38,976 points. `first` and `known_start` are true unless 0.
+#[no_mangle]
+pub extern "C" fn isdbs_decode_frame(
+    re: &[f64],
+    im: &[f64],
+    table: u64,
+    mapping: u8,
+    first: u8,
+    known_start: u8,
+    llr_scale: f32,
+    decisions: &mut [u64],
+    bits: &mut [u8],
+    bytes: &mut [u8],
+) -> u32
+    ensures answers { λ r. ⌜ r ≡ answered (decodeRows (tableOf table) (now (re .entry)) (now (im .entry)) «llr_scale» (length (now (decisions .entry))) (length (now (bits .entry))) (length (now (bytes .entry)))) ⌝ }
+    ensures words { λ r. ⌜ now (decisions .exit) ≡ left r (laid (replicate 4224 0) (now (decisions .entry))) (now (decisions .entry)) ⌝ }
+    ensures decoded { λ r. ⌜ now (bits .exit) ≡ left r (laid (decodedBits (tableOf table) (received (now (re .entry)) (now (im .entry)) (mappingOf mapping) «llr_scale») (isSet «known_start») (isSet first)) (now (bits .entry))) (now (bits .entry)) ⌝ }
+    ensures load { λ r. ⌜ now (bytes .exit) ≡ left r (laid (decodedBytes (tableOf table) (received (now (re .entry)) (now (im .entry)) (mappingOf mapping) «llr_scale») (isSet «known_start») (isSet first)) (now (bytes .entry))) (now (bytes .entry)) ⌝ }
+{
+    let t = table_of(table);
+    let m = mapping_of(mapping);
+    let o = DemodOptions {
+        mapping: m,
+        known_start: known_start != 0,
+        llr_scale,
+    };
+    let r = isdbs_phy::demod::decode_frame(re, im, t, first != 0, o, decisions, bits, bytes);
+    match r {
+        FrameDecoded::Decoded(_, _) => 0,
+        FrameDecoded::Refused(a) => refusal::number(a),
+    }
 }
