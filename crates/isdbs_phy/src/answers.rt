@@ -61,7 +61,7 @@ pub struct Size {
     pub steps: usize,
 }
 
-pub fn frame_size(t: Table) -> Size
+pub(crate) fn frame_size(t: Table) -> Size
     requires { ⌜ slotSum (t .entries) ≤ 48 ⌝ }
     ensures { λ r. ⌜ (r .bytes ≡ loadBytes t) × (r .steps ≡ frameSteps t) ⌝ }
 {

@@ -94,7 +94,7 @@ pub struct Phase {
 }
 
 // The next step's.
-pub fn next_phase(p: Phase, period: usize, count: usize) -> Phase
+pub(crate) fn next_phase(p: Phase, period: usize, count: usize) -> Phase
     requires { ⌜ (p .q < period) × (p .base + count < 2 ^ 32) ⌝ }
     ensures { λ r. ⌜ (r .q ≡ cond (eqb (p .q + 1) period) 0 (p .q + 1)) × (r .base ≡ cond (eqb (p .q + 1) period) (p .base + count) (p .base)) ⌝ }
 {
@@ -221,7 +221,7 @@ fn subset_step(v: Cplx, c1_is_y: bool, scale: f32) -> Step
 }
 
 // The point of symbol k as it is read.
-pub fn symbol(re: &[f64], im: &[f64], conjugate: bool, k: usize) -> Cplx
+pub(crate) fn symbol(re: &[f64], im: &[f64], conjugate: bool, k: usize) -> Cplx
     requires { ⌜ (k < length (now re)) × (k < length (now im)) ⌝ }
     ensures { λ r. ⌜ r ≡ point (getD (now (re .entry)) k nan) (turned conjugate (getD (now (im .entry)) k nan)) ⌝ }
 {
@@ -232,7 +232,7 @@ pub fn symbol(re: &[f64], im: &[f64], conjugate: bool, k: usize) -> Cplx
 }
 
 // The metrics of step k of a run.
-pub fn metrics(
+pub(crate) fn metrics(
     re: &[f64],
     im: &[f64],
     m: Mapping,

@@ -311,7 +311,7 @@ fn start_values(known_start: bool, state: u8) -> [f32; 64]
 }
 
 // A whole frame: its decoded bits, and its bytes.
-pub fn decode(
+pub(crate) fn decode(
     t: Table,
     first: bool,
     o: DemodOptions,
