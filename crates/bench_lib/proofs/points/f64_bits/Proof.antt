@@ -1,0 +1,20 @@
+use borrow.Author.Needs.{needs}
+use Rattle.bench_lib.proofs.points.f64_bits.Statement.{statement}
+use Rattle.bench_lib.proofs.points.f64_bits.Tie as tie
+use Rattle.bench_lib.proofs.points.f64_bits.Reads as reads
+use Rattle.bench_lib.proofs.points.f64_bits.Lts as lts
+
+-- src/points.rt:91:9
+returns : tie.Need-returns
+returns c = search needs
+
+-- src/points.rt:93:5
+float-to-bits-result : tie.Need-float-to-bits-result
+float-to-bits-result c = search needs
+
+-- src/points.rt:89:1
+returns-2 : tie.Need-returns-2
+returns-2 c = search needs
+
+pub f64-bits-spec : {M : Type 1} → statement M
+f64-bits-spec = tie.close (tie.spec returns float-to-bits-result returns-2)

@@ -1,0 +1,62 @@
+use Rattle.bench_lib.proofs.words.parts.Statement.{statement}
+use Rattle.bench_lib.proofs.words.parts.Tie as tie
+use Rattle.bench_lib.proofs.words.parts.Reads as reads
+use Rattle.bench_lib.proofs.words.parts.Lts as lts
+
+abbrev Inv-loop : tie.InvT-loop
+Inv-loop s stop n₀ j₀ n j = ?
+
+abbrev μ-loop : tie.MeasureT-loop
+μ-loop s stop n₀ j₀ n j = ?
+
+-- src/words.rt:58:5
+loop-holds : tie.Need-loop-holds Inv-loop μ-loop
+loop-holds c = search needs
+
+-- src/words.rt:59:18
+shared-slice-read-n : tie.Need-shared-slice-read-n Inv-loop μ-loop
+shared-slice-read-n c = search needs
+
+-- src/words.rt:59:17
+cast-n : tie.Need-cast-n Inv-loop μ-loop
+cast-n c = search needs
+
+-- src/words.rt:59:13
+add-n : tie.Need-add-n Inv-loop μ-loop
+add-n c = search needs
+
+-- src/words.rt:60:13
+add-j : tie.Need-add-j Inv-loop μ-loop
+add-j c = search needs
+
+-- src/words.rt:58:5
+loop-less : tie.Need-loop-less Inv-loop μ-loop
+loop-less c = search needs
+
+-- src/words.rt:58:5
+loop-again : tie.Need-loop-again Inv-loop μ-loop
+loop-again c = search needs
+
+-- src/words.rt:62:5
+add-result : tie.Need-add-result Inv-loop μ-loop
+add-result c = search needs
+
+-- src/words.rt:55:1
+returns : tie.Need-returns Inv-loop μ-loop
+returns c = search needs
+
+pub parts-spec : {M : Type 1} → statement M
+parts-spec =
+    tie.close
+    (tie.spec
+    Inv-loop
+    μ-loop
+    loop-holds
+    shared-slice-read-n
+    cast-n
+    add-n
+    add-j
+    loop-less
+    loop-again
+    add-result
+    returns)
