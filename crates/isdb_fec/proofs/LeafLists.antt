@@ -111,25 +111,18 @@ module _ {A : Type 0} (d : A) (f : ℕ → A) where
   pub above-none : (m : ℕ) (l : List A) → Above m 0 l
   above-none m l = below-none (λ i. getD l (m + i) d ≡ f (m + i))
 
-  -- one element of each half
-  module _ (m j : ℕ) (l : List A) (v w : A) (h : j < m) (long : length l ≡ m + m) (is-v : v ≡ f j) (is-w : w ≡ f (m + j)) where
-    pub both-long : length (set (set l j v) (m + j) w) ≡ m + m
-    both-long = length-set (set l j v) (m + j) w ∙ length-set l j v ∙ long
+  -- a store at or after k
+  pub written-set : (k i : ℕ) (l : List A) (v : A) → k ≤ i → Written k l → Written k (set l i v)
+  written-set k i l v h w n hn = getD-set-other l i n v d (λ e. omega arith) ∙ w n hn
 
-    pub both-low : Written j l → Written (j + 1) (set (set l j v) (m + j) w)
-    both-low p i hi =
-        getD-set-other (set l j v) (m + j) i w d (λ e. omega arith) ∙ written-more j l v (omega arith) p is-v i hi
+  pub above-more : (m k : ℕ) (l : List A) (v : A) → m + k < length l → Above m k l → v ≡ f (m + k) → Above m (k + 1) (set l (m + k) v)
+  above-more m k l v h p e =
+      below-more (λ i. getD (set l (m + k) v) (m + i) d ≡ f (m + i)) k
+      (λ i hi. getD-set-other l (m + k) (m + i) v d (λ q. omega arith) ∙ p i hi)
+      (getD-set-same l (m + k) v d h ∙ e)
 
-    pub both-high : Above m j l → Above m (j + 1) (set (set l j v) (m + j) w)
-    both-high p =
-        below-more (λ i. getD (set (set l j v) (m + j) w) (m + i) d ≡ f (m + i)) j
-        (λ i hi.
-        getD-set-other (set l j v) (m + j) (m + i) w d (λ e. omega arith)
-        ∙ getD-set-other l j (m + i) v d (λ e. omega arith) ∙ p i hi)
-        (getD-set-same (set l j v) (m + j) w d (rw (length-set l j v) (omega arith)) ∙ is-w)
-
-  pub both-whole : (m : ℕ) (l : List A) → length l ≡ m + m → Written m l → Above m m l → l ≡ upto f (m + m)
-  both-whole m l long low high =
+  pub above-whole : (m : ℕ) (l : List A) → length l ≡ m + m → Written m l → Above m m l → l ≡ upto f (m + m)
+  above-whole m l long low high =
       written-whole (m + m) l long
       (λ k h.
       ⊎-elim

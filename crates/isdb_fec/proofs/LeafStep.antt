@@ -1,5 +1,4 @@
--- One turn of a step: the four paths are the candidates of the states j and 32 + j, and the turn writes both states and both bits.
--- Assumes nothing.
+-- One turn of a step: the two paths are the candidates of its state, and the turn writes the state and its bit. Assumes nothing.
 use mathlib.Core.Path.{_≡_, refl, sym, _∙_, ap}
 use mathlib.Core.Bool.{Bool, true, false, cond}
 use mathlib.Core.List.{List, [], _∷_}
@@ -7,13 +6,13 @@ use Prim.Native.Nat.{ℕ, zero, suc, _+_, _*_, _/_, _%_, _^_, _≤_, _<_}
 use native.Mathlib.Omega.{arith}
 use lib.Bits.{bitOr}
 use lib.Dec.{eqb}
-use lib.ListN.{length, getD, set}
+use lib.ListN.{length, getD, set, length-set}
 use lib.Ieee.{Float, nan, binary32, add, neg, lt, ofBits}
 use Rattle.trellis.specs.Code.{isdb, label, output}
 use Rattle.trellis.specs.Lists.{bit, upto, packed}
 use Rattle.trellis.specs.Step.{Step, pair, four, known, lower, branch, cand, wins, next, nexts, word, renormalised}
 use Rattle.trellis.specs.Run.{settled}
-use Rattle.isdb_fec.proofs.LeafLists.{Written, Above, written-none, above-none, both-long, both-low, both-high, both-whole, packed-lt, packed-more, packed-both}
+use Rattle.isdb_fec.proofs.LeafLists.{Written, Above, written-none, written-more, written-set, above-none, above-more, above-whole, packed-lt, packed-more, packed-both}
 use Rattle.isdb_fec.proofs.LeafSigns.{SX, SY, sx-sign, sy-sign}
 
 abbrev zeroF : Float
@@ -63,24 +62,35 @@ module _ (pm : List Float) (z : Step) where
   abbrev path : ℕ → ℕ → Float
   path = cand 32 (label isdb) pm z
 
-  -- after j turns: the states below j and from 32 on are written in l, and their bits are in `low` and `high`
-  pub record Turned (j : ℕ) (l : List Float) (low high : ℕ) : Type 0 where
+  -- after j turns of the lower half: the states below j are written in l, and their bits are in `low`
+  pub record Lower (j : ℕ) (l : List Float) (low : ℕ) : Type 0 where
     pub bound : j ≤ 32
     pub long : length l ≡ 64
-    pub lower-half : Written nan new j l
-    pub upper-half : Above nan new 32 j l
-    pub low-word : low ≡ packed won j
-    pub high-word : high ≡ packed (λ i. won (32 + i)) j
+    pub values : Written nan new j l
+    pub bits : low ≡ packed won j
 
-  pub turned-none : (l : List Float) → length l ≡ 64 → Turned 0 l 0 0
+  -- after k turns of the upper half: the lower half is done, the states from 32 to 32 + k are written, and their bits are in `high`
+  pub record Upper (k : ℕ) (l : List Float) (low high : ℕ) : Type 0 where
+    pub bound : k ≤ 32
+    pub long : length l ≡ 64
+    pub lower-values : Written nan new 32 l
+    pub upper-values : Above nan new 32 k l
+    pub lower-bits : low ≡ packed won 32
+    pub upper-bits : high ≡ packed (λ i. won (32 + i)) k
+
+  pub lower-none : (l : List Float) → length l ≡ 64 → Lower 0 l 0
   unfolding packed
-  turned-none l long = record {
+  lower-none l long = record { bound = omega arith; long = long; values = written-none nan new l; bits = refl }
+
+  pub upper-none : (l : List Float) (low : ℕ) → Lower 32 l low → Upper 0 l low 0
+  unfolding packed
+  upper-none l low t = record {
     bound = omega arith;
-    long = long;
-    lower-half = written-none nan new l;
-    upper-half = above-none nan new 32 l;
-    low-word = refl;
-    high-word = refl;
+    long = t .long;
+    lower-values = t .values;
+    upper-values = above-none nan new 32 l;
+    lower-bits = t .bits;
+    upper-bits = refl;
   }
 
   beats-wins : (k : ℕ) (e o : Float) (b : ℕ) → e ≡ path k 0 → o ≡ path k 1 → b ≡ bit (lt e o) → b ≡ bit (won k)
@@ -91,36 +101,47 @@ module _ (pm : List Float) (z : Step) where
   unfolding next wins
   larger-next k e o v is-e is-o is-v = rw (is-v, is-e, is-o)
 
-  -- a turn, by the even and the odd path into j and into 32 + j
-  module _ (j : ℕ) (l : List Float) (low high : ℕ) (t : Turned j l low high) (h : j < 32) (m0 m1 n0 n1 : Float)
-      (is-m0 : m0 ≡ cand 32 (label isdb) pm z j 0) (is-m1 : m1 ≡ cand 32 (label isdb) pm z j 1)
-      (is-n0 : n0 ≡ cand 32 (label isdb) pm z (32 + j) 0) (is-n1 : n1 ≡ cand 32 (label isdb) pm z (32 + j) 1) where
-    pub turned-more : (v w : Float) (a b : ℕ) → v ≡ cond (lt m0 m1) m1 m0 → a ≡ bit (lt m0 m1) → w ≡ cond (lt n0 n1) n1 n0 → b ≡ bit (lt n0 n1)
-        → Turned (j + 1) (set (set l j v) (32 + j) w) (bitOr low ((a * 2 ^ j) % 2 ^ 32)) (bitOr high ((b * 2 ^ j) % 2 ^ 32))
-    turned-more v w a b is-v is-a is-w is-b =
-        let nv = larger-next j m0 m1 v is-m0 is-m1 is-v in
-        let nw = larger-next (32 + j) n0 n1 w is-n0 is-n1 is-w in
-        record {
-          bound = omega arith;
-          long = both-long nan new 32 j l v w h (t .long) nv nw;
-          lower-half = both-low nan new 32 j l v w h (t .long) nv nw (t .lower-half);
-          upper-half = both-high nan new 32 j l v w h (t .long) nv nw (t .upper-half);
-          low-word = packed-more won j 32 low a (omega arith) (t .low-word) (beats-wins j m0 m1 a is-m0 is-m1 is-a);
-          high-word = packed-more (λ i. won (32 + i)) j 32 high b (omega arith) (t .high-word) (beats-wins (32 + j) n0 n1 b is-n0 is-n1 is-b);
-        }
+  -- a turn of each half, by the even and the odd path into its state
+  pub lower-more : (j : ℕ) (l : List Float) (low : ℕ) → Lower j l low → j < 32 → (e o v : Float) (a : ℕ)
+      → e ≡ cand 32 (label isdb) pm z j 0 → o ≡ cand 32 (label isdb) pm z j 1 → v ≡ cond (lt e o) o e → a ≡ bit (lt e o)
+      → Lower (j + 1) (set l j v) (bitOr low ((a * 2 ^ j) % 2 ^ 32))
+  lower-more j l low t h e o v a is-e is-o is-v is-a = record {
+    bound = omega arith;
+    long = length-set l j v ∙ t .long;
+    values = written-more nan new j l v (rw (t .long) (omega arith)) (t .values) (larger-next j e o v is-e is-o is-v);
+    bits = packed-more won j 32 low a h (t .bits) (beats-wins j e o a is-e is-o is-a);
+  }
 
-  pub turned-low : (l : List Float) (low high : ℕ) → Turned 32 l low high → low < 4294967296
-  turned-low l low high t = rw (t .low-word) (packed-lt won 32)
+  pub upper-more : (k : ℕ) (l : List Float) (low high : ℕ) → Upper k l low high → k < 32 → (e o v : Float) (a : ℕ)
+      → e ≡ cand 32 (label isdb) pm z (32 + k) 0 → o ≡ cand 32 (label isdb) pm z (32 + k) 1 → v ≡ cond (lt e o) o e → a ≡ bit (lt e o)
+      → Upper (k + 1) (set l (32 + k) v) low (bitOr high ((a * 2 ^ k) % 2 ^ 32))
+  upper-more k l low high t h e o v a is-e is-o is-v is-a = record {
+    bound = omega arith;
+    long = length-set l (32 + k) v ∙ t .long;
+    lower-values = written-set nan new 32 (32 + k) l v (omega arith) (t .lower-values);
+    upper-values = above-more nan new 32 k l v (rw (t .long) (omega arith)) (t .upper-values) (larger-next (32 + k) e o v is-e is-o is-v);
+    lower-bits = t .lower-bits;
+    upper-bits = packed-more (λ i. won (32 + i)) k 32 high a h (t .upper-bits) (beats-wins (32 + k) e o a is-e is-o is-a);
+  }
 
-  pub turned-high : (l : List Float) (low high : ℕ) → Turned 32 l low high → high < 4294967296
-  turned-high l low high t = rw (t .high-word) (packed-lt (λ i. won (32 + i)) 32)
+  -- both halves fit their word
+  pub high-fits : (l : List Float) (low high : ℕ) → Upper 32 l low high → high * 4294967296 < 2 ^ 64
+  high-fits l low high t =
+      let h : high < 4294967296 = rw (t .upper-bits) (packed-lt (λ i. won (32 + i)) 32) in
+      omega arith
 
-  pub turned-whole : (l : List Float) (low high : ℕ) → Turned 32 l low high
+  pub word-fits : (l : List Float) (low high : ℕ) → Upper 32 l low high → low + high * 4294967296 < 2 ^ 64
+  word-fits l low high t =
+      let a : low < 4294967296 = rw (t .lower-bits) (packed-lt won 32) in
+      let b : high < 4294967296 = rw (t .upper-bits) (packed-lt (λ i. won (32 + i)) 32) in
+      omega arith
+
+  pub upper-whole : (l : List Float) (low high : ℕ) → Upper 32 l low high
       → (l ≡ nexts 32 (label isdb) lower pm z) × (low + high * 4294967296 ≡ word 32 (label isdb) lower pm z)
   unfolding nexts word
-  turned-whole l low high t = (
-    both-whole nan new 32 l (t .long) (t .lower-half) (t .upper-half),
-    rw (t .low-word, t .high-word) (packed-both won 32 32),
+  upper-whole l low high t = (
+    above-whole nan new 32 l (t .long) (t .lower-values) (t .upper-values),
+    rw (t .lower-bits, t .upper-bits) (packed-both won 32 32),
   )
 
 -- the path values once a step has added, by the test of its index

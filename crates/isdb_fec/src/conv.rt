@@ -465,20 +465,28 @@ fn acs(pm: &mut [f32; 64], lx: f32, ly: f32) -> u64
     let n = states(pm);
     let old = *pm;
     let sx = SX;
+    let x00 = sx[0][0];
+    let x01 = sx[0][1];
+    let x10 = sx[1][0];
+    let x11 = sx[1][1];
     let sy = SY;
+    let y00 = sy[0][0];
+    let y01 = sy[0][1];
+    let y10 = sy[1][0];
+    let y11 = sy[1][1];
     let mut low: u32 = 0;
-    let mut high: u32 = 0;
     for j in 0..n / 2 {
-        let even = old[2 * j];
-        let odd = old[2 * j + 1];
-        let m0 = even + term(sx[0][0][j], lx) + term(sy[0][0][j], ly);
-        let m1 = odd + term(sx[0][1][j], lx) + term(sy[0][1][j], ly);
+        let m0 = old[2 * j] + term(x00[j], lx) + term(y00[j], ly);
+        let m1 = old[2 * j + 1] + term(x01[j], lx) + term(y01[j], ly);
         pm[j] = larger(m0, m1);
         low = low | (beats(m1, m0) << j);
-        let n0 = even + term(sx[1][0][j], lx) + term(sy[1][0][j], ly);
-        let n1 = odd + term(sx[1][1][j], lx) + term(sy[1][1][j], ly);
-        pm[HALF + j] = larger(n0, n1);
-        high = high | (beats(n1, n0) << j);
+    }
+    let mut high: u32 = 0;
+    for k in 0..n / 2 {
+        let m0 = old[2 * k] + term(x10[k], lx) + term(y10[k], ly);
+        let m1 = old[2 * k + 1] + term(x11[k], lx) + term(y11[k], ly);
+        pm[HALF + k] = larger(m0, m1);
+        high = high | (beats(m1, m0) << k);
     }
     wide(low) + wide(high) * 4294967296
 }
@@ -501,20 +509,28 @@ fn acs4(pm: &mut [f32; 64], m: [f32; 4]) -> u64
     let n = states(pm);
     let old = *pm;
     let sx = SX;
+    let x00 = sx[0][0];
+    let x01 = sx[0][1];
+    let x10 = sx[1][0];
+    let x11 = sx[1][1];
     let sy = SY;
+    let y00 = sy[0][0];
+    let y01 = sy[0][1];
+    let y10 = sy[1][0];
+    let y11 = sy[1][1];
     let mut low: u32 = 0;
-    let mut high: u32 = 0;
     for j in 0..n / 2 {
-        let even = old[2 * j];
-        let odd = old[2 * j + 1];
-        let m0 = even + metric(m, sx[0][0][j], sy[0][0][j]);
-        let m1 = odd + metric(m, sx[0][1][j], sy[0][1][j]);
+        let m0 = old[2 * j] + metric(m, x00[j], y00[j]);
+        let m1 = old[2 * j + 1] + metric(m, x01[j], y01[j]);
         pm[j] = larger(m0, m1);
         low = low | (beats(m1, m0) << j);
-        let n0 = even + metric(m, sx[1][0][j], sy[1][0][j]);
-        let n1 = odd + metric(m, sx[1][1][j], sy[1][1][j]);
-        pm[HALF + j] = larger(n0, n1);
-        high = high | (beats(n1, n0) << j);
+    }
+    let mut high: u32 = 0;
+    for k in 0..n / 2 {
+        let m0 = old[2 * k] + metric(m, x10[k], y10[k]);
+        let m1 = old[2 * k + 1] + metric(m, x11[k], y11[k]);
+        pm[HALF + k] = larger(m0, m1);
+        high = high | (beats(m1, m0) << k);
     }
     wide(low) + wide(high) * 4294967296
 }
@@ -924,8 +940,8 @@ impl ViterbiDecoder {
         };
         let n = pairs.len() / 2;
         for i in 0..n {
-            let x = Step::Pair(pairs[2 * i], pairs[2 * i + 1]);
-            at = advance(&mut pm, at, traceback, i, x, decisions, out);
+            let pair = Step::Pair(pairs[2 * i], pairs[2 * i + 1]);
+            at = advance(&mut pm, at, traceback, i, pair, decisions, out);
         }
         renormalise(&mut pm);
         Released {
@@ -962,13 +978,13 @@ impl ViterbiDecoder {
         };
         let n = metrics.len() / 4;
         for i in 0..n {
-            let x = Step::Four(
+            let four = Step::Four(
                 metrics[4 * i],
                 metrics[4 * i + 1],
                 metrics[4 * i + 2],
                 metrics[4 * i + 3],
             );
-            at = advance(&mut pm, at, traceback, i, x, decisions, out);
+            at = advance(&mut pm, at, traceback, i, four, decisions, out);
         }
         renormalise(&mut pm);
         Released {
@@ -1004,8 +1020,8 @@ impl ViterbiDecoder {
             count: 0,
         };
         for i in 0..bits.len() {
-            let x = Step::Known(bits[i]);
-            at = advance(&mut pm, at, traceback, i, x, decisions, out);
+            let known = Step::Known(bits[i]);
+            at = advance(&mut pm, at, traceback, i, known, decisions, out);
         }
         Released {
             answer: Answer::Accepted,

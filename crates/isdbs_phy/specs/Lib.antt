@@ -4,3 +4,8 @@ pub mod Layout
 pub mod Frame
 pub mod Reading
 pub mod Pieces
+pub mod LawsUpto
+pub mod LawsState
+pub mod Places
+pub mod Sizes
+pub mod Encoding

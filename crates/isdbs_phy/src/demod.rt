@@ -1,7 +1,46 @@
-// The main signal of a frame. After demod.rs of isdbs-phy.
+// The main signal of a frame: bytes to points and points to bytes. After demod.rs of isdbs-phy.
+use crate::Cplx;
+use isdb_fec::conv::ConvEncoder;
+use isdb_fec::conv::encode_bit;
+use isdbs_core::combination::BitPair;
+use isdbs_core::combination::Combination;
+use isdbs_core::combination::MaybePuncture;
+use isdbs_core::combination::Modulation;
+use isdbs_core::frame::W2;
+use isdbs_core::frame::W3;
+use isdbs_core::slots::Run;
+use isdbs_core::slots::SLOT_BITS;
+use isdbs_core::slots::runs;
+use isdbs_core::tmcc::Table;
+use isdbs_core::tmcc::table_answer;
+use refusal::Answer;
 ghost use mathlib.Core.Path.{_≡_};
 ghost use mathlib.Core.Bool.{true, false, cond};
+ghost use Prim.Native.Nat.{ℕ, _+_, _*_, _/_, _%_, _<_, _≤_, _^_};
+ghost use lib.ListN.{length, getD, take};
 ghost use lib.Ieee.{binary32, ofBits};
+ghost use Rattle.refusal.specs.declared.Answer.the-variants.{Accepted};
+ghost use Rattle.refusal.specs.Rows.{firstRow};
+ghost use Rattle.trellis.specs.Lists.{upto, laid};
+ghost use Rattle.trellis.specs.Code.{isdb, label, moved, stateAt};
+ghost use Rattle.trellis.specs.Step.{term};
+ghost use Rattle.isdbs_core.specs.declared.combination.Combination.the-variants.{«Bpsk1_2», «Tc8psk2_3»};
+ghost use Rattle.isdbs_core.specs.declared.combination.Modulation.the-variants.{Qpsk};
+ghost use Rattle.isdbs_core.specs.Combinations.{modulationOf, punctureOf};
+ghost use Rattle.isdbs_core.specs.Tables.{tableAnswer};
+ghost use Rattle.isdb_fec.specs.Calls.{Either};
+ghost use Rattle.isdbs_phy.specs.Points.{zero64, psk8Of, qpskOf, subset, turned};
+ghost use Rattle.isdbs_phy.specs.Layout.{orderOf, stepsPerPeriod, loadBit, wordBit};
+ghost use Rattle.isdbs_phy.specs.Frame.{stateAfter, startState, endState};
+ghost use Rattle.isdbs_phy.specs.Encoding.{encodeRows, encodeFrameRows, FrameLaid, PartsKept, Tiled, RunsMade};
+ghost use Rattle.isdbs_phy.specs.Pieces.{pieceSymbols, PieceEncoded, PeriodEncoded, PatternOf, PairsWithin, motherBit, pairPoint};
+
+// 1 / sqrt 2 as an f64.
+const ROOT: f64 = 0.7071067811865476;
+
+// Main-signal symbols of a frame.
+const MAIN: usize = 38_976;
+
 // How coded bits map to points.
 pub struct Mapping {
     // The imaginary part of every point is negated.
@@ -47,3 +86,482 @@ impl DemodOptions {
         }
     }
 }
+
+// The 8PSK point of the label C2 C1 C0; the low three bits count.
+pub fn psk8_point(label: u8) -> Cplx
+    ensures { λ r. ⌜ r ≡ psk8Of (label % 8) ⌝ }
+{
+    match label % 8 {
+        0 => Cplx { re: 1.0, im: 0.0 },
+        1 => Cplx { re: ROOT, im: ROOT },
+        2 => Cplx {
+            re: -ROOT,
+            im: ROOT,
+        },
+        3 => Cplx { re: 0.0, im: 1.0 },
+        4 => Cplx { re: -1.0, im: 0.0 },
+        5 => Cplx {
+            re: -ROOT,
+            im: -ROOT,
+        },
+        6 => Cplx {
+            re: ROOT,
+            im: -ROOT,
+        },
+        _ => Cplx { re: 0.0, im: -1.0 },
+    }
+}
+
+// +s for the bit 0, -s for the bit 1.
+fn sign_of(b: u8, s: f64) -> f64
+    ensures { λ r. ⌜ r ≡ term (b % 2) s ⌝ }
+{
+    if b % 2 == 1 { -s } else { s }
+}
+
+// The QPSK point of (P1, P0), P1 the sign of the real part and P0 that of the imaginary part.
+pub fn qpsk_point(p1: u8, p0: u8) -> Cplx
+    ensures { λ r. ⌜ r ≡ qpskOf false (p1 % 2) (p0 % 2) ⌝ }
+{
+    Cplx {
+        re: sign_of(p1, ROOT),
+        im: sign_of(p0, ROOT),
+    }
+}
+
+// Bit i of a word, high bit first.
+fn word_bit(word: u16, i: usize) -> u8
+    requires { ⌜ i < 16 ⌝ }
+    ensures { λ r. ⌜ r ≡ wordBit word i ⌝ }
+{
+    ((word >> (15 - i)) % 2) as u8
+}
+
+// The encoder's state after a 16-bit word.
+pub fn state_after(word: u16) -> u8
+    ensures { λ r. ⌜ r ≡ stateAfter word ⌝ }
+{
+    let mut state: u8 = 0;
+    let mut i: usize = 0;
+    while i < 16 {
+        let c = encode_bit(state, word_bit(word, i));
+        state = c.state;
+        i += 1;
+    }
+    state
+}
+
+// The imaginary part, negated where the mapping says so.
+fn mirror(conjugate: bool, y: f64) -> f64
+    ensures { λ r. ⌜ r ≡ turned conjugate y ⌝ }
+{
+    if conjugate { -y } else { y }
+}
+
+// Bit n of the load, high bit first; missing bits are 0.
+fn load_bit(bytes: &[u8], n: usize) -> u8
+    ensures { λ r. ⌜ r ≡ loadBit (now (bytes .entry)) n ⌝ }
+{
+    let at = n / 8;
+    if at < bytes.len() {
+        (bytes[at] >> (7 - n % 8)) % 2
+    } else {
+        0
+    }
+}
+
+// The QPSK point of (P1, P0) under a mapping.
+fn qpsk_mapped(p1_on_q: bool, p1: u8, p0: u8) -> Cplx
+    ensures { λ r. ⌜ r ≡ qpskOf «p1_on_q» (p1 % 2) (p0 % 2) ⌝ }
+{
+    let q = qpsk_point(p1, p0);
+    if p1_on_q {
+        Cplx { re: q.im, im: q.re }
+    } else {
+        q
+    }
+}
+
+// 2 C1 + C0 from 2 X + Y.
+fn subset_of(c1_is_y: bool, l: u8) -> u8
+    requires { ⌜ l < 4 ⌝ }
+    ensures { λ r. ⌜ (r ≡ subset «c1_is_y» l) × (r < 4) ⌝ }
+{
+    if c1_is_y { 2 * (l % 2) + l / 2 } else { l }
+}
+
+// 2 X + Y of a trellis step, and the state after it.
+pub struct Sent {
+    pub state: u8,
+    pub label: u8,
+}
+
+// The trellis step that bit n of the load makes.
+fn encode_step(bytes: &[u8], n: usize, state: u8) -> Sent
+    requires { ⌜ state < 64 ⌝ }
+    ensures { λ r. ⌜ (r .label ≡ label isdb (loadBit (now (bytes .entry)) n) state) × (r .state ≡ moved 32 (loadBit (now (bytes .entry)) n) state) × (r .state < 64) × (r .label < 4) ⌝ }
+{
+    let c = encode_bit(state, load_bit(bytes, n));
+    Sent {
+        state: c.state,
+        label: 2 * c.x + c.y,
+    }
+}
+
+// A run of BPSK: X, then Y, on successive symbols.
+fn encode_bpsk(
+    bytes: &[u8],
+    bit: usize,
+    n: usize,
+    start: u8,
+    m: Mapping,
+    re: &mut [f64],
+    im: &mut [f64],
+) -> u8
+    requires { ⌜ (start < 64) × (bit + n < 2 ^ 32) × (2 * n ≤ length (now re)) × (2 * n ≤ length (now im)) ⌝ }
+    ensures { λ r. ⌜ PieceEncoded «Bpsk1_2» m (now (bytes .entry)) bit n start r (now (re .entry)) (now (re .exit)) (now (im .entry)) (now (im .exit)) ⌝ }
+{
+    let mut state = start;
+    let mut k: usize = 0;
+    while k < n {
+        let sent = encode_step(bytes, bit + k, state);
+        state = sent.state;
+        let y = mirror(m.conjugate, 0.0);
+        re[2 * k] = sign_of(sent.label / 2, 1.0);
+        im[2 * k] = y;
+        re[2 * k + 1] = sign_of(sent.label, 1.0);
+        im[2 * k + 1] = y;
+        k += 1;
+    }
+    state
+}
+
+// A run of TC8PSK: C2 uncoded, then one coded bit.
+fn encode_tc8psk(
+    bytes: &[u8],
+    bit: usize,
+    n: usize,
+    start: u8,
+    m: Mapping,
+    re: &mut [f64],
+    im: &mut [f64],
+) -> u8
+    requires { ⌜ (start < 64) × (bit + 2 * n < 2 ^ 32) × (n ≤ length (now re)) × (n ≤ length (now im)) ⌝ }
+    ensures { λ r. ⌜ PieceEncoded «Tc8psk2_3» m (now (bytes .entry)) bit n start r (now (re .entry)) (now (re .exit)) (now (im .entry)) (now (im .exit)) ⌝ }
+{
+    let mut state = start;
+    let mut k: usize = 0;
+    while k < n {
+        let c2 = load_bit(bytes, bit + 2 * k);
+        let sent = encode_step(bytes, bit + 2 * k + 1, state);
+        let p = psk8_point(4 * c2 + subset_of(m.tc8psk_c1_is_y, sent.label));
+        state = sent.state;
+        re[k] = p.re;
+        im[k] = mirror(m.conjugate, p.im);
+        k += 1;
+    }
+    state
+}
+
+// The labels of a period, and the state after it.
+pub struct Period {
+    pub state: u8,
+    pub labels: [u8; 8],
+}
+
+// The trellis steps of n bits from bit `bit` of the load on.
+fn encode_period(bytes: &[u8], bit: usize, n: usize, start: u8) -> Period
+    requires { ⌜ (start < 64) × (n ≤ 8) × (bit + n < 2 ^ 32) ⌝ }
+    ensures { λ r. ⌜ PeriodEncoded (now (bytes .entry)) bit n start r ⌝ }
+{
+    let mut labels = [0u8; 8];
+    let mut state = start;
+    let mut k: usize = 0;
+    while k < n {
+        let sent = encode_step(bytes, bit + k, state);
+        state = sent.state;
+        labels[k] = sent.label;
+        k += 1;
+    }
+    Period { state, labels }
+}
+
+// Mother bit a of a period.
+fn mother_bit(labels: &[u8; 8], a: usize) -> u8
+    requires { ⌜ a / 2 < 8 ⌝ }
+    ensures { λ r. ⌜ r ≡ motherBit (now (labels .entry)) a ⌝ }
+{
+    let l = labels[a / 2];
+    if a % 2 == 0 { l / 2 } else { l % 2 }
+}
+
+// The steps and the pairs of a period of a QPSK code.
+pub struct Pattern {
+    pub period: usize,
+    pub count: usize,
+    pub pairs: [BitPair; 4],
+}
+
+// The pattern of a combination; unpunctured, one step and the pair X Y.
+fn pattern_of(c: Combination) -> Pattern
+    ensures { λ r. ⌜ PatternOf (punctureOf c) r ⌝ }
+{
+    let code = c.puncturing();
+    match code {
+        MaybePuncture::Some(p) => {
+            let all = p.pairs();
+            let pairs = all.pairs;
+            Pattern {
+                period: p.period(),
+                count: all.count,
+                pairs,
+            }
+        }
+        MaybePuncture::None => {
+            let xy = BitPair { p1: 0, p0: 1 };
+            Pattern {
+                period: 1,
+                count: 1,
+                pairs: [xy, xy, xy, xy],
+            }
+        }
+    }
+}
+
+// The points of a period's pairs.
+fn put_pairs(
+    labels: &[u8; 8],
+    pairs: [BitPair; 4],
+    count: usize,
+    m: Mapping,
+    re: &mut [f64],
+    im: &mut [f64],
+)
+    requires { ⌜ (count ≤ 4) × (count ≤ length (now re)) × (count ≤ length (now im)) × PairsWithin count pairs ⌝ }
+    ensures { λ _. ⌜ (now (re .exit) ≡ laid (upto (λ i. pairPoint m (now (labels .entry)) pairs i .re) count) (now (re .entry))) × (now (im .exit) ≡ laid (upto (λ i. pairPoint m (now (labels .entry)) pairs i .im) count) (now (im .entry))) ⌝ }
+{
+    let mut i: usize = 0;
+    while i < count {
+        let pair = pairs[i];
+        let p1 = mother_bit(labels, pair.p1);
+        let p0 = mother_bit(labels, pair.p0);
+        let p = qpsk_mapped(m.qpsk_p1_on_q, p1, p0);
+        re[i] = p.re;
+        im[i] = mirror(m.conjugate, p.im);
+        i += 1;
+    }
+}
+
+// A run of QPSK, period by period.
+fn encode_qpsk(
+    bytes: &[u8],
+    c: Combination,
+    bit: usize,
+    n: usize,
+    start: u8,
+    m: Mapping,
+    re: &mut [f64],
+    im: &mut [f64],
+) -> u8
+    requires { ⌜ (modulationOf c ≡ Qpsk) × (start < 64) × (bit + n < 2 ^ 32) × (n ≡ n / stepsPerPeriod c * stepsPerPeriod c) × (pieceSymbols c n ≤ length (now re)) × (pieceSymbols c n ≤ length (now im)) ⌝ }
+    ensures { λ r. ⌜ PieceEncoded c m (now (bytes .entry)) bit n start r (now (re .entry)) (now (re .exit)) (now (im .entry)) (now (im .exit)) ⌝ }
+{
+    let p = pattern_of(c);
+    let period = p.period;
+    let count = p.count;
+    let pairs = p.pairs;
+    let periods = n / period;
+    let mut state = start;
+    let mut done: usize = 0;
+    let mut j: usize = 0;
+    let mut q: usize = 0;
+    while q < periods {
+        let e = encode_period(bytes, bit + done, period, state);
+        let labels = e.labels;
+        state = e.state;
+        put_pairs(&labels, pairs, count, m, &mut re[j..], &mut im[j..]);
+        done += period;
+        j += count;
+        q += 1;
+    }
+    state
+}
+
+// A run of n steps, whose first bit is bit `bit` of the load.
+fn encode_run(
+    bytes: &[u8],
+    c: Combination,
+    bit: usize,
+    n: usize,
+    start: u8,
+    m: Mapping,
+    re: &mut [f64],
+    im: &mut [f64],
+) -> u8
+    requires { ⌜ (start < 64) × (bit + 2 * n < 2 ^ 32) × (n ≡ n / stepsPerPeriod c * stepsPerPeriod c) × (pieceSymbols c n ≤ length (now re)) × (pieceSymbols c n ≤ length (now im)) ⌝ }
+    ensures { λ r. ⌜ PieceEncoded c m (now (bytes .entry)) bit n start r (now (re .entry)) (now (re .exit)) (now (im .entry)) (now (im .exit)) ⌝ }
+{
+    let modulation = c.modulation();
+    match modulation {
+        Modulation::Bpsk => encode_bpsk(bytes, bit, n, start, m, re, im),
+        Modulation::Qpsk => encode_qpsk(bytes, c, bit, n, start, m, re, im),
+        Modulation::Tc8psk => encode_tc8psk(bytes, bit, n, start, m, re, im),
+    }
+}
+
+// n unused points.
+fn put_unused(n: usize, m: Mapping, re: &mut [f64], im: &mut [f64])
+    requires { ⌜ (n ≤ length (now re)) × (n ≤ length (now im)) ⌝ }
+    ensures { λ _. ⌜ (now (re .exit) ≡ laid (upto (λ i. zero64) n) (now (re .entry))) × (now (im .exit) ≡ laid (upto (λ i. turned (m .conjugate) zero64) n) (now (im .entry))) ⌝ }
+{
+    let y = mirror(m.conjugate, 0.0);
+    let mut i: usize = 0;
+    while i < n {
+        re[i] = 0.0;
+        im[i] = y;
+        i += 1;
+    }
+}
+
+// What the runs leave: the state after their last bit, and the symbol after their last one.
+pub struct RunsEncoded {
+    pub state: u8,
+    pub end: usize,
+}
+
+// The runs of a frame, one after the other; the state carries on.
+fn encode_runs(
+    bytes: &[u8],
+    list: [Run; 4],
+    count: usize,
+    start: u8,
+    m: Mapping,
+    re: &mut [f64],
+    im: &mut [f64],
+) -> RunsEncoded
+    requires { ⌜ (count ≤ 4) × (length (take count list) ≡ count) × Tiled (take count list) × (start < 64) × (38976 ≤ length (now re)) × (38976 ≤ length (now im)) ⌝ }
+    ensures { λ r. ⌜ RunsMade (take count list) m (now (bytes .entry)) start r (now (re .entry)) (now (re .exit)) (now (im .entry)) (now (im .exit)) ⌝ }
+{
+    let mut state = start;
+    let mut bit: usize = 0;
+    let mut end: usize = 0;
+    let mut i: usize = 0;
+    while i < count {
+        let r = list[i];
+        let c = r.combination;
+        let first = r.symbol_start;
+        let valid = r.valid_slots;
+        let n = c.steps_per_slot() * valid;
+        state = encode_run(
+            bytes,
+            c,
+            bit,
+            n,
+            state,
+            m,
+            &mut re[first..],
+            &mut im[first..],
+        );
+        bit += SLOT_BITS * valid;
+        end = r.symbol_end;
+        i += 1;
+    }
+    RunsEncoded { state, end }
+}
+
+// The frame of an accepted table, encoded from the state `start`; the state after its last bit.
+fn encode_main(bytes: &[u8], t: Table, start: u8, m: Mapping, re: &mut [f64], im: &mut [f64]) -> u8
+    requires { ⌜ (tableAnswer t ≡ Accepted) × (start < 64) × (38976 ≤ length (now re)) × (38976 ≤ length (now im)) ⌝ }
+    ensures state { λ r. ⌜ r ≡ endState t (now (bytes .entry)) start ⌝ }
+    ensures frame { λ _. ⌜ FrameLaid t m (now (bytes .entry)) start (now (re .entry)) (now (re .exit)) (now (im .entry)) (now (im .exit)) ⌝ }
+{
+    let all = runs(t);
+    let list = all.runs;
+    let made = encode_runs(bytes, list, all.count, start, m, re, im);
+    let end = made.end;
+    put_unused(MAIN - end, m, &mut re[end..], &mut im[end..]);
+    made.state
+}
+
+// Whether encoding is turned back: the parts have a and b elements.
+fn encode_answer(t: Table, state: u8, a: usize, b: usize) -> Answer
+    ensures { λ r. ⌜ r ≡ firstRow (encodeRows t state a b) ⌝ }
+{
+    let first = table_answer(t);
+    if refusal::number(first) != 0 {
+        return first;
+    }
+    if state > 63 {
+        return Answer::State;
+    }
+    if a < MAIN {
+        return Answer::Space;
+    }
+    if b < MAIN {
+        return Answer::Space;
+    }
+    Answer::Accepted
+}
+
+// What encoding a frame answers: the encoder after the last bit, or as it was given.
+pub struct FrameEncoded {
+    pub answer: Answer,
+    pub enc: ConvEncoder,
+}
+
+// The 38,976 points of a frame from its bytes, 203 for each valid slot, with the encoder as it is handed.
+pub fn encode_frame_with_state(
+    bytes: &[u8],
+    t: Table,
+    enc: ConvEncoder,
+    m: Mapping,
+    re: &mut [f64],
+    im: &mut [f64],
+) -> FrameEncoded
+    ensures answers { λ r. ⌜ r .answer ≡ firstRow (encodeRows t (enc .state) (length (now (re .entry))) (length (now (im .entry)))) ⌝ }
+    ensures state { λ r. ⌜ Either (r .answer) (r .enc .state ≡ endState t (now (bytes .entry)) (enc .state)) (r .enc ≡ enc) ⌝ }
+    ensures frame { λ r. ⌜ Either (r .answer) (FrameLaid t m (now (bytes .entry)) (enc .state) (now (re .entry)) (now (re .exit)) (now (im .entry)) (now (im .exit))) (PartsKept (now (re .entry)) (now (re .exit)) (now (im .entry)) (now (im .exit))) ⌝ }
+{
+    let state = enc.state;
+    let answer = encode_answer(t, state, re.len(), im.len());
+    if refusal::number(answer) != 0 {
+        return FrameEncoded { answer, enc };
+    }
+    let end = encode_main(bytes, t, state, m, re, im);
+    FrameEncoded {
+        answer,
+        enc: ConvEncoder { state: end },
+    }
+}
+
+// The state that W2 leaves before the first frame of a superframe, and W3 before the others.
+pub fn start_state(first: bool) -> u8
+    ensures { λ r. ⌜ (r ≡ startState first) × (r < 64) ⌝ }
+{
+    if first {
+        state_after(W2)
+    } else {
+        state_after(W3)
+    }
+}
+
+// The same from the start state of the frame's kind.
+pub fn encode_frame(
+    bytes: &[u8],
+    t: Table,
+    first: bool,
+    m: Mapping,
+    re: &mut [f64],
+    im: &mut [f64],
+) -> Answer
+    ensures answers { λ r. ⌜ r ≡ firstRow (encodeFrameRows t (length (now (re .entry))) (length (now (im .entry)))) ⌝ }
+    ensures frame { λ r. ⌜ Either r (FrameLaid t m (now (bytes .entry)) (startState first) (now (re .entry)) (now (re .exit)) (now (im .entry)) (now (im .exit))) (PartsKept (now (re .entry)) (now (re .exit)) (now (im .entry)) (now (im .exit))) ⌝ }
+{
+    let enc = ConvEncoder {
+        state: start_state(first),
+    };
+    let made = encode_frame_with_state(bytes, t, enc, m, re, im);
+    made.answer
+}
+
+// ---- decoding

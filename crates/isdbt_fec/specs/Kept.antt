@@ -121,9 +121,9 @@ module _ (rate : CodeRate) (f : ℕ → Float) (b : ℕ) where
       let turn : sent rate * q ≡ q * sent rate = omega arith in
       let all-there : (i : ℕ) → i < length (order rate) → getD sentValues (sent rate * q + i) nan ≡ g (getD (order rate) i 0) =
       λ i l.
-          let l′ : i < sent rate = rw (length-order rate) at l in
-          getD-upto (λ j. f (place rate j)) nan (b * sent rate) (sent rate * q + i) (below rate b k i h l′)
-          ∙ ap f (ap (λ (m : ℕ). place rate (m + i)) turn ∙ place-in rate q i l′) in
+      let l′ : i < sent rate = rw (length-order rate) at l in
+      getD-upto (λ j. f (place rate j)) nan (b * sent rate) (sent rate * q + i) (below rate b k i h l′)
+      ∙ ap f (ap (λ (m : ℕ). place rate (m + i)) turn ∙ place-in rate q i l′) in
       spread-has g (order rate) sentValues (sent rate * q) r all-there
       ∙ ap (λ (t : Bool). cond t (f (2 * (q * period rate) + r)) (ofBits binary32 0)) (has-kept rate r (inside rate k) ∙ kept-again rate k)
       ∙ ap (λ (m : ℕ). cond (kept rate k) (f m) (ofBits binary32 0)) (split rate k)

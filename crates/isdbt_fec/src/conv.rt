@@ -13,7 +13,6 @@ ghost use Rattle.isdbt_fec.specs.Table.{period, sent, rowOf, specOf, com
 ghost use Rattle.isdbt_fec.specs.Puncture.{inputs, mother, punctured, spread, depunctured};
 ghost use Rattle.isdbt_fec.specs.Rows.{depth, encodeRows, depunctureRows, decodeRows};
 ghost use Rattle.isdbt_fec.specs.Calls.{Encodes, Unencoded, Depunctures, Untouched, decodedBits, Decodes, Undecoded};
-use refusal::Answer;
 use isdb_fec::conv::At;
 use isdb_fec::conv::ConvEncoder;
 use isdb_fec::conv::Step;
@@ -24,6 +23,7 @@ use isdb_fec::conv::finish;
 use isdb_fec::conv::renormalise;
 use isdb_fec::conv::some_beyond;
 use isdb_fec::conv::start_at;
+use refusal::Answer;
 
 pub enum CodeRate {
     R1_2,
@@ -364,7 +364,13 @@ fn depth_of(traceback: usize) -> usize
 }
 
 // The answer to a decoding with `decisions` words into `space` places.
-fn answer_decode(rate: CodeRate, llrs: &[f32], traceback: usize, decisions: usize, space: usize) -> Answer
+fn answer_decode(
+    rate: CodeRate,
+    llrs: &[f32],
+    traceback: usize,
+    decisions: usize,
+    space: usize,
+) -> Answer
     ensures { λ r. ⌜ r ≡ firstRow (decodeRows rate (now (llrs .entry)) traceback decisions space) ⌝ }
 {
     let p = Puncturing::new(rate);
@@ -387,7 +393,13 @@ fn answer_decode(rate: CodeRate, llrs: &[f32], traceback: usize, decisions: usiz
 }
 
 // Decodes whole periods from state 0: a push of all pairs, and a flush. How many bits that is.
-fn decode_periods(rate: CodeRate, llrs: &[f32], traceback: usize, decisions: &mut [u64], out: &mut [u8]) -> usize
+fn decode_periods(
+    rate: CodeRate,
+    llrs: &[f32],
+    traceback: usize,
+    decisions: &mut [u64],
+    out: &mut [u8],
+) -> usize
     requires { ⌜ (1 ≤ traceback) × (traceback ≤ 1024) × (4096 + traceback ≤ length (now decisions)) × (length (now llrs) / sent rate * period rate ≤ length (now out)) ⌝ }
     ensures { λ r. ⌜ (r ≡ length (now (llrs .entry)) / sent rate * period rate)
         × (now (decisions .exit) ≡ laid (replicate (4096 + traceback) 0) (now (decisions .entry)))
@@ -403,7 +415,15 @@ fn decode_periods(rate: CodeRate, llrs: &[f32], traceback: usize, decisions: &mu
     for i in 0..count {
         let lx = soft_at(&order, n, period, llrs, 2 * i);
         let ly = soft_at(&order, n, period, llrs, 2 * i + 1);
-        at = advance(&mut pm, at, traceback, i, Step::Pair(lx, ly), decisions, out);
+        at = advance(
+            &mut pm,
+            at,
+            traceback,
+            i,
+            Step::Pair(lx, ly),
+            decisions,
+            out,
+        );
     }
     renormalise(&mut pm);
     let bits = finish(&pm, at, decisions, out);
@@ -412,7 +432,13 @@ fn decode_periods(rate: CodeRate, llrs: &[f32], traceback: usize, decisions: &mu
 }
 
 // Decodes a complete punctured block from state 0: depuncturing, the Viterbi decoder, its flush. The bits go to the front of `out`.
-pub fn decode_punctured(rate: CodeRate, llrs: &[f32], traceback: usize, decisions: &mut [u64], out: &mut [u8]) -> Done
+pub fn decode_punctured(
+    rate: CodeRate,
+    llrs: &[f32],
+    traceback: usize,
+    decisions: &mut [u64],
+    out: &mut [u8],
+) -> Done
     ensures answers { λ r. ⌜ r .answer ≡ firstRow (decodeRows rate (now (llrs .entry)) traceback (length (now (decisions .entry))) (length (now (out .entry)))) ⌝ }
     ensures leaves { λ r. ⌜ Either (r .answer)
         (Decodes rate (now (llrs .entry)) traceback r (now (decisions .entry)) (now (decisions .exit)) (now (out .entry)) (now (out .exit)))

@@ -2,9 +2,9 @@
 // places where a decoder is easily wrong. `stdout` has the values of document 01.
 ghost use Prim.Native.Nat.{_≤_, _<_};
 use isdb_fec::conv::ConvEncoder;
+use isdb_fec::conv::Released;
 use isdb_fec::conv::ViterbiDecoder;
 use libc::STDOUT_FILENO;
-use refusal::Answer;
 
 const W1: u32 = 0x1b95;
 
@@ -37,7 +37,7 @@ fn print_hex(n: u32) {
 fn tail(word: u32, start: u8) -> u32 {
     let mut enc = ConvEncoder { state: start };
     let mut coded: u32 = 0;
-    for k in 0..16 {
+    for k in 0..16u32 {
         let bit = ((word >> (15 - k)) % 2) as u8;
         let p = enc.push(bit);
         enc = p.enc;
@@ -55,17 +55,27 @@ fn print_tails(start: u8) {
     io::write_all(STDOUT_FILENO, b"\n");
 }
 
+fn count_known(
+    traceback: usize,
+    bits: &[u8],
+    n: usize,
+    decisions: &mut [u64],
+    out: &mut [u8],
+) -> usize {
+    if n > bits.len() {
+        return 0;
+    }
+    let made = ViterbiDecoder::new(traceback);
+    let r = made.dec.push_known(&bits[..n], decisions, out);
+    r.count
+}
+
 // How many bits n steps release, of known zeros from the state 0.
 fn released(traceback: usize, n: usize) -> usize {
     let bits = [0u8; 4224];
     let mut decisions = [0u64; 4224];
     let mut out = [0u8; 4096];
-    if n > 4224 {
-        return 0;
-    }
-    let made = ViterbiDecoder::new(traceback);
-    let r = made.dec.push_known(&bits[..n], &mut decisions, &mut out);
-    r.count
+    count_known(traceback, &bits, n, &mut decisions, &mut out)
 }
 
 fn print_count(n: usize) {
@@ -167,22 +177,33 @@ fn ties() -> bool {
     word == 0 && b.count == 1 && out[0] == 0
 }
 
-fn number(r: Answer) -> usize {
-    refusal::number(r) as usize
+// The row's number in a call's answer.
+fn number(r: Released) -> u32 {
+    let answer = r.answer;
+    refusal::number(answer)
 }
 
-// The first row that holds, from the top.
-fn refusals() -> bool {
+fn pushed(dec: ViterbiDecoder, pairs: &[f32]) -> u32 {
     let mut decisions = [0u64; 4224];
     let mut out = [0u8; 4];
+    number(dec.push(pairs, &mut decisions, &mut out))
+}
+
+fn pushed_short(dec: ViterbiDecoder, pairs: &[f32]) -> u32 {
+    let mut decisions = [0u64; 4223];
+    let mut out = [0u8; 4];
+    number(dec.push(pairs, &mut decisions, &mut out))
+}
+
+// The first row that holds, from the top: 3, 4, 5, 7, 9, and no row at the limits themselves.
+fn refusals() -> bool {
     let not_a_number = 0.0f32 / 0.0f32;
     let odd = [not_a_number; 3];
     let wide = [1048576.0f32, -1048576.0];
     let wider = [1048577.0f32, 0.0];
-    let pm = [not_a_number; 64];
     let dec = handed([4294967296.0f32; 64]);
     let zero = ViterbiDecoder {
-        pm,
+        pm: [not_a_number; 64],
         held: 0,
         traceback: 0,
     };
@@ -191,18 +212,14 @@ fn refusals() -> bool {
         held: 4224,
         traceback: 128,
     };
-    let a = zero.push(&odd, &mut decisions, &mut out);
-    let b = full.push(&odd, &mut decisions, &mut out);
-    let c = dec.push(&odd, &mut decisions, &mut out);
-    let d = dec.push(&wider, &mut decisions, &mut out);
-    let e = dec.push(&wide, &mut decisions[..4223], &mut out);
-    let f = dec.push(&wide, &mut decisions, &mut out);
-    number(a.answer) == 3
-        && number(b.answer) == 4
-        && number(c.answer) == 5
-        && number(d.answer) == 7
-        && number(e.answer) == 9
-        && number(f.answer) == 0
+    let state = handed([not_a_number; 64]);
+    pushed(zero, &odd) == 3
+        && pushed(full, &odd) == 4
+        && pushed(state, &odd) == 4
+        && pushed(dec, &odd) == 5
+        && pushed(dec, &wider) == 7
+        && pushed_short(dec, &wide) == 9
+        && pushed(dec, &wide) == 0
 }
 
 fn main() {

@@ -1,61 +1,44 @@
-use Rattle.isdbt_fec.specs.Rows.{depth}
-use Rattle.isdbt_fec.specs.Decode.{depth-range}
-use Rattle.isdbt_fec.specs.Numbers.{Numbers, numbers}
-use mathlib.Core.Path.{_≡_, refl, sym, _∙_, ap}
-use mathlib.Core.Bool.{Bool, true, false, cond, not}
-use mathlib.Core.List.{List, [], _∷_, _++_}
-use Prim.Native.Nat.{ℕ, suc, _+_, _-_, _*_, _/_, _%_, _<_, _≤_}
+-- `conv::answer_decode` meets its contract. Assumes nothing.
+use mathlib.Core.Path.{_≡_, refl, sym, _∙_}
+use mathlib.Core.Bool.{true, false}
+use Prim.Native.Nat.{_+_, _*_, _/_, _%_}
 use native.Mathlib.Omega.{arith}
 use borrow.Author.Needs.{needs}
 use borrow.Author.Tests.{lt-ltb, le-ltb, eq-eqb, ne-eqb}
-use lib.Dec.{ltb, eqb}
-use lib.ListN.{length, getD, take, drop, set, length-set}
-use Rattle.trellis.specs.Lists.{upto, laid}
-use Rattle.trellis.specs.Code.{stateAt}
-use Rattle.isdbt_fec.specs.declared.conv.Puncturing.{Puncturing}
-use Rattle.isdbt_fec.specs.Table.{period, sent, order, compiled}
-use Rattle.isdbt_fec.specs.Puncture.{inputs, mother, place, punctured, spread, softAt, depunctured}
-use Rattle.isdbt_fec.specs.Sizes.{sizes, in-order, order-at, place-in, values-there}
+use lib.Dec.{ltb}
+use lib.ListN.{length}
+use Rattle.isdbt_fec.specs.Rows.{depth}
+use Rattle.isdbt_fec.specs.Decode.{depth-range}
+use Rattle.isdbt_fec.specs.Numbers.{numbers}
+use Rattle.isdbt_fec.specs.Table.{period, sent}
 use Rattle.isdbt_fec.proofs.conv.answer_decode.Statement.{statement}
 use Rattle.isdbt_fec.proofs.conv.answer_decode.Tie as tie
-use Rattle.isdbt_fec.proofs.conv.answer_decode.Reads as reads
-use Rattle.isdbt_fec.proofs.conv.answer_decode.Lts as lts
-use Rattle.isdb_fec.proofs.conv.some_beyond.Reads as some-beyond-reads
-use Rattle.isdbt_fec.proofs.conv.Puncturing.new.Reads as new-reads
-use Rattle.isdbt_fec.proofs.conv.depth_of.Reads as depth-of-reads
-use Rattle.isdbt_fec.proofs.conv.few.Reads as few-reads
 
--- src/conv.rt:370:9
 new-requires : tie.Need-new-requires
 new-requires c κs = search needs
 
--- src/conv.rt:372:9
 returns : tie.Need-returns
 returns c = rw (lt-ltb 1024 (c .before .before .before .args .traceback) (c .if1 .taken)) refl
 
--- src/conv.rt:374:8
 rem-if2 : tie.Need-rem-if2
-rem-if2 c = 
+rem-if2 c =
     let rate = c .before .before .before .before .args .rate in
     let e = numbers rate (c .before .before .new .result) (c .before .before .new .ensures) in
     let z = e .ranges in
     omega arith
 
--- src/conv.rt:375:9
 returns-2 : tie.Need-returns-2
-returns-2 c = 
+returns-2 c =
     let rate = c .before .before .before .before .before .args .rate in
     let e = numbers rate (c .before .before .before .new .result) (c .before .before .before .new .ensures) in
     let a = c .before .before .before .before .before .args in
     rw (le-ltb 1024 (a .traceback) (c .before .before .if1 .left), ne-eqb (length (a .llrs .now) % sent rate) 0 (rw (e .n-is) at (c .if2 .taken))) refl
 
--- src/conv.rt:377:8
 some-beyond-requires : tie.Need-some-beyond-requires
 some-beyond-requires c κs = search needs
 
--- src/conv.rt:378:9
 returns-3 : tie.Need-returns-3
-returns-3 c = 
+returns-3 c =
     let rate = c .before .before .before .before .before .before .before .args .rate in
     let e = numbers rate (c .before .before .before .before .before .new .result) (c .before .before .before .before .before .new .ensures) in
     let a = c .before .before .before .before .before .before .before .args in
@@ -65,25 +48,22 @@ returns-3 c =
       sym (c .before .some-beyond .ensures) ∙ c .if3 .taken,
     ) refl
 
--- src/conv.rt:380:29
 div-few : tie.Need-div-few
-div-few c = 
+div-few c =
     let rate = c .before .before .before .before .before .before .before .before .args .rate in
     let e = numbers rate (c .before .before .before .before .before .before .new .result) (c .before .before .before .before .before .before .new .ensures) in
     let z = e .ranges in
     omega arith
 
--- src/conv.rt:380:8
 few-requires : tie.Need-few-requires
-few-requires c κs = 
+few-requires c κs =
     let rate = c .before .before .before .before .before .before .before .before .args .rate in
     let e = numbers rate (c .before .before .before .before .before .before .new .result) (c .before .before .before .before .before .before .new .ensures) in
     let z = e .ranges in
     omega arith
 
--- src/conv.rt:381:9
 returns-4 : tie.Need-returns-4
-returns-4 c = 
+returns-4 c =
     let rate = c .before .before .before .before .before .before .before .before .before .before .args .rate in
     let e = numbers rate (c .before .before .before .before .before .before .before .before .new .result) (c .before .before .before .before .before .before .before .before .new .ensures) in
     let a = c .before .before .before .before .before .before .before .before .before .before .args in
@@ -95,17 +75,14 @@ returns-4 c =
       t,
     ) refl
 
--- src/conv.rt:383:27
 depth-of-requires : tie.Need-depth-of-requires
 depth-of-requires c κs = search needs
 
--- src/conv.rt:383:20
 add-if5 : tie.Need-add-if5
 add-if5 c = let d = depth-range (c .before .before .before .before .before .before .before .before .before .before .before .args .traceback) (c .before .before .before .before .before .before .before .before .if1 .left) in let e = c .depth-of .ensures in omega arith
 
--- src/conv.rt:384:9
 returns-5 : tie.Need-returns-5
-returns-5 c = 
+returns-5 c =
     let rate = c .before .before .before .before .before .before .before .before .before .before .before .before .args .rate in
     let e = numbers rate (c .before .before .before .before .before .before .before .before .before .before .new .result) (c .before .before .before .before .before .before .before .before .before .before .new .ensures) in
     let a = c .before .before .before .before .before .before .before .before .before .before .before .before .args in
@@ -118,9 +95,8 @@ returns-5 c =
       lt-ltb (a .decisions) (4096 + depth (a .traceback)) (rw (c .before .depth-of .ensures) at (c .if5 .taken)),
     ) refl
 
--- src/conv.rt:367:1
 returns-6 : tie.Need-returns-6
-returns-6 c = 
+returns-6 c =
     let rate = c .before .before .before .before .before .before .before .before .before .before .before .before .args .rate in
     let e = numbers rate (c .before .before .before .before .before .before .before .before .before .before .new .result) (c .before .before .before .before .before .before .before .before .before .before .new .ensures) in
     let a = c .before .before .before .before .before .before .before .before .before .before .before .before .args in

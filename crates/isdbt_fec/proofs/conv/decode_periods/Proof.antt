@@ -1,34 +1,19 @@
-use Rattle.isdbt_fec.specs.Numbers.{Numbers, numbers}
-use Rattle.isdbt_fec.specs.Decode.{softBy, stepsBy, begun, room-for, pair-below, count-most, soft-ready, held-few, all-bits, bits-out, words-out}
+-- `conv::decode_periods` meets its contract. Assumes nothing.
+use mathlib.Core.Path.{_≡_, refl, _∙_, ap}
+use mathlib.Core.List.{List}
+use Prim.Native.Nat.{ℕ, _+_, _-_, _*_, _/_, _<_, _≤_}
+use native.Mathlib.Omega.{arith}
+use borrow.Author.Needs.{needs}
+use lib.ListN.{replicate, length}
+use Rattle.isdbt_fec.specs.Numbers.{numbers}
+use Rattle.isdbt_fec.specs.Decode.{stepsBy, begun, room-for, pair-below, count-most, soft-ready, held-few, all-bits, bits-out, words-out}
 use Rattle.isdb_fec.specs.Calls as fec
 use Rattle.isdb_fec.specs.Calls.{Holds, holding}
 use Rattle.isdb_fec.specs.Whole.{begins, lengths, ready, goes-on}
-use mathlib.Core.Path.{_≡_, refl, sym, _∙_, ap}
-use mathlib.Core.Bool.{Bool, true, false, cond, not}
-use mathlib.Core.List.{List, [], _∷_, _++_}
-use Prim.Native.Nat.{ℕ, suc, _+_, _-_, _*_, _/_, _%_, _<_, _≤_}
-use native.Mathlib.Omega.{arith}
-use borrow.Author.Needs.{needs}
-use borrow.Author.Tests.{lt-ltb, le-ltb, eq-eqb, ne-eqb}
-use lib.Dec.{ltb, eqb}
-use lib.ListN.{replicate, length, getD, take, drop, set, length-set}
-use Rattle.trellis.specs.Lists.{upto, laid}
-use Rattle.trellis.specs.Code.{stateAt}
-use Rattle.isdbt_fec.specs.declared.conv.Puncturing.{Puncturing}
-use Rattle.isdbt_fec.specs.Table.{period, sent, order, compiled}
-use Rattle.isdbt_fec.specs.Puncture.{inputs, mother, place, punctured, spread, softAt, depunctured}
-use Rattle.isdbt_fec.specs.Sizes.{sizes, in-order, order-at, place-in, values-there}
+use Rattle.trellis.specs.Lists.{laid}
+use Rattle.isdbt_fec.specs.Table.{period, sent, order}
 use Rattle.isdbt_fec.proofs.conv.decode_periods.Statement.{statement}
 use Rattle.isdbt_fec.proofs.conv.decode_periods.Tie as tie
-use Rattle.isdbt_fec.proofs.conv.decode_periods.Reads as reads
-use Rattle.isdbt_fec.proofs.conv.decode_periods.Lts as lts
-use Rattle.isdb_fec.proofs.conv.advance.Reads as advance-reads
-use Rattle.isdb_fec.proofs.conv.clear.Reads as clear-reads
-use Rattle.isdb_fec.proofs.conv.finish.Reads as finish-reads
-use Rattle.isdb_fec.proofs.conv.renormalise.Reads as renormalise-reads
-use Rattle.isdb_fec.proofs.conv.start_at.Reads as start-at-reads
-use Rattle.isdbt_fec.proofs.conv.Puncturing.new.Reads as new-reads
-use Rattle.isdbt_fec.proofs.conv.soft_at.Reads as soft-at-reads
 
 abbrev Inv-loop : tie.InvT-loop
 Inv-loop llrs traceback decisions₀ out₀ period n order pm₀ at₀ count i₀ decisions out pm at i = (i ≤ count) × Holds traceback decisions₀ out₀ (fec.steps traceback (stepsBy period n order llrs) (holding pm₀ (at₀ .held) decisions₀) i) pm (at .held) (at .count) decisions out
@@ -36,17 +21,14 @@ Inv-loop llrs traceback decisions₀ out₀ period n order pm₀ at₀ count i�
 abbrev μ-loop : tie.MeasureT-loop
 μ-loop llrs traceback decisions₀ out₀ period n order pm₀ at₀ count i₀ decisions out pm at i = count - i
 
--- src/conv.rt:396:9
 new-requires : tie.Need-new-requires Inv-loop μ-loop
 new-requires c κs = search needs
 
--- src/conv.rt:400:18
 start-at-requires : tie.Need-start-at-requires Inv-loop μ-loop
 start-at-requires c κs = tt
 
--- src/conv.rt:402:17
 div-count : tie.Need-div-count Inv-loop μ-loop
-div-count c = 
+div-count c =
     let start = c .before .before .before .before .before .before in
     let a = start .args in
     let rate = a .rate in
@@ -60,9 +42,8 @@ div-count c =
     let r = z .ranges in
     omega arith
 
--- src/conv.rt:402:17
 mul-count : tie.Need-mul-count Inv-loop μ-loop
-mul-count c = 
+mul-count c =
     let start = c .before .before .before .before .before .before in
     let a = start .args in
     let rate = a .rate in
@@ -75,9 +56,8 @@ mul-count c =
     let most = count-most rate (length llrs) in
     omega arith
 
--- src/conv.rt:403:5
 loop-holds : tie.Need-loop-holds Inv-loop μ-loop
-loop-holds c = 
+loop-holds c =
     let start = c .before .before .before .before .before .before in
     let a = start .args in
     let rate = a .rate in
@@ -97,9 +77,8 @@ loop-holds c =
     let enough = room-for pm tb n (length dec) (length out) (start .pre .0) (start .pre .1) (start .pre .2) (start .pre .3) in
     (search needs, begins v xs n dec out enough)
 
--- src/conv.rt:404:51
 mul-soft-at : tie.Need-mul-soft-at Inv-loop μ-loop
-mul-soft-at c = 
+mul-soft-at c =
     let start = c .before .before .before .before .before .before .before .before .before in
     let a = start .args in
     let rate = a .rate in
@@ -123,9 +102,8 @@ mul-soft-at c =
     let below = pair-below rate (length llrs) i inside in
     omega arith
 
--- src/conv.rt:404:13
 soft-at-requires : tie.Need-soft-at-requires Inv-loop μ-loop
-soft-at-requires c κs = 
+soft-at-requires c κs =
     let start = c .before .before .before .before .before .before .before .before .before in
     let a = start .args in
     let rate = a .rate in
@@ -149,9 +127,8 @@ soft-at-requires c κs =
     let below = pair-below rate (length llrs) i inside in
     soft-ready rate p llrs (2 * i) e (omega arith)
 
--- src/conv.rt:405:51
 mul-soft-at-2 : tie.Need-mul-soft-at-2 Inv-loop μ-loop
-mul-soft-at-2 c = 
+mul-soft-at-2 c =
     let start = c .before .before .before .before .before .before .before .before .before .before .before in
     let a = start .args in
     let rate = a .rate in
@@ -175,9 +152,8 @@ mul-soft-at-2 c =
     let below = pair-below rate (length llrs) i inside in
     omega arith
 
--- src/conv.rt:405:51
 add-soft-at : tie.Need-add-soft-at Inv-loop μ-loop
-add-soft-at c = 
+add-soft-at c =
     let start = c .before .before .before .before .before .before .before .before .before .before .before in
     let a = start .args in
     let rate = a .rate in
@@ -201,9 +177,8 @@ add-soft-at c =
     let below = pair-below rate (length llrs) i inside in
     omega arith
 
--- src/conv.rt:405:13
 soft-at-requires-2 : tie.Need-soft-at-requires-2 Inv-loop μ-loop
-soft-at-requires-2 c κs = 
+soft-at-requires-2 c κs =
     let start = c .before .before .before .before .before .before .before .before .before .before .before in
     let a = start .args in
     let rate = a .rate in
@@ -227,9 +202,8 @@ soft-at-requires-2 c κs =
     let below = pair-below rate (length llrs) i inside in
     soft-ready rate p llrs (2 * i + 1) e below
 
--- src/conv.rt:406:9
 advance-requires : tie.Need-advance-requires Inv-loop μ-loop
-advance-requires c κs = 
+advance-requires c κs =
     let start = c .before .before .before .before .before .before .before .before .before .before .before .before .before .before .before in
     let a = start .args in
     let rate = a .rate in
@@ -253,9 +227,8 @@ advance-requires c κs =
     let below = pair-below rate (length llrs) i inside in
     ready v xs n dec out enough (at .loop .pm) (at .loop .at) (at .loop .decisions) (at .loop .out) i (at .loop .inv .1) inside
 
--- src/conv.rt:403:9
 add-i : tie.Need-add-i Inv-loop μ-loop
-add-i c = 
+add-i c =
     let start = c .before .before .before .before .before .before .before .before .before .before .before .before .before .before .before .before .before .before .before .before in
     let a = start .args in
     let rate = a .rate in
@@ -279,13 +252,11 @@ add-i c =
     let below = pair-below rate (length llrs) i inside in
     omega arith
 
--- src/conv.rt:403:5
 loop-less : tie.Need-loop-less Inv-loop μ-loop
 loop-less c = search needs
 
--- src/conv.rt:403:5
 loop-again : tie.Need-loop-again Inv-loop μ-loop
-loop-again c = 
+loop-again c =
     let start = c .before .before .before .before .before .before .before .before .before .before .before .before .before .before .before .before .before .before .before .before in
     let a = start .args in
     let rate = a .rate in
@@ -314,13 +285,11 @@ loop-again c =
       goes-on v xs n dec out enough (at .loop .pm) (at .loop .at) (at .loop .decisions) (at .loop .out) i (at .loop .inv .1) (stepped .result) (stepped .last .0) _ _ (rw (lx, ly) at (stepped .ensures)),
     )
 
--- src/conv.rt:408:5
 renormalise-requires : tie.Need-renormalise-requires Inv-loop μ-loop
 renormalise-requires c κs = tt
 
--- src/conv.rt:409:9
 finish-requires : tie.Need-finish-requires Inv-loop μ-loop
-finish-requires c κs = 
+finish-requires c κs =
     let start = c .before .before .before .before .before .before .before .before .before .before .before .before .before in
     let a = start .args in
     let rate = a .rate in
@@ -352,13 +321,11 @@ finish-requires c κs =
     let held-less = held-few rate p e llrs tb (start .pre .0) (start .pre .1) dec out pm (at .loop .pm) (low .last .0) (at .loop .at) (at .loop .decisions) (at .loop .out) (c .before .before .before .before .before .before .before .start-at .ensures) ended (low .ensures) in
     (omega arith, omega arith)
 
--- src/conv.rt:410:22
 add-clear : tie.Need-add-clear Inv-loop μ-loop
 add-clear c = omega arith
 
--- src/conv.rt:410:5
 clear-requires : tie.Need-clear-requires Inv-loop μ-loop
-clear-requires c κs = 
+clear-requires c κs =
     let start = c .before .before .before .before .before .before .before .before .before .before .before .before .before .before .before .before .before .before .before in
     let a = start .args in
     let rate = a .rate in
@@ -388,9 +355,8 @@ clear-requires c κs =
     let fits = enough .fits in
     omega arith
 
--- src/conv.rt:390:1
 same-length : tie.Need-same-length Inv-loop μ-loop
-same-length c = 
+same-length c =
     let start = c .before .before .before .before .before .before .before .before .before .before .before .before .before .before .before .before .before .before .before .before .before .before in
     let a = start .args in
     let rate = a .rate in
@@ -418,9 +384,8 @@ same-length c =
     let l = lengths v xs n dec out enough (at .loop .pm) (at .loop .at) (at .loop .decisions) (at .loop .out) (at .loop .i) held (omega arith) in
     c .before .before .clear .kept .0 ∙ c .before .before .before .before .before .before .before .before .finish .kept .1 .1 .0 ∙ l .0
 
--- src/conv.rt:390:1
 same-length-2 : tie.Need-same-length-2 Inv-loop μ-loop
-same-length-2 c = 
+same-length-2 c =
     let start = c .before .before .before .before .before .before .before .before .before .before .before .before .before .before .before .before .before .before .before .before .before .before in
     let a = start .args in
     let rate = a .rate in
@@ -448,9 +413,8 @@ same-length-2 c =
     let l = lengths v xs n dec out enough (at .loop .pm) (at .loop .at) (at .loop .decisions) (at .loop .out) (at .loop .i) held (omega arith) in
     c .before .before .before .before .before .before .before .before .finish .kept .1 .1 .1 .0 ∙ l .1
 
--- src/conv.rt:390:1
 returns : tie.Need-returns Inv-loop μ-loop
-returns c = 
+returns c =
     let start = c .before .before .before .before .before .before .before .before .before .before .before .before .before .before .before .before .before .before .before .before .before .before in
     let a = start .args in
     let rate = a .rate in

@@ -1,28 +1,19 @@
+-- `conv::depuncture_periods` meets its contract. Assumes nothing.
 use lib.Ieee.{Float}
-use Rattle.isdbt_fec.specs.Numbers.{Numbers, numbers}
-use Rattle.isdbt_fec.specs.Upto.{upto-same, upto-next}
-use Rattle.isdbt_fec.specs.Decode.{softBy, soft-is, soft-ready}
-use mathlib.Core.Path.{_≡_, refl, sym, _∙_, ap}
-use mathlib.Core.Bool.{Bool, true, false, cond, not}
-use mathlib.Core.List.{List, [], _∷_, _++_}
-use Prim.Native.Nat.{ℕ, suc, _+_, _-_, _*_, _/_, _%_, _<_, _≤_}
+use mathlib.Core.Path.{_≡_, refl, _∙_, ap}
+use mathlib.Core.List.{List}
+use Prim.Native.Nat.{_-_, _*_, _/_, _<_, _≤_}
 use native.Mathlib.Omega.{arith}
 use borrow.Author.Needs.{needs}
-use borrow.Author.Tests.{lt-ltb, le-ltb, eq-eqb, ne-eqb}
-use lib.Dec.{ltb, eqb}
-use lib.ListN.{length, getD, take, drop, set, length-set}
+use lib.ListN.{length, set, length-set}
+use Rattle.isdbt_fec.specs.Numbers.{numbers}
+use Rattle.isdbt_fec.specs.Upto.{upto-same, upto-next}
+use Rattle.isdbt_fec.specs.Decode.{softBy, soft-is, soft-ready}
 use Rattle.trellis.specs.Lists.{upto, laid}
-use Rattle.trellis.specs.Code.{stateAt}
-use Rattle.isdbt_fec.specs.declared.conv.Puncturing.{Puncturing}
-use Rattle.isdbt_fec.specs.Table.{period, sent, order, compiled}
-use Rattle.isdbt_fec.specs.Puncture.{inputs, mother, place, punctured, spread, softAt, depunctured}
-use Rattle.isdbt_fec.specs.Sizes.{sizes, in-order, order-at, place-in, values-there}
+use Rattle.isdbt_fec.specs.Table.{period, sent, order}
+use Rattle.isdbt_fec.specs.Puncture.{softAt, depunctured}
 use Rattle.isdbt_fec.proofs.conv.depuncture_periods.Statement.{statement}
 use Rattle.isdbt_fec.proofs.conv.depuncture_periods.Tie as tie
-use Rattle.isdbt_fec.proofs.conv.depuncture_periods.Reads as reads
-use Rattle.isdbt_fec.proofs.conv.depuncture_periods.Lts as lts
-use Rattle.isdbt_fec.proofs.conv.Puncturing.new.Reads as new-reads
-use Rattle.isdbt_fec.proofs.conv.soft_at.Reads as soft-at-reads
 
 abbrev Inv-loop : tie.InvT-loop
 Inv-loop llrs out₀ period n order count k₀ out k = (k ≤ count) × (length out ≡ length out₀) × (out ≡ laid (upto (softBy period n order llrs) k) out₀)
@@ -30,13 +21,11 @@ Inv-loop llrs out₀ period n order count k₀ out k = (k ≤ count) × (length 
 abbrev μ-loop : tie.MeasureT-loop
 μ-loop llrs out₀ period n order count k₀ out k = count - k
 
--- src/conv.rt:315:9
 new-requires : tie.Need-new-requires Inv-loop μ-loop
 new-requires c κs = search needs
 
--- src/conv.rt:319:17
 div-count : tie.Need-div-count Inv-loop μ-loop
-div-count c = 
+div-count c =
     let start = c .before .before .before .before in
     let a = start .args in
     let rate = a .rate in
@@ -46,9 +35,8 @@ div-count c =
     let r = z .ranges in
     omega arith
 
--- src/conv.rt:319:35
 mul-count : tie.Need-mul-count Inv-loop μ-loop
-mul-count c = 
+mul-count c =
     let start = c .before .before .before .before in
     let a = start .args in
     let rate = a .rate in
@@ -58,9 +46,8 @@ mul-count c =
     let r = z .ranges in
     omega arith
 
--- src/conv.rt:319:17
 mul-count-2 : tie.Need-mul-count-2 Inv-loop μ-loop
-mul-count-2 c = 
+mul-count-2 c =
     let start = c .before .before .before .before in
     let a = start .args in
     let rate = a .rate in
@@ -72,14 +59,12 @@ mul-count-2 c =
     let room = start .pre in
     omega arith
 
--- src/conv.rt:320:5
 loop-holds : tie.Need-loop-holds Inv-loop μ-loop
 unfolding upto
 loop-holds c = (search needs, refl, refl)
 
--- src/conv.rt:321:18
 soft-at-requires : tie.Need-soft-at-requires Inv-loop μ-loop
-soft-at-requires c κs = 
+soft-at-requires c κs =
     let start = c .before .before .before .before .before .before .before in
     let a = start .args in
     let rate = a .rate in
@@ -93,9 +78,8 @@ soft-at-requires c κs =
     let room = start .pre in
     soft-ready rate p xs (at .loop .k) e inside
 
--- src/conv.rt:321:9
 mul-out : tie.Need-mul-out Inv-loop μ-loop
-mul-out c = 
+mul-out c =
     let start = c .before .before .before .before .before .before .before .before in
     let a = start .args in
     let rate = a .rate in
@@ -109,9 +93,8 @@ mul-out c =
     let room = start .pre in
     search needs
 
--- src/conv.rt:321:9
 slice-write-out : tie.Need-slice-write-out Inv-loop μ-loop
-slice-write-out c = 
+slice-write-out c =
     let start = c .before .before .before .before .before .before .before .before in
     let a = start .args in
     let rate = a .rate in
@@ -125,9 +108,8 @@ slice-write-out c =
     let room = start .pre in
     omega arith
 
--- src/conv.rt:320:9
 add-k : tie.Need-add-k Inv-loop μ-loop
-add-k c = 
+add-k c =
     let start = c .before .before .before .before .before .before .before .before in
     let a = start .args in
     let rate = a .rate in
@@ -141,13 +123,11 @@ add-k c =
     let room = start .pre in
     omega arith
 
--- src/conv.rt:320:5
 loop-less : tie.Need-loop-less Inv-loop μ-loop
 loop-less c = search needs
 
--- src/conv.rt:320:5
 loop-again : tie.Need-loop-again Inv-loop μ-loop
-loop-again c = 
+loop-again c =
     let start = c .before .before .before .before .before .before .before .before in
     let a = start .args in
     let rate = a .rate in
@@ -167,14 +147,12 @@ loop-again c =
       ap (λ (l : List Float). set l k v) (at .loop .inv .2) ∙ upto-next f k (a .out .now) v (omega arith) (c .soft-at .ensures),
     )
 
--- src/conv.rt:310:1
 same-length : tie.Need-same-length Inv-loop μ-loop
 same-length c = c .before .loop .inv .1
 
--- src/conv.rt:310:1
 returns : tie.Need-returns Inv-loop μ-loop
 unfolding depunctured
-returns c = 
+returns c =
     let start = c .before .before .before .before .before .before in
     let a = start .args in
     let rate = a .rate in

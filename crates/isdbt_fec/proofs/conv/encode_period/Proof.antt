@@ -1,25 +1,15 @@
+-- `conv::encode_period` meets its contract. Assumes nothing.
 use native.Mathlib.Nat.{not-suc-le-zero}
-use mathlib.Core.Path.{_≡_, refl, sym, _∙_, ap}
-use mathlib.Core.Bool.{Bool, true, false, cond, not}
-use mathlib.Core.List.{List, [], _∷_, _++_}
-use Prim.Native.Nat.{ℕ, suc, _+_, _-_, _*_, _/_, _%_, _<_, _≤_}
+use mathlib.Core.Path.{_≡_, refl, sym, _∙_}
+use Prim.Native.Nat.{ℕ, _+_, _-_, _*_, _<_, _≤_}
 use native.Mathlib.Omega.{arith}
 use borrow.Author.Needs.{needs}
-use borrow.Author.Tests.{lt-ltb, le-ltb, eq-eqb, ne-eqb}
-use lib.Dec.{ltb, eqb}
-use lib.ListN.{length, getD, take, drop, set, length-set}
-use Rattle.trellis.specs.Lists.{upto, laid}
+use lib.ListN.{length, getD, set, length-set}
 use Rattle.trellis.specs.Code.{stateAt}
-use Rattle.isdbt_fec.specs.declared.conv.Puncturing.{Puncturing}
-use Rattle.isdbt_fec.specs.Table.{period, sent, order, compiled}
-use Rattle.isdbt_fec.specs.Puncture.{inputs, mother, place, punctured, spread, softAt, depunctured}
-use Rattle.isdbt_fec.specs.Sizes.{sizes, in-order, order-at, place-in, values-there}
+use Rattle.isdbt_fec.specs.Puncture.{inputs, mother}
 use Rattle.isdbt_fec.specs.Encode.{input-at, state-next, state-below, mother-x, mother-y, written-pair}
 use Rattle.isdbt_fec.proofs.conv.encode_period.Statement.{statement}
 use Rattle.isdbt_fec.proofs.conv.encode_period.Tie as tie
-use Rattle.isdbt_fec.proofs.conv.encode_period.Reads as reads
-use Rattle.isdbt_fec.proofs.conv.encode_period.Lts as lts
-use Rattle.isdb_fec.proofs.conv.encode_bit.Reads as encode-bit-reads
 
 abbrev Inv-loop : tie.InvT-loop
 Inv-loop state bits s₀ m₀ i₀ i-end s m i = (i ≤ i-end) × (s ≡ stateAt 32 state (inputs bits) i) × (length m ≡ 14) × ((k : ℕ) → k < 2 * i → getD m k 0 ≡ mother state (inputs bits) k)
@@ -27,53 +17,42 @@ Inv-loop state bits s₀ m₀ i₀ i-end s m i = (i ≤ i-end) × (s ≡ stateAt
 abbrev μ-loop : tie.MeasureT-loop
 μ-loop state bits s₀ m₀ i₀ i-end s m i = i-end - i
 
--- src/conv.rt:170:5
 loop-holds : tie.Need-loop-holds Inv-loop μ-loop
 unfolding stateAt
 loop-holds c = (search needs, refl, refl, (λ k h. absurd (not-suc-le-zero h)))
 
--- src/conv.rt:171:31
 shared-slice-read-encode-bit : tie.Need-shared-slice-read-encode-bit Inv-loop μ-loop
 shared-slice-read-encode-bit c = search needs
 
--- src/conv.rt:171:13
 encode-bit-requires : tie.Need-encode-bit-requires Inv-loop μ-loop
-encode-bit-requires c κs = 
+encode-bit-requires c κs =
     let at = c .before .before in
     let a = at .before .before .args in
     rw (at .loop .inv .1) (state-below (a .state) (a .bits .now) (at .loop .i) (at .before .before .pre .0))
 
--- src/conv.rt:172:11
 mul-m : tie.Need-mul-m Inv-loop μ-loop
 mul-m c = search needs
 
--- src/conv.rt:172:9
 array-write-m : tie.Need-array-write-m Inv-loop μ-loop
 array-write-m c = search needs
 
--- src/conv.rt:173:11
 mul-m-2 : tie.Need-mul-m-2 Inv-loop μ-loop
 mul-m-2 c = search needs
 
--- src/conv.rt:173:11
 add-m : tie.Need-add-m Inv-loop μ-loop
 add-m c = search needs
 
--- src/conv.rt:173:9
 array-write-m-2 : tie.Need-array-write-m-2 Inv-loop μ-loop
 array-write-m-2 c = search needs
 
--- src/conv.rt:170:9
 add-i : tie.Need-add-i Inv-loop μ-loop
 add-i c = search needs
 
--- src/conv.rt:170:5
 loop-less : tie.Need-loop-less Inv-loop μ-loop
 loop-less c = search needs
 
--- src/conv.rt:170:5
 loop-again : tie.Need-loop-again Inv-loop μ-loop
-loop-again c = 
+loop-again c =
     let at = c .before .before .before in
     let a = at .before .before .args in
     let us = inputs (a .bits .now) in
@@ -91,9 +70,8 @@ loop-again c =
       written-pair (mother (a .state) us) m i x y room (rw (inv .1, u) at (e .0) ∙ sym (mother-x (a .state) us i)) (rw (inv .1, u) at (e .1) ∙ sym (mother-y (a .state) us i)) (inv .3),
     )
 
--- src/conv.rt:163:1
 returns : tie.Need-returns Inv-loop μ-loop
-returns c = 
+returns c =
     let at = c .before in
     let n = length (at .before .before .args .bits .now) in
     let e : at .loop .i ≡ n = omega arith in

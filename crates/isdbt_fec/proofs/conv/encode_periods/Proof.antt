@@ -1,33 +1,23 @@
+-- `conv::encode_periods` meets its contract. Assumes nothing.
+use lib.ListN.{length-drop}
+use mathlib.Core.Path.{_≡_, refl, sym, _∙_, ap}
+use mathlib.Core.List.{List, _++_}
+use Prim.Native.Nat.{ℕ, _+_, _-_, _*_, _/_, _<_, _≤_}
+use native.Mathlib.Omega.{arith}
+use borrow.Author.Needs.{needs}
+use lib.ListN.{length, getD, take, drop}
 use Rattle.isdb_fec.proofs.Parts.{tail-whole, written-tail}
 use Rattle.isdb_fec.specs.Laid.{length-laid}
 use Rattle.isdb_fec.specs.Upto.{length-upto}
-use lib.ListN.{length-drop}
-use lib.Seq.{length-take-le}
-use Rattle.isdbt_fec.specs.Numbers.{Numbers, numbers}
-use Rattle.isdbt_fec.specs.Upto.{upto-same, upto-after}
-use Rattle.isdbt_fec.specs.Encode.{placeBy, place-is, bit-below, next-bits, part-state, state-below, block-inside, one-more, part-length, next-state, whole-bits, whole-sent}
-use mathlib.Core.Path.{_≡_, refl, sym, _∙_, ap}
-use mathlib.Core.Bool.{Bool, true, false, cond, not}
-use mathlib.Core.List.{List, [], _∷_, _++_}
-use Prim.Native.Nat.{ℕ, suc, _+_, _-_, _*_, _/_, _%_, _<_, _≤_}
-use native.Mathlib.Omega.{arith}
-use borrow.Author.Needs.{needs}
-use borrow.Author.Tests.{lt-ltb, le-ltb, eq-eqb, ne-eqb}
-use lib.Dec.{ltb, eqb}
-use lib.ListN.{length, getD, take, drop, set, length-set}
+use Rattle.isdbt_fec.specs.Numbers.{numbers}
+use Rattle.isdbt_fec.specs.Upto.{upto-after}
+use Rattle.isdbt_fec.specs.Encode.{placeBy, bit-below, next-bits, state-below, block-inside, one-more, part-length, next-state, whole-bits, whole-sent}
 use Rattle.trellis.specs.Lists.{upto, laid}
 use Rattle.trellis.specs.Code.{stateAt}
-use Rattle.isdbt_fec.specs.declared.conv.Puncturing.{Puncturing}
-use Rattle.isdbt_fec.specs.Table.{period, sent, order, compiled}
-use Rattle.isdbt_fec.specs.Puncture.{inputs, mother, place, punctured, spread, softAt, depunctured}
-use Rattle.isdbt_fec.specs.Sizes.{sizes, in-order, order-at, place-in, values-there}
+use Rattle.isdbt_fec.specs.Table.{period, order}
+use Rattle.isdbt_fec.specs.Puncture.{inputs, mother}
 use Rattle.isdbt_fec.proofs.conv.encode_periods.Statement.{statement}
 use Rattle.isdbt_fec.proofs.conv.encode_periods.Tie as tie
-use Rattle.isdbt_fec.proofs.conv.encode_periods.Reads as reads
-use Rattle.isdbt_fec.proofs.conv.encode_periods.Lts as lts
-use Rattle.isdbt_fec.proofs.conv.Puncturing.new.Reads as new-reads
-use Rattle.isdbt_fec.proofs.conv.encode_period.Reads as encode-period-reads
-use Rattle.isdbt_fec.proofs.conv.send.Reads as send-reads
 
 abbrev Inv-loop : tie.InvT-loop
 Inv-loop state bits out₀ period n order s₀ b₀ b-end out s b = (b ≤ b-end) × (length out ≡ length out₀) × (s ≡ stateAt 32 state (inputs bits) (b * period)) × (out ≡ laid (upto (λ j. mother state (inputs bits) (placeBy period n order j)) (b * n)) out₀)
@@ -35,13 +25,11 @@ Inv-loop state bits out₀ period n order s₀ b₀ b-end out s b = (b ≤ b-end
 abbrev μ-loop : tie.MeasureT-loop
 μ-loop state bits out₀ period n order s₀ b₀ b-end out s b = b-end - b
 
--- src/conv.rt:207:9
 new-requires : tie.Need-new-requires Inv-loop μ-loop
 new-requires c κs = search needs
 
--- src/conv.rt:212:17
 div-b-end : tie.Need-div-b-end Inv-loop μ-loop
-div-b-end c = 
+div-b-end c =
     let start = c .before .before .before .before in
     let a = start .args in
     let rate = a .rate in
@@ -51,10 +39,9 @@ div-b-end c =
     let r = z .ranges in
     omega arith
 
--- src/conv.rt:212:5
 loop-holds : tie.Need-loop-holds Inv-loop μ-loop
 unfolding stateAt upto
-loop-holds c = 
+loop-holds c =
     let start = c .before .before .before .before in
     let a = start .args in
     let rate = a .rate in
@@ -66,9 +53,8 @@ loop-holds c =
     let zn : 0 * p .n ≡ 0 = omega arith in
     (search needs, refl, rw zp refl, rw zn refl)
 
--- src/conv.rt:213:20
 mul-from : tie.Need-mul-from Inv-loop μ-loop
-mul-from c = 
+mul-from c =
     let start = c .before .before .before .before .before .before in
     let a = start .args in
     let rate = a .rate in
@@ -82,9 +68,8 @@ mul-from c =
     let fit = block-inside rate p (length (a .bits .now)) (length (a .out .now)) b e (c .loop-test .taken) (start .pre .2) in
     omega arith
 
--- src/conv.rt:214:18
 add-to : tie.Need-add-to Inv-loop μ-loop
-add-to c = 
+add-to c =
     let start = c .before .before .before .before .before .before in
     let a = start .args in
     let rate = a .rate in
@@ -98,9 +83,8 @@ add-to c =
     let fit = block-inside rate p (length (a .bits .now)) (length (a .out .now)) b e (c .loop-test .taken) (start .pre .2) in
     omega arith
 
--- src/conv.rt:215:18
 mul-at : tie.Need-mul-at Inv-loop μ-loop
-mul-at c = 
+mul-at c =
     let start = c .before .before .before .before .before .before in
     let a = start .args in
     let rate = a .rate in
@@ -114,9 +98,8 @@ mul-at c =
     let fit = block-inside rate p (length (a .bits .now)) (length (a .out .now)) b e (c .loop-test .taken) (start .pre .2) in
     omega arith
 
--- src/conv.rt:216:34
 sub-encode-period : tie.Need-sub-encode-period Inv-loop μ-loop
-sub-encode-period c = 
+sub-encode-period c =
     let start = c .before .before .before .before .before .before in
     let a = start .args in
     let rate = a .rate in
@@ -130,9 +113,8 @@ sub-encode-period c =
     let fit = block-inside rate p (length (a .bits .now)) (length (a .out .now)) b e (c .loop-test .taken) (start .pre .2) in
     omega arith
 
--- src/conv.rt:216:34
 part-encode-period-start : tie.Need-part-encode-period-start Inv-loop μ-loop
-part-encode-period-start c = 
+part-encode-period-start c =
     let start = c .before .before .before .before .before .before in
     let a = start .args in
     let rate = a .rate in
@@ -146,9 +128,8 @@ part-encode-period-start c =
     let fit = block-inside rate p (length (a .bits .now)) (length (a .out .now)) b e (c .loop-test .taken) (start .pre .2) in
     omega arith
 
--- src/conv.rt:216:34
 part-encode-period-end : tie.Need-part-encode-period-end Inv-loop μ-loop
-part-encode-period-end c = 
+part-encode-period-end c =
     let start = c .before .before .before .before .before .before in
     let a = start .args in
     let rate = a .rate in
@@ -162,9 +143,8 @@ part-encode-period-end c =
     let fit = block-inside rate p (length (a .bits .now)) (length (a .out .now)) b e (c .loop-test .taken) (start .pre .2) in
     omega arith
 
--- src/conv.rt:216:13
 encode-period-requires : tie.Need-encode-period-requires Inv-loop μ-loop
-encode-period-requires c κs = 
+encode-period-requires c κs =
     let start = c .before .before .before .before .before .before .before in
     let a = start .args in
     let rate = a .rate in
@@ -182,9 +162,8 @@ encode-period-requires c κs =
     rw (wide, part-length rate p e (a .state) (a .bits .now) b (fit .0)) (r .most) in
     (rw (inv .2) (state-below (a .state) (a .bits .now) from (start .pre .0)), few)
 
--- src/conv.rt:218:29
 sub-send : tie.Need-sub-send Inv-loop μ-loop
-sub-send c = 
+sub-send c =
     let start = c .before .before .before .before .before .before .before .before .before .before .before in
     let a = start .args in
     let rate = a .rate in
@@ -199,9 +178,8 @@ sub-send c =
     let l = inv .1 in
     omega arith
 
--- src/conv.rt:218:29
 part-send-start : tie.Need-part-send-start Inv-loop μ-loop
-part-send-start c = 
+part-send-start c =
     let start = c .before .before .before .before .before .before .before .before .before .before .before in
     let a = start .args in
     let rate = a .rate in
@@ -216,9 +194,8 @@ part-send-start c =
     let l = inv .1 in
     omega arith
 
--- src/conv.rt:218:29
 part-send-end : tie.Need-part-send-end Inv-loop μ-loop
-part-send-end c = 
+part-send-end c =
     let start = c .before .before .before .before .before .before .before .before .before .before .before in
     let a = start .args in
     let rate = a .rate in
@@ -233,9 +210,8 @@ part-send-end c =
     let l = inv .1 in
     omega arith
 
--- src/conv.rt:218:9
 send-requires : tie.Need-send-requires Inv-loop μ-loop
-send-requires c κs = 
+send-requires c κs =
     let start = c .before .before .before .before .before .before .before .before .before .before .before .before in
     let a = start .args in
     let rate = a .rate in
@@ -256,9 +232,8 @@ send-requires c κs =
       (λ j h. let g = bit-below rate p e (a .state) (a .bits .now) j h in omega arith),
     )
 
--- src/conv.rt:212:9
 add-b : tie.Need-add-b Inv-loop μ-loop
-add-b c = 
+add-b c =
     let start = c .before .before .before .before .before .before .before .before .before .before .before .before .before .before .before in
     let a = start .args in
     let rate = a .rate in
@@ -272,13 +247,11 @@ add-b c =
     let fit = block-inside rate p (length (a .bits .now)) (length (a .out .now)) b e (c .before .before .before .before .before .before .before .before .before .loop-test .taken) (start .pre .2) in
     omega arith
 
--- src/conv.rt:212:5
 loop-less : tie.Need-loop-less Inv-loop μ-loop
 loop-less c = search needs
 
--- src/conv.rt:212:5
 loop-again : tie.Need-loop-again Inv-loop μ-loop
-loop-again c = 
+loop-again c =
     let start = c .before .before .before .before .before .before .before .before .before .before .before .before .before .before .before in
     let a = start .args in
     let rate = a .rate in
@@ -317,13 +290,11 @@ loop-again c =
       whole,
     )
 
--- src/conv.rt:202:1
 same-length : tie.Need-same-length Inv-loop μ-loop
 same-length c = c .before .loop .inv .1
 
--- src/conv.rt:202:1
 returns : tie.Need-returns Inv-loop μ-loop
-returns c = 
+returns c =
     let start = c .before .before .before .before .before .before in
     let a = start .args in
     let rate = a .rate in

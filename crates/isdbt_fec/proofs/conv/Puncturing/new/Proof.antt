@@ -1,20 +1,15 @@
-use Rattle.isdbt_fec.specs.declared.conv.PunctureSpec.{PunctureSpec}
-use Rattle.isdbt_fec.specs.Table.{specOf, compiled}
-use Rattle.isdbt_fec.specs.Compiled.{bitOf, compiles, in-range}
-use Rattle.isdbt_fec.specs.Upto.{upto-next}
-use mathlib.Core.Path.{_≡_, refl, sym, _∙_, ap}
-use mathlib.Core.List.{List, [], _∷_}
-use Prim.Native.Nat.{ℕ, suc, _+_, _-_, _*_, _/_, _%_, _<_, _≤_}
+-- `conv::Puncturing::new` meets its contract. Assumes nothing.
+use mathlib.Core.Path.{_≡_, refl, _∙_, ap}
+use mathlib.Core.List.{List}
+use Prim.Native.Nat.{ℕ, _-_, _≤_}
 use native.Mathlib.Omega.{arith}
 use borrow.Author.Needs.{needs}
-use lib.ListN.{length, getD, set, replicate}
+use lib.ListN.{set, replicate}
+use Rattle.isdbt_fec.specs.Compiled.{bitOf, compiles, in-range}
+use Rattle.isdbt_fec.specs.Upto.{upto-next}
 use Rattle.trellis.specs.Lists.{upto, laid}
 use Rattle.isdbt_fec.proofs.conv.Puncturing.new.Statement.{statement}
 use Rattle.isdbt_fec.proofs.conv.Puncturing.new.Tie as tie
-use Rattle.isdbt_fec.proofs.conv.Puncturing.new.Reads as reads
-use Rattle.isdbt_fec.proofs.conv.Puncturing.new.Lts as lts
-use Rattle.isdbt_fec.proofs.conv.mother_bit.Reads as mother-bit-reads
-use Rattle.isdbt_fec.proofs.conv.puncture_spec.Reads as puncture-spec-reads
 
 abbrev Inv-loop : tie.InvT-loop
 Inv-loop s letters indices order₀ i₀ order i = (i ≤ 8) × (order ≡ laid (upto (bitOf s) i) order₀)
@@ -22,51 +17,40 @@ Inv-loop s letters indices order₀ i₀ order i = (i ≤ 8) × (order ≡ laid 
 abbrev μ-loop : tie.MeasureT-loop
 μ-loop s letters indices order₀ i₀ order i = 8 - i
 
--- src/conv.rt:125:13
 puncture-spec-requires : tie.Need-puncture-spec-requires Inv-loop μ-loop
 puncture-spec-requires c κs = search needs
 
--- src/conv.rt:129:9
 loop-holds : tie.Need-loop-holds Inv-loop μ-loop
 unfolding upto
 loop-holds c = (omega arith, refl)
 
--- src/conv.rt:130:35
 array-read-mother-bit : tie.Need-array-read-mother-bit Inv-loop μ-loop
 array-read-mother-bit c = search needs
 
--- src/conv.rt:130:47
 mul-mother-bit : tie.Need-mul-mother-bit Inv-loop μ-loop
 mul-mother-bit c = search needs
 
--- src/conv.rt:130:47
 array-read-mother-bit-2 : tie.Need-array-read-mother-bit-2 Inv-loop μ-loop
 array-read-mother-bit-2 c = search needs
 
--- src/conv.rt:130:24
 mother-bit-requires : tie.Need-mother-bit-requires Inv-loop μ-loop
 mother-bit-requires c κs =
     let at = c .before in
     let read = at .before .before .before in
     in-range (read .before .args .rate) (read .puncture-spec .result) (at .loop .i) (read .puncture-spec .ensures) (omega arith)
 
--- src/conv.rt:130:13
 mul-order : tie.Need-mul-order Inv-loop μ-loop
 mul-order c = search needs
 
--- src/conv.rt:130:13
 array-write-order : tie.Need-array-write-order Inv-loop μ-loop
 array-write-order c = search needs
 
--- src/conv.rt:129:13
 add-i : tie.Need-add-i Inv-loop μ-loop
 add-i c = search needs
 
--- src/conv.rt:129:9
 loop-less : tie.Need-loop-less Inv-loop μ-loop
 loop-less c = search needs
 
--- src/conv.rt:129:9
 loop-again : tie.Need-loop-again Inv-loop μ-loop
 loop-again c =
     let at = c .before .before in
@@ -75,7 +59,6 @@ loop-again c =
     let zeros : List ℕ = replicate 8 0 in
     (omega arith, ap (λ (l : List ℕ). set l i (c .mother-bit .result)) (at .loop .inv .1) ∙ upto-next f i zeros (c .mother-bit .result) (omega arith) (c .mother-bit .ensures))
 
--- src/conv.rt:122:5
 returns : tie.Need-returns Inv-loop μ-loop
 returns c =
     let at = c .before in

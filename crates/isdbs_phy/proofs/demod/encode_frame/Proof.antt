@@ -1,0 +1,35 @@
+-- `demod::encode_frame` meets its contract. Assumes nothing.
+use mathlib.Core.Path.{_≡_, refl, sym, _∙_, ap}
+use Prim.Native.Nat.{ℕ, _+_, _*_, _-_, _<_, _≤_}
+use native.Mathlib.Omega.{arith}
+use borrow.Author.Tests.{le-ltb}
+use borrow.Author.Needs.{needs}
+use Rattle.isdbs_phy.proofs.demod.encode_frame.Statement.{statement}
+use Rattle.isdbs_phy.proofs.demod.encode_frame.Tie as tie
+
+start-state-requires : tie.Need-start-state-requires
+start-state-requires c κs = search needs
+
+encode-frame-with-state-requires : tie.Need-encode-frame-with-state-requires
+encode-frame-with-state-requires c κs = search needs
+
+same-length : tie.Need-same-length
+same-length c = search needs
+
+same-length-2 : tie.Need-same-length-2
+same-length-2 c = search needs
+
+returns : tie.Need-returns
+returns c =
+    let s = c .before .before .before .before .before .before .before .start-state .result in
+    (rw (le-ltb 63 s (omega (arith, c .before .before .before .before .before .before .before .start-state .ensures .1))) at (c .before .before .before .before .encode-frame-with-state .ensures .0), rw (c .before .before .before .before .before .before .before .start-state .ensures .0) at (c .before .before .before .before .encode-frame-with-state .ensures .1 .1))
+
+pub encode-frame-spec : {M : Type 1} → statement M
+encode-frame-spec =
+    tie.close
+    (tie.spec
+    start-state-requires
+    encode-frame-with-state-requires
+    same-length
+    same-length-2
+    returns)

@@ -1,0 +1,58 @@
+-- `demod::encode_frame_with_state` meets its contract. Assumes nothing.
+use mathlib.Core.Path.{_≡_, refl, sym, _∙_, ap}
+use Prim.Native.Nat.{ℕ, _+_, _*_, _-_, _<_, _≤_}
+use native.Mathlib.Omega.{arith}
+use borrow.Author.Tests.{ltb-false}
+use lib.Dec.{ltb}
+use lib.ListN.{length}
+use Rattle.refusal.specs.declared.Answer.the-variants.{Accepted}
+use Rattle.refusal.specs.Rows.{numberOf}
+use Rattle.isdb_fec.specs.Answers.{refused}
+use Rattle.isdbs_core.specs.Tables.{slotSum}
+use Rattle.isdbs_phy.proofs.EncodeAnswers.{number-zero, rows-pass}
+use borrow.Author.Needs.{needs}
+use Rattle.isdbs_phy.proofs.demod.encode_frame_with_state.Statement.{statement}
+use Rattle.isdbs_phy.proofs.demod.encode_frame_with_state.Tie as tie
+
+encode-answer-requires : tie.Need-encode-answer-requires
+encode-answer-requires c κs = search needs
+
+number-requires : tie.Need-number-requires
+number-requires c κs = search needs
+
+returns : tie.Need-returns
+returns c =
+    let a = c .before .before .encode-answer .result in
+    let n : a ≡ Accepted → ⊥ = λ e. c .if1 .taken (c .before .number .ensures ∙ ap numberOf e) in
+    (c .before .before .encode-answer .ensures, (refused a n refl, refused a n (record { re-is = refl; im-is = refl })))
+
+encode-main-requires : tie.Need-encode-main-requires
+encode-main-requires c κs =
+    let s = c .before .before .before .before .before .before .before .before in
+    let z : numberOf (c .before .before .before .before .encode-answer .result) ≡ 0 = sym (c .before .before .before .number .ensures) ∙ c .before .before .if1 .left in
+    let p = rows-pass (ltb 48 (slotSum (s .args .t .entries))) (ltb 63 (s .args .enc .state)) (ltb (length (s .args .re .now)) 38976) (ltb (length (s .args .im .now)) 38976) (c .before .before .before .before .encode-answer .result) (c .before .before .before .before .encode-answer .ensures) z in
+    (rw (p .0), omega (arith, ltb-false 63 (s .args .enc .state) (p .1)), ltb-false (length (s .args .re .now)) 38976 (p .2), ltb-false (length (s .args .im .now)) 38976 (p .3))
+
+same-length : tie.Need-same-length
+same-length c = search needs
+
+same-length-2 : tie.Need-same-length-2
+same-length-2 c = search needs
+
+returns-2 : tie.Need-returns-2
+returns-2 c =
+    let a = c .before .before .before .before .before .before .before .before .before .encode-answer .result in
+    let z : a ≡ Accepted = number-zero a (sym (c .before .before .before .before .before .before .before .before .number .ensures) ∙ c .before .before .before .before .before .before .before .if1 .left) in
+    (c .before .before .before .before .before .before .before .before .before .encode-answer .ensures, ((λ e. c .before .before .before .before .encode-main .ensures .0, λ n. absurd (n z)), (λ e. c .before .before .before .before .encode-main .ensures .1, λ n. absurd (n z))))
+
+pub encode-frame-with-state-spec : {M : Type 1} → statement M
+encode-frame-with-state-spec =
+    tie.close
+    (tie.spec
+    encode-answer-requires
+    number-requires
+    returns
+    encode-main-requires
+    same-length
+    same-length-2
+    returns-2)

@@ -1,0 +1,50 @@
+-- `digest_bytes` meets its contract. Assumes nothing.
+use Prim.Native.Nat.{_-_, _≤_}
+use borrow.Author.Needs.{needs}
+use Rattle.vectors_isdbt.proofs.digest_bytes.Statement.{statement}
+use Rattle.vectors_isdbt.proofs.digest_bytes.Tie as tie
+
+abbrev Inv-loop : tie.InvT-loop
+Inv-loop start bytes digest₀ i₀ i-end digest i = i ≤ i-end
+
+abbrev μ-loop : tie.MeasureT-loop
+μ-loop start bytes digest₀ i₀ i-end digest i = i-end - i
+
+loop-holds : tie.Need-loop-holds Inv-loop μ-loop
+loop-holds c = search needs
+
+shared-slice-read-wide : tie.Need-shared-slice-read-wide Inv-loop μ-loop
+shared-slice-read-wide c = search needs
+
+wide-requires : tie.Need-wide-requires Inv-loop μ-loop
+wide-requires c κs = search needs
+
+digested-requires : tie.Need-digested-requires Inv-loop μ-loop
+digested-requires c κs = search needs
+
+add-i : tie.Need-add-i Inv-loop μ-loop
+add-i c = search needs
+
+loop-less : tie.Need-loop-less Inv-loop μ-loop
+loop-less c = search needs
+
+loop-again : tie.Need-loop-again Inv-loop μ-loop
+loop-again c = search needs
+
+returns : tie.Need-returns Inv-loop μ-loop
+returns c = search needs
+
+pub digest-bytes-spec : {M : Type 1} → statement M
+digest-bytes-spec =
+    tie.close
+    (tie.spec
+    Inv-loop
+    μ-loop
+    loop-holds
+    shared-slice-read-wide
+    wide-requires
+    digested-requires
+    add-i
+    loop-less
+    loop-again
+    returns)

@@ -1,0 +1,54 @@
+-- `number` meets its contract. Assumes nothing.
+use Prim.Native.Nat.{_-_, _<_, _≤_}
+use borrow.Author.Needs.{needs}
+use Rattle.vectors_isdbt.proofs.number.Statement.{statement}
+use Rattle.vectors_isdbt.proofs.number.Tie as tie
+
+abbrev Inv-loop : tie.InvT-loop
+Inv-loop line from to value₀ i₀ value i = (i₀ ≤ i) × (value < 4294967296)
+
+abbrev μ-loop : tie.MeasureT-loop
+μ-loop line from to value₀ i₀ value i = to - i
+
+loop-holds : tie.Need-loop-holds Inv-loop μ-loop
+loop-holds c = search needs
+
+mul-value : tie.Need-mul-value Inv-loop μ-loop
+mul-value c = search needs
+
+element-copy-out-digit : tie.Need-element-copy-out-digit Inv-loop μ-loop
+element-copy-out-digit c = search needs
+
+digit-requires : tie.Need-digit-requires Inv-loop μ-loop
+digit-requires c κs = search needs
+
+add-value : tie.Need-add-value Inv-loop μ-loop
+add-value c = search needs
+
+add-i : tie.Need-add-i Inv-loop μ-loop
+add-i c = search needs
+
+loop-less : tie.Need-loop-less Inv-loop μ-loop
+loop-less c = search needs
+
+loop-again : tie.Need-loop-again Inv-loop μ-loop
+loop-again c = search needs
+
+returns : tie.Need-returns Inv-loop μ-loop
+returns c = search needs
+
+pub number-spec : {M : Type 1} → statement M
+number-spec =
+    tie.close
+    (tie.spec
+    Inv-loop
+    μ-loop
+    loop-holds
+    mul-value
+    element-copy-out-digit
+    digit-requires
+    add-value
+    add-i
+    loop-less
+    loop-again
+    returns)
