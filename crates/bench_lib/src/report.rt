@@ -4,6 +4,7 @@ use crate::text::combination;
 use crate::text::count;
 use crate::text::number;
 use crate::text::text;
+use crate::words::tally;
 use isdbs_core::combination::MaybeCombination;
 use isdbs_core::slots;
 use isdbs_core::slots::Run;
@@ -222,7 +223,7 @@ pub(crate) fn agreeing(a: &[u8], b: &[u8]) -> usize {
     let mut n: usize = 0;
     let mut i: usize = 0;
     while i < a.len() && i < b.len() {
-        n = n + (a[i] == b[i]) as usize;
+        n = n + tally(a[i] == b[i]);
         i = i + 1;
     }
     n

@@ -6,6 +6,13 @@ use isdbs_phy::demod::Mapping;
 ghost use Prim.Native.Nat.{_<_, _≤_};
 ghost use lib.ListN.{length};
 
+// 1 where it is so, else 0.
+pub(crate) fn tally(is_so: bool) -> usize
+    ensures { λ r. ⌜ r ≤ 1 ⌝ }
+{
+    if is_so { 1 } else { 0 }
+}
+
 // Where part i of s starts, the parts being separated by `stop`; the end of s where there are fewer.
 fn start_of(s: &[u8], stop: u8, i: usize) -> usize
     ensures { λ r. ⌜ r ≤ length (now (s .entry)) ⌝ }
@@ -13,7 +20,7 @@ fn start_of(s: &[u8], stop: u8, i: usize) -> usize
     let mut seen: usize = 0;
     let mut j: usize = 0;
     while j < s.len() && seen < i {
-        seen = seen + (s[j] == stop) as usize;
+        seen = seen + tally(s[j] == stop);
         j = j + 1;
     }
     j
@@ -56,7 +63,7 @@ pub(crate) fn parts(s: &[u8], stop: u8) -> usize {
     let mut n: usize = 0;
     let mut j: usize = 0;
     while j < s.len() {
-        n = n + (s[j] == stop) as usize;
+        n = n + tally(s[j] == stop);
         j = j + 1;
     }
     n + 1

@@ -1,13 +1,14 @@
+use Prim.Native.Nat.{_-_, _≤_}
 use Rattle.bench_lib.proofs.demonstration.disturb.Statement.{statement}
 use Rattle.bench_lib.proofs.demonstration.disturb.Tie as tie
 use Rattle.bench_lib.proofs.demonstration.disturb.Reads as reads
 use Rattle.bench_lib.proofs.demonstration.disturb.Lts as lts
 
 abbrev Inv-loop : tie.InvT-loop
-Inv-loop parts₀ k₀ parts k = ?
+Inv-loop parts₀ k₀ parts k = k ≤ 38976
 
 abbrev μ-loop : tie.MeasureT-loop
-μ-loop parts₀ k₀ parts k = ?
+μ-loop parts₀ k₀ parts k = 38976 - k
 
 -- src/demonstration.rt:40:5
 loop-holds : tie.Need-loop-holds Inv-loop μ-loop

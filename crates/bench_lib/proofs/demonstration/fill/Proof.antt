@@ -1,3 +1,4 @@
+use Prim.Native.Nat.{_-_, _≤_}
 use Rattle.bench_lib.proofs.demonstration.fill.Statement.{statement}
 use Rattle.bench_lib.proofs.demonstration.fill.Tie as tie
 use Rattle.bench_lib.proofs.demonstration.fill.Reads as reads
@@ -5,10 +6,10 @@ use Rattle.bench_lib.proofs.demonstration.fill.Lts as lts
 use Rattle.std.proofs.num.wrapping_add_u8.Reads as wrapping-add-u8-reads
 
 abbrev Inv-loop : tie.InvT-loop
-Inv-loop load₀ b₀ i₀ load b i = ?
+Inv-loop load₀ b₀ i₀ load b i = i ≤ 9135
 
 abbrev μ-loop : tie.MeasureT-loop
-μ-loop load₀ b₀ i₀ load b i = ?
+μ-loop load₀ b₀ i₀ load b i = 9135 - i
 
 -- src/demonstration.rt:30:5
 loop-holds : tie.Need-loop-holds Inv-loop μ-loop

@@ -1,3 +1,4 @@
+use Prim.Native.Nat.{_-_, _≤_}
 use Rattle.bench_lib.proofs.files.fill.Statement.{statement}
 use Rattle.bench_lib.proofs.files.fill.Tie as tie
 use Rattle.bench_lib.proofs.files.fill.Reads as reads
@@ -6,10 +7,10 @@ use Rattle.bench_lib.proofs.points.read_point.Reads as read-point-reads
 use Rattle.bench_lib.proofs.points.size.Reads as size-reads
 
 abbrev Inv-loop : tie.InvT-loop
-Inv-loop file narrow re₀ im₀ k₀ over₀ re im k over = ?
+Inv-loop file narrow re₀ im₀ k₀ over₀ re im k over = k ≤ 38976
 
 abbrev μ-loop : tie.MeasureT-loop
-μ-loop file narrow re₀ im₀ k₀ over₀ re im k over = ?
+μ-loop file narrow re₀ im₀ k₀ over₀ re im k over = 38976 - k
 
 -- src/files.rt:181:5
 loop-holds : tie.Need-loop-holds Inv-loop μ-loop

@@ -1,3 +1,4 @@
+use Prim.Native.Nat.{_-_, _≤_}
 use Rattle.bench_lib.proofs.files.pour.Statement.{statement}
 use Rattle.bench_lib.proofs.files.pour.Tie as tie
 use Rattle.bench_lib.proofs.files.pour.Reads as reads
@@ -5,10 +6,10 @@ use Rattle.bench_lib.proofs.files.pour.Lts as lts
 use Rattle.bench_lib.proofs.points.write_point.Reads as write-point-reads
 
 abbrev Inv-loop : tie.InvT-loop
-Inv-loop file narrow re im k₀ k = ?
+Inv-loop file narrow re im k₀ k = k ≤ 38976
 
 abbrev μ-loop : tie.MeasureT-loop
-μ-loop file narrow re im k₀ k = ?
+μ-loop file narrow re im k₀ k = 38976 - k
 
 -- src/files.rt:263:5
 loop-holds : tie.Need-loop-holds Inv-loop μ-loop

@@ -1,13 +1,15 @@
+use Prim.Native.Nat.{_-_, _≤_}
+use lib.ListN.{length}
 use Rattle.bench_lib.proofs.files.put.Statement.{statement}
 use Rattle.bench_lib.proofs.files.put.Tie as tie
 use Rattle.bench_lib.proofs.files.put.Reads as reads
 use Rattle.bench_lib.proofs.files.put.Lts as lts
 
 abbrev Inv-loop : tie.InvT-loop
-Inv-loop dst₀ at src i₀ j₀ dst i j = ?
+Inv-loop dst₀ at src i₀ j₀ dst i j = i ≤ length src
 
 abbrev μ-loop : tie.MeasureT-loop
-μ-loop dst₀ at src i₀ j₀ dst i j = ?
+μ-loop dst₀ at src i₀ j₀ dst i j = length src - i
 
 -- src/files.rt:62:5
 loop-holds : tie.Need-loop-holds Inv-loop μ-loop

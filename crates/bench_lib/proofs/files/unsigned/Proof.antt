@@ -1,12 +1,25 @@
+use mathlib.Core.Path.{_≡_, sym, subst}
+use mathlib.Core.Bool.{true}
+use lib.IntN.{ℤ, pos, negsuc}
+use lib.Dec.{T}
+use lib.Signed.{ltZ, nonNeg}
+use mir.Syntax.{w32, w64}
+use mir.Val.{toZ, ofZ}
+use mir.Facts.{fits-natAbs, sfits-toZ, fits-ofZ}
+
 use borrow.Author.Needs.{needs}
 use Rattle.bench_lib.proofs.files.unsigned.Statement.{statement}
 use Rattle.bench_lib.proofs.files.unsigned.Tie as tie
 use Rattle.bench_lib.proofs.files.unsigned.Reads as reads
 use Rattle.bench_lib.proofs.files.unsigned.Lts as lts
 
--- src/files.rt:42:16
+-- the test `n > 0`, on the number that the machine reads back from n's bits
+positive : (z : ℤ) → ltZ (pos 0) z ≡ true → T (nonNeg z)
+positive (pos n) e = tt
+positive (negsuc n) e = subst T (sym e) tt
+
 cast-result : tie.Need-cast-result
-cast-result c = search needs
+cast-result c = (positive (toZ w32 (ofZ w32 (c .before .args .n))) (c .if1 .taken), fits-natAbs {w = w32} {w′ = w64} tt (sfits-toZ (fits-ofZ (c .before .fits .n))))
 
 -- src/files.rt:42:9
 returns : tie.Need-returns

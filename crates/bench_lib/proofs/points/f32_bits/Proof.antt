@@ -1,3 +1,4 @@
+use Rattle.ieee.specs.Bits.{number}
 use borrow.Author.Needs.{needs}
 use Rattle.bench_lib.proofs.points.f32_bits.Statement.{statement}
 use Rattle.bench_lib.proofs.points.f32_bits.Tie as tie
@@ -16,7 +17,7 @@ returns c = search needs
 
 -- src/points.rt:102:12
 float-to-bits-wide32 : tie.Need-float-to-bits-wide32
-float-to-bits-wide32 c = search needs
+float-to-bits-wide32 c = number (c .before .soft .result) (c .if1 .left)
 
 -- src/points.rt:102:5
 wide32-requires : tie.Need-wide32-requires

@@ -1,3 +1,4 @@
+use Rattle.ieee.specs.Bits.{number}
 use borrow.Author.Needs.{needs}
 use Rattle.bench_lib.proofs.points.f64_bits.Statement.{statement}
 use Rattle.bench_lib.proofs.points.f64_bits.Tie as tie
@@ -10,7 +11,7 @@ returns c = search needs
 
 -- src/points.rt:93:5
 float-to-bits-result : tie.Need-float-to-bits-result
-float-to-bits-result c = search needs
+float-to-bits-result c = number (c .before .args .x) (c .if1 .left)
 
 -- src/points.rt:89:1
 returns-2 : tie.Need-returns-2

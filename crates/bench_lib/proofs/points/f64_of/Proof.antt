@@ -1,3 +1,9 @@
+use mathlib.Core.Path.{sym, _∙_, subst}
+use mathlib.Core.Bool.{Bool, not}
+use borrow.Author.Tests.{le-ltb}
+use lib.Dec.{T}
+use lib.Ieee.{binary64}
+use lib.Ieee.Bits.{nanBits-above}
 use borrow.Author.Needs.{needs}
 use Rattle.bench_lib.proofs.points.f64_of.Statement.{statement}
 use Rattle.bench_lib.proofs.points.f64_of.Tie as tie
@@ -14,7 +20,7 @@ add-bits c = search needs
 
 -- src/points.rt:34:9
 float-from-bits-result : tie.Need-float-from-bits-result
-float-from-bits-result c = search needs
+float-from-bits-result c = subst (λ (b : Bool). T (not b)) (sym (nanBits-above binary64 (c .before .bits) ∙ le-ltb _ _ (c .if1 .taken))) tt
 
 -- src/points.rt:29:1
 returns : tie.Need-returns

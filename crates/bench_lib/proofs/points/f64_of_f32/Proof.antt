@@ -1,3 +1,9 @@
+use mathlib.Core.Path.{sym, _∙_, subst}
+use mathlib.Core.Bool.{Bool, not}
+use borrow.Author.Tests.{le-ltb}
+use lib.Dec.{T}
+use lib.Ieee.{binary32}
+use lib.Ieee.Bits.{nanBits-above}
 use borrow.Author.Needs.{needs}
 use Rattle.bench_lib.proofs.points.f64_of_f32.Statement.{statement}
 use Rattle.bench_lib.proofs.points.f64_of_f32.Tie as tie
@@ -11,7 +17,7 @@ cast-bits c = search needs
 
 -- src/points.rt:46:39
 float-from-bits-f32-to-f64-with-nan : tie.Need-float-from-bits-f32-to-f64-with-nan
-float-from-bits-f32-to-f64-with-nan c = search needs
+float-from-bits-f32-to-f64-with-nan c = subst (λ (b : Bool). T (not b)) (sym (nanBits-above binary32 (c .before .bits) ∙ le-ltb _ _ (c .if1 .taken))) tt
 
 -- src/points.rt:46:9
 f32-to-f64-with-nan-requires : tie.Need-f32-to-f64-with-nan-requires

@@ -1,29 +1,31 @@
+use Prim.Native.Nat.{_-_, _≤_}
+use lib.ListN.{length}
 use Rattle.bench_lib.proofs.report.agreeing.Statement.{statement}
 use Rattle.bench_lib.proofs.report.agreeing.Tie as tie
 use Rattle.bench_lib.proofs.report.agreeing.Reads as reads
 use Rattle.bench_lib.proofs.report.agreeing.Lts as lts
 
 abbrev Inv-loop : tie.InvT-loop
-Inv-loop a b n₀ i₀ n i = ?
+Inv-loop a b n₀ i₀ n i = (n ≤ i) × (i ≤ length a)
 
 abbrev μ-loop : tie.MeasureT-loop
-μ-loop a b n₀ i₀ n i = ?
+μ-loop a b n₀ i₀ n i = length a - i
 
 -- src/report.rt:224:5
 loop-holds : tie.Need-loop-holds Inv-loop μ-loop
 loop-holds c = search needs
 
 -- src/report.rt:225:18
-shared-slice-read-n : tie.Need-shared-slice-read-n Inv-loop μ-loop
-shared-slice-read-n c = search needs
+shared-slice-read-tally : tie.Need-shared-slice-read-tally Inv-loop μ-loop
+shared-slice-read-tally c = search needs
 
 -- src/report.rt:225:26
-shared-slice-read-n-2 : tie.Need-shared-slice-read-n-2 Inv-loop μ-loop
-shared-slice-read-n-2 c = search needs
+shared-slice-read-tally-2 : tie.Need-shared-slice-read-tally-2 Inv-loop μ-loop
+shared-slice-read-tally-2 c = search needs
 
 -- src/report.rt:225:17
-cast-n : tie.Need-cast-n Inv-loop μ-loop
-cast-n c = search needs
+tally-requires : tie.Need-tally-requires Inv-loop μ-loop
+tally-requires c κs = search needs
 
 -- src/report.rt:225:13
 add-n : tie.Need-add-n Inv-loop μ-loop
@@ -56,9 +58,9 @@ agreeing-spec =
     Inv-loop
     μ-loop
     loop-holds
-    shared-slice-read-n
-    shared-slice-read-n-2
-    cast-n
+    shared-slice-read-tally
+    shared-slice-read-tally-2
+    tally-requires
     add-n
     add-i
     loop-less

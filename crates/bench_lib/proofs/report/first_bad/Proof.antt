@@ -1,3 +1,4 @@
+use Prim.Native.Nat.{_-_, _≤_}
 use Rattle.bench_lib.proofs.report.first_bad.Statement.{statement}
 use Rattle.bench_lib.proofs.report.first_bad.Tie as tie
 use Rattle.bench_lib.proofs.report.first_bad.Reads as reads
@@ -5,10 +6,10 @@ use Rattle.bench_lib.proofs.report.first_bad.Lts as lts
 use Rattle.bench_lib.proofs.report.is_bad.Reads as is-bad-reads
 
 abbrev Inv-loop : tie.InvT-loop
-Inv-loop re im k₀ k = ?
+Inv-loop re im k₀ k = k ≤ 38976
 
 abbrev μ-loop : tie.MeasureT-loop
-μ-loop re im k₀ k = ?
+μ-loop re im k₀ k = 38976 - k
 
 -- src/report.rt:151:5
 loop-holds : tie.Need-loop-holds Inv-loop μ-loop

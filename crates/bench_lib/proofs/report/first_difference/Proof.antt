@@ -1,13 +1,15 @@
+use Prim.Native.Nat.{_-_, _≤_}
+use lib.ListN.{length}
 use Rattle.bench_lib.proofs.report.first_difference.Statement.{statement}
 use Rattle.bench_lib.proofs.report.first_difference.Tie as tie
 use Rattle.bench_lib.proofs.report.first_difference.Reads as reads
 use Rattle.bench_lib.proofs.report.first_difference.Lts as lts
 
 abbrev Inv-loop : tie.InvT-loop
-Inv-loop a b i₀ i = ?
+Inv-loop a b i₀ i = i ≤ length a
 
 abbrev μ-loop : tie.MeasureT-loop
-μ-loop a b i₀ i = ?
+μ-loop a b i₀ i = length a - i
 
 -- src/report.rt:234:5
 loop-holds : tie.Need-loop-holds Inv-loop μ-loop

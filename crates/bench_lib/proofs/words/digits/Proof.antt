@@ -1,3 +1,5 @@
+use Prim.Native.Nat.{_-_, _≤_}
+use lib.ListN.{length}
 use Rattle.bench_lib.proofs.words.digits.Statement.{statement}
 use Rattle.bench_lib.proofs.words.digits.Tie as tie
 use Rattle.bench_lib.proofs.words.digits.Reads as reads
@@ -5,10 +7,10 @@ use Rattle.bench_lib.proofs.words.digits.Lts as lts
 use Rattle.bench_lib.proofs.words.digit.Reads as digit-reads
 
 abbrev Inv-loop : tie.InvT-loop
-Inv-loop s value₀ i₀ value i = ?
+Inv-loop s value₀ i₀ value i = i ≤ length s
 
 abbrev μ-loop : tie.MeasureT-loop
-μ-loop s value₀ i₀ value i = ?
+μ-loop s value₀ i₀ value i = length s - i
 
 -- src/words.rt:104:9
 returns : tie.Need-returns Inv-loop μ-loop

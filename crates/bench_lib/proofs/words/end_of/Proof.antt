@@ -1,13 +1,15 @@
+use Prim.Native.Nat.{_-_, _≤_}
+use lib.ListN.{length}
 use Rattle.bench_lib.proofs.words.end_of.Statement.{statement}
 use Rattle.bench_lib.proofs.words.end_of.Tie as tie
 use Rattle.bench_lib.proofs.words.end_of.Reads as reads
 use Rattle.bench_lib.proofs.words.end_of.Lts as lts
 
 abbrev Inv-loop : tie.InvT-loop
-Inv-loop s stop from j₀ j = ?
+Inv-loop s stop from j₀ j = (from ≤ j) × (j ≤ length s)
 
 abbrev μ-loop : tie.MeasureT-loop
-μ-loop s stop from j₀ j = ?
+μ-loop s stop from j₀ j = length s - j
 
 -- src/words.rt:28:5
 loop-holds : tie.Need-loop-holds Inv-loop μ-loop

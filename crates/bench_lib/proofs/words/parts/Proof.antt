@@ -1,25 +1,27 @@
+use Prim.Native.Nat.{_-_, _≤_}
+use lib.ListN.{length}
 use Rattle.bench_lib.proofs.words.parts.Statement.{statement}
 use Rattle.bench_lib.proofs.words.parts.Tie as tie
 use Rattle.bench_lib.proofs.words.parts.Reads as reads
 use Rattle.bench_lib.proofs.words.parts.Lts as lts
 
 abbrev Inv-loop : tie.InvT-loop
-Inv-loop s stop n₀ j₀ n j = ?
+Inv-loop s stop n₀ j₀ n j = (n ≤ j) × (j ≤ length s)
 
 abbrev μ-loop : tie.MeasureT-loop
-μ-loop s stop n₀ j₀ n j = ?
+μ-loop s stop n₀ j₀ n j = length s - j
 
 -- src/words.rt:58:5
 loop-holds : tie.Need-loop-holds Inv-loop μ-loop
 loop-holds c = search needs
 
 -- src/words.rt:59:18
-shared-slice-read-n : tie.Need-shared-slice-read-n Inv-loop μ-loop
-shared-slice-read-n c = search needs
+shared-slice-read-tally : tie.Need-shared-slice-read-tally Inv-loop μ-loop
+shared-slice-read-tally c = search needs
 
 -- src/words.rt:59:17
-cast-n : tie.Need-cast-n Inv-loop μ-loop
-cast-n c = search needs
+tally-requires : tie.Need-tally-requires Inv-loop μ-loop
+tally-requires c κs = search needs
 
 -- src/words.rt:59:13
 add-n : tie.Need-add-n Inv-loop μ-loop
@@ -52,8 +54,8 @@ parts-spec =
     Inv-loop
     μ-loop
     loop-holds
-    shared-slice-read-n
-    cast-n
+    shared-slice-read-tally
+    tally-requires
     add-n
     add-j
     loop-less

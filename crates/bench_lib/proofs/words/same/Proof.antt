@@ -1,13 +1,15 @@
+use Prim.Native.Nat.{_-_, _≤_}
+use lib.ListN.{length}
 use Rattle.bench_lib.proofs.words.same.Statement.{statement}
 use Rattle.bench_lib.proofs.words.same.Tie as tie
 use Rattle.bench_lib.proofs.words.same.Reads as reads
 use Rattle.bench_lib.proofs.words.same.Lts as lts
 
 abbrev Inv-loop : tie.InvT-loop
-Inv-loop a b i₀ i = ?
+Inv-loop a b i₀ i = i ≤ length a
 
 abbrev μ-loop : tie.MeasureT-loop
-μ-loop a b i₀ i = ?
+μ-loop a b i₀ i = length a - i
 
 -- src/words.rt:68:9
 returns : tie.Need-returns Inv-loop μ-loop

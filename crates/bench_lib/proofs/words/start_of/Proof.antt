@@ -1,25 +1,27 @@
+use Prim.Native.Nat.{_-_, _≤_}
+use lib.ListN.{length}
 use Rattle.bench_lib.proofs.words.start_of.Statement.{statement}
 use Rattle.bench_lib.proofs.words.start_of.Tie as tie
 use Rattle.bench_lib.proofs.words.start_of.Reads as reads
 use Rattle.bench_lib.proofs.words.start_of.Lts as lts
 
 abbrev Inv-loop : tie.InvT-loop
-Inv-loop s stop i seen₀ j₀ seen j = ?
+Inv-loop s stop i seen₀ j₀ seen j = (seen ≤ j) × (j ≤ length s)
 
 abbrev μ-loop : tie.MeasureT-loop
-μ-loop s stop i seen₀ j₀ seen j = ?
+μ-loop s stop i seen₀ j₀ seen j = length s - j
 
 -- src/words.rt:15:5
 loop-holds : tie.Need-loop-holds Inv-loop μ-loop
 loop-holds c = search needs
 
 -- src/words.rt:16:24
-shared-slice-read-seen : tie.Need-shared-slice-read-seen Inv-loop μ-loop
-shared-slice-read-seen c = search needs
+shared-slice-read-tally : tie.Need-shared-slice-read-tally Inv-loop μ-loop
+shared-slice-read-tally c = search needs
 
 -- src/words.rt:16:23
-cast-seen : tie.Need-cast-seen Inv-loop μ-loop
-cast-seen c = search needs
+tally-requires : tie.Need-tally-requires Inv-loop μ-loop
+tally-requires c κs = search needs
 
 -- src/words.rt:16:16
 add-seen : tie.Need-add-seen Inv-loop μ-loop
@@ -52,8 +54,8 @@ start-of-spec =
     Inv-loop
     μ-loop
     loop-holds
-    shared-slice-read-seen
-    cast-seen
+    shared-slice-read-tally
+    tally-requires
     add-seen
     add-j
     loop-less
