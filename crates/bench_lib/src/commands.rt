@@ -19,7 +19,6 @@ use isdbs_core::slots;
 use isdbs_core::tmcc::Table;
 use isdbs_phy::demod::DemodOptions;
 use isdbs_phy::demod::Mapping;
-use isdbs_phy::demod::encode_frame;
 use refusal::Answer;
 ghost use Prim.Native.Nat.{_<_, _≤_, _*_};
 
@@ -137,7 +136,7 @@ fn load_line(name: &[u8], n: usize, carried: usize) {
 fn make_frame(s: Setting, load: &[u8], name: &[u8], re: &mut [f64; 38976], im: &mut [f64; 38976]) {
     let t = s.table;
     let m = s.mapping;
-    let answer = encode_frame(load, t, s.first, m, re, im);
+    let answer = frames::encode_frame(load, t, s.first, m, re, im);
     if refusal::number(answer) != 0 {
         report::refuse(answer);
         return;

@@ -10,7 +10,6 @@ use isdbs_core::tmcc::Entry;
 use isdbs_core::tmcc::Table;
 use isdbs_phy::demod::DemodOptions;
 use isdbs_phy::demod::Mapping;
-use isdbs_phy::demod::encode_frame;
 
 // The bytes of the table's 45 valid slots.
 const CARRIED: usize = 9_135;
@@ -63,7 +62,7 @@ fn read_line(steps: usize) {
 // Makes the frame of the load.
 fn make(load: &[u8], re: &mut [f64; 38976], im: &mut [f64; 38976]) -> bool {
     let m = Mapping::default();
-    let answer = encode_frame(load, table(), true, m, re, im);
+    let answer = frames::encode_frame(load, table(), true, m, re, im);
     if refusal::number(answer) != 0 {
         report::refuse(answer);
         return false;

@@ -55,6 +55,10 @@ fn failed(what: &[u8], name: &[u8], error: i32) {
     text(b"\n");
 }
 
+fn next(j: usize) -> usize {
+    if j < 4096 { j + 1 } else { j }
+}
+
 // Puts src into dst from `at` on, as far as it goes, and answers where it ends.
 pub fn put(dst: &mut [u8; 4096], at: usize, src: &[u8]) -> usize {
     let mut i: usize = 0;
@@ -62,22 +66,48 @@ pub fn put(dst: &mut [u8; 4096], at: usize, src: &[u8]) -> usize {
     while i < src.len() && j < 4096 {
         dst[j] = src[i];
         i = i + 1;
-        j = j + 1;
+        j = next(j);
     }
     j
+}
+
+// Puts a number's digits into dst from `at` on, and answers where they end.
+fn put_number(dst: &mut [u8; 4096], at: usize, number: u64) -> usize {
+    let mut digits = [0u8; 20];
+    let n = io::decimal(number, &mut digits);
+    put(dst, at, &digits[..n])
+}
+
+// The first n bytes.
+fn front_of<'a>(s: &'a [u8; 4096], n: usize) -> &'a [u8] {
+    front(s, n)
+}
+
+// As much of path as leaves room for a 0, and then zeros.
+fn ended(path: &[u8]) -> [u8; 4096]
+    ensures { λ r. ⌜ Ended r ⌝ }
+{
+    let mut ended = io::buffer();
+    let mut i: usize = 0;
+    while i < path.len() {
+        if i >= 4095 {
+            break;
+        }
+        ended[i] = path[i];
+        i = i + 1;
+    }
+    ended[4095] = 0;
+    ended
 }
 
 // The path of the system's link to an open file.
 fn link(file: u64) -> [u8; 4096]
     ensures { λ r. ⌜ Ended r ⌝ }
 {
-    let mut digits = [0u8; 20];
-    let n = io::decimal(file, &mut digits);
     let mut path = io::buffer();
     let at = put(&mut path, 0, b"/proc/self/fd/");
-    put(&mut path, at, front(&digits, n));
-    path[4095] = 0;
-    path
+    let n = put_number(&mut path, at, file);
+    ended(front_of(&path, n))
 }
 
 // Whether two open files lie at one place.
@@ -249,7 +279,7 @@ fn make_part(part: &[u8]) -> i32 {
 pub(crate) fn write_bytes(name: &[u8], bytes: &[u8]) -> bool {
     let mut space = io::buffer();
     let n = part_name(name, &mut space);
-    let part = front(&space, n);
+    let part = front_of(&space, n);
     let file = make_part(part);
     if file < 0 {
         return false;
@@ -273,7 +303,7 @@ fn pour(file: i32, narrow: bool, re: &[f64; 38976], im: &[f64; 38976]) -> bool {
 pub(crate) fn write_points(name: &[u8], re: &[f64; 38976], im: &[f64; 38976]) -> bool {
     let mut space = io::buffer();
     let n = part_name(name, &mut space);
-    let part = front(&space, n);
+    let part = front_of(&space, n);
     let file = make_part(part);
     if file < 0 {
         return false;

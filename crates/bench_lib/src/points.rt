@@ -26,10 +26,7 @@ fn four(a: u8, b: u8, c: u8, d: u8) -> u64
 }
 
 // The f64 of a pattern, a NaN's too.
-fn f64_of(low: u64, high: u64) -> f64
-    requires { ⌜ (low < 4294967296) × (high < 4294967296) ⌝ }
-{
-    let bits = low + high * 0x1_0000_0000;
+fn f64_of(bits: u64) -> f64 {
     if bits % 0x8000_0000_0000_0000 <= 0x7ff0_0000_0000_0000 {
         f64::from_bits(bits)
     } else {
@@ -37,16 +34,27 @@ fn f64_of(low: u64, high: u64) -> f64
     }
 }
 
-// The f64 of an f32's pattern, a NaN's too.
+// The f64 of a pattern's low and high half.
+fn f64_of_halves(low: u64, high: u64) -> f64
+    requires { ⌜ (low < 4294967296) × (high < 4294967296) ⌝ }
+{
+    f64_of(low + high * 0x1_0000_0000)
+}
+
+// The f32 of a pattern, a NaN's too.
+fn f32_of(bits: u32) -> f32 {
+    if bits % 0x8000_0000 <= 0x7f80_0000 {
+        f32::from_bits(bits)
+    } else {
+        0.0f32 / 0.0f32
+    }
+}
+
+// The f64 of an f32's pattern.
 fn f64_of_f32(bits: u64) -> f64
     requires { ⌜ bits < 4294967296 ⌝ }
 {
-    let bits = bits as u32;
-    if bits % 0x8000_0000 <= 0x7f80_0000 {
-        std::num::f32_to_f64_with_nan(f32::from_bits(bits))
-    } else {
-        0.0f64 / 0.0f64
-    }
+    std::num::f32_to_f64_with_nan(f32_of(bits as u32))
 }
 
 fn read_f64(file: i32) -> Point {
@@ -54,8 +62,8 @@ fn read_f64(file: i32) -> Point {
     let got = io::read_full(file, &mut b);
     Point {
         got,
-        re: f64_of(four(b[0], b[1], b[2], b[3]), four(b[4], b[5], b[6], b[7])),
-        im: f64_of(
+        re: f64_of_halves(four(b[0], b[1], b[2], b[3]), four(b[4], b[5], b[6], b[7])),
+        im: f64_of_halves(
             four(b[8], b[9], b[10], b[11]),
             four(b[12], b[13], b[14], b[15]),
         ),

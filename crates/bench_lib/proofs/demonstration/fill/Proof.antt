@@ -1,8 +1,7 @@
+use borrow.Author.Needs.{needs}
 use Prim.Native.Nat.{_-_, _≤_}
 use Rattle.bench_lib.proofs.demonstration.fill.Statement.{statement}
 use Rattle.bench_lib.proofs.demonstration.fill.Tie as tie
-use Rattle.bench_lib.proofs.demonstration.fill.Reads as reads
-use Rattle.bench_lib.proofs.demonstration.fill.Lts as lts
 use Rattle.std.proofs.num.wrapping_add_u8.Reads as wrapping-add-u8-reads
 
 abbrev Inv-loop : tie.InvT-loop
@@ -11,31 +10,24 @@ Inv-loop load₀ b₀ i₀ load b i = i ≤ 9135
 abbrev μ-loop : tie.MeasureT-loop
 μ-loop load₀ b₀ i₀ load b i = 9135 - i
 
--- src/demonstration.rt:30:5
 loop-holds : tie.Need-loop-holds Inv-loop μ-loop
 loop-holds c = search needs
 
--- src/demonstration.rt:31:9
 element-write-load : tie.Need-element-write-load Inv-loop μ-loop
 element-write-load c = search needs
 
--- src/demonstration.rt:32:9
 wrapping-add-u8-requires : tie.Need-wrapping-add-u8-requires Inv-loop μ-loop
 wrapping-add-u8-requires c κs = search needs
 
--- src/demonstration.rt:33:13
 add-i : tie.Need-add-i Inv-loop μ-loop
 add-i c = search needs
 
--- src/demonstration.rt:30:5
 loop-less : tie.Need-loop-less Inv-loop μ-loop
 loop-less c = search needs
 
--- src/demonstration.rt:30:5
 loop-again : tie.Need-loop-again Inv-loop μ-loop
 loop-again c = search needs
 
--- src/demonstration.rt:27:1
 returns : tie.Need-returns Inv-loop μ-loop
 returns c = search needs
 

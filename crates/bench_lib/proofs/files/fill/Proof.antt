@@ -1,8 +1,7 @@
+use borrow.Author.Needs.{needs}
 use Prim.Native.Nat.{_-_, _≤_}
 use Rattle.bench_lib.proofs.files.fill.Statement.{statement}
 use Rattle.bench_lib.proofs.files.fill.Tie as tie
-use Rattle.bench_lib.proofs.files.fill.Reads as reads
-use Rattle.bench_lib.proofs.files.fill.Lts as lts
 use Rattle.bench_lib.proofs.points.read_point.Reads as read-point-reads
 use Rattle.bench_lib.proofs.points.size.Reads as size-reads
 
@@ -12,51 +11,39 @@ Inv-loop file narrow re₀ im₀ k₀ over₀ re im k over = k ≤ 38976
 abbrev μ-loop : tie.MeasureT-loop
 μ-loop file narrow re₀ im₀ k₀ over₀ re im k over = 38976 - k
 
--- src/files.rt:181:5
 loop-holds : tie.Need-loop-holds Inv-loop μ-loop
 loop-holds c = search needs
 
--- src/files.rt:182:13
 read-point-requires : tie.Need-read-point-requires Inv-loop μ-loop
 read-point-requires c κs = search needs
 
--- src/files.rt:183:20
 size-requires : tie.Need-size-requires Inv-loop μ-loop
 size-requires c κs = search needs
 
--- src/files.rt:187:9
 mul-re : tie.Need-mul-re Inv-loop μ-loop
 mul-re c = search needs
 
--- src/files.rt:187:9
 element-write-re : tie.Need-element-write-re Inv-loop μ-loop
 element-write-re c = search needs
 
--- src/files.rt:188:9
 mul-im : tie.Need-mul-im Inv-loop μ-loop
 mul-im c = search needs
 
--- src/files.rt:188:9
 element-write-im : tie.Need-element-write-im Inv-loop μ-loop
 element-write-im c = search needs
 
--- src/files.rt:189:13
 add-k : tie.Need-add-k Inv-loop μ-loop
 add-k c = search needs
 
--- src/files.rt:181:5
 loop-less : tie.Need-loop-less Inv-loop μ-loop
 loop-less c = search needs
 
--- src/files.rt:181:5
 loop-again : tie.Need-loop-again Inv-loop μ-loop
 loop-again c = search needs
 
--- src/files.rt:178:1
 returns : tie.Need-returns Inv-loop μ-loop
 returns c = search needs
 
--- src/files.rt:178:1
 returns-2 : tie.Need-returns-2 Inv-loop μ-loop
 returns-2 c = search needs
 

@@ -1,8 +1,7 @@
+use borrow.Author.Needs.{needs}
 use Prim.Native.Nat.{_-_, _≤_}
 use Rattle.bench_lib.proofs.files.pour.Statement.{statement}
 use Rattle.bench_lib.proofs.files.pour.Tie as tie
-use Rattle.bench_lib.proofs.files.pour.Reads as reads
-use Rattle.bench_lib.proofs.files.pour.Lts as lts
 use Rattle.bench_lib.proofs.points.write_point.Reads as write-point-reads
 
 abbrev Inv-loop : tie.InvT-loop
@@ -11,47 +10,36 @@ Inv-loop file narrow re im k₀ k = k ≤ 38976
 abbrev μ-loop : tie.MeasureT-loop
 μ-loop file narrow re im k₀ k = 38976 - k
 
--- src/files.rt:263:5
 loop-holds : tie.Need-loop-holds Inv-loop μ-loop
 loop-holds c = search needs
 
--- src/files.rt:264:47
 mul-write-point : tie.Need-mul-write-point Inv-loop μ-loop
 mul-write-point c = search needs
 
--- src/files.rt:264:47
 element-copy-out-write-point : tie.Need-element-copy-out-write-point Inv-loop μ-loop
 element-copy-out-write-point c = search needs
 
--- src/files.rt:264:54
 mul-write-point-2 : tie.Need-mul-write-point-2 Inv-loop μ-loop
 mul-write-point-2 c = search needs
 
--- src/files.rt:264:54
 element-copy-out-write-point-2 : tie.Need-element-copy-out-write-point-2 Inv-loop μ-loop
 element-copy-out-write-point-2 c = search needs
 
--- src/files.rt:264:13
 write-point-requires : tie.Need-write-point-requires Inv-loop μ-loop
 write-point-requires c κs = search needs
 
--- src/files.rt:265:13
 returns : tie.Need-returns Inv-loop μ-loop
 returns c = search needs
 
--- src/files.rt:267:13
 add-k : tie.Need-add-k Inv-loop μ-loop
 add-k c = search needs
 
--- src/files.rt:263:5
 loop-less : tie.Need-loop-less Inv-loop μ-loop
 loop-less c = search needs
 
--- src/files.rt:263:5
 loop-again : tie.Need-loop-again Inv-loop μ-loop
 loop-again c = search needs
 
--- src/files.rt:261:1
 returns-2 : tie.Need-returns-2 Inv-loop μ-loop
 returns-2 c = search needs
 

@@ -1,9 +1,8 @@
+use borrow.Author.Needs.{needs}
 use Prim.Native.Nat.{_-_, _≤_}
 use lib.ListN.{length}
 use Rattle.bench_lib.proofs.files.put.Statement.{statement}
 use Rattle.bench_lib.proofs.files.put.Tie as tie
-use Rattle.bench_lib.proofs.files.put.Reads as reads
-use Rattle.bench_lib.proofs.files.put.Lts as lts
 
 abbrev Inv-loop : tie.InvT-loop
 Inv-loop dst₀ at src i₀ j₀ dst i j = i ≤ length src
@@ -11,39 +10,30 @@ Inv-loop dst₀ at src i₀ j₀ dst i j = i ≤ length src
 abbrev μ-loop : tie.MeasureT-loop
 μ-loop dst₀ at src i₀ j₀ dst i j = length src - i
 
--- src/files.rt:62:5
 loop-holds : tie.Need-loop-holds Inv-loop μ-loop
 loop-holds c = search needs
 
--- src/files.rt:63:18
 shared-slice-read-dst : tie.Need-shared-slice-read-dst Inv-loop μ-loop
 shared-slice-read-dst c = search needs
 
--- src/files.rt:63:9
 element-write-dst : tie.Need-element-write-dst Inv-loop μ-loop
 element-write-dst c = search needs
 
--- src/files.rt:64:13
 add-i : tie.Need-add-i Inv-loop μ-loop
 add-i c = search needs
 
--- src/files.rt:65:13
-add-j : tie.Need-add-j Inv-loop μ-loop
-add-j c = search needs
+next-requires : tie.Need-next-requires Inv-loop μ-loop
+next-requires c κs = search needs
 
--- src/files.rt:62:5
 loop-less : tie.Need-loop-less Inv-loop μ-loop
 loop-less c = search needs
 
--- src/files.rt:62:5
 loop-again : tie.Need-loop-again Inv-loop μ-loop
 loop-again c = search needs
 
--- src/files.rt:59:1
 returns : tie.Need-returns Inv-loop μ-loop
 returns c = search needs
 
--- src/files.rt:59:1
 returns-2 : tie.Need-returns-2 Inv-loop μ-loop
 returns-2 c = search needs
 
@@ -57,7 +47,7 @@ put-spec =
     shared-slice-read-dst
     element-write-dst
     add-i
-    add-j
+    next-requires
     loop-less
     loop-again
     returns

@@ -10,8 +10,6 @@ use mir.Facts.{fits-natAbs, sfits-toZ, fits-ofZ}
 use borrow.Author.Needs.{needs}
 use Rattle.bench_lib.proofs.files.unsigned.Statement.{statement}
 use Rattle.bench_lib.proofs.files.unsigned.Tie as tie
-use Rattle.bench_lib.proofs.files.unsigned.Reads as reads
-use Rattle.bench_lib.proofs.files.unsigned.Lts as lts
 
 -- the test `n > 0`, on the number that the machine reads back from n's bits
 positive : (z : ℤ) → ltZ (pos 0) z ≡ true → T (nonNeg z)
@@ -21,11 +19,9 @@ positive (negsuc n) e = subst T (sym e) tt
 cast-result : tie.Need-cast-result
 cast-result c = (positive (toZ w32 (ofZ w32 (c .before .args .n))) (c .if1 .taken), fits-natAbs {w = w32} {w′ = w64} tt (sfits-toZ (fits-ofZ (c .before .fits .n))))
 
--- src/files.rt:42:9
 returns : tie.Need-returns
 returns c = search needs
 
--- src/files.rt:40:1
 returns-2 : tie.Need-returns-2
 returns-2 c = search needs
 

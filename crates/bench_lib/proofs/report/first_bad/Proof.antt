@@ -1,8 +1,7 @@
+use borrow.Author.Needs.{needs}
 use Prim.Native.Nat.{_-_, _≤_}
 use Rattle.bench_lib.proofs.report.first_bad.Statement.{statement}
 use Rattle.bench_lib.proofs.report.first_bad.Tie as tie
-use Rattle.bench_lib.proofs.report.first_bad.Reads as reads
-use Rattle.bench_lib.proofs.report.first_bad.Lts as lts
 use Rattle.bench_lib.proofs.report.is_bad.Reads as is-bad-reads
 
 abbrev Inv-loop : tie.InvT-loop
@@ -11,51 +10,39 @@ Inv-loop re im k₀ k = k ≤ 38976
 abbrev μ-loop : tie.MeasureT-loop
 μ-loop re im k₀ k = 38976 - k
 
--- src/report.rt:151:5
 loop-holds : tie.Need-loop-holds Inv-loop μ-loop
 loop-holds c = search needs
 
--- src/report.rt:152:19
 mul-is-bad : tie.Need-mul-is-bad Inv-loop μ-loop
 mul-is-bad c = search needs
 
--- src/report.rt:152:19
 element-copy-out-is-bad : tie.Need-element-copy-out-is-bad Inv-loop μ-loop
 element-copy-out-is-bad c = search needs
 
--- src/report.rt:152:12
 is-bad-requires : tie.Need-is-bad-requires Inv-loop μ-loop
 is-bad-requires c κs = search needs
 
--- src/report.rt:152:36
 mul-is-bad-2 : tie.Need-mul-is-bad-2 Inv-loop μ-loop
 mul-is-bad-2 c = search needs
 
--- src/report.rt:152:36
 element-copy-out-is-bad-2 : tie.Need-element-copy-out-is-bad-2 Inv-loop μ-loop
 element-copy-out-is-bad-2 c = search needs
 
--- src/report.rt:152:29
 is-bad-requires-2 : tie.Need-is-bad-requires-2 Inv-loop μ-loop
 is-bad-requires-2 c κs = search needs
 
--- src/report.rt:155:13
 add-k : tie.Need-add-k Inv-loop μ-loop
 add-k c = search needs
 
--- src/report.rt:151:5
 loop-less : tie.Need-loop-less Inv-loop μ-loop
 loop-less c = search needs
 
--- src/report.rt:151:5
 loop-again : tie.Need-loop-again Inv-loop μ-loop
 loop-again c = search needs
 
--- src/report.rt:147:1
 returns : tie.Need-returns Inv-loop μ-loop
 returns c = search needs
 
--- src/report.rt:147:1
 returns-2 : tie.Need-returns-2 Inv-loop μ-loop
 returns-2 c = search needs
 

@@ -1,9 +1,8 @@
+use borrow.Author.Needs.{needs}
 use Prim.Native.Nat.{_-_, _≤_}
 use lib.ListN.{length}
 use Rattle.bench_lib.proofs.words.parts.Statement.{statement}
 use Rattle.bench_lib.proofs.words.parts.Tie as tie
-use Rattle.bench_lib.proofs.words.parts.Reads as reads
-use Rattle.bench_lib.proofs.words.parts.Lts as lts
 
 abbrev Inv-loop : tie.InvT-loop
 Inv-loop s stop n₀ j₀ n j = (n ≤ j) × (j ≤ length s)
@@ -11,39 +10,30 @@ Inv-loop s stop n₀ j₀ n j = (n ≤ j) × (j ≤ length s)
 abbrev μ-loop : tie.MeasureT-loop
 μ-loop s stop n₀ j₀ n j = length s - j
 
--- src/words.rt:58:5
 loop-holds : tie.Need-loop-holds Inv-loop μ-loop
 loop-holds c = search needs
 
--- src/words.rt:59:18
 shared-slice-read-tally : tie.Need-shared-slice-read-tally Inv-loop μ-loop
 shared-slice-read-tally c = search needs
 
--- src/words.rt:59:17
 tally-requires : tie.Need-tally-requires Inv-loop μ-loop
 tally-requires c κs = search needs
 
--- src/words.rt:59:13
 add-n : tie.Need-add-n Inv-loop μ-loop
 add-n c = search needs
 
--- src/words.rt:60:13
 add-j : tie.Need-add-j Inv-loop μ-loop
 add-j c = search needs
 
--- src/words.rt:58:5
 loop-less : tie.Need-loop-less Inv-loop μ-loop
 loop-less c = search needs
 
--- src/words.rt:58:5
 loop-again : tie.Need-loop-again Inv-loop μ-loop
 loop-again c = search needs
 
--- src/words.rt:62:5
 add-result : tie.Need-add-result Inv-loop μ-loop
 add-result c = search needs
 
--- src/words.rt:55:1
 returns : tie.Need-returns Inv-loop μ-loop
 returns c = search needs
 
