@@ -7,37 +7,11 @@ use isdbs_core::slots::runs;
 use isdbs_core::tmcc::{CombinationEntry, TmccInfo};
 use isdbs_phy::demod::{DemodOptions, Mapping, state_after};
 
+#[path = "draws.rs"]
+mod draws;
+pub use draws::*;
+
 pub type Cplx = isdbs_phy::Cplx;
-pub const MAIN: usize = 38_976;
-
-pub fn step(mut x: u64) -> u64 {
-    x ^= x << 13;
-    x ^= x >> 7;
-    x ^= x << 17;
-    x
-}
-
-/// The generator of README.md.
-pub struct Draws(pub u64);
-
-impl Draws {
-    pub fn next(&mut self) -> u64 {
-        self.0 = step(self.0);
-        self.0
-    }
-
-    pub fn below(&mut self, n: u64) -> u64 {
-        (self.next() >> 16) % n
-    }
-
-    pub fn pick<T: Copy>(&mut self, from: &[T]) -> T {
-        from[self.below(from.len() as u64) as usize]
-    }
-
-    pub fn bytes(&mut self, n: usize) -> Vec<u8> {
-        (0..n).map(|_| (self.next() >> 56) as u8).collect()
-    }
-}
 
 pub fn load(seed: u64, n: usize) -> Vec<u8> {
     Draws(seed).bytes(n)
@@ -45,22 +19,6 @@ pub fn load(seed: u64, n: usize) -> Vec<u8> {
 
 pub fn digest(words: impl Iterator<Item = u64>) -> u64 {
     words.fold(0x9e37_79b9_7f4a_7c15, |h, w| step(h ^ w))
-}
-
-/// A table of the C calls from (word, slots).
-pub fn table(entries: &[(u8, u8)]) -> u64 {
-    (0..4).fold(0, |t, i| {
-        let (word, slots) = entries.get(i).copied().unwrap_or((15, 0));
-        t | u64::from(word) << (16 * i) | u64::from(slots) << (16 * i + 8)
-    })
-}
-
-pub fn entries(table: u64) -> [(u8, u8); 4] {
-    std::array::from_fn(|i| ((table >> (16 * i)) as u8, (table >> (16 * i + 8)) as u8))
-}
-
-pub fn slot_sum(table: u64) -> usize {
-    entries(table).iter().map(|e| usize::from(e.1)).sum()
 }
 
 pub fn info(table: u64) -> TmccInfo {

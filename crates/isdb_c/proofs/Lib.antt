@@ -2,3 +2,4 @@ pub mod Laws
 pub mod Runs
 pub mod Answers
 pub mod Decoders
+pub mod Rates

@@ -1,3 +1,5 @@
 pub mod Forms
 pub mod Rows
 pub mod Decoders
+pub mod Rates
+pub mod Mappings

@@ -1,4 +1,6 @@
 // The calls for C, on numbers and slices (a slice is a pointer and a length). Each answers document 01's number, 0 for accepted; refused, it leaves
 // every lent number and slice as it was. include/isdb.h declares them.
 pub mod conv;
+pub mod frame;
+pub mod isdbt;
 pub mod table;

@@ -5,6 +5,16 @@ pub mod EncodeQpsk
 pub mod Shift
 pub mod Narrow
 pub mod Sign
+pub mod ByStep
+pub mod Codes
+pub mod Carried
+pub mod Digits
+pub mod Among
+pub mod Parts
+pub mod FrameRuns
+pub mod Packing
+pub mod FrameBytes
+pub mod Rows
 pub mod EncodeFrame
 pub mod EncodeAnswers
 pub mod EncodeTable

@@ -6,6 +6,10 @@ pub mod Reading
 pub mod Pieces
 pub mod LawsUpto
 pub mod LawsState
+pub mod DecodeRows
+pub mod Steps
+pub mod Runs
+pub mod LawsDecoded
 pub mod Places
 pub mod Sizes
 pub mod Encoding

@@ -1,5 +1,8 @@
 // The main signal of a frame: bytes to points and points to bytes. After demod.rs of isdbs-phy.
 use crate::Cplx;
+use crate::answers::decode_answer;
+use crate::answers::frame_size;
+use crate::reading::decode;
 use isdb_fec::conv::ConvEncoder;
 use isdb_fec::conv::encode_bit;
 use isdbs_core::combination::BitPair;
@@ -32,7 +35,10 @@ ghost use Rattle.isdb_fec.specs.Calls.{Either};
 ghost use Rattle.isdbs_phy.specs.Points.{zero64, psk8Of, qpskOf, subset, turned};
 ghost use Rattle.isdbs_phy.specs.Layout.{orderOf, stepsPerPeriod, loadBit, wordBit};
 ghost use Rattle.isdbs_phy.specs.Frame.{stateAfter, startState, endState};
+ghost use Rattle.isdbs_phy.specs.DecodeRows.{decodeRows, frameAnswer, Kept};
 ghost use Rattle.isdbs_phy.specs.Encoding.{encodeRows, encodeFrameRows, FrameLaid, PartsKept, Tiled, RunsMade};
+ghost use Rattle.isdbs_phy.specs.Steps.{received};
+ghost use Rattle.isdbs_phy.specs.Runs.{FrameRead};
 ghost use Rattle.isdbs_phy.specs.Pieces.{pieceSymbols, PieceEncoded, PeriodEncoded, PatternOf, PairsWithin, motherBit, pairPoint};
 
 // 1 / sqrt 2 as an f64.
@@ -130,7 +136,7 @@ pub fn qpsk_point(p1: u8, p0: u8) -> Cplx
 }
 
 // Bit i of a word, high bit first.
-fn word_bit(word: u16, i: usize) -> u8
+pub(crate) fn word_bit(word: u16, i: usize) -> u8
     requires { ⌜ i < 16 ⌝ }
     ensures { λ r. ⌜ r ≡ wordBit word i ⌝ }
 {
@@ -152,7 +158,7 @@ pub fn state_after(word: u16) -> u8
 }
 
 // The imaginary part, negated where the mapping says so.
-fn mirror(conjugate: bool, y: f64) -> f64
+pub(crate) fn mirror(conjugate: bool, y: f64) -> f64
     ensures { λ r. ⌜ r ≡ turned conjugate y ⌝ }
 {
     if conjugate { -y } else { y }
@@ -183,7 +189,7 @@ fn qpsk_mapped(p1_on_q: bool, p1: u8, p0: u8) -> Cplx
 }
 
 // 2 C1 + C0 from 2 X + Y.
-fn subset_of(c1_is_y: bool, l: u8) -> u8
+pub(crate) fn subset_of(c1_is_y: bool, l: u8) -> u8
     requires { ⌜ l < 4 ⌝ }
     ensures { λ r. ⌜ (r ≡ subset «c1_is_y» l) × (r < 4) ⌝ }
 {
@@ -565,3 +571,44 @@ pub fn encode_frame(
 }
 
 // ---- decoding
+
+// ---- decoding
+
+// What decoding a frame answers: the bytes of its load and its trellis steps, or why it is turned back.
+pub enum FrameDecoded {
+    Decoded(usize, usize),
+    Refused(Answer),
+}
+
+// The main signal of a frame to bytes. `first`: the first frame of a superframe. Afterwards `bits` begins with the decoded bits, `bytes` with the load.
+pub fn decode_frame(
+    re: &[f64],
+    im: &[f64],
+    t: Table,
+    first: bool,
+    o: DemodOptions,
+    decisions: &mut [u64],
+    bits: &mut [u8],
+    bytes: &mut [u8],
+) -> FrameDecoded
+    ensures answers { λ r. ⌜ r ≡ frameAnswer (firstRow (decodeRows t (now (re .entry)) (now (im .entry)) (o .«llr_scale») (length (now (decisions .entry))) (length (now (bits .entry))) (length (now (bytes .entry))))) t ⌝ }
+    ensures leaves { λ _. ⌜ Either (firstRow (decodeRows t (now (re .entry)) (now (im .entry)) (o .«llr_scale») (length (now (decisions .entry))) (length (now (bits .entry))) (length (now (bytes .entry)))))
+        (FrameRead t (received (now (re .entry)) (now (im .entry)) (o .mapping) (o .«llr_scale»)) (o .«known_start») first (now (decisions .entry)) (now (decisions .exit)) (now (bits .entry)) (now (bits .exit)) (now (bytes .entry)) (now (bytes .exit)))
+        (Kept (now (decisions .entry)) (now (decisions .exit)) (now (bits .entry)) (now (bits .exit)) (now (bytes .entry)) (now (bytes .exit))) ⌝ }
+{
+    let answer = decode_answer(
+        t,
+        re,
+        im,
+        o.llr_scale,
+        decisions.len(),
+        bits.len(),
+        bytes.len(),
+    );
+    let Answer::Accepted = answer else {
+        return FrameDecoded::Refused(answer);
+    };
+    let size = frame_size(t);
+    decode(t, first, o, re, im, size.steps, decisions, bits, bytes);
+    FrameDecoded::Decoded(size.bytes, size.steps)
+}

@@ -1,5 +1,8 @@
 // Signal points, and their parts as soft values.
+mod answers;
 pub mod demod;
+mod metrics;
+mod reading;
 
 ghost use mathlib.Core.Path.{_≡_};
 ghost use Prim.Native.Nat.{_^_, _≤_, _<_};

@@ -1,0 +1,8 @@
+#!/bin/sh
+# Every C call beside the given Rust: how many cases of each kind ran, and how many differ.
+#   compare/agree.sh [DIR [SCALE]]
+set -eu
+cd "$(dirname "$0")/.."
+compare/build.sh ${1:+"$1"}
+compare/linked.sh agree
+target/compare/bin/agree "${2:-1}"

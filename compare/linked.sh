@@ -1,0 +1,15 @@
+#!/bin/sh
+# Compiles compare/src/NAME.rs over the reference and the static library of the C calls: target/compare/bin/NAME.
+#   compare/linked.sh NAME
+set -eu
+cd "$(dirname "$0")/.."
+archive=target/staticlib/libisdb_c.a
+[ -f "$archive" ] || rt staticlib isdb_c
+calls=
+for pair in isdbt:isdbt_depuncture encode:isdbs_encode_frame decode:isdbs_decode_frame; do
+    if nm "$archive" 2>/dev/null | grep -q " T ${pair#*:}\$"; then calls="$calls --cfg ${pair%%:*}"; fi
+done
+peer=target/compare/peer/usr/lib/x86_64-linux-gnu
+if [ "$1" = speed ] && [ -f "$peer/libfec.a" ]; then calls="$calls --cfg peer -L $peer -l static=fec"; fi
+# shellcheck disable=SC2086
+compare/program.sh "$1" -A unexpected_cfgs $calls -L target/staticlib -l static=isdb_c

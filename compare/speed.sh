@@ -1,0 +1,9 @@
+#!/bin/sh
+# Times and memory beside the given Rust (opt-level 3, default target), from one run: a table for docs/PERFORMANCE.md.
+#   compare/speed.sh [DIR [ROUNDS]]
+set -eu
+cd "$(dirname "$0")/.."
+compare/build.sh ${1:+"$1"}
+compare/linked.sh speed
+echo "commit $(git rev-parse --short HEAD), $(rustc --version), $(grep -m1 'model name' /proc/cpuinfo | cut -d: -f2 | xargs)"
+target/compare/bin/speed "${2:-15}"

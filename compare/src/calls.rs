@@ -1,0 +1,109 @@
+// The C calls. A slice is a pointer and a length.
+#![allow(dead_code)]
+
+mod c {
+    unsafe extern "C" {
+        pub fn isdbs_soft(x: f64) -> f32;
+        pub fn isdbs_slot_combinations(table: u64, out: *mut u8, out_len: usize) -> u32;
+        pub fn isdbs_runs(table: u64, out: *mut u32, out_len: usize, count: *mut u32) -> u32;
+        pub fn isdbs_bit_symbol(word: u8, bit: u64, out: *mut u64) -> u32;
+        #[rustfmt::skip]
+        pub fn isdb_push(pm: *mut f32, pm_len: usize, held: *mut u64, traceback: u64, pairs: *const f32, pairs_len: usize, decisions: *mut u64, decisions_len: usize, out: *mut u8, out_len: usize, count: *mut u64) -> u32;
+        #[rustfmt::skip]
+        pub fn isdb_push_metrics(pm: *mut f32, pm_len: usize, held: *mut u64, traceback: u64, metrics: *const f32, metrics_len: usize, decisions: *mut u64, decisions_len: usize, out: *mut u8, out_len: usize, count: *mut u64) -> u32;
+        #[rustfmt::skip]
+        pub fn isdb_push_known(pm: *mut f32, pm_len: usize, held: *mut u64, traceback: u64, bits: *const u8, bits_len: usize, decisions: *mut u64, decisions_len: usize, out: *mut u8, out_len: usize, count: *mut u64) -> u32;
+        #[rustfmt::skip]
+        pub fn isdb_flush(pm: *mut f32, pm_len: usize, held: *mut u64, traceback: u64, decisions: *mut u64, decisions_len: usize, out: *mut u8, out_len: usize, count: *mut u64) -> u32;
+        #[cfg(isdbt)]
+        #[rustfmt::skip]
+        pub fn isdbt_encode_punctured(rate: u8, state: *mut u8, bits: *const u8, bits_len: usize, out: *mut u8, out_len: usize, count: *mut u64) -> u32;
+        #[cfg(isdbt)]
+        pub fn isdbt_depuncture(rate: u8, llrs: *const f32, llrs_len: usize, out: *mut f32, out_len: usize, count: *mut u64) -> u32;
+        #[cfg(isdbt)]
+        #[rustfmt::skip]
+        pub fn isdbt_decode_punctured(rate: u8, llrs: *const f32, llrs_len: usize, traceback: u64, decisions: *mut u64, decisions_len: usize, out: *mut u8, out_len: usize, count: *mut u64) -> u32;
+        #[cfg(encode)]
+        #[rustfmt::skip]
+        pub fn isdbs_encode_frame(bytes: *const u8, bytes_len: usize, table: u64, mapping: u8, state: u8, re: *mut f64, re_len: usize, im: *mut f64, im_len: usize, end: *mut u8) -> u32;
+        #[cfg(decode)]
+        #[rustfmt::skip]
+        pub fn isdbs_decode_frame(re: *const f64, re_len: usize, im: *const f64, im_len: usize, table: u64, mapping: u8, first: u8, known_start: u8, llr_scale: f32, decisions: *mut u64, decisions_len: usize, bits: *mut u8, bits_len: usize, bytes: *mut u8, bytes_len: usize) -> u32;
+    }
+}
+
+pub fn soft(x: f64) -> f32 {
+    unsafe { c::isdbs_soft(x) }
+}
+
+pub fn slot_combinations(table: u64, out: &mut [u8]) -> u32 {
+    unsafe { c::isdbs_slot_combinations(table, out.as_mut_ptr(), out.len()) }
+}
+
+pub fn runs(table: u64, out: &mut [u32], count: &mut u32) -> u32 {
+    unsafe { c::isdbs_runs(table, out.as_mut_ptr(), out.len(), count) }
+}
+
+pub fn bit_symbol(word: u8, bit: u64, out: &mut u64) -> u32 {
+    unsafe { c::isdbs_bit_symbol(word, bit, out) }
+}
+
+/// What one call of the decoder is fed.
+#[derive(Clone, Copy)]
+pub enum Feed<'a> {
+    Pairs(&'a [f32]),
+    Metrics(&'a [f32]),
+    Known(&'a [u8]),
+    Flush,
+}
+
+pub fn feed(pm: &mut [f32], held: &mut u64, traceback: u64, x: Feed, decisions: &mut [u64], out: &mut [u8], count: &mut u64) -> u32 {
+    let (p, pn, d, dn, o, on) = (pm.as_mut_ptr(), pm.len(), decisions.as_mut_ptr(), decisions.len(), out.as_mut_ptr(), out.len());
+    unsafe {
+        match x {
+            Feed::Pairs(s) => c::isdb_push(p, pn, held, traceback, s.as_ptr(), s.len(), d, dn, o, on, count),
+            Feed::Metrics(s) => c::isdb_push_metrics(p, pn, held, traceback, s.as_ptr(), s.len(), d, dn, o, on, count),
+            Feed::Known(s) => c::isdb_push_known(p, pn, held, traceback, s.as_ptr(), s.len(), d, dn, o, on, count),
+            Feed::Flush => c::isdb_flush(p, pn, held, traceback, d, dn, o, on, count),
+        }
+    }
+}
+
+#[cfg(isdbt)]
+pub fn encode_punctured(rate: u8, state: &mut u8, bits: &[u8], out: &mut [u8], count: &mut u64) -> u32 {
+    unsafe { c::isdbt_encode_punctured(rate, state, bits.as_ptr(), bits.len(), out.as_mut_ptr(), out.len(), count) }
+}
+
+#[cfg(isdbt)]
+pub fn depuncture(rate: u8, llrs: &[f32], out: &mut [f32], count: &mut u64) -> u32 {
+    unsafe { c::isdbt_depuncture(rate, llrs.as_ptr(), llrs.len(), out.as_mut_ptr(), out.len(), count) }
+}
+
+#[cfg(isdbt)]
+pub fn decode_punctured(rate: u8, llrs: &[f32], traceback: u64, decisions: &mut [u64], out: &mut [u8], count: &mut u64) -> u32 {
+    unsafe { c::isdbt_decode_punctured(rate, llrs.as_ptr(), llrs.len(), traceback, decisions.as_mut_ptr(), decisions.len(), out.as_mut_ptr(), out.len(), count) }
+}
+
+#[cfg(encode)]
+pub fn encode_frame(bytes: &[u8], table: u64, mapping: u8, state: u8, re: &mut [f64], im: &mut [f64], end: &mut u8) -> u32 {
+    unsafe { c::isdbs_encode_frame(bytes.as_ptr(), bytes.len(), table, mapping, state, re.as_mut_ptr(), re.len(), im.as_mut_ptr(), im.len(), end) }
+}
+
+#[cfg(decode)]
+pub struct Settings {
+    pub table: u64,
+    pub mapping: u8,
+    pub first: u8,
+    pub known: u8,
+    pub scale: f32,
+}
+
+#[cfg(decode)]
+pub fn decode_frame(re: &[f64], im: &[f64], s: &Settings, decisions: &mut [u64], bits: &mut [u8], bytes: &mut [u8]) -> u32 {
+    unsafe {
+        c::isdbs_decode_frame(
+            re.as_ptr(), re.len(), im.as_ptr(), im.len(), s.table, s.mapping, s.first, s.known, s.scale,
+            decisions.as_mut_ptr(), decisions.len(), bits.as_mut_ptr(), bits.len(), bytes.as_mut_ptr(), bytes.len(),
+        )
+    }
+}

@@ -1,0 +1,220 @@
+// Times beside the given Rust, from one run: each piece of work on both sides in turn, the least processor time of each over the rounds.
+// speed [ROUNDS] (default 15). Prints a table for docs/PERFORMANCE.md.
+mod calls;
+mod common;
+use calls::Feed;
+use common::*;
+use isdb_fec::ViterbiDecoder;
+use std::alloc::{GlobalAlloc, Layout, System};
+use std::hint::black_box;
+use std::sync::atomic::{AtomicUsize, Ordering::Relaxed};
+
+/// Counts what the Rust allocates.
+struct Counting;
+
+static NOW: AtomicUsize = AtomicUsize::new(0);
+static MOST: AtomicUsize = AtomicUsize::new(0);
+
+unsafe impl GlobalAlloc for Counting {
+    unsafe fn alloc(&self, l: Layout) -> *mut u8 {
+        let now = NOW.fetch_add(l.size(), Relaxed) + l.size();
+        MOST.fetch_max(now, Relaxed);
+        unsafe { System.alloc(l) }
+    }
+
+    unsafe fn dealloc(&self, p: *mut u8, l: Layout) {
+        NOW.fetch_sub(l.size(), Relaxed);
+        unsafe { System.dealloc(p, l) }
+    }
+}
+
+#[global_allocator]
+static MEMORY: Counting = Counting;
+
+/// The most that `f` holds beyond what is held before.
+fn held_by(f: impl FnOnce()) -> usize {
+    let before = NOW.load(Relaxed);
+    MOST.store(before, Relaxed);
+    f();
+    MOST.load(Relaxed) - before
+}
+
+unsafe extern "C" {
+    fn clock_gettime(clock: i32, time: *mut [i64; 2]) -> i32;
+}
+
+/// The processor time of this thread in nanoseconds: what other programs take is not in it.
+fn processor_time() -> i64 {
+    let mut time = [0; 2];
+    assert_eq!(unsafe { clock_gettime(3, &mut time) }, 0);
+    time[0] * 1_000_000_000 + time[1]
+}
+
+/// The least time of either side in nanoseconds, in turn.
+fn beside(rounds: usize, mut rust: impl FnMut(), mut here: impl FnMut()) -> (f64, f64) {
+    let time = |f: &mut dyn FnMut()| {
+        let from = processor_time();
+        f();
+        (processor_time() - from) as f64
+    };
+    (0..rounds).fold((f64::MAX, f64::MAX), |(a, b), _| (a.min(time(&mut rust)), b.min(time(&mut here))))
+}
+
+fn row(name: &str, unit: &str, count: usize, (rust, here): (f64, f64), memory: (usize, usize)) {
+    println!(
+        "| {name} | {:.3} ms | {:.3} ms | {:.1} ns | {:.1} ns per {unit} | **{:.2}** | {} kB | {} kB |",
+        rust / 1e6,
+        here / 1e6,
+        rust / count as f64,
+        here / count as f64,
+        rust / here,
+        memory.0.div_ceil(1024),
+        memory.1.div_ceil(1024),
+    );
+}
+
+fn decoder(rounds: usize) {
+    let n = 65_536;
+    let mut draws = Draws(0x5eed);
+    let mut noise = |k: usize| -> Vec<f32> { (0..k).map(|_| (draws.next() >> 48) as u16 as i16 as f32 / 1024.0).collect() };
+    let (pairs, metrics) = (noise(2 * n), noise(4 * n));
+    let quadruples: Vec<[f32; 4]> = metrics.chunks_exact(4).map(|q| [q[0], q[1], q[2], q[3]]).collect();
+    let fresh = *ViterbiDecoder::new(128).path_values();
+    let mut decisions = vec![0u64; 4224];
+    let mut out = vec![0u8; n + 4096];
+    for (name, feed) in [("push, 65,536 pairs", Feed::Pairs(&pairs)), ("push_metrics, 65,536 quadruples", Feed::Metrics(&metrics))] {
+        let rust = || {
+            let mut decoder = ViterbiDecoder::new(128);
+            let mut bits = Vec::new();
+            match feed {
+                Feed::Pairs(s) => decoder.push(s, &mut bits),
+                _ => decoder.push_metrics(&quadruples, &mut bits),
+            }
+            decoder.flush(&mut bits);
+            black_box(bits);
+        };
+        let most = held_by(rust);
+        let times = beside(rounds, rust, || {
+            let mut pm = fresh;
+            let (mut held, mut count) = (0, 0);
+            assert_eq!(calls::feed(&mut pm, &mut held, 128, feed, &mut decisions, &mut out, &mut count), 0);
+            assert_eq!(calls::feed(&mut pm, &mut held, 128, Feed::Flush, &mut decisions, &mut out[65_536..], &mut count), 0);
+            black_box(&out);
+        });
+        row(name, "step", n, times, (most, 4224 * 8 + n));
+    }
+}
+
+#[cfg(any(encode, decode))]
+const FRAMES: [(&str, &[(u8, u8)]); 3] = [("QPSK 7/8", &[(6, 48)]), ("TC8PSK", &[(7, 48)]), ("mixed (TC8PSK 22, QPSK 7/8 8, 2/3 9, BPSK 8)", &[(7, 22), (6, 8), (3, 9), (1, 8)])];
+
+#[cfg(decode)]
+fn decoding(rounds: usize) {
+    for (name, entries) in FRAMES {
+        let t = table(entries);
+        let bytes = load(0x10ad, valid_slots(t) * 203);
+        let (clean, _) = reference_frame(&bytes, t, 4, start(true)).unwrap();
+        let points = received(&clean, 0x5eed, 0, 0.8);
+        let (re, im): (Vec<f64>, Vec<f64>) = points.iter().map(|v| (v.re, v.im)).unzip();
+        let (info, o) = (info(t), options(4, true, 8.0));
+        let s = calls::Settings { table: t, mapping: 4, first: 1, known: 1, scale: 8.0 };
+        let mut decisions = vec![0u64; 4224];
+        let mut bits = vec![0u8; steps(t) + 16];
+        let mut out = vec![0u8; bytes.len()];
+        let rust = || {
+            black_box(isdbs_phy::demod::decode_frame(&points, &info, true, &o));
+        };
+        let most = held_by(rust);
+        let times = beside(rounds, rust, || assert_eq!(calls::decode_frame(&re, &im, &s, &mut decisions, &mut bits, &mut out), 0));
+        row(&format!("decode a frame, {name}"), "step", steps(t), times, (most, 4224 * 8 + bits.len() + out.len()));
+    }
+}
+
+#[cfg(encode)]
+fn encoding(rounds: usize) {
+    for (name, entries) in FRAMES {
+        let t = table(entries);
+        let bytes = load(0x10ad, valid_slots(t) * 203);
+        let info = info(t);
+        let (mut re, mut im) = (vec![0f64; MAIN], vec![0f64; MAIN]);
+        let mut end = 0;
+        let rust = || {
+            black_box(isdbs_phy::demod::encode_frame_with_state(&bytes, &info, true, mapping(4)));
+        };
+        let most = held_by(rust);
+        let times = beside(rounds, rust, || assert_eq!(calls::encode_frame(&bytes, t, 4, 0, &mut re, &mut im, &mut end), 0));
+        row(&format!("encode a frame, {name}"), "step", steps(t), times, (most, 16 * MAIN));
+    }
+}
+
+/// The same code in libfec (viterbi27): 8-bit soft values, one traceback over the whole block. Context, no reference.
+#[cfg(peer)]
+mod peer {
+    use super::*;
+    use std::ffi::c_void;
+
+    unsafe extern "C" {
+        fn create_viterbi27(len: i32) -> *mut c_void;
+        fn set_viterbi27_polynomial(polys: *const i32);
+        fn init_viterbi27(v: *mut c_void, start: i32) -> i32;
+        fn update_viterbi27_blk(v: *mut c_void, symbols: *const u8, pairs: i32) -> i32;
+        fn chainback_viterbi27(v: *mut c_void, data: *mut u8, bits: u32, end: u32) -> i32;
+    }
+
+    pub fn row(rounds: usize) {
+        let n = 65_536;
+        let mut draws = Draws(0x9ee4);
+        let mut enc = isdb_fec::ConvEncoder::new();
+        // the last six bits lead back to state 0
+        let bits: Vec<u8> = (0..n).map(|i| if i < n - 6 { (draws.next() >> 63) as u8 } else { 0 }).collect();
+        let mut pairs: Vec<f32> = Vec::new();
+        for &b in &bits {
+            let (x, y) = enc.push(b);
+            for c in [x, y] {
+                let noise = (draws.next() >> 40) as f32 / 16_777_216.0 - 0.5;
+                pairs.push(1.0 - 2.0 * f32::from(c) + 1.5 * noise);
+            }
+        }
+        let symbols: Vec<u8> = pairs.iter().map(|x| (127.5 - 60.0 * x) as u8).collect();
+        let mut packed = vec![0u8; n / 8];
+        let mut decisions = vec![0u64; 4224];
+        let mut out = vec![0u8; n + 4096];
+        let fresh = *ViterbiDecoder::new(128).path_values();
+        // 171 and 133 octal, with the newest input as the low bit
+        let v = unsafe {
+            set_viterbi27_polynomial([0x4f, 0x6d].as_ptr());
+            create_viterbi27(n as i32)
+        };
+        let (peer, here) = beside(
+            rounds,
+            || unsafe {
+                init_viterbi27(v, 0);
+                update_viterbi27_blk(v, symbols.as_ptr(), n as i32);
+                chainback_viterbi27(v, packed.as_mut_ptr(), n as u32 - 6, 0);
+            },
+            || {
+                let mut pm = fresh;
+                let (mut held, mut count) = (0, 0);
+                assert_eq!(calls::feed(&mut pm, &mut held, 128, Feed::Pairs(&pairs), &mut decisions, &mut out, &mut count), 0);
+                let released = count as usize;
+                assert_eq!(calls::feed(&mut pm, &mut held, 128, Feed::Flush, &mut decisions, &mut out[released..], &mut count), 0);
+            },
+        );
+        let wrong = |bit: &dyn Fn(usize) -> u8| (0..n - 6).filter(|&i| bit(i) != bits[i]).count();
+        println!();
+        println!("libfec viterbi27 (8-bit soft values): {:.1} ns per step, {} wrong bits; push here (f32): {:.1} ns per step, {} wrong bits", peer / n as f64, wrong(&|i| packed[i / 8] >> (7 - i % 8) & 1), here / n as f64, wrong(&|i| out[i]));
+    }
+}
+
+fn main() {
+    let rounds = std::env::args().nth(1).map_or(15, |s| s.parse().expect("a number"));
+    println!("| work | Rust | here | Rust | here | ratio | Rust holds | lent here |");
+    println!("|---|---|---|---|---|---|---|---|");
+    #[cfg(decode)]
+    decoding(rounds);
+    #[cfg(encode)]
+    encoding(rounds);
+    decoder(rounds);
+    #[cfg(peer)]
+    peer::row(rounds);
+}

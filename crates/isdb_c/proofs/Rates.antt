@@ -1,0 +1,36 @@
+-- Rates by number, and the calls that take one. Assumes nothing.
+use mathlib.Core.Path.{_≡_, refl, sym, _∙_, ap}
+use mathlib.Core.List.{List}
+use Prim.Native.Nat.{ℕ, zero, suc}
+use borrow.Author.Tests.{eq-eqb, ne-eqb}
+use Rattle.refusal.specs.declared.Answer.{Answer}
+use Rattle.refusal.specs.declared.Answer.the-variants.{Accepted}
+use Rattle.refusal.specs.Rows.{Row, numberOf, firstRow}
+use Rattle.isdbt_fec.specs.declared.conv.CodeRate.{CodeRate}
+use Rattle.isdb_c.specs.declared.isdbt.MaybeRate.{MaybeRate}
+use Rattle.isdb_c.specs.declared.isdbt.MaybeRate.the-variants.{Rate, NoRate}
+use Rattle.isdb_c.specs.Rows.{answered, left}
+use Rattle.isdb_c.specs.Rates.{rateOf, rateRows, byRate}
+
+-- none of 0 to 4
+abbrev pub Other : ℕ → Type 0
+Other n = (((((Unit × (n ≡ 0 → ⊥)) × (n ≡ 1 → ⊥)) × (n ≡ 2 → ⊥)) × (n ≡ 3 → ⊥)) × (n ≡ 4 → ⊥))
+
+pub other : (n : ℕ) → Other n → NoRate ≡ rateOf n
+other zero h = absurd (h .0 .0 .0 .0 .1 refl)
+other (suc zero) h = absurd (h .0 .0 .0 .1 refl)
+other (suc (suc zero)) h = absurd (h .0 .0 .1 refl)
+other (suc (suc (suc zero))) h = absurd (h .0 .1 refl)
+other (suc (suc (suc (suc zero)))) h = absurd (h .1 refl)
+other (suc (suc (suc (suc (suc n))))) h = refl
+
+-- a number that is not 0 is a refusal's
+pub refusing : (n : ℕ) (a : Answer) → n ≡ numberOf a → (n ≡ 0 → ⊥) → a ≡ Accepted → ⊥
+refusing n a e h q = h (e ∙ ap numberOf q)
+
+module _ (m : MaybeRate) (c : CodeRate) (em : m ≡ Rate c) where
+  pub rate-answer : (rows : CodeRate → List Row) (n : ℕ) (a : Answer) → n ≡ numberOf a → a ≡ firstRow (rows c) → n ≡ answered (rateRows m rows)
+  rate-answer rows n a en ea = rw em (en ∙ ap numberOf ea)
+
+  pub rate-value : {A : Type 0} (none : A) (f : CodeRate → A) → f c ≡ byRate m none f
+  rate-value none f = rw em

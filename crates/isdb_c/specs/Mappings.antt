@@ -1,0 +1,8 @@
+-- A mapping as one number. Assumes nothing.
+use Prim.Native.Nat.{ℕ, _/_, _%_}
+use lib.Dec.{eqb}
+use Rattle.isdbs_phy.specs.declared.demod.Mapping.{Mapping}
+
+-- "A mapping is one u8: bit 0 conjugate, bit 1 qpsk_p1_on_q, bit 2 tc8psk_c1_is_y"
+abbrev pub mappingOf : ℕ → Mapping
+mappingOf n = record { conjugate = eqb (n % 2) 1; «qpsk_p1_on_q» = eqb (n / 2 % 2) 1; «tc8psk_c1_is_y» = eqb (n / 4 % 2) 1 }

@@ -1,0 +1,57 @@
+use Rattle.isdbs_core.specs.RunLaws.{laid}
+use Rattle.isdbs_core.specs.RunsOf.{frameSteps, loadBytes}
+use borrow.Author.Tests.{lt-ltb, le-ltb, ltb-false}
+use lib.ListN.{length}
+use native.Mathlib.Omega.{arith}
+use Prim.Native.Nat.{ℕ, _+_, _<_, _≤_}
+use mathlib.Core.Path.{_≡_, refl, sym, _∙_, ap}
+use borrow.Author.Needs.{needs}
+use Rattle.isdbs_phy.proofs.answers.space_answer.Statement.{statement}
+use Rattle.isdbs_phy.proofs.answers.space_answer.Tie as tie
+use Rattle.isdbs_phy.proofs.answers.space_answer.Reads as reads
+use Rattle.isdbs_phy.proofs.answers.space_answer.Lts as lts
+use Rattle.isdbs_phy.proofs.answers.frame_size.Reads as frame-size-reads
+
+-- src/answers.rt:108:9
+returns : tie.Need-returns
+returns c = rw (lt-ltb _ _ (c .if1 .taken))
+
+-- src/answers.rt:110:9
+frame-size-requires : tie.Need-frame-size-requires
+frame-size-requires c κs = search needs
+
+-- src/answers.rt:111:15
+add-if2 : tie.Need-add-if2
+add-if2 c = let st = c .before .before .before in let s = laid (st .args .t) (st .pre) .steps in let e = c .before .frame-size .ensures .1 in record { fits = omega arith }
+
+-- src/answers.rt:112:9
+returns-2 : tie.Need-returns-2
+returns-2 c =
+    let st = c .before .before .before .before in
+    let e = c .before .before .frame-size .ensures .1 in
+    let g = c .if2 .taken in
+    rw (le-ltb _ _ (c .before .before .before .if1 .left), lt-ltb (st .args .bits) (frameSteps (st .args .t) + 16) (omega arith))
+
+-- src/answers.rt:115:9
+returns-3 : tie.Need-returns-3
+returns-3 c =
+    let st = c .before .before .before .before .before .before in
+    let d = c .before .before .before .before .frame-size .ensures .0 in
+    let e = c .before .before .before .before .frame-size .ensures .1 in
+    let f = c .before .before .if2 .left in
+    let g = c .if3 .taken in
+    rw (le-ltb _ _ (c .before .before .before .before .before .if1 .left), le-ltb (st .args .bits) (frameSteps (st .args .t) + 16) (omega arith), lt-ltb (st .args .bytes) (loadBytes (st .args .t)) (omega arith))
+
+-- src/answers.rt:103:1
+returns-4 : tie.Need-returns-4
+returns-4 c =
+    let st = c .before .before .before .before .before .before in
+    let d = c .before .before .before .before .frame-size .ensures .0 in
+    let e = c .before .before .before .before .frame-size .ensures .1 in
+    let f = c .before .before .if2 .left in
+    let g = c .if3 .left in
+    rw (le-ltb _ _ (c .before .before .before .before .before .if1 .left), le-ltb (st .args .bits) (frameSteps (st .args .t) + 16) (omega arith), le-ltb (st .args .bytes) (loadBytes (st .args .t)) (omega arith))
+
+pub space-answer-spec : {M : Type 1} → statement M
+space-answer-spec =
+    tie.close (tie.spec returns frame-size-requires add-if2 returns-2 returns-3 returns-4)

@@ -1,0 +1,90 @@
+use Rattle.isdbs_phy.proofs.Codes.{places-1, places-2, places-3, places-4, places-5, places-6, places-7}
+use Rattle.isdbs_phy.specs.Layout.{sentOrder, placeIn}
+use mathlib.Core.Path.{_≡_, refl, sym, _∙_, ap}
+use borrow.Author.Needs.{needs}
+use Rattle.isdbs_phy.proofs.metrics.code_of.Statement.{statement}
+use Rattle.isdbs_phy.proofs.metrics.code_of.Tie as tie
+use Rattle.isdbs_phy.proofs.metrics.code_of.Reads as reads
+use Rattle.isdbs_phy.proofs.metrics.code_of.Lts as lts
+
+-- src/metrics.rt:40:25
+enum-told : tie.Need-enum-told
+enum-told c = search needs
+
+-- src/metrics.rt:47:25
+enum-told-2 : tie.Need-enum-told-2
+enum-told-2 c = search needs
+
+-- src/metrics.rt:54:25
+enum-told-3 : tie.Need-enum-told-3
+enum-told-3 c = search needs
+
+-- src/metrics.rt:61:25
+enum-told-4 : tie.Need-enum-told-4
+enum-told-4 c = search needs
+
+-- src/metrics.rt:68:25
+enum-told-5 : tie.Need-enum-told-5
+enum-told-5 c = search needs
+
+-- src/metrics.rt:75:25
+enum-told-6 : tie.Need-enum-told-6
+enum-told-6 c = search needs
+
+-- src/metrics.rt:82:25
+enum-told-7 : tie.Need-enum-told-7
+enum-told-7 c = search needs
+
+-- src/metrics.rt:34:1
+returns : tie.Need-returns
+unfolding sentOrder placeIn
+returns c = rw (c .enum-told .given .1) (refl, record { modulation = refl; period = refl; count = refl; places = places-1 })
+
+-- src/metrics.rt:34:1
+returns-2 : tie.Need-returns-2
+unfolding sentOrder placeIn
+returns-2 c = rw (c .enum-told2 .given .1) (refl, record { modulation = refl; period = refl; count = refl; places = places-2 })
+
+-- src/metrics.rt:34:1
+returns-3 : tie.Need-returns-3
+unfolding sentOrder placeIn
+returns-3 c = rw (c .enum-told3 .given .1) (refl, record { modulation = refl; period = refl; count = refl; places = places-3 })
+
+-- src/metrics.rt:34:1
+returns-4 : tie.Need-returns-4
+unfolding sentOrder placeIn
+returns-4 c = rw (c .enum-told4 .given .1) (refl, record { modulation = refl; period = refl; count = refl; places = places-4 })
+
+-- src/metrics.rt:34:1
+returns-5 : tie.Need-returns-5
+unfolding sentOrder placeIn
+returns-5 c = rw (c .enum-told5 .given .1) (refl, record { modulation = refl; period = refl; count = refl; places = places-5 })
+
+-- src/metrics.rt:34:1
+returns-6 : tie.Need-returns-6
+unfolding sentOrder placeIn
+returns-6 c = rw (c .enum-told6 .given .1) (refl, record { modulation = refl; period = refl; count = refl; places = places-6 })
+
+-- src/metrics.rt:34:1
+returns-7 : tie.Need-returns-7
+unfolding sentOrder placeIn
+returns-7 c = rw (c .enum-told7 .given .1) (refl, record { modulation = refl; period = refl; count = refl; places = places-7 })
+
+pub code-of-spec : {M : Type 1} → statement M
+code-of-spec =
+    tie.close
+    (tie.spec
+    enum-told
+    enum-told-2
+    enum-told-3
+    enum-told-4
+    enum-told-5
+    enum-told-6
+    enum-told-7
+    returns
+    returns-2
+    returns-3
+    returns-4
+    returns-5
+    returns-6
+    returns-7)

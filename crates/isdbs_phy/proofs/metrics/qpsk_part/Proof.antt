@@ -1,0 +1,52 @@
+use borrow.Author.Tests.{eq-eqb, ne-eqb}
+use borrow.Author.Needs.{needs}
+use Rattle.isdbs_phy.proofs.metrics.qpsk_part.Statement.{statement}
+use Rattle.isdbs_phy.proofs.metrics.qpsk_part.Tie as tie
+use Rattle.isdbs_phy.proofs.metrics.qpsk_part.Reads as reads
+use Rattle.isdbs_phy.proofs.metrics.qpsk_part.Lts as lts
+use Rattle.isdbs_phy.proofs.demod.mirror.Reads as mirror-reads
+
+-- src/metrics.rt:141:16
+cast-real : tie.Need-cast-real
+cast-real c = search needs
+
+-- src/metrics.rt:143:9
+mul-result : tie.Need-mul-result
+mul-result c = search needs
+
+-- src/metrics.rt:143:9
+shared-slice-read-result : tie.Need-shared-slice-read-result
+shared-slice-read-result c = search needs
+
+-- src/metrics.rt:145:29
+mul-mirror : tie.Need-mul-mirror
+mul-mirror c = search needs
+
+-- src/metrics.rt:145:29
+shared-slice-read-mirror : tie.Need-shared-slice-read-mirror
+shared-slice-read-mirror c = search needs
+
+-- src/metrics.rt:145:9
+mirror-requires : tie.Need-mirror-requires
+mirror-requires c κs = search needs
+
+-- src/metrics.rt:137:1
+returns : tie.Need-returns
+returns c = rw (eq-eqb _ _ (c .before .if1 .taken))
+
+-- src/metrics.rt:137:1
+returns-2 : tie.Need-returns-2
+returns-2 c = rw (ne-eqb _ _ (c .before .before .if1 .left)) (c .mirror .ensures)
+
+pub qpsk-part-spec : {M : Type 1} → statement M
+qpsk-part-spec =
+    tie.close
+    (tie.spec
+    cast-real
+    mul-result
+    shared-slice-read-result
+    mul-mirror
+    shared-slice-read-mirror
+    mirror-requires
+    returns
+    returns-2)

@@ -1,0 +1,58 @@
+-- The refusal rows of `decode_frame`, and what an accepted call leaves. Document 01, "Where a call is turned back". Assumes nothing.
+use mathlib.Core.Path.{_≡_}
+use mathlib.Core.Bool.{Bool, true, false, cond, not, _&&_, _||_}
+use mathlib.Core.List.{List, [], _∷_, _++_}
+use Prim.Native.Nat.{ℕ, zero, suc, _+_, _*_}
+use lib.Dec.{ltb}
+use lib.ListN.{length, getD, take, replicate}
+use lib.Ieee.{Float, nan, binary32, binary64, neg, lt, le, ofBits}
+use Rattle.refusal.specs.Rows.{Row}
+use Rattle.refusal.specs.declared.Answer.the-variants.{Symbols, Sample, Scale, Space}
+use Rattle.refusal.specs.declared.Answer.{Answer}
+use Rattle.isdbs_core.specs.Answers.{accepted}
+use Rattle.isdbs_phy.specs.declared.demod.FrameDecoded.{FrameDecoded}
+use Rattle.isdbs_phy.specs.declared.demod.FrameDecoded.the-variants.{Decoded, Refused}
+use Rattle.isdbs_core.specs.declared.tmcc.Table.{Table}
+use Rattle.isdbs_core.specs.Tables.{tableRows}
+use Rattle.isdbs_core.specs.RunsOf.{frameSteps, loadBytes}
+
+-- from -limit to limit, both included; no comparison holds of a NaN
+abbrev pub within : Float → Float → Bool
+within limit x = le (neg limit) x && le x limit
+
+-- one of the first n values is "not finite; beyond" the limit
+unfoldable pub someBeyond : Float → List Float → ℕ → Bool
+someBeyond limit xs zero = false
+someBeyond limit xs (suc n) = someBeyond limit xs n || not (within limit (getD xs n nan))
+
+-- "beyond 1,024 for a frame part"
+abbrev pub partLimit : Float
+partLimit = ofBits binary64 0x4090_0000_0000_0000
+
+-- 8: "not above 0, or above 64"
+abbrev pub badScale : Float → Bool
+badScale s = not (lt (ofBits binary32 0) s) || lt (ofBits binary32 0x4280_0000) s
+
+-- 9: "a lent output or decision slice shorter than this call writes; decisions always need 4,096 + traceback"
+abbrev pub shortSpace : Table → ℕ → ℕ → ℕ → Bool
+shortSpace t decisions bits bytes = ltb decisions 4224 || (ltb bits (frameSteps t + 16) || ltb bytes (loadBytes t))
+
+-- the rows of `decode_frame`, over the lengths of the lent outputs
+abbrev pub decodeRows : Table → List Float → List Float → Float → ℕ → ℕ → ℕ → List Row
+decodeRows t re im scale decisions bits bytes =
+    tableRows t
+    ++ (Symbols, ltb (length re) 38976 || ltb (length im) 38976)
+    ∷ (Sample, someBeyond partLimit re 38976 || someBeyond partLimit im 38976)
+    ∷ (Scale, badScale scale)
+    ∷ (Space, shortSpace t decisions bits bytes)
+    ∷ []
+
+-- the answer where no row holds: the bytes and the steps; else the row
+abbrev pub frameAnswer : Answer → Table → FrameDecoded
+frameAnswer a t = cond (accepted a) (Decoded (loadBytes t) (frameSteps t)) (Refused a)
+
+-- "no buffer changes"
+pub record Kept (decisions₀ decisions bits₀ bits bytes₀ bytes : List ℕ) : Type 0 where
+  pub words : decisions ≡ decisions₀
+  pub decoded : bits ≡ bits₀
+  pub load : bytes ≡ bytes₀

@@ -1,0 +1,109 @@
+/* ISDB-S frames and the inner code of ISDB: the calls of crate isdb_c.
+ *
+ * Link target/staticlib/libisdb_c.a, which `rt staticlib isdb_c` writes (x86-64 Linux). No call allocates, keeps anything or prints.
+ *
+ * A slice is a pointer and a length, in elements. A pointer must be good for that many elements, also where the length is 0 (it is then not read);
+ * slices that a call writes must not overlap others.
+ *
+ * Every call but isdbs_soft returns 0 where it accepts, else the number of the first row of this table that holds, from the top. Refused, every lent
+ * number and slice is as before. Accepted, what is not said to be written is as before.
+ *
+ *   1 table      slot counts sum above 48
+ *   2 position   bit above 1,000,000; word outside 1 to 7
+ *   3 traceback  above 1,024, or 0 in a handed state
+ *   4 state      held count 4,096 + traceback or more; encoder state above 63; path value not finite or beyond 2^32
+ *   5 length     metrics not in fours, soft values not in twos, stream not whole periods; path values not 64 or an unknown rate (both before all else)
+ *   6 symbols    under 38,976 of either part
+ *   7 sample     not finite; beyond 1,024 for a frame part, 1,048,576 for a stream value
+ *   8 scale      not above 0, or above 64
+ *   9 space      an output or decision slice shorter than the call writes; decisions always need 4,096 + traceback
+ *
+ * A table is one number: entry i (0 to 3) has its word in bits 16i to 16i+7, of which the low 4 count, and its slot count in bits 16i+8 to 16i+15.
+ * Words 1 to 7 are BPSK 1/2, QPSK 1/2, 2/3, 3/4, 5/6, 7/8 and TC8PSK 2/3; the others send nothing. 15 with 0 slots is an entry not in use.
+ *
+ * A mapping is one byte: bit 0 conjugate, bit 1 qpsk_p1_on_q, bit 2 tc8psk_c1_is_y (4 is the usual one). Its other bits do not count.
+ *
+ * Example:
+ *
+ *   #include <stdio.h>
+ *   #include "isdb.h"
+ *
+ *   int main(void) {
+ *       uint64_t table = 7 | 44 << 8 | (uint64_t)(1 | 4 << 8) << 16 | (uint64_t)0x000f000f << 32;  // 44 slots of TC8PSK, then 4 of BPSK
+ *       uint32_t runs[24], count;
+ *       uint32_t answer = isdbs_runs(table, runs, 24, &count);
+ *       if (answer != 0) {
+ *           printf("refused: row %u\n", answer);
+ *           return 1;
+ *       }
+ *       for (uint32_t i = 0; i < count; i++)
+ *           printf("word %u: symbols %u to %u\n", runs[6 * i], runs[6 * i + 4], runs[6 * i + 5] - 1);
+ *       return 0;
+ *   }
+ *
+ *   cc -I include example.c target/staticlib/libisdb_c.a
+ */
+#ifndef ISDB_H
+#define ISDB_H
+
+#include <stddef.h>
+#include <stdint.h>
+
+#ifdef __cplusplus
+extern "C" {
+#endif
+
+/* The f32 nearest to x, ties to even, small values included. Any x. */
+float isdbs_soft(double x);
+
+/* The words of the 48 slots, 0 for a slot that is not sent. Writes 48 places. Rows 1, 9. */
+uint32_t isdbs_slot_combinations(uint64_t table, uint8_t *out, size_t out_len);
+
+/* The runs of the frame, in order. For each: word, slot start, slot end, valid slots, symbol start, symbol end; an end is one past the last.
+ * Writes 6 numbers for each run, and how many runs there are to *count. Needs 24 places. Rows 1, 9. */
+uint32_t isdbs_runs(uint64_t table, uint32_t *out, size_t out_len, uint32_t *count);
+
+/* The symbol, from the start of its run, that carries the first coded bit of information bit `bit`. Row 2. */
+uint32_t isdbs_bit_symbol(uint8_t word, uint64_t bit, uint64_t *out);
+
+/* The 38,976 points of a frame as real and imaginary parts, from its bytes (203 for each valid slot; missing bits are 0, surplus ones ignored), the
+ * encoder starting at `state`: 0 for the first frame of a superframe and 63 for the others. *end is its state after the last bit. Points outside
+ * every run are (0, 0). Needs 38,976 places of either part and writes as many. Rows 1, 4, 9. */
+uint32_t isdbs_encode_frame(const uint8_t *bytes, size_t bytes_len, uint64_t table, uint8_t mapping, uint8_t state,
+                            double *re, size_t re_len, double *im, size_t im_len, uint8_t *end);
+
+/* The decoder of the code of constraint length 7 with generators 171 and 133 octal. Its state is the caller's: 64 path values (0 at a known start
+ * state and -1,000,000 elsewhere, or all 0), how many decision words are held (0) and the traceback (1 to 1,024). The held words are the first of
+ * `decisions`. A call takes its steps one by one; as 4,096 + traceback words are held, 4,096 bits leave to `out`, one in a byte. *count is how many.
+ *
+ * isdb_push          two soft values a step, above 0 for bit 0.   Rows 3, 4, 5, 7, 9.
+ * isdb_push_metrics  four metrics a step, that of the outputs (X, Y) at 2X + Y.   Rows 3, 4, 5, 7, 9.
+ * isdb_push_known    a known bit a step, the low bit of its byte.   Rows 3, 4, 9.
+ * isdb_flush         no steps: all held bits leave.   Rows 3, 4, 9.
+ */
+uint32_t isdb_push(float *pm, size_t pm_len, uint64_t *held, uint64_t traceback, const float *pairs, size_t pairs_len,
+                   uint64_t *decisions, size_t decisions_len, uint8_t *out, size_t out_len, uint64_t *count);
+uint32_t isdb_push_metrics(float *pm, size_t pm_len, uint64_t *held, uint64_t traceback, const float *metrics, size_t metrics_len,
+                           uint64_t *decisions, size_t decisions_len, uint8_t *out, size_t out_len, uint64_t *count);
+uint32_t isdb_push_known(float *pm, size_t pm_len, uint64_t *held, uint64_t traceback, const uint8_t *bits, size_t bits_len,
+                         uint64_t *decisions, size_t decisions_len, uint8_t *out, size_t out_len, uint64_t *count);
+uint32_t isdb_flush(float *pm, size_t pm_len, uint64_t *held, uint64_t traceback,
+                    uint64_t *decisions, size_t decisions_len, uint8_t *out, size_t out_len, uint64_t *count);
+
+/* The punctured code of ISDB-T. Rates 0 to 4: 1/2, 2/3, 3/4, 5/6, 7/8. A period is 1, 2, 3, 5, 7 bits and 2, 3, 4, 6, 8 sent ones.
+ *
+ * isdbt_encode_punctured  encodes bits, the low bit of each byte, from *state on and leaves the state there. Rows 4, 5, 9.
+ * isdbt_depuncture        puts soft values back to their places among the mother code's, 0 at those not sent. Rows 5, 9.
+ * isdbt_decode_punctured  decodes a block whole from state 0; traceback 0 acts as 1. The first 4,096 + traceback words of `decisions` are 0
+ *                         afterwards. Rows 3, 5, 7, 9.
+ */
+uint32_t isdbt_encode_punctured(uint8_t rate, uint8_t *state, const uint8_t *bits, size_t bits_len, uint8_t *out, size_t out_len, uint64_t *count);
+uint32_t isdbt_depuncture(uint8_t rate, const float *llrs, size_t llrs_len, float *out, size_t out_len, uint64_t *count);
+uint32_t isdbt_decode_punctured(uint8_t rate, const float *llrs, size_t llrs_len, uint64_t traceback,
+                                uint64_t *decisions, size_t decisions_len, uint8_t *out, size_t out_len, uint64_t *count);
+
+#ifdef __cplusplus
+}
+#endif
+
+#endif
