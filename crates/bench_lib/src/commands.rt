@@ -1,7 +1,5 @@
 // The commands: make, read and compare.
 use crate::files;
-use crate::frames;
-use crate::frames::FrameDecoded;
 use crate::report;
 use crate::report::Valid;
 use crate::text::count;
@@ -18,7 +16,10 @@ use crate::words::same;
 use isdbs_core::slots;
 use isdbs_core::tmcc::Table;
 use isdbs_phy::demod::DemodOptions;
+use isdbs_phy::demod::FrameDecoded;
 use isdbs_phy::demod::Mapping;
+use isdbs_phy::demod::decode_frame;
+use isdbs_phy::demod::encode_frame;
 use refusal::Answer;
 ghost use Prim.Native.Nat.{_<_, _≤_, _*_};
 
@@ -136,7 +137,7 @@ fn load_line(name: &[u8], n: usize, carried: usize) {
 fn make_frame(s: Setting, load: &[u8], name: &[u8], re: &mut [f64; 38976], im: &mut [f64; 38976]) {
     let t = s.table;
     let m = s.mapping;
-    let answer = frames::encode_frame(load, t, s.first, m, re, im);
+    let answer = encode_frame(load, t, s.first, m, re, im);
     if refusal::number(answer) != 0 {
         report::refuse(answer);
         return;
@@ -283,7 +284,7 @@ fn read_frame(
         llr_scale: c.llr_scale,
     };
     let n = points.count;
-    let done = frames::decode_frame(
+    let done = decode_frame(
         front_parts(re, n),
         front_parts(im, n),
         t,

@@ -1,6 +1,4 @@
 // The demonstration on built-in data.
-use crate::frames;
-use crate::frames::FrameDecoded;
 use crate::report;
 use crate::text::count;
 use crate::text::text;
@@ -9,7 +7,10 @@ use isdbs_core::tmcc;
 use isdbs_core::tmcc::Entry;
 use isdbs_core::tmcc::Table;
 use isdbs_phy::demod::DemodOptions;
+use isdbs_phy::demod::FrameDecoded;
 use isdbs_phy::demod::Mapping;
+use isdbs_phy::demod::decode_frame;
+use isdbs_phy::demod::encode_frame;
 
 // The bytes of the table's 45 valid slots.
 const CARRIED: usize = 9_135;
@@ -62,7 +63,7 @@ fn read_line(steps: usize) {
 // Makes the frame of the load.
 fn make(load: &[u8], re: &mut [f64; 38976], im: &mut [f64; 38976]) -> bool {
     let m = Mapping::default();
-    let answer = frames::encode_frame(load, table(), true, m, re, im);
+    let answer = encode_frame(load, table(), true, m, re, im);
     if refusal::number(answer) != 0 {
         report::refuse(answer);
         return false;
@@ -85,7 +86,7 @@ fn read(
     bytes: &mut [u8; 9745],
 ) {
     let o = DemodOptions::default();
-    let done = frames::decode_frame(re, im, table(), true, o, decisions, bits, bytes);
+    let done = decode_frame(re, im, table(), true, o, decisions, bits, bytes);
     match done {
         FrameDecoded::Decoded(_, steps) => {
             read_line(steps);

@@ -55,12 +55,13 @@ fn failed(what: &[u8], name: &[u8], error: i32) {
     text(b"\n");
 }
 
-fn next(j: usize) -> usize {
+// The next place of a buffer, or its end.
+pub(crate) fn next(j: usize) -> usize {
     if j < 4096 { j + 1 } else { j }
 }
 
 // Puts src into dst from `at` on, as far as it goes, and answers where it ends.
-pub fn put(dst: &mut [u8; 4096], at: usize, src: &[u8]) -> usize {
+pub(crate) fn put(dst: &mut [u8; 4096], at: usize, src: &[u8]) -> usize {
     let mut i: usize = 0;
     let mut j = at;
     while i < src.len() && j < 4096 {

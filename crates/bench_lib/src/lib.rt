@@ -3,7 +3,6 @@
 mod commands;
 mod demonstration;
 mod files;
-mod frames;
 mod points;
 mod report;
 mod text;
@@ -40,14 +39,10 @@ fn run_on(
         commands::compare(line, load, bytes);
         return;
     }
-    if line.len() == 0 {
-        demonstration::demonstrate(re, im, decisions, bits, bytes, load);
-        return;
-    }
     commands::misused(b"there is no command", command);
 }
 
-// Runs the command of a line, or the demonstration where the line is empty.
+// Runs the command of a line.
 pub fn run(line: &[u8]) {
     let mut re = [0.0f64; 38976];
     let mut im = [0.0f64; 38976];
@@ -64,4 +59,36 @@ pub fn run(line: &[u8]) {
         &mut bytes,
         &mut load,
     );
+}
+
+// Runs the demonstration.
+pub fn demonstrate() {
+    let mut re = [0.0f64; 38976];
+    let mut im = [0.0f64; 38976];
+    let mut decisions = [0u64; 4224];
+    let mut bits = [0u8; 68224];
+    let mut bytes = [0u8; 9745];
+    let mut load = [0u8; 9745];
+    demonstration::demonstrate(
+        &mut re,
+        &mut im,
+        &mut decisions,
+        &mut bits,
+        &mut bytes,
+        &mut load,
+    );
+}
+
+// Runs the command in the first n bytes of a buffer.
+pub fn run_first(line: &[u8; 4096], n: usize) {
+    if n >= 4096 {
+        commands::misused(b"the words are longer than 4,095 bytes together", b"");
+        return;
+    }
+    run(words::front(line, n));
+}
+
+// The place after a byte that separates words.
+pub fn after_separator(at: usize) -> usize {
+    files::next(at)
 }

@@ -6,7 +6,6 @@ use lib.Signed.{ltZ, nonNeg}
 use mir.Syntax.{w32, w64}
 use mir.Val.{toZ, ofZ}
 use mir.Facts.{fits-natAbs, sfits-toZ, fits-ofZ}
-
 use borrow.Author.Needs.{needs}
 use Rattle.bench_lib.proofs.files.unsigned.Statement.{statement}
 use Rattle.bench_lib.proofs.files.unsigned.Tie as tie
