@@ -1,0 +1,94 @@
+// The bench program's commands, on a line of words that are separated by 0 bytes. Reports go to standard output; the last line is ok, or
+// begins with refused or failed.
+mod commands;
+mod demonstration;
+mod files;
+mod points;
+mod report;
+mod text;
+mod words;
+
+use words::part;
+use words::same;
+
+// Puts src into dst from `at` on, as far as it goes, and answers where it ends.
+pub fn put(dst: &mut [u8; 4096], at: usize, src: &[u8]) -> usize {
+    files::put(dst, at, src)
+}
+
+// Runs the command of a line on lent buffers.
+fn run_on(
+    line: &[u8],
+    re: &mut [f64; 38976],
+    im: &mut [f64; 38976],
+    decisions: &mut [u64; 4224],
+    bits: &mut [u8; 68224],
+    bytes: &mut [u8; 9745],
+    load: &mut [u8; 9745],
+) {
+    let command = part(line, 0, 0);
+    if same(command, b"make") {
+        commands::make(line, re, im, load);
+        return;
+    }
+    if same(command, b"read") {
+        commands::read(line, re, im, decisions, bits, bytes);
+        return;
+    }
+    if same(command, b"compare") {
+        commands::compare(line, load, bytes);
+        return;
+    }
+    commands::misused(b"there is no command", command);
+}
+
+// Runs the command of a line.
+pub fn run(line: &[u8]) {
+    let mut re = [0.0f64; 38976];
+    let mut im = [0.0f64; 38976];
+    let mut decisions = [0u64; 4224];
+    let mut bits = [0u8; 68224];
+    let mut bytes = [0u8; 9745];
+    let mut load = [0u8; 9745];
+    run_on(
+        line,
+        &mut re,
+        &mut im,
+        &mut decisions,
+        &mut bits,
+        &mut bytes,
+        &mut load,
+    );
+}
+
+// Runs the demonstration.
+pub fn demonstrate() {
+    let mut re = [0.0f64; 38976];
+    let mut im = [0.0f64; 38976];
+    let mut decisions = [0u64; 4224];
+    let mut bits = [0u8; 68224];
+    let mut bytes = [0u8; 9745];
+    let mut load = [0u8; 9745];
+    demonstration::demonstrate(
+        &mut re,
+        &mut im,
+        &mut decisions,
+        &mut bits,
+        &mut bytes,
+        &mut load,
+    );
+}
+
+// Runs the command in the first n bytes of a buffer.
+pub fn run_first(line: &[u8; 4096], n: usize) {
+    if n >= 4096 {
+        commands::misused(b"the words are longer than 4,095 bytes together", b"");
+        return;
+    }
+    run(words::front(line, n));
+}
+
+// The place after a byte that separates words.
+pub fn after_separator(at: usize) -> usize {
+    files::next(at)
+}

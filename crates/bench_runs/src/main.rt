@@ -1,0 +1,141 @@
+// The bench program's commands, run one after another on files of this folder: what is written is held to the file stdout.
+use libc::STDOUT_FILENO;
+
+// A command's words are separated by 0 bytes.
+fn separated(b: u8) -> u8 {
+    if b == b' ' { 0 } else { b }
+}
+
+fn separate(line: &mut [u8; 4096]) {
+    let mut i: usize = 0;
+    while i < 4096 {
+        line[i] = separated(line[i]);
+        i = i + 1;
+    }
+}
+
+fn text(s: &[u8]) {
+    io::write_all(STDOUT_FILENO, s);
+}
+
+// Shows a command, and runs it.
+fn bench(words: &[u8]) {
+    text(b"$ bench ");
+    text(words);
+    text(b"\n");
+    let mut line = io::buffer();
+    let n = bench_lib::put(&mut line, 0, words);
+    separate(&mut line);
+    bench_lib::run_first(&line, n);
+    text(b"\n");
+}
+
+// Says what is done to a file.
+fn note(what: &[u8]) {
+    text(b"# ");
+    text(what);
+    text(b"\n");
+}
+
+// Writes bytes into a file at an offset.
+fn patch(name: &[u8], at: i64, bytes: &[u8]) {
+    let file = os::open_update(name);
+    if file < 0 {
+        note(b"no such file to patch");
+        return;
+    }
+    libc::pwrite(file, bytes, at);
+    libc::close(file);
+}
+
+// Cuts a file.
+fn cut(name: &[u8], size: i64) {
+    let file = os::open_update(name);
+    if file < 0 {
+        note(b"no such file to cut");
+        return;
+    }
+    libc::ftruncate(file, size);
+    libc::close(file);
+}
+
+fn make_and_read() {
+    bench(b"make 7:44,1:4 001 first load frame.cf64");
+    bench(b"read 7:44,1:4 001 first frame.cf64 bytes");
+    bench(b"compare 7:44,1:4 load bytes");
+    bench(b"make 7:44,1:4 110 other load frame.cf32");
+    bench(b"read 7:44,1:4 110 other frame.cf32 bytes32 unknown scale 0.5");
+    bench(b"compare 7:44,1:4 load bytes32");
+}
+
+fn other_tables() {
+    bench(b"make 15:10,2:2,6:20,1:3 001 other load mixed.cf64");
+    bench(b"read 15:10,2:2,6:20,1:3 001 other mixed.cf64 mixed");
+    bench(b"make 6:48 001 first load full.cf64");
+    bench(b"read 6:48 001 first full.cf64 full scale 8");
+    bench(b"make 0:0 001 first load none.cf64");
+}
+
+fn refusals() {
+    bench(b"make 7:44,1:5 001 first load none.cf64");
+    bench(b"read 7:49 001 first frame.cf64 none");
+    bench(b"compare 7:255,7:255 load bytes");
+    bench(b"read 7:44,1:4 001 first frame.cf64 none scale 0");
+    bench(b"read 7:44,1:4 001 first frame.cf64 none scale 64.001");
+    bench(b"read 7:44,1:4 001 first load none");
+    bench(b"compare 7:44,1:4 load mixed");
+    bench(b"read 7:44,1:4 001 first frame.cf64 frame.cf64");
+    bench(b"make 7:44,1:4 001 first load ./load");
+}
+
+fn damaged() {
+    note(b"point 1,203's imaginary part becomes a NaN");
+    patch(b"frame.cf64", 19256, b"\x00\x00\x00\x00\x00\x00\xf8\x7f");
+    bench(b"read 7:44,1:4 001 first frame.cf64 none");
+    note(b"point 7's real part becomes minus infinity");
+    patch(b"frame.cf64", 112, b"\x00\x00\x00\x00\x00\x00\xf0\xff");
+    bench(b"read 7:44,1:4 001 first frame.cf64 none");
+    note(b"point 7's real part becomes 1,025");
+    patch(b"frame.cf64", 112, b"\x00\x00\x00\x00\x00\x04\x90\x40");
+    bench(b"read 7:44,1:4 001 first frame.cf64 none");
+    note(b"a part of the file is text");
+    patch(
+        b"frame.cf32",
+        80000,
+        b"the tape was overwritten here, from a point in the middle of the frame on, by something that is no frame at all",
+    );
+    bench(b"read 7:44,1:4 110 other frame.cf32 bytes32");
+    note(b"the file ends 8 bytes before its last point does");
+    cut(b"full.cf64", 623608);
+    bench(b"read 6:48 001 first full.cf64 none");
+}
+
+fn differences() {
+    note(b"bytes 5, 300 and 301 of what was read change");
+    patch(b"bytes", 5, b"\xff");
+    patch(b"bytes", 300, b"\xff\xff");
+    bench(b"compare 7:44,1:4 load bytes");
+    bench(b"compare 7:44,1:4 load none");
+}
+
+fn misuse() {
+    bench(b"make 7:44 001 first load");
+    bench(b"read 7:44,1:x 001 first frame.cf64 none");
+    bench(b"read 7:44,1:4 012 first frame.cf64 none");
+    bench(b"read 7:44,1:4 001 second frame.cf64 none");
+    bench(b"read 7:44,1:4 001 first frame.cf64 none scale 1e3");
+    bench(b"play 7:44,1:4");
+    bench(b"read 7:44,1:4 001 first missing.cf64 none");
+    bench(b"read 7:44,1:4 001 first . none");
+    bench(b"make 7:44,1:4 001 first load missing/frame.cf64");
+    bench(b"make 7:44,1:4 001 first load .");
+}
+
+fn main() {
+    make_and_read();
+    other_tables();
+    refusals();
+    differences();
+    damaged();
+    misuse();
+}
