@@ -387,12 +387,8 @@ fn compare_slots(t: Table, v: usize, sent: &[u8], read: &[u8]) -> usize
     n
 }
 
-// The refusal of a file that is not a load of the table.
-fn refuse_load(answer: Answer, name: &[u8], n: usize) {
-    text(b"refused ");
-    count(refusal::number(answer) as usize);
-    text(b": ");
-    quoted(name);
+// How a file's bytes differ from a load of the table.
+fn load_reason(n: usize) {
     if n >= 9745 {
         text(b" has more than 9,744 bytes");
     } else {
@@ -401,6 +397,20 @@ fn refuse_load(answer: Answer, name: &[u8], n: usize) {
         text(b" bytes");
     }
     text(b", which is not what the table carries\n");
+}
+
+// The refusal of a file that is not a load of the table.
+fn refuse_load(answer: Answer, name: &[u8], n: usize) {
+    text(b"refused ");
+    count(refusal::number(answer) as usize);
+    text(b": ");
+    match answer {
+        Answer::Position => text(b"the table has no valid slot to compare\n"),
+        _ => {
+            quoted(name);
+            load_reason(n);
+        }
+    }
 }
 
 // Whether the bytes are a whole load of the table; else says why not.

@@ -25,6 +25,7 @@ fn reason(error: i32) {
         libc::ENOTDIR => text(b"a part of its path is no folder"),
         libc::EISDIR => text(b"it is a folder"),
         libc::ENOSPC => text(b"the disk is full"),
+        libc::EFBIG => text(b"it would be larger than a file may be"),
         libc::EROFS => text(b"the disk cannot be written"),
         libc::ENAMETOOLONG => text(b"its name is too long"),
         _ => other(error),
@@ -111,8 +112,14 @@ fn link(file: u64) -> [u8; 4096]
     ended(front_of(&path, n))
 }
 
-// Whether two open files lie at one place.
-fn same_place(a: u64, b: u64) -> bool {
+// Where two open files lie.
+enum Places {
+    Same,
+    Apart,
+    Unknown,
+}
+
+fn compare_places(a: u64, b: u64) -> Places {
     let la = link(a);
     let lb = link(b);
     let mut pa = io::buffer();
@@ -120,9 +127,35 @@ fn same_place(a: u64, b: u64) -> bool {
     let na = io::count(libc::readlink(&la, &mut pa), &pa);
     let nb = io::count(libc::readlink(&lb, &mut pb), &pb);
     if na == 0 {
-        return false;
+        return Places::Unknown;
     }
-    same(front(&pa, na), front(&pb, nb))
+    if nb == 0 {
+        return Places::Unknown;
+    }
+    if same(front(&pa, na), front(&pb, nb)) {
+        Places::Same
+    } else {
+        Places::Apart
+    }
+}
+
+// Whether the output is known to be another file than the input; else says that it is not.
+fn is_apart(places: Places, name: &[u8]) -> bool {
+    match places {
+        Places::Apart => true,
+        Places::Same => {
+            text(b"refused: the output ");
+            quoted(name);
+            text(b" is the input\n");
+            false
+        }
+        Places::Unknown => {
+            text(b"refused: the output ");
+            quoted(name);
+            text(b" is there already, and without /proc it cannot be told from the input\n");
+            false
+        }
+    }
 }
 
 // Whether a file may be written at this name: there is none yet, or it is a plain file and not the input.
@@ -136,13 +169,10 @@ fn may_write(name: &[u8], input: i32) -> bool {
         failed(b"write", name, error);
         return false;
     }
-    let is_input = same_place(unsigned(file), unsigned(input));
+    let places = compare_places(unsigned(file), unsigned(input));
     let is_plain = libc::fsync(file) == 0;
     libc::close(file);
-    if is_input {
-        text(b"refused: the output ");
-        quoted(name);
-        text(b" is the input\n");
+    if !is_apart(places, name) {
         return false;
     }
     if !is_plain {

@@ -84,6 +84,7 @@ fn refusals() {
     bench(b"read 7:44,1:4 001 first frame.cf64 none scale 64.001");
     bench(b"read 7:44,1:4 001 first load none");
     bench(b"compare 7:44,1:4 load mixed");
+    bench(b"compare 15:48 load bytes");
     bench(b"read 7:44,1:4 001 first frame.cf64 frame.cf64");
     bench(b"make 7:44,1:4 001 first load ./load");
 }
@@ -111,6 +112,19 @@ fn damaged() {
 }
 
 fn differences() {
+    note(b"points 100 to 103 become 0: the reading is accepted, and outside the margins");
+    patch(
+        b"frame.cf64",
+        1600,
+        b"\x00\x00\x00\x00\x00\x00\x00\x00\x00\x00\x00\x00\x00\x00\x00\x00\x00\x00\x00\x00\x00\x00\x00\x00\x00\x00\x00\x00\x00\x00\x00\x00",
+    );
+    patch(
+        b"frame.cf64",
+        1632,
+        b"\x00\x00\x00\x00\x00\x00\x00\x00\x00\x00\x00\x00\x00\x00\x00\x00\x00\x00\x00\x00\x00\x00\x00\x00\x00\x00\x00\x00\x00\x00\x00\x00",
+    );
+    bench(b"read 7:44,1:4 001 first frame.cf64 damaged");
+    bench(b"compare 7:44,1:4 load damaged");
     note(b"bytes 5, 300 and 301 of what was read change");
     patch(b"bytes", 5, b"\xff");
     patch(b"bytes", 300, b"\xff\xff");
