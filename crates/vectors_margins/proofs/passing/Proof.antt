@@ -1,0 +1,56 @@
+-- `passing` meets its contract. Assumes nothing.
+use Prim.Native.Nat.{_-_, _≤_}
+use mathlib.Core.Logic.{⊎-elim}
+use native.Mathlib.Omega.{arith}
+use borrow.Author.Needs.{needs}
+use Rattle.vectors_margins.proofs.passing.Statement.{statement}
+use Rattle.vectors_margins.proofs.passing.Tie as tie
+
+abbrev Inv-loop : tie.InvT-loop
+Inv-loop re₀ im₀ decisions₀ bits₀ load₀ bytes₀ tables agree₀ k₀ re im decisions bits load bytes agree k = (agree ≤ k) × (k ≤ 24)
+
+abbrev μ-loop : tie.MeasureT-loop
+μ-loop re₀ im₀ decisions₀ bits₀ load₀ bytes₀ tables agree₀ k₀ re im decisions bits load bytes agree k = 24 - k
+
+loop-holds : tie.Need-loop-holds Inv-loop μ-loop
+loop-holds c = search needs
+
+mul-passes : tie.Need-mul-passes Inv-loop μ-loop
+mul-passes c = search needs
+
+array-read-passes : tie.Need-array-read-passes Inv-loop μ-loop
+array-read-passes c = search needs
+
+passes-requires : tie.Need-passes-requires Inv-loop μ-loop
+passes-requires c κs = search needs
+
+add-agree : tie.Need-add-agree Inv-loop μ-loop
+add-agree c = search needs
+
+add-k : tie.Need-add-k Inv-loop μ-loop
+add-k c = search needs
+
+loop-less : tie.Need-loop-less Inv-loop μ-loop
+loop-less c = search needs
+
+loop-again : tie.Need-loop-again Inv-loop μ-loop
+loop-again c = ⊎-elim (λ w. rw (w .1) (omega arith, omega arith)) (λ w. rw (w .1) (omega arith, omega arith)) (c .if1 .came)
+
+returns : tie.Need-returns Inv-loop μ-loop
+returns c = search needs
+
+pub passing-spec : {M : Type 1} → statement M
+passing-spec =
+    tie.close
+    (tie.spec
+    Inv-loop
+    μ-loop
+    loop-holds
+    mul-passes
+    array-read-passes
+    passes-requires
+    add-agree
+    add-k
+    loop-less
+    loop-again
+    returns)

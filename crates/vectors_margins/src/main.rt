@@ -1,0 +1,335 @@
+// `read_frame` on 24 frames at the ends of the margins: every combination alone and mixed, left-over slots, words that stand for no combination, all mappings,
+// both kinds of frame. Each part of each point lies at one end or the other of its margin, as the generator draws. A line for each frame shows its table as
+// WORDxSLOTS and how many bytes of the load come back.
+ghost use Prim.Native.Nat.{_≤_, _<_};
+use isdbs_core::slots::runs;
+use isdbs_core::tmcc::Entry;
+use isdbs_core::tmcc::Table;
+use isdbs_phy::demod::FrameDecoded;
+use isdbs_phy::demod::Mapping;
+use isdbs_phy::demod::encode_frame;
+use libc::STDOUT_FILENO;
+use refusal::Answer;
+
+// The tables. Entry i has its word at bit 16 i and its slots at bit 16 i + 8. Frame k has the mapping k % 8.
+const TABLES: [u64; 24] = [
+    // each combination in all slots
+    0x3007,
+    0x3006,
+    0x3005,
+    0x3004,
+    0x3003,
+    0x3002,
+    0x3001,
+    // four in all slots
+    0x0801_0c05_0806_1407,
+    // each combination in some whole units, the rest of the slots free
+    0x0401,
+    0x2e02,
+    0x2d03,
+    0x2c04,
+    0x2f07,
+    0x2806,
+    0x2a05,
+    // two in all slots
+    0x0402_2c07,
+    // left-over slots
+    0x1007_0704_0a03_0f06,
+    // and words that stand for no combination: 8, 15 and 0
+    0x1007_0902_0a08_0d05,
+    0x0f06_1407_0901_040f,
+    0x0b04_0803_0700_0502,
+    // a word of which the low 4 bits count
+    0x0c03_0c01_0c05_0c17,
+    // small runs, free slots
+    0x000f_0906_0107_0501,
+    0x0f0f_0c06_0b05_0a04,
+    // a combination twice
+    0x0d02_0d07_0b01_0b07,
+];
+
+// The lists' generator.
+fn step(x: u64) -> u64 {
+    let a = x ^ (x << 13);
+    let b = a ^ (a >> 7);
+    b ^ (b << 17)
+}
+
+// Entry i of a table.
+fn entry(table: u64, i: u32) -> Entry
+    requires { ⌜ i < 4 ⌝ }
+{
+    let at = table >> (16 * i);
+    Entry {
+        word: (at % 256) as u8,
+        slots: (at / 256 % 256) as u8,
+    }
+}
+
+fn table_of(table: u64) -> Table {
+    let a = entry(table, 0);
+    let b = entry(table, 1);
+    let c = entry(table, 2);
+    let d = entry(table, 3);
+    Table {
+        entries: [a, b, c, d],
+    }
+}
+
+fn mapping_of(bits: u64) -> Mapping {
+    Mapping {
+        conjugate: bits % 2 == 1,
+        qpsk_p1_on_q: bits / 2 % 2 == 1,
+        tc8psk_c1_is_y: bits / 4 % 2 == 1,
+    }
+}
+
+// The kind of frame k: both kinds with each mapping.
+fn is_first(k: u64) -> bool {
+    k % 2 == k / 8 % 2
+}
+
+// The bytes of a table's load: 203 for each valid slot.
+fn load_bytes(table: u64) -> usize
+    ensures { λ r. ⌜ r ≤ 9744 ⌝ }
+{
+    let r = runs(table_of(table));
+    let valid = r.valid_slots;
+    valid % 49 * 203
+}
+
+// The first `count` bytes of the load of a seed.
+fn fill(bytes: &mut [u8; 9744], count: usize, seed: u64)
+    requires { ⌜ count ≤ 9744 ⌝ }
+{
+    let mut x = seed;
+    let mut i: usize = 0;
+    while i < count {
+        x = step(x);
+        bytes[i] = (x / 0x100_0000_0000_0000 % 256) as u8;
+        i += 1;
+    }
+}
+
+// An end of the margin of a clean 0, 1/sqrt 2 or 1.
+fn end(clean: f64, upper: bool) -> f64 {
+    if clean < 0.25 {
+        return if upper { 0.03125 } else { -0.03125 };
+    }
+    if clean < 0.875 {
+        return if upper { 0.734375 } else { 0.6796875 };
+    }
+    if upper { 1.03125 } else { 0.96875 }
+}
+
+// An end of the margin of a clean part.
+fn moved(clean: f64, draw: u64) -> f64 {
+    let upper = draw >> 63 == 1;
+    if clean < 0.0 {
+        return -end(-clean, upper);
+    }
+    end(clean, upper)
+}
+
+// Moves every part of the clean points to an end of its margin.
+fn receive(re: &mut [f64; 38976], im: &mut [f64; 38976], seed: u64) {
+    let mut x = seed;
+    let mut k: usize = 0;
+    while k < 38976 {
+        x = step(x);
+        re[k] = moved(re[k], x);
+        x = step(x);
+        im[k] = moved(im[k], x);
+        k += 1;
+    }
+}
+
+// The clean frame of the first `count` bytes.
+fn clean(k: u64, table: u64, bytes: &[u8], count: usize, re: &mut [f64], im: &mut [f64]) -> Answer {
+    let t = table_of(table);
+    let m = mapping_of(k);
+    let first = is_first(k);
+    if count <= bytes.len() {
+        return encode_frame(&bytes[0..count], t, first, m, re, im);
+    }
+    encode_frame(bytes, t, first, m, re, im)
+}
+
+// What is read.
+fn read(
+    k: u64,
+    table: u64,
+    re: &[f64],
+    im: &[f64],
+    decisions: &mut [u64],
+    bits: &mut [u8],
+    bytes: &mut [u8],
+) -> FrameDecoded {
+    let t = table_of(table);
+    let m = mapping_of(k);
+    let first = is_first(k);
+    exact_frame::read_frame(re, im, t, first, m, decisions, bits, bytes)
+}
+
+// The bytes of the load, as the answer counts them.
+fn told(r: FrameDecoded) -> usize {
+    match r {
+        FrameDecoded::Decoded(n, _) => n,
+        FrameDecoded::Refused(_) => 0,
+    }
+}
+
+fn same(a: u8, b: u8) -> usize
+    ensures { λ r. ⌜ r ≤ 1 ⌝ }
+{
+    if a == b { 1 } else { 0 }
+}
+
+// How many of the first `count` bytes are the same.
+fn alike(load: &[u8; 9744], bytes: &[u8; 9744], count: usize) -> usize
+    requires { ⌜ count ≤ 9744 ⌝ }
+{
+    let mut n: usize = 0;
+    let mut i: usize = 0;
+    while i < count {
+        n += same(load[i], bytes[i]);
+        i += 1;
+    }
+    n
+}
+
+// Makes the load and the received points of frame k.
+fn sent(
+    k: u64,
+    table: u64,
+    count: usize,
+    re: &mut [f64; 38976],
+    im: &mut [f64; 38976],
+    load: &mut [u8; 9744],
+) -> bool
+    requires { ⌜ count ≤ 9744 ⌝ }
+{
+    let seed = step(k ^ 0x9e37_79b9_7f4a_7c15);
+    fill(load, count, seed);
+    let answer = clean(k, table, load, count, re, im);
+    receive(re, im, seed ^ 0x5555_5555_5555_5555);
+    refusal::number(answer) == 0
+}
+
+// How many bytes of the load of frame k come back: none where the answer is not that of a full load.
+fn back(
+    k: u64,
+    table: u64,
+    count: usize,
+    re: &mut [f64; 38976],
+    im: &mut [f64; 38976],
+    decisions: &mut [u64; 4224],
+    bits: &mut [u8; 68224],
+    load: &mut [u8; 9744],
+    bytes: &mut [u8; 9744],
+) -> usize
+    requires { ⌜ count ≤ 9744 ⌝ }
+{
+    if !sent(k, table, count, re, im, load) {
+        return 0;
+    }
+    let r = read(k, table, re, im, decisions, bits, bytes);
+    if told(r) != count {
+        return 0;
+    }
+    alike(load, bytes, count)
+}
+
+// Shows an entry that has slots.
+fn show_entry(e: Entry) {
+    if e.slots > 0 {
+        io::write_all(STDOUT_FILENO, b" ");
+        io::print_decimal(STDOUT_FILENO, e.word as u64);
+        io::write_all(STDOUT_FILENO, b"x");
+        io::print_decimal(STDOUT_FILENO, e.slots as u64);
+    }
+}
+
+fn show_frame(k: u64, table: u64) {
+    io::write_all(STDOUT_FILENO, b"table");
+    show_entry(entry(table, 0));
+    show_entry(entry(table, 1));
+    show_entry(entry(table, 2));
+    show_entry(entry(table, 3));
+    io::write_all(STDOUT_FILENO, b" mapping ");
+    io::print_decimal(STDOUT_FILENO, k % 8);
+    if is_first(k) {
+        io::write_all(STDOUT_FILENO, b" kind first: ");
+    } else {
+        io::write_all(STDOUT_FILENO, b" kind other: ");
+    }
+}
+
+fn show_bytes(agree: u64, count: u64) {
+    io::print_decimal(STDOUT_FILENO, agree);
+    io::write_all(STDOUT_FILENO, b" of ");
+    io::print_decimal(STDOUT_FILENO, count);
+    io::write_all(STDOUT_FILENO, b" bytes agree\n");
+}
+
+// Whether the whole load of frame k comes back.
+fn passes(
+    k: u64,
+    table: u64,
+    re: &mut [f64; 38976],
+    im: &mut [f64; 38976],
+    decisions: &mut [u64; 4224],
+    bits: &mut [u8; 68224],
+    load: &mut [u8; 9744],
+    bytes: &mut [u8; 9744],
+) -> bool {
+    let count = load_bytes(table);
+    let agree = back(k, table, count, re, im, decisions, bits, load, bytes);
+    show_frame(k, table);
+    show_bytes(agree as u64, count as u64);
+    agree == count
+}
+
+// How many frames pass.
+fn passing(
+    re: &mut [f64; 38976],
+    im: &mut [f64; 38976],
+    decisions: &mut [u64; 4224],
+    bits: &mut [u8; 68224],
+    load: &mut [u8; 9744],
+    bytes: &mut [u8; 9744],
+) -> u32
+    ensures { λ r. ⌜ r ≤ 24 ⌝ }
+{
+    let tables = TABLES;
+    let mut agree: u32 = 0;
+    for k in 0..24usize {
+        if passes(k as u64, tables[k], re, im, decisions, bits, load, bytes) {
+            agree = agree + 1;
+        }
+    }
+    agree
+}
+
+fn main() {
+    let mut re = [0.0f64; 38976];
+    let mut im = [0.0f64; 38976];
+    let mut decisions = [0u64; 4224];
+    let mut bits = [0u8; 68224];
+    let mut load = [0u8; 9744];
+    let mut bytes = [0u8; 9744];
+    let agree = passing(
+        &mut re,
+        &mut im,
+        &mut decisions,
+        &mut bits,
+        &mut load,
+        &mut bytes,
+    );
+    if agree == 24 {
+        io::write_all(STDOUT_FILENO, b"24 frames, all bytes agree\n");
+    } else {
+        io::print_decimal(STDOUT_FILENO, (24 - agree) as u64);
+        io::write_all(STDOUT_FILENO, b" of 24 frames differ\n");
+    }
+}
