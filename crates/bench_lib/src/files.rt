@@ -85,21 +85,13 @@ fn front_of<'a>(s: &'a [u8; 4096], n: usize) -> &'a [u8] {
     front(s, n)
 }
 
-// As much of path as leaves room for a 0, and then zeros.
-fn ended(path: &[u8]) -> [u8; 4096]
+// The text with a 0 in its last place.
+fn closed(text: [u8; 4096]) -> [u8; 4096]
     ensures { λ r. ⌜ Ended r ⌝ }
 {
-    let mut ended = io::buffer();
-    let mut i: usize = 0;
-    while i < path.len() {
-        if i >= 4095 {
-            break;
-        }
-        ended[i] = path[i];
-        i = i + 1;
-    }
-    ended[4095] = 0;
-    ended
+    let mut out = text;
+    out[4095] = 0;
+    out
 }
 
 // The path of the system's link to an open file.
@@ -108,8 +100,8 @@ fn link(file: u64) -> [u8; 4096]
 {
     let mut path = io::buffer();
     let at = put(&mut path, 0, b"/proc/self/fd/");
-    let n = put_number(&mut path, at, file);
-    ended(front_of(&path, n))
+    put_number(&mut path, at, file);
+    closed(path)
 }
 
 // Where two open files lie.
