@@ -59,7 +59,7 @@ extern "C" {
 /* The f32 nearest to x, ties to even, small values included. Any x. */
 float isdbs_soft(double x);
 
-/* The words of the 48 slots, 0 for a slot that is not sent. Writes 48 places. Rows 1, 9. */
+/* The words of the 48 slots, 0 for a slot without a mark; some left-over slots, which carry nothing, are marked too. Writes 48 places. Rows 1, 9. */
 uint32_t isdbs_slot_combinations(uint64_t table, uint8_t *out, size_t out_len);
 
 /* The runs of the frame, in order. For each: word, slot start, slot end, valid slots, symbol start, symbol end; an end is one past the last.
@@ -71,7 +71,7 @@ uint32_t isdbs_bit_symbol(uint8_t word, uint64_t bit, uint64_t *out);
 
 /* The 38,976 points of a frame as real and imaginary parts, from its bytes (203 for each valid slot; missing bits are 0, surplus ones ignored), the
  * encoder starting at `state`: 0 for the first frame of a superframe and 63 for the others. *end is its state after the last bit. Points outside
- * every run are (0, 0). Needs 38,976 places of either part and writes as many. Rows 1, 4, 9. */
+ * every run are (0, 0), (0, -0.0) where the mapping conjugates. Needs 38,976 places of either part and writes as many. Rows 1, 4, 9. */
 uint32_t isdbs_encode_frame(const uint8_t *bytes, size_t bytes_len, uint64_t table, uint8_t mapping, uint8_t state,
                             double *re, size_t re_len, double *im, size_t im_len, uint8_t *end);
 

@@ -1,8 +1,8 @@
 // The demonstration on built-in data.
-use crate::report;
-use crate::text::count;
-use crate::text::text;
-use crate::words::front;
+use bench_words::report;
+use bench_words::text::count;
+use bench_words::text::text;
+use bench_words::words::front;
 use isdbs_core::tmcc;
 use isdbs_core::tmcc::Entry;
 use isdbs_core::tmcc::Table;

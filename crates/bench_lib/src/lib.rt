@@ -2,18 +2,13 @@
 // begins with refused or failed.
 mod commands;
 mod demonstration;
-mod files;
-mod points;
-mod report;
-mod text;
-mod words;
 
-use words::part;
-use words::same;
+use bench_words::words::part;
+use bench_words::words::same;
 
 // Puts src into dst from `at` on, as far as it goes, and answers where it ends.
 pub fn put(dst: &mut [u8; 4096], at: usize, src: &[u8]) -> usize {
-    files::put(dst, at, src)
+    bench_files::files::put(dst, at, src)
 }
 
 // Runs the command of a line on lent buffers.
@@ -85,10 +80,10 @@ pub fn run_first(line: &[u8; 4096], n: usize) {
         commands::misused(b"the words are longer than 4,095 bytes together", b"");
         return;
     }
-    run(words::front(line, n));
+    run(bench_words::words::front(line, n));
 }
 
 // The place after a byte that separates words.
 pub fn after_separator(at: usize) -> usize {
-    files::next(at)
+    bench_files::files::next(at)
 }

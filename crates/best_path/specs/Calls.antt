@@ -15,7 +15,8 @@ use Rattle.trellis.specs.Code.{Code, isdb, half, stateAt, output, label}
 use Rattle.trellis.specs.Step.{Step, pair, four, Tie, lower, nexts, next, word, top, best, renormalised, back, input, traced}
 use Rattle.trellis.specs.Run.{Decoder, startAt, startUnknown, block, settled, valuesAt, wordAt, decoded, released, stepped, after, closed, pushed, flushed}
 use Rattle.best_path.specs.Paths.{bound, longest, Path, Best, Reading, Any, This, Quadruples}
-use Rattle.best_path.specs.Tracks.{Adds, times, Follows, length-upto, getD-upto}
+use Rattle.trellis.specs.ListLaws.{length-upto, getD-upto}
+use Rattle.best_path.specs.Tracks.{Adds, times, Follows}
 use Rattle.best_path.specs.Decoded.{Did, Ended}
 use Rattle.best_path.specs.Integers.{parts-of, quadruples, Pairs, signs, pairs}
 use Rattle.best_path.specs.Starts.{Given, Unknown, best-given, best-unknown, best-between}

@@ -1,59 +1,19 @@
 -- The f32 algorithm on whole metrics traces a path of greatest sum, the first of them in the order. Assumes nothing.
 use mathlib.Core.Path.{_≡_, refl, sym, ap, _∙_, subst}
-use mathlib.Core.Bool.{Bool, true, false, not, cond}
-use mathlib.Core.List.{List, [], _∷_, _++_, map}
+use mathlib.Core.List.{List, [], _∷_}
 use Prim.Native.Nat.{ℕ, zero, suc, _+_, _-_, _*_, _/_, _%_, _^_, _≤_, _<_}
-use native.Mathlib.Nat.{mod-lt, not-suc-le-zero, add-mul-div-right, add-mul-mod-self-right, div-eq-of-lt, mul-assoc}
-use native.Mathlib.Numerals.{one-add}
 use native.Mathlib.Omega.{arith}
-use lib.Dec.{T}
-use lib.Pow.{pow-add, pow-pos}
-use lib.ListN.{getD, length, length-append, List·getD-append}
+use lib.ListN.{getD, length, List·getD-append}
 use lib.Seq.{getD-at, ext-getD}
-use borrow.Author.Count.{below-more}
-use lib.Ieee.{Float, nan, binary32}
-use Rattle.trellis.specs.Lists.{bit, packed}
+use lib.Ieee.{Float, nan}
+use Rattle.trellis.specs.Lists.{bit}
+use Rattle.trellis.specs.ListLaws.{packed-bit}
 use Rattle.trellis.specs.Step.{Step, Tie, wins, word, best, kept, back, input}
 use Rattle.best_path.specs.Paths.{longest}
 use Rattle.best_path.specs.Viterbi.{Z, value, decision, pred, origin, inputs}
 use Rattle.best_path.specs.Greatest.{inputs-length, pred-under, end, end-under, Greatest, greatest, greatest-to}
 use Rattle.best_path.specs.Exact.{Whole}
 use Rattle.best_path.specs.Tracks.{Tracks, Adds, times, Alike, Follows, tracks-like, times-step, tracks, decides, best-same}
-
--- ---- the bits of a word
-low : (r q k i : ℕ) → i < k → (r + q * 2 ^ k) / 2 ^ i % 2 ≡ r / 2 ^ i % 2
-low r q k i h =
-    let d = k - i - 1 in
-    let n : k ≡ d + 1 + i = omega arith in
-    let e : q * 2 ^ k ≡ q * 2 ^ d * 2 * 2 ^ i =
-    ap (λ (x : ℕ). q * 2 ^ x) n ∙ ap (λ (x : ℕ). q * x) (pow-add 2 (d + 1) i ∙ ap (λ (x : ℕ). x * 2 ^ i) (pow-add 2 d 1))
-    ∙ sym (mul-assoc q (2 ^ d * 2) (2 ^ i)) ∙ ap (λ (x : ℕ). x * 2 ^ i) (sym (mul-assoc q (2 ^ d) 2)) in
-    rw (e, add-mul-div-right r (q * 2 ^ d * 2) (pow-pos i)) (add-mul-mod-self-right (r / 2 ^ i) (q * 2 ^ d) 2)
-
-twice : (n : ℕ) → 2 ^ suc n ≡ 2 * 2 ^ n
-twice n = ap (λ (x : ℕ). 2 ^ x) (sym (one-add n)) ∙ pow-add 2 1 n
-
-packed-under : (f : ℕ → Bool) (n : ℕ) → packed f n < 2 ^ n
-unfolding packed
-packed-under f zero = omega arith
-packed-under f (suc n) = go (f n) (packed-under f n) (twice n)
-  where
-    go : (w : Bool) → packed f n < 2 ^ n → 2 ^ suc n ≡ 2 * 2 ^ n → packed f n + bit w * 2 ^ n < 2 ^ suc n
-    go true h e = omega arith
-    go false h e = omega arith
-
-bit-same : (w : Bool) → bit w % 2 ≡ bit w
-bit-same true = refl
-bit-same false = refl
-
-pub packed-bit : (f : ℕ → Bool) (n k : ℕ) → k < n → packed f n / 2 ^ k % 2 ≡ bit (f k)
-unfolding packed
-packed-bit f zero k h = absurd (not-suc-le-zero h)
-packed-bit f (suc n) k h =
-    below-more (λ i. (packed f n + bit (f n) * 2 ^ n) / 2 ^ i % 2 ≡ bit (f i)) n
-    (λ i hi. low (packed f n) (bit (f n)) n i hi ∙ packed-bit f n i hi)
-    (ap (λ (x : ℕ). x % 2) (add-mul-div-right (packed f n) (bit (f n)) (pow-pos n) ∙ ap (λ (x : ℕ). x + bit (f n)) (div-eq-of-lt (packed-under f n))) ∙ omega (arith, bit-same (f n)))
-    k (omega arith)
 
 -- ---- the traceback
 module _ (half : ℕ) (pos : 0 < half) (out : ℕ → ℕ → ℕ) (t : Tie) (v : ℕ → Z) (m : ℕ → ℕ → Z) (n : ℕ) (ws : List ℕ)

@@ -1,28 +1,26 @@
 -- Integers as pairs, and floats that are integers. Assumes nothing.
-use mathlib.Core.Path.{_≡_, refl, sym, ap, _∙_, subst}
-use mathlib.Core.Logic.{_⊎_, inl, inr, ⊎-elim}
-use mathlib.Core.Bool.{Bool, true, false, not, cond}
+use mathlib.Core.Path.{_≡_, refl, ap}
+use mathlib.Core.Logic.{_⊎_, inl, inr}
+use mathlib.Core.Bool.{Bool, true, false, cond}
 use mathlib.Core.List.{List, []}
-use Prim.Native.Nat.{ℕ, zero, suc, _+_, _-_, _*_, _/_, _%_, _^_, _≤_, _<_}
+use Prim.Native.Nat.{ℕ, zero, suc, _+_, _-_, _*_, _/_, _%_, _≤_, _<_}
 use native.Mathlib.Omega.{arith}
-use native.Mathlib.Nat.{not-suc-le-zero}
-use lib.IntN.{ℤ, pos, negsuc, natAbs, negℤ, subℕ, _+ℤ_}
+use lib.IntN.{ℤ, pos, negsuc, natAbs, negℤ, _+ℤ_}
 use lib.Signed.{_≤ℤ_, leZ, leZ-yes}
-use lib.Dec.{T, ltb, leb, eqb, ltb→lt, nltb→le, le→leb, leb→le, lt→ltb, eqb→eq, eqb-refl, T-not, lit≤}
-use lib.ListN.{getD, length, replicate, length-replicate, getD-replicate}
-use lib.Ieee.{Float, nan, inf, fin, binary32, eq, fits, ofInt, inFloat, ofBits, prec}
+use lib.Dec.{T, eqb, le→leb, leb→le, lt→ltb, lit≤}
+use lib.ListN.{getD}
+use lib.Ieee.{Float, nan, inf, fin, binary32, eq, ofInt, inFloat}
 use lib.Ieee.Scale.{finite}
 use Rattle.ieee.specs.Value.{hi, lo, Num, one-side}
 use Rattle.ieee.specs.Order.{eq→value}
 use Rattle.ieee.specs.Rounding.{pow2}
-use Rattle.ieee.specs.Whole.{On, hiZ, loZ, ofInt-on}
-use Rattle.trellis.specs.Code.{stateAt}
-use Rattle.trellis.specs.Step.{Step, pair, four}
+use Rattle.ieee.specs.Whole.{hiZ, loZ, ofInt-on, parts}
+use Rattle.trellis.specs.Step.{pair, four}
 use Rattle.best_path.specs.Paths.{bound, labelAt, sumℤ, Integer, Quadruples}
 use Rattle.best_path.specs.Viterbi.{Z, plus, Le, sum}
 use Rattle.best_path.specs.Exact.{Whole}
 use Rattle.best_path.specs.Tracks.{Adds}
-use Rattle.best_path.specs.Branches.{Metrics, four-adds, turnedZ, Softs, pair-adds}
+use Rattle.best_path.specs.Branches.{four-adds, turnedZ, pair-adds}
 
 -- ---- integers and pairs
 abbrev pub parts-of : ℤ → Z
@@ -31,19 +29,6 @@ parts-of z = (hiZ z, loZ z)
 -- z is p .0 - p .1
 abbrev pub Val : ℤ → Z → Type 0
 Val z p = hiZ z + p .1 ≡ loZ z + p .0
-
-sub-parts : (a b : ℕ) → (hiZ (subℕ a b) ≡ a - b) × (loZ (subℕ a b) ≡ b - a)
-sub-parts a b = go (ltb a b) (ltb→lt a b) (nltb→le a b)
-  where
-    go : (t : Bool) → (T t → a < b) → (T (not t) → b ≤ a) → (hiZ (cond t (negsuc (b - suc a)) (pos (a - b))) ≡ a - b) × (loZ (cond t (negsuc (b - suc a)) (pos (a - b))) ≡ b - a)
-    go true h k = let w = h tt in (omega arith, omega arith)
-    go false h k = let w = k tt in (omega arith, omega arith)
-
-parts : (a b : ℤ) → (hiZ (a +ℤ b) ≡ hiZ a + hiZ b - (loZ a + loZ b)) × (loZ (a +ℤ b) ≡ loZ a + loZ b - (hiZ a + hiZ b))
-parts (pos a) (pos b) = (omega arith, omega arith)
-parts (pos a) (negsuc b) = let r = sub-parts a (suc b) in (omega arith, omega arith)
-parts (negsuc a) (pos b) = let r = sub-parts b (suc a) in (omega arith, omega arith)
-parts (negsuc a) (negsuc b) = (omega arith, omega arith)
 
 val-add : (a b : ℤ) (p : Z) → Val a p → Val (a +ℤ b) (plus p (parts-of b))
 val-add a b p h = let r = parts a b in omega arith

@@ -8,5 +8,4 @@ pub mod Decoded
 pub mod Integers
 pub mod Starts
 pub mod Calls
-pub mod Range
 pub mod Examples

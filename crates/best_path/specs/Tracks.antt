@@ -1,37 +1,21 @@
 -- On whole metrics the f32 algorithm follows the whole-number one: its values are the same less a common number, and its decisions are the same. Assumes nothing.
-use mathlib.Core.Path.{_≡_, refl, sym, ap, _∙_, subst}
+use mathlib.Core.Path.{_≡_, refl, sym, ap, subst}
 use mathlib.Core.Bool.{Bool, true, false, not, cond}
-use mathlib.Core.List.{List, [], _∷_, _++_, map}
-use Prim.Native.Nat.{ℕ, zero, suc, _+_, _-_, _*_, _/_, _%_, _^_, _≤_, _<_}
+use mathlib.Core.List.{List, [], _∷_, map}
+use Prim.Native.Nat.{ℕ, zero, suc, _+_, _-_, _*_, _/_, _%_, _≤_, _<_}
 use native.Mathlib.Nat.{mod-lt, not-suc-le-zero, le-of-eq}
 use native.Mathlib.Omega.{arith}
 use lib.Dec.{T}
-use lib.ListN.{getD, length, length-append, length-map, List·getD-append}
-use lib.Seq.{getD-at}
-use borrow.Author.Count.{below-more}
-use lib.Ieee.{Float, nan, binary32, add, sub, lt, le, ofBits}
-use Rattle.trellis.specs.Lists.{upto}
-use Rattle.trellis.specs.Step.{Step, Tie, lower, upper, takes, branch, cand, wins, next, nexts, top, best, renormalised}
+use lib.ListN.{getD, length, length-map}
+use lib.Ieee.{Float, nan, binary32, sub, lt}
+use Rattle.trellis.specs.ListLaws.{length-upto, getD-upto}
+use Rattle.trellis.specs.Step.{Step, Tie, branch, cand, wins, next, nexts, top, best, renormalised}
 use Rattle.best_path.specs.Paths.{bound, longest}
 use Rattle.best_path.specs.Viterbi.{Z, plus, candZ, winsZ, nextZ, value, decision, bestZ}
 use Rattle.best_path.specs.Greatest.{best-under}
-use Rattle.best_path.specs.Exact.{Is, Near, takes-is, is-sub, least, least-below}
+use Rattle.best_path.specs.Exact.{Is, takes-is, is-sub, least, least-below}
 
 -- ---- lists
-pub length-upto : {A : Type 0} (f : ℕ → A) (n : ℕ) → length (upto f n) ≡ n
-unfolding upto
-length-upto f zero = refl
-length-upto f (suc n) = length-append (upto f n) (f n ∷ []) ∙ omega (arith, length-upto f n)
-
-pub getD-upto : {A : Type 0} (f : ℕ → A) (d : A) (n i : ℕ) → i < n → getD (upto f n) i d ≡ f i
-unfolding upto
-getD-upto f d zero i h = absurd (not-suc-le-zero h)
-getD-upto f d (suc n) i h =
-    below-more (λ j. getD (upto f n ++ (f n ∷ [])) j d ≡ f j) n
-    (λ j hj. List·getD-append (upto f n) (f n ∷ []) d j (rw (length-upto f n) hj) ∙ getD-upto f d n j hj)
-    (getD-at (upto f n) (f n) [] d n (length-upto f n))
-    i (omega arith)
-
 pub getD-map-in : {A : Type 0} (f : A → A) (d : A) (l : List A) (i : ℕ) → i < length l → getD (map f l) i d ≡ f (getD l i d)
 getD-map-in f d [] i h = absurd (not-suc-le-zero h)
 getD-map-in f d (x ∷ l) zero h = refl

@@ -16,7 +16,7 @@ use Rattle.trellis.specs.Code.{isdb, label}
 use Rattle.trellis.specs.Step.{lower, input, traced}
 use Rattle.trellis.specs.Run.{Decoder, block, decoded}
 use Rattle.best_path.specs.Paths.{Reading}
-use Rattle.best_path.specs.Tracks.{length-upto}
+use Rattle.trellis.specs.ListLaws.{length-upto}
 use Rattle.isdb_fec.specs.declared.conv.ViterbiDecoder.{ViterbiDecoder}
 use Rattle.isdb_fec.specs.declared.conv.Released.{Released}
 use Rattle.isdb_fec.specs.Rows.{pushMetricsRows, flushRows, badTraceback, badState, shortOf}

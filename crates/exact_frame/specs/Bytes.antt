@@ -7,7 +7,7 @@ use lib.ListN.{getD}
 use lib.Seq.{ext-getD}
 use Rattle.trellis.specs.Lists.{upto}
 use Rattle.trellis.specs.Code.{stateAt}
-use Rattle.lead.specs.Lists.{length-upto, getD-upto}
+use Rattle.trellis.specs.ListLaws.{length-upto, getD-upto}
 use Rattle.isdbs_phy.specs.Layout.{loadBit, byteOf}
 use Rattle.isdbs_phy.specs.Frame.{labelAt}
 use Rattle.margins.specs.Margins.{FullLoad}

@@ -13,7 +13,7 @@ use Rattle.trellis.specs.Lists.{upto}
 use Rattle.trellis.specs.Code.{stateAt}
 use Rattle.trellis.specs.Step.{lower}
 use Rattle.lead.specs.Favour.{Favours}
-use Rattle.lead.specs.Lists.{getD-upto}
+use Rattle.trellis.specs.ListLaws.{getD-upto}
 use Rattle.lead.specs.Frame.{decoded-sent}
 use Rattle.isdbs_core.specs.declared.combination.Modulation.{Modulation}
 use Rattle.isdbs_core.specs.declared.tmcc.Table.{Table}
@@ -25,8 +25,8 @@ use Rattle.isdbs_phy.specs.Layout.{Segment, segments, atStep, atBit, loadBit, w
 use Rattle.isdbs_phy.specs.Frame.{coded, inputIn, inputs, labelAt, stateAfter, startState}
 use Rattle.isdbs_phy.specs.Reading.{Received, metricsAt, decodedBits, uncoded, bitBy, bitIn, bytesFrom, decodedBytes}
 use Rattle.margins.specs.Margins.{Within, FullLoad}
-use Rattle.exact_frame.specs.Places.{In}
-use Rattle.exact_frame.specs.Sizes.{table-whole, few-steps, step-fits, at-step, at-bit, find-step, find-bit}
+use Rattle.isdbs_phy.specs.Places.{In}
+use Rattle.isdbs_phy.specs.Sizes.{table-whole, few-steps, step-fits, at-step, at-bit, find-step, find-bit}
 use Rattle.exact_frame.specs.Order.{Pairs, Kind, one, two, three, kind}
 use Rattle.exact_frame.specs.Bits.{load-bit-small, of-pair}
 use Rattle.exact_frame.specs.Steps.{received, step-favours, tc-bit}

@@ -10,7 +10,7 @@ use lib.ListN.{getD, length, length-append, List·getD-append}
 use lib.Ieee.{Float, nan, binary64, fits, neg, eq, le, ofBits}
 use Rattle.trellis.specs.Lists.{upto}
 use Rattle.trellis.specs.Code.{stateAt}
-use Rattle.lead.specs.Lists.{length-upto, getD-upto}
+use Rattle.trellis.specs.ListLaws.{length-upto, getD-upto}
 use Rattle.isdbs_core.specs.declared.combination.Modulation.{Modulation}
 use Rattle.isdbs_core.specs.declared.combination.Modulation.the-variants.{Bpsk, Qpsk, Tc8psk}
 use Rattle.isdbs_core.specs.declared.tmcc.Table.{Table}

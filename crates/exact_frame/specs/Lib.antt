@@ -1,5 +1,3 @@
-pub mod Places
-pub mod Sizes
 pub mod Order
 pub mod Bits
 pub mod Steps
@@ -7,3 +5,5 @@ pub mod Bytes
 pub mod Exact
 pub mod Frames
 pub mod Call
+pub mod Unread
+pub mod Load

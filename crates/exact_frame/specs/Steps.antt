@@ -33,8 +33,8 @@ use Rattle.margins.specs.Intervals.{eight}
 use Rattle.margins.specs.Speaks.{Speaks, Said, one-speaks, root-speaks}
 use Rattle.margins.specs.Pairs.{pair-favours}
 use Rattle.margins.specs.Tc8psk.{tc-favours, tc-uncoded}
-use Rattle.exact_frame.specs.Places.{In}
-use Rattle.exact_frame.specs.Sizes.{table-whole, symbol-fits, at-symbol, at-step, find-step}
+use Rattle.isdbs_phy.specs.Places.{In}
+use Rattle.isdbs_phy.specs.Sizes.{table-whole, symbol-fits, at-symbol, at-step, find-step}
 use Rattle.exact_frame.specs.Order.{Sends, Pairs, Kind, one, two, three, kind, Kept, mother, number, sent-at}
 use Rattle.exact_frame.specs.Bits.{label-small, load-bit-small, coded-small, subset-small, carries, of-pair}
 

@@ -2,6 +2,7 @@ pub mod Nearest
 pub mod Value
 pub mod Order
 pub mod Rounding
+pub mod Bounds
 pub mod Sums
 pub mod Zero
 pub mod Whole

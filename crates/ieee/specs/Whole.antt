@@ -99,7 +99,7 @@ sub-parts a b = go (ltb a b) (ltb→lt a b) (nltb→le a b)
     go true h k = let w = h tt in (omega arith, omega arith)
     go false h k = let w = k tt in (omega arith, omega arith)
 
-parts : (a b : ℤ) → (hiZ (a +ℤ b) ≡ hiZ a + hiZ b - (loZ a + loZ b)) × (loZ (a +ℤ b) ≡ loZ a + loZ b - (hiZ a + hiZ b))
+pub parts : (a b : ℤ) → (hiZ (a +ℤ b) ≡ hiZ a + hiZ b - (loZ a + loZ b)) × (loZ (a +ℤ b) ≡ loZ a + loZ b - (hiZ a + hiZ b))
 parts (pos a) (pos b) = (omega arith, omega arith)
 parts (pos a) (negsuc b) = let r = sub-parts a (suc b) in (omega arith, omega arith)
 parts (negsuc a) (pos b) = let r = sub-parts b (suc a) in (omega arith, omega arith)

@@ -17,7 +17,7 @@ use Rattle.isdb_c.specs.Rows.{left}
 abbrev pub decoderOf : List Float → ℕ → ℕ → ViterbiDecoder
 decoderOf pm held traceback = record { pm = pm; held = held; traceback = traceback }
 
--- "a `pm` slice that is not 64 long answers 5, before all else"
+-- a slice of path values that is not 64 long answers 5, before all else
 abbrev pub notStates : List Float → Row
 notStates pm = (Length, not (eqb (length pm) 64))
 

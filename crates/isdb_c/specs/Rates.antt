@@ -10,14 +10,14 @@ use Rattle.isdbt_fec.specs.declared.conv.CodeRate.the-variants.{«R1_2», «R2_
 use Rattle.isdb_c.specs.declared.isdbt.MaybeRate.{MaybeRate}
 use Rattle.isdb_c.specs.declared.isdbt.MaybeRate.the-variants.{Rate, NoRate}
 
--- "rates 0 to 4 for 1/2, 2/3, 3/4, 5/6, 7/8"
+-- rates 0 to 4 for 1/2, 2/3, 3/4, 5/6, 7/8
 abbrev pub rates : List MaybeRate
 rates = Rate «R1_2» ∷ Rate «R2_3» ∷ Rate «R3_4» ∷ Rate «R5_6» ∷ Rate «R7_8» ∷ []
 
 abbrev pub rateOf : ℕ → MaybeRate
 rateOf n = getD rates n NoRate
 
--- "another rate answers 5, before all else"
+-- another rate answers 5, before all else
 abbrev pub rateRows : MaybeRate → (CodeRate → List Row) → List Row
 rateRows (Rate c) rows = rows c
 rateRows NoRate rows = (Length, true) ∷ []

@@ -24,7 +24,7 @@ answered rows = numberOf (firstRow rows)
 abbrev pub left : {A : Type 0} → ℕ → A → A → A
 left answer new old = cond (eqb answer 0) new old
 
--- the table's rows, then 9: "needs 48 places", "24"
+-- the table's rows, then 9: 48 places, or 24
 abbrev pub placesRows : Table → ℕ → ℕ → List Row
 placesRows t need space = tableRows t ++ (Space, ltb space need) ∷ []
 
@@ -40,7 +40,7 @@ abbrev pub isNone : MaybeCombination → Bool
 isNone (Some c) = false
 isNone None = true
 
--- "a word outside 1 to 7 in `isdbs_bit_symbol` answers 2", as a bit above 1,000,000 does
+-- a word outside 1 to 7 answers 2, as a bit above 1,000,000 does
 abbrev pub bitSymbolRows : ℕ → ℕ → List Row
 bitSymbolRows word bit = (Position, isNone (combinationOf word)) ∷ bitRows bit
 

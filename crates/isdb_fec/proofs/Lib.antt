@@ -1,7 +1,1 @@
-pub mod Each
-pub mod Told
-pub mod Parts
-pub mod LeafLists
-pub mod LeafTable
-pub mod LeafSigns
-pub mod LeafStep
+pub mod Settled

@@ -12,6 +12,7 @@ use Rattle.trellis.specs.Lists.{laid}
 use Rattle.trellis.specs.Code.{isdb, label}
 use Rattle.trellis.specs.Step as trellis
 use Rattle.trellis.specs.Step.{pair, four, known, lower}
+pub use Rattle.acs.specs.Isdb.{nexts, word, bestState, traced}
 use Rattle.trellis.specs.Run.{Decoder, block, settled, stepped, after, pushed, flushed, decoded, decisionsAfter}
 use Rattle.isdb_fec.specs.declared.conv.Step.{Step}
 use Rattle.isdb_fec.specs.declared.conv.Step.the-variants.{Pair, Four, Known}
@@ -36,24 +37,9 @@ fourSteps xs k =
 abbrev pub knownSteps : List ℕ → ℕ → trellis.Step
 knownSteps bs k = known (getD bs k 0)
 
--- the new path values and the decision word of a step
-abbrev pub nexts : List Float → trellis.Step → List Float
-nexts pm x = trellis.nexts 32 (label isdb) lower pm x
-
-abbrev pub word : List Float → trellis.Step → ℕ
-word pm x = trellis.word 32 (label isdb) lower pm x
-
 -- the path values once step i of a call has added: the maximum is subtracted where the step calls for it
 abbrev pub settle : ℕ → trellis.Step → List Float → List Float
 settle i x pm = settled 32 (label isdb) lower i x pm
-
--- the lowest best state
-abbrev pub bestState : List Float → ℕ
-bestState pm = trellis.best lower pm 63
-
--- the bits that the words give, traced from the state s, oldest first
-abbrev pub traced : List ℕ → ℕ → List ℕ
-traced ws s = trellis.traced 32 ws s
 
 -- step i of a call with the release that may follow; n steps of a call; a call of soft values or metrics; the flush
 abbrev pub stepOnce : ℕ → ℕ → trellis.Step → Decoder → Decoder

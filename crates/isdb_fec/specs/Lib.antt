@@ -10,3 +10,6 @@ pub mod Count
 pub mod Holding
 pub mod Whole
 pub mod Pieces
+pub mod Each
+pub mod Told
+pub mod Parts

@@ -1,32 +1,15 @@
 -- Laws of the first n values of a function. Assumes nothing.
-use mathlib.Core.Path.{_≡_, refl, sym, _∙_, ap}
+use mathlib.Core.Path.{_≡_, refl, sym, _∙_}
 use mathlib.Core.Bool.{Bool, true, false, cond}
-use mathlib.Core.List.{List, [], _∷_, _++_}
-use Prim.Native.Nat.{ℕ, zero, suc, _+_, _<_}
-use native.Mathlib.Omega.{arith}
-use native.Mathlib.Nat.{not-suc-le-zero}
+use Prim.Native.Nat.{ℕ, _<_}
 use lib.Dec.{eqb}
-use lib.ListN.{length, getD, set, replicate, length-append, length-set, length-replicate, getD-replicate, List·getD-append}
-use lib.Seq.{getD-at, ext-getD, getD-set-same, getD-set-other}
-use borrow.Author.Count.{below-more}
+use lib.ListN.{length, getD, set, replicate, length-set, length-replicate, getD-replicate}
+use lib.Seq.{ext-getD, getD-set-same, getD-set-other}
 use borrow.Author.Tests.{eqb-true, eqb-false}
 use Rattle.trellis.specs.Lists.{upto}
+pub use Rattle.trellis.specs.ListLaws.{length-upto, getD-upto}
 
 module _ {A : Type 0} where
-  pub length-upto : (f : ℕ → A) (n : ℕ) → length (upto f n) ≡ n
-  unfolding upto
-  length-upto f zero = refl
-  length-upto f (suc n) = length-append (upto f n) (f n ∷ []) ∙ omega (arith, length-upto f n)
-
-  pub getD-upto : (f : ℕ → A) (d : A) (n i : ℕ) → i < n → getD (upto f n) i d ≡ f i
-  unfolding upto
-  getD-upto f d zero i h = absurd (not-suc-le-zero h)
-  getD-upto f d (suc n) i h =
-      below-more (λ j. getD (upto f n ++ (f n ∷ [])) j d ≡ f j) n
-      (λ j hj. List·getD-append (upto f n) (f n ∷ []) d j (rw (length-upto f n) hj) ∙ getD-upto f d n j hj)
-      (getD-at (upto f n) (f n) [] d n (length-upto f n))
-      i (omega arith)
-
   one-place : (n m k : ℕ) (v z : A) (t : Bool) → m < n → k < n → eqb k m ≡ t → getD (set (replicate n v) m z) k v ≡ cond t z v
   one-place n m k v z true h g e =
       rw (eqb-true k m e) (getD-set-same (replicate n v) m z v (rw (length-replicate n v) h))

@@ -6,15 +6,14 @@ ghost use mathlib.Core.Bool.{cond, not};
 ghost use Prim.Native.Nat.{ℕ, _+_, _*_, _<_, _≤_, _/_, _%_};
 ghost use lib.ListN.{length, getD, take, drop, replicate};
 ghost use lib.Dec.{ltb};
-ghost use lib.Ieee.{lt, neg, nan, binary32, ofBits};
 ghost use Rattle.refusal.specs.Rows.{firstRow};
-ghost use Rattle.trellis.specs.Lists.{bit, laid};
+ghost use Rattle.trellis.specs.Lists.{laid};
 ghost use Rattle.trellis.specs.Code.{isdb, output, moved};
-ghost use Rattle.trellis.specs.Step.{pair, four, lower, renormalised, ruled, top};
-ghost use Rattle.trellis.specs.Run.{startAt, startUnknown, settled, decisionsAfter};
+ghost use Rattle.trellis.specs.Run.{startAt, startUnknown};
 ghost use Rattle.isdb_fec.specs.Values.{within, someBeyond};
 ghost use Rattle.isdb_fec.specs.Rows.{encoderRows, freshRows, handedRows, streamRows, pushRows, pushMetricsRows, pushKnownRows, flushRows, releases, stepsShort};
 ghost use Rattle.isdb_fec.specs.Calls.{stepOf, pairSteps, fourSteps, knownSteps, nexts, word, bestState, traced, settle, stepOnce, steps, call, handed, holding, Leaves, Flushes, Unchanged, Either, Room, Fresh, Zero, Stepped};
+pub use acs::renormalise;
 use refusal::Answer;
 
 pub const CONSTRAINT_LENGTH: usize = 7;
@@ -28,17 +27,12 @@ pub const STATES: usize = 64;
 pub const DEFAULT_TRACEBACK: usize = 112;
 
 const HALF: usize = 32;
+// The outputs X and Y for the input 0: that of the state s is bit s. Both generators tap the input, so the input 1 gives the other bit.
+const X_OUTPUTS: u64 = 0x55aa_aa55_aa55_55aa;
+
+const Y_OUTPUTS: u64 = 0x6699_9966_6699_9966;
 // The bits that leave at a release.
 const BLOCK: usize = 4096;
-
-// The parity of the bits of x.
-fn parity(x: u8) -> u8
-    ensures { λ r. ⌜ r ≡ (x + x / 2 + x / 4 + x / 8 + x / 16 + x / 32 + x / 64 + x / 128) % 2 ⌝ }
-{
-    let a = x ^ (x >> 4);
-    let b = a ^ (a >> 2);
-    (b ^ (b >> 1)) % 2
-}
 
 // The pair that an input gives, and the state that it leads to.
 pub struct Coded {
@@ -52,11 +46,11 @@ pub fn encode_bit(state: u8, u: u8) -> Coded
     requires { ⌜ state < 64 ⌝ }
     ensures { λ r. ⌜ (r .x ≡ output isdb 0o171 (u % 2) state) × (r .y ≡ output isdb 0o133 (u % 2) state) × (r .state ≡ moved 32 (u % 2) state) ⌝ }
 {
-    let w = (u % 2) * 64 + state;
+    let b = u % 2;
     Coded {
-        state: w / 2,
-        x: parity(w & G1),
-        y: parity(w & G2),
+        state: 32 * b + state / 2,
+        x: ((X_OUTPUTS >> state) % 2) as u8 ^ b,
+        y: ((Y_OUTPUTS >> state) % 2) as u8 ^ b,
     }
 }
 
@@ -135,454 +129,6 @@ impl ConvEncoder {
     }
 }
 
-// The sign of X on the branch from the state 2j + b on the input u: SX[u][b][j], 1.0 for the coded bit 0 and -1.0 for 1.
-const SX: [[[f32; 32]; 2]; 2] = [
-    [
-        [
-            1.0,
-            1.0,
-            1.0,
-            1.0,
-            -1.0,
-            -1.0,
-            -1.0,
-            -1.0,
-            -1.0,
-            -1.0,
-            -1.0,
-            -1.0,
-            1.0,
-            1.0,
-            1.0,
-            1.0,
-            -1.0,
-            -1.0,
-            -1.0,
-            -1.0,
-            1.0,
-            1.0,
-            1.0,
-            1.0,
-            1.0,
-            1.0,
-            1.0,
-            1.0,
-            -1.0,
-            -1.0,
-            -1.0,
-            -1.0,
-        ],
-        [
-            -1.0,
-            -1.0,
-            -1.0,
-            -1.0,
-            1.0,
-            1.0,
-            1.0,
-            1.0,
-            1.0,
-            1.0,
-            1.0,
-            1.0,
-            -1.0,
-            -1.0,
-            -1.0,
-            -1.0,
-            1.0,
-            1.0,
-            1.0,
-            1.0,
-            -1.0,
-            -1.0,
-            -1.0,
-            -1.0,
-            -1.0,
-            -1.0,
-            -1.0,
-            -1.0,
-            1.0,
-            1.0,
-            1.0,
-            1.0,
-        ],
-    ],
-    [
-        [
-            -1.0,
-            -1.0,
-            -1.0,
-            -1.0,
-            1.0,
-            1.0,
-            1.0,
-            1.0,
-            1.0,
-            1.0,
-            1.0,
-            1.0,
-            -1.0,
-            -1.0,
-            -1.0,
-            -1.0,
-            1.0,
-            1.0,
-            1.0,
-            1.0,
-            -1.0,
-            -1.0,
-            -1.0,
-            -1.0,
-            -1.0,
-            -1.0,
-            -1.0,
-            -1.0,
-            1.0,
-            1.0,
-            1.0,
-            1.0,
-        ],
-        [
-            1.0,
-            1.0,
-            1.0,
-            1.0,
-            -1.0,
-            -1.0,
-            -1.0,
-            -1.0,
-            -1.0,
-            -1.0,
-            -1.0,
-            -1.0,
-            1.0,
-            1.0,
-            1.0,
-            1.0,
-            -1.0,
-            -1.0,
-            -1.0,
-            -1.0,
-            1.0,
-            1.0,
-            1.0,
-            1.0,
-            1.0,
-            1.0,
-            1.0,
-            1.0,
-            -1.0,
-            -1.0,
-            -1.0,
-            -1.0,
-        ],
-    ],
-];
-
-// The same of Y.
-const SY: [[[f32; 32]; 2]; 2] = [
-    [
-        [
-            1.0,
-            -1.0,
-            1.0,
-            -1.0,
-            -1.0,
-            1.0,
-            -1.0,
-            1.0,
-            -1.0,
-            1.0,
-            -1.0,
-            1.0,
-            1.0,
-            -1.0,
-            1.0,
-            -1.0,
-            1.0,
-            -1.0,
-            1.0,
-            -1.0,
-            -1.0,
-            1.0,
-            -1.0,
-            1.0,
-            -1.0,
-            1.0,
-            -1.0,
-            1.0,
-            1.0,
-            -1.0,
-            1.0,
-            -1.0,
-        ],
-        [
-            -1.0,
-            1.0,
-            -1.0,
-            1.0,
-            1.0,
-            -1.0,
-            1.0,
-            -1.0,
-            1.0,
-            -1.0,
-            1.0,
-            -1.0,
-            -1.0,
-            1.0,
-            -1.0,
-            1.0,
-            -1.0,
-            1.0,
-            -1.0,
-            1.0,
-            1.0,
-            -1.0,
-            1.0,
-            -1.0,
-            1.0,
-            -1.0,
-            1.0,
-            -1.0,
-            -1.0,
-            1.0,
-            -1.0,
-            1.0,
-        ],
-    ],
-    [
-        [
-            -1.0,
-            1.0,
-            -1.0,
-            1.0,
-            1.0,
-            -1.0,
-            1.0,
-            -1.0,
-            1.0,
-            -1.0,
-            1.0,
-            -1.0,
-            -1.0,
-            1.0,
-            -1.0,
-            1.0,
-            -1.0,
-            1.0,
-            -1.0,
-            1.0,
-            1.0,
-            -1.0,
-            1.0,
-            -1.0,
-            1.0,
-            -1.0,
-            1.0,
-            -1.0,
-            -1.0,
-            1.0,
-            -1.0,
-            1.0,
-        ],
-        [
-            1.0,
-            -1.0,
-            1.0,
-            -1.0,
-            -1.0,
-            1.0,
-            -1.0,
-            1.0,
-            -1.0,
-            1.0,
-            -1.0,
-            1.0,
-            1.0,
-            -1.0,
-            1.0,
-            -1.0,
-            1.0,
-            -1.0,
-            1.0,
-            -1.0,
-            -1.0,
-            1.0,
-            -1.0,
-            1.0,
-            -1.0,
-            1.0,
-            -1.0,
-            1.0,
-            1.0,
-            -1.0,
-            1.0,
-            -1.0,
-        ],
-    ],
-];
-
-// The number of states, which the type of the path values fixes.
-fn states(pm: &[f32; 64]) -> usize
-    ensures { λ r. ⌜ (r ≡ 64) × (length (now (pm .entry)) ≡ 64) ⌝ }
-{
-    let values: &[f32] = pm;
-    values.len()
-}
-
-// The term of a soft value x on a branch whose sign is s.
-fn term(s: f32, x: f32) -> f32
-    ensures { λ r. ⌜ r ≡ cond (lt s (ofBits binary32 0)) (neg x) x ⌝ }
-{
-    if s < 0.0 { -x } else { x }
-}
-
-// The greater of two paths; of equals the even one, which is the first.
-fn larger(even: f32, odd: f32) -> f32
-    ensures { λ r. ⌜ r ≡ cond (lt even odd) odd even ⌝ }
-{
-    if odd > even { odd } else { even }
-}
-
-// Whether the odd path is strictly greater, as a bit.
-fn beats(odd: f32, even: f32) -> u32
-    ensures { λ r. ⌜ r ≡ bit (lt even odd) ⌝ }
-{
-    (odd > even) as u32
-}
-
-fn wide(x: u32) -> u64
-    ensures { λ r. ⌜ r ≡ x ⌝ }
-{
-    x as u64
-}
-
-// The add-compare-select of a pair of soft values: lx's term, then ly's. The decision word.
-fn acs(pm: &mut [f32; 64], lx: f32, ly: f32) -> u64
-    ensures { λ r. ⌜ (now (pm .exit) ≡ nexts (now (pm .entry)) (pair lx ly)) × (r ≡ word (now (pm .entry)) (pair lx ly)) ⌝ }
-{
-    let n = states(pm);
-    let old = *pm;
-    let sx = SX;
-    let x00 = sx[0][0];
-    let x01 = sx[0][1];
-    let x10 = sx[1][0];
-    let x11 = sx[1][1];
-    let sy = SY;
-    let y00 = sy[0][0];
-    let y01 = sy[0][1];
-    let y10 = sy[1][0];
-    let y11 = sy[1][1];
-    let mut low: u32 = 0;
-    for j in 0..n / 2 {
-        let m0 = old[2 * j] + term(x00[j], lx) + term(y00[j], ly);
-        let m1 = old[2 * j + 1] + term(x01[j], lx) + term(y01[j], ly);
-        pm[j] = larger(m0, m1);
-        low = low | (beats(m1, m0) << j);
-    }
-    let mut high: u32 = 0;
-    for k in 0..n / 2 {
-        let m0 = old[2 * k] + term(x10[k], lx) + term(y10[k], ly);
-        let m1 = old[2 * k + 1] + term(x11[k], lx) + term(y11[k], ly);
-        pm[HALF + k] = larger(m0, m1);
-        high = high | (beats(m1, m0) << k);
-    }
-    wide(low) + wide(high) * 4294967296
-}
-
-// The metric of the branch whose signs are x and y: the one at 2X + Y.
-fn metric(m: [f32; 4], x: f32, y: f32) -> f32
-    ensures { λ r. ⌜ r ≡ getD m (2 * bit (lt x (ofBits binary32 0)) + bit (lt y (ofBits binary32 0))) nan ⌝ }
-{
-    if x < 0.0 {
-        if y < 0.0 { m[3] } else { m[2] }
-    } else {
-        if y < 0.0 { m[1] } else { m[0] }
-    }
-}
-
-// The add-compare-select of four metrics, that of the branches with the outputs (X, Y) at 2X + Y. The decision word.
-fn acs4(pm: &mut [f32; 64], m: [f32; 4]) -> u64
-    ensures { λ r. ⌜ (now (pm .exit) ≡ nexts (now (pm .entry)) (four m)) × (r ≡ word (now (pm .entry)) (four m)) ⌝ }
-{
-    let n = states(pm);
-    let old = *pm;
-    let sx = SX;
-    let x00 = sx[0][0];
-    let x01 = sx[0][1];
-    let x10 = sx[1][0];
-    let x11 = sx[1][1];
-    let sy = SY;
-    let y00 = sy[0][0];
-    let y01 = sy[0][1];
-    let y10 = sy[1][0];
-    let y11 = sy[1][1];
-    let mut low: u32 = 0;
-    for j in 0..n / 2 {
-        let m0 = old[2 * j] + metric(m, x00[j], y00[j]);
-        let m1 = old[2 * j + 1] + metric(m, x01[j], y01[j]);
-        pm[j] = larger(m0, m1);
-        low = low | (beats(m1, m0) << j);
-    }
-    let mut high: u32 = 0;
-    for k in 0..n / 2 {
-        let m0 = old[2 * k] + metric(m, x10[k], y10[k]);
-        let m1 = old[2 * k + 1] + metric(m, x11[k], y11[k]);
-        pm[HALF + k] = larger(m0, m1);
-        high = high | (beats(m1, m0) << k);
-    }
-    wide(low) + wide(high) * 4294967296
-}
-
-// The greatest path value; of equals the first.
-fn greatest(pm: &[f32; 64]) -> f32
-    ensures { λ r. ⌜ r ≡ top (now (pm .entry)) 64 ⌝ }
-{
-    let mut t = -3.4028235e38f32;
-    for s in 0..STATES {
-        t = larger(t, pm[s]);
-    }
-    t
-}
-
-// Subtracts the greatest path value from each.
-pub fn renormalise(pm: &mut [f32; 64])
-    ensures { λ _. ⌜ now (pm .exit) ≡ renormalised 32 (now (pm .entry)) ⌝ }
-{
-    let n = states(pm);
-    let t = greatest(pm);
-    for s in 0..n {
-        pm[s] = pm[s] - t;
-    }
-}
-
-// Sets the states that the last input b does not lead to.
-fn rule_out(pm: &mut [f32; 64], b: u8)
-    ensures { λ _. ⌜ now (pm .exit) ≡ ruled 32 b (now (pm .entry)) ⌝ }
-{
-    let kept = (b % 2) as usize;
-    let n = states(pm);
-    for s in 0..n {
-        if s / HALF != kept {
-            pm[s] = -1.0e9;
-        }
-    }
-}
-
-// The lowest state of the greatest path value.
-fn best_state(pm: &[f32; 64]) -> usize
-    ensures { λ r. ⌜ (r < 64) × (r ≡ bestState (now (pm .entry))) ⌝ }
-{
-    let mut best: usize = 0;
-    for s in 1..STATES {
-        if pm[s] > pm[best] {
-            best = s;
-        }
-    }
-    best
-}
-
 // What a trellis step carries.
 pub enum Step {
     Pair(f32, f32),
@@ -596,22 +142,22 @@ fn trellis_step(pm: &mut [f32; 64], i: usize, x: Step) -> u64
 {
     match x {
         Step::Pair(lx, ly) => {
-            let w = acs(pm, lx, ly);
+            let w = acs::acs(pm, lx, ly);
             if i % 64 == 63 {
                 renormalise(pm);
             }
             w
         }
         Step::Four(a, b, c, d) => {
-            let w = acs4(pm, [a, b, c, d]);
+            let w = acs::acs4(pm, [a, b, c, d]);
             if i % 64 == 63 {
                 renormalise(pm);
             }
             w
         }
         Step::Known(b) => {
-            let w = acs(pm, 0.0, 0.0);
-            rule_out(pm, b);
+            let w = acs::acs(pm, 0.0, 0.0);
+            acs::rule_out(pm, b);
             renormalise(pm);
             w
         }
@@ -660,7 +206,7 @@ fn release(pm: &[f32; 64], traceback: usize, decisions: &mut [u64], out: &mut [u
     ensures { λ _. ⌜ (now (out .exit) ≡ laid (take 4096 (traced (take (4096 + traceback) (now (decisions .entry))) (bestState (now (pm .entry))))) (now (out .entry)))
         × (now (decisions .exit) ≡ laid (drop 4096 (take (4096 + traceback) (now (decisions .entry)))) (laid (replicate (4096 + traceback) 0) (now (decisions .entry)))) ⌝ }
 {
-    let s = best_state(pm);
+    let s = acs::best_state(pm);
     trace(decisions, BLOCK + traceback, s, BLOCK, out);
     move_down(decisions, traceback);
     clear(&mut decisions[traceback..], BLOCK);
@@ -711,7 +257,7 @@ pub fn finish(pm: &[f32; 64], at: At, decisions: &mut [u64], out: &mut [u8]) -> 
 {
     let held = at.held;
     let count = at.count;
-    let s = best_state(pm);
+    let s = acs::best_state(pm);
     trace(decisions, held, s, held, &mut out[count..]);
     clear(decisions, held);
     count + held

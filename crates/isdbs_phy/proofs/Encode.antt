@@ -1,27 +1,29 @@
 -- A run's points, written one after the other while the encoder's state goes on. Assumes nothing.
 use mathlib.Core.Path.{_≡_, refl, sym, _∙_, ap}
-use mathlib.Core.Bool.{Bool, true, false, cond}
 use mathlib.Core.List.{List, [], _∷_, _++_, append-nil}
 use Prim.Native.Nat.{ℕ, zero, suc, _+_, _-_, _*_, _/_, _%_, _<_, _≤_}
-use native.Mathlib.Nat.{add-zero, zero-add}
+use native.Mathlib.Nat.{zero-add, mod-lt}
 use native.Mathlib.Numerals.{add-one}
 use native.Mathlib.Omega.{arith}
-use lib.Ieee.{Float}
+use lib.Dec.{lit<}
+use lib.Ieee.{Float, nan, neg}
 use lib.ListN.{length, getD, take, drop, set, length-set, length-drop, drop-of-length-le}
 use lib.Seq.{take-all}
 use Rattle.trellis.specs.Lists.{upto, laid}
-use Rattle.trellis.specs.Code.{isdb, label, moved, stateAt}
-use Rattle.isdb_fec.specs.Upto.{length-upto, getD-upto}
+use Rattle.trellis.specs.Code.{isdb, output, label, moved, stateAt}
+use Rattle.trellis.specs.Step.{term}
+use Rattle.isdb_fec.specs.Upto.{getD-upto}
 use Rattle.isdbs_core.specs.declared.combination.Combination.{Combination}
 use Rattle.isdbs_core.specs.declared.combination.Combination.the-variants.{«Bpsk1_2», «Qpsk1_2», «Qpsk2_3», «Qpsk3_4», «Qpsk5_6», «Qpsk7_8», «Tc8psk2_3»}
 use Rattle.isdbs_core.specs.declared.combination.Modulation.the-variants.{Bpsk, Tc8psk}
 use Rattle.isdbs_core.specs.Combinations.{modulationOf}
 use Rattle.isdbs_phy.specs.declared.demod.Mapping.{Mapping}
-use Rattle.isdbs_phy.specs.Points.{bpskOf, psk8Of, subset}
+use Rattle.isdbs_phy.specs.Points.{one64, bpskOf, psk8Of, subset}
 use Rattle.isdbs_phy.specs.Layout.{loadBit}
 use Rattle.isdbs_phy.specs.Frame.{coded, inputIn, labelAt, pointBy}
 use Rattle.isdbs_phy.specs.Pieces.{piece, pieceInputs, pieceLabel, pieceSymbols, mapped, piecePoint, PieceEncoded}
-use Rattle.isdbs_phy.specs.LawsUpto.{laid-upto, laid-part, length-laid-upto}
+use Rattle.isdbs_phy.specs.LawsState.{Follow, state-shift, label-shift}
+use Rattle.isdbs_phy.specs.LawsUpto.{upto-cong, laid-upto, laid-part, length-laid-upto}
 
 -- a part from a on, written at its front and put back
 pub tail-back : {A : Type 0} (a : ℕ) (l f : List A) {p : List A} → a ≤ length l → p ≡ laid f (take (length l - a) (drop a l))
@@ -92,6 +94,37 @@ module _ {us : List ℕ} {s : ℕ} {f g : ℕ → Float} {re₀ im₀ re im : Li
   pub going-as : {j' : ℕ} → Going us s f g re₀ im₀ re im state k j → j ≡ j' → Going us s f g re₀ im₀ re im state k j'
   going-as r e = rw (← e) r
 
+-- the same points by other functions
+pub put-cong : {f g f' g' : ℕ → Float} {re₀ im₀ re im : List Float} {j : ℕ} → Put f g re₀ im₀ re im j
+    → ((i : ℕ) → i < j → f i ≡ f' i) → ((i : ℕ) → i < j → g i ≡ g' i) → Put f' g' re₀ im₀ re im j
+put-cong {f} {g} {f'} {g'} {re₀} {im₀} {re} {im} {j} r ef eg =
+    record {
+      re-is = r .re-is ∙ ap (λ (x : List Float). laid x re₀) (upto-cong f f' j ef);
+      im-is = r .im-is ∙ ap (λ (x : List Float). laid x im₀) (upto-cong g g' j eg);
+      re-length = r .re-length;
+      im-length = r .im-length;
+    }
+
+pub going-cong : {us : List ℕ} {s : ℕ} {f g f' g' : ℕ → Float} {re₀ im₀ re im : List Float} {state k j : ℕ} → Going us s f g re₀ im₀ re im state k j
+    → ((i : ℕ) → i < j → f i ≡ f' i) → ((i : ℕ) → i < j → g i ≡ g' i) → Going us s f' g' re₀ im₀ re im state k j
+going-cong r ef eg = record { small = r .small; state-is = r .state-is; points = put-cong (r .points) ef eg }
+
+-- more steps, of the inputs vs, and n points more, written over the part from j on
+module _ {us : List ℕ} {s : ℕ} {f g : ℕ → Float} {re₀ im₀ re im : List Float} {state k j : ℕ} (r : Going us s f g re₀ im₀ re im state k j) (vs : List ℕ) (p : ℕ) (w : Follow us k vs p) where
+  pub label-more : (i : ℕ) → i < p → labelAt state vs i ≡ labelAt s us (k + i)
+  label-more i l = ap (λ (x : ℕ). labelAt x vs i) (r .state-is) ∙ sym (label-shift s us k vs p w i l)
+
+  pub going-part : (next : ℕ) → next < 64 → next ≡ stateAt 32 state vs p
+      → (f' g' : ℕ → Float) (n : ℕ) (re' im' : List Float) → j + n ≤ length re₀ → j + n ≤ length im₀
+      → re' ≡ take j re ++ laid (upto f' n) (drop j re) → im' ≡ take j im ++ laid (upto g' n) (drop j im)
+      → ((i : ℕ) → i < n → f' i ≡ f (j + i)) → ((i : ℕ) → i < n → g' i ≡ g (j + i)) → Going us s f g re₀ im₀ re' im' next (k + p) (j + n)
+  going-part next h e f' g' n re' im' hr hi er ei ef eg =
+      record {
+        small = h;
+        state-is = e ∙ ap (λ (x : ℕ). stateAt 32 x vs p) (r .state-is) ∙ sym (state-shift 32 s us k vs p w);
+        points = put-part (r .points) f' g' n re' im' hr hi er ei ef eg;
+      }
+
 -- all of a run
 module _ (c : Combination) (m : Mapping) (load : List ℕ) (bit n s : ℕ) {re₀ im₀ re im : List Float} {state k j : ℕ} where
   pub going-end : Going (pieceInputs c load bit n) s (λ j. piecePoint c m load bit n s j .re) (λ j. piecePoint c m load bit n s j .im) re₀ im₀ re im state k j
@@ -109,6 +142,17 @@ module _ (c : Combination) (load : List ℕ) (bit n s k : ℕ) (h : k < n) where
 
   pub piece-label : (l state : ℕ) → state ≡ stateAt 32 s (pieceInputs c load bit n) k → l ≡ label isdb at-k state → l ≡ pieceLabel c load bit n s k
   piece-label l state e d = rw (piece-input, ← e) d
+
+pub output-small : (g u s : ℕ) → output isdb g u s < 2
+unfolding output
+output-small g u s = mod-lt _ (lit< tt)
+
+pub label-small : (s : ℕ) (us : List ℕ) (k : ℕ) → labelAt s us k < 4
+unfolding label
+label-small s us k =
+    let u = getD us k 0 in
+    let t = stateAt 32 s us k in
+    omega (arith, output-small 0o171 u t, output-small 0o133 u t)
 
 -- ---- the points of BPSK and TC8PSK
 module _ (m : Mapping) (load : List ℕ) (bit n s k : ℕ) where
@@ -130,6 +174,12 @@ module _ (m : Mapping) (load : List ℕ) (bit n s k : ℕ) where
       ≡ mapped m (psk8Of (4 * loadBit load (bit + 2 * k) + subset (m .«tc8psk_c1_is_y») (pieceLabel «Tc8psk2_3» load bit n s k)))
   unfolding piecePoint pointBy
   tc8psk-point = rw (zero-add k)
+
+-- the sign of a BPSK point
+pub sign-at : (b : ℕ) → b < 2 → getD (one64 ∷ neg one64 ∷ []) b nan ≡ term b one64
+sign-at zero h = refl
+sign-at (suc zero) h = refl
+sign-at (suc (suc b)) h = absurd (omega arith)
 
 -- ---- the one combination of a modulation
 pub is-bpsk : (c : Combination) → modulationOf c ≡ Bpsk → c ≡ «Bpsk1_2»

@@ -54,6 +54,16 @@ sent-step c n i h =
     let e : (q + 1) * p ≡ q * p + p = omega arith in
     omega arith
 
+-- the steps of a slot are whole bytes of TC8PSK
+pub slot-steps-four : (c : Combination) (v : ℕ) → slotSteps c * v % 4 ≡ 0
+slot-steps-four «Bpsk1_2» v = omega arith
+slot-steps-four «Qpsk1_2» v = omega arith
+slot-steps-four «Qpsk2_3» v = omega arith
+slot-steps-four «Qpsk3_4» v = omega arith
+slot-steps-four «Qpsk5_6» v = omega arith
+slot-steps-four «Qpsk7_8» v = omega arith
+slot-steps-four «Tc8psk2_3» v = omega arith
+
 -- symbol j is one of n steps
 abbrev InRange : Modulation → Combination → ℕ → ℕ → Type 0
 InRange Bpsk c n j = j < n / stepsPerPeriod c * length (orderOf c)

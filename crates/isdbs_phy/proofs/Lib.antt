@@ -1,10 +1,9 @@
 pub mod Encode
 pub mod Patterns
 pub mod Written
+pub mod Gathered
 pub mod EncodeQpsk
-pub mod Shift
-pub mod Narrow
-pub mod Sign
+pub mod EncodeTc8psk
 pub mod ByStep
 pub mod Codes
 pub mod Carried

@@ -2,12 +2,11 @@
 -- the frame is made of them. Assumes nothing.
 use mathlib.Core.Path.{_≡_}
 use mathlib.Core.List.{List}
-use Prim.Native.Nat.{ℕ, _+_, _*_, _/_, _%_, _<_, _≤_}
+use Prim.Native.Nat.{ℕ, _+_, _-_, _*_, _/_, _%_, _^_, _<_, _≤_}
 use lib.ListN.{length, getD}
-use lib.Ieee.{Float}
+use lib.Ieee.{Float, nan}
 use Rattle.trellis.specs.Lists.{upto, laid}
 use Rattle.trellis.specs.Code.{stateAt}
-use Rattle.isdbs_core.specs.declared.combination.BitPair.{BitPair}
 use Rattle.isdbs_core.specs.declared.combination.Combination.{Combination}
 use Rattle.isdbs_core.specs.declared.combination.MaybePuncture.{MaybePuncture}
 use Rattle.isdbs_core.specs.declared.combination.Modulation.{Modulation}
@@ -17,7 +16,8 @@ use Rattle.isdbs_phy.specs.declared.Cplx.{Cplx}
 use Rattle.isdbs_phy.specs.declared.demod.Mapping.{Mapping}
 use Rattle.isdbs_phy.specs.declared.demod.Pattern.{Pattern}
 use Rattle.isdbs_phy.specs.declared.demod.Period.{Period}
-use Rattle.isdbs_phy.specs.Points.{point, qpskOf, turned}
+use Rattle.isdbs_phy.specs.declared.demod.PointTable.{PointTable}
+use Rattle.isdbs_phy.specs.Points.{point, qpskOf, psk8Of, subset, turned}
 use Rattle.isdbs_phy.specs.Layout.{Segment, orderIn, periodIn, orderOf, stepsPerPeriod, loadBit}
 use Rattle.isdbs_phy.specs.Frame.{inputIn, labelAt, pointIn, codedBit}
 
@@ -67,21 +67,58 @@ pub record PieceEncoded (c : Combination) (m : Mapping) (load : List ℕ) (bit n
   pub re-is : re ≡ laid (pieceRe c m load bit n s) re₀
   pub im-is : im ≡ laid (pieceIm c m load bit n s) im₀
 
+-- ---- the points by label
+-- a table that has the points f 0, f 1, .., n of them
+pub record TableOf (n : ℕ) (f : ℕ → Cplx) (t : PointTable) : Type 0 where
+  pub re-at : (l : ℕ) → l < n → getD (t .re) l nan ≡ f l .re
+  pub im-at : (l : ℕ) → l < n → getD (t .im) l nan ≡ f l .im
+
+-- the QPSK point of 2 P1 + P0, and the TC8PSK point of 4 C2 + 2 X + Y, under a mapping
+abbrev pub qpskLabel : Mapping → ℕ → Cplx
+qpskLabel m l = mapped m (qpskOf (m .«qpsk_p1_on_q») (l / 2) (l % 2))
+
+abbrev pub psk8Label : Mapping → ℕ → Cplx
+psk8Label m l = mapped m (psk8Of (4 * (l / 4) + subset (m .«tc8psk_c1_is_y») (l % 4)))
+
+-- ---- one byte of a TC8PSK run
+-- bit i of a byte, high bit first
+abbrev pub byteBit : ℕ → ℕ → ℕ
+byteBit byte i = byte / 2 ^ (7 - i) % 2
+
+-- the coded inputs of its four steps
+abbrev pub byteInputs : ℕ → List ℕ
+byteInputs byte = upto (λ i. byteBit byte (2 * i + 1)) 4
+
+-- 4 C2 + 2 X + Y of its points, encoded from the state s
+abbrev pub byteLabel : ℕ → ℕ → ℕ → ℕ
+byteLabel byte s i = 4 * byteBit byte (2 * i) + labelAt s (byteInputs byte) i
+
+-- what encoding a byte leaves: the state r, and its four points from the tables over the beginning of the lent parts
+pub record ByteEncoded (byte s r : ℕ) (xs ys re₀ re im₀ im : List Float) : Type 0 where
+  pub small : r < 64
+  pub state-is : r ≡ stateAt 32 s (byteInputs byte) 4
+  pub re-is : re ≡ laid (upto (λ i. getD xs (byteLabel byte s i) nan) 4) re₀
+  pub im-is : im ≡ laid (upto (λ i. getD ys (byteLabel byte s i) nan) 4) im₀
+
 -- ---- one period of a QPSK run
 -- the inputs of n steps from a bit of the load on
 abbrev pub plainInputs : List ℕ → ℕ → ℕ → List ℕ
 plainInputs load bit n = upto (λ k. loadBit load (bit + k)) n
 
--- a period of n steps: 2 X + Y at each, and the state after it
+-- mother bit a of a period, by its steps' labels, and in a word whose lowest digit is the mother bit `last`
+abbrev pub patternBit : (ℕ → ℕ) → ℕ → ℕ → ℕ
+patternBit at base a = codedBit a (at (base + a / 2))
+
+abbrev pub motherBit : ℕ → ℕ → ℕ → ℕ
+motherBit word last a = word / 2 ^ (last - a) % 2
+
+-- a period of n steps: its mother bits, and the state after it
 pub record PeriodEncoded (load : List ℕ) (bit n s : ℕ) (r : Period) : Type 0 where
   pub small : r .state < 64
   pub state-is : r .state ≡ stateAt 32 s (plainInputs load bit n) n
-  pub labels-are : (k : ℕ) → k < n → getD (r .labels) k 0 ≡ labelAt s (plainInputs load bit n) k
+  pub bits-are : (a : ℕ) → a < 2 * n → motherBit (r .word) (2 * n - 1) a ≡ patternBit (labelAt s (plainInputs load bit n)) 0 a
 
 -- a pattern in the code's form: its steps, and its mother bits in pairs
-abbrev pub noPair : BitPair
-noPair = record { p1 = 0; p0 = 0 }
-
 pub record PatternOf (p : MaybePuncture) (r : Pattern) : Type 0 where
   pub period-is : r .period ≡ periodIn p
   pub count-is : length (orderIn p) ≡ 2 * r .count
@@ -89,29 +126,20 @@ pub record PatternOf (p : MaybePuncture) (r : Pattern) : Type 0 where
   pub some : 0 < r .period
   pub few : r .count ≤ 4
   pub pairs-many : 0 < r .count
-  pub first : (i : ℕ) → i < r .count → getD (r .pairs) i noPair .p1 ≡ getD (orderIn p) (2 * i) 0
-  pub second : (i : ℕ) → i < r .count → getD (r .pairs) i noPair .p0 ≡ getD (orderIn p) (2 * i + 1) 0
+  pub first : (i : ℕ) → i < r .count → getD (r .p1) i 0 ≡ getD (orderIn p) (2 * i) 0
+  pub second : (i : ℕ) → i < r .count → getD (r .p0) i 0 ≡ getD (orderIn p) (2 * i + 1) 0
   pub within : (i : ℕ) → getD (orderIn p) i 0 / 2 < r .period
 
--- the mother bit a of a period whose steps have the labels ls
-abbrev pub motherBit : List ℕ → ℕ → ℕ
-motherBit ls a = codedBit a (getD ls (a / 2) 0)
+-- the first `count` of a list are mother bits, `last` at most
+abbrev pub AtMost : ℕ → ℕ → List ℕ → Type 0
+AtMost count last ms = (i : ℕ) → i < count → getD ms i 0 ≤ last
 
--- the point that pair i of a period gives
-abbrev pub pairPoint : Mapping → List ℕ → List BitPair → ℕ → Cplx
-pairPoint m ls ps i =
-    mapped m (qpskOf (m .«qpsk_p1_on_q») (motherBit ls (getD ps i noPair .p1) % 2) (motherBit ls (getD ps i noPair .p0) % 2))
+-- 2 P1 + P0 of pair i of a period
+abbrev pub pairLabel : ℕ → ℕ → List ℕ → List ℕ → ℕ → ℕ
+pairLabel word last p1 p0 i = 2 * motherBit word last (getD p1 i 0) + motherBit word last (getD p0 i 0)
 
--- the pairs name steps of a period only
-abbrev pub PairsWithin : ℕ → List BitPair → Type 0
-PairsWithin count ps = (i : ℕ) → i < count → (getD ps i noPair .p1 / 2 < 8) × (getD ps i noPair .p0 / 2 < 8)
-
--- point j of a QPSK run whose pattern has `period` steps and `count` pairs; `at` gives 2 X + Y at each step of the run
-abbrev pub patternBit : (ℕ → ℕ) → ℕ → ℕ → ℕ
-patternBit at base a = codedBit a (at (base + a / 2))
-
-unfoldable pub patternPoint : Mapping → (ℕ → ℕ) → ℕ → ℕ → List BitPair → ℕ → Cplx
-patternPoint m at period count ps j =
-    let pair = getD ps (j % count) noPair in
+-- 2 P1 + P0 of point j of a QPSK run whose pattern has `period` steps and `count` pairs; `at` gives 2 X + Y at each step of the run
+unfoldable pub patternLabel : (ℕ → ℕ) → ℕ → ℕ → List ℕ → List ℕ → ℕ → ℕ
+patternLabel at period count p1 p0 j =
     let base = j / count * period in
-    mapped m (qpskOf (m .«qpsk_p1_on_q») (patternBit at base (pair .p1)) (patternBit at base (pair .p0)))
+    2 * patternBit at base (getD p1 (j % count) 0) + patternBit at base (getD p0 (j % count) 0)

@@ -3,12 +3,12 @@
 -- two f32 numbers (`rounded-between`, which gives finiteness too). Here: the range of a soft value, and example J. Assumes nothing.
 use mathlib.Core.Path.{_≡_, refl}
 use mathlib.Core.Logic.{_⊎_, inl, inr}
-use mathlib.Core.Bool.{Bool, true, false, cond, _&&_}
+use mathlib.Core.Bool.{Bool, true, false, _&&_}
 use Prim.Native.Nat.{ℕ, _+_, _*_, _≤_}
 use native.Mathlib.Omega.{arith}
 use lib.IntN.{pos, negsuc}
 use lib.Dec.{T, eqb}
-use lib.Ieee.{Float, fin, binary32, binary64, fits, le, top, ofBits, toBits}
+use lib.Ieee.{Float, fin, binary32, binary64, fits, le, ofBits, toBits}
 use Rattle.ieee.specs.Value.{hi, lo, Num, one-side}
 use Rattle.ieee.specs.Order.{Le}
 use Rattle.ieee.specs.Rounding.{pow2}
@@ -17,11 +17,6 @@ use Rattle.ieee.specs.Conversion.{rounded, rounded-between}
 -- the soft value of a part, before the scale
 unfoldable pub softOf : Float → Float
 softOf x = rounded binary32 x
-
--- ---- what the code works out: r is the pattern of the f32 nearest to the f64 of the pattern b, both without the sign, whichever sign is put before both
-pub record Narrowed (b r : ℕ) : Type 0 where
-  pub small : r ≤ 0x7f80_0000
-  pub nearest : (s : Bool) → ofBits binary32 (cond s (top binary32) 0 + r) ≡ rounded binary32 (ofBits binary64 (cond s (top binary64) 0 + b))
 
 -- ---- ranges: z is an f32 number of magnitude n at most
 pub record Within (n : ℕ) (z : Float) : Type 0 where

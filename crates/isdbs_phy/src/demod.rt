@@ -5,7 +5,6 @@ use crate::answers::frame_size;
 use crate::reading::decode;
 use isdb_fec::conv::ConvEncoder;
 use isdb_fec::conv::encode_bit;
-use isdbs_core::combination::BitPair;
 use isdbs_core::combination::Combination;
 use isdbs_core::combination::MaybePuncture;
 use isdbs_core::combination::Modulation;
@@ -21,7 +20,7 @@ ghost use mathlib.Core.Path.{_≡_};
 ghost use mathlib.Core.Bool.{true, false, cond};
 ghost use Prim.Native.Nat.{ℕ, _+_, _*_, _/_, _%_, _<_, _≤_, _^_};
 ghost use lib.ListN.{length, getD, take};
-ghost use lib.Ieee.{binary32, ofBits};
+ghost use lib.Ieee.{binary32, ofBits, nan};
 ghost use Rattle.refusal.specs.declared.Answer.the-variants.{Accepted};
 ghost use Rattle.refusal.specs.Rows.{firstRow};
 ghost use Rattle.trellis.specs.Lists.{upto, laid};
@@ -39,7 +38,7 @@ ghost use Rattle.isdbs_phy.specs.DecodeRows.{decodeRows, frameAnswer, Ke
 ghost use Rattle.isdbs_phy.specs.Encoding.{encodeRows, encodeFrameRows, FrameLaid, PartsKept, Tiled, RunsMade};
 ghost use Rattle.isdbs_phy.specs.Steps.{received};
 ghost use Rattle.isdbs_phy.specs.Runs.{FrameRead};
-ghost use Rattle.isdbs_phy.specs.Pieces.{pieceSymbols, PieceEncoded, PeriodEncoded, PatternOf, PairsWithin, motherBit, pairPoint};
+ghost use Rattle.isdbs_phy.specs.Pieces.{pieceSymbols, PieceEncoded, byteBit, ByteEncoded, TableOf, qpskLabel, psk8Label, PeriodEncoded, PatternOf, AtMost, motherBit, pairLabel};
 
 // 1 / sqrt 2 as an f64.
 const ROOT: f64 = 0.7071067811865476;
@@ -164,16 +163,26 @@ pub(crate) fn mirror(conjugate: bool, y: f64) -> f64
     if conjugate { -y } else { y }
 }
 
+// Byte `at` of the load; missing bytes are 0.
+fn load_byte(bytes: &[u8], at: usize) -> u8
+    ensures { λ r. ⌜ r ≡ getD (now (bytes .entry)) at 0 ⌝ }
+{
+    if at < bytes.len() { bytes[at] } else { 0 }
+}
+
+// Bit i of a byte, high bit first.
+fn byte_bit(byte: u8, i: usize) -> u8
+    requires { ⌜ i < 8 ⌝ }
+    ensures { λ r. ⌜ r ≡ byteBit byte i ⌝ }
+{
+    (byte >> (7 - i)) % 2
+}
+
 // Bit n of the load, high bit first; missing bits are 0.
 fn load_bit(bytes: &[u8], n: usize) -> u8
     ensures { λ r. ⌜ r ≡ loadBit (now (bytes .entry)) n ⌝ }
 {
-    let at = n / 8;
-    if at < bytes.len() {
-        (bytes[at] >> (7 - n % 8)) % 2
-    } else {
-        0
-    }
+    byte_bit(load_byte(bytes, n / 8), n % 8)
 }
 
 // The QPSK point of (P1, P0) under a mapping.
@@ -199,7 +208,20 @@ pub(crate) fn subset_of(c1_is_y: bool, l: u8) -> u8
 // 2 X + Y of a trellis step, and the state after it.
 pub struct Sent {
     pub state: u8,
-    pub label: u8,
+    pub label: usize,
+}
+
+// The trellis step of an input, of which the low bit counts.
+fn encode_input(u: u8, state: u8) -> Sent
+    requires { ⌜ state < 64 ⌝ }
+    ensures { λ r. ⌜ (r .label ≡ label isdb (u % 2) state) × (r .state ≡ moved 32 (u % 2) state) × (r .state < 64) × (r .label < 4) ⌝ }
+{
+    let c = encode_bit(state, u);
+    let label = 2 * c.x + c.y;
+    Sent {
+        state: c.state,
+        label: label as usize,
+    }
 }
 
 // The trellis step that bit n of the load makes.
@@ -207,11 +229,46 @@ fn encode_step(bytes: &[u8], n: usize, state: u8) -> Sent
     requires { ⌜ state < 64 ⌝ }
     ensures { λ r. ⌜ (r .label ≡ label isdb (loadBit (now (bytes .entry)) n) state) × (r .state ≡ moved 32 (loadBit (now (bytes .entry)) n) state) × (r .state < 64) × (r .label < 4) ⌝ }
 {
-    let c = encode_bit(state, load_bit(bytes, n));
-    Sent {
-        state: c.state,
-        label: 2 * c.x + c.y,
+    encode_input(load_bit(bytes, n), state)
+}
+
+// The points of a modulation under a mapping, by label.
+pub struct PointTable {
+    pub re: [f64; 8],
+    pub im: [f64; 8],
+}
+
+// The QPSK points by 2 P1 + P0.
+fn qpsk_table(m: Mapping) -> PointTable
+    ensures { λ r. ⌜ TableOf 4 (qpskLabel m) r ⌝ }
+{
+    let mut re = [0.0; 8];
+    let mut im = [0.0; 8];
+    let mut l: usize = 0;
+    while l < 4 {
+        let p = qpsk_mapped(m.qpsk_p1_on_q, (l / 2) as u8, l as u8);
+        re[l] = p.re;
+        im[l] = mirror(m.conjugate, p.im);
+        l += 1;
     }
+    PointTable { re, im }
+}
+
+// The TC8PSK points by 4 C2 + 2 X + Y.
+fn psk8_table(m: Mapping) -> PointTable
+    ensures { λ r. ⌜ TableOf 8 (psk8Label m) r ⌝ }
+{
+    let mut re = [0.0; 8];
+    let mut im = [0.0; 8];
+    let mut l: usize = 0;
+    while l < 8 {
+        let c1_c0 = subset_of(m.tc8psk_c1_is_y, (l % 4) as u8);
+        let p = psk8_point(4 * (l / 4) as u8 + c1_c0);
+        re[l] = p.re;
+        im[l] = mirror(m.conjugate, p.im);
+        l += 1;
+    }
+    PointTable { re, im }
 }
 
 // A run of BPSK: X, then Y, on successive symbols.
@@ -227,22 +284,43 @@ fn encode_bpsk(
     requires { ⌜ (start < 64) × (bit + n < 2 ^ 32) × (2 * n ≤ length (now re)) × (2 * n ≤ length (now im)) ⌝ }
     ensures { λ r. ⌜ PieceEncoded «Bpsk1_2» m (now (bytes .entry)) bit n start r (now (re .entry)) (now (re .exit)) (now (im .entry)) (now (im .exit)) ⌝ }
 {
+    let signs = [1.0, -1.0];
     let mut state = start;
     let mut k: usize = 0;
     while k < n {
         let sent = encode_step(bytes, bit + k, state);
+        let l = sent.label;
         state = sent.state;
         let y = mirror(m.conjugate, 0.0);
-        re[2 * k] = sign_of(sent.label / 2, 1.0);
+        re[2 * k] = signs[l / 2];
         im[2 * k] = y;
-        re[2 * k + 1] = sign_of(sent.label, 1.0);
+        re[2 * k + 1] = signs[l % 2];
         im[2 * k + 1] = y;
         k += 1;
     }
     state
 }
 
-// A run of TC8PSK: C2 uncoded, then one coded bit.
+// The four points of a byte of a TC8PSK run: of each, C2 uncoded, then one coded bit.
+fn put_byte(byte: u8, start: u8, xs: &[f64; 8], ys: &[f64; 8], re: &mut [f64], im: &mut [f64]) -> u8
+    requires { ⌜ (start < 64) × (4 ≤ length (now re)) × (4 ≤ length (now im)) ⌝ }
+    ensures { λ r. ⌜ ByteEncoded byte start r (now (xs .entry)) (now (ys .entry)) (now (re .entry)) (now (re .exit)) (now (im .entry)) (now (im .exit)) ⌝ }
+{
+    let mut state = start;
+    let mut i: usize = 0;
+    while i < 4 {
+        let c2 = byte_bit(byte, 2 * i);
+        let sent = encode_input(byte_bit(byte, 2 * i + 1), state);
+        let l = 4 * (c2 as usize) + sent.label;
+        state = sent.state;
+        re[i] = xs[l];
+        im[i] = ys[l];
+        i += 1;
+    }
+    state
+}
+
+// A run of TC8PSK, byte by byte.
 fn encode_tc8psk(
     bytes: &[u8],
     bit: usize,
@@ -252,27 +330,26 @@ fn encode_tc8psk(
     re: &mut [f64],
     im: &mut [f64],
 ) -> u8
-    requires { ⌜ (start < 64) × (bit + 2 * n < 2 ^ 32) × (n ≤ length (now re)) × (n ≤ length (now im)) ⌝ }
+    requires { ⌜ (start < 64) × (bit + 2 * n < 2 ^ 32) × (n ≤ length (now re)) × (n ≤ length (now im)) × (bit % 8 ≡ 0) × (n % 4 ≡ 0) ⌝ }
     ensures { λ r. ⌜ PieceEncoded «Tc8psk2_3» m (now (bytes .entry)) bit n start r (now (re .entry)) (now (re .exit)) (now (im .entry)) (now (im .exit)) ⌝ }
 {
+    let t = psk8_table(m);
+    let xs = t.re;
+    let ys = t.im;
     let mut state = start;
     let mut k: usize = 0;
     while k < n {
-        let c2 = load_bit(bytes, bit + 2 * k);
-        let sent = encode_step(bytes, bit + 2 * k + 1, state);
-        let p = psk8_point(4 * c2 + subset_of(m.tc8psk_c1_is_y, sent.label));
-        state = sent.state;
-        re[k] = p.re;
-        im[k] = mirror(m.conjugate, p.im);
-        k += 1;
+        let byte = load_byte(bytes, bit / 8 + k / 4);
+        state = put_byte(byte, state, &xs, &ys, &mut re[k..], &mut im[k..]);
+        k += 4;
     }
     state
 }
 
-// The labels of a period, and the state after it.
+// The mother bits of a period as the binary digits of a number, the first one highest, and the state after it.
 pub struct Period {
     pub state: u8,
-    pub labels: [u8; 8],
+    pub word: usize,
 }
 
 // The trellis steps of n bits from bit `bit` of the load on.
@@ -280,32 +357,32 @@ fn encode_period(bytes: &[u8], bit: usize, n: usize, start: u8) -> Period
     requires { ⌜ (start < 64) × (n ≤ 8) × (bit + n < 2 ^ 32) ⌝ }
     ensures { λ r. ⌜ PeriodEncoded (now (bytes .entry)) bit n start r ⌝ }
 {
-    let mut labels = [0u8; 8];
+    let mut word: usize = 0;
     let mut state = start;
     let mut k: usize = 0;
     while k < n {
         let sent = encode_step(bytes, bit + k, state);
         state = sent.state;
-        labels[k] = sent.label;
+        word = 4 * word + sent.label;
         k += 1;
     }
-    Period { state, labels }
+    Period { state, word }
 }
 
-// Mother bit a of a period.
-fn mother_bit(labels: &[u8; 8], a: usize) -> u8
-    requires { ⌜ a / 2 < 8 ⌝ }
-    ensures { λ r. ⌜ r ≡ motherBit (now (labels .entry)) a ⌝ }
+// Mother bit a of a period whose last one is mother bit `last`.
+fn mother_bit(word: usize, last: usize, a: usize) -> usize
+    requires { ⌜ (a ≤ last) × (last < 16) ⌝ }
+    ensures { λ r. ⌜ r ≡ motherBit word last a ⌝ }
 {
-    let l = labels[a / 2];
-    if a % 2 == 0 { l / 2 } else { l % 2 }
+    (word >> (last - a)) % 2
 }
 
-// The steps and the pairs of a period of a QPSK code.
+// The steps and the pairs of a period of a QPSK code: the mother bits that are P1, and those that are P0.
 pub struct Pattern {
     pub period: usize,
     pub count: usize,
-    pub pairs: [BitPair; 4],
+    pub p1: [usize; 4],
+    pub p0: [usize; 4],
 }
 
 // The pattern of a combination; unpunctured, one step and the pair X Y.
@@ -317,43 +394,48 @@ fn pattern_of(c: Combination) -> Pattern
         MaybePuncture::Some(p) => {
             let all = p.pairs();
             let pairs = all.pairs;
+            let a = pairs[0];
+            let b = pairs[1];
+            let c = pairs[2];
+            let d = pairs[3];
             Pattern {
                 period: p.period(),
                 count: all.count,
-                pairs,
+                p1: [a.p1, b.p1, c.p1, d.p1],
+                p0: [a.p0, b.p0, c.p0, d.p0],
             }
         }
-        MaybePuncture::None => {
-            let xy = BitPair { p1: 0, p0: 1 };
-            Pattern {
-                period: 1,
-                count: 1,
-                pairs: [xy, xy, xy, xy],
-            }
-        }
+        MaybePuncture::None => Pattern {
+            period: 1,
+            count: 1,
+            p1: [0, 0, 0, 0],
+            p0: [1, 1, 1, 1],
+        },
     }
 }
 
 // The points of a period's pairs.
 fn put_pairs(
-    labels: &[u8; 8],
-    pairs: [BitPair; 4],
+    word: usize,
+    last: usize,
+    p1: &[usize; 4],
+    p0: &[usize; 4],
     count: usize,
-    m: Mapping,
+    xs: &[f64; 8],
+    ys: &[f64; 8],
     re: &mut [f64],
     im: &mut [f64],
 )
-    requires { ⌜ (count ≤ 4) × (count ≤ length (now re)) × (count ≤ length (now im)) × PairsWithin count pairs ⌝ }
-    ensures { λ _. ⌜ (now (re .exit) ≡ laid (upto (λ i. pairPoint m (now (labels .entry)) pairs i .re) count) (now (re .entry))) × (now (im .exit) ≡ laid (upto (λ i. pairPoint m (now (labels .entry)) pairs i .im) count) (now (im .entry))) ⌝ }
+    requires { ⌜ (count ≤ 4) × (last < 16) × (count ≤ length (now re)) × (count ≤ length (now im)) × AtMost count last (now p1) × AtMost count last (now p0) ⌝ }
+    ensures { λ _. ⌜ (now (re .exit) ≡ laid (upto (λ i. getD (now (xs .entry)) (pairLabel word last (now (p1 .entry)) (now (p0 .entry)) i) nan) count) (now (re .entry))) × (now (im .exit) ≡ laid (upto (λ i. getD (now (ys .entry)) (pairLabel word last (now (p1 .entry)) (now (p0 .entry)) i) nan) count) (now (im .entry))) ⌝ }
 {
     let mut i: usize = 0;
     while i < count {
-        let pair = pairs[i];
-        let p1 = mother_bit(labels, pair.p1);
-        let p0 = mother_bit(labels, pair.p0);
-        let p = qpsk_mapped(m.qpsk_p1_on_q, p1, p0);
-        re[i] = p.re;
-        im[i] = mirror(m.conjugate, p.im);
+        let a = mother_bit(word, last, p1[i]);
+        let b = mother_bit(word, last, p0[i]);
+        let l = 2 * a + b;
+        re[i] = xs[l];
+        im[i] = ys[l];
         i += 1;
     }
 }
@@ -375,7 +457,12 @@ fn encode_qpsk(
     let p = pattern_of(c);
     let period = p.period;
     let count = p.count;
-    let pairs = p.pairs;
+    let p1 = p.p1;
+    let p0 = p.p0;
+    let last = 2 * period - 1;
+    let t = qpsk_table(m);
+    let xs = t.re;
+    let ys = t.im;
     let periods = n / period;
     let mut state = start;
     let mut done: usize = 0;
@@ -383,9 +470,18 @@ fn encode_qpsk(
     let mut q: usize = 0;
     while q < periods {
         let e = encode_period(bytes, bit + done, period, state);
-        let labels = e.labels;
         state = e.state;
-        put_pairs(&labels, pairs, count, m, &mut re[j..], &mut im[j..]);
+        put_pairs(
+            e.word,
+            last,
+            &p1,
+            &p0,
+            count,
+            &xs,
+            &ys,
+            &mut re[j..],
+            &mut im[j..],
+        );
         done += period;
         j += count;
         q += 1;
@@ -393,7 +489,7 @@ fn encode_qpsk(
     state
 }
 
-// A run of n steps, whose first bit is bit `bit` of the load.
+// A run of n steps, whose first bit is bit `bit` of the load: the first of a byte.
 fn encode_run(
     bytes: &[u8],
     c: Combination,
@@ -404,7 +500,7 @@ fn encode_run(
     re: &mut [f64],
     im: &mut [f64],
 ) -> u8
-    requires { ⌜ (start < 64) × (bit + 2 * n < 2 ^ 32) × (n ≡ n / stepsPerPeriod c * stepsPerPeriod c) × (pieceSymbols c n ≤ length (now re)) × (pieceSymbols c n ≤ length (now im)) ⌝ }
+    requires { ⌜ (start < 64) × (bit + 2 * n < 2 ^ 32) × (n ≡ n / stepsPerPeriod c * stepsPerPeriod c) × (pieceSymbols c n ≤ length (now re)) × (pieceSymbols c n ≤ length (now im)) × (bit % 8 ≡ 0) × (n % 4 ≡ 0) ⌝ }
     ensures { λ r. ⌜ PieceEncoded c m (now (bytes .entry)) bit n start r (now (re .entry)) (now (re .exit)) (now (im .entry)) (now (im .exit)) ⌝ }
 {
     let modulation = c.modulation();
@@ -569,8 +665,6 @@ pub fn encode_frame(
     let made = encode_frame_with_state(bytes, t, enc, m, re, im);
     made.answer
 }
-
-// ---- decoding
 
 // ---- decoding
 

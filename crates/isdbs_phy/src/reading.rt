@@ -99,7 +99,7 @@ fn read_runs(
         let r = list[i];
         let c = r.combination;
         let n = c.steps_per_slot() * r.valid_slots;
-        let from = r.symbol_start;
+        let start = r.symbol_start;
         at = read_run(
             pm,
             at,
@@ -108,8 +108,8 @@ fn read_runs(
             c,
             m,
             scale,
-            &re[from..],
-            &im[from..],
+            &re[start..],
+            &im[start..],
             decisions,
             bits,
         );

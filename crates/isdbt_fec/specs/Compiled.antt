@@ -12,7 +12,7 @@ use Rattle.isdbt_fec.specs.declared.conv.CodeRate.the-variants.{R1_2, R2
 use Rattle.isdbt_fec.specs.declared.conv.PunctureSpec.{PunctureSpec}
 use Rattle.isdbt_fec.specs.declared.conv.Puncturing.{Puncturing}
 use Rattle.isdbt_fec.specs.Table.{rowOf, specOf, compiled}
-use Rattle.isdbt_fec.specs.Each.{both-left, both-right, all, each}
+use Rattle.isdb_fec.specs.Each.{both-left, both-right, all, each}
 
 -- the table: each rate's row in its place
 abbrev pub table : List PunctureSpec

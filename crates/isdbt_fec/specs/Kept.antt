@@ -15,7 +15,7 @@ use Rattle.isdbt_fec.specs.declared.conv.CodeRate.{CodeRate}
 use Rattle.isdbt_fec.specs.declared.conv.CodeRate.the-variants.{R1_2, R2_3, R3_4, R5_6, R7_8}
 use Rattle.isdbt_fec.specs.Table.{rowX, rowY, period, sent, order}
 use Rattle.isdbt_fec.specs.Puncture.{place, spread, softAt, depunctured, kept}
-use Rattle.isdbt_fec.specs.Each.{all, each}
+use Rattle.isdb_fec.specs.Each.{all, each}
 use Rattle.isdbt_fec.specs.Upto.{upto-same}
 use Rattle.isdbt_fec.specs.Sizes.{Sizes, sizes, place-in, values-there}
 

@@ -2,7 +2,6 @@ pub mod Table
 pub mod Puncture
 pub mod Rows
 pub mod Calls
-pub mod Each
 pub mod Upto
 pub mod Compiled
 pub mod Sizes

@@ -13,7 +13,7 @@ use Rattle.isdbt_fec.specs.declared.conv.CodeRate.the-variants.{R1_2, R2
 use Rattle.isdbt_fec.specs.declared.conv.Puncturing.{Puncturing}
 use Rattle.isdbt_fec.specs.Table.{period, sent, order, compiled}
 use Rattle.isdbt_fec.specs.Sizes.{Sizes, sizes, in-order, order-at}
-use Rattle.isdbt_fec.specs.Each.{all, each}
+use Rattle.isdb_fec.specs.Each.{all, each}
 
 pub record Numbers (rate : CodeRate) (p : Puncturing) : Type 0 where
   pub period-is : p .period ≡ period rate

@@ -19,7 +19,8 @@ use Rattle.trellis.specs.Code.{moved}
 use Rattle.trellis.specs.Step.{known, Tie, term, branch, cand, wins, next, nexts, best, ruled, kept}
 use Rattle.trellis.specs.Run.{settled, valuesAt, wordAt}
 use Rattle.lead.specs.Favour.{margin}
-use Rattle.lead.specs.Lists.{getD-upto, getD-nexts}
+use Rattle.trellis.specs.ListLaws.{getD-upto}
+use Rattle.lead.specs.Lists.{getD-nexts}
 use Rattle.lead.specs.Ties.{pick, same, false-of, true-of, wins-is, next-is}
 use Rattle.lead.specs.Step.{Leads}
 use Rattle.lead.specs.Maximum.{ahead-of, best-is, leads-renormalised}

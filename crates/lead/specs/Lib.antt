@@ -1,7 +1,6 @@
 -- What is stated: Favour (what is received), Sent.follows and Sent.led-by (the sent state leads, with the rounding loss), Frame.decoded-sent (a whole frame is decoded),
 -- Unique.favoured-once, Ideal.received-favours (the hypothesis is met). The other chapters are the proof.
 pub mod Favour
-pub mod Round
 pub mod Lists
 pub mod Ties
 pub mod Complement

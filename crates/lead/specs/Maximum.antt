@@ -16,7 +16,7 @@ use Rattle.ieee.specs.Order.{Lt, lt→value, value→lt}
 use Rattle.ieee.specs.Rounding.{Rounds, pow2, pow2-pos, fine-pow2}
 use Rattle.ieee.specs.Sums.{sub-rounds}
 use Rattle.trellis.specs.Step.{Tie, takes, top, best, renormalised}
-use Rattle.lead.specs.Round.{rounds-cap, rounds-floor, rounds-deep, rounds-up}
+use Rattle.ieee.specs.Bounds.{rounds-cap, rounds-floor, rounds-deep, rounds-up}
 use Rattle.lead.specs.Ties.{same, takes-greater, takes-less}
 use Rattle.lead.specs.Step.{Leads}
 

@@ -18,7 +18,8 @@ use Rattle.trellis.specs.Code.{isdb, label, moved, stateAt}
 use Rattle.trellis.specs.Step.{Step, four, Tie, wins, nexts, word, best, renormalised, kept, traced}
 use Rattle.trellis.specs.Run.{startAt, settled, valuesAt, wordAt}
 use Rattle.lead.specs.Favour.{longest, margin, windows, frameLoss, left, Favours}
-use Rattle.lead.specs.Lists.{length-upto, getD-upto, word-bit}
+use Rattle.trellis.specs.ListLaws.{length-upto, getD-upto}
+use Rattle.lead.specs.Lists.{word-bit}
 use Rattle.lead.specs.Ties.{same, false-of}
 use Rattle.lead.specs.Step.{Leads}
 use Rattle.lead.specs.Maximum.{Ahead, ahead-of, best-is}

@@ -17,7 +17,7 @@ use Rattle.ieee.specs.Sums.{add-rounds}
 use Rattle.trellis.specs.Code.{isdb, label}
 use Rattle.trellis.specs.Step.{four, Tie, branch, cand, wins, next, nexts}
 use Rattle.lead.specs.Favour.{margin, none, most, least, Favour}
-use Rattle.lead.specs.Round.{rounds-cap, rounds-floor, rounds-up, rounds-below}
+use Rattle.ieee.specs.Bounds.{rounds-cap, rounds-floor, rounds-up, rounds-below}
 use Rattle.lead.specs.Lists.{getD-nexts}
 use Rattle.lead.specs.Ties.{pick, same, wins-is, next-is}
 use Rattle.lead.specs.Complement.{small, complement}

@@ -14,7 +14,7 @@ use lib.Ieee.{Float}
 use Rattle.ieee.specs.Rounding.{le-or-ge}
 use Rattle.trellis.specs.Step.{Step, Tie, nexts, word, best, kept, back, input, traced}
 use Rattle.trellis.specs.Run.{Decoder, block, valuesAt, wordAt, settled, decoded, released, stepped, after, flushed}
-use Rattle.lead.specs.Lists.{length-upto, getD-upto}
+use Rattle.trellis.specs.ListLaws.{length-upto, getD-upto}
 use Rattle.lead.specs.Ties.{same}
 
 -- what holds below a, and of the b numbers from a on

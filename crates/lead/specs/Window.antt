@@ -16,7 +16,7 @@ use Rattle.trellis.specs.Code.{isdb, label}
 use Rattle.trellis.specs.Step.{four, Tie, wins, nexts, renormalised}
 use Rattle.trellis.specs.Run.{startAt}
 use Rattle.lead.specs.Favour.{margin, windows, left, Favour}
-use Rattle.lead.specs.Lists.{getD-upto}
+use Rattle.trellis.specs.ListLaws.{getD-upto}
 use Rattle.lead.specs.Ties.{same, true-of, false-of}
 use Rattle.lead.specs.Step.{Leads, leads-next, decides}
 use Rattle.lead.specs.Maximum.{leads-renormalised}

@@ -9,7 +9,7 @@ use lib.Ieee.{Float, nan, binary32, fits, le}
 use Rattle.ieee.specs.Value.{hi, lo, Num}
 use Rattle.ieee.specs.Rounding.{pow2, pow2-add}
 use Rattle.trellis.specs.Lists.{upto}
-use Rattle.lead.specs.Lists.{getD-upto}
+use Rattle.trellis.specs.ListLaws.{getD-upto}
 use Rattle.lead.specs.Favour.{none, most, least, margin, Above, Favour}
 
 -- 1/16

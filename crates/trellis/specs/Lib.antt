@@ -1,5 +1,6 @@
 pub mod Lists
+pub mod ListLaws
 pub mod Code
 pub mod Step
 pub mod Run
-pub mod Examples
+pub mod Taps

@@ -1,4 +1,5 @@
 // The examples of document 01 that are executed, and traps of its rules: what is written is held to the file stdout.
+use isdbs_core::combination;
 use isdbs_core::combination::Combination;
 use isdbs_core::combination::MaybeCombination;
 use isdbs_core::frame;
@@ -220,6 +221,64 @@ fn tail(name: &[u8], t: u32) {
     text(b"\n");
 }
 
+// The numbers of a frame, as the paper has them.
+fn frame_numbers() {
+    text(b"frame:");
+    count(frame::SLOTS);
+    count(frame::FRAMES);
+    count(frame::SLOT_BYTES);
+    count(frame::PACKET_BYTES);
+    count(frame::MAIN_SYMBOLS);
+    count(frame::FRAME_SYMBOLS);
+    count(frame::SUPERFRAME_SYMBOLS);
+    text(b"\nheader and bursts:");
+    count(frame::HEADER_SYMBOLS);
+    count(frame::HEADER_BYTES);
+    count(frame::BURSTS);
+    count(frame::BURST_PERIOD);
+    count(frame::BURST_SYMBOLS);
+    text(b"\nTMCC:");
+    count(frame::TMCC_BYTES_PER_FRAME);
+    count(frame::E_MAX);
+    count(tmcc::CM);
+    text(b"\n");
+}
+
+// The words that a frame's header begins with and ends in, and where their coded tails stand.
+fn header_words() {
+    text(b"words:");
+    number(frame::W1 as u64);
+    number(frame::W2 as u64);
+    number(frame::W3 as u64);
+    text(b"\ntails:");
+    count(frame::CODED_TAIL_BITS);
+    count(frame::W1_TAIL_AT);
+    count(frame::W23_TAIL_AT);
+    text(b"\n");
+}
+
+// The combinations in their order, and the word and slots of an entry not in use.
+fn combinations() {
+    text(b"by efficiency:");
+    let all = combination::ALL;
+    word(all[0]);
+    word(all[1]);
+    word(all[2]);
+    word(all[3]);
+    word(all[4]);
+    word(all[5]);
+    word(all[6]);
+    text(b"\nnot in use:");
+    let unused = tmcc::DUMMY;
+    byte(combination::DUMMY_WORD);
+    byte(unused.word);
+    byte(unused.slots);
+    text(b"\nbits:");
+    count(slots::SLOT_BITS);
+    count(slots::LAST_BIT);
+    text(b"\n");
+}
+
 fn maybe(c: MaybeCombination) {
     match c {
         MaybeCombination::Some(c) => word(c),
@@ -347,6 +406,7 @@ fn all_marks() {
 fn tails() {
     tail(b"W1 tail:", frame::W1_CODED_TAIL);
     tail(b"W2 tail:", frame::W2_CODED_TAIL);
+    tail(b"W3 tail:", frame::W3_CODED_TAIL);
     tail(b"high bits ignored:", 0xFFF0_0001);
 }
 
@@ -366,6 +426,9 @@ fn main() {
     bits_of_2_3();
     other_bits();
     places();
+    frame_numbers();
+    header_words();
+    combinations();
     tails();
     words();
     let mut bytes = io::buffer();

@@ -130,15 +130,39 @@ fn two_additions() -> bool {
     p[0] == 0.0 && p[32] == -2.0 && q[0] == 0.0 && q[32] == -4.0
 }
 
-// A known bit sets the states that it rules out before the maximum is subtracted.
+// The path values 1000.3 + 0.7 i.
+fn rising() -> [f32; 64] {
+    let mut pm = [0.0f32; 64];
+    let mut number = 0.0f32;
+    for i in 0..64usize {
+        pm[i] = 1000.3 + 0.7 * number;
+        number = number + 1.0;
+    }
+    pm
+}
+
+// Whether state j has the greater of its two predecessors less the greatest of all, which is that of state 63, and state 32 + j has low.
+fn ruled_from(pm: [f32; 64], p: [f32; 64], low: f32) -> bool {
+    for j in 0..32usize {
+        if p[j] != pm[2 * j + 1] - pm[63] {
+            return false;
+        }
+        if p[32 + j] != low {
+            return false;
+        }
+    }
+    true
+}
+
+// A known bit sets the states that it rules out before the maximum is subtracted, and has no other subtraction: one before it would leave -1.0e9.
 fn ruled_out() -> bool {
-    let pm = [1000.3f32; 64];
+    let pm = rising();
     let bits = [0u8; 1];
     let mut decisions = [0u64; 4224];
     let mut out = [0u8; 4];
     let a = handed(pm).push_known(&bits, &mut decisions, &mut out);
     let p = a.dec.pm;
-    p[0] == 0.0 && p[32] == -1000001000.3
+    p[31] == 0.0 && ruled_from(pm, p, -1000001024.0)
 }
 
 // Below -1.0e9 a known bit is not the decoded one.

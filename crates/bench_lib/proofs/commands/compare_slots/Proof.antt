@@ -2,8 +2,6 @@ use borrow.Author.Needs.{needs}
 use Prim.Native.Nat.{_-_, _≤_, _*_}
 use Rattle.bench_lib.proofs.commands.compare_slots.Statement.{statement}
 use Rattle.bench_lib.proofs.commands.compare_slots.Tie as tie
-use Rattle.bench_lib.proofs.report.slot_line.Reads as slot-line-reads
-use Rattle.isdbs_core.proofs.slots.slot_part.Reads as slot-part-reads
 
 abbrev Inv-loop : tie.InvT-loop
 Inv-loop t v sent read n₀ k₀ n k = (n ≤ 203 * k) × (k ≤ v)

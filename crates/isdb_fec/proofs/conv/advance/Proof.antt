@@ -7,7 +7,7 @@ use mathlib.Core.List.{List, [], _∷_, _++_}
 use lib.ListN.{length, take, drop, set, replicate, length-set, length-drop}
 use Rattle.isdb_fec.specs.Calls.{stepOf, traced, bestState}
 use Rattle.isdb_fec.specs.Steps.{kept-step, released-step}
-use Rattle.isdb_fec.proofs.Parts.{tail-whole, written-tail}
+use Rattle.isdb_fec.specs.Parts.{tail-whole, written-tail}
 use borrow.Author.Needs.{needs}
 use Rattle.isdb_fec.proofs.conv.advance.Statement.{statement}
 use Rattle.isdb_fec.proofs.conv.advance.Tie as tie

@@ -10,7 +10,7 @@ use borrow.Rule.Slice.PartMut.{midOf, putMid}
 use Rattle.trellis.specs.Lists.{laid}
 use Rattle.isdb_fec.specs.Calls.{traced}
 use Rattle.isdb_fec.specs.Laid.{laid-after, laid-freed, length-laid}
-use Rattle.isdb_fec.proofs.Parts.{written-tail}
+use Rattle.isdb_fec.specs.Parts.{written-tail}
 use borrow.Author.Needs.{needs}
 use Rattle.isdb_fec.proofs.conv.release.Statement.{statement}
 use Rattle.isdb_fec.proofs.conv.release.Tie as tie

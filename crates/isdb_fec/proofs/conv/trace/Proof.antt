@@ -12,7 +12,7 @@ use borrow.Author.Needs.{needs}
 use Rattle.trellis.specs.Lists.{upto}
 use Rattle.trellis.specs.Step as trellis
 use Rattle.trellis.specs.Step.{back, input}
-use Rattle.isdb_fec.proofs.LeafLists.{Between, Kept, between-more, kept-set, laid-whole}
+use Rattle.acs.specs.Written.{Between, Kept, between-more, kept-set, laid-whole}
 use Rattle.isdb_fec.proofs.conv.trace.Statement.{statement}
 use Rattle.isdb_fec.proofs.conv.trace.Tie as tie
 

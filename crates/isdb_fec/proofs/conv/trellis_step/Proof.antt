@@ -8,7 +8,7 @@ use borrow.Author.Tests.{eq-eqb, ne-eqb}
 use Rattle.trellis.specs.Step.{pair, four, renormalised, ruled}
 use Rattle.trellis.specs.Run.{settled}
 use Rattle.isdb_fec.specs.Calls.{nexts}
-use Rattle.isdb_fec.proofs.LeafStep.{settled-pair, settled-four, known-nexts, known-word}
+use Rattle.isdb_fec.proofs.Settled.{settled-pair, settled-four, known-nexts, known-word}
 use Rattle.isdb_fec.proofs.conv.trellis_step.Statement.{statement}
 use Rattle.isdb_fec.proofs.conv.trellis_step.Tie as tie
 

@@ -1,5 +1,6 @@
 -- `slot_part` meets its contract. Assumes nothing.
-use Prim.Native.Nat.{_+_, _-_, _*_}
+use Prim.Native.Nat.{ℕ, _+_, _-_, _*_}
+use lib.ListN.{take, drop}
 use Rattle.isdbs_core.proofs.Calls.{accepts, refuses}
 use Rattle.isdbs_core.specs.PartLaws.{part-whole, part-is}
 use Rattle.isdbs_core.specs.SlotPart.{slotPartAnswer}
@@ -75,7 +76,7 @@ returns c =
     let ok = accepts (st .slot-part-answer .result) (slotPartAnswer bytes t k) _ (st .slot-part-answer .ensures) (c .before .before .number .ensures) (c .before .if1 .taken) in
     let p = part-whole bytes t k ok in
     let w : 203 * k + 203 - 203 * k ≡ 203 = omega arith in
-    rw w (sym (part-is bytes t k ok))
+    ap (λ (n : ℕ). take n (drop (203 * k) bytes)) w ∙ sym (part-is bytes t k ok)
 
 returns-2 : tie.Need-returns-2
 returns-2 c =

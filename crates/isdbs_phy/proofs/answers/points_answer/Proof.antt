@@ -3,6 +3,8 @@ use borrow.Author.Tests.{lt-ltb, le-ltb, ltb-false}
 use lib.ListN.{length}
 use native.Mathlib.Omega.{arith}
 use Prim.Native.Nat.{ℕ, _+_, _<_, _≤_}
+use mathlib.Core.Bool.{true, false}
+use Rattle.isdbs_phy.specs.DecodeRows.{someBeyond, partLimit}
 use mathlib.Core.Path.{_≡_, refl, sym, _∙_, ap}
 use borrow.Author.Needs.{needs}
 use Rattle.isdbs_phy.proofs.answers.points_answer.Statement.{statement}
@@ -18,16 +20,27 @@ some-beyond-requires : tie.Need-some-beyond-requires
 some-beyond-requires c κs = search needs
 
 returns-3 : tie.Need-returns-3
-returns-3 c = rw (le-ltb _ _ (c .before .before .before .if1 .left), le-ltb _ _ (c .before .before .if2 .left), sym (c .before .some-beyond .ensures) ∙ c .if3 .taken)
+returns-3 c =
+    let st = c .before .before .before .before .before .before in
+    let re : someBeyond partLimit (st .args .re .now) 38976 ≡ true = sym (c .before .some-beyond .ensures) ∙ c .if3 .taken in
+    rw (le-ltb _ _ (c .before .before .before .if1 .left), le-ltb _ _ (c .before .before .if2 .left), re)
 
 some-beyond-requires-2 : tie.Need-some-beyond-requires-2
 some-beyond-requires-2 c κs = search needs
 
 returns-4 : tie.Need-returns-4
-returns-4 c = rw (le-ltb _ _ (c .before .before .before .before .before .if1 .left), le-ltb _ _ (c .before .before .before .before .if2 .left), sym (c .before .before .before .some-beyond .ensures) ∙ c .before .before .if3 .left, sym (c .before .some-beyond2 .ensures) ∙ c .if4 .taken)
+returns-4 c =
+    let st = c .before .before .before .before .before .before .before .before in
+    let re : someBeyond partLimit (st .args .re .now) 38976 ≡ false = sym (c .before .before .before .some-beyond .ensures) ∙ c .before .before .if3 .left in
+    let im : someBeyond partLimit (st .args .im .now) 38976 ≡ true = sym (c .before .some-beyond2 .ensures) ∙ c .if4 .taken in
+    rw (le-ltb _ _ (c .before .before .before .before .before .if1 .left), le-ltb _ _ (c .before .before .before .before .if2 .left), re, im)
 
 returns-5 : tie.Need-returns-5
-returns-5 c = rw (le-ltb _ _ (c .before .before .before .before .before .if1 .left), le-ltb _ _ (c .before .before .before .before .if2 .left), sym (c .before .before .before .some-beyond .ensures) ∙ c .before .before .if3 .left, sym (c .before .some-beyond2 .ensures) ∙ c .if4 .left)
+returns-5 c =
+    let st = c .before .before .before .before .before .before .before .before in
+    let re : someBeyond partLimit (st .args .re .now) 38976 ≡ false = sym (c .before .before .before .some-beyond .ensures) ∙ c .before .before .if3 .left in
+    let im : someBeyond partLimit (st .args .im .now) 38976 ≡ false = sym (c .before .some-beyond2 .ensures) ∙ c .if4 .left in
+    rw (le-ltb _ _ (c .before .before .before .before .before .if1 .left), le-ltb _ _ (c .before .before .before .before .if2 .left), re, im)
 
 pub points-answer-spec : {M : Type 1} → statement M
 points-answer-spec =

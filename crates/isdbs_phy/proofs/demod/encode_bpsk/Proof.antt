@@ -1,29 +1,26 @@
 -- `demod::encode_bpsk` meets its contract. Assumes nothing.
-use Rattle.isdbs_phy.proofs.Encode.{going-end}
-use Rattle.trellis.specs.Step.{term}
+use borrow.Author.Needs.{needs}
+use native.Mathlib.Omega.{arith}
+use mathlib.Core.Path.{_≡_, sym, _∙_, ap}
+use Prim.Native.Nat.{ℕ, _*_, _-_, _/_, _%_, _≤_}
+use mathlib.Core.List.{[], _∷_}
+use lib.Ieee.{nan, neg}
+use lib.ListN.{getD, length-set}
+use Rattle.isdbs_core.specs.declared.combination.Combination.the-variants.{«Bpsk1_2»}
 use Rattle.isdbs_phy.specs.declared.Cplx.{Cplx}
 use Rattle.isdbs_phy.specs.Points.{one64}
-use borrow.Author.Needs.{needs}
-use mathlib.Core.Path.{_≡_, refl, sym, _∙_, ap}
-use Prim.Native.Nat.{ℕ, _+_, _*_, _-_, _/_, _%_, _<_, _≤_}
-use native.Mathlib.Omega.{arith}
-use lib.ListN.{length, getD, set, length-set}
-use Rattle.trellis.specs.Lists.{upto, laid}
-use Rattle.trellis.specs.Code.{isdb, label, moved, stateAt}
-use Rattle.isdbs_phy.proofs.Encode.{Going, going-start, going-step, going-put, going-as, piece-input, piece-label, bpsk-x, bpsk-y, tc8psk-point}
-use Rattle.isdbs_core.specs.declared.combination.Combination.the-variants.{«Bpsk1_2», «Tc8psk2_3»}
 use Rattle.isdbs_phy.specs.Pieces.{pieceInputs, pieceLabel, piecePoint}
-use Rattle.isdbs_phy.specs.LawsUpto.{length-laid-upto}
+use Rattle.isdbs_phy.proofs.Encode.{Going, going-start, going-step, going-put, going-as, going-end, piece-input, piece-label, bpsk-x, bpsk-y, sign-at}
 use Rattle.isdbs_phy.proofs.demod.encode_bpsk.Statement.{statement}
 use Rattle.isdbs_phy.proofs.demod.encode_bpsk.Tie as tie
 
 abbrev Inv-loop : tie.InvT-loop
-Inv-loop bytes bit n start m re₀ im₀ state₀ k₀ re im state k =
+Inv-loop bytes bit n start m re₀ im₀ signs state₀ k₀ re im state k =
     (k ≤ n)
     × Going (pieceInputs «Bpsk1_2» bytes bit n) start (λ j. piecePoint «Bpsk1_2» m bytes bit n start j .re) (λ j. piecePoint «Bpsk1_2» m bytes bit n start j .im) re₀ im₀ re im state k (2 * k)
 
 abbrev μ-loop : tie.MeasureT-loop
-μ-loop bytes bit n start m re₀ im₀ state₀ k₀ re im state k = n - k
+μ-loop bytes bit n start m re₀ im₀ signs state₀ k₀ re im state k = n - k
 
 loop-holds : tie.Need-loop-holds Inv-loop μ-loop
 loop-holds c =
@@ -38,14 +35,17 @@ encode-step-requires c κs = search needs
 mirror-requires : tie.Need-mirror-requires Inv-loop μ-loop
 mirror-requires c κs = search needs
 
-sign-of-requires : tie.Need-sign-of-requires Inv-loop μ-loop
-sign-of-requires c κs = search needs
-
 mul-re : tie.Need-mul-re Inv-loop μ-loop
 mul-re c = search needs
 
+array-read-re : tie.Need-array-read-re Inv-loop μ-loop
+array-read-re c = let h = c .before .encode-step .ensures .3 in search needs
+
 mul-re-2 : tie.Need-mul-re-2 Inv-loop μ-loop
 mul-re-2 c = search needs
+
+mul-re-3 : tie.Need-mul-re-3 Inv-loop μ-loop
+mul-re-3 c = search needs
 
 slice-write-re : tie.Need-slice-write-re Inv-loop μ-loop
 slice-write-re c = search needs
@@ -59,20 +59,23 @@ mul-im-2 c = search needs
 slice-write-im : tie.Need-slice-write-im Inv-loop μ-loop
 slice-write-im c = search needs
 
-sign-of-requires-2 : tie.Need-sign-of-requires-2 Inv-loop μ-loop
-sign-of-requires-2 c κs = search needs
+mul-re-4 : tie.Need-mul-re-4 Inv-loop μ-loop
+mul-re-4 c = search needs
 
-mul-re-3 : tie.Need-mul-re-3 Inv-loop μ-loop
-mul-re-3 c = search needs
+array-read-re-2 : tie.Need-array-read-re-2 Inv-loop μ-loop
+array-read-re-2 c = let h = c .before .encode-step .ensures .3 in search needs
+
+mul-re-5 : tie.Need-mul-re-5 Inv-loop μ-loop
+mul-re-5 c = search needs
 
 add-re : tie.Need-add-re Inv-loop μ-loop
 add-re c = search needs
 
-mul-re-4 : tie.Need-mul-re-4 Inv-loop μ-loop
-mul-re-4 c = search needs
+mul-re-6 : tie.Need-mul-re-6 Inv-loop μ-loop
+mul-re-6 c = search needs
 
 slice-write-re-2 : tie.Need-slice-write-re-2 Inv-loop μ-loop
-slice-write-re-2 c = rw (length-set (c .before .before .before .before .before .before .loop .re) (2 * c .before .before .before .before .before .before .loop .k) (c .before .sign-of .result)) (omega arith)
+slice-write-re-2 c = rw length-set (omega arith)
 
 mul-im-3 : tie.Need-mul-im-3 Inv-loop μ-loop
 mul-im-3 c = search needs
@@ -84,7 +87,7 @@ mul-im-4 : tie.Need-mul-im-4 Inv-loop μ-loop
 mul-im-4 c = search needs
 
 slice-write-im-2 : tie.Need-slice-write-im-2 Inv-loop μ-loop
-slice-write-im-2 c = rw (length-set (c .before .before .before .before .before .before .loop .im) (2 * c .before .before .before .before .before .before .loop .k) (c .before .before .before .mirror .result)) (omega arith)
+slice-write-im-2 c = rw length-set (omega arith)
 
 add-k : tie.Need-add-k Inv-loop μ-loop
 add-k c = search needs
@@ -94,26 +97,28 @@ loop-less c = search needs
 
 loop-again : tie.Need-loop-again Inv-loop μ-loop
 loop-again c =
-    let bytes = c .before .before .before .before .before .before .before .before .before .before .args .bytes .now in
-    let bit = c .before .before .before .before .before .before .before .before .before .before .args .bit in
-    let n = c .before .before .before .before .before .before .before .before .before .before .args .n in
-    let start = c .before .before .before .before .before .before .before .before .before .before .args .start in
-    let m = c .before .before .before .before .before .before .before .before .before .before .args .m in
-    let k = c .before .before .before .before .before .before .loop .k in
-    let h = c .before .before .before .before .before .loop-test .taken in
-    let inv = c .before .before .before .before .before .before .loop .inv .1 in
-    let l = c .before .before .before .before .encode-step .result .label in
-    let sent = c .before .before .before .before .encode-step .ensures in
-    let e : l ≡ pieceLabel «Bpsk1_2» bytes bit n start k = piece-label «Bpsk1_2» bytes bit n start k h l (c .before .before .before .before .before .before .loop .state) (inv .state-is) (sent .0) in
-    let x : l / 2 % 2 ≡ pieceLabel «Bpsk1_2» bytes bit n start k / 2 = omega (arith, sent .3) in
-    let y : l % 2 ≡ pieceLabel «Bpsk1_2» bytes bit n start k % 2 = ap (λ (z : ℕ). z % 2) e in
-    let a = going-step inv (c .before .before .before .before .encode-step .result .state) (sent .2) (rw (piece-input «Bpsk1_2» bytes bit n start k h) (sent .1)) in
+    let st = c .before .before .before .before .before .before .before in
+    let bytes = st .args .bytes .now in
+    let bit = st .args .bit in
+    let n = st .args .n in
+    let start = st .args .start in
+    let m = st .args .m in
+    let k = c .before .before .before .loop .k in
+    let h = c .before .before .loop-test .taken in
+    let inv = c .before .before .before .loop .inv .1 in
+    let l = c .before .encode-step .result .label in
+    let sent = c .before .encode-step .ensures in
+    let e : l ≡ pieceLabel «Bpsk1_2» bytes bit n start k = piece-label «Bpsk1_2» bytes bit n start k h l (c .before .before .before .loop .state) (inv .state-is) (sent .0) in
     let r1 = bpsk-x m bytes bit n start k in
     let r2 = bpsk-y m bytes bit n start k in
-    let b = going-put a (c .before .sign-of .result) (c .before .before .before .mirror .result) (omega arith) (omega arith)
-    (c .before .sign-of .ensures ∙ ap (λ (z : ℕ). term z one64) x ∙ sym (ap (λ (z : Cplx). z .re) r1)) (c .before .before .before .mirror .ensures ∙ sym (ap (λ (z : Cplx). z .im) r1)) in
-    let d = going-put b (c .sign-of2 .result) (c .before .before .before .mirror .result) (omega (arith, b .points .re-length)) (omega (arith, b .points .im-length))
-    (c .sign-of2 .ensures ∙ ap (λ (z : ℕ). term z one64) y ∙ sym (ap (λ (z : Cplx). z .re) r2)) (c .before .before .before .mirror .ensures ∙ sym (ap (λ (z : Cplx). z .im) r2)) in
+    let x = getD (one64 ∷ neg one64 ∷ []) (l / 2) nan in
+    let y = getD (one64 ∷ neg one64 ∷ []) (l % 2) nan in
+    let i = c .mirror .result in
+    let a = going-step inv (c .before .encode-step .result .state) (sent .2) (rw (piece-input «Bpsk1_2» bytes bit n start k h) (sent .1)) in
+    let b = going-put a x i (omega arith) (omega arith)
+    (sign-at (l / 2) (omega (arith, sent .3)) ∙ rw e (sym (ap (λ (z : Cplx). z .re) r1))) (c .mirror .ensures ∙ sym (ap (λ (z : Cplx). z .im) r1)) in
+    let d = going-put b y i (omega (arith, b .points .re-length)) (omega (arith, b .points .im-length))
+    (sign-at (l % 2) (omega arith) ∙ rw e (sym (ap (λ (z : Cplx). z .re) r2))) (c .mirror .ensures ∙ sym (ap (λ (z : Cplx). z .im) r2)) in
     (omega arith, going-as d (omega arith))
 
 same-length : tie.Need-same-length Inv-loop μ-loop
@@ -124,9 +129,10 @@ same-length-2 c = search needs
 
 returns : tie.Need-returns Inv-loop μ-loop
 returns c =
+    let st = c .before .before .before .before .before in
     let inv = c .before .loop .inv .1 in
-    let e : c .before .loop .k ≡ c .before .before .before .before .before .args .n = omega arith in
-    (going-end «Bpsk1_2» (c .before .before .before .before .before .args .m) (c .before .before .before .before .before .args .bytes .now) (c .before .before .before .before .before .args .bit) (c .before .before .before .before .before .args .n) (c .before .before .before .before .before .args .start) inv e (ap (λ (x : ℕ). 2 * x) e))
+    let e : c .before .loop .k ≡ st .args .n = omega arith in
+    going-end «Bpsk1_2» (st .args .m) (st .args .bytes .now) (st .args .bit) (st .args .n) (st .args .start) inv e (ap (λ (x : ℕ). 2 * x) e)
 
 pub encode-bpsk-spec : {M : Type 1} → statement M
 encode-bpsk-spec =
@@ -138,17 +144,19 @@ encode-bpsk-spec =
     add-encode-step
     encode-step-requires
     mirror-requires
-    sign-of-requires
     mul-re
+    array-read-re
     mul-re-2
+    mul-re-3
     slice-write-re
     mul-im
     mul-im-2
     slice-write-im
-    sign-of-requires-2
-    mul-re-3
-    add-re
     mul-re-4
+    array-read-re-2
+    mul-re-5
+    add-re
+    mul-re-6
     slice-write-re-2
     mul-im-3
     add-im

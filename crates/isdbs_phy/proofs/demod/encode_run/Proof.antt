@@ -33,7 +33,7 @@ enum-told-3 c = search needs
 encode-tc8psk-requires : tie.Need-encode-tc8psk-requires
 encode-tc8psk-requires c κs =
     let e = is-tc8psk (c .before .before .before .before .before .before .before .before .args .c) (sym (c .before .before .before .before .modulation .ensures) ∙ c .before .before .enum-told3 .given .1) in
-    (c .before .before .before .before .before .before .before .before .pre .0, c .before .before .before .before .before .before .before .before .pre .1, rw e at (c .before .before .before .before .before .before .before .before .pre .3), rw e at (c .before .before .before .before .before .before .before .before .pre .4))
+    (c .before .before .before .before .before .before .before .before .pre .0, c .before .before .before .before .before .before .before .before .pre .1, rw e at (c .before .before .before .before .before .before .before .before .pre .3), rw e at (c .before .before .before .before .before .before .before .before .pre .4), c .before .before .before .before .before .before .before .before .pre .5, c .before .before .before .before .before .before .before .before .pre .6)
 
 same-length : tie.Need-same-length
 same-length c = search needs

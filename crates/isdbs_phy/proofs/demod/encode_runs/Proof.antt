@@ -3,7 +3,7 @@ use lib.ListN.{length-take, length-drop}
 use Rattle.isdbs_core.specs.RunsOf.{stepsIn}
 use Rattle.isdbs_phy.specs.Places.{before-zero, fill-last}
 use Rattle.isdbs_phy.specs.Sizes.{fill-steps}
-use Rattle.isdbs_phy.proofs.EncodeFrame.{length-segments, run-in, run-more, runs-end}
+use Rattle.isdbs_phy.proofs.EncodeFrame.{length-segments, run-in, run-more, runs-end, slot-steps-four}
 use borrow.Author.Needs.{needs}
 use mathlib.Core.Path.{_≡_, refl, sym, _∙_, ap}
 use Prim.Native.Nat.{ℕ, _+_, _*_, _-_, _/_, _%_, _<_, _≤_}
@@ -27,6 +27,7 @@ Inv-loop bytes count start m re₀ im₀ list state₀ bit₀ end₀ i₀ re im 
     × (bit ≤ 2 * end)
     × Going (inputsOf rs bytes) start (λ k. pointOf rs m bytes start k .re) (λ k. pointOf rs m bytes start k .im) re₀ im₀ re im state
     (before (λ g. g .steps) segs i) (before (λ g. g .symbols) segs i)
+    × (bit % 8 ≡ 0)
 
 abbrev μ-loop : tie.MeasureT-loop
 μ-loop bytes count start m re₀ im₀ list state₀ bit₀ end₀ i₀ re im state bit end i = count - i
@@ -39,6 +40,7 @@ loop-holds c =
       sym (before-zero (λ g. g .symbols) segs),
       search needs,
       rw (before-zero (λ g. g .steps) segs, before-zero (λ g. g .symbols) segs) (going-start _ (c .before .before .before .args .start) _ _ (c .before .before .before .args .re .now) (c .before .before .before .args .im .now) (c .before .before .before .pre .3)),
+      search needs,
     )
 
 mul-r : tie.Need-mul-r Inv-loop μ-loop
@@ -83,11 +85,13 @@ encode-run-requires c κs =
     let inv = c .before .before .before .before .before .loop .inv in
     let z = a .size in
     rw (c .before .before .steps-per-slot .ensures) (
-      inv .4 .small,
+      omega (arith, inv .4 .small, c .before .before .before .before .before .before .before .before .before .pre .3),
       omega (arith, a .few-steps, inv .3, inv .2, a .symbols, a .fits),
       z .periods,
       simp (length-take, length-drop) (omega (arith, z .symbols-are, a .starts, a .ends, a .symbols, a .fits, c .before .before .before .before .before .before .before .before .before .pre .4, inv .4 .points .re-length)),
       simp (length-take, length-drop) (omega (arith, z .symbols-are, a .starts, a .ends, a .symbols, a .fits, c .before .before .before .before .before .before .before .before .before .pre .5, inv .4 .points .im-length)),
+      inv .5,
+      slot-steps-four (getD (c .before .before .before .before .before .before .before .before .before .args .t2) (c .before .before .before .before .before .loop .i) noRun .combination) (getD (c .before .before .before .before .before .before .before .before .before .args .t2) (c .before .before .before .before .before .loop .i) noRun .«valid_slots»),
     )
 
 mul-bit : tie.Need-mul-bit Inv-loop μ-loop
@@ -114,6 +118,7 @@ loop-again c =
       run-more (c .before .before .before .before .before .before .before .before .before .before .before .before .before .before .args .t2) (c .before .before .before .before .before .before .before .before .before .before .before .before .before .before .args .count) (c .before .before .before .before .before .before .before .before .before .before .before .before .before .before .args .m) (c .before .before .before .before .before .before .before .before .before .before .before .before .before .before .args .bytes .now) (c .before .before .before .before .before .before .before .before .before .before .before .before .before .before .args .start) (c .before .before .before .before .before .before .before .before .before .before .before .before .before .before .pre .1) (c .before .before .before .before .before .before .before .before .before .before .before .before .before .before .pre .2) (c .before .before .before .before .before .before .before .before .before .before .loop .i) (c .before .before .before .before .before .before .before .before .before .loop-test .taken)
           (inv .4) (c .before .before .before .before .before .before .before .before .before .before .before .before .before .before .pre .4) (c .before .before .before .before .before .before .before .before .before .before .before .before .before .before .pre .5) (c .before .before .before .before .before .before .before .before .before .before .loop .bit) (c .before .before .before .before .before .before .before .steps-per-slot .result * run .«valid_slots») (c .before .before .before .before .encode-run .result) (inv .1)
           (ap (λ (x : ℕ). x * run .«valid_slots») (c .before .before .before .before .before .before .before .steps-per-slot .ensures)) (c .before .before .before .before .encode-run .ensures),
+      omega (arith, inv .5),
     )
 
 same-length : tie.Need-same-length Inv-loop μ-loop

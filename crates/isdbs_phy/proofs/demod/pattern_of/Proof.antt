@@ -8,10 +8,22 @@ puncturing-requires : tie.Need-puncturing-requires
 puncturing-requires c κs = search needs
 
 enum-known-code : tie.Need-enum-known-code
-enum-known-code c = c .match .keys1
+enum-known-code c = search needs
 
 pairs-requires : tie.Need-pairs-requires
 pairs-requires c κs = search needs
+
+array-copy-out-a : tie.Need-array-copy-out-a
+array-copy-out-a c = search needs
+
+array-copy-out-b : tie.Need-array-copy-out-b
+array-copy-out-b c = search needs
+
+array-copy-out-c : tie.Need-array-copy-out-c
+array-copy-out-c c = search needs
+
+array-copy-out-d : tie.Need-array-copy-out-d
+array-copy-out-d c = search needs
 
 period-requires : tie.Need-period-requires
 period-requires c κs = search needs
@@ -21,7 +33,7 @@ enum-told c = search needs
 
 returns : tie.Need-returns
 returns c =
-    rw (c .period .ensures, c .before .before .pairs .ensures, ← c .before .before .before .before .before .before .puncturing .ensures, c .before .before .before .before .code .given .1)
+    rw (c .period .ensures, c .before .before .before .before .before .before .pairs .ensures, ← c .before .before .before .before .before .before .before .before .before .before .puncturing .ensures, c .before .before .before .before .before .before .before .before .code .given .1)
     (pattern-some _)
 
 returns-2 : tie.Need-returns-2
@@ -34,6 +46,10 @@ pattern-of-spec =
     puncturing-requires
     enum-known-code
     pairs-requires
+    array-copy-out-a
+    array-copy-out-b
+    array-copy-out-c
+    array-copy-out-d
     period-requires
     enum-told
     returns

@@ -1,51 +1,69 @@
 -- `demod::put_pairs` meets its contract. Assumes nothing.
 use borrow.Author.Needs.{needs}
-use mathlib.Core.Path.{_≡_, refl, sym, _∙_, ap}
-use Prim.Native.Nat.{ℕ, _+_, _*_, _-_, _/_, _%_, _<_, _≤_}
 use native.Mathlib.Omega.{arith}
-use lib.ListN.{length, getD}
-use Rattle.isdbs_phy.specs.declared.Cplx.{Cplx}
-use Rattle.isdbs_phy.specs.Points.{qpskOf, turned}
-use Rattle.isdbs_phy.specs.Pieces.{noPair, motherBit, pairPoint}
+use mathlib.Core.Path.{_≡_, ap}
+use Prim.Native.Nat.{ℕ, _+_, _*_, _-_, _≤_}
+use lib.Ieee.{nan}
+use lib.ListN.{getD}
+use Rattle.isdbs_phy.specs.Pieces.{pairLabel}
 use Rattle.isdbs_phy.proofs.Encode.{Put, put-none, put-one}
 use Rattle.isdbs_phy.proofs.demod.put_pairs.Statement.{statement}
 use Rattle.isdbs_phy.proofs.demod.put_pairs.Tie as tie
 
 abbrev Inv-loop : tie.InvT-loop
-Inv-loop labels count m re₀ im₀ pairs i₀ re im i = (i ≤ count) × Put (λ k. pairPoint m labels pairs k .re) (λ k. pairPoint m labels pairs k .im) re₀ im₀ re im i
+Inv-loop word last p1 p0 count xs ys re₀ im₀ i₀ re im i =
+    (i ≤ count) × Put (λ k. getD xs (pairLabel word last p1 p0 k) nan) (λ k. getD ys (pairLabel word last p1 p0 k) nan) re₀ im₀ re im i
 
 abbrev μ-loop : tie.MeasureT-loop
-μ-loop labels count m re₀ im₀ pairs i₀ re im i = count - i
+μ-loop word last p1 p0 count xs ys re₀ im₀ i₀ re im i = count - i
 
 loop-holds : tie.Need-loop-holds Inv-loop μ-loop
 loop-holds c = (search needs, put-none _ _ (c .before .before .args .re .now) (c .before .before .args .im .now))
 
-mul-pair : tie.Need-mul-pair Inv-loop μ-loop
-mul-pair c = search needs
+mul-mother-bit : tie.Need-mul-mother-bit Inv-loop μ-loop
+mul-mother-bit c = search needs
 
-array-copy-out-pair : tie.Need-array-copy-out-pair Inv-loop μ-loop
-array-copy-out-pair c = search needs
+element-copy-out-mother-bit : tie.Need-element-copy-out-mother-bit Inv-loop μ-loop
+element-copy-out-mother-bit c = search needs
 
 mother-bit-requires : tie.Need-mother-bit-requires Inv-loop μ-loop
-mother-bit-requires c κs = c .before .before .before .before .before .pre .3 (c .before .before .loop .i) (c .before .loop-test .taken) .0
+mother-bit-requires c κs = (c .before .before .before .before .before .pre .4 (c .before .before .loop .i) (c .before .loop-test .taken), c .before .before .before .before .before .pre .1)
+
+mul-mother-bit-2 : tie.Need-mul-mother-bit-2 Inv-loop μ-loop
+mul-mother-bit-2 c = search needs
+
+element-copy-out-mother-bit-2 : tie.Need-element-copy-out-mother-bit-2 Inv-loop μ-loop
+element-copy-out-mother-bit-2 c = search needs
 
 mother-bit-requires-2 : tie.Need-mother-bit-requires-2 Inv-loop μ-loop
-mother-bit-requires-2 c κs = c .before .before .before .before .before .before .pre .3 (c .before .before .before .loop .i) (c .before .before .loop-test .taken) .1
+mother-bit-requires-2 c κs = (c .before .before .before .before .before .before .before .pre .5 (c .before .before .before .before .loop .i) (c .before .before .before .loop-test .taken), c .before .before .before .before .before .before .before .pre .1)
 
-qpsk-mapped-requires : tie.Need-qpsk-mapped-requires Inv-loop μ-loop
-qpsk-mapped-requires c κs = search needs
+mul-l : tie.Need-mul-l Inv-loop μ-loop
+mul-l c = search needs
+
+add-l : tie.Need-add-l Inv-loop μ-loop
+add-l c = search needs
 
 mul-re : tie.Need-mul-re Inv-loop μ-loop
 mul-re c = search needs
 
+element-copy-out-re : tie.Need-element-copy-out-re Inv-loop μ-loop
+element-copy-out-re c = search needs
+
+mul-re-2 : tie.Need-mul-re-2 Inv-loop μ-loop
+mul-re-2 c = search needs
+
 slice-write-re : tie.Need-slice-write-re Inv-loop μ-loop
 slice-write-re c = search needs
 
-mirror-requires : tie.Need-mirror-requires Inv-loop μ-loop
-mirror-requires c κs = search needs
-
 mul-im : tie.Need-mul-im Inv-loop μ-loop
 mul-im c = search needs
+
+element-copy-out-im : tie.Need-element-copy-out-im Inv-loop μ-loop
+element-copy-out-im c = search needs
+
+mul-im-2 : tie.Need-mul-im-2 Inv-loop μ-loop
+mul-im-2 c = search needs
 
 slice-write-im : tie.Need-slice-write-im Inv-loop μ-loop
 slice-write-im c = search needs
@@ -58,11 +76,14 @@ loop-less c = search needs
 
 loop-again : tie.Need-loop-again Inv-loop μ-loop
 loop-again c =
-    let ls = c .before .before .before .before .before .before .before .before .before .args .labels .now in
-    let pair = getD (c .before .before .before .before .before .before .before .before .before .args .t2) (c .before .before .before .before .before .before .loop .i) noPair in
-    let p : c .before .qpsk-mapped .result ≡ qpskOf (c .before .before .before .before .before .before .before .before .before .args .m .«qpsk_p1_on_q») (motherBit ls (pair .p1) % 2) (motherBit ls (pair .p0) % 2) =
-    c .before .qpsk-mapped .ensures ∙ rw (c .before .before .before .mother-bit .ensures, c .before .before .mother-bit2 .ensures) in
-    (omega arith, put-one (c .before .before .before .before .before .before .loop .inv .1) (c .before .qpsk-mapped .result .re) (c .mirror .result) (omega arith) (omega arith) (ap (λ (z : Cplx). z .re) p) (c .mirror .ensures ∙ ap (λ (z : Cplx). turned (c .before .before .before .before .before .before .before .before .before .args .m .conjugate) (z .im)) p))
+    let st = c .before .before .before .before .before .before .before .before .before .before in
+    let i = c .before .before .before .before .before .before .before .loop .i in
+    let l = 2 * c .before .before .before .before .mother-bit .result + c .before .before .mother-bit2 .result in
+    let e : l ≡ pairLabel (st .args .word) (st .args .last) (st .args .p1 .now) (st .args .p0 .now) i = rw (c .before .before .before .before .mother-bit .ensures, c .before .before .mother-bit2 .ensures) in (
+      omega arith,
+      put-one (c .before .before .before .before .before .before .before .loop .inv .1) (getD (st .args .xs .now) l nan) (getD (st .args .ys .now) l nan) (omega arith) (omega arith)
+          (ap (λ (x : ℕ). getD (st .args .xs .now) x nan) e) (ap (λ (x : ℕ). getD (st .args .ys .now) x nan) e),
+    )
 
 same-length : tie.Need-same-length Inv-loop μ-loop
 same-length c = search needs
@@ -83,15 +104,21 @@ put-pairs-spec =
     Inv-loop
     μ-loop
     loop-holds
-    mul-pair
-    array-copy-out-pair
+    mul-mother-bit
+    element-copy-out-mother-bit
     mother-bit-requires
+    mul-mother-bit-2
+    element-copy-out-mother-bit-2
     mother-bit-requires-2
-    qpsk-mapped-requires
+    mul-l
+    add-l
     mul-re
+    element-copy-out-re
+    mul-re-2
     slice-write-re
-    mirror-requires
     mul-im
+    element-copy-out-im
+    mul-im-2
     slice-write-im
     add-i
     loop-less

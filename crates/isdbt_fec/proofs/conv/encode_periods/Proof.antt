@@ -6,7 +6,7 @@ use Prim.Native.Nat.{ℕ, _+_, _-_, _*_, _/_, _<_, _≤_}
 use native.Mathlib.Omega.{arith}
 use borrow.Author.Needs.{needs}
 use lib.ListN.{length, getD, take, drop}
-use Rattle.isdb_fec.proofs.Parts.{tail-whole, written-tail}
+use Rattle.isdb_fec.specs.Parts.{tail-whole, written-tail}
 use Rattle.isdb_fec.specs.Laid.{length-laid}
 use Rattle.isdb_fec.specs.Upto.{length-upto}
 use Rattle.isdbt_fec.specs.Numbers.{numbers}

@@ -7,7 +7,7 @@ use lib.ListN.{length}
 use Rattle.isdbt_fec.specs.Numbers.{numbers}
 use Rattle.isdbt_fec.specs.Answers.{encode-enough}
 use Rattle.isdb_fec.specs.Answers.{accepted, refused}
-use Rattle.isdb_fec.proofs.Told.{told}
+use Rattle.isdb_fec.specs.Told.{told}
 use Rattle.isdbt_fec.specs.Table.{period, sent}
 use Rattle.isdbt_fec.proofs.conv.encode_punctured.Statement.{statement}
 use Rattle.isdbt_fec.proofs.conv.encode_punctured.Tie as tie

@@ -9,7 +9,7 @@ use Rattle.isdb_fec.specs.Values.{someBeyond, pathLimit}
 use Rattle.isdb_fec.specs.Rows.{badTraceback, badState, shortOf, stepsShort}
 use Rattle.refusal.specs.declared.Answer.the-variants.{Accepted, Length, Sample, Space}
 use Rattle.isdb_fec.specs.Answers.{refused-first, passed-first, sound}
-use Rattle.isdb_fec.proofs.Told.{told}
+use Rattle.isdb_fec.specs.Told.{told}
 use borrow.Author.Needs.{needs}
 use Rattle.isdb_fec.proofs.conv.ViterbiDecoder.answer_flush.Statement.{statement}
 use Rattle.isdb_fec.proofs.conv.ViterbiDecoder.answer_flush.Tie as tie

@@ -7,7 +7,7 @@ use lib.ListN.{length}
 use Rattle.isdb_fec.specs.Calls.{steps, holding, Holds, pairSteps}
 use Rattle.isdb_fec.specs.Answers.{accepted, stream-enough}
 use Rattle.isdb_fec.specs.Whole.{begins, lengths, ready, goes-on, closes, as-given}
-use Rattle.isdb_fec.proofs.Told.{told}
+use Rattle.isdb_fec.specs.Told.{told}
 use Rattle.isdb_fec.proofs.conv.ViterbiDecoder.push.Statement.{statement}
 use Rattle.isdb_fec.proofs.conv.ViterbiDecoder.push.Tie as tie
 

@@ -1,0 +1,117 @@
+-- A turn of a half step: the two paths are the candidates of its state, and the turn writes the state and its bit. Assumes nothing.
+use mathlib.Core.Path.{_≡_, refl, sym, _∙_, ap}
+use mathlib.Core.Logic.{_⊎_, inl, inr, ⊎-elim}
+use mathlib.Core.Bool.{Bool, true, false, cond}
+use mathlib.Core.List.{List}
+use Prim.Native.Nat.{ℕ, zero, suc, _+_, _-_, _*_, _/_, _%_, _^_, _≤_, _<_}
+use native.Mathlib.Omega.{arith}
+use native.Mathlib.Nat.{zero-add}
+use lib.Bits.{bitOr}
+use lib.Dec.{eqb}
+use lib.ListN.{length, getD, set, length-set}
+use lib.Seq.{getD-set-same, getD-set-other}
+use lib.Ieee.{Float, nan, binary32, add, neg, lt, ofBits}
+use borrow.Author.Count.{below-none, below-more}
+use Rattle.trellis.specs.Code.{isdb, label, output}
+use Rattle.trellis.specs.Lists.{bit, packed}
+use Rattle.trellis.specs.Step as trellis
+use Rattle.trellis.specs.Step.{Step, pair, four}
+use Rattle.acs.specs.Isdb.{cand, wins, next, nexts, word}
+use Rattle.acs.specs.Written.{written-whole, lt-or-ge}
+use Rattle.acs.specs.Packed.{packed-more, packed-both}
+use Rattle.acs.specs.Half.{Half}
+
+abbrev zeroF : Float
+zeroF = ofBits binary32 0
+
+bit-eqb : (n : ℕ) → n < 2 → bit (eqb n 1) ≡ n
+bit-eqb zero h = refl
+bit-eqb (suc zero) h = refl
+bit-eqb (suc (suc n)) h = absurd (omega arith)
+
+label-lt : (u s : ℕ) → label isdb u s < 4
+unfolding label output
+label-lt u s = omega arith
+
+-- the path from the state 2 j + b into the state 32 u + j, by the signs x and y of its branch
+module _ (pm : List Float) (u b j : ℕ) (h : j < 32) (x y : Float)
+    (is-x : lt x zeroF ≡ eqb (label isdb u (2 * j + b) / 2) 1) (is-y : lt y zeroF ≡ eqb (label isdb u (2 * j + b) % 2) 1) where
+  at-j : (32 * u + j) % 32 ≡ j
+  at-j = omega arith
+
+  at-u : (32 * u + j) / 32 ≡ u
+  at-u = omega arith
+
+  pub pair-cand : (lx ly p q : Float) → p ≡ cond (lt x zeroF) (neg lx) lx → q ≡ cond (lt y zeroF) (neg ly) ly
+      → add binary32 (add binary32 (getD pm (2 * j + b) nan) p) q ≡ cand pm (pair lx ly) (32 * u + j) b
+  unfolding trellis.cand trellis.branch
+  pair-cand lx ly p q is-p is-q = rw (is-p, is-q, at-j, at-u, is-x, is-y)
+
+  is-label : 2 * bit (lt x zeroF) + bit (lt y zeroF) ≡ label isdb u (2 * j + b)
+  is-label =
+      let l = label isdb u (2 * j + b) in
+      let less : l < 4 = label-lt u (2 * j + b) in
+      rw (is-x, is-y, bit-eqb (l / 2) (omega arith), bit-eqb (l % 2) (omega arith)) (omega arith)
+
+  pub four-cand : (m : List Float) (p : Float) → p ≡ getD m (2 * bit (lt x zeroF) + bit (lt y zeroF)) nan
+      → add binary32 (getD pm (2 * j + b) nan) p ≡ cand pm (four m) (32 * u + j) b
+  unfolding trellis.cand trellis.branch
+  four-cand m p is-p = rw (is-p, at-j, at-u, is-label)
+
+module _ (pm : List Float) (x : Step) where
+  beats-wins : (k : ℕ) (e o : Float) (b : ℕ) → e ≡ cand pm x k 0 → o ≡ cand pm x k 1 → b ≡ bit (lt e o) → b ≡ bit (wins pm x k)
+  unfolding trellis.wins
+  beats-wins k e o b is-e is-o is-b = rw (is-b, is-e, is-o)
+
+  larger-next : (k : ℕ) (e o v : Float) → e ≡ cand pm x k 0 → o ≡ cand pm x k 1 → v ≡ cond (lt e o) o e → v ≡ next pm x k
+  unfolding trellis.next trellis.wins
+  larger-next k e o v is-e is-o is-v = rw (is-v, is-e, is-o)
+
+  pub half-none : (u : ℕ) (l : List Float) → length l ≡ 64 → Half pm x u l 0 l 0
+  unfolding packed
+  half-none u l long = record {
+    long = long;
+    values = below-none (λ j. getD l (32 * u + j) nan ≡ next pm x (32 * u + j));
+    others = λ i h. refl;
+    bits = refl;
+  }
+
+  -- a turn, by the even and the odd path into its state
+  pub half-more : (u : ℕ) (l₀ : List Float) (j : ℕ) (l : List Float) (w : ℕ) → Half pm x u l₀ j l w → u < 2 → j < 32 → (e o v : Float) (a : ℕ)
+      → e ≡ cand pm x (32 * u + j) 0 → o ≡ cand pm x (32 * u + j) 1 → v ≡ cond (lt e o) o e → a ≡ bit (lt e o)
+      → Half pm x u l₀ (j + 1) (set l (32 * u + j) v) (bitOr w ((a * 2 ^ j) % 2 ^ 32))
+  half-more u l₀ j l w t hu hj e o v a is-e is-o is-v is-a =
+      let k = 32 * u + j in
+      let inside : k < length l = rw (t .long) (omega arith) in
+      record {
+        long = length-set l k v ∙ t .long;
+        values =
+            below-more (λ i. getD (set l k v) (32 * u + i) nan ≡ next pm x (32 * u + i)) j
+            (λ i hi. getD-set-other l k (32 * u + i) v nan (λ q. omega arith) ∙ t .values i hi)
+            (getD-set-same l k v nan inside ∙ larger-next k e o v is-e is-o is-v);
+        others =
+            λ i h.
+            ⊎-elim
+            (λ low. getD-set-other l k i v nan (λ q. omega arith) ∙ t .others i (inl low))
+            (λ high. getD-set-other l k i v nan (λ q. omega arith) ∙ t .others i (inr (omega arith)))
+            h;
+        bits = packed-more (λ i. wins pm x (32 * u + i)) j 32 w a hj (t .bits) (beats-wins k e o a is-e is-o is-a);
+      }
+
+  -- both halves
+  module _ (l₀ l₁ l : List Float) (low high : ℕ) (lower : Half pm x 0 l₀ 32 l₁ low) (upper : Half pm x 1 l₁ 32 l high) where
+    pub new-values : l ≡ nexts pm x
+    unfolding trellis.nexts
+    new-values =
+        written-whole nan (next pm x) 64 l (upper .long)
+        (λ k h.
+        ⊎-elim
+        (λ small. upper .others k (inl small) ∙ rw (zero-add k) at (lower .values k small))
+        (λ big. let e : 32 * 1 + (k - 32) ≡ k = omega arith in rw e at (upper .values (k - 32) (omega arith)))
+        (lt-or-ge k 32))
+
+    pub new-word : low + high * 4294967296 ≡ word pm x
+    unfolding trellis.word
+    new-word =
+        let is-low : low ≡ packed (wins pm x) 32 = simp zero-add at (lower .bits) in
+        rw (is-low, upper .bits) (packed-both (wins pm x) 32 32)

@@ -1,0 +1,68 @@
+-- `acs::greatest` meets its contract. The invariant: t is the greatest of the values below s. Assumes nothing.
+use mathlib.Core.Path.{_≡_, refl, _∙_}
+use mathlib.Core.Bool.{cond}
+use mathlib.Core.List.{List}
+use Prim.Native.Nat.{ℕ, suc, _+_, _-_, _≤_, _<_}
+use native.Mathlib.Numerals.{add-one}
+use native.Mathlib.Omega.{arith}
+use lib.ListN.{getD}
+use lib.Ieee.{Float, nan, lt, neg, ofBits}
+use borrow.Author.Needs.{needs}
+use Rattle.trellis.specs.Step.{top}
+use Rattle.acs.proofs.greatest.Statement.{statement}
+use Rattle.acs.proofs.greatest.Tie as tie
+
+more : (pm : List Float) (x : Float) (s : ℕ) → x ≡ top pm s → cond (lt x (getD pm s nan)) (getD pm s nan) x ≡ top pm (s + 1)
+unfolding top
+more pm x s is-x = rw (add-one s, is-x)
+
+abbrev Inv-loop : tie.InvT-loop
+Inv-loop pm t₀ s₀ t s = (s ≤ 64) × (t ≡ top pm s)
+
+abbrev μ-loop : tie.MeasureT-loop
+μ-loop pm t₀ s₀ t s = 64 - s
+
+loop-holds : tie.Need-loop-holds Inv-loop μ-loop
+unfolding top ofBits neg
+loop-holds c = (omega arith, refl)
+
+mul-larger : tie.Need-mul-larger Inv-loop μ-loop
+mul-larger c = omega arith
+
+element-copy-out-larger : tie.Need-element-copy-out-larger Inv-loop μ-loop
+element-copy-out-larger c = omega arith
+
+larger-requires : tie.Need-larger-requires Inv-loop μ-loop
+larger-requires c κs = search needs
+
+add-s : tie.Need-add-s Inv-loop μ-loop
+add-s c = omega arith
+
+loop-less : tie.Need-loop-less Inv-loop μ-loop
+loop-less c = omega arith
+
+loop-again : tie.Need-loop-again Inv-loop μ-loop
+loop-again c =
+    let at = c .before .before .before in
+    (omega arith, c .larger .ensures ∙ more (at .before .args .pm .now) (at .loop .t) (at .loop .s) (at .loop .inv .1))
+
+returns : tie.Need-returns Inv-loop μ-loop
+returns c =
+    let inv = c .before .loop .inv in
+    let e : c .before .loop .s ≡ 64 = omega arith in
+    (rw e at inv) .1
+
+pub greatest-spec : {M : Type 1} → statement M
+greatest-spec =
+    tie.close
+    (tie.spec
+    Inv-loop
+    μ-loop
+    loop-holds
+    mul-larger
+    element-copy-out-larger
+    larger-requires
+    add-s
+    loop-less
+    loop-again
+    returns)

@@ -1,0 +1,5 @@
+pub mod Isdb
+pub mod Written
+pub mod Packed
+pub mod Signs
+pub mod Half

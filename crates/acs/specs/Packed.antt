@@ -1,0 +1,42 @@
+-- A word that is filled from bit 0, one bit a turn. Assumes nothing.
+use mathlib.Core.Path.{_≡_, sym, _∙_}
+use mathlib.Core.Bool.{Bool, true, false}
+use Prim.Native.Nat.{ℕ, zero, suc, _+_, _*_, _^_, _%_, _≤_, _<_}
+use native.Mathlib.Omega.{arith}
+use native.Mathlib.Numerals.{add-one}
+use native.Mathlib.Nat.{add-zero, add-suc, mul-assoc, mul-comm}
+use lib.Bits.{bitOr, or-shifted-r}
+use lib.Pow.{pow-add, shl-exact}
+use Rattle.trellis.specs.Lists.{packed, bit}
+
+pub bit-lt : (b : Bool) → bit b < 2
+bit-lt true = omega arith
+bit-lt false = omega arith
+
+bit-fits : (b : Bool) (x : ℕ) → bit b * x ≤ x
+bit-fits true x = omega arith
+bit-fits false x = omega arith
+
+pub packed-lt : (f : ℕ → Bool) (n : ℕ) → packed f n < 2 ^ n
+unfolding packed
+packed-lt f zero = omega arith
+packed-lt f (suc n) =
+    let e : 2 ^ suc n ≡ 2 ^ n + 2 ^ n = rw (← add-one n, pow-add 2 n 1) (omega arith) in
+    omega (arith, packed-lt f n, bit-fits (f n) (2 ^ n))
+
+-- the next bit, set by a shift and an or in a word of w bits
+pub packed-more : (f : ℕ → Bool) (k w x b : ℕ) → k < w → x ≡ packed f k → b ≡ bit (f k) → bitOr x ((b * 2 ^ k) % 2 ^ w) ≡ packed f (k + 1)
+unfolding packed
+packed-more f k w x b h is-x is-b =
+    let e : (b * 2 ^ k) % 2 ^ w ≡ b * 2 ^ k = shl-exact {a = b} 1 k w (rw is-b (bit-lt (f k))) (omega arith) in
+    let s : x < 2 ^ k = rw is-x (packed-lt f k) in
+    rw (e, or-shifted-r b k x s, add-one k) (rw (is-x, is-b) (omega arith))
+
+-- two words are one, the second above the first
+pub packed-both : (f : ℕ → Bool) (m n : ℕ) → packed f m + packed (λ i. f (m + i)) n * 2 ^ m ≡ packed f (m + n)
+unfolding packed
+packed-both f m zero = rw (add-zero m) (omega arith)
+packed-both f m (suc n) =
+    let p : 2 ^ (m + n) ≡ 2 ^ n * 2 ^ m = pow-add 2 m n ∙ mul-comm (2 ^ m) (2 ^ n) in
+    let q : bit (f (m + n)) * 2 ^ n * 2 ^ m ≡ bit (f (m + n)) * 2 ^ (m + n) = rw p (mul-assoc (bit (f (m + n))) (2 ^ n) (2 ^ m)) in
+    rw (add-suc m n, ← packed-both f m n, ← q) (omega arith)

@@ -1,0 +1,331 @@
+// Files: read whole, and written whole or not at all.
+use crate::points;
+use bench_words::text::number;
+use bench_words::text::quoted;
+use bench_words::text::text;
+use bench_words::words::front;
+use bench_words::words::same;
+ghost use Rattle.libc.specs.Io.{Ended};
+
+// The bytes of a full load of 48 slots, and one more, so that a file that is longer is told from one that is full.
+pub const LOAD: usize = 9_745;
+
+// The points of a frame.
+pub const POINTS: usize = 38_976;
+
+// Why the system failed, in words.
+fn reason(error: i32) {
+    match error {
+        libc::ENOENT => text(b"there is no such file or folder"),
+        libc::EACCES => text(b"permission is denied"),
+        libc::EPERM => text(b"permission is denied"),
+        libc::EEXIST => text(
+            b"it is there already; another run may be writing it, or one was broken off: then remove it",
+        ),
+        libc::ENOTDIR => text(b"a part of its path is no folder"),
+        libc::EISDIR => text(b"it is a folder"),
+        libc::ENOSPC => text(b"the disk is full"),
+        libc::EFBIG => text(b"it would be larger than a file may be"),
+        libc::EROFS => text(b"the disk cannot be written"),
+        libc::ENAMETOOLONG => text(b"its name is too long"),
+        _ => other(error),
+    }
+}
+
+fn other(error: i32) {
+    text(b"the system's error ");
+    number(unsigned(error));
+}
+
+// n, or 0 where it is negative.
+fn unsigned(n: i32) -> u64 {
+    if n < 0 {
+        return 0;
+    }
+    n as u64
+}
+
+// The last line of a run that a file stopped.
+fn failed(what: &[u8], name: &[u8], error: i32) {
+    text(b"failed: cannot ");
+    text(what);
+    text(b" ");
+    quoted(name);
+    text(b": ");
+    reason(error);
+    text(b"\n");
+}
+
+// The next place of a buffer, or its end.
+pub fn next(j: usize) -> usize {
+    if j < 4096 { j + 1 } else { j }
+}
+
+// Puts src into dst from `at` on, as far as it goes, and answers where it ends.
+pub fn put(dst: &mut [u8; 4096], at: usize, src: &[u8]) -> usize {
+    let mut i: usize = 0;
+    let mut j = at;
+    while i < src.len() && j < 4096 {
+        dst[j] = src[i];
+        i = i + 1;
+        j = next(j);
+    }
+    j
+}
+
+// Puts a number's digits into dst from `at` on, and answers where they end.
+fn put_number(dst: &mut [u8; 4096], at: usize, number: u64) -> usize {
+    let mut digits = [0u8; 20];
+    let n = io::decimal(number, &mut digits);
+    put(dst, at, &digits[..n])
+}
+
+// The first n bytes.
+fn front_of<'a>(s: &'a [u8; 4096], n: usize) -> &'a [u8] {
+    front(s, n)
+}
+
+// The text with a 0 in its last place.
+fn closed(text: [u8; 4096]) -> [u8; 4096]
+    ensures { λ r. ⌜ Ended r ⌝ }
+{
+    let mut out = text;
+    out[4095] = 0;
+    out
+}
+
+// The path of the system's link to an open file.
+fn link(file: u64) -> [u8; 4096]
+    ensures { λ r. ⌜ Ended r ⌝ }
+{
+    let mut path = io::buffer();
+    let at = put(&mut path, 0, b"/proc/self/fd/");
+    put_number(&mut path, at, file);
+    closed(path)
+}
+
+// Where two open files lie.
+enum Places {
+    Same,
+    Apart,
+    Unknown,
+}
+
+fn compare_places(a: u64, b: u64) -> Places {
+    let la = link(a);
+    let lb = link(b);
+    let mut pa = io::buffer();
+    let mut pb = io::buffer();
+    let na = io::count(libc::readlink(&la, &mut pa), &pa);
+    let nb = io::count(libc::readlink(&lb, &mut pb), &pb);
+    if na == 0 {
+        return Places::Unknown;
+    }
+    if nb == 0 {
+        return Places::Unknown;
+    }
+    if same(front(&pa, na), front(&pb, nb)) {
+        Places::Same
+    } else {
+        Places::Apart
+    }
+}
+
+// Whether the output is known to be another file than the input; else says that it is not.
+fn is_apart(places: Places, name: &[u8]) -> bool {
+    match places {
+        Places::Apart => true,
+        Places::Same => {
+            text(b"refused: the output ");
+            quoted(name);
+            text(b" is the input\n");
+            false
+        }
+        Places::Unknown => {
+            text(b"refused: the output ");
+            quoted(name);
+            text(b" is there already, and without /proc it cannot be told from the input\n");
+            false
+        }
+    }
+}
+
+// Whether a file may be written at this name: there is none yet, or it is a plain file and not the input.
+fn may_write(name: &[u8], input: i32) -> bool {
+    let file = os::open_update(name);
+    if file < 0 {
+        let error = os::errno();
+        if error == libc::ENOENT {
+            return true;
+        }
+        failed(b"write", name, error);
+        return false;
+    }
+    let places = compare_places(unsigned(file), unsigned(input));
+    let is_plain = libc::fsync(file) == 0;
+    libc::close(file);
+    if !is_apart(places, name) {
+        return false;
+    }
+    if !is_plain {
+        text(b"failed: the output ");
+        quoted(name);
+        text(b" is not a plain file\n");
+    }
+    is_plain
+}
+
+// Opens a file for reading, or says why it cannot and answers -1.
+pub fn open(name: &[u8]) -> i32 {
+    let file = os::open_read(name);
+    if file < 0 {
+        failed(b"read", name, os::errno());
+    }
+    file
+}
+
+// Opens the input, where the output may be written; else says why not and answers -1.
+pub fn open_for(input: &[u8], output: &[u8]) -> i32 {
+    let file = open(input);
+    if file < 0 {
+        return file;
+    }
+    if may_write(output, file) {
+        return file;
+    }
+    libc::close(file);
+    -1
+}
+
+// Whether the input has ended: one more read gives nothing, and does not fail.
+fn has_ended(file: i32, name: &[u8]) -> bool {
+    let mut one = [0u8; 1];
+    let got = libc::read(file, &mut one);
+    if got == 0 {
+        return true;
+    }
+    failed(b"read", name, os::errno());
+    false
+}
+
+// What was read: whether it was read well, how many bytes or points, and how many bytes of one more point.
+pub struct Got {
+    pub well: bool,
+    pub count: usize,
+    pub over: usize,
+}
+
+// Reads an open file's bytes, as many as the buffer holds, and closes it.
+pub fn read_bytes(file: i32, name: &[u8], bytes: &mut [u8; 9745]) -> Got {
+    let n = io::read_full(file, bytes);
+    let well = n == LOAD || has_ended(file, name);
+    libc::close(file);
+    Got {
+        well,
+        count: n,
+        over: 0,
+    }
+}
+
+// Reads points until the frame is full or the file ends.
+fn fill(file: i32, narrow: bool, re: &mut [f64; 38976], im: &mut [f64; 38976]) -> Got {
+    let mut k: usize = 0;
+    let mut over: usize = 0;
+    while k < POINTS {
+        let p = points::read_point(file, narrow);
+        if p.got < points::size(narrow) {
+            over = p.got;
+            break;
+        }
+        re[k] = p.re;
+        im[k] = p.im;
+        k = k + 1;
+    }
+    Got {
+        well: true,
+        count: k,
+        over,
+    }
+}
+
+// Reads an open file's points, up to a frame's, and closes it.
+pub fn read_points(file: i32, name: &[u8], re: &mut [f64; 38976], im: &mut [f64; 38976]) -> Got {
+    let got = fill(file, bench_words::words::is_narrow(name), re, im);
+    let n = got.count;
+    let well = n == POINTS || has_ended(file, name);
+    libc::close(file);
+    Got {
+        well,
+        count: n,
+        over: got.over,
+    }
+}
+
+// The file that is written before it takes the output's name.
+fn part_name(name: &[u8], part: &mut [u8; 4096]) -> usize {
+    let at = put(part, 0, name);
+    put(part, at, b".part")
+}
+
+// Gives the file its name where all is written; else removes it and says why.
+fn finish(file: i32, is_written: bool, part: &[u8], name: &[u8]) -> bool {
+    let is_kept = is_written && libc::fsync(file) == 0;
+    let error = os::errno();
+    libc::close(file);
+    if is_kept {
+        if os::rename(part, name) == 0 {
+            return true;
+        }
+        failed(b"write", name, os::errno());
+    } else {
+        failed(b"write", name, error);
+    }
+    os::unlink(part);
+    false
+}
+
+// Makes the file that is written first, or says why it cannot and answers -1.
+fn make_part(part: &[u8]) -> i32 {
+    let file = os::create(part);
+    if file < 0 {
+        failed(b"make", part, os::errno());
+    }
+    file
+}
+
+// Writes a file of bytes, and answers whether it is there.
+pub fn write_bytes(name: &[u8], bytes: &[u8]) -> bool {
+    let mut space = io::buffer();
+    let n = part_name(name, &mut space);
+    let part = front_of(&space, n);
+    let file = make_part(part);
+    if file < 0 {
+        return false;
+    }
+    let is_written = io::write_all(file, bytes);
+    finish(file, is_written, part, name)
+}
+
+fn pour(file: i32, narrow: bool, re: &[f64; 38976], im: &[f64; 38976]) -> bool {
+    let mut k: usize = 0;
+    while k < POINTS {
+        if !points::write_point(file, narrow, re[k], im[k]) {
+            return false;
+        }
+        k = k + 1;
+    }
+    true
+}
+
+// Writes a file of a frame's points, and answers whether it is there.
+pub fn write_points(name: &[u8], re: &[f64; 38976], im: &[f64; 38976]) -> bool {
+    let mut space = io::buffer();
+    let n = part_name(name, &mut space);
+    let part = front_of(&space, n);
+    let file = make_part(part);
+    if file < 0 {
+        return false;
+    }
+    let is_written = pour(file, bench_words::words::is_narrow(name), re, im);
+    finish(file, is_written, part, name)
+}

@@ -1,0 +1,3 @@
+// The bench program's files, of bytes and of points.
+pub mod files;
+mod points;

@@ -1,0 +1,280 @@
+// Reports: the table as understood, refusals, and differences.
+use crate::text::byte;
+use crate::text::combination;
+use crate::text::count;
+use crate::text::number;
+use crate::text::text;
+use crate::words::tally;
+use isdbs_core::combination::MaybeCombination;
+use isdbs_core::slots;
+use isdbs_core::slots::Run;
+use isdbs_core::tmcc::Entry;
+use isdbs_core::tmcc::Table;
+use refusal::Answer;
+ghost use Prim.Native.Nat.{_<_, _≤_};
+
+fn wide(n: u32) -> u64 {
+    n as u64
+}
+
+fn slots_of(e: Entry) -> u64
+    ensures { λ r. ⌜ r < 256 ⌝ }
+{
+    e.slots as u64
+}
+
+// An entry that takes slots and carries nothing.
+fn entry_line(e: Entry) {
+    if e.slots == 0 {
+        return;
+    }
+    let c = e.combination();
+    match c {
+        MaybeCombination::Some(_) => {}
+        MaybeCombination::None => {
+            text(b"  word ");
+            number(e.word as u64);
+            text(b": no combination, ");
+            number(slots_of(e));
+            text(b" slots that carry nothing\n");
+        }
+    }
+}
+
+// n things from number a on.
+fn range(n: usize, name: &[u8], a: usize) {
+    count(n);
+    text(name);
+    count(a);
+}
+
+fn run_line(r: Run) {
+    text(b"  ");
+    let c = r.combination;
+    combination(c);
+    if r.slot_end < r.slot_start {
+        return;
+    }
+    if r.symbol_end < r.symbol_start {
+        return;
+    }
+    text(b": ");
+    range(
+        r.slot_end - r.slot_start,
+        b" slots from slot ",
+        r.slot_start,
+    );
+    text(b", of them ");
+    count(r.valid_slots);
+    text(b" valid; ");
+    range(
+        r.symbol_end - r.symbol_start,
+        b" symbols from symbol ",
+        r.symbol_start,
+    );
+    text(b"\n");
+}
+
+fn run_at(rs: [Run; 4], n: usize, i: usize) {
+    if i < n {
+        if i < 4 {
+            run_line(rs[i]);
+        }
+    }
+}
+
+fn refuse_table(t: Table) {
+    let es = t.entries;
+    text(b"refused 1: the table takes ");
+    number(slots_of(es[0]) + slots_of(es[1]) + slots_of(es[2]) + slots_of(es[3]));
+    text(b" slots, and a frame has 48\n");
+}
+
+fn entry_lines(t: Table) {
+    let es = t.entries;
+    entry_line(es[0]);
+    entry_line(es[1]);
+    entry_line(es[2]);
+    entry_line(es[3]);
+}
+
+fn run_lines(rs: [Run; 4], n: usize) {
+    run_at(rs, n, 0);
+    run_at(rs, n, 1);
+    run_at(rs, n, 2);
+    run_at(rs, n, 3);
+}
+
+// Whether a table is accepted.
+pub enum Valid {
+    Slots(usize),
+    Refused,
+}
+
+// The table as understood, and its valid slots, at most 48; or the refusal.
+pub fn table(t: Table) -> Valid {
+    let all = slots::runs(t);
+    let answer = all.answer;
+    if refusal::number(answer) != 0 {
+        refuse_table(t);
+        return Valid::Refused;
+    }
+    text(b"table:\n");
+    let rs = all.runs;
+    run_lines(rs, all.count);
+    entry_lines(t);
+    let v = all.valid_slots;
+    if v > 48 {
+        return Valid::Refused;
+    }
+    text(b"  in all ");
+    count(v);
+    text(b" valid slots of 203 bytes: the frame carries ");
+    count(203 * v);
+    text(b" bytes\n");
+    Valid::Slots(v)
+}
+
+// Whether a part of a point is refused by row 7.
+fn is_bad(x: f64) -> bool {
+    !(x <= 1024.0f64 && x >= -1024.0f64)
+}
+
+fn is_number(x: f64) -> bool {
+    x - x == 0.0f64
+}
+
+// The first point of the frame with a bad part, or 38,976.
+fn first_bad(re: &[f64; 38976], im: &[f64; 38976]) -> usize
+    ensures { λ r. ⌜ r ≤ 38976 ⌝ }
+{
+    let mut k: usize = 0;
+    while k < 38976 {
+        if is_bad(re[k]) || is_bad(im[k]) {
+            break;
+        }
+        k = k + 1;
+    }
+    k
+}
+
+fn bad_part(k: usize, name: &[u8], x: f64) {
+    text(b"refused 7: point ");
+    count(k);
+    text(b"'s ");
+    text(name);
+    if is_number(x) {
+        text(b" part is beyond 1,024 (points are counted from 0)\n");
+    } else {
+        text(b" part is not a finite number (points are counted from 0)\n");
+    }
+}
+
+fn refuse_sample(re: &[f64; 38976], im: &[f64; 38976]) {
+    let k = first_bad(re, im);
+    if k < 38976 {
+        let x = re[k];
+        let y = im[k];
+        if is_bad(x) {
+            bad_part(k, b"real", x);
+        } else {
+            bad_part(k, b"imaginary", y);
+        }
+    }
+}
+
+fn refuse_symbols(points: usize, over: usize) {
+    text(b"refused 6: the file has ");
+    count(points);
+    text(b" points and ");
+    count(over);
+    text(b" bytes over, and a frame has 38,976 points\n");
+}
+
+fn refuse_other(answer: Answer) {
+    text(b"refused ");
+    number(wide(refusal::number(answer)));
+    text(b": the library does not take this\n");
+}
+
+// The last line of a reading that was turned back.
+pub fn refuse_reading(
+    answer: Answer,
+    points: usize,
+    over: usize,
+    re: &[f64; 38976],
+    im: &[f64; 38976],
+) {
+    match answer {
+        Answer::Symbols => refuse_symbols(points, over),
+        Answer::Sample => refuse_sample(re, im),
+        Answer::Scale => text(b"refused 8: the scale is not above 0, or is above 64\n"),
+        _ => refuse_other(answer),
+    }
+}
+
+// The last line of a call that was turned back.
+pub fn refuse(answer: Answer) {
+    refuse_other(answer);
+}
+
+// How many bytes of two slices agree, place by place.
+pub fn agreeing(a: &[u8], b: &[u8]) -> usize {
+    let mut n: usize = 0;
+    let mut i: usize = 0;
+    while i < a.len() && i < b.len() {
+        n = n + tally(a[i] == b[i]);
+        i = i + 1;
+    }
+    n
+}
+
+// The first place where two slices differ, or the shorter one's end.
+fn first_difference(a: &[u8], b: &[u8]) -> usize {
+    let mut i: usize = 0;
+    while i < a.len() && i < b.len() {
+        if a[i] != b[i] {
+            break;
+        }
+        i = i + 1;
+    }
+    i
+}
+
+fn difference(a: &[u8], b: &[u8]) {
+    let i = first_difference(a, b);
+    if i < a.len() && i < b.len() {
+        text(b"; first difference at byte ");
+        count(i);
+        text(b": sent 0x");
+        byte(a[i]);
+        text(b", read 0x");
+        byte(b[i]);
+    }
+}
+
+// A valid slot as sent and as read, and how many of its bytes agree, at most 203.
+pub fn slot_line(k: usize, a: &[u8], b: &[u8]) -> usize
+    ensures { λ r. ⌜ r ≤ 203 ⌝ }
+{
+    let n = agreeing(a, b);
+    text(b"  valid slot ");
+    count(k);
+    text(b": ");
+    count(n);
+    text(b" of 203 bytes agree");
+    difference(a, b);
+    text(b"\n");
+    if n < 203 {
+        return n;
+    }
+    203
+}
+
+// n of m bytes agree.
+pub fn agree(n: usize, m: usize) {
+    count(n);
+    text(b" of ");
+    count(m);
+    text(b" bytes agree");
+}

@@ -1,0 +1,61 @@
+// What is written on standard output.
+use isdbs_core::combination::Combination;
+use libc::STDOUT_FILENO;
+
+pub fn text(s: &[u8]) {
+    io::write_all(STDOUT_FILENO, s);
+}
+
+fn plain(n: u64) {
+    io::print_decimal(STDOUT_FILENO, n);
+}
+
+// Three digits after a comma.
+fn three(n: u64) {
+    text(b",");
+    plain(n / 100 % 10);
+    plain(n / 10 % 10);
+    plain(n % 10);
+}
+
+// A number below a thousand million, with a comma at each thousand.
+pub fn number(n: u64) {
+    if n < 1_000 {
+        plain(n);
+        return;
+    }
+    if n < 1_000_000 {
+        plain(n / 1_000);
+    } else {
+        plain(n / 1_000_000);
+        three(n / 1_000);
+    }
+    three(n);
+}
+
+pub fn count(n: usize) {
+    number(n as u64);
+}
+
+pub fn byte(b: u8) {
+    io::print_hex(STDOUT_FILENO, b as u64, 2);
+}
+
+// A name in quotation marks.
+pub fn quoted(s: &[u8]) {
+    text(b"\"");
+    text(s);
+    text(b"\"");
+}
+
+pub fn combination(c: Combination) {
+    match c {
+        Combination::Bpsk1_2 => text(b"BPSK 1/2"),
+        Combination::Qpsk1_2 => text(b"QPSK 1/2"),
+        Combination::Qpsk2_3 => text(b"QPSK 2/3"),
+        Combination::Qpsk3_4 => text(b"QPSK 3/4"),
+        Combination::Qpsk5_6 => text(b"QPSK 5/6"),
+        Combination::Qpsk7_8 => text(b"QPSK 7/8"),
+        Combination::Tc8psk2_3 => text(b"TC8PSK 2/3"),
+    }
+}

@@ -1,0 +1,45 @@
+-- `frame_ranges::decode_in_range` meets its contract: that of `decode_frame`, and the theorem about the ranges. Assumes nothing.
+use borrow.Author.Needs.{needs}
+use denote.Ref.{now}
+use lib.Dec.{T}
+use lib.Ieee.{binary32, fits}
+use lib.ListN.{length}
+use Rattle.trellis.specs.Step.{lower}
+use Rattle.frame_ranges.specs.Accepted.{frame-ranges}
+use Rattle.frame_ranges.proofs.decode_in_range.Statement.{statement}
+use Rattle.frame_ranges.proofs.decode_in_range.Tie as tie
+
+decode-frame-requires : tie.Need-decode-frame-requires
+decode-frame-requires c κs = search needs
+
+same-length : tie.Need-same-length
+same-length c = search needs
+
+same-length-2 : tie.Need-same-length-2
+same-length-2 c = search needs
+
+same-length-3 : tie.Need-same-length-3
+same-length-3 c = search needs
+
+returns : tie.Need-returns
+returns c =
+    let call = c .before .before .before .before .before .before in
+    let d = call .decode-frame in
+    let im-known = call .before .before .before .before .before .before .before in
+    let re-known = im-known .before in
+    let start = re-known .before in
+    let a = start .args in
+    let scale : T (fits binary32 (a .o .«llr_scale»)) = rw (start .good .1 .1 .1 .1 .0 .1 .1 .1 .1 .0 .1) tt in
+    let x = re-known .shared-slice-known .given in
+    let y = im-known .shared-slice-known2 .given in (
+      d .ensures .0,
+      (
+        d .ensures .1,
+        λ yes.
+            frame-ranges lower (a .t) (now (a .re)) (now (a .im)) (a .o .mapping) (a .o .«llr_scale») (length (now (a .decisions))) (length (now (a .bits))) (length (now (a .bytes))) (a .o .«known_start») (a .first) x y scale yes,
+      ),
+    )
+
+pub decode-in-range-spec : {M : Type 1} → statement M
+decode-in-range-spec =
+    tie.close (tie.spec decode-frame-requires same-length same-length-2 same-length-3 returns)

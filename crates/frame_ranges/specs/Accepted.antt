@@ -1,0 +1,207 @@
+-- The rows of `decode_frame` give the sizes of the parts and of the scale, and these give the ranges. Assumes nothing.
+use mathlib.Core.Path.{_≡_, refl, ap, _∙_, subst}
+use mathlib.Core.Bool.{Bool, true, false, not, cond, _||_}
+use mathlib.Core.List.{List, [], _∷_}
+use Prim.Native.Nat.{ℕ, zero, suc, _+_, _*_, _<_, _≤_}
+use native.Mathlib.Nat.{not-suc-le-zero}
+use native.Mathlib.Omega.{arith}
+use borrow.Author.Count.{below-more}
+use lib.Dec.{T, ltb, lit≤}
+use lib.ListN.{getD, length}
+use lib.Ieee.{Float, nan, inf, fin, binary32, binary64, neg, lt, le, fits, ofBits}
+use lib.Ieee.Fits.{and-i, and-l, and-r}
+use Rattle.refusal.specs.Rows.{Row, firstRow}
+use Rattle.refusal.specs.declared.Answer.the-variants.{Accepted, Symbols, Sample, Scale, Space}
+use Rattle.ieee.specs.Value.{Num, hi-neg, num-neg}
+use Rattle.ieee.specs.Order.{le→value, lt→value, not-lt→value, value→le, num-between}
+use Rattle.ieee.specs.Constants.{two-to, two-to-num}
+use Rattle.trellis.specs.Code.{isdb, label}
+use Rattle.trellis.specs.Step.{Tie, nexts, renormalised}
+use Rattle.trellis.specs.Run.{valuesAt, pushed}
+use Rattle.lead.specs.Complement.{small}
+use Rattle.lead.specs.Traceback.{after-values}
+use Rattle.path_range.specs.Bounds.{Within}
+use Rattle.path_range.specs.Values.{nothing, from-least, to-most}
+use Rattle.path_range.specs.Steps.{Soft, quad}
+use Rattle.path_range.specs.Invariant.{Bounded, bounded-within}
+use Rattle.path_range.specs.Run.{InRange, soft-call, known-call, path-within, path-within-next}
+use Rattle.path_range.specs.Starts.{given-bounded, unknown-bounded}
+use Rattle.isdb_fec.specs.Answers.{unless}
+use Rattle.isdbs_core.specs.Answers.{accepted}
+use Rattle.isdbs_core.specs.PartLaws.{sum-fits, then-rows, before-rows}
+use Rattle.isdbs_core.specs.declared.tmcc.Table.{Table}
+use Rattle.isdbs_core.specs.Tables.{slotSum, tableAnswer}
+use Rattle.isdbs_core.specs.RunsOf.{frameSteps}
+use Rattle.isdbs_phy.specs.declared.demod.Mapping.{Mapping}
+use Rattle.isdbs_phy.specs.DecodeRows.{within, someBeyond, partLimit, badScale, shortSpace, decodeRows}
+use Rattle.isdbs_phy.specs.Layout.{wordBit}
+use Rattle.isdbs_phy.specs.Frame.{startState}
+use Rattle.isdbs_phy.specs.Reading.{Received, metricsAt, startValues}
+use Rattle.isdbs_phy.specs.Steps.{received}
+use Rattle.isdbs_phy.specs.Runs.{frameMetrics, freshFrom, knownBits}
+use Rattle.frame_ranges.specs.Numbers.{partPower, scalePower, metricPower, scaleLimit, softLimit, metricLimit, stepMost, floor, leastPath, mostPath, part-limit, scale-limit, soft-limit, metric-limit, step-most, path-limits, least-path, most-path}
+use Rattle.frame_ranges.specs.Size.{Size, two-lo, between-size, size-from, size-to}
+use Rattle.frame_ranges.specs.Metrics.{Sized, soft-in, metric-in}
+use Rattle.frame_ranges.specs.Ranges.{Between, pathRange, Ranges, frameAt}
+
+-- ---- a value within a power of two, as a test
+size-within : {t : ℕ} {x : Float} (limit : Float) → limit ≡ two-to t → t ≤ 127 → Size binary32 t x → T (within limit x)
+size-within {t} {x} limit e h s =
+    let n = two-to-num binary32 t h in
+    rw e
+    (and-i (le (neg (two-to t)) x) (le x (two-to t))
+    (value→le binary32 (neg (two-to t)) x (num-neg n) (s .num) (size-from s))
+    (value→le binary32 x (two-to t) (s .num) n (size-to s)))
+
+-- ---- the parts
+part-size : (x : Float) → T (fits binary64 x) → T (within partLimit x) → Size binary64 partPower x
+part-size x f t =
+    let w : T (within (two-to partPower) x) = rw part-limit at t in
+    let n = two-to-num binary64 partPower (lit≤ tt) in
+    let a = and-l (le (neg (two-to partPower)) x) (le x (two-to partPower)) w in
+    let b = and-r (le (neg (two-to partPower)) x) (le x (two-to partPower)) w in
+    let m = num-between (num-neg n) n f a b in
+    between-size (record { num = m; from = le→value binary64 (neg (two-to partPower)) x (num-neg n) m a; to = le→value binary64 x (two-to partPower) m n b })
+
+neither : (a b : Bool) → (a || b) ≡ false → (a ≡ false) × (b ≡ false)
+neither false b e = (refl, e)
+neither true b e = absurd (subst T e tt)
+
+not-false : (b : Bool) → not b ≡ false → T b
+not-false true e = tt
+not-false false e = absurd (subst T e tt)
+
+parts-in : (xs : List Float) (n : ℕ) → someBeyond partLimit xs n ≡ false → (k : ℕ) → k < n → T (within partLimit (getD xs k nan))
+unfolding someBeyond
+parts-in xs zero e k h = absurd (not-suc-le-zero h)
+parts-in xs (suc n) e k h =
+    let p = neither (someBeyond partLimit xs n) (not (within partLimit (getD xs n nan))) e in
+    below-more (λ j. T (within partLimit (getD xs j nan))) n (parts-in xs n (p .0)) (not-false (within partLimit (getD xs n nan)) (p .1)) k (omega arith)
+
+-- ---- the scale: above 0 and not above its limit
+scale-num : (s : Float) → T (fits binary32 s) → T (lt (ofBits binary32 0) s) → lt scaleLimit s ≡ false → Num binary32 s
+unfolding lt ofBits
+scale-num nan f h k = absurd h
+scale-num (inf true) f h k = absurd h
+scale-num (inf false) f h k = absurd (subst T k tt)
+scale-num (fin b m e) f h k = record { fin-x = tt; fits-x = f }
+
+scale-size : (s : Float) → T (fits binary32 s) → badScale s ≡ false → Size binary32 scalePower s
+scale-size s f e =
+    let p = neither (not (lt (ofBits binary32 0) s)) (lt scaleLimit s) e in
+    let a = not-false (lt (ofBits binary32 0) s) (p .0) in
+    let m = scale-num s f a (p .1) in
+    let n = two-to-num binary32 scalePower (lit≤ tt) in
+    let l = lt→value binary32 (ofBits binary32 0) s (nothing .num) m a in
+    let h = nothing .hi-is in
+    let k = nothing .lo-is in
+    let h' = hi-neg binary32 (two-to scalePower) in
+    let l' = two-lo binary32 scalePower in
+    let u = not-lt→value binary32 (two-to scalePower) s n m (rw (← scale-limit, p .1) tt) in
+    between-size (record { num = m; from = omega arith; to = u })
+
+-- ---- what the rows of an accepted call say
+record Passed (t : Table) (re im : List Float) (scale : Float) : Type 0 where
+  fit : slotSum (t .entries) ≤ 48
+  re-fine : someBeyond partLimit re 38976 ≡ false
+  im-fine : someBeyond partLimit im 38976 ≡ false
+  scale-fine : badScale scale ≡ false
+
+module _ (t : Table) (re im : List Float) (scale : Float) (decisions bits bytes : ℕ) where
+  abbrev rest : List Row
+  rest =
+      (Symbols, ltb (length re) 38976 || ltb (length im) 38976)
+      ∷ (Sample, someBeyond partLimit re 38976 || someBeyond partLimit im 38976)
+      ∷ (Scale, badScale scale)
+      ∷ (Space, shortSpace t decisions bits bytes)
+      ∷ []
+
+  passed : Accepted ≡ firstRow (decodeRows t re im scale decisions bits bytes) → Passed t re im scale
+  passed e = go (accepted (tableAnswer t)) refl
+    where
+      go : (b : Bool) → accepted (tableAnswer t) ≡ b → Passed t re im scale
+      go false h = absurd (subst T (ap accepted (e ∙ before-rows t rest h) ∙ h) tt)
+      go true h =
+          let space = cond (shortSpace t decisions bits bytes) Space Accepted in
+          let size = cond (badScale scale) Scale space in
+          let part = cond (someBeyond partLimit re 38976 || someBeyond partLimit im 38976) Sample size in
+          let a = unless (ltb (length re) 38976 || ltb (length im) 38976) Symbols part (omega arith) (e ∙ then-rows t rest h) in
+          let b = unless (someBeyond partLimit re 38976 || someBeyond partLimit im 38976) Sample size (omega arith) (a .1) in
+          let c = unless (badScale scale) Scale space (omega arith) (b .1) in
+          let p = neither (someBeyond partLimit re 38976) (someBeyond partLimit im 38976) (b .0) in
+          record { fit = sum-fits t h; re-fine = p .0; im-fine = p .1; scale-fine = c .0 }
+
+-- ---- the path values of sized steps
+module _ (e : Tie) (t : Table) (r : Received) (metrics : (k l : ℕ) → k < frameSteps t → l < 4 → Size binary32 metricPower (getD (metricsAt t r k) l nan)) (pm : List Float) (start : Bounded stepMost floor 0 pm) where
+  soft-step : (k : ℕ) → k < frameSteps t → Soft stepMost (frameMetrics t r k)
+  soft-step k h = quad go
+    where
+      go : (l : ℕ) → l < 4 → Within (getD (metricsAt t r k) l nan) stepMost stepMost
+      go l g =
+          let s = metrics k l h g in
+          let a = s .above in
+          let b = s .below in
+          let m = step-most in
+          record { num = s .num; low = omega arith; high = omega arith }
+
+  in-between : (vs : List Float) → InRange stepMost floor vs → Between leastPath mostPath vs
+  in-between vs i s h =
+      let w = i s h in
+      let x = getD vs s nan in
+      (from-least leastPath x (floor + 12 * stepMost) (64 * stepMost) (floor + 12 * stepMost) least-path (lit≤ tt) w, to-most mostPath x (floor + 12 * stepMost) (64 * stepMost) (64 * stepMost) most-path (lit≤ tt) w)
+
+  below-zero : (vs : List Float) → Bounded stepMost floor 0 vs → Between leastPath (ofBits binary32 0) vs
+  below-zero vs i s h =
+      let w = bounded-within i s h in
+      let x = getD vs s nan in
+      (from-least leastPath x (floor + 12 * stepMost) 0 (floor + 12 * stepMost) least-path (lit≤ tt) w, to-most (ofBits binary32 0) x (floor + 12 * stepMost) 0 0 nothing (lit≤ tt) w)
+
+  values-are : (i : ℕ) → frameAt e t r pm i .values ≡ valuesAt 32 (label isdb) e (frameMetrics t r) pm i
+  values-are = after-values 32 (label isdb) e 128 (frameMetrics t r) (freshFrom pm)
+
+  ended : Bounded stepMost floor 0 (renormalised 32 (frameAt e t r pm (frameSteps t) .values))
+  ended = rw (values-are (frameSteps t)) (soft-call path-limits (label isdb) small e (frameMetrics t r) (frameSteps t) soft-step pm start)
+
+  pub paths-in : pathRange e t r pm
+  paths-in = record {
+    at-step = λ i h. rw (values-are i) (in-between (valuesAt 32 (label isdb) e (frameMetrics t r) pm i) (path-within path-limits (label isdb) small e (frameMetrics t r) (frameSteps t) soft-step pm start i h));
+    in-step = λ i h.
+        rw (values-are i)
+        (in-between (nexts 32 (label isdb) e (valuesAt 32 (label isdb) e (frameMetrics t r) pm i) (frameMetrics t r i)) (path-within-next path-limits (label isdb) small e (frameMetrics t r) (frameSteps t) soft-step pm start i h));
+    at-known = λ j.
+        let d = pushed 32 (label isdb) e 128 (frameMetrics t r) (freshFrom pm) (frameSteps t) in
+        rw (after-values 32 (label isdb) e 128 knownBits d j)
+        (below-zero (valuesAt 32 (label isdb) e knownBits (d .values) j) (known-call path-limits (label isdb) small e (wordBit 0x1b95) (d .values) ended j));
+  }
+
+start-bounded : (knownStart first : Bool) → Bounded stepMost floor 0 (startValues knownStart first)
+start-bounded true first = given-bounded path-limits (startState first)
+start-bounded false first = unknown-bounded path-limits
+
+-- ---- the theorem: an accepted call keeps to the ranges. Every value of a lent slice and a scale is one of its format, which the borrow checker tells
+module _ (e : Tie) (t : Table) (re im : List Float) (m : Mapping) (scale : Float) (decisions bits bytes : ℕ) (knownStart first : Bool)
+    (re-fits : (i : ℕ) → T (fits binary64 (getD re i nan))) (im-fits : (i : ℕ) → T (fits binary64 (getD im i nan))) (scale-fits : T (fits binary32 scale))
+    (yes : Accepted ≡ firstRow (decodeRows t re im scale decisions bits bytes))
+  where
+    abbrev r : Received
+    r = received re im m scale
+
+    p : Passed t re im scale
+    p = passed t re im scale decisions bits bytes yes
+
+    sized : Sized partPower scalePower r
+    sized = record {
+      re-in = λ k h. part-size (getD re k nan) (re-fits k) (parts-in re 38976 (p .re-fine) k h);
+      im-in = λ k h. part-size (getD im k nan) (im-fits k) (parts-in im 38976 (p .im-fine) k h);
+      scale-in = λ c. scale-size scale scale-fits (p .scale-fine);
+    }
+
+    metrics-sized : (k l : ℕ) → k < frameSteps t → l < 4 → Size binary32 metricPower (getD (metricsAt t r k) l nan)
+    metrics-sized k l h g = metric-in partPower scalePower (lit≤ tt) t (p .fit) r sized k h l g
+
+    pub frame-ranges : Ranges e t r (startValues knownStart first)
+    frame-ranges = record {
+      soft = λ g i n k b h. size-within softLimit soft-limit (lit≤ tt) (soft-in partPower scalePower (lit≤ tt) t (p .fit) r sized g i n k b h);
+      metrics = λ k l h g. size-within metricLimit metric-limit (lit≤ tt) (metrics-sized k l h g);
+      paths = paths-in e t r metrics-sized (startValues knownStart first) (start-bounded knownStart first);
+    }

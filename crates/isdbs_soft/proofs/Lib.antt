@@ -1,0 +1,3 @@
+pub mod Shift
+pub mod Narrow
+pub mod Sign
