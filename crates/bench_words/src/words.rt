@@ -2,7 +2,7 @@
 use isdbs_core::tmcc;
 use isdbs_core::tmcc::Entry;
 use isdbs_core::tmcc::Table;
-use isdbs_phy::demod::Mapping;
+use isdbs_points::Mapping;
 ghost use Prim.Native.Nat.{_<_, _≤_};
 ghost use lib.ListN.{length};
 

@@ -10,10 +10,10 @@ use lib.ListN.{getD}
 use lib.Ieee.{Float}
 use Rattle.trellis.specs.Code.{isdb, output, label}
 use Rattle.trellis.specs.Step.{term}
-use Rattle.isdbs_phy.specs.Points.{point, root64, qpskOf, subset, turned}
-use Rattle.isdbs_phy.specs.Layout.{loadBit}
-use Rattle.isdbs_phy.specs.Frame.{codedBit}
-use Rattle.isdbs_phy.specs.Reading.{partOf}
+use Rattle.isdbs_points.specs.Points.{point, root64, qpskOf, subset, turned}
+use Rattle.isdbs_points.specs.Layout.{loadBit}
+use Rattle.isdbs_points.specs.Frame.{codedBit}
+use Rattle.isdbs_metrics.specs.Reading.{partOf}
 use Rattle.margins.specs.Margins.{keeps}
 use Rattle.margins.specs.Clean.{clean-root, term-clean, turned-keeps}
 

@@ -8,8 +8,8 @@ use lib.Seq.{ext-getD}
 use Rattle.trellis.specs.Lists.{upto}
 use Rattle.trellis.specs.Code.{stateAt}
 use Rattle.trellis.specs.ListLaws.{length-upto, getD-upto}
-use Rattle.isdbs_phy.specs.Layout.{loadBit, byteOf}
-use Rattle.isdbs_phy.specs.Frame.{labelAt}
+use Rattle.isdbs_points.specs.Layout.{loadBit, byteOf}
+use Rattle.isdbs_points.specs.Frame.{labelAt}
 use Rattle.margins.specs.Margins.{FullLoad}
 
 -- ---- inputs that are alike up to n leave the same labels

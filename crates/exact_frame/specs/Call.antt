@@ -18,11 +18,11 @@ use Rattle.isdb_fec.specs.Calls.{Either}
 use Rattle.isdbs_core.specs.declared.tmcc.Table.{Table}
 use Rattle.isdbs_core.specs.Tables.{slotSum}
 use Rattle.isdbs_core.specs.RunsOf.{frameSteps, loadBytes}
-use Rattle.isdbs_phy.specs.declared.demod.Mapping.{Mapping}
+use Rattle.isdbs_points.specs.declared.Mapping.{Mapping}
 use Rattle.isdbs_phy.specs.declared.demod.FrameDecoded.{FrameDecoded}
 use Rattle.isdbs_phy.specs.declared.demod.FrameDecoded.the-variants.{Decoded, Refused}
 use Rattle.isdbs_phy.specs.DecodeRows.{within, someBeyond, partLimit, badScale, shortSpace, decodeRows, frameAnswer, Kept}
-use Rattle.isdbs_phy.specs.Runs.{FrameRead}
+use Rattle.isdbs_decode.specs.Runs.{FrameRead}
 use Rattle.margins.specs.Margins.{anyAccepted, Within, FullLoad}
 use Rattle.exact_frame.specs.Steps.{received}
 use Rattle.exact_frame.specs.Exact.{decoded-load}

@@ -20,13 +20,13 @@ use Rattle.isdbs_core.specs.declared.tmcc.Table.{Table}
 use Rattle.isdbs_core.specs.Combinations.{modulationOf, unitOf, slotSteps}
 use Rattle.isdbs_core.specs.Tables.{slotSum}
 use Rattle.isdbs_core.specs.RunsOf.{frameSteps, loadBytes}
-use Rattle.isdbs_phy.specs.declared.demod.Mapping.{Mapping}
-use Rattle.isdbs_phy.specs.Layout.{Segment, segments, atStep, atBit, loadBit, wordBit}
-use Rattle.isdbs_phy.specs.Frame.{coded, inputIn, inputs, labelAt, stateAfter, startState}
-use Rattle.isdbs_phy.specs.Reading.{Received, metricsAt, decodedBits, uncoded, bitBy, bitIn, bytesFrom, decodedBytes}
+use Rattle.isdbs_points.specs.declared.Mapping.{Mapping}
+use Rattle.isdbs_points.specs.Layout.{Segment, segments, atStep, atBit, loadBit, wordBit}
+use Rattle.isdbs_points.specs.Frame.{coded, inputIn, inputs, labelAt, stateAfter, startState}
+use Rattle.isdbs_metrics.specs.Reading.{Received, metricsAt, decodedBits, uncoded, bitBy, bitIn, bytesFrom, decodedBytes}
 use Rattle.margins.specs.Margins.{Within, FullLoad}
-use Rattle.isdbs_phy.specs.Places.{In}
-use Rattle.isdbs_phy.specs.Sizes.{table-whole, few-steps, step-fits, at-step, at-bit, find-step, find-bit}
+use Rattle.isdbs_points.specs.Places.{In}
+use Rattle.isdbs_points.specs.Sizes.{table-whole, few-steps, step-fits, at-step, at-bit, find-step, find-bit}
 use Rattle.exact_frame.specs.Order.{Pairs, Kind, one, two, three, kind}
 use Rattle.exact_frame.specs.Bits.{load-bit-small, of-pair}
 use Rattle.exact_frame.specs.Steps.{received, step-favours, tc-bit}

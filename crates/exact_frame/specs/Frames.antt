@@ -17,12 +17,12 @@ use Rattle.isdbs_core.specs.declared.tmcc.Table.{Table}
 use Rattle.isdbs_core.specs.Combinations.{modulationOf}
 use Rattle.isdbs_core.specs.Tables.{slotSum}
 use Rattle.isdbs_core.specs.RunsOf.{loadBytes}
-use Rattle.isdbs_phy.specs.declared.Cplx.{Cplx}
-use Rattle.isdbs_phy.specs.declared.demod.Mapping.{Mapping}
-use Rattle.isdbs_phy.specs.Points.{unused, zero64, one64, root64, qpskOf, subset}
-use Rattle.isdbs_phy.specs.Layout.{Segment, segments, among, atSymbol, loadBit}
-use Rattle.isdbs_phy.specs.Frame.{inputs, labelAt, sentBit, pointBy, pointIn, pointAt, frameRe, frameIm, startState}
-use Rattle.isdbs_phy.specs.Reading.{decodedBytes}
+use Rattle.isdbs_points.specs.declared.Cplx.{Cplx}
+use Rattle.isdbs_points.specs.declared.Mapping.{Mapping}
+use Rattle.isdbs_points.specs.Points.{unused, zero64, one64, root64, qpskOf, subset}
+use Rattle.isdbs_points.specs.Layout.{Segment, segments, among, atSymbol, loadBit}
+use Rattle.isdbs_points.specs.Frame.{inputs, labelAt, sentBit, pointBy, pointIn, pointAt, frameRe, frameIm, startState}
+use Rattle.isdbs_metrics.specs.Reading.{decodedBytes}
 use Rattle.margins.specs.Margins.{keeps, anyAccepted, holds, freeRe, freeIm, Within, FullLoad}
 use Rattle.margins.specs.Clean.{Clean, clean-zero, clean-minus-zero, clean-one, clean-minus-one, clean-root, clean-minus-root, turned-clean, term-clean, psk8-clean, lowEnd, highEnd, keeps-accepted, clean-within, Other}
 use Rattle.exact_frame.specs.Bits.{label-small, subset-small, load-bit-small}

@@ -15,14 +15,14 @@ use Rattle.isdbs_core.specs.declared.combination.Modulation.the-variants.{Bpsk,
 use Rattle.isdbs_core.specs.declared.tmcc.Table.{Table}
 use Rattle.isdbs_core.specs.Combinations.{modulationOf, unitOf, slotSteps}
 use Rattle.isdbs_core.specs.RunsOf.{runsOf, validTotal, loadBytes, frameSteps}
-use Rattle.isdbs_phy.specs.declared.Cplx.{Cplx}
-use Rattle.isdbs_phy.specs.declared.demod.Mapping.{Mapping}
-use Rattle.isdbs_phy.specs.Points.{point, unused, turned}
-use Rattle.isdbs_phy.specs.Layout.{Segment, segments, among, atSymbol, atStep, loadBit}
-use Rattle.isdbs_phy.specs.Frame.{coded, inputIn, inputs, labelAt, pointBy, pointIn, pointAt, frameRe, frameIm, endState}
-use Rattle.isdbs_phy.specs.LawsUpto.{upto-cong}
-use Rattle.isdbs_phy.specs.Places.{In, here, there, Fill, fill-member}
-use Rattle.isdbs_phy.specs.Sizes.{symbolSum, fill-steps, fill-bits, fill-symbols, table-whole}
+use Rattle.isdbs_points.specs.declared.Cplx.{Cplx}
+use Rattle.isdbs_points.specs.declared.Mapping.{Mapping}
+use Rattle.isdbs_points.specs.Points.{point, unused, turned}
+use Rattle.isdbs_points.specs.Layout.{Segment, segments, among, atSymbol, atStep, loadBit}
+use Rattle.isdbs_points.specs.Frame.{coded, inputIn, inputs, labelAt, pointBy, pointIn, pointAt, frameRe, frameIm, endState}
+use Rattle.isdbs_points.specs.LawsUpto.{upto-cong}
+use Rattle.isdbs_points.specs.Places.{In, here, there, Fill, fill-member}
+use Rattle.isdbs_points.specs.Sizes.{symbolSum, fill-steps, fill-bits, fill-symbols, table-whole}
 
 -- ---- two functions that say the same of each place of each segment
 module _ {A : Type 0} (first size : Segment → ℕ) (none : A) (f f' : Segment → ℕ → A) where

@@ -17,15 +17,15 @@ use Rattle.isdbs_core.specs.declared.tmcc.Table.{Table}
 use Rattle.isdbs_core.specs.Combinations.{modulationOf}
 use Rattle.isdbs_core.specs.Tables.{slotSum}
 use Rattle.isdbs_core.specs.RunsOf.{frameSteps, loadBytes}
-use Rattle.isdbs_phy.specs.declared.Cplx.{Cplx}
-use Rattle.isdbs_phy.specs.declared.demod.Mapping.{Mapping}
-use Rattle.isdbs_phy.specs.Points.{zero64}
-use Rattle.isdbs_phy.specs.Layout.{Segment, segments, orderOf, placeIn, atBit, byteOf}
-use Rattle.isdbs_phy.specs.Frame.{labelAt, startState}
-use Rattle.isdbs_phy.specs.Reading.{Received, symbolAt, scaled, partOf, carrier, softAt, correlation, subsetPoint, subsetMetrics, metricsBy, metricsIn, metricsAt, startValues, decodedBits, bitBy, bitIn, bytesFrom, decodedBytes}
-use Rattle.isdbs_phy.specs.LawsUpto.{upto-cong}
-use Rattle.isdbs_phy.specs.Places.{In}
-use Rattle.isdbs_phy.specs.Sizes.{table-whole, symbol-fits, at-step, at-bit, find-step, find-bit}
+use Rattle.isdbs_points.specs.declared.Cplx.{Cplx}
+use Rattle.isdbs_points.specs.declared.Mapping.{Mapping}
+use Rattle.isdbs_points.specs.Points.{zero64}
+use Rattle.isdbs_points.specs.Layout.{Segment, segments, orderOf, placeIn, atBit, byteOf}
+use Rattle.isdbs_points.specs.Frame.{labelAt, startState}
+use Rattle.isdbs_metrics.specs.Reading.{Received, symbolAt, scaled, partOf, carrier, softAt, correlation, subsetPoint, subsetMetrics, metricsBy, metricsIn, metricsAt, startValues, decodedBits, bitBy, bitIn, bytesFrom, decodedBytes}
+use Rattle.isdbs_points.specs.LawsUpto.{upto-cong}
+use Rattle.isdbs_points.specs.Places.{In}
+use Rattle.isdbs_points.specs.Sizes.{table-whole, symbol-fits, at-step, at-bit, find-step, find-bit}
 use Rattle.exact_frame.specs.Order.{Sends, Pairs, Kind, one, two, three, kind, mother, number}
 
 -- n steps of a call see its first n steps

@@ -5,7 +5,7 @@ ghost use lib.ListN.{length};
 ghost use Rattle.refusal.specs.Rows.{firstRow};
 ghost use Rattle.isdb_fec.specs.Calls.{Either};
 ghost use Rattle.isdbs_phy.specs.DecodeRows.{decodeRows, frameAnswer, Kept};
-ghost use Rattle.isdbs_phy.specs.Runs.{FrameRead};
+ghost use Rattle.isdbs_decode.specs.Runs.{FrameRead};
 ghost use Rattle.exact_frame.specs.Steps.{received};
 ghost use Rattle.exact_frame.specs.Call.{eight, Exact};
 use isdbs_core::tmcc::Table;

@@ -22,8 +22,8 @@ use Rattle.trellis.specs.Code.{isdb, half, tapped, output, label, stateAt}
 use Rattle.trellis.specs.Step.{four, lower, branch, cand, wins, next, nexts, word, top, best, renormalised, kept, back, input, traced}
 use Rattle.trellis.specs.Run.{startAt, settled, released, stepped, after, pushed, flushed}
 use Rattle.ieee.specs.Conversion.{rounded}
-use Rattle.isdbs_phy.specs.Soft.{softOf}
-use Rattle.isdbs_phy.specs.Frame.{stateAfter}
+use Rattle.isdbs_soft.specs.Soft.{softOf}
+use Rattle.isdbs_points.specs.Frame.{stateAfter}
 
 -- entry of a word and its slots; a table of two, the others not in use
 abbrev entry : ℕ → ℕ → Entry

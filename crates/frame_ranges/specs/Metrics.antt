@@ -21,12 +21,12 @@ use Rattle.isdbs_core.specs.declared.tmcc.Table.{Table}
 use Rattle.isdbs_core.specs.Combinations.{modulationOf, unitOf, slotSteps}
 use Rattle.isdbs_core.specs.Tables.{slotSum}
 use Rattle.isdbs_core.specs.RunsOf.{frameSteps}
-use Rattle.isdbs_phy.specs.declared.Cplx.{Cplx}
-use Rattle.isdbs_phy.specs.Points.{zero64, one64, root64, psk8Of, subset}
-use Rattle.isdbs_phy.specs.Layout.{Segment, segments, sentOrder, orderOf, stepsPerPeriod, placeIn}
-use Rattle.isdbs_phy.specs.Places.{In}
-use Rattle.isdbs_phy.specs.Sizes.{table-whole, symbol-fits, at-step, find-step}
-use Rattle.isdbs_phy.specs.Reading.{Received, symbolAt, scaled, partOf, carrier, softAt, pairMetrics, correlation, absolute, subsetPoint, subsetMetrics, metricsBy, metricsIn, metricsAt}
+use Rattle.isdbs_points.specs.declared.Cplx.{Cplx}
+use Rattle.isdbs_points.specs.Points.{zero64, one64, root64, psk8Of, subset}
+use Rattle.isdbs_points.specs.Layout.{Segment, segments, sentOrder, orderOf, stepsPerPeriod, placeIn}
+use Rattle.isdbs_points.specs.Places.{In}
+use Rattle.isdbs_points.specs.Sizes.{table-whole, symbol-fits, at-step, find-step}
+use Rattle.isdbs_metrics.specs.Reading.{Received, symbolAt, scaled, partOf, carrier, softAt, pairMetrics, correlation, absolute, subsetPoint, subsetMetrics, metricsBy, metricsIn, metricsAt}
 use Rattle.frame_ranges.specs.Size.{Size, size-more, size-neg, size-add, size-sub, size-mul, size-absolute, size-soft, size-zero}
 
 -- the parts of all 38,976 points are within 2 ^ p, and each scale is within 2 ^ s

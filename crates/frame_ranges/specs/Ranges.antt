@@ -16,13 +16,13 @@ use Rattle.isdbs_core.specs.declared.combination.Modulation.the-variants.{Tc8ps
 use Rattle.isdbs_core.specs.declared.tmcc.Table.{Table}
 use Rattle.isdbs_core.specs.Combinations.{modulationOf}
 use Rattle.isdbs_core.specs.RunsOf.{frameSteps}
-use Rattle.isdbs_phy.specs.declared.demod.Mapping.{Mapping}
+use Rattle.isdbs_points.specs.declared.Mapping.{Mapping}
 use Rattle.isdbs_phy.specs.DecodeRows.{within, decodeRows}
-use Rattle.isdbs_phy.specs.Layout.{Segment, segments}
-use Rattle.isdbs_phy.specs.Places.{In}
-use Rattle.isdbs_phy.specs.Reading.{Received, softAt, metricsAt, startValues}
-use Rattle.isdbs_phy.specs.Steps.{received}
-use Rattle.isdbs_phy.specs.Runs.{frameMetrics, freshFrom, knownBits}
+use Rattle.isdbs_points.specs.Layout.{Segment, segments}
+use Rattle.isdbs_points.specs.Places.{In}
+use Rattle.isdbs_metrics.specs.Reading.{Received, softAt, metricsAt, startValues}
+use Rattle.isdbs_metrics.specs.Steps.{received}
+use Rattle.isdbs_decode.specs.Runs.{frameMetrics, freshFrom, knownBits}
 use Rattle.frame_ranges.specs.Numbers.{softLimit, metricLimit, leastPath, mostPath}
 
 -- each soft value of BPSK and QPSK, times its scale

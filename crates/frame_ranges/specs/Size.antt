@@ -15,8 +15,8 @@ use Rattle.ieee.specs.Sums.{add-between, sub-between}
 use Rattle.ieee.specs.Products.{mul-bound}
 use Rattle.ieee.specs.Constants.{two-to, two-to-num}
 use Rattle.ieee.specs.Conversion.{rounded-between}
-use Rattle.isdbs_phy.specs.Soft.{softOf}
-use Rattle.isdbs_phy.specs.Reading.{absolute}
+use Rattle.isdbs_soft.specs.Soft.{softOf}
+use Rattle.isdbs_metrics.specs.Reading.{absolute}
 
 -- x is a number of the format f, of magnitude 2 ^ t at most
 pub record Size (f : Format) (t : ℕ) (x : Float) : Type 0 where

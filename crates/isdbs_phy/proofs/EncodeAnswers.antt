@@ -1,16 +1,11 @@
 -- The rows of the encoding calls. Assumes nothing.
 use mathlib.Core.Path.{_≡_, refl, sym, _∙_, ap}
 use mathlib.Core.Bool.{Bool, true, false, cond}
-use Prim.Native.Nat.{ℕ, _<_}
 use native.Mathlib.Omega.{arith}
-use lib.Dec.{lit<}
 use Rattle.refusal.specs.declared.Answer.{Answer}
 use Rattle.refusal.specs.declared.Answer.the-variants.{Accepted, Table, Position, Traceback, State, Length, Symbols, Sample, Scale, Space}
 use Rattle.refusal.specs.Rows.{numberOf}
-use Rattle.trellis.specs.Lists.{upto}
-use Rattle.trellis.specs.Code.{stateAt}
 use Rattle.isdbs_core.specs.Lists.{either}
-use Rattle.isdbs_phy.specs.Frame.{stateAfter}
 
 pub number-zero : (a : Answer) → numberOf a ≡ 0 → a ≡ Accepted
 number-zero Accepted e = refl
@@ -41,12 +36,3 @@ rows-pass false true x y a e n = absurd (let z = ap numberOf e in omega arith)
 rows-pass false false true y a e n = absurd (let z = ap numberOf e in omega arith)
 rows-pass false false false true a e n = absurd (let z = ap numberOf e in omega arith)
 rows-pass false false false false a e n = (refl, refl, refl, refl)
-
--- the start states, example A: 0 and 63
-pub after-w2 : stateAfter 0xa340 < 64
-unfolding stateAfter stateAt upto
-after-w2 = lit< tt
-
-pub after-w3 : stateAfter 0x5cbf < 64
-unfolding stateAfter stateAt upto
-after-w3 = lit< tt

@@ -1,15 +1,2 @@
-pub mod Soft
-pub mod Points
-pub mod Layout
-pub mod Frame
-pub mod Reading
-pub mod Pieces
-pub mod LawsUpto
-pub mod LawsState
 pub mod DecodeRows
-pub mod Steps
-pub mod Runs
-pub mod LawsDecoded
-pub mod Places
-pub mod Sizes
-pub mod Encoding
+pub mod EncodeRows

@@ -1,16 +1,15 @@
-// The rows of `decode_frame`, in the order of the table, and the size of a frame's load.
-use isdbs_core::slots::runs;
+// The rows of `decode_frame`, in the order of the table.
 use isdbs_core::tmcc::Table;
 use isdbs_core::tmcc::table_answer;
+use isdbs_decode::frame_size;
 use refusal::Answer;
 ghost use mathlib.Core.Path.{_≡_};
 ghost use mathlib.Core.Bool.{cond, not, _||_};
-ghost use Prim.Native.Nat.{ℕ, _+_, _*_, _<_, _≤_};
+ghost use Prim.Native.Nat.{_≤_};
 ghost use lib.Dec.{ltb};
 ghost use lib.ListN.{length};
 ghost use Rattle.refusal.specs.Rows.{firstRow};
 ghost use Rattle.isdbs_core.specs.Tables.{slotSum};
-ghost use Rattle.isdbs_core.specs.RunsOf.{frameSteps, loadBytes};
 ghost use Rattle.isdbs_phy.specs.DecodeRows.{within, someBeyond, partLimit, badScale, shortSpace, decodeRows};
 
 // Main-signal symbols of a frame.
@@ -52,32 +51,6 @@ fn bad_scale(s: f32) -> bool
         if s > 64.0 { true } else { false }
     } else {
         true
-    }
-}
-
-// The bytes and the trellis steps of a frame.
-pub struct Size {
-    pub bytes: usize,
-    pub steps: usize,
-}
-
-pub(crate) fn frame_size(t: Table) -> Size
-    requires { ⌜ slotSum (t .entries) ≤ 48 ⌝ }
-    ensures { λ r. ⌜ (r .bytes ≡ loadBytes t) × (r .steps ≡ frameSteps t) ⌝ }
-{
-    let rs = runs(t);
-    let count = rs.count;
-    let list = rs.runs;
-    let valid = rs.valid_slots;
-    let mut steps: usize = 0;
-    for i in 0..count {
-        let r = list[i];
-        let c = r.combination;
-        steps = steps + c.steps_per_slot() * r.valid_slots;
-    }
-    Size {
-        bytes: 203 * valid,
-        steps,
     }
 }
 

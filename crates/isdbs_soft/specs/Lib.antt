@@ -1,1 +1,2 @@
 pub mod Narrowed
+pub mod Soft

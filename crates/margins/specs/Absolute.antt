@@ -8,7 +8,7 @@ use lib.Dec.{T}
 use lib.Ieee.{Float, nan, inf, fin, Format, binary64, fits, neg, le}
 use Rattle.ieee.specs.Value.{mag, hi, lo, Num, one-side, hi-neg, lo-neg, num-neg}
 use Rattle.ieee.specs.Order.{le→value, value→le}
-use Rattle.isdbs_phy.specs.Reading.{absolute}
+use Rattle.isdbs_metrics.specs.Reading.{absolute}
 use Rattle.lead.specs.Favour.{none}
 use Rattle.margins.specs.Intervals.{Inside}
 

@@ -10,7 +10,7 @@ use lib.Ieee.Fits.{and-l, and-r, and-i}
 use lib.Ieee.Scale.{finite}
 use Rattle.ieee.specs.Conversion.{le-neg}
 use Rattle.trellis.specs.Step.{term}
-use Rattle.isdbs_phy.specs.Points.{zero64, one64, root64, psk8Of, turned}
+use Rattle.isdbs_points.specs.Points.{zero64, one64, root64, psk8Of, turned}
 use Rattle.margins.specs.Margins.{keeps, between, near0, low1, high1, lowRoot, highRoot, limit, anyAccepted}
 use Rattle.margins.specs.Intervals.{Inside, inside-wide}
 

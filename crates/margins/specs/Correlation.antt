@@ -6,8 +6,8 @@ use lib.Ieee.{Float, nan, inf, fin, Format, binary64, fits, unlike, neg, add, mu
 use lib.Ieee.Fits.{add-fits, mul-fits}
 use lib.Ieee.Scale.{finite}
 use Rattle.ieee.specs.Value.{Num}
-use Rattle.isdbs_phy.specs.declared.Cplx.{Cplx}
-use Rattle.isdbs_phy.specs.Reading.{correlation}
+use Rattle.isdbs_points.specs.declared.Cplx.{Cplx}
+use Rattle.isdbs_metrics.specs.Reading.{correlation}
 use Rattle.margins.specs.Margins.{keeps}
 use Rattle.margins.specs.Intervals.{Inside, inside-finite, minus, mulLow, mulHigh, mul-inside, add-inside}
 use Rattle.margins.specs.Clean.{lowEnd, highEnd, ends, keeps-inside}

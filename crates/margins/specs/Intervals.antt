@@ -16,7 +16,7 @@ use Rattle.ieee.specs.Rounding.{prec-pos, Fine, rounds-mono}
 use Rattle.ieee.specs.Sums.{add-rounds, add-fine}
 use Rattle.ieee.specs.Constants.{mul-neg}
 use Rattle.ieee.specs.Conversion.{rounded, rounded-mono, le-neg}
-use Rattle.isdbs_phy.specs.Soft.{softOf}
+use Rattle.isdbs_soft.specs.Soft.{softOf}
 use Rattle.margins.specs.Fractions.{finite-between, le-through, mul-keeps}
 
 pub record Inside (a b x : Float) : Type 0 where

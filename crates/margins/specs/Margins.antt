@@ -11,11 +11,11 @@ use Rattle.isdbs_core.specs.declared.combination.Modulation.{Modulation}
 use Rattle.isdbs_core.specs.declared.combination.Modulation.the-variants.{Bpsk, Qpsk, Tc8psk}
 use Rattle.isdbs_core.specs.declared.tmcc.Table.{Table}
 use Rattle.isdbs_core.specs.Combinations.{modulationOf}
-use Rattle.isdbs_phy.specs.declared.demod.Mapping.{Mapping}
-use Rattle.isdbs_phy.specs.Points.{zero64, one64, root64}
+use Rattle.isdbs_points.specs.declared.Mapping.{Mapping}
+use Rattle.isdbs_points.specs.Points.{zero64, one64, root64}
 use Rattle.isdbs_phy.specs.DecodeRows.{partLimit}
-use Rattle.isdbs_phy.specs.Layout.{Segment, atSymbol}
-use Rattle.isdbs_phy.specs.Frame.{pointAt, startState}
+use Rattle.isdbs_points.specs.Layout.{Segment, atSymbol}
+use Rattle.isdbs_points.specs.Frame.{pointAt, startState}
 
 -- "A margin's ends belong to it"
 abbrev pub between : Float → Float → Float → Bool

@@ -15,7 +15,7 @@ use Rattle.ieee.specs.Rounding.{pow2, Rounds, fine-between, rounds-mono, rounds
 use Rattle.ieee.specs.Sums.{add-rounds}
 use Rattle.trellis.specs.Lists.{upto}
 use Rattle.trellis.specs.Step.{term}
-use Rattle.isdbs_phy.specs.Reading.{pairMetrics}
+use Rattle.isdbs_metrics.specs.Reading.{pairMetrics}
 use Rattle.lead.specs.Favour.{none, most, least, margin, Above, Favour}
 use Rattle.margins.specs.Speaks.{clearly, fully, Speaks, Said}
 use Rattle.margins.specs.Metrics.{unit, Sixteenths, none-is, most-is, least-is, above-by, favour-upto}

@@ -9,9 +9,9 @@ use lib.Dec.{T}
 use lib.Ieee.{Float, fin, binary32, neg, eq, le, mul, ofBits, round}
 use Rattle.ieee.specs.Value.{Num}
 use Rattle.trellis.specs.Step.{term}
-use Rattle.isdbs_phy.specs.Points.{one64, root64}
+use Rattle.isdbs_points.specs.Points.{one64, root64}
 use Rattle.ieee.specs.Conversion.{rounded}
-use Rattle.isdbs_phy.specs.Soft.{softOf}
+use Rattle.isdbs_soft.specs.Soft.{softOf}
 use Rattle.margins.specs.Margins.{keeps, low1, high1, lowRoot, highRoot}
 use Rattle.margins.specs.Clean.{between-inside}
 use Rattle.margins.specs.Intervals.{Inside, inside-neg, eight, Scaled, scaled-inside}

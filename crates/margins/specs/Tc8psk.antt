@@ -16,11 +16,11 @@ use Rattle.ieee.specs.Value.{hi, lo, Num, hi-neg, lo-neg, num-neg}
 use Rattle.ieee.specs.Order.{le→value, value→le, lt→value, value→lt}
 use Rattle.ieee.specs.Rounding.{pow2}
 use Rattle.trellis.specs.Lists.{upto, bit}
-use Rattle.isdbs_phy.specs.declared.Cplx.{Cplx}
-use Rattle.isdbs_phy.specs.Points.{zero64, psk8Of, subset}
+use Rattle.isdbs_points.specs.declared.Cplx.{Cplx}
+use Rattle.isdbs_points.specs.Points.{zero64, psk8Of, subset}
 use Rattle.ieee.specs.Conversion.{rounded}
-use Rattle.isdbs_phy.specs.Soft.{softOf}
-use Rattle.isdbs_phy.specs.Reading.{correlation, absolute}
+use Rattle.isdbs_soft.specs.Soft.{softOf}
+use Rattle.isdbs_metrics.specs.Reading.{correlation, absolute}
 use Rattle.lead.specs.Favour.{none, most, least, margin, Above, Favour}
 use Rattle.margins.specs.Margins.{keeps}
 use Rattle.margins.specs.Fractions.{le-through}

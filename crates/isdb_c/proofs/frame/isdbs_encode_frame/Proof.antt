@@ -2,7 +2,7 @@
 use mathlib.Core.Path.{_≡_, refl, sym, _∙_, ap}
 use lib.ListN.{length}
 use Rattle.refusal.specs.Rows.{numberOf}
-use Rattle.isdbs_phy.specs.Encoding.{encodeRows}
+use Rattle.isdbs_phy.specs.EncodeRows.{encodeRows}
 use Rattle.isdb_c.specs.Forms.{tableOf}
 use Rattle.isdb_c.specs.Mappings.{mappingOf}
 use Rattle.isdb_c.specs.Rows.{answered}

@@ -1,0 +1,114 @@
+-- The bytes of a frame run by run. Assumes nothing.
+use mathlib.Core.Path.{_≡_, refl, sym, _∙_, ap}
+use mathlib.Core.List.{List, [], _∷_, _++_, append-nil}
+use Prim.Native.Nat.{ℕ, zero, suc, _+_, _-_, _*_, _/_, _%_, _<_, _≤_}
+use native.Mathlib.Omega.{arith}
+use native.Mathlib.Nat.{zero-add}
+use lib.ListN.{length, getD, take, drop, length-drop, drop-of-length-le}
+use lib.Seq.{getD-drop, take-all}
+use lib.Ieee.{Float, nan}
+use borrow.Rule.Slice.PartMut.{midOf, putMid}
+use Rattle.trellis.specs.Lists.{upto, laid}
+use Rattle.trellis.specs.Code.{stateAt}
+use Rattle.isdbs_core.specs.declared.combination.Combination.{Combination}
+use Rattle.isdbs_core.specs.declared.combination.Combination.the-variants.{«Bpsk1_2», «Qpsk1_2», «Qpsk2_3», «Qpsk3_4», «Qpsk5_6», «Qpsk7_8», «Tc8psk2_3»}
+use Rattle.isdbs_core.specs.declared.slots.Run.{Run}
+use Rattle.isdbs_core.specs.declared.tmcc.Table.{Table}
+use Rattle.isdbs_core.specs.Combinations.{slotSteps}
+use Rattle.isdbs_core.specs.RunsOf.{runsOf, stepsOf, frameSteps, validTotal, loadBytes, noRun}
+use Rattle.isdbs_points.specs.declared.Mapping.{Mapping}
+use Rattle.isdbs_points.specs.Layout.{byteOf, segmentsFrom, among, sentOrder}
+use Rattle.isdbs_points.specs.Frame.{labelAt}
+use Rattle.isdbs_metrics.specs.Reading.{Received, bitIn}
+use Rattle.isdbs_points.specs.LawsUpto.{laid-part}
+use Rattle.isdbs_points.specs.LawsState.{label-shift}
+use Rattle.isdbs_metrics.specs.Steps.{received, pieceBit, Covers, Bits, PackRoom, stepsOfBytes}
+use Rattle.isdbs_decode.specs.Runs.{byteAt}
+use Rattle.isdbs_decode.proofs.Digits.{byte-cong}
+use Rattle.isdbs_decode.proofs.Among.{stepsTo, validTo, among-bit}
+use Rattle.isdbs_decode.proofs.Parts.{bit-part}
+use Rattle.isdbs_decode.proofs.Packing.{state-more}
+use Rattle.isdbs_decode.proofs.FrameRuns.{Listed, tail-is, part-covers, steps-fit, valid-fit, all-valid}
+
+-- byte j of a list of runs
+abbrev pub listByte : List Run → Received → ℕ → List ℕ → ℕ → ℕ
+listByte rs r s us j = byteOf (λ i. among (λ g. g .bit) (λ g. g .bits) 0 (bitIn r (labelAt s us) us) (segmentsFrom rs 0 0) (8 * j + i))
+
+-- a slice whose tail was lent, and written at its front
+pub written-tail : {A : Type 0} (a : ℕ) (l p f : List A) → a ≤ length l → p ≡ laid f (midOf a (length l - a) l) → putMid a (length l - a) l p ≡ take a l ++ laid f (drop a l)
+written-tail {A} a l p f h e =
+    let none : drop (length l - a) (drop a l) ≡ [] = drop-of-length-le (drop a l) {i = length l - a} (rw (length-drop a l) (omega arith)) in
+    ap (λ (x : List A). take a l ++ (p ++ x)) none ∙ ap (λ (x : List A). take a l ++ x) (append-nil p ∙ e ∙ ap (λ (x : List A). laid f x) (tail-is a l))
+
+-- the steps that a run's bytes take
+pub bytes-steps : (c : Combination) (v : ℕ) → stepsOfBytes c (203 * v) ≡ slotSteps c * v
+bytes-steps «Bpsk1_2» v = omega arith
+bytes-steps «Qpsk1_2» v = omega arith
+bytes-steps «Qpsk2_3» v = omega arith
+bytes-steps «Qpsk3_4» v = omega arith
+bytes-steps «Qpsk5_6» v = omega arith
+bytes-steps «Qpsk7_8» v = omega arith
+bytes-steps «Tc8psk2_3» v = omega arith
+
+all-below : (n len : ℕ) → ((k : ℕ) → k < n → k < len) → n ≤ len
+all-below zero len h = omega arith
+all-below (suc n) len h = let l = h n (omega arith) in omega arith
+
+pub pack-room : (c : Combination) (v re im len : ℕ) (us : List ℕ) → Covers c (slotSteps c * v) re → Covers c (slotSteps c * v) im → slotSteps c * v ≤ len → Bits us (slotSteps c * v)
+    → PackRoom c (203 * v) re im len us
+pack-room «Bpsk1_2» v re im len us p q l b = (omega arith, λ i h. b i (omega arith))
+pack-room «Qpsk1_2» v re im len us p q l b = (omega arith, λ i h. b i (omega arith))
+pack-room «Qpsk2_3» v re im len us p q l b = (omega arith, λ i h. b i (omega arith))
+pack-room «Qpsk3_4» v re im len us p q l b = (omega arith, λ i h. b i (omega arith))
+pack-room «Qpsk5_6» v re im len us p q l b = (omega arith, λ i h. b i (omega arith))
+pack-room «Qpsk7_8» v re im len us p q l b = (omega arith, λ i h. b i (omega arith))
+pack-room «Tc8psk2_3» v re im len us p q l b =
+    let x = all-below (812 * v) re p in
+    let y = all-below (812 * v) im q in
+    (omega arith, omega arith, omega arith, λ i h. b i (omega arith))
+
+module _ (t : Table) (count : ℕ) (list : List Run) (l : Listed t count list) (i : ℕ) (h : i < count) (re im : List Float) (m : Mapping) (s : ℕ) (us : List ℕ) where
+  abbrev r : Run
+  r = getD list i noRun
+
+  abbrev rs : List Run
+  rs = take count list
+
+  -- what a run's packing asks
+  pub run-room : (step : ℕ) → step ≡ stepsTo rs i → 38976 ≤ length re → 38976 ≤ length im → frameSteps t ≤ length us → Bits us (frameSteps t)
+      → PackRoom (r .combination) (203 * r .«valid_slots») (length (take (length re - r .«symbol_start») (drop (r .«symbol_start») re))) (length (take (length im - r .«symbol_start») (drop (r .«symbol_start») im)))
+      (length (take (length us - step) (drop step us))) (take (length us - step) (drop step us))
+  run-room step e gr gi gu b =
+      let f = steps-fit t count list l i h in
+      let d = length-drop step us in
+      rw (tail-is step us)
+      (pack-room (r .combination) (r .«valid_slots») _ _ (length (drop step us)) (drop step us) (part-covers t count list l i h re _ gr refl) (part-covers t count list l i h im _ gi refl) (omega arith)
+      (λ k g. rw (getD-drop step us k 0) (b (step + k) (omega arith))))
+
+  -- the state after a run
+  pub run-state : (step x y : ℕ) → x ≡ stateAt 32 s us step → y ≡ stateAt 32 x (take (length us - step) (drop step us)) (stepsOfBytes (r .combination) (203 * r .«valid_slots»))
+      → y ≡ stateAt 32 s us (step + stepsOf r)
+  run-state step x y ex ey =
+      state-more s us step (stepsOf r) (step + stepsOf r) x y refl ex (rw (tail-is step us, bytes-steps (r .combination) (r .«valid_slots»)) at ey)
+
+  -- its bytes are the frame's
+  pub run-byte : (scale : Float) (step done x : ℕ) → step ≡ stepsTo rs i → done ≡ 203 * validTo rs i → x ≡ stateAt 32 s us step → (j : ℕ) → j < 203 * r .«valid_slots»
+      → byteOf (λ k. pieceBit (r .combination) (take (length re - r .«symbol_start») (drop (r .«symbol_start») re)) (take (length im - r .«symbol_start») (drop (r .«symbol_start») im)) m x (take (length us - step) (drop step us)) (8 * j + k))
+      ≡ listByte rs (received re im m scale) s us (done + j)
+  run-byte scale step done x es ed ex j g =
+      rw (tail-is (r .«symbol_start») re, tail-is (r .«symbol_start») im, tail-is step us)
+      (byte-cong (λ k. pieceBit (r .combination) (drop (r .«symbol_start») re) (drop (r .«symbol_start») im) m x (drop step us) (8 * j + k))
+      (λ k. among (λ g. g .bit) (λ g. g .bits) 0 (bitIn (received re im m scale) (labelAt s us) us) (segmentsFrom rs 0 0) (8 * (done + j) + k)) each)
+    where
+      each : (k : ℕ) → k < 8 → pieceBit (r .combination) (drop (r .«symbol_start») re) (drop (r .«symbol_start») im) m x (drop step us) (8 * j + k)
+          ≡ among (λ g. g .bit) (λ g. g .bits) 0 (bitIn (received re im m scale) (labelAt s us) us) (segmentsFrom rs 0 0) (8 * (done + j) + k)
+      each k q =
+          let c = l .counted in
+          let n : i < length rs = rw (l .listed) (omega arith) in
+          let e1 : getD rs i noRun ≡ r = rw (l .listed) (sym (l .at i h)) in
+          let a = among-bit 0 (bitIn (received re im m scale) (labelAt s us) us) rs 0 0 i (8 * j + k) (8 * (done + j) + k) n (rw e1 (omega arith)) (omega arith) in
+          let z : step ≡ 0 + stepsTo rs i = es ∙ sym (zero-add (stepsTo rs i)) in
+          bit-part re im m scale r step (0 + 1624 * validTo rs i) x (labelAt s us) us (8 * j + k)
+          (λ o. ap (λ (y : ℕ). labelAt y (drop step us) ((8 * j + k) / 2)) ex
+          ∙ sym (label-shift s us step (drop step us) ((8 * j + k) / 2 + 1) (λ a g. sym (getD-drop step us a 0)) ((8 * j + k) / 2) (omega arith)))
+          ∙ sym (rw (e1, ← z) at a)

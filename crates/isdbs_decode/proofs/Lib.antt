@@ -1,0 +1,7 @@
+pub mod Among
+pub mod Carried
+pub mod Digits
+pub mod FrameBytes
+pub mod FrameRuns
+pub mod Packing
+pub mod Parts

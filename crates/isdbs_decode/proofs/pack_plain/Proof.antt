@@ -1,0 +1,107 @@
+-- `pack_plain` meets its contract. Assumes nothing.
+use Rattle.isdbs_decode.proofs.Packing.{state-more, byte-more, plain-is, tc8psk-is}
+use Rattle.isdbs_decode.proofs.FrameRuns.{tail-is}
+use Rattle.isdbs_points.specs.LawsUpto.{length-laid-upto}
+use lib.Seq.{getD-drop}
+use lib.ListN.{length-drop, set}
+use borrow.Author.Needs.{needs}
+use Rattle.isdbs_metrics.specs.Steps.{pieceBit}
+use Rattle.isdbs_points.specs.Layout.{byteOf}
+use Rattle.isdbs_core.specs.declared.combination.Combination.the-variants.{«Tc8psk2_3»}
+use Rattle.trellis.specs.Code.{stateAt}
+use Rattle.trellis.specs.Lists.{upto, laid}
+use lib.ListN.{length, getD, drop, take}
+use native.Mathlib.Numerals.{add-one}
+use native.Mathlib.Omega.{arith}
+use Prim.Native.Nat.{ℕ, suc, _+_, _-_, _*_, _/_, _%_, _<_, _≤_}
+use mathlib.Core.Path.{_≡_, refl, sym, _∙_, ap}
+use Rattle.isdbs_decode.proofs.pack_plain.Statement.{statement}
+use Rattle.isdbs_decode.proofs.pack_plain.Tie as tie
+
+abbrev Inv-loop : tie.InvT-loop
+Inv-loop bits n start bytes₀ state₀ j₀ bytes state j = (j ≤ n) × (state < 64) × (state ≡ stateAt 32 start bits (8 * j)) × (bytes ≡ laid (upto (λ h. byteOf (λ i. getD bits (8 * h + i) 0)) j) bytes₀)
+
+abbrev μ-loop : tie.MeasureT-loop
+μ-loop bits n start bytes₀ state₀ j₀ bytes state j = n - j
+
+loop-holds : tie.Need-loop-holds Inv-loop μ-loop
+unfolding upto stateAt
+loop-holds c = (search needs, search needs, refl, refl)
+
+mul-from : tie.Need-mul-from Inv-loop μ-loop
+mul-from c = search needs
+
+sub-plain-byte : tie.Need-sub-plain-byte Inv-loop μ-loop
+sub-plain-byte c = search needs
+
+part-plain-byte-start : tie.Need-part-plain-byte-start Inv-loop μ-loop
+part-plain-byte-start c = search needs
+
+part-plain-byte-end : tie.Need-part-plain-byte-end Inv-loop μ-loop
+part-plain-byte-end c = search needs
+
+plain-byte-requires : tie.Need-plain-byte-requires Inv-loop μ-loop
+plain-byte-requires c κs =
+    let st = c .before .before .before .before .before in
+    let j = c .before .before .loop .j in
+    let us = st .args .bits .now in
+    let t = c .before .loop-test .taken in
+    let e = length-drop (8 * j) us in
+    rw (tail-is (8 * j) us) (c .before .before .loop .inv .1, omega arith, λ i l. rw (getD-drop (8 * j) us i 0) (st .pre .3 (8 * j + i) (omega arith)))
+
+slice-write-bytes : tie.Need-slice-write-bytes Inv-loop μ-loop
+slice-write-bytes c =
+    let st = c .before .before .before .before .before .before in
+    let j = c .before .before .before .loop .j in
+    let e = ap length (c .before .before .before .loop .inv .3) ∙ length-laid-upto (λ h. byteOf (λ i. getD (st .args .bits .now) (8 * h + i) 0)) j (st .args .bytes .now) (omega arith) in
+    omega arith
+
+add-j : tie.Need-add-j Inv-loop μ-loop
+add-j c = search needs
+
+loop-less : tie.Need-loop-less Inv-loop μ-loop
+loop-less c = search needs
+
+loop-again : tie.Need-loop-again Inv-loop μ-loop
+loop-again c =
+    let st = c .before .before .before .before .before .before in
+    let j = c .before .before .before .loop .j in
+    let us = st .args .bits .now in
+    let h = c .before .before .before .loop .inv in
+    let n = rw (tail-is (8 * j) us) at (c .plain-byte .ensures) in (
+      omega arith,
+      n .2,
+      state-more (st .args .start) us (8 * j) 8 (8 * (j + 1)) _ _ (omega arith) (h .2) (n .1),
+      byte-more (λ h. byteOf (λ i. getD (st .args .bits .now) (8 * h + i) 0)) j _ _ (st .args .bytes .now) (omega arith) (h .3) (plain-is us j _ (n .0)),
+    )
+
+same-length : tie.Need-same-length Inv-loop μ-loop
+same-length c =
+    let st = c .before .before .before .before in
+    ap length (c .before .loop .inv .3) ∙ length-laid-upto (λ h. byteOf (λ i. getD (st .args .bits .now) (8 * h + i) 0)) (c .before .loop .j) (st .args .bytes .now) (omega arith)
+
+returns : tie.Need-returns Inv-loop μ-loop
+returns c =
+    let st = c .before .before .before .before in
+    let e : c .before .loop .j ≡ st .args .n = omega arith in
+    let h = rw e at (c .before .loop .inv) in
+    (h .3, h .2, h .1)
+
+pub pack-plain-spec : {M : Type 1} → statement M
+pack-plain-spec =
+    tie.close
+    (tie.spec
+    Inv-loop
+    μ-loop
+    loop-holds
+    mul-from
+    sub-plain-byte
+    part-plain-byte-start
+    part-plain-byte-end
+    plain-byte-requires
+    slice-write-bytes
+    add-j
+    loop-less
+    loop-again
+    same-length
+    returns)

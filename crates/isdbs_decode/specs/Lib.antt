@@ -1,0 +1,2 @@
+pub mod LawsDecoded
+pub mod Runs

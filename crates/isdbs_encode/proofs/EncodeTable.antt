@@ -1,0 +1,125 @@
+-- The runs of an accepted table fill its frame. Assumes nothing.
+use mathlib.Core.Path.{_≡_, refl, sym, _∙_, ap}
+use mathlib.Core.Bool.{Bool, true, false, cond}
+use mathlib.Core.List.{List, [], _∷_, _++_}
+use Prim.Native.Nat.{ℕ, zero, suc, _+_, _-_, _*_, _<_, _≤_}
+use native.Mathlib.Nat.{not-suc-le-zero, zero-add}
+use native.Mathlib.Omega.{arith}
+use lib.Ieee.{Float}
+use lib.ListN.{length, getD, take, drop, replicate, length-append}
+use lib.Seq.{take-append-seam}
+use Rattle.refusal.specs.declared.Answer.the-variants.{Accepted}
+use Rattle.trellis.specs.Lists.{upto, laid}
+use Rattle.isdbs_core.specs.declared.combination.MaybeCombination.{MaybeCombination}
+use Rattle.isdbs_core.specs.declared.combination.MaybeCombination.the-variants.{Some, None}
+use Rattle.isdbs_core.specs.declared.slots.Run.{Run}
+use Rattle.isdbs_core.specs.declared.slots.FrameRuns.{FrameRuns}
+use Rattle.isdbs_core.specs.declared.tmcc.Entry.{Entry}
+use Rattle.isdbs_core.specs.declared.tmcc.Table.{Table}
+use Rattle.isdbs_core.specs.Lists.{Each, padded}
+use Rattle.isdbs_core.specs.Answers.{accepted}
+use Rattle.isdbs_core.specs.Tables.{tableAnswer, slotSum, entryCombination}
+use Rattle.isdbs_core.specs.RunsOf.{runsFrom, runsOf, entryRuns, entrySymbols, fourRuns, noRun, RunFits}
+use Rattle.isdbs_core.specs.RunLaws as runLaws
+use Rattle.isdbs_core.specs.PartLaws.{sum-fits}
+use Rattle.isdbs_points.specs.declared.Cplx.{Cplx}
+use Rattle.isdbs_points.specs.declared.Mapping.{Mapping}
+use Rattle.isdbs_encode.specs.declared.RunsEncoded.{RunsEncoded}
+use Rattle.isdbs_points.specs.Points.{zero64, unused, turned}
+use Rattle.isdbs_points.specs.Layout.{Segment, segmentsFrom}
+use Rattle.isdbs_points.specs.Frame.{inputs, labelAt, pointIn, pointAt, endState}
+use Rattle.isdbs_points.specs.LawsUpto.{laid-part, length-laid-upto}
+use Rattle.isdbs_points.specs.Places.{Fill, before, fill-last, among-past}
+use Rattle.isdbs_points.specs.Sizes.{symbolSum, fill-symbols, symbol-sum-few, table-whole}
+use Rattle.isdbs_encode.specs.Encoding.{symbolsOf, inputsOf, pointOf, Tiled, RunsMade, FrameLaid}
+use Rattle.isdbs_encode.proofs.Encode.{tail-back}
+
+-- ---- the runs of a table
+each-at : (P : Run → Type 0) (l : List Run) (d : Run) (i : ℕ) → Each P l → i < length l → P (getD l i d)
+each-at P [] d i e h = absurd (not-suc-le-zero h)
+each-at P (x ∷ l) d zero e h = e .0
+each-at P (x ∷ l) d (suc i) e h = each-at P l d i (e .1) (omega arith)
+
+pub tiled : (t : Table) → slotSum (t .entries) ≤ 48 → Tiled (runsOf t)
+tiled t h =
+    let es = t .entries in
+    let segs = segmentsFrom (runsOf t) 0 0 in
+    let f = fill-symbols es 0 0 0 0 in
+    let e : symbolsOf (runsOf t) ≡ 0 + symbolSum es = omega (arith, fill-last (λ g. g .symbol) (λ g. g .symbols) segs 0 (0 + symbolSum es) f) in
+    record {
+      fill = rw e f;
+      whole = table-whole t;
+      ordered = λ i l. each-at RunFits (runsOf t) noRun i (runLaws.laid t h .fit) l .starts;
+      fits = omega (arith, e, symbol-sum-few es);
+    }
+
+entry-runs-few : (c : MaybeCombination) (n slot symbol : ℕ) (rs : List Run) → length (entryRuns c n slot symbol ++ rs) ≤ suc (length rs)
+entry-runs-few (Some c) n slot symbol rs = omega arith
+entry-runs-few None n slot symbol rs = omega arith
+
+runs-few : (es : List Entry) (slot symbol : ℕ) → length (runsFrom es slot symbol) ≤ length es
+unfolding runsFrom
+runs-few [] slot symbol = omega arith
+runs-few (e ∷ es) slot symbol =
+    let k = entrySymbols (entryCombination e) (e .slots) in
+    omega (arith, entry-runs-few (entryCombination e) (e .slots) slot symbol (runsFrom es (slot + e .slots) (symbol + k)), runs-few es (slot + e .slots) (symbol + k))
+
+-- ---- what `runs` answers for an accepted table
+module _ (t : Table) (a : tableAnswer t ≡ Accepted) where
+  pub accepts : accepted (tableAnswer t) ≡ true
+  accepts = rw a
+
+  pub table-tiled : Tiled (runsOf t)
+  table-tiled = tiled t (sum-fits t accepts)
+
+  module _ (r : FrameRuns) (e : r ≡ fourRuns t) where
+    pub runs-count : r .count ≡ length (runsOf t)
+    runs-count = rw (e, accepts)
+
+    pub runs-front : take (r .count) (r .runs) ≡ runsOf t
+    runs-front = rw (e, accepts) (take-append-seam (runsOf t) (replicate (4 - length (runsOf t)) noRun))
+
+    pub runs-four : length (t .entries) ≡ 4 → r .count ≤ 4
+    runs-four h = omega (arith, runs-count, runs-few (t .entries) 0 0)
+
+-- ---- the whole frame
+module _ (t : Table) (m : Mapping) (load : List ℕ) (s : ℕ) (tl : Tiled (runsOf t)) where
+  abbrev rs : List Run
+  rs = runsOf t
+
+  past : (k : ℕ) → symbolsOf rs ≤ k → pointAt t m load s k ≡ record { re = zero64; im = turned (m .conjugate) zero64 }
+  unfolding pointAt inputs
+  past k h =
+      rw (among-past (λ g. g .symbol) (λ g. g .symbols) unused (pointIn m load (labelAt s (inputsOf rs load))) (segmentsFrom rs 0 0) 0 (symbolsOf rs) (tl .fill) k h)
+
+  module _ {r : RunsEncoded} {re₀ re im₀ im : List Float} (w : RunsMade rs m load s r re₀ re im₀ im) (hr : 38976 ≤ length re₀) (hi : 38976 ≤ length im₀) where
+    pub end-small : r .end ≤ 38976
+    end-small = omega (arith, w .end-is, tl .fits)
+
+    pub re-length : length re ≡ length re₀
+    re-length = ap length (w .re-is) ∙ length-laid-upto (λ k. pointOf rs m load s k .re) (symbolsOf rs) re₀ (omega (arith, tl .fits))
+
+    pub im-length : length im ≡ length im₀
+    im-length = ap length (w .im-is) ∙ length-laid-upto (λ k. pointOf rs m load s k .im) (symbolsOf rs) im₀ (omega (arith, tl .fits))
+
+    pub runs-state : r .state ≡ endState t load s
+    unfolding inputs
+    runs-state = w .state-is
+
+    -- the points of the runs, then the unused ones
+    pub frame-laid : {p q : List Float}
+        → p ≡ laid (upto (λ i. zero64) (38976 - r .end)) (take (length re - r .end) (drop (r .end) re))
+        → q ≡ laid (upto (λ i. turned (m .conjugate) zero64) (38976 - r .end)) (take (length im - r .end) (drop (r .end) im))
+        → FrameLaid t m load s re₀ (take (r .end) re ++ (p ++ drop (length re - r .end) (drop (r .end) re))) im₀ (take (r .end) im ++ (q ++ drop (length im - r .end) (drop (r .end) im)))
+    unfolding pointAt pointOf inputs
+    frame-laid ep eq =
+        let n = 38976 - symbolsOf rs in
+        let sum : symbolsOf rs + n ≡ 38976 = omega (arith, tl .fits) in
+        let lr : r .end ≤ length re = omega (arith, end-small, re-length) in
+        let li : r .end ≤ length im = omega (arith, end-small, im-length) in
+        record {
+          re-is = tail-back (r .end) re (upto (λ i. zero64) (38976 - r .end)) lr ep
+              ∙ rw (w .end-is, w .re-is) (laid-part (λ k. pointAt t m load s k .re) (λ i. zero64) (symbolsOf rs) n re₀ (λ i l. sym (ap (λ (z : Cplx). z .re) (past (symbolsOf rs + i) (omega arith)))) ∙ rw sum);
+          im-is = tail-back (r .end) im (upto (λ i. turned (m .conjugate) zero64) (38976 - r .end)) li eq
+              ∙ rw (w .end-is, w .im-is) (laid-part (λ k. pointAt t m load s k .im) (λ i. turned (m .conjugate) zero64) (symbolsOf rs) n im₀ (λ i l. sym (ap (λ (z : Cplx). z .im) (past (symbolsOf rs + i) (omega arith)))) ∙ rw sum);
+        }

@@ -1,0 +1,2 @@
+pub mod ByStep
+pub mod Codes

@@ -1,0 +1,145 @@
+// Signal points by their bits, how a mapping lays them, and the state that a frame starts from. After demod.rs of isdbs-phy.
+use isdb_fec::conv::encode_bit;
+use isdbs_core::frame::W2;
+use isdbs_core::frame::W3;
+ghost use mathlib.Core.Path.{_≡_};
+ghost use mathlib.Core.Bool.{true, false};
+ghost use Prim.Native.Nat.{_%_, _<_};
+ghost use Rattle.trellis.specs.Step.{term};
+ghost use Rattle.isdbs_points.specs.Points.{psk8Of, qpskOf, subset, turned};
+ghost use Rattle.isdbs_points.specs.Layout.{wordBit};
+ghost use Rattle.isdbs_points.specs.Frame.{stateAfter, startState};
+
+// 1 / sqrt 2 as an f64.
+const ROOT: f64 = 0.7071067811865476;
+
+// A point's real and imaginary part.
+pub struct Cplx {
+    pub re: f64,
+    pub im: f64,
+}
+
+// How coded bits map to points.
+pub struct Mapping {
+    // The imaginary part of every point is negated.
+    pub conjugate: bool,
+    // QPSK: P1 on the imaginary part and P0 on the real one, instead of the reverse.
+    pub qpsk_p1_on_q: bool,
+    // TC8PSK: C1 is the 133 (octal) output and C0 the 171 one, instead of the reverse.
+    pub tc8psk_c1_is_y: bool,
+}
+
+impl Mapping {
+    // The reading of STD-B20.
+    pub fn default() -> Self
+        ensures { λ r. ⌜ (r .conjugate ≡ false) × (r .«qpsk_p1_on_q» ≡ false) × (r .«tc8psk_c1_is_y» ≡ true) ⌝ }
+    {
+        Self {
+            conjugate: false,
+            qpsk_p1_on_q: false,
+            tc8psk_c1_is_y: true,
+        }
+    }
+}
+
+// The 8PSK point of the label C2 C1 C0; the low three bits count.
+pub fn psk8_point(label: u8) -> Cplx
+    ensures { λ r. ⌜ r ≡ psk8Of (label % 8) ⌝ }
+{
+    match label % 8 {
+        0 => Cplx { re: 1.0, im: 0.0 },
+        1 => Cplx { re: ROOT, im: ROOT },
+        2 => Cplx {
+            re: -ROOT,
+            im: ROOT,
+        },
+        3 => Cplx { re: 0.0, im: 1.0 },
+        4 => Cplx { re: -1.0, im: 0.0 },
+        5 => Cplx {
+            re: -ROOT,
+            im: -ROOT,
+        },
+        6 => Cplx {
+            re: ROOT,
+            im: -ROOT,
+        },
+        _ => Cplx { re: 0.0, im: -1.0 },
+    }
+}
+
+// +s for the bit 0, -s for the bit 1.
+fn sign_of(b: u8, s: f64) -> f64
+    ensures { λ r. ⌜ r ≡ term (b % 2) s ⌝ }
+{
+    if b % 2 == 1 { -s } else { s }
+}
+
+// The QPSK point of (P1, P0), P1 the sign of the real part and P0 that of the imaginary part.
+pub fn qpsk_point(p1: u8, p0: u8) -> Cplx
+    ensures { λ r. ⌜ r ≡ qpskOf false (p1 % 2) (p0 % 2) ⌝ }
+{
+    Cplx {
+        re: sign_of(p1, ROOT),
+        im: sign_of(p0, ROOT),
+    }
+}
+
+// The QPSK point of (P1, P0) under a mapping.
+pub fn qpsk_mapped(p1_on_q: bool, p1: u8, p0: u8) -> Cplx
+    ensures { λ r. ⌜ r ≡ qpskOf «p1_on_q» (p1 % 2) (p0 % 2) ⌝ }
+{
+    let q = qpsk_point(p1, p0);
+    if p1_on_q {
+        Cplx { re: q.im, im: q.re }
+    } else {
+        q
+    }
+}
+
+// The imaginary part, negated where the mapping says so.
+pub fn mirror(conjugate: bool, y: f64) -> f64
+    ensures { λ r. ⌜ r ≡ turned conjugate y ⌝ }
+{
+    if conjugate { -y } else { y }
+}
+
+// 2 C1 + C0 from 2 X + Y.
+pub fn subset_of(c1_is_y: bool, l: u8) -> u8
+    requires { ⌜ l < 4 ⌝ }
+    ensures { λ r. ⌜ (r ≡ subset «c1_is_y» l) × (r < 4) ⌝ }
+{
+    if c1_is_y { 2 * (l % 2) + l / 2 } else { l }
+}
+
+// Bit i of a word, high bit first.
+pub fn word_bit(word: u16, i: usize) -> u8
+    requires { ⌜ i < 16 ⌝ }
+    ensures { λ r. ⌜ r ≡ wordBit word i ⌝ }
+{
+    ((word >> (15 - i)) % 2) as u8
+}
+
+// The encoder's state after a 16-bit word.
+pub fn state_after(word: u16) -> u8
+    ensures { λ r. ⌜ r ≡ stateAfter word ⌝ }
+{
+    let mut state: u8 = 0;
+    let mut i: usize = 0;
+    while i < 16 {
+        let c = encode_bit(state, word_bit(word, i));
+        state = c.state;
+        i += 1;
+    }
+    state
+}
+
+// The state that W2 leaves before the first frame of a superframe, and W3 before the others.
+pub fn start_state(first: bool) -> u8
+    ensures { λ r. ⌜ (r ≡ startState first) × (r < 64) ⌝ }
+{
+    if first {
+        state_after(W2)
+    } else {
+        state_after(W3)
+    }
+}
