@@ -103,20 +103,27 @@ pub fn mirror(conjugate: bool, y: f64) -> f64
     if conjugate { -y } else { y }
 }
 
-// 2 C1 + C0 from 2 X + Y.
+// 2 C1 + C0 from 2 X + Y; the low two bits count.
 pub fn subset_of(c1_is_y: bool, l: u8) -> u8
-    requires { ⌜ l < 4 ⌝ }
-    ensures { λ r. ⌜ (r ≡ subset «c1_is_y» l) × (r < 4) ⌝ }
+    ensures { λ r. ⌜ (r ≡ subset «c1_is_y» (l % 4)) × (r < 4) ⌝ }
 {
-    if c1_is_y { 2 * (l % 2) + l / 2 } else { l }
+    let low = l % 4;
+    if c1_is_y {
+        2 * (low % 2) + low / 2
+    } else {
+        low
+    }
 }
 
-// Bit i of a word, high bit first.
+// Bit i of a word, high bit first; past its end, the last one.
 pub fn word_bit(word: u16, i: usize) -> u8
-    requires { ⌜ i < 16 ⌝ }
     ensures { λ r. ⌜ r ≡ wordBit word i ⌝ }
 {
-    ((word >> (15 - i)) % 2) as u8
+    if i < 16 {
+        ((word >> (15 - i)) % 2) as u8
+    } else {
+        (word % 2) as u8
+    }
 }
 
 // The encoder's state after a 16-bit word.

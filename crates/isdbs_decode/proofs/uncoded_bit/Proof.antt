@@ -27,7 +27,8 @@ returns : tie.Need-returns
 returns c =
     let s = c .before .before .subset-of in
     let r : s .result % 8 ≡ s .result = let l = s .ensures .1 in omega arith in
-    bool-bit (lt (c .correlation .result) (ofBits binary64 0)) ∙ rw (c .correlation .ensures, c .before .psk8-point .ensures, r, s .ensures .0, c .before .before .before .symbol .ensures)
+    let q : c .before .before .before .before .before .before .args .label % 4 ≡ c .before .before .before .before .before .before .args .label = omega arith in
+    bool-bit (lt (c .correlation .result) (ofBits binary64 0)) ∙ rw (c .correlation .ensures, c .before .psk8-point .ensures, r, s .ensures .0, q, c .before .before .before .symbol .ensures)
 
 pub uncoded-bit-spec : {M : Type 1} → statement M
 uncoded-bit-spec =

@@ -1,5 +1,5 @@
 -- `psk8_table` meets its contract. Assumes nothing.
-use native.Mathlib.Nat.{not-suc-le-zero}
+use native.Mathlib.Nat.{not-suc-le-zero, mod-mod}
 use borrow.Author.Needs.{needs}
 use native.Mathlib.Omega.{arith}
 use mathlib.Core.Path.{_≡_, refl, _∙_, ap}
@@ -69,7 +69,7 @@ loop-again c =
     let inv = c .before .before .before .before .loop .inv in
     let s = c .before .before .subset-of .ensures in
     let h : (4 * (l / 4) + c .before .before .subset-of .result) % 8 ≡ 4 * (l / 4) + c .before .before .subset-of .result = omega (arith, s .1) in
-    let p : c .before .psk8-point .result ≡ psk8Of (4 * (l / 4) + subset (m .«tc8psk_c1_is_y») (l % 4)) = c .before .psk8-point .ensures ∙ rw (h, s .0) in
+    let p : c .before .psk8-point .result ≡ psk8Of (4 * (l / 4) + subset (m .«tc8psk_c1_is_y») (l % 4)) = c .before .psk8-point .ensures ∙ rw (h, s .0, mod-mod l 4) in
     let re = c .before .psk8-point .result .re in
     let im = c .mirror .result in (
       omega arith,

@@ -14,7 +14,7 @@ returns : tie.Need-returns
 returns c = (rw (c .if1 .taken), omega arith)
 
 returns-2 : tie.Need-returns-2
-returns-2 c = search needs
+returns-2 c = (rw (c .if1 .left), omega arith)
 
 pub subset-of-spec : {M : Type 1} → statement M
 subset-of-spec = tie.close (tie.spec mul-result add-result returns returns-2)
