@@ -15,10 +15,10 @@ use Rattle.isdbs_core.specs.Tables.{slotSum, tableAnswer}
 use Rattle.isdbs_core.specs.RunsOf.{runsFrom, runsOf, validIn, validTotal}
 use Rattle.isdbs_core.specs.Symbols.{firstPair, bitSymbol}
 use lib.IntN.{pos, negsuc}
-use lib.ListN.{getD, length}
 use lib.Ieee.{Float, fin, binary32, add, sub, neg, lt, ofBits}
 use Rattle.trellis.specs.Lists.{upto, packed}
-use Rattle.trellis.specs.Code.{isdb, half, tapped, output, label, stateAt}
+use Rattle.trellis.specs.Code.{isdb, tapped, output, label, stateAt}
+use Rattle.trellis.specs.Encoded.{encoded}
 use Rattle.trellis.specs.Step.{four, lower, branch, cand, wins, next, nexts, word, top, best, renormalised, kept, back, input, traced}
 use Rattle.trellis.specs.Run.{startAt, settled, released, stepped, after, pushed, flushed}
 use Rattle.ieee.specs.Conversion.{rounded}
@@ -40,13 +40,9 @@ run c a b v s e = record { combination = c; «slot_start» = a; «slot_end» = b
 abbrev pub A : Type 0
 A = (stateAfter 0x1b95 ≡ 42) × (stateAfter 0xa340 ≡ 0) × (stateAfter 0x5cbf ≡ 63)
 
--- the labels 2 X + Y of encoding the inputs us from the state s
-abbrev labels : ℕ → List ℕ → List ℕ
-labels s us = upto (λ k. label isdb (getD us k 0) (stateAt (half isdb) s us k)) (length us)
-
 -- "State 0, inputs 1 and six 0: X 1111001, Y 1011011."
 abbrev pub B : Type 0
-B = labels 0 (1 ∷ 0 ∷ 0 ∷ 0 ∷ 0 ∷ 0 ∷ 0 ∷ []) ≡ 3 ∷ 2 ∷ 3 ∷ 3 ∷ 0 ∷ 1 ∷ 3 ∷ []
+B = encoded isdb 0 (1 ∷ 0 ∷ 0 ∷ 0 ∷ 0 ∷ 0 ∷ 0 ∷ []) ≡ 3 ∷ 2 ∷ 3 ∷ 3 ∷ 0 ∷ 1 ∷ 3 ∷ []
 
 -- "State 32, input 0: (1, 0)."
 abbrev pub C : Type 0
@@ -108,7 +104,7 @@ pub record Example : Type 1 where
   pub holds : says
 
 abbrev pub lettered : List Example
-unfolding slotSum runsFrom validIn firstPair stateAfter stateAt label output tapped startAt settled released stepped after upto packed branch cand wins next nexts word top best renormalised kept back input traced ofBits add sub neg lt softOf rounded
+unfolding slotSum runsFrom validIn firstPair stateAfter stateAt encoded label output tapped startAt settled released stepped after upto packed branch cand wins next nexts word top best renormalised kept back input traced ofBits add sub neg lt softOf rounded
 lettered =
     record { says = A; holds = (refl, refl, refl) }
     ∷ record { says = B; holds = refl }

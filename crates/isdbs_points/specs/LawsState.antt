@@ -6,7 +6,12 @@ use native.Mathlib.Nat.{add-zero, add-suc}
 use native.Mathlib.Omega.{arith}
 use lib.ListN.{getD}
 use Rattle.trellis.specs.Code.{isdb, label, moved, stateAt}
-use Rattle.isdbs_points.specs.Frame.{labelAt}
+use Rattle.trellis.specs.Encoded.{encoded, reached, encoded-at, reached-is}
+use Rattle.trellis.specs.ListLaws.{length-upto}
+use Rattle.isdbs_core.specs.declared.tmcc.Table.{Table}
+use Rattle.isdbs_core.specs.RunsOf.{frameSteps}
+use Rattle.isdbs_points.specs.Layout.{atStep}
+use Rattle.isdbs_points.specs.Frame.{labelAt, inputIn, inputs, endState}
 
 -- the inputs vs stand in us from place a on, n of them
 abbrev pub Follow : List ℕ → ℕ → List ℕ → ℕ → Type 0
@@ -20,3 +25,12 @@ state-shift h s us a vs (suc n) f =
 
 pub label-shift : (s : ℕ) (us : List ℕ) (a : ℕ) (vs : List ℕ) (n : ℕ) → Follow us a vs n → (k : ℕ) → k < n → labelAt s us (a + k) ≡ labelAt (stateAt 32 s us a) vs k
 label-shift s us a vs n f k l = rw (f k l, state-shift 32 s us a vs k (λ i j. f i (omega arith)))
+
+-- 2 X + Y of the whole frame is the encoding of its inputs from the start state
+pub labels-encoded : (t : Table) (load : List ℕ) (s k : ℕ) → k < frameSteps t → labelAt s (inputs t load) k ≡ getD (encoded isdb s (inputs t load)) k 0
+unfolding inputs
+labels-encoded t load s k h = sym (encoded-at isdb s (inputs t load) k (rw (length-upto (atStep 0 (inputIn load) t) (frameSteps t)) h))
+
+pub end-reached : (t : Table) (load : List ℕ) (s : ℕ) → endState t load s ≡ reached isdb s (inputs t load)
+unfolding inputs
+end-reached t load s = ap (stateAt 32 s (inputs t load)) (sym (length-upto (atStep 0 (inputIn load) t) (frameSteps t))) ∙ sym (reached-is isdb s (inputs t load))

@@ -1,24 +1,12 @@
 -- Both generators tap the input, so the two branches that leave a state send complementary pairs. One computed test over the 64 states.
 -- Assumes nothing.
 use mathlib.Core.Path.{_≡_}
-use mathlib.Core.Bool.{Bool, true, _&&_}
+use mathlib.Core.Bool.{Bool}
 use Prim.Native.Nat.{ℕ, zero, suc, _+_, _-_, _<_}
-use native.Mathlib.Nat.{not-suc-le-zero}
 use native.Mathlib.Omega.{arith}
 use lib.Dec.{T, eqb, eqb→eq}
-use lib.Ieee.Fits.{and-l, and-r}
-use borrow.Author.Count.{below-more}
 use Rattle.trellis.specs.Code.{Code, isdb, output, tapped, label}
-
--- f passes at each number below n
-unfoldable every : (ℕ → Bool) → ℕ → Bool
-every f zero = true
-every f (suc n) = f n && every f n
-
-every-at : (f : ℕ → Bool) (n : ℕ) → T (every f n) → (k : ℕ) → k < n → T (f k)
-unfolding every
-every-at f zero t k h = absurd (not-suc-le-zero h)
-every-at f (suc n) t k h = below-more (λ i. T (f i)) n (every-at f n (and-r (f n) (every f n) t)) (and-l (f n) (every f n) t) k (omega arith)
+use Rattle.trellis.specs.ListLaws.{every, every-at}
 
 -- the two pairs that leave the state s are 2 X + Y and its complement, 3 - (2 X + Y)
 test : Code → ℕ → Bool

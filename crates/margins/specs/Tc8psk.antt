@@ -4,18 +4,17 @@ use mathlib.Core.Path.{_≡_, refl, sym, _∙_, subst}
 use mathlib.Core.Logic.{_⊎_, inl, inr}
 use mathlib.Core.Bool.{Bool, true, false, cond, _&&_}
 use Prim.Native.Nat.{ℕ, zero, suc, _+_, _*_, _-_, _<_}
-use native.Mathlib.Nat.{not-suc-le-zero}
 use native.Mathlib.Omega.{arith}
 use lib.IntN.{pos, negsuc}
 use lib.Dec.{T, eqb, eqb→eq, lit≤}
 use lib.Ieee.{Float, fin, Format, binary32, binary64, fits, neg, add, mul, sum, round, lt, le, eq, ofBits}
 use lib.Ieee.Fits.{and-l, and-r}
 use lib.Ieee.Scale.{finite}
-use borrow.Author.Count.{below-more}
 use Rattle.ieee.specs.Value.{hi, lo, Num, hi-neg, lo-neg, num-neg}
 use Rattle.ieee.specs.Order.{le→value, value→le, lt→value, value→lt}
 use Rattle.ieee.specs.Rounding.{pow2}
 use Rattle.trellis.specs.Lists.{upto, bit}
+use Rattle.trellis.specs.ListLaws.{every, every-at}
 use Rattle.isdbs_points.specs.declared.Cplx.{Cplx}
 use Rattle.isdbs_points.specs.Points.{zero64, psk8Of, subset}
 use Rattle.ieee.specs.Conversion.{rounded}
@@ -28,15 +27,6 @@ use Rattle.margins.specs.Intervals.{Inside, inside-wide, eight, scaledUp
 use Rattle.margins.specs.Correlation.{corrLow, corrHigh, corr-inside, corr-num}
 use Rattle.margins.specs.Absolute.{abs-to, abs-from, abs-plus, none-num, none-hi, none-lo}
 use Rattle.margins.specs.Metrics.{Sixteenths, above-by, favour-upto}
-
--- ---- a test of every number below n
-abbrev every : (ℕ → Bool) → ℕ → Bool
-every f zero = true
-every f (suc n) = every f n && f n
-
-at : (f : ℕ → Bool) (n : ℕ) → T (every f n) → (k : ℕ) → k < n → T (f k)
-at f zero t k h = absurd (not-suc-le-zero h)
-at f (suc n) t k h = below-more (λ (j : ℕ). T (f j)) n (λ j l. at f n (and-l (every f n) (f n) t) j l) (and-r (every f n) (f n) t) k (omega arith)
 
 -- ---- 61/64, 9/8, 1/16 and 15/16: the correlation with the point of the sent subset, with that of its complement, with the other two
 abbrev ownLeast : Float
@@ -76,12 +66,12 @@ unfoldable sureAt : Bool → ℕ → ℕ → Bool
 sureAt w c2 l = cond (eqb c2 1) (le (corrHigh (sent w c2 l) (pointOf w l)) (neg ownLeast)) (le ownLeast (corrLow (sent w c2 l) (pointOf w l)))
 
 all-wide : (w : Bool) → T (every (λ c2. every (λ l. every (λ k. wideAt w c2 l k) 4) 4) 2)
-unfolding wideAt corrLow corrHigh le lt eq neg add mul sum round ofBits
+unfolding every wideAt corrLow corrHigh le lt eq neg add mul sum round ofBits
 all-wide true = tt
 all-wide false = tt
 
 all-sure : (w : Bool) → T (every (λ c2. every (λ l. sureAt w c2 l) 4) 2)
-unfolding sureAt corrLow corrHigh le lt eq neg add mul sum round ofBits
+unfolding every sureAt corrLow corrHigh le lt eq neg add mul sum round ofBits
 all-sure true = tt
 all-sure false = tt
 
@@ -185,10 +175,10 @@ module _ (w : Bool) (c2 l : ℕ) (v : Cplx) (two : c2 < 2) (four : l < 4) (re-in
   corr k = correlation v (pointOf w k)
 
   wide : (k : ℕ) → k < 4 → T (wideAt w c2 l k)
-  wide k h = at (λ k. wideAt w c2 l k) 4 (at (λ l. every (λ k. wideAt w c2 l k) 4) 4 (at (λ c2. every (λ l. every (λ k. wideAt w c2 l k) 4) 4) 2 (all-wide w) c2 two) l four) k h
+  wide k h = every-at (λ k. wideAt w c2 l k) 4 (every-at (λ l. every (λ k. wideAt w c2 l k) 4) 4 (every-at (λ c2. every (λ l. every (λ k. wideAt w c2 l k) 4) 4) 2 (all-wide w) c2 two) l four) k h
 
   sure : T (sureAt w c2 l)
-  sure = at (λ l. sureAt w c2 l) 4 (at (λ c2. every (λ l. sureAt w c2 l) 4) 2 (all-sure w) c2 two) l four
+  sure = every-at (λ l. sureAt w c2 l) 4 (every-at (λ c2. every (λ l. sureAt w c2 l) 4) 2 (all-sure w) c2 two) l four
 
   low-finite : (k : ℕ) → k < 4 → T (finite (low k))
   unfolding wideAt

@@ -4,3 +4,5 @@ pub mod Code
 pub mod Step
 pub mod Run
 pub mod Taps
+pub mod Parity
+pub mod Encoded

@@ -1,10 +1,12 @@
--- Laws of the first n values of a function, and of the number whose bits are a test's. Assumes nothing.
+-- Laws of the first n values of a function, of a test that is computed at each number, and of the number whose bits are a test's. Assumes nothing.
 use mathlib.Core.Path.{_≡_, refl, sym, _∙_, ap}
-use mathlib.Core.Bool.{Bool, true, false}
+use mathlib.Core.Bool.{Bool, true, false, _&&_}
 use mathlib.Core.List.{[], _∷_, _++_}
 use Prim.Native.Nat.{ℕ, zero, suc, _+_, _-_, _*_, _/_, _%_, _^_, _≤_, _<_}
 use native.Mathlib.Omega.{arith}
 use native.Mathlib.Nat.{not-suc-le-zero, add-mul-div-right, add-mul-mod-self-right, mul-assoc, mul-le-mul-right, div-eq-of-lt, zero-add, pow-suc}
+use lib.Dec.{T}
+use lib.Ieee.Fits.{and-l, and-r}
 use lib.Pow.{pow-add, pow-pos}
 use lib.ListN.{length, getD, length-append, List·getD-append}
 use lib.Seq.{getD-at}
@@ -24,6 +26,17 @@ getD-upto f d (suc n) i h =
     (λ j hj. List·getD-append (upto f n) (f n ∷ []) d j (rw (length-upto f n) hj) ∙ getD-upto f d n j hj)
     (getD-at (upto f n) (f n) [] d n (length-upto f n))
     i (omega arith)
+
+-- ---- computed tests
+-- f passes at each number below n
+unfoldable pub every : (ℕ → Bool) → ℕ → Bool
+every f zero = true
+every f (suc n) = f n && every f n
+
+pub every-at : (f : ℕ → Bool) (n : ℕ) → T (every f n) → (k : ℕ) → k < n → T (f k)
+unfolding every
+every-at f zero t k h = absurd (not-suc-le-zero h)
+every-at f (suc n) t k h = below-more (λ i. T (f i)) n (every-at f n (and-r (f n) (every f n) t)) (and-l (f n) (every f n) t) k (omega arith)
 
 -- ---- the bits of a packed number
 -- a multiple of 2 ^ k leaves each bit below k
