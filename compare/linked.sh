@@ -4,7 +4,8 @@
 set -eu
 cd "$(dirname "$0")/.."
 archive=target/staticlib/libisdb_c.a
-[ -f "$archive" ] || rt staticlib isdb_c
+mkdir -p target/compare
+rt staticlib isdb_c >target/compare/staticlib.log 2>&1 || { tail -n 20 target/compare/staticlib.log; exit 1; }
 calls=
 for pair in isdbt:isdbt_depuncture encode:isdbs_encode_frame decode:isdbs_decode_frame; do
     if nm "$archive" 2>/dev/null | grep -q " T ${pair#*:}\$"; then calls="$calls --cfg ${pair%%:*}"; fi

@@ -9,6 +9,7 @@ mkdir -p target/compare/vectors
 target/compare/bin/vectors target/compare/vectors
 rustc -O -o target/compare/bin/soft_vectors compare/soft_vectors.rs
 target/compare/bin/soft_vectors > target/compare/vectors/soft.hex
+compare/isdbt_vectors.sh "$@"
 for name in soft encode decode; do
     if [ -d "crates/vectors_$name/data" ]; then cp "target/compare/vectors/$name.hex" "crates/vectors_$name/data/$name.hex"; fi
 done

@@ -15,7 +15,7 @@ fn encode() -> String {
     let mut out = String::new();
     let mut seeds = Draws(0x243f_6a88_85a3_08d3);
     let tables = some_tables();
-    // each table under every mapping, from both states of a frame
+    // each table under every mapping, from the two states that a frame starts in, in turn
     for (i, &t) in tables.iter().enumerate() {
         for m in 0..8 {
             let state = if (i + usize::from(m)) % 2 == 0 { 0 } else { 63 };

@@ -12,7 +12,7 @@ use isdbs_phy::demod::DemodOptions;
 use isdbs_phy::demod::FrameDecoded;
 use isdbs_phy::demod::decode_frame;
 
-// decode_frame, with the ranges as part of its contract: where it is accepted, every soft value, branch metric and path value stays in its range.
+// decode_frame, with the ranges as part of its contract: where it is accepted, every soft value of BPSK and QPSK, branch metric and path value stays in its range.
 pub fn decode_in_range(
     re: &[f64],
     im: &[f64],

@@ -301,7 +301,7 @@ fn write_bytes(
     }
 }
 
-// The decoded bits of a frame: one for each step, then the 16 of W1. The path values start as pm.
+// The decoded bits of a frame: one for each step, then the 16 of W1. The path values start as `start`.
 fn decode_bits(
     t: Table,
     m: Mapping,

@@ -1,4 +1,4 @@
--- The refusal rows of `decode_frame`, and what an accepted call leaves. Document 01, "Where a call is turned back". Assumes nothing.
+-- The refusal rows of `decode_frame`, its answer, and what a refused call leaves. Document 01, "Where a call is turned back". Assumes nothing.
 use mathlib.Core.Path.{_≡_}
 use mathlib.Core.Bool.{Bool, true, false, cond, not, _&&_, _||_}
 use mathlib.Core.List.{List, [], _∷_, _++_}

@@ -1,13 +1,13 @@
 -- "Input u at state s gives parities of (64u+s) under 171 and 133 octal and goes to 32u + s/2 (rounded down)": the shift register's outputs are these
 -- parities. One computed test over the 128 numbers. Assumes nothing.
-use mathlib.Core.Path.{_≡_, sym, _∙_, ap}
+use mathlib.Core.Path.{_≡_, refl}
 use mathlib.Core.Bool.{Bool, _&&_}
 use Prim.Native.Nat.{ℕ, zero, suc, _+_, _*_, _/_, _%_, _<_}
 use native.Mathlib.Omega.{arith}
 use lib.Bits.{bitAnd}
 use lib.Dec.{T, eqb, eqb→eq}
 use lib.Ieee.Fits.{and-l, and-r}
-use Rattle.trellis.specs.Code.{isdb, tapped, output, moved}
+use Rattle.trellis.specs.Code.{isdb, half, tapped, output, moved}
 use Rattle.trellis.specs.ListLaws.{every, every-at}
 
 -- the ones among the lowest n binary digits of x
@@ -43,5 +43,5 @@ output-parity u s l h =
     let t = every-at test 128 passes x (omega arith) in
     (at 0o171 u s h (and-l (alike 0o171 x) (alike 0o133 x) t), at 0o133 u s h (and-r (alike 0o171 x) (alike 0o133 x) t))
 
-pub next-state : (u s : ℕ) → (64 * u + s) / 2 ≡ 32 * u + s / 2
-next-state u s = omega arith
+pub next-state : (u s : ℕ) → (moved (half isdb) u s ≡ (64 * u + s) / 2) × (moved (half isdb) u s ≡ 32 * u + s / 2)
+next-state u s = (omega arith, refl)
