@@ -1,3 +1,4 @@
 pub mod Written
 pub mod Turns
 pub mod Periods
+pub mod Decoding

@@ -3,6 +3,7 @@ use mathlib.Core.Path.{_≡_, refl}
 use mathlib.Core.List.{List}
 use Prim.Native.Nat.{ℕ, _+_, _*_, _/_, _<_, _≤_}
 use native.Mathlib.Omega.{arith}
+use native.Mathlib.Nat.{mul-left-comm}
 use lib.ListN.{length}
 use Rattle.isdbt_fec.specs.declared.conv.CodeRate.{CodeRate}
 use Rattle.isdbt_fec.specs.declared.conv.Puncturing.{Puncturing}
@@ -10,9 +11,16 @@ use Rattle.isdbt_fec.specs.Table.{period, sent, compiled}
 use Rattle.isdbt_fec.specs.Numbers.{numbers}
 use Rattle.isdbt_fec.specs.Sizes.{values-there}
 
--- how many mother bits the values of whole periods give
-pub mother-bits : (rate : CodeRate) (p : Puncturing) (count : ℕ) → p ≡ compiled rate → count / p .n * (2 * p .period) ≡ count / sent rate * (2 * period rate)
-mother-bits rate p count e = rw e refl
+-- how many bits, and how many mother bits, the values of whole periods give
+module _ (rate : CodeRate) (p : Puncturing) (count : ℕ) (e : p ≡ compiled rate) where
+  pub bit-count : count / p .n * p .period ≡ count / sent rate * period rate
+  bit-count = rw e refl
+
+  pub mother-bits : count / p .n * (2 * p .period) ≡ count / sent rate * (2 * period rate)
+  mother-bits = rw e refl
+
+  pub bits-twice : 2 * (count / p .n * p .period) ≡ count / p .n * (2 * p .period)
+  bits-twice = mul-left-comm 2 (count / p .n) (p .period)
 
 -- the soft values of the mother bits below `end` can be read from `count` sent values
 pub record Readable (count period n long end : ℕ) : Type 0 where
