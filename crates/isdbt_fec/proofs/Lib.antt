@@ -2,3 +2,4 @@ pub mod Written
 pub mod Turns
 pub mod Periods
 pub mod Decoding
+pub mod Refusals

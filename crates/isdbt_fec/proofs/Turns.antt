@@ -11,13 +11,16 @@ use Rattle.isdbt_fec.specs.Table.{period, sent, compiled}
 use Rattle.isdbt_fec.specs.Numbers.{numbers}
 use Rattle.isdbt_fec.specs.Sizes.{values-there}
 
--- how many bits, and how many mother bits, the values of whole periods give
+-- how many bits, mother bits and sent bits whole periods give
 module _ (rate : CodeRate) (p : Puncturing) (count : ℕ) (e : p ≡ compiled rate) where
   pub bit-count : count / p .n * p .period ≡ count / sent rate * period rate
   bit-count = rw e refl
 
   pub mother-bits : count / p .n * (2 * p .period) ≡ count / sent rate * (2 * period rate)
   mother-bits = rw e refl
+
+  pub sent-count : count / p .period * p .n ≡ count / period rate * sent rate
+  sent-count = rw e refl
 
   pub bits-twice : 2 * (count / p .n * p .period) ≡ count / p .n * (2 * p .period)
   bits-twice = mul-left-comm 2 (count / p .n) (p .period)
