@@ -30,7 +30,6 @@ use Rattle.isdbt_fec.specs.Table.{period, sent, order, compiled}
 use Rattle.isdbt_fec.specs.Puncture.{spread, softAt, depunctured}
 use Rattle.isdbt_fec.specs.Rows.{depth}
 use Rattle.isdbt_fec.specs.Calls.{steps, fresh, decodedBits}
-use Rattle.isdbt_fec.specs.Sizes.{values-there}
 use Rattle.isdbt_fec.specs.Numbers.{Numbers, numbers}
 
 depth-case : (tb : ℕ) (t : Bool) → eqb tb 0 ≡ t → tb ≤ 1024 → (1 ≤ cond t 1 tb) × (cond t 1 tb ≤ 1024)
@@ -86,16 +85,6 @@ count-most R3_4 count = omega arith
 count-most R5_6 count = omega arith
 count-most R7_8 count = omega arith
 
--- what reading the soft value of the mother bit k asks
-pub soft-ready : (rate : CodeRate) (p : Puncturing) (xs : List Float) (k : ℕ) → p ≡ compiled rate → k < length xs / sent rate * (2 * period rate)
-    → (p .n ≤ 8) × (p .n ≤ length (p .order)) × (1 ≤ p .period) × (p .period ≤ 7) × (p .n * (k / (2 * p .period)) + p .n ≤ length xs)
-soft-ready rate p xs k e h =
-    let z = numbers rate p e in
-    let r = z .ranges in
-    let l = z .long in
-    let there : p .n * (k / (2 * p .period)) + p .n ≤ length xs = rw (z .n-is, z .period-is) (values-there rate (length xs) k h) in
-    (r .eight, omega arith, r .least, r .most, there)
-
 -- the decoder as the code holds it
 abbrev pub begun : List Float → ℕ → ViterbiDecoder
 begun pm tb = record { pm = pm; held = 0; traceback = tb }
@@ -123,9 +112,6 @@ module _ (rate : CodeRate) (p : Puncturing) (e : p ≡ compiled rate) (xs : List
 
   few : length (d .words) < 4096 + tb
   few = counted tb (steps rate xs) fresh least most (omega arith) n .few
-
-  pub held-few : at .held < 4096 + tb
-  held-few = let a = followed .held-is in let b = few in omega arith
 
   pub all-bits : at .count + at .held ≡ n
   all-bits =

@@ -1,22 +1,18 @@
 -- `conv::decode_periods` meets its contract. Assumes nothing.
-use mathlib.Core.Path.{_≡_, refl, _∙_, ap}
-use mathlib.Core.List.{List}
-use Prim.Native.Nat.{ℕ, _+_, _-_, _*_, _/_, _<_, _≤_}
+use mathlib.Core.Path.{_≡_, refl, _∙_}
+use Prim.Native.Nat.{_+_, _-_, _*_, _/_, _<_, _≤_}
 use native.Mathlib.Omega.{arith}
 use borrow.Author.Needs.{needs}
-use lib.ListN.{replicate, length}
+use lib.ListN.{length}
 use Rattle.isdbt_fec.specs.Numbers.{numbers}
-use Rattle.isdbt_fec.specs.Decode.{stepsBy, begun, room-for, pair-below, count-most, soft-ready, held-few, all-bits, bits-out, words-out}
-use Rattle.isdb_fec.specs.Calls as fec
-use Rattle.isdb_fec.specs.Calls.{Holds, holding}
-use Rattle.isdb_fec.specs.Whole.{begins, lengths, ready, goes-on}
-use Rattle.trellis.specs.Lists.{laid}
-use Rattle.isdbt_fec.specs.Table.{period, sent, order}
+use Rattle.isdbt_fec.specs.Decode.{stepsBy, count-most}
+use Rattle.isdbt_fec.proofs.Turns.{Readable, bit-count, bits-twice, readable}
+use Rattle.isdbt_fec.proofs.Decoding.{Decoding, decoding-none, decoding-ready, decoding-next, pair-same, decoded}
 use Rattle.isdbt_fec.proofs.conv.decode_periods.Statement.{statement}
 use Rattle.isdbt_fec.proofs.conv.decode_periods.Tie as tie
 
 abbrev Inv-loop : tie.InvT-loop
-Inv-loop llrs traceback decisions₀ out₀ period n order pm₀ at₀ count i₀ decisions out pm at i = (i ≤ count) × Holds traceback decisions₀ out₀ (fec.steps traceback (stepsBy period n order llrs) (holding pm₀ (at₀ .held) decisions₀) i) pm (at .held) (at .count) decisions out
+Inv-loop llrs traceback decisions₀ out₀ period n order pm₀ at₀ count i₀ decisions out pm at i = (i ≤ count) × (2 * count < 18446744073709551616) × Readable (length llrs) period n (length order) (2 * count) × Decoding traceback (stepsBy period n order llrs) count pm₀ decisions₀ out₀ i pm at decisions out
 
 abbrev μ-loop : tie.MeasureT-loop
 μ-loop llrs traceback decisions₀ out₀ period n order pm₀ at₀ count i₀ decisions out pm at i = count - i
@@ -29,227 +25,52 @@ start-at-requires c κs = tt
 
 div-count : tie.Need-div-count Inv-loop μ-loop
 div-count c =
-    let start = c .before .before .before .before .before .before in
-    let a = start .args in
-    let rate = a .rate in
-    let p = c .before .before .new .result in
-    let e = c .before .before .new .ensures in
-    let z = numbers rate p e in
-    let llrs = a .llrs .now in
-    let n = length llrs / sent rate * period rate in
-    let count : length llrs / p .n * p .period ≡ n = rw (z .n-is, z .period-is) refl in
-    let most = count-most rate (length llrs) in
-    let r = z .ranges in
+    let r = numbers (c .before .before .before .before .before .before .args .rate) _ (c .before .before .new .ensures) .ranges in
     omega arith
 
 mul-count : tie.Need-mul-count Inv-loop μ-loop
 mul-count c =
-    let start = c .before .before .before .before .before .before in
-    let a = start .args in
-    let rate = a .rate in
-    let p = c .before .before .new .result in
-    let e = c .before .before .new .ensures in
-    let z = numbers rate p e in
-    let llrs = a .llrs .now in
-    let n = length llrs / sent rate * period rate in
-    let count : length llrs / p .n * p .period ≡ n = rw (z .n-is, z .period-is) refl in
-    let most = count-most rate (length llrs) in
+    let a = c .before .before .before .before .before .before .args in
+    let count = bit-count (a .rate) _ (length (a .llrs .now)) (c .before .before .new .ensures) in
+    let most = count-most (a .rate) (length (a .llrs .now)) in
     omega arith
 
 loop-holds : tie.Need-loop-holds Inv-loop μ-loop
 loop-holds c =
     let start = c .before .before .before .before .before .before in
     let a = start .args in
-    let rate = a .rate in
-    let p = c .before .before .new .result in
     let e = c .before .before .new .ensures in
-    let z = numbers rate p e in
-    let llrs = a .llrs .now in
-    let n = length llrs / sent rate * period rate in
-    let count : length llrs / p .n * p .period ≡ n = rw (z .n-is, z .period-is) refl in
-    let most = count-most rate (length llrs) in
-    let tb = a .traceback in
-    let dec = a .decisions .now in
-    let out = a .out .now in
-    let pm = c .start-at .result in
-    let v = begun pm tb in
-    let xs = stepsBy (p .period) (p .n) (p .order) llrs in
-    let enough = room-for pm tb n (length dec) (length out) (start .pre .0) (start .pre .1) (start .pre .2) (start .pre .3) in
-    (search needs, begins v xs n dec out enough)
+    let count = bit-count (a .rate) _ (length (a .llrs .now)) e in
+    let most = count-most (a .rate) (length (a .llrs .now)) in
+    let pre = start .pre in
+    (search needs, omega arith, rw (bits-twice (a .rate) _ _ e) (readable (a .rate) _ _ e), decoding-none _ _ _ _ _ _ (pre .0) (pre .1) (pre .2) (omega arith))
 
 mul-soft-at : tie.Need-mul-soft-at Inv-loop μ-loop
-mul-soft-at c =
-    let start = c .before .before .before .before .before .before .before .before .before in
-    let a = start .args in
-    let rate = a .rate in
-    let p = c .before .before .before .before .before .new .result in
-    let e = c .before .before .before .before .before .new .ensures in
-    let z = numbers rate p e in
-    let llrs = a .llrs .now in
-    let n = length llrs / sent rate * period rate in
-    let count : length llrs / p .n * p .period ≡ n = rw (z .n-is, z .period-is) refl in
-    let most = count-most rate (length llrs) in
-    let tb = a .traceback in
-    let dec = a .decisions .now in
-    let out = a .out .now in
-    let pm = c .before .before .before .start-at .result in
-    let v = begun pm tb in
-    let xs = stepsBy (p .period) (p .n) (p .order) llrs in
-    let enough = room-for pm tb n (length dec) (length out) (start .pre .0) (start .pre .1) (start .pre .2) (start .pre .3) in
-    let at = c .before .before in
-    let i = at .loop .i in
-    let inside : i < n = rw count at (c .before .loop-test .taken) in
-    let below = pair-below rate (length llrs) i inside in
-    omega arith
+mul-soft-at c = omega arith
 
 soft-at-requires : tie.Need-soft-at-requires Inv-loop μ-loop
 soft-at-requires c κs =
-    let start = c .before .before .before .before .before .before .before .before .before in
-    let a = start .args in
-    let rate = a .rate in
-    let p = c .before .before .before .before .before .new .result in
-    let e = c .before .before .before .before .before .new .ensures in
-    let z = numbers rate p e in
-    let llrs = a .llrs .now in
-    let n = length llrs / sent rate * period rate in
-    let count : length llrs / p .n * p .period ≡ n = rw (z .n-is, z .period-is) refl in
-    let most = count-most rate (length llrs) in
-    let tb = a .traceback in
-    let dec = a .decisions .now in
-    let out = a .out .now in
-    let pm = c .before .before .before .start-at .result in
-    let v = begun pm tb in
-    let xs = stepsBy (p .period) (p .n) (p .order) llrs in
-    let enough = room-for pm tb n (length dec) (length out) (start .pre .0) (start .pre .1) (start .pre .2) (start .pre .3) in
-    let at = c .before .before in
-    let i = at .loop .i in
-    let inside : i < n = rw count at (c .before .loop-test .taken) in
-    let below = pair-below rate (length llrs) i inside in
-    soft-ready rate p llrs (2 * i) e (omega arith)
+    let r = c .before .before .loop .inv .2 in
+    (r .eight, r .in-order, r .least, r .most, r .there _ (omega arith))
 
 mul-soft-at-2 : tie.Need-mul-soft-at-2 Inv-loop μ-loop
-mul-soft-at-2 c =
-    let start = c .before .before .before .before .before .before .before .before .before .before .before in
-    let a = start .args in
-    let rate = a .rate in
-    let p = c .before .before .before .before .before .before .before .new .result in
-    let e = c .before .before .before .before .before .before .before .new .ensures in
-    let z = numbers rate p e in
-    let llrs = a .llrs .now in
-    let n = length llrs / sent rate * period rate in
-    let count : length llrs / p .n * p .period ≡ n = rw (z .n-is, z .period-is) refl in
-    let most = count-most rate (length llrs) in
-    let tb = a .traceback in
-    let dec = a .decisions .now in
-    let out = a .out .now in
-    let pm = c .before .before .before .before .before .start-at .result in
-    let v = begun pm tb in
-    let xs = stepsBy (p .period) (p .n) (p .order) llrs in
-    let enough = room-for pm tb n (length dec) (length out) (start .pre .0) (start .pre .1) (start .pre .2) (start .pre .3) in
-    let at = c .before .before .before .before in
-    let i = at .loop .i in
-    let inside : i < n = rw count at (c .before .before .before .loop-test .taken) in
-    let below = pair-below rate (length llrs) i inside in
-    omega arith
+mul-soft-at-2 c = omega arith
 
 add-soft-at : tie.Need-add-soft-at Inv-loop μ-loop
-add-soft-at c =
-    let start = c .before .before .before .before .before .before .before .before .before .before .before in
-    let a = start .args in
-    let rate = a .rate in
-    let p = c .before .before .before .before .before .before .before .new .result in
-    let e = c .before .before .before .before .before .before .before .new .ensures in
-    let z = numbers rate p e in
-    let llrs = a .llrs .now in
-    let n = length llrs / sent rate * period rate in
-    let count : length llrs / p .n * p .period ≡ n = rw (z .n-is, z .period-is) refl in
-    let most = count-most rate (length llrs) in
-    let tb = a .traceback in
-    let dec = a .decisions .now in
-    let out = a .out .now in
-    let pm = c .before .before .before .before .before .start-at .result in
-    let v = begun pm tb in
-    let xs = stepsBy (p .period) (p .n) (p .order) llrs in
-    let enough = room-for pm tb n (length dec) (length out) (start .pre .0) (start .pre .1) (start .pre .2) (start .pre .3) in
-    let at = c .before .before .before .before in
-    let i = at .loop .i in
-    let inside : i < n = rw count at (c .before .before .before .loop-test .taken) in
-    let below = pair-below rate (length llrs) i inside in
-    omega arith
+add-soft-at c = omega arith
 
 soft-at-requires-2 : tie.Need-soft-at-requires-2 Inv-loop μ-loop
 soft-at-requires-2 c κs =
-    let start = c .before .before .before .before .before .before .before .before .before .before .before in
-    let a = start .args in
-    let rate = a .rate in
-    let p = c .before .before .before .before .before .before .before .new .result in
-    let e = c .before .before .before .before .before .before .before .new .ensures in
-    let z = numbers rate p e in
-    let llrs = a .llrs .now in
-    let n = length llrs / sent rate * period rate in
-    let count : length llrs / p .n * p .period ≡ n = rw (z .n-is, z .period-is) refl in
-    let most = count-most rate (length llrs) in
-    let tb = a .traceback in
-    let dec = a .decisions .now in
-    let out = a .out .now in
-    let pm = c .before .before .before .before .before .start-at .result in
-    let v = begun pm tb in
-    let xs = stepsBy (p .period) (p .n) (p .order) llrs in
-    let enough = room-for pm tb n (length dec) (length out) (start .pre .0) (start .pre .1) (start .pre .2) (start .pre .3) in
-    let at = c .before .before .before .before in
-    let i = at .loop .i in
-    let inside : i < n = rw count at (c .before .before .before .loop-test .taken) in
-    let below = pair-below rate (length llrs) i inside in
-    soft-ready rate p llrs (2 * i + 1) e below
+    let r = c .before .before .before .before .loop .inv .2 in
+    (r .eight, r .in-order, r .least, r .most, r .there _ (omega arith))
 
 advance-requires : tie.Need-advance-requires Inv-loop μ-loop
-advance-requires c κs =
-    let start = c .before .before .before .before .before .before .before .before .before .before .before .before .before .before .before in
-    let a = start .args in
-    let rate = a .rate in
-    let p = c .before .before .before .before .before .before .before .before .before .before .before .new .result in
-    let e = c .before .before .before .before .before .before .before .before .before .before .before .new .ensures in
-    let z = numbers rate p e in
-    let llrs = a .llrs .now in
-    let n = length llrs / sent rate * period rate in
-    let count : length llrs / p .n * p .period ≡ n = rw (z .n-is, z .period-is) refl in
-    let most = count-most rate (length llrs) in
-    let tb = a .traceback in
-    let dec = a .decisions .now in
-    let out = a .out .now in
-    let pm = c .before .before .before .before .before .before .before .before .before .start-at .result in
-    let v = begun pm tb in
-    let xs = stepsBy (p .period) (p .n) (p .order) llrs in
-    let enough = room-for pm tb n (length dec) (length out) (start .pre .0) (start .pre .1) (start .pre .2) (start .pre .3) in
-    let at = c .before .before .before .before .before .before .before .before in
-    let i = at .loop .i in
-    let inside : i < n = rw count at (c .before .before .before .before .before .before .before .loop-test .taken) in
-    let below = pair-below rate (length llrs) i inside in
-    ready v xs n dec out enough (at .loop .pm) (at .loop .at) (at .loop .decisions) (at .loop .out) i (at .loop .inv .1) inside
+advance-requires c κs = decoding-ready (c .before .before .before .before .before .before .before .before .loop .inv .3) (c .before .before .before .before .before .before .before .loop-test .taken)
 
 add-i : tie.Need-add-i Inv-loop μ-loop
 add-i c =
-    let start = c .before .before .before .before .before .before .before .before .before .before .before .before .before .before .before .before .before .before .before .before in
-    let a = start .args in
-    let rate = a .rate in
-    let p = c .before .before .before .before .before .before .before .before .before .before .before .before .before .before .before .before .new .result in
-    let e = c .before .before .before .before .before .before .before .before .before .before .before .before .before .before .before .before .new .ensures in
-    let z = numbers rate p e in
-    let llrs = a .llrs .now in
-    let n = length llrs / sent rate * period rate in
-    let count : length llrs / p .n * p .period ≡ n = rw (z .n-is, z .period-is) refl in
-    let most = count-most rate (length llrs) in
-    let tb = a .traceback in
-    let dec = a .decisions .now in
-    let out = a .out .now in
-    let pm = c .before .before .before .before .before .before .before .before .before .before .before .before .before .before .start-at .result in
-    let v = begun pm tb in
-    let xs = stepsBy (p .period) (p .n) (p .order) llrs in
-    let enough = room-for pm tb n (length dec) (length out) (start .pre .0) (start .pre .1) (start .pre .2) (start .pre .3) in
-    let at = c .before .before .before .before .before .before .before .before .before .before .before .before .before in
-    let i = at .loop .i in
-    let inside : i < n = rw count at (c .before .before .before .before .before .before .before .before .before .before .before .before .loop-test .taken) in
-    let below = pair-below rate (length llrs) i inside in
+    let inv = c .before .before .before .before .before .before .before .before .before .before .before .before .before .loop .inv in
+    let inside = c .before .before .before .before .before .before .before .before .before .before .before .before .loop-test .taken in
     omega arith
 
 loop-less : tie.Need-loop-less Inv-loop μ-loop
@@ -257,68 +78,18 @@ loop-less c = search needs
 
 loop-again : tie.Need-loop-again Inv-loop μ-loop
 loop-again c =
-    let start = c .before .before .before .before .before .before .before .before .before .before .before .before .before .before .before .before .before .before .before .before in
-    let a = start .args in
-    let rate = a .rate in
-    let p = c .before .before .before .before .before .before .before .before .before .before .before .before .before .before .before .before .new .result in
-    let e = c .before .before .before .before .before .before .before .before .before .before .before .before .before .before .before .before .new .ensures in
-    let z = numbers rate p e in
-    let llrs = a .llrs .now in
-    let n = length llrs / sent rate * period rate in
-    let count : length llrs / p .n * p .period ≡ n = rw (z .n-is, z .period-is) refl in
-    let most = count-most rate (length llrs) in
-    let tb = a .traceback in
-    let dec = a .decisions .now in
-    let out = a .out .now in
-    let pm = c .before .before .before .before .before .before .before .before .before .before .before .before .before .before .start-at .result in
-    let v = begun pm tb in
-    let xs = stepsBy (p .period) (p .n) (p .order) llrs in
-    let enough = room-for pm tb n (length dec) (length out) (start .pre .0) (start .pre .1) (start .pre .2) (start .pre .3) in
-    let at = c .before .before .before .before .before .before .before .before .before .before .before .before .before in
-    let i = at .loop .i in
-    let inside : i < n = rw count at (c .before .before .before .before .before .before .before .before .before .before .before .before .loop-test .taken) in
-    let below = pair-below rate (length llrs) i inside in
-    let stepped = c .before .before .before .before .advance in
+    let inv = c .before .before .before .before .before .before .before .before .before .before .before .before .before .loop .inv in
     let lx = c .before .before .before .before .before .before .before .before .before .before .soft-at .ensures in
-    let ly = c .before .before .before .before .before .before .before .before .soft-at2 .ensures in (
-      omega arith,
-      goes-on v xs n dec out enough (at .loop .pm) (at .loop .at) (at .loop .decisions) (at .loop .out) i (at .loop .inv .1) (stepped .result) (stepped .last .0) _ _ (rw (lx, ly) at (stepped .ensures)),
-    )
+    let ly = c .before .before .before .before .before .before .before .before .soft-at2 .ensures in
+    (omega arith, inv .1, inv .2, decoding-next (inv .3) (c .before .before .before .before .before .before .before .before .before .before .before .before .loop-test .taken) (pair-same lx ly) (c .before .before .before .before .advance .ensures))
 
 renormalise-requires : tie.Need-renormalise-requires Inv-loop μ-loop
 renormalise-requires c κs = tt
 
 finish-requires : tie.Need-finish-requires Inv-loop μ-loop
 finish-requires c κs =
-    let start = c .before .before .before .before .before .before .before .before .before .before .before .before .before in
-    let a = start .args in
-    let rate = a .rate in
-    let p = c .before .before .before .before .before .before .before .before .before .new .result in
-    let e = c .before .before .before .before .before .before .before .before .before .new .ensures in
-    let z = numbers rate p e in
-    let llrs = a .llrs .now in
-    let n = length llrs / sent rate * period rate in
-    let count : length llrs / p .n * p .period ≡ n = rw (z .n-is, z .period-is) refl in
-    let most = count-most rate (length llrs) in
-    let tb = a .traceback in
-    let dec = a .decisions .now in
-    let out = a .out .now in
-    let pm = c .before .before .before .before .before .before .before .start-at .result in
-    let v = begun pm tb in
-    let xs = stepsBy (p .period) (p .n) (p .order) llrs in
-    let enough = room-for pm tb n (length dec) (length out) (start .pre .0) (start .pre .1) (start .pre .2) (start .pre .3) in
-    let at = c .before .before .before .before .before .before in
-    let over = c .before .before .before .before .before in
-    let reached = at .loop .inv .0 in
-    let end : at .loop .i ≡ n = omega arith in
-    let held = at .loop .inv .1 in
-    let ended = rw end at held in
-    let low = c .before .before .before .renormalise in
-    let l = lengths v xs n dec out enough (at .loop .pm) (at .loop .at) (at .loop .decisions) (at .loop .out) (at .loop .i) held (omega arith) in
-    let sum = all-bits rate p e llrs tb (start .pre .0) (start .pre .1) dec out pm (at .loop .pm) (low .last .0) (at .loop .at) (at .loop .decisions) (at .loop .out) (c .before .before .before .before .before .before .before .start-at .ensures) ended (low .ensures) in
-    let few = start .pre in
-    let fits = enough .fits in
-    let held-less = held-few rate p e llrs tb (start .pre .0) (start .pre .1) dec out pm (at .loop .pm) (low .last .0) (at .loop .at) (at .loop .decisions) (at .loop .out) (c .before .before .before .before .before .before .before .start-at .ensures) ended (low .ensures) in
+    let d = c .before .before .before .before .before .before .loop .inv .3 in
+    let enough = d .enough in
     (omega arith, omega arith)
 
 add-clear : tie.Need-add-clear Inv-loop μ-loop
@@ -326,124 +97,24 @@ add-clear c = omega arith
 
 clear-requires : tie.Need-clear-requires Inv-loop μ-loop
 clear-requires c κs =
-    let start = c .before .before .before .before .before .before .before .before .before .before .before .before .before .before .before .before .before .before .before in
-    let a = start .args in
-    let rate = a .rate in
-    let p = c .before .before .before .before .before .before .before .before .before .before .before .before .before .before .before .new .result in
-    let e = c .before .before .before .before .before .before .before .before .before .before .before .before .before .before .before .new .ensures in
-    let z = numbers rate p e in
-    let llrs = a .llrs .now in
-    let n = length llrs / sent rate * period rate in
-    let count : length llrs / p .n * p .period ≡ n = rw (z .n-is, z .period-is) refl in
-    let most = count-most rate (length llrs) in
-    let tb = a .traceback in
-    let dec = a .decisions .now in
-    let out = a .out .now in
-    let pm = c .before .before .before .before .before .before .before .before .before .before .before .before .before .start-at .result in
-    let v = begun pm tb in
-    let xs = stepsBy (p .period) (p .n) (p .order) llrs in
-    let enough = room-for pm tb n (length dec) (length out) (start .pre .0) (start .pre .1) (start .pre .2) (start .pre .3) in
-    let at = c .before .before .before .before .before .before .before .before .before .before .before .before in
-    let over = c .before .before .before .before .before .before .before .before .before .before .before in
-    let reached = at .loop .inv .0 in
-    let end : at .loop .i ≡ n = omega arith in
-    let held = at .loop .inv .1 in
-    let ended = rw end at held in
-    let low = c .before .before .before .before .before .before .before .before .before .renormalise in
-    let l = lengths v xs n dec out enough (at .loop .pm) (at .loop .at) (at .loop .decisions) (at .loop .out) (at .loop .i) held (omega arith) in
-    let k = c .before .before .before .before .before .finish .kept .1 .1 .0 in
-    let fits = enough .fits in
+    let d = c .before .before .before .before .before .before .before .before .before .before .before .before .loop .inv .3 in
+    let enough = d .enough in
+    let kept = c .before .before .before .before .before .finish .kept .1 .1 .0 in
     omega arith
 
 same-length : tie.Need-same-length Inv-loop μ-loop
-same-length c =
-    let start = c .before .before .before .before .before .before .before .before .before .before .before .before .before .before .before .before .before .before .before .before .before .before in
-    let a = start .args in
-    let rate = a .rate in
-    let p = c .before .before .before .before .before .before .before .before .before .before .before .before .before .before .before .before .before .before .new .result in
-    let e = c .before .before .before .before .before .before .before .before .before .before .before .before .before .before .before .before .before .before .new .ensures in
-    let z = numbers rate p e in
-    let llrs = a .llrs .now in
-    let n = length llrs / sent rate * period rate in
-    let count : length llrs / p .n * p .period ≡ n = rw (z .n-is, z .period-is) refl in
-    let most = count-most rate (length llrs) in
-    let tb = a .traceback in
-    let dec = a .decisions .now in
-    let out = a .out .now in
-    let pm = c .before .before .before .before .before .before .before .before .before .before .before .before .before .before .before .before .start-at .result in
-    let v = begun pm tb in
-    let xs = stepsBy (p .period) (p .n) (p .order) llrs in
-    let enough = room-for pm tb n (length dec) (length out) (start .pre .0) (start .pre .1) (start .pre .2) (start .pre .3) in
-    let at = c .before .before .before .before .before .before .before .before .before .before .before .before .before .before .before in
-    let over = c .before .before .before .before .before .before .before .before .before .before .before .before .before .before in
-    let reached = at .loop .inv .0 in
-    let end : at .loop .i ≡ n = omega arith in
-    let held = at .loop .inv .1 in
-    let ended = rw end at held in
-    let low = c .before .before .before .before .before .before .before .before .before .before .before .before .renormalise in
-    let l = lengths v xs n dec out enough (at .loop .pm) (at .loop .at) (at .loop .decisions) (at .loop .out) (at .loop .i) held (omega arith) in
-    c .before .before .clear .kept .0 ∙ c .before .before .before .before .before .before .before .before .finish .kept .1 .1 .0 ∙ l .0
+same-length c = c .before .before .clear .kept .0 ∙ c .before .before .before .before .before .before .before .before .finish .kept .1 .1 .0 ∙ c .before .before .before .before .before .before .before .before .before .before .before .before .before .before .before .loop .inv .3 .words-long
 
 same-length-2 : tie.Need-same-length-2 Inv-loop μ-loop
-same-length-2 c =
-    let start = c .before .before .before .before .before .before .before .before .before .before .before .before .before .before .before .before .before .before .before .before .before .before in
-    let a = start .args in
-    let rate = a .rate in
-    let p = c .before .before .before .before .before .before .before .before .before .before .before .before .before .before .before .before .before .before .new .result in
-    let e = c .before .before .before .before .before .before .before .before .before .before .before .before .before .before .before .before .before .before .new .ensures in
-    let z = numbers rate p e in
-    let llrs = a .llrs .now in
-    let n = length llrs / sent rate * period rate in
-    let count : length llrs / p .n * p .period ≡ n = rw (z .n-is, z .period-is) refl in
-    let most = count-most rate (length llrs) in
-    let tb = a .traceback in
-    let dec = a .decisions .now in
-    let out = a .out .now in
-    let pm = c .before .before .before .before .before .before .before .before .before .before .before .before .before .before .before .before .start-at .result in
-    let v = begun pm tb in
-    let xs = stepsBy (p .period) (p .n) (p .order) llrs in
-    let enough = room-for pm tb n (length dec) (length out) (start .pre .0) (start .pre .1) (start .pre .2) (start .pre .3) in
-    let at = c .before .before .before .before .before .before .before .before .before .before .before .before .before .before .before in
-    let over = c .before .before .before .before .before .before .before .before .before .before .before .before .before .before in
-    let reached = at .loop .inv .0 in
-    let end : at .loop .i ≡ n = omega arith in
-    let held = at .loop .inv .1 in
-    let ended = rw end at held in
-    let low = c .before .before .before .before .before .before .before .before .before .before .before .before .renormalise in
-    let l = lengths v xs n dec out enough (at .loop .pm) (at .loop .at) (at .loop .decisions) (at .loop .out) (at .loop .i) held (omega arith) in
-    c .before .before .before .before .before .before .before .before .finish .kept .1 .1 .1 .0 ∙ l .1
+same-length-2 c = c .before .before .before .before .before .before .before .before .finish .kept .1 .1 .1 .0 ∙ c .before .before .before .before .before .before .before .before .before .before .before .before .before .before .before .loop .inv .3 .bits-long
 
 returns : tie.Need-returns Inv-loop μ-loop
 returns c =
-    let start = c .before .before .before .before .before .before .before .before .before .before .before .before .before .before .before .before .before .before .before .before .before .before in
-    let a = start .args in
-    let rate = a .rate in
-    let p = c .before .before .before .before .before .before .before .before .before .before .before .before .before .before .before .before .before .before .new .result in
-    let e = c .before .before .before .before .before .before .before .before .before .before .before .before .before .before .before .before .before .before .new .ensures in
-    let z = numbers rate p e in
-    let llrs = a .llrs .now in
-    let n = length llrs / sent rate * period rate in
-    let count : length llrs / p .n * p .period ≡ n = rw (z .n-is, z .period-is) refl in
-    let most = count-most rate (length llrs) in
-    let tb = a .traceback in
-    let dec = a .decisions .now in
-    let out = a .out .now in
-    let pm = c .before .before .before .before .before .before .before .before .before .before .before .before .before .before .before .before .start-at .result in
-    let v = begun pm tb in
-    let xs = stepsBy (p .period) (p .n) (p .order) llrs in
-    let enough = room-for pm tb n (length dec) (length out) (start .pre .0) (start .pre .1) (start .pre .2) (start .pre .3) in
-    let at = c .before .before .before .before .before .before .before .before .before .before .before .before .before .before .before in
-    let over = c .before .before .before .before .before .before .before .before .before .before .before .before .before .before in
-    let reached = at .loop .inv .0 in
-    let end : at .loop .i ≡ n = omega arith in
-    let held = at .loop .inv .1 in
-    let ended = rw end at held in
-    let low = c .before .before .before .before .before .before .before .before .before .before .before .before .renormalise in
-    let finished = c .before .before .before .before .before .before .before .before .finish .ensures in (
-      finished .0 ∙ all-bits rate p e llrs tb (start .pre .0) (start .pre .1) dec out pm (at .loop .pm) (low .last .0) (at .loop .at) (at .loop .decisions) (at .loop .out) (c .before .before .before .before .before .before .before .before .before .before .before .before .before .before .before .before .start-at .ensures) ended (low .ensures),
-      c .before .before .clear .ensures ∙ ap (λ (l : List ℕ). laid (replicate (4096 + tb) 0) l) (finished .1) ∙ words-out rate p e llrs tb (start .pre .0) (start .pre .1) dec out pm (at .loop .pm) (low .last .0) (at .loop .at) (at .loop .decisions) (at .loop .out) (c .before .before .before .before .before .before .before .before .before .before .before .before .before .before .before .before .start-at .ensures) ended (low .ensures),
-      finished .2 ∙ bits-out rate p e llrs tb (start .pre .0) (start .pre .1) dec out pm (at .loop .pm) (low .last .0) (at .loop .at) (at .loop .decisions) (at .loop .out) (c .before .before .before .before .before .before .before .before .before .before .before .before .before .before .before .before .start-at .ensures) ended (low .ensures),
-    )
+    let a = c .before .before .before .before .before .before .before .before .before .before .before .before .before .before .before .before .before .before .before .before .before .before .args in
+    let p = c .before .before .before .before .before .before .before .before .before .before .before .before .before .before .before .before .before .before .new in
+    let at = c .before .before .before .before .before .before .before .before .before .before .before .before .before .before .before .loop in
+    let end : at .i ≡ length (a .llrs .now) / p .result .n * p .result .period = omega arith in
+    decoded (a .rate) _ (p .ensures) (a .llrs .now) (at .inv .3) end (c .before .before .before .before .before .before .before .before .before .before .before .before .before .before .before .before .start-at .ensures) (c .before .before .before .before .before .before .before .before .before .before .before .before .renormalise .ensures) (c .before .before .before .before .before .before .before .before .finish .ensures) (c .before .before .clear .ensures)
 
 pub decode-periods-spec : {M : Type 1} → statement M
 decode-periods-spec =

@@ -20,10 +20,8 @@ returns c = (c .before .answer-depuncture .ensures, refused (c .before .answer-d
 depuncture-periods-requires : tie.Need-depuncture-periods-requires
 depuncture-periods-requires c κs =
     let a = c .before .before .before .before .before .before .args in
-    let rate = a .rate in
     let yes = sym (c .before .enum-told .given .1) ∙ c .before .before .before .answer-depuncture .ensures in
-    let room = depuncture-enough rate (length (a .llrs .now)) (length (a .out .now)) yes in
-    room
+    depuncture-enough (a .rate) (length (a .llrs .now)) (length (a .out .now)) yes
 
 same-length : tie.Need-same-length
 same-length c = search needs
@@ -31,9 +29,7 @@ same-length c = search needs
 returns-2 : tie.Need-returns-2
 returns-2 c =
     let a = c .before .before .before .before .before .before .before .before .before .args in
-    let rate = a .rate in
     let yes = sym (c .before .before .before .before .enum-told .given .1) ∙ c .before .before .before .before .before .before .answer-depuncture .ensures in
-    let room = depuncture-enough rate (length (a .llrs .now)) (length (a .out .now)) yes in
     let q = c .before .before .depuncture-periods .ensures in
     (yes, accepted (record { count-is = q .0; values = q .1 }))
 

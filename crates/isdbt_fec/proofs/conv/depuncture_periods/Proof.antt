@@ -1,22 +1,24 @@
 -- `conv::depuncture_periods` meets its contract. Assumes nothing.
 use lib.Ieee.{Float}
-use mathlib.Core.Path.{_≡_, refl, _∙_, ap}
+use mathlib.Core.Path.{_≡_, _∙_, ap}
 use mathlib.Core.List.{List}
-use Prim.Native.Nat.{_-_, _*_, _/_, _<_, _≤_}
+use Prim.Native.Nat.{_-_, _*_, _/_, _≤_}
 use native.Mathlib.Omega.{arith}
 use borrow.Author.Needs.{needs}
-use lib.ListN.{length, set, length-set}
+use lib.ListN.{length}
 use Rattle.isdbt_fec.specs.Numbers.{numbers}
-use Rattle.isdbt_fec.specs.Upto.{upto-same, upto-next}
-use Rattle.isdbt_fec.specs.Decode.{softBy, soft-is, soft-ready}
-use Rattle.trellis.specs.Lists.{upto, laid}
-use Rattle.isdbt_fec.specs.Table.{period, sent, order}
-use Rattle.isdbt_fec.specs.Puncture.{softAt, depunctured}
+use Rattle.isdbt_fec.specs.Upto.{upto-same}
+use Rattle.isdbt_fec.specs.Decode.{softBy, soft-is}
+use Rattle.trellis.specs.Lists.{laid}
+use Rattle.isdbt_fec.specs.Table.{period, sent}
+use Rattle.isdbt_fec.specs.Puncture.{depunctured}
+use Rattle.isdbt_fec.proofs.Turns.{Readable, readable, mother-bits}
+use Rattle.isdbt_fec.proofs.Written.{Written, written-none, written-next}
 use Rattle.isdbt_fec.proofs.conv.depuncture_periods.Statement.{statement}
 use Rattle.isdbt_fec.proofs.conv.depuncture_periods.Tie as tie
 
 abbrev Inv-loop : tie.InvT-loop
-Inv-loop llrs out₀ period n order count k₀ out k = (k ≤ count) × (length out ≡ length out₀) × (out ≡ laid (upto (softBy period n order llrs) k) out₀)
+Inv-loop llrs out₀ period n order count k₀ out k = (k ≤ count) × (count ≤ length out₀) × Readable (length llrs) period n (length order) count × Written (softBy period n order llrs) k out₀ out
 
 abbrev μ-loop : tie.MeasureT-loop
 μ-loop llrs out₀ period n order count k₀ out k = count - k
@@ -26,145 +28,61 @@ new-requires c κs = search needs
 
 div-count : tie.Need-div-count Inv-loop μ-loop
 div-count c =
-    let start = c .before .before .before .before in
-    let a = start .args in
-    let rate = a .rate in
-    let p = c .before .new .result in
-    let e = c .before .new .ensures in
-    let z = numbers rate p e in
-    let r = z .ranges in
+    let r = numbers (c .before .before .before .before .args .rate) _ (c .before .new .ensures) .ranges in
     omega arith
 
 mul-count : tie.Need-mul-count Inv-loop μ-loop
 mul-count c =
-    let start = c .before .before .before .before in
-    let a = start .args in
-    let rate = a .rate in
-    let p = c .before .new .result in
-    let e = c .before .new .ensures in
-    let z = numbers rate p e in
-    let r = z .ranges in
+    let r = numbers (c .before .before .before .before .args .rate) _ (c .before .new .ensures) .ranges in
     omega arith
 
 mul-count-2 : tie.Need-mul-count-2 Inv-loop μ-loop
 mul-count-2 c =
     let start = c .before .before .before .before in
-    let a = start .args in
-    let rate = a .rate in
-    let p = c .before .new .result in
-    let e = c .before .new .ensures in
-    let z = numbers rate p e in
-    let xs = a .llrs .now in
-    let count : length xs / p .n * (2 * p .period) ≡ length xs / sent rate * (2 * period rate) = rw (z .n-is, z .period-is) refl in
+    let count = mother-bits (start .args .rate) _ (length (start .args .llrs .now)) (c .before .new .ensures) in
     let room = start .pre in
     omega arith
 
 loop-holds : tie.Need-loop-holds Inv-loop μ-loop
-unfolding upto
-loop-holds c = (search needs, refl, refl)
+loop-holds c =
+    let start = c .before .before .before .before in
+    let e = c .before .new .ensures in
+    let rate = start .args .rate in
+    (search needs, rw (mother-bits rate _ _ e) (start .pre), readable rate _ _ e, written-none _ _)
 
 soft-at-requires : tie.Need-soft-at-requires Inv-loop μ-loop
 soft-at-requires c κs =
-    let start = c .before .before .before .before .before .before .before in
-    let a = start .args in
-    let rate = a .rate in
-    let p = c .before .before .before .before .new .result in
-    let e = c .before .before .before .before .new .ensures in
-    let z = numbers rate p e in
-    let xs = a .llrs .now in
-    let count : length xs / p .n * (2 * p .period) ≡ length xs / sent rate * (2 * period rate) = rw (z .n-is, z .period-is) refl in
-    let at = c .before .before in
-    let inside : at .loop .k < length xs / sent rate * (2 * period rate) = rw count at (c .before .loop-test .taken) in
-    let room = start .pre in
-    soft-ready rate p xs (at .loop .k) e inside
+    let r = c .before .before .loop .inv .2 in
+    (r .eight, r .in-order, r .least, r .most, r .there _ (c .before .loop-test .taken))
 
 mul-out : tie.Need-mul-out Inv-loop μ-loop
-mul-out c =
-    let start = c .before .before .before .before .before .before .before .before in
-    let a = start .args in
-    let rate = a .rate in
-    let p = c .before .before .before .before .before .new .result in
-    let e = c .before .before .before .before .before .new .ensures in
-    let z = numbers rate p e in
-    let xs = a .llrs .now in
-    let count : length xs / p .n * (2 * p .period) ≡ length xs / sent rate * (2 * period rate) = rw (z .n-is, z .period-is) refl in
-    let at = c .before .before .before in
-    let inside : at .loop .k < length xs / sent rate * (2 * period rate) = rw count at (c .before .before .loop-test .taken) in
-    let room = start .pre in
-    search needs
+mul-out c = search needs
 
 slice-write-out : tie.Need-slice-write-out Inv-loop μ-loop
-slice-write-out c =
-    let start = c .before .before .before .before .before .before .before .before in
-    let a = start .args in
-    let rate = a .rate in
-    let p = c .before .before .before .before .before .new .result in
-    let e = c .before .before .before .before .before .new .ensures in
-    let z = numbers rate p e in
-    let xs = a .llrs .now in
-    let count : length xs / p .n * (2 * p .period) ≡ length xs / sent rate * (2 * period rate) = rw (z .n-is, z .period-is) refl in
-    let at = c .before .before .before in
-    let inside : at .loop .k < length xs / sent rate * (2 * period rate) = rw count at (c .before .before .loop-test .taken) in
-    let room = start .pre in
-    omega arith
+slice-write-out c = omega arith
 
 add-k : tie.Need-add-k Inv-loop μ-loop
-add-k c =
-    let start = c .before .before .before .before .before .before .before .before in
-    let a = start .args in
-    let rate = a .rate in
-    let p = c .before .before .before .before .before .new .result in
-    let e = c .before .before .before .before .before .new .ensures in
-    let z = numbers rate p e in
-    let xs = a .llrs .now in
-    let count : length xs / p .n * (2 * p .period) ≡ length xs / sent rate * (2 * period rate) = rw (z .n-is, z .period-is) refl in
-    let at = c .before .before .before in
-    let inside : at .loop .k < length xs / sent rate * (2 * period rate) = rw count at (c .before .before .loop-test .taken) in
-    let room = start .pre in
-    omega arith
+add-k c = omega arith
 
 loop-less : tie.Need-loop-less Inv-loop μ-loop
 loop-less c = search needs
 
 loop-again : tie.Need-loop-again Inv-loop μ-loop
 loop-again c =
-    let start = c .before .before .before .before .before .before .before .before in
-    let a = start .args in
-    let rate = a .rate in
-    let p = c .before .before .before .before .before .new .result in
-    let e = c .before .before .before .before .before .new .ensures in
-    let z = numbers rate p e in
-    let xs = a .llrs .now in
-    let count : length xs / p .n * (2 * p .period) ≡ length xs / sent rate * (2 * period rate) = rw (z .n-is, z .period-is) refl in
-    let at = c .before .before .before in
-    let inside : at .loop .k < length xs / sent rate * (2 * period rate) = rw count at (c .before .before .loop-test .taken) in
-    let room = start .pre in
-    let f = softBy (p .period) (p .n) (p .order) xs in
-    let k = at .loop .k in
-    let v = c .soft-at .result in (
-      omega arith,
-      length-set (at .loop .out) k v ∙ at .loop .inv .1,
-      ap (λ (l : List Float). set l k v) (at .loop .inv .2) ∙ upto-next f k (a .out .now) v (omega arith) (c .soft-at .ensures),
-    )
+    let at = c .before .before .before .loop in
+    (omega arith, at .inv .1, at .inv .2, written-next _ _ _ _ _ (at .inv .3) (omega arith) (c .soft-at .ensures))
 
 same-length : tie.Need-same-length Inv-loop μ-loop
-same-length c = c .before .loop .inv .1
+same-length c = c .before .loop .inv .3 .long
 
 returns : tie.Need-returns Inv-loop μ-loop
 unfolding depunctured
 returns c =
-    let start = c .before .before .before .before .before .before in
-    let a = start .args in
-    let rate = a .rate in
-    let p = c .before .before .before .new .result in
+    let a = c .before .before .before .before .before .before .args in
     let e = c .before .before .before .new .ensures in
-    let z = numbers rate p e in
-    let xs = a .llrs .now in
-    let count : length xs / p .n * (2 * p .period) ≡ length xs / sent rate * (2 * period rate) = rw (z .n-is, z .period-is) refl in
-    let at = c .before in
-    let end : at .loop .k ≡ length xs / sent rate * (2 * period rate) = omega arith in
-    let same = upto-same (softBy (p .period) (p .n) (p .order) xs) (softAt rate xs) (length xs / sent rate * (2 * period rate)) (λ k h. soft-is rate p xs k e) in
-    (count, rw end at (at .loop .inv .2) ∙ ap (λ (l : List Float). laid l (a .out .now)) same)
+    let count = mother-bits (a .rate) _ (length (a .llrs .now)) e in
+    let end : c .before .loop .k ≡ length (a .llrs .now) / sent (a .rate) * (2 * period (a .rate)) = omega arith in
+    (count, rw end at (c .before .loop .inv .3 .front) ∙ ap (λ (l : List Float). laid l (a .out .now)) (upto-same _ _ _ (λ k h. soft-is (a .rate) _ _ k e)))
 
 pub depuncture-periods-spec : {M : Type 1} → statement M
 depuncture-periods-spec =

@@ -1,6 +1,5 @@
 -- `conv::encode_punctured` meets its contract. Assumes nothing.
-use mathlib.Core.Path.{_≡_, refl, sym, _∙_}
-use Prim.Native.Nat.{_*_, _/_}
+use mathlib.Core.Path.{refl, sym, _∙_}
 use native.Mathlib.Omega.{arith}
 use borrow.Author.Needs.{needs}
 use lib.ListN.{length}
@@ -8,7 +7,7 @@ use Rattle.isdbt_fec.specs.Numbers.{numbers}
 use Rattle.isdbt_fec.specs.Answers.{encode-enough}
 use Rattle.isdb_fec.specs.Answers.{accepted, refused}
 use Rattle.isdb_fec.specs.Told.{told}
-use Rattle.isdbt_fec.specs.Table.{period, sent}
+use Rattle.isdbt_fec.proofs.Turns.{sent-count}
 use Rattle.isdbt_fec.proofs.conv.encode_punctured.Statement.{statement}
 use Rattle.isdbt_fec.proofs.conv.encode_punctured.Tie as tie
 
@@ -27,30 +26,20 @@ new-requires c κs = search needs
 encode-periods-requires : tie.Need-encode-periods-requires
 encode-periods-requires c κs =
     let a = c .before .before .before .before .before .before .before .args in
-    let rate = a .rate in
     let yes = sym (c .before .before .enum-told .given .1) ∙ c .before .before .before .before .answer-encode .ensures in
-    let room = encode-enough rate (a .enc .state) (length (a .bits .now)) (length (a .out .now)) yes in
-    room
+    encode-enough (a .rate) (a .enc .state) (length (a .bits .now)) (length (a .out .now)) yes
 
 div-t10 : tie.Need-div-t10
 div-t10 c =
-    let rate = c .before .before .before .before .before .before .before .before .before .before .before .args .rate in
-    let p = c .before .before .before .before .before .new .result in
-    let z = numbers rate p (c .before .before .before .before .before .new .ensures) in
-    let r = z .ranges in
+    let r = numbers (c .before .before .before .before .before .before .before .before .before .before .before .args .rate) _ (c .before .before .before .before .before .new .ensures) .ranges in
     omega arith
 
 mul-t15 : tie.Need-mul-t15
 mul-t15 c =
     let a = c .before .before .before .before .before .before .before .before .before .before .before .before .args in
-    let rate = a .rate in
     let yes = sym (c .before .before .before .before .before .before .before .enum-told .given .1) ∙ c .before .before .before .before .before .before .before .before .before .answer-encode .ensures in
-    let room = encode-enough rate (a .enc .state) (length (a .bits .now)) (length (a .out .now)) yes in
-    let p = c .before .before .before .before .before .before .new .result in
-    let z = numbers rate p (c .before .before .before .before .before .before .new .ensures) in
-    let r = z .ranges in
-    let n = length (a .bits .now) / period rate * sent rate in
-    let count : length (a .bits .now) / p .period * p .n ≡ n = rw (z .period-is, z .n-is) refl in
+    let room = encode-enough (a .rate) (a .enc .state) (length (a .bits .now)) (length (a .out .now)) yes in
+    let count = sent-count (a .rate) _ (length (a .bits .now)) (c .before .before .before .before .before .before .new .ensures) in
     omega arith
 
 same-length : tie.Need-same-length
@@ -59,14 +48,8 @@ same-length c = search needs
 returns-2 : tie.Need-returns-2
 returns-2 c =
     let a = c .before .before .before .before .before .before .before .before .before .before .before .before .args in
-    let rate = a .rate in
     let yes = sym (c .before .before .before .before .before .before .before .enum-told .given .1) ∙ c .before .before .before .before .before .before .before .before .before .answer-encode .ensures in
-    let room = encode-enough rate (a .enc .state) (length (a .bits .now)) (length (a .out .now)) yes in
-    let p = c .before .before .before .before .before .before .new .result in
-    let z = numbers rate p (c .before .before .before .before .before .before .new .ensures) in
-    let r = z .ranges in
-    let n = length (a .bits .now) / period rate * sent rate in
-    let count : length (a .bits .now) / p .period * p .n ≡ n = rw (z .period-is, z .n-is) refl in
+    let count = sent-count (a .rate) _ (length (a .bits .now)) (c .before .before .before .before .before .before .new .ensures) in
     let q = c .before .before .before .before .encode-periods .ensures in
     (yes, accepted (record { state-is = q .0; count-is = count; bits-are = q .1 }))
 

@@ -1,18 +1,17 @@
 -- `conv::Puncturing::new` meets its contract. Assumes nothing.
-use mathlib.Core.Path.{_≡_, refl, _∙_, ap}
-use mathlib.Core.List.{List}
-use Prim.Native.Nat.{ℕ, _-_, _≤_}
+use mathlib.Core.Path.{_≡_, refl}
+use Prim.Native.Nat.{_-_, _≤_}
 use native.Mathlib.Omega.{arith}
 use borrow.Author.Needs.{needs}
-use lib.ListN.{set, replicate}
+use lib.ListN.{replicate}
 use Rattle.isdbt_fec.specs.Compiled.{bitOf, compiles, in-range}
-use Rattle.isdbt_fec.specs.Upto.{upto-next}
 use Rattle.trellis.specs.Lists.{upto, laid}
+use Rattle.isdbt_fec.proofs.Written.{Written, written-none, written-next}
 use Rattle.isdbt_fec.proofs.conv.Puncturing.new.Statement.{statement}
 use Rattle.isdbt_fec.proofs.conv.Puncturing.new.Tie as tie
 
 abbrev Inv-loop : tie.InvT-loop
-Inv-loop s letters indices order₀ i₀ order i = (i ≤ 8) × (order ≡ laid (upto (bitOf s) i) order₀)
+Inv-loop s letters indices order₀ i₀ order i = (i ≤ 8) × Written (bitOf s) i order₀ order
 
 abbrev μ-loop : tie.MeasureT-loop
 μ-loop s letters indices order₀ i₀ order i = 8 - i
@@ -21,8 +20,7 @@ puncture-spec-requires : tie.Need-puncture-spec-requires Inv-loop μ-loop
 puncture-spec-requires c κs = search needs
 
 loop-holds : tie.Need-loop-holds Inv-loop μ-loop
-unfolding upto
-loop-holds c = (omega arith, refl)
+loop-holds c = (omega arith, written-none _ _)
 
 array-read-mother-bit : tie.Need-array-read-mother-bit Inv-loop μ-loop
 array-read-mother-bit c = search needs
@@ -52,19 +50,14 @@ loop-less : tie.Need-loop-less Inv-loop μ-loop
 loop-less c = search needs
 
 loop-again : tie.Need-loop-again Inv-loop μ-loop
-loop-again c =
-    let at = c .before .before in
-    let i = at .loop .i in
-    let f = bitOf (at .before .before .before .puncture-spec .result) in
-    let zeros : List ℕ = replicate 8 0 in
-    (omega arith, ap (λ (l : List ℕ). set l i (c .mother-bit .result)) (at .loop .inv .1) ∙ upto-next f i zeros (c .mother-bit .result) (omega arith) (c .mother-bit .ensures))
+loop-again c = (omega arith, written-next _ _ _ _ _ (c .before .before .loop .inv .1) (omega arith) (c .mother-bit .ensures))
 
 returns : tie.Need-returns Inv-loop μ-loop
 returns c =
     let at = c .before in
     let read = at .before .before .before in
     let e : at .loop .i ≡ 8 = omega arith in
-    let whole : at .loop .order ≡ laid (upto (bitOf (read .puncture-spec .result)) 8) (replicate 8 0) = rw e at (at .loop .inv .1) in
+    let whole : at .loop .order ≡ laid (upto (bitOf (read .puncture-spec .result)) 8) (replicate 8 0) = rw e at (at .loop .inv .1 .front) in
     rw (whole, read .puncture-spec .ensures, compiles (read .before .args .rate)) refl
 
 pub new-spec : {M : Type 1} → statement M

@@ -1,0 +1,5 @@
+pub mod Written
+pub mod Turns
+pub mod Periods
+pub mod Decoding
+pub mod Refusals
