@@ -1,11 +1,11 @@
 -- The bytes of a frame run by run. Assumes nothing.
 use mathlib.Core.Path.{_≡_, refl, sym, _∙_, ap}
-use mathlib.Core.List.{List, [], _∷_, _++_, append-nil}
-use Prim.Native.Nat.{ℕ, zero, suc, _+_, _-_, _*_, _/_, _%_, _<_, _≤_}
+use mathlib.Core.List.{List, [], _++_, append-nil}
+use Prim.Native.Nat.{ℕ, zero, suc, _+_, _-_, _*_, _/_, _<_, _≤_}
 use native.Mathlib.Omega.{arith}
 use native.Mathlib.Nat.{zero-add}
 use lib.ListN.{length, getD, take, drop, length-drop, drop-of-length-le}
-use lib.Seq.{getD-drop, take-all}
+use lib.Seq.{getD-drop}
 use lib.Ieee.{Float, nan}
 use borrow.Rule.Slice.PartMut.{midOf, putMid}
 use Rattle.trellis.specs.Lists.{upto, laid}
@@ -17,13 +17,12 @@ use Rattle.isdbs_core.specs.declared.tmcc.Table.{Table}
 use Rattle.isdbs_core.specs.Combinations.{slotSteps}
 use Rattle.isdbs_core.specs.RunsOf.{stepsOf, stepsIn, validIn, frameSteps, loadBytes, noRun}
 use Rattle.isdbs_points.specs.declared.Mapping.{Mapping}
-use Rattle.isdbs_points.specs.Layout.{byteOf, segmentsFrom, among, sentOrder}
+use Rattle.isdbs_points.specs.Layout.{byteOf, segmentsFrom, among}
 use Rattle.isdbs_points.specs.Frame.{labelAt}
 use Rattle.isdbs_metrics.specs.Reading.{Received, bitIn}
 use Rattle.isdbs_points.specs.LawsUpto.{laid-part, length-laid-upto}
 use Rattle.isdbs_points.specs.LawsState.{label-shift}
 use Rattle.isdbs_metrics.specs.Steps.{received, pieceBit, Covers, Bits, PackRoom, stepsOfBytes}
-use Rattle.isdbs_decode.specs.Runs.{byteAt}
 use Rattle.isdbs_decode.proofs.Digits.{byte-cong}
 use Rattle.isdbs_decode.proofs.Among.{stepsTo, validTo, among-bit}
 use Rattle.isdbs_decode.proofs.Parts.{bit-part}

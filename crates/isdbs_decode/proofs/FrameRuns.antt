@@ -1,17 +1,14 @@
 -- The runs of an accepted table as the code walks them: each within the frame, its points enough for its steps, its steps the frame's. Assumes nothing.
 use mathlib.Core.Path.{_≡_, refl, sym, _∙_, ap}
-use mathlib.Core.Bool.{Bool, true, false, cond}
 use mathlib.Core.List.{List, [], _∷_, _++_}
-use Prim.Native.Nat.{ℕ, zero, suc, _+_, _-_, _*_, _/_, _%_, _<_, _≤_}
+use Prim.Native.Nat.{ℕ, zero, suc, _+_, _-_, _*_, _<_, _≤_}
 use native.Mathlib.Omega.{arith}
-use native.Mathlib.Nat.{zero-add}
 use native.Mathlib.Numerals.{add-one}
-use lib.Dec.{ltb}
-use lib.ListN.{length, getD, take, drop, replicate, length-append, length-drop}
-use lib.Seq.{take-append-seam, take-at, take-all, take-length}
+use lib.ListN.{length, getD, take, drop, replicate, length-drop}
+use lib.Seq.{take-at, take-all, take-length}
 use lib.Ieee.{Float}
 use borrow.Author.Tests.{le-ltb}
-use Rattle.trellis.specs.Step.{Step, four}
+use Rattle.trellis.specs.Step.{four}
 use Rattle.refusal.specs.declared.Answer.the-variants.{Accepted}
 use Rattle.isdbs_core.specs.declared.combination.Combination.{Combination}
 use Rattle.isdbs_core.specs.declared.combination.Combination.the-variants.{«Bpsk1_2», «Qpsk1_2», «Qpsk2_3», «Qpsk3_4», «Qpsk5_6», «Qpsk7_8», «Tc8psk2_3»}
@@ -28,7 +25,7 @@ use Rattle.isdbs_core.specs.RunsOf.{runsOf, runsFrom, entryRuns, entrySymbols, 
 use Rattle.isdbs_core.specs.RunLaws.{Whole, run-whole}
 use Rattle.isdbs_core.specs.RunLaws as laws
 use Rattle.isdbs_points.specs.declared.Mapping.{Mapping}
-use Rattle.isdbs_points.specs.Layout.{segmentOf, segmentsFrom, sentOrder}
+use Rattle.isdbs_points.specs.Layout.{sentOrder}
 use Rattle.isdbs_metrics.specs.Reading.{metricsIn}
 use Rattle.isdbs_metrics.specs.Steps.{received, Covers}
 use Rattle.isdbs_decode.specs.Runs.{runSteps}

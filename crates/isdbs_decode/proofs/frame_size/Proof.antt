@@ -33,14 +33,14 @@ array-copy-out-r c = search needs
 steps-per-slot-requires : tie.Need-steps-per-slot-requires Inv-loop μ-loop
 steps-per-slot-requires c κs = search needs
 
-mul-steps : tie.Need-mul-steps Inv-loop μ-loop
-mul-steps c =
-    let e = steps-by (getD (c .before .before .before .before .before .before .runs .result .runs) (c .before .before .before .before .loop .i) noRun) _ (c .before .steps-per-slot .ensures) in
-    record { fits = omega arith }
-
 add-steps : tie.Need-add-steps Inv-loop μ-loop
 add-steps c =
     let e = steps-by (getD (c .before .before .before .before .before .before .runs .result .runs) (c .before .before .before .before .loop .i) noRun) _ (c .before .steps-per-slot .ensures) in
+    record { fits = omega arith }
+
+mul-steps : tie.Need-mul-steps Inv-loop μ-loop
+mul-steps c =
+    let f = add-steps c .fits in
     record { fits = omega arith }
 
 add-i : tie.Need-add-i Inv-loop μ-loop

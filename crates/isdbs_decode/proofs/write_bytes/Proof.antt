@@ -3,7 +3,7 @@ use borrow.Author.Needs.{needs}
 use Rattle.isdbs_decode.proofs.FrameBytes.{Written, written-first, written-room, written-next}
 use Rattle.isdbs_decode.proofs.FrameRuns.{listed-runs, steps-by, tail-is, all-valid}
 use Rattle.isdbs_core.specs.RunsOf.{noRun}
-use lib.ListN.{length, getD, length-map, length-drop}
+use lib.ListN.{getD, length-map, length-drop}
 use native.Mathlib.Omega.{arith}
 use Prim.Native.Nat.{ℕ, _-_, _*_}
 use mathlib.Core.Path.{_≡_, _∙_, ap}
@@ -90,14 +90,14 @@ pack-run-requires c κs =
 steps-per-slot-requires : tie.Need-steps-per-slot-requires Inv-loop μ-loop
 steps-per-slot-requires c κs = search needs
 
-mul-step : tie.Need-mul-step Inv-loop μ-loop
-mul-step c =
-    let e = steps-by (getD (c .before .before .before .before .before .before .before .before .before .before .before .before .before .before .runs .result .runs) (c .before .before .before .before .before .before .before .before .before .before .before .before .loop .i) noRun) _ (c .before .steps-per-slot .ensures) in
-    record { fits = omega arith }
-
 add-step : tie.Need-add-step Inv-loop μ-loop
 add-step c =
     let e = steps-by (getD (c .before .before .before .before .before .before .before .before .before .before .before .before .before .before .runs .result .runs) (c .before .before .before .before .before .before .before .before .before .before .before .before .loop .i) noRun) _ (c .before .steps-per-slot .ensures) in
+    record { fits = omega arith }
+
+mul-step : tie.Need-mul-step Inv-loop μ-loop
+mul-step c =
+    let f = add-step c .fits in
     record { fits = omega arith }
 
 add-done : tie.Need-add-done Inv-loop μ-loop
