@@ -1,8 +1,8 @@
 -- The runs of a frame one after the other: which segment has a step or a bit of the load, and the sums before run i. Assumes nothing.
-use mathlib.Core.Path.{_≡_, refl, sym, _∙_, ap}
-use mathlib.Core.Bool.{Bool, true, false, cond}
-use mathlib.Core.List.{List, [], _∷_, _++_}
-use Prim.Native.Nat.{ℕ, zero, suc, _+_, _-_, _*_, _/_, _%_, _<_, _≤_}
+use mathlib.Core.Path.{_≡_}
+use mathlib.Core.Bool.{true, false}
+use mathlib.Core.List.{List, [], _∷_}
+use Prim.Native.Nat.{ℕ, zero, suc, _+_, _-_, _*_, _<_, _≤_}
 use native.Mathlib.Omega.{arith}
 use native.Mathlib.Nat.{not-suc-le-zero, le-of-suc-le-suc}
 use lib.Dec.{ltb}
@@ -21,17 +21,19 @@ stepsTo rs i = stepsIn (take i rs)
 abbrev pub validTo : List Run → ℕ → ℕ
 validTo rs i = validIn (take i rs)
 
-pub steps-more : (rs : List Run) (i : ℕ) → i < length rs → stepsTo rs (suc i) ≡ stepsTo rs i + stepsOf (getD rs i noRun)
+pub steps-more : (rs : List Run) (i : ℕ) → stepsTo rs (suc i) ≡ stepsTo rs i + stepsOf (getD rs i noRun)
 unfolding stepsIn
-steps-more [] i h = absurd (not-suc-le-zero h)
-steps-more (r ∷ rs) zero h = omega arith
-steps-more (r ∷ rs) (suc i) h = let e = steps-more rs i (le-of-suc-le-suc h) in omega arith
+steps-more [] zero = omega arith
+steps-more [] (suc i) = omega arith
+steps-more (r ∷ rs) zero = omega arith
+steps-more (r ∷ rs) (suc i) = let e = steps-more rs i in omega arith
 
-pub valid-more : (rs : List Run) (i : ℕ) → i < length rs → validTo rs (suc i) ≡ validTo rs i + getD rs i noRun .«valid_slots»
+pub valid-more : (rs : List Run) (i : ℕ) → validTo rs (suc i) ≡ validTo rs i + getD rs i noRun .«valid_slots»
 unfolding validIn
-valid-more [] i h = absurd (not-suc-le-zero h)
-valid-more (r ∷ rs) zero h = omega arith
-valid-more (r ∷ rs) (suc i) h = let e = valid-more rs i (le-of-suc-le-suc h) in omega arith
+valid-more [] zero = omega arith
+valid-more [] (suc i) = omega arith
+valid-more (r ∷ rs) zero = omega arith
+valid-more (r ∷ rs) (suc i) = let e = valid-more rs i in omega arith
 
 pub steps-within : (rs : List Run) (i : ℕ) → stepsTo rs i ≤ stepsIn rs
 unfolding stepsIn

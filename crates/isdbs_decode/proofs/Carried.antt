@@ -1,18 +1,18 @@
 -- A run's steps carry the decoder on. Assumes nothing.
 use mathlib.Core.Path.{_≡_, refl, sym, _∙_, ap}
 use mathlib.Core.Bool.{Bool, true, false, cond}
-use mathlib.Core.List.{List, [], _∷_, _++_}
-use Prim.Native.Nat.{ℕ, zero, suc, _+_, _-_, _*_, _/_, _%_, _<_, _≤_, _^_}
+use mathlib.Core.List.{List, _++_}
+use Prim.Native.Nat.{ℕ, suc, _+_, _*_, _/_, _%_, _<_, _≤_}
 use native.Mathlib.Omega.{arith}
 use native.Mathlib.Nat.{add-zero, zero-add}
 use lib.Dec.{eqb}
-use lib.ListN.{getD, length, take, drop, replicate, length-replicate}
+use lib.ListN.{length, take, drop, replicate, length-replicate}
 use lib.Seq.{length-take-le}
 use lib.Ieee.{Float}
 use borrow.Author.Tests.{eqb-true, eqb-false}
 use Rattle.trellis.specs.Lists.{laid}
 use Rattle.trellis.specs.Code.{isdb, label}
-use Rattle.trellis.specs.Step.{Step, four, lower, renormalised}
+use Rattle.trellis.specs.Step.{Step, lower, renormalised}
 use Rattle.trellis.specs.Run.{Decoder, after, closed}
 use Rattle.isdb_fec.specs.declared.conv.At.{At}
 use Rattle.isdb_fec.specs.Calls.{stepOnce, steps, traced, bestState, holding, Holds, Stepped}
@@ -21,10 +21,9 @@ use Rattle.isdb_fec.specs.Holding.{holds-next, holding-is, cleared}
 use Rattle.isdb_fec.specs.Laid.{laid-after, laid-laid}
 use Rattle.isdbs_core.specs.declared.combination.Combination.{Combination}
 use Rattle.isdbs_core.specs.declared.combination.Combination.the-variants.{«Bpsk1_2», «Qpsk1_2», «Qpsk2_3», «Qpsk3_4», «Qpsk5_6», «Qpsk7_8», «Tc8psk2_3»}
-use Rattle.isdbs_points.specs.declared.Mapping.{Mapping}
 use Rattle.isdbs_metrics.specs.declared.Phase.{Phase}
 use Rattle.isdbs_points.specs.Layout.{orderOf, stepsPerPeriod, sentOrder}
-use Rattle.isdbs_metrics.specs.Steps.{pieceMetrics, PhaseAt}
+use Rattle.isdbs_metrics.specs.Steps.{PhaseAt}
 use Rattle.isdbs_decode.specs.Runs.{Carried, Ended, knownBits}
 
 -- ---- the place in the period

@@ -2,24 +2,24 @@
 use mathlib.Core.Path.{_≡_, refl, sym, _∙_, ap, subst}
 use mathlib.Core.List.{List}
 use Prim.Native.Nat.{ℕ, zero, suc, _+_, _*_, _/_, _%_, _<_, _≤_, _^_}
+use native.Mathlib.Numerals.{add-one}
 use native.Mathlib.Omega.{arith}
-use native.Mathlib.Nat.{pow-suc}
+use native.Mathlib.Nat.{pow-suc, mod-lt, zero-add}
 use lib.Pow.{pow-mono}
 use lib.Dec.{lit<}
 use lib.ListN.{getD}
 use lib.Ieee.{Float, nan, lt}
 use mir.Val.{boolByte}
 use mathlib.Core.Bool.{Bool, true, false}
-use native.Mathlib.Nat.{mod-lt, zero-add}
 use Rattle.trellis.specs.Lists.{bit}
-use Rattle.trellis.specs.Code.{isdb, label, output, stateAt}
+use Rattle.trellis.specs.Code.{isdb, label, output, moved, stateAt}
 use Rattle.isdbs_core.specs.declared.combination.Combination.the-variants.{«Tc8psk2_3»}
 use Rattle.isdbs_points.specs.declared.Mapping.{Mapping}
 use Rattle.isdbs_points.specs.Points.{point, turned, psk8Of, subset, zero64}
 use Rattle.isdbs_points.specs.Frame.{labelAt}
 use Rattle.isdbs_metrics.specs.Reading.{correlation, bitBy}
 use Rattle.isdbs_points.specs.Layout.{byteOf}
-use Rattle.isdbs_metrics.specs.Steps.{digits, pieceBit}
+use Rattle.isdbs_metrics.specs.Steps.{digits, pieceBit, Bits}
 
 pub digits-small : (f : ℕ → ℕ) (n : ℕ) → ((i : ℕ) → i < n → f i < 2) → digits f n < 2 ^ n
 unfolding digits
@@ -93,14 +93,62 @@ digits-six f n l h =
     let p : 2 ^ n ≤ 2 ^ 6 = pow-mono {i = n} {j = 6} l in
     omega arith
 
-pub out-small : (g u s : ℕ) → output isdb g u s < 2
-unfolding output
-out-small g u s = mod-lt _ (lit< tt)
-
-pub label-is : (x y u s : ℕ) → x ≡ output isdb 0o171 u s → y ≡ output isdb 0o133 u s → 2 * x + y ≡ label isdb u s
-unfolding label
-label-is x y u s p q = rw (p, q)
-
 pub byte-cong : (f g : ℕ → ℕ) → ((i : ℕ) → i < 8 → f i ≡ g i) → byteOf f ≡ byteOf g
 byte-cong f g h =
     rw (h 0 (omega arith), h 1 (omega arith), h 2 (omega arith), h 3 (omega arith), h 4 (omega arith), h 5 (omega arith), h 6 (omega arith), h 7 (omega arith))
+
+-- ---- a step of TC8PSK
+out-small : (g u s : ℕ) → output isdb g u s < 2
+unfolding output
+out-small g u s = mod-lt _ (lit< tt)
+
+label-is : (x y u s : ℕ) → x ≡ output isdb 0o171 u s → y ≡ output isdb 0o133 u s → 2 * x + y ≡ label isdb u s
+unfolding label
+label-is x y u s p q = rw (p, q)
+
+pub outputs-small : {x y : ℕ} (u s : ℕ) → x ≡ output isdb 0o171 u s → y ≡ output isdb 0o133 u s → (x < 2) × (y < 2)
+outputs-small u s p q = (rw p (out-small 0o171 u s), rw q (out-small 0o133 u s))
+
+-- the byte so far after i of 4 steps, and the state
+pub record Taken (re im : List Float) (m : Mapping) (s : ℕ) (us : List ℕ) (byte state i : ℕ) : Type 0 where
+  pub done : i ≤ 4
+  pub bits : Bits us 4
+  pub byte-is : byte ≡ digits (pieceBit «Tc8psk2_3» re im m s us) (2 * i)
+  pub state-is : state ≡ stateAt 32 s us i
+  pub small : state < 64
+
+module _ (re im : List Float) (m : Mapping) (s : ℕ) (us : List ℕ) where
+  pub taken-first : s < 64 → Bits us 4 → Taken re im m s us 0 s 0
+  unfolding digits stateAt
+  taken-first h b = record { done = omega arith; bits = b; byte-is = refl; state-is = refl; small = h }
+
+  pub taken-next : (byte state i x y z c2 : ℕ) → Taken re im m s us byte state i → i < 4
+      → (x ≡ output isdb 0o171 (getD us i 0 % 2) state) × (y ≡ output isdb 0o133 (getD us i 0 % 2) state) × (z ≡ moved 32 (getD us i 0 % 2) state)
+      → c2 ≡ bit (lt (correlation (point (getD re i nan) (turned (m .conjugate) (getD im i nan))) (psk8Of (subset (m .«tc8psk_c1_is_y») (2 * x + y)))) zero64)
+      → (2 * (2 * byte + c2) + getD us i 0 < 256) × Taken re im m s us (2 * (2 * byte + c2) + getD us i 0) z (i + 1)
+  unfolding stateAt
+  taken-next byte state i x y z c2 t h en ec =
+      let u = getD us i 0 in
+      let b = t .bits i h in
+      let v : u % 2 ≡ u = omega arith in
+      let f = pieceBit «Tc8psk2_3» re im m s us in
+      let d = digits-six f (2 * i) (omega arith) (λ j l. piece-small re im m s us 4 (t .bits) j (omega arith)) in
+      let ed = t .byte-is in
+      let lab = label-is x y (u % 2) state (en .0) (en .1) ∙ ap (λ (a : ℕ). label isdb a state) v in
+      let z-is = en .2 in
+      let hs = t .small in
+      let c2-small : c2 < 2 = rw ec (bit-small (lt (correlation (point (getD re i nan) (turned (m .conjugate) (getD im i nan))) (psk8Of (subset (m .«tc8psk_c1_is_y») (2 * x + y)))) zero64)) in (
+        omega arith,
+        record {
+          done = omega arith;
+          bits = t .bits;
+          byte-is = rw (digits-two f i, even-bit re im m s us i, odd-bit re im m s us i, ← t .byte-is, ← t .state-is) (rw (ec, lab) refl);
+          state-is = rw (add-one i, ← t .state-is) (z-is ∙ ap (λ (a : ℕ). moved 32 a state) v);
+          small = omega arith;
+        },
+      )
+
+  pub taken-all : (byte state i : ℕ) → Taken re im m s us byte state i → 4 ≤ i → (byte ≡ byteOf (pieceBit «Tc8psk2_3» re im m s us)) × (state ≡ stateAt 32 s us 4) × (state < 64)
+  taken-all byte state i t h =
+      let e : i ≡ 4 = omega (arith, t .done) in
+      ((rw e at (t .byte-is)) ∙ sym (byte-digits (pieceBit «Tc8psk2_3» re im m s us)), rw e at (t .state-is), t .small)

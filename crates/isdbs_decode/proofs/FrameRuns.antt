@@ -1,51 +1,67 @@
 -- The runs of an accepted table as the code walks them: each within the frame, its points enough for its steps, its steps the frame's. Assumes nothing.
 use mathlib.Core.Path.{_≡_, refl, sym, _∙_, ap}
-use mathlib.Core.Bool.{Bool, true, false, cond}
 use mathlib.Core.List.{List, [], _∷_, _++_}
-use Prim.Native.Nat.{ℕ, zero, suc, _+_, _-_, _*_, _/_, _%_, _<_, _≤_}
+use Prim.Native.Nat.{ℕ, zero, suc, _+_, _-_, _*_, _<_, _≤_}
 use native.Mathlib.Omega.{arith}
-use native.Mathlib.Nat.{zero-add}
 use native.Mathlib.Numerals.{add-one}
-use lib.Dec.{ltb}
-use lib.ListN.{length, getD, take, drop, replicate, length-append, length-drop}
-use lib.Seq.{take-append-seam, take-at, take-all, take-length}
+use lib.ListN.{length, getD, take, drop, replicate, length-drop}
+use lib.Seq.{take-at, take-all, take-length}
 use lib.Ieee.{Float}
 use borrow.Author.Tests.{le-ltb}
-use Rattle.trellis.specs.Step.{Step, four}
+use Rattle.trellis.specs.Step.{four}
 use Rattle.refusal.specs.declared.Answer.the-variants.{Accepted}
 use Rattle.isdbs_core.specs.declared.combination.Combination.{Combination}
 use Rattle.isdbs_core.specs.declared.combination.Combination.the-variants.{«Bpsk1_2», «Qpsk1_2», «Qpsk2_3», «Qpsk3_4», «Qpsk5_6», «Qpsk7_8», «Tc8psk2_3»}
 use Rattle.isdbs_core.specs.declared.slots.Run.{Run}
 use Rattle.isdbs_core.specs.declared.slots.FrameRuns.{FrameRuns}
 use Rattle.isdbs_core.specs.declared.tmcc.Table.{Table}
-use Rattle.isdbs_core.specs.Lists.{padded}
-use Rattle.isdbs_core.specs.ListLaws.{padded-at}
-use Rattle.isdbs_core.specs.Combinations.{modulationOf, punctureOf, periodSteps, periodSymbols}
+use Rattle.isdbs_core.specs.Lists.{padded, Each}
+use Rattle.isdbs_core.specs.Combinations.{modulationOf, punctureOf, periodSteps, periodSymbols, slotSteps}
 use Rattle.isdbs_core.specs.declared.tmcc.Entry.{Entry}
 use Rattle.isdbs_core.specs.declared.combination.MaybeCombination.{MaybeCombination}
 use Rattle.isdbs_core.specs.declared.combination.MaybeCombination.the-variants.{Some, None}
 use Rattle.isdbs_core.specs.Tables.{slotSum, entryCombination}
-use Rattle.isdbs_core.specs.RunsOf.{runsOf, runsFrom, entryRuns, entrySymbols, fourOf, fourRuns, stepsOf, frameSteps, validIn, validTotal, noRun, RunFits}
-use Rattle.isdbs_core.specs.RunLaws.{Whole, each-at}
+use Rattle.isdbs_core.specs.RunsOf.{runsOf, runsFrom, entryRuns, entrySymbols, fourOf, fourRuns, stepsOf, stepsIn, frameSteps, validIn, validTotal, noRun, RunFits}
+use Rattle.isdbs_core.specs.RunLaws.{Whole, run-whole}
 use Rattle.isdbs_core.specs.RunLaws as laws
 use Rattle.isdbs_points.specs.declared.Mapping.{Mapping}
-use Rattle.isdbs_points.specs.Layout.{segmentOf, segmentsFrom, sentOrder}
+use Rattle.isdbs_points.specs.Layout.{sentOrder}
 use Rattle.isdbs_metrics.specs.Reading.{metricsIn}
 use Rattle.isdbs_metrics.specs.Steps.{received, Covers}
 use Rattle.isdbs_decode.specs.Runs.{runSteps}
 use Rattle.isdbs_decode.proofs.Among.{stepsTo, validTo, steps-more, valid-more, steps-within, valid-within, listMetrics, among-step}
 use Rattle.isdbs_decode.proofs.Parts.{metrics-part}
 
--- the runs as `runs` gives them
-pub record Listed (t : Table) (count : ℕ) (list : List Run) : Type 0 where
+-- the first `count` of a list are runs within a frame, and past them stands the empty run
+pub record RunList (count : ℕ) (list : List Run) : Type 0 where
   pub few : count ≤ 4
-  pub steps : frameSteps t ≤ 68208
-  pub valid : validTotal t ≤ 48
-  pub counted : count ≡ length (runsOf t)
+  pub steps : stepsIn (take count list) ≤ 68208
+  pub valid : validIn (take count list) ≤ 48
+  pub counted : length (take count list) ≡ count
+  pub at : (i : ℕ) → getD list i noRun ≡ getD (take count list) i noRun
+  pub whole : (i : ℕ) → Whole (getD list i noRun)
+  pub fits : (i : ℕ) → RunFits (getD list i noRun)
+
+-- the runs of a table as `runs` gives them
+pub record Listed (t : Table) (count : ℕ) (list : List Run) : Type 0 where
+  pub runs : RunList count list
   pub listed : take count list ≡ runsOf t
-  pub at : (i : ℕ) → i < count → getD list i noRun ≡ getD (runsOf t) i noRun
-  pub whole : (i : ℕ) → i < count → Whole (getD list i noRun)
-  pub fits : (i : ℕ) → i < count → RunFits (getD list i noRun)
+
+filler : {A : Type 0} (m : ℕ) (d : A) (i : ℕ) → getD (replicate m d) i d ≡ d
+filler zero d i = refl
+filler (suc m) d zero = refl
+filler (suc m) d (suc i) = filler m d i
+
+-- a list and its filler
+padded-any : {A : Type 0} (l : List A) (m : ℕ) (d : A) (i : ℕ) → getD (l ++ replicate m d) i d ≡ getD l i d
+padded-any [] m d i = filler m d i
+padded-any (x ∷ l) m d zero = refl
+padded-any (x ∷ l) m d (suc i) = padded-any l m d i
+
+each-any : (P : Run → Type 0) (rs : List Run) (i : ℕ) → P noRun → Each P rs → P (getD rs i noRun)
+each-any P [] i z h = z
+each-any P (r ∷ rs) zero z h = h .0
+each-any P (r ∷ rs) (suc i) z h = each-any P rs i z (h .1)
 
 accepted-runs : (t : Table) → slotSum (t .entries) ≤ 48 → fourRuns t ≡ fourOf Accepted (runsOf t)
 accepted-runs t h = rw (le-ltb 48 (slotSum (t .entries)) h)
@@ -70,17 +86,19 @@ listed-runs t r h es4 e =
     let ec : r .count ≡ length rs = ap (λ (z : FrameRuns). z .count) q in
     let el : r .runs ≡ padded 4 noRun rs = ap (λ (z : FrameRuns). z .runs) q in
     let l = laws.laid t h in
-    let at : (i : ℕ) → i < r .count → getD (r .runs) i noRun ≡ getD rs i noRun =
-    λ i g. ap (λ (z : List Run). getD z i noRun) el ∙ padded-at 4 noRun rs i (omega arith) in
+    let er : take (r .count) (r .runs) ≡ rs = ap (λ (z : List Run). take (r .count) z) el ∙ take-at rs (replicate (4 - length rs) noRun) (r .count) (sym ec) in
+    let at : (i : ℕ) → getD (r .runs) i noRun ≡ getD rs i noRun = λ i. ap (λ (z : List Run). getD z i noRun) el ∙ padded-any rs (4 - length rs) noRun i in
     record {
-      few = omega arith;
-      steps = l .steps;
-      valid = l .valid;
-      counted = ec;
-      listed = ap (λ (z : List Run). take (r .count) z) el ∙ take-at rs (replicate (4 - length rs) noRun) (r .count) (sym ec);
-      at = at;
-      whole = λ i g. rw (at i g) (each-at Whole rs noRun i (l .whole) (omega arith));
-      fits = λ i g. rw (at i g) (each-at RunFits rs noRun i (l .fit) (omega arith));
+      listed = er;
+      runs = record {
+        few = omega arith;
+        steps = rw er (l .steps);
+        valid = rw er (l .valid);
+        counted = rw er (sym ec);
+        at = λ i. rw er (at i);
+        whole = λ i. rw (at i) (each-any Whole rs i (run-whole «Bpsk1_2» 0 0 0) (l .whole));
+        fits = λ i. rw (at i) (each-any RunFits rs i (record { slots = omega arith; starts = omega arith; ends = omega arith }) (l .fit));
+      };
     }
 
 -- the points of a run are enough for its steps
@@ -113,46 +131,80 @@ run-steps rs re im m scale i k step h e l =
     ap four (among-step [] (metricsIn (received re im m scale)) rs 0 0 i k (step + k) h l (omega arith)
     ∙ sym (metrics-part re im m scale r (0 + stepsTo rs i) (0 + 1624 * validTo rs i) k))
 
-module _ (t : Table) (count : ℕ) (list : List Run) (l : Listed t count list) (i : ℕ) (h : i < count) where
+pub steps-by : (r : Run) (x : ℕ) → x ≡ slotSteps (r .combination) → x * r .«valid_slots» ≡ stepsOf r
+steps-by r x e = rw e
+
+module _ (count : ℕ) (list : List Run) (l : RunList count list) (i : ℕ) where
   abbrev run : Run
   run = getD list i noRun
 
-  pub next-steps : stepsTo (take count list) (i + 1) ≡ stepsTo (take count list) i + stepsOf run
-  next-steps = let e = l .counted in rw (l .listed, add-one i, l .at i h) (steps-more (runsOf t) i (omega arith))
+  abbrev rs : List Run
+  rs = take count list
 
-  pub next-valid : validTo (take count list) (i + 1) ≡ validTo (take count list) i + run .«valid_slots»
-  next-valid = let e = l .counted in rw (l .listed, add-one i, l .at i h) (valid-more (runsOf t) i (omega arith))
+  next-steps : stepsTo rs (i + 1) ≡ stepsTo rs i + stepsOf run
+  next-steps = rw (add-one i, l .at i) (steps-more rs i)
 
-  -- within the frame's sums
-  pub steps-fit : stepsTo (take count list) i + stepsOf run ≤ frameSteps t
-  steps-fit = rw (← next-steps, l .listed) (steps-within (runsOf t) (i + 1))
+  pub next-valid : validTo rs (i + 1) ≡ validTo rs i + run .«valid_slots»
+  next-valid = rw (add-one i, l .at i) (valid-more rs i)
 
-  pub valid-fit : validTo (take count list) i + run .«valid_slots» ≤ validTotal t
-  valid-fit = rw (← next-valid, l .listed) (valid-within (runsOf t) (i + 1))
+  steps-fit : stepsTo rs i + stepsOf run ≤ stepsIn rs
+  steps-fit = rw (← next-steps) (steps-within rs (i + 1))
+
+  -- within the frame's valid slots
+  pub valid-fit : validTo rs i + run .«valid_slots» ≤ validIn rs
+  valid-fit = rw (← next-valid) (valid-within rs (i + 1))
 
   -- the parts from the run's first symbol on are enough
   pub part-covers : (xs : List Float) (n : ℕ) → 38976 ≤ length xs → n ≡ stepsOf run → Covers (run .combination) n (length (take (length xs - run .«symbol_start») (drop (run .«symbol_start») xs)))
   part-covers xs n g e =
-      let f = l .fits i h in
+      let f = l .fits i in
       let fe = f .ends in
       let d = length-drop (run .«symbol_start») xs in
-      rw (e, tail-is (run .«symbol_start») xs) (run-covers run (length (drop (run .«symbol_start») xs)) (l .whole i h) f (omega arith))
+      rw (e, tail-is (run .«symbol_start») xs) (run-covers run (length (drop (run .«symbol_start») xs)) (l .whole i) f (omega arith))
 
   -- and the frame's steps are the run's
-  pub step-is : (re im : List Float) (m : Mapping) (scale : Float) (step n k : ℕ) → step ≡ stepsTo (take count list) i → n ≡ stepsOf run → k < n
-      → listMetrics (take count list) (received re im m scale) (step + k)
+  pub step-is : (re im : List Float) (m : Mapping) (scale : Float) (step n k : ℕ) → i < count → step ≡ stepsTo rs i → n ≡ stepsOf run → k < n
+      → listMetrics rs (received re im m scale) (step + k)
       ≡ runSteps (run .combination) (take (length re - run .«symbol_start») (drop (run .«symbol_start») re)) (take (length im - run .«symbol_start») (drop (run .«symbol_start») im)) m scale k
-  step-is re im m scale step n k e en g =
+  step-is re im m scale step n k h e en g =
       let c = l .counted in
-      let es = rw (l .listed) at e in
-      rw (tail-is (run .«symbol_start») re, tail-is (run .«symbol_start») im, l .listed, l .at i h)
-      (run-steps (runsOf t) re im m scale i k step (omega arith) es (let q = rw (l .at i h) at en in omega arith))
+      rw (tail-is (run .«symbol_start») re, tail-is (run .«symbol_start») im, l .at i)
+      (run-steps rs re im m scale i k step (omega arith) e (let q = rw (l .at i) at en in omega arith))
 
-pub all-steps : (t : Table) (count : ℕ) (list : List Run) → Listed t count list → stepsTo (take count list) count ≡ frameSteps t
-all-steps t count list l = rw (l .listed, l .counted, take-length (runsOf t))
+-- before run i: its points start within the frame, and its steps are within the frame's
+pub record RunAt (count : ℕ) (list : List Run) (i step : ℕ) : Type 0 where
+  pub runs : RunList count list
+  pub done : i ≤ count
+  pub starts : getD list i noRun .«symbol_start» ≤ 38976
+  pub steps-fit : step + stepsOf (getD list i noRun) ≤ stepsIn (take count list)
+  pub step-is : step ≡ stepsTo (take count list) i
 
-pub all-valid : (t : Table) (count : ℕ) (list : List Run) → Listed t count list → validTo (take count list) count ≡ validTotal t
-all-valid t count list l = rw (l .listed, l .counted, take-length (runsOf t))
+run-at : (count : ℕ) (list : List Run) (i step : ℕ) → RunList count list → i ≤ count → step ≡ stepsTo (take count list) i → RunAt count list i step
+run-at count list i step l h e =
+    let f = l .fits i in
+    let s = steps-fit count list l i in
+    record { runs = l; done = h; starts = omega arith; steps-fit = omega arith; step-is = e }
+
+pub run-first : {count : ℕ} {list : List Run} → RunList count list → RunAt count list 0 0
+unfolding stepsIn
+run-first {count} {list} l = run-at count list 0 0 l (omega arith) refl
+
+pub run-next : {count : ℕ} {list : List Run} {i step n : ℕ} → RunAt count list i step → i < count → n ≡ stepsOf (getD list i noRun) → RunAt count list (i + 1) (step + n)
+run-next {count} {list} {i} {step} {n} a h e =
+    let es = a .step-is in
+    let q = next-steps count list (a .runs) i in
+    run-at count list (i + 1) (step + n) (a .runs) (omega arith) (omega arith)
+
+-- all runs are done
+pub run-last : {t : Table} {count : ℕ} {list : List Run} {i step : ℕ} → Listed t count list → RunAt count list i step → count ≤ i → step ≡ frameSteps t
+run-last {t} {i = i} l a h =
+    let e : i ≡ length (runsOf t) = omega (arith, a .done, rw (l .listed) at (l .runs .counted)) in
+    rw (l .listed, e, take-length (runsOf t)) at (a .step-is)
+
+pub all-valid : {t : Table} {count : ℕ} {list : List Run} → Listed t count list → validTo (take count list) count ≡ validTotal t
+all-valid {t} {count} l =
+    let e : count ≡ length (runsOf t) = omega (arith, rw (l .listed) at (l .runs .counted)) in
+    rw (l .listed, e, take-length (runsOf t))
 
 -- what was written over the front of a slice
 pub front-is : {A : Type 0} (b us w : List A) (n : ℕ) → b ≡ us ++ drop (length us) w → n ≡ length us → take n b ≡ us

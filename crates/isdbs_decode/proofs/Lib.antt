@@ -3,5 +3,6 @@ pub mod Carried
 pub mod Digits
 pub mod FrameBytes
 pub mod FrameRuns
+pub mod FrameSteps
 pub mod Packing
 pub mod Parts

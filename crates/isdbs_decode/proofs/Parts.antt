@@ -1,31 +1,25 @@
 -- A run as a part of a frame: what is read of the parts from its first symbol and step on is what the frame has there. Assumes nothing.
-use mathlib.Core.Path.{_≡_, refl, sym, _∙_, ap}
-use mathlib.Core.Bool.{Bool, true, false, cond}
-use mathlib.Core.List.{List, [], _∷_}
-use Prim.Native.Nat.{ℕ, zero, suc, _+_, _-_, _*_, _/_, _%_, _<_, _≤_}
-use native.Mathlib.Omega.{arith}
-use native.Mathlib.Nat.{zero-add, div-lt-iff-lt-mul, mul-le-mul-right}
+use mathlib.Core.Path.{_≡_, refl, _∙_, ap}
+use mathlib.Core.Bool.{cond}
+use mathlib.Core.List.{List}
+use Prim.Native.Nat.{ℕ, _+_, _*_, _/_, _%_}
+use native.Mathlib.Nat.{zero-add}
 use lib.Dec.{eqb, ltb}
 use lib.ListN.{length, getD, drop}
 use lib.Seq.{getD-drop}
 use lib.Ieee.{Float, nan, lt, binary32, ofBits}
-use Rattle.trellis.specs.Lists.{upto}
-use Rattle.isdbs_core.specs.declared.combination.Combination.{Combination}
-use Rattle.isdbs_core.specs.declared.combination.Combination.the-variants.{«Bpsk1_2», «Qpsk1_2», «Qpsk2_3», «Qpsk3_4», «Qpsk5_6», «Qpsk7_8», «Tc8psk2_3»}
 use Rattle.isdbs_core.specs.declared.combination.Modulation.{Modulation}
 use Rattle.isdbs_core.specs.declared.combination.Modulation.the-variants.{Bpsk, Qpsk, Tc8psk}
 use Rattle.isdbs_core.specs.declared.slots.Run.{Run}
-use Rattle.isdbs_core.specs.Combinations.{modulationOf, unitOf, slotSteps}
-use Rattle.isdbs_core.specs.RunsOf.{stepsOf}
-use Rattle.isdbs_core.specs.RunLaws.{Whole}
+use Rattle.isdbs_core.specs.Combinations.{modulationOf}
 use Rattle.isdbs_points.specs.declared.Cplx.{Cplx}
 use Rattle.isdbs_points.specs.declared.Mapping.{Mapping}
-use Rattle.isdbs_points.specs.Points.{point, turned, psk8Of, subset, zero64}
-use Rattle.isdbs_points.specs.Layout.{Segment, segmentOf, orderOf, stepsPerPeriod, placeIn, sentOrder}
+use Rattle.isdbs_points.specs.Points.{psk8Of, subset, zero64}
+use Rattle.isdbs_points.specs.Layout.{segmentOf, orderOf, stepsPerPeriod, placeIn}
 use Rattle.isdbs_points.specs.Pieces.{piece}
 use Rattle.isdbs_points.specs.Frame.{labelAt}
 use Rattle.isdbs_metrics.specs.Reading.{Received, correlation, symbolAt, carrier, softAt, scaled, pairMetrics, subsetMetrics, metricsBy, metricsIn, bitBy, bitIn, uncoded}
-use Rattle.isdbs_metrics.specs.Steps.{received, pieceMetrics, pieceBit, Reaches, ReachesBy, Covers}
+use Rattle.isdbs_metrics.specs.Steps.{received, pieceMetrics, pieceBit}
 
 -- a symbol of a part
 pub symbol-part : (re im : List Float) (m : Mapping) (a b : Float) (s i : ℕ) → symbolAt (received (drop s re) (drop s im) m a) (0 + i) ≡ symbolAt (received re im m b) (s + i)

@@ -7,12 +7,12 @@ use Rattle.isdbs_metrics.specs.Reading.{startValues, bytesFrom, decodedBits}
 use Rattle.trellis.specs.Run.{startAt, startUnknown}
 use Rattle.trellis.specs.Lists.{laid}
 use lib.Ieee.{Float}
-use lib.ListN.{length, take}
+use lib.ListN.{take}
 use native.Mathlib.Omega.{arith}
 use Prim.Native.Nat.{ℕ, _+_, _-_}
 use mathlib.Core.List.{List}
 use mathlib.Core.Bool.{cond}
-use mathlib.Core.Path.{_≡_, refl, sym, _∙_, ap}
+use mathlib.Core.Path.{_≡_, sym, _∙_, ap}
 use borrow.Author.Needs.{needs}
 use Rattle.isdbs_decode.proofs.decode.Statement.{statement}
 use Rattle.isdbs_decode.proofs.decode.Tie as tie

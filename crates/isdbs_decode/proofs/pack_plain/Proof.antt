@@ -1,20 +1,16 @@
 -- `pack_plain` meets its contract. Assumes nothing.
-use Rattle.isdbs_decode.proofs.Packing.{state-more, byte-more, plain-is, tc8psk-is}
+use Rattle.isdbs_decode.proofs.Packing.{state-more, byte-more, plain-is}
 use Rattle.isdbs_decode.proofs.FrameRuns.{tail-is}
 use Rattle.isdbs_points.specs.LawsUpto.{length-laid-upto}
 use lib.Seq.{getD-drop}
-use lib.ListN.{length-drop, set}
+use lib.ListN.{length-drop, length, getD}
 use borrow.Author.Needs.{needs}
-use Rattle.isdbs_metrics.specs.Steps.{pieceBit}
 use Rattle.isdbs_points.specs.Layout.{byteOf}
-use Rattle.isdbs_core.specs.declared.combination.Combination.the-variants.{«Tc8psk2_3»}
 use Rattle.trellis.specs.Code.{stateAt}
 use Rattle.trellis.specs.Lists.{upto, laid}
-use lib.ListN.{length, getD, drop, take}
-use native.Mathlib.Numerals.{add-one}
 use native.Mathlib.Omega.{arith}
-use Prim.Native.Nat.{ℕ, suc, _+_, _-_, _*_, _/_, _%_, _<_, _≤_}
-use mathlib.Core.Path.{_≡_, refl, sym, _∙_, ap}
+use Prim.Native.Nat.{_+_, _-_, _*_, _<_, _≤_}
+use mathlib.Core.Path.{_≡_, refl, _∙_, ap}
 use Rattle.isdbs_decode.proofs.pack_plain.Statement.{statement}
 use Rattle.isdbs_decode.proofs.pack_plain.Tie as tie
 

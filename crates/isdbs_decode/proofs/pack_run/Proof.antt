@@ -3,7 +3,7 @@ use Rattle.isdbs_decode.proofs.Packing.{bpsk-bytes, qpsk-bytes, tc8psk-
 use Rattle.trellis.specs.Lists.{laid}
 use Prim.Native.Nat.{ℕ}
 use mathlib.Core.List.{List}
-use mathlib.Core.Path.{_≡_, refl, sym, _∙_, ap}
+use mathlib.Core.Path.{sym, _∙_, ap}
 use borrow.Author.Needs.{needs}
 use Rattle.isdbs_decode.proofs.pack_run.Statement.{statement}
 use Rattle.isdbs_decode.proofs.pack_run.Tie as tie

@@ -3,10 +3,10 @@ use borrow.Author.Needs.{needs}
 use Rattle.isdbs_decode.proofs.Digits.{digits-seven, byte-digits}
 use Rattle.isdbs_metrics.specs.Steps.{digits}
 use Rattle.trellis.specs.Code.{stateAt}
-use lib.ListN.{length, getD}
+use lib.ListN.{getD}
 use native.Mathlib.Numerals.{add-one}
 use native.Mathlib.Omega.{arith}
-use Prim.Native.Nat.{ℕ, suc, _+_, _-_, _*_, _/_, _%_, _<_, _≤_}
+use Prim.Native.Nat.{ℕ, _+_, _-_, _*_, _/_, _<_, _≤_}
 use mathlib.Core.Path.{_≡_, refl, sym, _∙_, ap}
 use Rattle.isdbs_decode.proofs.plain_byte.Statement.{statement}
 use Rattle.isdbs_decode.proofs.plain_byte.Tie as tie
@@ -24,15 +24,6 @@ loop-holds c = (search needs, refl, refl, search needs)
 shared-slice-read-u : tie.Need-shared-slice-read-u Inv-loop μ-loop
 shared-slice-read-u c = search needs
 
-mul-byte : tie.Need-mul-byte Inv-loop μ-loop
-mul-byte c =
-    let st = c .before .before .before in
-    let i = c .before .before .loop .i in
-    let b = st .pre .2 i (omega arith) in
-    let d = digits-seven (λ j. getD (st .args .bits .now) j 0) i (omega arith) (λ j l. st .pre .2 j (omega arith)) in
-    let e = c .before .before .loop .inv .1 in
-    record { fits = omega arith }
-
 add-byte : tie.Need-add-byte Inv-loop μ-loop
 add-byte c =
     let st = c .before .before .before in
@@ -42,13 +33,9 @@ add-byte c =
     let e = c .before .before .loop .inv .1 in
     record { fits = omega arith }
 
-mul-state : tie.Need-mul-state Inv-loop μ-loop
-mul-state c =
-    let st = c .before .before .before in
-    let i = c .before .before .loop .i in
-    let b = st .pre .2 i (omega arith) in
-    let d = digits-seven (λ j. getD (st .args .bits .now) j 0) i (omega arith) (λ j l. st .pre .2 j (omega arith)) in
-    let e = c .before .before .loop .inv .1 in
+mul-byte : tie.Need-mul-byte Inv-loop μ-loop
+mul-byte c =
+    let f = add-byte c .fits in
     record { fits = omega arith }
 
 add-state : tie.Need-add-state Inv-loop μ-loop
@@ -56,8 +43,11 @@ add-state c =
     let st = c .before .before .before in
     let i = c .before .before .loop .i in
     let b = st .pre .2 i (omega arith) in
-    let d = digits-seven (λ j. getD (st .args .bits .now) j 0) i (omega arith) (λ j l. st .pre .2 j (omega arith)) in
-    let e = c .before .before .loop .inv .1 in
+    record { fits = omega arith }
+
+mul-state : tie.Need-mul-state Inv-loop μ-loop
+mul-state c =
+    let f = add-state c .fits in
     record { fits = omega arith }
 
 add-i : tie.Need-add-i Inv-loop μ-loop

@@ -4,11 +4,10 @@ use Rattle.trellis.specs.Step.{known}
 use native.Mathlib.Nat.{zero-add}
 use borrow.Author.Needs.{needs}
 use Rattle.isdbs_decode.specs.Runs.{Carried, knownBits}
-use lib.ListN.{length, getD}
-use native.Mathlib.Numerals.{add-one}
+use lib.ListN.{length}
 use native.Mathlib.Omega.{arith}
-use Prim.Native.Nat.{ℕ, suc, _+_, _-_, _*_, _/_, _%_, _<_, _≤_}
-use mathlib.Core.Path.{_≡_, refl, sym, _∙_, ap}
+use Prim.Native.Nat.{_-_, _≤_}
+use mathlib.Core.Path.{_≡_, refl, ap}
 use Rattle.isdbs_decode.proofs.read_end.Statement.{statement}
 use Rattle.isdbs_decode.proofs.read_end.Tie as tie
 

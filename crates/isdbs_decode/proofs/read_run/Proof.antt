@@ -4,11 +4,10 @@ use Rattle.isdbs_decode.proofs.Carried.{phase-start, phase-next, read-s
 use Rattle.isdbs_metrics.proofs.ByStep.{base-small, place-small}
 use Rattle.isdbs_decode.specs.Runs.{Carried, runSteps}
 use Rattle.isdbs_metrics.specs.Steps.{PhaseAt}
-use lib.ListN.{length, getD}
-use native.Mathlib.Numerals.{add-one}
+use lib.ListN.{length}
 use native.Mathlib.Omega.{arith}
-use Prim.Native.Nat.{ℕ, suc, _+_, _-_, _*_, _/_, _%_, _<_, _≤_}
-use mathlib.Core.Path.{_≡_, refl, sym, _∙_, ap}
+use Prim.Native.Nat.{_-_, _≤_}
+use mathlib.Core.Path.{_≡_, refl}
 use Rattle.isdbs_decode.proofs.read_run.Statement.{statement}
 use Rattle.isdbs_decode.proofs.read_run.Tie as tie
 
