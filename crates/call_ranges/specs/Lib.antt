@@ -1,8 +1,10 @@
 -- What is stated: Reached.Reached (a decoder state that comes from a fresh start by accepted calls), Closed.reached-rows (the rows of a handed state refuse none of
 -- them), Closed.reached-values (the range of their path values), Handed (each call's contract hands one on), Answers (what the calls can still answer). Numbers has the bounds. Inside is part of the proof.
+pub mod Level
 pub mod Numbers
 pub mod Inside
 pub mod Reached
 pub mod Handed
 pub mod Closed
 pub mod Answers
+pub mod TwoCalls
