@@ -11,6 +11,7 @@ pub mod Holding
 pub mod Whole
 pub mod Runs
 pub mod TwoCalls
+pub mod OneCall
 pub mod Each
 pub mod Told
 pub mod Parts

@@ -1,8 +1,8 @@
 -- A call over two lists as a call over each, one after the other. Known bits may be cut anywhere; soft values and metrics after n steps with n % 64 = 0, since each call
 -- counts its steps anew, and where subtracting the maximum changes nothing there, since a call subtracts it at its end. Assumes nothing.
 use mathlib.Core.Path.{_≡_, refl, sym, _∙_, ap}
-use mathlib.Core.Bool.{Bool, true, false, cond}
-use mathlib.Core.List.{List, [], _∷_, _++_, append-nil, append-assoc}
+use mathlib.Core.Bool.{Bool, true, false}
+use mathlib.Core.List.{List, [], _++_, append-nil, append-assoc}
 use Prim.Native.Nat.{ℕ, zero, suc, _+_, _*_, _/_, _%_, _<_, _≤_}
 use native.Mathlib.Omega.{arith}
 use native.Mathlib.Nat.{add-zero, add-suc}
@@ -93,12 +93,12 @@ known-run tb bs cs d =
 -- ---- soft values and metrics
 -- n steps with n % 64 = 0 that leave the maximum at 0
 module _ (tb : ℕ) (xs ys zs : ℕ → trellis.Step) (d : Decoder) (n m : ℕ) (front : (k : ℕ) → k < n → zs k ≡ xs k) (back : (k : ℕ) → k < m → zs (n + k) ≡ ys k)
-    (same : (k : ℕ) (pm : List Float) → settle (n + k) (ys k) pm ≡ settle k (ys k) pm) (level : renormalised 32 (steps tb xs d n .values) ≡ steps tb xs d n .values) where
+    (same : (k : ℕ) (pm : List Float) → settle (n + k) (ys k) pm ≡ settle k (ys k) pm) (normalised : renormalised 32 (steps tb xs d n .values) ≡ steps tb xs d n .values) where
   call-then : call tb zs d (n + m) ≡ then (call tb xs d n) (call tb ys (bare (call tb xs d n)) m)
   call-then =
       let first = steps tb xs d n in
       ap (closed 32 (label isdb) lower) (steps-then tb xs ys zs d n front same m back)
-      ∙ ap (λ (pm : List Float). then first (call tb ys (record { values = pm; words = first .words; bits = [] }) m)) (sym level)
+      ∙ ap (λ (pm : List Float). then first (call tb ys (record { values = pm; words = first .words; bits = [] }) m)) (sym normalised)
 
 -- whole rounds of 64 steps before make no difference
 same-round : (n k : ℕ) (x : trellis.Step) (pm : List Float) → n % 64 ≡ 0 → settle (n + k) x pm ≡ settle k x pm
@@ -117,19 +117,19 @@ back-at xs ys i j e = rw e (getD-append-add xs ys j nan)
 pub pair-run : (tb : ℕ) (ps qs : List Float) (d : Decoder) (n : ℕ) → length ps ≡ 2 * n → n % 64 ≡ 0
     → renormalised 32 (steps tb (pairSteps ps) d n .values) ≡ steps tb (pairSteps ps) d n .values
     → pairCall tb (ps ++ qs) d ≡ then (pairCall tb ps d) (pairCall tb qs (bare (pairCall tb ps d)))
-pair-run tb ps qs d n e whole level =
+pair-run tb ps qs d n e whole normalised =
     let all : length (ps ++ qs) / 2 ≡ n + length qs / 2 = ap (λ (k : ℕ). k / 2) (length-append ps qs) ∙ omega arith in
     let half : length ps / 2 ≡ n = omega arith in
     rw (all, half)
     (call-then tb (pairSteps ps) (pairSteps qs) (pairSteps (ps ++ qs)) d n (length qs / 2)
     (λ k h. rw (front-at ps qs (2 * k) (omega arith), front-at ps qs (2 * k + 1) (omega arith)) refl)
     (λ k h. rw (back-at ps qs (2 * (n + k)) (2 * k) (omega arith), back-at ps qs (2 * (n + k) + 1) (2 * k + 1) (omega arith)) refl)
-    (λ k pm. same-round n k (pairSteps qs k) pm whole) level)
+    (λ k pm. same-round n k (pairSteps qs k) pm whole) normalised)
 
 pub four-run : (tb : ℕ) (ms ns : List Float) (d : Decoder) (n : ℕ) → length ms ≡ 4 * n → n % 64 ≡ 0
     → renormalised 32 (steps tb (fourSteps ms) d n .values) ≡ steps tb (fourSteps ms) d n .values
     → fourCall tb (ms ++ ns) d ≡ then (fourCall tb ms d) (fourCall tb ns (bare (fourCall tb ms d)))
-four-run tb ms ns d n e whole level =
+four-run tb ms ns d n e whole normalised =
     let all : length (ms ++ ns) / 4 ≡ n + length ns / 4 = ap (λ (k : ℕ). k / 4) (length-append ms ns) ∙ omega arith in
     let part : length ms / 4 ≡ n = omega arith in
     rw (all, part)
@@ -141,4 +141,4 @@ four-run tb ms ns d n e whole level =
       back-at ms ns (4 * (n + k) + 2) (4 * k + 2) (omega arith),
       back-at ms ns (4 * (n + k) + 3) (4 * k + 3) (omega arith),
     ) refl)
-    (λ k pm. same-round n k (fourSteps ns k) pm whole) level)
+    (λ k pm. same-round n k (fourSteps ns k) pm whole) normalised)

@@ -64,15 +64,13 @@ module _ {tb : ℕ} {first : Decoder} {r₁ : Released} {dec₀ dec₁ out₀ ou
 
 -- ---- any two calls, the first of them accepted
 -- a call of n steps holds as many words and puts out as many bits as n steps do
-CallOf : ℕ → (ℕ → Decoder → Decoder) → Type 0
+abbrev pub CallOf : ℕ → (ℕ → Decoder → Decoder) → Type 0
 CallOf n c = (tb : ℕ) (d : Decoder) → 1 ≤ tb → tb ≤ 1024 → length (d .words) < 4096 + tb → Counted tb (length (d .words)) (length (d .bits)) n (c tb d)
 
-known-call : (bits : List ℕ) → CallOf (length bits) (λ tb. knownCall tb bits)
-unfolding CallOf
+pub known-call : (bits : List ℕ) → CallOf (length bits) (λ tb. knownCall tb bits)
 known-call bits tb d least most h = counted tb (knownSteps bits) d least most h (length bits)
 
-soft-call : (xs : ℕ → trellis.Step) (n : ℕ) → CallOf n (λ tb d. call tb xs d n)
-unfolding CallOf
+pub soft-call : (xs : ℕ → trellis.Step) (n : ℕ) → CallOf n (λ tb d. call tb xs d n)
 soft-call xs n tb d least most h = let c = counted tb xs d least most h n in record { few = c .few; words-left = c .words-left; bits-out = c .bits-out }
 
 module _ (v : ViterbiDecoder) (r₁ r₂ : Released) (dec₀ dec₁ dec₂ out₀ out₁ out₂ : List ℕ) where
@@ -80,7 +78,6 @@ module _ (v : ViterbiDecoder) (r₁ r₂ : Released) (dec₀ dec₁ dec₂ out�
       → Leaves (v .traceback) (first (v .traceback) (handed v dec₀)) r₁ dec₀ dec₁ out₀ out₁
       → Leaves (r₁ .dec .traceback) (second (r₁ .dec .traceback) (handed (r₁ .dec) dec₁)) r₂ dec₁ dec₂ (drop (r₁ .count) out₁) out₂
       → Leaves (v .traceback) (then (first (v .traceback) (handed v dec₀)) (second (v .traceback) (bare (first (v .traceback) (handed v dec₀))))) (both r₁ r₂) dec₀ dec₂ out₀ (take (r₁ .count) out₁ ++ out₂)
-  unfolding CallOf
   two-calls n m first second a b g l k =
       let tb = v .traceback in
       let d = first tb (handed v dec₀) in
@@ -102,8 +99,8 @@ module _ (v : ViterbiDecoder) (r₁ r₂ : Released) (dec₀ dec₁ dec₂ out�
       → Leaves (v .traceback) (pairCall (v .traceback) ps (handed v dec₀)) r₁ dec₀ dec₁ out₀ out₁
       → Leaves (r₁ .dec .traceback) (pairCall (r₁ .dec .traceback) qs (handed (r₁ .dec) dec₁)) r₂ dec₁ dec₂ (drop (r₁ .count) out₁) out₂
       → Leaves (v .traceback) (pairCall (v .traceback) (ps ++ qs) (handed v dec₀)) (both r₁ r₂) dec₀ dec₂ out₀ (take (r₁ .count) out₁ ++ out₂)
-  two-pair-calls ps qs n is whole e level l k =
-      rw (pair-run (v .traceback) ps qs (handed v dec₀) n is whole level)
+  two-pair-calls ps qs n is whole e normalised l k =
+      rw (pair-run (v .traceback) ps qs (handed v dec₀) n is whole normalised)
       (two-calls (length ps / 2) (length qs / 2) (λ t. pairCall t ps) (λ t. pairCall t qs) (soft-call (pairSteps ps) (length ps / 2)) (soft-call (pairSteps qs) (length qs / 2))
       (stream-enough 2 v ps (length dec₀) (length out₀) e) l k)
 
@@ -113,8 +110,8 @@ module _ (v : ViterbiDecoder) (r₁ r₂ : Released) (dec₀ dec₁ dec₂ out�
       → Leaves (v .traceback) (fourCall (v .traceback) ms (handed v dec₀)) r₁ dec₀ dec₁ out₀ out₁
       → Leaves (r₁ .dec .traceback) (fourCall (r₁ .dec .traceback) ns (handed (r₁ .dec) dec₁)) r₂ dec₁ dec₂ (drop (r₁ .count) out₁) out₂
       → Leaves (v .traceback) (fourCall (v .traceback) (ms ++ ns) (handed v dec₀)) (both r₁ r₂) dec₀ dec₂ out₀ (take (r₁ .count) out₁ ++ out₂)
-  two-metric-calls ms ns n is whole e level l k =
-      rw (four-run (v .traceback) ms ns (handed v dec₀) n is whole level)
+  two-metric-calls ms ns n is whole e normalised l k =
+      rw (four-run (v .traceback) ms ns (handed v dec₀) n is whole normalised)
       (two-calls (length ms / 4) (length ns / 4) (λ t. fourCall t ms) (λ t. fourCall t ns) (soft-call (fourSteps ms) (length ms / 4)) (soft-call (fourSteps ns) (length ns / 4))
       (stream-enough 4 v ms (length dec₀) (length out₀) e) l k)
 

@@ -1,24 +1,26 @@
--- Subtracting the maximum a second time changes nothing: the greatest value is then +0. A greatest value of -0 cannot be, since x - m is -0 only where m is +0, and then
--- the first subtraction changed nothing. Assumes nothing.
+-- Path values in which subtracting the maximum changes nothing: their greatest is +0. Once the maximum is subtracted they are such. Their greatest could only be -0 where some
+-- x - m is; but then m is +0, and the subtraction changed nothing. Assumes nothing.
 use mathlib.Core.Path.{_≡_, refl, sym, ap, _∙_, subst}
 use mathlib.Core.Logic.{_⊎_, inl, inr}
 use mathlib.Core.Bool.{Bool, true, false, not}
 use mathlib.Core.List.{List, [], _∷_, map}
-use Prim.Native.Nat.{ℕ, zero, suc, _+_, _-_, _*_, _/_, _^_, _<_, _≤_}
+use Prim.Native.Nat.{ℕ, suc, _+_, _-_, _*_, _/_, _^_, _<_, _≤_}
 use native.Mathlib.Nat.{zero-mul, zero-div}
 use native.Mathlib.Omega.{arith}
-use lib.IntN.{ℤ, pos, negsuc}
+use lib.IntN.{ℤ, pos}
 use lib.Dec.{T, eqb, eqb→eq, lit<}
 use lib.ListN.{getD, length}
 use lib.Ieee.{Float, nan, inf, fin, binary32, low, up, down, neg, round, sum, add, sub, fits}
 use Rattle.ieee.specs.Value.{mag, hi, lo, Num, one-side, hi-neg, lo-neg, num-neg}
-use Rattle.ieee.specs.Order.{Le}
 use Rattle.ieee.specs.Rounding.{rounds-le, rounds-ge}
 use Rattle.ieee.specs.Sums.{sub-is}
 use Rattle.ieee.specs.Zero.{plain, unique, sub-plain, add-neutral}
 use Rattle.trellis.specs.Step.{top, renormalised}
 use Rattle.path_range.specs.Invariant.{Limits, Bounded, bounded-within}
 use Rattle.path_range.specs.Maximum.{Top, top-is, getD-renormalised, renormalised-bounded}
+
+abbrev pub Normalised : List Float → Type 0
+Normalised pm = renormalised 32 pm ≡ pm
 
 -- ---- zeros
 abbrev plus : Float
@@ -55,7 +57,6 @@ signed (fin true m e) p = go (eqb m 0) (eqb→eq m 0)
     go true h = inr (rw (h tt) (minus-one e (rw (h tt) at p)))
     go false h = inl tt
 
--- x - (+0) is x
 minus-less : sub binary32 minus plus ≡ minus
 unfolding sub add sum neg round
 minus-less = refl
@@ -64,6 +65,7 @@ minus-minus : sub binary32 minus minus ≡ plus
 unfolding sub add sum neg round
 minus-minus = refl
 
+-- x - (+0) is x
 sub-plus : (x : Float) → Num binary32 x → sub binary32 x plus ≡ x
 unfolding sub neg hi lo
 sub-plus x p = go (signed x p)
@@ -103,35 +105,50 @@ map-plus : (xs : List Float) → ((i : ℕ) → i < length xs → Num binary32 (
 map-plus [] h = refl
 map-plus (x ∷ xs) h = let a = sub-plus x (h 0 (omega arith)) in let b = map-plus xs (λ i l. h (suc i) (omega arith)) in λ i. a i ∷ b i
 
-level : (pm : List Float) → ((s : ℕ) → s < length pm → Num binary32 (getD pm s nan)) → top pm 64 ≡ plus → renormalised 32 pm ≡ pm
+normalised : (pm : List Float) → ((s : ℕ) → s < length pm → Num binary32 (getD pm s nan)) → top pm 64 ≡ plus → Normalised pm
 unfolding renormalised
-level pm h e = rw e (map-plus pm h)
+normalised pm h e = rw e (map-plus pm h)
+
+-- ---- the greatest of bounded values
+module _ {c B : ℕ} (r : Limits c B) (pm : List Float) (J : ℕ) (i : Bounded c B J pm) where
+  greatest : Top pm (B + 12 * c - J) J (let f = r .fits in omega arith) (bounded-within i) 63
+  greatest = top-is pm (B + 12 * c - J) J (let f = r .fits in omega arith) (bounded-within i) 63 (lit< tt)
+
+  -- what holds of each value holds of the greatest
+  of-greatest : (P : Float → Type 0) → ((s : ℕ) → s < 64 → P (getD pm s nan)) → P (top pm 64)
+  of-greatest P h = let g = greatest in rw (g .is) (h (g .at) (g .under))
+
+-- no value is above 0, one is 0, and the greatest is not -0
+normalised-plain : {c B : ℕ} (r : Limits c B) (pm : List Float) (i : Bounded c B 0 pm) → T (plain (top pm 64)) → Normalised pm
+normalised-plain r pm i h =
+    let g = greatest r pm 0 i in
+    let n = i .count in
+    let high = i .high (g .at) (g .under) in
+    let best = i .best-above in
+    let over = g .over (i .best) (i .best-under) in
+    normalised pm (λ s l. i .num s (omega arith))
+    (g .is ∙ zero-plus (getD pm (g .at) nan) (i .num (g .at) (g .under)) (rw (g .is) at h) (omega arith))
+
+-- a start: no value is -0
+pub normalised-start : {c B : ℕ} (r : Limits c B) (pm : List Float) (i : Bounded c B 0 pm) → ((s : ℕ) → s < 64 → T (plain (getD pm s nan))) → Normalised pm
+normalised-start r pm i h = normalised-plain r pm i (of-greatest r pm 0 i (λ x. T (plain x)) h)
 
 -- ---- the maximum subtracted twice
-module _ {c B : ℕ} (r : Limits c B) (pm : List Float) (J : ℕ) (few : J ≤ 64 * c) (i : Bounded c B J pm) where
-  less : Bounded c B 0 (renormalised 32 pm)
-  less = renormalised-bounded r pm J few i
+pub renormalised-twice : {c B : ℕ} (r : Limits c B) (pm : List Float) (J : ℕ) → J ≤ 64 * c → Bounded c B J pm → Normalised (renormalised 32 pm)
+renormalised-twice {c} {B} r pm J few i =
+    go (minus-from (getD pm k nan) (top pm 64) (i .num k u) (of-greatest r pm J i (λ x. Num binary32 x) (i .num)) (subst (λ (y : Float). Num binary32 y) (getD-renormalised pm k) (less .num k u)))
+  where
+    less : Bounded c B 0 (renormalised 32 pm)
+    less = renormalised-bounded r pm J few i
 
-  greatest : Top (renormalised 32 pm) (B + 12 * c - 0) 0 (let f = r .fits in omega arith) (bounded-within less) 63
-  greatest = top-is (renormalised 32 pm) (B + 12 * c - 0) 0 (let f = r .fits in omega arith) (bounded-within less) 63 (lit< tt)
+    k : ℕ
+    k = greatest r (renormalised 32 pm) 0 less .at
 
-  most-num : Num binary32 (top pm 64)
-  most-num = let t = top-is pm (B + 12 * c - J) J (let f = r .fits in omega arith) (bounded-within i) 63 (lit< tt) in rw (t .is) (i .num (t .at) (t .under))
+    u : k < 64
+    u = greatest r (renormalised 32 pm) 0 less .under
 
-  pub renormalised-twice : renormalised 32 (renormalised 32 pm) ≡ renormalised 32 pm
-  renormalised-twice =
-      let k = greatest .at in
-      let u = greatest .under in
-      go (minus-from (getD pm k nan) (top pm 64) (i .num k u) most-num (subst (λ (y : Float). Num binary32 y) (getD-renormalised pm k) (less .num k u)))
-    where
-      go : T (plain (sub binary32 (getD pm (greatest .at) nan) (top pm 64))) ⊎ (top pm 64 ≡ plus) → renormalised 32 (renormalised 32 pm) ≡ renormalised 32 pm
-      go (inl h) =
-          let k = greatest .at in
-          let u = greatest .under in
-          let n = less .count in
-          let high = less .high k u in
-          let best = less .best-above in
-          let over = greatest .over (less .best) (less .best-under) in
-          level (renormalised 32 pm) (λ s l. less .num s (omega arith))
-          (greatest .is ∙ zero-plus (getD (renormalised 32 pm) k nan) (less .num k u) (rw (getD-renormalised pm k) h) (omega arith))
-      go (inr e) = let n = i .count in ap (λ (y : List Float). renormalised 32 y) (level pm (λ s l. i .num s (omega arith)) e)
+    go : T (plain (sub binary32 (getD pm k nan) (top pm 64))) ⊎ (top pm 64 ≡ plus) → Normalised (renormalised 32 pm)
+    go (inl h) =
+        normalised-plain r (renormalised 32 pm) less
+        (subst (λ (y : Float). T (plain y)) (sym (greatest r (renormalised 32 pm) 0 less .is ∙ getD-renormalised pm k)) h)
+    go (inr e) = let n = i .count in ap (λ (y : List Float). renormalised 32 y) (normalised pm (λ s l. i .num s (omega arith)) e)
