@@ -52,17 +52,17 @@ module _ {v : ViterbiDecoder} (i : Fit v) (start : Normalised (v .pm)) (decision
     new-bounded : (k : ℕ) → k < n → Bounded stepMost ruledOut (k % 64 * stepMost + stepMost) (new k)
     new-bounded k h = step-bounded stream-limits (label isdb) small lower (values k) (xs k) (soft-moves (soft k h)) (k % 64 * stepMost) (omega arith) (bounded k (omega arith))
 
-    rounds : (k : ℕ) → k ≤ n → k % 64 ≡ 0 → Normalised (values k)
+    multiple : (k : ℕ) → k ≤ n → k % 64 ≡ 0 → Normalised (values k)
     unfolding valuesAt
-    rounds zero h e = start
-    rounds (suc k) h e =
+    multiple zero h e = start
+    multiple (suc k) h e =
         let last : k % 64 ≡ 63 = omega arith in
         rw (settled-soft stream-limits (label isdb) small lower k (new k) (soft k h), last)
         (renormalised-twice stream-limits (new k) (k % 64 * stepMost + stepMost) (omega arith) (new-bounded k h))
 
-    -- after whole rounds of 64 steps, and at the end of the call
-    pub normalised-rounds : n % 64 ≡ 0 → Normalised (steps (v .traceback) xs (handed v decisions₀) n .values)
-    normalised-rounds e = rw (after-values 32 (label isdb) lower (v .traceback) xs (handed v decisions₀) n) (rounds n (le-refl n) e)
+    -- after a multiple of 64 steps, and at the end of the call
+    pub normalised-after : n % 64 ≡ 0 → Normalised (steps (v .traceback) xs (handed v decisions₀) n .values)
+    normalised-after e = rw (after-values 32 (label isdb) lower (v .traceback) xs (handed v decisions₀) n) (multiple n (le-refl n) e)
 
     normalised-call : Normalised (call (v .traceback) xs (handed v decisions₀) n .values)
     normalised-call =
@@ -112,7 +112,7 @@ module _ {v : ViterbiDecoder} (i : Reached v) (r₁ r₂ : Released) (dec₀ dec
       → Leaves (v .traceback) (pairCall (v .traceback) (ps ++ qs) (handed v dec₀)) (both r₁ r₂) dec₀ dec₂ out₀ (take (r₁ .count) out₁ ++ out₂)
   two-pair-calls ps qs n is whole f e =
       calls.two-pair-calls v r₁ r₂ dec₀ dec₁ dec₂ out₀ out₁ out₂ ps qs n is whole e
-      (normalised-rounds (reached-fit i) (reached-normalised i) dec₀ (pairSteps ps) n (λ k h. pair-soft ps (stream-inside 2 v ps (length dec₀) (length out₀) f e) k (omega arith)) whole)
+      (normalised-after (reached-fit i) (reached-normalised i) dec₀ (pairSteps ps) n (λ k h. pair-soft ps (stream-inside 2 v ps (length dec₀) (length out₀) f e) k (omega arith)) whole)
 
   pub two-metric-calls : (ms ns : List Float) (n : ℕ) → length ms ≡ 4 * n → n % 64 ≡ 0 → Floats ms → Accepted ≡ firstRow (pushMetricsRows v ms (length dec₀) (length out₀))
       → Leaves (v .traceback) (fourCall (v .traceback) ms (handed v dec₀)) r₁ dec₀ dec₁ out₀ out₁
@@ -120,4 +120,4 @@ module _ {v : ViterbiDecoder} (i : Reached v) (r₁ r₂ : Released) (dec₀ dec
       → Leaves (v .traceback) (fourCall (v .traceback) (ms ++ ns) (handed v dec₀)) (both r₁ r₂) dec₀ dec₂ out₀ (take (r₁ .count) out₁ ++ out₂)
   two-metric-calls ms ns n is whole f e =
       calls.two-metric-calls v r₁ r₂ dec₀ dec₁ dec₂ out₀ out₁ out₂ ms ns n is whole e
-      (normalised-rounds (reached-fit i) (reached-normalised i) dec₀ (fourSteps ms) n (λ k h. four-soft ms (stream-inside 4 v ms (length dec₀) (length out₀) f e) k (omega arith)) whole)
+      (normalised-after (reached-fit i) (reached-normalised i) dec₀ (fourSteps ms) n (λ k h. four-soft ms (stream-inside 4 v ms (length dec₀) (length out₀) f e) k (omega arith)) whole)

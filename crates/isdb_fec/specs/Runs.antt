@@ -91,25 +91,25 @@ known-run tb bs cs d =
     (length cs) (λ k h. ap known (getD-append-add bs cs k 0)))
 
 -- ---- soft values and metrics
--- n steps with n % 64 = 0 that leave the maximum at 0
+-- a multiple of 64 steps before makes no difference
+same-count : (n k : ℕ) (x : trellis.Step) (pm : List Float) → n % 64 ≡ 0 → settle (n + k) x pm ≡ settle k x pm
+unfolding settled
+same-count n k (pair lx ly) pm h = let e : (n + k) % 64 ≡ k % 64 = omega arith in rw e refl
+same-count n k (four m) pm h = let e : (n + k) % 64 ≡ k % 64 = omega arith in rw e refl
+same-count n k (known b) pm h = refl
+
+-- a call cut after n steps
 module _ (tb : ℕ) (xs ys zs : ℕ → trellis.Step) (d : Decoder) (n m : ℕ) (front : (k : ℕ) → k < n → zs k ≡ xs k) (back : (k : ℕ) → k < m → zs (n + k) ≡ ys k)
-    (same : (k : ℕ) (pm : List Float) → settle (n + k) (ys k) pm ≡ settle k (ys k) pm) (normalised : renormalised 32 (steps tb xs d n .values) ≡ steps tb xs d n .values) where
+    (whole : n % 64 ≡ 0) (normalised : renormalised 32 (steps tb xs d n .values) ≡ steps tb xs d n .values) where
   call-then : call tb zs d (n + m) ≡ then (call tb xs d n) (call tb ys (bare (call tb xs d n)) m)
   call-then =
       let first = steps tb xs d n in
-      ap (closed 32 (label isdb) lower) (steps-then tb xs ys zs d n front same m back)
+      ap (closed 32 (label isdb) lower) (steps-then tb xs ys zs d n front (λ k pm. same-count n k (ys k) pm whole) m back)
       ∙ ap (λ (pm : List Float). then first (call tb ys (record { values = pm; words = first .words; bits = [] }) m)) (sym normalised)
-
--- whole rounds of 64 steps before make no difference
-same-round : (n k : ℕ) (x : trellis.Step) (pm : List Float) → n % 64 ≡ 0 → settle (n + k) x pm ≡ settle k x pm
-unfolding settled
-same-round n k (pair lx ly) pm h = let e : (n + k) % 64 ≡ k % 64 = omega arith in rw e refl
-same-round n k (four m) pm h = let e : (n + k) % 64 ≡ k % 64 = omega arith in rw e refl
-same-round n k (known b) pm h = refl
 
 -- a value of the first list, and of the second
 front-at : (xs ys : List Float) (i : ℕ) → i < length xs → getD (xs ++ ys) i nan ≡ getD xs i nan
-front-at xs ys i h = List·getD-append xs ys nan i h
+front-at xs ys = List·getD-append xs ys nan
 
 back-at : (xs ys : List Float) (i j : ℕ) → i ≡ length xs + j → getD (xs ++ ys) i nan ≡ getD ys j nan
 back-at xs ys i j e = rw e (getD-append-add xs ys j nan)
@@ -124,7 +124,7 @@ pair-run tb ps qs d n e whole normalised =
     (call-then tb (pairSteps ps) (pairSteps qs) (pairSteps (ps ++ qs)) d n (length qs / 2)
     (λ k h. rw (front-at ps qs (2 * k) (omega arith), front-at ps qs (2 * k + 1) (omega arith)) refl)
     (λ k h. rw (back-at ps qs (2 * (n + k)) (2 * k) (omega arith), back-at ps qs (2 * (n + k) + 1) (2 * k + 1) (omega arith)) refl)
-    (λ k pm. same-round n k (pairSteps qs k) pm whole) normalised)
+    whole normalised)
 
 pub four-run : (tb : ℕ) (ms ns : List Float) (d : Decoder) (n : ℕ) → length ms ≡ 4 * n → n % 64 ≡ 0
     → renormalised 32 (steps tb (fourSteps ms) d n .values) ≡ steps tb (fourSteps ms) d n .values
@@ -141,4 +141,4 @@ four-run tb ms ns d n e whole normalised =
       back-at ms ns (4 * (n + k) + 2) (4 * k + 2) (omega arith),
       back-at ms ns (4 * (n + k) + 3) (4 * k + 3) (omega arith),
     ) refl)
-    (λ k pm. same-round n k (fourSteps ns k) pm whole) normalised)
+    whole normalised)

@@ -93,7 +93,7 @@ module _ (v : ViterbiDecoder) (r₁ r₂ : Released) (dec₀ dec₁ dec₂ out�
       rw (known-run (v .traceback) bs cs (handed v dec₀))
       (two-calls (length bs) (length cs) (λ t. knownCall t bs) (λ t. knownCall t cs) (known-call bs) (known-call cs) (known-enough v (length bs) (length dec₀) (length out₀) e) l k)
 
-  -- soft values: n steps first, with n % 64 = 0, that leave path values from which subtracting the maximum changes nothing
+  -- soft values: n steps first, with n % 64 = 0, after which subtracting the maximum changes nothing
   pub two-pair-calls : (ps qs : List Float) (n : ℕ) → length ps ≡ 2 * n → n % 64 ≡ 0 → Accepted ≡ firstRow (pushRows v ps (length dec₀) (length out₀))
       → renormalised 32 (steps (v .traceback) (pairSteps ps) (handed v dec₀) n .values) ≡ steps (v .traceback) (pairSteps ps) (handed v dec₀) n .values
       → Leaves (v .traceback) (pairCall (v .traceback) ps (handed v dec₀)) r₁ dec₀ dec₁ out₀ out₁
