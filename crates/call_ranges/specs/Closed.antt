@@ -106,7 +106,7 @@ known-fit {v} i bits n decisions₀ = record {
 pub values-inside : (xs : List Float) → Floats xs → someBeyond streamLimit xs ≡ false → (i : ℕ) → i < length xs → Within (getD xs i nan) streamMost streamMost
 values-inside xs f e i h = inside-within streamLimit (getD xs i nan) streamMost stream-limit (f i) (all-inside streamLimit xs e i h)
 
-stream-inside : (per : ℕ) (v : ViterbiDecoder) (xs : List Float) (decisions out : ℕ) → Floats xs → Accepted ≡ firstRow (streamRows per v xs decisions out) → (i : ℕ) → i < length xs → Within (getD xs i nan) streamMost streamMost
+pub stream-inside : (per : ℕ) (v : ViterbiDecoder) (xs : List Float) (decisions out : ℕ) → Floats xs → Accepted ≡ firstRow (streamRows per v xs decisions out) → (i : ℕ) → i < length xs → Within (getD xs i nan) streamMost streamMost
 stream-inside per v xs decisions out f e =
     let short = stepsShort (length xs / per) v decisions out in
     let below3 = cond short Space Accepted in
@@ -118,7 +118,7 @@ stream-inside per v xs decisions out f e =
     let m = unless (someBeyond streamLimit xs) Sample below3 (omega arith) (l .1) in
     values-inside xs f (m .0)
 
-pair-soft : (xs : List Float) → ((i : ℕ) → i < length xs → Within (getD xs i nan) streamMost streamMost) → (k : ℕ) → k < length xs / 2 → Soft stepMost (pairSteps xs k)
+pub pair-soft : (xs : List Float) → ((i : ℕ) → i < length xs → Within (getD xs i nan) streamMost streamMost) → (k : ℕ) → k < length xs / 2 → Soft stepMost (pairSteps xs k)
 pair-soft xs w k h = two streamMost (lit≤ tt) (w (2 * k) (omega arith)) (w (2 * k + 1) (omega arith))
 
 pub four-soft : (xs : List Float) → ((i : ℕ) → i < length xs → Within (getD xs i nan) streamMost streamMost) → (k : ℕ) → k < length xs / 4 → Soft stepMost (fourSteps xs k)

@@ -39,7 +39,7 @@ passed-first true s e = absurd (numbered Traceback (omega arith) (sym e))
 passed-first false true e = absurd (numbered State (omega arith) (sym e))
 passed-first false false e = (refl, refl)
 
-neither : (a b : Bool) → (a || b) ≡ false → (a ≡ false) × (b ≡ false)
+pub neither : (a b : Bool) → (a || b) ≡ false → (a ≡ false) × (b ≡ false)
 neither false b e = (refl, e)
 neither true b e = (e, absurd (let z : _≡_ {A = ℕ} 0 1 = cc in omega arith))
 

@@ -26,7 +26,7 @@ abbrev pub bare : Decoder → Decoder
 bare d = record { values = d .values; words = d .words; bits = [] }
 
 -- "held words move down and freed words become 0": the decisions after a step without a release, and after one with it
-over-kept : (tb : ℕ) (ws more bs dec : List ℕ) → length ws ≤ length more → decisionsAfter tb more [] (decisionsAfter tb ws bs dec) ≡ decisionsAfter tb more bs dec
+pub over-kept : (tb : ℕ) (ws more bs dec : List ℕ) → length ws ≤ length more → decisionsAfter tb more [] (decisionsAfter tb ws bs dec) ≡ decisionsAfter tb more bs dec
 over-kept tb ws more bs dec h = laid-laid ws more (cond (ltb 0 (length bs)) (laid (replicate (block + tb) 0) dec) dec) h
 
 zeroed : (tb : ℕ) (ws dec : List ℕ) (t : Bool) → length ws < 4096 + tb
@@ -43,7 +43,7 @@ zeroed tb ws dec t h =
 pub cleared : (tb : ℕ) (ws bs dec : List ℕ) → length ws < 4096 + tb → laid (replicate (block + tb) 0) (decisionsAfter tb ws bs dec) ≡ laid (replicate (block + tb) 0) dec
 cleared tb ws bs dec h = zeroed tb ws dec (ltb 0 (length bs)) h
 
-over-released : (tb : ℕ) (ws more bs new dec : List ℕ) → length ws < 4096 + tb → 0 < length new
+pub over-released : (tb : ℕ) (ws more bs new dec : List ℕ) → length ws < 4096 + tb → 0 < length new
     → decisionsAfter tb more new (decisionsAfter tb ws bs dec) ≡ decisionsAfter tb more (bs ++ new) dec
 over-released tb ws more bs new dec h p =
     let one : ltb 0 (length new) ≡ true = lt-ltb 0 (length new) p in

@@ -9,7 +9,9 @@ pub mod Steps
 pub mod Count
 pub mod Holding
 pub mod Whole
-pub mod Pieces
+pub mod Runs
+pub mod TwoCalls
+pub mod OneCall
 pub mod Each
 pub mod Told
 pub mod Parts

@@ -94,7 +94,7 @@ nan-less : (t : Float) → sub binary32 nan t ≡ nan
 unfolding sub add
 nan-less t = refl
 
-getD-renormalised : (pm : List Float) (s : ℕ) → getD (renormalised 32 pm) s nan ≡ sub binary32 (getD pm s nan) (top pm 64)
+pub getD-renormalised : (pm : List Float) (s : ℕ) → getD (renormalised 32 pm) s nan ≡ sub binary32 (getD pm s nan) (top pm 64)
 unfolding renormalised
 getD-renormalised pm s =
     ap (λ (d : Float). getD (map (λ (x : Float). sub binary32 x (top pm 64)) pm) s d) (sym (nan-less (top pm 64)))

@@ -24,7 +24,7 @@ pub in-range : {c B J : ℕ} {pm : List Float} → J ≤ 64 * c → Bounded c B 
 in-range {c} {B} {J} {pm} h i s l = wider (getD pm s nan) (B + 12 * c - J) J (B + 12 * c) (64 * c) (omega arith) h (bounded-within i s l)
 
 module _ {c B : ℕ} (r : Limits c B) (out : ℕ → ℕ → ℕ) (labels : (u s : ℕ) → u < 2 → s < 64 → out u s < 4) (t : Tie) where
-  settled-soft : (i : ℕ) {x : Step} (pm : List Float) → Soft c x → settled 32 out t i x pm ≡ cond (eqb (i % 64) 63) (renormalised 32 pm) pm
+  pub settled-soft : (i : ℕ) {x : Step} (pm : List Float) → Soft c x → settled 32 out t i x pm ≡ cond (eqb (i % 64) 63) (renormalised 32 pm) pm
   unfolding settled
   settled-soft i pm (two d h x y) = refl
   settled-soft i pm (quad s) = refl
