@@ -249,10 +249,25 @@ fn refusals() -> bool {
         && pushed(dec, &wide) == 0
 }
 
-// A text, and a number.
-fn tell(text: &[u8], n: usize) {
-    io::write_all(STDOUT_FILENO, text);
-    io::print_decimal(STDOUT_FILENO, n as u64);
+// A byte of a text; # stands for the next number. How many numbers were shown.
+fn put(byte: u8, numbers: &[usize], k: usize) -> usize {
+    if byte == b'#' {
+        if k < numbers.len() {
+            io::print_decimal(STDOUT_FILENO, numbers[k] as u64);
+            return k + 1;
+        }
+    }
+    let text = [byte];
+    io::write_all(STDOUT_FILENO, &text);
+    k
+}
+
+// A text with numbers.
+fn show(text: &[u8], numbers: &[usize]) {
+    let mut k: usize = 0;
+    for i in 0..text.len() {
+        k = put(text[i], numbers, k);
+    }
 }
 
 // To be counted.
@@ -314,11 +329,9 @@ fn counted(name: &[u8], held: usize, n: usize)
     let mut out = [0u8; 4];
     let s = in_two(dec, &metrics, 0, n, 512, &mut decisions, &mut out);
     let pm = s.second.dec.pm;
+    let values = [count_of(&pm, 0.0), count_of(&pm, -2.0), count_of(&pm, -4.0)];
     io::write_all(STDOUT_FILENO, name);
-    tell(b": ", count_of(&pm, 0.0));
-    tell(b" path values are 0, ", count_of(&pm, -2.0));
-    tell(b" are -2, ", count_of(&pm, -4.0));
-    io::write_all(STDOUT_FILENO, b" are -4\n");
+    show(b": # path values are 0, # are -2, # are -4\n", &values);
 }
 
 // The modulo-2 sum of the low 8 bits of x.
@@ -362,25 +375,21 @@ fn branch_number(state: u8) -> usize {
     refusal::number(answer) as usize
 }
 
-fn encoder_number(state: u8) -> usize {
-    let p = ConvEncoder { state }.push(1);
-    let answer = p.answer;
-    refusal::number(answer) as usize
-}
-
 // All 128 pairs agree. States up to 63 are accepted (0), those above are refused by row 4.
 fn show_branches() {
-    tell(b"branch_output: ", branches());
-    tell(
-        b" of 128 agree; at the states 63, 64, 255: ",
+    let pushed = ConvEncoder { state: 64 }.push(1);
+    let answer = pushed.answer;
+    let found = [
+        branches(),
         branch_number(63),
+        branch_number(64),
+        branch_number(255),
+        refusal::number(answer) as usize,
+    ];
+    show(
+        b"branch_output: # of 128 agree; at the states 63, 64, 255: # # #; an encoder in state 64: #\n",
+        &found,
     );
-    tell(b" ", branch_number(64));
-    tell(b" ", branch_number(255));
-    tell(b", pushed ", encoder_number(63));
-    tell(b" ", encoder_number(64));
-    tell(b" ", encoder_number(255));
-    io::write_all(STDOUT_FILENO, b"\n");
 }
 
 fn draw(x: u64) -> u64 {
@@ -445,15 +454,17 @@ fn release_sent(
 ) -> ViterbiDecoder {
     let made = ViterbiDecoder::new(128);
     let s = in_two(made.dec, metrics, 0, 16892, 16896, decisions, out);
-    tell(b"4223 quadruples release ", s.first.count);
-    tell(b" bits, one more ", s.second.count);
-    tell(b": ", alike(bits, 0, out, 4096));
-    tell(b" as sent, ", words_of(decisions, 128, 4224, 0));
-    tell(
-        b" freed words are 0, ",
+    let found = [
+        s.first.count,
+        s.second.count,
+        alike(bits, 0, out, 4096),
+        words_of(decisions, 128, 4224, 0),
         words_of(decisions, 4224, 4230, 0xffff_ffff_ffff_ffff),
+    ];
+    show(
+        b"4223 quadruples release # bits, one more #: # as sent, # freed words are 0, # past them are kept\n",
+        &found,
     );
-    io::write_all(STDOUT_FILENO, b" past them are kept\n");
     s.second.dec
 }
 
@@ -467,16 +478,23 @@ fn flush_sent(
     out: &mut [u8; 4096],
 ) {
     let f = dec.flush(decisions, out);
-    tell(b"flush: ", f.count);
-    tell(b" bits, ", alike(bits, 4096, out, 128));
-    tell(b" as sent, ", words_of(decisions, 0, 4224, 0));
+    let same = alike(bits, 4096, out, 128);
+    let zeros = words_of(decisions, 0, 4224, 0);
     let g = f.dec.flush(decisions, out);
-    tell(b" words are 0; again: ", g.count);
     let t = in_two(g.dec, metrics, 16896, 16900, 16904, decisions, out);
     let h = t.second.dec.flush(decisions, out);
-    tell(b" bits; two steps more: ", h.count);
-    tell(b" bits, ", alike(bits, 4224, out, 2));
-    io::write_all(STDOUT_FILENO, b" as sent\n");
+    let found = [
+        f.count,
+        same,
+        zeros,
+        g.count,
+        h.count,
+        alike(bits, 4224, out, 2),
+    ];
+    show(
+        b"flush: # bits, # as sent, # words are 0; again: # bits; two steps more: # bits, # as sent\n",
+        &found,
+    );
 }
 
 fn sent_and_released() {
@@ -500,9 +518,11 @@ fn handed_words() {
     let mut out = [7u8; 16];
     let r = dec.flush(&mut decisions, &mut out);
     let traced = [1u8, 1, 1, 1, 1, 1, 1, 1, 1, 1, 0, 0, 0, 0, 0, 0];
-    tell(b"held words of ones: ", r.count);
-    tell(b" bits, ", alike(&traced, 0, &out, 16));
-    io::write_all(STDOUT_FILENO, b" as in 1111111111000000\n");
+    let found = [r.count, alike(&traced, 0, &out, 16)];
+    show(
+        b"held words of ones: # bits, # as in 1111111111000000\n",
+        &found,
+    );
 }
 
 // The row's number in a constructor's answer.
@@ -511,38 +531,27 @@ fn made_number(m: Made) -> usize {
     refusal::number(answer) as usize
 }
 
-fn told_number(r: Released) {
-    tell(b" ", number(r) as usize);
-}
-
-// The numbers of the calls on a handed state, with no output place and just the decision words that a traceback of 1,024 needs.
-fn handed_numbers(dec: ViterbiDecoder, decisions: &mut [u64; 5120], out: &mut [u8; 0]) {
-    let values = [0.0f32; 4];
-    let bits = [0u8; 1];
-    told_number(dec.push(&values, decisions, out));
-    told_number(dec.push_metrics(&values, decisions, out));
-    told_number(dec.push_known(&bits, decisions, out));
-    told_number(dec.flush(decisions, out));
-}
-
-// Row 3 comes before 4,096 + traceback is worked out: 18,446,744,073,709,551,615 and 1,025 give 3 in every call, 1,024 is accepted (0). A constructor takes 0 as 1; a state
-// with 0 is refused.
+// Row 3 comes before 4,096 + traceback is worked out: 18,446,744,073,709,551,615 and 1,025 give 3 in every call; 1,024 is accepted (0), with no output place and just
+// 5,120 decision words. A constructor takes 0 as 1; a state with 0 is refused.
 fn tracebacks(traceback: usize, decisions: &mut [u64; 5120], out: &mut [u8; 0]) {
-    tell(b"traceback ", traceback);
-    tell(b": made ", made_number(ViterbiDecoder::new(traceback)));
-    tell(
-        b" ",
-        made_number(ViterbiDecoder::new_unknown_state(traceback)),
-    );
-    tell(b" ", made_number(ViterbiDecoder::with_state(traceback, 64)));
-    io::write_all(STDOUT_FILENO, b", handed");
     let dec = ViterbiDecoder {
         pm: [0.0f32; 64],
         held: 0,
         traceback,
     };
-    handed_numbers(dec, decisions, out);
-    io::write_all(STDOUT_FILENO, b"\n");
+    let values = [0.0f32; 4];
+    let bits = [0u8; 1];
+    let found = [
+        traceback,
+        made_number(ViterbiDecoder::new(traceback)),
+        made_number(ViterbiDecoder::new_unknown_state(traceback)),
+        made_number(ViterbiDecoder::with_state(traceback, 64)),
+        number(dec.push(&values, decisions, out)) as usize,
+        number(dec.push_metrics(&values, decisions, out)) as usize,
+        number(dec.push_known(&bits, decisions, out)) as usize,
+        number(dec.flush(decisions, out)) as usize,
+    ];
+    show(b"traceback #: made # # #, handed # # # #\n", &found);
 }
 
 fn all_tracebacks() {
