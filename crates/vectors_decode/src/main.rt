@@ -1,6 +1,6 @@
 // `decode_frame` on 264 frames, held to what the given Rust makes of them: every combination alone and mixed, the empty table, all mappings, known and unknown
 // start, clean, noisy and random points, extreme parts, scales from the least subnormal to 64. data/decode.hex is written by compare/vectors.sh; compare/README.md
-// has its fields. Lines that differ are shown, then how many agree and differ.
+// has its fields. Lines that differ are shown, then how many agree and differ. The last line is that of the empty table with decision words of ones before it.
 ghost use Prim.Native.Nat.{_≤_, _<_};
 use isdbs_core::tmcc::Entry;
 use isdbs_core::tmcc::Table;
@@ -271,6 +271,72 @@ fn agreeing(
     agree
 }
 
+fn same(a: u64, b: u64) -> u64
+    ensures { λ r. ⌜ r ≤ 1 ⌝ }
+{
+    if a == b { 1 } else { 0 }
+}
+
+// How many of the words from..to are w.
+fn words_of(words: &[u64; 4230], from: usize, to: usize, w: u64) -> u64
+    requires { ⌜ to ≤ 4230 ⌝ }
+{
+    let mut n: u64 = 0;
+    for i in from..to {
+        n += same(words[i], w);
+    }
+    n
+}
+
+fn show_bit(bit: u8) {
+    match bit {
+        0 => io::write_all(STDOUT_FILENO, b"0"),
+        1 => io::write_all(STDOUT_FILENO, b"1"),
+        _ => io::write_all(STDOUT_FILENO, b"?"),
+    }
+    ;
+}
+
+fn show_bits(bits: &[u8; 18]) {
+    for k in 0..18usize {
+        show_bit(bits[k]);
+    }
+}
+
+// The empty table has no steps and no bytes. Its bits are the 16 known ones of W1, 1B95 in hexadecimal, and those past them are as lent (7, shown as ?). Of the words, which
+// are all ones before, the first 4,224 are 0, though 16 steps have used 16, and the six past them are kept.
+fn empty_table(
+    re: &[f64; 38976],
+    im: &[f64; 38976],
+    decisions: &mut [u64; 4230],
+    bits: &mut [u8; 18],
+    bytes: &mut [u8; 9744],
+) {
+    let o = DemodOptions {
+        mapping: mapping_of(0),
+        known_start: true,
+        llr_scale: 8.0,
+    };
+    let r = decode_frame(re, im, table_of(0), true, o, decisions, bits, bytes);
+    let FrameDecoded::Decoded(n, steps) = r else {
+        return;
+    };
+    io::write_all(STDOUT_FILENO, b"empty table: bytes ");
+    io::print_decimal(STDOUT_FILENO, n as u64);
+    io::write_all(STDOUT_FILENO, b", steps ");
+    io::print_decimal(STDOUT_FILENO, steps as u64);
+    io::write_all(STDOUT_FILENO, b", bits ");
+    show_bits(bits);
+    io::write_all(STDOUT_FILENO, b", words 0 ");
+    io::print_decimal(STDOUT_FILENO, words_of(decisions, 0, 4224, 0));
+    io::write_all(STDOUT_FILENO, b", words kept ");
+    io::print_decimal(
+        STDOUT_FILENO,
+        words_of(decisions, 4224, 4230, 0xffff_ffff_ffff_ffff),
+    );
+    io::write_all(STDOUT_FILENO, b"\n");
+}
+
 fn main() {
     let path = b"decode.hex";
     let file = os::open_read(path);
@@ -296,4 +362,7 @@ fn main() {
     io::write_all(STDOUT_FILENO, b" agree\n");
     io::print_decimal(STDOUT_FILENO, (LINES - agree) as u64);
     io::write_all(STDOUT_FILENO, b" differ\n");
+    let mut words = [0xffff_ffff_ffff_ffffu64; 4230];
+    let mut few = [7u8; 18];
+    empty_table(&re, &im, &mut words, &mut few, &mut bytes);
 }

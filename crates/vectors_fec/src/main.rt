@@ -1,9 +1,12 @@
 // The inner code on published and worked values: the coded tails of the synchronization words, the counts of released bits, and the
 // places where a decoder is easily wrong. `stdout` has the values of document 01.
-ghost use Prim.Native.Nat.{_≤_, _<_};
+ghost use Prim.Native.Nat.{_+_, _≤_, _<_};
+ghost use lib.ListN.{length};
 use isdb_fec::conv::ConvEncoder;
+use isdb_fec::conv::Made;
 use isdb_fec::conv::Released;
 use isdb_fec::conv::ViterbiDecoder;
+use isdb_fec::conv::branch_output;
 use libc::STDOUT_FILENO;
 
 const W1: u32 = 0x1b95;
@@ -246,6 +249,320 @@ fn refusals() -> bool {
         && pushed(dec, &wide) == 0
 }
 
+// A byte of a text; # stands for the next number. How many numbers were shown.
+fn put(byte: u8, numbers: &[usize], k: usize) -> usize {
+    if byte == b'#' {
+        if k < numbers.len() {
+            io::print_decimal(STDOUT_FILENO, numbers[k] as u64);
+            return k + 1;
+        }
+    }
+    let text = [byte];
+    io::write_all(STDOUT_FILENO, &text);
+    k
+}
+
+// A text with numbers.
+fn show(text: &[u8], numbers: &[usize]) {
+    let mut k: usize = 0;
+    for i in 0..text.len() {
+        k = put(text[i], numbers, k);
+    }
+}
+
+// To be counted.
+fn one(holds: bool) -> usize
+    ensures { λ r. ⌜ r ≤ 1 ⌝ }
+{
+    if holds { 1 } else { 0 }
+}
+
+// The decoders that two calls leave.
+struct Two {
+    first: Released,
+    second: Released,
+}
+
+// Pushes the metrics from..at in one call and at..to in another.
+fn in_two(
+    dec: ViterbiDecoder,
+    metrics: &[f32],
+    from: usize,
+    at: usize,
+    to: usize,
+    decisions: &mut [u64],
+    out: &mut [u8],
+) -> Two
+    requires { ⌜ (from ≤ at) × (at ≤ to) × (to ≤ length (now metrics)) ⌝ }
+{
+    let first = dec.push_metrics(&metrics[from..at], decisions, out);
+    let second = first.dec.push_metrics(&metrics[at..to], decisions, out);
+    Two { first, second }
+}
+
+// How many path values are x.
+fn count_of(pm: &[f32; 64], x: f32) -> usize {
+    let mut n: usize = 0;
+    for i in 0..64usize {
+        n += one(pm[i] == x);
+    }
+    n
+}
+
+// 128 quadruples in two calls, the first of n metrics, by a decoder with all path values 0 and the held count given. Each quadruple is 2^20 four times, but the last is
+// 2^20 and three times 2^20 - 2.5. Of the two branches into a state the outputs are complements, so 32 states have a branch (0, 0) and 32 have not, at the last step. The
+// values are then k 2^20 and k 2^20 - 2.5 rounded, k being the steps since the maximum was subtracted: a difference of 2 for k from 17 to 32 (a unit is 2), 4 for k from
+// 33 to 64 (a unit is 4) and 0 for k from 65 to 128 (a unit is 8). Shown is how many path values are 0, -2 and -4.
+fn counted(name: &[u8], held: usize, n: usize)
+    requires { ⌜ n ≤ 512 ⌝ }
+{
+    let mut metrics = [1048576.0f32; 512];
+    metrics[509] = 1048573.5;
+    metrics[510] = 1048573.5;
+    metrics[511] = 1048573.5;
+    let dec = ViterbiDecoder {
+        pm: [0.0f32; 64],
+        held,
+        traceback: 128,
+    };
+    let mut decisions = [0u64; 4224];
+    let mut out = [0u8; 4];
+    let s = in_two(dec, &metrics, 0, n, 512, &mut decisions, &mut out);
+    let pm = s.second.dec.pm;
+    let values = [count_of(&pm, 0.0), count_of(&pm, -2.0), count_of(&pm, -4.0)];
+    io::write_all(STDOUT_FILENO, name);
+    show(b": # path values are 0, # are -2, # are -4\n", &values);
+}
+
+// The modulo-2 sum of the low 8 bits of x.
+fn parity(x: u32) -> u32
+    ensures { λ r. ⌜ r < 2 ⌝ }
+{
+    let a = x ^ (x >> 4);
+    let b = a ^ (a >> 2);
+    (b ^ (b >> 1)) % 2
+}
+
+// The coded pair 2X + Y of the input u at a state: the parities of 64 u + state under 171 and 133 octal.
+fn label(u: u32, state: u32) -> u32
+    ensures { λ r. ⌜ r < 4 ⌝ }
+{
+    let register = (u % 2) * 64 + state % 64;
+    2 * parity(register & 0o171) + parity(register & 0o133)
+}
+
+// Whether `branch_output` is the coded pair, for the register 64 u + state.
+fn is_branch(register: u32) -> bool {
+    let b = branch_output((register % 64) as u8, (register / 64 % 256) as u8);
+    let answer = b.answer;
+    refusal::number(answer) == 0
+        && b.x < 2
+        && 2 * (b.x as u32) + (b.y as u32) == label(register / 64, register)
+}
+
+// How many of the 128 pairs of state and input have the branch output that is worked out here.
+fn branches() -> usize {
+    let mut n: usize = 0;
+    for r in 0..128u32 {
+        n += one(is_branch(r));
+    }
+    n
+}
+
+fn branch_number(state: u8) -> usize {
+    let b = branch_output(state, 1);
+    let answer = b.answer;
+    refusal::number(answer) as usize
+}
+
+// All 128 pairs agree. States up to 63 are accepted (0), those above are refused by row 4.
+fn show_branches() {
+    let pushed = ConvEncoder { state: 64 }.push(1);
+    let answer = pushed.answer;
+    let found = [
+        branches(),
+        branch_number(63),
+        branch_number(64),
+        branch_number(255),
+        refusal::number(answer) as usize,
+    ];
+    show(
+        b"branch_output: # of 128 agree; at the states 63, 64, 255: # # #; an encoder in state 64: #\n",
+        &found,
+    );
+}
+
+fn draw(x: u64) -> u64 {
+    let a = x ^ (x << 13);
+    let b = a ^ (a >> 7);
+    b ^ (b << 17)
+}
+
+// A metric: from 8 to 15 if it is that of the sent pair, else from 0 to 7.
+fn metric(x: u64, sent: bool) -> f32 {
+    let m = (x % 8) as u8;
+    let f = m as f32;
+    if sent { f + 8.0 } else { f }
+}
+
+// Inputs that go by no rule, and a quadruple for each: the sent path, from state 0, has the greatest metric at every step.
+fn send(bits: &mut [u8; 4226], metrics: &mut [f32; 16904]) {
+    let mut x: u64 = 1;
+    let mut state: u32 = 0;
+    for k in 0..4226usize {
+        x = draw(x);
+        let u = (x >> 63) as u32;
+        let sent = label(u, state);
+        state = (u % 2) * 32 + state % 64 / 2;
+        bits[k] = (u % 2) as u8;
+        metrics[4 * k] = metric(x, sent == 0);
+        metrics[4 * k + 1] = metric(x >> 8, sent == 1);
+        metrics[4 * k + 2] = metric(x >> 16, sent == 2);
+        metrics[4 * k + 3] = metric(x >> 24, sent == 3);
+    }
+}
+
+// How many of the n bytes of a after the first `from` are those of b.
+fn alike(a: &[u8], from: usize, b: &[u8], n: usize) -> usize
+    requires { ⌜ (from + n ≤ length (now a)) × (n ≤ length (now b)) ⌝ }
+{
+    let mut same: usize = 0;
+    for i in 0..n {
+        same += one(a[from + i] == b[i]);
+    }
+    same
+}
+
+// How many of the words from..to are w.
+fn words_of(words: &[u64], from: usize, to: usize, w: u64) -> usize
+    requires { ⌜ to ≤ length (now words) ⌝ }
+{
+    let mut n: usize = 0;
+    for i in from..to {
+        n += one(words[i] == w);
+    }
+    n
+}
+
+// 4,223 steps release nothing. Step 4,224 releases the 4,096 oldest bits, all as sent; of the 4,224 words, 128 stay held, the others are 0 and those past them keep
+// their ones.
+fn release_sent(
+    bits: &[u8; 4226],
+    metrics: &[f32; 16904],
+    decisions: &mut [u64; 4230],
+    out: &mut [u8; 4096],
+) -> ViterbiDecoder {
+    let made = ViterbiDecoder::new(128);
+    let s = in_two(made.dec, metrics, 0, 16892, 16896, decisions, out);
+    let found = [
+        s.first.count,
+        s.second.count,
+        alike(bits, 0, out, 4096),
+        words_of(decisions, 128, 4224, 0),
+        words_of(decisions, 4224, 4230, 0xffff_ffff_ffff_ffff),
+    ];
+    show(
+        b"4223 quadruples release # bits, one more #: # as sent, # freed words are 0, # past them are kept\n",
+        &found,
+    );
+    s.second.dec
+}
+
+// The flush puts out the 128 bits left, as sent, and zeroes their words; a second one has none. Path values stay, so the next two steps go on: 2 bits as sent. From path values 0 or those of state 0 they would be read as
+// 00 or 01, where 11 is sent.
+fn flush_sent(
+    dec: ViterbiDecoder,
+    bits: &[u8; 4226],
+    metrics: &[f32; 16904],
+    decisions: &mut [u64; 4230],
+    out: &mut [u8; 4096],
+) {
+    let f = dec.flush(decisions, out);
+    let same = alike(bits, 4096, out, 128);
+    let zeros = words_of(decisions, 0, 4224, 0);
+    let g = f.dec.flush(decisions, out);
+    let t = in_two(g.dec, metrics, 16896, 16900, 16904, decisions, out);
+    let h = t.second.dec.flush(decisions, out);
+    let found = [
+        f.count,
+        same,
+        zeros,
+        g.count,
+        h.count,
+        alike(bits, 4224, out, 2),
+    ];
+    show(
+        b"flush: # bits, # as sent, # words are 0; again: # bits; two steps more: # bits, # as sent\n",
+        &found,
+    );
+}
+
+fn sent_and_released() {
+    let mut bits = [0u8; 4226];
+    let mut metrics = [0.0f32; 16904];
+    let mut decisions = [0xffff_ffff_ffff_ffffu64; 4230];
+    let mut out = [7u8; 4096];
+    send(&mut bits, &mut metrics);
+    let dec = release_sent(&bits, &metrics, &mut decisions, &mut out);
+    flush_sent(dec, &bits, &metrics, &mut decisions, &mut out);
+}
+
+// Held words are traced as they are handed. With ones every predecessor is odd: from state 0, the lowest best, the last six bits are the state's and the ten before them are 1.
+fn handed_words() {
+    let dec = ViterbiDecoder {
+        pm: [0.0f32; 64],
+        held: 16,
+        traceback: 128,
+    };
+    let mut decisions = [0xffff_ffff_ffff_ffffu64; 4224];
+    let mut out = [7u8; 16];
+    let r = dec.flush(&mut decisions, &mut out);
+    let traced = [1u8, 1, 1, 1, 1, 1, 1, 1, 1, 1, 0, 0, 0, 0, 0, 0];
+    let found = [r.count, alike(&traced, 0, &out, 16)];
+    show(
+        b"held words of ones: # bits, # as in 1111111111000000\n",
+        &found,
+    );
+}
+
+// The row's number in a constructor's answer.
+fn made_number(m: Made) -> usize {
+    let answer = m.answer;
+    refusal::number(answer) as usize
+}
+
+// Row 3 comes before 4,096 + traceback is worked out: 18,446,744,073,709,551,615 and 1,025 give 3 in every call; 1,024 is accepted (0), with no output place and just
+// 5,120 decision words. A constructor takes 0 as 1; a state with 0 is refused.
+fn tracebacks(traceback: usize, decisions: &mut [u64; 5120], out: &mut [u8; 0]) {
+    let dec = ViterbiDecoder {
+        pm: [0.0f32; 64],
+        held: 0,
+        traceback,
+    };
+    let values = [0.0f32; 4];
+    let bits = [0u8; 1];
+    let found = [
+        traceback,
+        made_number(ViterbiDecoder::new(traceback)),
+        made_number(ViterbiDecoder::new_unknown_state(traceback)),
+        made_number(ViterbiDecoder::with_state(traceback, 64)),
+        number(dec.push(&values, decisions, out)) as usize,
+        number(dec.push_metrics(&values, decisions, out)) as usize,
+        number(dec.push_known(&bits, decisions, out)) as usize,
+        number(dec.flush(decisions, out)) as usize,
+    ];
+    show(b"traceback #: made # # #, handed # # # #\n", &found);
+}
+
+fn all_tracebacks() {
+    let mut decisions = [0u64; 5120];
+    let mut out = [0u8; 0];
+    tracebacks(0, &mut decisions, &mut out);
+    tracebacks(1024, &mut decisions, &mut out);
+    tracebacks(1025, &mut decisions, &mut out);
+    tracebacks(18446744073709551615, &mut decisions, &mut out);
+}
+
 fn main() {
     print_tails(0);
     print_tails(17);
@@ -261,4 +578,16 @@ fn main() {
     says(b"start loses", start_loses());
     says(b"ties", ties());
     says(b"refusals", refusals());
+    // The maximum is subtracted after steps 64 and 128.
+    counted(b"128 quadruples in one call", 0, 512);
+    // After steps 64, 100 and 128.
+    counted(b"in calls of 100 and 28", 0, 400);
+    // After steps 64 and 128: the count restarts at each call.
+    counted(b"in calls of 64 and 64", 0, 256);
+    // The same: held steps do not count. If they did, it would be after steps 36, 100 and 128.
+    counted(b"in one call after 28 held steps", 28, 512);
+    sent_and_released();
+    handed_words();
+    all_tracebacks();
+    show_branches();
 }

@@ -1,7 +1,11 @@
-// `read_frame` on 24 frames at the ends of the margins: every combination alone and mixed, left-over slots, words that stand for no combination, all mappings,
-// both kinds of frame. Each part of each point lies at one end or the other of its margin, as the generator draws. A line for each frame shows its table as
-// WORDxSLOTS and how many bytes of the load come back.
+// `read_frame` on 25 frames at the ends of the margins: every combination alone and mixed, left-over slots, words that stand for no combination, the empty table, all
+// mappings, both kinds of frame. Each part of each point lies at one end or the other of its margin, as the generator draws; a free part, which may have any accepted value,
+// is 1,024 or -1,024. Free are the imaginary parts of BPSK and both parts of the points outside every run. The slices are ten points longer than a frame, and these hold
+// 5,000, more than a part of a frame may be. A line for each frame shows its table as WORDxSLOTS, how many bytes of the load come back, and how many parts are free: one for each
+// symbol of BPSK, and two for each of the 38,976 that is in no run, a whole unit being unit x 812 symbols.
 ghost use Prim.Native.Nat.{_≤_, _<_};
+use isdbs_core::combination::Combination;
+use isdbs_core::slots::Run;
 use isdbs_core::slots::runs;
 use isdbs_core::tmcc::Entry;
 use isdbs_core::tmcc::Table;
@@ -12,7 +16,7 @@ use libc::STDOUT_FILENO;
 use refusal::Answer;
 
 // The tables. Entry i has its word at bit 16 i and its slots at bit 16 i + 8. Frame k has the mapping k % 8.
-const TABLES: [u64; 24] = [
+const TABLES: [u64; 25] = [
     // each combination in all slots
     0x3007,
     0x3006,
@@ -46,6 +50,8 @@ const TABLES: [u64; 24] = [
     0x0f0f_0c06_0b05_0a04,
     // a combination twice
     0x0d02_0d07_0b01_0b07,
+    // the empty table
+    0x000f_000f_000f_000f,
 ];
 
 // The lists' generator.
@@ -131,17 +137,78 @@ fn moved(clean: f64, draw: u64) -> f64 {
     end(clean, upper)
 }
 
-// Moves every part of the clean points to an end of its margin.
-fn receive(re: &mut [f64; 38976], im: &mut [f64; 38976], seed: u64) {
+// The symbols of BPSK, from `from` up to but not including `to`.
+struct Symbols {
+    from: usize,
+    to: usize,
+}
+
+// The symbols of the run if it is BPSK's and has any, else those found before.
+fn bpsk_run(before: Symbols, run: Run) -> Symbols {
+    let c = run.combination;
+    if run.symbol_start >= run.symbol_end {
+        return before;
+    }
+    match c {
+        Combination::Bpsk1_2 => Symbols {
+            from: run.symbol_start,
+            to: run.symbol_end,
+        },
+        _ => before,
+    }
+}
+
+// The symbols of BPSK in a table, in which it stands once at most.
+fn bpsk_symbols(table: u64) -> Symbols {
+    let r = runs(table_of(table));
+    let rs = r.runs;
+    let none = Symbols { from: 0, to: 0 };
+    let a = bpsk_run(none, rs[0]);
+    let b = bpsk_run(a, rs[1]);
+    let c = bpsk_run(b, rs[2]);
+    bpsk_run(c, rs[3])
+}
+
+// The part received for a clean one.
+fn part(clean: f64, free: bool, draw: u64) -> f64 {
+    if free {
+        return if draw >> 63 == 1 { 1024.0 } else { -1024.0 };
+    }
+    moved(clean, draw)
+}
+
+// Whether a point is outside every run: none within is (0, 0).
+fn is_outside(re: f64, im: f64) -> bool {
+    re == 0.0 && im == 0.0
+}
+
+// Whether the imaginary part of symbol k is free.
+fn is_free(outside: bool, k: usize, bpsk: Symbols) -> bool {
+    outside || (bpsk.from <= k && k < bpsk.to)
+}
+
+fn one(holds: bool) -> usize
+    ensures { λ r. ⌜ r ≤ 1 ⌝ }
+{
+    if holds { 1 } else { 0 }
+}
+
+// Moves every part of the clean points to an end of its margin. How many parts are free.
+fn receive(re: &mut [f64; 38986], im: &mut [f64; 38986], bpsk: Symbols, seed: u64) -> usize {
     let mut x = seed;
     let mut k: usize = 0;
+    let mut n: usize = 0;
     while k < 38976 {
+        let outside = is_outside(re[k], im[k]);
+        let free = is_free(outside, k, bpsk);
         x = step(x);
-        re[k] = moved(re[k], x);
+        re[k] = part(re[k], outside, x);
         x = step(x);
-        im[k] = moved(im[k], x);
+        im[k] = part(im[k], free, x);
+        n += one(outside) + one(free);
         k += 1;
     }
+    n
 }
 
 // The clean frame of the first `count` bytes.
@@ -171,11 +238,11 @@ fn read(
     exact_frame::read_frame(re, im, t, first, m, decisions, bits, bytes)
 }
 
-// The bytes of the load, as the answer counts them.
-fn told(r: FrameDecoded) -> usize {
+// Whether the answer is that of a load of so many bytes.
+fn told(r: FrameDecoded, count: usize) -> bool {
     match r {
-        FrameDecoded::Decoded(n, _) => n,
-        FrameDecoded::Refused(_) => 0,
+        FrameDecoded::Decoded(n, _) => n == count,
+        FrameDecoded::Refused(_) => false,
     }
 }
 
@@ -198,46 +265,61 @@ fn alike(load: &[u8; 9744], bytes: &[u8; 9744], count: usize) -> usize
     n
 }
 
+// The load is encoded; how many received parts are free.
+struct Sent {
+    encoded: bool,
+    free: usize,
+}
+
 // Makes the load and the received points of frame k.
-fn sent(
+fn make(
     k: u64,
     table: u64,
     count: usize,
-    re: &mut [f64; 38976],
-    im: &mut [f64; 38976],
+    re: &mut [f64; 38986],
+    im: &mut [f64; 38986],
     load: &mut [u8; 9744],
-) -> bool
+) -> Sent
     requires { ⌜ count ≤ 9744 ⌝ }
 {
     let seed = step(k ^ 0x9e37_79b9_7f4a_7c15);
     fill(load, count, seed);
     let answer = clean(k, table, load, count, re, im);
-    receive(re, im, seed ^ 0x5555_5555_5555_5555);
-    refusal::number(answer) == 0
+    let free = receive(re, im, bpsk_symbols(table), seed ^ 0x5555_5555_5555_5555);
+    Sent {
+        encoded: refusal::number(answer) == 0,
+        free,
+    }
 }
 
-// How many bytes of the load of frame k come back: none where the answer is not that of a full load.
-fn back(
+// Whether the answer is that of a full load, how many of its bytes come back, and how many parts of the frame are free.
+struct Back {
+    full: bool,
+    agree: usize,
+    free: usize,
+}
+
+// What comes back of the load of frame k.
+fn read_back(
     k: u64,
     table: u64,
     count: usize,
-    re: &mut [f64; 38976],
-    im: &mut [f64; 38976],
+    re: &mut [f64; 38986],
+    im: &mut [f64; 38986],
     decisions: &mut [u64; 4224],
     bits: &mut [u8; 68224],
     load: &mut [u8; 9744],
     bytes: &mut [u8; 9744],
-) -> usize
+) -> Back
     requires { ⌜ count ≤ 9744 ⌝ }
 {
-    if !sent(k, table, count, re, im, load) {
-        return 0;
-    }
+    let s = make(k, table, count, re, im, load);
     let r = read(k, table, re, im, decisions, bits, bytes);
-    if told(r) != count {
-        return 0;
+    Back {
+        full: s.encoded && told(r, count),
+        agree: alike(load, bytes, count),
+        free: s.free,
     }
-    alike(load, bytes, count)
 }
 
 // Shows an entry that has slots.
@@ -265,45 +347,47 @@ fn show_frame(k: u64, table: u64) {
     }
 }
 
-fn show_bytes(agree: u64, count: u64) {
-    io::print_decimal(STDOUT_FILENO, agree);
+fn show_bytes(b: Back, count: usize) {
+    io::print_decimal(STDOUT_FILENO, b.agree as u64);
     io::write_all(STDOUT_FILENO, b" of ");
-    io::print_decimal(STDOUT_FILENO, count);
-    io::write_all(STDOUT_FILENO, b" bytes agree\n");
+    io::print_decimal(STDOUT_FILENO, count as u64);
+    io::write_all(STDOUT_FILENO, b" bytes agree, ");
+    io::print_decimal(STDOUT_FILENO, b.free as u64);
+    io::write_all(STDOUT_FILENO, b" parts free\n");
 }
 
 // Whether the whole load of frame k comes back.
 fn passes(
     k: u64,
     table: u64,
-    re: &mut [f64; 38976],
-    im: &mut [f64; 38976],
+    re: &mut [f64; 38986],
+    im: &mut [f64; 38986],
     decisions: &mut [u64; 4224],
     bits: &mut [u8; 68224],
     load: &mut [u8; 9744],
     bytes: &mut [u8; 9744],
 ) -> bool {
     let count = load_bytes(table);
-    let agree = back(k, table, count, re, im, decisions, bits, load, bytes);
+    let b = read_back(k, table, count, re, im, decisions, bits, load, bytes);
     show_frame(k, table);
-    show_bytes(agree as u64, count as u64);
-    agree == count
+    show_bytes(b, count);
+    b.full && b.agree == count
 }
 
 // How many frames pass.
 fn passing(
-    re: &mut [f64; 38976],
-    im: &mut [f64; 38976],
+    re: &mut [f64; 38986],
+    im: &mut [f64; 38986],
     decisions: &mut [u64; 4224],
     bits: &mut [u8; 68224],
     load: &mut [u8; 9744],
     bytes: &mut [u8; 9744],
 ) -> u32
-    ensures { λ r. ⌜ r ≤ 24 ⌝ }
+    ensures { λ r. ⌜ r ≤ 25 ⌝ }
 {
     let tables = TABLES;
     let mut agree: u32 = 0;
-    for k in 0..24usize {
+    for k in 0..25usize {
         if passes(k as u64, tables[k], re, im, decisions, bits, load, bytes) {
             agree = agree + 1;
         }
@@ -312,8 +396,8 @@ fn passing(
 }
 
 fn main() {
-    let mut re = [0.0f64; 38976];
-    let mut im = [0.0f64; 38976];
+    let mut re = [5000.0f64; 38986];
+    let mut im = [5000.0f64; 38986];
     let mut decisions = [0u64; 4224];
     let mut bits = [0u8; 68224];
     let mut load = [0u8; 9744];
@@ -326,10 +410,10 @@ fn main() {
         &mut load,
         &mut bytes,
     );
-    if agree == 24 {
-        io::write_all(STDOUT_FILENO, b"24 frames, all bytes agree\n");
+    if agree == 25 {
+        io::write_all(STDOUT_FILENO, b"25 frames, all bytes agree\n");
     } else {
-        io::print_decimal(STDOUT_FILENO, (24 - agree) as u64);
-        io::write_all(STDOUT_FILENO, b" of 24 frames differ\n");
+        io::print_decimal(STDOUT_FILENO, (25 - agree) as u64);
+        io::write_all(STDOUT_FILENO, b" of 25 frames differ\n");
     }
 }

@@ -7,10 +7,10 @@ use Rattle.vectors_margins.proofs.passing.Statement.{statement}
 use Rattle.vectors_margins.proofs.passing.Tie as tie
 
 abbrev Inv-loop : tie.InvT-loop
-Inv-loop re₀ im₀ decisions₀ bits₀ load₀ bytes₀ tables agree₀ k₀ re im decisions bits load bytes agree k = (agree ≤ k) × (k ≤ 24)
+Inv-loop re₀ im₀ decisions₀ bits₀ load₀ bytes₀ tables agree₀ k₀ re im decisions bits load bytes agree k = (agree ≤ k) × (k ≤ 25)
 
 abbrev μ-loop : tie.MeasureT-loop
-μ-loop re₀ im₀ decisions₀ bits₀ load₀ bytes₀ tables agree₀ k₀ re im decisions bits load bytes agree k = 24 - k
+μ-loop re₀ im₀ decisions₀ bits₀ load₀ bytes₀ tables agree₀ k₀ re im decisions bits load bytes agree k = 25 - k
 
 loop-holds : tie.Need-loop-holds Inv-loop μ-loop
 loop-holds c = search needs

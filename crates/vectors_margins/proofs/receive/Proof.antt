@@ -1,29 +1,47 @@
--- `receive` meets its contract. Assumes nothing.
+-- `receive` is safe and ends. Assumes nothing.
+use Prim.Native.Nat.{_-_, _≤_, _+_}
 use borrow.Author.Needs.{needs}
-use Prim.Native.Nat.{_-_, _≤_}
 use Rattle.vectors_margins.proofs.receive.Statement.{statement}
 use Rattle.vectors_margins.proofs.receive.Tie as tie
 
 abbrev Inv-loop : tie.InvT-loop
-Inv-loop re₀ im₀ seed x₀ k₀ re im x k = k ≤ 38976
+Inv-loop re₀ im₀ bpsk seed x₀ k₀ n₀ re im x k n = (n ≤ k + k) × (k ≤ 38976)
 
 abbrev μ-loop : tie.MeasureT-loop
-μ-loop re₀ im₀ seed x₀ k₀ re im x k = 38976 - k
+μ-loop re₀ im₀ bpsk seed x₀ k₀ n₀ re im x k n = 38976 - k
 
 loop-holds : tie.Need-loop-holds Inv-loop μ-loop
 loop-holds c = search needs
 
+mul-is-outside : tie.Need-mul-is-outside Inv-loop μ-loop
+mul-is-outside c = search needs
+
+element-copy-out-is-outside : tie.Need-element-copy-out-is-outside Inv-loop μ-loop
+element-copy-out-is-outside c = search needs
+
+mul-is-outside-2 : tie.Need-mul-is-outside-2 Inv-loop μ-loop
+mul-is-outside-2 c = search needs
+
+element-copy-out-is-outside-2 : tie.Need-element-copy-out-is-outside-2 Inv-loop μ-loop
+element-copy-out-is-outside-2 c = search needs
+
+is-outside-requires : tie.Need-is-outside-requires Inv-loop μ-loop
+is-outside-requires c κs = search needs
+
+is-free-requires : tie.Need-is-free-requires Inv-loop μ-loop
+is-free-requires c κs = search needs
+
 step-requires : tie.Need-step-requires Inv-loop μ-loop
 step-requires c κs = search needs
 
-mul-moved : tie.Need-mul-moved Inv-loop μ-loop
-mul-moved c = search needs
+mul-part : tie.Need-mul-part Inv-loop μ-loop
+mul-part c = search needs
 
-element-copy-out-moved : tie.Need-element-copy-out-moved Inv-loop μ-loop
-element-copy-out-moved c = search needs
+element-copy-out-part : tie.Need-element-copy-out-part Inv-loop μ-loop
+element-copy-out-part c = search needs
 
-moved-requires : tie.Need-moved-requires Inv-loop μ-loop
-moved-requires c κs = search needs
+part-requires : tie.Need-part-requires Inv-loop μ-loop
+part-requires c κs = search needs
 
 mul-re : tie.Need-mul-re Inv-loop μ-loop
 mul-re c = search needs
@@ -34,20 +52,32 @@ element-write-re c = search needs
 step-requires-2 : tie.Need-step-requires-2 Inv-loop μ-loop
 step-requires-2 c κs = search needs
 
-mul-moved-2 : tie.Need-mul-moved-2 Inv-loop μ-loop
-mul-moved-2 c = search needs
+mul-part-2 : tie.Need-mul-part-2 Inv-loop μ-loop
+mul-part-2 c = search needs
 
-element-copy-out-moved-2 : tie.Need-element-copy-out-moved-2 Inv-loop μ-loop
-element-copy-out-moved-2 c = search needs
+element-copy-out-part-2 : tie.Need-element-copy-out-part-2 Inv-loop μ-loop
+element-copy-out-part-2 c = search needs
 
-moved-requires-2 : tie.Need-moved-requires-2 Inv-loop μ-loop
-moved-requires-2 c κs = search needs
+part-requires-2 : tie.Need-part-requires-2 Inv-loop μ-loop
+part-requires-2 c κs = search needs
 
 mul-im : tie.Need-mul-im Inv-loop μ-loop
 mul-im c = search needs
 
 element-write-im : tie.Need-element-write-im Inv-loop μ-loop
 element-write-im c = search needs
+
+one-requires : tie.Need-one-requires Inv-loop μ-loop
+one-requires c κs = search needs
+
+one-requires-2 : tie.Need-one-requires-2 Inv-loop μ-loop
+one-requires-2 c κs = search needs
+
+add-n : tie.Need-add-n Inv-loop μ-loop
+add-n c = search needs
+
+add-n-2 : tie.Need-add-n-2 Inv-loop μ-loop
+add-n-2 c = search needs
 
 add-k : tie.Need-add-k Inv-loop μ-loop
 add-k c = search needs
@@ -68,18 +98,28 @@ receive-spec =
     Inv-loop
     μ-loop
     loop-holds
+    mul-is-outside
+    element-copy-out-is-outside
+    mul-is-outside-2
+    element-copy-out-is-outside-2
+    is-outside-requires
+    is-free-requires
     step-requires
-    mul-moved
-    element-copy-out-moved
-    moved-requires
+    mul-part
+    element-copy-out-part
+    part-requires
     mul-re
     element-write-re
     step-requires-2
-    mul-moved-2
-    element-copy-out-moved-2
-    moved-requires-2
+    mul-part-2
+    element-copy-out-part-2
+    part-requires-2
     mul-im
     element-write-im
+    one-requires
+    one-requires-2
+    add-n
+    add-n-2
     add-k
     loop-less
     loop-again
