@@ -113,7 +113,7 @@ nan-less : (t : Float) → sub binary32 nan t ≡ nan
 unfolding sub add
 nan-less t = refl
 
-getD-renormalised : (pm : List Float) (r : ℕ) → getD (renormalised 32 pm) r nan ≡ sub binary32 (getD pm r nan) (top pm 64)
+pub getD-renormalised : (pm : List Float) (r : ℕ) → getD (renormalised 32 pm) r nan ≡ sub binary32 (getD pm r nan) (top pm 64)
 unfolding renormalised
 getD-renormalised pm r =
     ap (λ (d : Float). getD (map (λ (x : Float). sub binary32 x (top pm 64)) pm) r d) (sym (nan-less (top pm 64)))

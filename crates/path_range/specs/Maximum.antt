@@ -8,13 +8,14 @@ use native.Mathlib.Nat.{mul-le-mul-right}
 use native.Mathlib.Omega.{arith}
 use lib.Dec.{T, lit<, lit≤}
 use lib.Pow.{pow-mono}
-use lib.ListN.{getD, length, length-map, List·getD-map}
+use lib.ListN.{getD, length, length-map}
 use lib.Ieee.{Float, nan, binary32, add, sub, lt, fits, ofBits}
 use borrow.Author.Count.{below-more}
 use Rattle.ieee.specs.Value.{hi, lo, Num}
 use Rattle.ieee.specs.Order.{Le, Lt, lt→value, not-lt→value, value→lt}
 use Rattle.ieee.specs.Rounding.{pow2, pow2-pos}
 use Rattle.lead.specs.Ties.{true-of}
+use Rattle.lead.specs.Maximum.{getD-renormalised}
 use Rattle.trellis.specs.Step.{top, renormalised}
 use Rattle.path_range.specs.Bounds as bounds
 use Rattle.path_range.specs.Bounds.{U, most, above-more, Within, Takes}
@@ -90,16 +91,6 @@ module _ (pm : List Float) (a b : ℕ) (few : a ≤ most) (all : (s : ℕ) → s
   top-is (suc i) h = top-more i h (top-is i (omega arith))
 
 -- ---- the maximum subtracted
-nan-less : (t : Float) → sub binary32 nan t ≡ nan
-unfolding sub add
-nan-less t = refl
-
-pub getD-renormalised : (pm : List Float) (s : ℕ) → getD (renormalised 32 pm) s nan ≡ sub binary32 (getD pm s nan) (top pm 64)
-unfolding renormalised
-getD-renormalised pm s =
-    ap (λ (d : Float). getD (map (λ (x : Float). sub binary32 x (top pm 64)) pm) s d) (sym (nan-less (top pm 64)))
-    ∙ List·getD-map (λ (x : Float). sub binary32 x (top pm 64)) pm s nan
-
 renormalised-count : (pm : List Float) → length (renormalised 32 pm) ≡ length pm
 unfolding renormalised
 renormalised-count pm = length-map pm (λ x. sub binary32 x (top pm 64))
