@@ -426,26 +426,31 @@ fn words_of(words: &[u64], from: usize, to: usize, w: u64) -> usize
     n
 }
 
-// 4,223 steps release nothing. Step 4,224 releases the 4,096 oldest bits, all as sent; of the 4,224 words, 128 stay held, the others are 0 and those past them keep
-// their ones.
+// 4,095 + traceback steps release nothing. One more releases the 4,096 oldest bits, all as sent, traced from the best state; of 4,096 + traceback words, as many as the
+// traceback stay held, the 4,096 others are 0, and those past them keep their ones: 133 of 4,230 with the traceback 1, and 6 with 128.
 fn release_sent(
+    traceback: usize,
     bits: &[u8; 4226],
     metrics: &[f32; 16904],
     decisions: &mut [u64; 4230],
     out: &mut [u8; 4096],
-) -> ViterbiDecoder {
-    let made = ViterbiDecoder::new(128);
-    let a = push_part(made.dec, metrics, 0, 16892, decisions, out);
-    let b = push_part(a.dec, metrics, 16892, 16896, decisions, out);
+) -> ViterbiDecoder
+    requires { ⌜ traceback ≤ 128 ⌝ }
+{
+    let made = ViterbiDecoder::new(traceback);
+    let last = 4095 + traceback;
+    let a = push_part(made.dec, metrics, 0, 4 * last, decisions, out);
+    let b = push_part(a.dec, metrics, 4 * last, 4 * last + 4, decisions, out);
     let found = [
+        last,
         a.count,
         b.count,
         alike(bits, 0, out, 4096),
-        words_of(decisions, 128, 4224, 0),
-        words_of(decisions, 4224, 4230, 0xffff_ffff_ffff_ffff),
+        words_of(decisions, traceback, last + 1, 0),
+        words_of(decisions, last + 1, 4230, 0xffff_ffff_ffff_ffff),
     ];
     show(
-        b"4223 quadruples release # bits, one more #: # as sent, # freed words are 0, # past them are kept\n",
+        b"# quadruples release # bits, one more #: # as sent, # freed words are 0, # past them are kept\n",
         &found,
     );
     b.dec
@@ -486,7 +491,9 @@ fn sent_and_released() {
     let mut decisions = [0xffff_ffff_ffff_ffffu64; 4230];
     let mut out = [7u8; 4096];
     send(&mut bits, &mut metrics);
-    let dec = release_sent(&bits, &metrics, &mut decisions, &mut out);
+    let mut other = [7u8; 4096];
+    release_sent(1, &bits, &metrics, &mut decisions, &mut other);
+    let dec = release_sent(128, &bits, &metrics, &mut decisions, &mut out);
     flush_sent(dec, &bits, &metrics, &mut decisions, &mut out);
 }
 
