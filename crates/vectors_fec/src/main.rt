@@ -277,27 +277,18 @@ fn one(holds: bool) -> usize
     if holds { 1 } else { 0 }
 }
 
-// The decoders that two calls leave.
-struct Two {
-    first: Released,
-    second: Released,
-}
-
-// Pushes the metrics from..at in one call and at..to in another.
-fn in_two(
+// Pushes the metrics from..to.
+fn push_part(
     dec: ViterbiDecoder,
     metrics: &[f32],
     from: usize,
-    at: usize,
     to: usize,
     decisions: &mut [u64],
     out: &mut [u8],
-) -> Two
-    requires { ⌜ (from ≤ at) × (at ≤ to) × (to ≤ length (now metrics)) ⌝ }
+) -> Released
+    requires { ⌜ (from ≤ to) × (to ≤ length (now metrics)) ⌝ }
 {
-    let first = dec.push_metrics(&metrics[from..at], decisions, out);
-    let second = first.dec.push_metrics(&metrics[at..to], decisions, out);
-    Two { first, second }
+    dec.push_metrics(&metrics[from..to], decisions, out)
 }
 
 // How many path values are x.
@@ -327,8 +318,9 @@ fn counted(name: &[u8], held: usize, n: usize)
     };
     let mut decisions = [0u64; 4224];
     let mut out = [0u8; 4];
-    let s = in_two(dec, &metrics, 0, n, 512, &mut decisions, &mut out);
-    let pm = s.second.dec.pm;
+    let a = push_part(dec, &metrics, 0, n, &mut decisions, &mut out);
+    let b = push_part(a.dec, &metrics, n, 512, &mut decisions, &mut out);
+    let pm = b.dec.pm;
     let values = [count_of(&pm, 0.0), count_of(&pm, -2.0), count_of(&pm, -4.0)];
     io::write_all(STDOUT_FILENO, name);
     show(b": # path values are 0, # are -2, # are -4\n", &values);
@@ -369,33 +361,21 @@ fn branches() -> usize {
     n
 }
 
-fn branch_number(state: u8) -> usize {
-    let b = branch_output(state, 1);
-    let answer = b.answer;
-    refusal::number(answer) as usize
-}
-
-// All 128 pairs agree. States up to 63 are accepted (0), those above are refused by row 4.
+// All 128 pairs agree. States up to 63 are accepted, 64 is refused by row 4.
 fn show_branches() {
-    let pushed = ConvEncoder { state: 64 }.push(1);
-    let answer = pushed.answer;
+    let b = branch_output(64, 1);
+    let refused = b.answer;
+    let p = ConvEncoder { state: 64 }.push(1);
+    let answer = p.answer;
     let found = [
         branches(),
-        branch_number(63),
-        branch_number(64),
-        branch_number(255),
+        refusal::number(refused) as usize,
         refusal::number(answer) as usize,
     ];
     show(
-        b"branch_output: # of 128 agree; at the states 63, 64, 255: # # #; an encoder in state 64: #\n",
+        b"branch_output: # of 128 pairs agree; in state 64 it answers #, and an encoder's push #\n",
         &found,
     );
-}
-
-fn draw(x: u64) -> u64 {
-    let a = x ^ (x << 13);
-    let b = a ^ (a >> 7);
-    b ^ (b << 17)
 }
 
 // A metric: from 8 to 15 if it is that of the sent pair, else from 0 to 7.
@@ -410,8 +390,10 @@ fn send(bits: &mut [u8; 4226], metrics: &mut [f32; 16904]) {
     let mut x: u64 = 1;
     let mut state: u32 = 0;
     for k in 0..4226usize {
-        x = draw(x);
-        let u = (x >> 63) as u32;
+        x = x ^ (x << 13);
+        x = x ^ (x >> 7);
+        x = x ^ (x << 17);
+        let u = ((x >> 63) % 2) as u32;
         let sent = label(u, state);
         state = (u % 2) * 32 + state % 64 / 2;
         bits[k] = (u % 2) as u8;
@@ -444,28 +426,34 @@ fn words_of(words: &[u64], from: usize, to: usize, w: u64) -> usize
     n
 }
 
-// 4,223 steps release nothing. Step 4,224 releases the 4,096 oldest bits, all as sent; of the 4,224 words, 128 stay held, the others are 0 and those past them keep
-// their ones.
+// 4,095 + traceback steps release nothing. One more releases the 4,096 oldest bits, all as sent, traced from the best state; of 4,096 + traceback words, as many as the
+// traceback stay held, the 4,096 others are 0, and those past them keep their ones: 133 of 4,230 with the traceback 1, and 6 with 128.
 fn release_sent(
+    traceback: usize,
     bits: &[u8; 4226],
     metrics: &[f32; 16904],
     decisions: &mut [u64; 4230],
     out: &mut [u8; 4096],
-) -> ViterbiDecoder {
-    let made = ViterbiDecoder::new(128);
-    let s = in_two(made.dec, metrics, 0, 16892, 16896, decisions, out);
+) -> ViterbiDecoder
+    requires { ⌜ traceback ≤ 128 ⌝ }
+{
+    let made = ViterbiDecoder::new(traceback);
+    let last = 4095 + traceback;
+    let a = push_part(made.dec, metrics, 0, 4 * last, decisions, out);
+    let b = push_part(a.dec, metrics, 4 * last, 4 * last + 4, decisions, out);
     let found = [
-        s.first.count,
-        s.second.count,
+        last,
+        a.count,
+        b.count,
         alike(bits, 0, out, 4096),
-        words_of(decisions, 128, 4224, 0),
-        words_of(decisions, 4224, 4230, 0xffff_ffff_ffff_ffff),
+        words_of(decisions, traceback, last + 1, 0),
+        words_of(decisions, last + 1, 4230, 0xffff_ffff_ffff_ffff),
     ];
     show(
-        b"4223 quadruples release # bits, one more #: # as sent, # freed words are 0, # past them are kept\n",
+        b"# quadruples release # bits, one more #: # as sent, # freed words are 0, # past them are kept\n",
         &found,
     );
-    s.second.dec
+    b.dec
 }
 
 // The flush puts out the 128 bits left, as sent, and zeroes their words; a second one has none. Path values stay, so the next two steps go on: 2 bits as sent. From path values 0 or those of state 0 they would be read as
@@ -481,8 +469,8 @@ fn flush_sent(
     let same = alike(bits, 4096, out, 128);
     let zeros = words_of(decisions, 0, 4224, 0);
     let g = f.dec.flush(decisions, out);
-    let t = in_two(g.dec, metrics, 16896, 16900, 16904, decisions, out);
-    let h = t.second.dec.flush(decisions, out);
+    let t = push_part(g.dec, metrics, 16896, 16904, decisions, out);
+    let h = t.dec.flush(decisions, out);
     let found = [
         f.count,
         same,
@@ -503,7 +491,9 @@ fn sent_and_released() {
     let mut decisions = [0xffff_ffff_ffff_ffffu64; 4230];
     let mut out = [7u8; 4096];
     send(&mut bits, &mut metrics);
-    let dec = release_sent(&bits, &metrics, &mut decisions, &mut out);
+    let mut other = [7u8; 4096];
+    release_sent(1, &bits, &metrics, &mut decisions, &mut other);
+    let dec = release_sent(128, &bits, &metrics, &mut decisions, &mut out);
     flush_sent(dec, &bits, &metrics, &mut decisions, &mut out);
 }
 

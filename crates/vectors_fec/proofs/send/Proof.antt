@@ -13,9 +13,6 @@ abbrev μ-loop : tie.MeasureT-loop
 loop-holds : tie.Need-loop-holds Inv-loop μ-loop
 loop-holds c = search needs
 
-draw-requires : tie.Need-draw-requires Inv-loop μ-loop
-draw-requires c κs = search needs
-
 cast-u : tie.Need-cast-u Inv-loop μ-loop
 cast-u c = search needs
 
@@ -110,7 +107,6 @@ send-spec =
     Inv-loop
     μ-loop
     loop-holds
-    draw-requires
     cast-u
     label-requires
     mul-state
