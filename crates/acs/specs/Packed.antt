@@ -8,28 +8,14 @@ use native.Mathlib.Nat.{add-zero, add-suc, mul-assoc, mul-comm}
 use lib.Bits.{bitOr, or-shifted-r}
 use lib.Pow.{pow-add, shl-exact}
 use Rattle.trellis.specs.Lists.{packed, bit}
-
-pub bit-lt : (b : Bool) → bit b < 2
-bit-lt true = omega arith
-bit-lt false = omega arith
-
-bit-fits : (b : Bool) (x : ℕ) → bit b * x ≤ x
-bit-fits true x = omega arith
-bit-fits false x = omega arith
-
-pub packed-lt : (f : ℕ → Bool) (n : ℕ) → packed f n < 2 ^ n
-unfolding packed
-packed-lt f zero = omega arith
-packed-lt f (suc n) =
-    let e : 2 ^ suc n ≡ 2 ^ n + 2 ^ n = rw (← add-one n, pow-add 2 n 1) (omega arith) in
-    omega (arith, packed-lt f n, bit-fits (f n) (2 ^ n))
+use Rattle.trellis.specs.ListLaws.{bit-is, packed-small}
 
 -- the next bit, set by a shift and an or in a word of w bits
 pub packed-more : (f : ℕ → Bool) (k w x b : ℕ) → k < w → x ≡ packed f k → b ≡ bit (f k) → bitOr x ((b * 2 ^ k) % 2 ^ w) ≡ packed f (k + 1)
 unfolding packed
 packed-more f k w x b h is-x is-b =
-    let e : (b * 2 ^ k) % 2 ^ w ≡ b * 2 ^ k = shl-exact {a = b} 1 k w (rw is-b (bit-lt (f k))) (omega arith) in
-    let s : x < 2 ^ k = rw is-x (packed-lt f k) in
+    let e : (b * 2 ^ k) % 2 ^ w ≡ b * 2 ^ k = shl-exact {a = b} 1 k w (rw is-b (bit-is (f k) .0)) (omega arith) in
+    let s : x < 2 ^ k = rw is-x (packed-small f k) in
     rw (e, or-shifted-r b k x s, add-one k) (rw (is-x, is-b) (omega arith))
 
 -- two words are one, the second above the first

@@ -16,6 +16,7 @@ use Rattle.trellis.specs.Step.{Step, pair, four, Tie, lower, nexts, next, word,
 use Rattle.trellis.specs.Run.{Decoder, startAt, startUnknown, block, settled, valuesAt, wordAt, decoded, released, stepped, after, closed, pushed, flushed}
 use Rattle.best_path.specs.Paths.{bound, longest, Path, Best, Reading, Any, This, Quadruples}
 use Rattle.trellis.specs.ListLaws.{length-upto, getD-upto}
+use Rattle.trellis.specs.RunLaws.{label-under, after-values}
 use Rattle.best_path.specs.Tracks.{Adds, times, Follows}
 use Rattle.best_path.specs.Decoded.{Did, Ended}
 use Rattle.best_path.specs.Integers.{parts-of, quadruples, Pairs, signs, pairs}
@@ -46,24 +47,6 @@ module _ (half : ℕ) (out : ℕ → ℕ → ℕ) (t : Tie) where
   after-held tb steps d (suc n) h = rw (after-held tb steps d n (omega arith)) (one-more tb n (steps n) (valuesAt half out t steps (d .values) n) (d .words) (upto (wordAt half out t steps (d .values)) n) (d .bits) (omega (arith, length-upto (wordAt half out t steps (d .values)) n)))
 
 -- ---- the path values of a call
-module _ (half : ℕ) (out : ℕ → ℕ → ℕ) (t : Tie) where
-  released-values : (tb : ℕ) (d : Decoder) → released half out t tb d .values ≡ d .values
-  unfolding released
-  released-values tb d = go (leb (block + tb) (length (d .words)))
-    where
-      go : (w : Bool) → cond w (record { values = d .values; words = drop block (d .words); bits = d .bits ++ take block (decoded half out t d) }) d .values ≡ d .values
-      go true = refl
-      go false = refl
-
-  -- releases leave them as they are
-  pub after-values : (tb : ℕ) (steps : ℕ → Step) (d : Decoder) (n : ℕ) → after half out t tb steps d n .values ≡ valuesAt half out t steps (d .values) n
-  unfolding after valuesAt stepped
-  after-values tb steps d zero = refl
-  after-values tb steps d (suc n) =
-      let e = after half out t tb steps d n in
-      released-values tb (record { values = settled half out t n (steps n) (nexts half out t (e .values) (steps n)); words = e .words ++ (word half out t (e .values) (steps n) ∷ []); bits = e .bits })
-      ∙ ap (λ (pm : List Float). settled half out t n (steps n) (nexts half out t pm (steps n))) (after-values tb steps d n)
-
 module _ (half : ℕ) (out : ℕ → ℕ → ℕ) (t : Tie) where
   -- the step x is no known bit, so that the maximum is subtracted only after each 64th step
   abbrev pub Plain : Step → Type 0
@@ -234,10 +217,6 @@ module _ (half : ℕ) (some : 0 < half) (out : ℕ → ℕ → ℕ) (labels : (u
     pairs-unknown = steps-unknown (λ k. pair (lx k) (ly k)) (signs x y) n few (λ k h. plain-pair half out t (lx k) (ly k)) (pairs lx ly x y n two) tb some-tb
 
 -- ---- a code of any constraint length and generators, and the ISDB code
-pub label-under : (c : Code) (u s : ℕ) → label c u s < 4
-unfolding label output
-label-under c u s = omega arith
-
 module _ (c : Code) (t : Tie) (tb : ℕ) (some-tb : 0 < tb) (ms : ℕ → List Float) (m : ℕ → ℕ → ℤ) (n : ℕ) (few : n ≤ longest) (quads : Quadruples ms m n) where
   -- At most 4,096 quadruples of whole numbers within 16, a fresh decoder at the state s (mod the number of states): the bits of one call and a
   -- flush are the inputs of the path of greatest sum from that state, the first of equals.

@@ -16,8 +16,8 @@ use Rattle.trellis.specs.Code.{isdb, label}
 use Rattle.trellis.specs.Step.{Step, lower}
 use Rattle.trellis.specs.Run.{Decoder, block}
 use Rattle.lead.specs.Ties.{false-of}
+use Rattle.trellis.specs.RunLaws.{after-values}
 use Rattle.lead.specs.Complement.{small}
-use Rattle.lead.specs.Traceback.{after-values}
 use Rattle.path_range.specs.Bounds.{Within, wider}
 use Rattle.path_range.specs.Values.{nothing, from-least, to-most}
 use Rattle.path_range.specs.Steps.{Soft, two, quad}

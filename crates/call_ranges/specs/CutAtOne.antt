@@ -12,7 +12,7 @@ use Rattle.trellis.specs.Lists.{upto}
 use Rattle.trellis.specs.Code.{isdb, label, output, tapped}
 use Rattle.trellis.specs.Step.{Step, four, lower, branch, cand, wins, next, nexts, top, renormalised}
 use Rattle.trellis.specs.Run.{Decoder, startUnknown, settled, valuesAt}
-use Rattle.lead.specs.Traceback.{after-values}
+use Rattle.trellis.specs.RunLaws.{after-values}
 use Rattle.isdb_fec.specs.Calls.{fourSteps, steps}
 use Rattle.isdb_fec.specs.Holding.{bare}
 use Rattle.isdb_fec.specs.Runs.{fourCall, then}

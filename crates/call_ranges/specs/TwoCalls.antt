@@ -16,8 +16,8 @@ use Rattle.trellis.specs.Code.{isdb, label}
 use Rattle.trellis.specs.ListLaws.{getD-upto}
 use Rattle.trellis.specs.Step.{Step, known, lower, nexts, ruled}
 use Rattle.trellis.specs.Run.{startAt, startUnknown, settled, valuesAt}
+use Rattle.trellis.specs.RunLaws.{after-values}
 use Rattle.lead.specs.Complement.{small}
-use Rattle.lead.specs.Traceback.{after-values}
 use Rattle.path_range.specs.Steps.{Soft, soft-moves}
 use Rattle.path_range.specs.Invariant.{Bounded, step-bounded}
 use Rattle.path_range.specs.Known.{known-bounded}

@@ -18,8 +18,8 @@ use Rattle.ieee.specs.Constants.{two-to, two-to-num}
 use Rattle.trellis.specs.Code.{isdb, label}
 use Rattle.trellis.specs.Step.{Tie, nexts, renormalised}
 use Rattle.trellis.specs.Run.{valuesAt, pushed}
+use Rattle.trellis.specs.RunLaws.{after-values}
 use Rattle.lead.specs.Complement.{small}
-use Rattle.lead.specs.Traceback.{after-values}
 use Rattle.path_range.specs.Bounds.{Within}
 use Rattle.path_range.specs.Values.{nothing, from-least, to-most}
 use Rattle.path_range.specs.Steps.{Soft, quad}

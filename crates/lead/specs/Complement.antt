@@ -7,6 +7,7 @@ use native.Mathlib.Omega.{arith}
 use lib.Dec.{T, eqb, eqb→eq}
 use Rattle.trellis.specs.Code.{Code, isdb, output, tapped, label}
 use Rattle.trellis.specs.ListLaws.{every, every-at}
+use Rattle.trellis.specs.RunLaws.{label-under}
 
 -- the two pairs that leave the state s are 2 X + Y and its complement, 3 - (2 X + Y)
 test : Code → ℕ → Bool
@@ -21,9 +22,7 @@ unfolding test
 sum s h = eqb→eq (label isdb 0 s + label isdb 1 s) 3 (every-at (test isdb) 64 passes s h)
 
 pub small : (u s : ℕ) → u < 2 → s < 64 → label isdb u s < 4
-small zero s l h = omega (arith, sum s h)
-small (suc zero) s l h = omega (arith, sum s h)
-small (suc (suc u)) s l h = absurd (omega arith)
+small u s l h = label-under isdb u s
 
 pub complement : (u s : ℕ) → u < 2 → s < 64 → label isdb (1 - u) s ≡ 3 - label isdb u s
 complement zero s l h = omega (arith, sum s h)

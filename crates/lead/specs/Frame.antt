@@ -17,7 +17,8 @@ use Rattle.trellis.specs.Run.{Decoder, startAt, valuesAt, after, pushed, flushe
 use Rattle.lead.specs.Favour.{longest, Favours}
 use Rattle.lead.specs.Ties.{true-of, false-of}
 use Rattle.lead.specs.Step.{Leads}
-use Rattle.lead.specs.Traceback.{Along, after-values, after-along, flushed-counted, flushed-along}
+use Rattle.trellis.specs.RunLaws.{after-values}
+use Rattle.lead.specs.Traceback.{Along, after-along, flushed-counted, flushed-along}
 use Rattle.lead.specs.Sent.{moved-is, state-small, best-at, kept-at, leftover, leftover-is, ended}
 use Rattle.lead.specs.Known.{ruledOut, known-best, known-kept}
 

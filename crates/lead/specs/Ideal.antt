@@ -17,7 +17,7 @@ use Rattle.trellis.specs.Step.{four, known, Tie}
 use Rattle.trellis.specs.Run.{after, pushed, flushed}
 use Rattle.lead.specs.Favour.{longest, margin, none, most, least, Above, Favour, Favours}
 use Rattle.lead.specs.Complement.{small}
-use Rattle.lead.specs.Sent.{moved-is}
+use Rattle.lead.specs.Sent.{state-under}
 use Rattle.lead.specs.Frame.{fresh, Decoded, decoded-sent}
 
 abbrev eight : Float
@@ -79,16 +79,11 @@ abbrev pub received : ℕ → List ℕ → ℕ → List Float
 received s us i = ideal (label isdb (getD us i 0) (stateAt 32 s us i))
 
 module _ (s : ℕ) (us : List ℕ) (start : s < 64) (bits : (i : ℕ) → i < length us → getD us i 0 < 2) where
-  state-small : (n : ℕ) → n ≤ length us → stateAt 32 s us n < 64
-  unfolding stateAt
-  state-small zero h = start
-  state-small (suc n) h = moved-is (getD us n 0) (stateAt 32 s us n) (bits n h) (state-small n (omega arith)) .0
-
   pub received-favours : Favours s us (received s us) (length us)
   received-favours = record {
     start = start;
     bits = bits;
-    steps = λ i h. ideal-favours (label isdb (getD us i 0) (stateAt 32 s us i)) (small (getD us i 0) (stateAt 32 s us i) (bits i h) (state-small i (omega arith)));
+    steps = λ i h. ideal-favours (label isdb (getD us i 0) (stateAt 32 s us i)) (small (getD us i 0) (stateAt 32 s us i) (bits i h) (state-under s us (length us) start bits i (omega arith)));
   }
 
   -- so every list of at most 68,208 bits is decoded from these metrics

@@ -77,11 +77,16 @@ settles t pm m s n S N i = go (same (n % 64) 63)
         let b : eqb (n % 64) 63 ≡ false = false-of (eqb (n % 64) 63) (λ b. k (eqb→eq (n % 64) 63 b)) in
         rw (b, f, g) i
 
+-- the states of encoding N bits are states of the code
+pub state-under : (s : ℕ) (us : List ℕ) (N : ℕ) → s < 64 → ((i : ℕ) → i < N → getD us i 0 < 2) → (n : ℕ) → n ≤ N → stateAt 32 s us n < 64
+unfolding stateAt
+state-under s us N start bits zero h = start
+state-under s us N start bits (suc n) h =
+    moved-is (getD us n 0) (stateAt 32 s us n) (bits n h) (state-under s us N start bits n (omega arith)) .0
+
 module _ (t : Tie) (ms : ℕ → List Float) (s : ℕ) (us : List ℕ) (N : ℕ) (few : N ≤ longest) (v : Favours s us ms N) where
   pub state-small : (n : ℕ) → n ≤ N → stateAt 32 s us n < 64
-  unfolding stateAt
-  state-small zero h = v .start
-  state-small (suc n) h = moved-is (getD us n 0) (stateAt 32 s us n) (v .bits n h) (state-small n (omega arith)) .0
+  state-small = state-under s us N (v .start) (v .bits)
 
   -- ---- the lead after n steps
   holds : (n : ℕ) → n ≤ N → At (values t ms s n) (stateAt 32 s us n) (n / 64) (n % 64)

@@ -15,6 +15,7 @@ use Rattle.ieee.specs.Rounding.{le-or-ge}
 use Rattle.trellis.specs.Step.{Step, Tie, nexts, word, best, kept, back, input, traced}
 use Rattle.trellis.specs.Run.{Decoder, block, valuesAt, wordAt, settled, decoded, released, stepped, after, flushed}
 use Rattle.trellis.specs.ListLaws.{length-upto, getD-upto}
+use Rattle.trellis.specs.RunLaws.{after-values}
 use Rattle.lead.specs.Ties.{same}
 
 -- what holds below a, and of the b numbers from a on
@@ -119,10 +120,6 @@ module _ (half : ℕ) (out : ℕ → ℕ → ℕ) (t : Tie) (tb : ℕ) where
           let x = length-drop block (d .words) in
           omega arith
 
-  released-values : (d : Decoder) → released half out t tb d .values ≡ d .values
-  unfolding released
-  released-values d = chosen (λ e. e .values ≡ d .values) (leb (block + tb) (length (d .words))) (less d) d (λ b. refl) refl
-
   released-along : (f : ℕ → ℕ) (d : Decoder) (n : ℕ) → best t (d .values) (2 * half - 1) ≡ f n → Along half f (d .bits) (d .words) n → Along half f (released half out t tb d .bits) (released half out t tb d .words) n
   unfolding released
   released-along f d n e a = chosen (λ e. Along half f (e .bits) (e .words) n) (leb (block + tb) (length (d .words))) (less d) d freed a
@@ -135,13 +132,6 @@ module _ (half : ℕ) (out : ℕ → ℕ → ℕ) (t : Tie) (tb : ℕ) where
   added i x d = record { values = settled half out t i x (nexts half out t (d .values) x); words = d .words ++ (word half out t (d .values) x ∷ []); bits = d .bits }
 
   module _ (steps : ℕ → Step) (d : Decoder) where
-    -- the path values are those of the steps alone, whatever is released
-    pub after-values : (n : ℕ) → after half out t tb steps d n .values ≡ valuesAt half out t steps (d .values) n
-    unfolding after stepped valuesAt
-    after-values zero = refl
-    after-values (suc n) =
-        released-values (added n (steps n) (after half out t tb steps d n)) ∙ ap (λ (pm : List Float). settled half out t n (steps n) (nexts half out t pm (steps n))) (after-values n)
-
     -- each step is put out or held
     pub after-counted : (n : ℕ) → counted (after half out t tb steps d n) ≡ counted d + n
     unfolding after stepped
@@ -164,10 +154,10 @@ module _ (half : ℕ) (out : ℕ → ℕ → ℕ) (t : Tie) (tb : ℕ) where
           rw (add-suc o n)
           (released-along f (added n (steps n) (after half out t tb steps d n)) (suc (o + n)) (ap (λ (pm : List Float). best t pm (2 * half - 1)) settles ∙ b n (omega arith))
           (along-more half f (after half out t tb steps d n .bits) (after half out t tb steps d n .words) (o + n) (after-along n (λ i l. k i (omega arith)) (λ i l. b i (omega arith)))
-          (word half out t (after half out t tb steps d n .values) (steps n)) (rw (after-values n) (k n (omega arith)))))
+          (word half out t (after half out t tb steps d n .values) (steps n)) (rw (after-values half out t tb steps d n) (k n (omega arith)))))
         where
           settles : settled half out t n (steps n) (nexts half out t (after half out t tb steps d n .values) (steps n)) ≡ valuesAt half out t steps (d .values) (suc n)
-          settles = rw (after-values n)
+          settles = rw (after-values half out t tb steps d n)
 
 -- ---- the flush: all bits
 module _ (half : ℕ) (out : ℕ → ℕ → ℕ) (t : Tie) where

@@ -6,3 +6,4 @@ pub mod Run
 pub mod Taps
 pub mod Parity
 pub mod Encoded
+pub mod RunLaws

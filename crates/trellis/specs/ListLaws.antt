@@ -49,11 +49,11 @@ low r q k i h =
     ∙ sym (mul-assoc q (2 ^ d * 2) (2 ^ i)) ∙ ap (λ (x : ℕ). x * 2 ^ i) (sym (mul-assoc q (2 ^ d) 2)) in
     rw (e, add-mul-div-right r (q * 2 ^ d * 2) (pow-pos i)) (add-mul-mod-self-right (r / 2 ^ i) (q * 2 ^ d) 2)
 
-bit-is : (b : Bool) → (bit b < 2) × (bit b % 2 ≡ bit b)
+pub bit-is : (b : Bool) → (bit b < 2) × (bit b % 2 ≡ bit b)
 bit-is true = (omega arith, refl)
 bit-is false = (omega arith, refl)
 
-packed-small : (f : ℕ → Bool) (n : ℕ) → packed f n < 2 ^ n
+pub packed-small : (f : ℕ → Bool) (n : ℕ) → packed f n < 2 ^ n
 unfolding packed
 packed-small f zero = omega arith
 packed-small f (suc n) =
