@@ -1,14 +1,14 @@
 -- Four metrics, and two soft values, as exact branches. Assumes nothing.
-use mathlib.Core.Path.{_≡_, refl, sym, ap, _∙_, subst}
+use mathlib.Core.Path.{_≡_}
 use mathlib.Core.Bool.{Bool, true, false, cond}
 use mathlib.Core.List.{List}
-use Prim.Native.Nat.{ℕ, _+_, _-_, _*_, _/_, _%_, _≤_, _<_}
+use Prim.Native.Nat.{ℕ, _+_, _-_, _/_, _%_, _≤_, _<_}
 use native.Mathlib.Omega.{arith}
 use lib.Dec.{eqb}
 use lib.ListN.{getD}
 use lib.Ieee.{Float, nan, binary32, neg, add}
-use Rattle.ieee.specs.Whole.{On, on-neg}
-use Rattle.trellis.specs.Step.{Step, pair, four, branch, term}
+use Rattle.ieee.specs.Whole.{on-neg}
+use Rattle.trellis.specs.Step.{pair, four, branch, term}
 use Rattle.best_path.specs.Paths.{bound}
 use Rattle.best_path.specs.Viterbi.{Z, plus}
 use Rattle.best_path.specs.Exact.{Whole, Is, is-add}

@@ -1,22 +1,22 @@
 -- What a fresh decoder reads from one call of at most 4,096 steps and a flush, as crate `trellis` defines the calls. Assumes nothing.
 use mathlib.Core.Path.{_≡_, refl, sym, ap, _∙_, subst}
-use mathlib.Core.Bool.{Bool, true, false, not, cond}
+use mathlib.Core.Bool.{Bool, true, false, cond}
 use mathlib.Core.List.{List, [], _∷_, _++_, append-assoc, append-nil}
-use Prim.Native.Nat.{ℕ, zero, suc, _+_, _-_, _*_, _/_, _%_, _^_, _≤_, _<_}
+use Prim.Native.Nat.{ℕ, zero, suc, _+_, _-_, _*_, _%_, _≤_, _<_}
 use native.Mathlib.Nat.{mod-lt, le-of-eq}
 use native.Mathlib.Omega.{arith}
 use lib.IntN.{ℤ}
 use lib.Pow.{pow-pos}
-use lib.Dec.{T, eqb, leb, leb→le, lit≤}
+use lib.Dec.{T, eqb, leb, leb→le}
 use lib.ListN.{getD, length, take, drop, length-append, length-map}
 use lib.Ieee.{Float, nan, binary32, sub, ofBits}
 use Rattle.trellis.specs.Lists.{bit, upto}
-use Rattle.trellis.specs.Code.{Code, isdb, half, stateAt, output, label}
+use Rattle.trellis.specs.Code.{Code, isdb, half, stateAt, label}
 use Rattle.trellis.specs.Step.{Step, pair, four, Tie, lower, nexts, next, word, top, best, renormalised, back, input, traced}
 use Rattle.trellis.specs.Run.{Decoder, startAt, startUnknown, block, settled, valuesAt, wordAt, decoded, released, stepped, after, closed, pushed, flushed}
-use Rattle.best_path.specs.Paths.{bound, longest, Path, Best, Reading, Any, This, Quadruples}
+use Rattle.best_path.specs.Paths.{longest, Path, Best, Reading, Any, This, Quadruples}
 use Rattle.trellis.specs.ListLaws.{length-upto, getD-upto}
-use Rattle.trellis.specs.RunLaws.{label-under, after-values}
+use Rattle.trellis.specs.RunLaws.{label-under}
 use Rattle.best_path.specs.Tracks.{Adds, times, Follows}
 use Rattle.best_path.specs.Decoded.{Did, Ended}
 use Rattle.best_path.specs.Integers.{parts-of, quadruples, Pairs, signs, pairs}

@@ -1,12 +1,12 @@
 -- Whole floats: `Is x z off` says that x is z - off. Their sums are exact, and a comparison of two with one off is that of the whole numbers. Assumes nothing.
-use mathlib.Core.Path.{_≡_, refl, sym, ap, _∙_, subst}
-use mathlib.Core.Bool.{Bool, true, false, not, cond}
-use Prim.Native.Nat.{ℕ, zero, suc, _+_, _-_, _*_, _/_, _%_, _^_, _≤_, _<_}
+use mathlib.Core.Path.{_≡_, refl, sym, ap, _∙_}
+use mathlib.Core.Bool.{Bool, true, false}
+use Prim.Native.Nat.{ℕ, _+_, _-_, _*_, _≤_, _<_}
 use native.Mathlib.Nat.{add-mul, lt-of-mul-lt-mul-right, mul-lt-mul-of-pos-right, le-of-mul-le-mul-right, mul-le-mul-right}
 use native.Mathlib.Omega.{arith}
 use lib.Dec.{T, ltb, leb, ltb→lt, lt→ltb, leb→le, le→leb, lit<, lit≤}
 use lib.Pow.{pow-mono}
-use lib.Ieee.{Float, nan, binary32, add, sub, lt, le, ofBits, fits}
+use lib.Ieee.{Float, binary32, add, sub, lt, le, ofBits, fits}
 use Rattle.ieee.specs.Value.{hi, lo, Num}
 use Rattle.ieee.specs.Order.{lt→value, value→lt, le→value, value→le}
 use Rattle.ieee.specs.Rounding.{pow2, pow2-add, pow2-pos}

@@ -1,23 +1,23 @@
 -- The two starts, and the theorem on decoded bits in the reader's words. Assumes nothing.
-use mathlib.Core.Path.{_≡_, refl, sym, ap, _∙_, subst}
+use mathlib.Core.Path.{_≡_, refl, sym, ap, subst}
 use mathlib.Core.Logic.{_⊎_, inl, inr, ⊎-elim}
-use mathlib.Core.Bool.{Bool, true, false, not, cond}
-use mathlib.Core.List.{List, []}
-use Prim.Native.Nat.{ℕ, zero, suc, _+_, _-_, _*_, _^_, _≤_, _<_}
+use mathlib.Core.Bool.{Bool, true, false, cond}
+use mathlib.Core.List.{List}
+use Prim.Native.Nat.{ℕ, zero, suc, _-_, _*_, _≤_, _<_}
 use native.Mathlib.Omega.{arith}
-use lib.IntN.{ℤ, pos, negsuc, natAbs, _+ℤ_}
+use lib.IntN.{ℤ}
 use lib.Signed.{_≤ℤ_}
 use lib.Dec.{T, eqb, eqb→eq, eqb-refl, lit≤}
-use lib.ListN.{getD, length, replicate, length-replicate, getD-replicate}
+use lib.ListN.{getD, length, replicate, getD-replicate}
 use lib.Ieee.{Float, nan, binary32, fits, ofBits}
-use Rattle.ieee.specs.Value.{hi, lo, Num}
+use Rattle.ieee.specs.Value.{hi, lo}
 use Rattle.ieee.specs.Rounding.{pow2}
-use Rattle.ieee.specs.Whole.{On, hiZ, loZ}
+use Rattle.ieee.specs.Whole.{hiZ, loZ}
 use Rattle.ieee.specs.Whole.{hiZ, loZ}
 use Rattle.trellis.specs.Code.{stateAt}
 use Rattle.trellis.specs.Step.{Step, Tie, back}
 use Rattle.best_path.specs.Paths.{bound, longest, Walk, Path, labelAt, sumℤ, Best, Any, This}
-use Rattle.best_path.specs.Viterbi.{Z, plus, Le, sum}
+use Rattle.best_path.specs.Viterbi.{Z, sum}
 use Rattle.best_path.specs.Greatest.{Greatest, one-first}
 use Rattle.best_path.specs.Exact.{Whole}
 use Rattle.best_path.specs.Tracks.{Adds}

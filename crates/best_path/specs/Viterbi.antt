@@ -1,11 +1,9 @@
 -- Viterbi's algorithm in whole numbers, over any trellis of 2 * half states and either rule for equals. Assumes nothing.
-use mathlib.Core.Bool.{Bool, true, false, cond}
+use mathlib.Core.Bool.{Bool, cond}
 use mathlib.Core.List.{List, [], _∷_, _++_}
-use Prim.Native.Nat.{ℕ, zero, suc, _+_, _-_, _*_, _/_, _%_, _≤_, _<_}
+use Prim.Native.Nat.{ℕ, zero, suc, _+_, _*_, _/_, _%_, _≤_}
 use lib.Dec.{ltb, leb}
-use lib.ListN.{getD}
 use Rattle.trellis.specs.Lists.{bit}
-use Rattle.trellis.specs.Code.{stateAt}
 use Rattle.trellis.specs.Step.{Tie, lower, upper}
 use Rattle.best_path.specs.Paths.{labelAt}
 

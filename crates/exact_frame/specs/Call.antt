@@ -1,19 +1,16 @@
 -- Demand 3 about the call `decode_frame`: from its contract and the margins alone. Assumes nothing.
 use mathlib.Core.Path.{_≡_, refl}
-use mathlib.Core.Logic.{_⊎_, inl, inr}
-use mathlib.Core.Bool.{Bool, true, false, cond, not, _&&_, _||_}
-use mathlib.Core.List.{List, [], _∷_, _++_}
-use Prim.Native.Nat.{ℕ, zero, suc, _+_, _-_, _*_, _<_, _≤_}
+use mathlib.Core.Bool.{Bool, true, false, cond, not, _||_}
+use mathlib.Core.List.{List}
+use Prim.Native.Nat.{ℕ, zero, suc, _-_, _<_, _≤_}
 use native.Mathlib.Omega.{arith}
-use lib.Dec.{T, ltb}
+use lib.Dec.{T}
 use lib.ListN.{length, getD, take, drop}
 use lib.Seq.{take-at}
-use lib.Ieee.{Float, nan, binary32, binary64, neg, lt, le, ofBits}
+use lib.Ieee.{Float, nan, binary32, lt, ofBits}
 use borrow.Author.Tests.{le-ltb}
-use Rattle.refusal.specs.declared.Answer.{Answer}
 use Rattle.refusal.specs.declared.Answer.the-variants.{Accepted, Space}
 use Rattle.refusal.specs.Rows.{firstRow}
-use Rattle.trellis.specs.Lists.{laid}
 use Rattle.isdb_fec.specs.Calls.{Either}
 use Rattle.isdbs_core.specs.declared.tmcc.Table.{Table}
 use Rattle.isdbs_core.specs.Tables.{slotSum}
@@ -21,7 +18,7 @@ use Rattle.isdbs_core.specs.RunsOf.{frameSteps, loadBytes}
 use Rattle.isdbs_points.specs.declared.Mapping.{Mapping}
 use Rattle.isdbs_phy.specs.declared.demod.FrameDecoded.{FrameDecoded}
 use Rattle.isdbs_phy.specs.declared.demod.FrameDecoded.the-variants.{Decoded, Refused}
-use Rattle.isdbs_phy.specs.DecodeRows.{within, someBeyond, partLimit, badScale, shortSpace, decodeRows, frameAnswer, Kept}
+use Rattle.isdbs_phy.specs.DecodeRows.{within, someBeyond, partLimit, shortSpace, decodeRows, frameAnswer, Kept}
 use Rattle.isdbs_decode.specs.Runs.{FrameRead}
 use Rattle.margins.specs.Margins.{anyAccepted, Within, FullLoad}
 use Rattle.exact_frame.specs.Steps.{received}

@@ -6,7 +6,7 @@ use lib.Dec.{eqb, ltb}
 use lib.ListN.{length}
 use Rattle.refusal.specs.declared.Answer.the-variants.{Position, Space}
 use Rattle.refusal.specs.Rows.{Row, firstRow, numberOf}
-use Rattle.trellis.specs.Lists.{upto, laid}
+use Rattle.trellis.specs.Lists.{upto}
 use Rattle.isdbs_core.specs.declared.combination.MaybeCombination.{MaybeCombination}
 use Rattle.isdbs_core.specs.declared.combination.MaybeCombination.the-variants.{Some, None}
 use Rattle.isdbs_core.specs.declared.tmcc.Table.{Table}

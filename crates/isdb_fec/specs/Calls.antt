@@ -1,8 +1,8 @@
 -- What each call leaves: the decoder of crate trellis at the code of ISDB. Assumes nothing.
 use mathlib.Core.Path.{_≡_}
-use mathlib.Core.Bool.{Bool, true, false, cond}
+use mathlib.Core.Bool.{cond}
 use mathlib.Core.List.{List, [], _∷_, _++_}
-use Prim.Native.Nat.{ℕ, _+_, _-_, _*_, _<_, _≤_, _/_, _%_}
+use Prim.Native.Nat.{ℕ, _+_, _-_, _*_, _≤_}
 use lib.ListN.{length, getD, take, drop, replicate}
 use lib.Dec.{eqb}
 use lib.Ieee.{Float, nan, binary32, ofBits}
@@ -13,7 +13,7 @@ use Rattle.trellis.specs.Code.{isdb, label}
 use Rattle.trellis.specs.Step as trellis
 use Rattle.trellis.specs.Step.{pair, four, known, lower}
 pub use Rattle.acs.specs.Isdb.{nexts, word, bestState, traced}
-use Rattle.trellis.specs.Run.{Decoder, block, settled, stepped, after, pushed, flushed, decoded, decisionsAfter}
+use Rattle.trellis.specs.Run.{Decoder, block, settled, stepped, after, pushed, flushed, decisionsAfter}
 use Rattle.isdb_fec.specs.declared.conv.Step.{Step}
 use Rattle.isdb_fec.specs.declared.conv.Step.the-variants.{Pair, Four, Known}
 use Rattle.isdb_fec.specs.declared.conv.At.{At}

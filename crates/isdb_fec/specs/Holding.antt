@@ -1,8 +1,8 @@
 -- The path values, the counts and the lent slices follow the decoder through the steps of a call. Assumes nothing.
 use mathlib.Core.Path.{_≡_, refl, sym, _∙_, ap}
 use mathlib.Core.Bool.{Bool, true, false, cond}
-use mathlib.Core.List.{List, [], _∷_, _++_, append-nil}
-use Prim.Native.Nat.{ℕ, zero, suc, _+_, _-_, _*_, _<_, _≤_}
+use mathlib.Core.List.{List, [], _∷_, _++_}
+use Prim.Native.Nat.{ℕ, _+_, _-_, _*_, _<_, _≤_}
 use native.Mathlib.Omega.{arith}
 use native.Mathlib.Numerals.{add-one}
 use lib.Dec.{leb, ltb}
@@ -19,7 +19,7 @@ use Rattle.isdb_fec.specs.Calls.{nexts, word, settle, bestState, traced,
 use Rattle.isdb_fec.specs.Laid.{laid-laid, take-laid, length-laid, laid-after}
 use Rattle.isdb_fec.specs.Traced.{length-traced}
 use Rattle.isdb_fec.specs.Steps.{grown, unreleased, releasing}
-use Rattle.isdb_fec.specs.Count.{Counted, counted, room, releases-is}
+use Rattle.isdb_fec.specs.Count.{counted, room, releases-is}
 
 -- the decoder of the same path values and words that has put out nothing
 abbrev pub bare : Decoder → Decoder

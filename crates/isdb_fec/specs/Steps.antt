@@ -1,19 +1,18 @@
 -- One step of a call, with and without a release, as the lent slices show it. Assumes nothing.
 use mathlib.Core.Path.{_≡_, refl, sym, _∙_, ap}
-use mathlib.Core.Bool.{Bool, true, false, cond}
-use mathlib.Core.List.{List, [], _∷_, _++_, append-nil}
-use Prim.Native.Nat.{ℕ, suc, _+_, _-_, _<_, _≤_}
+use mathlib.Core.Bool.{cond}
+use mathlib.Core.List.{List, [], _∷_, _++_}
+use Prim.Native.Nat.{ℕ, _+_, _-_, _<_, _≤_}
 use native.Mathlib.Omega.{arith}
 use native.Mathlib.Numerals.{add-one}
-use lib.Dec.{leb, ltb}
-use lib.ListN.{length, take, drop, set, replicate, length-append, length-take, length-drop, length-replicate, take-append-drop, length-set}
+use lib.Dec.{ltb}
+use lib.ListN.{length, take, drop, set, replicate, length-append, length-drop, length-replicate, take-append-drop}
 use lib.Seq.{length-take-le, take-suc-set, drop-set-lt}
 use lib.Ieee.{Float}
 use borrow.Author.Tests.{le-leb, lt-leb}
 use Rattle.trellis.specs.Lists.{laid}
 use Rattle.trellis.specs.Step as trellis
-use Rattle.trellis.specs.Run.{Decoder, block, stepped, released, decisionsAfter}
-use Rattle.isdb_fec.specs.declared.conv.At.{At}
+use Rattle.trellis.specs.Run.{Decoder, block, stepped, released}
 use Rattle.isdb_fec.specs.Calls.{nexts, word, settle, bestState, traced, stepOnce, holding, Stepped}
 use Rattle.isdb_fec.specs.Laid.{laid-more}
 use Rattle.isdb_fec.specs.Traced.{length-traced}

@@ -1,5 +1,5 @@
 -- The values that a call takes. Document 01, "Where a call is turned back". Assumes nothing.
-use mathlib.Core.Bool.{Bool, true, false, not, _&&_, _||_}
+use mathlib.Core.Bool.{Bool, false, not, _&&_, _||_}
 use mathlib.Core.List.{List, [], _∷_}
 use lib.Ieee.{Float, binary32, neg, le, ofBits}
 

@@ -1,5 +1,5 @@
 -- A whole call of n steps on a handed decoder: how it begins, what each step asks and leaves, and what it leaves. Assumes nothing.
-use mathlib.Core.Path.{_≡_, refl, sym, _∙_, ap}
+use mathlib.Core.Path.{_≡_, refl, _∙_, ap}
 use mathlib.Core.List.{List}
 use Prim.Native.Nat.{ℕ, _+_, _*_, _<_, _≤_}
 use native.Mathlib.Omega.{arith}
@@ -10,10 +10,9 @@ use Rattle.refusal.specs.declared.Answer.{Answer}
 use Rattle.refusal.specs.declared.Answer.the-variants.{Accepted}
 use Rattle.trellis.specs.Step as trellis
 use Rattle.trellis.specs.Step.{renormalised}
-use Rattle.trellis.specs.Run.{Decoder, after, block}
+use Rattle.trellis.specs.Run.{after}
 use Rattle.isdb_fec.specs.declared.conv.At.{At}
 use Rattle.isdb_fec.specs.declared.conv.ViterbiDecoder.{ViterbiDecoder}
-use Rattle.isdb_fec.specs.declared.conv.Released.{Released}
 use Rattle.isdb_fec.specs.Rows.{releases}
 use Rattle.isdb_fec.specs.Calls.{stepOnce, steps, call, handed, holding, Holds, Stepped, Room, Leaves, Unchanged, Either}
 use Rattle.isdb_fec.specs.Answers.{Enough, refused}

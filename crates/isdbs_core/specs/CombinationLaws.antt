@@ -1,19 +1,17 @@
 -- Laws of the combinations' tables. Assumes nothing.
-use mathlib.Core.Path.{_≡_, refl, _∙_}
+use mathlib.Core.Path.{_≡_, refl}
 use mathlib.Core.Bool.{Bool, true, false, cond}
-use mathlib.Core.List.{List, [], _∷_}
-use Prim.Native.Nat.{ℕ, suc, _+_, _*_, _≤_, _<_}
+use Prim.Native.Nat.{ℕ, _≤_, _<_}
 use lib.Dec.{eqb, lit<, lit≤}
 use lib.ListN.{length}
 use Rattle.isdbs_core.specs.declared.combination.Combination.{Combination}
 use Rattle.isdbs_core.specs.declared.combination.Combination.the-variants.{«Bpsk1_2», «Qpsk1_2», «Qpsk2_3», «Qpsk3_4», «Qpsk5_6», «Qpsk7_8», «Tc8psk2_3»}
-use Rattle.isdbs_core.specs.declared.combination.CombinationWord.{CombinationWord}
 use Rattle.isdbs_core.specs.declared.combination.CombinationWord.the-variants.{Dummy, Reserved}
 use Rattle.isdbs_core.specs.declared.combination.MaybeCombination.{MaybeCombination}
 use Rattle.isdbs_core.specs.declared.combination.MaybeCombination.the-variants.{Some, None}
 use Rattle.isdbs_core.specs.declared.combination.Puncture.{Puncture}
 use Rattle.isdbs_core.specs.declared.combination.Puncture.the-variants.{«R2_3», «R3_4», «R5_6», «R7_8»}
-use Rattle.isdbs_core.specs.Combinations.{unassigned, assignedOf, wordMeans, combinationOf, wordOf, unitOf, efficiencyOf, periodOf, pairsOf}
+use Rattle.isdbs_core.specs.Combinations.{unassigned, assignedOf, combinationOf, wordOf, unitOf, efficiencyOf, periodOf, pairsOf}
 
 neither : (b : Bool) (w : ℕ) → assignedOf (cond b Dummy (Reserved w)) ≡ None
 neither true w = refl

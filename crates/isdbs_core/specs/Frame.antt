@@ -1,8 +1,7 @@
 -- The frame of STD-B20: a header of 192 symbols, then 192 times 203 main-signal symbols and a burst of 4. Assumes nothing.
-use mathlib.Core.Bool.{cond}
 use mathlib.Core.List.{List, [], _∷_}
 use Prim.Native.Nat.{ℕ, _+_, _-_, _*_, _/_, _%_, _^_}
-use lib.Dec.{leb, ltb}
+use lib.Dec.{leb}
 use Rattle.refusal.specs.declared.Answer.the-variants.{Position}
 use Rattle.refusal.specs.Rows.{Row, firstRow}
 use Rattle.isdbs_core.specs.declared.frame as declared

@@ -1,11 +1,11 @@
 -- Laws of tables and padded lists. Assumes nothing.
-use mathlib.Core.Path.{_≡_, refl, sym, _∙_, ap}
+use mathlib.Core.Path.{_≡_, refl, sym, _∙_}
 use mathlib.Core.Logic.{⊎-elim}
 use mathlib.Core.List.{List, [], _∷_, _++_, append-assoc}
 use Prim.Native.Nat.{ℕ, zero, suc, _+_, _-_, _≤_, _<_}
 use native.Mathlib.Omega.{arith}
 use native.Mathlib.Nat.{not-suc-le-zero, ne-of-lt, eq-or-lt-of-le}
-use lib.ListN.{length, getD, set, replicate, length-append, length-replicate, length-set, List·getD-append}
+use lib.ListN.{length, getD, set, replicate, length-append, length-replicate, List·getD-append}
 use lib.Seq.{getD-at, getD-set-same, getD-set-other, set-append-seam, ext-getD}
 use borrow.Author.Count.{below-none, below-more}
 use Rattle.isdbs_core.specs.Lists.{padded, table}

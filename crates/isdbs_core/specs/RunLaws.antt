@@ -1,5 +1,5 @@
 -- Laws of runs: they lie end to end within the frame, and their symbols, valid slots, steps and periods agree. Assumes nothing.
-use mathlib.Core.Path.{_≡_, refl, sym, _∙_, ap}
+use mathlib.Core.Path.{_≡_, refl}
 use mathlib.Core.List.{List, [], _∷_, _++_}
 use Prim.Native.Nat.{ℕ, zero, suc, _+_, _-_, _*_, _/_, _≤_, _<_}
 use native.Mathlib.Omega.{arith}
@@ -15,7 +15,7 @@ use Rattle.isdbs_core.specs.declared.slots.Run.{Run}
 use Rattle.isdbs_core.specs.Lists.{Each, padded}
 use Rattle.isdbs_core.specs.Combinations.{unitOf, slotSteps, punctureOf, modulationOf, periodSteps, periodSymbols, stepBits}
 use Rattle.isdbs_core.specs.Tables.{entryCombination, slotSum}
-use Rattle.isdbs_core.specs.RunsOf.{unitsIn, symbolsIn, runOf, entryRuns, entrySymbols, runsFrom, runsOf, validIn, validTotal, stepsOf, stepsIn, frameSteps, noRun, RunFits}
+use Rattle.isdbs_core.specs.RunsOf.{unitsIn, symbolsIn, runOf, entryRuns, entrySymbols, runsFrom, runsOf, validIn, validTotal, stepsOf, stepsIn, frameSteps, RunFits}
 
 -- ---- a run by itself
 

@@ -8,7 +8,6 @@ use Rattle.refusal.specs.declared.Answer.the-variants.{Position}
 use Rattle.refusal.specs.Rows.{Row, firstRow}
 use Rattle.isdbs_core.specs.declared.frame.Position as place
 use Rattle.isdbs_core.specs.declared.combination.Combination.{Combination}
-use Rattle.isdbs_core.specs.declared.combination.Puncture.{Puncture}
 use Rattle.isdbs_core.specs.declared.combination.MaybePuncture.{MaybePuncture}
 use Rattle.isdbs_core.specs.declared.combination.MaybePuncture.the-variants.{Some, None}
 use Rattle.isdbs_core.specs.declared.combination.Ratio.{Ratio}

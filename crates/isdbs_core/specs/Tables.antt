@@ -1,7 +1,7 @@
 -- Document 01: "a table of four entries (a word, of which the low 4 bits count, and an 8-bit slot count)". Assumes nothing.
-use mathlib.Core.Bool.{Bool, true, false, cond}
-use mathlib.Core.List.{List, [], _∷_, map}
-use Prim.Native.Nat.{ℕ, suc, _+_, _-_, _%_}
+use mathlib.Core.Bool.{Bool, cond}
+use mathlib.Core.List.{List, [], _∷_}
+use Prim.Native.Nat.{ℕ, _+_, _-_, _%_}
 use lib.Dec.{ltb}
 use lib.ListN.{replicate}
 use Rattle.refusal.specs.declared.Answer.{Answer}

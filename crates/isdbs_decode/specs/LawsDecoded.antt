@@ -1,8 +1,8 @@
 -- The decoded bits of a frame: one for each step and the 16 known ones, each 0 or 1, whatever is received. Assumes nothing.
-use mathlib.Core.Path.{_≡_, refl, sym, _∙_, ap}
+use mathlib.Core.Path.{_≡_, refl, _∙_}
 use mathlib.Core.Bool.{Bool, true, false, cond}
 use mathlib.Core.List.{List, [], _∷_, _++_}
-use Prim.Native.Nat.{ℕ, zero, suc, _+_, _-_, _*_, _/_, _%_, _^_, _<_, _≤_}
+use Prim.Native.Nat.{ℕ, zero, suc, _+_, _-_, _/_, _%_, _^_, _<_, _≤_}
 use native.Mathlib.Omega.{arith}
 use native.Mathlib.Nat.{not-suc-le-zero, le-of-suc-le-suc, mod-lt}
 use lib.Dec.{leb, lit<, lit≤}
@@ -10,11 +10,10 @@ use lib.ListN.{length, getD, take, drop, length-append}
 use lib.Ieee.{Float, nan}
 use Rattle.trellis.specs.Lists.{upto}
 use Rattle.trellis.specs.Code.{isdb, label}
-use Rattle.trellis.specs.Step.{Step, Tie, lower, takes, best, kept, back, input, traced}
+use Rattle.trellis.specs.Step.{Step, lower, takes, best, kept, back, input, traced}
 use Rattle.trellis.specs.Run.{Decoder, block, closed, released, stepped, after}
-use Rattle.isdb_fec.specs.Calls.{nexts, word, settle, steps, flush}
+use Rattle.isdb_fec.specs.Calls.{nexts, word, settle, steps}
 use Rattle.isdb_fec.specs.Count.{counted}
-use Rattle.isdb_fec.specs.Rows.{releases}
 use Rattle.isdb_fec.specs.Traced.{length-traced}
 use Rattle.isdbs_core.specs.declared.tmcc.Table.{Table}
 use Rattle.isdbs_core.specs.RunsOf.{frameSteps}

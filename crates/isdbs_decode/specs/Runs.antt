@@ -1,24 +1,24 @@
 -- What reading a run leaves, and what closing a frame leaves: the decoder goes on. Assumes nothing.
 use mathlib.Core.Path.{_≡_}
-use mathlib.Core.Bool.{Bool, cond}
+use mathlib.Core.Bool.{Bool}
 use mathlib.Core.List.{List, []}
 use Prim.Native.Nat.{ℕ, _+_, _*_, _<_, _≤_}
 use lib.ListN.{length, replicate}
 use lib.Ieee.{Float}
-use Rattle.trellis.specs.Lists.{upto, laid}
-use Rattle.trellis.specs.Code.{isdb, label, stateAt}
+use Rattle.trellis.specs.Lists.{laid}
+use Rattle.trellis.specs.Code.{isdb, label}
 use Rattle.trellis.specs.Step.{Step, four, known, lower}
-use Rattle.trellis.specs.Run.{Decoder, after, closed, flushed}
+use Rattle.trellis.specs.Run.{Decoder, closed}
 use Rattle.isdb_fec.specs.declared.conv.At.{At}
 use Rattle.isdb_fec.specs.Calls.{steps, flush, Holds}
 use Rattle.isdbs_core.specs.declared.combination.Combination.{Combination}
 use Rattle.isdbs_core.specs.declared.tmcc.Table.{Table}
-use Rattle.isdbs_core.specs.RunsOf.{frameSteps, loadBytes}
+use Rattle.isdbs_core.specs.RunsOf.{frameSteps}
 use Rattle.isdbs_points.specs.declared.Mapping.{Mapping}
 use Rattle.isdbs_points.specs.Layout.{wordBit, atBit, byteOf}
 use Rattle.isdbs_points.specs.Frame.{labelAt}
 use Rattle.isdbs_metrics.specs.Reading.{Received, metricsAt, bitIn, decodedBits, decodedBytes}
-use Rattle.isdbs_metrics.specs.Steps.{received, pieceMetrics}
+use Rattle.isdbs_metrics.specs.Steps.{pieceMetrics}
 
 -- n steps ys of a call, the first of which is its step i0. Whatever the call's other steps are: the decoder that the values and slices held goes
 -- n steps on.

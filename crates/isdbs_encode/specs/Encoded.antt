@@ -13,7 +13,7 @@ use Rattle.isdbs_points.specs.declared.Mapping.{Mapping}
 use Rattle.isdbs_encode.specs.declared.Pattern.{Pattern}
 use Rattle.isdbs_encode.specs.declared.Period.{Period}
 use Rattle.isdbs_encode.specs.declared.PointTable.{PointTable}
-use Rattle.isdbs_points.specs.Points.{point, qpskOf, psk8Of, subset}
+use Rattle.isdbs_points.specs.Points.{qpskOf, psk8Of, subset}
 use Rattle.isdbs_points.specs.Layout.{orderIn, periodIn, loadBit}
 use Rattle.isdbs_points.specs.Frame.{labelAt, pointIn, codedBit}
 use Rattle.isdbs_points.specs.Pieces.{piece, pieceLabel, pieceState, pieceSymbols, mapped}

@@ -1,5 +1,5 @@
 -- The reading of a received frame. Document 01, "A capture enters `decode_frame`" and "Runs and points". Assumes nothing.
-use mathlib.Core.Bool.{Bool, true, false, cond}
+use mathlib.Core.Bool.{Bool, false, cond}
 use mathlib.Core.List.{List, [], _∷_}
 use Prim.Native.Nat.{ℕ, _+_, _*_, _/_, _%_}
 use lib.ListN.{getD, length}
@@ -7,7 +7,7 @@ use lib.Dec.{eqb, ltb}
 use lib.Ieee.{Float, nan, inf, fin, binary32, binary64, neg, add, sub, mul, lt, ofBits}
 use Rattle.trellis.specs.Lists.{upto, bit}
 use Rattle.trellis.specs.Code.{isdb, label}
-use Rattle.trellis.specs.Step.{Step, four, known, lower}
+use Rattle.trellis.specs.Step.{four, known, lower}
 use Rattle.trellis.specs.Run.{Decoder, startAt, startUnknown, after, pushed, flushed}
 use Rattle.isdbs_core.specs.declared.combination.Combination.{Combination}
 use Rattle.isdbs_core.specs.declared.combination.Modulation.{Modulation}

@@ -1,10 +1,9 @@
 -- A run by itself: what the functions that make its metrics and its bytes give. Slices start at the run's first symbol, step and byte.
 -- Assumes nothing.
 use mathlib.Core.Path.{_≡_}
-use mathlib.Core.Bool.{Bool, cond}
 use mathlib.Core.List.{List}
 use Prim.Native.Nat.{ℕ, zero, suc, _+_, _*_, _/_, _%_, _<_, _≤_}
-use lib.ListN.{getD, length, drop}
+use lib.ListN.{getD, length}
 use lib.Ieee.{Float, nan}
 use Rattle.isdbs_core.specs.declared.combination.Combination.{Combination}
 use Rattle.isdbs_core.specs.declared.combination.Modulation.{Modulation}

@@ -1,11 +1,11 @@
 -- Encoding from a state on: what follows the first inputs is the encoding of the other inputs from the state reached. Assumes nothing.
-use mathlib.Core.Path.{_≡_, refl, sym, _∙_, ap}
+use mathlib.Core.Path.{_≡_, sym, _∙_, ap}
 use mathlib.Core.List.{List}
 use Prim.Native.Nat.{ℕ, zero, suc, _+_, _<_}
 use native.Mathlib.Nat.{add-zero, add-suc}
 use native.Mathlib.Omega.{arith}
 use lib.ListN.{getD}
-use Rattle.trellis.specs.Code.{isdb, label, moved, stateAt}
+use Rattle.trellis.specs.Code.{isdb, stateAt}
 use Rattle.trellis.specs.Encoded.{encoded, reached, encoded-at, reached-is}
 use Rattle.trellis.specs.ListLaws.{length-upto}
 use Rattle.isdbs_core.specs.declared.tmcc.Table.{Table}

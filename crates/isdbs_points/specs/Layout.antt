@@ -1,11 +1,10 @@
 -- Where the symbols, the trellis steps and the load's bits of each run lie in the frame. Assumes nothing.
-use mathlib.Core.Bool.{Bool, cond}
-use mathlib.Core.List.{List, [], _∷_, _++_}
-use Prim.Native.Nat.{ℕ, zero, suc, _+_, _-_, _*_, _/_, _%_, _^_}
-use lib.ListN.{getD, length}
+use mathlib.Core.Bool.{cond}
+use mathlib.Core.List.{List, [], _∷_}
+use Prim.Native.Nat.{ℕ, suc, _+_, _-_, _*_, _/_, _%_, _^_}
+use lib.ListN.{getD}
 use lib.Dec.{eqb, ltb}
 use Rattle.isdbs_core.specs.declared.combination.Combination.{Combination}
-use Rattle.isdbs_core.specs.declared.combination.Combination.the-variants.{«Bpsk1_2»}
 use Rattle.isdbs_core.specs.declared.combination.MaybePuncture.{MaybePuncture}
 use Rattle.isdbs_core.specs.declared.combination.MaybePuncture.the-variants.{Some, None}
 use Rattle.isdbs_core.specs.declared.combination.BitPair.{BitPair}

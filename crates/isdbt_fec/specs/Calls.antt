@@ -1,7 +1,7 @@
 -- What each call leaves. Document 01, "ISDB-T". Assumes nothing.
 use mathlib.Core.Path.{_≡_}
-use mathlib.Core.List.{List, [], _∷_}
-use Prim.Native.Nat.{ℕ, _+_, _*_, _/_, _%_}
+use mathlib.Core.List.{List, []}
+use Prim.Native.Nat.{ℕ, _+_, _*_, _/_}
 use lib.ListN.{length, getD, replicate}
 use lib.Ieee.{Float, nan}
 use Rattle.trellis.specs.Lists.{laid}
@@ -13,7 +13,7 @@ use Rattle.isdbt_fec.specs.declared.conv.CodeRate.{CodeRate}
 use Rattle.isdbt_fec.specs.declared.conv.Encoded.{Encoded}
 use Rattle.isdbt_fec.specs.declared.conv.Done.{Done}
 use Rattle.isdbt_fec.specs.Table.{period, sent}
-use Rattle.isdbt_fec.specs.Puncture.{inputs, punctured, softAt, depunctured}
+use Rattle.isdbt_fec.specs.Puncture.{inputs, punctured, depunctured}
 use Rattle.isdbt_fec.specs.Rows.{depth}
 
 -- the sent bits at the front, the rest as before; the state has taken every bit and carries on from call to call

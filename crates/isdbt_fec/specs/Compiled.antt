@@ -1,16 +1,14 @@
 -- The table's numbers compile to the order of the sent bits. Assumes nothing.
-use mathlib.Core.Path.{_≡_, refl, sym, _∙_, ap}
-use mathlib.Core.Bool.{Bool, true, false, _&&_}
+use mathlib.Core.Path.{_≡_, refl}
+use mathlib.Core.Bool.{Bool, _&&_}
 use mathlib.Core.List.{List, [], _∷_}
 use Prim.Native.Nat.{ℕ, _+_, _-_, _*_, _<_, _≤_}
-use native.Mathlib.Omega.{arith}
 use lib.Dec.{T, ltb, leb, ltb→lt, leb→le}
 use lib.ListN.{getD, replicate}
 use Rattle.trellis.specs.Lists.{upto, laid}
 use Rattle.isdbt_fec.specs.declared.conv.CodeRate.{CodeRate}
 use Rattle.isdbt_fec.specs.declared.conv.CodeRate.the-variants.{R1_2, R2_3, R3_4, R5_6, R7_8}
 use Rattle.isdbt_fec.specs.declared.conv.PunctureSpec.{PunctureSpec}
-use Rattle.isdbt_fec.specs.declared.conv.Puncturing.{Puncturing}
 use Rattle.isdbt_fec.specs.Table.{rowOf, specOf, compiled}
 use Rattle.isdb_fec.specs.Each.{both-left, both-right, all, each}
 

@@ -1,21 +1,19 @@
 -- A decoding call is a push of all its steps and a flush. Assumes nothing.
 use mathlib.Core.Path.{_≡_, refl, sym, _∙_, ap}
 use mathlib.Core.Bool.{Bool, true, false, cond}
-use mathlib.Core.List.{List, [], _∷_, _++_}
+use mathlib.Core.List.{List, _++_}
 use Prim.Native.Nat.{ℕ, zero, suc, _+_, _-_, _*_, _/_, _%_, _<_, _≤_}
 use native.Mathlib.Omega.{arith}
 use lib.Dec.{eqb}
 use lib.ListN.{length, getD, take, drop, replicate, length-replicate}
 use lib.Ieee.{Float, nan}
-use borrow.Author.Tests.{eqb-true, eqb-false}
+use borrow.Author.Tests.{eqb-false}
 use Rattle.trellis.specs.Lists.{upto, laid}
-use Rattle.trellis.specs.Code.{isdb, label}
 use Rattle.trellis.specs.Step as trellis
-use Rattle.trellis.specs.Step.{pair, lower, renormalised}
-use Rattle.trellis.specs.Run.{Decoder, block, startAt, after}
+use Rattle.trellis.specs.Step.{pair, renormalised}
+use Rattle.trellis.specs.Run.{Decoder, startAt, after}
 use Rattle.isdb_fec.specs.declared.conv.At.{At}
 use Rattle.isdb_fec.specs.declared.conv.ViterbiDecoder.{ViterbiDecoder}
-use Rattle.isdb_fec.specs.Rows.{releases}
 use Rattle.isdb_fec.specs.Calls as fec
 use Rattle.isdb_fec.specs.Calls.{Holds, holding, bestState, traced}
 use Rattle.isdb_fec.specs.Answers.{Enough}
@@ -26,11 +24,11 @@ use Rattle.isdb_fec.specs.Holding.{cleared, holding-is}
 use Rattle.isdbt_fec.specs.declared.conv.CodeRate.{CodeRate}
 use Rattle.isdbt_fec.specs.declared.conv.CodeRate.the-variants.{R1_2, R2_3, R3_4, R5_6, R7_8}
 use Rattle.isdbt_fec.specs.declared.conv.Puncturing.{Puncturing}
-use Rattle.isdbt_fec.specs.Table.{period, sent, order, compiled}
+use Rattle.isdbt_fec.specs.Table.{period, sent, compiled}
 use Rattle.isdbt_fec.specs.Puncture.{spread, softAt, depunctured}
 use Rattle.isdbt_fec.specs.Rows.{depth}
 use Rattle.isdbt_fec.specs.Calls.{steps, fresh, decodedBits}
-use Rattle.isdbt_fec.specs.Numbers.{Numbers, numbers}
+use Rattle.isdbt_fec.specs.Numbers.{numbers}
 
 depth-case : (tb : ℕ) (t : Bool) → eqb tb 0 ≡ t → tb ≤ 1024 → (1 ≤ cond t 1 tb) × (cond t 1 tb ≤ 1024)
 depth-case tb true e h = (omega arith, omega arith)

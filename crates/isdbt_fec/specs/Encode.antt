@@ -1,24 +1,22 @@
 -- Encoding period by period is encoding the whole. Assumes nothing.
 use mathlib.Core.Path.{_≡_, refl, sym, _∙_, ap}
-use mathlib.Core.Bool.{Bool, true, false, cond}
-use mathlib.Core.List.{List, [], _∷_, map}
+use mathlib.Core.List.{List, [], _∷_}
 use Prim.Native.Nat.{ℕ, zero, suc, _+_, _-_, _*_, _/_, _%_, _<_, _≤_}
 use native.Mathlib.Omega.{arith}
 use native.Mathlib.Numerals.{add-one}
 use native.Mathlib.Nat.{mod-lt, suc-mul, le-refl, div-add-mod'}
-use lib.Dec.{eqb}
 use lib.ListN.{length, getD, take, drop, set, length-set, length-drop}
 use lib.Seq.{length-take-le, getD-take, getD-drop, getD-set-same, getD-set-other}
 use borrow.Author.Count.{below-more}
-use Rattle.trellis.specs.Lists.{upto, laid}
+use Rattle.trellis.specs.Lists.{upto}
 use Rattle.trellis.specs.Code.{isdb, output, moved, stateAt}
 use Rattle.isdbt_fec.specs.declared.conv.CodeRate.{CodeRate}
 use Rattle.isdbt_fec.specs.declared.conv.CodeRate.the-variants.{R1_2, R2_3, R3_4, R5_6, R7_8}
 use Rattle.isdbt_fec.specs.declared.conv.Puncturing.{Puncturing}
-use Rattle.isdbt_fec.specs.Table.{period, sent, order, compiled}
+use Rattle.isdbt_fec.specs.Table.{period, sent, compiled}
 use Rattle.isdbt_fec.specs.Puncture.{inputs, mother, place, punctured}
 use Rattle.isdbt_fec.specs.Upto.{upto-same}
-use Rattle.isdbt_fec.specs.Numbers.{Numbers, numbers}
+use Rattle.isdbt_fec.specs.Numbers.{numbers}
 use Rattle.isdbt_fec.specs.Sizes.{sizes, order-at, order-below, place-in}
 
 -- the low bit of a byte, past the end too

@@ -2,22 +2,21 @@
 use mathlib.Core.Path.{_≡_, refl, sym, _∙_, ap}
 use mathlib.Core.Bool.{Bool, true, false, cond}
 use mathlib.Core.List.{List, [], _∷_}
-use Prim.Native.Nat.{ℕ, zero, suc, _+_, _-_, _*_, _/_, _%_, _<_, _≤_}
+use Prim.Native.Nat.{ℕ, suc, _+_, _-_, _*_, _/_, _%_, _<_}
 use native.Mathlib.Omega.{arith}
 use lib.Dec.{T, eqb}
-use lib.ListN.{length, getD, take, drop}
-use lib.Seq.{getD-take}
+use lib.ListN.{length, getD}
 use lib.Ieee.{Float, nan, binary32, ofBits}
 use borrow.Author.Tests.{eqb-true}
 use Rattle.trellis.specs.Lists.{upto}
 use Rattle.isdb_fec.specs.Upto.{length-upto, getD-upto}
 use Rattle.isdbt_fec.specs.declared.conv.CodeRate.{CodeRate}
 use Rattle.isdbt_fec.specs.declared.conv.CodeRate.the-variants.{R1_2, R2_3, R3_4, R5_6, R7_8}
-use Rattle.isdbt_fec.specs.Table.{rowX, rowY, period, sent, order}
+use Rattle.isdbt_fec.specs.Table.{period, sent, order}
 use Rattle.isdbt_fec.specs.Puncture.{place, spread, softAt, depunctured, kept}
 use Rattle.isdb_fec.specs.Each.{all, each}
 use Rattle.isdbt_fec.specs.Upto.{upto-same}
-use Rattle.isdbt_fec.specs.Sizes.{Sizes, sizes, place-in, values-there}
+use Rattle.isdbt_fec.specs.Sizes.{place-in}
 
 -- whether k is one of ps
 abbrev has : List ℕ → ℕ → Bool

@@ -1,19 +1,16 @@
 -- What is known of a compiled puncturing, and of the space it takes. Assumes nothing.
-use mathlib.Core.Path.{_≡_, refl, sym, _∙_, ap}
+use mathlib.Core.Path.{_≡_, refl}
 use mathlib.Core.Bool.{Bool, true, false}
-use mathlib.Core.List.{List}
-use Prim.Native.Nat.{ℕ, _+_, _*_, _/_, _%_, _<_, _≤_}
-use native.Mathlib.Omega.{arith}
+use Prim.Native.Nat.{ℕ, _*_, _/_, _<_}
 use native.Mathlib.Nat.{div-lt-iff-lt-mul, le-div-iff-mul-le}
 use lib.Dec.{ltb}
-use lib.ListN.{length, getD, take}
+use lib.ListN.{length, take}
 use borrow.Author.Tests.{lt-ltb, le-ltb, ltb-true, ltb-false}
 use Rattle.isdbt_fec.specs.declared.conv.CodeRate.{CodeRate}
 use Rattle.isdbt_fec.specs.declared.conv.CodeRate.the-variants.{R1_2, R2_3, R3_4, R5_6, R7_8}
 use Rattle.isdbt_fec.specs.declared.conv.Puncturing.{Puncturing}
 use Rattle.isdbt_fec.specs.Table.{period, sent, order, compiled}
-use Rattle.isdbt_fec.specs.Sizes.{Sizes, sizes, in-order, order-at}
-use Rattle.isdb_fec.specs.Each.{all, each}
+use Rattle.isdbt_fec.specs.Sizes.{Sizes, sizes, in-order}
 
 pub record Numbers (rate : CodeRate) (p : Puncturing) : Type 0 where
   pub period-is : p .period ≡ period rate

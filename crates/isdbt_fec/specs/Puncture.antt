@@ -1,5 +1,5 @@
 -- Puncturing of whole periods, and its inverse on soft values. Document 01, "ISDB-T", and ARIB STD-B31, section 3.8. Assumes nothing.
-use mathlib.Core.Bool.{Bool, true, false, cond}
+use mathlib.Core.Bool.{Bool, cond}
 use mathlib.Core.List.{List, [], _∷_, map}
 use Prim.Native.Nat.{ℕ, _+_, _*_, _/_, _%_}
 use lib.ListN.{length, getD}

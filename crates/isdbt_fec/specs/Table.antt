@@ -1,8 +1,8 @@
 -- Table 3-8 of ARIB STD-B31: which bits of the mother code are sent at each code rate, and in what order. Assumes nothing.
 use mathlib.Core.Path.{_≡_, refl}
-use mathlib.Core.Bool.{Bool, true, false, cond}
+use mathlib.Core.Bool.{cond}
 use mathlib.Core.List.{List, [], _∷_, _++_, map}
-use Prim.Native.Nat.{ℕ, zero, suc, _+_, _-_, _*_}
+use Prim.Native.Nat.{ℕ, _+_, _-_, _*_}
 use lib.ListN.{length, replicate}
 use lib.Dec.{eqb}
 use Rattle.isdbt_fec.specs.declared.conv.CodeRate.{CodeRate}

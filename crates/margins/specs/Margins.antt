@@ -3,7 +3,7 @@
 use mathlib.Core.Path.{_≡_}
 use mathlib.Core.Bool.{Bool, true, false, cond, _&&_}
 use mathlib.Core.List.{List}
-use Prim.Native.Nat.{ℕ, _+_, _<_, _≤_}
+use Prim.Native.Nat.{ℕ, _<_, _≤_}
 use lib.ListN.{getD, length}
 use lib.Dec.{T}
 use lib.Ieee.{Float, nan, binary64, neg, eq, le, ofBits}
@@ -14,7 +14,7 @@ use Rattle.isdbs_core.specs.Combinations.{modulationOf}
 use Rattle.isdbs_points.specs.declared.Mapping.{Mapping}
 use Rattle.isdbs_points.specs.Points.{zero64, one64, root64}
 use Rattle.isdbs_phy.specs.DecodeRows.{partLimit}
-use Rattle.isdbs_points.specs.Layout.{Segment, atSymbol}
+use Rattle.isdbs_points.specs.Layout.{atSymbol}
 use Rattle.isdbs_points.specs.Frame.{pointAt, startState}
 
 -- "A margin's ends belong to it"

@@ -1,15 +1,15 @@
 -- The maximum is one of the path values and none is above it. Subtracted, it leaves a best value of 0 and no value above it, and every bound from below
 -- falls by the drift alone. Assumes nothing.
-use mathlib.Core.Path.{_≡_, refl, sym, ap, _∙_}
+use mathlib.Core.Path.{_≡_, refl, ap, _∙_}
 use mathlib.Core.Bool.{Bool, true, false, not, cond}
-use mathlib.Core.List.{List, map}
+use mathlib.Core.List.{List}
 use Prim.Native.Nat.{ℕ, zero, suc, _+_, _-_, _*_, _<_, _≤_}
 use native.Mathlib.Nat.{mul-le-mul-right}
 use native.Mathlib.Omega.{arith}
 use lib.Dec.{T, lit<, lit≤}
 use lib.Pow.{pow-mono}
 use lib.ListN.{getD, length, length-map}
-use lib.Ieee.{Float, nan, binary32, add, sub, lt, fits, ofBits}
+use lib.Ieee.{Float, nan, binary32, sub, lt, fits, ofBits}
 use borrow.Author.Count.{below-more}
 use Rattle.ieee.specs.Value.{hi, lo, Num}
 use Rattle.ieee.specs.Order.{Le, Lt, lt→value, not-lt→value, value→lt}

@@ -1,12 +1,12 @@
 -- One step of Viterbi's algorithm in f32, over a trellis of 2 * half states whose branch from state s on input u carries the label
 -- `out u s` = 2 X + Y, and over the rule for equals. Document 01, "The decoder and encoder". Assumes nothing.
-use mathlib.Core.Bool.{Bool, true, false, cond}
+use mathlib.Core.Bool.{Bool, cond}
 use mathlib.Core.List.{List, map}
 use Prim.Native.Nat.{ℕ, zero, suc, _+_, _-_, _*_, _/_, _%_, _^_}
 use lib.ListN.{getD, length}
 use lib.Dec.{eqb}
 use lib.Ieee.{Float, nan, binary32, neg, add, sub, lt, le, ofBits}
-use Rattle.trellis.specs.Lists.{upto, packed, bit}
+use Rattle.trellis.specs.Lists.{upto, packed}
 
 -- "A trellis step carries two soft values, four branch metrics, or one known bit"
 pub data Step : Type 0 where
