@@ -1,4 +1,4 @@
--- The combinations of modulation and code of STD-B20, as document 01, "Runs and points", lists them. Assumes nothing.
+-- The combinations of modulation and code of STD-B20 (ITU-R BO.1408-1, Tables 1 and 2), as document 01, "Runs and points", lists them. Assumes nothing.
 use mathlib.Core.Bool.{cond}
 use mathlib.Core.List.{List, [], _∷_}
 use Prim.Native.Nat.{ℕ, suc, _+_, _-_, _*_, _%_}

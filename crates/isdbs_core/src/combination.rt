@@ -1,4 +1,5 @@
-// Modulation-code combinations, their words, slot units and punctured codes.
+// Modulation-code combinations and their words (ITU-R BO.1408-1, Table 1), their slot units (MIC Ordinance No. 87 of 2011, annexed table 48, appended
+// note 3) and their punctured codes (BO.1408-1, Table 2; annexed table 49, note 4).
 ghost use mathlib.Core.Path.{_≡_};
 ghost use Prim.Native.Nat.{_*_};
 ghost use Rattle.isdbs_core.specs.Combinations.{combinationOf, wordMeans, assignedOf, wordOf, codeOf, modulationOf, symbolBits, rateOf, efficiencyOf, rankOf, unitOf, slotSteps, punctureOf, pairsFrom, fourPairs, periodOf};
@@ -32,10 +33,10 @@ pub enum Modulation {
     Tc8psk,
 }
 
-// The word of unused entries.
+// The word of unused entries (Table 1: 1111; BO.1408-1, section 6.1.2).
 pub const DUMMY_WORD: u8 = 15;
 
-// The 4-bit word of a table entry: 1 to 7, 15, or reserved.
+// The 4-bit word of a table entry (BO.1408-1, Fig. 8 and Table 1): 1 to 7, 15, or reserved.
 pub enum CombinationWord {
     Assigned(Combination),
     Dummy,

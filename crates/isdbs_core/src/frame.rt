@@ -1,4 +1,5 @@
-// Frame and superframe geometry, and the frame sync words.
+// Frame and superframe geometry, and the frame sync words: the numbers of ITU-R BO.1408-1, Appendix 1, Table 3, and the layout of MIC Ordinance
+// No. 87 of 2011, annexed tables 45, 50 and 51, which ARIB STD-B20 follows.
 //
 //     frame (39,936 symbols)
 //       header, 192 BPSK symbols
@@ -8,23 +9,23 @@ ghost use mathlib.Core.Path.{_≡_};
 ghost use Prim.Native.Nat.{_<_};
 ghost use Rattle.isdbs_core.specs.Frame.{main, placeOf, mainSymbolPosition, burstSymbolPosition, lowBits};
 
-// Slots per frame.
+// Slots per frame, N (Table 3 item 1).
 pub const SLOTS: usize = 48;
-// Frames per superframe.
+// Frames per superframe, M (item 2).
 pub const FRAMES: usize = 8;
-// Bytes per slot on air.
+// Bytes per slot on air, B (item 3: the MPEG sync byte is not sent).
 pub const SLOT_BYTES: usize = 203;
 // Bytes per slot with the sync byte.
 pub const PACKET_BYTES: usize = 204;
-// Main-signal symbols per frame.
+// Main-signal symbols per frame, I_D (item 4).
 pub const MAIN_SYMBOLS: usize = 38_976;
-// Symbols per frame, with header and bursts.
+// Symbols per frame, with header and bursts (item 5).
 pub const FRAME_SYMBOLS: usize = 39_936;
 // Symbols of the header at the start of each frame.
 pub const HEADER_SYMBOLS: usize = 192;
-// Main-signal symbols between two bursts.
+// Main-signal symbols between two bursts (BO.1408-1, section 7).
 pub const BURST_PERIOD: usize = 203;
-// Symbols per burst.
+// Symbols per burst (section 7).
 pub const BURST_SYMBOLS: usize = 4;
 // Bursts per frame.
 pub const BURSTS: usize = 192;
@@ -32,19 +33,19 @@ pub const BURSTS: usize = 192;
 pub const HEADER_BYTES: usize = 12;
 // TMCC bytes per frame.
 pub const TMCC_BYTES_PER_FRAME: usize = 8;
-// Highest spectrum efficiency, bits per symbol.
+// Highest spectrum efficiency, bits per symbol (item 7).
 pub const E_MAX: usize = 2;
-// Symbols of a superframe.
+// Symbols of a superframe (items 2 and 5).
 pub const SUPERFRAME_SYMBOLS: usize = 319_488;
 
-// The sync words: W1 starts every header, W2 ends that of the first frame of a superframe, W3 the others.
+// The sync words (BO.1408-1, section 6.3): W1 starts every header, W2 ends that of the first frame of a superframe, W3 the others.
 pub const W1: u16 = 0x1B95;
 
 pub const W2: u16 = 0xA340;
 
 pub const W3: u16 = 0x5CBF;
 
-// The last 20 bits of W1, W2, W3 after the inner code.
+// The last 20 bits of W1, W2, W3 after the inner code: the first six bits of a word flush the encoder, so these do not depend on its state (section 6.3).
 pub const W1_CODED_TAIL: u32 = 0xECD28;
 
 pub const W2_CODED_TAIL: u32 = 0x0B677;

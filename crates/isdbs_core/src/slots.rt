@@ -1,4 +1,4 @@
-// Where each combination's slots sit in the frame's main signal.
+// Where each combination's slots sit in the frame's main signal (ITU-R BO.1408-1, sections 3.2 and 8). The puncturing begins anew at each run (Table 2, note 1).
 use crate::combination::BitPair;
 use crate::combination::Combination;
 use crate::combination::CombinationWord;

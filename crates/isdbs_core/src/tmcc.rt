@@ -1,4 +1,4 @@
-// The table record of the TMCC information, and the combination of each slot.
+// The table record of the TMCC information (ITU-R BO.1408-1, section 6.1, Fig. 8), and the combination of each slot.
 use crate::combination::Combination;
 use crate::combination::CombinationWord;
 use crate::combination::MaybeCombination;
@@ -7,7 +7,7 @@ ghost use mathlib.Core.Path.{_≡_};
 ghost use lib.ListN.{replicate};
 ghost use Rattle.isdbs_core.specs.Tables.{entryCombination, slotSum, tableAnswer, marked, markIn, markAt, mark, marksOf, slotMarks};
 
-// Combinations that a table carries.
+// Combinations that a table carries, CM (BO.1408-1, Appendix 1, Table 3 item 8).
 pub const CM: usize = 4;
 
 // A table entry: a word, of which the low 4 bits count, and its slots.
@@ -16,7 +16,7 @@ pub struct Entry {
     pub slots: u8,
 }
 
-// An entry not in use.
+// An entry not in use (section 6.1.2).
 pub const DUMMY: Entry = Entry { word: 15, slots: 0 };
 
 impl Entry {

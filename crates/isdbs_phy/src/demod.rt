@@ -1,4 +1,19 @@
-// The main signal of a frame: bytes to points and points to bytes. After demod.rs of isdbs-phy.
+// The main signal of a frame: bytes to points and points to bytes (MIC Ordinance No. 87 of 2011, annexed tables 46 and 49; ITU-R BO.1408-1, section 9,
+// Table 2, Figs. 14 and 15). After demod.rs of isdbs-phy.
+//
+// From bytes to points. A frame's load is 203 bytes for each valid slot, taken high bit first, run after run. One encoder runs through the whole frame
+// (Fig. 14); the puncturing begins anew at each run (Table 2, note 1).
+//   BPSK 1/2: the bit is coded; X, then Y, each on the real part of a symbol.
+//   QPSK: the bits are coded and punctured to pairs (p1, p0); each pair is a symbol, p1 on the real part and p0 on the imaginary one (annexed table 46),
+//     or the reverse by mapping.
+//   TC8PSK 2/3: of two bits the first is C2, sent as it is, and the second is coded to C1 = Y (133 octal) and C0 = X (171 octal), or the reverse by mapping;
+//     4 C2 + 2 C1 + C0 names one of eight points (Fig. 15).
+// Symbols that no run uses are (0, 0). `conjugate` negates every imaginary part: a spectrum inversion in the down-conversion.
+//
+// From points to bytes. One decoder runs through the whole frame too. It starts in the state that the header's W2 or W3 left, reads a quadruple of branch
+// metrics for each coded bit, then the 16 bits of the next frame's W1, which it knows, and puts out all bits. For each (C1, C0) the two points of TC8PSK
+// lie opposite each other: the metric is the magnitude of the correlation with the one of C2 = 0, and C2 is read from its sign once the bits are known,
+// which are encoded again for it.
 use crate::answers::decode_answer;
 use isdb_fec::conv::ConvEncoder;
 use isdbs_core::tmcc::Table;

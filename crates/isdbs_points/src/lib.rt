@@ -1,4 +1,5 @@
-// Signal points by their bits, how a mapping lays them, and the state that a frame starts from. After demod.rs of isdbs-phy.
+// Signal points by their bits (MIC Ordinance No. 87 of 2011, annexed table 46; ITU-R BO.1408-1, Fig. 15), how a mapping lays them, and the state that a
+// frame starts from. After demod.rs of isdbs-phy.
 use isdb_fec::conv::encode_bit;
 use isdbs_core::frame::W2;
 use isdbs_core::frame::W3;
