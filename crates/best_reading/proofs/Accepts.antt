@@ -5,7 +5,7 @@ use mathlib.Core.List.{List, []}
 use Prim.Native.Nat.{ℕ, zero, suc, _+_, _-_, _*_, _/_, _%_, _≤_, _<_}
 use native.Mathlib.Omega.{arith}
 use lib.IntN.{ℤ}
-use lib.Dec.{T, eqb, leb, ltb, leb→le, ltb→lt, lt→ltb, nltb→le, lit≤, lit<}
+use lib.Dec.{T, eqb, leb, ltb, leb→le, ltb→lt, lt→ltb, lit≤, lit<}
 use lib.ListN.{length, getD}
 use lib.Ieee.{Float, nan, binary32, neg, le, ofBits, fits}
 use lib.Ieee.Fits.{and-i}
@@ -21,7 +21,9 @@ use Rattle.best_path.specs.Paths.{longest, bound, Integer, Quadruples, Reading}
 use Rattle.best_path.specs.Exact.{Whole, le-from}
 use Rattle.best_path.specs.Calls.{readBits, isdb-given, isdb-unknown}
 use Rattle.best_path.specs.Integers.{integer-whole, hi-most, lo-most}
-use Rattle.isdb_fec.specs.Answers.{numbered}
+use Rattle.refusal.specs.RowLaws as row
+use Rattle.refusal.specs.RowLaws.{neither}
+use borrow.Author.Tests.{ltb-false}
 use Rattle.isdb_fec.specs.Values.{within, someBeyond, streamLimit}
 use Rattle.isdb_fec.specs.Rows.{badState, pushMetricsRows, flushRows, stepsShort, releases}
 use Rattle.isdb_fec.specs.Calls.{fourSteps, flush}
@@ -89,13 +91,10 @@ module _ (start : Start) (xs : List Float) where
       go l m a false h = absurd h
 
   pub short-refused : (D O : ℕ) → O < length xs / 4 → firstRow (readingRows xs D O) ≡ Accepted → ⊥
-  short-refused D O h = go (not (eqb (length xs % 4) 0)) (someBeyond streamLimit xs) (ltb O (length xs / 4)) (lt→ltb O (length xs / 4) h)
-    where
-      go : (l m b : Bool) → T b → cond l Length (cond m Sample (cond (b || ltb D (block + 128)) Space Accepted)) ≡ Accepted → ⊥
-      go true m b h e = numbered Length (omega arith) e
-      go false true b h e = numbered Sample (omega arith) e
-      go false false true h e = numbered Space (omega arith) e
-      go false false false h e = absurd h
+  short-refused D O h e =
+      let q = neither (ltb O (length xs / 4)) (ltb D (block + 128)) (row.passed (readingRows xs D O) tt e Space) in
+      let l = ltb-false O (length xs / 4) (q .0) in
+      omega arith
 
   -- what an accepted reading tells
   record Passed (D O : ℕ) : Type 0 where
@@ -104,14 +103,10 @@ module _ (start : Start) (xs : List Float) where
     words : block + 128 ≤ D
 
   passed : (D O : ℕ) → firstRow (readingRows xs D O) ≡ Accepted → Passed D O
-  passed D O = go (not (eqb (length xs % 4) 0)) (someBeyond streamLimit xs) refl (ltb O (length xs / 4)) (ltb D (block + 128)) (nltb→le O (length xs / 4)) (nltb→le D (block + 128))
-    where
-      go : (l m : Bool) → someBeyond streamLimit xs ≡ m → (a b : Bool) → (T (not a) → length xs / 4 ≤ O) → (T (not b) → block + 128 ≤ D) → cond l Length (cond m Sample (cond (a || b) Space Accepted)) ≡ Accepted → Passed D O
-      go true m em a b f g e = absurd (numbered Length (omega arith) e)
-      go false true em a b f g e = absurd (numbered Sample (omega arith) e)
-      go false false em true b f g e = absurd (numbered Space (omega arith) e)
-      go false false em false true f g e = absurd (numbered Space (omega arith) e)
-      go false false em false false f g e = record { sample = em; places = f tt; words = g tt }
+  passed D O e =
+      let p = row.passed (readingRows xs D O) tt e in
+      let q = neither (ltb O (length xs / 4)) (ltb D (block + 128)) (p Space) in
+      record { sample = p Sample; places = ltb-false O (length xs / 4) (q .0); words = ltb-false D (block + 128) (q .1) }
 
   -- ---- the rows of `flush`: none holds
   module _ (fit : (i : ℕ) → T (fits binary32 (getD xs i nan))) where

@@ -1,6 +1,6 @@
 -- The three calls put together. Assumes nothing.
 use mathlib.Core.Path.{_≡_, refl, sym, ap, _∙_, subst}
-use mathlib.Core.Logic.{_⊎_, inl, inr, ⊎-elim}
+use mathlib.Core.Logic.{⊎-elim}
 use mathlib.Core.Bool.{Bool, true, false, cond, _||_}
 use mathlib.Core.List.{List, [], _∷_, _++_}
 use Prim.Native.Nat.{ℕ, _+_, _-_, _*_, _/_, _%_, _≤_, _<_}
@@ -10,7 +10,7 @@ use lib.ListN.{length, getD, take, drop, replicate, length-append, length-drop}
 use lib.Ieee.{Float, nan, binary32, fits}
 use Rattle.refusal.specs.Rows.{firstRow}
 use Rattle.refusal.specs.declared.Answer.{Answer}
-use Rattle.refusal.specs.declared.Answer.the-variants.{Accepted, Traceback, State, Space}
+use Rattle.refusal.specs.declared.Answer.the-variants.{Accepted, Space}
 use Rattle.trellis.specs.Lists.{laid}
 use Rattle.trellis.specs.Code.{isdb, label}
 use Rattle.trellis.specs.Step.{lower, input, traced}
@@ -19,9 +19,9 @@ use Rattle.best_path.specs.Paths.{Reading}
 use Rattle.trellis.specs.ListLaws.{length-upto}
 use Rattle.isdb_fec.specs.declared.conv.ViterbiDecoder.{ViterbiDecoder}
 use Rattle.isdb_fec.specs.declared.conv.Released.{Released}
-use Rattle.isdb_fec.specs.Rows.{pushMetricsRows, flushRows, badTraceback, badState, shortOf}
+use Rattle.isdb_fec.specs.Rows.{pushMetricsRows, flushRows}
 use Rattle.isdb_fec.specs.Calls.{fourSteps, call, flush, handed, bestState, Fresh, Zero, Leaves, Flushes, Unchanged, Either}
-use Rattle.isdb_fec.specs.Answers.{numbered}
+use Rattle.refusal.specs.RowLaws.{decided, passed}
 use Rattle.isdb_fec.specs.Laid.{take-laid, laid-after}
 use Rattle.best_reading.specs.declared.Start.{Start}
 use Rattle.best_reading.specs.Calls.{startValues, StartsIn, fresh, read, stateOf, readingRows, Flushed, Finished, Left, GreatestSum}
@@ -49,12 +49,6 @@ flushed before rest dec₁ dec₂ out₁ part end out₂ h e a l o = record {
 }
 
 -- no more bits than places
-either-way : (t s h : Bool) (a : Answer) → a ≡ cond t Traceback (cond s State (cond h Space Accepted)) → ((h ≡ false) × (a ≡ Accepted)) ⊎ (a ≡ Accepted → ⊥)
-either-way true s h a e = inr (λ x. numbered Traceback (omega arith) (sym e ∙ x))
-either-way false true h a e = inr (λ x. numbered State (omega arith) (sym e ∙ x))
-either-way false false true a e = inr (λ x. numbered Space (omega arith) (sym e ∙ x))
-either-way false false false a e = inl (refl, e)
-
 first-false : (a b : Bool) → (a || b) ≡ false → T a → ⊥
 first-false true b e t = subst T e tt
 first-false false b e t = t
@@ -62,12 +56,12 @@ first-false false b e t = t
 pub flushed-few : (v : ViterbiDecoder) (rest : Released) (dec₁ dec₂ part end : List ℕ) → rest .answer ≡ firstRow (flushRows v (length dec₁) (length part)) → Either (rest .answer) (Flushes v rest dec₁ dec₂ part end) (Unchanged v rest dec₁ dec₂ part end) → rest .count ≤ length part
 flushed-few v rest dec₁ dec₂ part end a l =
     ⊎-elim
-    (λ w.
-    let k = l .0 (w .1) .count-is in
-    let h = nltb→le (length part) (v .held) (not-T (ltb (length part) (v .held)) (first-false (ltb (length part) (v .held)) (ltb (length dec₁) (block + v .traceback)) (w .0))) in
+    (λ y.
+    let k = l .0 y .count-is in
+    let h = nltb→le (length part) (v .held) (not-T (ltb (length part) (v .held)) (first-false (ltb (length part) (v .held)) (ltb (length dec₁) (block + v .traceback)) (passed (flushRows v (length dec₁) (length part)) tt (sym a ∙ y) Space))) in
     omega arith)
     (λ w. let k = l .1 w .count-is in omega arith)
-    (either-way (badTraceback v) (badState v) (shortOf (v .held) v (length dec₁) (length part)) (rest .answer) a)
+    (decided (rest .answer))
 
 -- what is promised of the whole; the last follows from the others
 pub record All (start : Start) (xs : List Float) (r : Released) (decisions₀ decisions out₀ out : List ℕ) : Type 0 where

@@ -1,7 +1,7 @@
 -- A decoder state that comes from a fresh start by accepted calls is never refused for its own sake: its path values stay within the row's limit, it holds fewer
 -- than 4,096 + traceback words, and its traceback stays. Assumes nothing.
-use mathlib.Core.Path.{_≡_}
-use mathlib.Core.Bool.{Bool, true, false, not, cond}
+use mathlib.Core.Path.{_≡_, sym}
+use mathlib.Core.Bool.{Bool, true, false, cond}
 use mathlib.Core.List.{List, [], _∷_}
 use Prim.Native.Nat.{ℕ, zero, suc, _+_, _*_, _/_, _%_, _<_, _≤_}
 use native.Mathlib.Nat.{min-le-left}
@@ -11,7 +11,7 @@ use lib.Dec.{T, eqb, eqb→eq, leb, leb→le, ltb, ltb→lt, lit≤}
 use lib.ListN.{getD, length, take, length-take}
 use lib.Ieee.{Float, nan, binary32, le, ofBits}
 use Rattle.refusal.specs.Rows.{firstRow}
-use Rattle.refusal.specs.declared.Answer.the-variants.{Accepted, Traceback, State, Length, Sample, Space}
+use Rattle.refusal.specs.declared.Answer.the-variants.{Accepted, Traceback, Sample}
 use Rattle.trellis.specs.Code.{isdb, label}
 use Rattle.trellis.specs.Step.{Step, lower}
 use Rattle.trellis.specs.Run.{Decoder, block}
@@ -27,10 +27,10 @@ use Rattle.path_range.specs.Starts.{given-bounded, unknown-bounded}
 use Rattle.isdb_fec.specs.declared.conv.ViterbiDecoder.{ViterbiDecoder}
 use Rattle.isdb_fec.specs.declared.conv.Released.{Released}
 use Rattle.isdb_fec.specs.Values.{someBeyond, pathLimit, streamLimit}
-use Rattle.isdb_fec.specs.Rows.{badTraceback, badState, freshRows, handedRows, streamRows, stepsShort}
+use Rattle.isdb_fec.specs.Rows.{badTraceback, badState, freshRows, handedRows, streamRows}
 use Rattle.isdb_fec.specs.Calls.{pairSteps, fourSteps, knownSteps, call, steps, handed, Fresh, Leaves}
 use Rattle.isdb_fec.specs.Count.{counted}
-use Rattle.isdb_fec.specs.Answers.{unless}
+use Rattle.refusal.specs.RowLaws.{passed}
 use Rattle.call_ranges.specs.Numbers.{stepMost, streamMost, ruledOut, deepest, leastPath, pathMost, stream-limits, path-limit, stream-limit, least-path}
 use Rattle.call_ranges.specs.Inside.{inside-within, within-inside, none-beyond, all-inside}
 use Rattle.call_ranges.specs.Reached as reached
@@ -50,8 +50,7 @@ traceback-is false tb f g h = (omega (arith, g), h)
 
 fresh-traceback : (tb : ℕ) → Accepted ≡ firstRow (freshRows tb) → (1 ≤ cond (eqb tb 0) 1 tb) × (cond (eqb tb 0) 1 tb ≤ 1024)
 fresh-traceback tb e =
-    let t = unless (ltb 1024 tb) Traceback Accepted (omega arith) e in
-    traceback-is (eqb tb 0) tb (eqb→eq tb 0) (λ z. rw z tt) (ltb-false 1024 tb (t .0))
+    traceback-is (eqb tb 0) tb (eqb→eq tb 0) (λ z. rw z tt) (ltb-false 1024 tb (passed (freshRows tb) tt (sym e) Traceback))
 
 fresh-fit : {tb : ℕ} {pm : List Float} {v : ViterbiDecoder} → Accepted ≡ firstRow (freshRows tb) → Bounded stepMost ruledOut 0 pm → Fresh tb pm v → Fit v
 fresh-fit {tb} {pm} {v} e b f =
@@ -107,16 +106,7 @@ pub values-inside : (xs : List Float) → Floats xs → someBeyond streamLimit x
 values-inside xs f e i h = inside-within streamLimit (getD xs i nan) streamMost stream-limit (f i) (all-inside streamLimit xs e i h)
 
 pub stream-inside : (per : ℕ) (v : ViterbiDecoder) (xs : List Float) (decisions out : ℕ) → Floats xs → Accepted ≡ firstRow (streamRows per v xs decisions out) → (i : ℕ) → i < length xs → Within (getD xs i nan) streamMost streamMost
-stream-inside per v xs decisions out f e =
-    let short = stepsShort (length xs / per) v decisions out in
-    let below3 = cond short Space Accepted in
-    let below2 = cond (someBeyond streamLimit xs) Sample below3 in
-    let below1 = cond (not (eqb (length xs % per) 0)) Length below2 in
-    let t = unless (badTraceback v) Traceback (cond (badState v) State below1) (omega arith) e in
-    let s = unless (badState v) State below1 (omega arith) (t .1) in
-    let l = unless (not (eqb (length xs % per) 0)) Length below2 (omega arith) (s .1) in
-    let m = unless (someBeyond streamLimit xs) Sample below3 (omega arith) (l .1) in
-    values-inside xs f (m .0)
+stream-inside per v xs decisions out f e = values-inside xs f (passed (streamRows per v xs decisions out) tt (sym e) Sample)
 
 pub pair-soft : (xs : List Float) → ((i : ℕ) → i < length xs → Within (getD xs i nan) streamMost streamMost) → (k : ℕ) → k < length xs / 2 → Soft stepMost (pairSteps xs k)
 pair-soft xs w k h = two streamMost (lit≤ tt) (w (2 * k) (omega arith)) (w (2 * k + 1) (omega arith))

@@ -1,36 +1,21 @@
 -- The contract of each call, as it stands in crate isdb_fec, hands on a state that comes from a fresh start where it was handed one: accepted or refused.
 -- Assumes nothing.
-use mathlib.Core.Path.{_≡_, refl, sym, _∙_}
+use mathlib.Core.Path.{_≡_, sym, _∙_}
 use mathlib.Core.Logic.{_⊎_, inl, inr}
 use mathlib.Core.List.{List}
 use Prim.Native.Nat.{ℕ, _/_}
-use native.Mathlib.Omega.{arith}
 use lib.ListN.{length}
 use lib.Ieee.{Float}
 use Rattle.refusal.specs.Rows.{firstRow}
-use Rattle.refusal.specs.declared.Answer.{Answer}
-use Rattle.refusal.specs.declared.Answer.the-variants.{Accepted, Table, Position, Traceback, State, Length, Symbols, Sample, Scale, Space}
+use Rattle.refusal.specs.declared.Answer.the-variants.{Accepted}
+use Rattle.refusal.specs.RowLaws.{decided}
 use Rattle.trellis.specs.Run.{startAt, startUnknown}
 use Rattle.isdb_fec.specs.declared.conv.ViterbiDecoder.{ViterbiDecoder}
 use Rattle.isdb_fec.specs.declared.conv.Made.{Made}
 use Rattle.isdb_fec.specs.declared.conv.Released.{Released}
-use Rattle.isdb_fec.specs.Answers.{numbered}
 use Rattle.isdb_fec.specs.Rows.{freshRows, pushRows, pushMetricsRows, pushKnownRows, flushRows}
 use Rattle.isdb_fec.specs.Calls.{pairSteps, fourSteps, knownSteps, call, steps, handed, Fresh, Zero, Leaves, Flushes, Unchanged, Either}
 use Rattle.call_ranges.specs.Reached.{Reached, Floats, with-state, unknown-state, push, push-metrics, push-known, flush}
-
--- an answer is Accepted or not
-told : (a : Answer) → (a ≡ Accepted) ⊎ (a ≡ Accepted → ⊥)
-told Accepted = inl refl
-told Table = inr (numbered Table (omega arith))
-told Position = inr (numbered Position (omega arith))
-told Traceback = inr (numbered Traceback (omega arith))
-told State = inr (numbered State (omega arith))
-told Length = inr (numbered Length (omega arith))
-told Symbols = inr (numbered Symbols (omega arith))
-told Sample = inr (numbered Sample (omega arith))
-told Scale = inr (numbered Scale (omega arith))
-told Space = inr (numbered Space (omega arith))
 
 -- ---- a fresh start that is accepted
 pub made-given : {r : Made} (traceback state : ℕ) → r .answer ≡ firstRow (freshRows traceback) → Either (r .answer) (Fresh traceback (startAt 64 state) (r .dec)) (Zero (r .dec)) → r .answer ≡ Accepted → Reached (r .dec)
@@ -42,7 +27,7 @@ made-unknown traceback a e y = unknown-state traceback (sym y ∙ a) (e .0 y)
 -- ---- a call, whatever it answers
 module _ {v : ViterbiDecoder} (i : Reached v) (r : Released) (decisions₀ decisions out₀ out : List ℕ) where
   kept : {P : Type 0} → Either (r .answer) P (Unchanged v r decisions₀ decisions out₀ out) → (P → r .answer ≡ Accepted → Reached (r .dec)) → Reached (r .dec)
-  kept {P} e f = go (told (r .answer))
+  kept {P} e f = go (decided (r .answer))
     where
       go : (r .answer ≡ Accepted) ⊎ (r .answer ≡ Accepted → ⊥) → Reached (r .dec)
       go (inl y) = f (e .0 y) y

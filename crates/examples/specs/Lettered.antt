@@ -6,12 +6,12 @@ use Prim.Native.Nat.{ℕ}
 use Rattle.refusal.specs.declared.Answer.the-variants.{Accepted}
 use Rattle.isdbs_core.specs.declared.combination.Combination.{Combination}
 use Rattle.isdbs_core.specs.declared.combination.Combination.the-variants.{«Bpsk1_2», «Qpsk1_2», «Qpsk2_3», «Qpsk7_8», «Tc8psk2_3»}
-use Rattle.isdbs_core.specs.declared.frame.Position.the-variants.{At}
+use Rattle.refusal.specs.Rows.{Said}
 use Rattle.isdbs_core.specs.declared.tmcc.Entry.{Entry}
 use Rattle.isdbs_core.specs.declared.tmcc.Table.{Table}
 use Rattle.isdbs_core.specs.declared.slots.Run.{Run}
 use Rattle.isdbs_core.specs.Frame.{mainSymbolPosition, burstSymbolPosition}
-use Rattle.isdbs_core.specs.Tables.{slotSum, tableAnswer}
+use Rattle.isdbs_core.specs.Tables.{slotSum, tableRows, tableAnswer}
 use Rattle.isdbs_core.specs.RunsOf.{runsFrom, runsOf, validIn, validTotal}
 use Rattle.isdbs_core.specs.Symbols.{firstPair, bitSymbol}
 use lib.IntN.{pos, negsuc}
@@ -63,13 +63,17 @@ E = runsOf (two (entry 3 5) (entry 15 0)) ≡ run «Qpsk2_3» 0 5 2 0 2436 ∷ [
 abbrev pub F : Type 0
 F = runsOf (two (entry 15 10) (entry 2 2)) ≡ run «Qpsk1_2» 10 12 1 0 1624 ∷ []
 
+-- accepted, with the position p
+abbrev at : ℕ → Said
+at p = (0, p ∷ [])
+
 -- "`bit_symbol` 7/8: bits 4, 6, 7 → 2, 3, 4."
 abbrev pub G : Type 0
-G = (bitSymbol «Qpsk7_8» 4 ≡ At 2) × (bitSymbol «Qpsk7_8» 6 ≡ At 3) × (bitSymbol «Qpsk7_8» 7 ≡ At 4)
+G = (bitSymbol «Qpsk7_8» 4 ≡ at 2) × (bitSymbol «Qpsk7_8» 6 ≡ at 3) × (bitSymbol «Qpsk7_8» 7 ≡ at 4)
 
 -- "Main 203 → 399; 38,975 → 39,931; burst 191, 3 → 39,935."
 abbrev pub H : Type 0
-H = (mainSymbolPosition 203 ≡ At 399) × (mainSymbolPosition 38975 ≡ At 39931) × (burstSymbolPosition 191 3 ≡ At 39935)
+H = (mainSymbolPosition 203 ≡ at 399) × (mainSymbolPosition 38975 ≡ at 39931) × (burstSymbolPosition 191 3 ≡ at 39935)
 
 -- the bits that a fresh decoder of known state 0 gives after n quadruples m and a flush
 abbrev readFrom0 : List Float → ℕ → List ℕ
@@ -104,7 +108,7 @@ pub record Example : Type 1 where
   pub holds : says
 
 abbrev pub lettered : List Example
-unfolding slotSum runsFrom validIn firstPair stateAfter stateAt encoded label output tapped startAt settled released stepped after upto packed branch cand wins next nexts word top best renormalised kept back input traced ofBits add sub neg lt softOf rounded
+unfolding slotSum tableRows runsFrom validIn firstPair stateAfter stateAt encoded label output tapped startAt settled released stepped after upto packed branch cand wins next nexts word top best renormalised kept back input traced ofBits add sub neg lt softOf rounded
 lettered =
     record { says = A; holds = (refl, refl, refl) }
     ∷ record { says = B; holds = refl }

@@ -6,8 +6,7 @@ use Prim.Native.Nat.{ℕ, _+_, _-_, _*_, _≤_}
 use lib.ListN.{length, getD, take, drop, replicate}
 use lib.Dec.{eqb}
 use lib.Ieee.{Float, nan, binary32, ofBits}
-use Rattle.refusal.specs.declared.Answer.{Answer}
-use Rattle.refusal.specs.declared.Answer.the-variants.{Accepted}
+pub use Rattle.refusal.specs.Rows.{Either}
 use Rattle.trellis.specs.Lists.{laid}
 use Rattle.trellis.specs.Code.{isdb, label}
 use Rattle.trellis.specs.Step as trellis
@@ -113,10 +112,6 @@ pub record Unchanged (v : ViterbiDecoder) (r : Released) (decisions₀ decisions
   pub count-is : r .count ≡ 0
   pub words : decisions ≡ decisions₀
   pub bits : out ≡ out₀
-
--- one thing where the call is accepted, another where it is refused
-abbrev pub Either : Answer → Type 0 → Type 0 → Type 0
-Either a done kept = (a ≡ Accepted → done) × ((a ≡ Accepted → ⊥) → kept)
 
 -- where a step of a call releases, the output has room for the 4,096 bits
 abbrev pub Room : ℕ → ℕ → ℕ → ℕ → Type 0

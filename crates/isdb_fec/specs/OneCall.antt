@@ -1,7 +1,7 @@
 -- A run over two lists in one call: where two calls are accepted, the second handed what the first leaves and the output behind the first one's bits, one call over both lists
 -- is accepted too. Assumes nothing.
-use mathlib.Core.Path.{_≡_, refl, _∙_, ap}
-use mathlib.Core.Bool.{false, cond, not}
+use mathlib.Core.Path.{_≡_, refl, sym, _∙_, ap}
+use mathlib.Core.Bool.{false, not}
 use mathlib.Core.List.{List, [], _∷_, _++_}
 use Prim.Native.Nat.{ℕ, _+_, _*_, _/_, _%_, _≤_}
 use native.Mathlib.Omega.{arith}
@@ -10,15 +10,17 @@ use lib.Dec.{eqb}
 use lib.ListN.{length, drop, length-append, length-drop}
 use lib.Ieee.{Float}
 use Rattle.refusal.specs.Rows.{firstRow}
-use Rattle.refusal.specs.declared.Answer.the-variants.{Accepted, Traceback, State, Length, Sample, Space}
+use Rattle.refusal.specs.declared.Answer.the-variants.{Accepted, Length, Sample, Space}
+use Rattle.refusal.specs.RowLaws as row
+use Rattle.refusal.specs.RowLaws.{both-passed, passed-by}
 use Rattle.trellis.specs.Run.{Decoder}
 use Rattle.isdb_fec.specs.declared.conv.ViterbiDecoder.{ViterbiDecoder}
 use Rattle.isdb_fec.specs.declared.conv.Released.{Released}
 use Rattle.isdb_fec.specs.Values.{within, someBeyond, streamLimit}
-use Rattle.isdb_fec.specs.Rows.{badTraceback, badState, releases, stepsShort, streamRows, pushRows, pushMetricsRows, pushKnownRows}
+use Rattle.isdb_fec.specs.Rows.{releases, stepsShort, handedRows, streamRest, streamRows, pushRows, pushMetricsRows, pushKnownRows}
 use Rattle.isdb_fec.specs.Calls.{pairSteps, fourSteps, handed, Leaves}
 use Rattle.isdb_fec.specs.Laid.{length-laid}
-use Rattle.isdb_fec.specs.Answers.{neither, unless, Enough, stream-enough, known-enough}
+use Rattle.isdb_fec.specs.Answers.{neither, Enough, stream-enough, known-enough}
 use Rattle.isdb_fec.specs.Count.{Counted, releases-is}
 use Rattle.isdb_fec.specs.Whole.{taken, few}
 use Rattle.isdb_fec.specs.Runs.{knownCall, pairCall, fourCall}
@@ -40,21 +42,16 @@ none-beyond limit (x ∷ xs) ys e f = let p = neither (not (within limit x)) (so
 
 -- the rows of an accepted stream
 record Passed (per : ℕ) (v : ViterbiDecoder) (xs : List Float) : Type 0 where
-  pub traceback : badTraceback v ≡ false
-  pub state : badState v ≡ false
+  pub state : Accepted ≡ firstRow (handedRows v)
   pub whole : length xs % per ≡ 0
   pub inside : someBeyond streamLimit xs ≡ false
 
 passed : (per : ℕ) (v : ViterbiDecoder) (xs : List Float) (decisions out : ℕ) → Accepted ≡ firstRow (streamRows per v xs decisions out) → Passed per v xs
 passed per v xs decisions out e =
-    let below3 = cond (stepsShort (length xs / per) v decisions out) Space Accepted in
-    let below2 = cond (someBeyond streamLimit xs) Sample below3 in
-    let below1 = cond (not (eqb (length xs % per) 0)) Length below2 in
-    let t = unless (badTraceback v) Traceback (cond (badState v) State below1) (omega arith) e in
-    let s = unless (badState v) State below1 (omega arith) (t .1) in
-    let l = unless (not (eqb (length xs % per) 0)) Length below2 (omega arith) (s .1) in
-    let m = unless (someBeyond streamLimit xs) Sample below3 (omega arith) (l .1) in
-    record { traceback = t .0; state = s .0; whole = eqb-true (length xs % per) 0 (not-false (eqb (length xs % per) 0) (l .0)); inside = m .0 }
+    let below = streamRest per v xs decisions out in
+    let b = both-passed (handedRows v) below tt (sym e) in
+    let p = row.passed below tt (b .1) in
+    record { state = sym (b .0); whole = eqb-true (length xs % per) 0 (not-false (eqb (length xs % per) 0) (p Length)); inside = p Sample }
 
 module _ (v : ViterbiDecoder) (r₁ : Released) (dec₀ dec₁ out₀ out₁ : List ℕ) where
   abbrev rest : ℕ
@@ -81,11 +78,9 @@ module _ (v : ViterbiDecoder) (r₁ : Released) (dec₀ dec₁ out₀ out₁ : L
       → Accepted ≡ firstRow (pushKnownRows (r₁ .dec) (length cs) (length dec₁) (length (drop (r₁ .count) out₁)))
       → Accepted ≡ firstRow (pushKnownRows v (length (bs ++ cs)) (length dec₀) (length out₀))
   one-known-call bs cs e l e′ =
-      let short = stepsShort (length bs) v (length dec₀) (length out₀) in
-      let t = unless (badTraceback v) Traceback (cond (badState v) State (cond short Space Accepted)) (omega arith) e in
-      let s = unless (badState v) State (cond short Space Accepted) (omega arith) (t .1) in
+      let b = both-passed (handedRows v) ((Space, stepsShort (length bs) v (length dec₀) (length out₀)) ∷ []) tt (sym e) in
       let z = space-then (length bs) (length cs) (λ t. knownCall t bs) (known-call bs) (known-enough v (length bs) (length dec₀) (length out₀) e) l (known-enough (r₁ .dec) (length cs) (length dec₁) rest e′) in
-      rw (length-append bs cs, t .0, s .0, z) refl
+      passed-by (handedRows v) ((Space, stepsShort (length (bs ++ cs)) v (length dec₀) (length out₀)) ∷ []) tt (sym (b .0)) (rw (length-append bs cs, z) refl)
 
   -- soft values or metrics, `per` for each step
   stream-call : (per : ℕ) (xs ys : List Float) (call : ℕ → Decoder → Decoder) → CallOf (length xs / per) call
@@ -99,7 +94,8 @@ module _ (v : ViterbiDecoder) (r₁ : Released) (dec₀ dec₁ out₀ out₁ : L
       let q = passed per (r₁ .dec) ys (length dec₁) rest e′ in
       let d = parts (p .whole) (q .whole) in
       let z = space-then (length xs / per) (length ys / per) call a (stream-enough per v xs (length dec₀) (length out₀) e) l (stream-enough per (r₁ .dec) ys (length dec₁) rest e′) in
-      rw (length-append xs ys, p .traceback, p .state, d .0, none-beyond streamLimit xs ys (p .inside) (q .inside), d .1, z) refl
+      passed-by (handedRows v) (streamRest per v (xs ++ ys) (length dec₀) (length out₀)) tt (p .state)
+      (rw (length-append xs ys, d .0, none-beyond streamLimit xs ys (p .inside) (q .inside), d .1, z) refl)
 
   pub one-pair-call : (ps qs : List Float) → Accepted ≡ firstRow (pushRows v ps (length dec₀) (length out₀))
       → Leaves (v .traceback) (pairCall (v .traceback) ps (handed v dec₀)) r₁ dec₀ dec₁ out₀ out₁

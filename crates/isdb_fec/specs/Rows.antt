@@ -1,6 +1,6 @@
 -- The refusal rows of each call, in document 01's order. Assumes nothing.
 use mathlib.Core.Bool.{Bool, cond, not, _||_}
-use mathlib.Core.List.{List, [], _∷_}
+use mathlib.Core.List.{List, [], _∷_, _++_}
 use Prim.Native.Nat.{ℕ, _+_, _-_, _*_, _/_, _%_}
 use lib.Dec.{eqb, leb, ltb}
 use lib.ListN.{length}
@@ -43,12 +43,13 @@ stepsShort n v decisions out = shortOf (block * releases (v .traceback) (v .held
 abbrev pub handedRows : ViterbiDecoder → List Row
 handedRows v = (Traceback, badTraceback v) ∷ (State, badState v) ∷ []
 
--- a call of soft values or metrics, `per` for each step
+-- and those below them of a call of soft values or metrics, `per` for each step
+abbrev pub streamRest : ℕ → ViterbiDecoder → List Float → ℕ → ℕ → List Row
+streamRest per v xs decisions out =
+    (Length, not (eqb (length xs % per) 0)) ∷ (Sample, someBeyond streamLimit xs) ∷ (Space, stepsShort (length xs / per) v decisions out) ∷ []
+
 abbrev pub streamRows : ℕ → ViterbiDecoder → List Float → ℕ → ℕ → List Row
-streamRows per v xs decisions out =
-    (Traceback, badTraceback v) ∷ (State, badState v) ∷ (Length, not (eqb (length xs % per) 0)) ∷ (Sample, someBeyond streamLimit xs)
-    ∷ (Space, stepsShort (length xs / per) v decisions out)
-    ∷ []
+streamRows per v xs decisions out = handedRows v ++ streamRest per v xs decisions out
 
 -- 5: "soft values not in twos"
 abbrev pub pushRows : ViterbiDecoder → List Float → ℕ → ℕ → List Row
@@ -60,8 +61,7 @@ pushMetricsRows = streamRows 4
 
 -- a call of n known bits
 abbrev pub pushKnownRows : ViterbiDecoder → ℕ → ℕ → ℕ → List Row
-pushKnownRows v n decisions out = (Traceback, badTraceback v) ∷ (State, badState v) ∷ (Space, stepsShort n v decisions out) ∷ []
+pushKnownRows v n decisions out = handedRows v ++ (Space, stepsShort n v decisions out) ∷ []
 
 abbrev pub flushRows : ViterbiDecoder → ℕ → ℕ → List Row
-flushRows v decisions out =
-    (Traceback, badTraceback v) ∷ (State, badState v) ∷ (Space, shortOf (v .held) v decisions out) ∷ []
+flushRows v decisions out = handedRows v ++ (Space, shortOf (v .held) v decisions out) ∷ []

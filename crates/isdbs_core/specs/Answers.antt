@@ -1,16 +1,18 @@
--- What an outside call answers: a value where it accepts, a row of "Where a call is turned back" where it refuses. Assumes nothing.
-use mathlib.Core.Bool.{Bool, cond}
-use Prim.Native.Nat.{ℕ}
-use lib.Dec.{eqb}
-use Rattle.refusal.specs.declared.Answer.{Answer}
-use Rattle.refusal.specs.Rows.{numberOf}
-use Rattle.isdbs_core.specs.declared.frame.Position.{Position}
-use Rattle.isdbs_core.specs.declared.frame.Position.the-variants.{At, Refused}
+-- Document 01's number and values for each case of an answer that is an enum. Assumes nothing.
+use mathlib.Core.List.{[], _∷_}
+use Rattle.refusal.specs.Rows.{numberOf, Said}
+use Rattle.isdbs_core.specs.declared.frame.Position as position
+use Rattle.isdbs_core.specs.declared.frame.Position.the-variants as place
+use Rattle.isdbs_core.specs.declared.slots.SlotByte.{SlotByte}
+use Rattle.isdbs_core.specs.declared.slots.SlotByte.the-variants.{At, Nothing, Refused}
 
--- no row holds
-abbrev pub accepted : Answer → Bool
-accepted a = eqb (numberOf a) 0
+-- a position
+abbrev pub positionSaid : position.Position → Said
+positionSaid (place.At p) = (0, p ∷ [])
+positionSaid (place.Refused a) = (numberOf a, [])
 
--- the position p where the call accepts, else the row
-abbrev pub position : Answer → ℕ → Position
-position a p = cond (accepted a) (At p) (Refused a)
+-- the place of a slot's byte: accepted, and nothing, where no symbol carries it
+abbrev pub byteSaid : SlotByte → Said
+byteSaid (At p) = (0, p ∷ [])
+byteSaid Nothing = (0, [])
+byteSaid (Refused a) = (numberOf a, [])

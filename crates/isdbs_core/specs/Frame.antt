@@ -3,10 +3,8 @@ use mathlib.Core.List.{List, [], _∷_}
 use Prim.Native.Nat.{ℕ, _+_, _-_, _*_, _/_, _%_, _^_}
 use lib.Dec.{leb}
 use Rattle.refusal.specs.declared.Answer.the-variants.{Position}
-use Rattle.refusal.specs.Rows.{Row, firstRow}
-use Rattle.isdbs_core.specs.declared.frame as declared
+use Rattle.refusal.specs.Rows.{Row, firstRow, Said, says}
 use Rattle.isdbs_core.specs.Lists.{either, table}
-use Rattle.isdbs_core.specs.Answers.{position}
 
 -- a symbol of the frame: one of the header, main-signal symbol k, or symbol j of burst b
 pub data Symbol : Type 0 where
@@ -28,11 +26,11 @@ mainRows k = (Position, leb 38976 k) ∷ []
 abbrev pub burstRows : ℕ → ℕ → List Row
 burstRows b j = (Position, either (leb 192 b) (leb 4 j)) ∷ []
 
-abbrev pub mainSymbolPosition : ℕ → declared.Position.Position
-mainSymbolPosition k = position (firstRow (mainRows k)) (placeOf (main k))
+abbrev pub mainSymbolPosition : ℕ → Said
+mainSymbolPosition k = says (firstRow (mainRows k)) (placeOf (main k) ∷ [])
 
-abbrev pub burstSymbolPosition : ℕ → ℕ → declared.Position.Position
-burstSymbolPosition b j = position (firstRow (burstRows b j)) (placeOf (burst b j))
+abbrev pub burstSymbolPosition : ℕ → ℕ → Said
+burstSymbolPosition b j = says (firstRow (burstRows b j)) (placeOf (burst b j) ∷ [])
 
 -- "the low 20 bits, high bit first": the low n bits of v
 abbrev pub lowBits : ℕ → ℕ → List ℕ

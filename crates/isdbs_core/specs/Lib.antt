@@ -9,6 +9,7 @@ pub mod SlotPart
 pub mod ListLaws
 pub mod CombinationLaws
 pub mod RunLaws
+pub mod TableLaws
 pub mod SymbolLaws
 pub mod PartLaws
 pub mod PlaceLaws

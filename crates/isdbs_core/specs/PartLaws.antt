@@ -1,49 +1,21 @@
 -- Laws of the rows of a slot part, and of the part. Assumes nothing.
-use mathlib.Core.Path.{_≡_, refl, sym}
-use mathlib.Core.Bool.{Bool, true, false, cond, not}
+use mathlib.Core.Path.{_≡_, refl, sym, _∙_}
+use mathlib.Core.Bool.{true, false, not}
 use mathlib.Core.List.{List, [], _∷_, _++_}
 use Prim.Native.Nat.{ℕ, zero, suc, _+_, _-_, _*_, _≤_, _<_}
 use native.Mathlib.Omega.{arith}
-use lib.Dec.{ltb, leb, eqb}
+use lib.Dec.{leb, eqb}
 use lib.ListN.{length, getD, take, drop, length-take, length-drop}
 use lib.Seq.{getD-take, getD-drop, take-add}
-use borrow.Author.Tests.{leb-false, eqb-true, ltb-false, not-false, le-leb, lt-leb, eq-eqb, ne-eqb}
-use Rattle.refusal.specs.declared.Answer.{Answer}
-use Rattle.refusal.specs.declared.Answer.the-variants.{Accepted, Table, Position, Length}
-use Rattle.refusal.specs.Rows.{Row, firstRow}
+use borrow.Author.Tests.{leb-false, eqb-true, not-false, le-leb, lt-leb, eq-eqb, ne-eqb}
+use Rattle.refusal.specs.declared.Answer.the-variants.{Accepted, Position, Length}
+use Rattle.refusal.specs.Rows.{accepted, Row, firstRow}
+use Rattle.refusal.specs.RowLaws.{accepted-is, refused-is, passed}
 use Rattle.isdbs_core.specs.declared.tmcc.Table as declared
-use Rattle.isdbs_core.specs.Answers.{accepted}
-use Rattle.isdbs_core.specs.Tables.{slotSum, tableRows, tableAnswer}
+use Rattle.isdbs_core.specs.Tables.{tableAnswer}
+use Rattle.isdbs_core.specs.TableLaws.{then-rows, before-rows, then-accepted}
 use Rattle.isdbs_core.specs.RunsOf.{validTotal, loadBytes}
 use Rattle.isdbs_core.specs.SlotPart.{slotPartAnswer, slotPart}
-
-never : {A : Type 0} → false ≡ true → A
-never h = let z : _≡_ {A = ℕ} 0 1 = cc in absurd (omega arith)
-
--- ---- the rows of a table
-
-over : (b : Bool) → accepted (cond b Table Accepted) ≡ true → b ≡ false
-over true h = never h
-over false h = refl
-
--- an accepted table's slots sum to 48 at most
-pub sum-fits : (t : declared.Table) → accepted (tableAnswer t) ≡ true → slotSum (t .entries) ≤ 48
-sum-fits t h = ltb-false 48 (slotSum (t .entries)) (over (ltb 48 (slotSum (t .entries))) h)
-
--- rows after those of an accepted table decide
-pub then-rows : (t : declared.Table) (rows : List Row) → accepted (tableAnswer t) ≡ true → firstRow (tableRows t ++ rows) ≡ firstRow rows
-then-rows t rows h = rw (over (ltb 48 (slotSum (t .entries))) h)
-
-first-of : (b : Bool) (a : Answer) → accepted (cond b Table Accepted) ≡ false → cond b Table a ≡ cond b Table Accepted
-first-of true a h = refl
-first-of false a h = never (sym h)
-
--- and not those after the rows of a refused one
-pub before-rows : (t : declared.Table) (rows : List Row) → accepted (tableAnswer t) ≡ false → firstRow (tableRows t ++ rows) ≡ tableAnswer t
-before-rows t rows h = first-of (ltb 48 (slotSum (t .entries))) (firstRow rows) h
-
-pub table-accepts : (t : declared.Table) → accepted (tableAnswer t) ≡ true → tableAnswer t ≡ Accepted
-table-accepts t h = rw (over (ltb 48 (slotSum (t .entries))) h)
 
 -- ---- the part
 
@@ -52,30 +24,33 @@ pub record Part (bytes : List ℕ) (t : declared.Table) (k : ℕ) : Type 0 where
   pub below : k < validTotal t
   pub whole : length bytes ≡ loadBytes t
 
-three : (a b c : Bool) → accepted (cond a Table (cond b Position (cond c Length Accepted))) ≡ true → (a ≡ false) × (b ≡ false) × (c ≡ false)
-three true b c h = never h
-three false true c h = never h
-three false false true h = never h
-three false false false h = (refl, refl, refl)
+-- its rows below those of the table
+abbrev partRows : List ℕ → declared.Table → ℕ → List Row
+partRows bytes t k = (Position, leb (validTotal t) k) ∷ (Length, not (eqb (length bytes) (loadBytes t))) ∷ []
 
 pub part-whole : (bytes : List ℕ) (t : declared.Table) (k : ℕ) → accepted (slotPartAnswer bytes t k) ≡ true → Part bytes t k
 part-whole bytes t k h =
-    let r = three (ltb 48 (slotSum (t .entries))) (leb (validTotal t) k) (not (eqb (length bytes) (loadBytes t))) h in
-    record { below = leb-false (validTotal t) k (r .1); whole = eqb-true (length bytes) (loadBytes t) (not-false (eqb (length bytes) (loadBytes t)) (r .2)) }
+    let e = then-accepted t (partRows bytes t k) (accepted-is (slotPartAnswer bytes t k) h) in
+    let p = passed (partRows bytes t k) tt (e .1) in
+    record { below = leb-false (validTotal t) k (p Position); whole = eqb-true (length bytes) (loadBytes t) (not-false (eqb (length bytes) (loadBytes t)) (p Length)) }
 
 -- the answer by its rows
 module _ (bytes : List ℕ) (t : declared.Table) (k : ℕ) where
   pub by-table : accepted (tableAnswer t) ≡ false → slotPartAnswer bytes t k ≡ tableAnswer t
-  by-table h = before-rows t ((Position, leb (validTotal t) k) ∷ (Length, not (eqb (length bytes) (loadBytes t))) ∷ []) h
+  by-table h = before-rows t (partRows bytes t k) (refused-is (tableAnswer t) h)
 
-  pub by-position : accepted (tableAnswer t) ≡ true → validTotal t ≤ k → slotPartAnswer bytes t k ≡ Position
-  by-position h l = rw (over (ltb 48 (slotSum (t .entries))) h, le-leb (validTotal t) k l)
+  module _ (h : accepted (tableAnswer t) ≡ true) where
+    by-rest : slotPartAnswer bytes t k ≡ firstRow (partRows bytes t k)
+    by-rest = then-rows t (partRows bytes t k) (accepted-is (tableAnswer t) h)
 
-  pub by-length : accepted (tableAnswer t) ≡ true → k < validTotal t → (length bytes ≡ loadBytes t → ⊥) → slotPartAnswer bytes t k ≡ Length
-  by-length h l n = rw (over (ltb 48 (slotSum (t .entries))) h, lt-leb (validTotal t) k l, ne-eqb (length bytes) (loadBytes t) n)
+    pub by-position : validTotal t ≤ k → slotPartAnswer bytes t k ≡ Position
+    by-position l = by-rest ∙ rw (le-leb (validTotal t) k l)
 
-  pub by-none : accepted (tableAnswer t) ≡ true → k < validTotal t → length bytes ≡ loadBytes t → slotPartAnswer bytes t k ≡ Accepted
-  by-none h l e = rw (over (ltb 48 (slotSum (t .entries))) h, lt-leb (validTotal t) k l, eq-eqb (length bytes) (loadBytes t) e)
+    pub by-length : k < validTotal t → (length bytes ≡ loadBytes t → ⊥) → slotPartAnswer bytes t k ≡ Length
+    by-length l n = by-rest ∙ rw (lt-leb (validTotal t) k l, ne-eqb (length bytes) (loadBytes t) n)
+
+    pub by-none : k < validTotal t → length bytes ≡ loadBytes t → slotPartAnswer bytes t k ≡ Accepted
+    by-none l e = by-rest ∙ rw (lt-leb (validTotal t) k l, eq-eqb (length bytes) (loadBytes t) e)
 
 module _ (bytes : List ℕ) (t : declared.Table) (k : ℕ) (h : accepted (slotPartAnswer bytes t k) ≡ true) where
   pub part-is : slotPart bytes t k ≡ take 203 (drop (203 * k) bytes)

@@ -4,6 +4,7 @@ use mathlib.Core.List.{List, [], _∷_, _++_}
 use Prim.Native.Nat.{ℕ, _+_, _*_, _/_, _≤_}
 use lib.ListN.{length}
 use Rattle.refusal.specs.declared.Answer.{Answer}
+use Rattle.refusal.specs.Rows.{accepted}
 use Rattle.isdbs_core.specs.declared.combination.Combination.{Combination}
 use Rattle.isdbs_core.specs.declared.combination.Combination.the-variants.{«Bpsk1_2»}
 use Rattle.isdbs_core.specs.declared.combination.MaybeCombination.{MaybeCombination}
@@ -13,7 +14,6 @@ use Rattle.isdbs_core.specs.declared.tmcc.Table.{Table}
 use Rattle.isdbs_core.specs.declared.slots.Run.{Run}
 use Rattle.isdbs_core.specs.declared.slots.FrameRuns.{FrameRuns}
 use Rattle.isdbs_core.specs.Lists.{padded}
-use Rattle.isdbs_core.specs.Answers.{accepted}
 use Rattle.isdbs_core.specs.Combinations.{unitOf, slotSteps}
 use Rattle.isdbs_core.specs.Tables.{entryCombination, tableAnswer}
 

@@ -6,9 +6,8 @@ use lib.Dec.{leb, eqb}
 use lib.ListN.{length, take, drop}
 use Rattle.refusal.specs.declared.Answer.{Answer}
 use Rattle.refusal.specs.declared.Answer.the-variants.{Position, Length}
-use Rattle.refusal.specs.Rows.{Row, firstRow}
+use Rattle.refusal.specs.Rows.{accepted, Row, firstRow}
 use Rattle.isdbs_core.specs.declared.tmcc.Table.{Table}
-use Rattle.isdbs_core.specs.Answers.{accepted}
 use Rattle.isdbs_core.specs.Tables.{tableRows}
 use Rattle.isdbs_core.specs.RunsOf.{validTotal, loadBytes}
 

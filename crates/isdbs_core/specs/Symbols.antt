@@ -5,8 +5,7 @@ use Prim.Native.Nat.{ℕ, zero, suc, _+_, _-_, _*_, _/_, _%_}
 use lib.Dec.{leb, ltb, eqb}
 use lib.ListN.{length}
 use Rattle.refusal.specs.declared.Answer.the-variants.{Position}
-use Rattle.refusal.specs.Rows.{Row, firstRow}
-use Rattle.isdbs_core.specs.declared.frame.Position as place
+use Rattle.refusal.specs.Rows.{numberOf, accepted, Row, firstRow, Said, says}
 use Rattle.isdbs_core.specs.declared.combination.Combination.{Combination}
 use Rattle.isdbs_core.specs.declared.combination.MaybePuncture.{MaybePuncture}
 use Rattle.isdbs_core.specs.declared.combination.MaybePuncture.the-variants.{Some, None}
@@ -15,9 +14,9 @@ use Rattle.isdbs_core.specs.declared.combination.BitPair.{BitPair}
 use Rattle.isdbs_core.specs.declared.tmcc.Table.{Table}
 use Rattle.isdbs_core.specs.declared.slots.Run.{Run}
 use Rattle.isdbs_core.specs.declared.slots.SlotByte.{SlotByte}
-use Rattle.isdbs_core.specs.declared.slots.SlotByte.the-variants.{At, Nothing, Refused}
+use Rattle.isdbs_core.specs.declared.slots.SlotByte.the-variants.{At, Nothing}
 use Rattle.isdbs_core.specs.Lists.{both, either}
-use Rattle.isdbs_core.specs.Answers.{accepted, position}
+use Rattle.isdbs_core.specs.Answers.{byteSaid}
 use Rattle.isdbs_core.specs.Frame.{main, placeOf}
 use Rattle.isdbs_core.specs.Combinations.{efficiencyOf, punctureOf, pairsOf, periodOf}
 use Rattle.isdbs_core.specs.Tables.{tableAnswer, marked}
@@ -45,8 +44,8 @@ symbolOfBit c b = symbolBy (punctureOf c) (efficiencyOf c) b
 abbrev pub bitRows : ℕ → List Row
 bitRows b = (Position, ltb 1000000 b) ∷ []
 
-abbrev pub bitSymbol : Combination → ℕ → place.Position
-bitSymbol c b = position (firstRow (bitRows b)) (symbolOfBit c b)
+abbrev pub bitSymbol : Combination → ℕ → Said
+bitSymbol c b = says (firstRow (bitRows b)) (symbolOfBit c b ∷ [])
 
 -- the marked slots of a run before its slot k
 unfoldable pub markedBefore : Combination → ℕ → ℕ
@@ -73,5 +72,5 @@ byteIn [] slot byte = Nothing
 byteIn (r ∷ rs) slot byte =
     cond (hasSlot r slot) (runByte r (slot - r .«slot_start») byte) (byteIn rs slot byte)
 
-abbrev pub slotByteSymbol : Table → ℕ → ℕ → SlotByte
-slotByteSymbol t slot byte = cond (accepted (tableAnswer t)) (byteIn (runsOf t) slot byte) (Refused (tableAnswer t))
+abbrev pub slotByteSymbol : Table → ℕ → ℕ → Said
+slotByteSymbol t slot byte = cond (accepted (tableAnswer t)) (byteSaid (byteIn (runsOf t) slot byte)) (numberOf (tableAnswer t), [])

@@ -1,4 +1,5 @@
 -- Document 01: "a table of four entries (a word, of which the low 4 bits count, and an 8-bit slot count)". Assumes nothing.
+use mathlib.Core.Path.{_≡_}
 use mathlib.Core.Bool.{Bool, cond}
 use mathlib.Core.List.{List, [], _∷_}
 use Prim.Native.Nat.{ℕ, _+_, _-_, _%_}
@@ -6,7 +7,7 @@ use lib.Dec.{ltb}
 use lib.ListN.{replicate}
 use Rattle.refusal.specs.declared.Answer.{Answer}
 use Rattle.refusal.specs.declared.Answer.the-variants as answer
-use Rattle.refusal.specs.Rows.{Row, firstRow}
+use Rattle.refusal.specs.Rows.{accepted, Row, firstRow}
 use Rattle.isdbs_core.specs.declared.combination.Combination.{Combination}
 use Rattle.isdbs_core.specs.declared.combination.MaybeCombination.{MaybeCombination}
 use Rattle.isdbs_core.specs.declared.combination.MaybeCombination.the-variants.{Some, None}
@@ -15,7 +16,6 @@ use Rattle.isdbs_core.specs.declared.tmcc.Table.{Table}
 use Rattle.isdbs_core.specs.declared.tmcc.SlotMark.{SlotMark}
 use Rattle.isdbs_core.specs.declared.tmcc.SlotMarks.{SlotMarks}
 use Rattle.isdbs_core.specs.Lists.{table}
-use Rattle.isdbs_core.specs.Answers.{accepted}
 use Rattle.isdbs_core.specs.Combinations.{combinationOf, unitOf}
 
 -- "`CombinationEntry::combination` means the assigned combination of the word, or none"
@@ -26,12 +26,15 @@ unfoldable pub slotSum : List Entry → ℕ
 slotSum [] = 0
 slotSum (e ∷ es) = e .slots + slotSum es
 
--- refusal 1: "slot counts sum above 48". The rows that every call with a table begins with
-abbrev pub tableRows : Table → List Row
+-- refusal 1: "slot counts sum above 48". The rows that every call with a table begins with; TableLaws has what follows from them
+unfoldable pub tableRows : Table → List Row
 tableRows t = (answer.Table, ltb 48 (slotSum (t .entries))) ∷ []
 
 abbrev pub tableAnswer : Table → Answer
 tableAnswer t = firstRow (tableRows t)
+
+abbrev pub TableAccepted : Table → Type 0
+TableAccepted t = tableAnswer t ≡ answer.Accepted
 
 -- "`slot_combinations` goes by a slot's place in its unit, so it also marks some left-over slots": the place k in an entry is marked
 abbrev pub marked : Combination → ℕ → Bool

@@ -7,6 +7,7 @@
 use refusal::Answer;
 ghost use mathlib.Core.Path.{_≡_};
 ghost use Prim.Native.Nat.{_<_};
+ghost use Rattle.isdbs_core.specs.Answers.{positionSaid};
 ghost use Rattle.isdbs_core.specs.Frame.{main, placeOf, mainSymbolPosition, burstSymbolPosition, lowBits};
 
 // Slots per frame, N (Table 3 item 1).
@@ -74,7 +75,7 @@ pub(crate) fn main_place(k: usize) -> usize
 
 // Symbol index within a frame of main-signal symbol k.
 pub fn main_symbol_position(k: usize) -> Position
-    ensures { λ r. ⌜ r ≡ mainSymbolPosition k ⌝ }
+    ensures { λ r. ⌜ positionSaid r ≡ mainSymbolPosition k ⌝ }
 {
     if k < MAIN_SYMBOLS {
         Position::At(main_place(k))
@@ -85,7 +86,7 @@ pub fn main_symbol_position(k: usize) -> Position
 
 // Symbol index within a frame of symbol j of burst b.
 pub fn burst_symbol_position(b: usize, j: usize) -> Position
-    ensures { λ r. ⌜ r ≡ burstSymbolPosition b j ⌝ }
+    ensures { λ r. ⌜ positionSaid r ≡ burstSymbolPosition b j ⌝ }
 {
     if b < BURSTS {
         if j < BURST_SYMBOLS {

@@ -12,6 +12,7 @@ use crate::tmcc::table_answer;
 use refusal::Answer;
 ghost use mathlib.Core.Path.{_≡_};
 ghost use Prim.Native.Nat.{_<_, _≤_};
+ghost use Rattle.isdbs_core.specs.Answers.{positionSaid, byteSaid};
 ghost use Rattle.isdbs_core.specs.Combinations.{pairsOf};
 ghost use Rattle.isdbs_core.specs.RunsOf.{runOf, runsOf, fourOf, fourRuns, RunFits};
 ghost use Rattle.isdbs_core.specs.Lists.{Each};
@@ -167,7 +168,7 @@ fn symbol_of_bit(c: Combination, b: usize) -> usize
 
 // The symbol, counted from the start of a run, that carries the first coded bit of the run's information bit b.
 pub fn bit_symbol(c: Combination, b: usize) -> Position
-    ensures { λ r. ⌜ r ≡ bitSymbol c b ⌝ }
+    ensures { λ r. ⌜ positionSaid r ≡ bitSymbol c b ⌝ }
 {
     if b > LAST_BIT {
         Position::Refused(Answer::Position)
@@ -236,7 +237,7 @@ fn byte_in(runs: [Run; 4], slot: usize, byte: usize) -> SlotByte
 
 // Symbol within the frame at which byte `byte` of slot `slot` starts.
 pub fn slot_byte_symbol(t: Table, slot: usize, byte: usize) -> SlotByte
-    ensures { λ r. ⌜ r ≡ slotByteSymbol t slot byte ⌝ }
+    ensures { λ r. ⌜ byteSaid r ≡ slotByteSymbol t slot byte ⌝ }
 {
     let all = runs(t);
     let answer = all.answer;

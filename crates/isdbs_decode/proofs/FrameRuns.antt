@@ -7,9 +7,7 @@ use native.Mathlib.Numerals.{add-one}
 use lib.ListN.{length, getD, take, drop, replicate, length-drop}
 use lib.Seq.{take-at, take-all, take-length}
 use lib.Ieee.{Float}
-use borrow.Author.Tests.{le-ltb}
 use Rattle.trellis.specs.Step.{four}
-use Rattle.refusal.specs.declared.Answer.the-variants.{Accepted}
 use Rattle.isdbs_core.specs.declared.combination.Combination.{Combination}
 use Rattle.isdbs_core.specs.declared.combination.Combination.the-variants.{«Bpsk1_2», «Qpsk1_2», «Qpsk2_3», «Qpsk3_4», «Qpsk5_6», «Qpsk7_8», «Tc8psk2_3»}
 use Rattle.isdbs_core.specs.declared.slots.Run.{Run}
@@ -20,10 +18,10 @@ use Rattle.isdbs_core.specs.Combinations.{modulationOf, punctureOf, periodSteps
 use Rattle.isdbs_core.specs.declared.tmcc.Entry.{Entry}
 use Rattle.isdbs_core.specs.declared.combination.MaybeCombination.{MaybeCombination}
 use Rattle.isdbs_core.specs.declared.combination.MaybeCombination.the-variants.{Some, None}
-use Rattle.isdbs_core.specs.Tables.{slotSum, entryCombination}
-use Rattle.isdbs_core.specs.RunsOf.{runsOf, runsFrom, entryRuns, entrySymbols, fourOf, fourRuns, stepsOf, stepsIn, frameSteps, validIn, validTotal, noRun, RunFits}
+use Rattle.isdbs_core.specs.Tables.{TableAccepted, entryCombination}
+use Rattle.isdbs_core.specs.TableLaws.{table-laid, accepted-runs}
+use Rattle.isdbs_core.specs.RunsOf.{runsOf, runsFrom, entryRuns, entrySymbols, fourRuns, stepsOf, stepsIn, frameSteps, validIn, validTotal, noRun, RunFits}
 use Rattle.isdbs_core.specs.RunLaws.{Whole, run-whole}
-use Rattle.isdbs_core.specs.RunLaws as laws
 use Rattle.isdbs_points.specs.declared.Mapping.{Mapping}
 use Rattle.isdbs_points.specs.Layout.{sentOrder}
 use Rattle.isdbs_metrics.specs.Reading.{metricsIn}
@@ -63,9 +61,6 @@ each-any P [] i z h = z
 each-any P (r ∷ rs) zero z h = h .0
 each-any P (r ∷ rs) (suc i) z h = each-any P rs i z (h .1)
 
-accepted-runs : (t : Table) → slotSum (t .entries) ≤ 48 → fourRuns t ≡ fourOf Accepted (runsOf t)
-accepted-runs t h = rw (le-ltb 48 (slotSum (t .entries)) h)
-
 few-entry : (o : MaybeCombination) (n slot symbol : ℕ) (rs : List Run) → length (entryRuns o n slot symbol ++ rs) ≤ suc (length rs)
 few-entry (Some c) n slot symbol rs = omega arith
 few-entry None n slot symbol rs = omega arith
@@ -78,14 +73,14 @@ few-runs (e ∷ es) slot symbol =
     let b = few-runs es (slot + e .slots) (symbol + entrySymbols (entryCombination e) (e .slots)) in
     omega arith
 
-pub listed-runs : (t : Table) (r : FrameRuns) → slotSum (t .entries) ≤ 48 → length (t .entries) ≡ 4 → r ≡ fourRuns t → Listed t (r .count) (r .runs)
+pub listed-runs : (t : Table) (r : FrameRuns) → TableAccepted t → length (t .entries) ≡ 4 → r ≡ fourRuns t → Listed t (r .count) (r .runs)
 listed-runs t r h es4 e =
     let few = few-runs (t .entries) 0 0 in
     let q = e ∙ accepted-runs t h in
     let rs = runsOf t in
     let ec : r .count ≡ length rs = ap (λ (z : FrameRuns). z .count) q in
     let el : r .runs ≡ padded 4 noRun rs = ap (λ (z : FrameRuns). z .runs) q in
-    let l = laws.laid t h in
+    let l = table-laid t h in
     let er : take (r .count) (r .runs) ≡ rs = ap (λ (z : List Run). take (r .count) z) el ∙ take-at rs (replicate (4 - length rs) noRun) (r .count) (sym ec) in
     let at : (i : ℕ) → getD (r .runs) i noRun ≡ getD rs i noRun = λ i. ap (λ (z : List Run). getD z i noRun) el ∙ padded-any rs (4 - length rs) noRun i in
     record {
@@ -211,5 +206,5 @@ pub front-is : {A : Type 0} (b us w : List A) (n : ℕ) → b ≡ us ++ drop (le
 front-is {A} b us w n e q = ap (λ (z : List A). take n z) e ∙ take-at us (drop (length us) w) n (sym q)
 
 -- the valid slots as `runs` counts them
-pub valid-sum : (t : Table) (r : FrameRuns) → slotSum (t .entries) ≤ 48 → r ≡ fourRuns t → r .«valid_slots» ≡ validTotal t
+pub valid-sum : (t : Table) (r : FrameRuns) → TableAccepted t → r ≡ fourRuns t → r .«valid_slots» ≡ validTotal t
 valid-sum t r h e = ap (λ (z : FrameRuns). z .«valid_slots») (e ∙ accepted-runs t h)

@@ -33,7 +33,7 @@ ghost use Rattle.trellis.specs.Lists.{upto, laid, bit};
 ghost use Rattle.trellis.specs.Code.{stateAt};
 ghost use Rattle.trellis.specs.Run.{startAt, startUnknown};
 ghost use Rattle.isdbs_core.specs.declared.combination.Combination.the-variants.{«Tc8psk2_3»};
-ghost use Rattle.isdbs_core.specs.Tables.{slotSum};
+ghost use Rattle.isdbs_core.specs.Tables.{TableAccepted};
 ghost use Rattle.isdbs_core.specs.RunsOf.{frameSteps, loadBytes};
 ghost use Rattle.isdbs_points.specs.Points.{zero64, point, turned, psk8Of, subset};
 ghost use Rattle.isdbs_points.specs.Layout.{byteOf};
@@ -108,7 +108,7 @@ fn read_runs(
     decisions: &mut [u64],
     bits: &mut [u8],
 ) -> At
-    requires { ⌜ (slotSum (t .entries) ≤ 48) × (38976 ≤ length (now re)) × (38976 ≤ length (now im)) × (4224 ≤ length (now decisions)) × (frameSteps t ≤ length (now bits)) ⌝ }
+    requires { ⌜ TableAccepted t × (38976 ≤ length (now re)) × (38976 ≤ length (now im)) × (4224 ≤ length (now decisions)) × (frameSteps t ≤ length (now bits)) ⌝ }
     ensures { λ r. ⌜ RunsRead t (received (now (re .entry)) (now (im .entry)) m scale) (now (pm .entry)) (now (decisions .entry)) (now (bits .entry)) r (now (pm .exit)) (now (decisions .exit)) (now (bits .exit)) ⌝ }
 {
     let rs = runs(t);
@@ -272,7 +272,7 @@ fn write_bytes(
     bits: &[u8],
     bytes: &mut [u8],
 )
-    requires { ⌜ (start < 64) × (slotSum (t .entries) ≤ 48) × (38976 ≤ length (now re)) × (38976 ≤ length (now im)) × (frameSteps t ≤ length (now bits)) × Bits (now bits) (frameSteps t) × (loadBytes t ≤ length (now bytes)) ⌝ }
+    requires { ⌜ (start < 64) × TableAccepted t × (38976 ≤ length (now re)) × (38976 ≤ length (now im)) × (frameSteps t ≤ length (now bits)) × Bits (now bits) (frameSteps t) × (loadBytes t ≤ length (now bytes)) ⌝ }
     ensures { λ _. ⌜ ((scale : Float) → now (bytes .exit) ≡ laid (upto (byteAt t (received (now (re .entry)) (now (im .entry)) m scale) start (now (bits .entry))) (loadBytes t)) (now (bytes .entry))) ⌝ }
 {
     let rs = runs(t);
@@ -312,7 +312,7 @@ fn decode_bits(
     decisions: &mut [u64],
     bits: &mut [u8],
 )
-    requires { ⌜ (slotSum (t .entries) ≤ 48) × (38976 ≤ length (now re)) × (38976 ≤ length (now im)) × (4224 ≤ length (now decisions)) × (frameSteps t + 16 ≤ length (now bits)) ⌝ }
+    requires { ⌜ TableAccepted t × (38976 ≤ length (now re)) × (38976 ≤ length (now im)) × (4224 ≤ length (now decisions)) × (frameSteps t + 16 ≤ length (now bits)) ⌝ }
     ensures { λ _. ⌜ (now (bits .exit) ≡ laid (bitsFrom t (received (now (re .entry)) (now (im .entry)) m scale) start) (now (bits .entry))) × (now (decisions .exit) ≡ laid (replicate 4224 0) (now (decisions .entry))) ⌝ }
 {
     let mut pm = start;
@@ -343,7 +343,7 @@ pub fn decode(
     bits: &mut [u8],
     bytes: &mut [u8],
 )
-    requires { ⌜ (steps ≡ frameSteps t) × (slotSum (t .entries) ≤ 48) × (38976 ≤ length (now re)) × (38976 ≤ length (now im)) × (4224 ≤ length (now decisions)) × (frameSteps t + 16 ≤ length (now bits)) × (loadBytes t ≤ length (now bytes)) ⌝ }
+    requires { ⌜ (steps ≡ frameSteps t) × TableAccepted t × (38976 ≤ length (now re)) × (38976 ≤ length (now im)) × (4224 ≤ length (now decisions)) × (frameSteps t + 16 ≤ length (now bits)) × (loadBytes t ≤ length (now bytes)) ⌝ }
     ensures { λ _. ⌜ FrameRead t (received (now (re .entry)) (now (im .entry)) (o .mapping) (o .«llr_scale»)) (o .«known_start») first (now (decisions .entry)) (now (decisions .exit)) (now (bits .entry)) (now (bits .exit)) (now (bytes .entry)) (now (bytes .exit)) ⌝ }
 {
     let state = start_state(first);
@@ -361,7 +361,7 @@ pub struct Size {
 }
 
 pub fn frame_size(t: Table) -> Size
-    requires { ⌜ slotSum (t .entries) ≤ 48 ⌝ }
+    requires { ⌜ TableAccepted t ⌝ }
     ensures { λ r. ⌜ (r .bytes ≡ loadBytes t) × (r .steps ≡ frameSteps t) ⌝ }
 {
     let rs = runs(t);

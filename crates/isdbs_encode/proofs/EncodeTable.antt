@@ -8,7 +8,6 @@ use native.Mathlib.Omega.{arith}
 use lib.Ieee.{Float}
 use lib.ListN.{length, getD, take, drop, replicate, length-append}
 use lib.Seq.{take-append-seam}
-use Rattle.refusal.specs.declared.Answer.the-variants.{Accepted}
 use Rattle.trellis.specs.Lists.{upto, laid}
 use Rattle.isdbs_core.specs.declared.combination.MaybeCombination.{MaybeCombination}
 use Rattle.isdbs_core.specs.declared.combination.MaybeCombination.the-variants.{Some, None}
@@ -17,11 +16,10 @@ use Rattle.isdbs_core.specs.declared.slots.FrameRuns.{FrameRuns}
 use Rattle.isdbs_core.specs.declared.tmcc.Entry.{Entry}
 use Rattle.isdbs_core.specs.declared.tmcc.Table.{Table}
 use Rattle.isdbs_core.specs.Lists.{Each, padded}
-use Rattle.isdbs_core.specs.Answers.{accepted}
-use Rattle.isdbs_core.specs.Tables.{tableAnswer, slotSum, entryCombination}
+use Rattle.refusal.specs.Rows.{accepted}
+use Rattle.isdbs_core.specs.Tables.{tableAnswer, TableAccepted, entryCombination}
 use Rattle.isdbs_core.specs.RunsOf.{runsFrom, runsOf, entryRuns, entrySymbols, fourRuns, noRun, RunFits}
-use Rattle.isdbs_core.specs.RunLaws as runLaws
-use Rattle.isdbs_core.specs.PartLaws.{sum-fits}
+use Rattle.isdbs_core.specs.TableLaws.{sum-fits, table-laid}
 use Rattle.isdbs_points.specs.declared.Cplx.{Cplx}
 use Rattle.isdbs_points.specs.declared.Mapping.{Mapping}
 use Rattle.isdbs_encode.specs.declared.RunsEncoded.{RunsEncoded}
@@ -40,8 +38,8 @@ each-at P [] d i e h = absurd (not-suc-le-zero h)
 each-at P (x ∷ l) d zero e h = e .0
 each-at P (x ∷ l) d (suc i) e h = each-at P l d i (e .1) (omega arith)
 
-pub tiled : (t : Table) → slotSum (t .entries) ≤ 48 → Tiled (runsOf t)
-tiled t h =
+pub tiled : (t : Table) → TableAccepted t → Tiled (runsOf t)
+tiled t a =
     let es = t .entries in
     let segs = segmentsFrom (runsOf t) 0 0 in
     let f = fill-symbols es 0 0 0 0 in
@@ -49,8 +47,8 @@ tiled t h =
     record {
       fill = rw e f;
       whole = table-whole t;
-      ordered = λ i l. each-at RunFits (runsOf t) noRun i (runLaws.laid t h .fit) l .starts;
-      fits = omega (arith, e, symbol-sum-few es);
+      ordered = λ i l. each-at RunFits (runsOf t) noRun i (table-laid t a .fit) l .starts;
+      fits = omega (arith, e, symbol-sum-few es, sum-fits t a);
     }
 
 entry-runs-few : (c : MaybeCombination) (n slot symbol : ℕ) (rs : List Run) → length (entryRuns c n slot symbol ++ rs) ≤ suc (length rs)
@@ -65,12 +63,12 @@ runs-few (e ∷ es) slot symbol =
     omega (arith, entry-runs-few (entryCombination e) (e .slots) slot symbol (runsFrom es (slot + e .slots) (symbol + k)), runs-few es (slot + e .slots) (symbol + k))
 
 -- ---- what `runs` answers for an accepted table
-module _ (t : Table) (a : tableAnswer t ≡ Accepted) where
+module _ (t : Table) (a : TableAccepted t) where
   pub accepts : accepted (tableAnswer t) ≡ true
   accepts = rw a
 
   pub table-tiled : Tiled (runsOf t)
-  table-tiled = tiled t (sum-fits t accepts)
+  table-tiled = tiled t a
 
   module _ (r : FrameRuns) (e : r ≡ fourRuns t) where
     pub runs-count : r .count ≡ length (runsOf t)

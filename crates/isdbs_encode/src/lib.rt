@@ -22,7 +22,7 @@ ghost use Rattle.trellis.specs.Code.{isdb, label, moved};
 ghost use Rattle.isdbs_core.specs.declared.combination.Combination.the-variants.{«Bpsk1_2», «Tc8psk2_3»};
 ghost use Rattle.isdbs_core.specs.declared.combination.Modulation.the-variants.{Qpsk};
 ghost use Rattle.isdbs_core.specs.Combinations.{modulationOf, punctureOf};
-ghost use Rattle.isdbs_core.specs.Tables.{tableAnswer};
+ghost use Rattle.isdbs_core.specs.Tables.{TableAccepted};
 ghost use Rattle.isdbs_points.specs.Points.{zero64, turned};
 ghost use Rattle.isdbs_points.specs.Layout.{stepsPerPeriod, loadBit};
 ghost use Rattle.isdbs_points.specs.Frame.{endState};
@@ -430,7 +430,7 @@ pub fn encode_main(
     re: &mut [f64],
     im: &mut [f64],
 ) -> u8
-    requires { ⌜ (tableAnswer t ≡ Accepted) × (start < 64) × (38976 ≤ length (now re)) × (38976 ≤ length (now im)) ⌝ }
+    requires { ⌜ TableAccepted t × (start < 64) × (38976 ≤ length (now re)) × (38976 ≤ length (now im)) ⌝ }
     ensures state { λ r. ⌜ r ≡ endState t (now (bytes .entry)) start ⌝ }
     ensures frame { λ _. ⌜ FrameLaid t m (now (bytes .entry)) start (now (re .entry)) (now (re .exit)) (now (im .entry)) (now (im .exit)) ⌝ }
 {

@@ -13,7 +13,8 @@ use Rattle.isdbs_core.specs.declared.tmcc.Entry.{Entry}
 use Rattle.isdbs_core.specs.declared.tmcc.Table.{Table}
 use Rattle.isdbs_core.specs.declared.slots.Run.{Run}
 use Rattle.isdbs_core.specs.Combinations.{unitOf, slotSteps}
-use Rattle.isdbs_core.specs.Tables.{slotSum, entryCombination}
+use Rattle.isdbs_core.specs.Tables.{slotSum, entryCombination, TableAccepted}
+use Rattle.isdbs_core.specs.TableLaws.{sum-fits}
 use Rattle.isdbs_core.specs.RunsOf.{unitsIn, symbolsIn, runOf, entryRuns, entrySymbols, runsFrom, runsOf, validIn, validTotal, loadBytes, stepsOf, stepsIn, frameSteps}
 use Rattle.isdbs_points.specs.Layout.{Segment, segmentOf, segmentsFrom, segments, atSymbol, atStep, atBit}
 use Rattle.isdbs_points.specs.Places.{In, here, there, Fill, Found, fill-member, among-at, find}
@@ -137,13 +138,13 @@ module _ (t : Table) where
   pub table-whole : (g : Segment) → In g (segments t) → Whole g
   table-whole = from-whole (t .entries) 0 0 0 0
 
-  -- a table that row 1 accepts has 68,208 steps at most, and its symbols lie in the frame
-  pub few-steps : slotSum (t .entries) ≤ 48 → frameSteps t ≤ 68208
-  few-steps h = omega (arith, step-sum-few (t .entries) 0 0)
+  -- an accepted table has 68,208 steps at most, and its symbols lie in the frame
+  pub few-steps : TableAccepted t → frameSteps t ≤ 68208
+  few-steps a = omega (arith, sum-fits t a, step-sum-few (t .entries) 0 0)
 
-  pub symbol-fits : slotSum (t .entries) ≤ 48 → (g : Segment) → In g (segments t) → (j : ℕ) → j < g .symbols → g .symbol + j < 38976
-  symbol-fits h g m j l =
-      omega (arith, symbol-sum-few (t .entries), fill-member (λ g. g .symbol) (λ g. g .symbols) g (segments t) 0 (symbolSum (t .entries)) m table-symbols .1)
+  pub symbol-fits : TableAccepted t → (g : Segment) → In g (segments t) → (j : ℕ) → j < g .symbols → g .symbol + j < 38976
+  symbol-fits a g m j l =
+      omega (arith, sum-fits t a, symbol-sum-few (t .entries), fill-member (λ g. g .symbol) (λ g. g .symbols) g (segments t) 0 (symbolSum (t .entries)) m table-symbols .1)
 
   pub step-fits : (g : Segment) → In g (segments t) → (k : ℕ) → k < g .steps → g .step + k < frameSteps t
   step-fits g m k l = omega (arith, fill-member (λ g. g .step) (λ g. g .steps) g (segments t) 0 (frameSteps t) m table-steps .1)

@@ -1,7 +1,10 @@
 -- Document 01, "Where a call is turned back". Assumes nothing.
-use mathlib.Core.Bool.{Bool, cond}
+use mathlib.Core.Path.{_≡_}
+use mathlib.Core.Bool.{Bool, true, false, cond}
 use mathlib.Core.List.{List, [], _∷_}
-use Prim.Native.Nat.{ℕ}
+use Prim.Native.Nat.{ℕ, suc}
+use lib.Dec.{eqb, leb, ltb}
+use lib.ListN.{length}
 use Rattle.refusal.specs.declared.Answer.{Answer}
 use Rattle.refusal.specs.declared.Answer.the-variants.{Accepted, Table, Position, Traceback, State, Length, Symbols, Sample, Scale, Space}
 
@@ -18,6 +21,14 @@ numberOf Sample = 7
 numberOf Scale = 8
 numberOf Space = 9
 
+-- the numbers as the table has them, from the top
+abbrev pub order : List ℕ
+order = 1 ∷ 2 ∷ 3 ∷ 4 ∷ 5 ∷ 6 ∷ 7 ∷ 8 ∷ 9 ∷ []
+
+-- no row holds
+abbrev pub accepted : Answer → Bool
+accepted a = eqb (numberOf a) 0
+
 -- a row as a call has it: its answer, and whether its condition holds
 abbrev pub Row : Type 0
 Row = Answer × Bool
@@ -26,3 +37,29 @@ Row = Answer × Bool
 abbrev pub firstRow : List Row → Answer
 firstRow [] = Accepted
 firstRow (row ∷ rows) = cond (row .1) (row .0) (firstRow rows)
+
+-- one thing where the call is accepted, another where it is refused
+abbrev pub Either : Answer → Type 0 → Type 0 → Type 0
+Either a done kept = (a ≡ Accepted → done) × ((a ≡ Accepted → ⊥) → kept)
+
+-- what a call says: the number, and the values that come with an acceptance
+abbrev pub Said : Type 0
+Said = ℕ × List ℕ
+
+abbrev pub says : Answer → List ℕ → Said
+says a values = cond (accepted a) (0, values) (numberOf a, [])
+
+-- "from the top": each row of a call stands in the table, none above the row before it
+abbrev pub placeIn : List ℕ → ℕ → ℕ
+placeIn [] n = 0
+placeIn (m ∷ ms) n = cond (eqb m n) 0 (suc (placeIn ms n))
+
+abbrev pub place : Row → ℕ
+place row = placeIn order (numberOf (row .0))
+
+abbrev pub downFrom : ℕ → List Row → Bool
+downFrom p [] = true
+downFrom p (row ∷ rows) = cond (leb p (place row)) (cond (ltb (place row) (length order)) (downFrom (place row) rows) false) false
+
+abbrev pub fromTop : List Row → Bool
+fromTop rows = downFrom 0 rows

@@ -1,5 +1,6 @@
 -- `slot_byte_symbol` meets its contract. Assumes nothing.
 use Rattle.isdbs_core.proofs.Calls.{accepts, refuses, runs-answer, runs-are, runs-in}
+use Rattle.isdbs_core.specs.Answers.{byteSaid}
 use Rattle.isdbs_core.specs.RunsOf.{runsOf}
 use Rattle.isdbs_core.specs.SymbolLaws.{byte-padded}
 use Rattle.isdbs_core.specs.Symbols.{byteIn}
@@ -34,7 +35,7 @@ returns c =
     let ok = accepts (r .answer) (tableAnswer t) _ (runs-answer t r e) (c .before .before .before .number .ensures) (c .before .before .if1 .taken) in
     let slot = st .before .args .slot in
     let byte = st .before .args .byte in
-    c .byte-in .ensures ∙ ap (λ (l : List Run). byteIn l slot byte) (runs-are t r e ok) ∙ byte-padded 4 (runsOf t) slot byte ∙ rw ok
+    ap byteSaid (c .byte-in .ensures ∙ ap (λ (l : List Run). byteIn l slot byte) (runs-are t r e ok) ∙ byte-padded 4 (runsOf t) slot byte) ∙ rw ok
 
 returns-2 : tie.Need-returns-2
 returns-2 c =

@@ -1,7 +1,8 @@
 -- `slot_part_answer` meets its contract. Assumes nothing.
 use Rattle.isdbs_core.proofs.Calls.{accepts, refuses, runs-answer, valid-are}
-use Rattle.isdbs_core.specs.PartLaws.{sum-fits, table-accepts, by-table, by-position, by-length, by-none}
-use Rattle.isdbs_core.specs.RunLaws.{laid}
+use Rattle.refusal.specs.RowLaws.{accepted-is}
+use Rattle.isdbs_core.specs.PartLaws.{by-table, by-position, by-length, by-none}
+use Rattle.isdbs_core.specs.TableLaws.{table-laid}
 use Rattle.isdbs_core.specs.Tables.{tableAnswer}
 use mathlib.Core.Path.{_≡_, refl, sym, _∙_, ap}
 use native.Mathlib.Omega.{arith}
@@ -32,7 +33,7 @@ mul-if3 c =
     let r = st .runs .result in
     let e = st .runs .ensures in
     let ok = accepts (r .answer) (tableAnswer t) _ (runs-answer t r e) (c .before .before .number .ensures) (c .before .if1 .taken) in
-    let most = laid t (sum-fits t ok) .valid in
+    let most = table-laid t (accepted-is (tableAnswer t) ok) .valid in
     rw (valid-are t r e ok) (omega arith)
 
 returns-2 : tie.Need-returns-2
@@ -55,7 +56,7 @@ returns-3 c =
     let ok = accepts (r .answer) (tableAnswer t) _ (runs-answer t r e) (c .before .before .before .number .ensures) (c .before .before .if1 .taken) in
     let bytes = st .before .before .args .bytes .now in
     let k = st .before .before .args .k in
-    runs-answer t r e ∙ table-accepts t ok ∙ sym (by-none bytes t k ok (rw (valid-are t r e ok) at (c .before .if2 .left)) (rw (valid-are t r e ok) at (c .if3 .left)))
+    runs-answer t r e ∙ accepted-is (tableAnswer t) ok ∙ sym (by-none bytes t k ok (rw (valid-are t r e ok) at (c .before .if2 .left)) (rw (valid-are t r e ok) at (c .if3 .left)))
 
 returns-4 : tie.Need-returns-4
 returns-4 c =

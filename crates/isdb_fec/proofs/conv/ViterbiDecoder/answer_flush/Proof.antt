@@ -3,12 +3,12 @@ use mathlib.Core.Path.{_≡_, refl, sym, _∙_, ap}
 use Prim.Native.Nat.{ℕ, suc, _+_, _-_, _*_, _/_, _%_, _<_, _≤_}
 use native.Mathlib.Omega.{arith}
 use borrow.Author.Needs.{needs}
-use mathlib.Core.Bool.{Bool, true, false, cond, _||_, or-true}
+use mathlib.Core.List.{[], _∷_}
 use borrow.Author.Tests.{lt-ltb, le-ltb, le-leb, lt-leb, eq-eqb, ne-eqb}
-use Rattle.isdb_fec.specs.Values.{someBeyond, pathLimit}
-use Rattle.isdb_fec.specs.Rows.{badTraceback, badState, shortOf, stepsShort}
-use Rattle.refusal.specs.declared.Answer.the-variants.{Accepted, Length, Sample, Space}
-use Rattle.isdb_fec.specs.Answers.{refused-first, passed-first, sound}
+use Rattle.isdb_fec.specs.Rows.{handedRows, shortOf}
+use Rattle.refusal.specs.declared.Answer.the-variants.{Space}
+use Rattle.refusal.specs.RowLaws.{refused-by, passed-by}
+use Rattle.isdb_fec.specs.Answers.{sound}
 use Rattle.isdb_fec.specs.Told.{told}
 use borrow.Author.Needs.{needs}
 use Rattle.isdb_fec.proofs.conv.ViterbiDecoder.answer_flush.Statement.{statement}
@@ -23,15 +23,15 @@ enum-told c = search needs
 returns : tie.Need-returns
 returns c =
     let a = c .before .before .args in
-    refused-first (badTraceback (a .self)) (badState (a .self)) (c .before .answer-handed .result) (cond (shortOf (a .self .held) (a .self) (a .decisions) (a .out)) Space Accepted)
-    (c .before .answer-handed .ensures) (told (c .before .answer-handed .result) (c .match .keys2))
+    refused-by (handedRows (a .self)) ((Space, shortOf (a .self .held) (a .self) (a .decisions) (a .out)) ∷ []) (c .before .answer-handed .result) (c .before .answer-handed .ensures)
+    (told (c .before .answer-handed .result) (c .match .keys2))
 
 returns-2 : tie.Need-returns-2
 returns-2 c =
     let told = c .before .before in
     let a = told .before .before .before .args in
-    let p = passed-first (badTraceback (a .self)) (badState (a .self)) (sym (told .enum-told .given .1) ∙ told .before .before .answer-handed .ensures) in
-    rw (p .0, p .1, lt-ltb (a .out) (a .self .held) (c .if1 .taken)) refl
+    passed-by (handedRows (a .self)) ((Space, shortOf (a .self .held) (a .self) (a .decisions) (a .out)) ∷ []) tt (sym (told .enum-told .given .1) ∙ told .before .before .answer-handed .ensures)
+    (rw (lt-ltb (a .out) (a .self .held) (c .if1 .taken)) refl)
 
 add-if2 : tie.Need-add-if2
 add-if2 c =
@@ -43,15 +43,15 @@ returns-3 : tie.Need-returns-3
 returns-3 c =
     let told = c .before .before .before .before in
     let a = told .before .before .before .args in
-    let p = passed-first (badTraceback (a .self)) (badState (a .self)) (sym (told .enum-told .given .1) ∙ told .before .before .answer-handed .ensures) in
-    rw (p .0, p .1, le-ltb (a .out) (a .self .held) (c .before .before .if1 .left), lt-ltb (a .decisions) (4096 + a .self .traceback) (c .if2 .taken)) refl
+    passed-by (handedRows (a .self)) ((Space, shortOf (a .self .held) (a .self) (a .decisions) (a .out)) ∷ []) tt (sym (told .enum-told .given .1) ∙ told .before .before .answer-handed .ensures)
+    (rw (le-ltb (a .out) (a .self .held) (c .before .before .if1 .left), lt-ltb (a .decisions) (4096 + a .self .traceback) (c .if2 .taken)) refl)
 
 returns-4 : tie.Need-returns-4
 returns-4 c =
     let told = c .before .before .before .before in
     let a = told .before .before .before .args in
-    let p = passed-first (badTraceback (a .self)) (badState (a .self)) (sym (told .enum-told .given .1) ∙ told .before .before .answer-handed .ensures) in
-    rw (p .0, p .1, le-ltb (a .out) (a .self .held) (c .before .before .if1 .left), le-ltb (a .decisions) (4096 + a .self .traceback) (c .if2 .left)) refl
+    passed-by (handedRows (a .self)) ((Space, shortOf (a .self .held) (a .self) (a .decisions) (a .out)) ∷ []) tt (sym (told .enum-told .given .1) ∙ told .before .before .answer-handed .ensures)
+    (rw (le-ltb (a .out) (a .self .held) (c .before .before .if1 .left), le-ltb (a .decisions) (4096 + a .self .traceback) (c .if2 .left)) refl)
 
 pub answer-flush-spec : {M : Type 1} → statement M
 answer-flush-spec =

@@ -3,14 +3,11 @@ use mathlib.Core.Path.{_≡_, refl, sym, _∙_, ap}
 use Prim.Native.Nat.{ℕ, suc, _+_, _-_, _*_, _/_, _%_, _<_, _≤_}
 use native.Mathlib.Omega.{arith}
 use borrow.Author.Needs.{needs}
-use mathlib.Core.Bool.{Bool, true, false, cond, not}
-use lib.Dec.{eqb}
 use lib.ListN.{length}
 use borrow.Author.Tests.{lt-ltb, le-ltb, le-leb, lt-leb, eq-eqb, ne-eqb}
-use Rattle.isdb_fec.specs.Values.{someBeyond, streamLimit}
-use Rattle.isdb_fec.specs.Rows.{badTraceback, badState, shortOf, stepsShort}
-use Rattle.refusal.specs.declared.Answer.the-variants.{Accepted, Length, Sample, Space}
-use Rattle.isdb_fec.specs.Answers.{refused-first, passed-first, sound}
+use Rattle.isdb_fec.specs.Rows.{handedRows, streamRest}
+use Rattle.refusal.specs.RowLaws.{refused-by, passed-by}
+use Rattle.isdb_fec.specs.Answers.{sound}
 use Rattle.isdb_fec.specs.Told.{told}
 use borrow.Author.Needs.{needs}
 use Rattle.isdb_fec.proofs.conv.ViterbiDecoder.answer_stream.Statement.{statement}
@@ -25,10 +22,8 @@ enum-told c = search needs
 returns : tie.Need-returns
 returns c =
     let a = c .before .before .before .args in
-    let xs = a .values .now in
-    refused-first (badTraceback (a .self)) (badState (a .self)) (c .before .answer-handed .result)
-    (cond (not (eqb (length xs % a .per) 0)) Length (cond (someBeyond streamLimit xs) Sample (cond (stepsShort (length xs / a .per) (a .self) (a .decisions) (a .out)) Space Accepted)))
-    (c .before .answer-handed .ensures) (told (c .before .answer-handed .result) (c .match .keys2))
+    refused-by (handedRows (a .self)) (streamRest (a .per) (a .self) (a .values .now) (a .decisions) (a .out)) (c .before .answer-handed .result) (c .before .answer-handed .ensures)
+    (told (c .before .answer-handed .result) (c .match .keys2))
 
 rem-if1 : tie.Need-rem-if1
 rem-if1 c = search needs
@@ -37,8 +32,8 @@ returns-2 : tie.Need-returns-2
 returns-2 c =
     let told = c .before in
     let a = told .before .before .before .before .args in
-    let p = passed-first (badTraceback (a .self)) (badState (a .self)) (sym (told .enum-told .given .1) ∙ told .before .before .answer-handed .ensures) in
-    rw (p .0, p .1, ne-eqb (length (a .values .now) % a .per) 0 (c .if1 .taken)) refl
+    passed-by (handedRows (a .self)) (streamRest (a .per) (a .self) (a .values .now) (a .decisions) (a .out)) tt (sym (told .enum-told .given .1) ∙ told .before .before .answer-handed .ensures)
+    (rw (ne-eqb (length (a .values .now) % a .per) 0 (c .if1 .taken)) refl)
 
 some-beyond-requires : tie.Need-some-beyond-requires
 some-beyond-requires c κs = search needs
@@ -47,8 +42,8 @@ returns-3 : tie.Need-returns-3
 returns-3 c =
     let told = c .before .before .before in
     let a = told .before .before .before .before .args in
-    let p = passed-first (badTraceback (a .self)) (badState (a .self)) (sym (told .enum-told .given .1) ∙ told .before .before .answer-handed .ensures) in
-    rw (p .0, p .1, eq-eqb (length (a .values .now) % a .per) 0 (c .before .before .if1 .left), sym (c .before .some-beyond .ensures) ∙ c .if2 .taken) refl
+    passed-by (handedRows (a .self)) (streamRest (a .per) (a .self) (a .values .now) (a .decisions) (a .out)) tt (sym (told .enum-told .given .1) ∙ told .before .before .answer-handed .ensures)
+    (rw (eq-eqb (length (a .values .now) % a .per) 0 (c .before .before .if1 .left), sym (c .before .some-beyond .ensures) ∙ c .if2 .taken) refl)
 
 div-answer-space : tie.Need-div-answer-space
 div-answer-space c = search needs
@@ -63,13 +58,11 @@ returns-4 : tie.Need-returns-4
 returns-4 c =
     let told = c .before .before .before .before in
     let a = told .before .before .before .before .args in
-    let p = passed-first (badTraceback (a .self)) (badState (a .self)) (sym (told .enum-told .given .1) ∙ told .before .before .answer-handed .ensures) in
-    rw (
-      p .0,
-      p .1,
+    passed-by (handedRows (a .self)) (streamRest (a .per) (a .self) (a .values .now) (a .decisions) (a .out)) tt (sym (told .enum-told .given .1) ∙ told .before .before .answer-handed .ensures)
+    (rw (
       eq-eqb (length (a .values .now) % a .per) 0 (c .before .before .before .if1 .left),
       sym (c .before .before .some-beyond .ensures) ∙ c .before .if2 .left,
-    ) (c .answer-space .ensures)
+    ) (c .answer-space .ensures))
 
 pub answer-stream-spec : {M : Type 1} → statement M
 answer-stream-spec =

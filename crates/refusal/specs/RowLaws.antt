@@ -1,0 +1,208 @@
+-- Laws of answers and of the rows of a call. Assumes nothing.
+use mathlib.Core.Path.{_≡_, refl, sym, _∙_, ap}
+use mathlib.Core.Logic.{_⊎_, inl, inr}
+use mathlib.Core.Bool.{Bool, true, false, cond, _||_}
+use mathlib.Core.List.{List, [], _∷_, _++_}
+use Prim.Native.Nat.{ℕ, _<_}
+use native.Mathlib.Omega.{arith}
+use borrow.Author.Tests.{eqb-true, eqb-false, eq-eqb, ne-eqb}
+use lib.Dec.{T, eqb}
+use lib.ListN.{length}
+use types.Run.{OneOf, miss}
+use Rattle.refusal.specs.declared.Answer.{Answer}
+use Rattle.refusal.specs.declared.Answer.the-variants.{Accepted, Table, Position, Traceback, State, Length, Symbols, Sample, Scale, Space}
+use Rattle.refusal.specs.Rows.{numberOf, accepted, Row, firstRow, Either, Said, says, fromTop}
+
+-- ---- answers
+
+-- only accepted has the number 0
+pub zero-accepted : (a : Answer) → numberOf a ≡ 0 → a ≡ Accepted
+zero-accepted Accepted e = refl
+zero-accepted Table e = absurd (omega arith)
+zero-accepted Position e = absurd (omega arith)
+zero-accepted Traceback e = absurd (omega arith)
+zero-accepted State e = absurd (omega arith)
+zero-accepted Length e = absurd (omega arith)
+zero-accepted Symbols e = absurd (omega arith)
+zero-accepted Sample e = absurd (omega arith)
+zero-accepted Scale e = absurd (omega arith)
+zero-accepted Space e = absurd (omega arith)
+
+-- an answer with a row's number is a refusal
+pub numbered : (a : Answer) → 0 < numberOf a → a ≡ Accepted → ⊥
+numbered a h e = let z : numberOf a ≡ 0 = ap numberOf e in omega arith
+
+-- the places of the refusals among the answers, and what `let Answer::Accepted = .. else` tells where it leaves: `tag` is the place of an answer
+abbrev pub refusals : List ℕ
+refusals = 1 ∷ 2 ∷ 3 ∷ 4 ∷ 5 ∷ 6 ∷ 7 ∷ 8 ∷ 9 ∷ []
+
+pub told-by : (tag : Answer → ℕ) → tag Accepted ≡ 0 → (a : Answer) → OneOf refusals (tag a) → a ≡ Accepted → ⊥
+told-by tag z a o e = miss refusals 0 tt (rw (ap tag e ∙ z) at o)
+
+-- `accepted` and being `Accepted` are one
+pub accepted-is : (a : Answer) → accepted a ≡ true → a ≡ Accepted
+accepted-is a h = zero-accepted a (eqb-true (numberOf a) 0 h)
+
+pub is-accepted : (a : Answer) → a ≡ Accepted → accepted a ≡ true
+is-accepted a e = eq-eqb (numberOf a) 0 (ap numberOf e)
+
+pub refused-is : (a : Answer) → accepted a ≡ false → a ≡ Accepted → ⊥
+refused-is a h e = eqb-false (numberOf a) 0 h (ap numberOf e)
+
+pub is-refused : (a : Answer) → (a ≡ Accepted → ⊥) → accepted a ≡ false
+is-refused a n = ne-eqb (numberOf a) 0 (λ z. n (zero-accepted a z))
+
+-- one or the other
+pub decided : (a : Answer) → (a ≡ Accepted) ⊎ (a ≡ Accepted → ⊥)
+decided a = by (accepted a) refl
+  where
+    by : (b : Bool) → accepted a ≡ b → (a ≡ Accepted) ⊎ (a ≡ Accepted → ⊥)
+    by true h = inl (accepted-is a h)
+    by false h = inr (refused-is a h)
+
+-- a call's number n is 0 exactly where its answer b is accepted
+pub accepts : (a b : Answer) (n : ℕ) → a ≡ b → n ≡ numberOf a → n ≡ 0 → accepted b ≡ true
+accepts a b n e m z = eq-eqb (numberOf b) 0 (sym (m ∙ ap numberOf e) ∙ z)
+
+pub refuses : (a b : Answer) (n : ℕ) → a ≡ b → n ≡ numberOf a → (n ≡ 0 → ⊥) → accepted b ≡ false
+refuses a b n e m z = ne-eqb (numberOf b) 0 (λ q. z ((m ∙ ap numberOf e) ∙ q))
+
+pub done : {P Q : Type 0} → P → Either Accepted P Q
+done p = ((λ e. p), (λ n. absurd (n refl)))
+
+pub refused : {P Q : Type 0} (a : Answer) → (a ≡ Accepted → ⊥) → Q → Either a P Q
+refused a n q = ((λ e. absurd (n e)), (λ m. q))
+
+-- ---- what a call says
+
+pub says-number : (a : Answer) (values : List ℕ) → says a values .0 ≡ numberOf a
+says-number a values = by (accepted a) refl
+  where
+    by : (b : Bool) → accepted a ≡ b → _≡_ {A = ℕ} (cond {A = Said} b (0, values) (numberOf a, []) .0) (numberOf a)
+    by true h = sym (eqb-true (numberOf a) 0 h)
+    by false h = refl
+
+-- with a value, it accepts
+pub said-some : (a : Answer) (values : List ℕ) (n v : ℕ) (vs : List ℕ) → _≡_ {A = Said} (n, v ∷ vs) (says a values) → (a ≡ Accepted) × (n ≡ 0) × (values ≡ v ∷ vs)
+said-some a values n v vs = by (accepted a) refl
+  where
+    by : (b : Bool) → accepted a ≡ b → _≡_ {A = Said} (n, v ∷ vs) (cond {A = Said} b (0, values) (numberOf a, [])) → (a ≡ Accepted) × (n ≡ 0) × (values ≡ v ∷ vs)
+    by true h e = (accepted-is a h, ap (λ (s : Said). s .0) e, sym (ap (λ (s : Said). s .1) e))
+    by false h e = let z = ap (λ (s : Said). length (s .1)) e in absurd (omega arith)
+
+-- without one, where there would be one, it refuses
+pub said-none : (a : Answer) (v : ℕ) (vs : List ℕ) (n : ℕ) → _≡_ {A = Said} (n, []) (says a (v ∷ vs)) → (n ≡ numberOf a) × (a ≡ Accepted → ⊥)
+said-none a v vs n = by (accepted a) refl
+  where
+    by : (b : Bool) → accepted a ≡ b → _≡_ {A = Said} (n, []) (cond {A = Said} b (0, v ∷ vs) (numberOf a, [])) → (n ≡ numberOf a) × (a ≡ Accepted → ⊥)
+    by true h e = let z = ap (λ (s : Said). length (s .1)) e in absurd (omega arith)
+    by false h e = (ap (λ (s : Said). s .0) e, refused-is a h)
+
+-- two conditions of one row
+pub neither : (a b : Bool) → (a || b) ≡ false → (a ≡ false) × (b ≡ false)
+neither false b e = (refl, e)
+neither true b e = (e, absurd (let z : _≡_ {A = ℕ} 0 1 = cc in omega arith))
+
+-- ---- rows
+
+-- every row of a list refuses
+abbrev pub refusing : List Row → Bool
+refusing [] = true
+refusing (row ∷ rows) = cond (accepted (row .0)) false (refusing rows)
+
+-- the condition of the first row that has the answer a
+abbrev pub conditionOf : Answer → List Row → Bool
+conditionOf a [] = false
+conditionOf a (row ∷ rows) = cond (eqb (numberOf a) (numberOf (row .0))) (row .1) (conditionOf a rows)
+
+-- no row holds
+abbrev pub NoneHolds : List Row → Type 0
+NoneHolds [] = Unit
+NoneHolds (row ∷ rows) = (row .1 ≡ false) × NoneHolds rows
+
+first-refuses : (b c : Bool) → T (cond b false c) → (b ≡ false) × T c
+first-refuses true c t = absurd t
+first-refuses false c t = (refl, t)
+
+unless : (a : Answer) (b : Bool) (below : Answer) → accepted a ≡ false → cond b a below ≡ Accepted → (b ≡ false) × (below ≡ Accepted)
+unless a true below h e = absurd (refused-is a h e)
+unless a false below h e = (refl, e)
+
+-- accepted, so no row holds
+pub none-holds : (rows : List Row) → T (refusing rows) → firstRow rows ≡ Accepted → NoneHolds rows
+none-holds [] r e = tt
+none-holds (row ∷ rows) r e =
+    let s = first-refuses (accepted (row .0)) (refusing rows) r in
+    let u = unless (row .0) (row .1) (firstRow rows) (s .0) e in
+    (u .0, none-holds rows (s .1) (u .1))
+
+-- no row holds, so accepted
+pub none-accepted : (rows : List Row) → NoneHolds rows → firstRow rows ≡ Accepted
+none-accepted [] h = refl
+none-accepted (row ∷ rows) h = rw (h .0) (none-accepted rows (h .1))
+
+either-false : (b x y : Bool) → x ≡ false → y ≡ false → cond b x y ≡ false
+either-false true x y h k = h
+either-false false x y h k = k
+
+condition-false : (rows : List Row) → NoneHolds rows → (a : Answer) → conditionOf a rows ≡ false
+condition-false [] h a = refl
+condition-false (row ∷ rows) h a = either-false (eqb (numberOf a) (numberOf (row .0))) (row .1) (conditionOf a rows) (h .0) (condition-false rows (h .1) a)
+
+-- accepted, so the row of a does not hold
+pub passed : (rows : List Row) → T (refusing rows) → firstRow rows ≡ Accepted → (a : Answer) → conditionOf a rows ≡ false
+passed rows r e a = condition-false rows (none-holds rows r e) a
+
+-- ---- rows put behind others
+
+-- where the first ones refuse, those below change nothing
+pub refused-above : (above below : List Row) → (firstRow above ≡ Accepted → ⊥) → firstRow (above ++ below) ≡ firstRow above
+refused-above [] below n = absurd (n refl)
+refused-above (row ∷ rows) below n = step (row .1) (row .0) (firstRow (rows ++ below)) (firstRow rows) (λ m. refused-above rows below m) n
+  where
+    step : (b : Bool) (a x y : Answer) → ((y ≡ Accepted → ⊥) → x ≡ y) → (cond b a y ≡ Accepted → ⊥) → cond b a x ≡ cond b a y
+    step true a x y f m = refl
+    step false a x y f m = f m
+
+none-above : (above below : List Row) → NoneHolds above → firstRow (above ++ below) ≡ firstRow below
+none-above [] below h = refl
+none-above (row ∷ rows) below h = rw (h .0) (none-above rows below (h .1))
+
+-- where they pass, those below decide
+pub passed-above : (above below : List Row) → T (refusing above) → firstRow above ≡ Accepted → firstRow (above ++ below) ≡ firstRow below
+passed-above above below r e = none-above above below (none-holds above r e)
+
+-- the same of a call that answers as the first ones do, and of one that goes on where they pass
+pub refused-by : (above below : List Row) (a : Answer) → a ≡ firstRow above → (a ≡ Accepted → ⊥) → a ≡ firstRow (above ++ below)
+refused-by above below a e n = e ∙ sym (refused-above above below (λ y. n (e ∙ y)))
+
+pub passed-by : (above below : List Row) {a : Answer} → T (refusing above) → Accepted ≡ firstRow above → a ≡ firstRow below → a ≡ firstRow (above ++ below)
+passed-by above below r e b = b ∙ sym (passed-above above below r (sym e))
+
+-- accepted by all, so by each part
+pub both-passed : (above below : List Row) → T (refusing above) → firstRow (above ++ below) ≡ Accepted → (firstRow above ≡ Accepted) × (firstRow below ≡ Accepted)
+both-passed [] below r e = (refl, e)
+both-passed (row ∷ rows) below r e =
+    let s = first-refuses (accepted (row .0)) (refusing rows) r in
+    let u = unless (row .0) (row .1) (firstRow (rows ++ below)) (s .0) e in
+    let p = both-passed rows below (s .1) (u .1) in
+    (rw (u .0) (p .0), p .1)
+
+-- ---- the order of the table
+
+-- one row for each of the table's, in its order
+abbrev pub wholeTable : (table position traceback state long symbols sample scale space : Bool) → List Row
+wholeTable table position traceback state long symbols sample scale space =
+    (Table, table)
+    ∷ (Position, position)
+    ∷ (Traceback, traceback)
+    ∷ (State, state)
+    ∷ (Length, long)
+    ∷ (Symbols, symbols)
+    ∷ (Sample, sample)
+    ∷ (Scale, scale)
+    ∷ (Space, space)
+    ∷ []
+
+pub whole-from-top : (table position traceback state long symbols sample scale space : Bool) → T (fromTop (wholeTable table position traceback state long symbols sample scale space))
+whole-from-top table position traceback state long symbols sample scale space = tt
