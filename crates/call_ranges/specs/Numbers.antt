@@ -30,7 +30,7 @@ deepest = 2002277
 abbrev pub leastPath : Float
 leastPath = ofBits binary32 0xce74_6b28
 
--- 4,294,967,296, "for path values"
+-- 4,294,967,296 = 2^32: "path value not finite or beyond 2^32"
 abbrev pub pathMost : ℕ
 pathMost = 8388608
 

@@ -18,6 +18,10 @@ use Rattle.isdb_fec.specs.Calls.{pairSteps, fourSteps, knownSteps, call, steps,
 abbrev pub Floats : List Float → Type 0
 Floats xs = (i : ℕ) → T (fits binary32 (getD xs i nan))
 
+-- the decoder of traceback 128 that `with_state` makes
+abbrev pub fresh : ℕ → ViterbiDecoder
+fresh state = record { pm = startAt 64 state; held = 0; traceback = 128 }
+
 pub data Reached : ViterbiDecoder → Type 0 where
   -- `new` is `with_state` at 0
   with-state : {v : ViterbiDecoder} (traceback state : ℕ) → Accepted ≡ firstRow (freshRows traceback) → Fresh traceback (startAt 64 state) v → Reached v

@@ -1,33 +1,22 @@
 // Which decoder states the calls of isdb_fec can hand on, and what these can then answer: the definitions and theorems are in specs/.
-ghost use Rattle.call_ranges.specs.Answers.{StreamAnswer};
+ghost use mathlib.Core.Path.{_≡_};
+ghost use Prim.Native.Nat.{_/_};
+ghost use lib.ListN.{length};
+ghost use Rattle.refusal.specs.Rows.{firstRow};
+ghost use Rattle.isdb_fec.specs.Calls.{pairSteps, call, handed, Leaves, Unchanged, Either};
+ghost use Rattle.call_ranges.specs.Reached.{fresh};
+ghost use Rattle.isdb_fec.specs.Rows.{streamRest};
+use isdb_fec::conv::Released;
 use isdb_fec::conv::ViterbiDecoder;
-use refusal::Answer;
 
-// A fresh decoder, a call of soft values, a call of known bits and a flush. Whatever the values are and however many, the states that the calls hand on are not
-// refused: the first refusal is one of 5, 7 and 9.
-pub fn chained(
-    state: u8,
-    pairs: &[f32],
-    bits: &[u8],
-    decisions: &mut [u64],
-    out: &mut [u8],
-) -> Answer
-    ensures { λ r. ⌜ StreamAnswer r ⌝ }
+// `push` on a fresh decoder of traceback 128 that starts in the given state, mod 64: it is never refused for its state, only by 5, 7 and 9.
+pub fn push_fresh(state: u8, pairs: &[f32], decisions: &mut [u64], out: &mut [u8]) -> Released
+    ensures answers { λ r. ⌜ r .answer ≡ firstRow (streamRest 2 (fresh state) (now (pairs .entry)) (length (now (decisions .entry))) (length (now (out .entry)))) ⌝ }
+    ensures leaves { λ r. ⌜ Either (r .answer)
+        (Leaves 128 (call 128 (pairSteps (now (pairs .entry))) (handed (fresh state) (now (decisions .entry))) (length (now (pairs .entry)) / 2)) r (now (decisions .entry)) (now (decisions .exit)) (now (out .entry)) (now (out .exit)))
+        (Unchanged (fresh state) r (now (decisions .entry)) (now (decisions .exit)) (now (out .entry)) (now (out .exit))) ⌝ }
 {
     let made = ViterbiDecoder::with_state(128, state);
-    let fresh = made.dec;
-    let pushed = fresh.push(pairs, decisions, out);
-    let answer = pushed.answer;
-    let Answer::Accepted = answer else {
-        return answer;
-    };
-    let soft = pushed.dec;
-    let known = soft.push_known(bits, decisions, out);
-    let answer = known.answer;
-    let Answer::Accepted = answer else {
-        return answer;
-    };
-    let last = known.dec;
-    let end = last.flush(decisions, out);
-    end.answer
+    let dec = made.dec;
+    dec.push(pairs, decisions, out)
 }

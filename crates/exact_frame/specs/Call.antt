@@ -49,9 +49,6 @@ none-beyond xs (suc n) h = go (someBeyond partLimit xs n) (within partLimit (get
     go false true e t = refl
     go false false e t = absurd t
 
-false-or : (a b : Bool) → a ≡ false → b ≡ false → (a || b) ≡ false
-false-or a b p q = rw (p, q)
-
 -- within the margins, at the scale 8, only the last row can hold
 last-row : (t : Table) → slotSum (t .entries) ≤ 48 → (m : Mapping) (first : Bool) (load : List ℕ) (re im : List Float) → Within re im load t m first → (d b y : ℕ)
     → firstRow (decodeRows t re im eight d b y) ≡ cond (shortSpace t d b y) Space Accepted

@@ -6,7 +6,7 @@ use mathlib.Core.List.{List, [], _∷_, _++_}
 use Prim.Native.Nat.{ℕ, _+_, _*_, _-_, _<_, _≤_}
 use native.Mathlib.Omega.{arith}
 use lib.Dec.{T, ltb}
-use lib.ListN.{getD, length, length-append, List·getD-append}
+use lib.ListN.{getD, length, drop, length-append, List·getD-append}
 use lib.Ieee.{Float, nan, binary64, fits, neg, eq, le, ofBits}
 use Rattle.trellis.specs.Lists.{upto}
 use Rattle.trellis.specs.Code.{stateAt}
@@ -22,6 +22,7 @@ use Rattle.isdbs_points.specs.declared.Mapping.{Mapping}
 use Rattle.isdbs_points.specs.Points.{unused, zero64, one64, root64, qpskOf, subset}
 use Rattle.isdbs_points.specs.Layout.{Segment, segments, among, atSymbol, loadBit}
 use Rattle.isdbs_points.specs.Frame.{inputs, labelAt, sentBit, pointBy, pointIn, pointAt, frameRe, frameIm, startState}
+use Rattle.isdbs_encode.specs.Encoding.{FrameLaid}
 use Rattle.isdbs_metrics.specs.Reading.{decodedBytes}
 use Rattle.margins.specs.Margins.{keeps, anyAccepted, holds, freeRe, freeIm, Within, FullLoad}
 use Rattle.margins.specs.Clean.{Clean, clean-zero, clean-minus-zero, clean-one, clean-minus-one, clean-root, clean-minus-root, turned-clean, term-clean, psk8-clean, lowEnd, highEnd, keeps-accepted, clean-within, Other}
@@ -29,7 +30,7 @@ use Rattle.exact_frame.specs.Bits.{label-small, subset-small, load-bit-s
 use Rattle.exact_frame.specs.Steps.{received}
 use Rattle.exact_frame.specs.Exact.{decoded-load}
 
--- ---- "A sample that is not finite or beyond 1,024 is refused": no part within the margins is one
+-- ---- row 7, "not finite; beyond 1,024 for a frame part": no part within the margins is so
 holds-accepted : (free : Bool) (clean x : Float) → T (holds free clean x) → T (anyAccepted x)
 holds-accepted true clean x h = h
 holds-accepted false clean x h = keeps-accepted clean x h
@@ -118,6 +119,12 @@ module _ (t : Table) (m : Mapping) (load : List ℕ) (first : Bool) where
   -- THE ENCODED FRAME lies within its own margins, whatever is lent past it
   pub encoded-within : (xs ys : List Float) → Within (frameRe t m load (startState first) ++ xs) (frameIm t m load (startState first) ++ ys) load t m first
   encoded-within = shifted-within (λ y. y) (λ y. y) clean-within clean-within
+
+-- so does what `encode_frame_with_state` leaves in the lent parts, by its contract, from the start state for `first`
+pub laid-within : (t : Table) (m : Mapping) (load : List ℕ) (first : Bool) {re₀ re im₀ im : List Float} → FrameLaid t m load (startState first) re₀ re im₀ im → Within re im load t m first
+laid-within t m load first {re₀} {re} {im₀} {im} l =
+    rw (l .re-is, l .im-is)
+    (encoded-within t m load first (drop (length (frameRe t m load (startState first))) re₀) (drop (length (frameIm t m load (startState first))) im₀))
 
 -- ---- other frames: each part at the lower or the upper end of its margin
 -- a test that the six clean parts pass

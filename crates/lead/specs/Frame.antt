@@ -1,14 +1,13 @@
 -- The frame: N steps that favour an encoded input, the known bits after them, and a flush. The decoder puts out the inputs, whatever it releases on the way.
 -- Assumes nothing.
-use mathlib.Core.Path.{_≡_, refl, sym, _∙_}
+use mathlib.Core.Path.{_≡_, refl, _∙_}
 use mathlib.Core.Bool.{Bool, true, false, cond}
 use mathlib.Core.List.{List, []}
 use Prim.Native.Nat.{ℕ, zero, suc, _+_, _*_, _/_, _%_, _-_, _<_, _≤_}
 use native.Mathlib.Nat.{not-suc-le-zero, le-refl, zero-add, add-zero, add-suc, mod-lt}
 use native.Mathlib.Omega.{arith}
 use lib.Dec.{T, ltb, ltb→lt, lt→ltb, lit<}
-use lib.ListN.{getD, length, take, length-take}
-use lib.Seq.{getD-take, ext-getD}
+use lib.ListN.{getD, length}
 use lib.Ieee.{Float}
 use Rattle.ieee.specs.Rounding.{pow2, pow2-add}
 use Rattle.trellis.specs.Code.{isdb, label, moved, stateAt}
@@ -133,10 +132,3 @@ module _ (t : Tie) (tb s : ℕ) (us : List ℕ) (ms : ℕ → List Float) (N : �
 pub decoded-sent : (t : Tie) (tb s : ℕ) (us : List ℕ) (ms : ℕ → List Float) (N : ℕ) → N ≤ longest → Favours s us ms N → (w : ℕ → ℕ) (c : ℕ)
     → Decoded us N w c (flushed 32 (label isdb) t (after 32 (label isdb) t tb (λ k. known (w k)) (pushed 32 (label isdb) t tb (λ i. four (ms i)) (fresh s) N) c) .bits)
 decoded-sent t tb s us ms N few v w c = flushed-decoded t tb s us ms N few v w c
-
--- as lists: the first N bits are the N inputs
-pub decoded-take : {us : List ℕ} {N : ℕ} {w : ℕ → ℕ} {c : ℕ} {bits : List ℕ} → length us ≡ N → Decoded us N w c bits → take N bits ≡ us
-decoded-take {us} {N} {w} {c} {bits} e d =
-    let k = d .count in
-    let l : length (take N bits) ≡ N = length-take N bits ∙ omega arith in
-    ext-getD 0 (take N bits) us (l ∙ sym e) (λ i h. getD-take N bits i 0 (omega arith) ∙ d .sent i (omega arith))

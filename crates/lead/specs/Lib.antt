@@ -1,5 +1,5 @@
--- What is stated: Favour (what is received), Sent.follows and Sent.led-by (the sent state leads, with the rounding loss), Frame.decoded-sent (a whole frame is decoded),
--- Unique.favoured-once, Ideal.received-favours (the hypothesis is met). The other chapters are the proof.
+-- What is stated: Favour (what is received), Sent.follows and Sent.led-by (the sent state leads, with the rounding loss), Frame.decoded-sent (a whole frame is decoded).
+-- The other chapters are the proof.
 pub mod Favour
 pub mod Lists
 pub mod Ties
@@ -11,5 +11,3 @@ pub mod Traceback
 pub mod Sent
 pub mod Known
 pub mod Frame
-pub mod Unique
-pub mod Ideal

@@ -1,4 +1,4 @@
--- The clean parts of points, and laws of their margins: a margin mirrors with its clean part (`turned-keeps`), holds the clean part itself (`clean-within`) and other values (`clean-not-alone`),
+-- The clean parts of points, and laws of their margins: a margin mirrors with its clean part (`turned-keeps`), holds the clean part itself (`clean-within`),
 -- and lies within what every part may be (`keeps-accepted`). Assumes nothing.
 use mathlib.Core.Path.{_≡_, refl, subst}
 use mathlib.Core.Bool.{Bool, true, false, not, cond}
@@ -11,7 +11,8 @@ use lib.Ieee.Scale.{finite}
 use Rattle.ieee.specs.Conversion.{le-neg}
 use Rattle.trellis.specs.Step.{term}
 use Rattle.isdbs_points.specs.Points.{zero64, one64, root64, psk8Of, turned}
-use Rattle.margins.specs.Margins.{keeps, between, near0, low1, high1, lowRoot, highRoot, limit, anyAccepted}
+use Rattle.margin_ends.specs.Ends.{near0, low1, high1, lowRoot, highRoot}
+use Rattle.margins.specs.Margins.{keeps, between, limit, anyAccepted}
 use Rattle.margins.specs.Intervals.{Inside, inside-wide}
 
 -- "the parts being 0, ±1, ±s exactly", a 0 of either sign
@@ -126,7 +127,7 @@ pub turned-keeps : (w : Bool) (y x : Float) → Clean y → T (keeps (turned w y
 turned-keeps true y x c t = mirrored y x c t
 turned-keeps false y x c t = t
 
--- ---- a margin is not empty, nor one value
+-- ---- a margin is not empty
 pub clean-within : (y : Float) → Clean y → T (keeps y y)
 unfolding keeps eq le neg ofBits
 clean-within y clean-zero = tt
@@ -140,12 +141,3 @@ pub record Other (y x : Float) : Type 0 where
   pub holds : T (fits binary64 x)
   pub apart : T (not (eq x y))
   pub keeps-it : T (keeps y x)
-
-pub clean-not-alone : (y : Float) → Clean y → (x : Float) × Other y x
-unfolding keeps eq le neg ofBits fits
-clean-not-alone y clean-zero = (near0, record { holds = tt; apart = tt; keeps-it = tt })
-clean-not-alone y clean-minus-zero = (near0, record { holds = tt; apart = tt; keeps-it = tt })
-clean-not-alone y clean-one = (low1, record { holds = tt; apart = tt; keeps-it = tt })
-clean-not-alone y clean-minus-one = (neg low1, record { holds = tt; apart = tt; keeps-it = tt })
-clean-not-alone y clean-root = (lowRoot, record { holds = tt; apart = tt; keeps-it = tt })
-clean-not-alone y clean-minus-root = (neg lowRoot, record { holds = tt; apart = tt; keeps-it = tt })

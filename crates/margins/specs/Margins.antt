@@ -6,7 +6,7 @@ use mathlib.Core.List.{List}
 use Prim.Native.Nat.{ℕ, _<_, _≤_}
 use lib.ListN.{getD, length}
 use lib.Dec.{T}
-use lib.Ieee.{Float, nan, binary64, neg, eq, le, ofBits}
+use lib.Ieee.{Float, nan, neg, eq, le}
 use Rattle.isdbs_core.specs.declared.combination.Modulation.{Modulation}
 use Rattle.isdbs_core.specs.declared.combination.Modulation.the-variants.{Bpsk, Qpsk, Tc8psk}
 use Rattle.isdbs_core.specs.declared.tmcc.Table.{Table}
@@ -16,31 +16,18 @@ use Rattle.isdbs_points.specs.Points.{zero64, one64, root64}
 use Rattle.isdbs_phy.specs.DecodeRows.{partLimit}
 use Rattle.isdbs_points.specs.Layout.{atSymbol}
 use Rattle.isdbs_points.specs.Frame.{pointAt, startState}
+use Rattle.margin_ends.specs.Ends.{near0, low1, high1, lowRoot, highRoot}
 
 -- "A margin's ends belong to it"
 abbrev pub between : Float → Float → Float → Bool
 between a b x = le a x && le x b
 
--- 1/32, 31/32, 33/32, 87/128, 94/128, and row 7's limit of a part, 1,024
-abbrev pub near0 : Float
-near0 = ofBits binary64 0x3fa0_0000_0000_0000
-
-abbrev pub low1 : Float
-low1 = ofBits binary64 0x3fef_0000_0000_0000
-
-abbrev pub high1 : Float
-high1 = ofBits binary64 0x3ff0_8000_0000_0000
-
-abbrev pub lowRoot : Float
-lowRoot = ofBits binary64 0x3fe5_c000_0000_0000
-
-abbrev pub highRoot : Float
-highRoot = ofBits binary64 0x3fe7_8000_0000_0000
-
+-- row 7's limit of a part, 1,024
 abbrev pub limit : Float
 limit = partLimit
 
--- "clean 0 within 1/32; clean 1 from 31/32 to 33/32; clean 1/√2 from 87/128 to 94/128; negatives mirrored", "-0.0 being a clean 0"
+-- "clean 0 within 1/32; clean 1 from 31/32 to 33/32; clean 1/√2 from 87/128 to 94/128; negatives mirrored", "-0.0 being a clean 0". A part of an encoded frame is
+-- 0, ±1 or ±s (`point-clean`, crate exact_frame), so that any other clean value than those tested for is -s: it has the last margin.
 unfoldable pub keeps : Float → Float → Bool
 keeps clean x =
     cond (eq clean zero64) (between (neg near0) near0 x)

@@ -299,6 +299,15 @@ struct Back {
     free: usize,
 }
 
+// Lends words that are not 0, another one at each place.
+fn soil(decisions: &mut [u64; 4224], seed: u64) {
+    let mut x = seed;
+    for t in 0..4224usize {
+        x = step(x);
+        decisions[t] = x;
+    }
+}
+
 // What comes back of the load of frame k.
 fn read_back(
     k: u64,
@@ -314,6 +323,7 @@ fn read_back(
     requires { ⌜ count ≤ 9744 ⌝ }
 {
     let s = make(k, table, count, re, im, load);
+    soil(decisions, k ^ 0x9e37_79b9_7f4a_7c15);
     let r = read(k, table, re, im, decisions, bits, bytes);
     Back {
         full: s.encoded && told(r, count),
