@@ -11,8 +11,8 @@
  *   1 table      slot counts sum above 48
  *   2 position   bit above 1,000,000; word outside 1 to 7
  *   3 traceback  above 1,024, or 0 in a handed state
- *   4 state      held count 4,096 + traceback or more; encoder state above 63; path value not finite or beyond 2^32
- *   5 length     metrics not in fours, soft values not in twos, stream not whole periods; path values not 64 or an unknown rate (both before all else)
+ *   4 state      held count 4,096 + traceback or more; encoder state above 63; lent path value not finite or beyond 2^32
+ *   5 length     metrics not in fours, soft values not in twos, stream not whole periods; path values not 64; an unknown rate
  *   6 symbols    under 38,976 of either part
  *   7 sample     not finite; beyond 1,024 for a frame part, 1,048,576 for a stream value
  *   8 scale      not above 0, or above 64
@@ -63,7 +63,7 @@ float isdbs_soft(double x);
 uint32_t isdbs_slot_combinations(uint64_t table, uint8_t *out, size_t out_len);
 
 /* The runs of the frame, in order. For each: word, slot start, slot end, valid slots, symbol start, symbol end; an end is one past the last.
- * Writes 6 numbers for each run, and how many runs there are to *count. Needs 24 places. Rows 1, 9. */
+ * Writes 6 numbers for each run, of which there are at most 4, and how many runs there are to *count. Rows 1, 9. */
 uint32_t isdbs_runs(uint64_t table, uint32_t *out, size_t out_len, uint32_t *count);
 
 /* The symbol, from the start of its run, that carries the first coded bit of information bit `bit`. Row 2. */
@@ -89,8 +89,8 @@ uint32_t isdbs_decode_frame(const double *re, size_t re_len, const double *im, s
  *
  * isdb_push          two soft values a step, above 0 for bit 0.   Rows 3, 4, 5, 7, 9.
  * isdb_push_metrics  four metrics a step, that of the outputs (X, Y) at 2X + Y.   Rows 3, 4, 5, 7, 9.
- * isdb_push_known    a known bit a step, the low bit of its byte.   Rows 3, 4, 9.
- * isdb_flush         no steps: all held bits leave.   Rows 3, 4, 9.
+ * isdb_push_known    a known bit a step, the low bit of its byte.   Rows 3, 4, 5, 9.
+ * isdb_flush         no steps: all held bits leave.   Rows 3, 4, 5, 9.
  */
 uint32_t isdb_push(float *pm, size_t pm_len, uint64_t *held, uint64_t traceback, const float *pairs, size_t pairs_len,
                    uint64_t *decisions, size_t decisions_len, uint8_t *out, size_t out_len, uint64_t *count);

@@ -128,9 +128,6 @@ fn releases(h: u64, n: u64, traceback: u64) -> u64 {
 }
 
 fn feed_row(pm: &[f32], held: u64, traceback: u64, x: Feed, decisions: usize, out: usize) -> u32 {
-    if pm.len() != 64 {
-        return 5;
-    }
     if traceback == 0 || traceback > 1024 {
         return 3;
     }
@@ -142,7 +139,7 @@ fn feed_row(pm: &[f32], held: u64, traceback: u64, x: Feed, decisions: usize, ou
         Feed::Metrics(s) => (s, 4),
         _ => (&[], 1),
     };
-    if values.len() % per != 0 {
+    if pm.len() != 64 || values.len() % per != 0 {
         return 5;
     }
     if values.iter().any(|&v| beyond(v, 1_048_576.0)) {
@@ -236,10 +233,11 @@ fn positions(all: &mut (u64, u64), draws: &mut Draws) {
     let mut count = Count::new("runs");
     for _ in 0..20_000 {
         let t = any_table(draws);
-        let len = near(draws, &[0, 24, 24, 50]) as usize % 100;
+        let runs = entries(t).iter().filter(|e| (1..=7).contains(&(e.0 % 16))).count();
+        let len = near(draws, &[0, 6 * runs as u64, 6 * runs as u64, 24, 50]) as usize % 100;
         words.lend(draws, len, |d| d.next() as u32);
         one.lend(draws, 1, |d| d.next() as u32);
-        let row = if slot_sum(t) > 48 { 1 } else if words.len < 24 { 9 } else { 0 };
+        let row = if slot_sum(t) > 48 { 1 } else if words.len < 6 * runs { 9 } else { 0 };
         let answer = calls::runs(t, words.slice(), &mut one.slice()[0]);
         count.call(answer, row, words.kept(answer == 0) && one.kept(answer == 0), || format!("{t:016x} {len}"));
     }
@@ -334,11 +332,9 @@ fn isdbt(all: &mut (u64, u64), draws: &mut Draws) {
                 bits.lend(draws, whole * period + odd, |d| d.next() as u8);
                 let places = near(draws, &[(bits.len / period * n) as u64, 0, 60]) as usize % 200;
                 out.lend(draws, places, |d| d.next() as u8);
-                let row = if rate > 4 {
-                    5
-                } else if s > 63 {
+                let row = if s > 63 {
                     4
-                } else if bits.len % period != 0 {
+                } else if rate > 4 || bits.len % period != 0 {
                     5
                 } else if out.len < bits.len / period * n {
                     9
@@ -369,11 +365,9 @@ fn isdbt(all: &mut (u64, u64), draws: &mut Draws) {
                 decisions.lend(draws, words % 6_000, Draws::next);
                 let places = near(draws, &[(values.len / n * period) as u64]) as usize % 20_000;
                 out.lend(draws, places, |d| d.next() as u8);
-                let row = if rate > 4 {
-                    5
-                } else if traceback > 1024 {
+                let row = if traceback > 1024 {
                     3
-                } else if values.len % n != 0 {
+                } else if rate > 4 || values.len % n != 0 {
                     5
                 } else if values.slice().iter().any(|&v| beyond(v, 1_048_576.0)) {
                     7

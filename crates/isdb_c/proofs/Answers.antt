@@ -119,7 +119,7 @@ module _ (t : ℕ) (x : Table) (m : FrameRuns) (n : ℕ) (ex : x ≡ tableOf t) 
 
       pub number-small : runNumber (runsOf (tableOf t)) i ≤ 38976
       number-small =
-          let f = table-fits (tableOf t) 24 24 n runs-number z in
+          let f = table-fits (tableOf t) 0 0 n runs-number z in
           small-number (getD (runsOf (tableOf t)) (i / 6) noRun)
           (each-at Small (runsOf (tableOf t)) noRun (i / 6) (runs-small (tableOf t .entries) 0 0 (omega arith) (omega arith)) inside)
           (i % 6)

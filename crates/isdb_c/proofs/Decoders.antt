@@ -16,7 +16,9 @@ use Rattle.isdb_fec.specs.declared.conv.ViterbiDecoder.{ViterbiDecoder}
 use Rattle.isdb_fec.specs.declared.conv.Released.{Released}
 use Rattle.isdb_fec.specs.Calls.{Either, Leaves, Flushes, Unchanged}
 use Rattle.isdb_c.specs.Rows.{answered, left}
-use Rattle.isdb_c.specs.Decoders.{notStates, Stored, Flushed}
+use Rattle.isdb_c.specs.Lengths.{withStates}
+use Rattle.isdb_c.specs.Decoders.{Stored, Flushed}
+use Rattle.isdb_c.proofs.Lengths.{states-answer}
 
 -- only accepted has the number 0
 pub zero-accepted : (a : Answer) → numberOf a ≡ 0 → a ≡ Accepted
@@ -30,14 +32,6 @@ zero-accepted Symbols e = absurd (omega arith)
 zero-accepted Sample e = absurd (omega arith)
 zero-accepted Scale e = absurd (omega arith)
 zero-accepted Space e = absurd (omega arith)
-
--- a slice that is not 64 long answers 5, before all else
-pub not-states : (pm : List Float) (rows : List Row) → (length pm ≡ 64 → ⊥) → 5 ≡ answered (notStates pm ∷ rows)
-not-states pm rows h = rw (ne-eqb (length pm) 64 h)
-
--- and where it is 64 long the other rows decide
-pub states-answer : (pm : List Float) (rows : List Row) (n : ℕ) (a : Answer) → length pm ≡ 64 → n ≡ numberOf a → a ≡ firstRow rows → n ≡ answered (notStates pm ∷ rows)
-states-answer pm rows n a h e f = rw (eq-eqb (length pm) 64 h) (e ∙ ap numberOf f)
 
 -- where nothing is stored
 pub unstored : (n tb : ℕ) (d : Decoder) (pm : List Float) (held count : ℕ) (decisions out : List ℕ) → (n ≡ 0 → ⊥) → Stored n tb d pm pm held held count count decisions decisions out out
@@ -110,14 +104,14 @@ module _ (v : ViterbiDecoder) (r : Released) (n : ℕ) (pm : List Float) (held c
 module _ (v w : ViterbiDecoder) (ev : v ≡ w) (rows : ViterbiDecoder → List Row) (r : Released) (n : ℕ) (pm : List Float) (held count₀ count : ℕ) (decisions₀ decisions out₀ out : List ℕ)
     (states : length (w .pm) ≡ 64) (en : n ≡ numberOf (r .answer)) (ep : pm ≡ left n (r .dec .pm) (w .pm)) (eh : held ≡ left n (r .dec .held) (w .held)) (ec : count ≡ left n (r .count) count₀)
     (ea : r .answer ≡ firstRow (rows v)) where
-  number : n ≡ answered (notStates (w .pm) ∷ rows w)
+  number : n ≡ answered (withStates (w .pm) (rows w))
   number = states-answer (w .pm) (rows w) n (r .answer) states en (rw ev at ea)
 
   -- a call on the decoder w, of which v is a copy
   pub pushed : (d : ViterbiDecoder → Decoder) → Either (r .answer) (Leaves (v .traceback) (d v) r decisions₀ decisions out₀ out) (Unchanged v r decisions₀ decisions out₀ out)
-      → (n ≡ answered (notStates (w .pm) ∷ rows w)) × Stored n (w .traceback) (d w) (w .pm) pm (w .held) held count₀ count decisions₀ decisions out₀ out
+      → (n ≡ answered (withStates (w .pm) (rows w))) × Stored n (w .traceback) (d w) (w .pm) pm (w .held) held count₀ count decisions₀ decisions out₀ out
   pushed d l = (number, stored w r n pm held count₀ count decisions₀ decisions out₀ out en ep eh ec (d w) (rw ev at l))
 
   pub flush-done : Either (r .answer) (Flushes v r decisions₀ decisions out₀ out) (Unchanged v r decisions₀ decisions out₀ out)
-      → (n ≡ answered (notStates (w .pm) ∷ rows w)) × Flushed n w pm held count₀ count decisions₀ decisions out₀ out
+      → (n ≡ answered (withStates (w .pm) (rows w))) × Flushed n w pm held count₀ count decisions₀ decisions out₀ out
   flush-done l = (number, flushed w r n pm held count₀ count decisions₀ decisions out₀ out en ep eh ec (rw ev at l))

@@ -29,8 +29,8 @@ pub refusing : (n : ℕ) (a : Answer) → n ≡ numberOf a → (n ≡ 0 → ⊥)
 refusing n a e h q = h (e ∙ ap numberOf q)
 
 module _ (m : MaybeRate) (c : CodeRate) (em : m ≡ Rate c) where
-  pub rate-answer : (rows : CodeRate → List Row) (n : ℕ) (a : Answer) → n ≡ numberOf a → a ≡ firstRow (rows c) → n ≡ answered (rateRows m rows)
-  rate-answer rows n a en ea = rw em (en ∙ ap numberOf ea)
+  pub rate-answer : (above : List Row) (rows : CodeRate → List Row) (n : ℕ) (a : Answer) → n ≡ numberOf a → a ≡ firstRow (rows c) → n ≡ answered (rateRows above m rows)
+  rate-answer above rows n a en ea = rw em (en ∙ ap numberOf ea)
 
   pub rate-value : {A : Type 0} (none : A) (f : CodeRate → A) → f c ≡ byRate m none f
   rate-value none f = rw em

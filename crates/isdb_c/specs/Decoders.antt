@@ -1,13 +1,9 @@
 -- A decoder as the C calls lend it, and what a call leaves of it. Assumes nothing.
 use mathlib.Core.Path.{_≡_}
-use mathlib.Core.Bool.{not}
 use mathlib.Core.List.{List}
 use Prim.Native.Nat.{ℕ}
-use lib.Dec.{eqb}
 use lib.ListN.{length, replicate}
 use lib.Ieee.{Float}
-use Rattle.refusal.specs.declared.Answer.the-variants.{Length}
-use Rattle.refusal.specs.Rows.{Row}
 use Rattle.trellis.specs.Lists.{laid}
 use Rattle.trellis.specs.Run.{Decoder, decisionsAfter}
 use Rattle.isdb_fec.specs.declared.conv.ViterbiDecoder.{ViterbiDecoder}
@@ -16,10 +12,6 @@ use Rattle.isdb_c.specs.Rows.{left}
 
 abbrev pub decoderOf : List Float → ℕ → ℕ → ViterbiDecoder
 decoderOf pm held traceback = record { pm = pm; held = held; traceback = traceback }
-
--- a slice of path values that is not 64 long answers 5, before all else
-abbrev pub notStates : List Float → Row
-notStates pm = (Length, not (eqb (length pm) 64))
 
 -- what a call leaves in the lent path values, counts and slices: the decoder d where it accepts, else what was there
 pub record Stored (answer tb : ℕ) (d : Decoder) (pm₀ pm : List Float) (held₀ held count₀ count : ℕ) (decisions₀ decisions out₀ out : List ℕ) : Type 0 where

@@ -1,5 +1,6 @@
 pub mod Forms
 pub mod Rows
+pub mod Lengths
 pub mod Decoders
 pub mod Rates
 pub mod Mappings

@@ -1,12 +1,11 @@
 -- Code rates by number, for the calls of ISDB-T. Assumes nothing.
-use mathlib.Core.Bool.{true}
 use mathlib.Core.List.{List, [], _∷_}
 use Prim.Native.Nat.{ℕ}
 use lib.ListN.{getD}
-use Rattle.refusal.specs.declared.Answer.the-variants.{Length}
 use Rattle.refusal.specs.Rows.{Row}
 use Rattle.isdbt_fec.specs.declared.conv.CodeRate.{CodeRate}
 use Rattle.isdbt_fec.specs.declared.conv.CodeRate.the-variants.{«R1_2», «R2_3», «R3_4», «R5_6», «R7_8»}
+use Rattle.isdb_c.specs.Lengths.{untilLength}
 use Rattle.isdb_c.specs.declared.isdbt.MaybeRate.{MaybeRate}
 use Rattle.isdb_c.specs.declared.isdbt.MaybeRate.the-variants.{Rate, NoRate}
 
@@ -17,10 +16,10 @@ rates = Rate «R1_2» ∷ Rate «R2_3» ∷ Rate «R3_4» ∷ Rate «R5_6» ∷ 
 abbrev pub rateOf : ℕ → MaybeRate
 rateOf n = getD rates n NoRate
 
--- another rate answers 5, before all else
-abbrev pub rateRows : MaybeRate → (CodeRate → List Row) → List Row
-rateRows (Rate c) rows = rows c
-rateRows NoRate rows = (Length, true) ∷ []
+-- a call's rows, of which those above row 5 do not depend on the rate; 5: an unknown rate
+abbrev pub rateRows : List Row → MaybeRate → (CodeRate → List Row) → List Row
+rateRows above (Rate c) rows = rows c
+rateRows above NoRate rows = untilLength above
 
 -- what a rate gives
 abbrev pub byRate : {A : Type 0} → MaybeRate → A → (CodeRate → A) → A

@@ -24,7 +24,7 @@ answered rows = numberOf (firstRow rows)
 abbrev pub left : {A : Type 0} → ℕ → A → A → A
 left answer new old = cond (eqb answer 0) new old
 
--- the table's rows, then 9: 48 places, or 24
+-- the table's rows, then 9: fewer places than the call writes
 abbrev pub placesRows : Table → ℕ → ℕ → List Row
 placesRows t need space = tableRows t ++ (Space, ltb space need) ∷ []
 

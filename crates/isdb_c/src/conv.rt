@@ -2,14 +2,33 @@
 use isdb_fec::conv::Released;
 use isdb_fec::conv::ViterbiDecoder;
 ghost use mathlib.Core.Path.{_≡_};
-ghost use mathlib.Core.List.{_∷_};
 ghost use Prim.Native.Nat.{ℕ, _/_};
 ghost use lib.ListN.{length};
 ghost use Rattle.refusal.specs.Rows.{numberOf};
 ghost use Rattle.isdb_fec.specs.Calls.{pairSteps, fourSteps, knownSteps, steps, call, handed};
-ghost use Rattle.isdb_fec.specs.Rows.{pushRows, pushMetricsRows, pushKnownRows, flushRows};
+ghost use Rattle.isdb_fec.specs.Rows.{handedRows, pushRows, pushMetricsRows, pushKnownRows, flushRows};
 ghost use Rattle.isdb_c.specs.Rows.{answered, left};
-ghost use Rattle.isdb_c.specs.Decoders.{decoderOf, notStates, Stored, Flushed};
+ghost use Rattle.isdb_c.specs.Lengths.{untilLength, withStates};
+ghost use Rattle.isdb_c.specs.Decoders.{decoderOf, Stored, Flushed};
+
+// The answer where the path values are not 64: rows 3 and 4 stand above 5.
+fn not_states(pm: &[f32], held: u64, traceback: u64) -> u32
+    ensures { λ r. ⌜ r ≡ answered (untilLength (handedRows (decoderOf (now (pm .entry)) held traceback))) ⌝ }
+{
+    if traceback == 0 {
+        return 3;
+    }
+    if traceback > 1024 {
+        return 3;
+    }
+    if held >= 4096 + traceback {
+        return 4;
+    }
+    if isdb_fec::conv::some_beyond(pm, 4294967296.0) {
+        return 4;
+    }
+    5
+}
 
 // The decoder with these path values.
 fn decoder_of(pm: &[f32], held: u64, traceback: u64) -> ViterbiDecoder
@@ -77,12 +96,12 @@ pub extern "C" fn isdb_push(
     out: &mut [u8],
     count: &mut u64,
 ) -> u32
-    ensures answers { λ r. ⌜ r ≡ answered (notStates (now (pm .entry)) ∷ pushRows (decoderOf (now (pm .entry)) (now (held .entry)) traceback) (now (pairs .entry)) (length (now (decisions .entry))) (length (now (out .entry)))) ⌝ }
+    ensures answers { λ r. ⌜ r ≡ answered (withStates (now (pm .entry)) (pushRows (decoderOf (now (pm .entry)) (now (held .entry)) traceback) (now (pairs .entry)) (length (now (decisions .entry))) (length (now (out .entry))))) ⌝ }
     ensures leaves { λ r. ⌜ Stored r traceback (call traceback (pairSteps (now (pairs .entry))) (handed (decoderOf (now (pm .entry)) (now (held .entry)) traceback) (now (decisions .entry))) (length (now (pairs .entry)) / 2))
         (now (pm .entry)) (now (pm .exit)) (now (held .entry)) (now (held .exit)) (now (count .entry)) (now (count .exit)) (now (decisions .entry)) (now (decisions .exit)) (now (out .entry)) (now (out .exit)) ⌝ }
 {
     if pm.len() != 64 {
-        return 5;
+        return not_states(pm, *held, traceback);
     }
     let v = decoder_of(pm, *held, traceback);
     let r = v.push(pairs, decisions, out);
@@ -100,12 +119,12 @@ pub extern "C" fn isdb_push_metrics(
     out: &mut [u8],
     count: &mut u64,
 ) -> u32
-    ensures answers { λ r. ⌜ r ≡ answered (notStates (now (pm .entry)) ∷ pushMetricsRows (decoderOf (now (pm .entry)) (now (held .entry)) traceback) (now (metrics .entry)) (length (now (decisions .entry))) (length (now (out .entry)))) ⌝ }
+    ensures answers { λ r. ⌜ r ≡ answered (withStates (now (pm .entry)) (pushMetricsRows (decoderOf (now (pm .entry)) (now (held .entry)) traceback) (now (metrics .entry)) (length (now (decisions .entry))) (length (now (out .entry))))) ⌝ }
     ensures leaves { λ r. ⌜ Stored r traceback (call traceback (fourSteps (now (metrics .entry))) (handed (decoderOf (now (pm .entry)) (now (held .entry)) traceback) (now (decisions .entry))) (length (now (metrics .entry)) / 4))
         (now (pm .entry)) (now (pm .exit)) (now (held .entry)) (now (held .exit)) (now (count .entry)) (now (count .exit)) (now (decisions .entry)) (now (decisions .exit)) (now (out .entry)) (now (out .exit)) ⌝ }
 {
     if pm.len() != 64 {
-        return 5;
+        return not_states(pm, *held, traceback);
     }
     let v = decoder_of(pm, *held, traceback);
     let r = v.push_metrics(metrics, decisions, out);
@@ -123,12 +142,12 @@ pub extern "C" fn isdb_push_known(
     out: &mut [u8],
     count: &mut u64,
 ) -> u32
-    ensures answers { λ r. ⌜ r ≡ answered (notStates (now (pm .entry)) ∷ pushKnownRows (decoderOf (now (pm .entry)) (now (held .entry)) traceback) (length (now (bits .entry))) (length (now (decisions .entry))) (length (now (out .entry)))) ⌝ }
+    ensures answers { λ r. ⌜ r ≡ answered (withStates (now (pm .entry)) (pushKnownRows (decoderOf (now (pm .entry)) (now (held .entry)) traceback) (length (now (bits .entry))) (length (now (decisions .entry))) (length (now (out .entry))))) ⌝ }
     ensures leaves { λ r. ⌜ Stored r traceback (steps traceback (knownSteps (now (bits .entry))) (handed (decoderOf (now (pm .entry)) (now (held .entry)) traceback) (now (decisions .entry))) (length (now (bits .entry))))
         (now (pm .entry)) (now (pm .exit)) (now (held .entry)) (now (held .exit)) (now (count .entry)) (now (count .exit)) (now (decisions .entry)) (now (decisions .exit)) (now (out .entry)) (now (out .exit)) ⌝ }
 {
     if pm.len() != 64 {
-        return 5;
+        return not_states(pm, *held, traceback);
     }
     let v = decoder_of(pm, *held, traceback);
     let r = v.push_known(bits, decisions, out);
@@ -145,12 +164,12 @@ pub extern "C" fn isdb_flush(
     out: &mut [u8],
     count: &mut u64,
 ) -> u32
-    ensures answers { λ r. ⌜ r ≡ answered (notStates (now (pm .entry)) ∷ flushRows (decoderOf (now (pm .entry)) (now (held .entry)) traceback) (length (now (decisions .entry))) (length (now (out .entry)))) ⌝ }
+    ensures answers { λ r. ⌜ r ≡ answered (withStates (now (pm .entry)) (flushRows (decoderOf (now (pm .entry)) (now (held .entry)) traceback) (length (now (decisions .entry))) (length (now (out .entry))))) ⌝ }
     ensures leaves { λ r. ⌜ Flushed r (decoderOf (now (pm .entry)) (now (held .entry)) traceback)
         (now (pm .exit)) (now (held .exit)) (now (count .entry)) (now (count .exit)) (now (decisions .entry)) (now (decisions .exit)) (now (out .entry)) (now (out .exit)) ⌝ }
 {
     if pm.len() != 64 {
-        return 5;
+        return not_states(pm, *held, traceback);
     }
     let v = decoder_of(pm, *held, traceback);
     let r = v.flush(decisions, out);

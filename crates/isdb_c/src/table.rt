@@ -7,7 +7,7 @@ use isdbs_core::tmcc::Entry;
 use isdbs_core::tmcc::Table;
 use refusal::Answer;
 ghost use mathlib.Core.Path.{_≡_};
-ghost use Prim.Native.Nat.{_<_};
+ghost use Prim.Native.Nat.{_*_, _<_};
 ghost use lib.ListN.{length, getD};
 ghost use lib.Ieee.{binary32};
 ghost use Rattle.ieee.specs.Conversion.{rounded};
@@ -106,7 +106,7 @@ fn run_number(r: Run, i: usize) -> usize
 // The runs of a table: six numbers for each, at the front of `out`, and how many runs there are.
 #[no_mangle]
 pub extern "C" fn isdbs_runs(table: u64, out: &mut [u32], count: &mut u32) -> u32
-    ensures answers { λ r. ⌜ r ≡ answered (placesRows (tableOf table) 24 (length (now (out .entry)))) ⌝ }
+    ensures answers { λ r. ⌜ r ≡ answered (placesRows (tableOf table) (6 * length (runsOf (tableOf table))) (length (now (out .entry)))) ⌝ }
     ensures leaves { λ r. ⌜ now (out .exit) ≡ left r (laid (allNumbers (tableOf table)) (now (out .entry))) (now (out .entry)) ⌝ }
     ensures counts { λ r. ⌜ now (count .exit) ≡ left r (length (runsOf (tableOf table))) (now (count .entry)) ⌝ }
 {
@@ -116,12 +116,13 @@ pub extern "C" fn isdbs_runs(table: u64, out: &mut [u32], count: &mut u32) -> u3
     if answer != 0 {
         return answer;
     }
-    if out.len() < 24 {
-        return 9;
-    }
     let runs = all.runs;
     let n = all.count;
-    for i in 0..6 * n {
+    let places = 6 * n;
+    if out.len() < places {
+        return 9;
+    }
+    for i in 0..places {
         let r = runs[i / 6];
         out[i] = run_number(r, i % 6) as u32;
     }

@@ -1,20 +1,29 @@
 -- `isdb_flush` meets its contract: the library's call on a copy of the state, handed back. Assumes nothing.
 use mathlib.Core.Path.{_≡_}
 use Prim.Native.Nat.{ℕ, _/_}
-use native.Mathlib.Omega.{arith}
 use borrow.Author.Needs.{needs}
 use lib.ListN.{length}
 use Rattle.isdb_fec.specs.declared.conv.ViterbiDecoder.{ViterbiDecoder}
-use Rattle.isdb_fec.specs.Rows.{flushRows}
+use Rattle.isdb_fec.specs.Rows.{badTraceback, badState, flushRows}
 use Rattle.isdb_c.specs.Decoders.{decoderOf}
-use Rattle.isdb_c.proofs.Decoders.{not-states, unflushed, flush-done}
+use Rattle.isdb_c.proofs.Lengths.{not-states, refused-2}
+use Rattle.isdb_c.proofs.Decoders.{unflushed, flush-done}
 use Rattle.isdb_c.proofs.conv.isdb_flush.Statement.{statement}
 use Rattle.isdb_c.proofs.conv.isdb_flush.Tie as tie
 
+not-states-requires : tie.Need-not-states-requires
+not-states-requires c κs = search needs
+
+same-length : tie.Need-same-length
+same-length c = search needs
+
 returns : tie.Need-returns
 returns c =
-    let a = c .before .before .before .before .args in
-    (not-states (a .pm .now) (flushRows (decoderOf (a .pm .now) (a .held .now) (a .traceback)) (length (a .decisions .now)) (length (a .out .now))) (c .if1 .taken), unflushed 5 (decoderOf (a .pm .now) (a .held .now) (a .traceback)) (a .count .now) (a .decisions .now) (a .out .now) (λ z. omega arith))
+    let a = c .before .before .before .before .before .before .before .args in
+    let w : ViterbiDecoder = decoderOf (a .pm .now) (a .held .now) (a .traceback) in
+    let n = c .not-states .result in
+    let h = refused-2 (badTraceback w) (badState w) n (c .not-states .ensures) in
+    (not-states (a .pm .now) (flushRows w (length (a .decisions .now)) (length (a .out .now))) n (c .before .before .before .if1 .taken) (c .not-states .ensures), unflushed n w (a .count .now) (a .decisions .now) (a .out .now) h)
 
 decoder-of-requires : tie.Need-decoder-of-requires
 decoder-of-requires c κs = search needs
@@ -25,14 +34,14 @@ flush-requires c κs = search needs
 store-requires : tie.Need-store-requires
 store-requires c κs = search needs
 
-same-length : tie.Need-same-length
-same-length c = search needs
-
 same-length-2 : tie.Need-same-length-2
 same-length-2 c = search needs
 
 same-length-3 : tie.Need-same-length-3
 same-length-3 c = search needs
+
+same-length-4 : tie.Need-same-length-4
+same-length-4 c = search needs
 
 returns-2 : tie.Need-returns-2
 returns-2 c =
@@ -49,11 +58,13 @@ pub isdb-flush-spec : {M : Type 1} → statement M
 isdb-flush-spec =
     tie.close
     (tie.spec
+    not-states-requires
+    same-length
     returns
     decoder-of-requires
     flush-requires
     store-requires
-    same-length
     same-length-2
     same-length-3
+    same-length-4
     returns-2)

@@ -1,21 +1,30 @@
 -- `isdb_push_known` meets its contract: the library's call on a copy of the state, handed back. Assumes nothing.
 use mathlib.Core.Path.{_≡_}
 use Prim.Native.Nat.{ℕ, _/_}
-use native.Mathlib.Omega.{arith}
 use borrow.Author.Needs.{needs}
 use lib.ListN.{length}
 use Rattle.isdb_fec.specs.declared.conv.ViterbiDecoder.{ViterbiDecoder}
-use Rattle.isdb_fec.specs.Rows.{pushKnownRows}
+use Rattle.isdb_fec.specs.Rows.{badTraceback, badState, pushKnownRows}
 use Rattle.isdb_fec.specs.Calls.{steps, handed, knownSteps}
 use Rattle.isdb_c.specs.Decoders.{decoderOf}
-use Rattle.isdb_c.proofs.Decoders.{not-states, unstored, pushed}
+use Rattle.isdb_c.proofs.Lengths.{not-states, refused-2}
+use Rattle.isdb_c.proofs.Decoders.{unstored, pushed}
 use Rattle.isdb_c.proofs.conv.isdb_push_known.Statement.{statement}
 use Rattle.isdb_c.proofs.conv.isdb_push_known.Tie as tie
 
+not-states-requires : tie.Need-not-states-requires
+not-states-requires c κs = search needs
+
+same-length : tie.Need-same-length
+same-length c = search needs
+
 returns : tie.Need-returns
 returns c =
-    let a = c .before .before .before .before .before .args in
-    (not-states (a .pm .now) (pushKnownRows (decoderOf (a .pm .now) (a .held .now) (a .traceback)) (length (a .bits .now)) (length (a .decisions .now)) (length (a .out .now))) (c .if1 .taken), unstored 5 (a .traceback) (steps (a .traceback) (knownSteps (a .bits .now)) (handed (decoderOf (a .pm .now) (a .held .now) (a .traceback)) (a .decisions .now)) (length (a .bits .now))) (a .pm .now) (a .held .now) (a .count .now) (a .decisions .now) (a .out .now) (λ z. omega arith))
+    let a = c .before .before .before .before .before .before .before .before .args in
+    let w : ViterbiDecoder = decoderOf (a .pm .now) (a .held .now) (a .traceback) in
+    let n = c .not-states .result in
+    let h = refused-2 (badTraceback w) (badState w) n (c .not-states .ensures) in
+    (not-states (a .pm .now) (pushKnownRows w (length (a .bits .now)) (length (a .decisions .now)) (length (a .out .now))) n (c .before .before .before .if1 .taken) (c .not-states .ensures), unstored n (a .traceback) (steps (a .traceback) (knownSteps (a .bits .now)) (handed w (a .decisions .now)) (length (a .bits .now))) (a .pm .now) (a .held .now) (a .count .now) (a .decisions .now) (a .out .now) h)
 
 decoder-of-requires : tie.Need-decoder-of-requires
 decoder-of-requires c κs = search needs
@@ -26,14 +35,14 @@ push-known-requires c κs = search needs
 store-requires : tie.Need-store-requires
 store-requires c κs = search needs
 
-same-length : tie.Need-same-length
-same-length c = search needs
-
 same-length-2 : tie.Need-same-length-2
 same-length-2 c = search needs
 
 same-length-3 : tie.Need-same-length-3
 same-length-3 c = search needs
+
+same-length-4 : tie.Need-same-length-4
+same-length-4 c = search needs
 
 returns-2 : tie.Need-returns-2
 returns-2 c =
@@ -50,11 +59,13 @@ pub isdb-push-known-spec : {M : Type 1} → statement M
 isdb-push-known-spec =
     tie.close
     (tie.spec
+    not-states-requires
+    same-length
     returns
     decoder-of-requires
     push-known-requires
     store-requires
-    same-length
     same-length-2
     same-length-3
+    same-length-4
     returns-2)

@@ -1,16 +1,19 @@
 -- `isdbt_decode_punctured` meets its contract. Assumes nothing.
 use mathlib.Core.Path.{_≡_, sym, _∙_, ap}
 use mathlib.Core.List.{List, []}
+use lib.Dec.{ltb}
 use lib.ListN.{length}
 use Rattle.refusal.specs.Rows.{Row}
 use Rattle.trellis.specs.Lists.{laid}
 use Rattle.isdbt_fec.specs.declared.conv.CodeRate.{CodeRate}
-use Rattle.isdb_c.specs.declared.isdbt.MaybeRate.the-variants.{Rate}
+use Rattle.isdb_c.specs.declared.isdbt.MaybeRate.the-variants.{Rate, NoRate}
 use Rattle.isdb_c.specs.Rates.{rateOf}
 use Rattle.isdb_c.proofs.Answers.{kept}
+use Rattle.isdb_c.proofs.Lengths.{refused-traceback}
 use Rattle.isdb_c.proofs.Decoders.{zero-accepted}
 use Rattle.isdb_c.proofs.Rates.{refusing, rate-answer, rate-value}
 use Prim.Native.Nat.{ℕ, _*_, _/_}
+use Rattle.isdb_fec.specs.Rows.{freshRows}
 use Rattle.isdbt_fec.specs.Table.{period, sent}
 use Rattle.isdbt_fec.specs.Rows.{depth, decodeRows}
 use Rattle.isdbt_fec.specs.Calls.{decodedBits}
@@ -27,8 +30,18 @@ enum-known-m c = search needs
 enum-told : tie.Need-enum-told
 enum-told c = search needs
 
+unknown-with-traceback-requires : tie.Need-unknown-with-traceback-requires
+unknown-with-traceback-requires c κs = search needs
+
 returns : tie.Need-returns
-returns c = search needs
+returns c =
+    let q = c .before .before .before in
+    let a = q .before .before .before .before .args in
+    let em : rateOf (a .rate) ≡ NoRate = sym (q .rate-of .ensures) ∙ c .before .enum-told .given .1 in
+    let n = c .unknown-with-traceback .result in
+    let e = c .unknown-with-traceback .ensures in
+    let h = refused-traceback (ltb 1024 (a .traceback)) n e in
+    (rw em e, (kept n _ _ h, (kept n _ _ h, kept n _ _ h)))
 
 decode-punctured-requires : tie.Need-decode-punctured-requires
 decode-punctured-requires c κs = search needs
@@ -53,7 +66,7 @@ returns-2 c =
     let em : rateOf (a .rate) ≡ Rate k = sym (q .rate-of .ensures) ∙ t .m .given .1 in
     let e = n .number .ensures in
     let rows : CodeRate → List Row = λ x. decodeRows x (a .llrs .now) (a .traceback) (length (a .decisions .now)) (length (a .out .now)) in
-    let w = rate-answer (rateOf (a .rate)) k em rows (n .number .result) (p .decode-punctured .result .answer) e (p .decode-punctured .ensures .0) in
+    let w = rate-answer (rateOf (a .rate)) k em (freshRows (a .traceback)) rows (n .number .result) (p .decode-punctured .result .answer) e (p .decode-punctured .ensures .0) in
     let h = c .if1 .taken in
     let l = p .decode-punctured .ensures .1 .1 (refusing (n .number .result) (p .decode-punctured .result .answer) e h) in
     (w, (l .words ∙ kept (n .number .result) _ _ h, (l .bits-are ∙ kept (n .number .result) _ _ h, kept (n .number .result) _ _ h)))
@@ -75,7 +88,7 @@ returns-3 c =
     let em : rateOf (a .rate) ≡ Rate k = sym (q .rate-of .ensures) ∙ t .m .given .1 in
     let e = n .number .ensures in
     let rows : CodeRate → List Row = λ x. decodeRows x (a .llrs .now) (a .traceback) (length (a .decisions .now)) (length (a .out .now)) in
-    let w = rate-answer (rateOf (a .rate)) k em rows (n .number .result) (p .decode-punctured .result .answer) e (p .decode-punctured .ensures .0) in
+    let w = rate-answer (rateOf (a .rate)) k em (freshRows (a .traceback)) rows (n .number .result) (p .decode-punctured .result .answer) e (p .decode-punctured .ensures .0) in
     let z = c .if1 .left in
     let l = p .decode-punctured .ensures .1 .0 (zero-accepted (p .decode-punctured .result .answer) (sym e ∙ z)) in
     (sym z ∙ w, (l .words, (l .bits-are ∙ ap (λ (x : List ℕ). laid x (a .out .now)) (rate-value (rateOf (a .rate)) k em [] (λ x. decodedBits x (a .llrs .now) (depth (a .traceback)))), l .count-is ∙ rate-value (rateOf (a .rate)) k em 0 (λ x. length (a .llrs .now) / sent x * period x))))
@@ -87,6 +100,7 @@ isdbt-decode-punctured-spec =
     rate-of-requires
     enum-known-m
     enum-told
+    unknown-with-traceback-requires
     returns
     decode-punctured-requires
     number-requires

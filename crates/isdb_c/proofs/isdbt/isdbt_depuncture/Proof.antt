@@ -51,7 +51,7 @@ returns-2 c =
     let em : rateOf (a .rate) ≡ Rate k = sym (q .rate-of .ensures) ∙ t .m .given .1 in
     let e = n .number .ensures in
     let rows : CodeRate → List Row = λ x. depunctureRows x (length (a .llrs .now)) (length (a .out .now)) in
-    let w = rate-answer (rateOf (a .rate)) k em rows (n .number .result) (p .depuncture .result .answer) e (p .depuncture .ensures .0) in
+    let w = rate-answer (rateOf (a .rate)) k em [] rows (n .number .result) (p .depuncture .result .answer) e (p .depuncture .ensures .0) in
     let h = c .if1 .taken in
     let l = p .depuncture .ensures .1 .1 (refusing (n .number .result) (p .depuncture .result .answer) e h) in
     (w, (l .values ∙ kept (n .number .result) _ _ h, kept (n .number .result) _ _ h))
@@ -70,7 +70,7 @@ returns-3 c =
     let em : rateOf (a .rate) ≡ Rate k = sym (q .rate-of .ensures) ∙ t .m .given .1 in
     let e = n .number .ensures in
     let rows : CodeRate → List Row = λ x. depunctureRows x (length (a .llrs .now)) (length (a .out .now)) in
-    let w = rate-answer (rateOf (a .rate)) k em rows (n .number .result) (p .depuncture .result .answer) e (p .depuncture .ensures .0) in
+    let w = rate-answer (rateOf (a .rate)) k em [] rows (n .number .result) (p .depuncture .result .answer) e (p .depuncture .ensures .0) in
     let z = c .if1 .left in
     let l = p .depuncture .ensures .1 .0 (zero-accepted (p .depuncture .result .answer) (sym e ∙ z)) in
     (sym z ∙ w, (l .values ∙ ap (λ (x : List Float). laid x (a .out .now)) (rate-value (rateOf (a .rate)) k em [] (λ x. depunctured x (a .llrs .now))), l .count-is ∙ rate-value (rateOf (a .rate)) k em 0 (λ x. length (a .llrs .now) / sent x * (2 * period x))))

@@ -1,16 +1,19 @@
 -- `isdbt_encode_punctured` meets its contract. Assumes nothing.
 use mathlib.Core.Path.{_≡_, sym, _∙_, ap}
 use mathlib.Core.List.{List, []}
+use lib.Dec.{ltb}
 use lib.ListN.{length}
 use Rattle.refusal.specs.Rows.{Row}
 use Rattle.trellis.specs.Lists.{laid}
 use Rattle.isdbt_fec.specs.declared.conv.CodeRate.{CodeRate}
-use Rattle.isdb_c.specs.declared.isdbt.MaybeRate.the-variants.{Rate}
+use Rattle.isdb_c.specs.declared.isdbt.MaybeRate.the-variants.{Rate, NoRate}
 use Rattle.isdb_c.specs.Rates.{rateOf}
 use Rattle.isdb_c.proofs.Answers.{kept}
+use Rattle.isdb_c.proofs.Lengths.{refused-state}
 use Rattle.isdb_c.proofs.Decoders.{zero-accepted}
 use Rattle.isdb_c.proofs.Rates.{refusing, rate-answer, rate-value}
 use Prim.Native.Nat.{ℕ, _*_, _/_}
+use Rattle.isdb_fec.specs.Rows.{encoderRows}
 use Rattle.isdbt_fec.specs.Table.{period, sent}
 use Rattle.isdbt_fec.specs.Puncture.{punctured}
 use Rattle.isdbt_fec.specs.Rows.{encodeRows}
@@ -27,8 +30,18 @@ enum-known-m c = search needs
 enum-told : tie.Need-enum-told
 enum-told c = search needs
 
+unknown-with-state-requires : tie.Need-unknown-with-state-requires
+unknown-with-state-requires c κs = search needs
+
 returns : tie.Need-returns
-returns c = search needs
+returns c =
+    let q = c .before .before .before .before in
+    let a = q .before .before .before .args in
+    let em : rateOf (a .rate) ≡ NoRate = sym (q .rate-of .ensures) ∙ c .before .before .enum-told .given .1 in
+    let n = c .unknown-with-state .result in
+    let e = c .unknown-with-state .ensures in
+    let h = refused-state (ltb 63 (a .state .now)) n e in
+    (rw em e, (kept n _ _ h, (kept n _ _ h, kept n _ _ h)))
 
 encode-punctured-requires : tie.Need-encode-punctured-requires
 encode-punctured-requires c κs = search needs
@@ -50,7 +63,7 @@ returns-2 c =
     let em : rateOf (a .rate) ≡ Rate k = sym (q .rate-of .ensures) ∙ t .m .given .1 in
     let e = n .number .ensures in
     let rows : CodeRate → List Row = λ x. encodeRows x (a .state .now) (length (a .bits .now)) (length (a .out .now)) in
-    let w = rate-answer (rateOf (a .rate)) k em rows (n .number .result) (p .encode-punctured .result .answer) e (p .encode-punctured .ensures .0) in
+    let w = rate-answer (rateOf (a .rate)) k em (encoderRows (a .state .now)) rows (n .number .result) (p .encode-punctured .result .answer) e (p .encode-punctured .ensures .0) in
     let h = c .if1 .taken in
     let l = p .encode-punctured .ensures .1 .1 (refusing (n .number .result) (p .encode-punctured .result .answer) e h) in
     (w, (kept (n .number .result) _ _ h, (l .bits-are ∙ kept (n .number .result) _ _ h, kept (n .number .result) _ _ h)))
@@ -69,7 +82,7 @@ returns-3 c =
     let em : rateOf (a .rate) ≡ Rate k = sym (q .rate-of .ensures) ∙ t .m .given .1 in
     let e = n .number .ensures in
     let rows : CodeRate → List Row = λ x. encodeRows x (a .state .now) (length (a .bits .now)) (length (a .out .now)) in
-    let w = rate-answer (rateOf (a .rate)) k em rows (n .number .result) (p .encode-punctured .result .answer) e (p .encode-punctured .ensures .0) in
+    let w = rate-answer (rateOf (a .rate)) k em (encoderRows (a .state .now)) rows (n .number .result) (p .encode-punctured .result .answer) e (p .encode-punctured .ensures .0) in
     let z = c .before .if1 .left in
     let l = p .encode-punctured .ensures .1 .0 (zero-accepted (p .encode-punctured .result .answer) (sym e ∙ z)) in
     (sym z ∙ w, (l .state-is, (l .bits-are ∙ ap (λ (x : List ℕ). laid x (a .out .now)) (rate-value (rateOf (a .rate)) k em [] (λ x. punctured x (a .state .now) (a .bits .now))), l .count-is ∙ rate-value (rateOf (a .rate)) k em 0 (λ x. length (a .bits .now) / period x * sent x))))
@@ -81,6 +94,7 @@ isdbt-encode-punctured-spec =
     rate-of-requires
     enum-known-m
     enum-told
+    unknown-with-state-requires
     returns
     encode-punctured-requires
     number-requires

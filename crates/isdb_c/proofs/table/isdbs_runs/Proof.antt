@@ -13,10 +13,10 @@ use Rattle.isdb_c.proofs.table.isdbs_runs.Statement.{statement}
 use Rattle.isdb_c.proofs.table.isdbs_runs.Tie as tie
 
 abbrev Inv-loop : tie.InvT-loop
-Inv-loop table out₀ count answer runs n i₀ i-end out i = (i ≤ 6 * n) × (out ≡ laid (upto (runNumber (runsOf (tableOf table))) i) out₀) × (length out ≡ length out₀) × (24 ≤ length out₀) × (n ≡ length (runsOf (tableOf table))) × (i-end ≡ 6 * n) × (n ≤ 4)
+Inv-loop table out₀ count answer runs n places i₀ out i = (i ≤ 6 * n) × (out ≡ laid (upto (runNumber (runsOf (tableOf table))) i) out₀) × (length out ≡ length out₀) × (6 * n ≤ length out₀) × (n ≡ length (runsOf (tableOf table))) × (places ≡ 6 * n) × (n ≤ 4)
 
 abbrev μ-loop : tie.MeasureT-loop
-μ-loop table out₀ count answer runs n i₀ i-end out i = 6 * n - i
+μ-loop table out₀ count answer runs n places i₀ out i = 6 * n - i
 
 table-of-requires : tie.Need-table-of-requires Inv-loop μ-loop
 table-of-requires c κs = search needs
@@ -32,21 +32,22 @@ returns c =
     let m = c .before in
     let st = m .before .before .before .before in
     let e = runs-number (st .args .table) (m .before .before .table-of .result) (m .before .runs .result) (m .number .result) (m .before .before .table-of .ensures) (m .before .runs .ensures) (m .number .ensures) in
-    (table-refused (tableOf (st .args .table)) 24 (length (st .args .out .now)) (m .number .result) e (c .if1 .taken), (kept (m .number .result) _ _ (c .if1 .taken), kept (m .number .result) _ _ (c .if1 .taken)))
+    (table-refused (tableOf (st .args .table)) (6 * length (runsOf (tableOf (st .args .table)))) (length (st .args .out .now)) (m .number .result) e (c .if1 .taken), (kept (m .number .result) _ _ (c .if1 .taken), kept (m .number .result) _ _ (c .if1 .taken)))
+
+mul-places : tie.Need-mul-places Inv-loop μ-loop
+mul-places c =
+    let m = c .before .before in
+    let st = m .before .before .before .before in
+    let e = count-most (st .args .table) (m .before .before .table-of .result) (m .before .runs .result) (m .number .result) (m .before .before .table-of .ensures) (m .before .runs .ensures) (m .number .ensures) (c .before .if1 .left) in
+    omega arith
 
 returns-2 : tie.Need-returns-2 Inv-loop μ-loop
 returns-2 c =
-    let m = c .before .before in
-    let st = m .before .before .before .before in
-    let e = runs-number (st .args .table) (m .before .before .table-of .result) (m .before .runs .result) (m .number .result) (m .before .before .table-of .ensures) (m .before .runs .ensures) (m .number .ensures) in
-    (table-short (tableOf (st .args .table)) 24 (length (st .args .out .now)) (m .number .result) e (c .before .if1 .left) (c .if2 .taken), (refl, refl))
-
-mul-i-end : tie.Need-mul-i-end Inv-loop μ-loop
-mul-i-end c =
     let m = c .before .before .before in
     let st = m .before .before .before .before in
-    let e = count-most (st .args .table) (m .before .before .table-of .result) (m .before .runs .result) (m .number .result) (m .before .before .table-of .ensures) (m .before .runs .ensures) (m .number .ensures) (c .before .before .if1 .left) in
-    omega arith
+    let e = runs-number (st .args .table) (m .before .before .table-of .result) (m .before .runs .result) (m .number .result) (m .before .before .table-of .ensures) (m .before .runs .ensures) (m .number .ensures) in
+    let z = c .before .before .if1 .left in
+    (table-short (tableOf (st .args .table)) (6 * length (runsOf (tableOf (st .args .table)))) (length (st .args .out .now)) (m .number .result) e z (rw (count-is (st .args .table) (m .before .before .table-of .result) (m .before .runs .result) (m .number .result) (m .before .before .table-of .ensures) (m .before .runs .ensures) (m .number .ensures) z) at (c .if2 .taken)), (refl, refl))
 
 loop-holds : tie.Need-loop-holds Inv-loop μ-loop
 unfolding upto
@@ -54,7 +55,7 @@ loop-holds c =
     let m = c .before .before .before in
     let st = m .before .before .before .before in
     let z = c .before .before .if1 .left in
-    (omega arith, refl, refl, c .before .if2 .left, count-is (st .args .table) (m .before .before .table-of .result) (m .before .runs .result) (m .number .result) (m .before .before .table-of .ensures) (m .before .runs .ensures) (m .number .ensures) z, refl, count-most (st .args .table) (m .before .before .table-of .result) (m .before .runs .result) (m .number .result) (m .before .before .table-of .ensures) (m .before .runs .ensures) (m .number .ensures) z)
+    (omega arith, refl, refl, c .if2 .left, count-is (st .args .table) (m .before .before .table-of .result) (m .before .runs .result) (m .number .result) (m .before .before .table-of .ensures) (m .before .runs .ensures) (m .number .ensures) z, refl, count-most (st .args .table) (m .before .before .table-of .result) (m .before .runs .result) (m .number .result) (m .before .before .table-of .ensures) (m .before .runs .ensures) (m .number .ensures) z)
 
 mul-r : tie.Need-mul-r Inv-loop μ-loop
 mul-r c = search needs
@@ -119,7 +120,7 @@ returns-3 c =
     let e = runs-number (st .args .table) (m .before .before .table-of .result) (m .before .runs .result) (m .number .result) (m .before .before .table-of .ensures) (m .before .runs .ensures) (m .number .ensures) in
     let v = h .loop .inv in
     let z : h .loop .i ≡ 6 * length (runsOf (tableOf (st .args .table))) = omega arith in
-    (table-enough (tableOf (st .args .table)) 24 (length (st .args .out .now)) (m .number .result) e (h .before .before .before .if1 .left) (v .3), (rw z at (v .1), v .4))
+    (table-enough (tableOf (st .args .table)) (6 * length (runsOf (tableOf (st .args .table)))) (length (st .args .out .now)) (m .number .result) e (h .before .before .before .if1 .left) (omega arith), (rw z at (v .1), v .4))
 
 pub isdbs-runs-spec : {M : Type 1} → statement M
 isdbs-runs-spec =
@@ -131,8 +132,8 @@ isdbs-runs-spec =
     runs-requires
     number-requires
     returns
+    mul-places
     returns-2
-    mul-i-end
     loop-holds
     mul-r
     array-copy-out-r

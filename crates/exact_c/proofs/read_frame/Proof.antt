@@ -1,0 +1,34 @@
+-- `exact_c::read_frame` meets its contract: that of `isdbs_decode_frame` at a known start and the scale 8, and the theorem about it. Assumes nothing.
+use borrow.Author.Needs.{needs}
+use denote.Ref.{now}
+use lib.Ieee.{ofBits}
+use Rattle.isdb_c.specs.Forms.{tableOf}
+use Rattle.isdb_c.specs.Mappings.{mappingOf, isSet}
+use Rattle.exact_c.specs.Call.{reads-back}
+use Rattle.exact_c.proofs.read_frame.Statement.{statement}
+use Rattle.exact_c.proofs.read_frame.Tie as tie
+
+isdbs-decode-frame-requires : tie.Need-isdbs-decode-frame-requires
+isdbs-decode-frame-requires c κs = search needs
+
+same-length : tie.Need-same-length
+same-length c = search needs
+
+same-length-2 : tie.Need-same-length-2
+same-length-2 c = search needs
+
+same-length-3 : tie.Need-same-length-3
+same-length-3 c = search needs
+
+returns : tie.Need-returns
+unfolding ofBits
+returns c =
+    let d = c .before .before .before .before .before .before .isdbs-decode-frame in
+    let a = c .before .before .before .before .before .before .before .before .before .before .before .before .before .before .before .args in
+    let e = reads-back (tableOf (a .table)) (mappingOf (a .mapping)) (isSet (a .first)) (now (a .re)) (now (a .im)) (now (a .decisions)) (d .last .1 .1 .1 .1 .1 .1 .1 .0) (now (a .bits)) (d .last .1 .1 .1 .1 .1 .1 .1 .1 .0) (now (a .bytes)) (d .last .1 .1 .1 .1 .1 .1 .1 .1 .1 .0) (d .result) (d .ensures .0) (d .ensures .1 .0) (d .ensures .1 .1 .0) (d .ensures .1 .1 .1) in
+    (d .ensures .0, (d .ensures .1 .0, (d .ensures .1 .1 .0, (d .ensures .1 .1 .1, e))))
+
+pub read-frame-spec : {M : Type 1} → statement M
+read-frame-spec =
+    tie.close
+    (tie.spec isdbs-decode-frame-requires same-length same-length-2 same-length-3 returns)

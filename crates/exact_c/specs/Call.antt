@@ -1,0 +1,127 @@
+-- Demand 3 about the C calls `isdbs_encode_frame` and `isdbs_decode_frame`, from their contracts. Assumes nothing.
+use mathlib.Core.Path.{_≡_, refl, sym, _∙_, ap}
+use mathlib.Core.Bool.{Bool, true, false, cond}
+use mathlib.Core.List.{List, _++_}
+use Prim.Native.Nat.{ℕ, _<_, _≤_}
+use native.Mathlib.Omega.{arith}
+use lib.Dec.{T, eqb}
+use lib.ListN.{length, getD, take, drop, replicate, List·getD-append}
+use lib.Ieee.{Float, nan}
+use borrow.Author.Tests.{eq-eqb, ne-eqb, eqb-true, eqb-false}
+use Rattle.refusal.specs.declared.Answer.{Answer}
+use Rattle.refusal.specs.declared.Answer.the-variants.{Accepted, Table, Position, Traceback, State, Length, Symbols, Sample, Scale, Space}
+use Rattle.refusal.specs.Rows.{numberOf, firstRow}
+use Rattle.trellis.specs.Lists.{laid, upto}
+use Rattle.trellis.specs.ListLaws.{length-upto, getD-upto}
+use Rattle.isdbs_core.specs.Answers.{accepted}
+use Rattle.isdbs_core.specs.declared.tmcc.Table as tmcc
+use Rattle.isdbs_core.specs.Tables.{slotSum}
+use Rattle.isdbs_core.specs.RunsOf.{frameSteps, loadBytes}
+use Rattle.isdbs_points.specs.declared.Mapping.{Mapping}
+use Rattle.isdbs_points.specs.Frame.{pointAt, frameRe, frameIm, startState}
+use Rattle.isdbs_metrics.specs.Reading.{decodedBits, decodedBytes}
+use Rattle.isdbs_phy.specs.declared.demod.FrameDecoded.{FrameDecoded}
+use Rattle.isdbs_phy.specs.declared.demod.FrameDecoded.the-variants.{Decoded, Refused}
+use Rattle.isdbs_phy.specs.DecodeRows.{shortSpace, decodeRows, frameAnswer}
+use Rattle.margins.specs.Margins.{freeRe, freeIm, holds, Within, FullLoad}
+use Rattle.exact_frame.specs.Steps.{received}
+use Rattle.exact_frame.specs.Frames.{encoded-within}
+use Rattle.exact_frame.specs.Call.{eight, ReadsBack, exactly, short, read-back}
+use Rattle.isdb_c.specs.Forms.{tableOf}
+use Rattle.isdb_c.specs.Mappings.{mappingOf, isSet}
+use Rattle.isdb_c.specs.Rows.{answered, left}
+
+-- ---- what is laid
+
+-- received parts that keep the margins of the parts that were laid, "whatever is lent past them"
+pub record Received (t : tmcc.Table) (laidRe laidIm re im : List Float) : Type 0 where
+  pub re-count : 38976 ≤ length re
+  pub im-count : 38976 ≤ length im
+  pub re-parts : (k : ℕ) → k < 38976 → T (holds (freeRe t k) (getD laidRe k nan) (getD re k nan))
+  pub im-parts : (k : ℕ) → k < 38976 → T (holds (freeIm t k) (getD laidIm k nan) (getD im k nan))
+
+-- the frame that an accepted call lays from the start state for `first` lies within the margins of its load, and so does every frame received within its margins
+pub record Lays (answer : ℕ) (t : tmcc.Table) (m : Mapping) (load : List ℕ) (state : ℕ) (laidRe laidIm : List Float) : Type 0 where
+  pub own : answer ≡ 0 → (first : Bool) → state ≡ startState first → Within laidRe laidIm load t m first
+  pub received : answer ≡ 0 → (first : Bool) → state ≡ startState first → (re im : List Float) → Received t laidRe laidIm re im → Within re im load t m first
+
+laid-at : (f : ℕ → Float) (w : List Float) (k : ℕ) → k < 38976 → getD (laid (upto f 38976) w) k nan ≡ f k
+laid-at f w k h =
+    List·getD-append (upto f 38976) (drop (length (upto f 38976)) w) nan k (rw (length-upto f 38976) h) ∙ getD-upto f nan 38976 k h
+
+module _ (t : tmcc.Table) (m : Mapping) (load : List ℕ) (first : Bool) (re₀ im₀ : List Float) where
+  abbrev rePart : ℕ → Float
+  rePart k = pointAt t m load (startState first) k .re
+
+  abbrev imPart : ℕ → Float
+  imPart k = pointAt t m load (startState first) k .im
+
+  received-within : (re im : List Float) → Received t (laid (frameRe t m load (startState first)) re₀) (laid (frameIm t m load (startState first)) im₀) re im → Within re im load t m first
+  received-within re im r = record {
+    re-count = r .re-count;
+    im-count = r .im-count;
+    re-parts = λ k l. rw (laid-at rePart re₀ k l) at (r .re-parts k l);
+    im-parts = λ k l. rw (laid-at imPart im₀ k l) at (r .im-parts k l);
+  }
+
+pub lays : (answer : ℕ) (t : tmcc.Table) (m : Mapping) (load : List ℕ) (state : ℕ) (re₀ im₀ re im : List Float)
+    → re ≡ left answer (laid (frameRe t m load state) re₀) re₀ → im ≡ left answer (laid (frameIm t m load state) im₀) im₀ → Lays answer t m load state re im
+lays answer t m load state re₀ im₀ re im er ei = record {
+  own = λ z first s. rw (er, ei, z, s) (encoded-within t m load first (drop (length (frameRe t m load (startState first))) re₀) (drop (length (frameIm t m load (startState first))) im₀));
+  received = λ z first s re′ im′ r. received-within t m load first re₀ im₀ re′ im′ (rw (er, ei, z, s) at r);
+}
+
+-- ---- what is read
+
+-- what comes back: 0 and the load at the front of the byte output, or 9 where a lent slice is too short; nothing else
+pub data ReadsBackC (t : tmcc.Table) (load : List ℕ) (decisions bits space : ℕ) (answer : ℕ) (bytes : List ℕ) : Type 0 where
+  exactly-c : answer ≡ 0 → take (loadBytes t) bytes ≡ load → ReadsBackC t load decisions bits space answer bytes
+  short-c : answer ≡ 9 → T (shortSpace t decisions bits space) → ReadsBackC t load decisions bits space answer bytes
+
+-- demand 3 of one call: whatever full load the received frame lies within the margins of, it reads back
+abbrev pub ExactC : tmcc.Table → Mapping → Bool → List Float → List Float → ℕ → ℕ → ℕ → ℕ → List ℕ → Type 0
+ExactC t m first re im decisions bits space answer bytes =
+    (load : List ℕ) → slotSum (t .entries) ≤ 48 → FullLoad load (loadBytes t) → Within re im load t m first → ReadsBackC t load decisions bits space answer bytes
+
+zero-accepted : (a : Answer) → numberOf a ≡ 0 → a ≡ Accepted
+zero-accepted Accepted e = refl
+zero-accepted Table e = absurd (omega arith)
+zero-accepted Position e = absurd (omega arith)
+zero-accepted Traceback e = absurd (omega arith)
+zero-accepted State e = absurd (omega arith)
+zero-accepted Length e = absurd (omega arith)
+zero-accepted Symbols e = absurd (omega arith)
+zero-accepted Sample e = absurd (omega arith)
+zero-accepted Scale e = absurd (omega arith)
+zero-accepted Space e = absurd (omega arith)
+
+-- the number of an answer, from its frame answer
+decoded-0 : (a : Answer) (b : Bool) (x y x′ y′ : ℕ) → eqb (numberOf a) 0 ≡ b → cond b (Decoded x y) (Refused a) ≡ Decoded x′ y′ → numberOf a ≡ 0
+decoded-0 a true x y x′ y′ h e = eqb-true (numberOf a) 0 h
+decoded-0 a false x y x′ y′ h e = let z : _≡_ {A = ℕ} 0 1 = cc in absurd (omega arith)
+
+refused-9 : (a : Answer) (b : Bool) (x y : ℕ) → cond b (Decoded x y) (Refused a) ≡ Refused Space → numberOf a ≡ 9
+refused-9 a true x y e = let z : _≡_ {A = ℕ} 0 1 = cc in absurd (omega arith)
+refused-9 a false x y e = let q : a ≡ Space = cc in ap numberOf q
+
+-- THE THEOREM about the call: whatever the lent slices held, the load comes back, or a slice is too short
+module _
+    (t : tmcc.Table) (m : Mapping) (first : Bool) (re im : List Float) (decisions₀ decisions bits₀ bits bytes₀ bytes : List ℕ) (answer : ℕ)
+    (answers : answer ≡ answered (decodeRows t re im eight (length decisions₀) (length bits₀) (length bytes₀)))
+    (words-are : decisions ≡ left answer (laid (replicate 4224 0) decisions₀) decisions₀)
+    (bits-are : bits ≡ left answer (laid (decodedBits t (received re im m) true first) bits₀) bits₀)
+    (bytes-are : bytes ≡ left answer (laid (decodedBytes t (received re im m) true first) bytes₀) bytes₀) where
+  abbrev a : Answer
+  a = firstRow (decodeRows t re im eight (length decisions₀) (length bits₀) (length bytes₀))
+
+  number-of : (load : List ℕ) → ReadsBack t load (length decisions₀) (length bits₀) (length bytes₀) (frameAnswer a t) bytes → ReadsBackC t load (length decisions₀) (length bits₀) (length bytes₀) answer bytes
+  number-of load (exactly e h) = exactly-c (answers ∙ decoded-0 a (accepted a) (loadBytes t) (frameSteps t) (loadBytes t) (frameSteps t) refl e) h
+  number-of load (short e h) = short-c (answers ∙ refused-9 a (accepted a) (loadBytes t) (frameSteps t) e) h
+
+  pub reads-back : ExactC t m first re im (length decisions₀) (length bits₀) (length bytes₀) answer bytes
+  reads-back load fit full w =
+      number-of load
+      (read-back t fit m first load full re im w decisions₀ decisions bits₀ bits bytes₀ bytes (frameAnswer a t) refl (
+        (λ y. let z = eq-eqb answer 0 (answers ∙ ap numberOf y) in record { words = words-are ∙ rw z refl; decoded = bits-are ∙ rw z refl; load = bytes-are ∙ rw z refl }),
+        (λ n. let z = ne-eqb answer 0 (λ q. n (zero-accepted a (sym answers ∙ q))) in record { words = words-are ∙ rw z refl; decoded = bits-are ∙ rw z refl; load = bytes-are ∙ rw z refl }),
+      ))
