@@ -11,7 +11,9 @@ use isdbs_core::slots::Run;
 use isdbs_core::tmcc::Entry;
 use isdbs_core::tmcc::Table;
 use refusal::Answer;
+ghost use mathlib.Core.Path.{_≡_};
 ghost use Prim.Native.Nat.{_<_, _≤_};
+ghost use Rattle.bench_words.specs.Agreement.{agreement};
 
 fn wide(n: u32) -> u64 {
     n as u64
@@ -219,7 +221,9 @@ pub fn refuse(answer: Answer) {
 }
 
 // How many bytes of two slices agree, place by place.
-pub fn agreeing(a: &[u8], b: &[u8]) -> usize {
+pub fn agreeing(a: &[u8], b: &[u8]) -> usize
+    ensures { λ r. ⌜ r ≡ agreement (now (a .entry)) (now (b .entry)) ⌝ }
+{
     let mut n: usize = 0;
     let mut i: usize = 0;
     while i < a.len() && i < b.len() {

@@ -3,19 +3,27 @@ use isdbs_core::tmcc;
 use isdbs_core::tmcc::Entry;
 use isdbs_core::tmcc::Table;
 use isdbs_points::Mapping;
-ghost use Prim.Native.Nat.{_<_, _≤_};
-ghost use lib.ListN.{length};
+ghost use mathlib.Core.Path.{_≡_};
+ghost use mathlib.Core.Bool.{cond};
+ghost use mathlib.Core.List.{[]};
+ghost use Prim.Native.Nat.{_+_, _-_, _*_, _^_, _<_, _≤_};
+ghost use lib.Dec.{leb};
+ghost use lib.ListN.{length, take, drop};
+ghost use lib.Ieee.{binary32, round};
+ghost use Rattle.bench_words.specs.Parts.{after, until, partOf, partsOf, equal};
+ghost use Rattle.bench_words.specs.Numbers.{digitOf, digitsOf, scaleOf};
+ghost use Rattle.bench_words.specs.Words.{entryFrom, entryOf, entryAt, noTable, tableFrom, tableOf, isFlag, mappingFrom, mappingOf, narrowName};
 
 // 1 where it is so, else 0.
-pub fn tally(is_so: bool) -> usize
-    ensures { λ r. ⌜ r ≤ 1 ⌝ }
+pub fn tally(so: bool) -> usize
+    ensures { λ r. ⌜ (r ≡ cond so 1 0) × (r ≤ 1) ⌝ }
 {
-    if is_so { 1 } else { 0 }
+    if so { 1 } else { 0 }
 }
 
 // Where part i of s starts, the parts being separated by `stop`; the end of s where there are fewer.
 fn start_of(s: &[u8], stop: u8, i: usize) -> usize
-    ensures { λ r. ⌜ r ≤ length (now (s .entry)) ⌝ }
+    ensures { λ r. ⌜ (r ≤ length (now (s .entry))) × (drop r (now (s .entry)) ≡ after stop i (now (s .entry))) ⌝ }
 {
     let mut seen: usize = 0;
     let mut j: usize = 0;
@@ -29,7 +37,7 @@ fn start_of(s: &[u8], stop: u8, i: usize) -> usize
 // The first `stop` of s from `from` on, or the end of s.
 fn end_of(s: &[u8], stop: u8, from: usize) -> usize
     requires { ⌜ from ≤ length (now s) ⌝ }
-    ensures { λ r. ⌜ (from ≤ r) × (r ≤ length (now (s .entry))) ⌝ }
+    ensures { λ r. ⌜ ((from ≤ r) × (r ≤ length (now (s .entry)))) × (r - from ≡ length (until stop (drop from (now (s .entry))))) ⌝ }
 {
     let mut j = from;
     while j < s.len() {
@@ -42,24 +50,32 @@ fn end_of(s: &[u8], stop: u8, from: usize) -> usize
 }
 
 // Part i of s.
-pub fn part<'a>(s: &'a [u8], stop: u8, i: usize) -> &'a [u8] {
+pub fn part<'a>(s: &'a [u8], stop: u8, i: usize) -> &'a [u8]
+    ensures { λ r. ⌜ now r ≡ partOf stop (now (s .entry)) i ⌝ }
+{
     let start = start_of(s, stop, i);
     let end = end_of(s, stop, start);
     &s[start..end]
 }
 
 // The first n bytes, or none where there are fewer.
-pub fn front<'a>(s: &'a [u8], n: usize) -> &'a [u8] {
+pub fn front<'a>(s: &'a [u8], n: usize) -> &'a [u8]
+    ensures { λ r. ⌜ now r ≡ cond (leb n (length (now (s .entry)))) (take n (now (s .entry))) [] ⌝ }
+{
     if n <= s.len() { &s[0..n] } else { &s[0..0] }
 }
 
 // The first n parts of points, or none where there are fewer.
-pub fn front_parts<'a>(s: &'a [f64], n: usize) -> &'a [f64] {
+pub fn front_parts<'a>(s: &'a [f64], n: usize) -> &'a [f64]
+    ensures { λ r. ⌜ now r ≡ cond (leb n (length (now (s .entry)))) (take n (now (s .entry))) [] ⌝ }
+{
     if n <= s.len() { &s[0..n] } else { &s[0..0] }
 }
 
 // How many parts s has.
-pub fn parts(s: &[u8], stop: u8) -> usize {
+pub fn parts(s: &[u8], stop: u8) -> usize
+    ensures { λ r. ⌜ r ≡ partsOf stop (now (s .entry)) ⌝ }
+{
     let mut n: usize = 0;
     let mut j: usize = 0;
     while j < s.len() {
@@ -70,7 +86,9 @@ pub fn parts(s: &[u8], stop: u8) -> usize {
 }
 
 // Whether two slices hold the same bytes.
-pub fn same(a: &[u8], b: &[u8]) -> bool {
+pub fn same(a: &[u8], b: &[u8]) -> bool
+    ensures { λ r. ⌜ r ≡ equal (now (a .entry)) (now (b .entry)) ⌝ }
+{
     if a.len() != b.len() {
         return false;
     }
@@ -85,17 +103,17 @@ pub fn same(a: &[u8], b: &[u8]) -> bool {
 }
 
 fn wide(b: u8) -> u32
-    ensures { λ r. ⌜ r < 256 ⌝ }
+    ensures { λ r. ⌜ r ≡ b ⌝ }
 {
     b as u32
 }
 
 // The number of a digit, or 10.
 fn digit(b: u8) -> u32
-    ensures { λ r. ⌜ r ≤ 10 ⌝ }
+    ensures { λ r. ⌜ (r ≡ digitOf b) × (r ≤ 10) ⌝ }
 {
     match b {
-        b'0'..=b'9' => wide(b) % 48 % 10,
+        b'0'..=b'9' => wide(b) - 48,
         _ => 10,
     }
 }
@@ -106,8 +124,13 @@ pub enum Number {
 }
 
 // A number of one to seven decimal digits.
-pub fn digits(s: &[u8]) -> Number {
-    if s.len() == 0 || s.len() > 7 {
+pub fn digits(s: &[u8]) -> Number
+    ensures { λ r. ⌜ r ≡ digitsOf (now (s .entry)) ⌝ }
+{
+    if s.len() == 0 {
+        return Number::Not;
+    }
+    if s.len() > 7 {
         return Number::Not;
     }
     let mut value: u32 = 0;
@@ -117,7 +140,7 @@ pub fn digits(s: &[u8]) -> Number {
         if d > 9 {
             return Number::Not;
         }
-        value = value % 1_000_000 * 10 + d;
+        value = value * 10 + d;
         i = i + 1;
     }
     Number::Is(value)
@@ -129,7 +152,9 @@ pub enum MaybeEntry {
 }
 
 // An entry of a word up to 15 and a slot count up to 255.
-fn entry(word: u32, slots: u32) -> MaybeEntry {
+fn entry(word: u32, slots: u32) -> MaybeEntry
+    ensures { λ r. ⌜ r ≡ entryFrom (Number.Is word) (Number.Is slots) ⌝ }
+{
     if word > 15 {
         return MaybeEntry::Not;
     }
@@ -141,13 +166,9 @@ fn entry(word: u32, slots: u32) -> MaybeEntry {
     MaybeEntry::Is(Entry { word, slots })
 }
 
-// word:slots.
-fn entry_of(s: &[u8]) -> MaybeEntry {
-    if parts(s, b':') != 2 {
-        return MaybeEntry::Not;
-    }
-    let word = digits(part(s, b':', 0));
-    let slots = digits(part(s, b':', 1));
+fn entry_from(word: Number, slots: Number) -> MaybeEntry
+    ensures { λ r. ⌜ r ≡ entryFrom word slots ⌝ }
+{
     let Number::Is(w) = word else {
         return MaybeEntry::Not;
     };
@@ -157,8 +178,20 @@ fn entry_of(s: &[u8]) -> MaybeEntry {
     entry(w, n)
 }
 
+// word:slots.
+fn entry_of(s: &[u8]) -> MaybeEntry
+    ensures { λ r. ⌜ r ≡ entryOf (now (s .entry)) ⌝ }
+{
+    if parts(s, b':') != 2 {
+        return MaybeEntry::Not;
+    }
+    entry_from(digits(part(s, b':', 0)), digits(part(s, b':', 1)))
+}
+
 // Entry i of a table, one not in use where the table has fewer.
-fn entry_at(s: &[u8], i: usize) -> MaybeEntry {
+fn entry_at(s: &[u8], i: usize) -> MaybeEntry
+    ensures { λ r. ⌜ r ≡ entryAt (now (s .entry)) i ⌝ }
+{
     if i < parts(s, b',') {
         entry_of(part(s, b',', i))
     } else {
@@ -171,7 +204,9 @@ pub struct MaybeTable {
     pub table: Table,
 }
 
-fn no_table() -> MaybeTable {
+fn no_table() -> MaybeTable
+    ensures { λ r. ⌜ r ≡ noTable ⌝ }
+{
     MaybeTable {
         is_table: false,
         table: Table {
@@ -180,15 +215,15 @@ fn no_table() -> MaybeTable {
     }
 }
 
-// One to four entries joined by commas.
-pub fn table(s: &[u8]) -> MaybeTable {
-    if parts(s, b',') > 4 {
-        return no_table();
-    }
-    let first = entry_at(s, 0);
-    let second = entry_at(s, 1);
-    let third = entry_at(s, 2);
-    let fourth = entry_at(s, 3);
+// The table of four entries, where all are entries.
+fn table_from(
+    first: MaybeEntry,
+    second: MaybeEntry,
+    third: MaybeEntry,
+    fourth: MaybeEntry,
+) -> MaybeTable
+    ensures { λ r. ⌜ r ≡ tableFrom first second third fourth ⌝ }
+{
     let MaybeEntry::Is(a) = first else {
         return no_table();
     };
@@ -209,8 +244,25 @@ pub fn table(s: &[u8]) -> MaybeTable {
     }
 }
 
+// One to four entries joined by commas.
+pub fn table(s: &[u8]) -> MaybeTable
+    ensures { λ r. ⌜ r ≡ tableOf (now (s .entry)) ⌝ }
+{
+    if parts(s, b',') > 4 {
+        return no_table();
+    }
+    table_from(
+        entry_at(s, 0),
+        entry_at(s, 1),
+        entry_at(s, 2),
+        entry_at(s, 3),
+    )
+}
+
 // Whether a byte is the digit 0 or 1.
-fn is_flag(b: u8) -> bool {
+fn is_flag(b: u8) -> bool
+    ensures { λ r. ⌜ r ≡ isFlag b ⌝ }
+{
     b == b'0' || b == b'1'
 }
 
@@ -219,23 +271,34 @@ pub enum MaybeMapping {
     Not,
 }
 
+fn mapping_of(a: u8, b: u8, c: u8) -> MaybeMapping
+    ensures { λ r. ⌜ r ≡ mappingFrom a b c ⌝ }
+{
+    if !is_flag(a) {
+        return MaybeMapping::Not;
+    }
+    if !is_flag(b) {
+        return MaybeMapping::Not;
+    }
+    if !is_flag(c) {
+        return MaybeMapping::Not;
+    }
+    let m = Mapping {
+        conjugate: a == b'1',
+        qpsk_p1_on_q: b == b'1',
+        tc8psk_c1_is_y: c == b'1',
+    };
+    MaybeMapping::Is(m)
+}
+
 // Three digits 0 or 1: conjugate, qpsk_p1_on_q, tc8psk_c1_is_y.
-pub fn mapping(s: &[u8]) -> MaybeMapping {
+pub fn mapping(s: &[u8]) -> MaybeMapping
+    ensures { λ r. ⌜ r ≡ mappingOf (now (s .entry)) ⌝ }
+{
     if s.len() != 3 {
         return MaybeMapping::Not;
     }
-    let a = s[0];
-    let b = s[1];
-    let c = s[2];
-    if is_flag(a) && is_flag(b) && is_flag(c) {
-        let m = Mapping {
-            conjugate: a == b'1',
-            qpsk_p1_on_q: b == b'1',
-            tc8psk_c1_is_y: c == b'1',
-        };
-        return MaybeMapping::Is(m);
-    }
-    MaybeMapping::Not
+    mapping_of(s[0], s[1], s[2])
 }
 
 pub enum MaybeScale {
@@ -280,7 +343,9 @@ pub fn scale(s: &[u8]) -> MaybeScale {
 }
 
 // Whether a file's name says that its points are of f32 parts.
-pub fn is_narrow(name: &[u8]) -> bool {
+pub fn is_narrow(name: &[u8]) -> bool
+    ensures { λ r. ⌜ r ≡ narrowName (now (name .entry)) ⌝ }
+{
     let n = name.len();
     if n < 5 {
         return false;
