@@ -11,7 +11,7 @@ ghost use Rattle.isdbs_points.specs.Frame.{endState, frameRe, frameIm};
 ghost use Rattle.isdbs_phy.specs.EncodeRows.{encodeRows};
 ghost use Rattle.isdbs_phy.specs.DecodeRows.{decodeRows};
 ghost use Rattle.isdbs_metrics.specs.Steps.{received};
-ghost use Rattle.isdbs_metrics.specs.Reading.{decodedBits, decodedBytes};
+ghost use Rattle.isdbs_metrics.specs.Reading.{frameWords, decodedBits, decodedBytes};
 ghost use Rattle.isdb_c.specs.Forms.{tableOf};
 ghost use Rattle.isdb_c.specs.Mappings.{mappingOf, isSet};
 ghost use Rattle.isdb_c.specs.Rows.{answered, left};
@@ -72,7 +72,7 @@ pub extern "C" fn isdbs_decode_frame(
     bytes: &mut [u8],
 ) -> u32
     ensures answers { λ r. ⌜ r ≡ answered (decodeRows (tableOf table) (now (re .entry)) (now (im .entry)) «llr_scale» (length (now (decisions .entry))) (length (now (bits .entry))) (length (now (bytes .entry)))) ⌝ }
-    ensures words { λ r. ⌜ now (decisions .exit) ≡ left r (laid (replicate 4224 0) (now (decisions .entry))) (now (decisions .entry)) ⌝ }
+    ensures words { λ r. ⌜ now (decisions .exit) ≡ left r (laid (replicate frameWords 0) (now (decisions .entry))) (now (decisions .entry)) ⌝ }
     ensures decoded { λ r. ⌜ now (bits .exit) ≡ left r (laid (decodedBits (tableOf table) (received (now (re .entry)) (now (im .entry)) (mappingOf mapping) «llr_scale») (isSet «known_start») (isSet first)) (now (bits .entry))) (now (bits .entry)) ⌝ }
     ensures load { λ r. ⌜ now (bytes .exit) ≡ left r (laid (decodedBytes (tableOf table) (received (now (re .entry)) (now (im .entry)) (mappingOf mapping) «llr_scale») (isSet «known_start») (isSet first)) (now (bytes .entry))) (now (bytes .entry)) ⌝ }
 {

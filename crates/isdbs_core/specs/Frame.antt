@@ -6,6 +6,13 @@ use Rattle.refusal.specs.declared.Answer.the-variants.{Position}
 use Rattle.refusal.specs.Rows.{Row, firstRow, Said, says}
 use Rattle.isdbs_core.specs.Lists.{either, table}
 
+-- the main-signal symbols of a frame, and the bytes of a slot on air
+abbrev pub mainSymbols : ℕ
+mainSymbols = 38976
+
+abbrev pub slotBytes : ℕ
+slotBytes = 203
+
 -- a symbol of the frame: one of the header, main-signal symbol k, or symbol j of burst b
 pub data Symbol : Type 0 where
   header : ℕ → Symbol
@@ -20,7 +27,7 @@ placeOf (burst b j) = 192 + b * 207 + 203 + j
 
 -- refusal 2: "main symbol 38,976 or more"
 abbrev pub mainRows : ℕ → List Row
-mainRows k = (Position, leb 38976 k) ∷ []
+mainRows k = (Position, leb mainSymbols k) ∷ []
 
 -- refusal 2: "burst 192 or its symbol 4 or more"
 abbrev pub burstRows : ℕ → ℕ → List Row

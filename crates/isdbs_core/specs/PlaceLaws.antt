@@ -5,12 +5,12 @@ use Prim.Native.Nat.{ℕ, _+_, _-_, _*_, _/_, _%_, _<_}
 use native.Mathlib.Omega.{arith}
 use lib.Dec.{ltb}
 use borrow.Author.Tests.{lt-ltb, le-ltb, ltb-true, ltb-false}
-use Rattle.isdbs_core.specs.Frame.{Symbol, header, main, burst, placeOf}
+use Rattle.isdbs_core.specs.Frame.{mainSymbols, Symbol, header, main, burst, placeOf}
 
 -- the symbols that a frame has: 192 of the header, 38,976 of the main signal, 192 bursts of 4
 abbrev pub InFrame : Symbol → Type 0
 InFrame (header i) = i < 192
-InFrame (main k) = k < 38976
+InFrame (main k) = k < mainSymbols
 InFrame (burst b j) = (b < 192) × (j < 4)
 
 -- what stands at place q of the 207 from burst to burst

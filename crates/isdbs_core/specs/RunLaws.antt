@@ -156,6 +156,11 @@ valid-most (e ∷ es) slot symbol =
     (slotSum es)
     (valid-most es (slot + e .slots) (symbol + entrySymbols (entryCombination e) (e .slots)))
 
+pub steps-append : (rs : List Run) (r : Run) → stepsIn (rs ++ (r ∷ [])) ≡ stepsIn rs + stepsOf r
+unfolding stepsIn
+steps-append [] r = omega arith
+steps-append (x ∷ rs) r = let e = steps-append rs r in omega arith
+
 steps-entry : (m : MaybeCombination) (n slot symbol : ℕ) (rs : List Run) (k : ℕ) → stepsIn rs ≤ k * 1421 → stepsIn (entryRuns m n slot symbol ++ rs) ≤ (n + k) * 1421
 unfolding stepsIn
 steps-entry (Some c) n slot symbol rs k h = let f = entry-fits c n in omega arith

@@ -1,4 +1,5 @@
 -- Document 01, "Runs and points": the runs of a table. Assumes nothing.
+use mathlib.Core.Path.{_≡_}
 use mathlib.Core.Bool.{cond}
 use mathlib.Core.List.{List, [], _∷_, _++_}
 use Prim.Native.Nat.{ℕ, _+_, _*_, _/_, _≤_}
@@ -13,9 +14,11 @@ use Rattle.isdbs_core.specs.declared.tmcc.Entry.{Entry}
 use Rattle.isdbs_core.specs.declared.tmcc.Table.{Table}
 use Rattle.isdbs_core.specs.declared.slots.Run.{Run}
 use Rattle.isdbs_core.specs.declared.slots.FrameRuns.{FrameRuns}
+use Rattle.isdbs_core.specs.declared.slots.Plan.{Plan}
 use Rattle.isdbs_core.specs.Lists.{padded}
+use Rattle.isdbs_core.specs.Frame.{mainSymbols, slotBytes}
 use Rattle.isdbs_core.specs.Combinations.{unitOf, slotSteps}
-use Rattle.isdbs_core.specs.Tables.{entryCombination, tableAnswer}
+use Rattle.isdbs_core.specs.Tables.{entryCombination, tableAnswer, TableAccepted}
 
 -- "An entry of n slots has n / unit whole units"
 abbrev pub unitsIn : Combination → ℕ → ℕ
@@ -66,7 +69,7 @@ validTotal t = validIn (runsOf t)
 
 -- "a full load is 203 bytes for each"
 abbrev pub loadBytes : Table → ℕ
-loadBytes t = 203 * validTotal t
+loadBytes t = slotBytes * validTotal t
 
 -- the trellis steps of a run, and of a frame
 abbrev pub stepsOf : Run → ℕ
@@ -91,8 +94,26 @@ fourOf a rs = record { answer = a; count = length rs; runs = padded 4 noRun rs; 
 abbrev pub fourRuns : Table → FrameRuns
 fourRuns t = fourOf (tableAnswer t) (cond (accepted (tableAnswer t)) (runsOf t) [])
 
+-- the plan of a table, as `plan_of` answers it
+abbrev pub planOf : Table → Plan
+planOf t =
+    record {
+      table = t;
+      count = length (runsOf t);
+      runs = padded 4 noRun (runsOf t);
+      «valid_slots» = validTotal t;
+      steps = frameSteps t;
+      bytes = loadBytes t;
+    }
+
+-- the plan of an accepted table
+pub record Planned (p : Plan) : Type 0 where
+  pub is : p ≡ planOf (p .table)
+  pub few : p .count ≤ 4
+  pub accepted : TableAccepted (p .table)
+
 -- a run lies within the frame
 pub record RunFits (r : Run) : Type 0 where
   pub slots : r .«slot_end» ≤ 48
   pub starts : r .«symbol_start» ≤ r .«symbol_end»
-  pub ends : r .«symbol_end» ≤ 38976
+  pub ends : r .«symbol_end» ≤ mainSymbols

@@ -8,6 +8,7 @@ use Rattle.refusal.specs.declared.Answer.{Answer}
 use Rattle.refusal.specs.declared.Answer.the-variants.{Position, Length}
 use Rattle.refusal.specs.Rows.{accepted, Row, firstRow}
 use Rattle.isdbs_core.specs.declared.tmcc.Table.{Table}
+use Rattle.isdbs_core.specs.Frame.{slotBytes}
 use Rattle.isdbs_core.specs.Tables.{tableRows}
 use Rattle.isdbs_core.specs.RunsOf.{validTotal, loadBytes}
 
@@ -21,4 +22,4 @@ slotPartAnswer bytes t k = firstRow (slotPartRows bytes t k)
 
 -- the 203 bytes from 203 k on; "A refused slot part is empty"
 abbrev pub slotPart : List ℕ → Table → ℕ → List ℕ
-slotPart bytes t k = cond (accepted (slotPartAnswer bytes t k)) (take 203 (drop (203 * k) bytes)) []
+slotPart bytes t k = cond (accepted (slotPartAnswer bytes t k)) (take slotBytes (drop (slotBytes * k) bytes)) []

@@ -17,7 +17,7 @@ use Rattle.isdbs_core.specs.declared.slots.SlotByte.{SlotByte}
 use Rattle.isdbs_core.specs.declared.slots.SlotByte.the-variants.{At, Nothing}
 use Rattle.isdbs_core.specs.Lists.{both, either}
 use Rattle.isdbs_core.specs.Answers.{byteSaid}
-use Rattle.isdbs_core.specs.Frame.{main, placeOf}
+use Rattle.isdbs_core.specs.Frame.{slotBytes, main, placeOf}
 use Rattle.isdbs_core.specs.Combinations.{efficiencyOf, punctureOf, pairsOf, periodOf}
 use Rattle.isdbs_core.specs.Tables.{tableAnswer, marked}
 use Rattle.isdbs_core.specs.RunsOf.{runsOf}
@@ -59,7 +59,7 @@ runSymbol r m = cond (ltb m (r .«symbol_end»)) (At (placeOf (main m))) Nothing
 -- byte of slot k of a run: the bytes of the run's marked slots follow each other, 203 of 8 bits for each
 abbrev pub runByte : Run → ℕ → ℕ → SlotByte
 runByte r k byte =
-    cond (both (marked (r .combination) k) (ltb byte 203))
+    cond (both (marked (r .combination) k) (ltb byte slotBytes))
     (runSymbol r (r .«symbol_start» + symbolOfBit (r .combination) (markedBefore (r .combination) k * 1624 + 8 * byte)))
     Nothing
 

@@ -8,7 +8,7 @@ use refusal::Answer;
 ghost use mathlib.Core.Path.{_≡_};
 ghost use Prim.Native.Nat.{_<_};
 ghost use Rattle.isdbs_core.specs.Answers.{positionSaid};
-ghost use Rattle.isdbs_core.specs.Frame.{main, placeOf, mainSymbolPosition, burstSymbolPosition, lowBits};
+ghost use Rattle.isdbs_core.specs.Frame.{mainSymbols, main, placeOf, mainSymbolPosition, burstSymbolPosition, lowBits};
 
 // Slots per frame, N (Table 3 item 1).
 pub const SLOTS: usize = 48;
@@ -67,7 +67,7 @@ pub enum Position {
 
 // Symbol index within a frame of a main-signal symbol.
 pub(crate) fn main_place(k: usize) -> usize
-    requires { ⌜ k < 38976 ⌝ }
+    requires { ⌜ k < mainSymbols ⌝ }
     ensures { λ r. ⌜ r ≡ placeOf (main k) ⌝ }
 {
     HEADER_SYMBOLS + (k / BURST_PERIOD) * (BURST_PERIOD + BURST_SYMBOLS) + k % BURST_PERIOD

@@ -5,6 +5,7 @@ use crate::combination::CombinationWord;
 use crate::combination::MaybePuncture;
 use crate::combination::Puncture;
 use crate::frame::Position;
+use crate::frame::SLOT_BYTES;
 use crate::frame::main_place;
 use crate::tmcc::Table;
 use crate::tmcc::is_marked;
@@ -14,7 +15,7 @@ ghost use mathlib.Core.Path.{_≡_};
 ghost use Prim.Native.Nat.{_<_, _≤_};
 ghost use Rattle.isdbs_core.specs.Answers.{positionSaid, byteSaid};
 ghost use Rattle.isdbs_core.specs.Combinations.{pairsOf};
-ghost use Rattle.isdbs_core.specs.RunsOf.{runOf, runsOf, fourOf, fourRuns, RunFits};
+ghost use Rattle.isdbs_core.specs.RunsOf.{runOf, planOf, fourRuns, RunFits};
 ghost use Rattle.isdbs_core.specs.Lists.{Each};
 ghost use Rattle.isdbs_core.specs.Symbols.{pairHolds, firstPair, hasSlot, symbolOfBit, bitSymbol, markedBefore, runByte, byteIn, slotByteSymbol};
 ghost use Rattle.isdbs_core.specs.SlotPart.{slotPartAnswer, slotPart};
@@ -72,15 +73,26 @@ fn run_of(c: Combination, n: usize, slot: usize, symbol: usize) -> Run
     }
 }
 
-// The runs of any table, with the answer given.
-fn runs_as(answer: Answer, t: Table) -> FrameRuns
-    ensures { λ r. ⌜ r ≡ fourOf answer (runsOf t) ⌝ }
+// The layout of a frame: its table's runs, the first `count` of four, and the valid slots, trellis steps and bytes of all.
+pub struct Plan {
+    pub table: Table,
+    pub count: usize,
+    pub runs: [Run; 4],
+    pub valid_slots: usize,
+    pub steps: usize,
+    pub bytes: usize,
+}
+
+// The plan of any table: no row is checked here.
+pub fn plan_of(t: Table) -> Plan
+    ensures { λ r. ⌜ (r ≡ planOf t) × (r .count ≤ 4) ⌝ }
 {
     let mut runs = [NO_RUN; 4];
     let mut count: usize = 0;
     let mut slot: usize = 0;
     let mut symbol: usize = 0;
     let mut valid_slots: usize = 0;
+    let mut steps: usize = 0;
     for i in 0..4 {
         let e = t.entries[i];
         let n = e.slots as usize;
@@ -95,12 +107,16 @@ fn runs_as(answer: Answer, t: Table) -> FrameRuns
         slot += n;
         symbol = r.symbol_end;
         valid_slots += r.valid_slots;
+        steps += c.steps_per_slot() * r.valid_slots;
     }
-    FrameRuns {
-        answer,
+    let bytes = SLOT_BYTES * valid_slots;
+    Plan {
+        table: t,
         count,
         runs,
         valid_slots,
+        steps,
+        bytes,
     }
 }
 
@@ -110,7 +126,14 @@ pub fn runs(t: Table) -> FrameRuns
 {
     let answer = table_answer(t);
     if refusal::number(answer) == 0 {
-        runs_as(answer, t)
+        let p = plan_of(t);
+        let runs = p.runs;
+        FrameRuns {
+            answer,
+            count: p.count,
+            runs,
+            valid_slots: p.valid_slots,
+        }
     } else {
         FrameRuns {
             answer,
@@ -204,7 +227,7 @@ fn run_byte(r: Run, k: usize, byte: usize) -> SlotByte
 {
     let c = r.combination;
     if is_marked(c, k) {
-        if byte < 203 {
+        if byte < SLOT_BYTES {
             let m = r.symbol_start + symbol_of_bit(c, marked_before(c, k) * SLOT_BITS + 8 * byte);
             if m < r.symbol_end {
                 return SlotByte::At(main_place(m));
@@ -260,7 +283,7 @@ pub fn slot_part_answer(bytes: &[u8], t: Table, k: usize) -> Answer
         if k >= v {
             return Answer::Position;
         }
-        if bytes.len() != 203 * v {
+        if bytes.len() != SLOT_BYTES * v {
             return Answer::Length;
         }
     }
@@ -273,7 +296,7 @@ pub fn slot_part<'a>(bytes: &'a [u8], t: Table, k: usize) -> &'a [u8]
 {
     let answer = slot_part_answer(bytes, t, k);
     if refusal::number(answer) == 0 {
-        &bytes[203 * k..203 * k + 203]
+        &bytes[SLOT_BYTES * k..SLOT_BYTES * k + SLOT_BYTES]
     } else {
         &bytes[0..0]
     }

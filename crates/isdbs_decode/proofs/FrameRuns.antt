@@ -11,16 +11,12 @@ use Rattle.trellis.specs.Step.{four}
 use Rattle.isdbs_core.specs.declared.combination.Combination.{Combination}
 use Rattle.isdbs_core.specs.declared.combination.Combination.the-variants.{«Bpsk1_2», «Qpsk1_2», «Qpsk2_3», «Qpsk3_4», «Qpsk5_6», «Qpsk7_8», «Tc8psk2_3»}
 use Rattle.isdbs_core.specs.declared.slots.Run.{Run}
-use Rattle.isdbs_core.specs.declared.slots.FrameRuns.{FrameRuns}
+use Rattle.isdbs_core.specs.declared.slots.Plan.{Plan}
 use Rattle.isdbs_core.specs.declared.tmcc.Table.{Table}
 use Rattle.isdbs_core.specs.Lists.{padded, Each}
 use Rattle.isdbs_core.specs.Combinations.{modulationOf, punctureOf, periodSteps, periodSymbols, slotSteps}
-use Rattle.isdbs_core.specs.declared.tmcc.Entry.{Entry}
-use Rattle.isdbs_core.specs.declared.combination.MaybeCombination.{MaybeCombination}
-use Rattle.isdbs_core.specs.declared.combination.MaybeCombination.the-variants.{Some, None}
-use Rattle.isdbs_core.specs.Tables.{TableAccepted, entryCombination}
-use Rattle.isdbs_core.specs.TableLaws.{table-laid, accepted-runs}
-use Rattle.isdbs_core.specs.RunsOf.{runsOf, runsFrom, entryRuns, entrySymbols, fourRuns, stepsOf, stepsIn, frameSteps, validIn, validTotal, noRun, RunFits}
+use Rattle.isdbs_core.specs.TableLaws.{table-laid}
+use Rattle.isdbs_core.specs.RunsOf.{runsOf, Planned, stepsOf, stepsIn, frameSteps, validIn, validTotal, noRun, RunFits}
 use Rattle.isdbs_core.specs.RunLaws.{Whole, run-whole}
 use Rattle.isdbs_points.specs.declared.Mapping.{Mapping}
 use Rattle.isdbs_points.specs.Layout.{sentOrder}
@@ -40,7 +36,7 @@ pub record RunList (count : ℕ) (list : List Run) : Type 0 where
   pub whole : (i : ℕ) → Whole (getD list i noRun)
   pub fits : (i : ℕ) → RunFits (getD list i noRun)
 
--- the runs of a table as `runs` gives them
+-- the runs of a table as its plan has them
 pub record Listed (t : Table) (count : ℕ) (list : List Run) : Type 0 where
   pub runs : RunList count list
   pub listed : take count list ≡ runsOf t
@@ -61,32 +57,19 @@ each-any P [] i z h = z
 each-any P (r ∷ rs) zero z h = h .0
 each-any P (r ∷ rs) (suc i) z h = each-any P rs i z (h .1)
 
-few-entry : (o : MaybeCombination) (n slot symbol : ℕ) (rs : List Run) → length (entryRuns o n slot symbol ++ rs) ≤ suc (length rs)
-few-entry (Some c) n slot symbol rs = omega arith
-few-entry None n slot symbol rs = omega arith
-
-few-runs : (es : List Entry) (slot symbol : ℕ) → length (runsFrom es slot symbol) ≤ length es
-unfolding runsFrom
-few-runs [] slot symbol = omega arith
-few-runs (e ∷ es) slot symbol =
-    let a = few-entry (entryCombination e) (e .slots) slot symbol (runsFrom es (slot + e .slots) (symbol + entrySymbols (entryCombination e) (e .slots))) in
-    let b = few-runs es (slot + e .slots) (symbol + entrySymbols (entryCombination e) (e .slots)) in
-    omega arith
-
-pub listed-runs : (t : Table) (r : FrameRuns) → TableAccepted t → length (t .entries) ≡ 4 → r ≡ fourRuns t → Listed t (r .count) (r .runs)
-listed-runs t r h es4 e =
-    let few = few-runs (t .entries) 0 0 in
-    let q = e ∙ accepted-runs t h in
+pub listed-runs : (p : Plan) → Planned p → Listed (p .table) (p .count) (p .runs)
+listed-runs p h =
+    let t = p .table in
     let rs = runsOf t in
-    let ec : r .count ≡ length rs = ap (λ (z : FrameRuns). z .count) q in
-    let el : r .runs ≡ padded 4 noRun rs = ap (λ (z : FrameRuns). z .runs) q in
-    let l = table-laid t h in
-    let er : take (r .count) (r .runs) ≡ rs = ap (λ (z : List Run). take (r .count) z) el ∙ take-at rs (replicate (4 - length rs) noRun) (r .count) (sym ec) in
-    let at : (i : ℕ) → getD (r .runs) i noRun ≡ getD rs i noRun = λ i. ap (λ (z : List Run). getD z i noRun) el ∙ padded-any rs (4 - length rs) noRun i in
+    let ec : p .count ≡ length rs = ap (λ (z : Plan). z .count) (h .is) in
+    let el : p .runs ≡ padded 4 noRun rs = ap (λ (z : Plan). z .runs) (h .is) in
+    let l = table-laid t (h .accepted) in
+    let er : take (p .count) (p .runs) ≡ rs = ap (λ (z : List Run). take (p .count) z) el ∙ take-at rs (replicate (4 - length rs) noRun) (p .count) (sym ec) in
+    let at : (i : ℕ) → getD (p .runs) i noRun ≡ getD rs i noRun = λ i. ap (λ (z : List Run). getD z i noRun) el ∙ padded-any rs (4 - length rs) noRun i in
     record {
       listed = er;
       runs = record {
-        few = omega arith;
+        few = h .few;
         steps = rw er (l .steps);
         valid = rw er (l .valid);
         counted = rw er (sym ec);
@@ -204,7 +187,3 @@ all-valid {t} {count} l =
 -- what was written over the front of a slice
 pub front-is : {A : Type 0} (b us w : List A) (n : ℕ) → b ≡ us ++ drop (length us) w → n ≡ length us → take n b ≡ us
 front-is {A} b us w n e q = ap (λ (z : List A). take n z) e ∙ take-at us (drop (length us) w) n (sym q)
-
--- the valid slots as `runs` counts them
-pub valid-sum : (t : Table) (r : FrameRuns) → TableAccepted t → r ≡ fourRuns t → r .«valid_slots» ≡ validTotal t
-valid-sum t r h e = ap (λ (z : FrameRuns). z .«valid_slots») (e ∙ accepted-runs t h)

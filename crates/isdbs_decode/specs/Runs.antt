@@ -17,17 +17,17 @@ use Rattle.isdbs_core.specs.RunsOf.{frameSteps}
 use Rattle.isdbs_points.specs.declared.Mapping.{Mapping}
 use Rattle.isdbs_points.specs.Layout.{wordBit, atBit, byteOf}
 use Rattle.isdbs_points.specs.Frame.{labelAt}
-use Rattle.isdbs_metrics.specs.Reading.{Received, metricsAt, bitIn, decodedBits, decodedBytes}
+use Rattle.isdbs_metrics.specs.Reading.{Received, frameTraceback, frameWords, metricsAt, bitIn, decodedBits, decodedBytes}
 use Rattle.isdbs_metrics.specs.Steps.{pieceMetrics}
 
 -- n steps ys of a call, the first of which is its step i0. Whatever the call's other steps are: the decoder that the values and slices held goes
 -- n steps on.
 pub record Carried (ys : ℕ → Step) (i0 n : ℕ) (pm : List Float) (at : At) (dec out : List ℕ) (r : At) (pm′ : List Float) (dec′ out′ : List ℕ) : Type 0 where
-  pub few : r .held < 4224
+  pub few : r .held < frameWords
   pub sum : r .held + r .count ≡ at .held + at .count + n
   pub carries : (xs : ℕ → Step) (d : Decoder) (dec₀ out₀ : List ℕ) → ((k : ℕ) → k < n → xs (i0 + k) ≡ ys k)
-      → Holds 128 dec₀ out₀ (steps 128 xs d i0) pm (at .held) (at .count) dec out
-      → Holds 128 dec₀ out₀ (steps 128 xs d (i0 + n)) pm′ (r .held) (r .count) dec′ out′
+      → Holds frameTraceback dec₀ out₀ (steps frameTraceback xs d i0) pm (at .held) (at .count) dec out
+      → Holds frameTraceback dec₀ out₀ (steps frameTraceback xs d (i0 + n)) pm′ (r .held) (r .count) dec′ out′
 
 -- the steps of a run, and the known bits that follow a frame
 abbrev pub runSteps : Combination → List Float → List Float → Mapping → Float → ℕ → Step
@@ -45,17 +45,17 @@ freshFrom pm = record { values = pm; words = []; bits = [] }
 
 -- all runs of a frame
 pub record RunsRead (t : Table) (rx : Received) (pm : List Float) (dec out : List ℕ) (r : At) (pm′ : List Float) (dec′ out′ : List ℕ) : Type 0 where
-  pub few : r .held < 4224
+  pub few : r .held < frameWords
   pub sum : r .held + r .count ≡ frameSteps t
-  pub holds : Holds 128 dec out (steps 128 (frameMetrics t rx) (freshFrom pm) (frameSteps t)) pm′ (r .held) (r .count) dec′ out′
+  pub holds : Holds frameTraceback dec out (steps frameTraceback (frameMetrics t rx) (freshFrom pm) (frameSteps t)) pm′ (r .held) (r .count) dec′ out′
 
 -- "then the 16 bits of W1, high bit first, as known bits; then a flush": the bits of a decoder d whose frame steps are done
 abbrev pub endedBits : Decoder → List ℕ
-endedBits d = flush (steps 128 knownBits (closed 32 (label isdb) lower d) 16) .bits
+endedBits d = flush (steps frameTraceback knownBits (closed 32 (label isdb) lower d) 16) .bits
 
 pub record Ended (pm : List Float) (at : At) (dec out dec′ out′ : List ℕ) : Type 0 where
-  pub ends : (d : Decoder) (dec₀ out₀ : List ℕ) → 4224 ≤ length dec₀ → Holds 128 dec₀ out₀ d pm (at .held) (at .count) dec out
-      → (out′ ≡ laid (endedBits d) out₀) × (dec′ ≡ laid (replicate 4224 0) dec₀)
+  pub ends : (d : Decoder) (dec₀ out₀ : List ℕ) → frameWords ≤ length dec₀ → Holds frameTraceback dec₀ out₀ d pm (at .held) (at .count) dec out
+      → (out′ ≡ laid (endedBits d) out₀) × (dec′ ≡ laid (replicate frameWords 0) dec₀)
 
 -- byte j of a frame from the decoded bits us, encoded again from the state s
 abbrev pub byteAt : Table → Received → ℕ → List ℕ → ℕ → ℕ
@@ -63,11 +63,11 @@ byteAt t r s us j = byteOf (λ i. atBit 0 (bitIn r (labelAt s us) us) t (8 * j +
 
 -- the bits of a frame whose path values start as pm
 abbrev pub bitsFrom : Table → Received → List Float → List ℕ
-bitsFrom t r pm = endedBits (steps 128 (frameMetrics t r) (freshFrom pm) (frameSteps t))
+bitsFrom t r pm = endedBits (steps frameTraceback (frameMetrics t r) (freshFrom pm) (frameSteps t))
 
 -- "Afterwards the bit buffer begins with steps + 16 decoded bits, one per byte; the first 4,224 decision words are 0; the byte output begins with
 -- 203 bytes per valid slot; all else is unchanged."
 pub record FrameRead (t : Table) (r : Received) (knownStart first : Bool) (decisions₀ decisions bits₀ bits bytes₀ bytes : List ℕ) : Type 0 where
-  pub words : decisions ≡ laid (replicate 4224 0) decisions₀
+  pub words : decisions ≡ laid (replicate frameWords 0) decisions₀
   pub decoded : bits ≡ laid (decodedBits t r knownStart first) bits₀
   pub load : bytes ≡ laid (decodedBytes t r knownStart first) bytes₀

@@ -10,14 +10,13 @@ use isdb_fec::conv::start_at;
 use isdb_fec::conv::start_unknown;
 use isdbs_core::combination::Combination;
 use isdbs_core::combination::Modulation;
+use isdbs_core::frame::SLOT_BYTES;
 use isdbs_core::frame::W1;
-use isdbs_core::slots::runs;
-use isdbs_core::tmcc::Table;
+use isdbs_core::slots::Plan;
 use isdbs_metrics::Phase;
 use isdbs_metrics::code_of;
 use isdbs_metrics::correlation;
 use isdbs_metrics::metrics;
-use isdbs_metrics::next_phase;
 use isdbs_metrics::symbol;
 use isdbs_points::Mapping;
 use isdbs_points::psk8_point;
@@ -27,17 +26,18 @@ use isdbs_points::word_bit;
 ghost use mathlib.Core.Path.{_≡_};
 ghost use mathlib.Core.Bool.{cond, true, false};
 ghost use Prim.Native.Nat.{_+_, _*_, _<_, _≤_, _^_};
+ghost use lib.Dec.{eqb};
 ghost use lib.ListN.{length, getD, replicate};
 ghost use lib.Ieee.{Float, nan, lt, binary32, ofBits};
 ghost use Rattle.trellis.specs.Lists.{upto, laid, bit};
 ghost use Rattle.trellis.specs.Code.{stateAt};
 ghost use Rattle.trellis.specs.Run.{startAt, startUnknown};
 ghost use Rattle.isdbs_core.specs.declared.combination.Combination.the-variants.{«Tc8psk2_3»};
-ghost use Rattle.isdbs_core.specs.Tables.{TableAccepted};
-ghost use Rattle.isdbs_core.specs.RunsOf.{frameSteps, loadBytes};
+ghost use Rattle.isdbs_core.specs.Frame.{mainSymbols};
+ghost use Rattle.isdbs_core.specs.RunsOf.{frameSteps, loadBytes, Planned};
 ghost use Rattle.isdbs_points.specs.Points.{zero64, point, turned, psk8Of, subset};
 ghost use Rattle.isdbs_points.specs.Layout.{byteOf};
-ghost use Rattle.isdbs_metrics.specs.Reading.{correlation};
+ghost use Rattle.isdbs_metrics.specs.Reading.{frameWords, correlation};
 ghost use Rattle.isdbs_metrics.specs.Steps.{Covers, Bits, received, pieceBit, stepsOfBytes, PackRoom};
 ghost use Rattle.isdbs_decode.specs.Runs.{runSteps, Carried, RunsRead, Ended, byteAt, bitsFrom, FrameRead};
 
@@ -64,10 +64,29 @@ impl DemodOptions {
     }
 }
 
-// The words that a frame's decoder holds at most: 4,096 and its traceback.
-const WORDS: usize = 4224;
-
+// The traceback of a frame.
 const TRACEBACK: usize = 128;
+
+// The decision words that a frame needs: 4,096 and its traceback.
+pub const WORDS: usize = 4_096 + TRACEBACK;
+
+// Where the next step stands.
+fn next_phase(p: Phase, period: usize, count: usize) -> Phase
+    requires { ⌜ (p .q < period) × (p .base + count < 2 ^ 32) ⌝ }
+    ensures { λ r. ⌜ (r .q ≡ cond (eqb (p .q + 1) period) 0 (p .q + 1)) × (r .base ≡ cond (eqb (p .q + 1) period) (p .base + count) (p .base)) ⌝ }
+{
+    if p.q + 1 == period {
+        Phase {
+            q: 0,
+            base: p.base + count,
+        }
+    } else {
+        Phase {
+            q: p.q + 1,
+            base: p.base,
+        }
+    }
+}
 
 // Reads n steps of a run; the first is step i0 of the frame.
 fn read_run(
@@ -83,7 +102,7 @@ fn read_run(
     decisions: &mut [u64],
     bits: &mut [u8],
 ) -> At
-    requires { ⌜ (at .held < 4224) × (4224 ≤ length (now decisions)) × (at .held + at .count + n ≤ length (now bits)) × (i0 + n < 2 ^ 30) × Covers c n (length (now re)) × Covers c n (length (now im)) ⌝ }
+    requires { ⌜ (at .held < frameWords) × (frameWords ≤ length (now decisions)) × (at .held + at .count + n ≤ length (now bits)) × (i0 + n < 2 ^ 30) × Covers c n (length (now re)) × Covers c n (length (now im)) ⌝ }
     ensures { λ r. ⌜ Carried (runSteps c (now (re .entry)) (now (im .entry)) m scale) i0 n (now (pm .entry)) at (now (decisions .entry)) (now (bits .entry)) r (now (pm .exit)) (now (decisions .exit)) (now (bits .exit)) ⌝ }
 {
     let code = code_of(c);
@@ -99,7 +118,7 @@ fn read_run(
 
 // Reads the runs of a frame. The steps are counted on over all of them.
 fn read_runs(
-    t: Table,
+    p: Plan,
     m: Mapping,
     scale: f32,
     pm: &mut [f32; 64],
@@ -108,12 +127,11 @@ fn read_runs(
     decisions: &mut [u64],
     bits: &mut [u8],
 ) -> At
-    requires { ⌜ TableAccepted t × (38976 ≤ length (now re)) × (38976 ≤ length (now im)) × (4224 ≤ length (now decisions)) × (frameSteps t ≤ length (now bits)) ⌝ }
-    ensures { λ r. ⌜ RunsRead t (received (now (re .entry)) (now (im .entry)) m scale) (now (pm .entry)) (now (decisions .entry)) (now (bits .entry)) r (now (pm .exit)) (now (decisions .exit)) (now (bits .exit)) ⌝ }
+    requires { ⌜ Planned p × (mainSymbols ≤ length (now re)) × (mainSymbols ≤ length (now im)) × (frameWords ≤ length (now decisions)) × (frameSteps (p .table) ≤ length (now bits)) ⌝ }
+    ensures { λ r. ⌜ RunsRead (p .table) (received (now (re .entry)) (now (im .entry)) m scale) (now (pm .entry)) (now (decisions .entry)) (now (bits .entry)) r (now (pm .exit)) (now (decisions .exit)) (now (bits .exit)) ⌝ }
 {
-    let rs = runs(t);
-    let count = rs.count;
-    let list = rs.runs;
+    let count = p.count;
+    let list = p.runs;
     let mut at = At { held: 0, count: 0 };
     let mut step: usize = 0;
     for i in 0..count {
@@ -141,7 +159,7 @@ fn read_runs(
 
 // The end of a frame: the maximum is subtracted, the 16 bits of W1 follow as known bits, all held bits leave, and the words become 0.
 fn read_end(pm: &mut [f32; 64], at: At, decisions: &mut [u64], bits: &mut [u8])
-    requires { ⌜ (at .held < 4224) × (4224 ≤ length (now decisions)) × (at .held + at .count + 16 ≤ length (now bits)) ⌝ }
+    requires { ⌜ (at .held < frameWords) × (frameWords ≤ length (now decisions)) × (at .held + at .count + 16 ≤ length (now bits)) ⌝ }
     ensures { λ _. ⌜ Ended (now (pm .entry)) at (now (decisions .entry)) (now (bits .entry)) (now (decisions .exit)) (now (bits .exit)) ⌝ }
 {
     renormalise(pm);
@@ -264,7 +282,7 @@ fn pack_run(
 
 // The bytes of a frame from its decoded bits, which are encoded again from the start state for C2.
 fn write_bytes(
-    t: Table,
+    p: Plan,
     m: Mapping,
     start: u8,
     re: &[f64],
@@ -272,12 +290,11 @@ fn write_bytes(
     bits: &[u8],
     bytes: &mut [u8],
 )
-    requires { ⌜ (start < 64) × TableAccepted t × (38976 ≤ length (now re)) × (38976 ≤ length (now im)) × (frameSteps t ≤ length (now bits)) × Bits (now bits) (frameSteps t) × (loadBytes t ≤ length (now bytes)) ⌝ }
-    ensures { λ _. ⌜ ((scale : Float) → now (bytes .exit) ≡ laid (upto (byteAt t (received (now (re .entry)) (now (im .entry)) m scale) start (now (bits .entry))) (loadBytes t)) (now (bytes .entry))) ⌝ }
+    requires { ⌜ (start < 64) × Planned p × (mainSymbols ≤ length (now re)) × (mainSymbols ≤ length (now im)) × (frameSteps (p .table) ≤ length (now bits)) × Bits (now bits) (frameSteps (p .table)) × (loadBytes (p .table) ≤ length (now bytes)) ⌝ }
+    ensures { λ _. ⌜ ((scale : Float) → now (bytes .exit) ≡ laid (upto (byteAt (p .table) (received (now (re .entry)) (now (im .entry)) m scale) start (now (bits .entry))) (loadBytes (p .table))) (now (bytes .entry))) ⌝ }
 {
-    let rs = runs(t);
-    let count = rs.count;
-    let list = rs.runs;
+    let count = p.count;
+    let list = p.runs;
     let mut state = start;
     let mut step: usize = 0;
     let mut done: usize = 0;
@@ -285,7 +302,7 @@ fn write_bytes(
         let r = list[i];
         let c = r.combination;
         let from = r.symbol_start;
-        let n = 203 * r.valid_slots;
+        let n = SLOT_BYTES * r.valid_slots;
         state = pack_run(
             c,
             m,
@@ -303,7 +320,7 @@ fn write_bytes(
 
 // The decoded bits of a frame: one for each step, then the 16 of W1. The path values start as `start`.
 fn decode_bits(
-    t: Table,
+    p: Plan,
     m: Mapping,
     scale: f32,
     start: [f32; 64],
@@ -312,11 +329,11 @@ fn decode_bits(
     decisions: &mut [u64],
     bits: &mut [u8],
 )
-    requires { ⌜ TableAccepted t × (38976 ≤ length (now re)) × (38976 ≤ length (now im)) × (4224 ≤ length (now decisions)) × (frameSteps t + 16 ≤ length (now bits)) ⌝ }
-    ensures { λ _. ⌜ (now (bits .exit) ≡ laid (bitsFrom t (received (now (re .entry)) (now (im .entry)) m scale) start) (now (bits .entry))) × (now (decisions .exit) ≡ laid (replicate 4224 0) (now (decisions .entry))) ⌝ }
+    requires { ⌜ Planned p × (mainSymbols ≤ length (now re)) × (mainSymbols ≤ length (now im)) × (frameWords ≤ length (now decisions)) × (frameSteps (p .table) + 16 ≤ length (now bits)) ⌝ }
+    ensures { λ _. ⌜ (now (bits .exit) ≡ laid (bitsFrom (p .table) (received (now (re .entry)) (now (im .entry)) m scale) start) (now (bits .entry))) × (now (decisions .exit) ≡ laid (replicate frameWords 0) (now (decisions .entry))) ⌝ }
 {
     let mut pm = start;
-    let at = read_runs(t, m, scale, &mut pm, re, im, decisions, bits);
+    let at = read_runs(p, m, scale, &mut pm, re, im, decisions, bits);
     read_end(&mut pm, at, decisions, bits);
 }
 
@@ -333,49 +350,22 @@ fn start_values(known_start: bool, state: u8) -> [f32; 64]
 
 // A whole frame: its decoded bits, and its bytes.
 pub fn decode(
-    t: Table,
+    p: Plan,
     first: bool,
     o: DemodOptions,
     re: &[f64],
     im: &[f64],
-    steps: usize,
     decisions: &mut [u64],
     bits: &mut [u8],
     bytes: &mut [u8],
 )
-    requires { ⌜ (steps ≡ frameSteps t) × TableAccepted t × (38976 ≤ length (now re)) × (38976 ≤ length (now im)) × (4224 ≤ length (now decisions)) × (frameSteps t + 16 ≤ length (now bits)) × (loadBytes t ≤ length (now bytes)) ⌝ }
-    ensures { λ _. ⌜ FrameRead t (received (now (re .entry)) (now (im .entry)) (o .mapping) (o .«llr_scale»)) (o .«known_start») first (now (decisions .entry)) (now (decisions .exit)) (now (bits .entry)) (now (bits .exit)) (now (bytes .entry)) (now (bytes .exit)) ⌝ }
+    requires { ⌜ Planned p × (mainSymbols ≤ length (now re)) × (mainSymbols ≤ length (now im)) × (frameWords ≤ length (now decisions)) × (frameSteps (p .table) + 16 ≤ length (now bits)) × (loadBytes (p .table) ≤ length (now bytes)) ⌝ }
+    ensures { λ _. ⌜ FrameRead (p .table) (received (now (re .entry)) (now (im .entry)) (o .mapping) (o .«llr_scale»)) (o .«known_start») first (now (decisions .entry)) (now (decisions .exit)) (now (bits .entry)) (now (bits .exit)) (now (bytes .entry)) (now (bytes .exit)) ⌝ }
 {
     let state = start_state(first);
     let m = o.mapping;
     let start = start_values(o.known_start, state);
-    decode_bits(t, m, o.llr_scale, start, re, im, decisions, bits);
-    let end = steps + 16;
-    write_bytes(t, m, state, re, im, &bits[0..end], bytes);
-}
-
-// The bytes and the trellis steps of a frame.
-pub struct Size {
-    pub bytes: usize,
-    pub steps: usize,
-}
-
-pub fn frame_size(t: Table) -> Size
-    requires { ⌜ TableAccepted t ⌝ }
-    ensures { λ r. ⌜ (r .bytes ≡ loadBytes t) × (r .steps ≡ frameSteps t) ⌝ }
-{
-    let rs = runs(t);
-    let count = rs.count;
-    let list = rs.runs;
-    let valid = rs.valid_slots;
-    let mut steps: usize = 0;
-    for i in 0..count {
-        let r = list[i];
-        let c = r.combination;
-        steps = steps + c.steps_per_slot() * r.valid_slots;
-    }
-    Size {
-        bytes: 203 * valid,
-        steps,
-    }
+    decode_bits(p, m, o.llr_scale, start, re, im, decisions, bits);
+    let end = p.steps + 16;
+    write_bytes(p, m, state, re, im, &bits[0..end], bytes);
 }

@@ -12,13 +12,12 @@ use Rattle.trellis.specs.Lists.{upto, laid}
 use Rattle.isdbs_core.specs.declared.combination.MaybeCombination.{MaybeCombination}
 use Rattle.isdbs_core.specs.declared.combination.MaybeCombination.the-variants.{Some, None}
 use Rattle.isdbs_core.specs.declared.slots.Run.{Run}
-use Rattle.isdbs_core.specs.declared.slots.FrameRuns.{FrameRuns}
+use Rattle.isdbs_core.specs.declared.slots.Plan.{Plan}
 use Rattle.isdbs_core.specs.declared.tmcc.Entry.{Entry}
 use Rattle.isdbs_core.specs.declared.tmcc.Table.{Table}
 use Rattle.isdbs_core.specs.Lists.{Each, padded}
-use Rattle.refusal.specs.Rows.{accepted}
-use Rattle.isdbs_core.specs.Tables.{tableAnswer, TableAccepted, entryCombination}
-use Rattle.isdbs_core.specs.RunsOf.{runsFrom, runsOf, entryRuns, entrySymbols, fourRuns, noRun, RunFits}
+use Rattle.isdbs_core.specs.Tables.{TableAccepted, entryCombination}
+use Rattle.isdbs_core.specs.RunsOf.{runsOf, planOf, noRun, RunFits}
 use Rattle.isdbs_core.specs.TableLaws.{sum-fits, table-laid}
 use Rattle.isdbs_points.specs.declared.Cplx.{Cplx}
 use Rattle.isdbs_points.specs.declared.Mapping.{Mapping}
@@ -38,8 +37,8 @@ each-at P [] d i e h = absurd (not-suc-le-zero h)
 each-at P (x ∷ l) d zero e h = e .0
 each-at P (x ∷ l) d (suc i) e h = each-at P l d i (e .1) (omega arith)
 
-pub tiled : (t : Table) → TableAccepted t → Tiled (runsOf t)
-tiled t a =
+pub table-tiled : (t : Table) → TableAccepted t → Tiled (runsOf t)
+table-tiled t a =
     let es = t .entries in
     let segs = segmentsFrom (runsOf t) 0 0 in
     let f = fill-symbols es 0 0 0 0 in
@@ -51,34 +50,13 @@ tiled t a =
       fits = omega (arith, e, symbol-sum-few es, sum-fits t a);
     }
 
-entry-runs-few : (c : MaybeCombination) (n slot symbol : ℕ) (rs : List Run) → length (entryRuns c n slot symbol ++ rs) ≤ suc (length rs)
-entry-runs-few (Some c) n slot symbol rs = omega arith
-entry-runs-few None n slot symbol rs = omega arith
+-- ---- the plan of a table
+module _ (t : Table) (r : Plan) (e : r ≡ planOf t) where
+  pub runs-count : r .count ≡ length (runsOf t)
+  runs-count = rw e
 
-runs-few : (es : List Entry) (slot symbol : ℕ) → length (runsFrom es slot symbol) ≤ length es
-unfolding runsFrom
-runs-few [] slot symbol = omega arith
-runs-few (e ∷ es) slot symbol =
-    let k = entrySymbols (entryCombination e) (e .slots) in
-    omega (arith, entry-runs-few (entryCombination e) (e .slots) slot symbol (runsFrom es (slot + e .slots) (symbol + k)), runs-few es (slot + e .slots) (symbol + k))
-
--- ---- what `runs` answers for an accepted table
-module _ (t : Table) (a : TableAccepted t) where
-  pub accepts : accepted (tableAnswer t) ≡ true
-  accepts = rw a
-
-  pub table-tiled : Tiled (runsOf t)
-  table-tiled = tiled t a
-
-  module _ (r : FrameRuns) (e : r ≡ fourRuns t) where
-    pub runs-count : r .count ≡ length (runsOf t)
-    runs-count = rw (e, accepts)
-
-    pub runs-front : take (r .count) (r .runs) ≡ runsOf t
-    runs-front = rw (e, accepts) (take-append-seam (runsOf t) (replicate (4 - length (runsOf t)) noRun))
-
-    pub runs-four : length (t .entries) ≡ 4 → r .count ≤ 4
-    runs-four h = omega (arith, runs-count, runs-few (t .entries) 0 0)
+  pub runs-front : take (r .count) (r .runs) ≡ runsOf t
+  runs-front = rw e (take-append-seam (runsOf t) (replicate (4 - length (runsOf t)) noRun))
 
 -- ---- the whole frame
 module _ (t : Table) (m : Mapping) (load : List ℕ) (s : ℕ) (tl : Tiled (runsOf t)) where

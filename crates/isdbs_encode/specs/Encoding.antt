@@ -8,6 +8,7 @@ use Rattle.trellis.specs.Lists.{upto, laid}
 use Rattle.trellis.specs.Code.{stateAt}
 use Rattle.isdbs_core.specs.declared.slots.Run.{Run}
 use Rattle.isdbs_core.specs.declared.tmcc.Table.{Table}
+use Rattle.isdbs_core.specs.Frame.{mainSymbols}
 use Rattle.isdbs_core.specs.RunsOf.{stepsIn, noRun}
 use Rattle.isdbs_points.specs.declared.Cplx.{Cplx}
 use Rattle.isdbs_points.specs.declared.Mapping.{Mapping}
@@ -40,7 +41,7 @@ pub record Tiled (rs : List Run) : Type 0 where
   pub fill : Fill (λ g. g .symbol) (λ g. g .symbols) (segmentsFrom rs 0 0) 0 (symbolsOf rs)
   pub whole : (g : Segment) → In g (segmentsFrom rs 0 0) → Whole g
   pub ordered : (i : ℕ) → i < length rs → getD rs i noRun .«symbol_start» ≤ getD rs i noRun .«symbol_end»
-  pub fits : symbolsOf rs ≤ 38976
+  pub fits : symbolsOf rs ≤ mainSymbols
 
 -- what encoding the runs leaves
 pub record RunsMade (rs : List Run) (m : Mapping) (load : List ℕ) (s : ℕ) (r : RunsEncoded) (re₀ re im₀ im : List Float) : Type 0 where

@@ -3,9 +3,10 @@ use isdb_fec::conv::encode_bit;
 use isdbs_core::combination::Combination;
 use isdbs_core::combination::MaybePuncture;
 use isdbs_core::combination::Modulation;
+use isdbs_core::frame::MAIN_SYMBOLS;
 use isdbs_core::slots::Run;
 use isdbs_core::slots::SLOT_BITS;
-use isdbs_core::slots::runs;
+use isdbs_core::slots::plan_of;
 use isdbs_core::tmcc::Table;
 use isdbs_points::Mapping;
 use isdbs_points::mirror;
@@ -21,6 +22,7 @@ ghost use Rattle.trellis.specs.Lists.{upto, laid};
 ghost use Rattle.trellis.specs.Code.{isdb, label, moved};
 ghost use Rattle.isdbs_core.specs.declared.combination.Combination.the-variants.{«Bpsk1_2», «Tc8psk2_3»};
 ghost use Rattle.isdbs_core.specs.declared.combination.Modulation.the-variants.{Qpsk};
+ghost use Rattle.isdbs_core.specs.Frame.{mainSymbols};
 ghost use Rattle.isdbs_core.specs.Combinations.{modulationOf, punctureOf};
 ghost use Rattle.isdbs_core.specs.Tables.{TableAccepted};
 ghost use Rattle.isdbs_points.specs.Points.{zero64, turned};
@@ -29,9 +31,6 @@ ghost use Rattle.isdbs_points.specs.Frame.{endState};
 ghost use Rattle.isdbs_encode.specs.Encoding.{FrameLaid, Tiled, RunsMade};
 ghost use Rattle.isdbs_points.specs.Pieces.{pieceSymbols};
 ghost use Rattle.isdbs_encode.specs.Encoded.{PieceEncoded, byteBit, ByteEncoded, TableOf, qpskLabel, psk8Label, PeriodEncoded, PatternOf, AtMost, motherBit, pairLabel};
-
-// Main-signal symbols of a frame.
-const MAIN: usize = 38_976;
 
 // Byte `at` of the load; missing bytes are 0.
 fn load_byte(bytes: &[u8], at: usize) -> u8
@@ -391,7 +390,7 @@ fn encode_runs(
     re: &mut [f64],
     im: &mut [f64],
 ) -> RunsEncoded
-    requires { ⌜ (count ≤ 4) × (length (take count list) ≡ count) × Tiled (take count list) × (start < 64) × (38976 ≤ length (now re)) × (38976 ≤ length (now im)) ⌝ }
+    requires { ⌜ (count ≤ 4) × (length (take count list) ≡ count) × Tiled (take count list) × (start < 64) × (mainSymbols ≤ length (now re)) × (mainSymbols ≤ length (now im)) ⌝ }
     ensures { λ r. ⌜ RunsMade (take count list) m (now (bytes .entry)) start r (now (re .entry)) (now (re .exit)) (now (im .entry)) (now (im .exit)) ⌝ }
 {
     let mut state = start;
@@ -430,14 +429,14 @@ pub fn encode_main(
     re: &mut [f64],
     im: &mut [f64],
 ) -> u8
-    requires { ⌜ TableAccepted t × (start < 64) × (38976 ≤ length (now re)) × (38976 ≤ length (now im)) ⌝ }
+    requires { ⌜ TableAccepted t × (start < 64) × (mainSymbols ≤ length (now re)) × (mainSymbols ≤ length (now im)) ⌝ }
     ensures state { λ r. ⌜ r ≡ endState t (now (bytes .entry)) start ⌝ }
     ensures frame { λ _. ⌜ FrameLaid t m (now (bytes .entry)) start (now (re .entry)) (now (re .exit)) (now (im .entry)) (now (im .exit)) ⌝ }
 {
-    let all = runs(t);
-    let list = all.runs;
-    let made = encode_runs(bytes, list, all.count, start, m, re, im);
+    let p = plan_of(t);
+    let list = p.runs;
+    let made = encode_runs(bytes, list, p.count, start, m, re, im);
     let end = made.end;
-    put_unused(MAIN - end, m, &mut re[end..], &mut im[end..]);
+    put_unused(MAIN_SYMBOLS - end, m, &mut re[end..], &mut im[end..]);
     made.state
 }

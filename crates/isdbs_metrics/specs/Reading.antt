@@ -8,7 +8,7 @@ use lib.Ieee.{Float, nan, inf, fin, binary32, binary64, neg, add, sub, mul, lt, 
 use Rattle.trellis.specs.Lists.{upto, bit}
 use Rattle.trellis.specs.Code.{isdb, label}
 use Rattle.trellis.specs.Step.{four, known, lower}
-use Rattle.trellis.specs.Run.{Decoder, startAt, startUnknown, after, pushed, flushed}
+use Rattle.trellis.specs.Run.{Decoder, block, startAt, startUnknown, after, pushed, flushed}
 use Rattle.isdbs_core.specs.declared.combination.Combination.{Combination}
 use Rattle.isdbs_core.specs.declared.combination.Modulation.{Modulation}
 use Rattle.isdbs_core.specs.declared.combination.Modulation.the-variants.{Bpsk, Qpsk, Tc8psk}
@@ -94,12 +94,19 @@ metricsAt t r = atStep [] (metricsIn r) t
 abbrev pub startValues : Bool → Bool → List Float
 startValues knownStart first = cond knownStart (startAt 64 (startState first)) (startUnknown 64)
 
+-- the traceback of a frame, and the decision words that it needs: "4,096 + traceback"
+abbrev pub frameTraceback : ℕ
+frameTraceback = 128
+
+abbrev pub frameWords : ℕ
+frameWords = block + frameTraceback
+
 -- "all in one `push_metrics` with traceback 128; then the 16 bits of W1, high bit first, as known bits; then a flush"
 unfoldable pub decodedBits : Table → Received → Bool → Bool → List ℕ
 decodedBits t r knownStart first =
     let d0 : Decoder = record { values = startValues knownStart first; words = []; bits = [] } in
-    let d1 = pushed 32 (label isdb) lower 128 (λ k. four (metricsAt t r k)) d0 (frameSteps t) in
-    let d2 = after 32 (label isdb) lower 128 (λ k. known (wordBit 0x1b95 k)) d1 16 in
+    let d1 = pushed 32 (label isdb) lower frameTraceback (λ k. four (metricsAt t r k)) d0 (frameSteps t) in
+    let d2 = after 32 (label isdb) lower frameTraceback (λ k. known (wordBit 0x1b95 k)) d1 16 in
     flushed 32 (label isdb) lower d2 .bits
 
 -- ---- bytes

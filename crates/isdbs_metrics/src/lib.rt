@@ -10,7 +10,7 @@ use isdbs_soft::soft;
 ghost use mathlib.Core.Path.{_≡_};
 ghost use mathlib.Core.Bool.{cond};
 ghost use Prim.Native.Nat.{_+_, _*_, _/_, _<_, _≤_, _^_};
-ghost use lib.Dec.{eqb, ltb};
+ghost use lib.Dec.{ltb};
 ghost use lib.ListN.{length, getD};
 ghost use lib.Ieee.{nan, mul, binary32, ofBits};
 ghost use Rattle.trellis.specs.Step.{four};
@@ -90,24 +90,6 @@ pub fn code_of(c: Combination) -> Code
 pub struct Phase {
     pub q: usize,
     pub base: usize,
-}
-
-// The next step's.
-pub fn next_phase(p: Phase, period: usize, count: usize) -> Phase
-    requires { ⌜ (p .q < period) × (p .base + count < 2 ^ 32) ⌝ }
-    ensures { λ r. ⌜ (r .q ≡ cond (eqb (p .q + 1) period) 0 (p .q + 1)) × (r .base ≡ cond (eqb (p .q + 1) period) (p .base + count) (p .base)) ⌝ }
-{
-    if p.q + 1 == period {
-        Phase {
-            q: 0,
-            base: p.base + count,
-        }
-    } else {
-        Phase {
-            q: p.q + 1,
-            base: p.base,
-        }
-    }
 }
 
 // A soft value: the part as an f32, times the scale.

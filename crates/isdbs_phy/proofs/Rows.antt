@@ -18,7 +18,9 @@ use Rattle.refusal.specs.declared.Answer.the-variants.{Accepted, Table, Positio
 use Rattle.isdbs_phy.specs.declared.demod.FrameDecoded.the-variants.{Refused}
 use Rattle.isdbs_core.specs.declared.tmcc.Table as declared
 use Rattle.isdbs_core.specs.Tables.{slotSum}
+use Rattle.isdbs_core.specs.Frame.{mainSymbols}
 use Rattle.isdbs_core.specs.RunsOf.{frameSteps, loadBytes}
+use Rattle.isdbs_metrics.specs.Reading.{frameWords}
 use Rattle.isdbs_phy.specs.DecodeRows.{within, someBeyond, partLimit, badScale, shortSpace, decodeRows, frameAnswer}
 
 -- what `let Answer::Accepted = .. else` tells where it leaves
@@ -82,9 +84,9 @@ beyond-none limit xs i h e =
 -- what an accepted call may rest on
 pub record Passed (t : declared.Table) (re im : List Float) (decisions bits bytes : ℕ) : Type 0 where
   pub slots : slotSum (t .entries) ≤ 48
-  pub real : 38976 ≤ length re
-  pub imaginary : 38976 ≤ length im
-  pub words : 4224 ≤ decisions
+  pub real : mainSymbols ≤ length re
+  pub imaginary : mainSymbols ≤ length im
+  pub words : frameWords ≤ decisions
   pub places : frameSteps t + 16 ≤ bits
   pub room : loadBytes t ≤ bytes
 
@@ -99,15 +101,15 @@ five false false false false false h = (refl, refl, refl)
 pub passed : (t : declared.Table) (re im : List Float) (scale : Float) (decisions bits bytes : ℕ) → Accepted ≡ firstRow (decodeRows t re im scale decisions bits bytes)
     → Passed t re im decisions bits bytes
 passed t re im scale decisions bits bytes h =
-    let p = five (ltb 48 (slotSum (t .entries))) (ltb (length re) 38976 || ltb (length im) 38976) (someBeyond partLimit re 38976 || someBeyond partLimit im 38976) (badScale scale) (shortSpace t decisions bits bytes) h in
-    let s = neither (ltb (length re) 38976) (ltb (length im) 38976) (p .1) in
-    let q = neither (ltb decisions 4224) (ltb bits (frameSteps t + 16) || ltb bytes (loadBytes t)) (p .2) in
+    let p = five (ltb 48 (slotSum (t .entries))) (ltb (length re) mainSymbols || ltb (length im) mainSymbols) (someBeyond partLimit re mainSymbols || someBeyond partLimit im mainSymbols) (badScale scale) (shortSpace t decisions bits bytes) h in
+    let s = neither (ltb (length re) mainSymbols) (ltb (length im) mainSymbols) (p .1) in
+    let q = neither (ltb decisions frameWords) (ltb bits (frameSteps t + 16) || ltb bytes (loadBytes t)) (p .2) in
     let r = neither (ltb bits (frameSteps t + 16)) (ltb bytes (loadBytes t)) (q .1) in
     record {
       slots = ltb-false 48 (slotSum (t .entries)) (p .0);
-      real = ltb-false (length re) 38976 (s .0);
-      imaginary = ltb-false (length im) 38976 (s .1);
-      words = ltb-false decisions 4224 (q .0);
+      real = ltb-false (length re) mainSymbols (s .0);
+      imaginary = ltb-false (length im) mainSymbols (s .1);
+      words = ltb-false decisions frameWords (q .0);
       places = ltb-false bits (frameSteps t + 16) (r .0);
       room = ltb-false bytes (loadBytes t) (r .1);
     }

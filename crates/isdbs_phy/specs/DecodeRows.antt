@@ -14,7 +14,9 @@ use Rattle.isdbs_phy.specs.declared.demod.FrameDecoded.{FrameDecoded}
 use Rattle.isdbs_phy.specs.declared.demod.FrameDecoded.the-variants.{Decoded, Refused}
 use Rattle.isdbs_core.specs.declared.tmcc.Table.{Table}
 use Rattle.isdbs_core.specs.Tables.{tableRows}
+use Rattle.isdbs_core.specs.Frame.{mainSymbols}
 use Rattle.isdbs_core.specs.RunsOf.{frameSteps, loadBytes}
+use Rattle.isdbs_metrics.specs.Reading.{frameWords}
 
 -- from -limit to limit, both included; no comparison holds of a NaN
 abbrev pub within : Float → Float → Bool
@@ -30,19 +32,22 @@ abbrev pub partLimit : Float
 partLimit = ofBits binary64 0x4090_0000_0000_0000
 
 -- 8: "not above 0, or above 64"
+abbrev pub scaleLimit : Float
+scaleLimit = ofBits binary32 0x4280_0000
+
 abbrev pub badScale : Float → Bool
-badScale s = not (lt (ofBits binary32 0) s) || lt (ofBits binary32 0x4280_0000) s
+badScale s = not (lt (ofBits binary32 0) s) || lt scaleLimit s
 
 -- 9: "a lent output or decision slice shorter than this call writes; decisions always need 4,096 + traceback"
 abbrev pub shortSpace : Table → ℕ → ℕ → ℕ → Bool
-shortSpace t decisions bits bytes = ltb decisions 4224 || (ltb bits (frameSteps t + 16) || ltb bytes (loadBytes t))
+shortSpace t decisions bits bytes = ltb decisions frameWords || (ltb bits (frameSteps t + 16) || ltb bytes (loadBytes t))
 
 -- the rows of `decode_frame`, over the lengths of the lent outputs
 abbrev pub decodeRows : Table → List Float → List Float → Float → ℕ → ℕ → ℕ → List Row
 decodeRows t re im scale decisions bits bytes =
     tableRows t
-    ++ (Symbols, ltb (length re) 38976 || ltb (length im) 38976)
-    ∷ (Sample, someBeyond partLimit re 38976 || someBeyond partLimit im 38976)
+    ++ (Symbols, ltb (length re) mainSymbols || ltb (length im) mainSymbols)
+    ∷ (Sample, someBeyond partLimit re mainSymbols || someBeyond partLimit im mainSymbols)
     ∷ (Scale, badScale scale)
     ∷ (Space, shortSpace t decisions bits bytes)
     ∷ []

@@ -8,12 +8,13 @@ use lib.Ieee.{Float}
 use Rattle.refusal.specs.declared.Answer.the-variants.{State, Space}
 use Rattle.refusal.specs.Rows.{Row}
 use Rattle.isdbs_core.specs.declared.tmcc.Table.{Table}
+use Rattle.isdbs_core.specs.Frame.{mainSymbols}
 use Rattle.isdbs_core.specs.Lists.{either}
 use Rattle.isdbs_core.specs.Tables.{tableRows}
 
 -- refusal 9: "a lent output .. shorter than this call writes": 38,976 points, in parts of a and b elements
 abbrev pub shortParts : ℕ → ℕ → Bool
-shortParts a b = either (ltb a 38976) (ltb b 38976)
+shortParts a b = either (ltb a mainSymbols) (ltb b mainSymbols)
 
 -- the rows of `encode_frame`: 1 and 9
 abbrev pub encodeFrameRows : Table → ℕ → ℕ → List Row

@@ -1,7 +1,9 @@
 // The rows of `decode_frame`, in the order of the table.
-use isdbs_core::tmcc::Table;
+use isdbs_core::frame::MAIN_SYMBOLS;
+use isdbs_core::slots::Plan;
 use isdbs_core::tmcc::table_answer;
-use isdbs_decode::frame_size;
+use isdbs_decode::WORDS;
+use isdbs_points::PART_LIMIT;
 use refusal::Answer;
 ghost use mathlib.Core.Path.{_≡_};
 ghost use mathlib.Core.Bool.{cond, not, _||_};
@@ -9,15 +11,12 @@ ghost use Prim.Native.Nat.{_≤_};
 ghost use lib.Dec.{ltb};
 ghost use lib.ListN.{length};
 ghost use Rattle.refusal.specs.Rows.{firstRow};
-ghost use Rattle.isdbs_core.specs.Tables.{slotSum};
+ghost use Rattle.isdbs_core.specs.Frame.{mainSymbols};
+ghost use Rattle.isdbs_core.specs.RunsOf.{planOf, Planned};
 ghost use Rattle.isdbs_phy.specs.DecodeRows.{within, someBeyond, partLimit, badScale, shortSpace, decodeRows};
 
-// Main-signal symbols of a frame.
-const MAIN: usize = 38_976;
-// The greatest part of a point that is taken.
-const LIMIT: f64 = 1024.0;
-// The decision words that a frame needs.
-const WORDS: usize = 4224;
+// The greatest scale that is taken.
+pub const SCALE_LIMIT: f32 = 64.0;
 
 // Whether a value is not a number or beyond the limit.
 fn beyond(x: f64, limit: f64) -> bool
@@ -43,12 +42,12 @@ fn some_beyond(xs: &[f64], n: usize, limit: f64) -> bool
     false
 }
 
-// Whether a scale is not above 0, or above 64.
+// Whether a scale is not above 0, or above the limit.
 fn bad_scale(s: f32) -> bool
     ensures { λ r. ⌜ r ≡ badScale s ⌝ }
 {
     if s > 0.0 {
-        if s > 64.0 { true } else { false }
+        if s > SCALE_LIMIT { true } else { false }
     } else {
         true
     }
@@ -56,44 +55,43 @@ fn bad_scale(s: f32) -> bool
 
 // Rows 6 and 7.
 fn points_answer(re: &[f64], im: &[f64]) -> Answer
-    ensures { λ r. ⌜ r ≡ cond (ltb (length (now (re .entry))) 38976 || ltb (length (now (im .entry))) 38976) Answer.Symbols (cond (someBeyond partLimit (now (re .entry)) 38976 || someBeyond partLimit (now (im .entry)) 38976) Answer.Sample Answer.Accepted) ⌝ }
+    ensures { λ r. ⌜ r ≡ cond (ltb (length (now (re .entry))) mainSymbols || ltb (length (now (im .entry))) mainSymbols) Answer.Symbols (cond (someBeyond partLimit (now (re .entry)) mainSymbols || someBeyond partLimit (now (im .entry)) mainSymbols) Answer.Sample Answer.Accepted) ⌝ }
 {
-    if re.len() < MAIN {
+    if re.len() < MAIN_SYMBOLS {
         return Answer::Symbols;
     }
-    if im.len() < MAIN {
+    if im.len() < MAIN_SYMBOLS {
         return Answer::Symbols;
     }
-    if some_beyond(re, MAIN, LIMIT) {
+    if some_beyond(re, MAIN_SYMBOLS, PART_LIMIT) {
         return Answer::Sample;
     }
-    if some_beyond(im, MAIN, LIMIT) {
+    if some_beyond(im, MAIN_SYMBOLS, PART_LIMIT) {
         return Answer::Sample;
     }
     Answer::Accepted
 }
 
 // Row 9.
-fn space_answer(t: Table, decisions: usize, bits: usize, bytes: usize) -> Answer
-    requires { ⌜ slotSum (t .entries) ≤ 48 ⌝ }
-    ensures { λ r. ⌜ r ≡ cond (shortSpace t decisions bits bytes) Answer.Space Answer.Accepted ⌝ }
+fn space_answer(p: Plan, decisions: usize, bits: usize, bytes: usize) -> Answer
+    requires { ⌜ Planned p ⌝ }
+    ensures { λ r. ⌜ r ≡ cond (shortSpace (p .table) decisions bits bytes) Answer.Space Answer.Accepted ⌝ }
 {
     if decisions < WORDS {
         return Answer::Space;
     }
-    let size = frame_size(t);
-    if bits < size.steps + 16 {
+    if bits < p.steps + 16 {
         return Answer::Space;
     }
-    if bytes < size.bytes {
+    if bytes < p.bytes {
         return Answer::Space;
     }
     Answer::Accepted
 }
 
 // The answer of `decode_frame`, over the lengths of the lent outputs.
-pub fn decode_answer(
-    t: Table,
+pub(crate) fn decode_answer(
+    p: Plan,
     re: &[f64],
     im: &[f64],
     scale: f32,
@@ -101,9 +99,10 @@ pub fn decode_answer(
     bits: usize,
     bytes: usize,
 ) -> Answer
-    ensures { λ r. ⌜ r ≡ firstRow (decodeRows t (now (re .entry)) (now (im .entry)) scale decisions bits bytes) ⌝ }
+    requires { ⌜ (p ≡ planOf (p .table)) × (p .count ≤ 4) ⌝ }
+    ensures { λ r. ⌜ r ≡ firstRow (decodeRows (p .table) (now (re .entry)) (now (im .entry)) scale decisions bits bytes) ⌝ }
 {
-    let table = table_answer(t);
+    let table = table_answer(p.table);
     let Answer::Accepted = table else {
         return table;
     };
@@ -114,5 +113,5 @@ pub fn decode_answer(
     if bad_scale(scale) {
         return Answer::Scale;
     }
-    space_answer(t, decisions, bits, bytes)
+    space_answer(p, decisions, bits, bytes)
 }

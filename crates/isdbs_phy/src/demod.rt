@@ -14,15 +14,18 @@
 // metrics for each coded bit, then the 16 bits of the next frame's W1, which it knows, and puts out all bits. For each (C1, C0) the two points of TC8PSK
 // lie opposite each other: the metric is the magnitude of the correlation with the one of C2 = 0, and C2 is read from its sign once the bits are known,
 // which are encoded again for it.
+pub use crate::answers::SCALE_LIMIT;
 use crate::answers::decode_answer;
 use isdb_fec::conv::ConvEncoder;
+use isdbs_core::frame::MAIN_SYMBOLS;
+use isdbs_core::slots::plan_of;
 use isdbs_core::tmcc::Table;
 use isdbs_core::tmcc::table_answer;
 pub use isdbs_decode::DemodOptions;
 use isdbs_decode::decode;
-use isdbs_decode::frame_size;
 use isdbs_encode::encode_main;
 pub use isdbs_points::Mapping;
+pub use isdbs_points::PART_LIMIT;
 pub use isdbs_points::psk8_point;
 pub use isdbs_points::qpsk_point;
 pub use isdbs_points::start_state;
@@ -39,9 +42,6 @@ ghost use Rattle.isdbs_phy.specs.EncodeRows.{encodeRows, encodeFrameRows
 ghost use Rattle.isdbs_metrics.specs.Steps.{received};
 ghost use Rattle.isdbs_decode.specs.Runs.{FrameRead};
 
-// Main-signal symbols of a frame.
-const MAIN: usize = 38_976;
-
 // Whether encoding is turned back: the parts have a and b elements.
 fn encode_answer(t: Table, state: u8, a: usize, b: usize) -> Answer
     ensures { λ r. ⌜ r ≡ firstRow (encodeRows t state a b) ⌝ }
@@ -53,10 +53,10 @@ fn encode_answer(t: Table, state: u8, a: usize, b: usize) -> Answer
     if state > 63 {
         return Answer::State;
     }
-    if a < MAIN {
+    if a < MAIN_SYMBOLS {
         return Answer::Space;
     }
-    if b < MAIN {
+    if b < MAIN_SYMBOLS {
         return Answer::Space;
     }
     Answer::Accepted
@@ -136,8 +136,9 @@ pub fn decode_frame(
         (FrameRead t (received (now (re .entry)) (now (im .entry)) (o .mapping) (o .«llr_scale»)) (o .«known_start») first (now (decisions .entry)) (now (decisions .exit)) (now (bits .entry)) (now (bits .exit)) (now (bytes .entry)) (now (bytes .exit)))
         (Kept (now (decisions .entry)) (now (decisions .exit)) (now (bits .entry)) (now (bits .exit)) (now (bytes .entry)) (now (bytes .exit))) ⌝ }
 {
+    let p = plan_of(t);
     let answer = decode_answer(
-        t,
+        p,
         re,
         im,
         o.llr_scale,
@@ -148,7 +149,6 @@ pub fn decode_frame(
     let Answer::Accepted = answer else {
         return FrameDecoded::Refused(answer);
     };
-    let size = frame_size(t);
-    decode(t, first, o, re, im, size.steps, decisions, bits, bytes);
-    FrameDecoded::Decoded(size.bytes, size.steps)
+    decode(p, first, o, re, im, decisions, bits, bytes);
+    FrameDecoded::Decoded(p.bytes, p.steps)
 }

@@ -10,6 +10,7 @@ use Rattle.trellis.specs.Code.{isdb, label, stateAt}
 use Rattle.isdbs_core.specs.declared.combination.Modulation.{Modulation}
 use Rattle.isdbs_core.specs.declared.combination.Modulation.the-variants.{Bpsk, Qpsk, Tc8psk}
 use Rattle.isdbs_core.specs.declared.tmcc.Table.{Table}
+use Rattle.isdbs_core.specs.Frame.{mainSymbols}
 use Rattle.isdbs_core.specs.Combinations.{modulationOf}
 use Rattle.isdbs_core.specs.RunsOf.{frameSteps}
 use Rattle.isdbs_points.specs.declared.Cplx.{Cplx}
@@ -64,10 +65,10 @@ pointAt t m load s k =
 
 -- the real and the imaginary parts of its 38,976 points
 abbrev pub frameRe : Table → Mapping → List ℕ → ℕ → List Float
-frameRe t m load s = upto (λ k. pointAt t m load s k .re) 38976
+frameRe t m load s = upto (λ k. pointAt t m load s k .re) mainSymbols
 
 abbrev pub frameIm : Table → Mapping → List ℕ → ℕ → List Float
-frameIm t m load s = upto (λ k. pointAt t m load s k .im) 38976
+frameIm t m load s = upto (λ k. pointAt t m load s k .im) mainSymbols
 
 -- the encoder's state after the frame's last bit
 abbrev pub endState : Table → List ℕ → ℕ → ℕ

@@ -12,6 +12,7 @@ use Rattle.isdbs_core.specs.declared.combination.MaybeCombination.the-variants.
 use Rattle.isdbs_core.specs.declared.tmcc.Entry.{Entry}
 use Rattle.isdbs_core.specs.declared.tmcc.Table.{Table}
 use Rattle.isdbs_core.specs.declared.slots.Run.{Run}
+use Rattle.isdbs_core.specs.Frame.{mainSymbols}
 use Rattle.isdbs_core.specs.Combinations.{unitOf, slotSteps}
 use Rattle.isdbs_core.specs.Tables.{slotSum, entryCombination, TableAccepted}
 use Rattle.isdbs_core.specs.TableLaws.{sum-fits}
@@ -142,7 +143,7 @@ module _ (t : Table) where
   pub few-steps : TableAccepted t → frameSteps t ≤ 68208
   few-steps a = omega (arith, sum-fits t a, step-sum-few (t .entries) 0 0)
 
-  pub symbol-fits : TableAccepted t → (g : Segment) → In g (segments t) → (j : ℕ) → j < g .symbols → g .symbol + j < 38976
+  pub symbol-fits : TableAccepted t → (g : Segment) → In g (segments t) → (j : ℕ) → j < g .symbols → g .symbol + j < mainSymbols
   symbol-fits a g m j l =
       omega (arith, sum-fits t a, symbol-sum-few (t .entries), fill-member (λ g. g .symbol) (λ g. g .symbols) g (segments t) 0 (symbolSum (t .entries)) m table-symbols .1)
 

@@ -6,6 +6,7 @@ use Rattle.isdbs_metrics.specs.Steps.{received}
 use Rattle.isdbs_metrics.specs.Reading.{startValues, bytesFrom, decodedBits}
 use Rattle.trellis.specs.Run.{startAt, startUnknown}
 use Rattle.trellis.specs.Lists.{laid}
+use Rattle.isdbs_core.specs.declared.slots.Plan.{Plan}
 use lib.Ieee.{Float}
 use lib.ListN.{take}
 use native.Mathlib.Omega.{arith}
@@ -27,7 +28,11 @@ decode-bits-requires : tie.Need-decode-bits-requires
 decode-bits-requires c κs = search needs
 
 add-end : tie.Need-add-end
-add-end c = search needs
+add-end c =
+    let st = c .before .before .before .before .before .before .before .before .before .before .before .before .before .before .before .before in
+    let ps = ap (λ (z : Plan). z .steps) (st .pre .0 .is) in
+    let r = st .pre .4 in
+    record { fits = omega arith }
 
 sub-write-bytes : tie.Need-sub-write-bytes
 sub-write-bytes c = search needs
@@ -36,23 +41,26 @@ part-write-bytes-start : tie.Need-part-write-bytes-start
 part-write-bytes-start c = search needs
 
 part-write-bytes-end : tie.Need-part-write-bytes-end
-part-write-bytes-end c = search needs
+part-write-bytes-end c =
+    let st = c .before .before .before .before .before .before .before .before .before .before .before .before .before .before .before .before .before in
+    let ps = ap (λ (z : Plan). z .steps) (st .pre .0 .is) in
+    search needs
 
 write-bytes-requires : tie.Need-write-bytes-requires
 write-bytes-requires c κs =
-    let st = c .before .before .before .before .before .before .before .before .before .before .before .before .before .before .before .before .before .before in
+    let st = c .before .before .before .before .before .before .before .before .before .before .before .before .before .before .before .before .before .before .before in
     let rx = received (st .args .re .now) (st .args .im .now) (st .args .o .mapping) (st .args .o .«llr_scale») in
-    let pm = c .before .before .before .before .before .before .before .before .before .before .start-values .result in
-    let db = c .before .before .before .before .before .before .before .decode-bits in
-    let n = from-count (st .args .t) rx pm in
-    let ps = st .pre .0 in
-    let front : take (st .args .steps + 16 - 0) (db .last .1 .1 .1 .1 .1 .1 .1 .0) ≡ bitsFrom (st .args .t) rx pm = front-is _ (bitsFrom (st .args .t) rx pm) (st .args .bits .now) (st .args .steps + 16 - 0) (db .ensures .0) (omega arith) in (
-      c .before .before .before .before .before .before .before .before .before .before .before .before .start-state .ensures .1,
+    let pm = c .before .before .before .before .before .before .before .before .before .before .before .start-values .result in
+    let db = c .before .before .before .before .before .before .before .before .decode-bits in
+    let n = from-count (st .args .p .table) rx pm in
+    let ps = ap (λ (z : Plan). z .steps) (st .pre .0 .is) in
+    let front : take (st .args .p .steps + 16 - 0) (db .last .1 .1 .1 .1 .1 .1 .1 .0) ≡ bitsFrom (st .args .p .table) rx pm = front-is _ (bitsFrom (st .args .p .table) rx pm) (st .args .bits .now) (st .args .p .steps + 16 - 0) (db .ensures .0) (omega arith) in (
+      c .before .before .before .before .before .before .before .before .before .before .before .before .before .start-state .ensures .1,
+      st .pre .0,
       st .pre .1,
       st .pre .2,
-      st .pre .3,
       rw front (omega arith),
-      λ i l. rw front (binary-at (bitsFrom (st .args .t) rx pm) (from-binary (st .args .t) rx pm) i (omega arith)),
+      λ i l. rw front (binary-at (bitsFrom (st .args .p .table) rx pm) (from-binary (st .args .p .table) rx pm) i (omega arith)),
       search needs,
     )
 
@@ -68,17 +76,17 @@ same-length-3 c = search needs
 returns : tie.Need-returns
 unfolding bytesFrom
 returns c =
-    let st = c .before .before .before .before .before .before .before .before .before .before .before .before .before .before .before .before .before .before .before .before .before in
+    let st = c .before .before .before .before .before .before .before .before .before .before .before .before .before .before .before .before .before .before .before .before .before .before in
     let rx = received (st .args .re .now) (st .args .im .now) (st .args .o .mapping) (st .args .o .«llr_scale») in
-    let pm = c .before .before .before .before .before .before .before .before .before .before .before .before .before .start-values .result in
-    let db = c .before .before .before .before .before .before .before .before .before .before .decode-bits in
-    let n = from-count (st .args .t) rx pm in
-    let ps = st .pre .0 in
-    let front : take (st .args .steps + 16 - 0) (db .last .1 .1 .1 .1 .1 .1 .1 .0) ≡ bitsFrom (st .args .t) rx pm = front-is _ (bitsFrom (st .args .t) rx pm) (st .args .bits .now) (st .args .steps + 16 - 0) (db .ensures .0) (omega arith) in
-    let es = c .before .before .before .before .before .before .before .before .before .before .before .before .before .before .before .start-state .ensures .0 in
-    let epm : pm ≡ startValues (st .args .o .«known_start») (st .args .first) = c .before .before .before .before .before .before .before .before .before .before .before .before .before .start-values .ensures ∙ ap (λ (z : ℕ). cond (st .args .o .«known_start») (startAt 64 z) (startUnknown 64)) es in
-    let whole : bitsFrom (st .args .t) rx pm ≡ decodedBits (st .args .t) rx (st .args .o .«known_start») (st .args .first) =
-    ap (λ (z : List Float). bitsFrom (st .args .t) rx z) epm ∙ sym (decoded-from (st .args .t) rx (st .args .o .«known_start») (st .args .first)) in
+    let pm = c .before .before .before .before .before .before .before .before .before .before .before .before .before .before .start-values .result in
+    let db = c .before .before .before .before .before .before .before .before .before .before .before .decode-bits in
+    let n = from-count (st .args .p .table) rx pm in
+    let ps = ap (λ (z : Plan). z .steps) (st .pre .0 .is) in
+    let front : take (st .args .p .steps + 16 - 0) (db .last .1 .1 .1 .1 .1 .1 .1 .0) ≡ bitsFrom (st .args .p .table) rx pm = front-is _ (bitsFrom (st .args .p .table) rx pm) (st .args .bits .now) (st .args .p .steps + 16 - 0) (db .ensures .0) (omega arith) in
+    let es = c .before .before .before .before .before .before .before .before .before .before .before .before .before .before .before .before .start-state .ensures .0 in
+    let epm : pm ≡ startValues (st .args .o .«known_start») (st .args .first) = c .before .before .before .before .before .before .before .before .before .before .before .before .before .before .start-values .ensures ∙ ap (λ (z : ℕ). cond (st .args .o .«known_start») (startAt 64 z) (startUnknown 64)) es in
+    let whole : bitsFrom (st .args .p .table) rx pm ≡ decodedBits (st .args .p .table) rx (st .args .o .«known_start») (st .args .first) =
+    ap (λ (z : List Float). bitsFrom (st .args .p .table) rx z) epm ∙ sym (decoded-from (st .args .p .table) rx (st .args .o .«known_start») (st .args .first)) in
     record {
       words = db .ensures .1;
       decoded = db .ensures .0 ∙ ap (λ (z : List ℕ). laid z (st .args .bits .now)) whole;

@@ -3,7 +3,7 @@ use borrow.Author.Needs.{needs}
 use Rattle.isdbs_decode.proofs.FrameRuns.{listed-runs, steps-by, part-covers}
 use Rattle.isdbs_decode.proofs.FrameSteps.{Read, read-first, read-next, read-last}
 use Rattle.isdbs_core.specs.RunsOf.{noRun}
-use lib.ListN.{getD, length-map}
+use lib.ListN.{getD}
 use native.Mathlib.Omega.{arith}
 use Prim.Native.Nat.{_-_}
 use Rattle.isdbs_decode.proofs.read_runs.Statement.{statement}
@@ -15,14 +15,10 @@ Inv-loop m scale pm₀ re im decisions₀ bits₀ count list at₀ step₀ i₀ 
 abbrev μ-loop : tie.MeasureT-loop
 μ-loop m scale pm₀ re im decisions₀ bits₀ count list at₀ step₀ i₀ pm decisions bits at step i = count - i
 
-runs-requires : tie.Need-runs-requires Inv-loop μ-loop
-runs-requires c κs = search needs
-
 loop-holds : tie.Need-loop-holds Inv-loop μ-loop
 loop-holds c =
-    let st = c .before .before .before .before .before .before in
-    let rn = c .before .runs in
-    read-first (listed-runs (st .args .t) (rn .result) (st .pre .0) (simp length-map at (st .good .0 .1 .1 .0 .1 .0 .1)) (rn .ensures)) (st .pre .1) (st .pre .2) (st .pre .3) (st .pre .4)
+    let st = c .before .before .before .before .before in
+    read-first (listed-runs (st .args .p) (st .pre .0)) (st .pre .1) (st .pre .2) (st .pre .3) (st .pre .4)
 
 mul-r : tie.Need-mul-r Inv-loop μ-loop
 mul-r c = search needs
@@ -35,7 +31,7 @@ steps-per-slot-requires c κs = search needs
 
 mul-n : tie.Need-mul-n Inv-loop μ-loop
 mul-n c =
-    let e = steps-by (getD (c .before .before .before .before .before .before .runs .result .runs) (c .before .before .before .before .loop .i) noRun) _ (c .before .steps-per-slot .ensures) in
+    let e = steps-by (getD (c .before .before .before .before .before .before .before .before .before .before .args .p .runs) (c .before .before .before .before .loop .i) noRun) _ (c .before .steps-per-slot .ensures) in
     record { fits = omega arith }
 
 mul-read-run : tie.Need-mul-read-run Inv-loop μ-loop
@@ -64,8 +60,8 @@ part-read-run-end-2 c = search needs
 
 read-run-requires : tie.Need-read-run-requires Inv-loop μ-loop
 read-run-requires c κs =
-    let e = steps-by (getD (c .before .before .before .before .before .before .before .before .before .before .before .runs .result .runs) (c .before .before .before .before .before .before .before .before .before .loop .i) noRun) _ (c .before .before .before .before .before .before .steps-per-slot .ensures) in
-    let st = c .before .before .before .before .before .before .before .before .before .before .before .before .before .before .before .before in
+    let e = steps-by (getD (c .before .before .before .before .before .before .before .before .before .before .before .before .before .before .before .args .p .runs) (c .before .before .before .before .before .before .before .before .before .loop .i) noRun) _ (c .before .before .before .before .before .before .steps-per-slot .ensures) in
+    let st = c .before .before .before .before .before .before .before .before .before .before .before .before .before .before .before in
     let r = c .before .before .before .before .before .before .before .before .before .loop .inv in (
       r .few,
       r .words-fit,
@@ -77,7 +73,7 @@ read-run-requires c κs =
 
 add-step : tie.Need-add-step Inv-loop μ-loop
 add-step c =
-    let e = steps-by (getD (c .before .before .before .before .before .before .before .before .before .before .before .before .before .before .before .before .runs .result .runs) (c .before .before .before .before .before .before .before .before .before .before .before .before .before .before .loop .i) noRun) _ (c .before .before .before .before .before .before .before .before .before .before .before .steps-per-slot .ensures) in
+    let e = steps-by (getD (c .before .before .before .before .before .before .before .before .before .before .before .before .before .before .before .before .before .before .before .before .args .p .runs) (c .before .before .before .before .before .before .before .before .before .before .before .before .before .before .loop .i) noRun) _ (c .before .before .before .before .before .before .before .before .before .before .before .steps-per-slot .ensures) in
     record { fits = omega arith }
 
 add-i : tie.Need-add-i Inv-loop μ-loop
@@ -89,7 +85,7 @@ loop-less c = search needs
 loop-again : tie.Need-loop-again Inv-loop μ-loop
 loop-again c =
     read-next (c .before .before .before .before .before .before .before .before .before .before .before .before .before .before .loop .inv) (c .before .before .before .before .before .before .before .before .before .before .before .before .before .loop-test .taken)
-    (steps-by (getD (c .before .before .before .before .before .before .before .before .before .before .before .before .before .before .before .before .runs .result .runs) (c .before .before .before .before .before .before .before .before .before .before .before .before .before .before .loop .i) noRun) _ (c .before .before .before .before .before .before .before .before .before .before .before .steps-per-slot .ensures)) (search needs) (search needs) (c .before .before .before .before .read-run .ensures)
+    (steps-by (getD (c .before .before .before .before .before .before .before .before .before .before .before .before .before .before .before .before .before .before .before .before .args .p .runs) (c .before .before .before .before .before .before .before .before .before .before .before .before .before .before .loop .i) noRun) _ (c .before .before .before .before .before .before .before .before .before .before .before .steps-per-slot .ensures)) (search needs) (search needs) (c .before .before .before .before .read-run .ensures)
 
 same-length : tie.Need-same-length Inv-loop μ-loop
 same-length c = search needs
@@ -99,9 +95,8 @@ same-length-2 c = search needs
 
 returns : tie.Need-returns Inv-loop μ-loop
 returns c =
-    let st = c .before .before .before .before .before .before .before .before in
-    let rn = c .before .before .before .runs in
-    read-last (listed-runs (st .args .t) (rn .result) (st .pre .0) (simp length-map at (st .good .0 .1 .1 .0 .1 .0 .1)) (rn .ensures)) (c .before .loop .inv) (omega arith)
+    let st = c .before .before .before .before .before .before .before in
+    read-last (listed-runs (st .args .p) (st .pre .0)) (c .before .loop .inv) (omega arith)
 
 pub read-runs-spec : {M : Type 1} → statement M
 read-runs-spec =
@@ -109,7 +104,6 @@ read-runs-spec =
     (tie.spec
     Inv-loop
     μ-loop
-    runs-requires
     loop-holds
     mul-r
     array-copy-out-r

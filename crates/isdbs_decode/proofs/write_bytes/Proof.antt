@@ -3,7 +3,7 @@ use borrow.Author.Needs.{needs}
 use Rattle.isdbs_decode.proofs.FrameBytes.{Written, written-first, written-room, written-next}
 use Rattle.isdbs_decode.proofs.FrameRuns.{listed-runs, steps-by, tail-is, all-valid}
 use Rattle.isdbs_core.specs.RunsOf.{noRun}
-use lib.ListN.{getD, length-map, length-drop}
+use lib.ListN.{getD, length-drop}
 use native.Mathlib.Omega.{arith}
 use Prim.Native.Nat.{ℕ, _-_, _*_}
 use mathlib.Core.Path.{_≡_, _∙_, ap}
@@ -16,14 +16,10 @@ Inv-loop m start re im bits bytes₀ count list state₀ step₀ done₀ i₀ by
 abbrev μ-loop : tie.MeasureT-loop
 μ-loop m start re im bits bytes₀ count list state₀ step₀ done₀ i₀ bytes state step done i = count - i
 
-runs-requires : tie.Need-runs-requires Inv-loop μ-loop
-runs-requires c κs = search needs
-
 loop-holds : tie.Need-loop-holds Inv-loop μ-loop
 loop-holds c =
-    let st = c .before .before .before .before .before .before in
-    let rn = c .before .runs in
-    written-first (listed-runs (st .args .t) (rn .result) (st .pre .1) (simp length-map at (st .good .0 .1 .1 .0 .1 .0 .1)) (rn .ensures)) (st .pre .0) (st .pre .2) (st .pre .3) (st .pre .4) (st .pre .5) (st .pre .6)
+    let st = c .before .before .before .before .before in
+    written-first (listed-runs (st .args .p) (st .pre .1)) (st .pre .0) (st .pre .2) (st .pre .3) (st .pre .4) (st .pre .5) (st .pre .6)
 
 mul-r : tie.Need-mul-r Inv-loop μ-loop
 mul-r c = search needs
@@ -92,7 +88,7 @@ steps-per-slot-requires c κs = search needs
 
 add-step : tie.Need-add-step Inv-loop μ-loop
 add-step c =
-    let e = steps-by (getD (c .before .before .before .before .before .before .before .before .before .before .before .before .before .before .runs .result .runs) (c .before .before .before .before .before .before .before .before .before .before .before .before .loop .i) noRun) _ (c .before .steps-per-slot .ensures) in
+    let e = steps-by (getD (c .before .before .before .before .before .before .before .before .before .before .before .before .before .before .before .before .before .before .args .p .runs) (c .before .before .before .before .before .before .before .before .before .before .before .before .loop .i) noRun) _ (c .before .steps-per-slot .ensures) in
     record { fits = omega arith }
 
 mul-step : tie.Need-mul-step Inv-loop μ-loop
@@ -113,18 +109,17 @@ loop-again : tie.Need-loop-again Inv-loop μ-loop
 loop-again c =
     let pr = c .before .before .before .before .pack-run .ensures in
     written-next (c .before .before .before .before .before .before .before .before .before .before .before .before .loop .inv) (c .before .before .before .before .before .before .before .before .before .before .before .loop-test .taken)
-    (steps-by (getD (c .before .before .before .before .before .before .before .before .before .before .before .before .before .before .runs .result .runs) (c .before .before .before .before .before .before .before .before .before .before .before .before .loop .i) noRun) _ (c .before .steps-per-slot .ensures)) (pr .2) (pr .1) (pr .0)
+    (steps-by (getD (c .before .before .before .before .before .before .before .before .before .before .before .before .before .before .before .before .before .before .args .p .runs) (c .before .before .before .before .before .before .before .before .before .before .before .before .loop .i) noRun) _ (c .before .steps-per-slot .ensures)) (pr .2) (pr .1) (pr .0)
 
 same-length : tie.Need-same-length Inv-loop μ-loop
 same-length c = search needs
 
 returns : tie.Need-returns Inv-loop μ-loop
 returns c =
-    let st = c .before .before .before .before .before .before .before .before in
-    let rn = c .before .before .before .runs in
-    let l = listed-runs (st .args .t) (rn .result) (st .pre .1) (simp length-map at (st .good .0 .1 .1 .0 .1 .0 .1)) (rn .ensures) in
+    let st = c .before .before .before .before .before .before .before in
+    let l = listed-runs (st .args .p) (st .pre .1) in
     let w = c .before .loop .inv in
-    let e : c .before .loop .i ≡ rn .result .count = omega arith in
+    let e : c .before .loop .i ≡ st .args .p .count = omega arith in
     let ed = (rw e at (w .done-is)) ∙ ap (λ (z : ℕ). 203 * z) (all-valid l) in
     λ scale. rw (ed, l .listed) at (w .bytes-are scale)
 
@@ -134,7 +129,6 @@ write-bytes-spec =
     (tie.spec
     Inv-loop
     μ-loop
-    runs-requires
     loop-holds
     mul-r
     array-copy-out-r

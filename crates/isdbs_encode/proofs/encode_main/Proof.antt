@@ -2,29 +2,28 @@
 use mathlib.Core.Path.{_≡_, refl, sym, _∙_, ap}
 use Prim.Native.Nat.{ℕ, _+_, _*_, _-_, _<_, _≤_}
 use native.Mathlib.Omega.{arith}
-use lib.ListN.{length, length-map}
-use Rattle.isdbs_encode.proofs.EncodeTable.{table-tiled, runs-count, runs-front, runs-four, end-small, re-length, im-length, runs-state, frame-laid}
+use lib.ListN.{length}
+use Rattle.isdbs_encode.proofs.EncodeTable.{table-tiled, runs-count, runs-front, end-small, re-length, im-length, runs-state, frame-laid}
 use borrow.Author.Needs.{needs}
 use Rattle.isdbs_encode.proofs.encode_main.Statement.{statement}
 use Rattle.isdbs_encode.proofs.encode_main.Tie as tie
 
-runs-requires : tie.Need-runs-requires
-runs-requires c κs = search needs
+plan-of-requires : tie.Need-plan-of-requires
+plan-of-requires c κs = search needs
 
 encode-runs-requires : tie.Need-encode-runs-requires
 encode-runs-requires c κs =
     let s = c .before .before .before .before .before .before .before in
     let t = s .args .t in
-    let r = c .before .before .before .runs .result in
-    let front = runs-front t (s .pre .0) r (c .before .before .before .runs .ensures) in
-    let four : length (t .entries) ≡ 4 = simp length-map at (s .good .1 .0 .1 .1 .0 .1 .0 .1) in
-    (runs-four t (s .pre .0) r (c .before .before .before .runs .ensures) four, ap length front ∙ sym (runs-count t (s .pre .0) r (c .before .before .before .runs .ensures)), rw front (table-tiled t (s .pre .0)), s .pre .1, s .pre .2, s .pre .3)
+    let r = c .before .before .before .plan-of .result in
+    let front = runs-front t r (c .before .before .before .plan-of .ensures .0) in
+    (c .before .before .before .plan-of .ensures .1, ap length front ∙ sym (runs-count t r (c .before .before .before .plan-of .ensures .0)), rw front (table-tiled t (s .pre .0)), s .pre .1, s .pre .2, s .pre .3)
 
 sub-put-unused : tie.Need-sub-put-unused
 sub-put-unused c =
     let s = c .before .before .before .before .before .before .before .before .before .before .before .before in
     let tl = table-tiled (s .args .t) (s .pre .0) in
-    let made = rw (runs-front (s .args .t) (s .pre .0) (c .before .before .before .before .before .before .before .before .runs .result) (c .before .before .before .before .before .before .before .before .runs .ensures)) at (c .before .before .before .before .encode-runs .ensures) in
+    let made = rw (runs-front (s .args .t) (c .before .before .before .before .before .before .before .before .plan-of .result) (c .before .before .before .before .before .before .before .before .plan-of .ensures .0)) at (c .before .before .before .before .encode-runs .ensures) in
     let small = end-small (s .args .t) (s .args .m) (s .args .bytes .now) (s .args .start) tl made (s .pre .2) (s .pre .3) in
     let lr = re-length (s .args .t) (s .args .m) (s .args .bytes .now) (s .args .start) tl made (s .pre .2) (s .pre .3) in
     let li = im-length (s .args .t) (s .args .m) (s .args .bytes .now) (s .args .start) tl made (s .pre .2) (s .pre .3) in
@@ -34,7 +33,7 @@ mul-put-unused : tie.Need-mul-put-unused
 mul-put-unused c =
     let s = c .before .before .before .before .before .before .before .before .before .before .before .before in
     let tl = table-tiled (s .args .t) (s .pre .0) in
-    let made = rw (runs-front (s .args .t) (s .pre .0) (c .before .before .before .before .before .before .before .before .runs .result) (c .before .before .before .before .before .before .before .before .runs .ensures)) at (c .before .before .before .before .encode-runs .ensures) in
+    let made = rw (runs-front (s .args .t) (c .before .before .before .before .before .before .before .before .plan-of .result) (c .before .before .before .before .before .before .before .before .plan-of .ensures .0)) at (c .before .before .before .before .encode-runs .ensures) in
     let small = end-small (s .args .t) (s .args .m) (s .args .bytes .now) (s .args .start) tl made (s .pre .2) (s .pre .3) in
     let lr = re-length (s .args .t) (s .args .m) (s .args .bytes .now) (s .args .start) tl made (s .pre .2) (s .pre .3) in
     let li = im-length (s .args .t) (s .args .m) (s .args .bytes .now) (s .args .start) tl made (s .pre .2) (s .pre .3) in
@@ -44,7 +43,7 @@ sub-put-unused-2 : tie.Need-sub-put-unused-2
 sub-put-unused-2 c =
     let s = c .before .before .before .before .before .before .before .before .before .before .before .before in
     let tl = table-tiled (s .args .t) (s .pre .0) in
-    let made = rw (runs-front (s .args .t) (s .pre .0) (c .before .before .before .before .before .before .before .before .runs .result) (c .before .before .before .before .before .before .before .before .runs .ensures)) at (c .before .before .before .before .encode-runs .ensures) in
+    let made = rw (runs-front (s .args .t) (c .before .before .before .before .before .before .before .before .plan-of .result) (c .before .before .before .before .before .before .before .before .plan-of .ensures .0)) at (c .before .before .before .before .encode-runs .ensures) in
     let small = end-small (s .args .t) (s .args .m) (s .args .bytes .now) (s .args .start) tl made (s .pre .2) (s .pre .3) in
     let lr = re-length (s .args .t) (s .args .m) (s .args .bytes .now) (s .args .start) tl made (s .pre .2) (s .pre .3) in
     let li = im-length (s .args .t) (s .args .m) (s .args .bytes .now) (s .args .start) tl made (s .pre .2) (s .pre .3) in
@@ -54,7 +53,7 @@ part-put-unused-start : tie.Need-part-put-unused-start
 part-put-unused-start c =
     let s = c .before .before .before .before .before .before .before .before .before .before .before .before in
     let tl = table-tiled (s .args .t) (s .pre .0) in
-    let made = rw (runs-front (s .args .t) (s .pre .0) (c .before .before .before .before .before .before .before .before .runs .result) (c .before .before .before .before .before .before .before .before .runs .ensures)) at (c .before .before .before .before .encode-runs .ensures) in
+    let made = rw (runs-front (s .args .t) (c .before .before .before .before .before .before .before .before .plan-of .result) (c .before .before .before .before .before .before .before .before .plan-of .ensures .0)) at (c .before .before .before .before .encode-runs .ensures) in
     let small = end-small (s .args .t) (s .args .m) (s .args .bytes .now) (s .args .start) tl made (s .pre .2) (s .pre .3) in
     let lr = re-length (s .args .t) (s .args .m) (s .args .bytes .now) (s .args .start) tl made (s .pre .2) (s .pre .3) in
     let li = im-length (s .args .t) (s .args .m) (s .args .bytes .now) (s .args .start) tl made (s .pre .2) (s .pre .3) in
@@ -67,7 +66,7 @@ mul-put-unused-2 : tie.Need-mul-put-unused-2
 mul-put-unused-2 c =
     let s = c .before .before .before .before .before .before .before .before .before .before .before .before .before in
     let tl = table-tiled (s .args .t) (s .pre .0) in
-    let made = rw (runs-front (s .args .t) (s .pre .0) (c .before .before .before .before .before .before .before .before .before .runs .result) (c .before .before .before .before .before .before .before .before .before .runs .ensures)) at (c .before .before .before .before .before .encode-runs .ensures) in
+    let made = rw (runs-front (s .args .t) (c .before .before .before .before .before .before .before .before .before .plan-of .result) (c .before .before .before .before .before .before .before .before .before .plan-of .ensures .0)) at (c .before .before .before .before .before .encode-runs .ensures) in
     let small = end-small (s .args .t) (s .args .m) (s .args .bytes .now) (s .args .start) tl made (s .pre .2) (s .pre .3) in
     let lr = re-length (s .args .t) (s .args .m) (s .args .bytes .now) (s .args .start) tl made (s .pre .2) (s .pre .3) in
     let li = im-length (s .args .t) (s .args .m) (s .args .bytes .now) (s .args .start) tl made (s .pre .2) (s .pre .3) in
@@ -77,7 +76,7 @@ sub-put-unused-3 : tie.Need-sub-put-unused-3
 sub-put-unused-3 c =
     let s = c .before .before .before .before .before .before .before .before .before .before .before .before .before in
     let tl = table-tiled (s .args .t) (s .pre .0) in
-    let made = rw (runs-front (s .args .t) (s .pre .0) (c .before .before .before .before .before .before .before .before .before .runs .result) (c .before .before .before .before .before .before .before .before .before .runs .ensures)) at (c .before .before .before .before .before .encode-runs .ensures) in
+    let made = rw (runs-front (s .args .t) (c .before .before .before .before .before .before .before .before .before .plan-of .result) (c .before .before .before .before .before .before .before .before .before .plan-of .ensures .0)) at (c .before .before .before .before .before .encode-runs .ensures) in
     let small = end-small (s .args .t) (s .args .m) (s .args .bytes .now) (s .args .start) tl made (s .pre .2) (s .pre .3) in
     let lr = re-length (s .args .t) (s .args .m) (s .args .bytes .now) (s .args .start) tl made (s .pre .2) (s .pre .3) in
     let li = im-length (s .args .t) (s .args .m) (s .args .bytes .now) (s .args .start) tl made (s .pre .2) (s .pre .3) in
@@ -87,7 +86,7 @@ part-put-unused-start-2 : tie.Need-part-put-unused-start-2
 part-put-unused-start-2 c =
     let s = c .before .before .before .before .before .before .before .before .before .before .before .before .before in
     let tl = table-tiled (s .args .t) (s .pre .0) in
-    let made = rw (runs-front (s .args .t) (s .pre .0) (c .before .before .before .before .before .before .before .before .before .runs .result) (c .before .before .before .before .before .before .before .before .before .runs .ensures)) at (c .before .before .before .before .before .encode-runs .ensures) in
+    let made = rw (runs-front (s .args .t) (c .before .before .before .before .before .before .before .before .before .plan-of .result) (c .before .before .before .before .before .before .before .before .before .plan-of .ensures .0)) at (c .before .before .before .before .before .encode-runs .ensures) in
     let small = end-small (s .args .t) (s .args .m) (s .args .bytes .now) (s .args .start) tl made (s .pre .2) (s .pre .3) in
     let lr = re-length (s .args .t) (s .args .m) (s .args .bytes .now) (s .args .start) tl made (s .pre .2) (s .pre .3) in
     let li = im-length (s .args .t) (s .args .m) (s .args .bytes .now) (s .args .start) tl made (s .pre .2) (s .pre .3) in
@@ -109,7 +108,7 @@ returns : tie.Need-returns
 returns c =
     let s = c .before .before .before .before .before .before .before .before .before .before .before .before .before .before .before .before .before .before .before in
     let tl = table-tiled (s .args .t) (s .pre .0) in
-    let made = rw (runs-front (s .args .t) (s .pre .0) (c .before .before .before .before .before .before .before .before .before .before .before .before .before .before .before .runs .result) (c .before .before .before .before .before .before .before .before .before .before .before .before .before .before .before .runs .ensures)) at (c .before .before .before .before .before .before .before .before .before .before .before .encode-runs .ensures) in
+    let made = rw (runs-front (s .args .t) (c .before .before .before .before .before .before .before .before .before .before .before .before .before .before .before .plan-of .result) (c .before .before .before .before .before .before .before .before .before .before .before .before .before .before .before .plan-of .ensures .0)) at (c .before .before .before .before .before .before .before .before .before .before .before .encode-runs .ensures) in
     let small = end-small (s .args .t) (s .args .m) (s .args .bytes .now) (s .args .start) tl made (s .pre .2) (s .pre .3) in
     let lr = re-length (s .args .t) (s .args .m) (s .args .bytes .now) (s .args .start) tl made (s .pre .2) (s .pre .3) in
     let li = im-length (s .args .t) (s .args .m) (s .args .bytes .now) (s .args .start) tl made (s .pre .2) (s .pre .3) in (
@@ -121,7 +120,7 @@ pub encode-main-spec : {M : Type 1} → statement M
 encode-main-spec =
     tie.close
     (tie.spec
-    runs-requires
+    plan-of-requires
     encode-runs-requires
     sub-put-unused
     mul-put-unused

@@ -12,16 +12,16 @@ table-answer-requires c κs = tt
 number-requires : tie.Need-number-requires
 number-requires c κs = tt
 
-runs-as-requires : tie.Need-runs-as-requires
-runs-as-requires c κs = tt
+plan-of-requires : tie.Need-plan-of-requires
+plan-of-requires c κs = tt
 
 returns : tie.Need-returns
 returns c =
-    let st = c .before .before .before in
-    c .runs-as .ensures
-    ∙ rw (
+    let st = c .before .before .before .before in
+    rw (
+      c .before .plan-of .ensures .0,
       st .table-answer .ensures,
-      accepts (st .table-answer .result) (tableAnswer (st .before .args .t)) _ (st .table-answer .ensures) (c .before .before .number .ensures) (c .before .if1 .taken),
+      accepts (st .table-answer .result) (tableAnswer (st .before .args .t)) _ (st .table-answer .ensures) (c .before .before .before .number .ensures) (c .before .before .if1 .taken),
     )
 
 returns-2 : tie.Need-returns-2
@@ -35,4 +35,4 @@ returns-2 c =
 
 pub runs-spec : {M : Type 1} → statement M
 runs-spec =
-    tie.close (tie.spec table-answer-requires number-requires runs-as-requires returns returns-2)
+    tie.close (tie.spec table-answer-requires number-requires plan-of-requires returns returns-2)

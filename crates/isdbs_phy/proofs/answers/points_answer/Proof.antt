@@ -1,4 +1,5 @@
 -- `answers::points_answer` meets its contract. Assumes nothing.
+use Rattle.isdbs_core.specs.Frame.{mainSymbols}
 use borrow.Author.Tests.{lt-ltb, le-ltb, ltb-false}
 use lib.ListN.{length}
 use native.Mathlib.Omega.{arith}
@@ -22,7 +23,7 @@ some-beyond-requires c κs = search needs
 returns-3 : tie.Need-returns-3
 returns-3 c =
     let st = c .before .before .before .before .before .before in
-    let re : someBeyond partLimit (st .args .re .now) 38976 ≡ true = sym (c .before .some-beyond .ensures) ∙ c .if3 .taken in
+    let re : someBeyond partLimit (st .args .re .now) mainSymbols ≡ true = sym (c .before .some-beyond .ensures) ∙ c .if3 .taken in
     rw (le-ltb _ _ (c .before .before .before .if1 .left), le-ltb _ _ (c .before .before .if2 .left), re)
 
 some-beyond-requires-2 : tie.Need-some-beyond-requires-2
@@ -31,15 +32,15 @@ some-beyond-requires-2 c κs = search needs
 returns-4 : tie.Need-returns-4
 returns-4 c =
     let st = c .before .before .before .before .before .before .before .before in
-    let re : someBeyond partLimit (st .args .re .now) 38976 ≡ false = sym (c .before .before .before .some-beyond .ensures) ∙ c .before .before .if3 .left in
-    let im : someBeyond partLimit (st .args .im .now) 38976 ≡ true = sym (c .before .some-beyond2 .ensures) ∙ c .if4 .taken in
+    let re : someBeyond partLimit (st .args .re .now) mainSymbols ≡ false = sym (c .before .before .before .some-beyond .ensures) ∙ c .before .before .if3 .left in
+    let im : someBeyond partLimit (st .args .im .now) mainSymbols ≡ true = sym (c .before .some-beyond2 .ensures) ∙ c .if4 .taken in
     rw (le-ltb _ _ (c .before .before .before .before .before .if1 .left), le-ltb _ _ (c .before .before .before .before .if2 .left), re, im)
 
 returns-5 : tie.Need-returns-5
 returns-5 c =
     let st = c .before .before .before .before .before .before .before .before in
-    let re : someBeyond partLimit (st .args .re .now) 38976 ≡ false = sym (c .before .before .before .some-beyond .ensures) ∙ c .before .before .if3 .left in
-    let im : someBeyond partLimit (st .args .im .now) 38976 ≡ false = sym (c .before .some-beyond2 .ensures) ∙ c .if4 .left in
+    let re : someBeyond partLimit (st .args .re .now) mainSymbols ≡ false = sym (c .before .before .before .some-beyond .ensures) ∙ c .before .before .if3 .left in
+    let im : someBeyond partLimit (st .args .im .now) mainSymbols ≡ false = sym (c .before .some-beyond2 .ensures) ∙ c .if4 .left in
     rw (le-ltb _ _ (c .before .before .before .before .before .if1 .left), le-ltb _ _ (c .before .before .before .before .if2 .left), re, im)
 
 pub points-answer-spec : {M : Type 1} → statement M

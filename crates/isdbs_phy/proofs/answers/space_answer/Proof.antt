@@ -1,4 +1,5 @@
 -- `answers::space_answer` meets its contract. Assumes nothing.
+use Rattle.isdbs_core.specs.declared.slots.Plan.{Plan}
 use Rattle.isdbs_core.specs.RunLaws.{laid}
 use Rattle.isdbs_core.specs.RunsOf.{frameSteps, loadBytes}
 use borrow.Author.Tests.{lt-ltb, le-ltb, ltb-false}
@@ -13,37 +14,38 @@ use Rattle.isdbs_phy.proofs.answers.space_answer.Tie as tie
 returns : tie.Need-returns
 returns c = rw (lt-ltb _ _ (c .if1 .taken))
 
-frame-size-requires : tie.Need-frame-size-requires
-frame-size-requires c κs = search needs
-
 add-if2 : tie.Need-add-if2
-add-if2 c = let st = c .before .before .before in let s = laid (st .args .t) (st .pre) .steps in let e = c .before .frame-size .ensures .1 in record { fits = omega arith }
+add-if2 c =
+    let st = c .before .before in
+    let s = laid (st .args .p .table) (st .pre .slots) .steps in
+    let e = ap (λ (z : Plan). z .steps) (st .pre .is) in
+    record { fits = omega arith }
 
 returns-2 : tie.Need-returns-2
 returns-2 c =
-    let st = c .before .before .before .before in
-    let e = c .before .before .frame-size .ensures .1 in
+    let st = c .before .before .before in
+    let d = ap (λ (z : Plan). z .bytes) (st .pre .is) in
+    let e = ap (λ (z : Plan). z .steps) (st .pre .is) in
     let g = c .if2 .taken in
-    rw (le-ltb _ _ (c .before .before .before .if1 .left), lt-ltb (st .args .bits) (frameSteps (st .args .t) + 16) (omega arith))
+    rw (le-ltb _ _ (c .before .before .if1 .left), lt-ltb (st .args .bits) (frameSteps (st .args .p .table) + 16) (omega arith))
 
 returns-3 : tie.Need-returns-3
 returns-3 c =
-    let st = c .before .before .before .before .before .before in
-    let d = c .before .before .before .before .frame-size .ensures .0 in
-    let e = c .before .before .before .before .frame-size .ensures .1 in
+    let st = c .before .before .before .before .before in
+    let d = ap (λ (z : Plan). z .bytes) (st .pre .is) in
+    let e = ap (λ (z : Plan). z .steps) (st .pre .is) in
     let f = c .before .before .if2 .left in
     let g = c .if3 .taken in
-    rw (le-ltb _ _ (c .before .before .before .before .before .if1 .left), le-ltb (st .args .bits) (frameSteps (st .args .t) + 16) (omega arith), lt-ltb (st .args .bytes) (loadBytes (st .args .t)) (omega arith))
+    rw (le-ltb _ _ (c .before .before .before .before .if1 .left), le-ltb (st .args .bits) (frameSteps (st .args .p .table) + 16) (omega arith), lt-ltb (st .args .bytes) (loadBytes (st .args .p .table)) (omega arith))
 
 returns-4 : tie.Need-returns-4
 returns-4 c =
-    let st = c .before .before .before .before .before .before in
-    let d = c .before .before .before .before .frame-size .ensures .0 in
-    let e = c .before .before .before .before .frame-size .ensures .1 in
+    let st = c .before .before .before .before .before in
+    let d = ap (λ (z : Plan). z .bytes) (st .pre .is) in
+    let e = ap (λ (z : Plan). z .steps) (st .pre .is) in
     let f = c .before .before .if2 .left in
     let g = c .if3 .left in
-    rw (le-ltb _ _ (c .before .before .before .before .before .if1 .left), le-ltb (st .args .bits) (frameSteps (st .args .t) + 16) (omega arith), le-ltb (st .args .bytes) (loadBytes (st .args .t)) (omega arith))
+    rw (le-ltb _ _ (c .before .before .before .before .if1 .left), le-ltb (st .args .bits) (frameSteps (st .args .p .table) + 16) (omega arith), le-ltb (st .args .bytes) (loadBytes (st .args .p .table)) (omega arith))
 
 pub space-answer-spec : {M : Type 1} → statement M
-space-answer-spec =
-    tie.close (tie.spec returns frame-size-requires add-if2 returns-2 returns-3 returns-4)
+space-answer-spec = tie.close (tie.spec returns add-if2 returns-2 returns-3 returns-4)

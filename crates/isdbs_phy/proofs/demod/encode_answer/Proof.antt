@@ -1,4 +1,5 @@
 -- `demod::encode_answer` meets its contract. Assumes nothing.
+use Rattle.isdbs_core.specs.Frame.{mainSymbols}
 use mathlib.Core.Path.{_≡_, refl, sym, _∙_, ap}
 use Prim.Native.Nat.{ℕ, _+_, _*_, _-_, _<_, _≤_}
 use native.Mathlib.Omega.{arith}
@@ -25,15 +26,15 @@ returns-2 c =
 
 returns-3 : tie.Need-returns-3
 returns-3 c =
-    let p = table-passes (ltb 48 (slotSum (c .before .before .before .before .before .args .t .entries))) (c .before .before .before .before .table-answer .result) (c .before .before .before .before .table-answer .ensures) (sym (c .before .before .before .number .ensures) ∙ c .before .before .if1 .left) in rw (p, le-ltb 63 (c .before .before .before .before .before .args .state) (c .before .if2 .left), lt-ltb (c .before .before .before .before .before .args .a) 38976 (c .if3 .taken))
+    let p = table-passes (ltb 48 (slotSum (c .before .before .before .before .before .args .t .entries))) (c .before .before .before .before .table-answer .result) (c .before .before .before .before .table-answer .ensures) (sym (c .before .before .before .number .ensures) ∙ c .before .before .if1 .left) in rw (p, le-ltb 63 (c .before .before .before .before .before .args .state) (c .before .if2 .left), lt-ltb (c .before .before .before .before .before .args .a) mainSymbols (c .if3 .taken))
 
 returns-4 : tie.Need-returns-4
 returns-4 c =
-    let p = table-passes (ltb 48 (slotSum (c .before .before .before .before .before .before .args .t .entries))) (c .before .before .before .before .before .table-answer .result) (c .before .before .before .before .before .table-answer .ensures) (sym (c .before .before .before .before .number .ensures) ∙ c .before .before .before .if1 .left) in rw (p, le-ltb 63 (c .before .before .before .before .before .before .args .state) (c .before .before .if2 .left), le-ltb (c .before .before .before .before .before .before .args .a) 38976 (c .before .if3 .left), lt-ltb (c .before .before .before .before .before .before .args .b) 38976 (c .if4 .taken))
+    let p = table-passes (ltb 48 (slotSum (c .before .before .before .before .before .before .args .t .entries))) (c .before .before .before .before .before .table-answer .result) (c .before .before .before .before .before .table-answer .ensures) (sym (c .before .before .before .before .number .ensures) ∙ c .before .before .before .if1 .left) in rw (p, le-ltb 63 (c .before .before .before .before .before .before .args .state) (c .before .before .if2 .left), le-ltb (c .before .before .before .before .before .before .args .a) mainSymbols (c .before .if3 .left), lt-ltb (c .before .before .before .before .before .before .args .b) mainSymbols (c .if4 .taken))
 
 returns-5 : tie.Need-returns-5
 returns-5 c =
-    let p = table-passes (ltb 48 (slotSum (c .before .before .before .before .before .before .args .t .entries))) (c .before .before .before .before .before .table-answer .result) (c .before .before .before .before .before .table-answer .ensures) (sym (c .before .before .before .before .number .ensures) ∙ c .before .before .before .if1 .left) in rw (p, le-ltb 63 (c .before .before .before .before .before .before .args .state) (c .before .before .if2 .left), le-ltb (c .before .before .before .before .before .before .args .a) 38976 (c .before .if3 .left), le-ltb (c .before .before .before .before .before .before .args .b) 38976 (c .if4 .left))
+    let p = table-passes (ltb 48 (slotSum (c .before .before .before .before .before .before .args .t .entries))) (c .before .before .before .before .before .table-answer .result) (c .before .before .before .before .before .table-answer .ensures) (sym (c .before .before .before .before .number .ensures) ∙ c .before .before .before .if1 .left) in rw (p, le-ltb 63 (c .before .before .before .before .before .before .args .state) (c .before .before .if2 .left), le-ltb (c .before .before .before .before .before .before .args .a) mainSymbols (c .before .if3 .left), le-ltb (c .before .before .before .before .before .before .args .b) mainSymbols (c .if4 .left))
 
 pub encode-answer-spec : {M : Type 1} → statement M
 encode-answer-spec =

@@ -1,4 +1,5 @@
 -- `demod::encode_frame_with_state` meets its contract. Assumes nothing.
+use Rattle.isdbs_core.specs.Frame.{mainSymbols}
 use mathlib.Core.Path.{_≡_, refl, sym, _∙_, ap}
 use Prim.Native.Nat.{ℕ, _+_, _*_, _-_, _<_, _≤_}
 use native.Mathlib.Omega.{arith}
@@ -30,8 +31,8 @@ encode-main-requires : tie.Need-encode-main-requires
 encode-main-requires c κs =
     let s = c .before .before .before .before .before .before .before .before in
     let z : numberOf (c .before .before .before .before .encode-answer .result) ≡ 0 = sym (c .before .before .before .number .ensures) ∙ c .before .before .if1 .left in
-    let p = rows-pass (ltb 48 (slotSum (s .args .t .entries))) (ltb 63 (s .args .enc .state)) (ltb (length (s .args .re .now)) 38976) (ltb (length (s .args .im .now)) 38976) (c .before .before .before .before .encode-answer .result) (c .before .before .before .before .encode-answer .ensures) z in
-    (rw (p .0), omega (arith, ltb-false 63 (s .args .enc .state) (p .1)), ltb-false (length (s .args .re .now)) 38976 (p .2), ltb-false (length (s .args .im .now)) 38976 (p .3))
+    let p = rows-pass (ltb 48 (slotSum (s .args .t .entries))) (ltb 63 (s .args .enc .state)) (ltb (length (s .args .re .now)) mainSymbols) (ltb (length (s .args .im .now)) mainSymbols) (c .before .before .before .before .encode-answer .result) (c .before .before .before .before .encode-answer .ensures) z in
+    (rw (p .0), omega (arith, ltb-false 63 (s .args .enc .state) (p .1)), ltb-false (length (s .args .re .now)) mainSymbols (p .2), ltb-false (length (s .args .im .now)) mainSymbols (p .3))
 
 same-length : tie.Need-same-length
 same-length c = search needs

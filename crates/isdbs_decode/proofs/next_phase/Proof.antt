@@ -2,8 +2,8 @@
 use mathlib.Core.Path.{_≡_, refl, sym, _∙_, ap}
 use borrow.Author.Tests.{eq-eqb, ne-eqb}
 use borrow.Author.Needs.{needs}
-use Rattle.isdbs_metrics.proofs.next_phase.Statement.{statement}
-use Rattle.isdbs_metrics.proofs.next_phase.Tie as tie
+use Rattle.isdbs_decode.proofs.next_phase.Statement.{statement}
+use Rattle.isdbs_decode.proofs.next_phase.Tie as tie
 
 add-if1 : tie.Need-add-if1
 add-if1 c = search needs
