@@ -1,7 +1,7 @@
 // Signal points by their bits, how a mapping lays them, and the state that a frame starts from. After demod.rs of isdbs-phy.
-use isdb_fec::conv::encode_bit;
 use isdbs_core::frame::W2;
 use isdbs_core::frame::W3;
+use viterbi::encode_bit;
 ghost use mathlib.Core.Path.{_≡_};
 ghost use mathlib.Core.Bool.{true, false};
 ghost use Prim.Native.Nat.{_%_, _<_};
