@@ -16,7 +16,7 @@ use Rattle.trellis.specs.Code.{isdb, label, output}
 use Rattle.trellis.specs.Lists.{bit, packed}
 use Rattle.trellis.specs.Step as trellis
 use Rattle.trellis.specs.Step.{Step, pair, four}
-use Rattle.acs.specs.Isdb.{cand, wins, next, nexts, word}
+use Rattle.trellis.specs.Isdb.{cand, wins, next, nexts, word}
 use Rattle.acs.specs.Written.{written-whole, lt-or-ge}
 use Rattle.acs.specs.Packed.{packed-more, packed-both}
 use Rattle.acs.specs.Half.{Half}

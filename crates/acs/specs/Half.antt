@@ -7,7 +7,7 @@ use lib.ListN.{length, getD}
 use lib.Ieee.{Float, nan}
 use Rattle.trellis.specs.Lists.{packed}
 use Rattle.trellis.specs.Step as trellis
-use Rattle.acs.specs.Isdb.{wins, next}
+use Rattle.trellis.specs.Isdb.{wins, next}
 
 -- the states from 32 u on, k of them, are written in l, the others are as in l₀, and the decisions are in w
 pub record Half (pm : List Float) (x : trellis.Step) (u : ℕ) (l₀ : List Float) (k : ℕ) (l : List Float) (w : ℕ) : Type 0 where

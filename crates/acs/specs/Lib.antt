@@ -1,4 +1,3 @@
-pub mod Isdb
 pub mod Written
 pub mod Packed
 pub mod Signs

@@ -6,7 +6,7 @@ ghost use lib.ListN.{length, getD};
 ghost use lib.Ieee.{lt, neg, nan, binary32, ofBits};
 ghost use Rattle.trellis.specs.Lists.{bit};
 ghost use Rattle.trellis.specs.Step.{pair, four, renormalised, ruled, top};
-ghost use Rattle.acs.specs.Isdb.{cand, nexts, word, bestState};
+ghost use Rattle.trellis.specs.Isdb.{cand, nexts, word, bestState};
 ghost use Rattle.acs.specs.Signs.{XSigns, YSigns};
 ghost use Rattle.acs.specs.Half.{Half};
 

@@ -14,8 +14,8 @@ use Rattle.ieee.specs.Rounding.{pow2}
 use Rattle.ieee.specs.Whole.{on-neg, hiZ, loZ}
 use Rattle.refusal.specs.Rows.{firstRow}
 use Rattle.refusal.specs.declared.Answer.the-variants.{Accepted, State, Length, Sample, Space}
-use Rattle.trellis.specs.Code.{isdb, label}
-use Rattle.trellis.specs.Step.{four, lower}
+use Rattle.trellis.specs.Isdb
+use Rattle.trellis.specs.Step.{four}
 use Rattle.trellis.specs.Run.{Decoder, block}
 use Rattle.best_path.specs.Paths.{longest, bound, Integer, Quadruples, Reading}
 use Rattle.best_path.specs.Exact.{Whole, le-from}
@@ -27,7 +27,7 @@ use borrow.Author.Tests.{ltb-false}
 use Rattle.isdb_fec.specs.Values.{within, someBeyond, streamLimit}
 use Rattle.isdb_fec.specs.Rows.{badState, pushMetricsRows, flushRows, stepsShort, releases}
 use Rattle.isdb_fec.specs.Calls.{fourSteps, flush}
-use Rattle.isdb_fec.specs.Count.{counted, releases-le}
+use Rattle.viterbi.specs.Count.{counted, releases-le}
 use Rattle.call_ranges.specs.Inside.{none-beyond}
 use Rattle.call_ranges.specs.Reached.{Reached, with-state, unknown-state}
 use Rattle.call_ranges.specs.Closed.{Fit, soft-fit, four-soft, values-inside, reached-fit, state-fit}
@@ -123,7 +123,7 @@ module _ (start : Start) (xs : List Float) where
     flush-accepts D O a =
         let p = passed D O a in
         let pl = p .places in
-        let c = counted 128 (fourSteps xs) begun (lit≤ tt) (lit≤ tt) (lit< tt) n in
+        let c = counted Isdb.half Isdb.labels Isdb.rule 128 (fourSteps xs) begun (lit≤ tt) (lit≤ tt) (lit< tt) n in
         let f = c .few in
         let wl = c .words-left in
         let bo = c .bits-out in
@@ -157,9 +157,9 @@ module _ (start : Start) (xs : List Float) (n : ℕ) (m : ℕ → ℕ → ℤ) (
       go : (a b c d : Bool) → a ≡ false → b ≡ false → c ≡ false → d ≡ false → cond a Length (cond b Sample (cond (c || d) Space Accepted)) ≡ Accepted
       go a b c d ea eb ec ed = rw (ea, eb, ec, ed) refl
 
-  bits-are : (start : Start) → Reading 32 (label isdb) lower (StartsIn start) m n (readBits 32 (label isdb) lower 128 (λ k. four (quadruple xs k)) (startValues start) n)
+  bits-are : (start : Start) → Reading Isdb.half Isdb.labels Isdb.rule (StartsIn start) m n (readBits Isdb.half Isdb.labels Isdb.rule 128 (λ k. four (quadruple xs k)) (startValues start) n)
   bits-are (Given s) = isdb-given 128 (lit< tt) (quadruple xs) m n few quads s
   bits-are Unknown = isdb-unknown 128 (lit< tt) (quadruple xs) m n few quads
 
-  pub reads : Reading 32 (label isdb) lower (StartsIn start) m n (flush (read start xs) .bits)
+  pub reads : Reading Isdb.half Isdb.labels Isdb.rule (StartsIn start) m n (flush (read start xs) .bits)
   reads = let e : length xs / 4 ≡ n = omega arith in rw e (bits-are start)

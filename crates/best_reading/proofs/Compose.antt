@@ -11,10 +11,11 @@ use lib.Ieee.{Float, nan, binary32, fits}
 use Rattle.refusal.specs.Rows.{firstRow}
 use Rattle.refusal.specs.declared.Answer.{Answer}
 use Rattle.refusal.specs.declared.Answer.the-variants.{Accepted, Space}
+use Rattle.trellis.specs.Isdb
+use Rattle.trellis.specs.Isdb.{decoded}
 use Rattle.trellis.specs.Lists.{laid}
-use Rattle.trellis.specs.Code.{isdb, label}
-use Rattle.trellis.specs.Step.{lower, input, traced}
-use Rattle.trellis.specs.Run.{Decoder, block, decoded}
+use Rattle.trellis.specs.Step.{input, traced}
+use Rattle.trellis.specs.Run.{Decoder, block}
 use Rattle.best_path.specs.Paths.{Reading}
 use Rattle.trellis.specs.ListLaws.{length-upto}
 use Rattle.isdb_fec.specs.declared.conv.ViterbiDecoder.{ViterbiDecoder}
@@ -22,7 +23,7 @@ use Rattle.isdb_fec.specs.declared.conv.Released.{Released}
 use Rattle.isdb_fec.specs.Rows.{pushMetricsRows, flushRows}
 use Rattle.isdb_fec.specs.Calls.{fourSteps, call, flush, handed, bestState, Fresh, Zero, Leaves, Flushes, Unchanged, Either}
 use Rattle.refusal.specs.RowLaws.{decided, passed}
-use Rattle.isdb_fec.specs.Laid.{take-laid, laid-after}
+use Rattle.viterbi.specs.Laid.{take-laid, laid-after}
 use Rattle.best_reading.specs.declared.Start.{Start}
 use Rattle.best_reading.specs.Calls.{startValues, StartsIn, fresh, read, stateOf, readingRows, Flushed, Finished, Left, GreatestSum}
 use Rattle.best_reading.proofs.Accepts.{same-rows, short-rows, short-refused, flush-accepts, whole-accepts, reads}
@@ -80,7 +81,7 @@ all-of start xs r dec₀ dec₁ out₀ out₁ a l = record {
       let d = read start xs in
       let k : length (flush d .bits) ≡ n = b .1 .path .count in
       let t : take n out₁ ≡ flush d .bits = ap (λ (x : List ℕ). take n x) (g .bits) ∙ ap (λ (j : ℕ). take j (laid (flush d .bits) out₀)) (sym k) ∙ take-laid (flush d .bits) out₀ in
-      (e, g .count-is ∙ k, subst (λ (x : List ℕ). Reading 32 (label isdb) lower (StartsIn start) m n x) (sym t) b);
+      (e, g .count-is ∙ k, subst (λ (x : List ℕ). Reading Isdb.half Isdb.labels Isdb.rule (StartsIn start) m n x) (sym t) b);
 }
 
 -- what `push_metrics` says of the decoder v
@@ -151,7 +152,7 @@ module _ (start : Start) (xs : List Float) (dec₀ dec₁ out₀ out₁ : List �
             ∙ ap (λ (k : ℕ). firstRow (flushRows (stateOf d) k (length out₁ - p .count))) same-dec
             ∙ ap (λ (k : ℕ). firstRow (flushRows (stateOf d) (length dec₀) k)) e
 
-        traced-count : length (decoded 32 (label isdb) lower d) ≡ length (d .words)
+        traced-count : length (decoded d) ≡ length (d .words)
         unfolding traced
         traced-count = length-upto (input 32 (d .words) (length (d .words)) (bestState (d .values))) (length (d .words))
 
@@ -162,7 +163,7 @@ module _ (start : Start) (xs : List Float) (dec₀ dec₁ out₀ out₁ : List �
             let a = f .after-is in
             let c = left .count-is in
             let h = left .held-is in
-            let n = length-append (d .bits) (decoded 32 (label isdb) lower d) in
+            let n = length-append (d .bits) (decoded d) in
             let t = traced-count in
             let k = g .count-is in
             let rc : r .count ≡ p .count + f .rest .count = ap (λ (x : Released). x .count) a in
@@ -174,9 +175,9 @@ module _ (start : Start) (xs : List Float) (dec₀ dec₁ out₀ out₁ : List �
               words = g .words ∙ ap (λ (k : ℕ). laid (replicate k 0) dec₁) h ∙ ap (λ (l : List ℕ). laid (replicate (length (d .words)) 0) l) (left .words);
               bits = f .out-is ∙ ap (λ (l : List ℕ). take (p .count) out₁ ++ l) (g .bits)
                   ∙ ap (λ (x : Decoder). take (p .count) out₁ ++ laid (flush x .bits) (drop (p .count) out₁)) held-words
-                  ∙ ap (λ (k : ℕ). take k out₁ ++ laid (decoded 32 (label isdb) lower d) (drop k out₁)) c
-                  ∙ ap (λ (l : List ℕ). take (length (d .bits)) l ++ laid (decoded 32 (label isdb) lower d) (drop (length (d .bits)) l)) (left .bits)
-                  ∙ laid-after (d .bits) (decoded 32 (label isdb) lower d) out₀;
+                  ∙ ap (λ (k : ℕ). take k out₁ ++ laid (decoded d) (drop k out₁)) c
+                  ∙ ap (λ (l : List ℕ). take (length (d .bits)) l ++ laid (decoded d) (drop (length (d .bits)) l)) (left .bits)
+                  ∙ laid-after (d .bits) (decoded d) out₀;
             }
 
         pub accepted : All start xs r dec₀ dec₂ out₀ out₂

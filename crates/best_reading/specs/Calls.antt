@@ -9,9 +9,8 @@ use lib.ListN.{length, getD, take, drop, replicate}
 use lib.Ieee.{Float, nan}
 use Rattle.refusal.specs.Rows.{Row, firstRow}
 use Rattle.refusal.specs.declared.Answer.the-variants.{Accepted, Length, Sample, Space}
+use Rattle.trellis.specs.Isdb
 use Rattle.trellis.specs.Lists.{laid}
-use Rattle.trellis.specs.Code.{isdb, label}
-use Rattle.trellis.specs.Step.{lower}
 use Rattle.trellis.specs.Run.{Decoder, block, startAt, startUnknown, decisionsAfter}
 use Rattle.best_path.specs.Paths.{longest, Quadruples, Reading}
 use Rattle.isdb_fec.specs.declared.conv.ViterbiDecoder.{ViterbiDecoder}
@@ -80,4 +79,4 @@ quadruple xs k = getD xs (4 * k) nan ∷ getD xs (4 * k + 1) nan ∷ getD xs (4 
 abbrev pub GreatestSum : Start → List Float → Released → ℕ → ℕ → List ℕ → Type 0
 GreatestSum start xs r decisions space out =
     (n : ℕ) (m : ℕ → ℕ → ℤ) → length xs ≡ 4 * n → n ≤ longest → Quadruples (quadruple xs) m n → block + 128 ≤ decisions → n ≤ space
-    → (r .answer ≡ Accepted) × (r .count ≡ n) × Reading 32 (label isdb) lower (StartsIn start) m n (take n out)
+    → (r .answer ≡ Accepted) × (r .count ≡ n) × Reading Isdb.half Isdb.labels Isdb.rule (StartsIn start) m n (take n out)

@@ -12,8 +12,8 @@ use lib.ListN.{getD, length, take, length-take}
 use lib.Ieee.{Float, nan, binary32, le, ofBits}
 use Rattle.refusal.specs.Rows.{firstRow}
 use Rattle.refusal.specs.declared.Answer.the-variants.{Accepted, Traceback, Sample}
-use Rattle.trellis.specs.Code.{isdb, label}
-use Rattle.trellis.specs.Step.{Step, lower}
+use Rattle.trellis.specs.Isdb
+use Rattle.trellis.specs.Step.{Step}
 use Rattle.trellis.specs.Run.{Decoder, block}
 use Rattle.lead.specs.Ties.{false-of}
 use Rattle.trellis.specs.RunLaws.{after-values}
@@ -29,7 +29,7 @@ use Rattle.isdb_fec.specs.declared.conv.Released.{Released}
 use Rattle.isdb_fec.specs.Values.{someBeyond, pathLimit, streamLimit}
 use Rattle.isdb_fec.specs.Rows.{badTraceback, badState, freshRows, handedRows, streamRows}
 use Rattle.isdb_fec.specs.Calls.{pairSteps, fourSteps, knownSteps, call, steps, handed, Fresh, Leaves}
-use Rattle.isdb_fec.specs.Count.{counted}
+use Rattle.viterbi.specs.Count.{counted}
 use Rattle.refusal.specs.RowLaws.{passed}
 use Rattle.call_ranges.specs.Numbers.{stepMost, streamMost, ruledOut, deepest, leastPath, pathMost, stream-limits, path-limit, stream-limit, least-path}
 use Rattle.call_ranges.specs.Inside.{inside-within, within-inside, none-beyond, all-inside}
@@ -68,7 +68,7 @@ fewer-words {v} i decisions₀ =
     omega arith
 
 held-fit : {v : ViterbiDecoder} → Fit v → (decisions₀ : List ℕ) (xs : ℕ → Step) (n : ℕ) → length (steps (v .traceback) xs (handed v decisions₀) n .words) < 4096 + v .traceback
-held-fit {v} i decisions₀ xs n = counted (v .traceback) xs (handed v decisions₀) (i .least) (i .most) (fewer-words i decisions₀) n .few
+held-fit {v} i decisions₀ xs n = counted Isdb.half Isdb.labels Isdb.rule (v .traceback) xs (handed v decisions₀) (i .least) (i .most) (fewer-words i decisions₀) n .few
 
 -- the state of a decoder d as a call hands it on
 abbrev pub stateOf : ℕ → Decoder → ViterbiDecoder
@@ -90,7 +90,7 @@ soft-fit {v} i xs n soft decisions₀ = record {
   least = i .least;
   most = i .most;
   fewer = held-fit i decisions₀ xs n;
-  values = rw (after-values 32 (label isdb) lower (v .traceback) xs (handed v decisions₀) n) (soft-call stream-limits (label isdb) small lower xs n soft (v .pm) (i .values));
+  values = rw (after-values Isdb.half Isdb.labels Isdb.rule (v .traceback) xs (handed v decisions₀) n) (soft-call stream-limits Isdb.labels small Isdb.rule xs n soft (v .pm) (i .values));
 }
 
 known-fit : {v : ViterbiDecoder} → Fit v → (bits : List ℕ) (n : ℕ) (decisions₀ : List ℕ) → Fit (stateOf (v .traceback) (steps (v .traceback) (knownSteps bits) (handed v decisions₀) n))
@@ -98,7 +98,7 @@ known-fit {v} i bits n decisions₀ = record {
   least = i .least;
   most = i .most;
   fewer = held-fit i decisions₀ (knownSteps bits) n;
-  values = rw (after-values 32 (label isdb) lower (v .traceback) (knownSteps bits) (handed v decisions₀) n) (known-call stream-limits (label isdb) small lower (λ k. getD bits k 0) (v .pm) (i .values) n);
+  values = rw (after-values Isdb.half Isdb.labels Isdb.rule (v .traceback) (knownSteps bits) (handed v decisions₀) n) (known-call stream-limits Isdb.labels small Isdb.rule (λ k. getD bits k 0) (v .pm) (i .values) n);
 }
 
 -- ---- the values of an accepted stream

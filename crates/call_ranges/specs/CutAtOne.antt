@@ -8,14 +8,19 @@ use native.Mathlib.Omega.{arith}
 use lib.Dec.{T, eqb}
 use lib.ListN.{getD, replicate, length-replicate, getD-replicate, List·getD-append}
 use lib.Ieee.{Float, nan, binary32, add, sub, sum, round, neg, lt, ofBits}
+use Rattle.trellis.specs.Isdb
+use Rattle.trellis.specs.Isdb.{valuesAt, settle, nexts}
 use Rattle.trellis.specs.Lists.{upto}
-use Rattle.trellis.specs.Code.{isdb, label, output, tapped}
-use Rattle.trellis.specs.Step.{Step, four, lower, branch, cand, wins, next, nexts, top, renormalised}
-use Rattle.trellis.specs.Run.{Decoder, startUnknown, settled, valuesAt}
+use Rattle.trellis.specs.Code.{label, output, tapped}
+use Rattle.trellis.specs.Step as step
+use Rattle.trellis.specs.Step.{Step, four, branch, cand, wins, next, top, renormalised}
+use Rattle.trellis.specs.Run as run
+use Rattle.trellis.specs.Run.{Decoder, startUnknown, settled}
 use Rattle.trellis.specs.RunLaws.{after-values}
 use Rattle.isdb_fec.specs.Calls.{fourSteps, steps}
-use Rattle.isdb_fec.specs.Holding.{bare}
-use Rattle.isdb_fec.specs.Runs.{fourCall, then}
+use Rattle.viterbi.specs.Holding.{bare}
+use Rattle.viterbi.specs.Calls.{fourCall}
+use Rattle.viterbi.specs.Runs.{then}
 
 abbrev z : Float
 z = ofBits binary32 0
@@ -43,16 +48,16 @@ zero-at n k h = rw (at (4 * k) (omega arith), at (4 * k + 1) (omega arith), at (
     at : (i : ℕ) → i < n → getD (replicate n z ++ last) i nan ≡ z
     at i l = List·getD-append (replicate n z) last nan i (rw (length-replicate n z) l) ∙ getD-replicate n i z nan l
 
-step-zero : nexts 32 (label isdb) lower (startUnknown 64) (four (z ∷ z ∷ z ∷ z ∷ [])) ≡ startUnknown 64
-unfolding startUnknown nexts next wins cand branch upto add sum round ofBits lt label output tapped
+step-zero : nexts (startUnknown 64) (four (z ∷ z ∷ z ∷ z ∷ [])) ≡ startUnknown 64
+unfolding startUnknown step.nexts next wins cand branch upto add sum round ofBits lt label output tapped
 step-zero = refl
 
 less-zero : renormalised 32 (startUnknown 64) ≡ startUnknown 64
 unfolding startUnknown upto top renormalised add sub neg sum round ofBits lt
 less-zero = refl
 
-zero-run : (xs : ℕ → Step) (n : ℕ) → ((k : ℕ) → k < n → xs k ≡ four (z ∷ z ∷ z ∷ z ∷ [])) → valuesAt 32 (label isdb) lower xs (startUnknown 64) n ≡ startUnknown 64
-unfolding valuesAt settled
+zero-run : (xs : ℕ → Step) (n : ℕ) → ((k : ℕ) → k < n → xs k ≡ four (z ∷ z ∷ z ∷ z ∷ [])) → valuesAt xs (startUnknown 64) n ≡ startUnknown 64
+unfolding run.valuesAt settled
 zero-run xs zero h = refl
 zero-run xs (suc n) h = rw (h n (omega arith), zero-run xs n (λ k l. h k (omega arith)), step-zero) (either (eqb (n % 64) 63))
   where
@@ -62,7 +67,7 @@ zero-run xs (suc n) h = rw (h n (omega arith), zero-run xs n (λ k l. h k (omega
 
 -- the path values after the first list: subtracting the maximum changes nothing
 first-values : steps 1 (fourSteps one) fresh 1 .values ≡ startUnknown 64
-first-values = after-values 32 (label isdb) lower 1 (fourSteps one) fresh 1 ∙ zero-run (fourSteps one) 1 (λ k h. let e : k ≡ 0 = omega arith in rw e refl)
+first-values = after-values Isdb.half Isdb.labels Isdb.rule 1 (fourSteps one) fresh 1 ∙ zero-run (fourSteps one) 1 (λ k h. let e : k ≡ 0 = omega arith in rw e refl)
 
 pub first-normalised : renormalised 32 (steps 1 (fourSteps one) fresh 1 .values) ≡ steps 1 (fourSteps one) fresh 1 .values
 first-normalised = rw first-values less-zero
@@ -70,21 +75,21 @@ first-normalised = rw first-values less-zero
 -- ---- the value of state 1 after the last two steps, of which step i of the call is the first
 abbrev ended : ℕ → List Float → List Float
 ended i pm =
-    settled 32 (label isdb) lower (suc i) (fourSteps last 1) (nexts 32 (label isdb) lower (settled 32 (label isdb) lower i (fourSteps last 0) (nexts 32 (label isdb) lower pm (fourSteps last 0))) (fourSteps last 1))
+    settle (suc i) (fourSteps last 1) (nexts (settle i (fourSteps last 0) (nexts pm (fourSteps last 0))) (fourSteps last 1))
 
 in-one : getD (fourCall 1 (one ++ more) fresh .values) 1 nan ≡ ofBits binary32 0xbd00_0000
-unfolding valuesAt settled startUnknown nexts next wins cand branch upto top renormalised add sub neg sum round ofBits lt label output tapped
+unfolding run.valuesAt settled startUnknown step.nexts next wins cand branch upto top renormalised add sub neg sum round ofBits lt label output tapped
 in-one =
     ap (λ (y : List Float). getD (renormalised 32 y) 1 nan)
-    (after-values 32 (label isdb) lower 1 (fourSteps (one ++ more)) fresh 65
+    (after-values Isdb.half Isdb.labels Isdb.rule 1 (fourSteps (one ++ more)) fresh 65
     ∙ ap (ended 63) (zero-run (fourSteps (one ++ more)) 63 (λ k h. zero-at 252 k (omega arith))))
 
 in-two : getD (fourCall 1 more (bare (fourCall 1 one fresh)) .values) 1 nan ≡ z
-unfolding valuesAt settled startUnknown nexts next wins cand branch upto top renormalised add sub neg sum round ofBits lt label output tapped
+unfolding run.valuesAt settled startUnknown step.nexts next wins cand branch upto top renormalised add sub neg sum round ofBits lt label output tapped
 in-two =
     ap (λ (y : List Float). getD (renormalised 32 y) 1 nan)
-    (after-values 32 (label isdb) lower 1 (fourSteps more) (bare (fourCall 1 one fresh)) 64
-    ∙ ap (λ (y : List Float). valuesAt 32 (label isdb) lower (fourSteps more) y 64) (first-normalised ∙ first-values)
+    (after-values Isdb.half Isdb.labels Isdb.rule 1 (fourSteps more) (bare (fourCall 1 one fresh)) 64
+    ∙ ap (λ (y : List Float). valuesAt (fourSteps more) y 64) (first-normalised ∙ first-values)
     ∙ ap (ended 62) (zero-run (fourSteps more) 62 (λ k h. zero-at 248 k (omega arith))))
 
 -- the law of two calls does not hold there

@@ -12,10 +12,12 @@ use lib.Ieee.{Float, nan, binary32, ofBits}
 use Rattle.ieee.specs.Zero.{plain}
 use Rattle.refusal.specs.Rows.{firstRow}
 use Rattle.refusal.specs.declared.Answer.the-variants.{Accepted}
-use Rattle.trellis.specs.Code.{isdb, label}
+use Rattle.trellis.specs.Isdb
+use Rattle.trellis.specs.Isdb.{valuesAt, nexts}
 use Rattle.trellis.specs.ListLaws.{getD-upto}
-use Rattle.trellis.specs.Step.{Step, known, lower, nexts, ruled}
-use Rattle.trellis.specs.Run.{startAt, startUnknown, settled, valuesAt}
+use Rattle.trellis.specs.Step.{Step, known, ruled}
+use Rattle.trellis.specs.Run as run
+use Rattle.trellis.specs.Run.{startAt, startUnknown, settled}
 use Rattle.trellis.specs.RunLaws.{after-values}
 use Rattle.lead.specs.Complement.{small}
 use Rattle.path_range.specs.Steps.{Soft, soft-moves}
@@ -27,7 +29,7 @@ use Rattle.isdb_fec.specs.declared.conv.ViterbiDecoder.{ViterbiDecoder}
 use Rattle.isdb_fec.specs.declared.conv.Released.{Released}
 use Rattle.isdb_fec.specs.Rows.{pushRows, pushMetricsRows}
 use Rattle.isdb_fec.specs.Calls.{pairSteps, fourSteps, knownSteps, steps, call, handed, Leaves}
-use Rattle.isdb_fec.specs.Runs.{pairCall, fourCall}
+use Rattle.viterbi.specs.Calls.{pairCall, fourCall}
 use Rattle.isdb_fec.specs.TwoCalls as calls
 use Rattle.isdb_fec.specs.TwoCalls.{both}
 use Rattle.call_ranges.specs.Numbers.{stepMost, ruledOut, stream-limits}
@@ -41,46 +43,46 @@ module _ {v : ViterbiDecoder} (i : Fit v) (start : Normalised (v .pm)) (decision
   -- soft values or metrics
   module _ (xs : ℕ → Step) (n : ℕ) (soft : (k : ℕ) → k < n → Soft stepMost (xs k)) where
     abbrev values : ℕ → List Float
-    values k = valuesAt 32 (label isdb) lower xs (v .pm) k
+    values k = valuesAt xs (v .pm) k
 
     abbrev new : ℕ → List Float
-    new k = nexts 32 (label isdb) lower (values k) (xs k)
+    new k = nexts (values k) (xs k)
 
     bounded : (k : ℕ) → k ≤ n → Bounded stepMost ruledOut (k % 64 * stepMost) (values k)
-    bounded = values-bounded stream-limits (label isdb) small lower xs n soft (v .pm) (i .values)
+    bounded = values-bounded stream-limits Isdb.labels small Isdb.rule xs n soft (v .pm) (i .values)
 
     new-bounded : (k : ℕ) → k < n → Bounded stepMost ruledOut (k % 64 * stepMost + stepMost) (new k)
-    new-bounded k h = step-bounded stream-limits (label isdb) small lower (values k) (xs k) (soft-moves (soft k h)) (k % 64 * stepMost) (omega arith) (bounded k (omega arith))
+    new-bounded k h = step-bounded stream-limits Isdb.labels small Isdb.rule (values k) (xs k) (soft-moves (soft k h)) (k % 64 * stepMost) (omega arith) (bounded k (omega arith))
 
     multiple : (k : ℕ) → k ≤ n → k % 64 ≡ 0 → Normalised (values k)
-    unfolding valuesAt
+    unfolding run.valuesAt
     multiple zero h e = start
     multiple (suc k) h e =
         let last : k % 64 ≡ 63 = omega arith in
-        rw (settled-soft stream-limits (label isdb) small lower k (new k) (soft k h), last)
+        rw (settled-soft stream-limits Isdb.labels small Isdb.rule k (new k) (soft k h), last)
         (renormalised-twice stream-limits (new k) (k % 64 * stepMost + stepMost) (omega arith) (new-bounded k h))
 
     -- after a multiple of 64 steps, and at the end of the call
     pub normalised-after : n % 64 ≡ 0 → Normalised (steps (v .traceback) xs (handed v decisions₀) n .values)
-    normalised-after e = rw (after-values 32 (label isdb) lower (v .traceback) xs (handed v decisions₀) n) (multiple n (le-refl n) e)
+    normalised-after e = rw (after-values Isdb.half Isdb.labels Isdb.rule (v .traceback) xs (handed v decisions₀) n) (multiple n (le-refl n) e)
 
     normalised-call : Normalised (call (v .traceback) xs (handed v decisions₀) n .values)
     normalised-call =
-        rw (after-values 32 (label isdb) lower (v .traceback) xs (handed v decisions₀) n)
+        rw (after-values Isdb.half Isdb.labels Isdb.rule (v .traceback) xs (handed v decisions₀) n)
         (renormalised-twice stream-limits (values n) (n % 64 * stepMost) (omega arith) (bounded n (le-refl n)))
 
   -- known bits
-  known-values : (bits : List ℕ) (n : ℕ) → Normalised (valuesAt 32 (label isdb) lower (knownSteps bits) (v .pm) n)
-  unfolding valuesAt settled
+  known-values : (bits : List ℕ) (n : ℕ) → Normalised (valuesAt (knownSteps bits) (v .pm) n)
+  unfolding run.valuesAt settled
   known-values bits zero = start
   known-values bits (suc n) =
-      let pm = valuesAt 32 (label isdb) lower (knownSteps bits) (v .pm) n in
+      let pm = valuesAt (knownSteps bits) (v .pm) n in
       let b = getD bits n 0 in
-      renormalised-twice stream-limits (ruled 32 b (nexts 32 (label isdb) lower pm (known b))) 0 (omega arith)
-      (known-bounded stream-limits (label isdb) small lower pm b (known-call stream-limits (label isdb) small lower (λ k. getD bits k 0) (v .pm) (i .values) n))
+      renormalised-twice stream-limits (ruled 32 b (nexts pm (known b))) 0 (omega arith)
+      (known-bounded stream-limits Isdb.labels small Isdb.rule pm b (known-call stream-limits Isdb.labels small Isdb.rule (λ k. getD bits k 0) (v .pm) (i .values) n))
 
   normalised-known : (bits : List ℕ) (n : ℕ) → Normalised (steps (v .traceback) (knownSteps bits) (handed v decisions₀) n .values)
-  normalised-known bits n = rw (after-values 32 (label isdb) lower (v .traceback) (knownSteps bits) (handed v decisions₀) n) (known-values bits n)
+  normalised-known bits n = rw (after-values Isdb.half Isdb.labels Isdb.rule (v .traceback) (knownSteps bits) (handed v decisions₀) n) (known-values bits n)
 
 -- ---- every such state
 start-plain : (t : Bool) → T (plain (cond t (ofBits binary32 0) (ofBits binary32 0xc974_2400)))

@@ -11,7 +11,7 @@ use lib.ListN.{getD}
 use lib.Ieee.{Float, binary32, ofBits}
 use Rattle.trellis.specs.Lists.{upto}
 use Rattle.trellis.specs.Code.{stateAt}
-use Rattle.trellis.specs.Step.{lower}
+use Rattle.trellis.specs.Isdb.{rule}
 use Rattle.lead.specs.Favour.{Favours}
 use Rattle.trellis.specs.ListLaws.{getD-upto}
 use Rattle.lead.specs.Frame.{decoded-sent}
@@ -62,7 +62,7 @@ module _ (t : Table) (fit : slotSum (t .entries) ≤ 48) (m : Mapping) (first : 
 
   sent-bits : (i : ℕ) → i < frameSteps t → getD us i 0 ≡ getD (inputs t load) i 0
   unfolding decodedBits
-  sent-bits = decoded-sent lower 128 (startState first) (inputs t load) (metricsAt t r) (frameSteps t) (few-steps t fit) favours (wordBit 0x1b95) 16 .sent
+  sent-bits = decoded-sent rule 128 (startState first) (inputs t load) (metricsAt t r) (frameSteps t) (few-steps t fit) favours (wordBit 0x1b95) 16 .sent
 
   -- ---- the bits of the bytes
   module _ (g : Segment) (i : In g (segments t)) where

@@ -7,9 +7,9 @@ use native.Mathlib.Omega.{arith}
 use lib.Dec.{T, eqb, ltb, ltb→lt, lit<}
 use lib.ListN.{getD, length}
 use lib.Ieee.{Float, nan, binary32, ofBits, lt}
+use Rattle.trellis.specs.Isdb
 use Rattle.trellis.specs.Lists.{bit}
-use Rattle.trellis.specs.Code.{isdb, label}
-use Rattle.trellis.specs.Step.{Step, Tie, four, lower}
+use Rattle.trellis.specs.Step.{Step, Tie, four}
 use Rattle.trellis.specs.Run.{Decoder, after}
 use Rattle.isdbs_core.specs.declared.combination.Combination.{Combination}
 use Rattle.isdbs_core.specs.declared.combination.Modulation.the-variants.{Bpsk, Qpsk}
@@ -160,7 +160,7 @@ module _
     pub bits-alike : decodedBits t r knownStart first ≡ decodedBits t r′ knownStart first
     unfolding decodedBits
     bits-alike =
-        rw (after-alike 32 (label isdb) lower 128 (λ k. four (metricsAt t r k)) (λ k. four (metricsAt t r′ k))
+        rw (after-alike Isdb.half Isdb.labels Isdb.rule 128 (λ k. four (metricsAt t r k)) (λ k. four (metricsAt t r′ k))
         (record { values = startValues knownStart first; words = []; bits = [] }) (frameSteps t) step-alike)
 
     pub bytes-alike : decodedBytes t r knownStart first ≡ decodedBytes t r′ knownStart first

@@ -16,11 +16,12 @@ use Rattle.isdbs_core.specs.RunsOf.{runsFrom, runsOf, validIn, validTotal}
 use Rattle.isdbs_core.specs.Symbols.{firstPair, bitSymbol}
 use lib.IntN.{pos, negsuc}
 use lib.Ieee.{Float, fin, binary32, add, sub, neg, lt, ofBits}
+use Rattle.trellis.specs.Isdb.{call, flush}
 use Rattle.trellis.specs.Lists.{upto, packed}
 use Rattle.trellis.specs.Code.{isdb, tapped, output, label, stateAt}
 use Rattle.trellis.specs.Encoded.{encoded}
-use Rattle.trellis.specs.Step.{four, lower, branch, cand, wins, next, nexts, word, top, best, renormalised, kept, back, input, traced}
-use Rattle.trellis.specs.Run.{startAt, settled, released, stepped, after, pushed, flushed}
+use Rattle.trellis.specs.Step.{four, branch, cand, wins, next, nexts, word, top, best, renormalised, kept, back, input, traced}
+use Rattle.trellis.specs.Run.{startAt, settled, released, stepped, after}
 use Rattle.ieee.specs.Conversion.{rounded}
 use Rattle.isdbs_soft.specs.Soft.{softOf}
 use Rattle.isdbs_points.specs.Frame.{stateAfter}
@@ -77,7 +78,7 @@ H = (mainSymbolPosition 203 ≡ at 399) × (mainSymbolPosition 38975 ≡ at 3993
 
 -- the bits that a fresh decoder of known state 0 gives after n quadruples m and a flush
 abbrev readFrom0 : List Float → ℕ → List ℕ
-readFrom0 m n = flushed 32 (label isdb) lower (pushed 32 (label isdb) lower 128 (λ k. four m) (record { values = startAt 64 0; words = []; bits = [] }) n) .bits
+readFrom0 m n = flush (call 128 (λ k. four m) (record { values = startAt 64 0; words = []; bits = [] }) n) .bits
 
 abbrev quadruple : Float → Float → Float → Float → List Float
 quadruple a b c d = a ∷ b ∷ c ∷ d ∷ []

@@ -10,7 +10,8 @@ use lib.Ieee.{Float, nan, binary32, le, ofBits}
 use Rattle.refusal.specs.Rows.{firstRow}
 use Rattle.refusal.specs.declared.Answer.the-variants.{Accepted}
 use Rattle.trellis.specs.Code.{isdb, label}
-use Rattle.trellis.specs.Step.{Tie, lower, nexts}
+use Rattle.trellis.specs.Isdb.{rule}
+use Rattle.trellis.specs.Step.{Tie, nexts}
 use Rattle.trellis.specs.Run.{Decoder, after, pushed}
 use Rattle.isdbs_core.specs.declared.combination.Modulation.the-variants.{Tc8psk}
 use Rattle.isdbs_core.specs.declared.tmcc.Table.{Table}
@@ -58,4 +59,4 @@ pub record Ranges (e : Tie) (t : Table) (r : Received) (pm : List Float) : Type 
 -- what a call promises where it is accepted
 abbrev pub Promised : Table → List Float → List Float → Mapping → Float → Bool → Bool → ℕ → ℕ → ℕ → Type 0
 Promised t re im m scale knownStart first decisions bits bytes =
-    Accepted ≡ firstRow (decodeRows t re im scale decisions bits bytes) → Ranges lower t (received re im m scale) (startValues knownStart first)
+    Accepted ≡ firstRow (decodeRows t re im scale decisions bits bytes) → Ranges rule t (received re im m scale) (startValues knownStart first)

@@ -9,8 +9,8 @@ use lib.Dec.{eqb}
 use lib.ListN.{length, getD, set}
 use lib.Seq.{ext-getD}
 use Rattle.trellis.specs.Lists.{laid, upto}
-use Rattle.isdb_fec.specs.Laid.{laid-more}
-use Rattle.isdb_fec.specs.Upto.{length-upto}
+use Rattle.viterbi.specs.Laid.{laid-more}
+use Rattle.viterbi.specs.Upto.{length-upto}
 
 module _ {A : Type 0} where
   -- a list that has what another of its length has is that list

@@ -1,17 +1,8 @@
 pub mod Values
 pub mod Rows
 pub mod Calls
-pub mod Laid
-pub mod Upto
 pub mod Answers
-pub mod Traced
-pub mod Steps
-pub mod Count
-pub mod Holding
 pub mod Whole
-pub mod Runs
 pub mod TwoCalls
 pub mod OneCall
-pub mod Each
 pub mod Told
-pub mod Parts

@@ -19,11 +19,11 @@ use Rattle.isdb_fec.specs.declared.conv.Released.{Released}
 use Rattle.isdb_fec.specs.Values.{within, someBeyond, streamLimit}
 use Rattle.isdb_fec.specs.Rows.{releases, stepsShort, handedRows, streamRest, streamRows, pushRows, pushMetricsRows, pushKnownRows}
 use Rattle.isdb_fec.specs.Calls.{pairSteps, fourSteps, handed, Leaves}
-use Rattle.isdb_fec.specs.Laid.{length-laid}
+use Rattle.viterbi.specs.Laid.{length-laid}
 use Rattle.isdb_fec.specs.Answers.{neither, Enough, stream-enough, known-enough}
-use Rattle.isdb_fec.specs.Count.{Counted, releases-is}
+use Rattle.viterbi.specs.Count.{Counted, releases-is}
 use Rattle.isdb_fec.specs.Whole.{taken, few}
-use Rattle.isdb_fec.specs.Runs.{knownCall, pairCall, fourCall}
+use Rattle.viterbi.specs.Calls.{knownCall, pairCall, fourCall}
 use Rattle.isdb_fec.specs.TwoCalls.{CallOf, known-call, soft-call}
 
 -- the releases of n steps that leave l words, and of m more

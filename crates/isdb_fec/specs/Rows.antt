@@ -8,6 +8,7 @@ use lib.Ieee.{Float}
 use Rattle.refusal.specs.Rows.{Row}
 use Rattle.refusal.specs.declared.Answer.the-variants.{Traceback, State, Length, Sample, Space}
 use Rattle.trellis.specs.Run.{block}
+pub use Rattle.viterbi.specs.Calls.{releases}
 use Rattle.isdb_fec.specs.declared.conv.ViterbiDecoder.{ViterbiDecoder}
 use Rattle.isdb_fec.specs.Values.{someBeyond, pathLimit, streamLimit}
 
@@ -26,10 +27,6 @@ badTraceback v = eqb (v .traceback) 0 || ltb 1024 (v .traceback)
 -- 4: "held count 4,096 + traceback or more; .. path value not finite or beyond 2^32"
 abbrev pub badState : ViterbiDecoder → Bool
 badState v = leb (block + v .traceback) (v .held) || someBeyond pathLimit (v .pm)
-
--- the releases of a call of n steps on h held words: one as 4,096 + traceback words are held, which leaves `traceback` of them
-abbrev pub releases : ℕ → ℕ → ℕ → ℕ
-releases tb h n = cond (ltb (h + n) (block + tb)) 0 ((h + n - tb) / block)
 
 -- 9: "a lent output or decision slice shorter than this call writes; decisions always need 4,096 + traceback". The call writes `bits` places of
 -- an output of `out` places; `decisions` is the length of the other slice.

@@ -8,6 +8,7 @@ use lib.ListN.{length, take, drop, length-append}
 use lib.Ieee.{Float}
 use Rattle.refusal.specs.Rows.{firstRow}
 use Rattle.refusal.specs.declared.Answer.the-variants.{Accepted}
+use Rattle.trellis.specs.Isdb
 use Rattle.trellis.specs.Lists.{laid}
 use Rattle.trellis.specs.Step as trellis
 use Rattle.trellis.specs.Step.{renormalised}
@@ -16,12 +17,13 @@ use Rattle.isdb_fec.specs.declared.conv.ViterbiDecoder.{ViterbiDecoder}
 use Rattle.isdb_fec.specs.declared.conv.Released.{Released}
 use Rattle.isdb_fec.specs.Rows.{pushRows, pushMetricsRows, pushKnownRows}
 use Rattle.isdb_fec.specs.Calls.{pairSteps, fourSteps, knownSteps, steps, call, handed, Leaves}
-use Rattle.isdb_fec.specs.Laid.{laid-after}
+use Rattle.viterbi.specs.Laid.{laid-after}
 use Rattle.isdb_fec.specs.Answers.{Enough, stream-enough, known-enough}
-use Rattle.isdb_fec.specs.Count.{Counted, counted}
-use Rattle.isdb_fec.specs.Holding.{bare, holding-is, over-kept, over-released}
+use Rattle.viterbi.specs.Count.{Counted, counted}
+use Rattle.viterbi.specs.Holding.{bare, holding-is, over-kept, over-released}
 use Rattle.isdb_fec.specs.Whole.{few}
-use Rattle.isdb_fec.specs.Runs.{knownCall, pairCall, fourCall, then, known-run, pair-run, four-run}
+use Rattle.viterbi.specs.Calls.{knownCall, pairCall, fourCall}
+use Rattle.viterbi.specs.Runs.{then, known-run, pair-run, four-run}
 
 -- the result of two calls: the state of the second, and how many bits both put out
 abbrev pub both : Released → Released → Released
@@ -68,10 +70,10 @@ abbrev pub CallOf : ℕ → (ℕ → Decoder → Decoder) → Type 0
 CallOf n c = (tb : ℕ) (d : Decoder) → 1 ≤ tb → tb ≤ 1024 → length (d .words) < 4096 + tb → Counted tb (length (d .words)) (length (d .bits)) n (c tb d)
 
 pub known-call : (bits : List ℕ) → CallOf (length bits) (λ tb. knownCall tb bits)
-known-call bits tb d least most h = counted tb (knownSteps bits) d least most h (length bits)
+known-call bits tb d least most h = counted Isdb.half Isdb.labels Isdb.rule tb (knownSteps bits) d least most h (length bits)
 
 pub soft-call : (xs : ℕ → trellis.Step) (n : ℕ) → CallOf n (λ tb d. call tb xs d n)
-soft-call xs n tb d least most h = let c = counted tb xs d least most h n in record { few = c .few; words-left = c .words-left; bits-out = c .bits-out }
+soft-call xs n tb d least most h = let c = counted Isdb.half Isdb.labels Isdb.rule tb xs d least most h n in record { few = c .few; words-left = c .words-left; bits-out = c .bits-out }
 
 module _ (v : ViterbiDecoder) (r₁ r₂ : Released) (dec₀ dec₁ dec₂ out₀ out₁ out₂ : List ℕ) where
   two-calls : (n m : ℕ) (first second : ℕ → Decoder → Decoder) → CallOf n first → CallOf m second → Enough v n (length dec₀) (length out₀)
@@ -90,7 +92,7 @@ module _ (v : ViterbiDecoder) (r₁ r₂ : Released) (dec₀ dec₁ dec₂ out�
       → Leaves (r₁ .dec .traceback) (knownCall (r₁ .dec .traceback) cs (handed (r₁ .dec) dec₁)) r₂ dec₁ dec₂ (drop (r₁ .count) out₁) out₂
       → Leaves (v .traceback) (knownCall (v .traceback) (bs ++ cs) (handed v dec₀)) (both r₁ r₂) dec₀ dec₂ out₀ (take (r₁ .count) out₁ ++ out₂)
   two-known-calls bs cs e l k =
-      rw (known-run (v .traceback) bs cs (handed v dec₀))
+      rw (known-run Isdb.half Isdb.labels Isdb.rule (v .traceback) bs cs (handed v dec₀))
       (two-calls (length bs) (length cs) (λ t. knownCall t bs) (λ t. knownCall t cs) (known-call bs) (known-call cs) (known-enough v (length bs) (length dec₀) (length out₀) e) l k)
 
   -- soft values: n steps first, with n % 64 = 0, after which subtracting the maximum changes nothing
@@ -100,7 +102,7 @@ module _ (v : ViterbiDecoder) (r₁ r₂ : Released) (dec₀ dec₁ dec₂ out�
       → Leaves (r₁ .dec .traceback) (pairCall (r₁ .dec .traceback) qs (handed (r₁ .dec) dec₁)) r₂ dec₁ dec₂ (drop (r₁ .count) out₁) out₂
       → Leaves (v .traceback) (pairCall (v .traceback) (ps ++ qs) (handed v dec₀)) (both r₁ r₂) dec₀ dec₂ out₀ (take (r₁ .count) out₁ ++ out₂)
   two-pair-calls ps qs n is whole e normalised l k =
-      rw (pair-run (v .traceback) ps qs (handed v dec₀) n is whole normalised)
+      rw (pair-run Isdb.half Isdb.labels Isdb.rule (v .traceback) ps qs (handed v dec₀) n is whole normalised)
       (two-calls (length ps / 2) (length qs / 2) (λ t. pairCall t ps) (λ t. pairCall t qs) (soft-call (pairSteps ps) (length ps / 2)) (soft-call (pairSteps qs) (length qs / 2))
       (stream-enough 2 v ps (length dec₀) (length out₀) e) l k)
 
@@ -111,7 +113,7 @@ module _ (v : ViterbiDecoder) (r₁ r₂ : Released) (dec₀ dec₁ dec₂ out�
       → Leaves (r₁ .dec .traceback) (fourCall (r₁ .dec .traceback) ns (handed (r₁ .dec) dec₁)) r₂ dec₁ dec₂ (drop (r₁ .count) out₁) out₂
       → Leaves (v .traceback) (fourCall (v .traceback) (ms ++ ns) (handed v dec₀)) (both r₁ r₂) dec₀ dec₂ out₀ (take (r₁ .count) out₁ ++ out₂)
   two-metric-calls ms ns n is whole e normalised l k =
-      rw (four-run (v .traceback) ms ns (handed v dec₀) n is whole normalised)
+      rw (four-run Isdb.half Isdb.labels Isdb.rule (v .traceback) ms ns (handed v dec₀) n is whole normalised)
       (two-calls (length ms / 4) (length ns / 4) (λ t. fourCall t ms) (λ t. fourCall t ns) (soft-call (fourSteps ms) (length ms / 4)) (soft-call (fourSteps ns) (length ns / 4))
       (stream-enough 4 v ms (length dec₀) (length out₀) e) l k)
 

@@ -8,15 +8,16 @@ use lib.Seq.{length-take-le}
 use lib.Ieee.{Float}
 use Rattle.refusal.specs.declared.Answer.{Answer}
 use Rattle.refusal.specs.declared.Answer.the-variants.{Accepted}
+use Rattle.trellis.specs.Isdb
 use Rattle.trellis.specs.Step as trellis
 use Rattle.trellis.specs.Step.{renormalised}
 use Rattle.trellis.specs.Run.{after}
-use Rattle.isdb_fec.specs.declared.conv.At.{At}
+use Rattle.viterbi.specs.declared.At.{At}
 use Rattle.isdb_fec.specs.declared.conv.ViterbiDecoder.{ViterbiDecoder}
 use Rattle.isdb_fec.specs.Rows.{releases}
 use Rattle.isdb_fec.specs.Calls.{stepOnce, steps, call, handed, holding, Holds, Stepped, Room, Leaves, Unchanged, Either}
 use Rattle.isdb_fec.specs.Answers.{Enough, refused}
-use Rattle.isdb_fec.specs.Holding.{holds-start, steps-lengths, steps-ready, steps-next}
+use Rattle.viterbi.specs.Holding.{holds-start, steps-lengths, steps-ready, steps-next}
 
 -- the words that a handed decoder holds
 pub taken : {v : ViterbiDecoder} {n space : ℕ} (dec₀ : List ℕ) → Enough v n (length dec₀) space → length (take (v .held) dec₀) ≡ v .held
@@ -35,14 +36,14 @@ module _ (v : ViterbiDecoder) (xs : ℕ → trellis.Step) (n : ℕ) (dec₀ out�
 
   module _ (pm : List Float) (at : At) (dec out : List ℕ) (i : ℕ) (h : Holds (v .traceback) dec₀ out₀ (steps (v .traceback) xs (handed v dec₀) i) pm (at .held) (at .count) dec out) where
     pub lengths : i ≤ n → (length dec ≡ length dec₀) × (length out ≡ length out₀)
-    lengths = steps-lengths (v .traceback) xs (handed v dec₀) dec₀ out₀ n (e .least) (e .most) (few dec₀ e) (e .fits) space pm (at .held) (at .count) dec out i h
+    lengths = steps-lengths Isdb.half Isdb.labels Isdb.rule (v .traceback) xs (handed v dec₀) dec₀ out₀ n (e .least) (e .most) (few dec₀ e) (e .fits) space pm (at .held) (at .count) dec out i h
 
     pub ready : i < n → (1 ≤ v .traceback) × (v .traceback ≤ 1024) × (at .held < 4096 + v .traceback) × (4096 + v .traceback ≤ length dec) × (at .count ≤ length out) × Room (v .traceback) (at .held) (at .count) (length out)
-    ready = steps-ready (v .traceback) xs (handed v dec₀) dec₀ out₀ n (e .least) (e .most) (few dec₀ e) (e .fits) space pm (at .held) (at .count) dec out i h
+    ready = steps-ready Isdb.half Isdb.labels Isdb.rule (v .traceback) xs (handed v dec₀) dec₀ out₀ n (e .least) (e .most) (few dec₀ e) (e .fits) space pm (at .held) (at .count) dec out i h
 
     pub goes-on : (r : At) (pm′ : List Float) (dec′ out′ : List ℕ) → Stepped (v .traceback) (stepOnce (v .traceback) i (xs i) (holding pm (at .held) dec)) (at .count) r pm′ dec dec′ out out′
         → Holds (v .traceback) dec₀ out₀ (steps (v .traceback) xs (handed v dec₀) (i + 1)) pm′ (r .held) (r .count) dec′ out′
-    goes-on = steps-next (v .traceback) xs (handed v dec₀) dec₀ out₀ n (e .least) (e .most) (few dec₀ e) (e .fits) space pm (at .held) (at .count) dec out i h
+    goes-on = steps-next Isdb.half Isdb.labels Isdb.rule (v .traceback) xs (handed v dec₀) dec₀ out₀ n (e .least) (e .most) (few dec₀ e) (e .fits) space pm (at .held) (at .count) dec out i h
 
   -- the end, of known bits and of soft values or metrics
   pub ends : (pm : List Float) (at : At) (dec out : List ℕ) → Holds (v .traceback) dec₀ out₀ (steps (v .traceback) xs (handed v dec₀) n) pm (at .held) (at .count) dec out

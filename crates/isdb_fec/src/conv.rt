@@ -1,20 +1,26 @@
 // The mother code of constraint length 7 with generators 171 and 133 octal, and its soft-decision Viterbi decoder: the inner code of
 // every ISDB system. Puncturing lives with the systems.
 ghost use mathlib.Core.Path.{_≡_};
-ghost use mathlib.Core.List.{_++_};
 ghost use mathlib.Core.Bool.{cond, not};
 ghost use Prim.Native.Nat.{ℕ, _+_, _*_, _<_, _≤_, _/_, _%_};
-ghost use lib.ListN.{length, getD, take, drop, replicate};
+ghost use lib.ListN.{length};
 ghost use lib.Dec.{ltb};
 ghost use Rattle.refusal.specs.Rows.{firstRow};
-ghost use Rattle.trellis.specs.Lists.{laid};
 ghost use Rattle.trellis.specs.Code.{isdb, output, moved};
+ghost use Rattle.trellis.specs.Parity.{ones};
 ghost use Rattle.trellis.specs.Run.{startAt, startUnknown};
 ghost use Rattle.isdb_fec.specs.Values.{within, someBeyond};
 ghost use Rattle.isdb_fec.specs.Rows.{encoderRows, freshRows, handedRows, streamRows, pushRows, pushMetricsRows, pushKnownRows, flushRows, releases, stepsShort};
-ghost use Rattle.isdb_fec.specs.Calls.{stepOf, pairSteps, fourSteps, knownSteps, nexts, word, bestState, traced, settle, stepOnce, steps, call, handed, holding, Leaves, Flushes, Unchanged, Either, Room, Fresh, Zero, Stepped};
-pub use acs::renormalise;
+ghost use Rattle.isdb_fec.specs.Calls.{pairSteps, fourSteps, knownSteps, steps, call, handed, Leaves, Flushes, Unchanged, Either, Fresh, Zero};
 use refusal::Answer;
+use viterbi::At;
+use viterbi::Step;
+use viterbi::advance;
+use viterbi::encode_bit;
+use viterbi::finish;
+pub use viterbi::renormalise;
+use viterbi::start_at;
+use viterbi::start_unknown;
 
 pub const CONSTRAINT_LENGTH: usize = 7;
 // The generator of the output X.
@@ -24,35 +30,11 @@ pub const G2: u8 = 0o133;
 // 2 ^ (CONSTRAINT_LENGTH - 1).
 pub const STATES: usize = 64;
 
+// 16 constraint lengths.
 pub const DEFAULT_TRACEBACK: usize = 112;
 
-const HALF: usize = 32;
-// The outputs X and Y for the input 0: that of the state s is bit s. Both generators tap the input, so the input 1 gives the other bit.
-const X_OUTPUTS: u64 = 0x55aa_aa55_aa55_55aa;
-
-const Y_OUTPUTS: u64 = 0x6699_9966_6699_9966;
 // The bits that leave at a release.
 const BLOCK: usize = 4096;
-
-// The pair that an input gives, and the state that it leads to.
-pub struct Coded {
-    pub state: u8,
-    pub x: u8,
-    pub y: u8,
-}
-
-// One input of the encoder; only its low bit counts. The calls check the state and go through this.
-pub fn encode_bit(state: u8, u: u8) -> Coded
-    requires { ⌜ state < 64 ⌝ }
-    ensures { λ r. ⌜ (r .x ≡ output isdb 0o171 (u % 2) state) × (r .y ≡ output isdb 0o133 (u % 2) state) × (r .state ≡ moved 32 (u % 2) state) ⌝ }
-{
-    let b = u % 2;
-    Coded {
-        state: 32 * b + state / 2,
-        x: ((X_OUTPUTS >> state) % 2) as u8 ^ b,
-        y: ((Y_OUTPUTS >> state) % 2) as u8 ^ b,
-    }
-}
 
 pub struct Branch {
     pub answer: Answer,
@@ -60,23 +42,32 @@ pub struct Branch {
     pub y: u8,
 }
 
+// The modulo-2 sum of the bits of x.
+fn parity(x: u8) -> u8
+    ensures { λ r. ⌜ r ≡ ones 8 x % 2 ⌝ }
+{
+    let four = x ^ (x >> 4);
+    let two = four ^ (four >> 2);
+    (two ^ (two >> 1)) % 2
+}
+
 // (X, Y) for the input u at the state.
 pub fn branch_output(state: u8, u: u8) -> Branch
     ensures answers { λ r. ⌜ r .answer ≡ firstRow (encoderRows state) ⌝ }
     ensures outputs { λ r. ⌜ Either (r .answer) ((r .x ≡ output isdb 0o171 (u % 2) state) × (r .y ≡ output isdb 0o133 (u % 2) state)) ((r .x ≡ 0) × (r .y ≡ 0)) ⌝ }
 {
-    if state > 63 {
+    if (state as usize) >= STATES {
         return Branch {
             answer: Answer::State,
             x: 0,
             y: 0,
         };
     }
-    let c = encode_bit(state, u);
+    let register = ((u % 2) << (CONSTRAINT_LENGTH - 1)) + state;
     Branch {
         answer: Answer::Accepted,
-        x: c.x,
-        y: c.y,
+        x: parity(register & G1),
+        y: parity(register & G2),
     }
 }
 
@@ -127,140 +118,6 @@ impl ConvEncoder {
             y: c.y,
         }
     }
-}
-
-// What a trellis step carries.
-pub enum Step {
-    Pair(f32, f32),
-    Four(f32, f32, f32, f32),
-    Known(u8),
-}
-
-// Step i of a call: adds, compares and selects, then subtracts the maximum where the step calls for it. The decision word.
-fn trellis_step(pm: &mut [f32; 64], i: usize, x: Step) -> u64
-    ensures { λ r. ⌜ (now (pm .exit) ≡ settle i (stepOf x) (nexts (now (pm .entry)) (stepOf x))) × (r ≡ word (now (pm .entry)) (stepOf x)) ⌝ }
-{
-    match x {
-        Step::Pair(lx, ly) => {
-            let w = acs::acs(pm, lx, ly);
-            if i % 64 == 63 {
-                renormalise(pm);
-            }
-            w
-        }
-        Step::Four(a, b, c, d) => {
-            let w = acs::acs4(pm, [a, b, c, d]);
-            if i % 64 == 63 {
-                renormalise(pm);
-            }
-            w
-        }
-        Step::Known(b) => {
-            let w = acs::acs(pm, 0.0, 0.0);
-            acs::rule_out(pm, b);
-            renormalise(pm);
-            w
-        }
-    }
-}
-
-// Traces the first n decision words back from `state`, and writes the oldest `count` of the n bits to the front of `out`.
-fn trace(decisions: &[u64], n: usize, state: usize, count: usize, out: &mut [u8])
-    requires { ⌜ (state < 64) × (n ≤ length (now decisions)) × (count ≤ n) × (count ≤ length (now out)) ⌝ }
-    ensures { λ _. ⌜ now (out .exit) ≡ laid (take count (traced (take n (now (decisions .entry))) state)) (now (out .entry)) ⌝ }
-{
-    let mut s = state;
-    let mut t = n;
-    while t > 0 {
-        t -= 1;
-        if t < count {
-            out[t] = (s / HALF) as u8;
-        }
-        s = 2 * (s % HALF) + ((decisions[t] >> s) % 2) as usize;
-    }
-}
-
-// Moves n words down by the words of a release.
-fn move_down(decisions: &mut [u64], n: usize)
-    requires { ⌜ 4096 + n ≤ length (now decisions) ⌝ }
-    ensures { λ _. ⌜ now (decisions .exit) ≡ laid (take n (drop 4096 (now (decisions .entry)))) (now (decisions .entry)) ⌝ }
-{
-    for t in 0..n {
-        decisions[t] = decisions[BLOCK + t];
-    }
-}
-
-// Sets the first n words to 0.
-pub fn clear(decisions: &mut [u64], n: usize)
-    requires { ⌜ n ≤ length (now decisions) ⌝ }
-    ensures { λ _. ⌜ now (decisions .exit) ≡ laid (replicate n 0) (now (decisions .entry)) ⌝ }
-{
-    for t in 0..n {
-        decisions[t] = 0;
-    }
-}
-
-// The release of 4,096 bits to the front of `out`, as BLOCK + traceback words are held: those left move down, and freed words become 0.
-fn release(pm: &[f32; 64], traceback: usize, decisions: &mut [u64], out: &mut [u8])
-    requires { ⌜ (traceback ≤ 1024) × (4096 + traceback ≤ length (now decisions)) × (4096 ≤ length (now out)) ⌝ }
-    ensures { λ _. ⌜ (now (out .exit) ≡ laid (take 4096 (traced (take (4096 + traceback) (now (decisions .entry))) (bestState (now (pm .entry))))) (now (out .entry)))
-        × (now (decisions .exit) ≡ laid (drop 4096 (take (4096 + traceback) (now (decisions .entry)))) (laid (replicate (4096 + traceback) 0) (now (decisions .entry)))) ⌝ }
-{
-    let s = acs::best_state(pm);
-    trace(decisions, BLOCK + traceback, s, BLOCK, out);
-    move_down(decisions, traceback);
-    clear(&mut decisions[traceback..], BLOCK);
-}
-
-// How far a call has come: the held words, and the bits put out.
-pub struct At {
-    pub held: usize,
-    pub count: usize,
-}
-
-// Step i of a call with the release that may follow it: every call of a decoder runs on this.
-pub fn advance(
-    pm: &mut [f32; 64],
-    at: At,
-    traceback: usize,
-    i: usize,
-    x: Step,
-    decisions: &mut [u64],
-    out: &mut [u8],
-) -> At
-    requires { ⌜ (1 ≤ traceback) × (traceback ≤ 1024) × (at .held < 4096 + traceback) × (4096 + traceback ≤ length (now decisions)) × (at .count ≤ length (now out)) × Room traceback (at .held) (at .count) (length (now out)) ⌝ }
-    ensures { λ r. ⌜ Stepped traceback (stepOnce traceback i (stepOf x) (holding (now (pm .entry)) (at .held) (now (decisions .entry)))) (at .count) r (now (pm .exit)) (now (decisions .entry)) (now (decisions .exit)) (now (out .entry)) (now (out .exit)) ⌝ }
-{
-    let held = at.held;
-    let count = at.count;
-    let w = trellis_step(pm, i, x);
-    decisions[held] = w;
-    if held + 1 < BLOCK + traceback {
-        return At {
-            held: held + 1,
-            count,
-        };
-    }
-    release(pm, traceback, decisions, &mut out[count..]);
-    At {
-        held: traceback,
-        count: count + BLOCK,
-    }
-}
-
-// The flush inside a call: puts out the bits of all held words after the first `count` places of `out`, and zeroes the words. The new count.
-pub fn finish(pm: &[f32; 64], at: At, decisions: &mut [u64], out: &mut [u8]) -> usize
-    requires { ⌜ (at .held ≤ length (now decisions)) × (at .count + at .held ≤ length (now out)) ⌝ }
-    ensures { λ r. ⌜ (r ≡ at .count + at .held)
-        × (now (decisions .exit) ≡ laid (replicate (at .held) 0) (now (decisions .entry)))
-        × (now (out .exit) ≡ take (at .count) (now (out .entry)) ++ laid (traced (take (at .held) (now (decisions .entry))) (bestState (now (pm .entry)))) (drop (at .count) (now (out .entry)))) ⌝ }
-{
-    let held = at.held;
-    let count = at.count;
-    let s = acs::best_state(pm);
-    trace(decisions, held, s, held, &mut out[count..]);
-    clear(decisions, held);
-    count + held
 }
 
 // Whether a value is not a number or beyond the limit.
@@ -343,20 +200,11 @@ fn fresh(traceback: usize, pm: [f32; 64]) -> Made
     }
 }
 
-// The path values of a known start.
-pub fn start_at(state: u8) -> [f32; 64]
-    ensures { λ r. ⌜ r ≡ startAt 64 state ⌝ }
+// The depth of 16 constraint lengths.
+pub fn default_traceback() -> usize
+    ensures { λ r. ⌜ r ≡ 16 * isdb .constraint ⌝ }
 {
-    let mut pm = [-1.0e6f32; 64];
-    pm[(state % 64) as usize] = 0.0;
-    pm
-}
-
-// The path values of an unknown start.
-pub fn start_unknown() -> [f32; 64]
-    ensures { λ r. ⌜ r ≡ startUnknown 64 ⌝ }
-{
-    [0.0f32; 64]
+    DEFAULT_TRACEBACK
 }
 
 impl ViterbiDecoder {

@@ -10,15 +10,16 @@ use lib.ListN.{length, take, drop, replicate, length-replicate}
 use lib.Seq.{length-take-le}
 use lib.Ieee.{Float}
 use borrow.Author.Tests.{eqb-true, eqb-false}
+use Rattle.trellis.specs.Isdb
+use Rattle.trellis.specs.Isdb.{closed}
 use Rattle.trellis.specs.Lists.{laid}
-use Rattle.trellis.specs.Code.{isdb, label}
-use Rattle.trellis.specs.Step.{Step, lower, renormalised}
-use Rattle.trellis.specs.Run.{Decoder, after, closed}
-use Rattle.isdb_fec.specs.declared.conv.At.{At}
-use Rattle.isdb_fec.specs.Calls.{stepOnce, steps, traced, bestState, holding, Holds, Stepped}
-use Rattle.isdb_fec.specs.Count.{step-counts}
-use Rattle.isdb_fec.specs.Holding.{holds-next, holding-is, cleared}
-use Rattle.isdb_fec.specs.Laid.{laid-after, laid-laid}
+use Rattle.trellis.specs.Step.{Step, renormalised}
+use Rattle.trellis.specs.Run.{Decoder, after}
+use Rattle.viterbi.specs.declared.At.{At}
+use Rattle.viterbi.specs.Calls.{stepOnce, steps, traced, bestState, holding, Holds, Stepped}
+use Rattle.viterbi.specs.Count.{step-counts}
+use Rattle.viterbi.specs.Holding.{holds-next, holding-is, cleared}
+use Rattle.viterbi.specs.Laid.{laid-after, laid-laid}
 use Rattle.isdbs_core.specs.declared.combination.Combination.{Combination}
 use Rattle.isdbs_core.specs.declared.combination.Combination.the-variants.{«Bpsk1_2», «Qpsk1_2», «Qpsk2_3», «Qpsk3_4», «Qpsk5_6», «Qpsk7_8», «Tc8psk2_3»}
 use Rattle.isdbs_metrics.specs.declared.Phase.{Phase}
@@ -89,7 +90,7 @@ module _ (ys : ℕ → Step) (i0 : ℕ) (pm₀ : List Float) (at : At) (dec₀ o
       let f = z .few in
       let u = z .sum in
       let l : length (take (r .held) dec) ≡ r .held = length-take-le (r .held) dec (omega arith) in
-      let n = step-counts 128 (i0 + k) x (holding pm (r .held) dec) (omega arith) (omega arith) in
+      let n = step-counts Isdb.half Isdb.labels Isdb.rule 128 (i0 + k) x (holding pm (r .held) dec) (omega arith) (omega arith) in
       let nf = n .few in
       let ns = n .sum in
       let sh = s .held-is in
@@ -102,7 +103,7 @@ module _ (ys : ℕ → Step) (i0 : ℕ) (pm₀ : List Float) (at : At) (dec₀ o
             let bh = before .held-is in
             let ey : xs (i0 + k) ≡ x = e k (omega arith) ∙ sym ex in
             let eq : i0 + (k + 1) ≡ suc (i0 + k) = omega arith in
-            rw (eq, ey) (holds-next 128 (i0 + k) x (steps 128 xs d (i0 + k)) dec₁ out₁ r′ pm pm′ (r .held) (r .count) dec dec′ out out′ (omega arith) before s);
+            rw (eq, ey) (holds-next Isdb.half Isdb.labels Isdb.rule 128 (i0 + k) x (steps 128 xs d (i0 + k)) dec₁ out₁ r′ pm pm′ (r .held) (r .count) dec dec′ out out′ (omega arith) before s);
       }
 
 -- ---- the end of a frame
@@ -116,10 +117,10 @@ pub ended : (at r : At) (pm pm₁ pm₂ : List Float) (dec out dec₂ out₂ dec
 unfolding after
 ended at r pm pm₁ pm₂ dec out dec₂ out₂ dec₃ out₃ dec₄ en kc ed eo ec = record {
   ends = λ d dec₀ out₀ fits h.
-      let shut : Holds 128 dec₀ out₀ (closed 32 (label isdb) lower d) pm₁ (at .held) (at .count) dec out =
+      let shut : Holds 128 dec₀ out₀ (closed d) pm₁ (at .held) (at .count) dec out =
       record { values = en ∙ ap (λ (y : List Float). renormalised 32 y) (h .values); held-is = h .held-is; count-is = h .count-is; words = h .words; bits = h .bits } in
-      let e = steps 128 knownBits (closed 32 (label isdb) lower d) 16 in
-      let k = kc .carries knownBits (closed 32 (label isdb) lower d) dec₀ out₀ (λ j l. ap knownBits (zero-add j)) shut in
+      let e = steps 128 knownBits (closed d) 16 in
+      let k = kc .carries knownBits (closed d) dec₀ out₀ (λ j l. ap knownBits (zero-add j)) shut in
       let b = holding-is 128 e dec₀ out₀ pm₂ (r .held) (r .count) dec₂ out₂ k in
       let ws : take (r .held) dec₂ ≡ e .words = ap (λ (z : Decoder). z .words) b in
       let kh = k .held-is in

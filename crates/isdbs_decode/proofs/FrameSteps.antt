@@ -6,9 +6,9 @@ use native.Mathlib.Omega.{arith}
 use lib.ListN.{length, getD, take, drop}
 use lib.Ieee.{Float}
 use Rattle.trellis.specs.Run.{after}
-use Rattle.isdb_fec.specs.declared.conv.At.{At}
-use Rattle.isdb_fec.specs.Calls.{steps, Holds}
-use Rattle.isdb_fec.specs.Holding.{holds-start}
+use Rattle.viterbi.specs.declared.At.{At}
+use Rattle.viterbi.specs.Calls.{steps, Holds}
+use Rattle.viterbi.specs.Holding.{holds-start}
 use Rattle.isdbs_core.specs.declared.slots.Run.{Run}
 use Rattle.isdbs_core.specs.declared.tmcc.Table.{Table}
 use Rattle.isdbs_core.specs.RunsOf.{stepsOf, stepsIn, frameSteps, noRun}

@@ -8,13 +8,16 @@ use native.Mathlib.Nat.{not-suc-le-zero, le-of-suc-le-suc, mod-lt}
 use lib.Dec.{leb, lit<, lit≤}
 use lib.ListN.{length, getD, take, drop, length-append}
 use lib.Ieee.{Float, nan}
+use Rattle.trellis.specs.Isdb
+use Rattle.trellis.specs.Isdb.{closed, released, best}
 use Rattle.trellis.specs.Lists.{upto}
-use Rattle.trellis.specs.Code.{isdb, label}
-use Rattle.trellis.specs.Step.{Step, lower, takes, best, kept, back, input, traced}
-use Rattle.trellis.specs.Run.{Decoder, block, closed, released, stepped, after}
-use Rattle.isdb_fec.specs.Calls.{nexts, word, settle, steps}
-use Rattle.isdb_fec.specs.Count.{counted}
-use Rattle.isdb_fec.specs.Traced.{length-traced}
+use Rattle.trellis.specs.Step as step
+use Rattle.trellis.specs.Step.{Step, takes, kept, back, input, traced}
+use Rattle.trellis.specs.Run as run
+use Rattle.trellis.specs.Run.{Decoder, block, stepped, after}
+use Rattle.viterbi.specs.Calls.{nexts, word, settle, steps}
+use Rattle.viterbi.specs.Count.{counted}
+use Rattle.viterbi.specs.Traced.{length-traced}
 use Rattle.isdbs_core.specs.declared.tmcc.Table.{Table}
 use Rattle.isdbs_core.specs.RunsOf.{frameSteps}
 use Rattle.isdbs_metrics.specs.Reading.{Received, startValues, decodedBits}
@@ -60,10 +63,10 @@ chosen : (t : Bool) (n b : ℕ) → b ≤ n → cond t (suc n) b ≤ suc n
 chosen true n b h = omega arith
 chosen false n b h = omega arith
 
-best-small : (pm : List Float) (n : ℕ) → best lower pm n ≤ n
-unfolding best
+best-small : (pm : List Float) (n : ℕ) → best pm n ≤ n
+unfolding step.best
 best-small pm zero = omega arith
-best-small pm (suc n) = chosen (takes lower (getD pm (best lower pm n) nan) (getD pm (suc n) nan)) n (best lower pm n) (best-small pm n)
+best-small pm (suc n) = chosen (takes Isdb.rule (getD pm (best pm n) nan) (getD pm (suc n) nan)) n (best pm n) (best-small pm n)
 
 traced-binary : (ws : List ℕ) (s : ℕ) → s < 64 → Binary (traced 32 ws s)
 unfolding traced input
@@ -71,20 +74,20 @@ traced-binary ws s h =
     binary-upto (λ k. back 32 ws (length ws) s (length ws - (k + 1)) / 32) (length ws)
     (λ i. let b = back-small ws (length ws) s (length ws - (i + 1)) h in omega arith)
 
-best-traced : (ws : List ℕ) (pm : List Float) → Binary (traced 32 ws (best lower pm 63))
-best-traced ws pm = let b = best-small pm 63 in traced-binary ws (best lower pm 63) (omega arith)
+best-traced : (ws : List ℕ) (pm : List Float) → Binary (traced 32 ws (best pm 63))
+best-traced ws pm = let b = best-small pm 63 in traced-binary ws (best pm 63) (omega arith)
 
 either : (t : Bool) (a b : Decoder) → Binary (a .bits) → Binary (b .bits) → Binary (cond t a b .bits)
 either true a b p q = p
 either false a b p q = q
 
-released-binary : (d : Decoder) → Binary (d .bits) → Binary (released 32 (label isdb) lower 128 d .bits)
-unfolding released
+released-binary : (d : Decoder) → Binary (d .bits) → Binary (released 128 d .bits)
+unfolding run.released
 released-binary d p =
     either (leb (block + 128) (length (d .words)))
-    (record { values = d .values; words = drop block (d .words); bits = d .bits ++ take block (traced 32 (d .words) (best lower (d .values) 63)) })
+    (record { values = d .values; words = drop block (d .words); bits = d .bits ++ take block (traced 32 (d .words) (best (d .values) 63)) })
     d
-    (binary-append (d .bits) (take block (traced 32 (d .words) (best lower (d .values) 63))) p (binary-take block (traced 32 (d .words) (best lower (d .values) 63)) (best-traced (d .words) (d .values))))
+    (binary-append (d .bits) (take block (traced 32 (d .words) (best (d .values) 63))) p (binary-take block (traced 32 (d .words) (best (d .values) 63)) (best-traced (d .words) (d .values))))
     p
 
 after-binary : (xs : ℕ → Step) (d : Decoder) (n : ℕ) → Binary (d .bits) → Binary (steps 128 xs d n .bits)
@@ -99,8 +102,8 @@ after-binary xs d (suc n) p =
 -- the first steps, the known bits, the flush
 ended-binary : (d : Decoder) → Binary (d .bits) → Binary (endedBits d)
 ended-binary d p =
-    let e = steps 128 knownBits (closed 32 (label isdb) lower d) 16 in
-    binary-append (e .bits) (traced 32 (e .words) (best lower (e .values) 63)) (after-binary knownBits (closed 32 (label isdb) lower d) 16 p) (best-traced (e .words) (e .values))
+    let e = steps 128 knownBits (closed d) 16 in
+    binary-append (e .bits) (traced 32 (e .words) (best (e .values) 63)) (after-binary knownBits (closed d) 16 p) (best-traced (e .words) (e .values))
 
 module _ (t : Table) (r : Received) (pm : List Float) where
   abbrev read : Decoder
@@ -111,16 +114,16 @@ module _ (t : Table) (r : Received) (pm : List Float) where
 
   pub from-count : length (bitsFrom t r pm) ≡ frameSteps t + 16
   from-count =
-      let d = closed 32 (label isdb) lower read in
+      let d = closed read in
       let e = steps 128 knownBits d 16 in
-      let a = counted 128 (frameMetrics t r) (freshFrom pm) (lit≤ tt) (lit≤ tt) (lit< tt) (frameSteps t) in
-      let b = counted 128 knownBits d (lit≤ tt) (lit≤ tt) (a .few) 16 in
+      let a = counted Isdb.half Isdb.labels Isdb.rule 128 (frameMetrics t r) (freshFrom pm) (lit≤ tt) (lit≤ tt) (lit< tt) (frameSteps t) in
+      let b = counted Isdb.half Isdb.labels Isdb.rule 128 knownBits d (lit≤ tt) (lit≤ tt) (a .few) 16 in
       let aw = a .words-left in
       let ab = a .bits-out in
       let bw = b .words-left in
       let bb = b .bits-out in
-      let lt = length-traced (e .words) (best lower (e .values) 63) in
-      length-append (e .bits) (traced 32 (e .words) (best lower (e .values) 63)) ∙ omega arith
+      let lt = length-traced Isdb.half (e .words) (best (e .values) 63) in
+      length-append (e .bits) (traced 32 (e .words) (best (e .values) 63)) ∙ omega arith
 
 module _ (t : Table) (r : Received) (knownStart first : Bool) where
   pub decoded-from : decodedBits t r knownStart first ≡ bitsFrom t r (startValues knownStart first)

@@ -5,12 +5,12 @@ use mathlib.Core.List.{List, []}
 use Prim.Native.Nat.{ℕ, _+_, _*_, _<_, _≤_}
 use lib.ListN.{length, replicate}
 use lib.Ieee.{Float}
+use Rattle.trellis.specs.Isdb.{closed}
 use Rattle.trellis.specs.Lists.{laid}
-use Rattle.trellis.specs.Code.{isdb, label}
-use Rattle.trellis.specs.Step.{Step, four, known, lower}
-use Rattle.trellis.specs.Run.{Decoder, closed}
-use Rattle.isdb_fec.specs.declared.conv.At.{At}
-use Rattle.isdb_fec.specs.Calls.{steps, flush, Holds}
+use Rattle.trellis.specs.Step.{Step, four, known}
+use Rattle.trellis.specs.Run.{Decoder}
+use Rattle.viterbi.specs.declared.At.{At}
+use Rattle.viterbi.specs.Calls.{steps, flush, Holds}
 use Rattle.isdbs_core.specs.declared.combination.Combination.{Combination}
 use Rattle.isdbs_core.specs.declared.tmcc.Table.{Table}
 use Rattle.isdbs_core.specs.RunsOf.{frameSteps}
@@ -51,7 +51,7 @@ pub record RunsRead (t : Table) (rx : Received) (pm : List Float) (dec out : Lis
 
 -- "then the 16 bits of W1, high bit first, as known bits; then a flush": the bits of a decoder d whose frame steps are done
 abbrev pub endedBits : Decoder → List ℕ
-endedBits d = flush (steps frameTraceback knownBits (closed 32 (label isdb) lower d) 16) .bits
+endedBits d = flush (steps frameTraceback knownBits (closed d) 16) .bits
 
 pub record Ended (pm : List Float) (at : At) (dec out dec′ out′ : List ℕ) : Type 0 where
   pub ends : (d : Decoder) (dec₀ out₀ : List ℕ) → frameWords ≤ length dec₀ → Holds frameTraceback dec₀ out₀ d pm (at .held) (at .count) dec out

@@ -10,7 +10,7 @@ use lib.Ieee.{Float, nan}
 use lib.ListN.{length, getD, take, drop}
 use Rattle.trellis.specs.Lists.{upto, laid}
 use Rattle.trellis.specs.Code.{stateAt}
-use Rattle.isdb_fec.specs.Upto.{getD-upto}
+use Rattle.viterbi.specs.Upto.{getD-upto}
 use Rattle.isdbs_core.specs.declared.combination.Combination.{Combination}
 use Rattle.isdbs_core.specs.declared.combination.Combination.the-variants.{«Bpsk1_2», «Qpsk1_2», «Qpsk2_3», «Qpsk3_4», «Qpsk5_6», «Qpsk7_8», «Tc8psk2_3»}
 use Rattle.isdbs_core.specs.declared.combination.Modulation.the-variants.{Qpsk}

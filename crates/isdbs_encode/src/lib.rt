@@ -1,5 +1,4 @@
 // The encoder of a frame: bytes to points. No row is checked here. After demod.rs of isdbs-phy.
-use isdb_fec::conv::encode_bit;
 use isdbs_core::combination::Combination;
 use isdbs_core::combination::MaybePuncture;
 use isdbs_core::combination::Modulation;
@@ -13,6 +12,7 @@ use isdbs_points::mirror;
 use isdbs_points::psk8_point;
 use isdbs_points::qpsk_mapped;
 use isdbs_points::subset_of;
+use viterbi::encode_bit;
 ghost use mathlib.Core.Path.{_≡_};
 ghost use Prim.Native.Nat.{_+_, _*_, _/_, _%_, _<_, _≤_, _^_};
 ghost use lib.ListN.{length, getD, take};

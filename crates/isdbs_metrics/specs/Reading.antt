@@ -5,10 +5,10 @@ use Prim.Native.Nat.{ℕ, _+_, _*_, _/_, _%_}
 use lib.ListN.{getD, length}
 use lib.Dec.{eqb, ltb}
 use lib.Ieee.{Float, nan, inf, fin, binary32, binary64, neg, add, sub, mul, lt, ofBits}
+use Rattle.trellis.specs.Isdb.{call, steps, flush}
 use Rattle.trellis.specs.Lists.{upto, bit}
-use Rattle.trellis.specs.Code.{isdb, label}
-use Rattle.trellis.specs.Step.{four, known, lower}
-use Rattle.trellis.specs.Run.{Decoder, block, startAt, startUnknown, after, pushed, flushed}
+use Rattle.trellis.specs.Step.{four, known}
+use Rattle.trellis.specs.Run.{Decoder, block, startAt, startUnknown}
 use Rattle.isdbs_core.specs.declared.combination.Combination.{Combination}
 use Rattle.isdbs_core.specs.declared.combination.Modulation.{Modulation}
 use Rattle.isdbs_core.specs.declared.combination.Modulation.the-variants.{Bpsk, Qpsk, Tc8psk}
@@ -105,9 +105,9 @@ frameWords = block + frameTraceback
 unfoldable pub decodedBits : Table → Received → Bool → Bool → List ℕ
 decodedBits t r knownStart first =
     let d0 : Decoder = record { values = startValues knownStart first; words = []; bits = [] } in
-    let d1 = pushed 32 (label isdb) lower frameTraceback (λ k. four (metricsAt t r k)) d0 (frameSteps t) in
-    let d2 = after 32 (label isdb) lower frameTraceback (λ k. known (wordBit 0x1b95 k)) d1 16 in
-    flushed 32 (label isdb) lower d2 .bits
+    let d1 = call frameTraceback (λ k. four (metricsAt t r k)) d0 (frameSteps t) in
+    let d2 = steps frameTraceback (λ k. known (wordBit 0x1b95 k)) d1 16 in
+    flush d2 .bits
 
 -- ---- bytes
 -- "C2 is 1 exactly when (v × conj p).re is below 0, p being the point of label 2C1+C0"

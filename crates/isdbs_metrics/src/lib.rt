@@ -1,5 +1,4 @@
 // The four branch metrics of a trellis step, from the points of a run. The lent parts start at the run's first symbol.
-use isdb_fec::conv::Step;
 use isdbs_core::combination::Combination;
 use isdbs_core::combination::Modulation;
 use isdbs_points::Cplx;
@@ -7,6 +6,7 @@ use isdbs_points::Mapping;
 use isdbs_points::mirror;
 use isdbs_points::psk8_point;
 use isdbs_soft::soft;
+use viterbi::Step;
 ghost use mathlib.Core.Path.{_≡_};
 ghost use mathlib.Core.Bool.{cond};
 ghost use Prim.Native.Nat.{_+_, _*_, _/_, _<_, _≤_, _^_};
@@ -15,7 +15,7 @@ ghost use lib.ListN.{length, getD};
 ghost use lib.Ieee.{nan, mul, binary32, ofBits};
 ghost use Rattle.trellis.specs.Step.{four};
 ghost use Rattle.trellis.specs.Lists.{upto};
-ghost use Rattle.isdb_fec.specs.Calls.{stepOf};
+ghost use Rattle.viterbi.specs.Calls.{stepOf};
 ghost use Rattle.isdbs_soft.specs.Soft.{softOf};
 ghost use Rattle.isdbs_points.specs.Points.{point, turned, psk8Of, subset};
 ghost use Rattle.isdbs_metrics.specs.Reading.{pairMetrics, correlation, absolute};

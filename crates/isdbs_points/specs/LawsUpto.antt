@@ -7,8 +7,8 @@ use native.Mathlib.Numerals.{add-one}
 use native.Mathlib.Omega.{arith}
 use lib.ListN.{length, take, drop, set}
 use Rattle.trellis.specs.Lists.{upto, laid}
-use Rattle.isdb_fec.specs.Upto.{length-upto}
-use Rattle.isdb_fec.specs.Laid.{laid-more, laid-after, length-laid}
+use Rattle.viterbi.specs.Upto.{length-upto}
+use Rattle.viterbi.specs.Laid.{laid-more, laid-after, length-laid}
 
 module _ {A : Type 0} where
   pub upto-append : (f : ℕ → A) (a b : ℕ) → upto f (a + b) ≡ upto f a ++ upto (λ i. f (a + i)) b

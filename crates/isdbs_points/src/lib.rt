@@ -1,8 +1,8 @@
 // Signal points by their bits (MIC Ordinance No. 87 of 2011, annexed table 46; ITU-R BO.1408-1, Fig. 15), how a mapping lays them, and the state that a
 // frame starts from. After demod.rs of isdbs-phy.
-use isdb_fec::conv::encode_bit;
 use isdbs_core::frame::W2;
 use isdbs_core::frame::W3;
+use viterbi::encode_bit;
 ghost use mathlib.Core.Path.{_≡_};
 ghost use mathlib.Core.Bool.{true, false};
 ghost use Prim.Native.Nat.{_%_, _<_};

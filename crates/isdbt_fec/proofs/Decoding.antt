@@ -5,15 +5,16 @@ use Prim.Native.Nat.{ℕ, _+_, _*_, _/_, _<_, _≤_}
 use native.Mathlib.Omega.{arith}
 use lib.ListN.{length, take, drop, replicate}
 use lib.Ieee.{Float}
+use Rattle.trellis.specs.Isdb
 use Rattle.trellis.specs.Lists.{laid}
 use Rattle.trellis.specs.Step as trellis
 use Rattle.trellis.specs.Step.{pair, renormalised}
 use Rattle.trellis.specs.Run.{startAt}
-use Rattle.isdb_fec.specs.declared.conv.At.{At}
+use Rattle.viterbi.specs.declared.At.{At}
 use Rattle.isdb_fec.specs.Calls as fec
 use Rattle.isdb_fec.specs.Calls.{Holds, Stepped, Room, holding, stepOnce, bestState, traced}
 use Rattle.isdb_fec.specs.Answers.{Enough}
-use Rattle.isdb_fec.specs.Count.{counted}
+use Rattle.viterbi.specs.Count.{counted}
 use Rattle.isdb_fec.specs.Whole.{begins, lengths, ready, goes-on}
 use Rattle.isdbt_fec.specs.declared.conv.CodeRate.{CodeRate}
 use Rattle.isdbt_fec.specs.declared.conv.Puncturing.{Puncturing}
@@ -38,7 +39,7 @@ module _ (tb : ℕ) (xs : ℕ → trellis.Step) (n : ℕ) (pm₀ : List Float) (
       → Decoding tb xs n pm₀ dec₀ out₀ i pm at dec out
   after-steps i pm at dec out below room e h =
       let l = lengths (begun pm₀ tb) xs n dec₀ out₀ e pm at dec out i h below in
-      let c = counted tb xs (holding pm₀ 0 dec₀) (e .least) (e .most) (omega arith) i in
+      let c = counted Isdb.half Isdb.labels Isdb.rule tb xs (holding pm₀ 0 dec₀) (e .least) (e .most) (omega arith) i in
       let few = c .few in
       let words = c .words-left in
       let bits = c .bits-out in

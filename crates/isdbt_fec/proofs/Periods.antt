@@ -6,7 +6,7 @@ use native.Mathlib.Omega.{arith}
 use borrow.Rule.Slice.PartMut.{midOf, putMid}
 use lib.ListN.{length, getD, take, drop, length-drop}
 use lib.Seq.{length-take-le}
-use Rattle.isdb_fec.specs.Parts.{tail-whole, written-tail}
+use Rattle.viterbi.specs.Parts.{tail-whole, written-tail}
 use Rattle.trellis.specs.Lists.{upto, laid}
 use Rattle.trellis.specs.Code.{stateAt}
 use Rattle.isdbt_fec.specs.declared.conv.CodeRate.{CodeRate}

@@ -5,8 +5,8 @@ use Prim.Native.Nat.{ℕ, _+_, _<_, _≤_}
 use native.Mathlib.Omega.{arith}
 use lib.ListN.{length, set, take, drop, length-set}
 use Rattle.trellis.specs.Lists.{upto, laid}
-use Rattle.isdb_fec.specs.Laid.{length-laid}
-use Rattle.isdb_fec.specs.Upto.{length-upto}
+use Rattle.viterbi.specs.Laid.{length-laid}
+use Rattle.viterbi.specs.Upto.{length-upto}
 use Rattle.isdbt_fec.specs.Upto.{upto-next, upto-after}
 
 pub record Written {A : Type 0} (f : ℕ → A) (k : ℕ) (out₀ out : List A) : Type 0 where

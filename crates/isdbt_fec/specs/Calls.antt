@@ -4,11 +4,12 @@ use mathlib.Core.List.{List, []}
 use Prim.Native.Nat.{ℕ, _+_, _*_, _/_}
 use lib.ListN.{length, getD, replicate}
 use lib.Ieee.{Float, nan}
+use Rattle.trellis.specs.Isdb.{call, flush}
 use Rattle.trellis.specs.Lists.{laid}
-use Rattle.trellis.specs.Code.{isdb, label, stateAt}
+use Rattle.trellis.specs.Code.{stateAt}
 use Rattle.trellis.specs.Step as trellis
-use Rattle.trellis.specs.Step.{pair, lower}
-use Rattle.trellis.specs.Run.{Decoder, startAt, block, pushed, flushed}
+use Rattle.trellis.specs.Step.{pair}
+use Rattle.trellis.specs.Run.{Decoder, startAt, block}
 use Rattle.isdbt_fec.specs.declared.conv.CodeRate.{CodeRate}
 use Rattle.isdbt_fec.specs.declared.conv.Encoded.{Encoded}
 use Rattle.isdbt_fec.specs.declared.conv.Done.{Done}
@@ -48,7 +49,7 @@ fresh = record { values = startAt 64 0; words = []; bits = [] }
 -- one push of all the steps, and one flush
 unfoldable pub decodedBits : CodeRate → List Float → ℕ → List ℕ
 decodedBits rate xs tb =
-    flushed 32 (label isdb) lower (pushed 32 (label isdb) lower tb (steps rate xs) fresh (length xs / sent rate * period rate)) .bits
+    flush (call tb (steps rate xs) fresh (length xs / sent rate * period rate)) .bits
 
 -- the bits at the front, the rest as before; "the first 4,096 + traceback decision words are 0", the rest as before
 pub record Decodes (rate : CodeRate) (xs : List Float) (tb : ℕ) (r : Done) (decisions₀ decisions out₀ out : List ℕ) : Type 0 where

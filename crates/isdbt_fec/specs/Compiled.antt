@@ -10,7 +10,7 @@ use Rattle.isdbt_fec.specs.declared.conv.CodeRate.{CodeRate}
 use Rattle.isdbt_fec.specs.declared.conv.CodeRate.the-variants.{R1_2, R2_3, R3_4, R5_6, R7_8}
 use Rattle.isdbt_fec.specs.declared.conv.PunctureSpec.{PunctureSpec}
 use Rattle.isdbt_fec.specs.Table.{rowOf, specOf, compiled}
-use Rattle.isdb_fec.specs.Each.{both-left, both-right, all, each}
+use Rattle.viterbi.specs.Each.{both-left, both-right, all, each}
 
 -- the table: each rate's row in its place
 abbrev pub table : List PunctureSpec

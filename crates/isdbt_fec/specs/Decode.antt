@@ -8,19 +8,20 @@ use lib.Dec.{eqb}
 use lib.ListN.{length, getD, take, drop, replicate, length-replicate}
 use lib.Ieee.{Float, nan}
 use borrow.Author.Tests.{eqb-false}
+use Rattle.trellis.specs.Isdb
 use Rattle.trellis.specs.Lists.{upto, laid}
 use Rattle.trellis.specs.Step as trellis
 use Rattle.trellis.specs.Step.{pair, renormalised}
 use Rattle.trellis.specs.Run.{Decoder, startAt, after}
-use Rattle.isdb_fec.specs.declared.conv.At.{At}
+use Rattle.viterbi.specs.declared.At.{At}
 use Rattle.isdb_fec.specs.declared.conv.ViterbiDecoder.{ViterbiDecoder}
 use Rattle.isdb_fec.specs.Calls as fec
 use Rattle.isdb_fec.specs.Calls.{Holds, holding, bestState, traced}
 use Rattle.isdb_fec.specs.Answers.{Enough}
-use Rattle.isdb_fec.specs.Upto.{getD-upto}
-use Rattle.isdb_fec.specs.Laid.{laid-laid, laid-after}
-use Rattle.isdb_fec.specs.Count.{releases-is, counted}
-use Rattle.isdb_fec.specs.Holding.{cleared, holding-is}
+use Rattle.viterbi.specs.Upto.{getD-upto}
+use Rattle.viterbi.specs.Laid.{laid-laid, laid-after}
+use Rattle.viterbi.specs.Count.{releases-is, counted}
+use Rattle.viterbi.specs.Holding.{cleared, holding-is}
 use Rattle.isdbt_fec.specs.declared.conv.CodeRate.{CodeRate}
 use Rattle.isdbt_fec.specs.declared.conv.CodeRate.the-variants.{R1_2, R2_3, R3_4, R5_6, R7_8}
 use Rattle.isdbt_fec.specs.declared.conv.Puncturing.{Puncturing}
@@ -109,12 +110,12 @@ module _ (rate : CodeRate) (p : Puncturing) (e : p ≡ compiled rate) (xs : List
       rw (start, after-same tb (stepsBy (p .period) (p .n) (p .order) xs) (steps rate xs) fresh n (λ i l. steps-are rate p xs i e l)) at h
 
   few : length (d .words) < 4096 + tb
-  few = counted tb (steps rate xs) fresh least most (omega arith) n .few
+  few = counted Isdb.half Isdb.labels Isdb.rule tb (steps rate xs) fresh least most (omega arith) n .few
 
   pub all-bits : at .count + at .held ≡ n
   all-bits =
       let f = followed in
-      let c = counted tb (steps rate xs) fresh least most (omega arith) n in
+      let c = counted Isdb.half Isdb.labels Isdb.rule tb (steps rate xs) fresh least most (omega arith) n in
       let a = f .held-is in
       let b = f .count-is in
       let w = c .words-left in

@@ -10,7 +10,7 @@ use Rattle.isdbt_fec.specs.declared.conv.CodeRate.{CodeRate}
 use Rattle.isdbt_fec.specs.declared.conv.CodeRate.the-variants.{R1_2, R2_3, R3_4, R5_6, R7_8}
 use Rattle.isdbt_fec.specs.Table.{period, sent, order, compiled}
 use Rattle.isdbt_fec.specs.Puncture.{place}
-use Rattle.isdb_fec.specs.Each.{all, each}
+use Rattle.viterbi.specs.Each.{all, each}
 
 -- a period has 1 to 7 inputs, and more bits are sent for them than they are, at most two for each
 pub record Sizes (p n : ℕ) : Type 0 where

@@ -6,8 +6,8 @@ use native.Mathlib.Omega.{arith}
 use native.Mathlib.Numerals.{add-one}
 use lib.ListN.{length, set, take, drop}
 use Rattle.trellis.specs.Lists.{upto, laid}
-use Rattle.isdb_fec.specs.Upto.{length-upto}
-use Rattle.isdb_fec.specs.Laid.{laid-more, laid-after}
+use Rattle.viterbi.specs.Upto.{length-upto}
+use Rattle.viterbi.specs.Laid.{laid-more, laid-after}
 
 module _ {A : Type 0} where
   pub upto-same : (f g : ℕ → A) (n : ℕ) → ((i : ℕ) → i < n → f i ≡ g i) → upto f n ≡ upto g n

@@ -13,17 +13,17 @@ ghost use Rattle.isdbt_fec.specs.Table.{period, sent, rowOf, specOf, com
 ghost use Rattle.isdbt_fec.specs.Puncture.{inputs, mother, punctured, spread, depunctured};
 ghost use Rattle.isdbt_fec.specs.Rows.{depth, encodeRows, depunctureRows, decodeRows};
 ghost use Rattle.isdbt_fec.specs.Calls.{Encodes, Unencoded, Depunctures, Untouched, decodedBits, Decodes, Undecoded};
-use isdb_fec::conv::At;
 use isdb_fec::conv::ConvEncoder;
-use isdb_fec::conv::Step;
-use isdb_fec::conv::advance;
-use isdb_fec::conv::clear;
-use isdb_fec::conv::encode_bit;
-use isdb_fec::conv::finish;
-use isdb_fec::conv::renormalise;
 use isdb_fec::conv::some_beyond;
-use isdb_fec::conv::start_at;
 use refusal::Answer;
+use viterbi::At;
+use viterbi::Step;
+use viterbi::advance;
+use viterbi::clear;
+use viterbi::encode_bit;
+use viterbi::finish;
+use viterbi::renormalise;
+use viterbi::start_at;
 
 pub enum CodeRate {
     R1_2,

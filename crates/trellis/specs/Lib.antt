@@ -7,3 +7,4 @@ pub mod Taps
 pub mod Parity
 pub mod Encoded
 pub mod RunLaws
+pub mod Isdb

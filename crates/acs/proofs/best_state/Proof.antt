@@ -8,12 +8,12 @@ use native.Mathlib.Omega.{arith}
 use lib.ListN.{getD}
 use lib.Ieee.{Float, nan, lt}
 use Rattle.trellis.specs.Step as trellis
-use Rattle.trellis.specs.Step.{lower}
+use Rattle.trellis.specs.Isdb.{rule}
 use Rattle.acs.proofs.best_state.Statement.{statement}
 use Rattle.acs.proofs.best_state.Tie as tie
 
-more : (pm : List Float) (b s : ℕ) (t : Bool) → 1 ≤ s → b ≡ trellis.best lower pm (s - 1) → lt (getD pm b nan) (getD pm s nan) ≡ t
-    → cond t s b ≡ trellis.best lower pm (s + 1 - 1)
+more : (pm : List Float) (b s : ℕ) (t : Bool) → 1 ≤ s → b ≡ trellis.best rule pm (s - 1) → lt (getD pm b nan) (getD pm s nan) ≡ t
+    → cond t s b ≡ trellis.best rule pm (s + 1 - 1)
 unfolding trellis.best
 more pm b s t h is-b test =
     let e : s + 1 - 1 ≡ suc (s - 1) = omega arith in
@@ -21,7 +21,7 @@ more pm b s t h is-b test =
     rw e (cc)
 
 abbrev Inv-loop : tie.InvT-loop
-Inv-loop pm best₀ s₀ best s = (1 ≤ s) × (s ≤ 64) × (best < s) × (best ≡ trellis.best lower pm (s - 1))
+Inv-loop pm best₀ s₀ best s = (1 ≤ s) × (s ≤ 64) × (best < s) × (best ≡ trellis.best rule pm (s - 1))
 
 abbrev μ-loop : tie.MeasureT-loop
 μ-loop pm best₀ s₀ best s = 64 - s

@@ -4,7 +4,7 @@ use denote.Ref.{now}
 use lib.Dec.{T}
 use lib.Ieee.{binary32, fits}
 use lib.ListN.{length}
-use Rattle.trellis.specs.Step.{lower}
+use Rattle.trellis.specs.Isdb.{rule}
 use Rattle.frame_ranges.specs.Accepted.{frame-ranges}
 use Rattle.frame_ranges.proofs.decode_in_range.Statement.{statement}
 use Rattle.frame_ranges.proofs.decode_in_range.Tie as tie
@@ -36,7 +36,7 @@ returns c =
       (
         d .ensures .1,
         λ yes.
-            frame-ranges lower (a .t) (now (a .re)) (now (a .im)) (a .o .mapping) (a .o .«llr_scale») (length (now (a .decisions))) (length (now (a .bits))) (length (now (a .bytes))) (a .o .«known_start») (a .first) x y scale yes,
+            frame-ranges rule (a .t) (now (a .re)) (now (a .im)) (a .o .mapping) (a .o .«llr_scale») (length (now (a .decisions))) (length (now (a .bits))) (length (now (a .bytes))) (a .o .«known_start») (a .first) x y scale yes,
       ),
     )
 

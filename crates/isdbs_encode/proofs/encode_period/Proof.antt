@@ -5,7 +5,7 @@ use mathlib.Core.Path.{_≡_, refl, _∙_, ap}
 use Prim.Native.Nat.{ℕ, _+_, _-_, _<_, _≤_}
 use native.Mathlib.Numerals.{add-one}
 use lib.ListN.{getD}
-use Rattle.isdb_fec.specs.Upto.{getD-upto}
+use Rattle.viterbi.specs.Upto.{getD-upto}
 use Rattle.trellis.specs.Code.{moved, stateAt}
 use Rattle.isdbs_points.specs.Layout.{loadBit}
 use Rattle.isdbs_points.specs.Frame.{labelAt}

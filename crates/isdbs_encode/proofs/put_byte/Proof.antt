@@ -6,7 +6,7 @@ use mathlib.Core.Path.{_≡_, _∙_, ap}
 use Prim.Native.Nat.{ℕ, _+_, _*_, _-_, _/_, _%_, _≤_, _^_}
 use lib.Ieee.{nan}
 use lib.ListN.{getD}
-use Rattle.isdb_fec.specs.Upto.{getD-upto}
+use Rattle.viterbi.specs.Upto.{getD-upto}
 use Rattle.trellis.specs.Code.{label}
 use Rattle.isdbs_points.specs.Frame.{labelAt}
 use Rattle.isdbs_encode.specs.Encoded.{byteBit, byteInputs, byteLabel}

@@ -1,0 +1,81 @@
+-- The trellis of ISDB and the rule for equals, named once: the decoder of Step and Run at them. Assumes nothing.
+use mathlib.Core.Bool.{Bool}
+use mathlib.Core.List.{List}
+use Prim.Native.Nat.{ℕ}
+use lib.Ieee.{Float}
+use Rattle.trellis.specs.Code.{isdb, label}
+use Rattle.trellis.specs.Step as step
+use Rattle.trellis.specs.Step.{Step, Tie, lower}
+use Rattle.trellis.specs.Run as run
+use Rattle.trellis.specs.Run.{Decoder}
+
+-- half of its 64 states, and 2 X + Y of each branch
+abbrev pub half : ℕ
+half = 32
+
+abbrev pub labels : ℕ → ℕ → ℕ
+labels = label isdb
+
+-- "A strictly greater odd predecessor wins", and the lowest best state is traced
+abbrev pub rule : Tie
+rule = lower
+
+-- ---- a step
+-- the paths into a new state from its predecessors with the low bit 0 and 1; whether the second wins; its value
+abbrev pub cand : List Float → Step → ℕ → ℕ → Float
+cand pm x k b = step.cand half labels pm x k b
+
+abbrev pub wins : List Float → Step → ℕ → Bool
+wins pm x k = step.wins half labels rule pm x k
+
+abbrev pub next : List Float → Step → ℕ → Float
+next pm x k = step.next half labels rule pm x k
+
+-- the new path values and the decision word of a step
+abbrev pub nexts : List Float → Step → List Float
+nexts pm x = step.nexts half labels rule pm x
+
+abbrev pub word : List Float → Step → ℕ
+word pm x = step.word half labels rule pm x
+
+-- the best state, and the best of the states 0 to n
+abbrev pub best : List Float → ℕ → ℕ
+best pm n = step.best rule pm n
+
+abbrev pub bestState : List Float → ℕ
+bestState pm = best pm 63
+
+-- the bits that the words give, traced from the state s, oldest first
+abbrev pub traced : List ℕ → ℕ → List ℕ
+traced ws s = step.traced half ws s
+
+-- ---- a call
+-- the path values once step i of a call has added: the maximum is subtracted where the step calls for it; the path values after n steps
+abbrev pub settle : ℕ → Step → List Float → List Float
+settle i x pm = run.settled half labels rule i x pm
+
+abbrev pub valuesAt : (ℕ → Step) → List Float → ℕ → List Float
+valuesAt = run.valuesAt half labels rule
+
+-- the bits of the held words; the release of 4,096 of them
+abbrev pub decoded : Decoder → List ℕ
+decoded = run.decoded half labels rule
+
+abbrev pub released : ℕ → Decoder → Decoder
+released = run.released half labels rule
+
+-- step i of a call with the release that may follow; n steps of a call; the end of a call of soft values or metrics; such a call; the flush
+abbrev pub stepOnce : ℕ → ℕ → Step → Decoder → Decoder
+stepOnce = run.stepped half labels rule
+
+abbrev pub steps : ℕ → (ℕ → Step) → Decoder → ℕ → Decoder
+steps = run.after half labels rule
+
+abbrev pub closed : Decoder → Decoder
+closed = run.closed half labels rule
+
+abbrev pub call : ℕ → (ℕ → Step) → Decoder → ℕ → Decoder
+call = run.pushed half labels rule
+
+abbrev pub flush : Decoder → Decoder
+flush = run.flushed half labels rule

@@ -1,0 +1,71 @@
+-- What a step of a call leaves in the state and in the lent slices, and the steps that a call is made of. Assumes nothing.
+use mathlib.Core.Path.{_≡_}
+use mathlib.Core.Bool.{cond}
+use mathlib.Core.List.{List, [], _∷_, _++_}
+use Prim.Native.Nat.{ℕ, _+_, _-_, _*_, _/_, _≤_}
+use lib.Dec.{ltb}
+use lib.ListN.{length, getD, take, drop}
+use lib.Ieee.{Float, nan}
+use Rattle.trellis.specs.Lists.{laid}
+use Rattle.trellis.specs.Step as trellis
+use Rattle.trellis.specs.Step.{pair, four, known}
+pub use Rattle.trellis.specs.Isdb.{nexts, word, bestState, traced, settle, stepOnce, steps, call, flush}
+use Rattle.trellis.specs.Run.{Decoder, block, decisionsAfter}
+use Rattle.viterbi.specs.declared.Step.{Step}
+use Rattle.viterbi.specs.declared.Step.the-variants.{Pair, Four, Known}
+use Rattle.viterbi.specs.declared.At.{At}
+
+-- "A trellis step carries two soft values, four branch metrics, or one known bit"
+abbrev pub stepOf : Step → trellis.Step
+stepOf (Pair lx ly) = pair lx ly
+stepOf (Four a b c d) = four (a ∷ b ∷ c ∷ d ∷ [])
+stepOf (Known b) = known b
+
+-- the steps of a call: two soft values each, four metrics each, one known bit each
+abbrev pub pairSteps : List Float → ℕ → trellis.Step
+pairSteps xs k = pair (getD xs (2 * k) nan) (getD xs (2 * k + 1) nan)
+
+abbrev pub fourSteps : List Float → ℕ → trellis.Step
+fourSteps xs k =
+    four (getD xs (4 * k) nan ∷ getD xs (4 * k + 1) nan ∷ getD xs (4 * k + 2) nan ∷ getD xs (4 * k + 3) nan ∷ [])
+
+abbrev pub knownSteps : List ℕ → ℕ → trellis.Step
+knownSteps bs k = known (getD bs k 0)
+
+-- calls as functions of a decoder: those of `push_known`, `push` and `push_metrics`
+abbrev pub knownCall : ℕ → List ℕ → Decoder → Decoder
+knownCall tb bits d = steps tb (knownSteps bits) d (length bits)
+
+abbrev pub pairCall : ℕ → List Float → Decoder → Decoder
+pairCall tb pairs d = call tb (pairSteps pairs) d (length pairs / 2)
+
+abbrev pub fourCall : ℕ → List Float → Decoder → Decoder
+fourCall tb metrics d = call tb (fourSteps metrics) d (length metrics / 4)
+
+-- the releases of a call of n steps on h held words: one as 4,096 + traceback words are held, which leaves `traceback` of them
+abbrev pub releases : ℕ → ℕ → ℕ → ℕ
+releases tb h n = cond (ltb (h + n) (block + tb)) 0 ((h + n - tb) / block)
+
+-- a decoder as its path values and the front of the lent decisions hold it
+abbrev pub holding : List Float → ℕ → List ℕ → Decoder
+holding pm held decisions = record { values = pm; words = take held decisions; bits = [] }
+
+-- what one step of a call leaves, which gives the decoder d, with `count` bits put out before
+pub record Stepped (tb : ℕ) (d : Decoder) (count : ℕ) (r : At) (pm : List Float) (decisions₀ decisions out₀ out : List ℕ) : Type 0 where
+  pub values : pm ≡ d .values
+  pub held-is : r .held ≡ length (d .words)
+  pub count-is : r .count ≡ count + length (d .bits)
+  pub words : decisions ≡ decisionsAfter tb (d .words) (d .bits) decisions₀
+  pub bits : out ≡ take count out₀ ++ laid (d .bits) (drop count out₀)
+
+-- Inside a call: the path values, the counts and the lent slices are those of the decoder d; the slices held `decisions₀` and `out₀` as the call began
+pub record Holds (tb : ℕ) (decisions₀ out₀ : List ℕ) (d : Decoder) (pm : List Float) (held count : ℕ) (decisions out : List ℕ) : Type 0 where
+  pub values : pm ≡ d .values
+  pub held-is : held ≡ length (d .words)
+  pub count-is : count ≡ length (d .bits)
+  pub words : decisions ≡ decisionsAfter tb (d .words) (d .bits) decisions₀
+  pub bits : out ≡ laid (d .bits) out₀
+
+-- where a step of a call releases, the output has room for the 4,096 bits
+abbrev pub Room : ℕ → ℕ → ℕ → ℕ → Type 0
+Room tb held count space = held + 1 ≡ block + tb → count + block ≤ space

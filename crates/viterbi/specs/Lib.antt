@@ -1,0 +1,10 @@
+pub mod Laid
+pub mod Upto
+pub mod Each
+pub mod Parts
+pub mod Calls
+pub mod Traced
+pub mod Steps
+pub mod Count
+pub mod Holding
+pub mod Runs
