@@ -9,7 +9,7 @@ ghost use Prim.Native.Nat.{_≤_};
 ghost use lib.Dec.{ltb};
 ghost use lib.ListN.{length};
 ghost use Rattle.refusal.specs.Rows.{firstRow};
-ghost use Rattle.isdbs_core.specs.Tables.{slotSum};
+ghost use Rattle.isdbs_core.specs.Tables.{TableAccepted};
 ghost use Rattle.isdbs_phy.specs.DecodeRows.{within, someBeyond, partLimit, badScale, shortSpace, decodeRows};
 
 // Main-signal symbols of a frame.
@@ -75,7 +75,7 @@ fn points_answer(re: &[f64], im: &[f64]) -> Answer
 
 // Row 9.
 fn space_answer(t: Table, decisions: usize, bits: usize, bytes: usize) -> Answer
-    requires { ⌜ slotSum (t .entries) ≤ 48 ⌝ }
+    requires { ⌜ TableAccepted t ⌝ }
     ensures { λ r. ⌜ r ≡ cond (shortSpace t decisions bits bytes) Answer.Space Answer.Accepted ⌝ }
 {
     if decisions < WORDS {

@@ -1,5 +1,5 @@
 -- `answers::space_answer` meets its contract. Assumes nothing.
-use Rattle.isdbs_core.specs.RunLaws.{laid}
+use Rattle.isdbs_core.specs.TableLaws.{table-laid}
 use Rattle.isdbs_core.specs.RunsOf.{frameSteps, loadBytes}
 use borrow.Author.Tests.{lt-ltb, le-ltb, ltb-false}
 use lib.ListN.{length}
@@ -17,7 +17,7 @@ frame-size-requires : tie.Need-frame-size-requires
 frame-size-requires c κs = search needs
 
 add-if2 : tie.Need-add-if2
-add-if2 c = let st = c .before .before .before in let s = laid (st .args .t) (st .pre) .steps in let e = c .before .frame-size .ensures .1 in record { fits = omega arith }
+add-if2 c = let st = c .before .before .before in let s = table-laid (st .args .t) (st .pre) .steps in let e = c .before .frame-size .ensures .1 in record { fits = omega arith }
 
 returns-2 : tie.Need-returns-2
 returns-2 c =

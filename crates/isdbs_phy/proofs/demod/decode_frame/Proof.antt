@@ -1,5 +1,6 @@
 -- `demod::decode_frame` meets its contract. Assumes nothing.
-use Rattle.isdbs_phy.proofs.Rows.{told, passed, refused-answer}
+use Rattle.isdb_fec.specs.Told.{told}
+use Rattle.isdbs_phy.proofs.Rows.{passed, refused-answer}
 use Rattle.isdbs_phy.specs.DecodeRows.{frameAnswer}
 use Rattle.isdb_fec.specs.Answers.{refused}
 use Rattle.refusal.specs.declared.Answer.{Answer}
@@ -33,7 +34,7 @@ frame-size-requires c κs =
     let da = c .before .before .decode-answer in
     let ok = sym (c .enum-told .given .1) ∙ da .ensures in
     let p = passed (st .args .t) (st .args .re .now) (st .args .im .now) (st .args .o .«llr_scale») (length (st .args .decisions .now)) (length (st .args .bits .now)) (length (st .args .bytes .now)) ok in
-    p .slots
+    p .table
 
 decode-requires : tie.Need-decode-requires
 decode-requires c κs =
@@ -41,7 +42,7 @@ decode-requires c κs =
     let da = c .before .before .before .before .before .before .decode-answer in
     let ok = sym (c .before .before .before .before .enum-told .given .1) ∙ da .ensures in
     let p = passed (st .args .t) (st .args .re .now) (st .args .im .now) (st .args .o .«llr_scale») (length (st .args .decisions .now)) (length (st .args .bits .now)) (length (st .args .bytes .now)) ok in
-    (c .before .before .before .frame-size .ensures .1, p .slots, p .real, p .imaginary, p .words, p .places, p .room)
+    (c .before .before .before .frame-size .ensures .1, p .table, p .real, p .imaginary, p .words, p .places, p .room)
 
 same-length : tie.Need-same-length
 same-length c = search needs
