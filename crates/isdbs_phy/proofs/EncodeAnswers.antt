@@ -1,38 +1,48 @@
 -- The rows of the encoding calls. Assumes nothing.
 use mathlib.Core.Path.{_≡_, refl, sym, _∙_, ap}
-use mathlib.Core.Bool.{Bool, true, false, cond}
+use mathlib.Core.Logic.{⊎-elim}
+use mathlib.Core.Bool.{Bool, true, false}
+use mathlib.Core.List.{List, [], _∷_, _++_}
+use Prim.Native.Nat.{ℕ}
 use native.Mathlib.Omega.{arith}
+use lib.Dec.{ltb}
 use Rattle.refusal.specs.declared.Answer.{Answer}
-use Rattle.refusal.specs.declared.Answer.the-variants.{Accepted, Table, Position, Traceback, State, Length, Symbols, Sample, Scale, Space}
-use Rattle.refusal.specs.Rows.{numberOf}
+use Rattle.refusal.specs.declared.Answer.the-variants.{State, Space}
+use Rattle.refusal.specs.Rows.{Row, numberOf, firstRow}
+use Rattle.refusal.specs.RowLaws.{zero-accepted, decided, refused-by, passed-by, passed}
+use Rattle.isdbs_core.specs.declared.tmcc.Table.{Table}
 use Rattle.isdbs_core.specs.Lists.{either}
+use Rattle.isdbs_core.specs.Tables.{tableRows, tableAnswer, TableAccepted}
+use Rattle.isdbs_core.specs.TableLaws.{table-refusing, then-rows, before-rows, then-accepted}
+use Rattle.isdbs_phy.specs.EncodeRows.{shortParts, encodeRows, encodeFrameRows}
 
-pub number-zero : (a : Answer) → numberOf a ≡ 0 → a ≡ Accepted
-number-zero Accepted e = refl
-number-zero Table e = absurd (omega arith)
-number-zero Position e = absurd (omega arith)
-number-zero Traceback e = absurd (omega arith)
-number-zero State e = absurd (omega arith)
-number-zero Length e = absurd (omega arith)
-number-zero Symbols e = absurd (omega arith)
-number-zero Sample e = absurd (omega arith)
-number-zero Scale e = absurd (omega arith)
-number-zero Space e = absurd (omega arith)
+neither : (x y : Bool) → either x y ≡ false → (x ≡ false) × (y ≡ false)
+neither false y e = (refl, e)
+neither true y e = (e, absurd (let z : _≡_ {A = ℕ} 0 1 = cc in omega arith))
 
--- the table's row alone, and with rows below it
-pub table-refuses : (b : Bool) (x a : Answer) → a ≡ cond b Table Accepted → (numberOf a ≡ 0 → ⊥) → a ≡ cond b Table x
-table-refuses true x a e n = e
-table-refuses false x a e n = absurd (n (ap numberOf e))
+module _ (t : Table) (s a b : ℕ) where
+  abbrev rest : List Row
+  rest = (State, ltb 63 s) ∷ (Space, shortParts a b) ∷ []
 
-pub table-passes : (b : Bool) (a : Answer) → a ≡ cond b Table Accepted → numberOf a ≡ 0 → b ≡ false
-table-passes true a e n = absurd (let z = ap numberOf e in omega arith)
-table-passes false a e n = refl
+  -- the table's answer x has the number n: it refuses, or the rows below decide
+  module _ (x : Answer) (n : ℕ) (e : x ≡ tableAnswer t) (m : n ≡ numberOf x) where
+    pub table-refuses : (n ≡ 0 → ⊥) → x ≡ firstRow (encodeRows t s a b)
+    table-refuses z = refused-by (tableRows t) rest x e (λ y. z (m ∙ ap numberOf y))
 
--- where all rows pass, none of their conditions holds
-pub rows-pass : (b s x y : Bool) (a : Answer) → a ≡ cond b Table (cond s State (cond (either x y) Space Accepted)) → numberOf a ≡ 0
-    → (b ≡ false) × (s ≡ false) × (x ≡ false) × (y ≡ false)
-rows-pass true s x y a e n = absurd (let z = ap numberOf e in omega arith)
-rows-pass false true x y a e n = absurd (let z = ap numberOf e in omega arith)
-rows-pass false false true y a e n = absurd (let z = ap numberOf e in omega arith)
-rows-pass false false false true a e n = absurd (let z = ap numberOf e in omega arith)
-rows-pass false false false false a e n = (refl, refl, refl, refl)
+    pub table-passes : {y : Answer} → n ≡ 0 → y ≡ firstRow ((State, ltb 63 s) ∷ (Space, shortParts a b) ∷ []) → y ≡ firstRow (encodeRows t s a b)
+    table-passes z h = passed-by (tableRows t) rest (table-refusing t) (sym (zero-accepted x (sym m ∙ z)) ∙ e) h
+
+  -- where all rows pass, none of their conditions holds
+  pub rows-pass : (x : Answer) → x ≡ firstRow (encodeRows t s a b) → numberOf x ≡ 0 → TableAccepted t × (ltb 63 s ≡ false) × (ltb a 38976 ≡ false) × (ltb b 38976 ≡ false)
+  rows-pass x e z =
+      let p = then-accepted t rest (sym e ∙ zero-accepted x z) in
+      let q = passed rest tt (p .1) in
+      let w = neither (ltb a 38976) (ltb b 38976) (q Space) in
+      (p .0, q State, w .0, w .1)
+
+  -- a state up to 63 leaves the rows of `encode_frame`
+  pub fewer-rows : ltb 63 s ≡ false → firstRow (encodeRows t s a b) ≡ firstRow (encodeFrameRows t a b)
+  fewer-rows h =
+      let few : List Row = (Space, shortParts a b) ∷ [] in
+      let e : firstRow rest ≡ firstRow few = rw h in
+      ⊎-elim (λ y. then-rows t rest y ∙ e ∙ sym (then-rows t few y)) (λ n. before-rows t rest n ∙ sym (before-rows t few n)) (decided (tableAnswer t))

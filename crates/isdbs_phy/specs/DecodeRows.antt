@@ -1,15 +1,14 @@
 -- The refusal rows of `decode_frame`, its answer, and what a refused call leaves. Document 01, "Where a call is turned back". Assumes nothing.
 use mathlib.Core.Path.{_≡_}
-use mathlib.Core.Bool.{Bool, false, cond, not, _&&_, _||_}
+use mathlib.Core.Bool.{Bool, false, not, _&&_, _||_}
 use mathlib.Core.List.{List, [], _∷_, _++_}
 use Prim.Native.Nat.{ℕ, zero, suc, _+_}
 use lib.Dec.{ltb}
 use lib.ListN.{length, getD}
 use lib.Ieee.{Float, nan, binary32, binary64, neg, lt, le, ofBits}
-use Rattle.refusal.specs.Rows.{Row}
+use Rattle.refusal.specs.Rows.{Row, numberOf, Said, says}
 use Rattle.refusal.specs.declared.Answer.the-variants.{Symbols, Sample, Scale, Space}
 use Rattle.refusal.specs.declared.Answer.{Answer}
-use Rattle.isdbs_core.specs.Answers.{accepted}
 use Rattle.isdbs_phy.specs.declared.demod.FrameDecoded.{FrameDecoded}
 use Rattle.isdbs_phy.specs.declared.demod.FrameDecoded.the-variants.{Decoded, Refused}
 use Rattle.isdbs_core.specs.declared.tmcc.Table.{Table}
@@ -42,19 +41,25 @@ badScale s = not (lt (ofBits binary32 0) s) || lt scaleLimit s
 abbrev pub shortSpace : Table → ℕ → ℕ → ℕ → Bool
 shortSpace t decisions bits bytes = ltb decisions frameWords || (ltb bits (frameSteps t + 16) || ltb bytes (loadBytes t))
 
--- the rows of `decode_frame`, over the lengths of the lent outputs
-abbrev pub decodeRows : Table → List Float → List Float → Float → ℕ → ℕ → ℕ → List Row
-decodeRows t re im scale decisions bits bytes =
-    tableRows t
-    ++ (Symbols, ltb (length re) mainSymbols || ltb (length im) mainSymbols)
-    ∷ (Sample, someBeyond partLimit re mainSymbols || someBeyond partLimit im mainSymbols)
-    ∷ (Scale, badScale scale)
-    ∷ (Space, shortSpace t decisions bits bytes)
-    ∷ []
+-- the rows of the points, then those below them, over the lengths of the lent outputs
+abbrev pub pointRows : List Float → List Float → List Row
+pointRows re im = (Symbols, ltb (length re) mainSymbols || ltb (length im) mainSymbols) ∷ (Sample, someBeyond partLimit re mainSymbols || someBeyond partLimit im mainSymbols) ∷ []
 
--- the answer where no row holds: the bytes and the steps; else the row
-abbrev pub frameAnswer : Answer → Table → FrameDecoded
-frameAnswer a t = cond (accepted a) (Decoded (loadBytes t) (frameSteps t)) (Refused a)
+abbrev pub lastRows : Table → Float → ℕ → ℕ → ℕ → List Row
+lastRows t scale decisions bits bytes = (Scale, badScale scale) ∷ (Space, shortSpace t decisions bits bytes) ∷ []
+
+-- the rows of `decode_frame`
+abbrev pub decodeRows : Table → List Float → List Float → Float → ℕ → ℕ → ℕ → List Row
+decodeRows t re im scale decisions bits bytes = tableRows t ++ (pointRows re im ++ lastRows t scale decisions bits bytes)
+
+-- document 01's number and values for each case of its answer
+abbrev pub frameSaid : FrameDecoded → Said
+frameSaid (Decoded bytes steps) = (0, bytes ∷ steps ∷ [])
+frameSaid (Refused a) = (numberOf a, [])
+
+-- what it says where the rows answer a: the bytes and the steps
+abbrev pub frameAnswer : Answer → Table → Said
+frameAnswer a t = says a (loadBytes t ∷ frameSteps t ∷ [])
 
 -- "no buffer changes"
 pub record Kept (decisions₀ decisions bits₀ bits bytes₀ bytes : List ℕ) : Type 0 where

@@ -36,7 +36,7 @@ ghost use lib.ListN.{length};
 ghost use Rattle.refusal.specs.Rows.{firstRow};
 ghost use Rattle.isdb_fec.specs.Calls.{Either};
 ghost use Rattle.isdbs_points.specs.Frame.{startState, endState};
-ghost use Rattle.isdbs_phy.specs.DecodeRows.{decodeRows, frameAnswer, Kept};
+ghost use Rattle.isdbs_phy.specs.DecodeRows.{decodeRows, frameSaid, frameAnswer, Kept};
 ghost use Rattle.isdbs_encode.specs.Encoding.{FrameLaid};
 ghost use Rattle.isdbs_phy.specs.EncodeRows.{encodeRows, encodeFrameRows, PartsKept};
 ghost use Rattle.isdbs_metrics.specs.Steps.{received};
@@ -131,7 +131,7 @@ pub fn decode_frame(
     bits: &mut [u8],
     bytes: &mut [u8],
 ) -> FrameDecoded
-    ensures answers { λ r. ⌜ r ≡ frameAnswer (firstRow (decodeRows t (now (re .entry)) (now (im .entry)) (o .«llr_scale») (length (now (decisions .entry))) (length (now (bits .entry))) (length (now (bytes .entry))))) t ⌝ }
+    ensures answers { λ r. ⌜ frameSaid r ≡ frameAnswer (firstRow (decodeRows t (now (re .entry)) (now (im .entry)) (o .«llr_scale») (length (now (decisions .entry))) (length (now (bits .entry))) (length (now (bytes .entry))))) t ⌝ }
     ensures leaves { λ _. ⌜ Either (firstRow (decodeRows t (now (re .entry)) (now (im .entry)) (o .«llr_scale») (length (now (decisions .entry))) (length (now (bits .entry))) (length (now (bytes .entry)))))
         (FrameRead t (received (now (re .entry)) (now (im .entry)) (o .mapping) (o .«llr_scale»)) (o .«known_start») first (now (decisions .entry)) (now (decisions .exit)) (now (bits .entry)) (now (bits .exit)) (now (bytes .entry)) (now (bytes .exit)))
         (Kept (now (decisions .entry)) (now (decisions .exit)) (now (bits .entry)) (now (bits .exit)) (now (bytes .entry)) (now (bytes .exit))) ⌝ }

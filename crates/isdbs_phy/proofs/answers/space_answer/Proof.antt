@@ -1,6 +1,6 @@
 -- `answers::space_answer` meets its contract. Assumes nothing.
 use Rattle.isdbs_core.specs.declared.slots.Plan.{Plan}
-use Rattle.isdbs_core.specs.RunLaws.{laid}
+use Rattle.isdbs_core.specs.TableLaws.{table-laid}
 use Rattle.isdbs_core.specs.RunsOf.{frameSteps, loadBytes}
 use borrow.Author.Tests.{lt-ltb, le-ltb, ltb-false}
 use lib.ListN.{length}
@@ -17,7 +17,7 @@ returns c = rw (lt-ltb _ _ (c .if1 .taken))
 add-if2 : tie.Need-add-if2
 add-if2 c =
     let st = c .before .before in
-    let s = laid (st .args .p .table) (st .pre .slots) .steps in
+    let s = table-laid (st .args .p .table) (st .pre .accepted) .steps in
     let e = ap (λ (z : Plan). z .steps) (st .pre .is) in
     record { fits = omega arith }
 

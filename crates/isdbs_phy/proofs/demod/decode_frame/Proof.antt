@@ -1,5 +1,6 @@
 -- `demod::decode_frame` meets its contract. Assumes nothing.
-use Rattle.isdbs_phy.proofs.Rows.{told, passed, refused-answer}
+use Rattle.isdb_fec.specs.Told.{told}
+use Rattle.isdbs_phy.proofs.Rows.{passed, refused-answer}
 use Rattle.isdbs_phy.specs.DecodeRows.{decodeRows, frameAnswer}
 use Rattle.isdbs_core.specs.declared.slots.Plan.{Plan}
 use Rattle.isdbs_core.specs.declared.tmcc.Table.{Table}
@@ -52,7 +53,7 @@ decode-requires c κs =
     let ea = da .ensures ∙ ap (λ (z : Table). firstRow (decodeRows z (st .args .re .now) (st .args .im .now) (st .args .o .«llr_scale») (length (st .args .decisions .now)) (length (st .args .bits .now)) (length (st .args .bytes .now)))) et in
     let ok = sym (c .before .before .before .enum-told .given .1) ∙ ea in
     let p = passed t (st .args .re .now) (st .args .im .now) (st .args .o .«llr_scale») (length (st .args .decisions .now)) (length (st .args .bits .now)) (length (st .args .bytes .now)) ok in (
-      record { is = plan-is t (pl .result) (pl .ensures .0); few = pl .ensures .1; slots = rw et (p .slots) },
+      record { is = plan-is t (pl .result) (pl .ensures .0); few = pl .ensures .1; accepted = rw et (p .table) },
       p .real,
       p .imaginary,
       p .words,

@@ -4,8 +4,6 @@ use mathlib.Core.Path.{_≡_, refl, sym, _∙_, ap}
 use Prim.Native.Nat.{ℕ, _+_, _*_, _-_, _<_, _≤_}
 use native.Mathlib.Omega.{arith}
 use borrow.Author.Tests.{lt-ltb, le-ltb}
-use lib.Dec.{ltb}
-use Rattle.isdbs_core.specs.Tables.{slotSum}
 use Rattle.isdbs_phy.proofs.EncodeAnswers.{table-refuses, table-passes}
 use borrow.Author.Needs.{needs}
 use Rattle.isdbs_phy.proofs.demod.encode_answer.Statement.{statement}
@@ -18,23 +16,19 @@ number-requires : tie.Need-number-requires
 number-requires c κs = search needs
 
 returns : tie.Need-returns
-returns c = table-refuses (ltb 48 (slotSum (c .before .before .before .args .t .entries))) _ (c .before .before .table-answer .result) (c .before .before .table-answer .ensures) (λ z. c .if1 .taken (c .before .number .ensures ∙ z))
+returns c = table-refuses (c .before .before .before .args .t) (c .before .before .before .args .state) (c .before .before .before .args .a) (c .before .before .before .args .b) (c .before .before .table-answer .result) (c .before .number .result) (c .before .before .table-answer .ensures) (c .before .number .ensures) (c .if1 .taken)
 
 returns-2 : tie.Need-returns-2
-returns-2 c =
-    let p = table-passes (ltb 48 (slotSum (c .before .before .before .before .args .t .entries))) (c .before .before .before .table-answer .result) (c .before .before .before .table-answer .ensures) (sym (c .before .before .number .ensures) ∙ c .before .if1 .left) in rw (p, lt-ltb 63 (c .before .before .before .before .args .state) (c .if2 .taken))
+returns-2 c = table-passes (c .before .before .before .before .args .t) (c .before .before .before .before .args .state) (c .before .before .before .before .args .a) (c .before .before .before .before .args .b) (c .before .before .before .table-answer .result) (c .before .before .number .result) (c .before .before .before .table-answer .ensures) (c .before .before .number .ensures) (c .before .if1 .left) (rw (lt-ltb 63 (c .before .before .before .before .args .state) (c .if2 .taken)))
 
 returns-3 : tie.Need-returns-3
-returns-3 c =
-    let p = table-passes (ltb 48 (slotSum (c .before .before .before .before .before .args .t .entries))) (c .before .before .before .before .table-answer .result) (c .before .before .before .before .table-answer .ensures) (sym (c .before .before .before .number .ensures) ∙ c .before .before .if1 .left) in rw (p, le-ltb 63 (c .before .before .before .before .before .args .state) (c .before .if2 .left), lt-ltb (c .before .before .before .before .before .args .a) mainSymbols (c .if3 .taken))
+returns-3 c = table-passes (c .before .before .before .before .before .args .t) (c .before .before .before .before .before .args .state) (c .before .before .before .before .before .args .a) (c .before .before .before .before .before .args .b) (c .before .before .before .before .table-answer .result) (c .before .before .before .number .result) (c .before .before .before .before .table-answer .ensures) (c .before .before .before .number .ensures) (c .before .before .if1 .left) (rw (le-ltb 63 (c .before .before .before .before .before .args .state) (c .before .if2 .left), lt-ltb (c .before .before .before .before .before .args .a) mainSymbols (c .if3 .taken)))
 
 returns-4 : tie.Need-returns-4
-returns-4 c =
-    let p = table-passes (ltb 48 (slotSum (c .before .before .before .before .before .before .args .t .entries))) (c .before .before .before .before .before .table-answer .result) (c .before .before .before .before .before .table-answer .ensures) (sym (c .before .before .before .before .number .ensures) ∙ c .before .before .before .if1 .left) in rw (p, le-ltb 63 (c .before .before .before .before .before .before .args .state) (c .before .before .if2 .left), le-ltb (c .before .before .before .before .before .before .args .a) mainSymbols (c .before .if3 .left), lt-ltb (c .before .before .before .before .before .before .args .b) mainSymbols (c .if4 .taken))
+returns-4 c = table-passes (c .before .before .before .before .before .before .args .t) (c .before .before .before .before .before .before .args .state) (c .before .before .before .before .before .before .args .a) (c .before .before .before .before .before .before .args .b) (c .before .before .before .before .before .table-answer .result) (c .before .before .before .before .number .result) (c .before .before .before .before .before .table-answer .ensures) (c .before .before .before .before .number .ensures) (c .before .before .before .if1 .left) (rw (le-ltb 63 (c .before .before .before .before .before .before .args .state) (c .before .before .if2 .left), le-ltb (c .before .before .before .before .before .before .args .a) mainSymbols (c .before .if3 .left), lt-ltb (c .before .before .before .before .before .before .args .b) mainSymbols (c .if4 .taken)))
 
 returns-5 : tie.Need-returns-5
-returns-5 c =
-    let p = table-passes (ltb 48 (slotSum (c .before .before .before .before .before .before .args .t .entries))) (c .before .before .before .before .before .table-answer .result) (c .before .before .before .before .before .table-answer .ensures) (sym (c .before .before .before .before .number .ensures) ∙ c .before .before .before .if1 .left) in rw (p, le-ltb 63 (c .before .before .before .before .before .before .args .state) (c .before .before .if2 .left), le-ltb (c .before .before .before .before .before .before .args .a) mainSymbols (c .before .if3 .left), le-ltb (c .before .before .before .before .before .before .args .b) mainSymbols (c .if4 .left))
+returns-5 c = table-passes (c .before .before .before .before .before .before .args .t) (c .before .before .before .before .before .before .args .state) (c .before .before .before .before .before .before .args .a) (c .before .before .before .before .before .before .args .b) (c .before .before .before .before .before .table-answer .result) (c .before .before .before .before .number .result) (c .before .before .before .before .before .table-answer .ensures) (c .before .before .before .before .number .ensures) (c .before .before .before .if1 .left) (rw (le-ltb 63 (c .before .before .before .before .before .before .args .state) (c .before .before .if2 .left), le-ltb (c .before .before .before .before .before .before .args .a) mainSymbols (c .before .if3 .left), le-ltb (c .before .before .before .before .before .before .args .b) mainSymbols (c .if4 .left)))
 
 pub encode-answer-spec : {M : Type 1} → statement M
 encode-answer-spec =

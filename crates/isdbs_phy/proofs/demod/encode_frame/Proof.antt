@@ -3,6 +3,8 @@ use mathlib.Core.Path.{_≡_, refl, sym, _∙_, ap}
 use Prim.Native.Nat.{ℕ, _+_, _*_, _-_, _<_, _≤_}
 use native.Mathlib.Omega.{arith}
 use borrow.Author.Tests.{le-ltb}
+use lib.ListN.{length}
+use Rattle.isdbs_phy.proofs.EncodeAnswers.{fewer-rows}
 use borrow.Author.Needs.{needs}
 use Rattle.isdbs_phy.proofs.demod.encode_frame.Statement.{statement}
 use Rattle.isdbs_phy.proofs.demod.encode_frame.Tie as tie
@@ -22,7 +24,8 @@ same-length-2 c = search needs
 returns : tie.Need-returns
 returns c =
     let s = c .before .before .before .before .before .before .before .start-state .result in
-    (rw (le-ltb 63 s (omega (arith, c .before .before .before .before .before .before .before .start-state .ensures .1))) at (c .before .before .before .before .encode-frame-with-state .ensures .0), rw (c .before .before .before .before .before .before .before .start-state .ensures .0) at (c .before .before .before .before .encode-frame-with-state .ensures .1 .1))
+    let a = c .before .before .before .before .before .before .before .before .before .before .before .args in
+    (c .before .before .before .before .encode-frame-with-state .ensures .0 ∙ fewer-rows (a .t) s (length (a .re .now)) (length (a .im .now)) (le-ltb 63 s (omega (arith, c .before .before .before .before .before .before .before .start-state .ensures .1))), rw (c .before .before .before .before .before .before .before .start-state .ensures .0) at (c .before .before .before .before .encode-frame-with-state .ensures .1 .1))
 
 pub encode-frame-spec : {M : Type 1} → statement M
 encode-frame-spec =
