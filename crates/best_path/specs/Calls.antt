@@ -83,12 +83,6 @@ module _ (half : ℕ) (out : ℕ → ℕ → ℕ) (t : Tie) where
     unfolding valuesAt
     one-step k h = plain k h k (nexts half out t (valuesAt half out t steps pm k) (steps k))
 
-    -- as many as there are states, where the start has as many
-    pub values-count : length pm ≡ 2 * half → (k : ℕ) → k ≤ n → length (valuesAt half out t steps pm k) ≡ 2 * half
-    unfolding valuesAt
-    values-count e zero h = e
-    values-count e (suc k) h = ap length (one-step k h) ∙ times-length (bit (eqb (k % 64) 63)) (nexts half out t (valuesAt half out t steps pm k) (steps k)) ∙ nexts-length (valuesAt half out t steps pm k) (steps k)
-
     values-long : (k : ℕ) → k ≤ n → 2 * half ≤ length (valuesAt half out t steps pm k)
     unfolding valuesAt
     values-long zero h = long

@@ -6,7 +6,7 @@ use mathlib.Core.List.{List, [], _∷_, _++_}
 use Prim.Native.Nat.{ℕ, zero, suc, _+_, _-_, _*_, _/_, _%_, _≤_, _<_}
 use native.Mathlib.Nat.{mod-lt, div-add-mod, mul-add-mod-self-left, mul-add-div, mod-eq-of-lt, div-eq-of-lt, div-lt-iff-lt-mul, not-suc-le-zero, mul-le-mul-left}
 use native.Mathlib.Omega.{arith}
-use lib.Dec.{T, ltb, leb, ltb→lt, nltb→le, leb→le, nleb→lt}
+use lib.Dec.{T, ltb→lt, nltb→le, leb→le, nleb→lt}
 use lib.ListN.{getD, length, length-append, List·getD-append}
 use lib.Seq.{getD-at, ext-getD}
 use borrow.Author.Count.{below-more}
@@ -370,10 +370,3 @@ module _ (half : ℕ) (t : Tie) (s : ℕ) (us : List ℕ) (r : ℕ) (vs : List �
       let w = first-only n (p .walk) (q .walk) a b in
       let c = p .count in
       (w .0, ext-getD 0 us vs (p .count ∙ sym (q .count)) (λ i h. w .1 i (omega arith)))
-
--- only one path is greatest and first
-pub one-greatest : (half : ℕ) (out : ℕ → ℕ → ℕ) (t : Tie) (v : ℕ → Z) (m : ℕ → ℕ → Z) (to : ℕ → Type 0) (n s : ℕ) (us : List ℕ) (r : ℕ) (vs : List ℕ) → Greatest half out t v m to n s us → Greatest half out t v m to n r vs → (s ≡ r) × (us ≡ vs)
-one-greatest half out t v m to n s us r vs g h =
-    one-first half t s us r vs n (g .path) (h .path)
-    (g .first r vs (h .path .walk) (h .ends) (h .most s us (g .path .walk) (g .ends)))
-    (h .first s us (g .path .walk) (g .ends) (g .most r vs (h .path .walk) (h .ends)))

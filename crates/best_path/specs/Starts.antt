@@ -204,12 +204,6 @@ module _ (half : ℕ) (some : 0 < half) (out : ℕ → ℕ → ℕ) (labels : (u
       let b = given-best half out labels t m n small (This e) s₀ (back half ws n e n) us vs few (p .walk) z d in
       subst (λ (x : ℕ). Best half out t (This s₀) (This e) m n x us) (b .begins) b
 
-  -- from any start to the given end
-  pub best-into : Unknown half (pms 0) → e < 2 * half → Best half out t Any (This e) m n (back half ws n e n) us
-  best-into g l =
-      let d = decoded-to half some out labels t level (λ k c. parts-of (m k c)) steps n few pms (unknown-started half (pms 0) g) ads ws e us did l in
-      level-best half out labels t m n small (This e) (back half ws n e n) us d
-
 -- ---- there is one such path
 pub one-best : (half : ℕ) (out : ℕ → ℕ → ℕ) (t : Tie) (from to : ℕ → Type 0) (m : ℕ → ℕ → ℤ) (n s : ℕ) (us : List ℕ) (r : ℕ) (vs : List ℕ) → Best half out t from to m n s us → Best half out t from to m n r vs → (s ≡ r) × (us ≡ vs)
 one-best half out t from to m n s us r vs g h =

@@ -1,5 +1,5 @@
 -- A float rounded to a format, as a cast from the wider format has it: `rounded f x` is the value of f nearest to x, ties to even, subnormal results included.
--- It keeps the order of all floats, infinities too (`rounded-mono`), leaves what the format holds as it is (`rounded-self`), and keeps the sign apart (`rounded-neg`).
+-- It keeps the order of all floats, infinities too (`rounded-mono`), and leaves what the format holds as it is (`rounded-self`).
 -- So a value between two that the format holds stays between them, and is then finite (`rounded-between`). Assumes nothing.
 use mathlib.Core.Path.{_≡_, refl, sym, ap, _∙_, subst}
 use mathlib.Core.Logic.{inl, inr}
@@ -38,13 +38,6 @@ unfolding rounded
 rounded-value f nan s a b B v = absurd v
 rounded-value f (inf t) s a b B v = absurd v
 rounded-value f (fin t m e) s a b B v = ap (λ (r : Bool). round f r (m * up e) (down e)) (v .0) ∙ round-same f s (m * up e) (down e) a b (down-pos e) B (v .1)
-
--- ---- the sign
-pub rounded-neg : (f : Format) (x : Float) → rounded f (neg x) ≡ neg (rounded f x)
-unfolding rounded neg
-rounded-neg f nan = refl
-rounded-neg f (inf s) = refl
-rounded-neg f (fin s m e) = round-neg f s (m * up e) (down e)
 
 -- ---- what the format holds stays
 plus-self : (f : Format) (m : ℕ) (e : ℤ) → T (fits f (fin false m e)) → round f false (m * up e) (down e) ≡ fin false m e

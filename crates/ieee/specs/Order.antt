@@ -250,20 +250,6 @@ eq→value f (fin false m e) (fin true n d) p q t = both-none (mag f (fin false 
 eq→value f (fin true m e) (fin false n d) p q t = none-both (mag f (fin true m e)) (mag f (fin false n d)) (none-back (m * up e * down d) (n * up d * down e) (mag f (fin true m e)) (mag f (fin false n d)) (cross f true m e false n d p q) t)
 eq→value f (fin true m e) (fin true n d) p q t = lev' (mag f (fin true m e)) (mag f (fin true n d)) (level-to (m * up e * down d) (n * up d * down e) (mag f (fin true m e)) (mag f (fin true n d)) (cross f true m e true n d p q) t)
 
-not-both : (a b : ℕ) → a ≡ b → a < b → ⊥
-not-both a b e h = omega arith
-
-le-is : (x y : Float) → T (le x y) → T (lt x y || eq x y)
-unfolding le
-le-is x y t = t
-
-pub value→eq : (f : Format) (x y : Float) → Num f x → Num f y → Same f x y → T (eq x y)
-value→eq f x y p q h =
-    elim (or-split (lt x y) (eq x y) (le-is x y (value→le f x y p q (le-of-eq h)))) [
-      | inl t ↦ absurd (not-both (hi f x + lo f y) (hi f y + lo f x) h (lt→value f x y p q t))
-      | inr t ↦ t
-    ]
-
 -- ---- between two finite values
 finite-between : (lo x hi : Float) → T (finite lo) → T (finite hi) → T (le lo x) → T (le x hi) → T (finite x)
 unfolding le

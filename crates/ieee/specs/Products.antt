@@ -1,11 +1,11 @@
 -- Products of finite floats. With P = hi x * hi y + lo x * lo y and N = hi x * lo y + lo x * hi y the exact product is (P - N) / 2 ^ low units, and the float product is that,
 -- rounded (`mul-rounds`). `RoundsBy f z P N D` is `Rounds` for a fraction, (P - N) / D units: it keeps the order (`by-mono`) and never crosses a held value (`by-le`, `by-ge`, `by-between`).
--- A product whose exact value the format holds is exact (`mul-exact`), and bounds on the factors bound the product, which is then finite (`mul-bound`). Assumes nothing.
+-- Bounds on the factors bound the product, which is then finite (`mul-bound`). Assumes nothing.
 use mathlib.Core.Path.{_≡_, sym, ap, _∙_, subst}
 use mathlib.Core.Logic.{_⊎_, inl, inr}
 use mathlib.Core.Bool.{Bool, true, false}
 use Prim.Native.Nat.{ℕ, _+_, _-_, _*_, _^_, _≤_, _<_, zero-le}
-use native.Mathlib.Nat.{le-trans, le-of-eq, le-of-lt, lt-of-le-of-lt, mul-assoc, mul-comm, mul-mul-mul-comm, zero-mul, mul-pos, mul-le-mul-right, mul-le-mul, mul-sub}
+use native.Mathlib.Nat.{le-trans, le-of-eq, lt-of-le-of-lt, mul-assoc, mul-comm, mul-mul-mul-comm, zero-mul, mul-pos, mul-le-mul-right, mul-le-mul, mul-sub}
 use native.Mathlib.Omega.{arith}
 use lib.IntN.{ℤ}
 use lib.Dec.{lit≤}
@@ -15,7 +15,7 @@ use lib.Ieee.Fits.{down-pos, round-fits}
 use lib.Ieee.Exact.{HasValue}
 use lib.Ieee.Scale.{round-same, overflow}
 use Rattle.ieee.specs.Nearest.{rnd, rnd-mono, rnd-same, rnd-fix, near, near-is}
-use Rattle.ieee.specs.Value.{mag, hi, lo, Num, shape, hi-of, lo-of, finite-of, one-side, hi-fix, lo-fix, hi-under, lo-under, Digits, hi-neg, lo-neg, num-neg}
+use Rattle.ieee.specs.Value.{mag, hi, lo, Num, shape, hi-of, lo-of, finite-of, one-side, hi-fix, lo-fix, hi-under, lo-under, hi-neg, lo-neg, num-neg}
 use Rattle.ieee.specs.Order.{Le}
 use Rattle.ieee.specs.Rounding.{prec-pos, round-at, rounds-self, Between}
 
@@ -161,49 +161,6 @@ fine-by {f} {c} {b} P N D C p q h k = record {
 -- never across a value that the format holds
 pub by-between : {f : Format} {c z b : Float} {P N D : ℕ} → 0 < D → RoundsBy f z P N D → Num f c → Num f b → hi f c * D + N ≤ P + lo f c * D → P + lo f b * D ≤ hi f b * D + N → Between f c z b
 by-between C r p q h k = record { num = r .num; from = by-ge C r p h; to = by-le C r q k }
-
--- z is (h - l) units, exactly
-pub record Is (f : Format) (z : Float) (h l : ℕ) : Type 0 where
-  pub num : Num f z
-  pub hi-is : hi f z ≡ h
-  pub lo-is : lo f z ≡ l
-
--- ---- a number of few digits, over D
-fixes : (f : Format) (n D : ℕ) → 0 < D → Digits f n → rnd (prec f) (n * D) D ≡ n
-fixes f n D C d = subst (λ (x : ℕ). rnd (prec f) (x * D) D ≡ x) (sym (d .is)) (rnd-fix (prec f) (d .digits) (d .power) D (prec-pos f) C (le-of-lt (d .few)))
-
--- the products that stand in `mul-rounds`, where y is w / 1 with nothing below, a * w is h * D and b * w is l * D, and one of a and b is 0
-above : (a b w h l D : ℕ) → (a ≡ 0) ⊎ (b ≡ 0) → a * w ≡ h * D → b * w ≡ l * D → a * w + b * 0 - (a * 0 + b * w) ≡ h * D
-above a b w h l D (inl e) p q =
-    let z : a * w ≡ 0 = ap (λ (x : ℕ). x * w) e ∙ zero-mul w in
-    omega arith
-above a b w h l D (inr e) p q =
-    let z : b * w ≡ 0 = ap (λ (x : ℕ). x * w) e ∙ zero-mul w in
-    omega arith
-
-below : (a b w h l D : ℕ) → (a ≡ 0) ⊎ (b ≡ 0) → a * w ≡ h * D → b * w ≡ l * D → a * 0 + b * w - (a * w + b * 0) ≡ l * D
-below a b w h l D (inl e) p q =
-    let z : a * w ≡ 0 = ap (λ (x : ℕ). x * w) e ∙ zero-mul w in
-    omega arith
-below a b w h l D (inr e) p q =
-    let z : b * w ≡ 0 = ap (λ (x : ℕ). x * w) e ∙ zero-mul w in
-    omega arith
-
--- ---- a product whose exact value the format holds
-pub mul-exact : (f : Format) (x y : Float) (w h l : ℕ) → Num f x → Num f y → hi f y ≡ w → lo f y ≡ 0 → hi f x * w ≡ h * 2 ^ low f → lo f x * w ≡ l * 2 ^ low f
-    → Digits f h → Digits f l → h < overflow f → l < overflow f → Is f (mul f x y) h l
-mul-exact f x y w h l p q yh yl a b dh dl oh ol =
-    let L = 2 ^ low f in
-    let PN : hi f x * hi f y + lo f x * lo f y - (hi f x * lo f y + lo f x * hi f y) ≡ h * L =
-    subst (λ (v : ℕ). hi f x * v + lo f x * lo f y - (hi f x * lo f y + lo f x * v) ≡ h * L) (sym yh)
-    (subst (λ (v : ℕ). hi f x * w + lo f x * v - (hi f x * v + lo f x * w) ≡ h * L) (sym yl) (above (hi f x) (lo f x) w h l L (one-side f x) a b)) in
-    let NP : hi f x * lo f y + lo f x * hi f y - (hi f x * hi f y + lo f x * lo f y) ≡ l * L =
-    subst (λ (v : ℕ). hi f x * lo f y + lo f x * v - (hi f x * v + lo f x * lo f y) ≡ l * L) (sym yh)
-    (subst (λ (v : ℕ). hi f x * v + lo f x * w - (hi f x * w + lo f x * v) ≡ l * L) (sym yl) (below (hi f x) (lo f x) w h l L (one-side f x) a b)) in
-    let eh = ap (λ (n : ℕ). rnd (prec f) n L) PN ∙ fixes f h L (pow-pos (low f)) dh in
-    let el = ap (λ (n : ℕ). rnd (prec f) n L) NP ∙ fixes f l L (pow-pos (low f)) dl in
-    let r = mul-rounds f x y p q (record { above = subst (λ (n : ℕ). n < overflow f) (sym eh) oh; below = subst (λ (n : ℕ). n < overflow f) (sym el) ol }) in
-    record { num = r .num; hi-is = r .hi-is ∙ eh; lo-is = r .lo-is ∙ el }
 
 -- ---- |x| ≤ A and |y| ≤ B, and the format holds c, which is A * B at least
 one-term : (a b x y A B : ℕ) → (a ≡ 0) ⊎ (b ≡ 0) → a ≤ A → b ≤ A → x ≤ B → y ≤ B → a * x + b * y ≤ A * B

@@ -1,20 +1,20 @@
 -- Sums and differences of finite floats. With P = hi x + hi y and N = lo x + lo y the exact sum is P - N units, and the float sum is that, rounded (`add-rounds`, `sub-rounds`);
--- a finite one did not overflow (`add-fine`). So it grows with its operands (`add-mono`), never crosses a held value (`add-le`, `add-ge`, `add-between`, which gives finiteness too),
--- and has a bounded error (`add-near`). The same for `sub`. Assumes nothing.
+-- a finite one did not overflow (`add-fine`). So it never crosses a held value (`add-between`, which gives finiteness too).
+-- The same for `sub`. Assumes nothing.
 use mathlib.Core.Path.{_≡_, sym, ap, _∙_, subst}
 use mathlib.Core.Bool.{Bool, true, false, not, cond}
 use Prim.Native.Nat.{ℕ, suc, _+_, _-_, _*_, _^_, _≤_, _<_, zero-le}
-use native.Mathlib.Nat.{le-of-lt, mul-comm, mul-pos, mul-sub, add-mul}
+use native.Mathlib.Nat.{mul-comm, mul-pos, mul-sub, add-mul}
 use native.Mathlib.Omega.{arith}
 use lib.Dec.{T, ltb, ltb→lt, nltb→le}
 use lib.Pow.{pow-pos}
-use lib.Ieee.{Float, nan, inf, fin, Format, prec, emax, low, up, down, neg, round, sum, add, sub, le}
-use lib.Ieee.Fits.{down-pos, round-fits, add-fits, sub-fits}
+use lib.Ieee.{Float, nan, inf, fin, Format, prec, emax, low, up, down, neg, round, sum, add, sub}
+use lib.Ieee.Fits.{down-pos, round-fits}
 use lib.Ieee.Scale.{round-same, finite, overflow}
 use Rattle.ieee.specs.Nearest.{near, near-is, near-zero}
 use Rattle.ieee.specs.Value.{mag, hi, lo, Num, shape, hi-of, lo-of, finite-of, hi-neg, lo-neg, num-neg}
-use Rattle.ieee.specs.Order.{left-units, right-units, Cross, crossed, le→value, value→le}
-use Rattle.ieee.specs.Rounding.{pow2, prec-pos, round-units, Rounds, Fine, round-under, fine-between, fine-pow2, rounds-mono, rounds-le, rounds-ge, Between, rounds-between, Near, rounds-near}
+use Rattle.ieee.specs.Order.{left-units, right-units, Cross, crossed}
+use Rattle.ieee.specs.Rounding.{prec-pos, round-units, Rounds, Fine, round-under, fine-between, Between, rounds-between}
 
 none-left : (f : Format) (P N : ℕ) → P ≤ N → 0 ≡ near (prec f) (P - N)
 none-left f P N h = sym (ap (λ (x : ℕ). near (prec f) x) (gone P N h) ∙ near-zero (prec f) (prec-pos f))
@@ -188,59 +188,14 @@ sub-fine f x y p q t =
     subst (λ (k : ℕ). Fine f (hi f x + k) (lo f x + hi f y)) (hi-neg f y)
     (subst (λ (k : ℕ). Fine f (hi f x + hi f (neg y)) (lo f x + k)) (lo-neg f y) (add-fine f x (neg y) p (num-neg q) t))
 
--- ---- a finite sum, and a finite difference
-pub add-is : (f : Format) (x y : Float) → Num f x → Num f y → T (finite (add f x y)) → Rounds f (add f x y) (hi f x + hi f y) (lo f x + lo f y)
-add-is f x y p q t = add-rounds f x y p q (add-fine f x y p q t)
-
+-- ---- a finite difference
 pub sub-is : (f : Format) (x y : Float) → Num f x → Num f y → T (finite (sub f x y)) → Rounds f (sub f x y) (hi f x + lo f y) (lo f x + hi f y)
 sub-is f x y p q t = sub-rounds f x y p q (sub-fine f x y p q t)
 
-pub add-num : (f : Format) (x y : Float) → T (finite (add f x y)) → Num f (add f x y)
-add-num f x y t = record { fin-x = t; fits-x = add-fits f x y }
-
-pub sub-num : (f : Format) (x y : Float) → T (finite (sub f x y)) → Num f (sub f x y)
-sub-num f x y t = record { fin-x = t; fits-x = sub-fits f x y }
-
 -- ---- the order
-pub add-mono : (f : Format) (x x' y y' : Float) → Num f x → Num f x' → Num f y → Num f y' → T (finite (add f x y)) → T (finite (add f x' y')) → T (le x x') → T (le y y') → T (le (add f x y) (add f x' y'))
-add-mono f x x' y y' p p' q q' t t' h k =
-    let a = le→value f x x' p p' h in
-    let b = le→value f y y' q q' k in
-    value→le f (add f x y) (add f x' y') (add-num f x y t) (add-num f x' y' t') (rounds-mono (add-is f x y p q t) (add-is f x' y' p' q' t') (omega arith))
-
-pub sub-mono : (f : Format) (x x' y y' : Float) → Num f x → Num f x' → Num f y → Num f y' → T (finite (sub f x y)) → T (finite (sub f x' y')) → T (le x x') → T (le y' y) → T (le (sub f x y) (sub f x' y'))
-sub-mono f x x' y y' p p' q q' t t' h k =
-    let a = le→value f x x' p p' h in
-    let b = le→value f y' y q' q k in
-    value→le f (sub f x y) (sub f x' y') (sub-num f x y t) (sub-num f x' y' t') (rounds-mono (sub-is f x y p q t) (sub-is f x' y' p' q' t') (omega arith))
-
--- the exact sum is at most c, or at least c, and so is the rounded one
-pub add-le : (f : Format) (x y c : Float) → Num f x → Num f y → Num f c → T (finite (add f x y)) → hi f x + hi f y + lo f c ≤ hi f c + (lo f x + lo f y) → T (le (add f x y) c)
-add-le f x y c p q r t h = value→le f (add f x y) c (add-num f x y t) r (rounds-le (add-is f x y p q t) r h)
-
-pub add-ge : (f : Format) (x y c : Float) → Num f x → Num f y → Num f c → T (finite (add f x y)) → hi f c + (lo f x + lo f y) ≤ hi f x + hi f y + lo f c → T (le c (add f x y))
-add-ge f x y c p q r t h = value→le f c (add f x y) r (add-num f x y t) (rounds-ge (add-is f x y p q t) r h)
-
-pub sub-le : (f : Format) (x y c : Float) → Num f x → Num f y → Num f c → T (finite (sub f x y)) → hi f x + lo f y + lo f c ≤ hi f c + (lo f x + hi f y) → T (le (sub f x y) c)
-sub-le f x y c p q r t h = value→le f (sub f x y) c (sub-num f x y t) r (rounds-le (sub-is f x y p q t) r h)
-
-pub sub-ge : (f : Format) (x y c : Float) → Num f x → Num f y → Num f c → T (finite (sub f x y)) → hi f c + (lo f x + hi f y) ≤ hi f x + lo f y + lo f c → T (le c (sub f x y))
-sub-ge f x y c p q r t h = value→le f c (sub f x y) r (sub-num f x y t) (rounds-ge (sub-is f x y p q t) r h)
-
 -- the exact sum lies between two values that the format holds, and so does the rounded one, which is then finite
 pub add-between : (f : Format) (x y c d : Float) → Num f x → Num f y → Num f c → Num f d → hi f c + (lo f x + lo f y) ≤ hi f x + hi f y + lo f c → hi f x + hi f y + lo f d ≤ hi f d + (lo f x + lo f y) → Between f c (add f x y) d
 add-between f x y c d p q r s h k = rounds-between (add-rounds f x y p q (fine-between (hi f x + hi f y) (lo f x + lo f y) s r (omega arith) (omega arith))) r s h k
 
 pub sub-between : (f : Format) (x y c d : Float) → Num f x → Num f y → Num f c → Num f d → hi f c + (lo f x + hi f y) ≤ hi f x + lo f y + lo f c → hi f x + lo f y + lo f d ≤ hi f d + (lo f x + hi f y) → Between f c (sub f x y) d
 sub-between f x y c d p q r s h k = rounds-between (sub-rounds f x y p q (fine-between (hi f x + lo f y) (lo f x + hi f y) s r (omega arith) (omega arith))) r s h k
-
--- ---- the error: where 2 ^ (prec + 1) * pow2 j units bound the exact result, pow2 j units bound the error. In binary32 the factor is 33554432, 2 ^ 25
-pub add-near : (f : Format) (x y : Float) (j : ℕ) → Num f x → Num f y → prec f + suc j < low f + suc (emax f)
-    → hi f x + hi f y < lo f x + lo f y + 2 ^ suc (prec f) * pow2 j → lo f x + lo f y < hi f x + hi f y + 2 ^ suc (prec f) * pow2 j
-    → Near f (add f x y) (hi f x + hi f y) (lo f x + lo f y) (pow2 j)
-add-near f x y j p q l h k = rounds-near j (add-rounds f x y p q (fine-pow2 f j (hi f x + hi f y) (lo f x + lo f y) l (le-of-lt h) (le-of-lt k))) h k
-
-pub sub-near : (f : Format) (x y : Float) (j : ℕ) → Num f x → Num f y → prec f + suc j < low f + suc (emax f)
-    → hi f x + lo f y < lo f x + hi f y + 2 ^ suc (prec f) * pow2 j → lo f x + hi f y < hi f x + lo f y + 2 ^ suc (prec f) * pow2 j
-    → Near f (sub f x y) (hi f x + lo f y) (lo f x + hi f y) (pow2 j)
-sub-near f x y j p q l h k = rounds-near j (sub-rounds f x y p q (fine-pow2 f j (hi f x + lo f y) (lo f x + hi f y) l (le-of-lt h) (le-of-lt k))) h k

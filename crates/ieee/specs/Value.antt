@@ -170,26 +170,6 @@ pub record Digits (f : Format) (n : ℕ) : Type 0 where
   pub few : digits < 2 ^ prec f
   pub is : n ≡ digits * 2 ^ power
 
-digits-zero : (f : Format) → Digits f 0
-digits-zero f = record { digits = 0; power = 0; few = pow-pos (prec f); is = refl }
-
-digits-of : (f : Format) (s : Bool) (m : ℕ) (e : ℤ) → T (fits f (fin s m e)) → Digits f (mag f (fin s m e))
-digits-of f s m e t = let h = shape f s m e t in record { digits = m; power = h .power; few = h .few; is = h .is }
-
-pub hi-digits : (f : Format) (x : Float) → T (fits f x) → Digits f (hi f x)
-unfolding hi
-hi-digits f nan t = digits-zero f
-hi-digits f (inf s) t = digits-zero f
-hi-digits f (fin true m e) t = digits-zero f
-hi-digits f (fin false m e) t = digits-of f false m e t
-
-pub lo-digits : (f : Format) (x : Float) → T (fits f x) → Digits f (lo f x)
-unfolding lo
-lo-digits f nan t = digits-zero f
-lo-digits f (inf s) t = digits-zero f
-lo-digits f (fin true m e) t = digits-of f true m e t
-lo-digits f (fin false m e) t = digits-zero f
-
 -- ---- `neg` changes the two over
 pub hi-neg : (f : Format) (x : Float) → hi f (neg x) ≡ lo f x
 unfolding hi lo neg

@@ -1,22 +1,20 @@
 -- Whole numbers, and multiples of any power of two: their sums are exact where the format has the digits, up to 2 ^ prec of them (`add-on`, `sub-on`).
--- `On f x j p n`: x is p - n times 2 ^ j units. A whole number is on 2 ^ low units (`ofInt-on`), and integers add as floats as they do as integers (`int-add`, `int-sub`).
--- Assumes nothing.
-use mathlib.Core.Path.{_≡_, refl, sym, ap, _∙_}
+-- `On f x j p n`: x is p - n times 2 ^ j units. A whole number is on 2 ^ low units (`ofInt-on`). Assumes nothing.
+use mathlib.Core.Path.{_≡_, sym, ap, _∙_}
 use mathlib.Core.Bool.{Bool, true, false, not, cond}
-use Prim.Native.Nat.{ℕ, zero, suc, _+_, _-_, _*_, _^_, _≤_, _<_, zero-le}
-use native.Mathlib.Nat.{mul-one, mul-right-comm, add-mul, mul-le-mul-right, zero-mul, zero-lt-suc}
+use Prim.Native.Nat.{ℕ, suc, _+_, _-_, _*_, _^_, _≤_, _<_}
+use native.Mathlib.Nat.{mul-one, mul-right-comm, add-mul, mul-le-mul-right, zero-mul}
 use native.Mathlib.Omega.{arith}
-use lib.IntN.{ℤ, pos, negsuc, negℤ, subℕ, _+ℤ_, _-ℤ_}
-use lib.Dec.{T, ltb, ltb→lt, nltb→le, leb→le, lit<}
+use lib.IntN.{ℤ, pos, negsuc, subℕ, _+ℤ_}
+use lib.Dec.{T, ltb, ltb→lt, nltb→le, leb→le}
 use lib.Pow.{pow-add}
-use lib.Ieee.{Float, nan, inf, fin, Format, binary32, binary64, fits, prec, emax, low, up, down, neg, add, sub, round, ofInt, inFloat}
+use lib.Ieee.{Float, nan, inf, fin, Format, fits, prec, emax, low, up, down, neg, add, sub, round, ofInt, inFloat}
 use lib.Ieee.Fits.{ofInt-fits}
 use lib.Ieee.Exact.{HasValue}
 use lib.Ieee.Back.{round-whole}
 use Rattle.ieee.specs.Value.{hi, lo, Num, hi-of, lo-of, finite-of, hi-neg, lo-neg, num-neg}
 use Rattle.ieee.specs.Rounding.{pow2, pow2-is, fine-pow, rounds-exact}
 use Rattle.ieee.specs.Sums.{add-rounds}
-use Rattle.ieee.specs.Zero.{plain, unique, value-plain, plus-plain, add-plain, sub-plain}
 
 pub record On (f : Format) (x : Float) (j p n : ℕ) : Type 0 where
   pub num : Num f x
@@ -86,11 +84,6 @@ unfolding ofInt inFloat
 ofInt-on f (pos n) t = on-plus f (round f false n 1) n (ofInt-fits f (pos n)) (round-whole f false n (leb→le n (2 ^ prec f) t))
 ofInt-on f (negsuc n) t = on-minus f (round f true (suc n) 1) (suc n) (ofInt-fits f (negsuc n)) (round-whole f true (suc n) (ltb→lt n (2 ^ prec f) t))
 
-ofInt-plain : (f : Format) (z : ℤ) → T (inFloat f z) → T (plain (ofInt f z))
-unfolding ofInt inFloat
-ofInt-plain f (pos n) t = plus-plain f n 1
-ofInt-plain f (negsuc n) t = value-plain (round f true (suc n) 1) true (suc n) 1 (round-whole f true (suc n) (ltb→lt n (2 ^ prec f) t)) (zero-lt-suc n)
-
 -- ---- the integers' sum, by its two parts
 sub-parts : (a b : ℕ) → (hiZ (subℕ a b) ≡ a - b) × (loZ (subℕ a b) ≡ b - a)
 sub-parts a b = go (ltb a b) (ltb→lt a b) (nltb→le a b)
@@ -104,45 +97,3 @@ parts (pos a) (pos b) = (omega arith, omega arith)
 parts (pos a) (negsuc b) = let r = sub-parts a (suc b) in (omega arith, omega arith)
 parts (negsuc a) (pos b) = let r = sub-parts b (suc a) in (omega arith, omega arith)
 parts (negsuc a) (negsuc b) = (omega arith, omega arith)
-
-small : (f : Format) (z : ℤ) → T (inFloat f z) → (hiZ z ≤ 2 ^ prec f) × (loZ z ≤ 2 ^ prec f)
-unfolding inFloat
-small f (pos n) t = (leb→le n (2 ^ prec f) t, zero-le)
-small f (negsuc n) t = (zero-le, ltb→lt n (2 ^ prec f) t)
-
-top : (f : Format) → prec f + low f < low f + suc (emax f)
-top binary32 = lit< tt
-top binary64 = lit< tt
-
-same-on : (f : Format) (x y : Float) (j p n p' n' : ℕ) → On f x j p n → On f y j p' n' → p ≡ p' → n ≡ n' → T (plain x) → T (plain y) → x ≡ y
-same-on f x y j p n p' n' s t d e a b =
-    unique f x y (s .num) (t .num) a b (s .hi-is ∙ ap (λ (z : ℕ). z * pow2 j) d ∙ sym (t .hi-is)) (s .lo-is ∙ ap (λ (z : ℕ). z * pow2 j) e ∙ sym (t .lo-is))
-
--- integers add as floats as they do as integers
-pub int-add : (f : Format) (a b : ℤ) → T (inFloat f a) → T (inFloat f b) → T (inFloat f (a +ℤ b)) → add f (ofInt f a) (ofInt f b) ≡ ofInt f (a +ℤ b)
-int-add f a b s t u =
-    let x = ofInt-on f a s in
-    let y = ofInt-on f b t in
-    let z = ofInt-on f (a +ℤ b) u in
-    let r = parts a b in
-    let l = small f (a +ℤ b) u in
-    let w = add-on (low f) x y (top f) (omega arith) (omega arith) in
-    same-on f (add f (ofInt f a) (ofInt f b)) (ofInt f (a +ℤ b)) (low f) (hiZ a + hiZ b - (loZ a + loZ b)) (loZ a + loZ b - (hiZ a + hiZ b)) (hiZ (a +ℤ b)) (loZ (a +ℤ b))
-    w z (sym (r .0)) (sym (r .1)) (add-plain f (ofInt f a) (ofInt f b) (x .num) (y .num) (ofInt-plain f a s)) (ofInt-plain f (a +ℤ b) u)
-
-neg-parts : (b : ℤ) → (hiZ (negℤ b) ≡ loZ b) × (loZ (negℤ b) ≡ hiZ b)
-neg-parts (pos zero) = (refl, refl)
-neg-parts (pos (suc n)) = (refl, refl)
-neg-parts (negsuc n) = (refl, refl)
-
-pub int-sub : (f : Format) (a b : ℤ) → T (inFloat f a) → T (inFloat f b) → T (inFloat f (a -ℤ b)) → sub f (ofInt f a) (ofInt f b) ≡ ofInt f (a -ℤ b)
-int-sub f a b s t u =
-    let x = ofInt-on f a s in
-    let y = ofInt-on f b t in
-    let z = ofInt-on f (a -ℤ b) u in
-    let r = parts a (negℤ b) in
-    let m = neg-parts b in
-    let l = small f (a -ℤ b) u in
-    let w = sub-on (low f) x y (top f) (omega arith) (omega arith) in
-    same-on f (sub f (ofInt f a) (ofInt f b)) (ofInt f (a -ℤ b)) (low f) (hiZ a + loZ b - (loZ a + hiZ b)) (loZ a + hiZ b - (hiZ a + loZ b)) (hiZ (a -ℤ b)) (loZ (a -ℤ b))
-    w z (omega arith) (omega arith) (sub-plain f (ofInt f a) (ofInt f b) (x .num) (y .num) (ofInt-plain f a s)) (ofInt-plain f (a -ℤ b) u)
