@@ -33,13 +33,13 @@ use Rattle.isdbs_core.specs.declared.tmcc.Table.{Table}
 use Rattle.isdbs_core.specs.Tables.{slotSum, tableAnswer}
 use Rattle.isdbs_core.specs.RunsOf.{frameSteps}
 use Rattle.isdbs_points.specs.declared.Mapping.{Mapping}
-use Rattle.isdbs_phy.specs.DecodeRows.{within, someBeyond, partLimit, badScale, shortSpace, decodeRows}
+use Rattle.isdbs_phy.specs.DecodeRows.{within, someBeyond, partLimit, scaleLimit, badScale, shortSpace, decodeRows}
 use Rattle.isdbs_points.specs.Layout.{wordBit}
 use Rattle.isdbs_points.specs.Frame.{startState}
 use Rattle.isdbs_metrics.specs.Reading.{Received, metricsAt, startValues}
 use Rattle.isdbs_metrics.specs.Steps.{received}
 use Rattle.isdbs_decode.specs.Runs.{frameMetrics, freshFrom, knownBits}
-use Rattle.frame_ranges.specs.Numbers.{partPower, scalePower, metricPower, scaleLimit, softLimit, metricLimit, stepMost, floor, leastPath, mostPath, part-limit, scale-limit, soft-limit, metric-limit, step-most, path-limits, least-path, most-path}
+use Rattle.frame_ranges.specs.Numbers.{partPower, scalePower, metricPower, softLimit, metricLimit, stepMost, floor, leastPath, mostPath, part-limit, scale-limit, soft-limit, metric-limit, step-most, path-limits, least-path, most-path}
 use Rattle.frame_ranges.specs.Size.{Size, two-lo, between-size, size-from, size-to}
 use Rattle.frame_ranges.specs.Metrics.{Sized, soft-in, metric-in}
 use Rattle.frame_ranges.specs.Ranges.{Between, pathRange, Ranges, frameAt}

@@ -9,7 +9,7 @@ use Rattle.ieee.specs.Constants.{two-to}
 use Rattle.path_range.specs.Bounds.{U}
 use Rattle.path_range.specs.Values.{Is}
 use Rattle.path_range.specs.Invariant.{Limits}
-use Rattle.isdbs_phy.specs.DecodeRows.{partLimit}
+use Rattle.isdbs_phy.specs.DecodeRows.{partLimit, scaleLimit}
 
 -- 2 ^ 10 is 1,024, the limit of a frame part; 2 ^ 6 is 64, that of a scale
 abbrev pub partPower : ℕ
@@ -17,9 +17,6 @@ partPower = 10
 
 abbrev pub scalePower : ℕ
 scalePower = 6
-
-abbrev pub scaleLimit : Float
-scaleLimit = ofBits binary32 0x4280_0000
 
 -- their product, 65,536: a soft value times the scale
 abbrev pub softPower : ℕ
