@@ -9,27 +9,15 @@ use lib.ListN.{length}
 use lib.Ieee.{Float}
 use borrow.Author.Tests.{eq-eqb, ne-eqb, eqb-true, eqb-false}
 use Rattle.refusal.specs.declared.Answer.{Answer}
-use Rattle.refusal.specs.declared.Answer.the-variants.{Accepted, Table, Position, Traceback, State, Length, Symbols, Sample, Scale, Space}
+use Rattle.refusal.specs.declared.Answer.the-variants.{Accepted}
 use Rattle.refusal.specs.Rows.{Row, numberOf, firstRow}
+pub use Rattle.refusal.specs.RowLaws.{zero-accepted}
 use Rattle.trellis.specs.Run.{Decoder}
 use Rattle.isdb_fec.specs.declared.conv.ViterbiDecoder.{ViterbiDecoder}
 use Rattle.isdb_fec.specs.declared.conv.Released.{Released}
 use Rattle.isdb_fec.specs.Calls.{Either, Leaves, Flushes, Unchanged}
 use Rattle.isdb_c.specs.Rows.{answered, left}
 use Rattle.isdb_c.specs.Decoders.{notStates, Stored, Flushed}
-
--- only accepted has the number 0
-pub zero-accepted : (a : Answer) → numberOf a ≡ 0 → a ≡ Accepted
-zero-accepted Accepted e = refl
-zero-accepted Table e = absurd (omega arith)
-zero-accepted Position e = absurd (omega arith)
-zero-accepted Traceback e = absurd (omega arith)
-zero-accepted State e = absurd (omega arith)
-zero-accepted Length e = absurd (omega arith)
-zero-accepted Symbols e = absurd (omega arith)
-zero-accepted Sample e = absurd (omega arith)
-zero-accepted Scale e = absurd (omega arith)
-zero-accepted Space e = absurd (omega arith)
 
 -- a slice that is not 64 long answers 5, before all else
 pub not-states : (pm : List Float) (rows : List Row) → (length pm ≡ 64 → ⊥) → 5 ≡ answered (notStates pm ∷ rows)
