@@ -1,7 +1,7 @@
 -- Demand 3 about the call `decode_frame`: from its contract and the margins alone. Assumes nothing.
-use mathlib.Core.Path.{_≡_, refl}
+use mathlib.Core.Path.{_≡_, refl, _∙_}
 use mathlib.Core.Bool.{Bool, true, false, cond, not, _||_}
-use mathlib.Core.List.{List}
+use mathlib.Core.List.{List, [], _∷_, _++_}
 use Prim.Native.Nat.{ℕ, zero, suc, _-_, _<_, _≤_}
 use native.Mathlib.Omega.{arith}
 use lib.Dec.{T}
@@ -10,15 +10,15 @@ use lib.Seq.{take-at}
 use lib.Ieee.{Float, nan, binary32, lt, ofBits}
 use borrow.Author.Tests.{le-ltb}
 use Rattle.refusal.specs.declared.Answer.the-variants.{Accepted, Space}
-use Rattle.refusal.specs.Rows.{firstRow}
+use Rattle.refusal.specs.Rows.{numberOf, firstRow}
 use Rattle.isdb_fec.specs.Calls.{Either}
 use Rattle.isdbs_core.specs.declared.tmcc.Table.{Table}
-use Rattle.isdbs_core.specs.Tables.{slotSum}
+use Rattle.isdbs_core.specs.Tables.{TableAccepted}
+use Rattle.isdbs_core.specs.TableLaws.{then-rows}
 use Rattle.isdbs_core.specs.RunsOf.{frameSteps, loadBytes}
 use Rattle.isdbs_points.specs.declared.Mapping.{Mapping}
 use Rattle.isdbs_phy.specs.declared.demod.FrameDecoded.{FrameDecoded}
-use Rattle.isdbs_phy.specs.declared.demod.FrameDecoded.the-variants.{Decoded, Refused}
-use Rattle.isdbs_phy.specs.DecodeRows.{within, someBeyond, partLimit, shortSpace, decodeRows, frameAnswer, Kept}
+use Rattle.isdbs_phy.specs.DecodeRows.{within, someBeyond, partLimit, shortSpace, pointRows, lastRows, decodeRows, frameSaid, frameAnswer, Kept}
 use Rattle.isdbs_decode.specs.Runs.{FrameRead}
 use Rattle.margins.specs.Margins.{anyAccepted, Within, FullLoad}
 use Rattle.exact_frame.specs.Steps.{received}
@@ -31,13 +31,13 @@ eight = ofBits binary32 0x4100_0000
 
 -- what comes back: the load at the front of the byte output, or 9 where a lent slice is too short; nothing else
 pub data ReadsBack (t : Table) (load : List ℕ) (decisions bits space : ℕ) (r : FrameDecoded) (bytes : List ℕ) : Type 0 where
-  exactly : r ≡ Decoded (loadBytes t) (frameSteps t) → take (loadBytes t) bytes ≡ load → ReadsBack t load decisions bits space r bytes
-  short : r ≡ Refused Space → T (shortSpace t decisions bits space) → ReadsBack t load decisions bits space r bytes
+  exactly : frameSaid r ≡ (0, loadBytes t ∷ frameSteps t ∷ []) → take (loadBytes t) bytes ≡ load → ReadsBack t load decisions bits space r bytes
+  short : frameSaid r ≡ (numberOf Space, []) → T (shortSpace t decisions bits space) → ReadsBack t load decisions bits space r bytes
 
 -- demand 3 of one call: whatever full load the received frame lies within the margins of, it reads back
 abbrev pub Exact : Table → Mapping → Bool → List Float → List Float → ℕ → ℕ → ℕ → FrameDecoded → List ℕ → Type 0
 Exact t m first re im decisions bits space r bytes =
-    (load : List ℕ) → slotSum (t .entries) ≤ 48 → FullLoad load (loadBytes t) → Within re im load t m first → ReadsBack t load decisions bits space r bytes
+    (load : List ℕ) → TableAccepted t → FullLoad load (loadBytes t) → Within re im load t m first → ReadsBack t load decisions bits space r bytes
 
 none-beyond : (xs : List Float) (n : ℕ) → ((k : ℕ) → k < n → T (anyAccepted (getD xs k nan))) → someBeyond partLimit xs n ≡ false
 unfolding someBeyond
@@ -50,12 +50,12 @@ none-beyond xs (suc n) h = go (someBeyond partLimit xs n) (within partLimit (get
     go false false e t = absurd t
 
 -- within the margins, at the scale 8, only the last row can hold
-last-row : (t : Table) → slotSum (t .entries) ≤ 48 → (m : Mapping) (first : Bool) (load : List ℕ) (re im : List Float) → Within re im load t m first → (d b y : ℕ)
+last-row : (t : Table) → TableAccepted t → (m : Mapping) (first : Bool) (load : List ℕ) (re im : List Float) → Within re im load t m first → (d b y : ℕ)
     → firstRow (decodeRows t re im eight d b y) ≡ cond (shortSpace t d b y) Space Accepted
 unfolding ofBits lt
 last-row t fit m first load re im w d b y =
-    rw (
-      le-ltb 48 (slotSum (t .entries)) fit,
+    then-rows t (pointRows re im ++ lastRows t eight d b y) fit
+    ∙ rw (
       le-ltb (length re) 38976 (w .re-count),
       le-ltb (length im) 38976 (w .im-count),
       none-beyond re 38976 (re-accepted w),
@@ -63,9 +63,9 @@ last-row t fit m first load re im w d b y =
     )
 
 -- THE THEOREM about the call: whatever the lent slices held, the load comes back, or a slice is too short
-pub read-back : (t : Table) → slotSum (t .entries) ≤ 48 → (m : Mapping) (first : Bool) (load : List ℕ) → FullLoad load (loadBytes t) → (re im : List Float) → Within re im load t m first
+pub read-back : (t : Table) → TableAccepted t → (m : Mapping) (first : Bool) (load : List ℕ) → FullLoad load (loadBytes t) → (re im : List Float) → Within re im load t m first
     → (decisions₀ decisions bits₀ bits bytes₀ bytes : List ℕ) (r : FrameDecoded)
-    → r ≡ frameAnswer (firstRow (decodeRows t re im eight (length decisions₀) (length bits₀) (length bytes₀))) t
+    → frameSaid r ≡ frameAnswer (firstRow (decodeRows t re im eight (length decisions₀) (length bits₀) (length bytes₀))) t
     → Either (firstRow (decodeRows t re im eight (length decisions₀) (length bits₀) (length bytes₀)))
     (FrameRead t (received re im m) true first decisions₀ decisions bits₀ bits bytes₀ bytes)
     (Kept decisions₀ decisions bits₀ bits bytes₀ bytes)

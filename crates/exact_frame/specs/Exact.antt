@@ -18,7 +18,7 @@ use Rattle.lead.specs.Frame.{decoded-sent}
 use Rattle.isdbs_core.specs.declared.combination.Modulation.{Modulation}
 use Rattle.isdbs_core.specs.declared.tmcc.Table.{Table}
 use Rattle.isdbs_core.specs.Combinations.{modulationOf, unitOf, slotSteps}
-use Rattle.isdbs_core.specs.Tables.{slotSum}
+use Rattle.isdbs_core.specs.Tables.{TableAccepted}
 use Rattle.isdbs_core.specs.RunsOf.{frameSteps, loadBytes}
 use Rattle.isdbs_points.specs.declared.Mapping.{Mapping}
 use Rattle.isdbs_points.specs.Layout.{Segment, segments, atStep, atBit, loadBit, wordBit}
@@ -49,7 +49,7 @@ input-small t load k l =
     let g = f .segment in
     rw (f .place-is, input-at t load g (f .member) (f .place) (f .small)) (load-bit-small load (g .bit + coded (modulationOf (g .combination)) (f .place)))
 
-module _ (t : Table) (fit : slotSum (t .entries) ≤ 48) (m : Mapping) (first : Bool) (load : List ℕ) (re im : List Float) (within : Within re im load t m first) where
+module _ (t : Table) (fit : TableAccepted t) (m : Mapping) (first : Bool) (load : List ℕ) (re im : List Float) (within : Within re im load t m first) where
   abbrev r : Received
   r = received re im m
 
@@ -105,12 +105,12 @@ module _ (t : Table) (fit : slotSum (t .entries) ≤ 48) (m : Mapping) (first : 
   exact full = bytes-are load (loadBytes t) (λ n. atBit 0 (bitIn r (labelAt (startState first) us) us) t n) full bit-at
 
 -- THE THEOREM: "Demand 3 compares the whole load, byte by byte, with as many bytes at the front of the byte output"
-pub decoded-load : (t : Table) → slotSum (t .entries) ≤ 48 → (m : Mapping) (first : Bool) (load : List ℕ) → FullLoad load (loadBytes t) → (re im : List Float)
+pub decoded-load : (t : Table) → TableAccepted t → (m : Mapping) (first : Bool) (load : List ℕ) → FullLoad load (loadBytes t) → (re im : List Float)
     → Within re im load t m first → decodedBytes t (record { re = re; im = im; mapping = m; scale = λ c. ofBits binary32 0x4100_0000 }) true first ≡ load
 decoded-load t fit m first load full re im within = exact t fit m first load re im within full
 
 -- so points lie within the margins of at most one full load
-pub one-load : (t : Table) → slotSum (t .entries) ≤ 48 → (m : Mapping) (first : Bool) (load1 load2 : List ℕ) → FullLoad load1 (loadBytes t) → FullLoad load2 (loadBytes t)
+pub one-load : (t : Table) → TableAccepted t → (m : Mapping) (first : Bool) (load1 load2 : List ℕ) → FullLoad load1 (loadBytes t) → FullLoad load2 (loadBytes t)
     → (re im : List Float) → Within re im load1 t m first → Within re im load2 t m first → load1 ≡ load2
 one-load t fit m first load1 load2 full1 full2 re im within1 within2 =
     sym (decoded-load t fit m first load1 full1 re im within1) ∙ decoded-load t fit m first load2 full2 re im within2

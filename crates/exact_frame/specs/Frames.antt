@@ -15,7 +15,7 @@ use Rattle.isdbs_core.specs.declared.combination.Modulation.{Modulation}
 use Rattle.isdbs_core.specs.declared.combination.Modulation.the-variants.{Bpsk, Qpsk, Tc8psk}
 use Rattle.isdbs_core.specs.declared.tmcc.Table.{Table}
 use Rattle.isdbs_core.specs.Combinations.{modulationOf}
-use Rattle.isdbs_core.specs.Tables.{slotSum}
+use Rattle.isdbs_core.specs.Tables.{TableAccepted}
 use Rattle.isdbs_core.specs.RunsOf.{loadBytes}
 use Rattle.isdbs_points.specs.declared.Cplx.{Cplx}
 use Rattle.isdbs_points.specs.declared.Mapping.{Mapping}
@@ -165,7 +165,7 @@ module _ (t : Table) (m : Mapping) (load : List ℕ) (first : Bool) (xs ys : Lis
   im-other k h = rw (shifted-at highEnd (imPart t m load first) ys k h) (high-other (imPart t m load first k) (point-clean t m load (startState first) k .1))
 
 -- ---- so the encoded frame decodes to its load
-pub encoded-decodes : (t : Table) → slotSum (t .entries) ≤ 48 → (m : Mapping) (first : Bool) (load : List ℕ) → FullLoad load (loadBytes t) → (xs ys : List Float)
+pub encoded-decodes : (t : Table) → TableAccepted t → (m : Mapping) (first : Bool) (load : List ℕ) → FullLoad load (loadBytes t) → (xs ys : List Float)
     → decodedBytes t (received (frameRe t m load (startState first) ++ xs) (frameIm t m load (startState first) ++ ys) m) true first ≡ load
 encoded-decodes t fit m first load full xs ys =
     decoded-load t fit m first load full (frameRe t m load (startState first) ++ xs) (frameIm t m load (startState first) ++ ys) (encoded-within t m load first xs ys)

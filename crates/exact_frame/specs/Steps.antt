@@ -19,7 +19,7 @@ use Rattle.isdbs_core.specs.declared.combination.Modulation.{Modulation}
 use Rattle.isdbs_core.specs.declared.combination.Modulation.the-variants.{Bpsk, Qpsk, Tc8psk}
 use Rattle.isdbs_core.specs.declared.tmcc.Table.{Table}
 use Rattle.isdbs_core.specs.Combinations.{modulationOf}
-use Rattle.isdbs_core.specs.Tables.{slotSum}
+use Rattle.isdbs_core.specs.Tables.{TableAccepted}
 use Rattle.isdbs_core.specs.RunsOf.{frameSteps}
 use Rattle.isdbs_points.specs.declared.Cplx.{Cplx}
 use Rattle.isdbs_points.specs.declared.Mapping.{Mapping}
@@ -42,7 +42,7 @@ use Rattle.exact_frame.specs.Bits.{label-small, load-bit-small, coded-sm
 abbrev pub received : List Float → List Float → Mapping → Received
 received re im m = record { re = re; im = im; mapping = m; scale = λ c. eight }
 
-module _ (t : Table) (fit : slotSum (t .entries) ≤ 48) (m : Mapping) (first : Bool) (load : List ℕ) (re im : List Float) (within : Within re im load t m first) where
+module _ (t : Table) (fit : TableAccepted t) (m : Mapping) (first : Bool) (load : List ℕ) (re im : List Float) (within : Within re im load t m first) where
   abbrev at : ℕ → ℕ
   at = labelAt (startState first) (inputs t load)
 

@@ -15,7 +15,7 @@ use Rattle.isdbs_core.specs.declared.combination.Combination.{Combination}
 use Rattle.isdbs_core.specs.declared.combination.Modulation.the-variants.{Bpsk, Qpsk}
 use Rattle.isdbs_core.specs.declared.tmcc.Table.{Table}
 use Rattle.isdbs_core.specs.Combinations.{modulationOf}
-use Rattle.isdbs_core.specs.Tables.{slotSum}
+use Rattle.isdbs_core.specs.Tables.{TableAccepted}
 use Rattle.isdbs_core.specs.RunsOf.{frameSteps, loadBytes}
 use Rattle.isdbs_points.specs.declared.Cplx.{Cplx}
 use Rattle.isdbs_points.specs.declared.Mapping.{Mapping}
@@ -38,7 +38,7 @@ after-alike half out t tb xs ys d (suc n) h =
 
 -- two frames as they are lent, alike in the first 38,976 points
 module _
-    (t : Table) (fit : slotSum (t .entries) ≤ 48) (m : Mapping) (scale : Combination → Float) (re im re′ im′ : List Float)
+    (t : Table) (fit : TableAccepted t) (m : Mapping) (scale : Combination → Float) (re im re′ im′ : List Float)
     (re-alike : (k : ℕ) → k < 38976 → getD re k nan ≡ getD re′ k nan) (im-alike : (k : ℕ) → k < 38976 → getD im k nan ≡ getD im′ k nan) where
   abbrev r : Received
   r = record { re = re; im = im; mapping = m; scale = scale }

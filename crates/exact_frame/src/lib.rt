@@ -4,7 +4,7 @@ ghost use mathlib.Core.Bool.{true};
 ghost use lib.ListN.{length};
 ghost use Rattle.refusal.specs.Rows.{firstRow};
 ghost use Rattle.isdb_fec.specs.Calls.{Either};
-ghost use Rattle.isdbs_phy.specs.DecodeRows.{decodeRows, frameAnswer, Kept};
+ghost use Rattle.isdbs_phy.specs.DecodeRows.{decodeRows, frameSaid, frameAnswer, Kept};
 ghost use Rattle.isdbs_decode.specs.Runs.{FrameRead};
 ghost use Rattle.exact_frame.specs.Steps.{received};
 ghost use Rattle.exact_frame.specs.Call.{eight, Exact};
@@ -26,7 +26,7 @@ pub fn read_frame(
     bits: &mut [u8],
     bytes: &mut [u8],
 ) -> FrameDecoded
-    ensures answers { λ r. ⌜ r ≡ frameAnswer (firstRow (decodeRows t (now (re .entry)) (now (im .entry)) eight (length (now (decisions .entry))) (length (now (bits .entry))) (length (now (bytes .entry))))) t ⌝ }
+    ensures answers { λ r. ⌜ frameSaid r ≡ frameAnswer (firstRow (decodeRows t (now (re .entry)) (now (im .entry)) eight (length (now (decisions .entry))) (length (now (bits .entry))) (length (now (bytes .entry))))) t ⌝ }
     ensures leaves { λ _. ⌜ Either (firstRow (decodeRows t (now (re .entry)) (now (im .entry)) eight (length (now (decisions .entry))) (length (now (bits .entry))) (length (now (bytes .entry)))))
         (FrameRead t (received (now (re .entry)) (now (im .entry)) mapping) true first (now (decisions .entry)) (now (decisions .exit)) (now (bits .entry)) (now (bits .exit)) (now (bytes .entry)) (now (bytes .exit)))
         (Kept (now (decisions .entry)) (now (decisions .exit)) (now (bits .entry)) (now (bits .exit)) (now (bytes .entry)) (now (bytes .exit))) ⌝ }

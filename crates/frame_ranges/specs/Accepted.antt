@@ -1,7 +1,7 @@
 -- The rows of `decode_frame` give the sizes of the parts and of the scale, and these give the ranges. Assumes nothing.
-use mathlib.Core.Path.{_≡_, refl, ap, _∙_, subst}
+use mathlib.Core.Path.{_≡_, refl, sym, ap, _∙_, subst}
 use mathlib.Core.Bool.{Bool, true, false, not, cond, _||_}
-use mathlib.Core.List.{List, [], _∷_}
+use mathlib.Core.List.{List, [], _∷_, _++_}
 use Prim.Native.Nat.{ℕ, zero, suc, _+_, _*_, _<_, _≤_}
 use native.Mathlib.Nat.{not-suc-le-zero}
 use native.Mathlib.Omega.{arith}
@@ -11,7 +11,7 @@ use lib.ListN.{getD, length}
 use lib.Ieee.{Float, nan, inf, fin, binary32, binary64, neg, lt, le, fits, ofBits}
 use lib.Ieee.Fits.{and-i, and-l, and-r}
 use Rattle.refusal.specs.Rows.{Row, firstRow}
-use Rattle.refusal.specs.declared.Answer.the-variants.{Accepted, Symbols, Sample, Scale, Space}
+use Rattle.refusal.specs.declared.Answer.the-variants.{Accepted, Sample, Scale}
 use Rattle.ieee.specs.Value.{Num, hi-neg, num-neg}
 use Rattle.ieee.specs.Order.{le→value, lt→value, not-lt→value, value→le, num-between}
 use Rattle.ieee.specs.Constants.{two-to, two-to-num}
@@ -26,14 +26,13 @@ use Rattle.path_range.specs.Steps.{Soft, quad}
 use Rattle.path_range.specs.Invariant.{Bounded, bounded-within}
 use Rattle.path_range.specs.Run.{InRange, soft-call, known-call, path-within, path-within-next}
 use Rattle.path_range.specs.Starts.{given-bounded, unknown-bounded}
-use Rattle.isdb_fec.specs.Answers.{unless}
-use Rattle.isdbs_core.specs.Answers.{accepted}
-use Rattle.isdbs_core.specs.PartLaws.{sum-fits, then-rows, before-rows}
+use Rattle.refusal.specs.RowLaws as row
+use Rattle.isdbs_core.specs.TableLaws.{then-accepted}
 use Rattle.isdbs_core.specs.declared.tmcc.Table.{Table}
-use Rattle.isdbs_core.specs.Tables.{slotSum, tableAnswer}
+use Rattle.isdbs_core.specs.Tables.{TableAccepted}
 use Rattle.isdbs_core.specs.RunsOf.{frameSteps}
 use Rattle.isdbs_points.specs.declared.Mapping.{Mapping}
-use Rattle.isdbs_phy.specs.DecodeRows.{within, someBeyond, partLimit, scaleLimit, badScale, shortSpace, decodeRows}
+use Rattle.isdbs_phy.specs.DecodeRows.{within, someBeyond, partLimit, scaleLimit, badScale, pointRows, lastRows, decodeRows}
 use Rattle.isdbs_points.specs.Layout.{wordBit}
 use Rattle.isdbs_points.specs.Frame.{startState}
 use Rattle.isdbs_metrics.specs.Reading.{Received, metricsAt, startValues}
@@ -102,34 +101,19 @@ scale-size s f e =
 
 -- ---- what the rows of an accepted call say
 record Passed (t : Table) (re im : List Float) (scale : Float) : Type 0 where
-  fit : slotSum (t .entries) ≤ 48
+  fit : TableAccepted t
   re-fine : someBeyond partLimit re 38976 ≡ false
   im-fine : someBeyond partLimit im 38976 ≡ false
   scale-fine : badScale scale ≡ false
 
 module _ (t : Table) (re im : List Float) (scale : Float) (decisions bits bytes : ℕ) where
-  abbrev rest : List Row
-  rest =
-      (Symbols, ltb (length re) 38976 || ltb (length im) 38976)
-      ∷ (Sample, someBeyond partLimit re 38976 || someBeyond partLimit im 38976)
-      ∷ (Scale, badScale scale)
-      ∷ (Space, shortSpace t decisions bits bytes)
-      ∷ []
-
   passed : Accepted ≡ firstRow (decodeRows t re im scale decisions bits bytes) → Passed t re im scale
-  passed e = go (accepted (tableAnswer t)) refl
-    where
-      go : (b : Bool) → accepted (tableAnswer t) ≡ b → Passed t re im scale
-      go false h = absurd (subst T (ap accepted (e ∙ before-rows t rest h) ∙ h) tt)
-      go true h =
-          let space = cond (shortSpace t decisions bits bytes) Space Accepted in
-          let size = cond (badScale scale) Scale space in
-          let part = cond (someBeyond partLimit re 38976 || someBeyond partLimit im 38976) Sample size in
-          let a = unless (ltb (length re) 38976 || ltb (length im) 38976) Symbols part (omega arith) (e ∙ then-rows t rest h) in
-          let b = unless (someBeyond partLimit re 38976 || someBeyond partLimit im 38976) Sample size (omega arith) (a .1) in
-          let c = unless (badScale scale) Scale space (omega arith) (b .1) in
-          let p = neither (someBeyond partLimit re 38976) (someBeyond partLimit im 38976) (b .0) in
-          record { fit = sum-fits t h; re-fine = p .0; im-fine = p .1; scale-fine = c .0 }
+  passed e =
+      let rest : List Row = pointRows re im ++ lastRows t scale decisions bits bytes in
+      let b = then-accepted t rest (sym e) in
+      let p = row.passed rest tt (b .1) in
+      let q = neither (someBeyond partLimit re 38976) (someBeyond partLimit im 38976) (p Sample) in
+      record { fit = b .0; re-fine = q .0; im-fine = q .1; scale-fine = p Scale }
 
 -- ---- the path values of sized steps
 module _ (e : Tie) (t : Table) (r : Received) (metrics : (k l : ℕ) → k < frameSteps t → l < 4 → Size binary32 metricPower (getD (metricsAt t r k) l nan)) (pm : List Float) (start : Bounded stepMost floor 0 pm) where

@@ -19,7 +19,7 @@ use Rattle.isdbs_core.specs.declared.combination.Modulation.{Modulation}
 use Rattle.isdbs_core.specs.declared.combination.Modulation.the-variants.{Bpsk, Qpsk, Tc8psk}
 use Rattle.isdbs_core.specs.declared.tmcc.Table.{Table}
 use Rattle.isdbs_core.specs.Combinations.{modulationOf, unitOf, slotSteps}
-use Rattle.isdbs_core.specs.Tables.{slotSum}
+use Rattle.isdbs_core.specs.Tables.{TableAccepted}
 use Rattle.isdbs_core.specs.RunsOf.{frameSteps}
 use Rattle.isdbs_points.specs.declared.Cplx.{Cplx}
 use Rattle.isdbs_points.specs.Points.{zero64, one64, root64, psk8Of, subset}
@@ -107,7 +107,7 @@ four-of P a b c d p q r s (suc (suc zero)) h = r
 four-of P a b c d p q r s (suc (suc (suc zero))) h = s
 four-of P a b c d p q r s (suc (suc (suc (suc l)))) h = absurd (omega arith)
 
-module _ (p s : ℕ) (room : p + s + 2 ≤ 127) (t : Table) (fit : slotSum (t .entries) ≤ 48) (r : Received) (z : Sized p s r) where
+module _ (p s : ℕ) (room : p + s + 2 ≤ 127) (t : Table) (fit : TableAccepted t) (r : Received) (z : Sized p s r) where
   -- ---- a symbol
   re-at : (k : ℕ) → k < 38976 → Size binary64 p (symbolAt r k .re)
   re-at k h = z .re-in k h

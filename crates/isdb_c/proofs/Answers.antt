@@ -1,22 +1,23 @@
 -- A call's number from its rows, row by row. Assumes nothing.
 use mathlib.Core.Path.{_≡_, refl, sym, _∙_, ap}
-use mathlib.Core.Bool.{Bool, true, false, cond}
+use mathlib.Core.Bool.{true, cond}
 use mathlib.Core.List.{List, [], _∷_}
 use Prim.Native.Nat.{ℕ, _*_, _/_, _%_, _≤_, _<_}
 use native.Mathlib.Omega.{arith}
 use lib.Dec.{eqb, ltb}
 use lib.ListN.{length, getD}
-use borrow.Author.Tests.{lt-ltb, le-ltb, ltb-false, eq-eqb, ne-eqb}
+use borrow.Author.Tests.{lt-ltb, le-ltb, eq-eqb, ne-eqb}
 use Rattle.refusal.specs.declared.Answer.{Answer}
 use Rattle.refusal.specs.declared.Answer.the-variants as answer
-use Rattle.refusal.specs.Rows.{numberOf, firstRow}
+use Rattle.refusal.specs.Rows.{numberOf, accepted, Row, firstRow}
+use Rattle.refusal.specs.RowLaws.{zero-accepted, said-some, said-none}
 use Rattle.isdbs_core.specs.declared.combination.Combination.{Combination}
 use Rattle.isdbs_core.specs.declared.combination.MaybeCombination.{MaybeCombination}
 use Rattle.isdbs_core.specs.declared.combination.MaybeCombination.the-variants.{Some}
 use Rattle.isdbs_core.specs.declared.frame.Position.{Position}
 use Rattle.isdbs_core.specs.declared.frame.Position.the-variants.{At, Refused}
 use Rattle.isdbs_core.specs.declared.tmcc.Table.{Table}
-use Rattle.isdbs_core.specs.Answers.{position, accepted}
+use Rattle.isdbs_core.specs.Answers.{positionSaid}
 use Rattle.isdbs_core.specs.declared.tmcc.SlotMark.{SlotMark}
 use Rattle.isdbs_core.specs.declared.tmcc.SlotMarks.{SlotMarks}
 use Rattle.isdbs_core.specs.declared.slots.FrameRuns.{FrameRuns}
@@ -24,10 +25,11 @@ use Rattle.isdbs_core.specs.Lists.{padded}
 use Rattle.isdbs_core.specs.ListLaws.{table-at, padded-at}
 use Rattle.isdbs_core.specs.RunsOf.{runsOf, noRun, fourRuns}
 use Rattle.isdbs_core.specs.RunLaws.{each-at}
-use Rattle.isdbs_core.specs.Tables.{slotSum, tableAnswer, slotMarks, mark, markAt}
+use Rattle.isdbs_core.specs.Tables.{slotSum, tableAnswer, TableAccepted, slotMarks, mark, markAt}
+use Rattle.isdbs_core.specs.TableLaws.{sum-fits, then-rows, before-rows}
 use Rattle.isdb_c.specs.Forms.{tableOf, runNumbers, runNumber}
 use Rattle.isdb_c.proofs.Runs.{Small, small-number, runs-small, runs-count}
-use Rattle.isdbs_core.specs.Symbols.{symbolOfBit, bitSymbol}
+use Rattle.isdbs_core.specs.Symbols.{symbolOfBit, bitRows, bitSymbol}
 use Rattle.isdb_c.specs.Rows.{answered, left, placesRows, bitSymbolRows, isNone, symbolBy}
 
 -- refused, what was there stays
@@ -36,45 +38,37 @@ kept n x y h = rw (ne-eqb n 0 h)
 
 -- ---- a call with a table that needs places
 
-refused-by : (b s : Bool) (n : ℕ) → n ≡ numberOf (cond b answer.Table answer.Accepted) → (n ≡ 0 → ⊥) → n ≡ numberOf (cond b answer.Table (cond s answer.Space answer.Accepted))
-refused-by true s n e h = e
-refused-by false s n e h = absurd (h e)
-
-passed : (b : Bool) (n : ℕ) → n ≡ numberOf (cond b answer.Table answer.Accepted) → n ≡ 0 → b ≡ false
-passed true n e z = absurd (omega arith)
-passed false n e z = refl
-
 module _ (t : Table) (need space n : ℕ) (e : n ≡ numberOf (tableAnswer t)) where
+  abbrev places : List Row
+  places = (answer.Space, ltb space need) ∷ []
+
+  fits : n ≡ 0 → TableAccepted t
+  fits z = zero-accepted (tableAnswer t) (sym e ∙ z)
+
   pub table-refused : (n ≡ 0 → ⊥) → n ≡ answered (placesRows t need space)
-  table-refused h = refused-by (ltb 48 (slotSum (t .entries))) (ltb space need) n e h
+  table-refused h = e ∙ ap numberOf (sym (before-rows t places (λ y. h (e ∙ ap numberOf y))))
 
   pub table-fits : n ≡ 0 → slotSum (t .entries) ≤ 48
-  table-fits z = ltb-false 48 (slotSum (t .entries)) (passed (ltb 48 (slotSum (t .entries))) n e z)
+  table-fits z = sum-fits t (fits z)
 
   pub table-short : n ≡ 0 → space < need → 9 ≡ answered (placesRows t need space)
-  table-short z h = rw (passed (ltb 48 (slotSum (t .entries))) n e z, lt-ltb space need h)
+  table-short z h = let q : firstRow places ≡ answer.Space = rw (lt-ltb space need h) in sym (ap numberOf (then-rows t places (fits z) ∙ q))
 
   pub table-enough : n ≡ 0 → need ≤ space → 0 ≡ answered (placesRows t need space)
-  table-enough z h = rw (passed (ltb 48 (slotSum (t .entries))) n e z, le-ltb space need h)
+  table-enough z h = let q : firstRow places ≡ answer.Accepted = rw (le-ltb space need h) in sym (ap numberOf (then-rows t places (fits z) ∙ q))
 
 -- ---- a bit's symbol
 
-found : (b : Bool) (s p : ℕ) (r : Position) → r ≡ position (firstRow ((answer.Position, b) ∷ [])) s → r ≡ At p → (0 ≡ numberOf (firstRow ((answer.Position, b) ∷ []))) × (p ≡ s)
-found true s p r e f = let z : _≡_ {A = ℕ} 0 1 = cc in absurd (omega arith)
-found false s p r e f = (refl, cc)
+module _ (word bit : ℕ) (m : MaybeCombination) (c : Combination) (r : Position) (em : m ≡ Some c) (er : positionSaid r ≡ bitSymbol c bit) where
+  pub bit-found : (p : ℕ) → r ≡ At p → (0 ≡ numberOf (cond (isNone m) answer.Position (firstRow (bitRows bit)))) × (p ≡ symbolBy m bit)
+  bit-found p ep =
+      let s = said-some (firstRow (bitRows bit)) (symbolOfBit c bit ∷ []) 0 p [] (sym (ap positionSaid ep) ∙ er) in
+      rw em (sym (ap numberOf (s .0)), sym (ap (λ (l : List ℕ). getD l 0 0) (s .2)))
 
-lost : (b : Bool) (s n : ℕ) (a : Answer) (r : Position) → r ≡ position (firstRow ((answer.Position, b) ∷ [])) s → r ≡ Refused a → n ≡ numberOf a → (n ≡ numberOf (firstRow ((answer.Position, b) ∷ []))) × (n ≡ 0 → ⊥)
-lost true s n a r e f m =
-    let q : a ≡ answer.Position = cc in
-    let k : n ≡ 2 = m ∙ ap numberOf q in (k, λ z. omega arith)
-lost false s n a r e f m = let z : _≡_ {A = ℕ} 0 1 = cc in absurd (omega arith)
-
-module _ (word bit : ℕ) (m : MaybeCombination) (c : Combination) (r : Position) (em : m ≡ Some c) (er : r ≡ bitSymbol c bit) where
-  pub bit-found : (p : ℕ) → r ≡ At p → (0 ≡ numberOf (cond (isNone m) answer.Position (firstRow ((answer.Position, ltb 1000000 bit) ∷ [])))) × (p ≡ symbolBy m bit)
-  bit-found p ep = rw em (found (ltb 1000000 bit) (symbolOfBit c bit) p r er ep)
-
-  pub bit-lost : (n : ℕ) (a : Answer) → r ≡ Refused a → n ≡ numberOf a → (n ≡ numberOf (cond (isNone m) answer.Position (firstRow ((answer.Position, ltb 1000000 bit) ∷ [])))) × (n ≡ 0 → ⊥)
-  bit-lost n a ea en = rw em (lost (ltb 1000000 bit) (symbolOfBit c bit) n a r er ea en)
+  pub bit-lost : (n : ℕ) (a : Answer) → r ≡ Refused a → n ≡ numberOf a → (n ≡ numberOf (cond (isNone m) answer.Position (firstRow (bitRows bit)))) × (n ≡ 0 → ⊥)
+  bit-lost n a ea en =
+      let s = said-none (firstRow (bitRows bit)) (symbolOfBit c bit) [] (numberOf a) (sym (ap positionSaid ea) ∙ er) in
+      rw em (en ∙ s .0, λ z. s .1 (zero-accepted (firstRow (bitRows bit)) (sym (en ∙ s .0) ∙ z)))
 
 -- ---- the marks of an accepted table
 

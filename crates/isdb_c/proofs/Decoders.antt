@@ -9,8 +9,9 @@ use lib.ListN.{length}
 use lib.Ieee.{Float}
 use borrow.Author.Tests.{eq-eqb, ne-eqb, eqb-true, eqb-false}
 use Rattle.refusal.specs.declared.Answer.{Answer}
-use Rattle.refusal.specs.declared.Answer.the-variants.{Accepted, Table, Position, Traceback, State, Length, Symbols, Sample, Scale, Space}
+use Rattle.refusal.specs.declared.Answer.the-variants.{Accepted}
 use Rattle.refusal.specs.Rows.{Row, numberOf, firstRow}
+pub use Rattle.refusal.specs.RowLaws.{zero-accepted}
 use Rattle.trellis.specs.Run.{Decoder}
 use Rattle.isdb_fec.specs.declared.conv.ViterbiDecoder.{ViterbiDecoder}
 use Rattle.isdb_fec.specs.declared.conv.Released.{Released}
@@ -20,18 +21,6 @@ use Rattle.isdb_c.specs.Lengths.{withStates}
 use Rattle.isdb_c.specs.Decoders.{Stored, Flushed}
 use Rattle.isdb_c.proofs.Lengths.{states-answer}
 
--- only accepted has the number 0
-pub zero-accepted : (a : Answer) → numberOf a ≡ 0 → a ≡ Accepted
-zero-accepted Accepted e = refl
-zero-accepted Table e = absurd (omega arith)
-zero-accepted Position e = absurd (omega arith)
-zero-accepted Traceback e = absurd (omega arith)
-zero-accepted State e = absurd (omega arith)
-zero-accepted Length e = absurd (omega arith)
-zero-accepted Symbols e = absurd (omega arith)
-zero-accepted Sample e = absurd (omega arith)
-zero-accepted Scale e = absurd (omega arith)
-zero-accepted Space e = absurd (omega arith)
 
 -- where nothing is stored
 pub unstored : (n tb : ℕ) (d : Decoder) (pm : List Float) (held count : ℕ) (decisions out : List ℕ) → (n ≡ 0 → ⊥) → Stored n tb d pm pm held held count count decisions decisions out out

@@ -4,6 +4,7 @@ use lib.ListN.{length}
 use Rattle.refusal.specs.declared.Answer.{Answer}
 use Rattle.refusal.specs.declared.Answer.the-variants.{Accepted}
 use Rattle.refusal.specs.Rows.{firstRow, numberOf}
+use Rattle.refusal.specs.RowLaws.{zero-accepted}
 use Rattle.isdbs_phy.specs.DecodeRows.{decodeRows}
 use Rattle.isdb_c.specs.Forms.{tableOf}
 use Rattle.isdb_c.specs.Mappings.{mappingOf}
@@ -74,9 +75,9 @@ returns-2 c =
     let k : Answer = firstRow (decodeRows (q .table-of .result) (a .re .now) (a .im .now) (a .llr-scale) (length (a .decisions .now)) (length (a .bits .now)) (length (a .bytes .now))) in
     let e = p .decode-frame .ensures .0 in
     let x = refused k (q .table-of .result) (p .decode-frame .result) e (c .before .before .r .given .0 .0) (c .before .before .r .given .1) in
-    let w : c .number .result ≡ numberOf k = c .number .ensures ∙ ap numberOf (x .0) in
-    let h : c .number .result ≡ 0 → ⊥ = λ z. x .1 (sym w ∙ z) in
-    let l = p .decode-frame .ensures .1 .1 (λ y. x .1 (ap numberOf y)) in
+    let w : c .number .result ≡ numberOf k = c .number .ensures ∙ x .0 in
+    let h : c .number .result ≡ 0 → ⊥ = λ z. x .1 (zero-accepted k (sym w ∙ z)) in
+    let l = p .decode-frame .ensures .1 .1 (x .1) in
     (w ∙ rw t refl, (l .words ∙ kept (c .number .result) _ _ h, (l .decoded ∙ kept (c .number .result) _ _ h, l .load ∙ kept (c .number .result) _ _ h)))
 
 pub isdbs-decode-frame-spec : {M : Type 1} → statement M
