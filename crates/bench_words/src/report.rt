@@ -10,6 +10,7 @@ use isdbs_core::slots;
 use isdbs_core::slots::Run;
 use isdbs_core::tmcc::Entry;
 use isdbs_core::tmcc::Table;
+use isdbs_points::PART_LIMIT;
 use refusal::Answer;
 ghost use mathlib.Core.Path.{_≡_};
 ghost use Prim.Native.Nat.{_<_, _≤_};
@@ -139,7 +140,7 @@ pub fn table(t: Table) -> Valid {
 
 // Whether a part of a point is refused by row 7.
 fn is_bad(x: f64) -> bool {
-    !(x <= 1024.0f64 && x >= -1024.0f64)
+    !(x <= PART_LIMIT && x >= -PART_LIMIT)
 }
 
 fn is_number(x: f64) -> bool {
