@@ -1,7 +1,7 @@
 -- Demand 3 about the C calls `isdbs_encode_frame` and `isdbs_decode_frame`, from their contracts. Assumes nothing.
 use mathlib.Core.Path.{_≡_, refl, sym, _∙_, ap}
 use mathlib.Core.Bool.{Bool, true, false, cond}
-use mathlib.Core.List.{List, _++_}
+use mathlib.Core.List.{List, [], _∷_, _++_}
 use Prim.Native.Nat.{ℕ, _<_, _≤_}
 use native.Mathlib.Omega.{arith}
 use lib.Dec.{T, eqb}
@@ -9,20 +9,20 @@ use lib.ListN.{length, getD, take, drop, replicate, List·getD-append}
 use lib.Ieee.{Float, nan}
 use borrow.Author.Tests.{eq-eqb, ne-eqb, eqb-true, eqb-false}
 use Rattle.refusal.specs.declared.Answer.{Answer}
-use Rattle.refusal.specs.declared.Answer.the-variants.{Accepted, Table, Position, Traceback, State, Length, Symbols, Sample, Scale, Space}
-use Rattle.refusal.specs.Rows.{numberOf, firstRow}
+use Rattle.refusal.specs.declared.Answer.the-variants.{Accepted}
+use Rattle.refusal.specs.Rows.{numberOf, accepted, firstRow, Said}
+use Rattle.refusal.specs.RowLaws.{zero-accepted, says-number}
 use Rattle.trellis.specs.Lists.{laid, upto}
 use Rattle.trellis.specs.ListLaws.{length-upto, getD-upto}
-use Rattle.isdbs_core.specs.Answers.{accepted}
 use Rattle.isdbs_core.specs.declared.tmcc.Table as tmcc
-use Rattle.isdbs_core.specs.Tables.{slotSum}
+use Rattle.isdbs_core.specs.Tables.{TableAccepted}
 use Rattle.isdbs_core.specs.RunsOf.{frameSteps, loadBytes}
 use Rattle.isdbs_points.specs.declared.Mapping.{Mapping}
 use Rattle.isdbs_points.specs.Frame.{pointAt, frameRe, frameIm, startState}
 use Rattle.isdbs_metrics.specs.Reading.{decodedBits, decodedBytes}
 use Rattle.isdbs_phy.specs.declared.demod.FrameDecoded.{FrameDecoded}
 use Rattle.isdbs_phy.specs.declared.demod.FrameDecoded.the-variants.{Decoded, Refused}
-use Rattle.isdbs_phy.specs.DecodeRows.{shortSpace, decodeRows, frameAnswer}
+use Rattle.isdbs_phy.specs.DecodeRows.{shortSpace, decodeRows, frameSaid, frameAnswer}
 use Rattle.margins.specs.Margins.{freeRe, freeIm, holds, Within, FullLoad}
 use Rattle.exact_frame.specs.Steps.{received}
 use Rattle.exact_frame.specs.Frames.{encoded-within}
@@ -81,28 +81,19 @@ pub data ReadsBackC (t : tmcc.Table) (load : List ℕ) (decisions bits space : �
 -- demand 3 of one call: whatever full load the received frame lies within the margins of, it reads back
 abbrev pub ExactC : tmcc.Table → Mapping → Bool → List Float → List Float → ℕ → ℕ → ℕ → ℕ → List ℕ → Type 0
 ExactC t m first re im decisions bits space answer bytes =
-    (load : List ℕ) → slotSum (t .entries) ≤ 48 → FullLoad load (loadBytes t) → Within re im load t m first → ReadsBackC t load decisions bits space answer bytes
+    (load : List ℕ) → TableAccepted t → FullLoad load (loadBytes t) → Within re im load t m first → ReadsBackC t load decisions bits space answer bytes
 
-zero-accepted : (a : Answer) → numberOf a ≡ 0 → a ≡ Accepted
-zero-accepted Accepted e = refl
-zero-accepted Table e = absurd (omega arith)
-zero-accepted Position e = absurd (omega arith)
-zero-accepted Traceback e = absurd (omega arith)
-zero-accepted State e = absurd (omega arith)
-zero-accepted Length e = absurd (omega arith)
-zero-accepted Symbols e = absurd (omega arith)
-zero-accepted Sample e = absurd (omega arith)
-zero-accepted Scale e = absurd (omega arith)
-zero-accepted Space e = absurd (omega arith)
+-- the answer of `decode_frame` whose rows answer a
+answerOf : Answer → tmcc.Table → FrameDecoded
+answerOf a t = cond (accepted a) (Decoded (loadBytes t) (frameSteps t)) (Refused a)
 
--- the number of an answer, from its frame answer
-decoded-0 : (a : Answer) (b : Bool) (x y x′ y′ : ℕ) → eqb (numberOf a) 0 ≡ b → cond b (Decoded x y) (Refused a) ≡ Decoded x′ y′ → numberOf a ≡ 0
-decoded-0 a true x y x′ y′ h e = eqb-true (numberOf a) 0 h
-decoded-0 a false x y x′ y′ h e = let z : _≡_ {A = ℕ} 0 1 = cc in absurd (omega arith)
-
-refused-9 : (a : Answer) (b : Bool) (x y : ℕ) → cond b (Decoded x y) (Refused a) ≡ Refused Space → numberOf a ≡ 9
-refused-9 a true x y e = let z : _≡_ {A = ℕ} 0 1 = cc in absurd (omega arith)
-refused-9 a false x y e = let q : a ≡ Space = cc in ap numberOf q
+answer-said : (a : Answer) (t : tmcc.Table) → frameSaid (answerOf a t) ≡ frameAnswer a t
+unfolding answerOf
+answer-said a t = go (accepted a)
+  where
+    go : (b : Bool) → frameSaid (cond b (Decoded (loadBytes t) (frameSteps t)) (Refused a)) ≡ cond {A = Said} b (0, loadBytes t ∷ frameSteps t ∷ []) (numberOf a, [])
+    go true = refl
+    go false = refl
 
 -- THE THEOREM about the call: whatever the lent slices held, the load comes back, or a slice is too short
 module _
@@ -114,14 +105,17 @@ module _
   abbrev a : Answer
   a = firstRow (decodeRows t re im eight (length decisions₀) (length bits₀) (length bytes₀))
 
-  number-of : (load : List ℕ) → ReadsBack t load (length decisions₀) (length bits₀) (length bytes₀) (frameAnswer a t) bytes → ReadsBackC t load (length decisions₀) (length bits₀) (length bytes₀) answer bytes
-  number-of load (exactly e h) = exactly-c (answers ∙ decoded-0 a (accepted a) (loadBytes t) (frameSteps t) (loadBytes t) (frameSteps t) refl e) h
-  number-of load (short e h) = short-c (answers ∙ refused-9 a (accepted a) (loadBytes t) (frameSteps t) e) h
+  said : (n : ℕ) (values : List ℕ) → frameSaid (answerOf a t) ≡ (n, values) → answer ≡ n
+  said n values e = answers ∙ sym (says-number a (loadBytes t ∷ frameSteps t ∷ [])) ∙ ap (λ (x : Said). x .0) (sym (answer-said a t) ∙ e)
+
+  number-of : (load : List ℕ) → ReadsBack t load (length decisions₀) (length bits₀) (length bytes₀) (answerOf a t) bytes → ReadsBackC t load (length decisions₀) (length bits₀) (length bytes₀) answer bytes
+  number-of load (exactly e h) = exactly-c (said 0 (loadBytes t ∷ frameSteps t ∷ []) e) h
+  number-of load (short e h) = short-c (said 9 [] e) h
 
   pub reads-back : ExactC t m first re im (length decisions₀) (length bits₀) (length bytes₀) answer bytes
   reads-back load fit full w =
       number-of load
-      (read-back t fit m first load full re im w decisions₀ decisions bits₀ bits bytes₀ bytes (frameAnswer a t) refl (
+      (read-back t fit m first load full re im w decisions₀ decisions bits₀ bits bytes₀ bytes (answerOf a t) (answer-said a t) (
         (λ y. let z = eq-eqb answer 0 (answers ∙ ap numberOf y) in record { words = words-are ∙ rw z refl; decoded = bits-are ∙ rw z refl; load = bytes-are ∙ rw z refl }),
         (λ n. let z = ne-eqb answer 0 (λ q. n (zero-accepted a (sym answers ∙ q))) in record { words = words-are ∙ rw z refl; decoded = bits-are ∙ rw z refl; load = bytes-are ∙ rw z refl }),
       ))

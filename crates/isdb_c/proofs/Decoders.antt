@@ -11,7 +11,7 @@ use borrow.Author.Tests.{eq-eqb, ne-eqb, eqb-true, eqb-false}
 use Rattle.refusal.specs.declared.Answer.{Answer}
 use Rattle.refusal.specs.declared.Answer.the-variants.{Accepted}
 use Rattle.refusal.specs.Rows.{Row, numberOf, firstRow}
-pub use Rattle.refusal.specs.RowLaws.{zero-accepted}
+use Rattle.refusal.specs.RowLaws.{zero-accepted}
 use Rattle.trellis.specs.Run.{Decoder}
 use Rattle.isdb_fec.specs.declared.conv.ViterbiDecoder.{ViterbiDecoder}
 use Rattle.isdb_fec.specs.declared.conv.Released.{Released}
@@ -20,7 +20,6 @@ use Rattle.isdb_c.specs.Rows.{answered, left}
 use Rattle.isdb_c.specs.Lengths.{withStates}
 use Rattle.isdb_c.specs.Decoders.{Stored, Flushed}
 use Rattle.isdb_c.proofs.Lengths.{states-answer}
-
 
 -- where nothing is stored
 pub unstored : (n tb : ℕ) (d : Decoder) (pm : List Float) (held count : ℕ) (decisions out : List ℕ) → (n ≡ 0 → ⊥) → Stored n tb d pm pm held held count count decisions decisions out out

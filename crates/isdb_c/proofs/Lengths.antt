@@ -20,7 +20,7 @@ length-step false row rows e = refl
 -- a row 5 that does not hold changes nothing
 length-false : (rows : List Row) → firstRow (withLength false rows) ≡ firstRow rows
 length-false [] = refl
-length-false (row ∷ rows) = length-step (aboveLength (row .0)) row rows (length-false rows)
+length-false (row ∷ rows) = length-step (aboveLength row) row rows (length-false rows)
 
 module _ (pm : List Float) (rows : List Row) (n : ℕ) where
   -- path values that are not 64

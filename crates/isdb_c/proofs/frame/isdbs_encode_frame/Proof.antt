@@ -7,7 +7,7 @@ use Rattle.isdb_c.specs.Forms.{tableOf}
 use Rattle.isdb_c.specs.Mappings.{mappingOf}
 use Rattle.isdb_c.specs.Rows.{answered}
 use Rattle.isdb_c.proofs.Answers.{kept}
-use Rattle.isdb_c.proofs.Decoders.{zero-accepted}
+use Rattle.refusal.specs.RowLaws.{zero-accepted}
 use Rattle.isdb_c.proofs.Rates.{refusing}
 use borrow.Author.Needs.{needs}
 use Rattle.isdb_c.proofs.frame.isdbs_encode_frame.Statement.{statement}

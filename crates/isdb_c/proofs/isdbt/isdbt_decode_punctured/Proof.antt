@@ -10,7 +10,7 @@ use Rattle.isdb_c.specs.declared.isdbt.MaybeRate.the-variants.{Rate, NoR
 use Rattle.isdb_c.specs.Rates.{rateOf}
 use Rattle.isdb_c.proofs.Answers.{kept}
 use Rattle.isdb_c.proofs.Lengths.{refused-traceback}
-use Rattle.isdb_c.proofs.Decoders.{zero-accepted}
+use Rattle.refusal.specs.RowLaws.{zero-accepted}
 use Rattle.isdb_c.proofs.Rates.{refusing, rate-answer, rate-value}
 use Prim.Native.Nat.{ℕ, _*_, _/_}
 use Rattle.isdb_fec.specs.Rows.{freshRows}

@@ -8,7 +8,7 @@ use Rattle.isdbt_fec.specs.declared.conv.CodeRate.{CodeRate}
 use Rattle.isdb_c.specs.declared.isdbt.MaybeRate.the-variants.{Rate}
 use Rattle.isdb_c.specs.Rates.{rateOf}
 use Rattle.isdb_c.proofs.Answers.{kept}
-use Rattle.isdb_c.proofs.Decoders.{zero-accepted}
+use Rattle.refusal.specs.RowLaws.{zero-accepted}
 use Rattle.isdb_c.proofs.Rates.{refusing, rate-answer, rate-value}
 use Prim.Native.Nat.{ℕ, _*_, _/_}
 use lib.Ieee.{Float}
