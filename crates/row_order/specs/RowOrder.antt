@@ -1,0 +1,76 @@
+-- "The first row that holds, from the top, gives the number returned": the rows of every call stand in the table's order. Assumes nothing.
+use mathlib.Core.Bool.{Bool, true, false, cond}
+use mathlib.Core.List.{List, [], _∷_}
+use Prim.Native.Nat.{ℕ}
+use lib.Dec.{T}
+use lib.Ieee.{Float}
+use Rattle.refusal.specs.Rows.{Row, fromTop}
+use Rattle.isdb_fec.specs.declared.conv.ViterbiDecoder.{ViterbiDecoder}
+use Rattle.isdb_fec.specs.Rows.{encoderRows, freshRows, handedRows, streamRest, pushRows, pushMetricsRows, pushKnownRows, flushRows}
+use Rattle.isdbt_fec.specs.declared.conv.CodeRate.{CodeRate}
+use Rattle.isdbt_fec.specs.Rows as isdbt
+use Rattle.isdbs_core.specs.declared.tmcc.Table.{Table}
+use Rattle.isdbs_core.specs.Frame.{mainRows, burstRows}
+use Rattle.isdbs_core.specs.Symbols.{bitRows}
+use Rattle.isdbs_core.specs.Tables.{tableRows}
+use Rattle.isdbs_core.specs.SlotPart.{slotPartRows}
+use Rattle.isdbs_phy.specs.EncodeRows.{encodeRows, encodeFrameRows}
+use Rattle.isdbs_phy.specs.DecodeRows.{decodeRows}
+use Rattle.best_reading.specs.Calls.{readingRows}
+use Rattle.isdb_c.specs.Rows.{placesRows, bitSymbolRows}
+use Rattle.isdb_c.specs.Lengths.{withStates}
+use Rattle.isdb_c.specs.Rates.{rateRows}
+use Rattle.isdb_c.specs.declared.isdbt.MaybeRate.the-variants.{NoRate}
+
+abbrev pub eachFromTop : List (List Row) → Bool
+eachFromTop [] = true
+eachFromTop (rows ∷ lists) = cond (fromTop rows) (eachFromTop lists) false
+
+-- what the calls are lent
+module _ (t : Table) (v : ViterbiDecoder) (rate : CodeRate) (xs re im : List Float) (scale : Float) (bytes : List ℕ) (i j k l : ℕ) where
+  -- every row list of a call
+  abbrev pub rowLists : List (List Row)
+  rowLists =
+      -- isdb_fec: `branch_output` and `ConvEncoder::push`; `new`, `with_state`, `new_unknown_state`; a handed state; the four calls
+      encoderRows i
+      ∷ freshRows i
+      ∷ handedRows v
+      ∷ pushRows v xs i j
+      ∷ pushMetricsRows v xs i j
+      ∷ pushKnownRows v i j k
+      ∷ flushRows v i j
+      -- call_ranges: `push_fresh`, whose state is never refused
+      ∷ streamRest 2 v xs i j
+      -- isdbt_fec
+      ∷ isdbt.encodeRows rate i j k
+      ∷ isdbt.depunctureRows rate i j
+      ∷ isdbt.decodeRows rate xs i j k
+      -- isdbs_core: positions; `runs`, `slot_combinations`, `slot_byte_symbol`; `slot_part`
+      ∷ mainRows i
+      ∷ burstRows i j
+      ∷ bitRows i
+      ∷ tableRows t
+      ∷ slotPartRows bytes t i
+      -- isdbs_phy
+      ∷ encodeRows t i j k
+      ∷ encodeFrameRows t i j
+      ∷ decodeRows t re im scale i j k
+      -- best_reading
+      ∷ readingRows xs i j
+      -- isdb_c: the lists of its own
+      ∷ placesRows t i j
+      ∷ bitSymbolRows i j
+      -- with a row 5 for path values that are not 64
+      ∷ withStates xs (pushRows v xs i j)
+      ∷ withStates xs (pushMetricsRows v xs i j)
+      ∷ withStates xs (pushKnownRows v i j k)
+      ∷ withStates xs (flushRows v i j)
+      -- with a rate that is unknown: where it is known, they are those of isdbt_fec
+      ∷ rateRows (encoderRows i) NoRate (λ c. isdbt.encodeRows c i j k)
+      ∷ rateRows [] NoRate (λ c. isdbt.depunctureRows c i j)
+      ∷ rateRows (freshRows i) NoRate (λ c. isdbt.decodeRows c xs i j k)
+      ∷ []
+
+  pub all-from-top : T (eachFromTop rowLists)
+  unfolding tableRows
+  all-from-top = tt
