@@ -12,7 +12,8 @@ use lib.ListN.{getD, length, take, drop, length-append, length-map}
 use lib.Ieee.{Float, nan, binary32, sub, ofBits}
 use Rattle.trellis.specs.Lists.{bit, upto}
 use Rattle.trellis.specs.Code.{Code, isdb, half, stateAt, label}
-use Rattle.trellis.specs.Step.{Step, pair, four, Tie, lower, nexts, next, word, top, best, renormalised, back, input, traced}
+use Rattle.trellis.specs.Isdb
+use Rattle.trellis.specs.Step.{Step, pair, four, Tie, nexts, next, word, top, best, renormalised, back, input, traced}
 use Rattle.trellis.specs.Run.{Decoder, startAt, startUnknown, block, settled, valuesAt, wordAt, decoded, released, stepped, after, closed, pushed, flushed}
 use Rattle.best_path.specs.Paths.{longest, Path, Best, Reading, Any, This, Quadruples}
 use Rattle.trellis.specs.ListLaws.{length-upto, getD-upto}
@@ -221,8 +222,8 @@ module _ (c : Code) (t : Tie) (tb : ℕ) (some-tb : 0 < tb) (ms : ℕ → List F
   pub code-unknown : Reading (half c) (label c) t Any m n (readBits (half c) (label c) t tb (λ k. four (ms k)) (startUnknown (2 * half c)) n)
   code-unknown = quadruples-unknown (half c) (pow-pos (c .constraint - 2)) (label c) (label-under c) t ms m n few quads tb some-tb
 
-pub isdb-given : (tb : ℕ) → 0 < tb → (ms : ℕ → List Float) (m : ℕ → ℕ → ℤ) (n : ℕ) → n ≤ longest → Quadruples ms m n → (s : ℕ) → Reading 32 (label isdb) lower (This (s % 64)) m n (readBits 32 (label isdb) lower tb (λ k. four (ms k)) (startAt 64 s) n)
-isdb-given tb h ms m n few quads = code-given isdb lower tb h ms m n few quads
+pub isdb-given : (tb : ℕ) → 0 < tb → (ms : ℕ → List Float) (m : ℕ → ℕ → ℤ) (n : ℕ) → n ≤ longest → Quadruples ms m n → (s : ℕ) → Reading Isdb.half Isdb.labels Isdb.rule (This (s % 64)) m n (readBits Isdb.half Isdb.labels Isdb.rule tb (λ k. four (ms k)) (startAt 64 s) n)
+isdb-given tb h ms m n few quads = code-given isdb Isdb.rule tb h ms m n few quads
 
-pub isdb-unknown : (tb : ℕ) → 0 < tb → (ms : ℕ → List Float) (m : ℕ → ℕ → ℤ) (n : ℕ) → n ≤ longest → Quadruples ms m n → Reading 32 (label isdb) lower Any m n (readBits 32 (label isdb) lower tb (λ k. four (ms k)) (startUnknown 64) n)
-isdb-unknown tb h ms m n few quads = code-unknown isdb lower tb h ms m n few quads
+pub isdb-unknown : (tb : ℕ) → 0 < tb → (ms : ℕ → List Float) (m : ℕ → ℕ → ℤ) (n : ℕ) → n ≤ longest → Quadruples ms m n → Reading Isdb.half Isdb.labels Isdb.rule Any m n (readBits Isdb.half Isdb.labels Isdb.rule tb (λ k. four (ms k)) (startUnknown 64) n)
+isdb-unknown tb h ms m n few quads = code-unknown isdb Isdb.rule tb h ms m n few quads

@@ -10,6 +10,7 @@ use lib.ListN.{getD}
 use lib.Ieee.{Float, nan, binary32, add, sub, lt, le, eq, fits, ofInt, ofBits}
 use Rattle.trellis.specs.Lists.{upto, packed}
 use Rattle.trellis.specs.Code.{isdb, output, tapped, label, stateAt}
+use Rattle.trellis.specs.Isdb
 use Rattle.trellis.specs.Step.{four, Tie, lower, upper, branch, cand, wins, next, nexts, word, top, best, renormalised, kept, back, input, traced}
 use Rattle.trellis.specs.Run.{startAt, settled, released, stepped, after}
 use Rattle.best_path.specs.Paths.{Path, Tail, First, labelAt, sumℤ, Reading, This, Integer, Quadruples}
@@ -99,5 +100,5 @@ unfolding startAt settled released stepped after upto packed label output tapped
 zeros-upper = refl
 
 -- and the theorem says of that reading that it is the first
-pub zeros-reading : Reading 32 (label isdb) lower (This 0) (λ k c. pos 0) 1 (readZeros lower)
+pub zeros-reading : Reading Isdb.half Isdb.labels Isdb.rule (This 0) (λ k c. pos 0) 1 (readZeros Isdb.rule)
 zeros-reading = isdb-given 128 (lit< tt) zeros (λ k c. pos 0) 1 (lit≤ tt) zeros-whole 0

@@ -1,6 +1,6 @@
 -- The contract of each call, as it stands in crate isdb_fec, hands on a state that comes from a fresh start where it was handed one: accepted or refused.
 -- Assumes nothing.
-use mathlib.Core.Path.{_≡_, sym, _∙_}
+use mathlib.Core.Path.{_≡_, refl, sym, _∙_}
 use mathlib.Core.Logic.{_⊎_, inl, inr}
 use mathlib.Core.List.{List}
 use Prim.Native.Nat.{ℕ, _/_}
