@@ -1,7 +1,12 @@
 // The bench program's commands, on a line of words that are separated by 0 bytes. Reports go to standard output; the last line is ok, or
 // begins with refused or failed.
-mod commands;
+// A module for each command.
+mod compare;
 mod demonstration;
+mod make;
+mod read;
+mod setting;
+mod usage;
 
 use bench_words::words::part;
 use bench_words::words::same;
@@ -9,6 +14,17 @@ use bench_words::words::same;
 // Puts src into dst from `at` on, as far as it goes, and answers where it ends.
 pub fn put(dst: &mut [u8; 4096], at: usize, src: &[u8]) -> usize {
     bench_files::files::put(dst, at, src)
+}
+
+// Whether a word asks for help.
+fn is_help(word: &[u8]) -> bool {
+    if same(word, b"help") {
+        return true;
+    }
+    if same(word, b"--help") {
+        return true;
+    }
+    same(word, b"-h")
 }
 
 // Runs the command of a line on lent buffers.
@@ -23,18 +39,26 @@ fn run_on(
 ) {
     let command = part(line, 0, 0);
     if same(command, b"make") {
-        commands::make(line, re, im, load);
+        make::make(line, re, im, load);
         return;
     }
     if same(command, b"read") {
-        commands::read(line, re, im, decisions, bits, bytes);
+        read::read(line, re, im, decisions, bits, bytes);
         return;
     }
     if same(command, b"compare") {
-        commands::compare(line, load, bytes);
+        compare::compare(line, load, bytes);
         return;
     }
-    commands::misused(b"there is no command", command);
+    if is_help(command) {
+        usage::help();
+        return;
+    }
+    if same(command, b"version") {
+        usage::version();
+        return;
+    }
+    usage::misused(b"there is no command", command);
 }
 
 // Runs the command of a line.
@@ -77,7 +101,7 @@ pub fn demonstrate() {
 // Runs the command in the first n bytes of a buffer.
 pub fn run_first(line: &[u8; 4096], n: usize) {
     if n >= 4096 {
-        commands::misused(b"the words are longer than 4,095 bytes together", b"");
+        usage::misused(b"the words are longer than 4,095 bytes together", b"");
         return;
     }
     run(bench_words::words::front(line, n));

@@ -145,7 +145,15 @@ fn misuse() {
     bench(b"make 7:44,1:4 001 first load .");
 }
 
+fn help_and_version() {
+    bench(b"help");
+    bench(b"--help");
+    bench(b"-h");
+    bench(b"version");
+}
+
 fn main() {
+    help_and_version();
     make_and_read();
     other_tables();
     refusals();

@@ -1,7 +1,7 @@
 use borrow.Author.Needs.{needs}
 use Prim.Native.Nat.{_-_, _≤_, _*_}
-use Rattle.bench_lib.proofs.commands.compare_slots.Statement.{statement}
-use Rattle.bench_lib.proofs.commands.compare_slots.Tie as tie
+use Rattle.bench_lib.proofs.compare.compare_slots.Statement.{statement}
+use Rattle.bench_lib.proofs.compare.compare_slots.Tie as tie
 
 abbrev Inv-loop : tie.InvT-loop
 Inv-loop t v sent read n₀ k₀ n k = (n ≤ 203 * k) × (k ≤ v)

@@ -1,0 +1,67 @@
+// How the program is used, and its version.
+use bench_words::text::quoted;
+use bench_words::text::text;
+
+fn usage_commands() {
+    text(b"usage:\n");
+    text(
+        b"  bench                                                            a demonstration on built-in data\n",
+    );
+    text(
+        b"  bench make TABLE MAPPING KIND LOAD FRAME                         bytes of LOAD to points in FRAME\n",
+    );
+    text(
+        b"  bench read TABLE MAPPING KIND FRAME BYTES [unknown] [scale N]    points of FRAME to bytes in BYTES\n",
+    );
+    text(
+        b"  bench compare TABLE SENT READ                                    how many bytes agree\n",
+    );
+    text(b"  bench help                                                       these words\n");
+    text(
+        b"  bench version                                                    the version of the program\n",
+    );
+}
+
+fn usage_words() {
+    text(
+        b"  TABLE    word:slots entries joined by commas, up to four, as 7:44,1:4 (word 0 to 15, slots 0 to 255)\n",
+    );
+    text(
+        b"  MAPPING  three digits 0 or 1: conjugate, qpsk_p1_on_q, tc8psk_c1_is_y; 001 is the default reading\n",
+    );
+    text(b"  KIND     first (of a superframe) or other\n");
+    text(
+        b"  FRAME    38,976 points, interleaved little-endian f64 parts; f32 where the name ends in .cf32\n",
+    );
+    text(
+        b"  N        a number as 8 or 0.5, up to three digits before and after the point; 8 where it is not given\n",
+    );
+}
+
+fn usage() {
+    usage_commands();
+    usage_words();
+}
+
+// bench help
+pub(crate) fn help() {
+    usage();
+    text(b"ok\n");
+}
+
+// bench version: the number stands here alone.
+pub(crate) fn version() {
+    text(b"bench 1.0.0\nok\n");
+}
+
+// The last line of a command that is not understood, after the usage.
+pub(crate) fn misused(why: &[u8], word: &[u8]) {
+    usage();
+    text(b"failed: ");
+    text(why);
+    if word.len() > 0 {
+        text(b" ");
+        quoted(word);
+    }
+    text(b"\n");
+}
