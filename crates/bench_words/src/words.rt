@@ -4,14 +4,15 @@ use isdbs_core::tmcc::Entry;
 use isdbs_core::tmcc::Table;
 use isdbs_points::Mapping;
 ghost use mathlib.Core.Path.{_≡_};
-ghost use mathlib.Core.Bool.{cond};
+ghost use mathlib.Core.Bool.{false, cond};
 ghost use mathlib.Core.List.{[]};
 ghost use Prim.Native.Nat.{_+_, _-_, _*_, _^_, _<_, _≤_};
 ghost use lib.Dec.{leb};
 ghost use lib.ListN.{length, take, drop};
 ghost use lib.Ieee.{binary32, round};
 ghost use Rattle.bench_words.specs.Parts.{after, until, partOf, partsOf, equal};
-ghost use Rattle.bench_words.specs.Numbers.{digitOf, digitsOf, scaleOf};
+ghost use Rattle.bench_words.specs.Numbers.{digitOf, digitsOf, scaleFrom, scaleOf};
+ghost use Rattle.bench_words.specs.NumberLaws.{most, Below};
 ghost use Rattle.bench_words.specs.Words.{entryFrom, entryOf, entryAt, noTable, tableFrom, tableOf, isFlag, mappingFrom, mappingOf, narrowName};
 
 // 1 where it is so, else 0.
@@ -306,40 +307,62 @@ pub enum MaybeScale {
     Not,
 }
 
-// A number in thousandths, of up to three digits and a fraction of n digits.
-fn thousandths(whole: u32, fraction: u32, n: usize) -> u32 {
-    let units = whole % 1_000 * 1_000;
+// whole and a fraction of n digits, in thousandths.
+fn thousandths(whole: u32, fraction: u32, n: usize) -> u32
+    requires { ⌜ (whole < 1000) × ((n ≤ 3) × (fraction < most n)) ⌝ }
+    ensures { λ r. ⌜ (r ≡ whole * 1000 + fraction * 10 ^ (3 - n)) × (r < 1000000) ⌝ }
+{
     match n {
-        0 => units,
-        1 => units + fraction % 10 * 100,
-        2 => units + fraction % 100 * 10,
-        _ => units + fraction % 1_000,
+        0 => whole * 1_000,
+        1 => whole * 1_000 + fraction * 100,
+        2 => whole * 1_000 + fraction * 10,
+        _ => whole * 1_000 + fraction,
     }
 }
 
 // The f32 nearest to a number in thousandths: both sides of the division are exact.
-fn decimal(thousandths: u32) -> f32 {
+fn decimal(thousandths: u32) -> f32
+    requires { ⌜ thousandths < 1000000 ⌝ }
+    ensures { λ r. ⌜ r ≡ round binary32 false thousandths 1000 ⌝ }
+{
     std::num::nearest_u32_to_f32(thousandths) / 1_000.0f32
 }
 
+// The scale of the digits before a point, and of the n digits after it where there is one.
+fn scale_from(plain: bool, whole: Number, fraction: Number, n: usize) -> MaybeScale
+    requires { ⌜ (n ≤ 3) × (Below 1000 whole × Below (most n) fraction) ⌝ }
+    ensures { λ r. ⌜ r ≡ scaleFrom plain whole fraction n ⌝ }
+{
+    let Number::Is(w) = whole else {
+        return MaybeScale::Not;
+    };
+    if plain {
+        return MaybeScale::Is(decimal(thousandths(w, 0, 0)));
+    }
+    let Number::Is(f) = fraction else {
+        return MaybeScale::Not;
+    };
+    MaybeScale::Is(decimal(thousandths(w, f, n)))
+}
+
 // Up to three digits, and up to three more after a point.
-pub fn scale(s: &[u8]) -> MaybeScale {
+pub fn scale(s: &[u8]) -> MaybeScale
+    ensures { λ r. ⌜ r ≡ scaleOf (now (s .entry)) ⌝ }
+{
     let before = part(s, b'.', 0);
     let after = part(s, b'.', 1);
     let n = after.len();
-    let Number::Is(whole) = digits(before) else {
-        return MaybeScale::Not;
-    };
-    if before.len() > 3 || n > 3 || parts(s, b'.') > 2 {
+    let count = parts(s, b'.');
+    if count > 2 {
         return MaybeScale::Not;
     }
-    if parts(s, b'.') == 1 {
-        return MaybeScale::Is(decimal(thousandths(whole, 0, 0)));
-    }
-    let Number::Is(fraction) = digits(after) else {
+    if before.len() > 3 {
         return MaybeScale::Not;
-    };
-    MaybeScale::Is(decimal(thousandths(whole, fraction, n)))
+    }
+    if n > 3 {
+        return MaybeScale::Not;
+    }
+    scale_from(count == 1, digits(before), digits(after), n)
 }
 
 // Whether a file's name says that its points are of f32 parts.
