@@ -45,15 +45,13 @@ fn load_reason(n: usize) {
 
 // The refusal of a file that is not a load of the table.
 fn refuse_load(answer: Answer, name: &[u8], n: usize) {
-    text(b"refused ");
-    count(refusal::number(answer) as usize);
-    text(b": ");
     match answer {
-        Answer::Position => text(b"the table has no valid slot to compare\n"),
-        _ => {
+        Answer::Length => {
+            report::refused(answer);
             quoted(name);
             load_reason(n);
         }
+        _ => report::refuse(answer),
     }
 }
 

@@ -6,7 +6,7 @@ use Prim.Native.Nat.{ℕ, zero, suc, _+_, _-_, _<_, _≤_}
 use native.Mathlib.Numerals.{add-one}
 use native.Mathlib.Nat.{add-assoc}
 use native.Mathlib.Omega.{arith}
-use borrow.Author.Tests.{eqb-true, eq-eqb}
+use borrow.Author.Tests.{eqb-true}
 use lib.Dec.{eqb}
 use lib.ListN.{length, getD, take, drop}
 use lib.Seq.{drop-cons}
@@ -34,21 +34,11 @@ equal-not a b h = go (equal a b) refl
     go true e = absurd (h (equal-so a b e))
     go false e = refl
 
-pub equal-self : (a : List ℕ) → equal a a ≡ true
-unfolding equal
-equal-self [] = refl
-equal-self (x ∷ a) = rw (eq-eqb x x refl) (equal-self a)
-
 -- no bytes agree with none
 pub agreement-none : (a : List ℕ) → agreement a [] ≡ 0
 unfolding agreement
 agreement-none [] = refl
 agreement-none (x ∷ a) = refl
-
-pub agreement-self : (a : List ℕ) → agreement a a ≡ length a
-unfolding agreement
-agreement-self [] = refl
-agreement-self (x ∷ a) = rw (eq-eqb x x refl, agreement-self a) (omega arith)
 
 module _ (a b : List ℕ) (i : ℕ) (ha : i < length a) (hb : i < length b) where
   pub agreement-next : agreement (drop i a) (drop i b) ≡ cond (eqb (getD a i 0) (getD b i 0)) 1 0 + agreement (drop (i + 1) a) (drop (i + 1) b)

@@ -86,9 +86,45 @@ fn run_at(rs: [Run; 4], n: usize, i: usize) {
     }
 }
 
-fn refuse_table(t: Table) {
+// What a row of document 01's table says, by its number.
+fn row(number: u32) {
+    match number {
+        1 => text(b"the table takes more than 48 slots"),
+        2 => text(b"the table has no valid slot to compare"),
+        3 => text(b"the traceback is 0 or above 1,024"),
+        4 => text(b"a state is out of its range"),
+        5 => text(b"a length does not fit"),
+        6 => text(b"a frame has 38,976 points"),
+        7 => text(b"a part of a point is not a finite number, or is beyond 1,024"),
+        8 => text(b"the scale is not above 0, or is above 64"),
+        9 => text(b"the space for what is written is too short"),
+        _ => text(b"the library does not take this"),
+    }
+}
+
+// How the last line of a refused run begins.
+pub fn refused(answer: Answer) {
+    text(b"refused ");
+    number(wide(refusal::number(answer)));
+    text(b": ");
+}
+
+// The last line of a call that was turned back.
+pub fn refuse(answer: Answer) {
+    refused(answer);
+    row(refusal::number(answer));
+    text(b"\n");
+}
+
+// The last line of a table that was turned back.
+fn refuse_table(answer: Answer, t: Table) {
+    if refusal::number(answer) != 1 {
+        refuse(answer);
+        return;
+    }
     let es = t.entries;
-    text(b"refused 1: the table takes ");
+    refused(answer);
+    text(b"the table takes ");
     number(slots_of(es[0]) + slots_of(es[1]) + slots_of(es[2]) + slots_of(es[3]));
     text(b" slots, and a frame has 48\n");
 }
@@ -119,7 +155,7 @@ pub fn table(t: Table) -> Valid {
     let all = slots::runs(t);
     let answer = all.answer;
     if refusal::number(answer) != 0 {
-        refuse_table(t);
+        refuse_table(answer, t);
         return Valid::Refused;
     }
     text(b"table:\n");
@@ -194,12 +230,6 @@ fn refuse_symbols(points: usize, over: usize) {
     text(b" bytes over, and a frame has 38,976 points\n");
 }
 
-fn refuse_other(answer: Answer) {
-    text(b"refused ");
-    number(wide(refusal::number(answer)));
-    text(b": the library does not take this\n");
-}
-
 // The last line of a reading that was turned back.
 pub fn refuse_reading(
     answer: Answer,
@@ -211,14 +241,8 @@ pub fn refuse_reading(
     match answer {
         Answer::Symbols => refuse_symbols(points, over),
         Answer::Sample => refuse_sample(re, im),
-        Answer::Scale => text(b"refused 8: the scale is not above 0, or is above 64\n"),
-        _ => refuse_other(answer),
+        _ => refuse(answer),
     }
-}
-
-// The last line of a call that was turned back.
-pub fn refuse(answer: Answer) {
-    refuse_other(answer);
 }
 
 // How many bytes of two slices agree, place by place.
