@@ -91,6 +91,10 @@ uint32_t isdbs_decode_frame(const double *re, size_t re_len, const double *im, s
  * isdb_push_metrics  four metrics a step, that of the outputs (X, Y) at 2X + Y.   Rows 3, 4, 5, 7, 9.
  * isdb_push_known    a known bit a step, the low bit of its byte.   Rows 3, 4, 5, 9.
  * isdb_flush         no steps: all held bits leave.   Rows 3, 4, 5, 9.
+ *
+ * One isdb_push_metrics of at most 4,096 quadruples of whole numbers within 16 of zero on a fresh state, then isdb_flush: the bits are the inputs
+ * of the first path of greatest sum, the one of lowest end state, then of the smaller low bit of the predecessor at the last step, the step before
+ * it, and so on.
  */
 uint32_t isdb_push(float *pm, size_t pm_len, uint64_t *held, uint64_t traceback, const float *pairs, size_t pairs_len,
                    uint64_t *decisions, size_t decisions_len, uint8_t *out, size_t out_len, uint64_t *count);

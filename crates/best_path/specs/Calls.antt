@@ -21,7 +21,7 @@ use Rattle.trellis.specs.RunLaws.{label-under}
 use Rattle.best_path.specs.Tracks.{Adds, times, Follows}
 use Rattle.best_path.specs.Decoded.{Did, Ended}
 use Rattle.best_path.specs.Integers.{parts-of, quadruples, Pairs, signs, pairs}
-use Rattle.best_path.specs.Starts.{Given, Unknown, best-given, best-unknown, best-between}
+use Rattle.best_path.specs.Starts.{Given, Unknown, best-given, best-unknown, best-between, the-reading}
 
 -- ---- a call without a release
 module _ (half : ℕ) (out : ℕ → ℕ → ℕ) (t : Tie) where
@@ -177,7 +177,7 @@ module _ (half : ℕ) (some : 0 < half) (out : ℕ → ℕ → ℕ) (labels : (u
         let g = start-unknown half in
         let ws = heldWords half out t steps pm n in
         let e = endState half out t steps pm n in
-        (back half ws n e n, best-unknown half some out labels t steps m n few ads (valuesAt half out t steps pm) ws e (traced half ws e) (did half out t steps pm n plain (g .count) e) g (ended half out t steps pm n plain (g .count)))
+        the-reading half out t Any m n (back half ws n e n) (traced half ws e) (best-unknown half some out labels t steps m n few ads (valuesAt half out t steps pm) ws e (traced half ws e) (did half out t steps pm n plain (g .count) e) g (ended half out t steps pm n plain (g .count)))
 
     -- traced from the state e, from a given start from which some path vs leads to e
     pub traced-between : (s e : ℕ) (vs : List ℕ) → e < 2 * half → Path half n (s % (2 * half)) vs → stateAt half (s % (2 * half)) vs n ≡ e → Best half out t (This (s % (2 * half))) (This e) m n (s % (2 * half)) (traced half (heldWords half out t steps (startAt (2 * half) s) n) e)
@@ -198,7 +198,7 @@ module _ (half : ℕ) (some : 0 < half) (out : ℕ → ℕ → ℕ) (labels : (u
   -- quadruples of whole numbers within the bound
   module _ (ms : ℕ → List Float) (m : ℕ → ℕ → ℤ) (n : ℕ) (few : n ≤ longest) (quads : Quadruples ms m n) (tb : ℕ) (some-tb : 0 < tb) where
     pub quadruples-given : (s : ℕ) → Reading half out t (This (s % (2 * half))) m n (readBits half out t tb (λ k. four (ms k)) (startAt (2 * half) s) n)
-    quadruples-given s = (s % (2 * half), steps-given (λ k. four (ms k)) m n few (λ k h. plain-four half out t (ms k)) (quadruples ms m n quads) tb some-tb s)
+    quadruples-given s = the-reading half out t (This (s % (2 * half))) m n (s % (2 * half)) (readBits half out t tb (λ k. four (ms k)) (startAt (2 * half) s) n) (steps-given (λ k. four (ms k)) m n few (λ k h. plain-four half out t (ms k)) (quadruples ms m n quads) tb some-tb s)
 
     pub quadruples-unknown : Reading half out t Any m n (readBits half out t tb (λ k. four (ms k)) (startUnknown (2 * half)) n)
     quadruples-unknown = steps-unknown (λ k. four (ms k)) m n few (λ k h. plain-four half out t (ms k)) (quadruples ms m n quads) tb some-tb
@@ -206,7 +206,7 @@ module _ (half : ℕ) (some : 0 < half) (out : ℕ → ℕ → ℕ) (labels : (u
   -- pairs of whole numbers within half of it
   module _ (lx ly : ℕ → Float) (x y : ℕ → ℤ) (n : ℕ) (few : n ≤ longest) (two : Pairs lx ly x y n) (tb : ℕ) (some-tb : 0 < tb) where
     pub pairs-given : (s : ℕ) → Reading half out t (This (s % (2 * half))) (signs x y) n (readBits half out t tb (λ k. pair (lx k) (ly k)) (startAt (2 * half) s) n)
-    pairs-given s = (s % (2 * half), steps-given (λ k. pair (lx k) (ly k)) (signs x y) n few (λ k h. plain-pair half out t (lx k) (ly k)) (pairs lx ly x y n two) tb some-tb s)
+    pairs-given s = the-reading half out t (This (s % (2 * half))) (signs x y) n (s % (2 * half)) (readBits half out t tb (λ k. pair (lx k) (ly k)) (startAt (2 * half) s) n) (steps-given (λ k. pair (lx k) (ly k)) (signs x y) n few (λ k h. plain-pair half out t (lx k) (ly k)) (pairs lx ly x y n two) tb some-tb s)
 
     pub pairs-unknown : Reading half out t Any (signs x y) n (readBits half out t tb (λ k. pair (lx k) (ly k)) (startUnknown (2 * half)) n)
     pairs-unknown = steps-unknown (λ k. pair (lx k) (ly k)) (signs x y) n few (λ k h. plain-pair half out t (lx k) (ly k)) (pairs lx ly x y n two) tb some-tb
@@ -214,11 +214,11 @@ module _ (half : ℕ) (some : 0 < half) (out : ℕ → ℕ → ℕ) (labels : (u
 -- ---- a code of any constraint length and generators, and the ISDB code
 module _ (c : Code) (t : Tie) (tb : ℕ) (some-tb : 0 < tb) (ms : ℕ → List Float) (m : ℕ → ℕ → ℤ) (n : ℕ) (few : n ≤ longest) (quads : Quadruples ms m n) where
   -- At most 4,096 quadruples of whole numbers within 16, a fresh decoder at the state s (mod the number of states): the bits of one call and a
-  -- flush are the inputs of the path of greatest sum from that state, the first of equals.
+  -- flush are the inputs of the first path of greatest sum from that state.
   pub code-given : (s : ℕ) → Reading (half c) (label c) t (This (s % (2 * half c))) m n (readBits (half c) (label c) t tb (λ k. four (ms k)) (startAt (2 * half c) s) n)
   code-given s = quadruples-given (half c) (pow-pos (c .constraint - 2)) (label c) (label-under c) t ms m n few quads tb some-tb s
 
-  -- The same of an unknown start: the path of greatest sum from any state.
+  -- The same of an unknown start: the first path of greatest sum from any state.
   pub code-unknown : Reading (half c) (label c) t Any m n (readBits (half c) (label c) t tb (λ k. four (ms k)) (startUnknown (2 * half c)) n)
   code-unknown = quadruples-unknown (half c) (pow-pos (c .constraint - 2)) (label c) (label-under c) t ms m n few quads tb some-tb
 

@@ -1,4 +1,4 @@
--- The f32 algorithm on whole metrics traces a path of greatest sum, the first of them in the order. Assumes nothing.
+-- The f32 algorithm on whole metrics traces the first path of greatest sum. Assumes nothing.
 use mathlib.Core.Path.{_≡_, refl, sym, ap, _∙_, subst}
 use mathlib.Core.List.{List, [], _∷_}
 use Prim.Native.Nat.{ℕ, zero, suc, _+_, _-_, _*_, _/_, _%_, _^_, _≤_, _<_}

@@ -1,6 +1,7 @@
 pub mod Paths
 pub mod Viterbi
 pub mod Greatest
+pub mod Order
 pub mod Exact
 pub mod Tracks
 pub mod Branches

@@ -71,9 +71,12 @@ module _ (half : ℕ) (out : ℕ → ℕ → ℕ) where
     pub most : (r : ℕ) (vs : List ℕ) → Path half n r vs → from r → to (stateAt half r vs n) → sumℤ m r vs n ≤ℤ sumℤ m s us n
     pub first : (r : ℕ) (vs : List ℕ) → Path half n r vs → from r → to (stateAt half r vs n) → sumℤ m r vs n ≡ sumℤ m s us n → First half t s us r vs n
 
-  -- us are the inputs of the best path of n steps whose start is in `from`, wherever it ends
-  abbrev pub Reading : Tie → (ℕ → Type 0) → (ℕ → ℕ → ℤ) → ℕ → List ℕ → Type 0
-  Reading t from m n us = (s : ℕ) × Best t from Any m n s us
+  -- us are the inputs of the first path of greatest sum of n steps whose start is in `from`, wherever it ends: `best` says so of the path from
+  -- `start` on us, and `only` that any path with these two properties, the greatest sum and no path of that sum before it, is this one
+  pub record Reading (t : Tie) (from : ℕ → Type 0) (m : ℕ → ℕ → ℤ) (n : ℕ) (us : List ℕ) : Type 0 where
+    pub start : ℕ
+    pub best : Best t from Any m n start us
+    pub only : (r : ℕ) (vs : List ℕ) → Best t from Any m n r vs → (r ≡ start) × (vs ≡ us)
 
 -- the float x is the whole number z, as IEEE's equality has it, so -0.0 is 0 too; it is within b of 0
 pub record Integer (b : ℕ) (x : Float) (z : ℤ) : Type 0 where

@@ -16,7 +16,7 @@ use Rattle.ieee.specs.Whole.{hiZ, loZ}
 use Rattle.ieee.specs.Whole.{hiZ, loZ}
 use Rattle.trellis.specs.Code.{stateAt}
 use Rattle.trellis.specs.Step.{Step, Tie, back}
-use Rattle.best_path.specs.Paths.{bound, longest, Walk, Path, labelAt, sumℤ, Best, Any, This}
+use Rattle.best_path.specs.Paths.{bound, longest, Walk, Path, labelAt, sumℤ, Best, Any, This, Reading}
 use Rattle.best_path.specs.Viterbi.{Z, sum}
 use Rattle.best_path.specs.Greatest.{Greatest, one-first}
 use Rattle.best_path.specs.Exact.{Whole}
@@ -211,3 +211,6 @@ one-best half out t from to m n s us r vs g h =
     let b = h .most s us (g .path) (g .begins) (g .ends) in
     let e : sumℤ half out m r vs n ≡ sumℤ half out m s us n = ≤ℤ-antisymm a b in
     one-first half t s us r vs n (g .path) (h .path) (g .first r vs (h .path) (h .begins) (h .ends) e) (h .first s us (g .path) (g .begins) (g .ends) (sym e))
+
+pub the-reading : (half : ℕ) (out : ℕ → ℕ → ℕ) (t : Tie) (from : ℕ → Type 0) (m : ℕ → ℕ → ℤ) (n s : ℕ) (us : List ℕ) → Best half out t from Any m n s us → Reading half out t from m n us
+the-reading half out t from m n s us g = record { start = s; best = g; only = λ r vs h. one-best half out t from Any m n r vs s us h g }

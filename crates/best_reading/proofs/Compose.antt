@@ -79,7 +79,7 @@ all-of start xs r dec₀ dec₁ out₀ out₁ a l = record {
       let g = l .0 e in
       let b = reads start xs n m count few quads in
       let d = read start xs in
-      let k : length (flush d .bits) ≡ n = b .1 .path .count in
+      let k : length (flush d .bits) ≡ n = b .best .path .count in
       let t : take n out₁ ≡ flush d .bits = ap (λ (x : List ℕ). take n x) (g .bits) ∙ ap (λ (j : ℕ). take j (laid (flush d .bits) out₀)) (sym k) ∙ take-laid (flush d .bits) out₀ in
       (e, g .count-is ∙ k, subst (λ (x : List ℕ). Reading Isdb.half Isdb.labels Isdb.rule (StartsIn start) m n x) (sym t) b);
 }

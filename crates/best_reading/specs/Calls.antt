@@ -75,7 +75,8 @@ abbrev pub quadruple : List Float → ℕ → List Float
 quadruple xs k = getD xs (4 * k) nan ∷ getD xs (4 * k + 1) nan ∷ getD xs (4 * k + 2) nan ∷ getD xs (4 * k + 3) nan ∷ []
 
 -- Viterbi's rule: of at most 4,096 quadruples of whole numbers within 16 of 0, with memory enough lent, the reading is accepted, has a bit for
--- each quadruple, and its bits are the inputs of a path of greatest sum from the given start, or from any where none is given; of equals the first
+-- each quadruple, and its bits are the inputs of the first path of greatest sum from the given start, or from any where none is given
+-- (`Reading.best`); any path from there with the greatest sum and none of that sum before it is the one returned (`Reading.only`)
 abbrev pub GreatestSum : Start → List Float → Released → ℕ → ℕ → List ℕ → Type 0
 GreatestSum start xs r decisions space out =
     (n : ℕ) (m : ℕ → ℕ → ℤ) → length xs ≡ 4 * n → n ≤ longest → Quadruples (quadruple xs) m n → block + 128 ≤ decisions → n ≤ space

@@ -1,4 +1,4 @@
-// A fresh decoder, one call of metrics, a flush: what comes out are the inputs of the path of greatest sum.
+// A fresh decoder, one call of metrics, a flush: what comes out are the inputs of the first path of greatest sum.
 ghost use mathlib.Core.Path.{_≡_};
 ghost use mathlib.Core.Bool.{cond};
 ghost use mathlib.Core.List.{_++_};

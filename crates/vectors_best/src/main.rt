@@ -1,6 +1,6 @@
 // Readings of whole quadruples beside a search through all paths: the greatest sum, how many paths have it, the first of them, and what
-// the decoder reads. A metric m is kept as m + 16, from 0 to 32, so a sum is that of eight steps plus 128.
-ghost use Prim.Native.Nat.{_<_};
+// the decoder reads. A metric m is kept as m + 16, from 0 to 32, so a sum of n steps is kept plus 16 n.
+ghost use Prim.Native.Nat.{_≤_, _<_};
 use best_reading::Start;
 
 // The modulo-2 sum of the low 8 bits of x.
@@ -32,12 +32,14 @@ struct Walked {
     place: u32,
 }
 
-fn walk(metrics: &[u8; 32], start: u32, inputs: u32) -> Walked {
+fn walk(metrics: &[u8; 32], n: usize, start: u32, inputs: u32) -> Walked
+    requires { ⌜ n ≤ 8 ⌝ }
+{
     let mut state = start % 64;
     let mut bits = inputs;
     let mut sum: u32 = 0;
     let mut lows: u32 = 0;
-    for k in 0..8 {
+    for k in 0..n {
         let u = bits % 2;
         bits = bits / 2;
         let l = label(u, state) as usize;
@@ -89,8 +91,11 @@ fn seen(s: Survey, w: Walked, inputs: u32) -> Survey {
     }
 }
 
-// All paths of eight steps from the states `from` to `to`, the last not among them.
-fn search_all(metrics: &[u8; 32], from: u32, to: u32) -> Survey {
+// All paths of n steps from the states `from` to `to`, the last not among them.
+fn search_all(metrics: &[u8; 32], n: usize, from: u32, to: u32) -> Survey
+    requires { ⌜ n ≤ 8 ⌝ }
+{
+    let lists = 1u32 << n;
     let mut s = Survey {
         greatest: 0,
         count: 0,
@@ -98,8 +103,8 @@ fn search_all(metrics: &[u8; 32], from: u32, to: u32) -> Survey {
         inputs: 0,
     };
     for start in from..to {
-        for inputs in 0..256 {
-            let w = walk(metrics, start, inputs);
+        for inputs in 0..lists {
+            let w = walk(metrics, n, start, inputs);
             let next = seen(s, w, inputs);
             s = next;
         }
@@ -160,7 +165,7 @@ fn read(metrics: &[u8; 32], start: Start, decisions: &mut [u64; 4224], out: &mut
 }
 
 fn line(metrics: &[u8; 32], start: Start, from: u32, to: u32) {
-    let s = search_all(metrics, from, to);
+    let s = search_all(metrics, 8, from, to);
     io::write_all(1, b"greatest ");
     put_number(s.greatest);
     io::write_all(1, b" paths ");
@@ -201,7 +206,94 @@ fn both(metrics: &[u8; 32], start: u8) {
     line(metrics, Start::Unknown, 0, 64);
 }
 
+// Whether the first n places hold the inputs, and the others what they held.
+fn same(out: &[u8; 8], n: usize, inputs: u32) -> bool {
+    let mut bits = inputs;
+    for k in 0..8 {
+        let wanted = if k < n { (bits % 2) as u8 } else { 9 };
+        if out[k] != wanted {
+            return false;
+        }
+        bits = bits / 2;
+    }
+    true
+}
+
+// 1 if the reading of the first n quadruples is accepted and has the n inputs, else 0.
+fn agrees(
+    xs: &[f32; 32],
+    n: usize,
+    start: Start,
+    inputs: u32,
+    decisions: &mut [u64; 4224],
+    out: &mut [u8; 8],
+) -> u32
+    requires { ⌜ n ≤ 8 ⌝ }
+    ensures { λ r. ⌜ r ≤ 1 ⌝ }
+{
+    let all: &[f32] = xs;
+    let end = 4 * n;
+    let r = best_reading::greatest_sum_reading(&all[..end], start, decisions, out);
+    let answer = r.answer;
+    if refusal::number(answer) == 0 && r.count == n && same(out, n, inputs) {
+        1
+    } else {
+        0
+    }
+}
+
+// Whether the reading is the first path of greatest sum, and how many paths have that sum.
+struct Trial {
+    first: u32,
+    paths: u32,
+}
+
+fn tried(metrics: &[u8; 32], n: usize, start: Start, from: u32, to: u32) -> Trial
+    requires { ⌜ n ≤ 8 ⌝ }
+    ensures { λ r. ⌜ r .first ≤ 1 ⌝ }
+{
+    let s = search_all(metrics, n, from, to);
+    let mut decisions = [0u64; 4224];
+    let mut out = [9u8; 8];
+    let xs = floats(metrics);
+    let first = agrees(&xs, n, start, s.inputs, &mut decisions, &mut out);
+    Trial {
+        first,
+        paths: s.count,
+    }
+}
+
+fn larger(a: u32, b: u32) -> u32 {
+    if a < b { b } else { a }
+}
+
+// Sixteen lists of metrics, 0 or 1 each, read from a given start and from none.
+fn stretch(n: usize)
+    requires { ⌜ n ≤ 8 ⌝ }
+{
+    let mut first: u32 = 0;
+    let mut paths: u32 = 0;
+    for seed in 0..16u32 {
+        let ms = scattered(seed, true);
+        let from = seed * 13 % 64;
+        let given = tried(&ms, n, Start::Given(from as u8), from, from + 1);
+        let any = tried(&ms, n, Start::Unknown, 0, 64);
+        first = first + given.first + any.first;
+        paths = larger(paths, larger(given.paths, any.paths));
+    }
+    io::write_all(1, b"steps ");
+    put_number(n as u32);
+    io::write_all(1, b" first ");
+    put_number(first);
+    io::write_all(1, b" of 00032, equal paths up to ");
+    put_number(paths);
+    put(b'\n');
+}
+
 fn main() {
+    for n in 0..9usize {
+        stretch(n);
+    }
     // The inputs 00000000 and 10000000 from state 0 have the greatest sum: both end in state 0, by way of the states 0 and 1.
     let two = [
         32u8,

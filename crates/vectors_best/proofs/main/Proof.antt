@@ -1,66 +1,70 @@
 -- `main` is safe and ends. Assumes nothing.
-use Prim.Native.Nat.{_-_, _≤_, _<_}
-use native.Mathlib.Omega.{arith}
+use Prim.Native.Nat.{_-_, _≤_}
 use borrow.Author.Needs.{needs}
 use Rattle.vectors_best.proofs.main.Statement.{statement}
 use Rattle.vectors_best.proofs.main.Tie as tie
-use Rattle.vectors_best.proofs.main.Reads as reads
-use Rattle.vectors_best.proofs.main.Lts as lts
-use Rattle.vectors_best.proofs.both.Reads as both-reads
-use Rattle.vectors_best.proofs.scattered.Reads as scattered-reads
 
 abbrev Inv-loop : tie.InvT-loop
-Inv-loop seed₀ seed = seed ≤ 4
+Inv-loop n₀ n = n ≤ 9
 
 abbrev μ-loop : tie.MeasureT-loop
-μ-loop seed₀ seed = 4 - seed
+μ-loop n₀ n = 9 - n
 
--- src/main.rt:208:5
-both-requires : tie.Need-both-requires Inv-loop μ-loop
-both-requires c κs = search needs
+abbrev Inv-loop2 : tie.InvT-loop2
+Inv-loop2 seed₀ seed = seed ≤ 4
 
--- src/main.rt:211:5
-both-requires-2 : tie.Need-both-requires-2 Inv-loop μ-loop
-both-requires-2 c κs = search needs
+abbrev μ-loop2 : tie.MeasureT-loop2
+μ-loop2 seed₀ seed = 4 - seed
 
--- src/main.rt:212:5
-loop-holds : tie.Need-loop-holds Inv-loop μ-loop
+loop-holds : tie.Need-loop-holds Inv-loop μ-loop Inv-loop2 μ-loop2
 loop-holds c = search needs
 
--- src/main.rt:213:18
-scattered-requires : tie.Need-scattered-requires Inv-loop μ-loop
-scattered-requires c κs = search needs
+stretch-requires : tie.Need-stretch-requires Inv-loop μ-loop Inv-loop2 μ-loop2
+stretch-requires c κs = search needs
 
--- src/main.rt:214:9
-both-requires-3 : tie.Need-both-requires-3 Inv-loop μ-loop
-both-requires-3 c κs = search needs
+add-n : tie.Need-add-n Inv-loop μ-loop Inv-loop2 μ-loop2
+add-n c = search needs
 
--- src/main.rt:215:28
-add-scattered : tie.Need-add-scattered Inv-loop μ-loop
-add-scattered c = search needs
-
--- src/main.rt:215:18
-scattered-requires-2 : tie.Need-scattered-requires-2 Inv-loop μ-loop
-scattered-requires-2 c κs = search needs
-
--- src/main.rt:216:9
-both-requires-4 : tie.Need-both-requires-4 Inv-loop μ-loop
-both-requires-4 c κs = search needs
-
--- src/main.rt:212:9
-add-seed : tie.Need-add-seed Inv-loop μ-loop
-add-seed c = search needs
-
--- src/main.rt:212:5
-loop-less : tie.Need-loop-less Inv-loop μ-loop
+loop-less : tie.Need-loop-less Inv-loop μ-loop Inv-loop2 μ-loop2
 loop-less c = search needs
 
--- src/main.rt:212:5
-loop-again : tie.Need-loop-again Inv-loop μ-loop
+loop-again : tie.Need-loop-again Inv-loop μ-loop Inv-loop2 μ-loop2
 loop-again c = search needs
 
--- src/main.rt:205:1
-returns : tie.Need-returns Inv-loop μ-loop
+both-requires : tie.Need-both-requires Inv-loop μ-loop Inv-loop2 μ-loop2
+both-requires c κs = search needs
+
+both-requires-2 : tie.Need-both-requires-2 Inv-loop μ-loop Inv-loop2 μ-loop2
+both-requires-2 c κs = search needs
+
+loop2-holds : tie.Need-loop2-holds Inv-loop μ-loop Inv-loop2 μ-loop2
+loop2-holds c = search needs
+
+scattered-requires : tie.Need-scattered-requires Inv-loop μ-loop Inv-loop2 μ-loop2
+scattered-requires c κs = search needs
+
+both-requires-3 : tie.Need-both-requires-3 Inv-loop μ-loop Inv-loop2 μ-loop2
+both-requires-3 c κs = search needs
+
+add-scattered : tie.Need-add-scattered Inv-loop μ-loop Inv-loop2 μ-loop2
+add-scattered c = search needs
+
+scattered-requires-2 : tie.Need-scattered-requires-2 Inv-loop μ-loop Inv-loop2 μ-loop2
+scattered-requires-2 c κs = search needs
+
+both-requires-4 : tie.Need-both-requires-4 Inv-loop μ-loop Inv-loop2 μ-loop2
+both-requires-4 c κs = search needs
+
+add-seed : tie.Need-add-seed Inv-loop μ-loop Inv-loop2 μ-loop2
+add-seed c = search needs
+
+loop2-less : tie.Need-loop2-less Inv-loop μ-loop Inv-loop2 μ-loop2
+loop2-less c = search needs
+
+loop2-again : tie.Need-loop2-again Inv-loop μ-loop Inv-loop2 μ-loop2
+loop2-again c = search needs
+
+returns : tie.Need-returns Inv-loop μ-loop Inv-loop2 μ-loop2
 returns c = search needs
 
 pub main-spec : {M : Type 1} → statement M
@@ -69,15 +73,22 @@ main-spec =
     (tie.spec
     Inv-loop
     μ-loop
+    Inv-loop2
+    μ-loop2
+    loop-holds
+    stretch-requires
+    add-n
+    loop-less
+    loop-again
     both-requires
     both-requires-2
-    loop-holds
+    loop2-holds
     scattered-requires
     both-requires-3
     add-scattered
     scattered-requires-2
     both-requires-4
     add-seed
-    loop-less
-    loop-again
+    loop2-less
+    loop2-again
     returns)
