@@ -1,3 +1,4 @@
 pub mod Table
 pub mod SignTables
+pub mod BranchTable
 pub mod Turn

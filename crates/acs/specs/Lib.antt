@@ -1,4 +1,5 @@
 pub mod Written
 pub mod Packed
 pub mod Signs
+pub mod Branches
 pub mod Half

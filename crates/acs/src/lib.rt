@@ -1,17 +1,22 @@
 // Add-compare-select: one step of the Viterbi decoder over its 64 path values, and what is done with them between steps.
 ghost use mathlib.Core.Path.{_≡_};
 ghost use mathlib.Core.Bool.{cond};
-ghost use Prim.Native.Nat.{_+_, _*_, _<_};
+ghost use Prim.Native.Nat.{_+_, _*_, _%_, _<_};
 ghost use lib.ListN.{length, getD};
 ghost use lib.Ieee.{lt, neg, nan, binary32, ofBits};
+ghost use Rattle.trellis.specs.Code.{isdb, label};
 ghost use Rattle.trellis.specs.Lists.{bit};
 ghost use Rattle.trellis.specs.Step.{pair, four, renormalised, ruled, top};
 ghost use Rattle.trellis.specs.Isdb.{cand, nexts, word, bestState};
 ghost use Rattle.acs.specs.Signs.{XSigns, YSigns};
+ghost use Rattle.acs.specs.Branches.{BranchNumbers};
 ghost use Rattle.acs.specs.Half.{Half};
 
+mod branches;
 mod signs;
 
+use branches::BRANCH;
+use branches::Numbers;
 use signs::SX;
 use signs::SY;
 use signs::Table;
@@ -115,50 +120,56 @@ pub fn acs(pm: &mut [f32; 64], lx: f32, ly: f32) -> u64
     join(low, high)
 }
 
-// The metric of the branch whose signs are x and y: the one at 2X + Y.
-fn metric(m: [f32; 4], x: f32, y: f32) -> f32
-    ensures { λ r. ⌜ r ≡ getD m (2 * bit (lt x (ofBits binary32 0)) + bit (lt y (ofBits binary32 0))) nan ⌝ }
+// The number 2X + Y of the branch from the state 2j + b on the input u.
+fn number(t: &Numbers, u: usize, b: usize, j: usize) -> u8
+    requires { ⌜ (u < 2) × (b < 2) × (j < 32) × BranchNumbers (now t) ⌝ }
+    ensures { λ r. ⌜ r ≡ label isdb u (2 * j + b) ⌝ }
 {
-    if x < 0.0 {
-        if y < 0.0 { m[3] } else { m[2] }
-    } else {
-        if y < 0.0 { m[1] } else { m[0] }
+    t[u][b][j]
+}
+
+// The number 2X + Y of the branch from the state s (mod 64) on the low bit of u, as the step of four metrics reads it.
+pub fn branch_number(u: u8, s: u8) -> u8
+    ensures { λ r. ⌜ r ≡ label isdb (u % 2) (s % 64) ⌝ }
+{
+    let t = BRANCH;
+    let input = (u % 2) as usize;
+    let low = (s % 2) as usize;
+    let j = (s % 64 / 2) as usize;
+    number(&t, input, low, j)
+}
+
+// The metric of the branch with the number n.
+fn metric(m: [f32; 4], n: u8) -> f32
+    requires { ⌜ n < 4 ⌝ }
+    ensures { λ r. ⌜ r ≡ getD m n nan ⌝ }
+{
+    match n {
+        0 => m[0],
+        1 => m[1],
+        2 => m[2],
+        _ => m[3],
     }
 }
 
 // The path of a step of four metrics into the state 32u + j from its predecessor 2j + b.
-fn four_path(
-    old: &[f32; 64],
-    x: &Table,
-    y: &Table,
-    u: usize,
-    b: usize,
-    j: usize,
-    m: [f32; 4],
-) -> f32
-    requires { ⌜ (u < 2) × (b < 2) × (j < 32) × XSigns (now x) × YSigns (now y) ⌝ }
+fn four_path(old: &[f32; 64], t: &Numbers, u: usize, b: usize, j: usize, m: [f32; 4]) -> f32
+    requires { ⌜ (u < 2) × (b < 2) × (j < 32) × BranchNumbers (now t) ⌝ }
     ensures { λ r. ⌜ r ≡ cand (now (old .entry)) (four m) (32 * u + j) b ⌝ }
 {
-    old[2 * j + b] + metric(m, x[u][b][j], y[u][b][j])
+    old[2 * j + b] + metric(m, number(t, u, b, j))
 }
 
 // The states 32u + j of a step of four metrics, and their decisions.
-fn four_half(
-    old: &[f32; 64],
-    new: &mut [f32; 64],
-    x: &Table,
-    y: &Table,
-    u: usize,
-    m: [f32; 4],
-) -> u32
-    requires { ⌜ (u < 2) × XSigns (now x) × YSigns (now y) ⌝ }
+fn four_half(old: &[f32; 64], new: &mut [f32; 64], t: &Numbers, u: usize, m: [f32; 4]) -> u32
+    requires { ⌜ (u < 2) × BranchNumbers (now t) ⌝ }
     ensures { λ r. ⌜ Half (now (old .entry)) (four m) u (now (new .entry)) 32 (now (new .exit)) r ⌝ }
 {
     let n = states(new);
     let mut w: u32 = 0;
     for j in 0..n / 2 {
-        let even = four_path(old, x, y, u, 0, j, m);
-        let odd = four_path(old, x, y, u, 1, j, m);
+        let even = four_path(old, t, u, 0, j, m);
+        let odd = four_path(old, t, u, 1, j, m);
         new[HALF * u + j] = larger(even, odd);
         w = w | (beats(odd, even) << j);
     }
@@ -170,10 +181,9 @@ pub fn acs4(pm: &mut [f32; 64], m: [f32; 4]) -> u64
     ensures { λ r. ⌜ (now (pm .exit) ≡ nexts (now (pm .entry)) (four m)) × (r ≡ word (now (pm .entry)) (four m)) ⌝ }
 {
     let old = *pm;
-    let x = SX;
-    let y = SY;
-    let low = four_half(&old, pm, &x, &y, 0, m);
-    let high = four_half(&old, pm, &x, &y, 1, m);
+    let t = BRANCH;
+    let low = four_half(&old, pm, &t, 0, m);
+    let high = four_half(&old, pm, &t, 1, m);
     join(low, high)
 }
 

@@ -2,6 +2,7 @@
 // places where a decoder is easily wrong. `stdout` has the values of document 01.
 ghost use Prim.Native.Nat.{_+_, _≤_, _<_};
 ghost use lib.ListN.{length};
+use acs::branch_number;
 use isdb_fec::conv::ConvEncoder;
 use isdb_fec::conv::Made;
 use isdb_fec::conv::Released;
@@ -343,16 +344,20 @@ fn label(u: u32, state: u32) -> u32
     2 * parity(register & 0o171) + parity(register & 0o133)
 }
 
-// Whether `branch_output` is the coded pair, for the register 64 u + state.
+// Whether `branch_output`, and the number that the step of four metrics reads, are the coded pair, for the register 64 u + state.
 fn is_branch(register: u32) -> bool {
-    let b = branch_output((register % 64) as u8, (register / 64 % 256) as u8);
+    let state = (register % 64) as u8;
+    let u = (register / 64 % 256) as u8;
+    let b = branch_output(state, u);
     let answer = b.answer;
+    let pair = label(register / 64, register);
     refusal::number(answer) == 0
         && b.x < 2
-        && 2 * (b.x as u32) + (b.y as u32) == label(register / 64, register)
+        && 2 * (b.x as u32) + (b.y as u32) == pair
+        && branch_number(u, state) as u32 == pair
 }
 
-// How many of the 128 pairs of state and input have the branch output that is worked out here.
+// How many of the 128 pairs of state and input have the branch output and the branch number that are worked out here.
 fn branches() -> usize {
     let mut n: usize = 0;
     for r in 0..128u32 {
@@ -373,7 +378,7 @@ fn show_branches() {
         refusal::number(answer) as usize,
     ];
     show(
-        b"branch_output: # of 128 pairs agree; in state 64 it answers #, and an encoder's push #\n",
+        b"branch_output and branch_number: # of 128 pairs agree; in state 64 branch_output answers #, an encoder's push #\n",
         &found,
     );
 }

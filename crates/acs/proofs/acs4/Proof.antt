@@ -2,25 +2,26 @@
 use mathlib.Core.Path.{_≡_, _∙_}
 use native.Mathlib.Omega.{arith}
 use borrow.Author.Needs.{needs}
-use Rattle.acs.proofs.SignTables.{SX, SY, sx-signs, sy-signs}
+use Rattle.trellis.specs.Code.{label, output, tapped}
+use Rattle.acs.proofs.BranchTable.{branch-numbers}
 use Rattle.acs.proofs.Turn.{new-values, new-word}
 use Rattle.acs.proofs.acs4.Statement.{statement}
 use Rattle.acs.proofs.acs4.Tie as tie
 
 four-half-requires : tie.Need-four-half-requires
-unfolding SX SY
-four-half-requires c κs = (omega arith, sx-signs, sy-signs)
+unfolding label output tapped
+four-half-requires c κs = (omega arith, branch-numbers _ tt)
 
 four-half-requires-2 : tie.Need-four-half-requires-2
-unfolding SX SY
-four-half-requires-2 c κs = (omega arith, sx-signs, sy-signs)
+unfolding label output tapped
+four-half-requires-2 c κs = (omega arith, branch-numbers _ tt)
 
 join-requires : tie.Need-join-requires
 join-requires c κs = search needs
 
 returns : tie.Need-returns
 returns c =
-    let lower = c .before .before .before .before .before .before .four-half .ensures in
+    let lower = c .before .before .before .before .before .four-half .ensures in
     let upper = c .before .four-half2 .ensures in
     (new-values _ _ _ _ _ _ _ lower upper, c .join .ensures ∙ new-word _ _ _ _ _ _ _ lower upper)
 

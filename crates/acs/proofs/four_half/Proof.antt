@@ -10,10 +10,10 @@ use Rattle.acs.proofs.four_half.Statement.{statement}
 use Rattle.acs.proofs.four_half.Tie as tie
 
 abbrev Inv-loop : tie.InvT-loop
-Inv-loop old new₀ x y u m n w₀ j₀ j-end new w j = (j-end ≡ 32) × (j ≤ 32) × Half old (four m) u new₀ j new w
+Inv-loop old new₀ t u m n w₀ j₀ j-end new w j = (j-end ≡ 32) × (j ≤ 32) × Half old (four m) u new₀ j new w
 
 abbrev μ-loop : tie.MeasureT-loop
-μ-loop old new₀ x y u m n w₀ j₀ j-end new w j = 32 - j
+μ-loop old new₀ t u m n w₀ j₀ j-end new w j = 32 - j
 
 states-requires : tie.Need-states-requires Inv-loop μ-loop
 states-requires c κs = search needs

@@ -1,6 +1,8 @@
--- `acs::four_path` meets its contract: the signs of the branch are those of its label. Assumes nothing.
-use mathlib.Core.Path.{_≡_}
+-- `acs::four_path` meets its contract: the metric is that of the branch's number. Assumes nothing.
+use Prim.Native.Nat.{_+_, _*_}
 use borrow.Author.Needs.{needs}
+use Rattle.trellis.specs.Code.{isdb}
+use Rattle.trellis.specs.RunLaws.{label-under}
 use Rattle.acs.proofs.Turn.{four-cand}
 use Rattle.acs.proofs.four_path.Statement.{statement}
 use Rattle.acs.proofs.four_path.Tie as tie
@@ -17,51 +19,19 @@ mul-result-2 c = search needs
 element-copy-out-result : tie.Need-element-copy-out-result
 element-copy-out-result c = search needs
 
-mul-metric : tie.Need-mul-metric
-mul-metric c = search needs
-
-mul-metric-2 : tie.Need-mul-metric-2
-mul-metric-2 c = search needs
-
-mul-metric-3 : tie.Need-mul-metric-3
-mul-metric-3 c = search needs
-
-index-1-metric : tie.Need-index-1-metric
-index-1-metric c = search needs
-
-index-2-metric : tie.Need-index-2-metric
-index-2-metric c = search needs
-
-index-3-metric : tie.Need-index-3-metric
-index-3-metric c = search needs
-
-mul-metric-4 : tie.Need-mul-metric-4
-mul-metric-4 c = search needs
-
-mul-metric-5 : tie.Need-mul-metric-5
-mul-metric-5 c = search needs
-
-mul-metric-6 : tie.Need-mul-metric-6
-mul-metric-6 c = search needs
-
-index-1-metric-2 : tie.Need-index-1-metric-2
-index-1-metric-2 c = search needs
-
-index-2-metric-2 : tie.Need-index-2-metric-2
-index-2-metric-2 c = search needs
-
-index-3-metric-2 : tie.Need-index-3-metric-2
-index-3-metric-2 c = search needs
+number-requires : tie.Need-number-requires
+number-requires c κs = search needs
 
 metric-requires : tie.Need-metric-requires
-metric-requires c κs = search needs
+metric-requires c κs =
+    let a = c .before .before .args in
+    rw (c .number .ensures) (label-under isdb (a .u) (2 * a .j + a .b))
 
 returns : tie.Need-returns
 returns c =
-    let start = c .before .before .before .before in
+    let start = c .before .before .before in
     let a = start .args in
-    let p = start .pre in
-    four-cand (a .old .now) (a .u) (a .b) (a .j) (p .2) _ _ (p .3 .sign (a .u) (a .b) (a .j) (p .0) (p .1) (p .2)) (p .4 .sign (a .u) (a .b) (a .j) (p .0) (p .1) (p .2)) (a .m) _ (c .metric .ensures)
+    four-cand (a .old .now) (a .u) (a .b) (a .j) (start .pre .2) (a .m) _ _ (c .before .number .ensures) (c .metric .ensures)
 
 pub four-path-spec : {M : Type 1} → statement M
 four-path-spec =
@@ -71,17 +41,6 @@ four-path-spec =
     add-result
     mul-result-2
     element-copy-out-result
-    mul-metric
-    mul-metric-2
-    mul-metric-3
-    index-1-metric
-    index-2-metric
-    index-3-metric
-    mul-metric-4
-    mul-metric-5
-    mul-metric-6
-    index-1-metric-2
-    index-2-metric-2
-    index-3-metric-2
+    number-requires
     metric-requires
     returns)
