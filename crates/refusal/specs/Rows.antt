@@ -6,7 +6,7 @@ use Prim.Native.Nat.{ℕ, suc}
 use lib.Dec.{eqb, leb, ltb}
 use lib.ListN.{length}
 use Rattle.refusal.specs.declared.Answer.{Answer}
-use Rattle.refusal.specs.declared.Answer.the-variants.{Accepted, Table, Position, Traceback, State, Length, Symbols, Sample, Scale, Space}
+use Rattle.refusal.specs.declared.Answer.the-variants.{Accepted, Table, Position, Traceback, State, Length, Symbols, Sample, Scale, Space, Window}
 
 -- the table's first column; 0 where no row holds
 abbrev pub numberOf : Answer → ℕ
@@ -20,10 +20,11 @@ numberOf Symbols = 6
 numberOf Sample = 7
 numberOf Scale = 8
 numberOf Space = 9
+numberOf Window = 14
 
--- the numbers as the table has them, from the top
+-- the numbers as the table has them, from the top; 14 is "checked where refusal 4 stands" (request P11)
 abbrev pub order : List ℕ
-order = 1 ∷ 2 ∷ 3 ∷ 4 ∷ 5 ∷ 6 ∷ 7 ∷ 8 ∷ 9 ∷ []
+order = 1 ∷ 2 ∷ 3 ∷ 4 ∷ 14 ∷ 5 ∷ 6 ∷ 7 ∷ 8 ∷ 9 ∷ []
 
 -- no row holds
 abbrev pub accepted : Answer → Bool

@@ -2,7 +2,7 @@
 ghost use mathlib.Core.Path.{_≡_};
 ghost use Rattle.refusal.specs.Rows.{numberOf};
 
-// Accepted, or the row of document 01's table "Where a call is turned back".
+// Accepted, or the row of document 01's table "Where a call is turned back"; Window is the row that request P11 adds.
 pub enum Answer {
     Accepted,
     Table,
@@ -14,6 +14,7 @@ pub enum Answer {
     Sample,
     Scale,
     Space,
+    Window,
 }
 
 // The row's number, and 0 for accepted.
@@ -31,5 +32,6 @@ pub fn number(answer: Answer) -> u32
         Answer::Sample => 7,
         Answer::Scale => 8,
         Answer::Space => 9,
+        Answer::Window => 14,
     }
 }
