@@ -2,7 +2,7 @@
 -- read from the next place on and then from the front, are these sums in their order. Assumes nothing.
 use mathlib.Core.Path.{_≡_, refl, sym, ap, _∙_}
 use mathlib.Core.Logic.{_⊎_, inl, inr, ⊎-elim}
-use mathlib.Core.Bool.{Bool, true, false, cond}
+use mathlib.Core.Bool.{Bool, true, false}
 use mathlib.Core.List.{List, [], _∷_, _++_, append-assoc, append-nil}
 use Prim.Native.Nat.{ℕ, suc, _+_, _-_, _%_, _≤_, _<_, min}
 use native.Mathlib.Omega.{arith}
@@ -10,7 +10,6 @@ use native.Mathlib.Numerals.{add-one}
 use native.Mathlib.Nat.{eq-or-lt-of-le, mod-eq-of-lt, mod-self, mod-add-mod, add-comm, max-comm}
 use lib.ListN.{length, take, drop, set, length-append, length-set, take-append-drop}
 use borrow.Author.Tests.{ltb-false}
-use lib.Dec.{ltb}
 use lib.Seq.{length-take-le, take-length, drop-length, drop-cons, drop-append-le, drop-drop, drop-set-lt, take-suc-set}
 use Rattle.refusal.specs.RowLaws.{none-holds}
 use Rattle.refusal.specs.declared.Answer.the-variants.{Accepted}
