@@ -12,6 +12,7 @@
  *   2 position   bit above 1,000,000; word outside 1 to 7
  *   3 traceback  above 1,024, or 0 in a handed state
  *   4 state      held count 4,096 + traceback or more; encoder state above 63; lent path value not finite or beyond 2^32
+ *  14 window     outside 1 to 256; fill above it; next not below it or, while the window is not full, unlike fill; a pushed or kept sum above 68,208
  *   5 length     metrics not in fours, soft values not in twos, stream not whole periods; path values not 64; an unknown rate
  *   6 symbols    under 38,976 of either part
  *   7 sample     not finite; beyond 1,024 for a frame part, 1,048,576 for a stream value
@@ -82,6 +83,13 @@ uint32_t isdbs_encode_frame(const uint8_t *bytes, size_t bytes_len, uint64_t tab
 uint32_t isdbs_decode_frame(const double *re, size_t re_len, const double *im, size_t im_len, uint64_t table, uint8_t mapping,
                             uint8_t first, uint8_t known_start, float llr_scale,
                             uint64_t *decisions, size_t decisions_len, uint8_t *bits, size_t bits_len, uint8_t *bytes, size_t bytes_len);
+
+/* The last sums of a run of frames, `window` of them at most (1 to 256), with their total and greatest. The state is the caller's: how many sums are
+ * kept (*fill) and the place of the next one (*next), both 0 at first; `kept` has the sums, the first *fill places. A push keeps `sum` at the next
+ * place, or, where `clear` is not 0, forgets all earlier sums and keeps it at place 0; no other place is written. *total and *greatest are written and
+ * not read: what the last `window` accepted sums since the last clearing push, or all when fewer, give. `kept` needs `window` places. Rows 14, 9. */
+uint32_t isdbs_window_push(uint32_t window, uint32_t *fill, uint32_t *next, uint8_t clear, uint32_t sum, uint32_t *kept, size_t kept_len,
+                           uint32_t *total, uint32_t *greatest);
 
 /* The decoder of the code of constraint length 7 with generators 171 and 133 octal. Its state is the caller's: 64 path values (0 at a known start
  * state and -1,000,000 elsewhere, or all 0), how many decision words are held (0) and the traceback (1 to 1,024). The held words are the first of

@@ -4,3 +4,4 @@ pub mod Lengths
 pub mod Decoders
 pub mod Rates
 pub mod Mappings
+pub mod Windows

@@ -4,3 +4,4 @@ pub mod conv;
 pub mod frame;
 pub mod isdbt;
 pub mod table;
+pub mod window;

@@ -17,6 +17,8 @@ use Rattle.isdbs_core.specs.SlotPart.{slotPartRows}
 use Rattle.isdbs_phy.specs.EncodeRows.{encodeRows, encodeFrameRows}
 use Rattle.isdbs_phy.specs.DecodeRows.{decodeRows}
 use Rattle.best_reading.specs.Calls.{readingRows}
+use Rattle.strain_window.specs.declared.WindowState.{WindowState}
+use Rattle.strain_window.specs.Rows as window
 use Rattle.isdb_c.specs.Rows.{placesRows, bitSymbolRows}
 use Rattle.isdb_c.specs.Lengths.{withStates}
 use Rattle.isdb_c.specs.Rates.{rateRows}
@@ -27,7 +29,7 @@ eachFromTop [] = true
 eachFromTop (rows ∷ lists) = cond (fromTop rows) (eachFromTop lists) false
 
 -- what the calls are lent
-module _ (t : Table) (v : ViterbiDecoder) (rate : CodeRate) (xs re im : List Float) (scale : Float) (bytes : List ℕ) (i j k l : ℕ) where
+module _ (t : Table) (v : ViterbiDecoder) (w : WindowState) (rate : CodeRate) (xs re im : List Float) (scale : Float) (bytes : List ℕ) (i j k l : ℕ) where
   -- every row list of a call
   abbrev pub rowLists : List (List Row)
   rowLists =
@@ -57,6 +59,8 @@ module _ (t : Table) (v : ViterbiDecoder) (rate : CodeRate) (xs re im : List Flo
       ∷ decodeRows t re im scale i j k
       -- best_reading
       ∷ readingRows xs i j
+      -- strain_window
+      ∷ window.pushRows w i bytes
       -- isdb_c: the lists of its own
       ∷ placesRows t i j
       ∷ bitSymbolRows i j
