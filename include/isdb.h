@@ -14,7 +14,7 @@
  *   4 state      held count 4,096 + traceback or more; encoder state above 63; lent path value not finite or beyond 2^32
  *  14 window     outside 1 to 256; fill above it; next not below it or, while the window is not full, unlike fill; a pushed or kept sum above 68,208
  *   5 length     metrics not in fours, soft values not in twos, stream not whole periods; path values not 64; an unknown rate
- *   6 symbols    under 38,976 of either part
+ *   6 symbols    under 38,976 of either part; for a full frame an input shorter than its length (isdbs_lay_frame, isdbs_take_frame)
  *   7 sample     not finite; beyond 1,024 for a frame part, 1,048,576 for a stream value
  *   8 scale      not above 0, or above 64
  *   9 space      an output or decision slice shorter than the call writes; decisions always need 4,096 + traceback
@@ -83,6 +83,22 @@ uint32_t isdbs_encode_frame(const uint8_t *bytes, size_t bytes_len, uint64_t tab
 uint32_t isdbs_decode_frame(const double *re, size_t re_len, const double *im, size_t im_len, uint64_t table, uint8_t mapping,
                             uint8_t first, uint8_t known_start, float llr_scale,
                             uint64_t *decisions, size_t decisions_len, uint8_t *bits, size_t bits_len, uint8_t *bytes, size_t bytes_len);
+
+/* Full frames of 39,936 symbols, as real and imaginary parts: 192 header points at places 0 to 191, then 192 times 203 main points and a burst of 4.
+ * Symbol j of burst b is point 4b + j of the burst's 768. Points are only copied, NaN and infinities too (a NaN's bits are free); those past 192, 38,976,
+ * 768 and 39,936 are neither read nor written.
+ *
+ * isdbs_lay_frame   a full frame from header, main and burst points.   Rows 6 (any of the six inputs), 9 (either output).
+ * isdbs_take_frame  header, main and burst points of a full frame.   Rows 6 (either part), 9 (any of the six outputs).
+ */
+uint32_t isdbs_lay_frame(const double *header_re, size_t header_re_len, const double *header_im, size_t header_im_len,
+                         const double *main_re, size_t main_re_len, const double *main_im, size_t main_im_len,
+                         const double *burst_re, size_t burst_re_len, const double *burst_im, size_t burst_im_len,
+                         double *re, size_t re_len, double *im, size_t im_len);
+uint32_t isdbs_take_frame(const double *re, size_t re_len, const double *im, size_t im_len,
+                          double *header_re, size_t header_re_len, double *header_im, size_t header_im_len,
+                          double *main_re, size_t main_re_len, double *main_im, size_t main_im_len,
+                          double *burst_re, size_t burst_re_len, double *burst_im, size_t burst_im_len);
 
 /* The last sums of a run of frames, `window` of them at most (1 to 256), with their total and greatest. The state is the caller's: how many sums are
  * kept (*fill) and the place of the next one (*next), both 0 at first; `kept` has the sums, the first *fill places. A push keeps `sum` at the next

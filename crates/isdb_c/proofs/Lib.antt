@@ -5,3 +5,4 @@ pub mod Lengths
 pub mod Decoders
 pub mod Rates
 pub mod Frames
+pub mod FullFrames

@@ -2,6 +2,7 @@
 // every lent number and slice as it was. include/isdb.h declares them.
 pub mod conv;
 pub mod frame;
+pub mod full;
 pub mod isdbt;
 pub mod table;
 pub mod window;
