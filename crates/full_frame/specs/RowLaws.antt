@@ -7,7 +7,7 @@ use lib.Dec.{ltb}
 use borrow.Author.Tests.{ltb-false}
 use Rattle.refusal.specs.declared.Answer.the-variants.{Accepted, Symbols, Space}
 use Rattle.refusal.specs.Rows.{numberOf}
-use Rattle.isdb_fec.specs.Answers.{neither}
+use Rattle.refusal.specs.RowLaws.{neither}
 use Rattle.full_frame.specs.Rows.{shortInputs, shortFrame}
 
 -- one part of each input is long enough

@@ -10,7 +10,7 @@ use Rattle.refusal.specs.declared.Answer.{Answer}
 use Rattle.refusal.specs.declared.Answer.the-variants.{Accepted, Symbols, Space}
 use Rattle.refusal.specs.Rows.{Row, numberOf, firstRow}
 use Rattle.trellis.specs.Lists.{laid}
-use Rattle.isdb_fec.specs.Answers.{neither}
+use Rattle.refusal.specs.RowLaws.{neither}
 use Rattle.isdbs_points.specs.LawsUpto.{length-laid-upto}
 use Rattle.full_frame.specs.declared.Input.{Input}
 use Rattle.full_frame.specs.declared.Input.the-variants.{Header, Main, Burst}
