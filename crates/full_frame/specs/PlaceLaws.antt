@@ -1,9 +1,9 @@
 -- Each place of the frame takes its point from exactly one place of the three inputs, and each input place is used exactly once. Assumes nothing.
+use mathlib.Core.List.{[], _∷_}
 use mathlib.Core.Path.{_≡_, refl, sym, _∙_, ap}
 use Prim.Native.Nat.{ℕ, _+_, _*_, _/_, _%_, _<_}
 use native.Mathlib.Omega.{arith}
 use borrow.Author.Tests.{lt-leb}
-use Rattle.isdbs_core.specs.declared.frame.Position.the-variants.{At}
 use Rattle.isdbs_core.specs.Frame.{Symbol, header, main, burst, placeOf, mainSymbolPosition, burstSymbolPosition}
 use Rattle.isdbs_core.specs.PlaceLaws.{InFrame, symbolAt, place-below, holds-symbol, placed}
 use Rattle.full_frame.specs.declared.Input.the-variants.{Header, Main, Burst}
@@ -80,10 +80,10 @@ pub header-position : (i : ℕ) → placeIn (from Header i) ≡ i
 header-position i = refl
 
 -- "at the places of `main_symbol_position` and `burst_symbol_position`"
-pub main-position : (k : ℕ) → k < 38976 → mainSymbolPosition k ≡ At (placeIn (from Main k))
+pub main-position : (k : ℕ) → k < 38976 → mainSymbolPosition k ≡ (0, placeIn (from Main k) ∷ [])
 main-position k h = simp (lt-leb 38976 k h)
 
-pub burst-position : (b j : ℕ) → b < 192 → j < 4 → burstSymbolPosition b j ≡ At (placeIn (from Burst (4 * b + j)))
+pub burst-position : (b j : ℕ) → b < 192 → j < 4 → burstSymbolPosition b j ≡ (0, placeIn (from Burst (4 * b + j)) ∷ [])
 burst-position b j h k =
     let d : (4 * b + j) / 4 ≡ b = omega arith in
     let r : (4 * b + j) % 4 ≡ j = omega arith in

@@ -7,9 +7,8 @@ use lib.ListN.{length}
 use lib.Ieee.{Float}
 use Rattle.refusal.specs.declared.Answer.{Answer}
 use Rattle.refusal.specs.declared.Answer.the-variants.{Symbols, Space}
-use Rattle.refusal.specs.Rows.{Row}
+use Rattle.refusal.specs.Rows.{accepted, Row}
 use Rattle.trellis.specs.Lists.{laid}
-use Rattle.isdbs_core.specs.Answers.{accepted}
 use Rattle.full_frame.specs.declared.Input.{Input}
 use Rattle.full_frame.specs.declared.Input.the-variants.{Header, Main, Burst}
 
