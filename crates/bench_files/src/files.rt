@@ -10,9 +10,6 @@ ghost use Rattle.libc.specs.Io.{Ended};
 // The bytes of a full load of 48 slots, and one more, so that a file that is longer is told from one that is full.
 pub const LOAD: usize = 9_745;
 
-// The points of a frame.
-pub const POINTS: usize = 38_976;
-
 // Why the system failed, in words.
 fn reason(error: i32) {
     match error {
@@ -151,7 +148,7 @@ fn is_apart(places: Places, name: &[u8]) -> bool {
 }
 
 // Whether a file may be written at this name: there is none yet, or it is a plain file and not the input.
-fn may_write(name: &[u8], input: i32) -> bool {
+pub fn may_write(name: &[u8], input: i32) -> bool {
     let file = os::open_update(name);
     if file < 0 {
         let error = os::errno();
@@ -227,18 +224,33 @@ pub fn read_bytes(file: i32, name: &[u8], bytes: &mut [u8; 9745]) -> Got {
     }
 }
 
-// Reads points until the frame is full or the file ends.
-fn fill(file: i32, narrow: bool, re: &mut [f64; 38976], im: &mut [f64; 38976]) -> Got {
+// Puts x at place k, where there is one.
+fn set(s: &mut [f64], k: usize, x: f64) {
+    if k < s.len() {
+        s[k] = x;
+    }
+}
+
+// What stands at place k; 0 where there is none.
+fn get(s: &[f64], k: usize) -> f64 {
+    if k < s.len() {
+        return s[k];
+    }
+    0.0f64
+}
+
+// Reads up to n points until the file ends.
+fn fill(file: i32, narrow: bool, n: usize, re: &mut [f64], im: &mut [f64]) -> Got {
     let mut k: usize = 0;
     let mut over: usize = 0;
-    while k < POINTS {
+    while k < n {
         let p = points::read_point(file, narrow);
         if p.got < points::size(narrow) {
             over = p.got;
             break;
         }
-        re[k] = p.re;
-        im[k] = p.im;
+        set(re, k, p.re);
+        set(im, k, p.im);
         k = k + 1;
     }
     Got {
@@ -248,11 +260,12 @@ fn fill(file: i32, narrow: bool, re: &mut [f64; 38976], im: &mut [f64; 38976]) -
     }
 }
 
-// Reads an open file's points, up to a frame's, and closes it.
-pub fn read_points(file: i32, name: &[u8], re: &mut [f64; 38976], im: &mut [f64; 38976]) -> Got {
-    let got = fill(file, bench_words::words::is_narrow(name), re, im);
+// Reads an open file's points, as many as the slices hold, and closes it.
+pub fn read_points(file: i32, name: &[u8], re: &mut [f64], im: &mut [f64]) -> Got {
+    let all = re.len();
+    let got = fill(file, bench_words::words::is_narrow(name), all, re, im);
     let n = got.count;
-    let well = n == POINTS || has_ended(file, name);
+    let well = n == all || has_ended(file, name);
     libc::close(file);
     Got {
         well,
@@ -267,23 +280,6 @@ fn part_name(name: &[u8], part: &mut [u8; 4096]) -> usize {
     put(part, at, b".part")
 }
 
-// Gives the file its name where all is written; else removes it and says why.
-fn finish(file: i32, is_written: bool, part: &[u8], name: &[u8]) -> bool {
-    let is_kept = is_written && libc::fsync(file) == 0;
-    let error = os::errno();
-    libc::close(file);
-    if is_kept {
-        if os::rename(part, name) == 0 {
-            return true;
-        }
-        failed(b"write", name, os::errno());
-    } else {
-        failed(b"write", name, error);
-    }
-    os::unlink(part);
-    false
-}
-
 // Makes the file that is written first, or says why it cannot and answers -1.
 fn make_part(part: &[u8]) -> i32 {
     let file = os::create(part);
@@ -291,6 +287,38 @@ fn make_part(part: &[u8]) -> i32 {
         failed(b"make", part, os::errno());
     }
     file
+}
+
+// Closes a file that was written first, and answers whether all of it is there; else removes it and says why.
+fn close_part(file: i32, is_written: bool, part: &[u8], name: &[u8]) -> bool {
+    let is_whole = is_written && libc::fsync(file) == 0;
+    let error = os::errno();
+    libc::close(file);
+    if !is_whole {
+        failed(b"write", name, error);
+        os::unlink(part);
+    }
+    is_whole
+}
+
+// Gives the file that was written first the output's name; else removes it and says why.
+pub fn keep(name: &[u8]) -> bool {
+    let mut space = io::buffer();
+    let n = part_name(name, &mut space);
+    let part = front_of(&space, n);
+    if os::rename(part, name) == 0 {
+        return true;
+    }
+    failed(b"write", name, os::errno());
+    os::unlink(part);
+    false
+}
+
+// Removes the file that was written first.
+pub fn discard(name: &[u8]) {
+    let mut space = io::buffer();
+    let n = part_name(name, &mut space);
+    os::unlink(front_of(&space, n));
 }
 
 // Writes a file of bytes, and answers whether it is there.
@@ -303,13 +331,13 @@ pub fn write_bytes(name: &[u8], bytes: &[u8]) -> bool {
         return false;
     }
     let is_written = io::write_all(file, bytes);
-    finish(file, is_written, part, name)
+    close_part(file, is_written, part, name) && keep(name)
 }
 
-fn pour(file: i32, narrow: bool, re: &[f64; 38976], im: &[f64; 38976]) -> bool {
+fn pour(file: i32, narrow: bool, re: &[f64], im: &[f64]) -> bool {
     let mut k: usize = 0;
-    while k < POINTS {
-        if !points::write_point(file, narrow, re[k], im[k]) {
+    while k < re.len() {
+        if !points::write_point(file, narrow, get(re, k), get(im, k)) {
             return false;
         }
         k = k + 1;
@@ -317,8 +345,8 @@ fn pour(file: i32, narrow: bool, re: &[f64; 38976], im: &[f64; 38976]) -> bool {
     true
 }
 
-// Writes a file of a frame's points, and answers whether it is there.
-pub fn write_points(name: &[u8], re: &[f64; 38976], im: &[f64; 38976]) -> bool {
+// Writes points beside the output's place, and answers whether all are there: `keep` or `discard` follows.
+pub fn stage_points(name: &[u8], re: &[f64], im: &[f64]) -> bool {
     let mut space = io::buffer();
     let n = part_name(name, &mut space);
     let part = front_of(&space, n);
@@ -327,5 +355,10 @@ pub fn write_points(name: &[u8], re: &[f64; 38976], im: &[f64; 38976]) -> bool {
         return false;
     }
     let is_written = pour(file, bench_words::words::is_narrow(name), re, im);
-    finish(file, is_written, part, name)
+    close_part(file, is_written, part, name)
+}
+
+// Writes a file of points, and answers whether it is there.
+pub fn write_points(name: &[u8], re: &[f64], im: &[f64]) -> bool {
+    stage_points(name, re, im) && keep(name)
 }

@@ -3,6 +3,7 @@
 // A module for each command.
 mod compare;
 mod demonstration;
+mod full;
 mod make;
 mod read;
 mod setting;
@@ -48,6 +49,14 @@ fn run_on(
     }
     if same(command, b"compare") {
         compare::compare(line, load, bytes);
+        return;
+    }
+    if same(command, b"lay") {
+        full::lay(line, re, im);
+        return;
+    }
+    if same(command, b"part") {
+        full::take_apart(line, re, im);
         return;
     }
     if is_help(command) {

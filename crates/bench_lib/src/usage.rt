@@ -16,6 +16,12 @@ fn usage_commands() {
     text(
         b"  bench compare TABLE SENT READ                                    how many bytes agree\n",
     );
+    text(
+        b"  bench lay HEADER MAIN BURST FULL                                 header, main and burst points to the points of FULL\n",
+    );
+    text(
+        b"  bench part FULL HEADER MAIN BURST                                points of FULL to header, main and burst points\n",
+    );
     text(b"  bench help                                                       these words\n");
     text(
         b"  bench version                                                    the version of the program\n",
@@ -32,6 +38,9 @@ fn usage_words() {
     text(b"  KIND     first (of a superframe) or other\n");
     text(
         b"  FRAME    38,976 points, interleaved little-endian f64 parts; f32 where the name ends in .cf32\n",
+    );
+    text(
+        b"  HEADER, MAIN, BURST, FULL    192, 38,976, 768 and 39,936 points in the same forms as FRAME\n",
     );
     text(
         b"  N        a number as 8 or 0.5, up to three digits before and after the point; 8 where it is not given\n",

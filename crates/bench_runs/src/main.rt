@@ -132,6 +132,27 @@ fn differences() {
     bench(b"compare 7:44,1:4 load none");
 }
 
+fn full_frames() {
+    note(
+        b"a frame's points serve as header and burst points too: more points than are taken are not read",
+    );
+    bench(b"lay frame.cf64 frame.cf64 frame.cf64 whole.cf64");
+    bench(b"part whole.cf64 header.cf64 main.cf64 burst.cf32");
+    bench(b"read 7:44,1:4 001 first main.cf64 main");
+    bench(b"lay header.cf64 main.cf64 burst.cf32 whole.cf32");
+    bench(b"part whole.cf32 header main burst");
+    bench(b"lay header.cf64 burst.cf32 main.cf64 none.cf64");
+    bench(b"part frame.cf64 none.header none.main none.burst");
+    bench(b"lay header.cf64 main.cf64 burst.cf32 ./main.cf64");
+    bench(b"part whole.cf64 header.cf64 whole.cf64 burst.cf32");
+    bench(b"part whole.cf64 header.cf64 main.cf64 header.cf64");
+    bench(b"part whole.cf64 burst.part main.cf64 burst");
+    bench(b"part whole.cf64 none.header ./none.header none.burst");
+    bench(b"part whole.cf64 none.header . none.burst");
+    bench(b"lay header.cf64 main.cf64 burst.cf32");
+    bench(b"part whole.cf64 header.cf64 main.cf64");
+}
+
 fn misuse() {
     bench(b"make 7:44 001 first load");
     bench(b"read 7:44,1:x 001 first frame.cf64 none");
@@ -156,6 +177,7 @@ fn main() {
     help_and_version();
     make_and_read();
     other_tables();
+    full_frames();
     refusals();
     differences();
     damaged();

@@ -17,6 +17,8 @@ use Rattle.isdbs_core.specs.SlotPart.{slotPartRows}
 use Rattle.isdbs_phy.specs.EncodeRows.{encodeRows, encodeFrameRows}
 use Rattle.isdbs_phy.specs.DecodeRows.{decodeRows}
 use Rattle.best_reading.specs.Calls.{readingRows}
+use Rattle.full_frame.specs.declared.Input.{Input}
+use Rattle.full_frame.specs.Rows.{layRows, takeRows}
 use Rattle.strain_window.specs.declared.WindowState.{WindowState}
 use Rattle.strain_window.specs.Rows as window
 use Rattle.isdb_c.specs.Rows.{placesRows, bitSymbolRows}
@@ -29,7 +31,7 @@ eachFromTop [] = true
 eachFromTop (rows ∷ lists) = cond (fromTop rows) (eachFromTop lists) false
 
 -- what the calls are lent
-module _ (t : Table) (v : ViterbiDecoder) (w : WindowState) (rate : CodeRate) (xs re im : List Float) (scale : Float) (bytes : List ℕ) (i j k l : ℕ) where
+module _ (t : Table) (v : ViterbiDecoder) (w : WindowState) (parts : Input → List Float) (rate : CodeRate) (xs re im : List Float) (scale : Float) (bytes : List ℕ) (i j k l : ℕ) where
   -- every row list of a call
   abbrev pub rowLists : List (List Row)
   rowLists =
@@ -59,6 +61,9 @@ module _ (t : Table) (v : ViterbiDecoder) (w : WindowState) (rate : CodeRate) (x
       ∷ decodeRows t re im scale i j k
       -- best_reading
       ∷ readingRows xs i j
+      -- full_frame
+      ∷ layRows parts parts re im
+      ∷ takeRows re im parts parts
       -- strain_window
       ∷ window.pushRows w i bytes
       -- isdb_c: the lists of its own

@@ -1,15 +1,20 @@
-use borrow.Author.Needs.{needs}
+use mathlib.Core.Path.{_≡_}
 use Prim.Native.Nat.{_-_, _≤_}
+use lib.ListN.{length}
+use borrow.Author.Needs.{needs}
 use Rattle.bench_files.proofs.files.fill.Statement.{statement}
 use Rattle.bench_files.proofs.files.fill.Tie as tie
+use Rattle.bench_files.proofs.files.fill.Reads as reads
+use Rattle.bench_files.proofs.files.fill.Lts as lts
+use Rattle.bench_files.proofs.files.set.Reads as set-reads
 use Rattle.bench_files.proofs.points.read_point.Reads as read-point-reads
 use Rattle.bench_files.proofs.points.size.Reads as size-reads
 
 abbrev Inv-loop : tie.InvT-loop
-Inv-loop file narrow re₀ im₀ k₀ over₀ re im k over = k ≤ 38976
+Inv-loop file narrow n re₀ im₀ k₀ over₀ re im k over = (k ≤ n) × (length re ≡ length re₀) × (length im ≡ length im₀)
 
 abbrev μ-loop : tie.MeasureT-loop
-μ-loop file narrow re₀ im₀ k₀ over₀ re im k over = 38976 - k
+μ-loop file narrow n re₀ im₀ k₀ over₀ re im k over = n - k
 
 loop-holds : tie.Need-loop-holds Inv-loop μ-loop
 loop-holds c = search needs
@@ -20,17 +25,11 @@ read-point-requires c κs = search needs
 size-requires : tie.Need-size-requires Inv-loop μ-loop
 size-requires c κs = search needs
 
-mul-re : tie.Need-mul-re Inv-loop μ-loop
-mul-re c = search needs
+set-requires : tie.Need-set-requires Inv-loop μ-loop
+set-requires c κs = search needs
 
-element-write-re : tie.Need-element-write-re Inv-loop μ-loop
-element-write-re c = search needs
-
-mul-im : tie.Need-mul-im Inv-loop μ-loop
-mul-im c = search needs
-
-element-write-im : tie.Need-element-write-im Inv-loop μ-loop
-element-write-im c = search needs
+set-requires-2 : tie.Need-set-requires-2 Inv-loop μ-loop
+set-requires-2 c κs = search needs
 
 add-k : tie.Need-add-k Inv-loop μ-loop
 add-k c = search needs
@@ -41,8 +40,20 @@ loop-less c = search needs
 loop-again : tie.Need-loop-again Inv-loop μ-loop
 loop-again c = search needs
 
+same-length : tie.Need-same-length Inv-loop μ-loop
+same-length c = search needs
+
+same-length-2 : tie.Need-same-length-2 Inv-loop μ-loop
+same-length-2 c = search needs
+
 returns : tie.Need-returns Inv-loop μ-loop
 returns c = search needs
+
+same-length-3 : tie.Need-same-length-3 Inv-loop μ-loop
+same-length-3 c = search needs
+
+same-length-4 : tie.Need-same-length-4 Inv-loop μ-loop
+same-length-4 c = search needs
 
 returns-2 : tie.Need-returns-2 Inv-loop μ-loop
 returns-2 c = search needs
@@ -56,12 +67,14 @@ fill-spec =
     loop-holds
     read-point-requires
     size-requires
-    mul-re
-    element-write-re
-    mul-im
-    element-write-im
+    set-requires
+    set-requires-2
     add-k
     loop-less
     loop-again
+    same-length
+    same-length-2
     returns
+    same-length-3
+    same-length-4
     returns-2)

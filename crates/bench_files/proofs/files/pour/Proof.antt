@@ -1,29 +1,27 @@
-use borrow.Author.Needs.{needs}
 use Prim.Native.Nat.{_-_, _≤_}
+use lib.ListN.{length}
+use borrow.Author.Needs.{needs}
 use Rattle.bench_files.proofs.files.pour.Statement.{statement}
 use Rattle.bench_files.proofs.files.pour.Tie as tie
+use Rattle.bench_files.proofs.files.pour.Reads as reads
+use Rattle.bench_files.proofs.files.pour.Lts as lts
+use Rattle.bench_files.proofs.files.get.Reads as get-reads
 use Rattle.bench_files.proofs.points.write_point.Reads as write-point-reads
 
 abbrev Inv-loop : tie.InvT-loop
-Inv-loop file narrow re im k₀ k = k ≤ 38976
+Inv-loop file narrow re im k₀ k = k ≤ length re
 
 abbrev μ-loop : tie.MeasureT-loop
-μ-loop file narrow re im k₀ k = 38976 - k
+μ-loop file narrow re im k₀ k = length re - k
 
 loop-holds : tie.Need-loop-holds Inv-loop μ-loop
 loop-holds c = search needs
 
-mul-write-point : tie.Need-mul-write-point Inv-loop μ-loop
-mul-write-point c = search needs
+get-requires : tie.Need-get-requires Inv-loop μ-loop
+get-requires c κs = search needs
 
-element-copy-out-write-point : tie.Need-element-copy-out-write-point Inv-loop μ-loop
-element-copy-out-write-point c = search needs
-
-mul-write-point-2 : tie.Need-mul-write-point-2 Inv-loop μ-loop
-mul-write-point-2 c = search needs
-
-element-copy-out-write-point-2 : tie.Need-element-copy-out-write-point-2 Inv-loop μ-loop
-element-copy-out-write-point-2 c = search needs
+get-requires-2 : tie.Need-get-requires-2 Inv-loop μ-loop
+get-requires-2 c κs = search needs
 
 write-point-requires : tie.Need-write-point-requires Inv-loop μ-loop
 write-point-requires c κs = search needs
@@ -50,10 +48,8 @@ pour-spec =
     Inv-loop
     μ-loop
     loop-holds
-    mul-write-point
-    element-copy-out-write-point
-    mul-write-point-2
-    element-copy-out-write-point-2
+    get-requires
+    get-requires-2
     write-point-requires
     returns
     add-k

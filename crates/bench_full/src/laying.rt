@@ -1,0 +1,104 @@
+// lay: header, main and burst points to a full frame.
+use crate::points;
+use bench_files::files;
+use bench_files::files::Got;
+use bench_words::text::text;
+use bench_words::words::front_parts;
+use bench_words::words::part;
+
+// Reads the points of an input, where the output may be written.
+fn read_input(kind: &[u8], input: &[u8], output: &[u8], re: &mut [f64], im: &mut [f64]) -> Got {
+    let file = files::open_for(input, output);
+    if file < 0 {
+        return Got {
+            well: false,
+            count: 0,
+            over: 0,
+        };
+    }
+    points::read(kind, file, input, re, im)
+}
+
+// Writes the frame that was laid.
+fn keep(output: &[u8], re: &[f64], im: &[f64]) {
+    text(b"writing the full frame\n");
+    if files::write_points(output, re, im) {
+        points::points_of(b"full frame", output, re.len());
+        text(b"\nok\n");
+    }
+}
+
+// Lays the frame from as many points as were read, and writes it.
+fn lay_read(
+    h: usize,
+    m: usize,
+    b: usize,
+    output: &[u8],
+    header_re: &[f64],
+    header_im: &[f64],
+    main_re: &[f64],
+    main_im: &[f64],
+    burst_re: &[f64],
+    burst_im: &[f64],
+    re: &mut [f64],
+    im: &mut [f64],
+) {
+    let answer = full_frame::lay(
+        front_parts(header_re, h),
+        front_parts(header_im, h),
+        front_parts(main_re, m),
+        front_parts(main_im, m),
+        front_parts(burst_re, b),
+        front_parts(burst_im, b),
+        re,
+        im,
+    );
+    if refusal::number(answer) != 0 {
+        points::refuse(
+            answer,
+            b"a full frame takes 192 header, 38,976 main and 768 burst points",
+        );
+        return;
+    }
+    keep(output, re, im);
+}
+
+pub(crate) fn lay(
+    line: &[u8],
+    header_re: &mut [f64; 192],
+    header_im: &mut [f64; 192],
+    main_re: &mut [f64; 38976],
+    main_im: &mut [f64; 38976],
+    burst_re: &mut [f64; 768],
+    burst_im: &mut [f64; 768],
+    re: &mut [f64; 39936],
+    im: &mut [f64; 39936],
+) {
+    let output = part(line, 0, 4);
+    let h = read_input(b"header", part(line, 0, 1), output, header_re, header_im);
+    if !h.well {
+        return;
+    }
+    let m = read_input(b"main", part(line, 0, 2), output, main_re, main_im);
+    if !m.well {
+        return;
+    }
+    let b = read_input(b"burst", part(line, 0, 3), output, burst_re, burst_im);
+    if !b.well {
+        return;
+    }
+    lay_read(
+        h.count,
+        m.count,
+        b.count,
+        output,
+        header_re,
+        header_im,
+        main_re,
+        main_im,
+        burst_re,
+        burst_im,
+        re,
+        im,
+    );
+}

@@ -1,0 +1,211 @@
+// part: a full frame to header, main and burst points.
+use crate::points;
+use bench_files::files;
+use bench_words::text::quoted;
+use bench_words::text::text;
+use bench_words::words::front_parts;
+use bench_words::words::part;
+use bench_words::words::same;
+
+// The last 5 bytes of a name; all of a shorter one.
+fn end_of<'a>(name: &'a [u8]) -> &'a [u8] {
+    if name.len() < 5 {
+        return name;
+    }
+    &name[name.len() - 5..]
+}
+
+// Whether an output's name is free of the ending that staged files have; else says so.
+fn is_plain(name: &[u8]) -> bool {
+    if !same(end_of(name), b".part") {
+        return true;
+    }
+    text(b"failed: the output ");
+    quoted(name);
+    text(b" has the ending of a file that is being written\n");
+    false
+}
+
+// Whether two outputs have two names; else says so.
+fn are_two(a: &[u8], b: &[u8]) -> bool {
+    if !same(a, b) {
+        return true;
+    }
+    text(b"failed: two outputs have the name ");
+    quoted(a);
+    text(b"\n");
+    false
+}
+
+// Whether three outputs can be staged side by side; else says why not.
+fn are_three(header: &[u8], signal: &[u8], burst: &[u8]) -> bool {
+    is_plain(header)
+        && is_plain(signal)
+        && is_plain(burst)
+        && are_two(header, signal)
+        && are_two(header, burst)
+        && are_two(signal, burst)
+}
+
+// Opens the full frame, where its three outputs may be written; else says why not and answers -1.
+fn open(input: &[u8], header: &[u8], signal: &[u8], burst: &[u8]) -> i32 {
+    let file = files::open_for(input, header);
+    if file < 0 {
+        return file;
+    }
+    if files::may_write(signal, file) && files::may_write(burst, file) {
+        return file;
+    }
+    libc::close(file);
+    -1
+}
+
+// Stages the three outputs, or none.
+fn stage(
+    line: &[u8],
+    header_re: &[f64],
+    header_im: &[f64],
+    main_re: &[f64],
+    main_im: &[f64],
+    burst_re: &[f64],
+    burst_im: &[f64],
+) -> bool {
+    if !files::stage_points(part(line, 0, 2), header_re, header_im) {
+        return false;
+    }
+    if !files::stage_points(part(line, 0, 3), main_re, main_im) {
+        files::discard(part(line, 0, 2));
+        return false;
+    }
+    if !files::stage_points(part(line, 0, 4), burst_re, burst_im) {
+        files::discard(part(line, 0, 2));
+        files::discard(part(line, 0, 3));
+        return false;
+    }
+    true
+}
+
+// Gives the staged outputs their names; where one cannot be given, the staged files that are left are removed.
+fn keep(header: &[u8], signal: &[u8], burst: &[u8]) -> bool {
+    if !files::keep(header) {
+        files::discard(signal);
+        files::discard(burst);
+        return false;
+    }
+    if !files::keep(signal) {
+        files::discard(burst);
+        return false;
+    }
+    files::keep(burst)
+}
+
+// Writes the three outputs.
+fn write(
+    line: &[u8],
+    header_re: &[f64],
+    header_im: &[f64],
+    main_re: &[f64],
+    main_im: &[f64],
+    burst_re: &[f64],
+    burst_im: &[f64],
+) {
+    let header = part(line, 0, 2);
+    let signal = part(line, 0, 3);
+    let burst = part(line, 0, 4);
+    text(b"writing header, main and burst points\n");
+    if !stage(
+        line,
+        header_re,
+        header_im,
+        main_re,
+        main_im,
+        burst_re,
+        burst_im,
+    ) {
+        return;
+    }
+    if keep(header, signal, burst) {
+        points::points_of(b"header", header, header_re.len());
+        points::points_of(b"\nmain", signal, main_re.len());
+        points::points_of(b"\nburst", burst, burst_re.len());
+        text(b"\nok\n");
+    }
+}
+
+// Takes a frame of n points apart, and writes its three parts.
+fn take_read(
+    line: &[u8],
+    n: usize,
+    re: &[f64],
+    im: &[f64],
+    header_re: &mut [f64],
+    header_im: &mut [f64],
+    main_re: &mut [f64],
+    main_im: &mut [f64],
+    burst_re: &mut [f64],
+    burst_im: &mut [f64],
+) {
+    let answer = full_frame::take_apart(
+        front_parts(re, n),
+        front_parts(im, n),
+        header_re,
+        header_im,
+        main_re,
+        main_im,
+        burst_re,
+        burst_im,
+    );
+    if refusal::number(answer) != 0 {
+        points::refuse(answer, b"a full frame has 39,936 points");
+        return;
+    }
+    write(
+        line,
+        header_re,
+        header_im,
+        main_re,
+        main_im,
+        burst_re,
+        burst_im,
+    );
+}
+
+pub(crate) fn take_apart(
+    line: &[u8],
+    re: &mut [f64; 39936],
+    im: &mut [f64; 39936],
+    header_re: &mut [f64; 192],
+    header_im: &mut [f64; 192],
+    main_re: &mut [f64; 38976],
+    main_im: &mut [f64; 38976],
+    burst_re: &mut [f64; 768],
+    burst_im: &mut [f64; 768],
+) {
+    let input = part(line, 0, 1);
+    let header = part(line, 0, 2);
+    let signal = part(line, 0, 3);
+    let burst = part(line, 0, 4);
+    if !are_three(header, signal, burst) {
+        return;
+    }
+    let file = open(input, header, signal, burst);
+    if file < 0 {
+        return;
+    }
+    let got = points::read(b"full frame", file, input, re, im);
+    if !got.well {
+        return;
+    }
+    take_read(
+        line,
+        got.count,
+        re,
+        im,
+        header_re,
+        header_im,
+        main_re,
+        main_im,
+        burst_re,
+        burst_im,
+    );
+}
