@@ -48,7 +48,7 @@ module _ (es : List Entry) where
         }
 
     pub built-more : (c : Combination) → i < 4 → entryCombination (getD es i noEntry) ≡ Some c →
-        Built (i + 1) (count + 1) (slot + getD es i noEntry .slots) (symbol + symbolsIn c (getD es i noEntry .slots))
+        Built (i + 1) (count + 1) (slot + getD es i noEntry .slots) (symbol + symbolsIn (getD es i noEntry .slots))
         (valid + runOf c (getD es i noEntry .slots) slot symbol .«valid_slots») (steps + stepsOf (runOf c (getD es i noEntry .slots) slot symbol)) (set runs count (runOf c (getD es i noEntry .slots) slot symbol))
     unfolding runsFrom
     built-more c k e =

@@ -1,16 +1,17 @@
 -- What `runs` holds. Assumes nothing.
-use mathlib.Core.Path.{_≡_, ap}
+use mathlib.Core.Path.{_≡_, refl, ap}
 use mathlib.Core.Bool.{true}
 use lib.Dec.{lit≤}
 use Rattle.refusal.specs.Rows.{accepted}
 pub use Rattle.refusal.specs.RowLaws.{accepts, refuses}
 use Rattle.refusal.specs.RowLaws.{accepted-is}
+use Rattle.isdbs_core.specs.declared.combination.Combination.the-variants.{«Bpsk1_2»}
 use Rattle.isdbs_core.specs.declared.tmcc.Table.{Table}
 use Rattle.isdbs_core.specs.declared.slots.FrameRuns.{FrameRuns}
 use Rattle.isdbs_core.specs.Lists.{Each, padded}
 use Rattle.isdbs_core.specs.Tables.{tableAnswer}
 use Rattle.isdbs_core.specs.RunsOf.{runsOf, validTotal, noRun, fourRuns, RunFits}
-use Rattle.isdbs_core.specs.RunLaws.{each-padded}
+use Rattle.isdbs_core.specs.RunLaws.{Whole, run-whole, each-padded}
 use Rattle.isdbs_core.specs.TableLaws.{table-laid}
 
 module _ (t : Table) (r : FrameRuns) (e : r ≡ fourRuns t) where
@@ -26,3 +27,6 @@ module _ (t : Table) (r : FrameRuns) (e : r ≡ fourRuns t) where
 
     pub runs-in : Each RunFits (r .runs)
     runs-in = rw runs-are (each-padded RunFits 4 noRun (runsOf t) (record { slots = lit≤ tt; starts = lit≤ tt; ends = lit≤ tt }) (table-laid t (accepted-is (tableAnswer t) h) .fit))
+
+    pub runs-units : Each Whole (r .runs)
+    runs-units = rw runs-are (each-padded Whole 4 noRun (runsOf t) (run-whole «Bpsk1_2» 0 0 0 refl) (table-laid t (accepted-is (tableAnswer t) h) .whole))

@@ -1,6 +1,6 @@
 -- One entry more: what the recursions over a table's entries say at an index. Assumes nothing.
 use mathlib.Core.Path.{_≡_, refl, sym, _∙_, ap}
-use mathlib.Core.Bool.{cond}
+use mathlib.Core.Bool.{Bool, true, false, cond}
 use mathlib.Core.List.{List, [], _∷_, _++_}
 use Prim.Native.Nat.{ℕ, suc, _+_, _-_, _%_, _≤_, _<_}
 use native.Mathlib.Numerals.{add-one}
@@ -13,7 +13,7 @@ use Rattle.isdbs_core.specs.declared.combination.CombinationWord.{Combin
 use Rattle.isdbs_core.specs.declared.tmcc.Entry.{Entry}
 use Rattle.isdbs_core.specs.Combinations.{wordMeans, assignedOf}
 use Rattle.isdbs_core.specs.CombinationLaws.{assigned}
-use Rattle.isdbs_core.specs.Tables.{slotSum, entryCombination, markIn, markAt}
+use Rattle.isdbs_core.specs.Tables.{slotSum, some, entryCombination, markIn, markAt}
 
 -- what stands past the end of a list of entries
 abbrev pub noEntry : Entry
@@ -32,6 +32,20 @@ module _ (es : List Entry) (i : ℕ) where
       ≡ cond (ltb k (getD es i noEntry .slots)) (markIn (entryCombination (getD es i noEntry)) k) (markAt (drop (i + 1) es) (k - getD es i noEntry .slots))
   unfolding markAt
   mark-more k h = rw (next h)
+
+  -- a test b of entry i
+  module _ (test : Entry → Bool) (b : Bool) (e : b ≡ test (getD es i noEntry)) (h : i < length es) where
+    pub some-found : b ≡ true → some test (drop i es) ≡ true
+    unfolding some
+    some-found f = rw (next h, sym e ∙ f)
+
+    pub some-passed : b ≡ false → some test (drop i es) ≡ some test (drop (i + 1) es)
+    unfolding some
+    some-passed f = rw (next h, sym e ∙ f)
+
+  pub some-end : (test : Entry → Bool) → length es ≤ i → some test (drop i es) ≡ false
+  unfolding some
+  some-end test h = rw (drop-of-length-le es h)
 
   pub sum-end : length es ≤ i → slotSum (drop i es) ≡ 0
   unfolding slotSum

@@ -11,5 +11,6 @@ pub mod CombinationLaws
 pub mod RunLaws
 pub mod TableLaws
 pub mod SymbolLaws
+pub mod MarkLaws
 pub mod PartLaws
 pub mod PlaceLaws

@@ -1,10 +1,13 @@
 -- Laws of runs: they lie end to end within the frame, and their symbols, valid slots, steps and periods agree. Assumes nothing.
 use mathlib.Core.Path.{_≡_, refl}
+use mathlib.Core.Bool.{false}
 use mathlib.Core.List.{List, [], _∷_, _++_}
-use Prim.Native.Nat.{ℕ, zero, suc, _+_, _-_, _*_, _/_, _≤_, _<_}
+use Prim.Native.Nat.{ℕ, zero, suc, _+_, _-_, _*_, _/_, _%_, _≤_, _<_}
 use native.Mathlib.Omega.{arith}
 use native.Mathlib.Nat.{not-suc-le-zero, le-of-suc-le-suc}
+use lib.Dec.{eqb}
 use lib.ListN.{length, getD, replicate}
+use borrow.Author.Tests.{eqb-true, not-false}
 use Rattle.isdbs_core.specs.declared.combination.Combination.{Combination}
 use Rattle.isdbs_core.specs.declared.combination.Combination.the-variants.{«Bpsk1_2», «Qpsk1_2», «Qpsk2_3», «Qpsk3_4», «Qpsk5_6», «Qpsk7_8», «Tc8psk2_3»}
 use Rattle.isdbs_core.specs.declared.combination.MaybeCombination.{MaybeCombination}
@@ -14,25 +17,24 @@ use Rattle.isdbs_core.specs.declared.tmcc.Table.{Table}
 use Rattle.isdbs_core.specs.declared.slots.Run.{Run}
 use Rattle.isdbs_core.specs.Lists.{Each, padded}
 use Rattle.isdbs_core.specs.Combinations.{unitOf, slotSteps, punctureOf, modulationOf, periodSteps, periodSymbols, stepBits}
-use Rattle.isdbs_core.specs.Tables.{entryCombination, slotSum}
+use Rattle.isdbs_core.specs.Tables.{entryCombination, slotSum, partOf, partUnit}
 use Rattle.isdbs_core.specs.RunsOf.{unitsIn, symbolsIn, runOf, entryRuns, entrySymbols, runsFrom, runsOf, validIn, validTotal, stepsOf, stepsIn, frameSteps, RunFits}
 
 -- ---- a run by itself
 
 -- what an entry of n slots carries is bounded by its slots
 pub record EntryFits (c : Combination) (n : ℕ) : Type 0 where
-  pub symbols : symbolsIn c n ≤ n * 812
   pub valid : unitsIn c n * unitOf c .valid ≤ n
   pub steps : slotSteps c * (unitsIn c n * unitOf c .valid) ≤ n * 1421
 
 pub entry-fits : (c : Combination) (n : ℕ) → EntryFits c n
-entry-fits «Bpsk1_2» n = record { symbols = omega arith; valid = omega arith; steps = omega arith }
-entry-fits «Qpsk1_2» n = record { symbols = omega arith; valid = omega arith; steps = omega arith }
-entry-fits «Qpsk2_3» n = record { symbols = omega arith; valid = omega arith; steps = omega arith }
-entry-fits «Qpsk3_4» n = record { symbols = omega arith; valid = omega arith; steps = omega arith }
-entry-fits «Qpsk5_6» n = record { symbols = omega arith; valid = omega arith; steps = omega arith }
-entry-fits «Qpsk7_8» n = record { symbols = omega arith; valid = omega arith; steps = omega arith }
-entry-fits «Tc8psk2_3» n = record { symbols = omega arith; valid = omega arith; steps = omega arith }
+entry-fits «Bpsk1_2» n = record { valid = omega arith; steps = omega arith }
+entry-fits «Qpsk1_2» n = record { valid = omega arith; steps = omega arith }
+entry-fits «Qpsk2_3» n = record { valid = omega arith; steps = omega arith }
+entry-fits «Qpsk3_4» n = record { valid = omega arith; steps = omega arith }
+entry-fits «Qpsk5_6» n = record { valid = omega arith; steps = omega arith }
+entry-fits «Qpsk7_8» n = record { valid = omega arith; steps = omega arith }
+entry-fits «Tc8psk2_3» n = record { valid = omega arith; steps = omega arith }
 
 -- the periods of a unit of a combination
 abbrev pub unitPeriods : Combination → ℕ
@@ -44,9 +46,10 @@ unitPeriods «Qpsk5_6» = 1624
 unitPeriods «Qpsk7_8» = 1624
 unitPeriods «Tc8psk2_3» = 812
 
--- a run has whole units: its symbols, valid slots, steps and periods agree, and its valid slots' bits are those of its steps
+-- a run is whole units: its slots, symbols, valid slots, steps and periods agree, and its valid slots' bits are those of its steps
 pub record Whole (r : Run) : Type 0 where
   pub units : ℕ
+  pub slots : r .«slot_end» ≡ r .«slot_start» + units * unitOf (r .combination) .slots
   pub valid : r .«valid_slots» ≡ units * unitOf (r .combination) .valid
   pub symbols : r .«symbol_end» ≡ r .«symbol_start» + units * (unitOf (r .combination) .slots * 812)
   pub periods : ℕ
@@ -55,14 +58,14 @@ pub record Whole (r : Run) : Type 0 where
   pub sent : r .«symbol_end» ≡ r .«symbol_start» + periods * periodSymbols (punctureOf (r .combination)) (modulationOf (r .combination))
   pub bits : r .«valid_slots» * 1624 ≡ stepsOf r * stepBits (modulationOf (r .combination))
 
-pub run-whole : (c : Combination) (n slot symbol : ℕ) → Whole (runOf c n slot symbol)
-run-whole «Bpsk1_2» n slot symbol = record { units = n / 4; valid = refl; symbols = refl; periods = n / 4 * 1624; counted = refl; steps = omega arith; sent = omega arith; bits = omega arith }
-run-whole «Qpsk1_2» n slot symbol = record { units = n / 2; valid = refl; symbols = refl; periods = n / 2 * 1624; counted = refl; steps = omega arith; sent = omega arith; bits = omega arith }
-run-whole «Qpsk2_3» n slot symbol = record { units = n / 3; valid = refl; symbols = refl; periods = n / 3 * 812; counted = refl; steps = omega arith; sent = omega arith; bits = omega arith }
-run-whole «Qpsk3_4» n slot symbol = record { units = n / 4; valid = refl; symbols = refl; periods = n / 4 * 1624; counted = refl; steps = omega arith; sent = omega arith; bits = omega arith }
-run-whole «Qpsk5_6» n slot symbol = record { units = n / 6; valid = refl; symbols = refl; periods = n / 6 * 1624; counted = refl; steps = omega arith; sent = omega arith; bits = omega arith }
-run-whole «Qpsk7_8» n slot symbol = record { units = n / 8; valid = refl; symbols = refl; periods = n / 8 * 1624; counted = refl; steps = omega arith; sent = omega arith; bits = omega arith }
-run-whole «Tc8psk2_3» n slot symbol = record { units = n / 1; valid = refl; symbols = refl; periods = n / 1 * 812; counted = refl; steps = omega arith; sent = omega arith; bits = omega arith }
+pub run-whole : (c : Combination) (n slot symbol : ℕ) → n % unitOf c .slots ≡ 0 → Whole (runOf c n slot symbol)
+run-whole «Bpsk1_2» n slot symbol h = record { units = n / 4; slots = omega arith; valid = refl; symbols = omega arith; periods = n / 4 * 1624; counted = refl; steps = omega arith; sent = omega arith; bits = omega arith }
+run-whole «Qpsk1_2» n slot symbol h = record { units = n / 2; slots = omega arith; valid = refl; symbols = omega arith; periods = n / 2 * 1624; counted = refl; steps = omega arith; sent = omega arith; bits = omega arith }
+run-whole «Qpsk2_3» n slot symbol h = record { units = n / 3; slots = omega arith; valid = refl; symbols = omega arith; periods = n / 3 * 812; counted = refl; steps = omega arith; sent = omega arith; bits = omega arith }
+run-whole «Qpsk3_4» n slot symbol h = record { units = n / 4; slots = omega arith; valid = refl; symbols = omega arith; periods = n / 4 * 1624; counted = refl; steps = omega arith; sent = omega arith; bits = omega arith }
+run-whole «Qpsk5_6» n slot symbol h = record { units = n / 6; slots = omega arith; valid = refl; symbols = omega arith; periods = n / 6 * 1624; counted = refl; steps = omega arith; sent = omega arith; bits = omega arith }
+run-whole «Qpsk7_8» n slot symbol h = record { units = n / 8; slots = omega arith; valid = refl; symbols = omega arith; periods = n / 8 * 1624; counted = refl; steps = omega arith; sent = omega arith; bits = omega arith }
+run-whole «Tc8psk2_3» n slot symbol h = record { units = n / 1; slots = omega arith; valid = refl; symbols = omega arith; periods = n / 1 * 812; counted = refl; steps = omega arith; sent = omega arith; bits = omega arith }
 
 -- ---- the runs of entries
 
@@ -109,20 +112,41 @@ module _ (P : Run → Type 0) where
   each-entry (Some c) n slot symbol rs p h = (p c, h)
   each-entry None n slot symbol rs p h = h
 
-pub runs-whole : (es : List Entry) (slot symbol : ℕ) → Each Whole (runsFrom es slot symbol)
+-- each entry is whole units
+abbrev pub WholeUnits : List Entry → Type 0
+WholeUnits es = Each (λ e. partUnit e ≡ false) es
+
+pub no-part : (c : Combination) (n : ℕ) → partOf (Some c) n ≡ false → n % unitOf c .slots ≡ 0
+no-part c n p = eqb-true (n % unitOf c .slots) 0 (not-false (eqb (n % unitOf c .slots) 0) p)
+
+-- an entry of a combination that row 10 passes: its slots are those of its units
+pub entry-units : (c : Combination) (n : ℕ) → partOf (Some c) n ≡ false → n * 812 ≡ unitsIn c n * (unitOf c .slots * 812)
+entry-units «Bpsk1_2» n p = let w = no-part «Bpsk1_2» n p in omega arith
+entry-units «Qpsk1_2» n p = let w = no-part «Qpsk1_2» n p in omega arith
+entry-units «Qpsk2_3» n p = let w = no-part «Qpsk2_3» n p in omega arith
+entry-units «Qpsk3_4» n p = let w = no-part «Qpsk3_4» n p in omega arith
+entry-units «Qpsk5_6» n p = let w = no-part «Qpsk5_6» n p in omega arith
+entry-units «Qpsk7_8» n p = let w = no-part «Qpsk7_8» n p in omega arith
+entry-units «Tc8psk2_3» n p = let w = no-part «Tc8psk2_3» n p in omega arith
+
+whole-entry : (m : MaybeCombination) (n slot symbol : ℕ) (rs : List Run) → partOf m n ≡ false → Each Whole rs → Each Whole (entryRuns m n slot symbol ++ rs)
+whole-entry (Some c) n slot symbol rs w h = (run-whole c n slot symbol (no-part c n w), h)
+whole-entry None n slot symbol rs w h = h
+
+pub runs-whole : (es : List Entry) (slot symbol : ℕ) → WholeUnits es → Each Whole (runsFrom es slot symbol)
 unfolding runsFrom
-runs-whole [] slot symbol = tt
-runs-whole (e ∷ es) slot symbol =
-    each-entry Whole (entryCombination e) (e .slots) slot symbol
+runs-whole [] slot symbol w = tt
+runs-whole (e ∷ es) slot symbol w =
+    whole-entry (entryCombination e) (e .slots) slot symbol
     (runsFrom es (slot + e .slots) (symbol + entrySymbols (entryCombination e) (e .slots)))
-    (λ c. run-whole c (e .slots) slot symbol)
-    (runs-whole es (slot + e .slots) (symbol + entrySymbols (entryCombination e) (e .slots)))
+    (w .0)
+    (runs-whole es (slot + e .slots) (symbol + entrySymbols (entryCombination e) (e .slots)) (w .1))
 
 run-fits : (c : Combination) (n slot symbol : ℕ) → slot + n ≤ 48 → symbol ≤ slot * 812 → RunFits (runOf c n slot symbol)
-run-fits c n slot symbol h s = let f = entry-fits c n in record { slots = h; starts = omega arith; ends = omega arith }
+run-fits c n slot symbol h s = record { slots = h; starts = omega arith; ends = omega arith }
 
 entry-symbols : (m : MaybeCombination) (n : ℕ) → entrySymbols m n ≤ n * 812
-entry-symbols (Some c) n = entry-fits c n .symbols
+entry-symbols (Some c) n = omega arith
 entry-symbols None n = omega arith
 
 pub runs-fit : (es : List Entry) (slot symbol : ℕ) → slot + slotSum es ≤ 48 → symbol ≤ slot * 812 → Each RunFits (runsFrom es slot symbol)
@@ -177,7 +201,7 @@ steps-most (e ∷ es) slot symbol =
 
 -- ---- a table that is accepted
 
--- its runs lie end to end from symbol 0, in slot order, each whole and within the 48 slots and 38,976 symbols; the valid slots are at most 48 and
+-- its runs lie end to end from symbol 0, in slot order, each whole units and within the 48 slots and 38,976 symbols; the valid slots are at most 48 and
 -- the steps at most 68,208
 pub record Laid (t : Table) : Type 0 where
   pub ends : EndToEnd 0 (runsOf t)
@@ -187,14 +211,14 @@ pub record Laid (t : Table) : Type 0 where
   pub valid : validTotal t ≤ 48
   pub steps : frameSteps t ≤ 68208
 
-pub laid : (t : Table) → slotSum (t .entries) ≤ 48 → Laid t
-laid t h =
+pub laid : (t : Table) → slotSum (t .entries) ≤ 48 → WholeUnits (t .entries) → Laid t
+laid t h w =
     let v = valid-most (t .entries) 0 0 in
     let s = steps-most (t .entries) 0 0 in
     record {
       ends = end-to-end (t .entries) 0 0;
       order = in-order (t .entries) 0 0;
-      whole = runs-whole (t .entries) 0 0;
+      whole = runs-whole (t .entries) 0 0 w;
       fit = runs-fit (t .entries) 0 0 (omega arith) (omega arith);
       valid = omega arith;
       steps = omega arith;

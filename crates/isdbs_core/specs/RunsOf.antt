@@ -24,9 +24,9 @@ use Rattle.isdbs_core.specs.Tables.{entryCombination, tableAnswer, Table
 abbrev pub unitsIn : Combination → ℕ → ℕ
 unitsIn c n = n / unitOf c .slots
 
--- "of unit × 812 symbols; slots left over carry nothing"
-abbrev pub symbolsIn : Combination → ℕ → ℕ
-symbolsIn c n = unitsIn c n * (unitOf c .slots * 812)
+-- "of unit × 812 symbols": 812 for each slot, since an accepted entry is whole units
+abbrev pub symbolsIn : ℕ → ℕ
+symbolsIn n = n * 812
 
 -- the run of an entry of n slots that starts at a slot and a main-signal symbol
 abbrev pub runOf : Combination → ℕ → ℕ → ℕ → Run
@@ -37,7 +37,7 @@ runOf c n slot symbol =
       «slot_end» = slot + n;
       «valid_slots» = unitsIn c n * unitOf c .valid;
       «symbol_start» = symbol;
-      «symbol_end» = symbol + symbolsIn c n;
+      «symbol_end» = symbol + symbolsIn n;
     }
 
 -- one run for each entry with a combination
@@ -46,7 +46,7 @@ entryRuns (Some c) n slot symbol = runOf c n slot symbol ∷ []
 entryRuns None n slot symbol = []
 
 abbrev pub entrySymbols : MaybeCombination → ℕ → ℕ
-entrySymbols (Some c) n = symbolsIn c n
+entrySymbols (Some c) n = symbolsIn n
 entrySymbols None n = 0
 
 -- the entries' runs one after the other; "A word with no combination takes its slots but no symbols"

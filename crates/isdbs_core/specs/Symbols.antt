@@ -52,15 +52,11 @@ unfoldable pub markedBefore : Combination → ℕ → ℕ
 markedBefore c zero = 0
 markedBefore c (suc k) = cond (marked c k) (suc (markedBefore c k)) (markedBefore c k)
 
--- main-signal symbol m of a run, if the run has it
-abbrev pub runSymbol : Run → ℕ → SlotByte
-runSymbol r m = cond (ltb m (r .«symbol_end»)) (At (placeOf (main m))) Nothing
-
 -- byte of slot k of a run: the bytes of the run's marked slots follow each other, 203 of 8 bits for each
 abbrev pub runByte : Run → ℕ → ℕ → SlotByte
 runByte r k byte =
     cond (both (marked (r .combination) k) (ltb byte slotBytes))
-    (runSymbol r (r .«symbol_start» + symbolOfBit (r .combination) (markedBefore (r .combination) k * 1624 + 8 * byte)))
+    (At (placeOf (main (r .«symbol_start» + symbolOfBit (r .combination) (markedBefore (r .combination) k * 1624 + 8 * byte)))))
     Nothing
 
 abbrev pub hasSlot : Run → ℕ → Bool

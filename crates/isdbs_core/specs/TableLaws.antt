@@ -1,16 +1,30 @@
 -- What follows from a table's rows: the one place where they are opened. Assumes nothing.
-use mathlib.Core.Path.{_≡_}
-use mathlib.Core.List.{List, _++_}
-use Prim.Native.Nat.{_≤_}
+use mathlib.Core.Path.{_≡_, refl}
+use mathlib.Core.Bool.{Bool, true, false}
+use mathlib.Core.List.{List, [], _∷_, _++_}
+use Prim.Native.Nat.{ℕ, _≤_}
+use native.Mathlib.Omega.{arith}
 use lib.Dec.{T}
 use borrow.Author.Tests.{ltb-false}
 use Rattle.refusal.specs.declared.Answer.the-variants as answer
 use Rattle.refusal.specs.Rows.{Row, firstRow}
 use Rattle.refusal.specs.RowLaws.{refusing, passed, refused-above, passed-above, both-passed}
+use Rattle.isdbs_core.specs.declared.tmcc.Entry.{Entry}
 use Rattle.isdbs_core.specs.declared.tmcc.Table.{Table}
-use Rattle.isdbs_core.specs.Tables.{slotSum, tableRows, tableAnswer, TableAccepted}
+use Rattle.isdbs_core.specs.Lists.{Each, either}
+use Rattle.isdbs_core.specs.Tables.{slotSum, partUnit, reservedWord, some, tableRows, tableAnswer, TableAccepted}
 use Rattle.isdbs_core.specs.RunsOf.{runsOf, fourOf, fourRuns}
-use Rattle.isdbs_core.specs.RunLaws.{Laid, laid}
+use Rattle.isdbs_core.specs.RunLaws.{WholeUnits, Laid, laid}
+
+neither : (a b : Bool) → either a b ≡ false → (a ≡ false) × (b ≡ false)
+neither true b h = let z : _≡_ {A = ℕ} 0 1 = cc in absurd (omega arith)
+neither false b h = (refl, h)
+
+-- a test that holds of no entry holds of none
+none-of : (test : Entry → Bool) (es : List Entry) → some test es ≡ false → Each (λ e. test e ≡ false) es
+unfolding some
+none-of test [] h = tt
+none-of test (e ∷ es) h = let n = neither (test e) (some test es) h in (n .0, none-of test es (n .1))
 
 module _ (t : Table) where
   pub table-refusing : T (refusing (tableRows t))
@@ -22,9 +36,19 @@ module _ (t : Table) where
   unfolding tableRows
   sum-fits a = ltb-false 48 (slotSum (t .entries)) (passed (tableRows t) tt a answer.Table)
 
-  -- so its runs lie within the frame
+  -- each of its entries with a combination is whole units
+  pub units-whole : TableAccepted t → WholeUnits (t .entries)
+  unfolding tableRows
+  units-whole a = none-of partUnit (t .entries) (passed (tableRows t) tt a answer.PartUnit)
+
+  -- and no reserved word has slots
+  pub none-reserved : TableAccepted t → Each (λ e. reservedWord e ≡ false) (t .entries)
+  unfolding tableRows
+  none-reserved a = none-of reservedWord (t .entries) (passed (tableRows t) tt a answer.ReservedWord)
+
+  -- so its runs lie within the frame, each of whole units: no slot is left over
   pub table-laid : TableAccepted t → Laid t
-  table-laid a = laid t (sum-fits a)
+  table-laid a = laid t (sum-fits a) (units-whole a)
 
   -- and `runs` gives them
   pub accepted-runs : TableAccepted t → fourRuns t ≡ fourOf answer.Accepted (runsOf t)

@@ -12,10 +12,11 @@ use crate::tmcc::is_marked;
 use crate::tmcc::table_answer;
 use refusal::Answer;
 ghost use mathlib.Core.Path.{_≡_};
-ghost use Prim.Native.Nat.{_<_, _≤_};
+ghost use Prim.Native.Nat.{_+_, _<_, _≤_};
 ghost use Rattle.isdbs_core.specs.Answers.{positionSaid, byteSaid};
 ghost use Rattle.isdbs_core.specs.Combinations.{pairsOf};
 ghost use Rattle.isdbs_core.specs.RunsOf.{runOf, planOf, fourRuns, RunFits};
+ghost use Rattle.isdbs_core.specs.RunLaws.{Whole};
 ghost use Rattle.isdbs_core.specs.Lists.{Each};
 ghost use Rattle.isdbs_core.specs.Symbols.{pairHolds, firstPair, hasSlot, symbolOfBit, bitSymbol, markedBefore, runByte, byteIn, slotByteSymbol};
 ghost use Rattle.isdbs_core.specs.SlotPart.{slotPartAnswer, slotPart};
@@ -69,7 +70,7 @@ fn run_of(c: Combination, n: usize, slot: usize, symbol: usize) -> Run
         slot_end: slot + n,
         valid_slots: units * u.valid,
         symbol_start: symbol,
-        symbol_end: symbol + units * (u.slots * 812),
+        symbol_end: symbol + n * 812,
     }
 }
 
@@ -222,16 +223,14 @@ fn marked_before(c: Combination, k: usize) -> usize
 
 // Byte of slot k of a run.
 fn run_byte(r: Run, k: usize, byte: usize) -> SlotByte
-    requires { ⌜ (k ≤ 48) × RunFits r ⌝ }
+    requires { ⌜ (r .«slot_start» + k < r .«slot_end») × RunFits r × Whole r ⌝ }
     ensures { λ a. ⌜ a ≡ runByte r k byte ⌝ }
 {
     let c = r.combination;
     if is_marked(c, k) {
         if byte < SLOT_BYTES {
             let m = r.symbol_start + symbol_of_bit(c, marked_before(c, k) * SLOT_BITS + 8 * byte);
-            if m < r.symbol_end {
-                return SlotByte::At(main_place(m));
-            }
+            return SlotByte::At(main_place(m));
         }
     }
     SlotByte::Nothing
@@ -246,7 +245,7 @@ fn has_slot(r: Run, slot: usize) -> bool
 
 // Byte of a slot, in the run that has the slot.
 fn byte_in(runs: [Run; 4], slot: usize, byte: usize) -> SlotByte
-    requires { ⌜ Each RunFits runs ⌝ }
+    requires { ⌜ Each RunFits runs × Each Whole runs ⌝ }
     ensures { λ a. ⌜ a ≡ byteIn runs slot byte ⌝ }
 {
     for i in 0..4 {

@@ -5,7 +5,7 @@ use crate::combination::MaybeCombination;
 use refusal::Answer;
 ghost use mathlib.Core.Path.{_≡_};
 ghost use lib.ListN.{replicate};
-ghost use Rattle.isdbs_core.specs.Tables.{entryCombination, slotSum, tableAnswer, marked, markIn, markAt, mark, marksOf, slotMarks};
+ghost use Rattle.isdbs_core.specs.Tables.{entryCombination, slotSum, partUnit, reservedWord, some, tableAnswer, marked, markIn, markAt, mark, marksOf, slotMarks};
 
 // Combinations that a table carries, CM (BO.1408-1, Appendix 1, Table 3 item 8).
 pub const CM: usize = 4;
@@ -26,6 +26,30 @@ impl Entry {
     {
         CombinationWord::from_word(self.word).combination()
     }
+
+    // Whether its slots do not fill whole units of its combination.
+    pub fn part_unit(self) -> bool
+        ensures { λ r. ⌜ r ≡ partUnit self ⌝ }
+    {
+        match self.combination() {
+            MaybeCombination::Some(c) => {
+                let u = c.slot_unit();
+                self.slots as usize % u.slots != 0
+            }
+            MaybeCombination::None => false,
+        }
+    }
+
+    // Whether it gives slots to a reserved word.
+    pub fn reserved_word(self) -> bool
+        ensures { λ r. ⌜ r ≡ reservedWord self ⌝ }
+    {
+        match CombinationWord::from_word(self.word) {
+            CombinationWord::Assigned(_) => false,
+            CombinationWord::Dummy => false,
+            CombinationWord::Reserved(_) => self.slots != 0,
+        }
+    }
 }
 
 pub struct Table {
@@ -44,15 +68,46 @@ fn slot_sum(t: Table) -> usize
     sum
 }
 
+// Whether some entry's slots do not fill whole units.
+fn has_part(t: Table) -> bool
+    ensures { λ r. ⌜ r ≡ some partUnit (t .entries) ⌝ }
+{
+    for i in 0..4 {
+        let e = t.entries[i];
+        if e.part_unit() {
+            return true;
+        }
+    }
+    false
+}
+
+// Whether some entry gives slots to a reserved word.
+fn has_reserved(t: Table) -> bool
+    ensures { λ r. ⌜ r ≡ some reservedWord (t .entries) ⌝ }
+{
+    for i in 0..4 {
+        let e = t.entries[i];
+        if e.reserved_word() {
+            return true;
+        }
+    }
+    false
+}
+
 // Whether a call with this table is turned back.
 pub fn table_answer(t: Table) -> Answer
     ensures { λ r. ⌜ r ≡ tableAnswer t ⌝ }
 {
     if slot_sum(t) > 48 {
-        Answer::Table
-    } else {
-        Answer::Accepted
+        return Answer::Table;
     }
+    if has_part(t) {
+        return Answer::PartUnit;
+    }
+    if has_reserved(t) {
+        return Answer::ReservedWord;
+    }
+    Answer::Accepted
 }
 
 // The mark of a slot.

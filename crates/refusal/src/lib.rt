@@ -2,7 +2,7 @@
 ghost use mathlib.Core.Path.{_≡_};
 ghost use Rattle.refusal.specs.Rows.{numberOf};
 
-// Accepted, or the row of document 01's table "Where a call is turned back"; Window is the row that request P11 adds.
+// Accepted, or the row of document 01's table "Where a call is turned back" as document 02 leaves it.
 pub enum Answer {
     Accepted,
     Table,
@@ -14,6 +14,8 @@ pub enum Answer {
     Sample,
     Scale,
     Space,
+    PartUnit,
+    ReservedWord,
     Window,
 }
 
@@ -32,6 +34,8 @@ pub fn number(answer: Answer) -> u32
         Answer::Sample => 7,
         Answer::Scale => 8,
         Answer::Space => 9,
+        Answer::PartUnit => 10,
+        Answer::ReservedWord => 11,
         Answer::Window => 14,
     }
 }

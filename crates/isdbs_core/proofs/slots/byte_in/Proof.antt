@@ -1,7 +1,7 @@
 -- `byte_in` meets its contract: the runs passed do not have the slot. Assumes nothing.
 use Prim.Native.Nat.{_-_, _≤_}
 use Rattle.isdbs_core.proofs.Bytes.{has-in}
-use Rattle.isdbs_core.specs.RunLaws.{each-at}
+use Rattle.isdbs_core.specs.RunLaws.{Whole, each-at}
 use Rattle.isdbs_core.specs.RunsOf.{noRun, RunFits}
 use Rattle.isdbs_core.specs.SymbolLaws.{byte-more, byte-end}
 use Rattle.isdbs_core.specs.Symbols.{byteIn}
@@ -44,8 +44,9 @@ run-byte-requires c κs =
     let r = getD runs (at .loop .i) noRun in
     let h = has-in r (at .before .args .slot) (c .before .before .has-slot .result) (c .before .before .has-slot .ensures) (c .before .if1 .taken) in
     let four : length runs ≡ 4 = search needs in
-    let fits = each-at RunFits runs noRun (at .loop .i) (at .before .pre) (omega arith) in
-    (omega arith, fits)
+    let fits = each-at RunFits runs noRun (at .loop .i) (at .before .pre .0) (omega arith) in
+    let whole = each-at Whole runs noRun (at .loop .i) (at .before .pre .1) (omega arith) in
+    (omega arith, fits, whole)
 
 returns : tie.Need-returns Inv-loop μ-loop
 returns c =

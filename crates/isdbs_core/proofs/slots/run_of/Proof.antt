@@ -19,17 +19,13 @@ mul-t8 : tie.Need-mul-t8
 mul-t8 c = let e = entry-fits (c .before .before .before .args .c) (c .before .before .before .args .n) in rw (c .before .before .slot-unit .ensures) (omega arith)
 
 mul-t9 : tie.Need-mul-t9
-mul-t9 c = let e = unit-fits (c .before .before .before .before .args .c) in rw (c .before .before .before .slot-unit .ensures) (omega arith)
+mul-t9 c = search needs
 
-mul-t10 : tie.Need-mul-t10
-mul-t10 c = let e = entry-fits (c .before .before .before .before .args .c) (c .before .before .before .before .args .n) in rw (c .before .before .before .slot-unit .ensures) (omega arith)
-
-add-t11 : tie.Need-add-t11
-add-t11 c = let e = entry-fits (c .before .before .before .before .args .c) (c .before .before .before .before .args .n) in rw (c .before .before .before .slot-unit .ensures) (omega arith)
+add-t10 : tie.Need-add-t10
+add-t10 c = search needs
 
 returns : tie.Need-returns
-returns c = simp (c .before .before .before .slot-unit .ensures)
+returns c = simp (c .before .before .slot-unit .ensures)
 
 pub run-of-spec : {M : Type 1} → statement M
-run-of-spec =
-    tie.close (tie.spec slot-unit-requires div-units add-t7 mul-t8 mul-t9 mul-t10 add-t11 returns)
+run-of-spec = tie.close (tie.spec slot-unit-requires div-units add-t7 mul-t8 mul-t9 add-t10 returns)

@@ -1,5 +1,5 @@
 -- `slot_byte_symbol` meets its contract. Assumes nothing.
-use Rattle.isdbs_core.proofs.Calls.{accepts, refuses, runs-answer, runs-are, runs-in}
+use Rattle.isdbs_core.proofs.Calls.{accepts, refuses, runs-answer, runs-are, runs-in, runs-units}
 use Rattle.isdbs_core.specs.Answers.{byteSaid}
 use Rattle.isdbs_core.specs.RunsOf.{runsOf}
 use Rattle.isdbs_core.specs.SymbolLaws.{byte-padded}
@@ -24,7 +24,7 @@ byte-in-requires c κs =
     let r = st .runs .result in
     let e = st .runs .ensures in
     let ok = accepts (r .answer) (tableAnswer t) _ (runs-answer t r e) (c .before .before .number .ensures) (c .before .if1 .taken) in
-    runs-in t r e ok
+    (runs-in t r e ok, runs-units t r e ok)
 
 returns : tie.Need-returns
 returns c =
