@@ -45,7 +45,7 @@ table-tiled t a =
     let e : symbolsOf (runsOf t) ≡ 0 + symbolSum es = omega (arith, fill-last (λ g. g .symbol) (λ g. g .symbols) segs 0 (0 + symbolSum es) f) in
     record {
       fill = rw e f;
-      whole = table-whole t;
+      whole = table-whole t a;
       ordered = λ i l. each-at RunFits (runsOf t) noRun i (table-laid t a .fit) l .starts;
       fits = omega (arith, e, symbol-sum-few es, sum-fits t a);
     }

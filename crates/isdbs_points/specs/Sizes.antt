@@ -1,9 +1,10 @@
--- The segments of a table lie end to end in symbols, in steps and in bits; each has whole units; an accepted table's symbols fit the frame and its steps
+-- The segments of a table lie end to end in symbols, in steps and in bits; of an accepted one each has whole units, its symbols fit the frame and its steps
 -- are at most 68,208. Assumes nothing.
-use mathlib.Core.Path.{_≡_, refl, sym}
+use mathlib.Core.Path.{_≡_, refl}
+use mathlib.Core.Bool.{false}
 use mathlib.Core.List.{List, [], _∷_, _++_}
-use Prim.Native.Nat.{ℕ, _+_, _-_, _*_, _/_, _<_, _≤_}
-use native.Mathlib.Nat.{add-assoc, add-zero, zero-add, mul-assoc, mul-comm, mul-le-mul-right, div-mul-le-self}
+use Prim.Native.Nat.{ℕ, _+_, _-_, _*_, _%_, _<_, _≤_}
+use native.Mathlib.Nat.{add-assoc, add-zero, zero-add}
 use native.Mathlib.Omega.{arith}
 use Rattle.isdbs_core.specs.declared.combination.Combination.{Combination}
 use Rattle.isdbs_core.specs.declared.combination.Combination.the-variants.{«Bpsk1_2», «Qpsk1_2», «Qpsk2_3», «Qpsk3_4», «Qpsk5_6», «Qpsk7_8», «Tc8psk2_3»}
@@ -14,8 +15,9 @@ use Rattle.isdbs_core.specs.declared.tmcc.Table.{Table}
 use Rattle.isdbs_core.specs.declared.slots.Run.{Run}
 use Rattle.isdbs_core.specs.Frame.{mainSymbols}
 use Rattle.isdbs_core.specs.Combinations.{unitOf, slotSteps}
-use Rattle.isdbs_core.specs.Tables.{slotSum, entryCombination, TableAccepted}
-use Rattle.isdbs_core.specs.TableLaws.{sum-fits}
+use Rattle.isdbs_core.specs.Tables.{slotSum, entryCombination, partOf, TableAccepted}
+use Rattle.isdbs_core.specs.TableLaws.{sum-fits, units-whole}
+use Rattle.isdbs_core.specs.RunLaws.{WholeUnits, entry-units}
 use Rattle.isdbs_core.specs.RunsOf.{unitsIn, symbolsIn, runOf, entryRuns, entrySymbols, runsFrom, runsOf, validIn, validTotal, loadBytes, stepsOf, stepsIn, frameSteps}
 use Rattle.isdbs_points.specs.Layout.{Segment, segmentOf, segmentsFrom, segments, atSymbol, atStep, atBit}
 use Rattle.isdbs_points.specs.Places.{In, here, there, Fill, Found, fill-member, among-at, find}
@@ -46,7 +48,7 @@ entry-symbols : (c : MaybeCombination) (n slot symbol end : ℕ) (rs : List Run)
 unfolding Fill segmentsFrom
 entry-symbols (Some c) n slot symbol end rs s b h =
     let r = runOf c n slot symbol in
-    let e : symbol + (symbol + symbolsIn c n - symbol) ≡ symbol + symbolsIn c n = omega arith in
+    let e : symbol + (symbol + symbolsIn n - symbol) ≡ symbol + symbolsIn n = omega arith in
     (refl, rw e (h (s + stepsOf r) (b + 1624 * r .«valid_slots»)))
 entry-symbols None n slot symbol end rs s b h = rw (add-zero symbol) at (h s b)
 
@@ -59,13 +61,6 @@ fill-symbols (e ∷ es) slot symbol s b =
     (λ s b. rw (← add-assoc symbol k (symbolSum es)) (fill-symbols es (slot + e .slots) (symbol + k) s b))
 
 -- ---- how much an entry of n slots takes
-symbols-few : (c : Combination) (n : ℕ) → symbolsIn c n ≤ 812 * n
-symbols-few c n =
-    let s = unitOf c .slots in
-    let e : n / s * (s * 812) ≡ n / s * s * 812 = sym (mul-assoc (n / s) s 812) in
-    let h : n / s * s * 812 ≤ n * 812 = mul-le-mul-right 812 (div-mul-le-self n s) in
-    rw (e, mul-comm 812 n) h
-
 -- at most 7 valid slots of 8, and 1,624 steps for each
 steps-few : (c : Combination) (n : ℕ) → slotSteps c * (unitsIn c n * unitOf c .valid) ≤ 1421 * n
 steps-few «Bpsk1_2» n = omega arith
@@ -77,7 +72,7 @@ steps-few «Qpsk7_8» n = omega arith
 steps-few «Tc8psk2_3» n = omega arith
 
 entry-symbols-few : (c : MaybeCombination) (n : ℕ) → entrySymbols c n ≤ 812 * n
-entry-symbols-few (Some c) n = symbols-few c n
+entry-symbols-few (Some c) n = omega arith
 entry-symbols-few None n = omega arith
 
 pub symbol-sum-few : (es : List Entry) → symbolSum es ≤ 812 * slotSum es
@@ -97,7 +92,7 @@ step-sum-few (e ∷ es) slot symbol =
     let k = entrySymbols (entryCombination e) (e .slots) in
     omega (arith, entry-steps-few (entryCombination e) (e .slots) slot symbol (runsFrom es (slot + e .slots) (symbol + k)), step-sum-few es (slot + e .slots) (symbol + k))
 
--- ---- each segment has whole units
+-- ---- each segment of an accepted table has whole units
 pub record Whole (g : Segment) : Type 0 where
   pub units : ℕ
   pub symbols-are : g .symbols ≡ units * (unitOf (g .combination) .slots * 812)
@@ -108,22 +103,21 @@ of-cons : (P : Segment → Type 0) {g h : Segment} {gs : List Segment} → P h �
 of-cons P p q here = p
 of-cons P p q (there m) = q m
 
-run-whole : (c : Combination) (n slot symbol s b : ℕ) → Whole (segmentOf (runOf c n slot symbol) s b)
-run-whole c n slot symbol s b = record { units = unitsIn c n; symbols-are = omega arith; steps-are = refl; bits-are = refl }
-
-entry-whole : (c : MaybeCombination) (n slot symbol : ℕ) (rs : List Run) (s b : ℕ) (g : Segment) → ((s b : ℕ) → In g (segmentsFrom rs s b) → Whole g)
+entry-whole : (c : MaybeCombination) (n slot symbol : ℕ) (rs : List Run) (s b : ℕ) (g : Segment) → partOf c n ≡ false → ((s b : ℕ) → In g (segmentsFrom rs s b) → Whole g)
     → In g (segmentsFrom (entryRuns c n slot symbol ++ rs) s b) → Whole g
 unfolding segmentsFrom
-entry-whole (Some c) n slot symbol rs s b g h m =
+entry-whole (Some c) n slot symbol rs s b g p h m =
     let r = runOf c n slot symbol in
-    of-cons Whole (run-whole c n slot symbol s b) (h (s + stepsOf r) (b + 1624 * r .«valid_slots»)) m
-entry-whole None n slot symbol rs s b g h m = h s b m
+    let w = entry-units c n p in
+    let whole : Whole (segmentOf r s b) = record { units = unitsIn c n; symbols-are = omega arith; steps-are = refl; bits-are = refl } in
+    of-cons Whole whole (h (s + stepsOf r) (b + 1624 * r .«valid_slots»)) m
+entry-whole None n slot symbol rs s b g p h m = h s b m
 
-from-whole : (es : List Entry) (slot symbol s b : ℕ) (g : Segment) → In g (segmentsFrom (runsFrom es slot symbol) s b) → Whole g
+from-whole : (es : List Entry) (slot symbol s b : ℕ) (g : Segment) → WholeUnits es → In g (segmentsFrom (runsFrom es slot symbol) s b) → Whole g
 unfolding segmentsFrom runsFrom
-from-whole (e ∷ es) slot symbol s b g m =
+from-whole (e ∷ es) slot symbol s b g w m =
     let k = entrySymbols (entryCombination e) (e .slots) in
-    entry-whole (entryCombination e) (e .slots) slot symbol (runsFrom es (slot + e .slots) (symbol + k)) s b g (λ s b. from-whole es (slot + e .slots) (symbol + k) s b g) m
+    entry-whole (entryCombination e) (e .slots) slot symbol (runsFrom es (slot + e .slots) (symbol + k)) s b g (w .0) (λ s b. from-whole es (slot + e .slots) (symbol + k) s b g (w .1)) m
 
 -- ---- a table
 module _ (t : Table) where
@@ -136,8 +130,8 @@ module _ (t : Table) where
   table-symbols : FillSymbols (segments t) 0 (symbolSum (t .entries))
   table-symbols = rw (zero-add (symbolSum (t .entries))) at (fill-symbols (t .entries) 0 0 0 0)
 
-  pub table-whole : (g : Segment) → In g (segments t) → Whole g
-  table-whole = from-whole (t .entries) 0 0 0 0
+  pub table-whole : TableAccepted t → (g : Segment) → In g (segments t) → Whole g
+  table-whole a g = from-whole (t .entries) 0 0 0 0 g (units-whole t a)
 
   -- an accepted table has 68,208 steps at most, and its symbols lie in the frame
   pub few-steps : TableAccepted t → frameSteps t ≤ 68208
