@@ -325,7 +325,7 @@ fn front(bytes: &[u8], n: usize) -> &[u8] {
 
 // 2 valid slots, a load of 406 bytes; then one byte too many or too few, and a slot too many.
 fn parts(bytes: &[u8]) {
-    let t = one(3, 5);
+    let t = one(3, 3);
     text(b"part 0:");
     part(front(bytes, 406), t, 0);
     text(b"part 1:");
@@ -342,6 +342,14 @@ fn parts(bytes: &[u8]) {
     part(front(bytes, 406), one(3, 49), 9);
     text(b"no valid slot:");
     part(front(bytes, 0), one(15, 0), 0);
+    text(b"part unit, a wild slot:");
+    part(front(bytes, 406), one(3, 5), 18_446_744_073_709_551_615);
+    text(b"reserved word, a wild slot:");
+    part(
+        front(bytes, 406),
+        two(3, 3, 8, 3),
+        18_446_744_073_709_551_615,
+    );
 }
 
 fn at(t: Table, slot: usize, byte: usize) {
@@ -361,8 +369,8 @@ fn slot_bytes() {
 }
 
 fn mixed_bytes() {
-    let mixed = two(1, 4, 3, 5);
-    text(b"bytes, BPSK 4, QPSK 2/3 5:");
+    let mixed = two(1, 4, 3, 3);
+    text(b"bytes, BPSK 4, QPSK 2/3 3:");
     at(mixed, 0, 9);
     at(mixed, 1, 0);
     at(mixed, 4, 9);
@@ -371,12 +379,14 @@ fn mixed_bytes() {
     at(mixed, 7, 0);
     at(mixed, 8, 0);
     at(one(7, 49), 0, 0);
+    at(two(1, 4, 3, 5), 0, 0);
+    at(two(1, 4, 0, 1), 0, 0);
     text(b"\n");
 }
 
 fn tables() {
-    runs(b"48 slots:", four(6, 12, 12));
-    runs(b"49 slots:", four(6, 12, 13));
+    runs(b"48 slots:", four(5, 12, 12));
+    runs(b"49 slots:", four(5, 12, 13));
     runs(b"200 and 56:", two(7, 200, 7, 56));
     runs(b"word 0x17:", one(0x17, 1));
     runs(b"QPSK 7/8 x 48:", one(6, 48));
@@ -391,6 +401,41 @@ fn more_tables() {
     runs(b"BPSK 4, TC8PSK 44:", two(1, 4, 7, 44));
 }
 
+// The row of a table.
+fn answer(t: Table) {
+    let all = slots::runs(t);
+    let a = all.answer;
+    row(a);
+}
+
+// Rows 10 and 11: 3:5; 8:3,3:5; 0x13:5; a part unit in the last entry; 3:3,8:3; 0x18:1; 0:1; 14:1; 1, 10 and 11 at once.
+fn refused_tables() {
+    text(b"part units:");
+    answer(one(3, 5));
+    answer(two(8, 3, 3, 5));
+    answer(one(0x13, 5));
+    answer(four(2, 2, 1));
+    text(b"\nreserved words:");
+    answer(two(3, 3, 8, 3));
+    answer(one(0x18, 1));
+    answer(one(0, 1));
+    answer(table(tmcc::DUMMY, tmcc::DUMMY, tmcc::DUMMY, entry(14, 1)));
+    text(b"\nabove 48:");
+    answer(one(6, 49));
+    answer(two(6, 7, 8, 42));
+    text(b"\n");
+}
+
+// Accepted: 8:0; 15:10,2:2; 0x1f:10; 1:0.
+fn accepted_tables() {
+    text(b"accepted:");
+    answer(one(8, 0));
+    answer(two(15, 10, 2, 2));
+    answer(one(0x1f, 10));
+    answer(one(1, 0));
+    text(b"\n");
+}
+
 fn loads() {
     load(b"load and steps, QPSK 7/8 x 48:", one(6, 48));
     load(b"load and steps, TC8PSK x 48:", one(7, 48));
@@ -398,7 +443,7 @@ fn loads() {
 
 fn all_marks() {
     marks(b"marks, under a unit:", under());
-    marks(b"marks, QPSK 2/3, 5:", one(3, 5));
+    marks(b"marks, QPSK 2/3, 6:", one(3, 6));
     marks(b"marks, 15 x 10, QPSK 1/2, 2:", two(15, 10, 2, 2));
     marks(b"marks, 49 slots:", one(7, 49));
 }
@@ -421,6 +466,8 @@ fn words() {
 fn main() {
     tables();
     more_tables();
+    refused_tables();
+    accepted_tables();
     loads();
     all_marks();
     bits_of_2_3();
