@@ -5,13 +5,13 @@ use mathlib.Core.List.{List, [], _∷_}
 use Prim.Native.Nat.{ℕ}
 use Rattle.refusal.specs.declared.Answer.the-variants.{Accepted}
 use Rattle.isdbs_core.specs.declared.combination.Combination.{Combination}
-use Rattle.isdbs_core.specs.declared.combination.Combination.the-variants.{«Bpsk1_2», «Qpsk1_2», «Qpsk2_3», «Qpsk7_8», «Tc8psk2_3»}
-use Rattle.refusal.specs.Rows.{Said}
+use Rattle.isdbs_core.specs.declared.combination.Combination.the-variants.{«Bpsk1_2», «Qpsk1_2», «Qpsk7_8», «Tc8psk2_3»}
+use Rattle.refusal.specs.Rows.{numberOf, Said}
 use Rattle.isdbs_core.specs.declared.tmcc.Entry.{Entry}
 use Rattle.isdbs_core.specs.declared.tmcc.Table.{Table}
 use Rattle.isdbs_core.specs.declared.slots.Run.{Run}
 use Rattle.isdbs_core.specs.Frame.{mainSymbolPosition, burstSymbolPosition}
-use Rattle.isdbs_core.specs.Tables.{slotSum, tableRows, tableAnswer}
+use Rattle.isdbs_core.specs.Tables.{slotSum, some, tableRows, tableAnswer}
 use Rattle.isdbs_core.specs.RunsOf.{runsFrom, runsOf, validIn, validTotal}
 use Rattle.isdbs_core.specs.Symbols.{firstPair, bitSymbol}
 use lib.IntN.{pos, negsuc}
@@ -56,13 +56,15 @@ D =
     × (runsOf (two (entry 1 4) (entry 7 44)) ≡ run «Bpsk1_2» 0 4 1 0 3248 ∷ run «Tc8psk2_3» 4 48 44 3248 38976 ∷ [])
     × (validTotal (two (entry 1 4) (entry 7 44)) ≡ 45)
 
--- "QPSK 2/3, 5 slots: 2 valid, 2,436 symbols."
+-- "QPSK 2/3, 5 slots": document 02, P5, "Example E becomes a refusal", by row 10
 abbrev pub E : Type 0
-E = runsOf (two (entry 3 5) (entry 15 0)) ≡ run «Qpsk2_3» 0 5 2 0 2436 ∷ []
+E = numberOf (tableAnswer (two (entry 3 5) (entry 15 0))) ≡ 10
 
 -- "Word 15 (no combination), 10 slots, then QPSK 1/2, 2: slots 10 and 11, symbols 0 to 1,623."
 abbrev pub F : Type 0
-F = runsOf (two (entry 15 10) (entry 2 2)) ≡ run «Qpsk1_2» 10 12 1 0 1624 ∷ []
+F =
+    (tableAnswer (two (entry 15 10) (entry 2 2)) ≡ Accepted)
+    × (runsOf (two (entry 15 10) (entry 2 2)) ≡ run «Qpsk1_2» 10 12 1 0 1624 ∷ [])
 
 -- accepted, with the position p
 abbrev at : ℕ → Said
@@ -109,14 +111,14 @@ pub record Example : Type 1 where
   pub holds : says
 
 abbrev pub lettered : List Example
-unfolding slotSum tableRows runsFrom validIn firstPair stateAfter stateAt encoded label output tapped startAt settled released stepped after upto packed branch cand wins next nexts word top best renormalised kept back input traced ofBits add sub neg lt softOf rounded
+unfolding slotSum some tableRows runsFrom validIn firstPair stateAfter stateAt encoded label output tapped startAt settled released stepped after upto packed branch cand wins next nexts word top best renormalised kept back input traced ofBits add sub neg lt softOf rounded
 lettered =
     record { says = A; holds = (refl, refl, refl) }
     ∷ record { says = B; holds = refl }
     ∷ record { says = C; holds = refl }
     ∷ record { says = D; holds = (refl, refl, refl) }
     ∷ record { says = E; holds = refl }
-    ∷ record { says = F; holds = refl }
+    ∷ record { says = F; holds = (refl, refl) }
     ∷ record { says = G; holds = (refl, refl, refl) }
     ∷ record { says = H; holds = (refl, refl, refl) }
     ∷ record { says = I; holds = (refl, refl, refl) }
