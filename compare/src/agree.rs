@@ -70,7 +70,15 @@ fn word_of(c: Option<Combination>) -> u8 {
 fn tables(all: &mut (u64, u64), scale: u64) {
     let mut marks = Kind::new("slot_combinations: every table of one entry and of two, random ones of four");
     let mut runs = Kind::new("runs: the same tables");
+    let mut refused = Kind::new("slot_combinations and runs: of the same tables those that rows 10 and 11 refuse");
     let mut check = |t: u64| {
+        let row = table_row(t);
+        if row != 0 {
+            let (mut out, mut numbers, mut count) = ([0xa5u8; 50], [0xa5a5_a5a5u32; 25], 77);
+            let same = calls::slot_combinations(t, &mut out) == row && calls::runs(t, &mut numbers, &mut count) == row;
+            refused.case(same && out == [0xa5; 50] && numbers == [0xa5a5_a5a5; 25] && count == 77, || format!("{t:016x}"));
+            return;
+        }
         let rust = info(t);
         let mut out = [0xa5u8; 50];
         let same = calls::slot_combinations(t, &mut out) == 0 && out[..48].iter().zip(rust.slot_combinations()).all(|(&w, c)| w == word_of(c)) && out[48..] == [0xa5; 2];
@@ -107,9 +115,10 @@ fn tables(all: &mut (u64, u64), scale: u64) {
     }
     marks.done(all);
     runs.done(all);
+    refused.done(all);
 }
 
-/// Four entries of at most 48 slots together.
+/// Four entries of at most 48 slots together: whole units, and no slots for reserved words.
 fn random_table(draws: &mut Draws) -> u64 {
     let mut left = draws.below(49);
     let mut entries = [(15u8, 0u8); 4];
@@ -117,7 +126,12 @@ fn random_table(draws: &mut Draws) -> u64 {
         let n = draws.below(left + 1);
         left -= n;
         let word = if draws.below(4) == 0 { draws.below(256) } else { 1 + draws.below(7) };
-        *e = (word as u8, n as u8);
+        let whole = match word % 16 {
+            w @ 1..=7 => n - n % u64::from(SLOTS_OF_UNIT[w as usize - 1]),
+            15 => n,
+            _ => 0,
+        };
+        *e = (word as u8, whole as u8);
     }
     let mut t = table(&entries);
     if draws.below(2) == 0 {
@@ -362,7 +376,7 @@ fn encoding(all: &mut (u64, u64), scale: u64) {
     for state in 0..64 {
         for word in 1..8 {
             let bytes = draws.bytes(9000);
-            check(&mut kind, table(&[(word, 40), (7, 7)]), state % 8, state, &bytes);
+            check(&mut kind, table(&[(word, 24), (7, 23)]), state % 8, state, &bytes);
         }
     }
     kind.done(all);

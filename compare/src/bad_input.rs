@@ -204,12 +204,24 @@ fn any_table(draws: &mut Draws) -> u64 {
         _ => {
             let mut left = near(draws, &[48, 48, 20, 0]) as u8 % 60;
             let mut entries = [(0u8, 0u8); 4];
+            let whole = draws.below(8) != 0;
             for e in &mut entries {
-                let n = draws.below(u64::from(left) + 1) as u8;
+                let word = draws.below(20) as u8;
+                let mut n = draws.below(u64::from(left) + 1) as u8;
+                // most tables are of whole units, and without slots for a reserved word
+                if whole {
+                    n = match word % 16 {
+                        w @ 1..=7 => n - n % SLOTS_OF_UNIT[usize::from(w) - 1],
+                        15 => n,
+                        _ => 0,
+                    };
+                }
                 left -= n;
-                *e = (draws.below(20) as u8, n);
+                *e = (word, n);
             }
-            entries[3].1 += left;
+            if draws.below(4) == 0 {
+                entries[3].1 += left;
+            }
             table(&entries)
         }
     }
@@ -225,7 +237,7 @@ fn positions(all: &mut (u64, u64), draws: &mut Draws) {
         let t = any_table(draws);
         let len = near(draws, &[0, 48, 48, 100]) as usize % 200;
         bytes.lend(draws, len, |d| d.next() as u8);
-        let row = if slot_sum(t) > 48 { 1 } else if bytes.len < 48 { 9 } else { 0 };
+        let row = if table_row(t) != 0 { table_row(t) } else if bytes.len < 48 { 9 } else { 0 };
         let answer = calls::slot_combinations(t, bytes.slice());
         count.call(answer, row, bytes.kept(answer == 0), || format!("{t:016x} {len}"));
     }
@@ -237,7 +249,7 @@ fn positions(all: &mut (u64, u64), draws: &mut Draws) {
         let len = near(draws, &[0, 6 * runs as u64, 6 * runs as u64, 24, 50]) as usize % 100;
         words.lend(draws, len, |d| d.next() as u32);
         one.lend(draws, 1, |d| d.next() as u32);
-        let row = if slot_sum(t) > 48 { 1 } else if words.len < 6 * runs { 9 } else { 0 };
+        let row = if table_row(t) != 0 { table_row(t) } else if words.len < 6 * runs { 9 } else { 0 };
         let answer = calls::runs(t, words.slice(), &mut one.slice()[0]);
         count.call(answer, row, words.kept(answer == 0) && one.kept(answer == 0), || format!("{t:016x} {len}"));
     }
@@ -420,7 +432,7 @@ fn encoding(all: &mut (u64, u64), draws: &mut Draws) {
         re.lend(draws, a, |_| 3.25);
         im.lend(draws, b, |_| -3.25);
         end.lend(draws, 1, |d| d.next() as u8);
-        let row = if slot_sum(t) > 48 { 1 } else if state > 63 { 4 } else if re.len < MAIN || im.len < MAIN { 9 } else { 0 };
+        let row = if table_row(t) != 0 { table_row(t) } else if state > 63 { 4 } else if re.len < MAIN || im.len < MAIN { 9 } else { 0 };
         let answer = calls::encode_frame(bytes.slice(), t, draws.next() as u8, state, re.slice(), im.slice(), &mut end.slice()[0]);
         let ok = answer == 0;
         let kept = bytes.kept(false) && re.kept(ok) && im.kept(ok) && end.kept(ok);
@@ -465,8 +477,8 @@ fn decoding(all: &mut (u64, u64), draws: &mut Draws) {
         bits.lend(draws, d, |d| d.next() as u8);
         bytes.lend(draws, e, |d| d.next() as u8);
         let out = |x: &f64| !x.is_finite() || x.abs() > 1024.0;
-        let row = if slot_sum(t) > 48 {
-            1
+        let row = if table_row(t) != 0 {
+            table_row(t)
         } else if re.len < MAIN || im.len < MAIN {
             6
         } else if re.slice()[..MAIN].iter().any(out) || im.slice()[..MAIN].iter().any(out) {

@@ -188,7 +188,7 @@ pub fn decoded_bits(bytes: &[u8], t: u64) -> Vec<u8> {
     bits
 }
 
-/// Tables of every kind: whole frames of one combination, mixed ones, left-over slots, unassigned and reserved words, high word bits, empty.
+/// Accepted tables of every kind: whole frames of one combination, mixed ones, word 15 with slots, reserved words without, high word bits, empty.
 pub fn some_tables() -> Vec<u64> {
     let mut all: Vec<u64> = (1..8).map(|w| table(&[(w, 48)])).collect();
     all.extend(
@@ -198,11 +198,11 @@ pub fn some_tables() -> Vec<u64> {
             &[(7, 10), (5, 12), (4, 16), (2, 10)],
             &[(6, 24), (5, 24)],
             &[(3, 3), (5, 6), (3, 3), (5, 36)],
-            &[(3, 5), (4, 7), (6, 15), (7, 21)],
+            &[(3, 6), (4, 8), (6, 16), (7, 17)],
             &[(15, 10), (2, 2)],
-            &[(0, 3), (7, 4), (9, 5), (1, 36)],
+            &[(15, 3), (7, 4), (0x9f, 5), (1, 36)],
             &[(2, 0), (7, 1)],
-            &[(1, 3), (6, 7), (5, 5), (2, 1)],
+            &[(0, 0), (6, 8), (14, 0), (2, 0)],
             &[(0x17, 20), (0xf6, 8), (0x21, 8), (0x8f, 12)],
             &[(7, 1), (1, 4), (7, 1), (2, 42)],
             &[(4, 4), (2, 2), (1, 4)],
@@ -211,5 +211,6 @@ pub fn some_tables() -> Vec<u64> {
         ]
         .map(table),
     );
+    assert!(all.iter().all(|&t| table_row(t) == 0));
     all
 }

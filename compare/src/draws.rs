@@ -47,3 +47,20 @@ pub fn entries(table: u64) -> [(u8, u8); 4] {
 pub fn slot_sum(table: u64) -> usize {
     entries(table).iter().map(|e| usize::from(e.1)).sum()
 }
+
+/// The row that a table is refused by, or 0: above 48 slots, a part unit, a reserved word with slots.
+pub fn table_row(table: u64) -> u32 {
+    let all = entries(table).map(|(word, slots)| (usize::from(word % 16), slots));
+    if slot_sum(table) > 48 {
+        1
+    } else if all.iter().any(|&(w, n)| (1..=7).contains(&w) && n % SLOTS_OF_UNIT[w - 1] != 0) {
+        10
+    } else if all.iter().any(|&(w, n)| (w == 0 || (8..=14).contains(&w)) && n != 0) {
+        11
+    } else {
+        0
+    }
+}
+
+/// Slots of a unit, of words 1 to 7.
+pub const SLOTS_OF_UNIT: [u8; 7] = [4, 2, 3, 4, 6, 8, 1];

@@ -25,7 +25,7 @@ fn encode() -> String {
     // any state, where the reference can be had
     for state in 0..64u8 {
         encode_line(&mut out, tables[usize::from(state) % tables.len()], state % 8, state, 700, seeds.next());
-        encode_line(&mut out, table(&[(state % 7 + 1, 40)]), 4, state, 40 * 203, seeds.next());
+        encode_line(&mut out, table(&[(state % 7 + 1, 24)]), 4, state, 24 * 203, seeds.next());
     }
     // no bytes, too few and too many
     for (i, &t) in tables.iter().enumerate() {
