@@ -132,7 +132,7 @@ module _ (p s : ℕ) (room : p + s + 2 ≤ 127) (t : Table) (fit : TableAccepted
     number-in : (k i : ℕ) → k < g .steps → i < length (orderOf (g .combination))
         → k / stepsPerPeriod (g .combination) * length (orderOf (g .combination)) + i < width (modulationOf (g .combination)) * g .symbols
     number-in k i K h =
-        let o = table-whole t g m in
+        let o = table-whole t fit g m in
         rw (o .symbols-are) (fits-in (g .combination) (o .units) k i (rw (o .steps-are) at K) h)
 
     pub soft-in : (modulationOf (g .combination) ≡ Tc8psk → ⊥) → (k b : ℕ) → k < g .steps → Size binary32 (p + s) (softAt r g k b)
@@ -166,7 +166,7 @@ module _ (p s : ℕ) (room : p + s + 2 ≤ 127) (t : Table) (fit : TableAccepted
 
     subset-in : (k : ℕ) → modulationOf (g .combination) ≡ Tc8psk → k < g .steps → (l : ℕ) → l < 4 → Size binary32 (suc (p + s)) (getD (subsetMetrics r g (symbolAt r (g .symbol + k))) l nan)
     subset-in k e K l h =
-        let o = table-whole t g m in
+        let o = table-whole t fit g m in
         let j : k < g .symbols = rw (o .symbols-are) (alone-in (g .combination) (o .units) k e (rw (o .steps-are) at K)) in
         let at = symbol-fits t fit g m k j in
         let v = symbolAt r (g .symbol + k) in

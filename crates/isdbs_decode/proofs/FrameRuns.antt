@@ -74,7 +74,7 @@ listed-runs p h =
         valid = rw er (l .valid);
         counted = rw er (sym ec);
         at = λ i. rw er (at i);
-        whole = λ i. rw (at i) (each-any Whole rs i (run-whole «Bpsk1_2» 0 0 0) (l .whole));
+        whole = λ i. rw (at i) (each-any Whole rs i (run-whole «Bpsk1_2» 0 0 0 refl) (l .whole));
         fits = λ i. rw (at i) (each-any RunFits rs i (record { slots = omega arith; starts = omega arith; ends = omega arith }) (l .fit));
       };
     }
