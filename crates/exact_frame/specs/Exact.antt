@@ -77,10 +77,10 @@ module _ (t : Table) (fit : TableAccepted t) (m : Mapping) (first : Bool) (load 
     bit-in k K = go (kind (g .combination))
       where
         plain : slotSteps (g .combination) ≡ 1624 → k < g .steps
-        plain e = let o = table-whole t g i in let s : g .steps ≡ g .bits = o .steps-are ∙ ap (λ (x : ℕ). x * (o .units * unitOf (g .combination) .valid)) e ∙ sym (o .bits-are) in omega arith
+        plain e = let o = table-whole t fit g i in let s : g .steps ≡ g .bits = o .steps-are ∙ ap (λ (x : ℕ). x * (o .units * unitOf (g .combination) .valid)) e ∙ sym (o .bits-are) in omega arith
 
         half : Pairs (g .combination) → k / 2 < g .steps
-        half s = let o = table-whole t g i in let b = s .bits (o .units) in omega (arith, o .steps-are, o .bits-are)
+        half s = let o = table-whole t fit g i in let b = s .bits (o .units) in omega (arith, o .steps-are, o .bits-are)
 
         go : Kind (g .combination) → bitBy (modulationOf (g .combination)) r (labelAt (startState first) us) us g k ≡ loadBit load (g .bit + k)
         go (one e s) =

@@ -14,6 +14,7 @@ use Rattle.isdbs_core.specs.declared.combination.Modulation.{Modulation}
 use Rattle.isdbs_core.specs.declared.combination.Modulation.the-variants.{Bpsk, Qpsk, Tc8psk}
 use Rattle.isdbs_core.specs.declared.tmcc.Table.{Table}
 use Rattle.isdbs_core.specs.Combinations.{modulationOf, unitOf, slotSteps}
+use Rattle.isdbs_core.specs.Tables.{TableAccepted}
 use Rattle.isdbs_core.specs.RunsOf.{runsOf, validTotal, loadBytes, frameSteps}
 use Rattle.isdbs_points.specs.declared.Cplx.{Cplx}
 use Rattle.isdbs_points.specs.declared.Mapping.{Mapping}
@@ -61,13 +62,13 @@ uncoded-few «Tc8psk2_3» u j e h = omega arith
 abbrev pub SameBits : Table → List ℕ → List ℕ → Type 0
 SameBits t a b = (n : ℕ) → n < 8 * loadBytes t → loadBit a n ≡ loadBit b n
 
-module _ (t : Table) (a b : List ℕ) (h : SameBits t a b) where
+module _ (t : Table) (fit : TableAccepted t) (a b : List ℕ) (h : SameBits t a b) where
   bits-end : (g : Segment) → In g (segments t) → g .bit + g .bits ≤ 8 * loadBytes t
   bits-end g m = omega (arith, fill-member (λ g. g .bit) (λ g. g .bits) g (segments t) 0 (0 + 1624 * validTotal t) m (fill-bits (runsOf t) 0 0) .1)
 
   same-input : (g : Segment) → In g (segments t) → (k : ℕ) → k < g .steps → inputIn a g k ≡ inputIn b g k
   same-input g m k l =
-      let w = table-whole t g m in
+      let w = table-whole t fit g m in
       let r = coded-few (g .combination) (w .units) k (rw (w .steps-are) at l) in
       h (g .bit + coded (modulationOf (g .combination)) k) (omega (arith, bits-end g m, w .bits-are, r))
 
@@ -89,7 +90,7 @@ module _ (t : Table) (a b : List ℕ) (h : SameBits t a b) where
 
     same-point : (at : ℕ → ℕ) (g : Segment) → In g (segments t) → (j : ℕ) → j < g .symbols → pointIn m a at g j ≡ pointIn m b at g j
     same-point at g i j l =
-        let w = table-whole t g i in
+        let w = table-whole t fit g i in
         by-modulation (modulationOf (g .combination)) at g j
         (λ e. omega (arith, bits-end g i, w .bits-are, uncoded-few (g .combination) (w .units) j e (rw (w .symbols-are) at l)))
 

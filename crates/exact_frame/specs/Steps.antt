@@ -119,7 +119,7 @@ module _ (t : Table) (fit : TableAccepted t) (m : Mapping) (first : Bool) (load 
     module _ (w : ℕ) (s : Sends c w) (speaks : (n : ℕ) → n < w * g .symbols → SpeaksAt n) (k : ℕ) (K : k < g .steps) where
       number-small : (b : ℕ) → placeIn (mother g k b) (orderOf c) < n → number g k b < w * g .symbols
       number-small b h =
-          let o = table-whole t g i in
+          let o = table-whole t fit g i in
           rw (o .symbols-are) (s .room (o .units) k (placeIn (mother g k b) (orderOf c)) (rw (o .steps-are) at K) h)
 
       soft-speaks : (b : ℕ) → b < 2 → placeIn (mother g k b) (orderOf c) < n → Speaks (codedBit b (at (g .step + k))) (softAt r g k b)
@@ -157,7 +157,7 @@ module _ (t : Table) (fit : TableAccepted t) (m : Mapping) (first : Bool) (load 
       p = psk8Of (4 * c2 + subset (m .«tc8psk_c1_is_y») (at (g .step + k)))
 
       symbol-small : k < g .symbols
-      symbol-small = let o = table-whole t g i in let q = s .symbols (o .units) in omega (arith, o .symbols-are, o .steps-are)
+      symbol-small = let o = table-whole t fit g i in let q = s .symbols (o .units) in omega (arith, o .symbols-are, o .steps-are)
 
       tc-re : T (keeps (p .re) (z .re))
       unfolding pointBy

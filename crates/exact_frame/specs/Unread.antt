@@ -73,7 +73,7 @@ module _
               → cond u (scaled r g (carrier (modulationOf c) r g (number g k b))) (ofBits binary32 0)
               ≡ cond u (scaled r′ g (carrier (modulationOf c) r′ g (number g k b))) (ofBits binary32 0)
           go true h =
-              let o = table-whole t g i in
+              let o = table-whole t fit g i in
               let small : number g k b < w * g .symbols =
               rw (o .symbols-are) (s .room (o .units) k (placeIn (mother g k b) (orderOf c)) (rw (o .steps-are) at K) (h tt)) in
               rw (alike (number g k b) small)
@@ -81,7 +81,7 @@ module _
 
     -- ---- a step of TC8PSK
     symbol-small : Pairs c → (k : ℕ) → k < g .steps → k < g .symbols
-    symbol-small s k K = let o = table-whole t g i in let q = s .symbols (o .units) in omega (arith, o .symbols-are, o .steps-are)
+    symbol-small s k K = let o = table-whole t fit g i in let q = s .symbols (o .units) in omega (arith, o .symbols-are, o .steps-are)
 
     -- ---- a step of any segment
     in-alike : (k : ℕ) → k < g .steps → metricsIn r g k ≡ metricsIn r′ g k
@@ -102,7 +102,7 @@ module _
         go (one e s) = rw e
         go (two e s) = rw e
         go (three e s) =
-            let o = table-whole t g i in
+            let o = table-whole t fit g i in
             let small : k / 2 < g .steps = (let b = s .bits (o .units) in omega (arith, o .steps-are, o .bits-are)) in
             rw e
             (ap (λ (z : Cplx). cond (eqb (k % 2) 0) (bit (lt (correlation z (subsetPoint r (at (g .step + k / 2)))) zero64)) (getD us (g .step + k / 2) 0))
