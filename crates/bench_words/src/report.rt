@@ -5,6 +5,7 @@ use crate::text::count;
 use crate::text::number;
 use crate::text::text;
 use crate::words::tally;
+use isdbs_core::combination::Combination;
 use isdbs_core::combination::MaybeCombination;
 use isdbs_core::slots;
 use isdbs_core::slots::Run;
@@ -13,7 +14,8 @@ use isdbs_core::tmcc::Table;
 use isdbs_points::PART_LIMIT;
 use refusal::Answer;
 ghost use mathlib.Core.Path.{_≡_};
-ghost use Prim.Native.Nat.{_<_, _≤_};
+ghost use Prim.Native.Nat.{_-_, _%_, _<_, _≤_};
+ghost use Rattle.isdbs_core.specs.Combinations.{unitOf};
 ghost use Rattle.bench_words.specs.Agreement.{agreement};
 
 fn wide(n: u32) -> u64 {
@@ -98,6 +100,8 @@ fn row(number: u32) {
         7 => text(b"a part of a point is not a finite number, or is beyond 1,024"),
         8 => text(b"the scale is not above 0, or is above 64"),
         9 => text(b"the space for what is written is too short"),
+        10 => text(b"the slots of an entry do not fill whole units"),
+        11 => text(b"an entry gives slots to a reserved word"),
         _ => text(b"the library does not take this"),
     }
 }
@@ -116,17 +120,121 @@ pub fn refuse(answer: Answer) {
     text(b"\n");
 }
 
-// The last line of a table that was turned back.
-fn refuse_table(answer: Answer, t: Table) {
-    if refusal::number(answer) != 1 {
-        refuse(answer);
+// Slots of a unit.
+fn unit_of(c: Combination) -> u64
+    ensures { λ r. ⌜ (0 < r) × (r ≤ 8) × (r ≡ unitOf c .slots) ⌝ }
+{
+    let u = c.slot_unit();
+    u.slots as u64
+}
+
+// How many of n slots fill whole units.
+fn filled(n: u64, unit: u64) -> u64
+    requires { ⌜ 0 < unit ⌝ }
+    ensures { λ r. ⌜ (r ≤ n) × (r ≡ n - n % unit) ⌝ }
+{
+    n - n % unit
+}
+
+// Entry i, counted from 1, has a part unit.
+fn refuse_part(i: u64, e: Entry) {
+    let c = e.combination();
+    match c {
+        MaybeCombination::Some(c) => {
+            let n = slots_of(e);
+            let unit = unit_of(c);
+            let low = filled(n, unit);
+            refused(Answer::PartUnit);
+            text(b"entry ");
+            number(i);
+            text(b", ");
+            combination(c);
+            text(b" with ");
+            number(n);
+            text(b" slots: units of ");
+            number(unit);
+            text(b"; ");
+            number(low);
+            text(b" or ");
+            number(low + unit);
+            text(b" would be whole\n");
+        }
+        MaybeCombination::None => {}
+    }
+}
+
+// Whether entry i has a part unit; then it is shown.
+fn part_at(i: u64, e: Entry) -> bool {
+    if e.part_unit() {
+        refuse_part(i, e);
+        return true;
+    }
+    false
+}
+
+// The first entry with a part unit.
+fn refuse_parts(t: Table) {
+    let es = t.entries;
+    if part_at(1, es[0]) {
         return;
     }
+    if part_at(2, es[1]) {
+        return;
+    }
+    if part_at(3, es[2]) {
+        return;
+    }
+    part_at(4, es[3]);
+}
+
+// Whether entry i gives slots to a reserved word; then it is shown.
+fn reserved_at(i: u64, e: Entry) -> bool {
+    if e.reserved_word() {
+        refused(Answer::ReservedWord);
+        text(b"entry ");
+        number(i);
+        text(b", word ");
+        number(e.word as u64);
+        text(b" with ");
+        number(slots_of(e));
+        text(b" slots: the word is reserved; with 0 slots, or with word 15, it would be taken\n");
+        return true;
+    }
+    false
+}
+
+// The first entry that gives slots to a reserved word.
+fn refuse_reserved(t: Table) {
+    let es = t.entries;
+    if reserved_at(1, es[0]) {
+        return;
+    }
+    if reserved_at(2, es[1]) {
+        return;
+    }
+    if reserved_at(3, es[2]) {
+        return;
+    }
+    reserved_at(4, es[3]);
+}
+
+// The slots of a table that are too many.
+fn refuse_sum(t: Table, answer: Answer) {
     let es = t.entries;
     refused(answer);
     text(b"the table takes ");
     number(slots_of(es[0]) + slots_of(es[1]) + slots_of(es[2]) + slots_of(es[3]));
     text(b" slots, and a frame has 48\n");
+}
+
+// The last line of a table that was turned back.
+fn refuse_table(t: Table, answer: Answer) {
+    match answer {
+        Answer::Table => refuse_sum(t, answer),
+        Answer::PartUnit => refuse_parts(t),
+        Answer::ReservedWord => refuse_reserved(t),
+        _ => refuse(answer),
+    }
 }
 
 fn entry_lines(t: Table) {
@@ -155,7 +263,7 @@ pub fn table(t: Table) -> Valid {
     let all = slots::runs(t);
     let answer = all.answer;
     if refusal::number(answer) != 0 {
-        refuse_table(answer, t);
+        refuse_table(t, answer);
         return Valid::Refused;
     }
     text(b"table:\n");
