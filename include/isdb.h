@@ -9,6 +9,8 @@
  * number and slice is as before. Accepted, what is not said to be written is as before.
  *
  *   1 table      slot counts sum above 48
+ *  10 part unit  an entry of words 1 to 7 whose slots do not fill whole units
+ *  11 reserved   an entry of word 0 or 8 to 14 with slots
  *   2 position   bit above 1,000,000; word outside 1 to 7
  *   3 traceback  above 1,024, or 0 in a handed state
  *   4 state      held count 4,096 + traceback or more; encoder state above 63; lent path value not finite or beyond 2^32
@@ -20,7 +22,8 @@
  *   9 space      an output or decision slice shorter than the call writes; decisions always need 4,096 + traceback
  *
  * A table is one number: entry i (0 to 3) has its word in bits 16i to 16i+7, of which the low 4 count, and its slot count in bits 16i+8 to 16i+15.
- * Words 1 to 7 are BPSK 1/2, QPSK 1/2, 2/3, 3/4, 5/6, 7/8 and TC8PSK 2/3; the others send nothing. 15 with 0 slots is an entry not in use.
+ * Words 1 to 7 are BPSK 1/2, QPSK 1/2, 2/3, 3/4, 5/6, 7/8 and TC8PSK 2/3, in units of 4, 2, 3, 4, 6, 8 and 1 slots. 15 takes its slots and sends nothing; with 0 slots it is
+ * an entry not in use. The others are reserved and take no slots.
  *
  * A mapping is one byte: bit 0 conjugate, bit 1 qpsk_p1_on_q, bit 2 tc8psk_c1_is_y (4 is the usual one). Its other bits do not count.
  *
@@ -60,11 +63,11 @@ extern "C" {
 /* The f32 nearest to x, ties to even, small values included. Any x. */
 float isdbs_soft(double x);
 
-/* The words of the 48 slots, 0 for a slot without a mark; some left-over slots, which carry nothing, are marked too. Writes 48 places. Rows 1, 9. */
+/* The words of the 48 slots, 0 for a slot without a mark; as many are marked as are valid. Writes 48 places. Rows 1, 10, 11, 9. */
 uint32_t isdbs_slot_combinations(uint64_t table, uint8_t *out, size_t out_len);
 
 /* The runs of the frame, in order. For each: word, slot start, slot end, valid slots, symbol start, symbol end; an end is one past the last.
- * Writes 6 numbers for each run, of which there are at most 4, and how many runs there are to *count. Rows 1, 9. */
+ * Writes 6 numbers for each run, of which there are at most 4, and how many runs there are to *count. Rows 1, 10, 11, 9. */
 uint32_t isdbs_runs(uint64_t table, uint32_t *out, size_t out_len, uint32_t *count);
 
 /* The symbol, from the start of its run, that carries the first coded bit of information bit `bit`. Row 2. */
@@ -72,14 +75,14 @@ uint32_t isdbs_bit_symbol(uint8_t word, uint64_t bit, uint64_t *out);
 
 /* The 38,976 points of a frame as real and imaginary parts, from its bytes (203 for each valid slot; missing bits are 0, surplus ones ignored), the
  * encoder starting at `state`: 0 for the first frame of a superframe and 63 for the others. *end is its state after the last bit. Points outside
- * every run are (0, 0), (0, -0.0) where the mapping conjugates. Needs 38,976 places of either part and writes as many. Rows 1, 4, 9. */
+ * every run are (0, 0), (0, -0.0) where the mapping conjugates. Needs 38,976 places of either part and writes as many. Rows 1, 10, 11, 4, 9. */
 uint32_t isdbs_encode_frame(const uint8_t *bytes, size_t bytes_len, uint64_t table, uint8_t mapping, uint8_t state,
                             double *re, size_t re_len, double *im, size_t im_len, uint8_t *end);
 
 /* The bytes of a frame from its 38,976 points; points past them are not read. `first`: the first frame of a superframe (any number but 0).
  * `known_start`: the decoder starts in that frame's start state (any number but 0), else in no known one. `llr_scale` (usually 8) scales the soft values.
  * Afterwards `bits` begins with steps + 16 decoded bits, one in a byte, the first 4,224 words of `decisions` are 0, and `bytes` begins with 203 bytes
- * for each valid slot. A trellis step is an information bit; TC8PSK takes two bits a step. At most 68,224 bits and 9,744 bytes. Rows 1, 6, 7, 8, 9. */
+ * for each valid slot. A trellis step is an information bit; TC8PSK takes two bits a step. At most 68,224 bits and 9,744 bytes. Rows 1, 10, 11, 6, 7, 8, 9. */
 uint32_t isdbs_decode_frame(const double *re, size_t re_len, const double *im, size_t im_len, uint64_t table, uint8_t mapping,
                             uint8_t first, uint8_t known_start, float llr_scale,
                             uint64_t *decisions, size_t decisions_len, uint8_t *bits, size_t bits_len, uint8_t *bytes, size_t bytes_len);

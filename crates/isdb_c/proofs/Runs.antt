@@ -62,7 +62,7 @@ each-entry (Some c) n slot symbol rs p h = (p c, h)
 each-entry None n slot symbol rs p h = h
 
 entry-symbols : (m : MaybeCombination) (n : ℕ) → entrySymbols m n ≤ n * 812
-entry-symbols (Some c) n = entry-fits c n .symbols
+entry-symbols (Some c) n = omega arith
 entry-symbols None n = omega arith
 
 pub runs-small : (es : List Entry) (slot symbol : ℕ) → slot + slotSum es ≤ 48 → symbol ≤ slot * 812 → Each Small (runsFrom es slot symbol)
