@@ -69,8 +69,8 @@ fn make_and_read() {
 }
 
 fn other_tables() {
-    bench(b"make 15:10,2:2,6:20,1:3 001 other load mixed.cf64");
-    bench(b"read 15:10,2:2,6:20,1:3 001 other mixed.cf64 mixed");
+    bench(b"make 15:10,2:2,6:16,1:4 001 other load mixed.cf64");
+    bench(b"read 15:10,2:2,6:16,1:4 001 other mixed.cf64 mixed");
     bench(b"make 6:48 001 first load full.cf64");
     bench(b"read 6:48 001 first full.cf64 full scale 8");
     bench(b"make 0:0 001 first load none.cf64");
@@ -80,6 +80,9 @@ fn refusals() {
     bench(b"make 7:44,1:5 001 first load none.cf64");
     bench(b"read 7:49 001 first frame.cf64 none");
     bench(b"compare 7:255,7:255 load bytes");
+    bench(b"make 7:4,4:7 001 first load none.cf64");
+    bench(b"read 8:3,1:3 001 first frame.cf64 none");
+    bench(b"compare 3:3,15:1,8:3 load bytes");
     bench(b"read 7:44,1:4 001 first frame.cf64 none scale 0");
     bench(b"read 7:44,1:4 001 first frame.cf64 none scale 64.001");
     bench(b"read 7:44,1:4 001 first load none");

@@ -1,8 +1,8 @@
-// `read_frame` on 25 frames at the ends of the margins: every combination alone and mixed, left-over slots, words that stand for no combination, the empty table, all
+// `read_frame` on 25 frames at the ends of the margins: every combination alone and mixed, words that stand for no combination, the empty table, all
 // mappings, both kinds of frame. Each part of each point lies at one end or the other of its margin, as the generator draws; a free part, which may have any accepted value,
 // is 1,024 or -1,024. Free are the imaginary parts of BPSK and both parts of the points outside every run. The slices are ten points longer than a frame, and these hold
 // 5,000, more than a part of a frame may be. A line for each frame shows its table as WORDxSLOTS, how many bytes of the load come back, and how many parts are free: one for each
-// symbol of BPSK, and two for each of the 38,976 that is in no run, a whole unit being unit x 812 symbols.
+// symbol of BPSK, and two for each of the 38,976 that is in no run, a slot of a run being 812 symbols.
 ghost use Prim.Native.Nat.{_≤_, _<_};
 use isdbs_core::combination::Combination;
 use isdbs_core::slots::Run;
@@ -37,19 +37,19 @@ const TABLES: [u64; 25] = [
     0x2a05,
     // two in all slots
     0x0402_2c07,
-    // left-over slots
-    0x1007_0704_0a03_0f06,
-    // and words that stand for no combination: 8, 15 and 0
-    0x1007_0902_0a08_0d05,
-    0x0f06_1407_0901_040f,
-    0x0b04_0803_0700_0502,
+    // four in all slots, in another order
+    0x0f07_0804_0903_1006,
+    // words that stand for no combination: 15 with slots, 8 without
+    0x1007_0a02_0a0f_0c05,
+    0x1006_1407_0801_040f,
+    0x0c04_0903_0008_0602,
     // a word of which the low 4 bits count
     0x0c03_0c01_0c05_0c17,
     // small runs, free slots
-    0x000f_0906_0107_0501,
-    0x0f0f_0c06_0b05_0a04,
+    0x000f_0806_0107_0401,
+    0x0f0f_0806_0c05_0c04,
     // a combination twice
-    0x0d02_0d07_0b01_0b07,
+    0x0c02_0d07_0c01_0b07,
     // the empty table
     0x000f_000f_000f_000f,
 ];

@@ -7,10 +7,10 @@ use Rattle.vectors_encode.proofs.agreeing.Statement.{statement}
 use Rattle.vectors_encode.proofs.agreeing.Tie as tie
 
 abbrev Inv-loop : tie.InvT-loop
-Inv-loop file bytes₀ re₀ im₀ agree₀ i₀ bytes re im agree i = (agree ≤ i) × (i ≤ 386)
+Inv-loop file bytes₀ re₀ im₀ agree₀ i₀ bytes re im agree i = (agree ≤ i) × (i ≤ 389)
 
 abbrev μ-loop : tie.MeasureT-loop
-μ-loop file bytes₀ re₀ im₀ agree₀ i₀ bytes re im agree i = 386 - i
+μ-loop file bytes₀ re₀ im₀ agree₀ i₀ bytes re im agree i = 389 - i
 
 loop-holds : tie.Need-loop-holds Inv-loop μ-loop
 loop-holds c = search needs
