@@ -10,3 +10,5 @@ pub mod Integers
 pub mod Starts
 pub mod Calls
 pub mod Examples
+pub mod Hard
+pub mod Corrected

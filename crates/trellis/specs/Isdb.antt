@@ -64,7 +64,8 @@ decoded = run.decoded half labels rule
 abbrev pub released : ℕ → Decoder → Decoder
 released = run.released half labels rule
 
--- step i of a call with the release that may follow; n steps of a call; the end of a call of soft values or metrics; such a call; the flush
+-- step i of a call with the release that may follow; n steps of a call; the end of a call of soft values or metrics; such a call; the flush, and that
+-- with a known end
 abbrev pub stepOnce : ℕ → ℕ → Step → Decoder → Decoder
 stepOnce = run.stepped half labels rule
 
@@ -79,3 +80,6 @@ call = run.pushed half labels rule
 
 abbrev pub flush : Decoder → Decoder
 flush = run.flushed half labels rule
+
+abbrev pub flushAt : ℕ → Decoder → Decoder
+flushAt = run.flushedAt half labels rule

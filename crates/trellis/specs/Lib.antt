@@ -8,3 +8,6 @@ pub mod Parity
 pub mod Encoded
 pub mod RunLaws
 pub mod Isdb
+pub mod Stretch
+pub mod Linear
+pub mod Distance

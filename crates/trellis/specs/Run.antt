@@ -80,6 +80,10 @@ module _ (half : ℕ) (out : ℕ → ℕ → ℕ) (t : Tie) where
   abbrev pub flushed : Decoder → Decoder
   flushed d = record { values = d .values; words = []; bits = d .bits ++ decoded d }
 
+  -- request P6: "a flush that traces from a given state (mod 64), otherwise like the present flush"
+  abbrev pub flushedAt : ℕ → Decoder → Decoder
+  flushedAt e d = record { values = d .values; words = []; bits = d .bits ++ traced half (d .words) (e % (2 * half)) }
+
 -- The lent decisions after a call that leaves the words ws and has put out the bits bs: "held words move down and freed words become 0",
 -- so once a release took place the first 4,096 + traceback words are the held ones and zeros; the rest is as before.
 abbrev pub decisionsAfter : ℕ → List ℕ → List ℕ → List ℕ → List ℕ
