@@ -7,6 +7,7 @@ use lib.ListN.{length, replicate}
 use lib.Dec.{eqb}
 use lib.Ieee.{Float, binary32, ofBits}
 pub use Rattle.refusal.specs.Rows.{Either}
+use Rattle.trellis.specs.Isdb.{flushAt}
 use Rattle.trellis.specs.Lists.{laid}
 use Rattle.trellis.specs.Run.{Decoder, decisionsAfter}
 pub use Rattle.viterbi.specs.Calls.{pairSteps, fourSteps, knownSteps, nexts, word, bestState, traced, settle, stepOnce, steps, call, flush, holding, Stepped, Holds, Room}
@@ -38,14 +39,21 @@ pub record Leaves (tb : ℕ) (d : Decoder) (r : Released) (decisions₀ decision
   pub words : decisions ≡ decisionsAfter tb (d .words) (d .bits) decisions₀
   pub bits : out ≡ laid (d .bits) out₀
 
--- what an accepted flush leaves: "Flush emits all held bits and zeroes their words; path values stay"
-pub record Flushes (v : ViterbiDecoder) (r : Released) (decisions₀ decisions out₀ out : List ℕ) : Type 0 where
+-- what an accepted flush leaves that puts out the given bits: "Flush emits all held bits and zeroes their words; path values stay"
+pub record Emits (emitted : List ℕ) (v : ViterbiDecoder) (r : Released) (decisions₀ decisions out₀ out : List ℕ) : Type 0 where
   pub values : r .dec .pm ≡ v .pm
   pub held-is : r .dec .held ≡ 0
   pub traceback-is : r .dec .traceback ≡ v .traceback
   pub count-is : r .count ≡ v .held
   pub words : decisions ≡ laid (replicate (v .held) 0) decisions₀
-  pub bits : out ≡ laid (flush (handed v decisions₀) .bits) out₀
+  pub bits : out ≡ laid emitted out₀
+
+-- the flush, and that with a known end
+abbrev pub Flushes : ViterbiDecoder → Released → List ℕ → List ℕ → List ℕ → List ℕ → Type 0
+Flushes v r decisions₀ = Emits (flush (handed v decisions₀) .bits) v r decisions₀
+
+abbrev pub FlushesAt : ℕ → ViterbiDecoder → Released → List ℕ → List ℕ → List ℕ → List ℕ → Type 0
+FlushesAt e v r decisions₀ = Emits (flushAt e (handed v decisions₀) .bits) v r decisions₀
 
 -- "states come back as given and no buffer changes"
 pub record Unchanged (v : ViterbiDecoder) (r : Released) (decisions₀ decisions out₀ out : List ℕ) : Type 0 where

@@ -11,13 +11,14 @@ ghost use Rattle.trellis.specs.Parity.{ones};
 ghost use Rattle.trellis.specs.Run.{startAt, startUnknown};
 ghost use Rattle.isdb_fec.specs.Values.{within, someBeyond};
 ghost use Rattle.isdb_fec.specs.Rows.{encoderRows, freshRows, handedRows, streamRows, pushRows, pushMetricsRows, pushKnownRows, flushRows, releases, stepsShort};
-ghost use Rattle.isdb_fec.specs.Calls.{pairSteps, fourSteps, knownSteps, steps, call, handed, Leaves, Flushes, Unchanged, Either, Fresh, Zero};
+ghost use Rattle.isdb_fec.specs.Calls.{pairSteps, fourSteps, knownSteps, steps, call, handed, Leaves, Flushes, FlushesAt, Unchanged, Either, Fresh, Zero};
 use refusal::Answer;
 use viterbi::At;
 use viterbi::Step;
 use viterbi::advance;
 use viterbi::encode_bit;
 use viterbi::finish;
+use viterbi::finish_at;
 pub use viterbi::renormalise;
 use viterbi::start_at;
 use viterbi::start_unknown;
@@ -449,6 +450,38 @@ impl ViterbiDecoder {
             count: 0,
         };
         let count = finish(&pm, at, decisions, out);
+        Released {
+            answer: Answer::Accepted,
+            dec: ViterbiDecoder {
+                pm,
+                held: 0,
+                traceback: self.traceback,
+            },
+            count,
+        }
+    }
+
+    // Puts out all held bits, traced from the given state, mod 64.
+    pub fn flush_at(self, end: u8, decisions: &mut [u64], out: &mut [u8]) -> Released
+        ensures answers { λ r. ⌜ r .answer ≡ firstRow (flushRows self (length (now (decisions .entry))) (length (now (out .entry)))) ⌝ }
+        ensures leaves { λ r. ⌜ Either (r .answer)
+            (FlushesAt end self r (now (decisions .entry)) (now (decisions .exit)) (now (out .entry)) (now (out .exit)))
+            (Unchanged self r (now (decisions .entry)) (now (decisions .exit)) (now (out .entry)) (now (out .exit))) ⌝ }
+    {
+        let answer = self.answer_flush(decisions.len(), out.len());
+        let Answer::Accepted = answer else {
+            return Released {
+                answer,
+                dec: self,
+                count: 0,
+            };
+        };
+        let pm = self.pm;
+        let at = At {
+            held: self.held,
+            count: 0,
+        };
+        let count = finish_at((end % 64) as usize, at, decisions, out);
         Released {
             answer: Answer::Accepted,
             dec: ViterbiDecoder {
