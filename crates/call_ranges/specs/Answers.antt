@@ -18,5 +18,6 @@ stream-answer {v} i per xs decisions out = passed-above (handedRows v) (streamRe
 pub known-answer : {v : ViterbiDecoder} → Reached v → (n decisions out : ℕ) → firstRow (pushKnownRows v n decisions out) ≡ firstRow ((Space, stepsShort n v decisions out) ∷ [])
 known-answer {v} i n decisions out = passed-above (handedRows v) ((Space, stepsShort n v decisions out) ∷ []) tt (reached-rows i)
 
+-- `flush` and `flush_at`
 pub flush-answer : {v : ViterbiDecoder} → Reached v → (decisions out : ℕ) → firstRow (flushRows v decisions out) ≡ firstRow ((Space, shortOf (v .held) v decisions out) ∷ [])
 flush-answer {v} i decisions out = passed-above (handedRows v) ((Space, shortOf (v .held) v decisions out) ∷ []) tt (reached-rows i)

@@ -28,7 +28,7 @@ use Rattle.isdb_fec.specs.declared.conv.ViterbiDecoder.{ViterbiDecoder}
 use Rattle.isdb_fec.specs.declared.conv.Released.{Released}
 use Rattle.isdb_fec.specs.Values.{someBeyond, pathLimit, streamLimit}
 use Rattle.isdb_fec.specs.Rows.{badTraceback, badState, freshRows, handedRows, streamRows}
-use Rattle.isdb_fec.specs.Calls.{pairSteps, fourSteps, knownSteps, call, steps, handed, Fresh, Leaves}
+use Rattle.isdb_fec.specs.Calls.{pairSteps, fourSteps, knownSteps, call, steps, handed, Fresh, Leaves, Emits}
 use Rattle.viterbi.specs.Count.{counted}
 use Rattle.refusal.specs.RowLaws.{passed}
 use Rattle.call_ranges.specs.Numbers.{stepMost, streamMost, ruledOut, deepest, leastPath, pathMost, stream-limits, path-limit, stream-limit, least-path}
@@ -124,6 +124,15 @@ four-soft xs w k h = quad go
     go (suc (suc (suc zero))) g = at (4 * k + 3) (omega arith)
     go (suc (suc (suc (suc l)))) g = absurd (omega arith)
 
+-- a flush, whatever bits it puts out
+flushed-fit : {bits : List ℕ} {v : ViterbiDecoder} {r : Released} {decisions₀ decisions out₀ out : List ℕ} → Fit v → Emits bits v r decisions₀ decisions out₀ out → Fit (r .dec)
+flushed-fit g l =
+    let a = g .least in
+    let m = g .most in
+    let h = l .held-is in
+    let k = l .traceback-is in
+    record { least = omega arith; most = omega arith; fewer = omega arith; values = rw (l .values) (g .values) }
+
 -- ---- every such state
 pub reached-fit : {v : ViterbiDecoder} → Reached v → Fit v
 reached-fit (with-state tb s e f) = fresh-fit e (given-bounded stream-limits s) f
@@ -133,13 +142,8 @@ reached-fit (reached.push {v} pairs decisions₀ decisions out₀ out i f e l) =
 reached-fit (reached.push-metrics {v} metrics decisions₀ decisions out₀ out i f e l) =
     leaves-fit (soft-fit (reached-fit i) (fourSteps metrics) (length metrics / 4) (four-soft metrics (stream-inside 4 v metrics (length decisions₀) (length out₀) f e)) decisions₀) l
 reached-fit (reached.push-known bits decisions₀ decisions out₀ out i e l) = leaves-fit (known-fit (reached-fit i) bits (length bits) decisions₀) l
-reached-fit (reached.flush decisions₀ decisions out₀ out i e l) =
-    let g = reached-fit i in
-    let a = g .least in
-    let m = g .most in
-    let h = l .held-is in
-    let k = l .traceback-is in
-    record { least = omega arith; most = omega arith; fewer = omega arith; values = rw (l .values) (g .values) }
+reached-fit (reached.flush decisions₀ decisions out₀ out i e l) = flushed-fit (reached-fit i) l
+reached-fit (reached.flush-at end decisions₀ decisions out₀ out i e l) = flushed-fit (reached-fit i) l
 
 -- ---- the range of its path values: from -1,025,165,824 to 0
 pub reached-values : {v : ViterbiDecoder} → Reached v → (s : ℕ) → s < 64 → T (le leastPath (getD (v .pm) s nan)) × T (le (getD (v .pm) s nan) (ofBits binary32 0))

@@ -14,8 +14,8 @@ use Rattle.isdb_fec.specs.declared.conv.ViterbiDecoder.{ViterbiDecoder}
 use Rattle.isdb_fec.specs.declared.conv.Made.{Made}
 use Rattle.isdb_fec.specs.declared.conv.Released.{Released}
 use Rattle.isdb_fec.specs.Rows.{freshRows, pushRows, pushMetricsRows, pushKnownRows, flushRows}
-use Rattle.isdb_fec.specs.Calls.{pairSteps, fourSteps, knownSteps, call, steps, handed, Fresh, Zero, Leaves, Flushes, Unchanged, Either}
-use Rattle.call_ranges.specs.Reached.{Reached, Floats, fresh, with-state, unknown-state, push, push-metrics, push-known, flush}
+use Rattle.isdb_fec.specs.Calls.{pairSteps, fourSteps, knownSteps, call, steps, handed, Fresh, Zero, Leaves, Flushes, FlushesAt, Unchanged, Either}
+use Rattle.call_ranges.specs.Reached.{Reached, Floats, fresh, with-state, unknown-state, push, push-metrics, push-known, flush, flush-at}
 
 -- ---- a fresh start that is accepted
 pub made-given : {r : Made} (traceback state : ℕ) → r .answer ≡ firstRow (freshRows traceback) → Either (r .answer) (Fresh traceback (startAt 64 state) (r .dec)) (Zero (r .dec)) → r .answer ≡ Accepted → Reached (r .dec)
@@ -61,3 +61,6 @@ module _ {v : ViterbiDecoder} (i : Reached v) (r : Released) (decisions₀ decis
 
   pub flush-hands : r .answer ≡ firstRow (flushRows v (length decisions₀) (length out₀)) → Either (r .answer) (Flushes v r decisions₀ decisions out₀ out) (Unchanged v r decisions₀ decisions out₀ out) → Reached (r .dec)
   flush-hands a e = kept e (λ l y. flush decisions₀ decisions out₀ out i (sym y ∙ a) l)
+
+  pub flush-at-hands : (end : ℕ) → r .answer ≡ firstRow (flushRows v (length decisions₀) (length out₀)) → Either (r .answer) (FlushesAt end v r decisions₀ decisions out₀ out) (Unchanged v r decisions₀ decisions out₀ out) → Reached (r .dec)
+  flush-at-hands end a e = kept e (λ l y. flush-at end decisions₀ decisions out₀ out i (sym y ∙ a) l)

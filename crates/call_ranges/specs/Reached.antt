@@ -12,7 +12,7 @@ use Rattle.trellis.specs.Run.{startAt, startUnknown}
 use Rattle.isdb_fec.specs.declared.conv.ViterbiDecoder.{ViterbiDecoder}
 use Rattle.isdb_fec.specs.declared.conv.Released.{Released}
 use Rattle.isdb_fec.specs.Rows.{freshRows, pushRows, pushMetricsRows, pushKnownRows, flushRows}
-use Rattle.isdb_fec.specs.Calls.{pairSteps, fourSteps, knownSteps, call, steps, handed, Fresh, Leaves, Flushes}
+use Rattle.isdb_fec.specs.Calls.{pairSteps, fourSteps, knownSteps, call, steps, handed, Fresh, Leaves, Flushes, FlushesAt}
 
 -- every value of a lent f32 slice is one of the format's; the borrow checker tells it of each slice
 abbrev pub Floats : List Float → Type 0
@@ -41,4 +41,8 @@ pub data Reached : ViterbiDecoder → Type 0 where
   flush : {v : ViterbiDecoder} {r : Released} (decisions₀ decisions out₀ out : List ℕ) → Reached v
       → Accepted ≡ firstRow (flushRows v (length decisions₀) (length out₀))
       → Flushes v r decisions₀ decisions out₀ out
+      → Reached (r .dec)
+  flush-at : {v : ViterbiDecoder} {r : Released} (end : ℕ) (decisions₀ decisions out₀ out : List ℕ) → Reached v
+      → Accepted ≡ firstRow (flushRows v (length decisions₀) (length out₀))
+      → FlushesAt end v r decisions₀ decisions out₀ out
       → Reached (r .dec)

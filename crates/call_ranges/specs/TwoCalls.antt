@@ -105,6 +105,7 @@ reached-normalised (reached.push-metrics {v} metrics decisions₀ decisions out�
     (normalised-call (reached-fit i) (reached-normalised i) decisions₀ (fourSteps metrics) (length metrics / 4) (four-soft metrics (stream-inside 4 v metrics (length decisions₀) (length out₀) f e)))
 reached-normalised (reached.push-known bits decisions₀ decisions out₀ out i e l) = rw (l .values) (normalised-known (reached-fit i) (reached-normalised i) decisions₀ bits (length bits))
 reached-normalised (reached.flush decisions₀ decisions out₀ out i e l) = rw (l .values) (reached-normalised i)
+reached-normalised (reached.flush-at end decisions₀ decisions out₀ out i e l) = rw (l .values) (reached-normalised i)
 
 -- ---- the two calls, the first of them accepted
 module _ {v : ViterbiDecoder} (i : Reached v) (r₁ r₂ : Released) (dec₀ dec₁ dec₂ out₀ out₁ out₂ : List ℕ) where
