@@ -1,0 +1,65 @@
+-- Request P6, "A stretch with a known end": `with_state`, `push`, and `flush_at` behind the bits that came out. Assumes nothing.
+use mathlib.Core.Path.{_≡_}
+use mathlib.Core.Bool.{cond, not, _||_}
+use mathlib.Core.List.{List, [], _∷_, _++_}
+use Prim.Native.Nat.{ℕ, _+_, _/_, _%_, _≤_}
+use lib.Dec.{eqb, ltb}
+use lib.ListN.{length, take, replicate}
+use lib.Ieee.{Float, binary32, ofBits}
+use Rattle.refusal.specs.Rows.{Row, firstRow}
+use Rattle.refusal.specs.declared.Answer.the-variants.{Accepted, Length, Sample, Space}
+use Rattle.trellis.specs.Code.{isdb}
+use Rattle.trellis.specs.Encoded.{encoded, reached}
+use Rattle.trellis.specs.Isdb.{flushAt}
+use Rattle.trellis.specs.Lists.{laid}
+use Rattle.trellis.specs.Run.{Decoder, block, startAt, decisionsAfter}
+use Rattle.trellis.specs.Stretch.{differing, Bits, Coded}
+use Rattle.best_path.specs.Hard.{softPairs}
+use Rattle.best_path.specs.Paths.{longest}
+use Rattle.isdb_fec.specs.declared.conv.ViterbiDecoder.{ViterbiDecoder}
+use Rattle.isdb_fec.specs.declared.conv.Released.{Released}
+use Rattle.isdb_fec.specs.Values.{someBeyond, streamLimit}
+use Rattle.isdb_fec.specs.Rows.{freshRows}
+use Rattle.isdb_fec.specs.Calls.{pairSteps, call, Unchanged, Either}
+
+-- "Traceback 0 acts as 1"
+abbrev pub depth : ℕ → ℕ
+depth tb = cond (eqb tb 0) 1 tb
+
+-- what `with_state` makes: the fresh decoder, or all zeros for a traceback that is refused
+abbrev pub fresh : ℕ → ℕ → ViterbiDecoder
+fresh tb s = cond (ltb 1024 tb) (record { pm = replicate 64 (ofBits binary32 0); held = 0; traceback = 0 }) (record { pm = startAt 64 s; held = 0; traceback = depth tb })
+
+-- the decoder with its held words and its bits once the soft values xs have been pushed
+abbrev pub read : ℕ → ℕ → List Float → Decoder
+read tb s xs = call (depth tb) (pairSteps xs) (record { values = startAt 64 s; words = []; bits = [] }) (length xs / 2)
+
+-- the rows of a reading that is lent `decisions` words and `out` places: 3; 5 "soft values not in twos"; 7 "not finite; beyond .. 1,048,576 for a stream value";
+-- 9, a place for each bit, and "decisions always need 4,096 + traceback"
+abbrev pub betweenRows : ℕ → List Float → ℕ → ℕ → List Row
+betweenRows tb xs decisions out =
+    freshRows tb ++ (Length, not (eqb (length xs % 2) 0)) ∷ (Sample, someBeyond streamLimit xs) ∷ (Space, ltb out (length xs / 2) || ltb decisions (block + depth tb)) ∷ []
+
+-- what an accepted reading leaves: all bits, one for each pair, at the front of the output, and the held words zeroed
+pub record Finished (tb e : ℕ) (d : Decoder) (r : Released) (decisions₀ decisions out₀ out : List ℕ) : Type 0 where
+  pub values : r .dec .pm ≡ d .values
+  pub held-is : r .dec .held ≡ 0
+  pub traceback-is : r .dec .traceback ≡ depth tb
+  pub count-is : r .count ≡ length (flushAt e d .bits)
+  pub words : decisions ≡ laid (replicate (length (d .words)) 0) (decisionsAfter (depth tb) (d .words) (d .bits) decisions₀)
+  pub bits : out ≡ laid (flushAt e d .bits) out₀
+
+-- accepted, that; refused, the fresh decoder and the lent memory are as they were
+abbrev pub Left : ℕ → ℕ → ℕ → List Float → Released → List ℕ → List ℕ → List ℕ → List ℕ → Type 0
+Left tb s e xs r decisions₀ decisions out₀ out =
+    Either (r .answer) (Finished tb e (read tb s xs) r decisions₀ decisions out₀ out) (Unchanged (fresh tb s) r decisions₀ decisions out₀ out)
+
+-- "For an unpunctured stretch of at most 4,096 inputs, with a fresh decoder at the true start, soft pairs of +1 for a 0 bit or -1 for a 1 bit and the true end given, at most four
+-- wrong coded bits leave the decoded inputs right": the inputs us lead from the start to the end, and the received pairs ps differ from their coded pairs in at most four bits. Such
+-- a stretch is refused by 9 alone.
+abbrev pub Corrects : ℕ → ℕ → ℕ → List Float → Released → ℕ → ℕ → List ℕ → Type 0
+Corrects tb s e xs r decisions space out =
+    (us ps : List ℕ) → tb ≤ 1024 → length us ≤ longest → Bits us → reached isdb (s % 64) us ≡ e % 64
+    → Coded ps → length ps ≡ length us → differing ps (encoded isdb (s % 64) us) ≤ 4 → xs ≡ softPairs ps
+    → (r .answer ≡ firstRow ((Space, ltb space (length us) || ltb decisions (block + depth tb)) ∷ []))
+    × (r .answer ≡ Accepted → (r .count ≡ length us) × (take (length us) out ≡ us))
