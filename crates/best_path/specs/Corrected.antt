@@ -22,7 +22,7 @@ use Rattle.trellis.specs.Step.{Step, Tie, traced}
 use Rattle.trellis.specs.Run.{Decoder, startAt, closed, pushed, flushedAt}
 use Rattle.trellis.specs.Stretch.{apart, differing, Bits, Coded}
 use Rattle.trellis.specs.Distance.{same-or-ten, wrong, wrong-same, wrong-turned, triangle, labelsOf, against, bits-at, bits-of, coded-at}
-use Rattle.best_path.specs.Hard.{soft, softPairs, hard}
+use Rattle.best_path.specs.Hard.{mostWrong, soft, softPairs, hard}
 use Rattle.best_path.specs.Paths.{longest, Path, sumℤ, Best, This, Integer}
 use Rattle.best_path.specs.Viterbi.{sum}
 use Rattle.best_path.specs.Tracks.{Adds}
@@ -81,7 +81,7 @@ below (negsuc a) (negsuc b) h = let x = leb→le b a h in omega arith
 
 -- ---- the inputs us are sent from s; r k are the received pairs, and the steps carry their soft values
 module _ (t : Tie) (s : ℕ) (us : List ℕ) (few : length us ≤ longest) (bits : Bits us) (r : ℕ → ℕ) (small : (k : ℕ) → k < length us → r k < 4)
-    (four : wrong r (labelsOf (s % 64) us) (length us) ≤ 4) (steps : ℕ → Step) (are : (k : ℕ) → k < length us → steps k ≡ hard (r k)) where
+    (four : wrong r (labelsOf (s % 64) us) (length us) ≤ mostWrong) (steps : ℕ → Step) (are : (k : ℕ) → k < length us → steps k ≡ hard (r k)) where
   abbrev n : ℕ
   n = length us
 
@@ -115,7 +115,7 @@ module _ (t : Tie) (s : ℕ) (us : List ℕ) (few : length us ≤ longest) (bits
   long = best .path .count
 
   -- the traced path differs from what was received no more than the sent one
-  nearer : wrong r (labelsOf (s % 64) read) n ≤ 4
+  nearer : wrong r (labelsOf (s % 64) read) n ≤ mostWrong
   nearer =
       let le = below (sumℤ Isdb.half Isdb.labels (metric r) (s % 64) us n) (sumℤ Isdb.half Isdb.labels (metric r) (s % 64) read n) (best .most (s % 64) us sent refl refl .le) in
       let a = sum-val Isdb.half Isdb.labels (metric r) (s % 64) us n in
@@ -161,12 +161,12 @@ soft-at (p ∷ ps) (suc k) h =
 
 -- ---- THE THEOREM about the calls as crate `trellis` defines them: a fresh decoder at the true start, one call of soft pairs and a flush at the true end put out what was sent
 pub known-end : (t : Tie) (tb : ℕ) → 0 < tb → (s e : ℕ) (us ps : List ℕ) → length us ≤ longest → Bits us → Coded ps → length ps ≡ length us → reached isdb (s % 64) us ≡ e % 64
-    → differing ps (encoded isdb (s % 64) us) ≤ 4 → (steps : ℕ → Step) → ((k : ℕ) → k < length us → steps k ≡ hard (getD ps k 0))
+    → differing ps (encoded isdb (s % 64) us) ≤ mostWrong → (steps : ℕ → Step) → ((k : ℕ) → k < length us → steps k ≡ hard (getD ps k 0))
     → flushedAt Isdb.half Isdb.labels t e (pushed Isdb.half Isdb.labels t tb steps (record { values = startAt 64 s; words = []; bits = [] }) (length us)) .bits ≡ us
 known-end t tb some s e us ps few bits coded count ends four steps are =
     let begun : Decoder = record { values = startAt 64 s; words = []; bits = [] } in
     let r : ℕ → ℕ = λ k. getD ps k 0 in
-    let near : wrong r (labelsOf (s % 64) us) (length us) ≤ 4 = subst (λ (k : ℕ). k ≤ 4) (against ps (s % 64) us count) four in
+    let near : wrong r (labelsOf (s % 64) us) (length us) ≤ mostWrong = subst (λ (k : ℕ). k ≤ mostWrong) (against ps (s % 64) us count) four in
     let last : e % 64 ≡ stateAt Isdb.half (s % 64) us (length us) = sym ends ∙ reached-is isdb (s % 64) us in
     ap (λ (d : Decoder). flushedAt Isdb.half Isdb.labels t e (closed Isdb.half Isdb.labels t d) .bits) (after-held Isdb.half Isdb.labels t tb steps begun (length us) (omega arith))
     ∙ ap (traced Isdb.half (heldWords Isdb.half Isdb.labels t steps (startAt 64 s) (length us))) last

@@ -6,6 +6,10 @@ use lib.Dec.{eqb}
 use lib.Ieee.{Float, binary32, ofBits}
 use Rattle.trellis.specs.Step.{Step, pair}
 
+-- "at most four wrong coded bits"
+abbrev pub mostWrong : ℕ
+mostWrong = 4
+
 abbrev pub soft : ℕ → Float
 soft b = cond (eqb b 1) (ofBits binary32 0xbf80_0000) (ofBits binary32 0x3f80_0000)
 

@@ -14,7 +14,7 @@ use Rattle.trellis.specs.Isdb.{flushAt}
 use Rattle.trellis.specs.Lists.{laid}
 use Rattle.trellis.specs.Run.{Decoder, block, startAt, decisionsAfter}
 use Rattle.trellis.specs.Stretch.{differing, Bits, Coded}
-use Rattle.best_path.specs.Hard.{softPairs}
+use Rattle.best_path.specs.Hard.{mostWrong, softPairs}
 use Rattle.best_path.specs.Paths.{longest}
 use Rattle.isdb_fec.specs.declared.conv.ViterbiDecoder.{ViterbiDecoder}
 use Rattle.isdb_fec.specs.declared.conv.Released.{Released}
@@ -60,6 +60,6 @@ Left tb s e xs r decisions₀ decisions out₀ out =
 abbrev pub Corrects : ℕ → ℕ → ℕ → List Float → Released → ℕ → ℕ → List ℕ → Type 0
 Corrects tb s e xs r decisions space out =
     (us ps : List ℕ) → tb ≤ 1024 → length us ≤ longest → Bits us → reached isdb (s % 64) us ≡ e % 64
-    → Coded ps → length ps ≡ length us → differing ps (encoded isdb (s % 64) us) ≤ 4 → xs ≡ softPairs ps
+    → Coded ps → length ps ≡ length us → differing ps (encoded isdb (s % 64) us) ≤ mostWrong → xs ≡ softPairs ps
     → (r .answer ≡ firstRow ((Space, ltb space (length us) || ltb decisions (block + depth tb)) ∷ []))
     × (r .answer ≡ Accepted → (r .count ≡ length us) × (take (length us) out ≡ us))
