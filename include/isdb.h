@@ -118,6 +118,7 @@ uint32_t isdbs_window_push(uint32_t window, uint32_t *fill, uint32_t *next, uint
  * isdb_push_metrics  four metrics a step, that of the outputs (X, Y) at 2X + Y.   Rows 3, 4, 5, 7, 9.
  * isdb_push_known    a known bit a step, the low bit of its byte.   Rows 3, 4, 5, 9.
  * isdb_flush         no steps: all held bits leave.   Rows 3, 4, 5, 9.
+ * isdb_flush_at      the same, traced from the state `end` (mod 64) in place of the best one.   Rows 3, 4, 5, 9.
  *
  * One isdb_push_metrics of at most 4,096 quadruples of whole numbers within 16 of zero on a fresh state, then isdb_flush: the bits are the inputs
  * of the first path of greatest sum, the one of lowest end state, then of the smaller low bit of the predecessor at the last step, the step before
@@ -131,6 +132,8 @@ uint32_t isdb_push_known(float *pm, size_t pm_len, uint64_t *held, uint64_t trac
                          uint64_t *decisions, size_t decisions_len, uint8_t *out, size_t out_len, uint64_t *count);
 uint32_t isdb_flush(float *pm, size_t pm_len, uint64_t *held, uint64_t traceback,
                     uint64_t *decisions, size_t decisions_len, uint8_t *out, size_t out_len, uint64_t *count);
+uint32_t isdb_flush_at(float *pm, size_t pm_len, uint64_t *held, uint64_t traceback, uint8_t end,
+                       uint64_t *decisions, size_t decisions_len, uint8_t *out, size_t out_len, uint64_t *count);
 
 /* The punctured code of ISDB-T. Rates 0 to 4: 1/2, 2/3, 3/4, 5/6, 7/8. A period is 1, 2, 3, 5, 7 bits and 2, 3, 4, 6, 8 sent ones.
  *

@@ -15,10 +15,10 @@ use Rattle.refusal.specs.RowLaws.{zero-accepted}
 use Rattle.trellis.specs.Run.{Decoder}
 use Rattle.isdb_fec.specs.declared.conv.ViterbiDecoder.{ViterbiDecoder}
 use Rattle.isdb_fec.specs.declared.conv.Released.{Released}
-use Rattle.isdb_fec.specs.Calls.{Either, Leaves, Flushes, Unchanged}
+use Rattle.isdb_fec.specs.Calls.{Either, Leaves, Emits, Unchanged}
 use Rattle.isdb_c.specs.Rows.{answered, left}
 use Rattle.isdb_c.specs.Lengths.{withStates}
-use Rattle.isdb_c.specs.Decoders.{Stored, Flushed}
+use Rattle.isdb_c.specs.Decoders.{Stored, Emitted}
 use Rattle.isdb_c.proofs.Lengths.{states-answer}
 
 -- where nothing is stored
@@ -27,8 +27,8 @@ unstored n tb d pm held count decisions out h =
     let e = ne-eqb n 0 h in
     record { values = rw e; held-is = rw e; count-is = rw e; words = rw e; bits = rw e }
 
-pub unflushed : (n : ℕ) (v : ViterbiDecoder) (count : ℕ) (decisions out : List ℕ) → (n ≡ 0 → ⊥) → Flushed n v (v .pm) (v .held) count count decisions decisions out out
-unflushed n v count decisions out h =
+pub unflushed : (emitted : List ℕ) (n : ℕ) (v : ViterbiDecoder) (count : ℕ) (decisions out : List ℕ) → (n ≡ 0 → ⊥) → Emitted emitted n v (v .pm) (v .held) count count decisions decisions out out
+unflushed emitted n v count decisions out h =
     let e = ne-eqb n 0 h in
     record { values = refl; held-is = rw e; count-is = rw e; words = rw e; bits = rw e }
 
@@ -64,8 +64,8 @@ module _ (v : ViterbiDecoder) (r : Released) (n : ℕ) (pm : List Float) (held c
       → Stored n (v .traceback) d (v .pm) pm (v .held) held count₀ count decisions₀ decisions out₀ out
   stored d l = stored-by d (eqb n 0) refl l
 
-  flush-leaves : n ≡ 0 → Flushes v r decisions₀ decisions out₀ out → Flushed n v pm held count₀ count decisions₀ decisions out₀ out
-  flush-leaves z l =
+  flush-leaves : (emitted : List ℕ) → n ≡ 0 → Emits emitted v r decisions₀ decisions out₀ out → Emitted emitted n v pm held count₀ count decisions₀ decisions out₀ out
+  flush-leaves emitted z l =
       let e = eq-eqb n 0 z in
       record {
         values = ep ∙ rw e (l .values);
@@ -75,19 +75,19 @@ module _ (v : ViterbiDecoder) (r : Released) (n : ℕ) (pm : List Float) (held c
         bits = rw e (l .bits);
       }
 
-  flush-kept : (n ≡ 0 → ⊥) → Unchanged v r decisions₀ decisions out₀ out → Flushed n v pm held count₀ count decisions₀ decisions out₀ out
-  flush-kept h u =
+  flush-kept : (emitted : List ℕ) → (n ≡ 0 → ⊥) → Unchanged v r decisions₀ decisions out₀ out → Emitted emitted n v pm held count₀ count decisions₀ decisions out₀ out
+  flush-kept emitted h u =
       let e = ne-eqb n 0 h in
       record { values = ep ∙ rw e refl; held-is = eh ∙ rw e refl; count-is = ec ∙ rw e refl; words = rw e (u .words); bits = rw e (u .bits) }
 
-  flushed-by : (b : Bool) → eqb n 0 ≡ b → Either (r .answer) (Flushes v r decisions₀ decisions out₀ out) (Unchanged v r decisions₀ decisions out₀ out) → Flushed n v pm held count₀ count decisions₀ decisions out₀ out
-  flushed-by true t l =
+  flushed-by : (emitted : List ℕ) (b : Bool) → eqb n 0 ≡ b → Either (r .answer) (Emits emitted v r decisions₀ decisions out₀ out) (Unchanged v r decisions₀ decisions out₀ out) → Emitted emitted n v pm held count₀ count decisions₀ decisions out₀ out
+  flushed-by emitted true t l =
       let z = eqb-true n 0 t in
-      flush-leaves z (l .0 (zero-accepted (r .answer) (sym en ∙ z)))
-  flushed-by false t l = let h = eqb-false n 0 t in flush-kept h (l .1 (refuses h))
+      flush-leaves emitted z (l .0 (zero-accepted (r .answer) (sym en ∙ z)))
+  flushed-by emitted false t l = let h = eqb-false n 0 t in flush-kept emitted h (l .1 (refuses h))
 
-  pub flushed : Either (r .answer) (Flushes v r decisions₀ decisions out₀ out) (Unchanged v r decisions₀ decisions out₀ out) → Flushed n v pm held count₀ count decisions₀ decisions out₀ out
-  flushed l = flushed-by (eqb n 0) refl l
+  pub flushed : (emitted : List ℕ) → Either (r .answer) (Emits emitted v r decisions₀ decisions out₀ out) (Unchanged v r decisions₀ decisions out₀ out) → Emitted emitted n v pm held count₀ count decisions₀ decisions out₀ out
+  flushed emitted l = flushed-by emitted (eqb n 0) refl l
 
 module _ (v w : ViterbiDecoder) (ev : v ≡ w) (rows : ViterbiDecoder → List Row) (r : Released) (n : ℕ) (pm : List Float) (held count₀ count : ℕ) (decisions₀ decisions out₀ out : List ℕ)
     (states : length (w .pm) ≡ 64) (en : n ≡ numberOf (r .answer)) (ep : pm ≡ left n (r .dec .pm) (w .pm)) (eh : held ≡ left n (r .dec .held) (w .held)) (ec : count ≡ left n (r .count) count₀)
@@ -100,6 +100,6 @@ module _ (v w : ViterbiDecoder) (ev : v ≡ w) (rows : ViterbiDecoder → List R
       → (n ≡ answered (withStates (w .pm) (rows w))) × Stored n (w .traceback) (d w) (w .pm) pm (w .held) held count₀ count decisions₀ decisions out₀ out
   pushed d l = (number, stored w r n pm held count₀ count decisions₀ decisions out₀ out en ep eh ec (d w) (rw ev at l))
 
-  pub flush-done : Either (r .answer) (Flushes v r decisions₀ decisions out₀ out) (Unchanged v r decisions₀ decisions out₀ out)
-      → (n ≡ answered (withStates (w .pm) (rows w))) × Flushed n w pm held count₀ count decisions₀ decisions out₀ out
-  flush-done l = (number, flushed w r n pm held count₀ count decisions₀ decisions out₀ out en ep eh ec (rw ev at l))
+  pub flush-done : (emitted : ViterbiDecoder → List ℕ) → Either (r .answer) (Emits (emitted v) v r decisions₀ decisions out₀ out) (Unchanged v r decisions₀ decisions out₀ out)
+      → (n ≡ answered (withStates (w .pm) (rows w))) × Emitted (emitted w) n w pm held count₀ count decisions₀ decisions out₀ out
+  flush-done emitted l = (number, flushed w r n pm held count₀ count decisions₀ decisions out₀ out en ep eh ec (emitted w) (rw ev at l))

@@ -9,7 +9,7 @@ ghost use Rattle.isdb_fec.specs.Calls.{pairSteps, fourSteps, knownSteps, steps,
 ghost use Rattle.isdb_fec.specs.Rows.{handedRows, pushRows, pushMetricsRows, pushKnownRows, flushRows};
 ghost use Rattle.isdb_c.specs.Rows.{answered, left};
 ghost use Rattle.isdb_c.specs.Lengths.{untilLength, withStates};
-ghost use Rattle.isdb_c.specs.Decoders.{decoderOf, Stored, Flushed};
+ghost use Rattle.isdb_c.specs.Decoders.{decoderOf, Stored, Flushed, FlushedAt};
 
 // The answer where the path values are not 64: rows 3 and 4 stand above 5.
 fn not_states(pm: &[f32], held: u64, traceback: u64) -> u32
@@ -173,5 +173,28 @@ pub extern "C" fn isdb_flush(
     }
     let v = decoder_of(pm, *held, traceback);
     let r = v.flush(decisions, out);
+    store(r, pm, held, count)
+}
+
+// Puts out all held bits, traced from the given state, mod 64.
+#[no_mangle]
+pub extern "C" fn isdb_flush_at(
+    pm: &mut [f32],
+    held: &mut u64,
+    traceback: u64,
+    end: u8,
+    decisions: &mut [u64],
+    out: &mut [u8],
+    count: &mut u64,
+) -> u32
+    ensures answers { λ r. ⌜ r ≡ answered (withStates (now (pm .entry)) (flushRows (decoderOf (now (pm .entry)) (now (held .entry)) traceback) (length (now (decisions .entry))) (length (now (out .entry))))) ⌝ }
+    ensures leaves { λ r. ⌜ FlushedAt end r (decoderOf (now (pm .entry)) (now (held .entry)) traceback)
+        (now (pm .exit)) (now (held .exit)) (now (count .entry)) (now (count .exit)) (now (decisions .entry)) (now (decisions .exit)) (now (out .entry)) (now (out .exit)) ⌝ }
+{
+    if pm.len() != 64 {
+        return not_states(pm, *held, traceback);
+    }
+    let v = decoder_of(pm, *held, traceback);
+    let r = v.flush_at(end, decisions, out);
     store(r, pm, held, count)
 }

@@ -4,6 +4,7 @@ use Prim.Native.Nat.{ℕ, _/_}
 use borrow.Author.Needs.{needs}
 use lib.ListN.{length}
 use Rattle.isdb_fec.specs.declared.conv.ViterbiDecoder.{ViterbiDecoder}
+use Rattle.isdb_fec.specs.Calls.{flush, handed}
 use Rattle.isdb_fec.specs.Rows.{badTraceback, badState, flushRows}
 use Rattle.isdb_c.specs.Decoders.{decoderOf}
 use Rattle.isdb_c.proofs.Lengths.{not-states, refused-2}
@@ -23,7 +24,7 @@ returns c =
     let w : ViterbiDecoder = decoderOf (a .pm .now) (a .held .now) (a .traceback) in
     let n = c .not-states .result in
     let h = refused-2 (badTraceback w) (badState w) n (c .not-states .ensures) in
-    (not-states (a .pm .now) (flushRows w (length (a .decisions .now)) (length (a .out .now))) n (c .before .before .before .if1 .taken) (c .not-states .ensures), unflushed n w (a .count .now) (a .decisions .now) (a .out .now) h)
+    (not-states (a .pm .now) (flushRows w (length (a .decisions .now)) (length (a .out .now))) n (c .before .before .before .if1 .taken) (c .not-states .ensures), unflushed (flush (handed w (a .decisions .now)) .bits) n w (a .count .now) (a .decisions .now) (a .out .now) h)
 
 decoder-of-requires : tie.Need-decoder-of-requires
 decoder-of-requires c κs = search needs
@@ -52,7 +53,7 @@ returns-2 c =
     let v = d .decoder-of .result in
     let w : ViterbiDecoder = decoderOf (a .pm .now) (a .held .now) (a .traceback) in
     let e : v ≡ w = d .decoder-of .ensures in
-    flush-done v w e (λ v. flushRows v (length (a .decisions .now)) (length (a .out .now))) (p .flush .result) (s .store .result) (s .store .last .1 .0) (s .store .last .1 .1 .0) (a .count .now) (s .store .last .1 .1 .1 .0) (a .decisions .now) (p .flush .last .1 .0) (a .out .now) (p .flush .last .1 .1 .0) (d .before .before .before .if1 .left) (s .store .ensures .0) (s .store .ensures .1 .0) (s .store .ensures .1 .1 .0) (s .store .ensures .1 .1 .1) (p .flush .ensures .0) (p .flush .ensures .1)
+    flush-done v w e (λ v. flushRows v (length (a .decisions .now)) (length (a .out .now))) (p .flush .result) (s .store .result) (s .store .last .1 .0) (s .store .last .1 .1 .0) (a .count .now) (s .store .last .1 .1 .1 .0) (a .decisions .now) (p .flush .last .1 .0) (a .out .now) (p .flush .last .1 .1 .0) (d .before .before .before .if1 .left) (s .store .ensures .0) (s .store .ensures .1 .0) (s .store .ensures .1 .1 .0) (s .store .ensures .1 .1 .1) (p .flush .ensures .0) (λ v. flush (handed v (a .decisions .now)) .bits) (p .flush .ensures .1)
 
 pub isdb-flush-spec : {M : Type 1} → statement M
 isdb-flush-spec =
