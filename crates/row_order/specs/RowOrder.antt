@@ -17,6 +17,7 @@ use Rattle.isdbs_core.specs.SlotPart.{slotPartRows}
 use Rattle.isdbs_phy.specs.EncodeRows.{encodeRows, encodeFrameRows}
 use Rattle.isdbs_phy.specs.DecodeRows.{decodeRows}
 use Rattle.best_reading.specs.Calls.{readingRows}
+use Rattle.known_end.specs.Calls.{betweenRows}
 use Rattle.full_frame.specs.declared.Input.{Input}
 use Rattle.full_frame.specs.Rows.{layRows, takeRows}
 use Rattle.strain_window.specs.declared.WindowState.{WindowState}
@@ -35,7 +36,7 @@ module _ (t : Table) (v : ViterbiDecoder) (w : WindowState) (parts : Input → L
   -- every row list of a call
   abbrev pub rowLists : List (List Row)
   rowLists =
-      -- isdb_fec: `branch_output` and `ConvEncoder::push`; `new`, `with_state`, `new_unknown_state`; a handed state; the four calls
+      -- isdb_fec: `branch_output` and `ConvEncoder::push`; `new`, `with_state`, `new_unknown_state`; a handed state; the calls, `flush_at` by the rows of `flush`
       encoderRows i
       ∷ freshRows i
       ∷ handedRows v
@@ -61,6 +62,8 @@ module _ (t : Table) (v : ViterbiDecoder) (w : WindowState) (parts : Input → L
       ∷ decodeRows t re im scale i j k
       -- best_reading
       ∷ readingRows xs i j
+      -- known_end
+      ∷ betweenRows i xs j k
       -- full_frame
       ∷ layRows parts parts re im
       ∷ takeRows re im parts parts
