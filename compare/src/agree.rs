@@ -192,6 +192,11 @@ impl Pair {
             Feed::Metrics(_) => self.rust.push_metrics(quadruples, &mut want),
             Feed::Known(s) => self.rust.push_known(s, &mut want),
             Feed::Flush => self.rust.flush(&mut want),
+            // the given Rust has no such call: its held words, traced from the state
+            Feed::FlushAt(end) => {
+                want = traced(self.rust.held(), end);
+                self.rust.flush(&mut Vec::new());
+            }
         }
         // an output of exactly the bits that leave, and one place more that must stay
         let mut out = vec![0xa5u8; want.len() + 1];
@@ -207,12 +212,23 @@ impl Pair {
         let words = left == rust.len() && self.decisions[..left] == *rust;
         // words past those held: 0 where bits left, else as before
         let past = match x {
-            Feed::Flush => self.decisions[left..held].iter().all(|&w| w == 0) && self.decisions[held..] == before[held..],
+            Feed::Flush | Feed::FlushAt(_) => self.decisions[left..held].iter().all(|&w| w == 0) && self.decisions[held..] == before[held..],
             _ if want.is_empty() => self.decisions[left..] == before[left..],
             _ => self.decisions[left..need].iter().all(|&w| w == 0) && self.decisions[need..] == before[need..],
         };
         bits && values && words && past
     }
+}
+
+/// The bits of the held words, traced back from a state, mod 64.
+fn traced(words: &[u64], end: u8) -> Vec<u8> {
+    let mut state = usize::from(end % 64);
+    let mut bits = vec![0; words.len()];
+    for (bit, word) in bits.iter_mut().zip(words).rev() {
+        *bit = (state / 32) as u8;
+        state = 2 * (state % 32) + (word >> state & 1) as usize;
+    }
+    bits
 }
 
 fn quadruples(flat: &[f32]) -> Vec<[f32; 4]> {
@@ -304,7 +320,8 @@ fn random_call(draws: &mut Draws, pair: &mut Pair, class: u64, longest: u64) -> 
             let bits = draws.bytes(n.min(6000));
             pair.feed(Feed::Known(&bits), &[])
         }
-        _ => pair.feed(Feed::Flush, &[]),
+        _ if draws.below(2) == 0 => pair.feed(Feed::Flush, &[]),
+        _ => pair.feed(Feed::FlushAt(draws.next() as u8), &[]),
     }
 }
 

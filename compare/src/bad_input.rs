@@ -146,7 +146,7 @@ fn feed_row(pm: &[f32], held: u64, traceback: u64, x: Feed, decisions: usize, ou
         return 7;
     }
     let writes = match x {
-        Feed::Flush => held,
+        Feed::Flush | Feed::FlushAt(_) => held,
         Feed::Known(s) => 4096 * releases(held, s.len() as u64, traceback),
         _ => 4096 * releases(held, (values.len() / per) as u64, traceback),
     };
@@ -274,7 +274,7 @@ fn decoders(all: &mut (u64, u64), draws: &mut Draws) {
     let mut decisions = Fence::<u64>::new(5_632);
     let mut out = Fence::<u8>::new(16_384);
     let mut counted = Fence::<u64>::new(1);
-    let mut counts = ["push", "push_metrics", "push_known", "flush"].map(Count::new);
+    let mut counts = ["push", "push_metrics", "push_known", "flush", "flush_at"].map(Count::new);
     for turn in 0..60_000u64 {
         let len = if draws.below(16) == 0 { near(draws, &[0, 64, 128]) as usize % 200 } else { 64 };
         lend_floats(&mut pm, draws, len);
@@ -290,7 +290,7 @@ fn decoders(all: &mut (u64, u64), draws: &mut Draws) {
             _ => draws.below(4),
         };
         let odd = if draws.below(8) == 0 { draws.below(4) } else { 0 };
-        let which = draws.below(4);
+        let which = draws.below(5);
         let x = match which {
             0 => {
                 lend_floats(&mut values, draws, (2 * n + odd) as usize);
@@ -304,9 +304,10 @@ fn decoders(all: &mut (u64, u64), draws: &mut Draws) {
                 known.lend(draws, n as usize, |d| d.next() as u8);
                 Feed::Known(known.slice())
             }
-            _ => Feed::Flush,
+            3 => Feed::Flush,
+            _ => Feed::FlushAt(draws.next() as u8),
         };
-        let writes = if which == 3 { h.min(6_000) } else { 4096 * releases(h.min(most - 1), n, traceback.clamp(1, 1024)) };
+        let writes = if which > 2 { h.min(6_000) } else { 4096 * releases(h.min(most - 1), n, traceback.clamp(1, 1024)) };
         let places = if draws.below(4) == 0 { near(draws, &[writes, 0]) } else { writes + draws.below(2) };
         out.lend(draws, places as usize % 20_000, |d| d.next() as u8);
         let words = if draws.below(4) == 0 { near(draws, &[most, 4096, 0]) } else { most + draws.below(2) };

@@ -15,6 +15,8 @@ mod c {
         pub fn isdb_push_known(pm: *mut f32, pm_len: usize, held: *mut u64, traceback: u64, bits: *const u8, bits_len: usize, decisions: *mut u64, decisions_len: usize, out: *mut u8, out_len: usize, count: *mut u64) -> u32;
         #[rustfmt::skip]
         pub fn isdb_flush(pm: *mut f32, pm_len: usize, held: *mut u64, traceback: u64, decisions: *mut u64, decisions_len: usize, out: *mut u8, out_len: usize, count: *mut u64) -> u32;
+        #[rustfmt::skip]
+        pub fn isdb_flush_at(pm: *mut f32, pm_len: usize, held: *mut u64, traceback: u64, end: u8, decisions: *mut u64, decisions_len: usize, out: *mut u8, out_len: usize, count: *mut u64) -> u32;
         #[cfg(isdbt)]
         #[rustfmt::skip]
         pub fn isdbt_encode_punctured(rate: u8, state: *mut u8, bits: *const u8, bits_len: usize, out: *mut u8, out_len: usize, count: *mut u64) -> u32;
@@ -55,6 +57,7 @@ pub enum Feed<'a> {
     Metrics(&'a [f32]),
     Known(&'a [u8]),
     Flush,
+    FlushAt(u8),
 }
 
 pub fn feed(pm: &mut [f32], held: &mut u64, traceback: u64, x: Feed, decisions: &mut [u64], out: &mut [u8], count: &mut u64) -> u32 {
@@ -65,6 +68,7 @@ pub fn feed(pm: &mut [f32], held: &mut u64, traceback: u64, x: Feed, decisions: 
             Feed::Metrics(s) => c::isdb_push_metrics(p, pn, held, traceback, s.as_ptr(), s.len(), d, dn, o, on, count),
             Feed::Known(s) => c::isdb_push_known(p, pn, held, traceback, s.as_ptr(), s.len(), d, dn, o, on, count),
             Feed::Flush => c::isdb_flush(p, pn, held, traceback, d, dn, o, on, count),
+            Feed::FlushAt(end) => c::isdb_flush_at(p, pn, held, traceback, end, d, dn, o, on, count),
         }
     }
 }

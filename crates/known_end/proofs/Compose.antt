@@ -1,9 +1,9 @@
 -- The three calls put together. Assumes nothing.
 use mathlib.Core.Path.{_≡_, refl, sym, ap, _∙_, subst}
-use mathlib.Core.Bool.{Bool, true, false, cond, _||_}
+use mathlib.Core.Bool.{_||_}
 use mathlib.Core.Logic.{⊎-elim}
 use mathlib.Core.List.{List, [], _∷_, _++_}
-use Prim.Native.Nat.{ℕ, _+_, _-_, _*_, _/_, _%_, _≤_, _<_}
+use Prim.Native.Nat.{ℕ, _+_, _-_, _*_, _/_, _%_, _≤_}
 use native.Mathlib.Omega.{arith}
 use borrow.Author.Tests.{le-ltb}
 use lib.Dec.{ltb}
@@ -17,14 +17,11 @@ use Rattle.refusal.specs.RowLaws.{none-accepted, refused, decided}
 use Rattle.trellis.specs.Isdb
 use Rattle.trellis.specs.Isdb.{flushAt}
 use Rattle.trellis.specs.Lists.{laid}
-use Rattle.trellis.specs.Step as step
-use Rattle.trellis.specs.Step.{pair}
-use Rattle.trellis.specs.Run.{Decoder, block, startAt, decisionsAfter}
-use Rattle.best_path.specs.Hard.{softPairs, hard}
+use Rattle.trellis.specs.Run.{Decoder, block, startAt}
 use Rattle.best_path.specs.Corrected.{length-soft, soft-at, known-end}
 use Rattle.viterbi.specs.Count.{Counted, releases-le}
 use Rattle.viterbi.specs.Holding.{bare, holding-is}
-use Rattle.viterbi.specs.Laid.{take-laid, laid-after, length-laid}
+use Rattle.viterbi.specs.Laid.{take-laid, laid-after}
 use Rattle.viterbi.specs.Parts.{tail-whole, written-tail}
 use Rattle.viterbi.specs.Traced.{length-traced}
 use Rattle.isdb_fec.specs.declared.conv.ViterbiDecoder.{ViterbiDecoder}
@@ -37,7 +34,7 @@ use Rattle.isdb_fec.specs.TwoCalls.{soft-call}
 use Rattle.call_ranges.specs.Reached.{Reached, Floats, with-state}
 use Rattle.call_ranges.specs.Handed.{push-hands}
 use Rattle.call_ranges.specs.Answers.{stream-answer, flush-answer}
-use Rattle.known_end.specs.Calls.{depth, fresh, read, betweenRows, Finished, Left, Corrects}
+use Rattle.known_end.specs.Calls.{depth, read, betweenRows, Finished, Left, Corrects}
 use Rattle.known_end.specs.Behind.{Behind}
 use Rattle.known_end.proofs.Rows.{depth-small, started, Passed, passed, fresh-passes, fresh-is, started-is, soft-rows}
 

@@ -1,20 +1,20 @@
 -- Which rows hold: of a reading that passes, and of a stretch of +1 and -1. Assumes nothing.
-use mathlib.Core.Path.{_≡_, refl, sym, ap, _∙_, subst}
+use mathlib.Core.Path.{_≡_, refl, sym, _∙_}
 use mathlib.Core.Bool.{Bool, true, false, not, cond, _||_}
 use mathlib.Core.List.{List, [], _∷_}
-use Prim.Native.Nat.{ℕ, _+_, _*_, _/_, _%_, _≤_}
+use Prim.Native.Nat.{ℕ, _+_, _/_, _%_, _≤_}
 use native.Mathlib.Omega.{arith}
 use borrow.Author.Tests.{ltb-false, le-ltb, eqb-false}
-use lib.Dec.{T, eqb, ltb, lit<, lit≤}
+use lib.Dec.{eqb, ltb, lit<, lit≤}
 use lib.ListN.{length, replicate}
 use lib.Ieee.{Float, binary32, neg, le, ofBits}
-use Rattle.refusal.specs.Rows.{Row, firstRow}
+use Rattle.refusal.specs.Rows.{firstRow}
 use Rattle.refusal.specs.RowLaws as row
 use Rattle.refusal.specs.RowLaws.{neither, numbered}
 use Rattle.refusal.specs.declared.Answer.{Answer}
 use Rattle.refusal.specs.declared.Answer.the-variants.{Accepted, Traceback, Length, Sample, Space}
 use Rattle.trellis.specs.Run.{block, startAt}
-use Rattle.best_path.specs.Hard.{soft, softPairs}
+use Rattle.best_path.specs.Hard.{softPairs}
 use Rattle.best_path.specs.Corrected.{length-soft}
 use Rattle.isdb_fec.specs.declared.conv.ViterbiDecoder.{ViterbiDecoder}
 use Rattle.isdb_fec.specs.Values.{within, someBeyond, streamLimit}
