@@ -18,7 +18,7 @@
  *   5 length     metrics not in fours, soft values not in twos, stream not whole periods; path values not 64; an unknown rate
  *   6 symbols    under 38,976 of either part; for a full frame an input shorter than its length (isdbs_lay_frame, isdbs_take_frame)
  *   7 sample     not finite; beyond 1,024 for a frame part, 1,048,576 for a stream value
- *   8 scale      not above 0, or above 64
+ *   8 scale      a scale not above 0, or above 64
  *   9 space      an output or decision slice shorter than the call writes; decisions always need 4,096 + traceback
  *
  * A table is one number: entry i (0 to 3) has its word in bits 16i to 16i+7, of which the low 4 count, and its slot count in bits 16i+8 to 16i+15.
@@ -39,9 +39,10 @@
  *   int main(void) {
  *       uint64_t table = 6 | 8 << 8 | (uint64_t)0x000f000f000f << 16; // 8 slots of QPSK 7/8, of which 7 are valid; no other entry
  *       uint8_t load[7 * 203], end;
+ *       float scales[7] = {8, 8, 8, 8, 8, 8, 8}; // of words 1 to 7
  *       for (int i = 0; i < 7 * 203; i++) load[i] = (uint8_t)(i * 37);
  *       uint32_t made = isdbs_encode_frame(load, sizeof load, table, 4, 0, re, 38976, im, 38976, &end);
- *       uint32_t read = isdbs_decode_frame(re, 38976, im, 38976, table, 4, 1, 1, 8.0f, decisions, 4224, bits, sizeof bits, bytes, sizeof bytes);
+ *       uint32_t read = isdbs_decode_frame(re, 38976, im, 38976, table, 4, 1, 1, scales, 7, decisions, 4224, bits, sizeof bits, bytes, sizeof bytes);
  *       int same = 0;
  *       for (int i = 0; i < 7 * 203; i++) same += bytes[i] == load[i];
  *       printf("answers %u and %u, %d of %d bytes the same\n", made, read, same, 7 * 203);
@@ -80,11 +81,12 @@ uint32_t isdbs_encode_frame(const uint8_t *bytes, size_t bytes_len, uint64_t tab
                             double *re, size_t re_len, double *im, size_t im_len, uint8_t *end);
 
 /* The bytes of a frame from its 38,976 points; points past them are not read. `first`: the first frame of a superframe (any number but 0).
- * `known_start`: the decoder starts in that frame's start state (any number but 0), else in no known one. `llr_scale` (usually 8) scales the soft values.
+ * `known_start`: the decoder starts in that frame's start state (any number but 0), else in no known one. `scales` (usually all 8) has seven scales of the
+ * soft values in the order of words 1 to 7: a run is read with the scale of its combination. Row 5: they are not seven; row 8 is of any of them, used or not.
  * Afterwards `bits` begins with steps + 16 decoded bits, one in a byte, the first 4,224 words of `decisions` are 0, and `bytes` begins with 203 bytes
- * for each valid slot. A trellis step is an information bit; TC8PSK takes two bits a step. At most 68,224 bits and 9,744 bytes. Rows 1, 10, 11, 6, 7, 8, 9. */
+ * for each valid slot. A trellis step is an information bit; TC8PSK takes two bits a step. At most 68,224 bits and 9,744 bytes. Rows 1, 10, 11, 5, 6, 7, 8, 9. */
 uint32_t isdbs_decode_frame(const double *re, size_t re_len, const double *im, size_t im_len, uint64_t table, uint8_t mapping,
-                            uint8_t first, uint8_t known_start, float llr_scale,
+                            uint8_t first, uint8_t known_start, const float *scales, size_t scales_len,
                             uint64_t *decisions, size_t decisions_len, uint8_t *bits, size_t bits_len, uint8_t *bytes, size_t bytes_len);
 
 /* Full frames of 39,936 symbols, as real and imaginary parts: 192 header points at places 0 to 191, then 192 times 203 main points and a burst of 4.

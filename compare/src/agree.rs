@@ -410,9 +410,11 @@ fn encoding(all: &mut (u64, u64), scale: u64) {
 
 #[cfg(decode)]
 fn decoding(all: &mut (u64, u64), scale: u64) {
-    let check = |kind: &mut Kind, points: &[Cplx], s: &calls::Settings| {
+    // the Rust has one scale: `scale`, and the points of each run times 2^k where the scales are `scale` times 2^k
+    let check = |kind: &mut Kind, points: &[Cplx], s: &calls::Settings, scale: f32, powers: &[i32; 7]| {
         let (known, first) = (s.known != 0, s.first != 0);
-        let want = isdbs_phy::demod::decode_frame(points, &info(s.table), first, &options(s.mapping, known, s.scale)).bytes;
+        assert_eq!(s.scales, scales_of(scale, powers));
+        let want = isdbs_phy::demod::decode_frame(&louder(points, s.table, powers), &info(s.table), first, &options(s.mapping, known, scale)).bytes;
         let bits = decoded_bits(&want, s.table);
         let (mut re, mut im): (Vec<f64>, Vec<f64>) = points.iter().map(|v| (v.re, v.im)).unzip();
         // past the points nothing is read
@@ -429,7 +431,7 @@ fn decoding(all: &mut (u64, u64), scale: u64) {
             && decisions[4224..] == [u64::MAX; 2]
             && got_bits[bits.len()..] == [0xa5; 2]
             && got_bytes[want.len()..] == [0xa5; 2];
-        kind.case(same, || format!("table {:016x} mapping {} first {} known {} scale {:08x}", s.table, s.mapping, s.first, s.known, s.scale.to_bits()));
+        kind.case(same, || format!("table {:016x} mapping {} first {} known {} scales {:x?}", s.table, s.mapping, s.first, s.known, s.scales.iter().map(|x| x.to_bits()).collect::<Vec<_>>()));
     };
     let mut draws = Draws(0xdec0_de2);
     let mut kind = Kind::new("decode_frame: tables of every kind, all mappings, clean, noisy and hopeless points");
@@ -440,8 +442,8 @@ fn decoding(all: &mut (u64, u64), scale: u64) {
                 let bytes = draws.bytes(valid_slots(t) * 203);
                 let (clean, _) = reference_frame(&bytes, t, m, start(first)).unwrap();
                 let points = received(&clean, draws.next(), 0, amplitude);
-                let s = calls::Settings { table: t, mapping: m, first: u8::from(first), known: draws.below(2) as u8, scale: 8.0 };
-                check(&mut kind, &points, &s);
+                let s = calls::Settings { table: t, mapping: m, first: u8::from(first), known: draws.below(2) as u8, scales: &[8.0; 7] };
+                check(&mut kind, &points, &s, 8.0, &[0; 7]);
             }
         }
     }
@@ -455,8 +457,10 @@ fn decoding(all: &mut (u64, u64), scale: u64) {
         let bytes = draws.bytes(valid_slots(t) * 203);
         let (clean, _) = reference_frame(&bytes, t, m, start(first)).unwrap();
         let points = received(&clean, draws.next(), 1, 0.0);
-        let s = calls::Settings { table: t, mapping: m, first: u8::from(first), known: draws.below(2) as u8, scale: draws.pick(&scales) };
-        check(&mut kind, &points, &s);
+        let known = draws.below(2) as u8;
+        let one = draws.pick(&scales);
+        let s = calls::Settings { table: t, mapping: m, first: u8::from(first), known, scales: &[one; 7] };
+        check(&mut kind, &points, &s, one, &[0; 7]);
     }
     kind.done(all);
     let mut kind = Kind::new("decode_frame: random tables, noise and scales");
@@ -468,8 +472,25 @@ fn decoding(all: &mut (u64, u64), scale: u64) {
         let (clean, _) = reference_frame(&bytes, t, m, start(first)).unwrap();
         let amplitude = draws.pick(&[0.5, 1.0, 1.5, 2.0, 4.0, 100.0]);
         let points = received(&clean, draws.next(), 0, amplitude);
-        let s = calls::Settings { table: t, mapping: m, first: u8::from(first), known: draws.below(2) as u8, scale: draws.pick(&scales) };
-        check(&mut kind, &points, &s);
+        let known = draws.below(2) as u8;
+        let one = draws.pick(&scales);
+        let s = calls::Settings { table: t, mapping: m, first: u8::from(first), known, scales: &[one; 7] };
+        check(&mut kind, &points, &s, one, &[0; 7]);
+    }
+    kind.done(all);
+    let mut kind = Kind::new("decode_frame: unequal scales, beside the Rust on points times powers of two");
+    for turn in 0..150 * scale {
+        let t = if turn % 2 == 0 { draws.pick(&some_tables()) } else { random_table(&mut draws) };
+        let m = draws.below(8) as u8;
+        let first = draws.below(2) == 0;
+        let bytes = draws.bytes(valid_slots(t) * 203);
+        let (clean, _) = reference_frame(&bytes, t, m, start(first)).unwrap();
+        let amplitude = draws.pick(&[0.0, 0.5, 1.0, 1.5, 2.0]);
+        let points = received(&clean, draws.next(), 0, amplitude);
+        let powers = std::array::from_fn(|_| draws.below(12) as i32 - 8);
+        let all = scales_of(8.0, &powers);
+        let s = calls::Settings { table: t, mapping: m, first: u8::from(first), known: draws.below(2) as u8, scales: &all };
+        check(&mut kind, &points, &s, 8.0, &powers);
     }
     kind.done(all);
 }

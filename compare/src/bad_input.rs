@@ -449,6 +449,7 @@ fn decoding(all: &mut (u64, u64), draws: &mut Draws) {
     let mut decisions = Fence::<u64>::new(4_608);
     let mut bits = Fence::<u8>::new(69_632);
     let mut bytes = Fence::<u8>::new(12_288);
+    let mut scales = Fence::<f32>::new(32);
     let mut count = Count::new("decode_frame");
     let above = f64::from_bits(1024f64.to_bits() + 1);
     let bad = [f64::NAN, f64::INFINITY, -f64::INFINITY, above, -above, f64::MAX, f64::from_bits(0x7ff0_0000_0000_0001), -f64::NAN];
@@ -467,11 +468,17 @@ fn decoding(all: &mut (u64, u64), draws: &mut Draws) {
                 part.before = part.watched().map(|i| unsafe { part.data.add(i).read() }).collect();
             }
         }
-        let scale = match draws.below(4) {
-            0 => draws.pick(&[0.0, -0.0, -1.0, f32::NAN, f32::INFINITY, f32::from_bits(64f32.to_bits() + 1), -f32::INFINITY]),
-            1 => draws.pick(&[64.0, f32::from_bits(1), 63.0]),
-            _ => 8.0,
-        };
+        let count_of = if draws.below(8) == 0 { near(draws, &[7, 0]) as usize % 32 } else { 7 };
+        scales.lend(draws, count_of, |_| 8.0);
+        if scales.len > 0 && draws.below(2) == 0 {
+            let at = draws.below(scales.len as u64) as usize;
+            scales.slice()[at] = if draws.below(2) == 0 {
+                draws.pick(&[0.0, -0.0, -1.0, f32::NAN, f32::INFINITY, f32::from_bits(64f32.to_bits() + 1), -f32::INFINITY])
+            } else {
+                draws.pick(&[64.0, f32::from_bits(1), 63.0])
+            };
+            scales.before = scales.watched().map(|i| unsafe { scales.data.add(i).read() }).collect();
+        }
         let space = |d: &mut Draws, need: usize| if d.below(8) == 0 { near(d, &[need as u64, 0]) as usize % 70_000 } else { need };
         let (c, d, e) = (space(draws, 4224), space(draws, steps + 16), space(draws, 203 * valid));
         decisions.lend(draws, c, Draws::next);
@@ -480,22 +487,24 @@ fn decoding(all: &mut (u64, u64), draws: &mut Draws) {
         let out = |x: &f64| !x.is_finite() || x.abs() > 1024.0;
         let row = if table_row(t) != 0 {
             table_row(t)
+        } else if scales.len != 7 {
+            5
         } else if re.len < MAIN || im.len < MAIN {
             6
         } else if re.slice()[..MAIN].iter().any(out) || im.slice()[..MAIN].iter().any(out) {
             7
-        } else if scale.is_nan() || scale <= 0.0 || scale > 64.0 {
+        } else if scales.slice().iter().any(|x| x.is_nan() || *x <= 0.0 || *x > 64.0) {
             8
         } else if decisions.len < 4224 || bits.len < steps + 16 || bytes.len < 203 * valid {
             9
         } else {
             0
         };
-        let s = calls::Settings { table: t, mapping: draws.next() as u8, first: draws.below(256) as u8, known: draws.below(256) as u8, scale };
+        let s = calls::Settings { table: t, mapping: draws.next() as u8, first: draws.below(256) as u8, known: draws.below(256) as u8, scales: scales.slice() };
         let answer = calls::decode_frame(re.slice(), im.slice(), &s, decisions.slice(), bits.slice(), bytes.slice());
         let ok = answer == 0;
-        let kept = re.kept(false) && im.kept(false) && decisions.kept(ok) && bits.kept(ok) && bytes.kept(ok);
-        count.call(answer, row, kept, || format!("table {t:016x} re {a} im {b} scale {scale} decisions {c} bits {d} bytes {e}"));
+        let kept = re.kept(false) && im.kept(false) && scales.kept(false) && decisions.kept(ok) && bits.kept(ok) && bytes.kept(ok);
+        count.call(answer, row, kept, || format!("table {t:016x} re {a} im {b} scales {:?} decisions {c} bits {d} bytes {e}", s.scales));
     }
     count.done(all);
 }

@@ -114,6 +114,24 @@ pub fn received(clean: &[Cplx], seed: u64, kind: u8, amplitude: f64) -> Vec<Cplx
         .collect()
 }
 
+/// The points with those of each run times 2^k, k being that of its combination in the order of words 1 to 7. Away from subnormal numbers reading them with
+/// one scale is reading the points with that scale times 2^k: the Rust's answer where the seven scales differ.
+pub fn louder(points: &[Cplx], t: u64, powers: &[i32; 7]) -> Vec<Cplx> {
+    let mut out = points.to_vec();
+    for r in runs(&info(t)) {
+        let by = f64::from(2f32.powi(powers[usize::from(CombinationWord::Assigned(r.combination).word()) - 1]));
+        for v in &mut out[r.symbols.clone()] {
+            *v = Cplx::new(v.re * by, v.im * by);
+        }
+    }
+    out
+}
+
+/// Seven scales: one times 2^k.
+pub fn scales_of(scale: f32, powers: &[i32; 7]) -> [f32; 7] {
+    powers.map(|k| scale * 2f32.powi(k))
+}
+
 /// The branch metrics of a frame, a quadruple for each step, worked out here from document 01.
 pub fn metrics(points: &[Cplx], t: u64, m: u8, scale: f32) -> Vec<[f32; 4]> {
     let mut out = Vec::new();

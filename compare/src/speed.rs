@@ -117,7 +117,7 @@ fn decoding(rounds: usize) {
         let points = received(&clean, 0x5eed, 0, 0.8);
         let (re, im): (Vec<f64>, Vec<f64>) = points.iter().map(|v| (v.re, v.im)).unzip();
         let (info, o) = (info(t), options(4, true, 8.0));
-        let s = calls::Settings { table: t, mapping: 4, first: 1, known: 1, scale: 8.0 };
+        let s = calls::Settings { table: t, mapping: 4, first: 1, known: 1, scales: &[8.0; 7] };
         let mut decisions = vec![0u64; 4224];
         let mut bits = vec![0u8; steps(t) + 16];
         let mut out = vec![0u8; bytes.len()];

@@ -37,11 +37,13 @@ fn encode() -> String {
     out
 }
 
-fn decode_line(out: &mut String, t: u64, m: u8, first: bool, known: bool, scale: f32, seed: u64, kind: u8, amplitude: f64) {
+fn decode_line(out: &mut String, t: u64, m: u8, first: bool, known: bool, scale: f32, powers: &[i32; 7], seed: u64, kind: u8, amplitude: f64) {
     let valid = valid_slots(t);
     let (clean, _) = reference_frame(&load(seed, valid * 203), t, m, start(first)).unwrap();
     let points = received(&clean, seed, kind, amplitude);
     assert!(points.iter().all(|v| v.re.abs() <= 1024.0 && v.im.abs() <= 1024.0));
+    // the Rust has one scale, and reads the points of each run times 2^k
+    let points = louder(&points, t, powers);
     let frame = isdbs_phy::demod::decode_frame(&points, &info(t), first, &options(m, known, scale));
     assert_eq!(frame.bytes.len(), 203 * valid);
     let bits = decoded_bits(&frame.bytes, t);
@@ -53,10 +55,10 @@ fn decode_line(out: &mut String, t: u64, m: u8, first: bool, known: bool, scale:
     let bytes = digest(frame.bytes.iter().map(|&b| u64::from(b)));
     writeln!(
         out,
-        "{t:016x} {m:02x} {:02x} {:02x} {:08x} {seed:016x} {kind:02x} {:016x} {steps:08x} {valid:02x} {bits:016x} {bytes:016x}",
+        "{t:016x} {m:02x} {:02x} {:02x} {} {seed:016x} {kind:02x} {:016x} {steps:08x} {valid:02x} {bits:016x} {bytes:016x}",
         u8::from(first),
         u8::from(known),
-        scale.to_bits(),
+        scales_of(scale, powers).map(|x| format!("{:08x}", x.to_bits())).concat(),
         amplitude.to_bits(),
     )
     .unwrap();
@@ -71,12 +73,17 @@ fn decode() -> String {
             let n = i + usize::from(m);
             let first = n % 2 == 0;
             // clean, slightly and strongly noisy, hopeless
-            decode_line(&mut out, t, m, first, n % 3 != 0, 8.0, seeds.next(), 0, [0.0, 1.0 / 16.0, 0.9, 1.6, 2.5, 2040.0][n % 6]);
+            decode_line(&mut out, t, m, first, n % 3 != 0, 8.0, &[0; 7], seeds.next(), 0, [0.0, 1.0 / 16.0, 0.9, 1.6, 2.5, 2040.0][n % 6]);
             if m % 4 == 1 {
-                decode_line(&mut out, t, m, !first, n % 3 == 0, scales[n % 8], seeds.next(), 1, 0.0);
-                decode_line(&mut out, t, m, first, true, scales[(n + 3) % 8], seeds.next(), 0, 1.3);
+                decode_line(&mut out, t, m, !first, n % 3 == 0, scales[n % 8], &[0; 7], seeds.next(), 1, 0.0);
+                decode_line(&mut out, t, m, first, true, scales[(n + 3) % 8], &[0; 7], seeds.next(), 0, 1.3);
             }
         }
+    }
+    // unequal scales
+    for (i, &t) in some_tables().iter().enumerate() {
+        let powers = std::array::from_fn(|w| ((5 * i + 3 * w) % 11) as i32 - 7);
+        decode_line(&mut out, t, (i % 8) as u8, i % 2 == 0, i % 3 != 0, 8.0, &powers, seeds.next(), 0, [1.2, 0.0, 1.6][i % 3]);
     }
     out
 }

@@ -20,46 +20,71 @@ use isdbs_phy::demod::FrameDecoded;
 use isdbs_phy::demod::decode_frame;
 ghost use Prim.Native.Nat.{_<_};
 
-// How the reading starts, and its scale.
+// How the reading starts, and its scales in the order of words 1 to 7.
 pub(crate) struct Choice {
     pub(crate) is_good: bool,
     pub(crate) known_start: bool,
-    pub(crate) llr_scale: f32,
+    pub(crate) scales: [f32; 7],
 }
 
-fn chosen(is_good: bool, known_start: bool, llr_scale: f32) -> Choice {
+fn chosen(is_good: bool, known_start: bool, scales: [f32; 7]) -> Choice {
     Choice {
         is_good,
         known_start,
-        llr_scale,
+        scales,
     }
 }
 
 fn bad_choice(word: &[u8]) -> Choice {
-    misused(b"after BYTES comes [unknown] [scale N], not", word);
-    chosen(false, false, 8.0f32)
+    misused(b"after BYTES comes [unknown] [SCALES], not", word);
+    chosen(false, false, [8.0f32; 7])
 }
 
-// The word scale and a number, as words i and i + 1.
-fn scale_at(line: &[u8], i: usize, known_start: bool) -> Choice
-    requires { ⌜ i < 16 ⌝ }
-{
-    if !same(part(line, 0, i), b"scale") {
-        return bad_choice(part(line, 0, i));
-    }
-    let number = part(line, 0, i + 1);
+// A number for all seven.
+fn one_scale(number: &[u8], known_start: bool) -> Choice {
     let scale = words::scale(number);
     let MaybeScale::Is(n) = scale else {
         return bad_choice(number);
     };
-    chosen(true, known_start, n)
+    chosen(true, known_start, [n; 7])
+}
+
+// Seven numbers with commas between.
+fn seven_scales(list: &[u8], known_start: bool) -> Choice {
+    if parts(list, b',') != 7 {
+        return bad_choice(list);
+    }
+    let mut scales = [8.0f32; 7];
+    for i in 0..7 {
+        let scale = words::scale(part(list, b',', i));
+        let MaybeScale::Is(n) = scale else {
+            return bad_choice(list);
+        };
+        scales[i] = n;
+    }
+    chosen(true, known_start, scales)
+}
+
+// The word scale and a number, or the word scales and seven, as words i and i + 1.
+fn scale_at(line: &[u8], i: usize, known_start: bool) -> Choice
+    requires { ⌜ i < 16 ⌝ }
+{
+    let word = part(line, 0, i);
+    let numbers = part(line, 0, i + 1);
+    if same(word, b"scale") {
+        return one_scale(numbers, known_start);
+    }
+    if same(word, b"scales") {
+        return seven_scales(numbers, known_start);
+    }
+    bad_choice(word)
 }
 
 // The words of `read` from the sixth on.
 fn choice_of(line: &[u8]) -> Choice {
     let n = parts(line, 0);
     if n == 6 {
-        return chosen(true, true, 8.0f32);
+        return chosen(true, true, [8.0f32; 7]);
     }
     if n == 8 {
         return scale_at(line, 6, true);
@@ -68,7 +93,7 @@ fn choice_of(line: &[u8]) -> Choice {
         return bad_choice(part(line, 0, 6));
     }
     if n == 7 {
-        return chosen(true, false, 8.0f32);
+        return chosen(true, false, [8.0f32; 7]);
     }
     scale_at(line, 7, false)
 }
@@ -101,10 +126,11 @@ fn read_frame(
 ) {
     let t = s.table;
     let mapping = s.mapping;
+    let scales = c.scales;
     let o = DemodOptions {
         mapping,
         known_start: c.known_start,
-        llr_scale: c.llr_scale,
+        scales,
     };
     let n = points.count;
     let done = decode_frame(
@@ -152,7 +178,7 @@ fn read_from(
     read_frame(s, c, got, output, re, im, decisions, bits, bytes);
 }
 
-// bench read TABLE MAPPING KIND FRAME BYTES [unknown] [scale N]
+// bench read TABLE MAPPING KIND FRAME BYTES [unknown] [SCALES]
 pub(crate) fn read(
     line: &[u8],
     re: &mut [f64; 38976],
@@ -164,7 +190,7 @@ pub(crate) fn read(
     let n = parts(line, 0);
     if n < 6 || n > 9 {
         misused(
-            b"read takes TABLE MAPPING KIND FRAME BYTES [unknown] [scale N]",
+            b"read takes TABLE MAPPING KIND FRAME BYTES [unknown] [SCALES]",
             b"",
         );
         return;

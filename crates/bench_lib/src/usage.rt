@@ -11,7 +11,7 @@ fn usage_commands() {
         b"  bench make TABLE MAPPING KIND LOAD FRAME                         bytes of LOAD to points in FRAME\n",
     );
     text(
-        b"  bench read TABLE MAPPING KIND FRAME BYTES [unknown] [scale N]    points of FRAME to bytes in BYTES\n",
+        b"  bench read TABLE MAPPING KIND FRAME BYTES [unknown] [SCALES]     points of FRAME to bytes in BYTES\n",
     );
     text(
         b"  bench compare TABLE SENT READ                                    how many bytes agree\n",
@@ -43,7 +43,10 @@ fn usage_words() {
         b"  HEADER, MAIN, BURST, FULL    192, 38,976, 768 and 39,936 points in the same forms as FRAME\n",
     );
     text(
-        b"  N        a number as 8 or 0.5, up to three digits before and after the point; 8 where it is not given\n",
+        b"  SCALES   scale N for all, or scales A,B,C,D,E,F,G in the order of words 1 to 7; 8 where they are not given\n",
+    );
+    text(
+        b"  N        a number as 8 or 0.5, up to three digits before and after the point\n",
     );
 }
 

@@ -65,6 +65,7 @@ fn make_and_read() {
     bench(b"compare 7:44,1:4 load bytes");
     bench(b"make 7:44,1:4 110 other load frame.cf32");
     bench(b"read 7:44,1:4 110 other frame.cf32 bytes32 unknown scale 0.5");
+    bench(b"read 7:44,1:4 110 other frame.cf32 bytes32 unknown scales 64,8,8,8,8,8,0.5");
     bench(b"compare 7:44,1:4 load bytes32");
 }
 
@@ -85,6 +86,7 @@ fn refusals() {
     bench(b"compare 3:3,15:1,8:3 load bytes");
     bench(b"read 7:44,1:4 001 first frame.cf64 none scale 0");
     bench(b"read 7:44,1:4 001 first frame.cf64 none scale 64.001");
+    bench(b"read 7:44,1:4 001 first frame.cf64 none scales 8,8,8,8,8,0,8");
     bench(b"read 7:44,1:4 001 first load none");
     bench(b"compare 7:44,1:4 load mixed");
     bench(b"compare 15:48 load bytes");
@@ -162,6 +164,8 @@ fn misuse() {
     bench(b"read 7:44,1:4 012 first frame.cf64 none");
     bench(b"read 7:44,1:4 001 second frame.cf64 none");
     bench(b"read 7:44,1:4 001 first frame.cf64 none scale 1e3");
+    bench(b"read 7:44,1:4 001 first frame.cf64 none scales 8,8,8,8,8,8");
+    bench(b"read 7:44,1:4 001 first frame.cf64 none scales 8,8,8,8,8,8,x");
     bench(b"play 7:44,1:4");
     bench(b"read 7:44,1:4 001 first missing.cf64 none");
     bench(b"read 7:44,1:4 001 first . none");

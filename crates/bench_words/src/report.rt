@@ -98,7 +98,7 @@ fn row(number: u32) {
         5 => text(b"a length does not fit"),
         6 => text(b"a frame has 38,976 points"),
         7 => text(b"a part of a point is not a finite number, or is beyond 1,024"),
-        8 => text(b"the scale is not above 0, or is above 64"),
+        8 => text(b"a scale is not above 0, or is above 64"),
         9 => text(b"the space for what is written is too short"),
         10 => text(b"the slots of an entry do not fill whole units"),
         11 => text(b"an entry gives slots to a reserved word"),

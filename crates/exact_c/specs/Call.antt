@@ -24,9 +24,9 @@ use Rattle.isdbs_phy.specs.declared.demod.FrameDecoded.{FrameDecoded}
 use Rattle.isdbs_phy.specs.declared.demod.FrameDecoded.the-variants.{Decoded, Refused}
 use Rattle.isdbs_phy.specs.DecodeRows.{shortSpace, decodeRows, frameSaid, frameAnswer}
 use Rattle.margins.specs.Margins.{freeRe, freeIm, holds, Within, FullLoad}
-use Rattle.exact_frame.specs.Steps.{received}
+use Rattle.isdbs_decode.specs.Scales.{receivedBy}
 use Rattle.exact_frame.specs.Frames.{encoded-within}
-use Rattle.exact_frame.specs.Call.{eight, ReadsBack, exactly, short, read-back}
+use Rattle.exact_frame.specs.Call.{eights, ReadsBack, exactly, short, read-back}
 use Rattle.isdb_c.specs.Forms.{tableOf}
 use Rattle.isdb_c.specs.Mappings.{mappingOf, isSet}
 use Rattle.isdb_c.specs.Rows.{answered, left}
@@ -98,12 +98,12 @@ answer-said a t = go (accepted a)
 -- THE THEOREM about the call: whatever the lent slices held, the load comes back, or a slice is too short
 module _
     (t : tmcc.Table) (m : Mapping) (first : Bool) (re im : List Float) (decisions₀ decisions bits₀ bits bytes₀ bytes : List ℕ) (answer : ℕ)
-    (answers : answer ≡ answered (decodeRows t re im eight (length decisions₀) (length bits₀) (length bytes₀)))
+    (answers : answer ≡ answered (decodeRows t re im eights (length decisions₀) (length bits₀) (length bytes₀)))
     (words-are : decisions ≡ left answer (laid (replicate 4224 0) decisions₀) decisions₀)
-    (bits-are : bits ≡ left answer (laid (decodedBits t (received re im m) true first) bits₀) bits₀)
-    (bytes-are : bytes ≡ left answer (laid (decodedBytes t (received re im m) true first) bytes₀) bytes₀) where
+    (bits-are : bits ≡ left answer (laid (decodedBits t (receivedBy re im m eights) true first) bits₀) bits₀)
+    (bytes-are : bytes ≡ left answer (laid (decodedBytes t (receivedBy re im m eights) true first) bytes₀) bytes₀) where
   abbrev a : Answer
-  a = firstRow (decodeRows t re im eight (length decisions₀) (length bits₀) (length bytes₀))
+  a = firstRow (decodeRows t re im eights (length decisions₀) (length bits₀) (length bytes₀))
 
   said : (n : ℕ) (values : List ℕ) → frameSaid (answerOf a t) ≡ (n, values) → answer ≡ n
   said n values e = answers ∙ sym (says-number a (loadBytes t ∷ frameSteps t ∷ [])) ∙ ap (λ (x : Said). x .0) (sym (answer-said a t) ∙ e)

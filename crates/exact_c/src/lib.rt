@@ -1,4 +1,4 @@
-// Demand 3 said of the C calls: what isdbs_encode_frame lays, received within its margins, isdbs_decode_frame reads back with a known start and the scale 8.
+// Demand 3 said of the C calls: what isdbs_encode_frame lays, received within its margins, isdbs_decode_frame reads back with a known start and all seven scales at 8.
 ghost use mathlib.Core.Path.{_≡_};
 ghost use mathlib.Core.Bool.{true};
 ghost use lib.ListN.{length, replicate};
@@ -7,8 +7,8 @@ ghost use Rattle.isdbs_points.specs.Frame.{endState, frameRe, frameIm};
 ghost use Rattle.isdbs_metrics.specs.Reading.{decodedBits, decodedBytes};
 ghost use Rattle.isdbs_phy.specs.EncodeRows.{encodeRows};
 ghost use Rattle.isdbs_phy.specs.DecodeRows.{decodeRows};
-ghost use Rattle.exact_frame.specs.Steps.{received};
-ghost use Rattle.exact_frame.specs.Call.{eight};
+ghost use Rattle.isdbs_decode.specs.Scales.{receivedBy};
+ghost use Rattle.exact_frame.specs.Call.{eights};
 ghost use Rattle.isdb_c.specs.Forms.{tableOf};
 ghost use Rattle.isdb_c.specs.Mappings.{mappingOf, isSet};
 ghost use Rattle.isdb_c.specs.Rows.{answered, left};
@@ -34,7 +34,7 @@ pub fn lay_frame(
     isdb_c::frame::isdbs_encode_frame(bytes, table, mapping, state, re, im, end)
 }
 
-// isdbs_decode_frame with a known start and the scale 8. For every table of at most 48 slots, every mapping and frame kind, every full load and every
+// isdbs_decode_frame with a known start and all seven scales at 8. For every table of at most 48 slots, every mapping and frame kind, every full load and every
 // frame within the load's margins, whatever the three lent slices held: 0 and the load, or 9 where one of the slices is too short.
 pub fn read_frame(
     re: &[f64],
@@ -46,12 +46,13 @@ pub fn read_frame(
     bits: &mut [u8],
     bytes: &mut [u8],
 ) -> u32
-    ensures answers { λ r. ⌜ r ≡ answered (decodeRows (tableOf table) (now (re .entry)) (now (im .entry)) eight (length (now (decisions .entry))) (length (now (bits .entry))) (length (now (bytes .entry)))) ⌝ }
+    ensures answers { λ r. ⌜ r ≡ answered (decodeRows (tableOf table) (now (re .entry)) (now (im .entry)) eights (length (now (decisions .entry))) (length (now (bits .entry))) (length (now (bytes .entry)))) ⌝ }
     ensures words { λ r. ⌜ now (decisions .exit) ≡ left r (laid (replicate 4224 0) (now (decisions .entry))) (now (decisions .entry)) ⌝ }
-    ensures decoded { λ r. ⌜ now (bits .exit) ≡ left r (laid (decodedBits (tableOf table) (received (now (re .entry)) (now (im .entry)) (mappingOf mapping)) true (isSet first)) (now (bits .entry))) (now (bits .entry)) ⌝ }
-    ensures load { λ r. ⌜ now (bytes .exit) ≡ left r (laid (decodedBytes (tableOf table) (received (now (re .entry)) (now (im .entry)) (mappingOf mapping)) true (isSet first)) (now (bytes .entry))) (now (bytes .entry)) ⌝ }
+    ensures decoded { λ r. ⌜ now (bits .exit) ≡ left r (laid (decodedBits (tableOf table) (receivedBy (now (re .entry)) (now (im .entry)) (mappingOf mapping) eights) true (isSet first)) (now (bits .entry))) (now (bits .entry)) ⌝ }
+    ensures load { λ r. ⌜ now (bytes .exit) ≡ left r (laid (decodedBytes (tableOf table) (receivedBy (now (re .entry)) (now (im .entry)) (mappingOf mapping) eights) true (isSet first)) (now (bytes .entry))) (now (bytes .entry)) ⌝ }
     ensures exact { λ r. ⌜ ExactC (tableOf table) (mappingOf mapping) (isSet first) (now (re .entry)) (now (im .entry)) (length (now (decisions .entry))) (length (now (bits .entry))) (length (now (bytes .entry))) r (now (bytes .exit)) ⌝ }
 {
+    let scales = [8.0f32; 7];
     isdb_c::frame::isdbs_decode_frame(
         re,
         im,
@@ -59,7 +60,7 @@ pub fn read_frame(
         mapping,
         first,
         1,
-        8.0,
+        &scales,
         decisions,
         bits,
         bytes,

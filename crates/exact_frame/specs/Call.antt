@@ -5,7 +5,7 @@ use mathlib.Core.List.{List, [], _∷_, _++_}
 use Prim.Native.Nat.{ℕ, zero, suc, _-_, _<_, _≤_}
 use native.Mathlib.Omega.{arith}
 use lib.Dec.{T}
-use lib.ListN.{length, getD, take, drop}
+use lib.ListN.{length, getD, take, drop, replicate}
 use lib.Seq.{take-at}
 use lib.Ieee.{Float, nan, binary32, lt, ofBits}
 use borrow.Author.Tests.{le-ltb}
@@ -18,16 +18,21 @@ use Rattle.isdbs_core.specs.TableLaws.{then-rows}
 use Rattle.isdbs_core.specs.RunsOf.{frameSteps, loadBytes}
 use Rattle.isdbs_points.specs.declared.Mapping.{Mapping}
 use Rattle.isdbs_phy.specs.declared.demod.FrameDecoded.{FrameDecoded}
-use Rattle.isdbs_phy.specs.DecodeRows.{within, someBeyond, partLimit, shortSpace, pointRows, lastRows, decodeRows, frameSaid, frameAnswer, Kept}
+use Rattle.isdbs_phy.specs.DecodeRows.{within, someOf, someBeyond, partLimit, someBad, shortSpace, pointRows, lastRows, decodeRows, frameSaid, frameAnswer, Kept}
 use Rattle.isdbs_decode.specs.Runs.{FrameRead}
+use Rattle.isdbs_decode.specs.Scales.{receivedBy}
+use Rattle.isdbs_decode.specs.ScaleLaws.{equal-scales}
 use Rattle.margins.specs.Margins.{anyAccepted, Within, FullLoad}
-use Rattle.exact_frame.specs.Steps.{received}
 use Rattle.exact_frame.specs.Exact.{decoded-load}
 use Rattle.exact_frame.specs.Frames.{re-accepted, im-accepted}
 
 -- 8.0
 abbrev pub eight : Float
 eight = ofBits binary32 0x4100_0000
+
+-- "demand 3's scale 8 means all seven at 8"
+abbrev pub eights : List Float
+eights = replicate 7 eight
 
 -- what comes back: the load at the front of the byte output, or 9 where a lent slice is too short; nothing else
 pub data ReadsBack (t : Table) (load : List ℕ) (decisions bits space : ℕ) (r : FrameDecoded) (bytes : List ℕ) : Type 0 where
@@ -40,7 +45,7 @@ Exact t m first re im decisions bits space r bytes =
     (load : List ℕ) → TableAccepted t → FullLoad load (loadBytes t) → Within re im load t m first → ReadsBack t load decisions bits space r bytes
 
 none-beyond : (xs : List Float) (n : ℕ) → ((k : ℕ) → k < n → T (anyAccepted (getD xs k nan))) → someBeyond partLimit xs n ≡ false
-unfolding someBeyond
+unfolding someOf
 none-beyond xs zero h = refl
 none-beyond xs (suc n) h = go (someBeyond partLimit xs n) (within partLimit (getD xs n nan)) (none-beyond xs n (λ k l. h k (omega arith))) (h n (omega arith))
   where
@@ -49,32 +54,36 @@ none-beyond xs (suc n) h = go (someBeyond partLimit xs n) (within partLimit (get
     go false true e t = refl
     go false false e t = absurd t
 
--- within the margins, at the scale 8, only the last row can hold
+eights-fine : someBad eights ≡ false
+unfolding someOf ofBits lt
+eights-fine = refl
+
+-- within the margins, at the scales 8, only the last row can hold
 last-row : (t : Table) → TableAccepted t → (m : Mapping) (first : Bool) (load : List ℕ) (re im : List Float) → Within re im load t m first → (d b y : ℕ)
-    → firstRow (decodeRows t re im eight d b y) ≡ cond (shortSpace t d b y) Space Accepted
-unfolding ofBits lt
+    → firstRow (decodeRows t re im eights d b y) ≡ cond (shortSpace t d b y) Space Accepted
 last-row t fit m first load re im w d b y =
-    then-rows t (pointRows re im ++ lastRows t eight d b y) fit
+    then-rows t (pointRows re im ++ lastRows t (someBad eights) d b y) fit
     ∙ rw (
       le-ltb (length re) 38976 (w .re-count),
       le-ltb (length im) 38976 (w .im-count),
       none-beyond re 38976 (re-accepted w),
       none-beyond im 38976 (im-accepted w),
+      eights-fine,
     )
 
 -- THE THEOREM about the call: whatever the lent slices held, the load comes back, or a slice is too short
 pub read-back : (t : Table) → TableAccepted t → (m : Mapping) (first : Bool) (load : List ℕ) → FullLoad load (loadBytes t) → (re im : List Float) → Within re im load t m first
     → (decisions₀ decisions bits₀ bits bytes₀ bytes : List ℕ) (r : FrameDecoded)
-    → frameSaid r ≡ frameAnswer (firstRow (decodeRows t re im eight (length decisions₀) (length bits₀) (length bytes₀))) t
-    → Either (firstRow (decodeRows t re im eight (length decisions₀) (length bits₀) (length bytes₀)))
-    (FrameRead t (received re im m) true first decisions₀ decisions bits₀ bits bytes₀ bytes)
+    → frameSaid r ≡ frameAnswer (firstRow (decodeRows t re im eights (length decisions₀) (length bits₀) (length bytes₀))) t
+    → Either (firstRow (decodeRows t re im eights (length decisions₀) (length bits₀) (length bytes₀)))
+    (FrameRead t (receivedBy re im m eights) true first decisions₀ decisions bits₀ bits bytes₀ bytes)
     (Kept decisions₀ decisions bits₀ bits bytes₀ bytes)
     → ReadsBack t load (length decisions₀) (length bits₀) (length bytes₀) r bytes
 read-back t fit m first load full re im w decisions₀ decisions bits₀ bits bytes₀ bytes r answers leaves =
     go (shortSpace t (length decisions₀) (length bits₀) (length bytes₀)) refl (last-row t fit m first load re im w (length decisions₀) (length bits₀) (length bytes₀))
   where
-    go : (s : Bool) → shortSpace t (length decisions₀) (length bits₀) (length bytes₀) ≡ s → firstRow (decodeRows t re im eight (length decisions₀) (length bits₀) (length bytes₀)) ≡ cond s Space Accepted → ReadsBack t load (length decisions₀) (length bits₀) (length bytes₀) r bytes
+    go : (s : Bool) → shortSpace t (length decisions₀) (length bits₀) (length bytes₀) ≡ s → firstRow (decodeRows t re im eights (length decisions₀) (length bits₀) (length bytes₀)) ≡ cond s Space Accepted → ReadsBack t load (length decisions₀) (length bits₀) (length bytes₀) r bytes
     go true e h = short (rw h at answers) (rw e tt)
     go false e h =
         let f = leaves .0 h in
-        exactly (rw h at answers) (rw (f .load, decoded-load t fit m first load full re im w) (take-at load (drop (length load) bytes₀) (loadBytes t) (full .size)))
+        exactly (rw h at answers) (rw (f .load, equal-scales re im m eight, decoded-load t fit m first load full re im w) (take-at load (drop (length load) bytes₀) (loadBytes t) (full .size)))

@@ -2,7 +2,7 @@
 use mathlib.Core.Path.{_≡_, refl, sym, ap, _∙_, subst}
 use mathlib.Core.Bool.{Bool, true, false, not, cond, _||_}
 use mathlib.Core.List.{List, [], _∷_, _++_}
-use Prim.Native.Nat.{ℕ, zero, suc, _+_, _*_, _<_, _≤_}
+use Prim.Native.Nat.{ℕ, zero, suc, _+_, _-_, _*_, _<_, _≤_}
 use native.Mathlib.Nat.{not-suc-le-zero}
 use native.Mathlib.Omega.{arith}
 use borrow.Author.Count.{below-more}
@@ -28,15 +28,18 @@ use Rattle.path_range.specs.Run.{InRange, soft-call, known-call, path-within, p
 use Rattle.path_range.specs.Starts.{given-bounded, unknown-bounded}
 use Rattle.refusal.specs.RowLaws as row
 use Rattle.isdbs_core.specs.TableLaws.{then-accepted}
+use Rattle.isdbs_core.specs.declared.combination.Combination.{Combination}
 use Rattle.isdbs_core.specs.declared.tmcc.Table.{Table}
+use Rattle.isdbs_core.specs.Combinations.{wordOf}
 use Rattle.isdbs_core.specs.Tables.{TableAccepted}
 use Rattle.isdbs_core.specs.RunsOf.{frameSteps}
 use Rattle.isdbs_points.specs.declared.Mapping.{Mapping}
-use Rattle.isdbs_phy.specs.DecodeRows.{within, someBeyond, partLimit, scaleLimit, badScale, pointRows, lastRows, decodeRows}
+use Rattle.isdbs_phy.specs.DecodeRows.{within, someOf, someBeyond, partLimit, scaleLimit, badScale, someBad, pointRows, lastRows, decodeRows}
 use Rattle.isdbs_points.specs.Layout.{wordBit}
 use Rattle.isdbs_points.specs.Frame.{startState}
 use Rattle.isdbs_metrics.specs.Reading.{Received, metricsAt, startValues}
-use Rattle.isdbs_metrics.specs.Steps.{received}
+use Rattle.isdbs_decode.specs.Scales.{scaleOf, receivedBy}
+use Rattle.isdbs_decode.specs.ScaleLaws.{word-in}
 use Rattle.isdbs_decode.specs.Runs.{frameMetrics, freshFrom, knownBits}
 use Rattle.frame_ranges.specs.Numbers.{partPower, scalePower, metricPower, softLimit, metricLimit, stepMost, floor, leastPath, mostPath, part-limit, scale-limit, soft-limit, metric-limit, step-most, path-limits, least-path, most-path}
 use Rattle.frame_ranges.specs.Size.{Size, two-lo, between-size, size-from, size-to}
@@ -70,14 +73,17 @@ not-false : (b : Bool) → not b ≡ false → T b
 not-false true e = tt
 not-false false e = absurd (subst T e tt)
 
-parts-in : (xs : List Float) (n : ℕ) → someBeyond partLimit xs n ≡ false → (k : ℕ) → k < n → T (within partLimit (getD xs k nan))
-unfolding someBeyond
-parts-in xs zero e k h = absurd (not-suc-le-zero h)
-parts-in xs (suc n) e k h =
-    let p = neither (someBeyond partLimit xs n) (not (within partLimit (getD xs n nan))) e in
-    below-more (λ j. T (within partLimit (getD xs j nan))) n (parts-in xs n (p .0)) (not-false (within partLimit (getD xs n nan)) (p .1)) k (omega arith)
+none-of : (bad : Float → Bool) (xs : List Float) (n : ℕ) → someOf bad xs n ≡ false → (k : ℕ) → k < n → bad (getD xs k nan) ≡ false
+unfolding someOf
+none-of bad xs zero e k h = absurd (not-suc-le-zero h)
+none-of bad xs (suc n) e k h =
+    let p = neither (someOf bad xs n) (bad (getD xs n nan)) e in
+    below-more (λ j. bad (getD xs j nan) ≡ false) n (none-of bad xs n (p .0)) (p .1) k (omega arith)
 
--- ---- the scale: above 0 and not above its limit
+parts-in : (xs : List Float) (n : ℕ) → someBeyond partLimit xs n ≡ false → (k : ℕ) → k < n → T (within partLimit (getD xs k nan))
+parts-in xs n e k h = not-false (within partLimit (getD xs k nan)) (none-of (λ x. not (within partLimit x)) xs n e k h)
+
+-- ---- a scale: above 0 and not above its limit
 scale-num : (s : Float) → T (fits binary32 s) → T (lt (ofBits binary32 0) s) → lt scaleLimit s ≡ false → Num binary32 s
 unfolding lt ofBits
 scale-num nan f h k = absurd h
@@ -99,21 +105,28 @@ scale-size s f e =
     let u = not-lt→value binary32 (two-to scalePower) s n m (rw (← scale-limit, p .1) tt) in
     between-size (record { num = m; from = omega arith; to = u })
 
+-- the scale of each combination is one of the seven
+scales-in : (scales : List Float) → ((i : ℕ) → T (fits binary32 (getD scales i nan))) → someBad scales ≡ false → (c : Combination) → Size binary32 scalePower (scaleOf scales c)
+scales-in scales f e c =
+    let w = word-in c in
+    let h : wordOf c - 1 < 7 = omega arith in
+    scale-size (scaleOf scales c) (f (wordOf c - 1)) (none-of badScale scales 7 e (wordOf c - 1) h)
+
 -- ---- what the rows of an accepted call say
-record Passed (t : Table) (re im : List Float) (scale : Float) : Type 0 where
+record Passed (t : Table) (re im scales : List Float) : Type 0 where
   fit : TableAccepted t
   re-fine : someBeyond partLimit re 38976 ≡ false
   im-fine : someBeyond partLimit im 38976 ≡ false
-  scale-fine : badScale scale ≡ false
+  scales-fine : someBad scales ≡ false
 
-module _ (t : Table) (re im : List Float) (scale : Float) (decisions bits bytes : ℕ) where
-  passed : Accepted ≡ firstRow (decodeRows t re im scale decisions bits bytes) → Passed t re im scale
+module _ (t : Table) (re im scales : List Float) (decisions bits bytes : ℕ) where
+  passed : Accepted ≡ firstRow (decodeRows t re im scales decisions bits bytes) → Passed t re im scales
   passed e =
-      let rest : List Row = pointRows re im ++ lastRows t scale decisions bits bytes in
+      let rest : List Row = pointRows re im ++ lastRows t (someBad scales) decisions bits bytes in
       let b = then-accepted t rest (sym e) in
       let p = row.passed rest tt (b .1) in
       let q = neither (someBeyond partLimit re 38976) (someBeyond partLimit im 38976) (p Sample) in
-      record { fit = b .0; re-fine = q .0; im-fine = q .1; scale-fine = p Scale }
+      record { fit = b .0; re-fine = q .0; im-fine = q .1; scales-fine = p Scale }
 
 -- ---- the path values of sized steps
 module _ (e : Tie) (t : Table) (r : Received) (metrics : (k l : ℕ) → k < frameSteps t → l < 4 → Size binary32 metricPower (getD (metricsAt t r k) l nan)) (pm : List Float) (start : Bounded stepMost floor 0 pm) where
@@ -163,21 +176,21 @@ start-bounded true first = given-bounded path-limits (startState first)
 start-bounded false first = unknown-bounded path-limits
 
 -- ---- the theorem: an accepted call keeps to the ranges. Every value of a lent slice and a scale is one of its format, which the borrow checker tells
-module _ (e : Tie) (t : Table) (re im : List Float) (m : Mapping) (scale : Float) (decisions bits bytes : ℕ) (knownStart first : Bool)
-    (re-fits : (i : ℕ) → T (fits binary64 (getD re i nan))) (im-fits : (i : ℕ) → T (fits binary64 (getD im i nan))) (scale-fits : T (fits binary32 scale))
-    (yes : Accepted ≡ firstRow (decodeRows t re im scale decisions bits bytes))
+module _ (e : Tie) (t : Table) (re im : List Float) (m : Mapping) (scales : List Float) (decisions bits bytes : ℕ) (knownStart first : Bool)
+    (re-fits : (i : ℕ) → T (fits binary64 (getD re i nan))) (im-fits : (i : ℕ) → T (fits binary64 (getD im i nan))) (scale-fits : (i : ℕ) → T (fits binary32 (getD scales i nan)))
+    (yes : Accepted ≡ firstRow (decodeRows t re im scales decisions bits bytes))
   where
     abbrev r : Received
-    r = received re im m scale
+    r = receivedBy re im m scales
 
-    p : Passed t re im scale
-    p = passed t re im scale decisions bits bytes yes
+    p : Passed t re im scales
+    p = passed t re im scales decisions bits bytes yes
 
     sized : Sized partPower scalePower r
     sized = record {
       re-in = λ k h. part-size (getD re k nan) (re-fits k) (parts-in re 38976 (p .re-fine) k h);
       im-in = λ k h. part-size (getD im k nan) (im-fits k) (parts-in im 38976 (p .im-fine) k h);
-      scale-in = λ c. scale-size scale scale-fits (p .scale-fine);
+      scale-in = scales-in scales scale-fits (p .scales-fine);
     }
 
     metrics-sized : (k l : ℕ) → k < frameSteps t → l < 4 → Size binary32 metricPower (getD (metricsAt t r k) l nan)

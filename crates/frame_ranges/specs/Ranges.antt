@@ -22,7 +22,7 @@ use Rattle.isdbs_phy.specs.DecodeRows.{within, decodeRows}
 use Rattle.isdbs_points.specs.Layout.{Segment, segments}
 use Rattle.isdbs_points.specs.Places.{In}
 use Rattle.isdbs_metrics.specs.Reading.{Received, softAt, metricsAt, startValues}
-use Rattle.isdbs_metrics.specs.Steps.{received}
+use Rattle.isdbs_decode.specs.Scales.{receivedBy}
 use Rattle.isdbs_decode.specs.Runs.{frameMetrics, freshFrom, knownBits}
 use Rattle.frame_ranges.specs.Numbers.{softLimit, metricLimit, leastPath, mostPath}
 
@@ -57,6 +57,6 @@ pub record Ranges (e : Tie) (t : Table) (r : Received) (pm : List Float) : Type 
   pub paths : pathRange e t r pm
 
 -- what a call promises where it is accepted
-abbrev pub Promised : Table → List Float → List Float → Mapping → Float → Bool → Bool → ℕ → ℕ → ℕ → Type 0
-Promised t re im m scale knownStart first decisions bits bytes =
-    Accepted ≡ firstRow (decodeRows t re im scale decisions bits bytes) → Ranges rule t (received re im m scale) (startValues knownStart first)
+abbrev pub Promised : Table → List Float → List Float → Mapping → List Float → Bool → Bool → ℕ → ℕ → ℕ → Type 0
+Promised t re im m scales knownStart first decisions bits bytes =
+    Accepted ≡ firstRow (decodeRows t re im scales decisions bits bytes) → Ranges rule t (receivedBy re im m scales) (startValues knownStart first)

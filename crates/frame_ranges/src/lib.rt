@@ -4,7 +4,7 @@ ghost use lib.ListN.{length};
 ghost use Rattle.refusal.specs.Rows.{firstRow};
 ghost use Rattle.isdb_fec.specs.Calls.{Either};
 ghost use Rattle.isdbs_phy.specs.DecodeRows.{decodeRows, frameSaid, frameAnswer, Kept};
-ghost use Rattle.isdbs_metrics.specs.Steps.{received};
+ghost use Rattle.isdbs_decode.specs.Scales.{receivedBy};
 ghost use Rattle.isdbs_decode.specs.Runs.{FrameRead};
 ghost use Rattle.frame_ranges.specs.Ranges.{Promised};
 use isdbs_core::tmcc::Table;
@@ -23,11 +23,11 @@ pub fn decode_in_range(
     bits: &mut [u8],
     bytes: &mut [u8],
 ) -> FrameDecoded
-    ensures answers { λ r. ⌜ frameSaid r ≡ frameAnswer (firstRow (decodeRows t (now (re .entry)) (now (im .entry)) (o .«llr_scale») (length (now (decisions .entry))) (length (now (bits .entry))) (length (now (bytes .entry))))) t ⌝ }
-    ensures leaves { λ _. ⌜ Either (firstRow (decodeRows t (now (re .entry)) (now (im .entry)) (o .«llr_scale») (length (now (decisions .entry))) (length (now (bits .entry))) (length (now (bytes .entry)))))
-        (FrameRead t (received (now (re .entry)) (now (im .entry)) (o .mapping) (o .«llr_scale»)) (o .«known_start») first (now (decisions .entry)) (now (decisions .exit)) (now (bits .entry)) (now (bits .exit)) (now (bytes .entry)) (now (bytes .exit)))
+    ensures answers { λ r. ⌜ frameSaid r ≡ frameAnswer (firstRow (decodeRows t (now (re .entry)) (now (im .entry)) (o .scales) (length (now (decisions .entry))) (length (now (bits .entry))) (length (now (bytes .entry))))) t ⌝ }
+    ensures leaves { λ _. ⌜ Either (firstRow (decodeRows t (now (re .entry)) (now (im .entry)) (o .scales) (length (now (decisions .entry))) (length (now (bits .entry))) (length (now (bytes .entry)))))
+        (FrameRead t (receivedBy (now (re .entry)) (now (im .entry)) (o .mapping) (o .scales)) (o .«known_start») first (now (decisions .entry)) (now (decisions .exit)) (now (bits .entry)) (now (bits .exit)) (now (bytes .entry)) (now (bytes .exit)))
         (Kept (now (decisions .entry)) (now (decisions .exit)) (now (bits .entry)) (now (bits .exit)) (now (bytes .entry)) (now (bytes .exit))) ⌝ }
-    ensures ranges { λ _. ⌜ Promised t (now (re .entry)) (now (im .entry)) (o .mapping) (o .«llr_scale») (o .«known_start») first (length (now (decisions .entry))) (length (now (bits .entry))) (length (now (bytes .entry))) ⌝ }
+    ensures ranges { λ _. ⌜ Promised t (now (re .entry)) (now (im .entry)) (o .mapping) (o .scales) (o .«known_start») first (length (now (decisions .entry))) (length (now (bits .entry))) (length (now (bytes .entry))) ⌝ }
 {
     decode_frame(re, im, t, first, o, decisions, bits, bytes)
 }

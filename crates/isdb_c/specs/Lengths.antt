@@ -1,11 +1,15 @@
--- Row 5 of what only a C call can be handed: path values that are not 64, and an unknown rate. Assumes nothing.
+-- Row 5 of what only a C call can be handed: path values that are not 64, scales that are not seven, and an unknown rate. Assumes nothing.
 use mathlib.Core.Bool.{Bool, true, cond, not}
 use mathlib.Core.List.{List, [], _∷_, _++_}
+use Prim.Native.Nat.{ℕ}
 use lib.Dec.{eqb, ltb}
 use lib.ListN.{length}
 use lib.Ieee.{Float}
 use Rattle.refusal.specs.declared.Answer.the-variants.{Length}
 use Rattle.refusal.specs.Rows.{Row, place}
+use Rattle.isdbs_core.specs.declared.tmcc.Table.{Table}
+use Rattle.isdbs_core.specs.Tables.{tableRows}
+use Rattle.isdbs_phy.specs.DecodeRows.{someBad, pointRows, lastRows}
 
 -- a row that stands above row 5 in document 01's table
 abbrev pub aboveLength : Row → Bool
@@ -23,3 +27,8 @@ withStates pm rows = withLength (not (eqb (length pm) 64)) rows
 -- the rows above row 5, then a row 5 that holds
 abbrev pub untilLength : List Row → List Row
 untilLength above = above ++ (Length, true) ∷ []
+
+-- 5: scales that are not seven, directly below the table's rows
+abbrev pub scalesRows : Table → List Float → List Float → List Float → ℕ → ℕ → ℕ → List Row
+scalesRows t re im scales decisions bits bytes =
+    tableRows t ++ (Length, not (eqb (length scales) 7)) ∷ (pointRows re im ++ lastRows t (someBad scales) decisions bits bytes)

@@ -1,6 +1,7 @@
 pub mod Forms
 pub mod Rows
 pub mod Lengths
+pub mod LengthLaws
 pub mod Decoders
 pub mod Rates
 pub mod Mappings

@@ -1,6 +1,8 @@
 // Calls on whole frames.
 use crate::table::table_of;
 use isdb_fec::conv::ConvEncoder;
+use isdbs_core::tmcc::Table;
+use isdbs_core::tmcc::table_answer;
 use isdbs_phy::demod::DemodOptions;
 use isdbs_phy::demod::FrameDecoded;
 use isdbs_phy::demod::Mapping;
@@ -9,12 +11,13 @@ ghost use lib.ListN.{length, replicate};
 ghost use Rattle.trellis.specs.Lists.{laid};
 ghost use Rattle.isdbs_points.specs.Frame.{endState, frameRe, frameIm};
 ghost use Rattle.isdbs_phy.specs.EncodeRows.{encodeRows};
-ghost use Rattle.isdbs_phy.specs.DecodeRows.{decodeRows};
-ghost use Rattle.isdbs_metrics.specs.Steps.{received};
+ghost use Rattle.isdbs_core.specs.Tables.{tableRows};
+ghost use Rattle.isdbs_decode.specs.Scales.{receivedBy};
 ghost use Rattle.isdbs_metrics.specs.Reading.{frameWords, decodedBits, decodedBytes};
 ghost use Rattle.isdb_c.specs.Forms.{tableOf};
 ghost use Rattle.isdb_c.specs.Mappings.{mappingOf, isSet};
 ghost use Rattle.isdb_c.specs.Rows.{answered, left};
+ghost use Rattle.isdb_c.specs.Lengths.{untilLength, scalesRows};
 
 // The mapping of a number.
 fn mapping_of(mapping: u8) -> Mapping
@@ -57,7 +60,32 @@ pub extern "C" fn isdbs_encode_frame(
     0
 }
 
-// The bytes of a frame from its 38,976 points. `first` and `known_start` are true unless 0.
+// The answer where the scales are not seven: the table's rows stand above 5.
+fn not_scales(t: Table) -> u32
+    ensures { λ r. ⌜ r ≡ answered (untilLength (tableRows t)) ⌝ }
+{
+    let a = table_answer(t);
+    let answer = refusal::number(a);
+    if answer != 0 {
+        return answer;
+    }
+    5
+}
+
+// Seven scales.
+fn scales_of(scales: &[f32]) -> [f32; 7]
+    requires { ⌜ length (now scales) ≡ 7 ⌝ }
+    ensures { λ r. ⌜ r ≡ now (scales .entry) ⌝ }
+{
+    let mut all = [0.0f32; 7];
+    for i in 0..7 {
+        all[i] = scales[i];
+    }
+    all
+}
+
+// The bytes of a frame from its 38,976 points. `first` and `known_start` are true unless 0. `scales` has one for each combination, in the order of words 1
+// to 7.
 #[no_mangle]
 pub extern "C" fn isdbs_decode_frame(
     re: &[f64],
@@ -66,22 +94,26 @@ pub extern "C" fn isdbs_decode_frame(
     mapping: u8,
     first: u8,
     known_start: u8,
-    llr_scale: f32,
+    scales: &[f32],
     decisions: &mut [u64],
     bits: &mut [u8],
     bytes: &mut [u8],
 ) -> u32
-    ensures answers { λ r. ⌜ r ≡ answered (decodeRows (tableOf table) (now (re .entry)) (now (im .entry)) «llr_scale» (length (now (decisions .entry))) (length (now (bits .entry))) (length (now (bytes .entry)))) ⌝ }
+    ensures answers { λ r. ⌜ r ≡ answered (scalesRows (tableOf table) (now (re .entry)) (now (im .entry)) (now (scales .entry)) (length (now (decisions .entry))) (length (now (bits .entry))) (length (now (bytes .entry)))) ⌝ }
     ensures words { λ r. ⌜ now (decisions .exit) ≡ left r (laid (replicate frameWords 0) (now (decisions .entry))) (now (decisions .entry)) ⌝ }
-    ensures decoded { λ r. ⌜ now (bits .exit) ≡ left r (laid (decodedBits (tableOf table) (received (now (re .entry)) (now (im .entry)) (mappingOf mapping) «llr_scale») (isSet «known_start») (isSet first)) (now (bits .entry))) (now (bits .entry)) ⌝ }
-    ensures load { λ r. ⌜ now (bytes .exit) ≡ left r (laid (decodedBytes (tableOf table) (received (now (re .entry)) (now (im .entry)) (mappingOf mapping) «llr_scale») (isSet «known_start») (isSet first)) (now (bytes .entry))) (now (bytes .entry)) ⌝ }
+    ensures decoded { λ r. ⌜ now (bits .exit) ≡ left r (laid (decodedBits (tableOf table) (receivedBy (now (re .entry)) (now (im .entry)) (mappingOf mapping) (now (scales .entry))) (isSet «known_start») (isSet first)) (now (bits .entry))) (now (bits .entry)) ⌝ }
+    ensures load { λ r. ⌜ now (bytes .exit) ≡ left r (laid (decodedBytes (tableOf table) (receivedBy (now (re .entry)) (now (im .entry)) (mappingOf mapping) (now (scales .entry))) (isSet «known_start») (isSet first)) (now (bytes .entry))) (now (bytes .entry)) ⌝ }
 {
     let t = table_of(table);
+    if scales.len() != 7 {
+        return not_scales(t);
+    }
     let m = mapping_of(mapping);
+    let all = scales_of(scales);
     let o = DemodOptions {
         mapping: m,
         known_start: known_start != 0,
-        llr_scale,
+        scales: all,
     };
     let r = isdbs_phy::demod::decode_frame(re, im, t, first != 0, o, decisions, bits, bytes);
     match r {

@@ -21,8 +21,9 @@ use Rattle.isdbs_core.specs.RunLaws.{Whole, run-whole}
 use Rattle.isdbs_points.specs.declared.Mapping.{Mapping}
 use Rattle.isdbs_points.specs.Layout.{sentOrder}
 use Rattle.isdbs_metrics.specs.Reading.{metricsIn}
-use Rattle.isdbs_metrics.specs.Steps.{received, Covers}
+use Rattle.isdbs_metrics.specs.Steps.{Covers}
 use Rattle.isdbs_decode.specs.Runs.{runSteps}
+use Rattle.isdbs_decode.specs.Scales.{scaleOf, receivedBy}
 use Rattle.isdbs_decode.proofs.Among.{stepsTo, validTo, steps-more, valid-more, steps-within, valid-within, listMetrics, among-step}
 use Rattle.isdbs_decode.proofs.Parts.{metrics-part}
 
@@ -101,13 +102,13 @@ pub tail-is : {A : Type 0} (a : ℕ) (xs : List A) → take (length xs - a) (dro
 tail-is a xs = take-all (length xs - a) (drop a xs) (rw (length-drop a xs) (omega arith))
 
 -- the steps of run i are the frame's from its first step on
-pub run-steps : (rs : List Run) (re im : List Float) (m : Mapping) (scale : Float) (i k step : ℕ) → i < length rs → step ≡ stepsTo rs i → k < stepsOf (getD rs i noRun)
-    → listMetrics rs (received re im m scale) (step + k)
-    ≡ runSteps (getD rs i noRun .combination) (drop (getD rs i noRun .«symbol_start») re) (drop (getD rs i noRun .«symbol_start») im) m scale k
-run-steps rs re im m scale i k step h e l =
+pub run-steps : (rs : List Run) (re im : List Float) (m : Mapping) (scales : List Float) (i k step : ℕ) → i < length rs → step ≡ stepsTo rs i → k < stepsOf (getD rs i noRun)
+    → listMetrics rs (receivedBy re im m scales) (step + k)
+    ≡ runSteps (getD rs i noRun .combination) (drop (getD rs i noRun .«symbol_start») re) (drop (getD rs i noRun .«symbol_start») im) m (scaleOf scales (getD rs i noRun .combination)) k
+run-steps rs re im m scales i k step h e l =
     let r = getD rs i noRun in
-    ap four (among-step [] (metricsIn (received re im m scale)) rs 0 0 i k (step + k) h l (omega arith)
-    ∙ sym (metrics-part re im m scale r (0 + stepsTo rs i) (0 + 1624 * validTo rs i) k))
+    ap four (among-step [] (metricsIn (receivedBy re im m scales)) rs 0 0 i k (step + k) h l (omega arith)
+    ∙ sym (metrics-part re im m scales r (0 + stepsTo rs i) (0 + 1624 * validTo rs i) k))
 
 pub steps-by : (r : Run) (x : ℕ) → x ≡ slotSteps (r .combination) → x * r .«valid_slots» ≡ stepsOf r
 steps-by r x e = rw e
@@ -141,13 +142,13 @@ module _ (count : ℕ) (list : List Run) (l : RunList count list) (i : ℕ) wher
       rw (e, tail-is (run .«symbol_start») xs) (run-covers run (length (drop (run .«symbol_start») xs)) (l .whole i) f (omega arith))
 
   -- and the frame's steps are the run's
-  pub step-is : (re im : List Float) (m : Mapping) (scale : Float) (step n k : ℕ) → i < count → step ≡ stepsTo rs i → n ≡ stepsOf run → k < n
-      → listMetrics rs (received re im m scale) (step + k)
-      ≡ runSteps (run .combination) (take (length re - run .«symbol_start») (drop (run .«symbol_start») re)) (take (length im - run .«symbol_start») (drop (run .«symbol_start») im)) m scale k
-  step-is re im m scale step n k h e en g =
+  pub step-is : (re im : List Float) (m : Mapping) (scales : List Float) (step n k : ℕ) → i < count → step ≡ stepsTo rs i → n ≡ stepsOf run → k < n
+      → listMetrics rs (receivedBy re im m scales) (step + k)
+      ≡ runSteps (run .combination) (take (length re - run .«symbol_start») (drop (run .«symbol_start») re)) (take (length im - run .«symbol_start») (drop (run .«symbol_start») im)) m (scaleOf scales (run .combination)) k
+  step-is re im m scales step n k h e en g =
       let c = l .counted in
       rw (tail-is (run .«symbol_start») re, tail-is (run .«symbol_start») im, l .at i)
-      (run-steps rs re im m scale i k step (omega arith) e (let q = rw (l .at i) at en in omega arith))
+      (run-steps rs re im m scales i k step (omega arith) e (let q = rw (l .at i) at en in omega arith))
 
 -- before run i: its points start within the frame, and its steps are within the frame's
 pub record RunAt (count : ℕ) (list : List Run) (i step : ℕ) : Type 0 where

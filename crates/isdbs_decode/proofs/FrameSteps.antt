@@ -14,13 +14,13 @@ use Rattle.isdbs_core.specs.declared.tmcc.Table.{Table}
 use Rattle.isdbs_core.specs.RunsOf.{stepsOf, stepsIn, frameSteps, noRun}
 use Rattle.isdbs_points.specs.declared.Mapping.{Mapping}
 use Rattle.isdbs_metrics.specs.Reading.{metricsAt}
-use Rattle.isdbs_metrics.specs.Steps.{received}
 use Rattle.isdbs_decode.specs.Runs.{Carried, RunsRead, runSteps, freshFrom}
+use Rattle.isdbs_decode.specs.Scales.{scaleOf, receivedBy}
 use Rattle.isdbs_decode.proofs.Among.{listMetrics}
 use Rattle.isdbs_decode.proofs.FrameRuns.{RunAt, Listed, step-is, run-first, run-next, run-last}
 
 -- the first i runs are read, and run i has room
-pub record Read (m : Mapping) (scale : Float) (pm₀ re im : List Float) (dec₀ out₀ : List ℕ) (count : ℕ) (list : List Run) (pm : List Float) (dec out : List ℕ) (at : At) (step i : ℕ) : Type 0 where
+pub record Read (m : Mapping) (scales pm₀ re im : List Float) (dec₀ out₀ : List ℕ) (count : ℕ) (list : List Run) (pm : List Float) (dec out : List ℕ) (at : At) (step i : ℕ) : Type 0 where
   pub run : RunAt count list i step
   pub re-fits : 38976 ≤ length re
   pub im-fits : 38976 ≤ length im
@@ -30,10 +30,10 @@ pub record Read (m : Mapping) (scale : Float) (pm₀ re im : List Float) (dec₀
   pub same-bits : length out ≡ length out₀
   pub few : at .held < 4224
   pub sum : at .held + at .count ≡ step
-  pub holds : Holds 128 dec₀ out₀ (steps 128 (listMetrics (take count list) (received re im m scale)) (freshFrom pm₀) step) pm (at .held) (at .count) dec out
+  pub holds : Holds 128 dec₀ out₀ (steps 128 (listMetrics (take count list) (receivedBy re im m scales)) (freshFrom pm₀) step) pm (at .held) (at .count) dec out
 
-module _ {m : Mapping} {scale : Float} {pm₀ re im : List Float} {dec₀ out₀ : List ℕ} {count : ℕ} {list : List Run} where
-  pub read-first : {t : Table} → Listed t count list → 38976 ≤ length re → 38976 ≤ length im → 4224 ≤ length dec₀ → frameSteps t ≤ length out₀ → Read m scale pm₀ re im dec₀ out₀ count list pm₀ dec₀ out₀ (record { held = 0; count = 0 }) 0 0
+module _ {m : Mapping} {scales pm₀ re im : List Float} {dec₀ out₀ : List ℕ} {count : ℕ} {list : List Run} where
+  pub read-first : {t : Table} → Listed t count list → 38976 ≤ length re → 38976 ≤ length im → 4224 ≤ length dec₀ → frameSteps t ≤ length out₀ → Read m scales pm₀ re im dec₀ out₀ count list pm₀ dec₀ out₀ (record { held = 0; count = 0 }) 0 0
   unfolding after
   read-first l gr gi gd gb =
       record {
@@ -49,11 +49,13 @@ module _ {m : Mapping} {scale : Float} {pm₀ re im : List Float} {dec₀ out₀
         holds = holds-start 128 pm₀ 0 dec₀ out₀ (omega arith);
       }
 
-  pub read-next : {pm pm′ : List Float} {dec dec′ out out′ : List ℕ} {at at′ : At} {step i n : ℕ} → Read m scale pm₀ re im dec₀ out₀ count list pm dec out at step i → i < count → n ≡ stepsOf (getD list i noRun)
+  pub read-next : {pm pm′ : List Float} {dec dec′ out out′ : List ℕ} {at at′ : At} {step i n : ℕ} → Read m scales pm₀ re im dec₀ out₀ count list pm dec out at step i → i < count → n ≡ stepsOf (getD list i noRun)
       → length dec′ ≡ length dec → length out′ ≡ length out
-      → Carried (runSteps (getD list i noRun .combination) (take (length re - getD list i noRun .«symbol_start») (drop (getD list i noRun .«symbol_start») re)) (take (length im - getD list i noRun .«symbol_start») (drop (getD list i noRun .«symbol_start») im)) m scale) step n pm at dec out at′ pm′ dec′ out′
-      → Read m scale pm₀ re im dec₀ out₀ count list pm′ dec′ out′ at′ (step + n) (i + 1)
-  read-next {step = step} {i = i} {n = n} r h en ld lo z =
+      → (x : Float) → x ≡ scaleOf scales (getD list i noRun .combination)
+      → Carried (runSteps (getD list i noRun .combination) (take (length re - getD list i noRun .«symbol_start») (drop (getD list i noRun .«symbol_start») re)) (take (length im - getD list i noRun .«symbol_start») (drop (getD list i noRun .«symbol_start») im)) m x) step n pm at dec out at′ pm′ dec′ out′
+      → Read m scales pm₀ re im dec₀ out₀ count list pm′ dec′ out′ at′ (step + n) (i + 1)
+  read-next {step = step} {i = i} {n = n} r h en ld lo x ex y =
+      let z = rw ex at y in
       let gd = r .words-fit in
       let gb = r .bits-fit in
       let sum = r .sum in
@@ -68,11 +70,11 @@ module _ {m : Mapping} {scale : Float} {pm₀ re im : List Float} {dec₀ out₀
         same-bits = lo ∙ r .same-bits;
         few = z .few;
         sum = omega arith;
-        holds = z .carries (listMetrics (take count list) (received re im m scale)) (freshFrom pm₀) dec₀ out₀ (λ k g. step-is count list (r .run .runs) i re im m scale step n k h (r .run .step-is) en g) (r .holds);
+        holds = z .carries (listMetrics (take count list) (receivedBy re im m scales)) (freshFrom pm₀) dec₀ out₀ (λ k g. step-is count list (r .run .runs) i re im m scales step n k h (r .run .step-is) en g) (r .holds);
       }
 
-  pub read-last : {t : Table} {pm : List Float} {dec out : List ℕ} {at : At} {step i : ℕ} → Listed t count list → Read m scale pm₀ re im dec₀ out₀ count list pm dec out at step i → count ≤ i
-      → RunsRead t (received re im m scale) pm₀ dec₀ out₀ at pm dec out
+  pub read-last : {t : Table} {pm : List Float} {dec out : List ℕ} {at : At} {step i : ℕ} → Listed t count list → Read m scales pm₀ re im dec₀ out₀ count list pm dec out at step i → count ≤ i
+      → RunsRead t (receivedBy re im m scales) pm₀ dec₀ out₀ at pm dec out
   unfolding metricsAt
   read-last {t} {step = step} {i = i} l r h =
       let e = run-last l (r .run) h in

@@ -1,2 +1,4 @@
 pub mod LawsDecoded
 pub mod Runs
+pub mod ScaleLaws
+pub mod Scales

@@ -25,7 +25,8 @@ use viterbi::start_at;
 use viterbi::start_unknown;
 ghost use mathlib.Core.Path.{_≡_};
 ghost use mathlib.Core.Bool.{cond, true, false};
-ghost use Prim.Native.Nat.{_+_, _*_, _<_, _≤_, _^_};
+ghost use mathlib.Core.List.{List};
+ghost use Prim.Native.Nat.{_+_, _-_, _*_, _<_, _≤_, _^_};
 ghost use lib.Dec.{eqb};
 ghost use lib.ListN.{length, getD, replicate};
 ghost use lib.Ieee.{Float, nan, lt, binary32, ofBits};
@@ -33,12 +34,14 @@ ghost use Rattle.trellis.specs.Lists.{upto, laid, bit};
 ghost use Rattle.trellis.specs.Code.{stateAt};
 ghost use Rattle.trellis.specs.Run.{startAt, startUnknown};
 ghost use Rattle.isdbs_core.specs.declared.combination.Combination.the-variants.{«Tc8psk2_3»};
+ghost use Rattle.isdbs_core.specs.Combinations.{wordOf};
 ghost use Rattle.isdbs_core.specs.Frame.{mainSymbols};
 ghost use Rattle.isdbs_core.specs.RunsOf.{frameSteps, loadBytes, Planned};
 ghost use Rattle.isdbs_points.specs.Points.{zero64, point, turned, psk8Of, subset};
 ghost use Rattle.isdbs_points.specs.Layout.{byteOf};
 ghost use Rattle.isdbs_metrics.specs.Reading.{frameWords, correlation};
-ghost use Rattle.isdbs_metrics.specs.Steps.{Covers, Bits, received, pieceBit, stepsOfBytes, PackRoom};
+ghost use Rattle.isdbs_metrics.specs.Steps.{Covers, Bits, pieceBit, stepsOfBytes, PackRoom};
+ghost use Rattle.isdbs_decode.specs.Scales.{receivedBy};
 ghost use Rattle.isdbs_decode.specs.Runs.{runSteps, Carried, RunsRead, Ended, byteAt, bitsFrom, FrameRead};
 
 // Decoder settings.
@@ -46,20 +49,20 @@ pub struct DemodOptions {
     pub mapping: Mapping,
     // Start in the state that W2 or W3 left, else in any.
     pub known_start: bool,
-    // Scale of the soft values.
-    pub llr_scale: f32,
+    // Scales of the soft values: one for each combination, in the order of words 1 to 7.
+    pub scales: [f32; 7],
 }
 
 impl DemodOptions {
     pub fn default() -> Self
         ensures { λ r. ⌜ (r .mapping .conjugate ≡ false) × (r .mapping .«qpsk_p1_on_q» ≡ false) × (r .mapping .«tc8psk_c1_is_y» ≡ true)
-            × (r .«known_start» ≡ true) × (r .«llr_scale» ≡ ofBits binary32 0x4100_0000) ⌝ }
+            × (r .«known_start» ≡ true) × (r .scales ≡ replicate 7 (ofBits binary32 0x4100_0000)) ⌝ }
     {
         let mapping = Mapping::default();
         Self {
             mapping,
             known_start: true,
-            llr_scale: 8.0,
+            scales: [8.0; 7],
         }
     }
 }
@@ -116,11 +119,19 @@ fn read_run(
     now_at
 }
 
-// Reads the runs of a frame. The steps are counted on over all of them.
+// The place of a combination's scale.
+fn scale_place(c: Combination) -> usize
+    ensures { λ r. ⌜ (r ≡ wordOf c - 1) × (r < 7) ⌝ }
+{
+    let word = c.word() as usize;
+    word - 1
+}
+
+// Reads the runs of a frame, each with the scale of its combination. The steps are counted on over all of them.
 fn read_runs(
     p: Plan,
     m: Mapping,
-    scale: f32,
+    scales: [f32; 7],
     pm: &mut [f32; 64],
     re: &[f64],
     im: &[f64],
@@ -128,7 +139,7 @@ fn read_runs(
     bits: &mut [u8],
 ) -> At
     requires { ⌜ Planned p × (mainSymbols ≤ length (now re)) × (mainSymbols ≤ length (now im)) × (frameWords ≤ length (now decisions)) × (frameSteps (p .table) ≤ length (now bits)) ⌝ }
-    ensures { λ r. ⌜ RunsRead (p .table) (received (now (re .entry)) (now (im .entry)) m scale) (now (pm .entry)) (now (decisions .entry)) (now (bits .entry)) r (now (pm .exit)) (now (decisions .exit)) (now (bits .exit)) ⌝ }
+    ensures { λ r. ⌜ RunsRead (p .table) (receivedBy (now (re .entry)) (now (im .entry)) m scales) (now (pm .entry)) (now (decisions .entry)) (now (bits .entry)) r (now (pm .exit)) (now (decisions .exit)) (now (bits .exit)) ⌝ }
 {
     let count = p.count;
     let list = p.runs;
@@ -139,6 +150,8 @@ fn read_runs(
         let c = r.combination;
         let n = c.steps_per_slot() * r.valid_slots;
         let start = r.symbol_start;
+        let place = scale_place(c);
+        let scale = scales[place];
         at = read_run(
             pm,
             at,
@@ -291,7 +304,7 @@ fn write_bytes(
     bytes: &mut [u8],
 )
     requires { ⌜ (start < 64) × Planned p × (mainSymbols ≤ length (now re)) × (mainSymbols ≤ length (now im)) × (frameSteps (p .table) ≤ length (now bits)) × Bits (now bits) (frameSteps (p .table)) × (loadBytes (p .table) ≤ length (now bytes)) ⌝ }
-    ensures { λ _. ⌜ ((scale : Float) → now (bytes .exit) ≡ laid (upto (byteAt (p .table) (received (now (re .entry)) (now (im .entry)) m scale) start (now (bits .entry))) (loadBytes (p .table))) (now (bytes .entry))) ⌝ }
+    ensures { λ _. ⌜ ((scales : List Float) → now (bytes .exit) ≡ laid (upto (byteAt (p .table) (receivedBy (now (re .entry)) (now (im .entry)) m scales) start (now (bits .entry))) (loadBytes (p .table))) (now (bytes .entry))) ⌝ }
 {
     let count = p.count;
     let list = p.runs;
@@ -322,7 +335,7 @@ fn write_bytes(
 fn decode_bits(
     p: Plan,
     m: Mapping,
-    scale: f32,
+    scales: [f32; 7],
     start: [f32; 64],
     re: &[f64],
     im: &[f64],
@@ -330,10 +343,10 @@ fn decode_bits(
     bits: &mut [u8],
 )
     requires { ⌜ Planned p × (mainSymbols ≤ length (now re)) × (mainSymbols ≤ length (now im)) × (frameWords ≤ length (now decisions)) × (frameSteps (p .table) + 16 ≤ length (now bits)) ⌝ }
-    ensures { λ _. ⌜ (now (bits .exit) ≡ laid (bitsFrom (p .table) (received (now (re .entry)) (now (im .entry)) m scale) start) (now (bits .entry))) × (now (decisions .exit) ≡ laid (replicate frameWords 0) (now (decisions .entry))) ⌝ }
+    ensures { λ _. ⌜ (now (bits .exit) ≡ laid (bitsFrom (p .table) (receivedBy (now (re .entry)) (now (im .entry)) m scales) start) (now (bits .entry))) × (now (decisions .exit) ≡ laid (replicate frameWords 0) (now (decisions .entry))) ⌝ }
 {
     let mut pm = start;
-    let at = read_runs(p, m, scale, &mut pm, re, im, decisions, bits);
+    let at = read_runs(p, m, scales, &mut pm, re, im, decisions, bits);
     read_end(&mut pm, at, decisions, bits);
 }
 
@@ -360,12 +373,13 @@ pub fn decode(
     bytes: &mut [u8],
 )
     requires { ⌜ Planned p × (mainSymbols ≤ length (now re)) × (mainSymbols ≤ length (now im)) × (frameWords ≤ length (now decisions)) × (frameSteps (p .table) + 16 ≤ length (now bits)) × (loadBytes (p .table) ≤ length (now bytes)) ⌝ }
-    ensures { λ _. ⌜ FrameRead (p .table) (received (now (re .entry)) (now (im .entry)) (o .mapping) (o .«llr_scale»)) (o .«known_start») first (now (decisions .entry)) (now (decisions .exit)) (now (bits .entry)) (now (bits .exit)) (now (bytes .entry)) (now (bytes .exit)) ⌝ }
+    ensures { λ _. ⌜ FrameRead (p .table) (receivedBy (now (re .entry)) (now (im .entry)) (o .mapping) (o .scales)) (o .«known_start») first (now (decisions .entry)) (now (decisions .exit)) (now (bits .entry)) (now (bits .exit)) (now (bytes .entry)) (now (bytes .exit)) ⌝ }
 {
     let state = start_state(first);
     let m = o.mapping;
     let start = start_values(o.known_start, state);
-    decode_bits(p, m, o.llr_scale, start, re, im, decisions, bits);
+    let scales = o.scales;
+    decode_bits(p, m, scales, start, re, im, decisions, bits);
     let end = p.steps + 16;
     write_bytes(p, m, state, re, im, &bits[0..end], bytes);
 }

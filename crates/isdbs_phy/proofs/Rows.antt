@@ -1,6 +1,6 @@
 -- The rows of `decode_frame` one after the other, and what a passed row tells. Assumes nothing.
 use mathlib.Core.Path.{_≡_, refl, sym, _∙_, ap}
-use mathlib.Core.Bool.{Bool, true, false, not, _||_}
+use mathlib.Core.Bool.{Bool, true, false, _||_}
 use mathlib.Core.List.{List, _++_}
 use Prim.Native.Nat.{ℕ, zero, suc, _+_, _-_, _<_, _≤_}
 use native.Mathlib.Omega.{arith}
@@ -20,32 +20,32 @@ use Rattle.isdbs_core.specs.TableLaws.{table-refusing, then-accepted}
 use Rattle.isdbs_core.specs.Frame.{mainSymbols}
 use Rattle.isdbs_core.specs.RunsOf.{frameSteps, loadBytes}
 use Rattle.isdbs_metrics.specs.Reading.{frameWords}
-use Rattle.isdbs_phy.specs.DecodeRows.{within, someBeyond, pointRows, lastRows, decodeRows, frameSaid, frameAnswer}
+use Rattle.isdbs_phy.specs.DecodeRows.{someOf, badScale, someBad, pointRows, lastRows, frameRows, frameSaid, frameAnswer}
 
 pub or-second : (a b : Bool) → b ≡ true → (a || b) ≡ true
 or-second true b e = refl
 or-second false b e = e
 
--- a value beyond the limit at i
-more : (limit : Float) (xs : List Float) (i d : ℕ) → someBeyond limit xs (suc i) ≡ true → someBeyond limit xs (suc i + d) ≡ true
-unfolding someBeyond
-more limit xs i zero e = ap (λ (n : ℕ). someBeyond limit xs n) (let q : suc i + 0 ≡ suc i = omega arith in q) ∙ e
-more limit xs i (suc d) e =
+-- a value that fails at i
+more : (bad : Float → Bool) (xs : List Float) (i d : ℕ) → someOf bad xs (suc i) ≡ true → someOf bad xs (suc i + d) ≡ true
+unfolding someOf
+more bad xs i zero e = ap (λ (n : ℕ). someOf bad xs n) (let q : suc i + 0 ≡ suc i = omega arith in q) ∙ e
+more bad xs i (suc d) e =
     let q : suc i + suc d ≡ suc (suc i + d) = omega arith in
-    ap (λ (n : ℕ). someBeyond limit xs n) q ∙ rw (more limit xs i d e)
+    ap (λ (n : ℕ). someOf bad xs n) q ∙ rw (more bad xs i d e)
 
-pub beyond-found : (limit : Float) (xs : List Float) (n i : ℕ) → i < n → not (within limit (getD xs i nan)) ≡ true → someBeyond limit xs n ≡ true
-unfolding someBeyond
-beyond-found limit xs n i h e =
+pub some-found : (bad : Float → Bool) (xs : List Float) (n i : ℕ) → i < n → bad (getD xs i nan) ≡ true → someOf bad xs n ≡ true
+unfolding someOf
+some-found bad xs n i h e =
     let d = n - suc i in
     let q : suc i + d ≡ n = omega arith in
-    ap (λ (k : ℕ). someBeyond limit xs k) (sym q) ∙ more limit xs i d (or-second (someBeyond limit xs i) (not (within limit (getD xs i nan))) e)
+    ap (λ (k : ℕ). someOf bad xs k) (sym q) ∙ more bad xs i d (or-second (someOf bad xs i) (bad (getD xs i nan)) e)
 
-pub beyond-none : (limit : Float) (xs : List Float) (i : ℕ) → someBeyond limit xs i ≡ false → not (within limit (getD xs i nan)) ≡ false → someBeyond limit xs (i + 1) ≡ false
-unfolding someBeyond
-beyond-none limit xs i h e =
+pub some-none : (bad : Float → Bool) (xs : List Float) (i : ℕ) → someOf bad xs i ≡ false → bad (getD xs i nan) ≡ false → someOf bad xs (i + 1) ≡ false
+unfolding someOf
+some-none bad xs i h e =
     let q : i + 1 ≡ suc i = omega arith in
-    ap (λ (k : ℕ). someBeyond limit xs k) q ∙ rw (h, e)
+    ap (λ (k : ℕ). someOf bad xs k) q ∙ rw (h, e)
 
 -- what an accepted call may rest on
 pub record Passed (t : Table) (re im : List Float) (decisions bits bytes : ℕ) : Type 0 where
@@ -56,22 +56,22 @@ pub record Passed (t : Table) (re im : List Float) (decisions bits bytes : ℕ) 
   pub places : frameSteps t + 16 ≤ bits
   pub room : loadBytes t ≤ bytes
 
-module _ (t : Table) (re im : List Float) (scale : Float) (decisions bits bytes : ℕ) where
+module _ (t : Table) (re im : List Float) (bad : Bool) (decisions bits bytes : ℕ) where
   abbrev last : List Row
-  last = lastRows t scale decisions bits bytes
+  last = lastRows t bad decisions bits bytes
 
   -- the table refuses; or it passes and the points refuse; or both pass
-  pub by-table : (a : Answer) → a ≡ tableAnswer t → (a ≡ Accepted → ⊥) → a ≡ firstRow (decodeRows t re im scale decisions bits bytes)
+  pub by-table : (a : Answer) → a ≡ tableAnswer t → (a ≡ Accepted → ⊥) → a ≡ firstRow (frameRows t re im bad decisions bits bytes)
   by-table a e n = refused-by (tableRows t) (pointRows re im ++ last) a e n
 
   module _ (fit : Accepted ≡ tableAnswer t) where
-    pub by-points : (a : Answer) → a ≡ firstRow (pointRows re im) → (a ≡ Accepted → ⊥) → a ≡ firstRow (decodeRows t re im scale decisions bits bytes)
+    pub by-points : (a : Answer) → a ≡ firstRow (pointRows re im) → (a ≡ Accepted → ⊥) → a ≡ firstRow (frameRows t re im bad decisions bits bytes)
     by-points a e n = passed-by (tableRows t) (pointRows re im ++ last) (table-refusing t) fit (refused-by (pointRows re im) last a e n)
 
-    pub by-last : {a : Answer} → Accepted ≡ firstRow (pointRows re im) → a ≡ firstRow (lastRows t scale decisions bits bytes) → a ≡ firstRow (decodeRows t re im scale decisions bits bytes)
+    pub by-last : {a : Answer} → Accepted ≡ firstRow (pointRows re im) → a ≡ firstRow (lastRows t bad decisions bits bytes) → a ≡ firstRow (frameRows t re im bad decisions bits bytes)
     by-last p e = passed-by (tableRows t) (pointRows re im ++ last) (table-refusing t) fit (passed-by (pointRows re im) last tt p e)
 
-  pub passed : Accepted ≡ firstRow (decodeRows t re im scale decisions bits bytes) → Passed t re im decisions bits bytes
+  pub passed : Accepted ≡ firstRow (frameRows t re im bad decisions bits bytes) → Passed t re im decisions bits bytes
   passed h =
       let b = then-accepted t (pointRows re im ++ last) (sym h) in
       let p = row.passed (pointRows re im ++ last) tt (b .1) in

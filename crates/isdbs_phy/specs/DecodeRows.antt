@@ -21,10 +21,14 @@ use Rattle.isdbs_metrics.specs.Reading.{frameWords}
 abbrev pub within : Float → Float → Bool
 within limit x = le (neg limit) x && le x limit
 
+-- one of the first n values fails a test
+unfoldable pub someOf : (Float → Bool) → List Float → ℕ → Bool
+someOf bad xs zero = false
+someOf bad xs (suc n) = someOf bad xs n || bad (getD xs n nan)
+
 -- one of the first n values is "not finite; beyond" the limit
-unfoldable pub someBeyond : Float → List Float → ℕ → Bool
-someBeyond limit xs zero = false
-someBeyond limit xs (suc n) = someBeyond limit xs n || not (within limit (getD xs n nan))
+abbrev pub someBeyond : Float → List Float → ℕ → Bool
+someBeyond limit xs n = someOf (λ x. not (within limit x)) xs n
 
 -- "beyond 1,024 for a frame part"
 abbrev pub partLimit : Float
@@ -37,20 +41,31 @@ scaleLimit = ofBits binary32 0x4280_0000
 abbrev pub badScale : Float → Bool
 badScale s = not (lt (ofBits binary32 0) s) || lt scaleLimit s
 
+-- "Refusal 8 now speaks to any of the seven, used or unused" (document 02, P3)
+abbrev pub someBad : List Float → Bool
+someBad scales = someOf badScale scales 7
+
 -- 9: "a lent output or decision slice shorter than this call writes; decisions always need 4,096 + traceback"
 abbrev pub shortSpace : Table → ℕ → ℕ → ℕ → Bool
 shortSpace t decisions bits bytes = ltb decisions frameWords || (ltb bits (frameSteps t + 16) || ltb bytes (loadBytes t))
 
--- the rows of the points, then those below them, over the lengths of the lent outputs
+-- the rows of the points, then those below them, over row 8's test and the lengths of the lent outputs
 abbrev pub pointRows : List Float → List Float → List Row
 pointRows re im = (Symbols, ltb (length re) mainSymbols || ltb (length im) mainSymbols) ∷ (Sample, someBeyond partLimit re mainSymbols || someBeyond partLimit im mainSymbols) ∷ []
 
-abbrev pub lastRows : Table → Float → ℕ → ℕ → ℕ → List Row
-lastRows t scale decisions bits bytes = (Scale, badScale scale) ∷ (Space, shortSpace t decisions bits bytes) ∷ []
+abbrev pub lastRows : Table → Bool → ℕ → ℕ → ℕ → List Row
+lastRows t bad decisions bits bytes = (Scale, bad) ∷ (Space, shortSpace t decisions bits bytes) ∷ []
+
+abbrev pub frameRows : Table → List Float → List Float → Bool → ℕ → ℕ → ℕ → List Row
+frameRows t re im bad decisions bits bytes = tableRows t ++ (pointRows re im ++ lastRows t bad decisions bits bytes)
 
 -- the rows of `decode_frame`
-abbrev pub decodeRows : Table → List Float → List Float → Float → ℕ → ℕ → ℕ → List Row
-decodeRows t re im scale decisions bits bytes = tableRows t ++ (pointRows re im ++ lastRows t scale decisions bits bytes)
+abbrev pub decodeRows : Table → List Float → List Float → List Float → ℕ → ℕ → ℕ → List Row
+decodeRows t re im scales = frameRows t re im (someBad scales)
+
+-- the same with one scale
+abbrev pub oneScaleRows : Table → List Float → List Float → Float → ℕ → ℕ → ℕ → List Row
+oneScaleRows t re im scale = frameRows t re im (badScale scale)
 
 -- document 01's number and values for each case of its answer
 abbrev pub frameSaid : FrameDecoded → Said

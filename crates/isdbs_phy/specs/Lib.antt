@@ -1,2 +1,3 @@
 pub mod DecodeRows
 pub mod EncodeRows
+pub mod ScaleLaws

@@ -13,7 +13,7 @@ ghost use lib.ListN.{length};
 ghost use Rattle.refusal.specs.Rows.{firstRow};
 ghost use Rattle.isdbs_core.specs.Frame.{mainSymbols};
 ghost use Rattle.isdbs_core.specs.RunsOf.{planOf, Planned};
-ghost use Rattle.isdbs_phy.specs.DecodeRows.{within, someBeyond, partLimit, badScale, shortSpace, decodeRows};
+ghost use Rattle.isdbs_phy.specs.DecodeRows.{within, someBeyond, partLimit, badScale, someBad, shortSpace, decodeRows};
 
 // The greatest scale that is taken.
 pub const SCALE_LIMIT: f32 = 64.0;
@@ -51,6 +51,18 @@ fn bad_scale(s: f32) -> bool
     } else {
         true
     }
+}
+
+// Whether any of the seven is.
+fn some_bad(scales: [f32; 7]) -> bool
+    ensures { λ r. ⌜ r ≡ someBad scales ⌝ }
+{
+    for i in 0..7 {
+        if bad_scale(scales[i]) {
+            return true;
+        }
+    }
+    false
 }
 
 // Rows 6 and 7.
@@ -94,13 +106,13 @@ pub(crate) fn decode_answer(
     p: Plan,
     re: &[f64],
     im: &[f64],
-    scale: f32,
+    scales: [f32; 7],
     decisions: usize,
     bits: usize,
     bytes: usize,
 ) -> Answer
     requires { ⌜ (p ≡ planOf (p .table)) × (p .count ≤ 4) ⌝ }
-    ensures { λ r. ⌜ r ≡ firstRow (decodeRows (p .table) (now (re .entry)) (now (im .entry)) scale decisions bits bytes) ⌝ }
+    ensures { λ r. ⌜ r ≡ firstRow (decodeRows (p .table) (now (re .entry)) (now (im .entry)) scales decisions bits bytes) ⌝ }
 {
     let table = table_answer(p.table);
     let Answer::Accepted = table else {
@@ -110,7 +122,7 @@ pub(crate) fn decode_answer(
     let Answer::Accepted = points else {
         return points;
     };
-    if bad_scale(scale) {
+    if some_bad(scales) {
         return Answer::Scale;
     }
     space_answer(p, decisions, bits, bytes)

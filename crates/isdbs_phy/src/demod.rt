@@ -36,10 +36,11 @@ ghost use lib.ListN.{length};
 ghost use Rattle.refusal.specs.Rows.{firstRow};
 ghost use Rattle.isdb_fec.specs.Calls.{Either};
 ghost use Rattle.isdbs_points.specs.Frame.{startState, endState};
-ghost use Rattle.isdbs_phy.specs.DecodeRows.{decodeRows, frameSaid, frameAnswer, Kept};
+ghost use Rattle.isdbs_phy.specs.DecodeRows.{decodeRows, oneScaleRows, frameSaid, frameAnswer, Kept};
 ghost use Rattle.isdbs_encode.specs.Encoding.{FrameLaid};
 ghost use Rattle.isdbs_phy.specs.EncodeRows.{encodeRows, encodeFrameRows, PartsKept};
 ghost use Rattle.isdbs_metrics.specs.Steps.{received};
+ghost use Rattle.isdbs_decode.specs.Scales.{receivedBy};
 ghost use Rattle.isdbs_decode.specs.Runs.{FrameRead};
 
 // Whether encoding is turned back: the parts have a and b elements.
@@ -131,24 +132,50 @@ pub fn decode_frame(
     bits: &mut [u8],
     bytes: &mut [u8],
 ) -> FrameDecoded
-    ensures answers { λ r. ⌜ frameSaid r ≡ frameAnswer (firstRow (decodeRows t (now (re .entry)) (now (im .entry)) (o .«llr_scale») (length (now (decisions .entry))) (length (now (bits .entry))) (length (now (bytes .entry))))) t ⌝ }
-    ensures leaves { λ _. ⌜ Either (firstRow (decodeRows t (now (re .entry)) (now (im .entry)) (o .«llr_scale») (length (now (decisions .entry))) (length (now (bits .entry))) (length (now (bytes .entry)))))
-        (FrameRead t (received (now (re .entry)) (now (im .entry)) (o .mapping) (o .«llr_scale»)) (o .«known_start») first (now (decisions .entry)) (now (decisions .exit)) (now (bits .entry)) (now (bits .exit)) (now (bytes .entry)) (now (bytes .exit)))
+    ensures answers { λ r. ⌜ frameSaid r ≡ frameAnswer (firstRow (decodeRows t (now (re .entry)) (now (im .entry)) (o .scales) (length (now (decisions .entry))) (length (now (bits .entry))) (length (now (bytes .entry))))) t ⌝ }
+    ensures leaves { λ _. ⌜ Either (firstRow (decodeRows t (now (re .entry)) (now (im .entry)) (o .scales) (length (now (decisions .entry))) (length (now (bits .entry))) (length (now (bytes .entry)))))
+        (FrameRead t (receivedBy (now (re .entry)) (now (im .entry)) (o .mapping) (o .scales)) (o .«known_start») first (now (decisions .entry)) (now (decisions .exit)) (now (bits .entry)) (now (bits .exit)) (now (bytes .entry)) (now (bytes .exit)))
         (Kept (now (decisions .entry)) (now (decisions .exit)) (now (bits .entry)) (now (bits .exit)) (now (bytes .entry)) (now (bytes .exit))) ⌝ }
 {
     let p = plan_of(t);
-    let answer = decode_answer(
-        p,
-        re,
-        im,
-        o.llr_scale,
-        decisions.len(),
-        bits.len(),
-        bytes.len(),
-    );
+    let scales = o.scales;
+    let answer = decode_answer(p, re, im, scales, decisions.len(), bits.len(), bytes.len());
     let Answer::Accepted = answer else {
         return FrameDecoded::Refused(answer);
     };
     decode(p, first, o, re, im, decisions, bits, bytes);
     FrameDecoded::Decoded(p.bytes, p.steps)
+}
+
+// Decoder settings with one scale for all combinations.
+pub struct OneScale {
+    pub mapping: Mapping,
+    pub known_start: bool,
+    pub llr_scale: f32,
+}
+
+// `decode_frame` with seven equal scales: the contract speaks of the one.
+pub fn decode_frame_one_scale(
+    re: &[f64],
+    im: &[f64],
+    t: Table,
+    first: bool,
+    o: OneScale,
+    decisions: &mut [u64],
+    bits: &mut [u8],
+    bytes: &mut [u8],
+) -> FrameDecoded
+    ensures answers { λ r. ⌜ frameSaid r ≡ frameAnswer (firstRow (oneScaleRows t (now (re .entry)) (now (im .entry)) (o .«llr_scale») (length (now (decisions .entry))) (length (now (bits .entry))) (length (now (bytes .entry))))) t ⌝ }
+    ensures leaves { λ _. ⌜ Either (firstRow (oneScaleRows t (now (re .entry)) (now (im .entry)) (o .«llr_scale») (length (now (decisions .entry))) (length (now (bits .entry))) (length (now (bytes .entry)))))
+        (FrameRead t (received (now (re .entry)) (now (im .entry)) (o .mapping) (o .«llr_scale»)) (o .«known_start») first (now (decisions .entry)) (now (decisions .exit)) (now (bits .entry)) (now (bits .exit)) (now (bytes .entry)) (now (bytes .exit)))
+        (Kept (now (decisions .entry)) (now (decisions .exit)) (now (bits .entry)) (now (bits .exit)) (now (bytes .entry)) (now (bytes .exit))) ⌝ }
+{
+    let mapping = o.mapping;
+    let scales = [o.llr_scale; 7];
+    let same = DemodOptions {
+        mapping,
+        known_start: o.known_start,
+        scales,
+    };
+    decode_frame(re, im, t, first, same, decisions, bits, bytes)
 }

@@ -15,7 +15,7 @@ use Rattle.isdbs_core.specs.Symbols.{bitRows}
 use Rattle.isdbs_core.specs.Tables.{tableRows}
 use Rattle.isdbs_core.specs.SlotPart.{slotPartRows}
 use Rattle.isdbs_phy.specs.EncodeRows.{encodeRows, encodeFrameRows}
-use Rattle.isdbs_phy.specs.DecodeRows.{decodeRows}
+use Rattle.isdbs_phy.specs.DecodeRows.{decodeRows, oneScaleRows}
 use Rattle.best_reading.specs.Calls.{readingRows}
 use Rattle.known_end.specs.Calls.{betweenRows}
 use Rattle.full_frame.specs.declared.Input.{Input}
@@ -23,7 +23,7 @@ use Rattle.full_frame.specs.Rows.{layRows, takeRows}
 use Rattle.strain_window.specs.declared.WindowState.{WindowState}
 use Rattle.strain_window.specs.Rows as window
 use Rattle.isdb_c.specs.Rows.{placesRows, bitSymbolRows}
-use Rattle.isdb_c.specs.Lengths.{withStates}
+use Rattle.isdb_c.specs.Lengths.{withStates, scalesRows}
 use Rattle.isdb_c.specs.Rates.{rateRows}
 use Rattle.isdb_c.specs.declared.isdbt.MaybeRate.the-variants.{NoRate}
 
@@ -59,7 +59,8 @@ module _ (t : Table) (v : ViterbiDecoder) (w : WindowState) (parts : Input → L
       -- isdbs_phy
       ∷ encodeRows t i j k
       ∷ encodeFrameRows t i j
-      ∷ decodeRows t re im scale i j k
+      ∷ decodeRows t re im xs i j k
+      ∷ oneScaleRows t re im scale i j k
       -- best_reading
       ∷ readingRows xs i j
       -- known_end
@@ -77,6 +78,8 @@ module _ (t : Table) (v : ViterbiDecoder) (w : WindowState) (parts : Input → L
       ∷ withStates xs (pushMetricsRows v xs i j)
       ∷ withStates xs (pushKnownRows v i j k)
       ∷ withStates xs (flushRows v i j)
+      -- with a row 5 for scales that are not seven
+      ∷ scalesRows t re im xs i j k
       -- with a rate that is unknown: where it is known, they are those of isdbt_fec
       ∷ rateRows (encoderRows i) NoRate (λ c. isdbt.encodeRows c i j k)
       ∷ rateRows [] NoRate (λ c. isdbt.depunctureRows c i j)

@@ -1,5 +1,5 @@
-// `decode_frame` on 264 frames, held to what the given Rust makes of them: every combination alone and mixed, the empty table, all mappings, known and unknown
-// start, clean, noisy and random points, extreme parts, scales from the least subnormal to 64. data/decode.hex is written by compare/vectors.sh; compare/README.md
+// `decode_frame` on 286 frames, held to what the given Rust makes of them: every combination alone and mixed, the empty table, all mappings, known and unknown
+// start, clean, noisy and random points, extreme parts, scales from the least subnormal to 64, unequal scales. data/decode.hex is written by compare/vectors.sh; compare/README.md
 // has its fields. Lines that differ are shown, then how many agree and differ. The last line is that of the empty table with decision words of ones before it.
 ghost use Prim.Native.Nat.{_≤_, _<_};
 use isdbs_core::tmcc::Entry;
@@ -12,7 +12,7 @@ use isdbs_phy::demod::encode_frame;
 use libc::STDOUT_FILENO;
 use refusal::Answer;
 
-const LINES: u32 = 264;
+const LINES: u32 = 286;
 
 fn digit(byte: u8) -> u64 {
     match byte {
@@ -29,8 +29,8 @@ fn wide(byte: u8) -> u64
 }
 
 // The number of the hexadecimal digits from..to, of which the last 16 count.
-fn number(line: &[u8; 118], from: usize, to: usize) -> u64
-    requires { ⌜ to ≤ 118 ⌝ }
+fn number(line: &[u8; 166], from: usize, to: usize) -> u64
+    requires { ⌜ to ≤ 166 ⌝ }
 {
     let mut value: u64 = 0;
     for i in from..to {
@@ -154,9 +154,27 @@ fn digest(bytes: &[u8], n: usize) -> u64 {
     h
 }
 
+// Scale i of the line.
+fn scale_of(line: &[u8; 166], i: usize) -> f32
+    requires { ⌜ i < 7 ⌝ }
+{
+    float_of((number(line, 26 + 8 * i, 34 + 8 * i) % 0x1_0000_0000) as u32)
+}
+
+fn scales_of(line: &[u8; 166]) -> [f32; 7] {
+    let a = scale_of(line, 0);
+    let b = scale_of(line, 1);
+    let c = scale_of(line, 2);
+    let d = scale_of(line, 3);
+    let e = scale_of(line, 4);
+    let f = scale_of(line, 5);
+    let g = scale_of(line, 6);
+    [a, b, c, d, e, f, g]
+}
+
 // The space that decoding is lent.
 fn decoded(
-    line: &[u8; 118],
+    line: &[u8; 166],
     re: &[f64],
     im: &[f64],
     decisions: &mut [u64],
@@ -164,17 +182,19 @@ fn decoded(
     bytes: &mut [u8],
 ) -> FrameDecoded {
     let t = table_of(number(line, 0, 16));
+    let scales = scales_of(line);
+    let mapping = mapping_of(number(line, 17, 19));
     let o = DemodOptions {
-        mapping: mapping_of(number(line, 17, 19)),
+        mapping,
         known_start: number(line, 23, 25) == 1,
-        llr_scale: float_of((number(line, 26, 34) % 0x1_0000_0000) as u32),
+        scales,
     };
     let first = number(line, 20, 22) == 1;
     decode_frame(re, im, t, first, o, decisions, bits, bytes)
 }
 
 // The clean frame of the first `count` bytes.
-fn clean(line: &[u8; 118], bytes: &[u8], count: usize, re: &mut [f64], im: &mut [f64]) -> Answer {
+fn clean(line: &[u8; 166], bytes: &[u8], count: usize, re: &mut [f64], im: &mut [f64]) -> Answer {
     let t = table_of(number(line, 0, 16));
     let m = mapping_of(number(line, 17, 19));
     let first = number(line, 20, 22) == 1;
@@ -185,33 +205,33 @@ fn clean(line: &[u8; 118], bytes: &[u8], count: usize, re: &mut [f64], im: &mut 
 }
 
 // Whether the counts and the digests are the line's.
-fn matches(line: &[u8; 118], count: usize, steps: usize, bits: &[u8], bytes: &[u8]) -> bool {
-    if steps as u64 != number(line, 72, 80) {
+fn matches(line: &[u8; 166], count: usize, steps: usize, bits: &[u8], bytes: &[u8]) -> bool {
+    if steps as u64 != number(line, 120, 128) {
         return false;
     }
-    if count as u64 != number(line, 81, 83) % 256 * 203 {
+    if count as u64 != number(line, 129, 131) % 256 * 203 {
         return false;
     }
     if steps > 68_208 {
         return false;
     }
-    if digest(bits, steps + 16) != number(line, 84, 100) {
+    if digest(bits, steps + 16) != number(line, 132, 148) {
         return false;
     }
-    digest(bytes, count) == number(line, 101, 117)
+    digest(bytes, count) == number(line, 149, 165)
 }
 
 // Whether the line's frame is decoded as the Rust decodes it.
 fn agrees(
-    line: &[u8; 118],
+    line: &[u8; 166],
     re: &mut [f64; 38976],
     im: &mut [f64; 38976],
     decisions: &mut [u64; 4224],
     bits: &mut [u8; 68224],
     bytes: &mut [u8; 9744],
 ) -> bool {
-    let count = (number(line, 81, 83) % 49 * 203) as usize;
-    let seed = number(line, 35, 51);
+    let count = (number(line, 129, 131) % 49 * 203) as usize;
+    let seed = number(line, 83, 99);
     fill(bytes, count, seed);
     let answer = clean(line, bytes, count, re, im);
     if refusal::number(answer) != 0 {
@@ -220,9 +240,9 @@ fn agrees(
     receive(
         re,
         im,
-        number(line, 52, 54),
+        number(line, 100, 102),
         seed ^ 0x5555_5555_5555_5555,
-        double_of(number(line, 55, 71)),
+        double_of(number(line, 103, 119)),
     );
     let r = decoded(line, re, im, decisions, bits, bytes);
     match r {
@@ -240,8 +260,8 @@ fn passes(
     bits: &mut [u8; 68224],
     bytes: &mut [u8; 9744],
 ) -> bool {
-    let mut line = [0u8; 118];
-    if io::read_full(file, &mut line) < 118 {
+    let mut line = [0u8; 166];
+    if io::read_full(file, &mut line) < 166 {
         return false;
     }
     if agrees(&line, re, im, decisions, bits, bytes) {
@@ -260,7 +280,7 @@ fn agreeing(
     bits: &mut [u8; 68224],
     bytes: &mut [u8; 9744],
 ) -> u32
-    ensures { λ r. ⌜ r ≤ 264 ⌝ }
+    ensures { λ r. ⌜ r ≤ 286 ⌝ }
 {
     let mut agree: u32 = 0;
     for i in 0..LINES {
@@ -312,10 +332,12 @@ fn empty_table(
     bits: &mut [u8; 18],
     bytes: &mut [u8; 9744],
 ) {
+    let scales = [8.0f32; 7];
+    let mapping = mapping_of(0);
     let o = DemodOptions {
-        mapping: mapping_of(0),
+        mapping,
         known_start: true,
-        llr_scale: 8.0,
+        scales,
     };
     let r = decode_frame(re, im, table_of(0), true, o, decisions, bits, bytes);
     let FrameDecoded::Decoded(n, steps) = r else {
@@ -334,6 +356,101 @@ fn empty_table(
         STDOUT_FILENO,
         words_of(decisions, 4224, 4230, 0xffff_ffff_ffff_ffff),
     );
+    io::write_all(STDOUT_FILENO, b"\n");
+}
+
+// Scales that row 8 turns back: a NaN, 0, -0, below 0, infinity, the next above 64; then two that pass, the least and 64.
+fn tried_scale(k: usize) -> f32 {
+    match k {
+        0 => 0.0f32 / 0.0f32,
+        1 => 0.0f32,
+        2 => -0.0f32,
+        3 => -1.0f32,
+        4 => float_of(0x7f80_0000),
+        5 => float_of(0x4280_0001),
+        6 => float_of(1),
+        _ => 64.0f32,
+    }
+}
+
+// The number that decoding answers with the scale at one place and 8 at the others.
+fn answer_at(
+    table: u64,
+    place: usize,
+    scale: f32,
+    re: &[f64; 38976],
+    im: &[f64; 38976],
+    decisions: &mut [u64; 4224],
+    bits: &mut [u8; 68224],
+    bytes: &mut [u8; 9744],
+) -> u32
+    requires { ⌜ place < 7 ⌝ }
+{
+    let mut scales = [8.0f32; 7];
+    scales[place] = scale;
+    let mapping = mapping_of(4);
+    let o = DemodOptions {
+        mapping,
+        known_start: true,
+        scales,
+    };
+    let r = decode_frame(re, im, table_of(table), true, o, decisions, bits, bytes);
+    match r {
+        FrameDecoded::Decoded(_, _) => 0,
+        FrameDecoded::Refused(a) => refusal::number(a),
+    }
+}
+
+// The answers for 48 slots of TC8PSK with each scale tried at one place, which the table uses where it is 6 alone.
+fn show_place(
+    place: usize,
+    re: &[f64; 38976],
+    im: &[f64; 38976],
+    decisions: &mut [u64; 4224],
+    bits: &mut [u8; 68224],
+    bytes: &mut [u8; 9744],
+)
+    requires { ⌜ place < 7 ⌝ }
+{
+    io::write_all(STDOUT_FILENO, b"scale ");
+    io::print_decimal(STDOUT_FILENO, place as u64);
+    io::write_all(STDOUT_FILENO, b" wrong, then good:");
+    for k in 0..8usize {
+        let answer = answer_at(
+            0x3007,
+            place,
+            tried_scale(k),
+            re,
+            im,
+            decisions,
+            bits,
+            bytes,
+        );
+        io::write_all(STDOUT_FILENO, b" ");
+        io::print_decimal(STDOUT_FILENO, answer as u64);
+    }
+    io::write_all(STDOUT_FILENO, b"\n");
+}
+
+// Row 8 for each of the seven places; then the rows above it: 49 slots, and a NaN among the points, each with a wrong scale.
+fn wrong_scales(
+    re: &mut [f64; 38976],
+    im: &[f64; 38976],
+    decisions: &mut [u64; 4224],
+    bits: &mut [u8; 68224],
+    bytes: &mut [u8; 9744],
+) {
+    for place in 0..7usize {
+        show_place(place, re, im, decisions, bits, bytes);
+    }
+    let many = answer_at(0x3107, 0, -0.0f32, re, im, decisions, bits, bytes);
+    re[38975] = 0.0f64 / 0.0f64;
+    let sample = answer_at(0x3007, 0, -0.0f32, re, im, decisions, bits, bytes);
+    re[38975] = 0.0f64;
+    io::write_all(STDOUT_FILENO, b"rows above: ");
+    io::print_decimal(STDOUT_FILENO, many as u64);
+    io::write_all(STDOUT_FILENO, b", ");
+    io::print_decimal(STDOUT_FILENO, sample as u64);
     io::write_all(STDOUT_FILENO, b"\n");
 }
 
@@ -362,6 +479,7 @@ fn main() {
     io::write_all(STDOUT_FILENO, b" agree\n");
     io::print_decimal(STDOUT_FILENO, (LINES - agree) as u64);
     io::write_all(STDOUT_FILENO, b" differ\n");
+    wrong_scales(&mut re, &im, &mut decisions, &mut bits, &mut bytes);
     let mut words = [0xffff_ffff_ffff_ffffu64; 4230];
     let mut few = [7u8; 18];
     empty_table(&re, &im, &mut words, &mut few, &mut bytes);

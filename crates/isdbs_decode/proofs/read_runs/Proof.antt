@@ -4,16 +4,18 @@ use Rattle.isdbs_decode.proofs.FrameRuns.{listed-runs, steps-by, part-c
 use Rattle.isdbs_decode.proofs.FrameSteps.{Read, read-first, read-next, read-last}
 use Rattle.isdbs_core.specs.RunsOf.{noRun}
 use lib.ListN.{getD}
+use lib.Ieee.{nan}
 use native.Mathlib.Omega.{arith}
-use Prim.Native.Nat.{_-_}
+use Prim.Native.Nat.{ℕ, _-_}
+use mathlib.Core.Path.{ap}
 use Rattle.isdbs_decode.proofs.read_runs.Statement.{statement}
 use Rattle.isdbs_decode.proofs.read_runs.Tie as tie
 
 abbrev Inv-loop : tie.InvT-loop
-Inv-loop m scale pm₀ re im decisions₀ bits₀ count list at₀ step₀ i₀ pm decisions bits at step i = Read m scale pm₀ re im decisions₀ bits₀ count list pm decisions bits at step i
+Inv-loop m pm₀ re im decisions₀ bits₀ scales count list at₀ step₀ i₀ pm decisions bits at step i = Read m scales pm₀ re im decisions₀ bits₀ count list pm decisions bits at step i
 
 abbrev μ-loop : tie.MeasureT-loop
-μ-loop m scale pm₀ re im decisions₀ bits₀ count list at₀ step₀ i₀ pm decisions bits at step i = count - i
+μ-loop m pm₀ re im decisions₀ bits₀ scales count list at₀ step₀ i₀ pm decisions bits at step i = count - i
 
 loop-holds : tie.Need-loop-holds Inv-loop μ-loop
 loop-holds c =
@@ -33,6 +35,15 @@ mul-n : tie.Need-mul-n Inv-loop μ-loop
 mul-n c =
     let e = steps-by (getD (c .before .before .before .before .before .before .before .before .before .before .args .p .runs) (c .before .before .before .before .loop .i) noRun) _ (c .before .steps-per-slot .ensures) in
     record { fits = omega arith }
+
+scale-place-requires : tie.Need-scale-place-requires Inv-loop μ-loop
+scale-place-requires c κs = search needs
+
+mul-scale : tie.Need-mul-scale Inv-loop μ-loop
+mul-scale c = search needs
+
+array-read-scale : tie.Need-array-read-scale Inv-loop μ-loop
+array-read-scale c = search needs
 
 mul-read-run : tie.Need-mul-read-run Inv-loop μ-loop
 mul-read-run c = search needs
@@ -60,9 +71,11 @@ part-read-run-end-2 c = search needs
 
 read-run-requires : tie.Need-read-run-requires Inv-loop μ-loop
 read-run-requires c κs =
-    let e = steps-by (getD (c .before .before .before .before .before .before .before .before .before .before .before .before .before .before .before .args .p .runs) (c .before .before .before .before .before .before .before .before .before .loop .i) noRun) _ (c .before .before .before .before .before .before .steps-per-slot .ensures) in
-    let st = c .before .before .before .before .before .before .before .before .before .before .before .before .before .before .before in
-    let r = c .before .before .before .before .before .before .before .before .before .loop .inv in (
+    let h = c .before .before .before .before .before .before .before in
+    let w = h .before .before .before in
+    let st = w .before .before .before .before .before .before in
+    let e = steps-by (getD (st .args .p .runs) (w .loop .i) noRun) _ (h .steps-per-slot .ensures) in
+    let r = w .loop .inv in (
       r .few,
       r .words-fit,
       omega arith,
@@ -73,7 +86,9 @@ read-run-requires c κs =
 
 add-step : tie.Need-add-step Inv-loop μ-loop
 add-step c =
-    let e = steps-by (getD (c .before .before .before .before .before .before .before .before .before .before .before .before .before .before .before .before .before .before .before .before .args .p .runs) (c .before .before .before .before .before .before .before .before .before .before .before .before .before .before .loop .i) noRun) _ (c .before .before .before .before .before .before .before .before .before .before .before .steps-per-slot .ensures) in
+    let h = c .before .before .before .before .before .before .before .before .before .before .before .before in
+    let w = h .before .before .before in
+    let e = steps-by (getD (w .before .before .before .before .before .before .args .p .runs) (w .loop .i) noRun) _ (h .steps-per-slot .ensures) in
     record { fits = omega arith }
 
 add-i : tie.Need-add-i Inv-loop μ-loop
@@ -84,8 +99,12 @@ loop-less c = search needs
 
 loop-again : tie.Need-loop-again Inv-loop μ-loop
 loop-again c =
-    read-next (c .before .before .before .before .before .before .before .before .before .before .before .before .before .before .loop .inv) (c .before .before .before .before .before .before .before .before .before .before .before .before .before .loop-test .taken)
-    (steps-by (getD (c .before .before .before .before .before .before .before .before .before .before .before .before .before .before .before .before .before .before .before .before .args .p .runs) (c .before .before .before .before .before .before .before .before .before .before .before .before .before .before .loop .i) noRun) _ (c .before .before .before .before .before .before .before .before .before .before .before .steps-per-slot .ensures)) (search needs) (search needs) (c .before .before .before .before .read-run .ensures)
+    let h = c .before .before .before .before .before .before .before .before .before .before .before .before in
+    let w = h .before .before .before in
+    let st = w .before .before .before .before .before .before in
+    let e = steps-by (getD (st .args .p .runs) (w .loop .i) noRun) _ (h .steps-per-slot .ensures) in
+    let x = ap (λ (k : ℕ). getD (st .args .t3) k nan) (c .before .before .before .before .before .before .before .before .before .before .scale-place .ensures .0) in
+    read-next (w .loop .inv) (h .before .before .loop-test .taken) e (search needs) (search needs) _ x (c .before .before .before .before .read-run .ensures)
 
 same-length : tie.Need-same-length Inv-loop μ-loop
 same-length c = search needs
@@ -109,6 +128,9 @@ read-runs-spec =
     array-copy-out-r
     steps-per-slot-requires
     mul-n
+    scale-place-requires
+    mul-scale
+    array-read-scale
     mul-read-run
     sub-read-run
     part-read-run-start

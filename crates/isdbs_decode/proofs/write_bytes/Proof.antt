@@ -121,7 +121,7 @@ returns c =
     let w = c .before .loop .inv in
     let e : c .before .loop .i ≡ st .args .p .count = omega arith in
     let ed = (rw e at (w .done-is)) ∙ ap (λ (z : ℕ). 203 * z) (all-valid l) in
-    λ scale. rw (ed, l .listed) at (w .bytes-are scale)
+    λ scales. rw (ed, l .listed) at (w .bytes-are scales)
 
 pub write-bytes-spec : {M : Type 1} → statement M
 write-bytes-spec =

@@ -7,10 +7,10 @@ use Rattle.vectors_decode.proofs.agreeing.Statement.{statement}
 use Rattle.vectors_decode.proofs.agreeing.Tie as tie
 
 abbrev Inv-loop : tie.InvT-loop
-Inv-loop file re₀ im₀ decisions₀ bits₀ bytes₀ agree₀ i₀ re im decisions bits bytes agree i = (agree ≤ i) × (i ≤ 264)
+Inv-loop file re₀ im₀ decisions₀ bits₀ bytes₀ agree₀ i₀ re im decisions bits bytes agree i = (agree ≤ i) × (i ≤ 286)
 
 abbrev μ-loop : tie.MeasureT-loop
-μ-loop file re₀ im₀ decisions₀ bits₀ bytes₀ agree₀ i₀ re im decisions bits bytes agree i = 264 - i
+μ-loop file re₀ im₀ decisions₀ bits₀ bytes₀ agree₀ i₀ re im decisions bits bytes agree i = 286 - i
 
 loop-holds : tie.Need-loop-holds Inv-loop μ-loop
 loop-holds c = search needs

@@ -2,6 +2,7 @@
 use mathlib.Core.Path.{sym, _∙_}
 use Rattle.isdb_fec.specs.Told.{told}
 use Rattle.isdbs_phy.proofs.Rows.{by-table, by-points, by-last}
+use Rattle.isdbs_phy.specs.DecodeRows.{someBad}
 use borrow.Author.Needs.{needs}
 use Rattle.isdbs_phy.proofs.answers.decode_answer.Statement.{statement}
 use Rattle.isdbs_phy.proofs.answers.decode_answer.Tie as tie
@@ -15,7 +16,7 @@ enum-told c = search needs
 returns : tie.Need-returns
 returns c =
     let st = c .before .before .before .before in
-    by-table (st .args .p .table) (st .args .re .now) (st .args .im .now) (st .args .scale) (st .args .decisions) (st .args .bits) (st .args .bytes) (c .before .table-answer .result) (c .before .table-answer .ensures) (told (c .before .table-answer .result) (c .match .keys2))
+    by-table (st .args .p .table) (st .args .re .now) (st .args .im .now) (someBad (st .args .scales)) (st .args .decisions) (st .args .bits) (st .args .bytes) (c .before .table-answer .result) (c .before .table-answer .ensures) (told (c .before .table-answer .result) (c .match .keys2))
 
 points-answer-requires : tie.Need-points-answer-requires
 points-answer-requires c κs = search needs
@@ -26,17 +27,17 @@ enum-told-2 c = search needs
 returns-2 : tie.Need-returns-2
 returns-2 c =
     let st = c .before .before .before .before .before .before .before in
-    by-points (st .args .p .table) (st .args .re .now) (st .args .im .now) (st .args .scale) (st .args .decisions) (st .args .bits) (st .args .bytes) (sym (c .before .before .enum-told .given .1) ∙ c .before .before .before .before .table-answer .ensures)
+    by-points (st .args .p .table) (st .args .re .now) (st .args .im .now) (someBad (st .args .scales)) (st .args .decisions) (st .args .bits) (st .args .bytes) (sym (c .before .before .enum-told .given .1) ∙ c .before .before .before .before .table-answer .ensures)
     (c .before .points-answer .result) (c .before .points-answer .ensures) (told (c .before .points-answer .result) (c .match2 .keys2))
 
-bad-scale-requires : tie.Need-bad-scale-requires
-bad-scale-requires c κs = search needs
+some-bad-requires : tie.Need-some-bad-requires
+some-bad-requires c κs = search needs
 
 returns-3 : tie.Need-returns-3
 returns-3 c =
     let st = c .before .before .before .before .before .before .before .before .before .before in
-    by-last (st .args .p .table) (st .args .re .now) (st .args .im .now) (st .args .scale) (st .args .decisions) (st .args .bits) (st .args .bytes) (sym (c .before .before .before .before .before .enum-told .given .1) ∙ c .before .before .before .before .before .before .before .table-answer .ensures)
-    (sym (c .before .before .enum-told2 .given .1) ∙ c .before .before .before .before .points-answer .ensures) (rw (sym (c .before .bad-scale .ensures) ∙ c .if1 .taken))
+    by-last (st .args .p .table) (st .args .re .now) (st .args .im .now) (someBad (st .args .scales)) (st .args .decisions) (st .args .bits) (st .args .bytes) (sym (c .before .before .before .before .before .enum-told .given .1) ∙ c .before .before .before .before .before .before .before .table-answer .ensures)
+    (sym (c .before .before .enum-told2 .given .1) ∙ c .before .before .before .before .points-answer .ensures) (rw (sym (c .before .some-bad .ensures) ∙ c .if1 .taken))
 
 space-answer-requires : tie.Need-space-answer-requires
 space-answer-requires c κs =
@@ -46,9 +47,9 @@ space-answer-requires c κs =
 returns-4 : tie.Need-returns-4
 returns-4 c =
     let st = c .before .before .before .before .before .before .before .before .before .before .before in
-    by-last (st .args .p .table) (st .args .re .now) (st .args .im .now) (st .args .scale) (st .args .decisions) (st .args .bits) (st .args .bytes) (sym (c .before .before .before .before .before .before .enum-told .given .1) ∙ c .before .before .before .before .before .before .before .before .table-answer .ensures)
+    by-last (st .args .p .table) (st .args .re .now) (st .args .im .now) (someBad (st .args .scales)) (st .args .decisions) (st .args .bits) (st .args .bytes) (sym (c .before .before .before .before .before .before .enum-told .given .1) ∙ c .before .before .before .before .before .before .before .before .table-answer .ensures)
     (sym (c .before .before .before .enum-told2 .given .1) ∙ c .before .before .before .before .before .points-answer .ensures)
-    (rw (sym (c .before .before .bad-scale .ensures) ∙ c .before .if1 .left) (c .space-answer .ensures))
+    (rw (sym (c .before .before .some-bad .ensures) ∙ c .before .if1 .left) (c .space-answer .ensures))
 
 pub decode-answer-spec : {M : Type 1} → statement M
 decode-answer-spec =
@@ -60,7 +61,7 @@ decode-answer-spec =
     points-answer-requires
     enum-told-2
     returns-2
-    bad-scale-requires
+    some-bad-requires
     returns-3
     space-answer-requires
     returns-4)

@@ -1,11 +1,11 @@
 -- `answers::some_beyond` meets its contract. Assumes nothing.
 use borrow.Author.Needs.{needs}
-use Rattle.isdbs_phy.proofs.Rows.{beyond-found, beyond-none}
-use Rattle.isdbs_phy.specs.DecodeRows.{someBeyond}
+use Rattle.isdbs_phy.proofs.Rows.{some-found, some-none}
+use Rattle.isdbs_phy.specs.DecodeRows.{within, someOf, someBeyond}
 use lib.ListN.{length, getD, take, length-map}
 use native.Mathlib.Omega.{arith}
 use Prim.Native.Nat.{ℕ, _+_, _-_, _*_, _<_, _≤_}
-use mathlib.Core.Bool.{true, false}
+use mathlib.Core.Bool.{true, false, not}
 use mathlib.Core.Path.{_≡_, refl, sym, _∙_, ap}
 use Rattle.isdbs_phy.proofs.answers.some_beyond.Statement.{statement}
 use Rattle.isdbs_phy.proofs.answers.some_beyond.Tie as tie
@@ -17,7 +17,7 @@ abbrev μ-loop : tie.MeasureT-loop
 μ-loop xs n limit i₀ i = n - i
 
 loop-holds : tie.Need-loop-holds Inv-loop μ-loop
-unfolding someBeyond
+unfolding someOf
 loop-holds c = (search needs, refl)
 
 mul-beyond : tie.Need-mul-beyond Inv-loop μ-loop
@@ -30,7 +30,7 @@ beyond-requires : tie.Need-beyond-requires Inv-loop μ-loop
 beyond-requires c κs = search needs
 
 returns : tie.Need-returns Inv-loop μ-loop
-returns c = let st = c .before .before .before .before .before .before in sym (beyond-found (st .args .limit) (st .args .xs .now) (st .args .n) (c .before .before .before .before .loop .i) (c .before .before .before .loop-test .taken) (sym (c .before .beyond .ensures) ∙ c .if1 .taken))
+returns c = let st = c .before .before .before .before .before .before in sym (some-found (λ x. not (within (st .args .limit) x)) (st .args .xs .now) (st .args .n) (c .before .before .before .before .loop .i) (c .before .before .before .loop-test .taken) (sym (c .before .beyond .ensures) ∙ c .if1 .taken))
 
 add-i : tie.Need-add-i Inv-loop μ-loop
 add-i c = search needs
@@ -39,7 +39,7 @@ loop-less : tie.Need-loop-less Inv-loop μ-loop
 loop-less c = search needs
 
 loop-again : tie.Need-loop-again Inv-loop μ-loop
-loop-again c = let st = c .before .before .before .before .before .before in (omega arith, beyond-none (st .args .limit) (st .args .xs .now) (c .before .before .before .before .loop .i) (c .before .before .before .before .loop .inv .1) (sym (c .before .beyond .ensures) ∙ c .if1 .left))
+loop-again c = let st = c .before .before .before .before .before .before in (omega arith, some-none (λ x. not (within (st .args .limit) x)) (st .args .xs .now) (c .before .before .before .before .loop .i) (c .before .before .before .before .loop .inv .1) (sym (c .before .beyond .ensures) ∙ c .if1 .left))
 
 returns-2 : tie.Need-returns-2 Inv-loop μ-loop
 returns-2 c = let e : c .before .loop .i ≡ c .before .before .before .args .n = omega arith in sym (rw e at (c .before .loop .inv .1))

@@ -1,7 +1,7 @@
 -- `demod::decode_frame` meets its contract. Assumes nothing.
 use Rattle.isdb_fec.specs.Told.{told}
 use Rattle.isdbs_phy.proofs.Rows.{passed, refused-answer}
-use Rattle.isdbs_phy.specs.DecodeRows.{decodeRows, frameAnswer}
+use Rattle.isdbs_phy.specs.DecodeRows.{someBad, decodeRows, frameAnswer}
 use Rattle.isdbs_core.specs.declared.slots.Plan.{Plan}
 use Rattle.isdbs_core.specs.declared.tmcc.Table.{Table}
 use Rattle.isdbs_core.specs.RunsOf.{planOf}
@@ -25,19 +25,19 @@ plan-of-requires : tie.Need-plan-of-requires
 plan-of-requires c κs = search needs
 
 decode-answer-requires : tie.Need-decode-answer-requires
-decode-answer-requires c κs = (plan-is _ _ (c .plan-of .ensures .0), c .plan-of .ensures .1)
+decode-answer-requires c κs = (plan-is _ _ (c .before .plan-of .ensures .0), c .before .plan-of .ensures .1)
 
 enum-told : tie.Need-enum-told
 enum-told c = search needs
 
 returns : tie.Need-returns
 returns c =
-    let st = c .before .before .before .before .before .before .before .before in
+    let st = c .before .before .before .before .before .before .before .before .before in
     let t = st .args .t in
-    let pl = c .before .before .plan-of in
+    let pl = c .before .before .before .plan-of in
     let et = ap (λ (z : Plan). z .table) (pl .ensures .0) in
     let da = c .before .decode-answer in
-    let ea = da .ensures ∙ ap (λ (z : Table). firstRow (decodeRows z (st .args .re .now) (st .args .im .now) (st .args .o .«llr_scale») (length (st .args .decisions .now)) (length (st .args .bits .now)) (length (st .args .bytes .now)))) et in
+    let ea = da .ensures ∙ ap (λ (z : Table). firstRow (decodeRows z (st .args .re .now) (st .args .im .now) (st .args .o .scales) (length (st .args .decisions .now)) (length (st .args .bits .now)) (length (st .args .bytes .now)))) et in
     let n = told (da .result) (c .match .keys2) in (
       refused-answer (da .result) t n ∙ ap (λ (z : Answer). frameAnswer z t) ea,
       refused _ (λ q. n (ea ∙ q)) (record { words = refl; decoded = refl; load = refl }),
@@ -45,14 +45,14 @@ returns c =
 
 decode-requires : tie.Need-decode-requires
 decode-requires c κs =
-    let st = c .before .before .before .before .before .before .before .before .before .before .before .before in
+    let st = c .before .before .before .before .before .before .before .before .before .before .before .before .before in
     let t = st .args .t in
-    let pl = c .before .before .before .before .before .before .plan-of in
+    let pl = c .before .before .before .before .before .before .before .plan-of in
     let et = ap (λ (z : Plan). z .table) (pl .ensures .0) in
     let da = c .before .before .before .before .before .decode-answer in
-    let ea = da .ensures ∙ ap (λ (z : Table). firstRow (decodeRows z (st .args .re .now) (st .args .im .now) (st .args .o .«llr_scale») (length (st .args .decisions .now)) (length (st .args .bits .now)) (length (st .args .bytes .now)))) et in
+    let ea = da .ensures ∙ ap (λ (z : Table). firstRow (decodeRows z (st .args .re .now) (st .args .im .now) (st .args .o .scales) (length (st .args .decisions .now)) (length (st .args .bits .now)) (length (st .args .bytes .now)))) et in
     let ok = sym (c .before .before .before .enum-told .given .1) ∙ ea in
-    let p = passed t (st .args .re .now) (st .args .im .now) (st .args .o .«llr_scale») (length (st .args .decisions .now)) (length (st .args .bits .now)) (length (st .args .bytes .now)) ok in (
+    let p = passed t (st .args .re .now) (st .args .im .now) (someBad (st .args .o .scales)) (length (st .args .decisions .now)) (length (st .args .bits .now)) (length (st .args .bytes .now)) ok in (
       record { is = plan-is t (pl .result) (pl .ensures .0); few = pl .ensures .1; accepted = rw et (p .table) },
       p .real,
       p .imaginary,
@@ -72,12 +72,12 @@ same-length-3 c = search needs
 
 returns-2 : tie.Need-returns-2
 returns-2 c =
-    let st = c .before .before .before .before .before .before .before .before .before .before .before .before .before .before .before .before .before .before .before in
+    let st = c .before .before .before .before .before .before .before .before .before .before .before .before .before .before .before .before .before .before .before .before in
     let t = st .args .t in
-    let pl = c .before .before .before .before .before .before .before .before .before .before .before .before .before .plan-of in
+    let pl = c .before .before .before .before .before .before .before .before .before .before .before .before .before .before .plan-of in
     let et = ap (λ (z : Plan). z .table) (pl .ensures .0) in
     let da = c .before .before .before .before .before .before .before .before .before .before .before .before .decode-answer in
-    let ea = da .ensures ∙ ap (λ (z : Table). firstRow (decodeRows z (st .args .re .now) (st .args .im .now) (st .args .o .«llr_scale») (length (st .args .decisions .now)) (length (st .args .bits .now)) (length (st .args .bytes .now)))) et in
+    let ea = da .ensures ∙ ap (λ (z : Table). firstRow (decodeRows z (st .args .re .now) (st .args .im .now) (st .args .o .scales) (length (st .args .decisions .now)) (length (st .args .bits .now)) (length (st .args .bytes .now)))) et in
     let ok = sym (c .before .before .before .before .before .before .before .before .before .before .enum-told .given .1) ∙ ea in (
       rw (pl .ensures .0) (ap (λ (z : Answer). frameAnswer z t) ok),
       ((λ q. rw et at (c .before .before .before .before .before .before .decode .ensures)), (λ n. absurd (n (sym ok)))),

@@ -1,0 +1,21 @@
+-- Seven equal scales are turned back as one is. Assumes nothing.
+use mathlib.Core.Path.{_≡_, refl, ap}
+use mathlib.Core.Bool.{Bool, true, false, _||_}
+use mathlib.Core.List.{List}
+use Prim.Native.Nat.{ℕ}
+use lib.ListN.{replicate}
+use lib.Ieee.{Float}
+use Rattle.isdbs_core.specs.declared.tmcc.Table.{Table}
+use Rattle.isdbs_phy.specs.DecodeRows.{someOf, badScale, someBad, frameRows, decodeRows, oneScaleRows}
+
+seven : (b : Bool) → (((((((false || b) || b) || b) || b) || b) || b) || b) ≡ b
+seven true = refl
+seven false = refl
+
+pub equal-bad : (s : Float) → someBad (replicate 7 s) ≡ badScale s
+unfolding someOf
+equal-bad s = seven (badScale s)
+
+-- "Seven equal scales answer as the old single one did": the rows are the same
+pub equal-rows : (t : Table) (re im : List Float) (s : Float) (decisions bits bytes : ℕ) → decodeRows t re im (replicate 7 s) decisions bits bytes ≡ oneScaleRows t re im s decisions bits bytes
+equal-rows t re im s decisions bits bytes = ap (λ (b : Bool). frameRows t re im b decisions bits bytes) (equal-bad s)
