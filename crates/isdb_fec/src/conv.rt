@@ -4,21 +4,21 @@ ghost use mathlib.Core.Path.{_≡_};
 ghost use mathlib.Core.Bool.{cond, not};
 ghost use Prim.Native.Nat.{ℕ, _+_, _*_, _<_, _≤_, _/_, _%_};
 ghost use lib.ListN.{length};
-ghost use lib.Dec.{ltb};
 ghost use Rattle.refusal.specs.Rows.{firstRow};
 ghost use Rattle.trellis.specs.Code.{isdb, output, moved};
-ghost use Rattle.trellis.specs.Parity.{ones};
 ghost use Rattle.trellis.specs.Run.{startAt, startUnknown};
 ghost use Rattle.isdb_fec.specs.Values.{within, someBeyond};
-ghost use Rattle.isdb_fec.specs.Rows.{encoderRows, freshRows, handedRows, streamRows, pushRows, pushMetricsRows, pushKnownRows, flushRows, releases, stepsShort};
+ghost use Rattle.isdb_fec.specs.Rows.{encoderRows, freshRows, handedRows, streamRows, pushRows, pushMetricsRows, pushKnownRows, flushRows, stepsShort};
 ghost use Rattle.isdb_fec.specs.Calls.{pairSteps, fourSteps, knownSteps, steps, call, handed, Leaves, Flushes, FlushesAt, Unchanged, Either, Fresh, Zero};
 use refusal::Answer;
 use viterbi::At;
 use viterbi::Step;
 use viterbi::advance;
 use viterbi::encode_bit;
+use viterbi::few_places;
 use viterbi::finish;
 use viterbi::finish_at;
+use viterbi::parity;
 pub use viterbi::renormalise;
 use viterbi::start_at;
 use viterbi::start_unknown;
@@ -41,15 +41,6 @@ pub struct Branch {
     pub answer: Answer,
     pub x: u8,
     pub y: u8,
-}
-
-// The modulo-2 sum of the bits of x.
-fn parity(x: u8) -> u8
-    ensures { λ r. ⌜ r ≡ ones 8 x % 2 ⌝ }
-{
-    let four = x ^ (x >> 4);
-    let two = four ^ (four >> 2);
-    (two ^ (two >> 1)) % 2
 }
 
 // (X, Y) for the input u at the state.
@@ -142,19 +133,6 @@ pub fn some_beyond(xs: &[f32], limit: f32) -> bool
         }
     }
     false
-}
-
-// Whether `space` places are too few for the bits that n steps release.
-fn few_places(traceback: usize, held: usize, n: usize, space: usize) -> bool
-    requires { ⌜ (1 ≤ traceback) × (traceback ≤ 1024) × (held < 4096 + traceback) ⌝ }
-    ensures { λ r. ⌜ r ≡ ltb space (4096 * releases traceback held n) ⌝ }
-{
-    let blocks = n / BLOCK + (n % BLOCK + held + (BLOCK - traceback)) / BLOCK;
-    if blocks <= 1 {
-        false
-    } else {
-        space / BLOCK < blocks - 1
-    }
 }
 
 // The decoder: a path value for each state, how many decision words it holds in the lent slice, and the traceback depth.

@@ -17,6 +17,7 @@ pub enum Answer {
     PartUnit,
     ReservedWord,
     Window,
+    Code,
 }
 
 // The row's number, and 0 for accepted.
@@ -37,5 +38,6 @@ pub fn number(answer: Answer) -> u32
         Answer::PartUnit => 10,
         Answer::ReservedWord => 11,
         Answer::Window => 14,
+        Answer::Code => 12,
     }
 }

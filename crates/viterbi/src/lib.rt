@@ -3,11 +3,13 @@
 ghost use mathlib.Core.Path.{_≡_};
 ghost use mathlib.Core.List.{_++_};
 ghost use Prim.Native.Nat.{ℕ, _+_, _*_, _<_, _≤_, _/_, _%_};
+ghost use lib.Dec.{ltb};
 ghost use lib.ListN.{length, getD, take, drop, replicate};
 ghost use Rattle.trellis.specs.Lists.{laid};
 ghost use Rattle.trellis.specs.Code.{isdb, output, moved};
+ghost use Rattle.trellis.specs.Parity.{ones};
 ghost use Rattle.trellis.specs.Run.{startAt, startUnknown};
-ghost use Rattle.viterbi.specs.Calls.{stepOf, nexts, word, bestState, traced, settle, stepOnce, holding, Room, Stepped};
+ghost use Rattle.viterbi.specs.Calls.{stepOf, nexts, word, bestState, traced, settle, stepOnce, holding, releases, Room, Stepped};
 pub use acs::renormalise;
 
 const HALF: usize = 32;
@@ -23,6 +25,15 @@ pub struct Coded {
     pub state: u8,
     pub x: u8,
     pub y: u8,
+}
+
+// The modulo-2 sum of the bits of x.
+pub fn parity(x: u8) -> u8
+    ensures { λ r. ⌜ r ≡ ones 8 x % 2 ⌝ }
+{
+    let four = x ^ (x >> 4);
+    let two = four ^ (four >> 2);
+    (two ^ (two >> 1)) % 2
 }
 
 // One input of the encoder; only its low bit counts.
@@ -90,7 +101,7 @@ fn trace(decisions: &[u64], n: usize, state: usize, count: usize, out: &mut [u8]
 }
 
 // Moves n words down by the words of a release.
-fn move_down(decisions: &mut [u64], n: usize)
+pub fn move_down(decisions: &mut [u64], n: usize)
     requires { ⌜ 4096 + n ≤ length (now decisions) ⌝ }
     ensures { λ _. ⌜ now (decisions .exit) ≡ laid (take n (drop 4096 (now (decisions .entry)))) (now (decisions .entry)) ⌝ }
 {
@@ -154,6 +165,19 @@ pub fn advance(
     At {
         held: traceback,
         count: count + BLOCK,
+    }
+}
+
+// Whether `space` places are too few for the bits that n steps release.
+pub fn few_places(traceback: usize, held: usize, n: usize, space: usize) -> bool
+    requires { ⌜ (1 ≤ traceback) × (traceback ≤ 1024) × (held < 4096 + traceback) ⌝ }
+    ensures { λ r. ⌜ r ≡ ltb space (4096 * releases traceback held n) ⌝ }
+{
+    let blocks = n / BLOCK + (n % BLOCK + held + (BLOCK - traceback)) / BLOCK;
+    if blocks <= 1 {
+        false
+    } else {
+        space / BLOCK < blocks - 1
     }
 }
 

@@ -1,4 +1,4 @@
--- `conv::few_places` meets its contract. Assumes nothing.
+-- `viterbi::few_places` meets its contract. Assumes nothing.
 use mathlib.Core.Path.{_≡_, refl, sym, _∙_, ap}
 use Prim.Native.Nat.{ℕ, suc, _+_, _-_, _*_, _/_, _%_, _<_, _≤_}
 use native.Mathlib.Omega.{arith}
@@ -6,10 +6,10 @@ use borrow.Author.Needs.{needs}
 use mathlib.Core.Bool.{Bool, true, false, cond}
 use lib.Dec.{ltb}
 use borrow.Author.Tests.{ltb-true, ltb-false, lt-ltb, le-ltb}
-use Rattle.isdb_fec.specs.Rows.{releases}
+use Rattle.viterbi.specs.Calls.{releases}
 use borrow.Author.Needs.{needs}
-use Rattle.isdb_fec.proofs.conv.few_places.Statement.{statement}
-use Rattle.isdb_fec.proofs.conv.few_places.Tie as tie
+use Rattle.viterbi.proofs.few_places.Statement.{statement}
+use Rattle.viterbi.proofs.few_places.Tie as tie
 
 -- the number of releases, worked out with no sum that could be too large
 releases-is : (tb h n : ℕ) (t : Bool) → tb ≤ 1024 → ltb (h + n) (4096 + tb) ≡ t → cond t 0 ((h + n - tb) / 4096) ≡ n / 4096 + (n % 4096 + h + (4096 - tb)) / 4096 - 1

@@ -1,4 +1,4 @@
--- `conv::parity` meets its contract: by a test of all bytes. Assumes nothing.
+-- `viterbi::parity` meets its contract: by a test of all bytes. Assumes nothing.
 use mathlib.Core.Path.{_≡_}
 use mathlib.Core.Bool.{Bool}
 use Prim.Native.Nat.{ℕ, _+_, _/_, _%_, _<_}
@@ -6,9 +6,9 @@ use lib.Bits.{bitXor}
 use lib.Dec.{T, eqb, eqb→eq}
 use borrow.Author.Needs.{needs}
 use Rattle.trellis.specs.Parity.{ones}
 use Rattle.viterbi.specs.Each.{all, each}
-use Rattle.isdb_fec.proofs.conv.parity.Statement.{statement}
-use Rattle.isdb_fec.proofs.conv.parity.Tie as tie
+use Rattle.viterbi.proofs.parity.Statement.{statement}
+use Rattle.viterbi.proofs.parity.Tie as tie
 
 abbrev four : ℕ → ℕ
 four x = bitXor x (x / 16)

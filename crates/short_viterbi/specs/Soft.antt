@@ -1,0 +1,11 @@
+-- The steps of a call of soft values: pairs where there are two for each step, else quadruples. Assumes nothing.
+use mathlib.Core.Bool.{cond}
+use mathlib.Core.List.{List}
+use Prim.Native.Nat.{ℕ}
+use lib.Dec.{eqb}
+use lib.Ieee.{Float}
+use Rattle.trellis.specs.Step.{Step}
+use Rattle.viterbi.specs.Calls.{pairSteps, fourSteps}
+
+abbrev pub softSteps : ℕ → List Float → ℕ → Step
+softSteps per xs k = cond (eqb per 2) (pairSteps xs k) (fourSteps xs k)
