@@ -18,6 +18,8 @@ use Rattle.isdbs_phy.specs.EncodeRows.{encodeRows, encodeFrameRows}
 use Rattle.isdbs_phy.specs.DecodeRows.{decodeRows, oneScaleRows}
 use Rattle.best_reading.specs.Calls.{readingRows}
 use Rattle.known_end.specs.Calls.{betweenRows}
+use Rattle.short_code.specs.declared.Code.{Code}
+use Rattle.short_fec.specs.Rows as short
 use Rattle.full_frame.specs.declared.Input.{Input}
 use Rattle.full_frame.specs.Rows.{layRows, takeRows}
 use Rattle.strain_window.specs.declared.WindowState.{WindowState}
@@ -32,7 +34,7 @@ eachFromTop [] = true
 eachFromTop (rows ∷ lists) = cond (fromTop rows) (eachFromTop lists) false
 
 -- what the calls are lent
-module _ (t : Table) (v : ViterbiDecoder) (w : WindowState) (parts : Input → List Float) (rate : CodeRate) (xs re im : List Float) (scale : Float) (bytes : List ℕ) (i j k l : ℕ) where
+module _ (t : Table) (v : ViterbiDecoder) (c : Code) (w : WindowState) (parts : Input → List Float) (rate : CodeRate) (xs re im : List Float) (scale : Float) (bytes : List ℕ) (i j k l : ℕ) where
   -- every row list of a call
   abbrev pub rowLists : List (List Row)
   rowLists =
@@ -65,6 +67,15 @@ module _ (t : Table) (v : ViterbiDecoder) (w : WindowState) (parts : Input → L
       ∷ readingRows xs i j
       -- known_end
       ∷ betweenRows i xs j k
+      -- short_fec: a code; the encoder's bit and list; a fresh decoder; the calls
+      ∷ short.codeRows c
+      ∷ short.encoderRows c i
+      ∷ short.encodeRows c i j k
+      ∷ short.freshRows c i
+      ∷ short.streamRows c 2 v xs i j
+      ∷ short.streamRows c 4 v xs i j
+      ∷ short.knownRows c v i j k
+      ∷ short.flushRows c v i j
       -- full_frame
       ∷ layRows parts parts re im
       ∷ takeRows re im parts parts

@@ -1,0 +1,104 @@
+-- `short_fec::flush` meets its contract. Assumes nothing.
+use Rattle.short_fec.specs.Calls.{bestOf}
+use Rattle.trellis.specs.Step.{best}
+use Rattle.trellis.specs.Isdb.{rule}
+use lib.ListN.{take}
+use Rattle.short_code.specs.Codes.{labels, halfOf, statesOf}
+use Rattle.short_code.specs.CodeLaws.{states-are, good-length}
+use mathlib.Core.Path.{_≡_, refl, sym, _∙_, ap}
+use native.Mathlib.Omega.{arith}
+use Prim.Native.Nat.{ℕ, suc, _+_, _-_, _*_, _/_, _%_, _^_, _<_, _≤_}
+use Rattle.refusal.specs.RowLaws.{done, refused}
+use Rattle.isdb_fec.specs.Whole.{as-given}
+use Rattle.isdb_fec.specs.Told.{told}
+use Rattle.short_fec.specs.Answers.{stream-enough, known-enough, flush-enough}
+use lib.ListN.{length}
+use mathlib.Core.Logic.{inl, inr}
+use borrow.Author.Needs.{needs}
+use Rattle.short_fec.proofs.flush.Statement.{statement}
+use Rattle.short_fec.proofs.flush.Tie as tie
+
+answer-flush-requires : tie.Need-answer-flush-requires
+answer-flush-requires c κs = search needs
+
+enum-told : tie.Need-enum-told
+enum-told c = search needs
+
+returns : tie.Need-returns
+returns c =
+    let a = c .before .before .before .before .args in
+    (c .before .answer-flush .ensures, as-given (a .dec) (c .before .answer-flush .result) (a .decisions .now) (a .out .now) (told (c .before .answer-flush .result) (c .match .keys2)))
+
+places-requires : tie.Need-places-requires
+places-requires c κs = search needs
+
+half-requires : tie.Need-half-requires
+half-requires c κs =
+    let a = c .before .before .before .before .before .before .before .before .args in
+    let t = c .before .before .before in
+    good-length (a .code) (flush-enough (a .code) (a .dec) (length (a .decisions .now)) (length (a .out .now)) (sym (t .enum-told .given .1) ∙ t .before .before .answer-flush .ensures) .0)
+
+mul-n : tie.Need-mul-n
+mul-n c = search needs
+
+sub-best-state : tie.Need-sub-best-state
+sub-best-state c = search needs
+
+part-best-state-start : tie.Need-part-best-state-start
+part-best-state-start c = search needs
+
+part-best-state-end : tie.Need-part-best-state-end
+part-best-state-end c = search needs
+
+best-state-requires : tie.Need-best-state-requires
+best-state-requires c κs = search needs
+
+flush-from-requires : tie.Need-flush-from-requires
+flush-from-requires c κs =
+    let a = c .before .before .before .before .before .before .before .before .before .before .before .before .before .before .args in
+    let t = c .before .before .before .before .before .before .before .before .before in
+    let e = flush-enough (a .code) (a .dec) (length (a .decisions .now)) (length (a .out .now)) (sym (t .enum-told .given .1) ∙ t .before .before .answer-flush .ensures) in
+    let half = c .before .before .before .before .before .half in
+    let all = states-are (a .code) (half .result) (half .ensures .2) in
+    let under = c .before .before .best-state .ensures .0 in
+    let f = e .1 .fewer in
+    let g = e .1 .fits in
+    (e .0, omega arith, omega arith, e .1 .room)
+
+same-length : tie.Need-same-length
+same-length c = search needs
+
+same-length-2 : tie.Need-same-length-2
+same-length-2 c = search needs
+
+returns-2 : tie.Need-returns-2
+returns-2 c =
+    let a = c .before .before .before .before .before .before .before .before .before .before .before .before .before .before .before .before .before .before .before .args in
+    let t = c .before .before .before .before .before .before .before .before .before .before .before .before .before .before in
+    let half = c .before .before .before .before .before .before .before .before .before .before .half in
+    let best-state = c .before .before .before .before .before .before .before .best-state in
+    let from = c .before .before .before .before .flush-from .ensures in
+    let all = states-are (a .code) (half .result) (half .ensures .2) in
+    let e : 2 * half .result - 0 ≡ statesOf (a .code) = omega arith in
+    let is : best-state .result ≡ bestOf (a .code) (a .dec) =
+    best-state .ensures .1 ∙ ap (λ (k : ℕ). best rule (take k (a .dec .pm)) (2 * half .result - 1)) e ∙ ap (λ (k : ℕ). best rule (take (statesOf (a .code)) (a .dec .pm)) (k - 1)) all in
+    (from .0 ∙ (sym (t .enum-told .given .1) ∙ t .before .before .answer-flush .ensures), ((λ e. rw is at (from .1)), (λ n. absurd (n (from .0)))))
+
+pub flush-spec : {M : Type 1} → statement M
+flush-spec =
+    tie.close
+    (tie.spec
+    answer-flush-requires
+    enum-told
+    returns
+    places-requires
+    half-requires
+    mul-n
+    sub-best-state
+    part-best-state-start
+    part-best-state-end
+    best-state-requires
+    flush-from-requires
+    same-length
+    same-length-2
+    returns-2)

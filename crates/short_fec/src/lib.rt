@@ -1,0 +1,486 @@
+// Encoder and decoder of a code of constraint length 3 to 7 with two generators. The decoder's state is that of isdb_fec: 64 path values, of which the
+// first 2^(length-1) count, the held count and the traceback.
+ghost use mathlib.Core.Path.{_≡_};
+ghost use mathlib.Core.Logic.{_⊎_};
+ghost use mathlib.Core.Bool.{true, cond, not};
+ghost use Prim.Native.Nat.{ℕ, _+_, _*_, _<_, _≤_, _/_, _%_};
+ghost use lib.ListN.{length};
+ghost use Rattle.refusal.specs.Rows.{firstRow, Either};
+ghost use Rattle.trellis.specs.Code.{output, moved};
+ghost use Rattle.trellis.specs.Run.{pushed};
+ghost use Rattle.trellis.specs.Isdb.{rule};
+ghost use Rattle.viterbi.specs.Calls.{pairSteps, fourSteps, knownSteps, releases, holding, Holds};
+ghost use Rattle.short_code.specs.Codes.{codeOf, labels, halfOf, statesOf, goodCode, Fits};
+ghost use Rattle.short_viterbi.specs.Soft.{softSteps};
+ghost use Rattle.isdb_fec.specs.Rows.{stepsShort};
+ghost use Rattle.isdb_fec.specs.Calls.{Fresh, Zero, Unchanged};
+ghost use Rattle.isdb_fec.specs.Answers.{Enough};
+ghost use Rattle.short_fec.specs.Rows.{encoderRows, freshRows, handedRows, streamRows, knownRows, flushRows};
+ghost use Rattle.short_fec.specs.Calls.{startValues, unknownValues, call, steps, handed, bestOf, endOf, Leaves, Flushes};
+use isdb_fec::conv::ConvEncoder;
+use isdb_fec::conv::Made;
+use isdb_fec::conv::Pushed;
+use isdb_fec::conv::Released;
+use isdb_fec::conv::ViterbiDecoder;
+use isdb_fec::conv::some_beyond;
+use refusal::Answer;
+pub use short_code::Code;
+use short_code::best_state;
+use short_code::encode_bit;
+use short_code::good;
+use short_code::half;
+use short_code::renormalise;
+use short_code::start_at;
+use short_viterbi::finish_at;
+use short_viterbi::known_steps;
+use short_viterbi::soft_steps;
+use viterbi::At;
+use viterbi::few_places;
+
+// The bits that leave at a release.
+const BLOCK: usize = 4096;
+
+// Row 12.
+fn bad(code: Code) -> bool
+    ensures { λ r. ⌜ r ≡ not (goodCode code) ⌝ }
+{
+    if good(code) { false } else { true }
+}
+
+// The rows of an encoder.
+fn answer_encoder(code: Code, state: u8) -> Answer
+    ensures { λ r. ⌜ r ≡ firstRow (encoderRows code state) ⌝ }
+{
+    if bad(code) {
+        return Answer::Code;
+    }
+    if (state as usize) >= 2 * half(code) {
+        return Answer::State;
+    }
+    Answer::Accepted
+}
+
+// Encodes one bit.
+pub fn push_bit(code: Code, enc: ConvEncoder, u: u8) -> Pushed
+    ensures answers { λ r. ⌜ r .answer ≡ firstRow (encoderRows code (enc .state)) ⌝ }
+    ensures outputs { λ r. ⌜ Either (r .answer) ((r .x ≡ output (codeOf code) (code .g1) (u % 2) (enc .state)) × (r .y ≡ output (codeOf code) (code .g2) (u % 2) (enc .state)) × (r .enc .state ≡ moved (halfOf code) (u % 2) (enc .state))) ((r .x ≡ 0) × (r .y ≡ 0) × (r .enc .state ≡ enc .state)) ⌝ }
+{
+    let state = enc.state;
+    let answer = answer_encoder(code, state);
+    let Answer::Accepted = answer else {
+        return Pushed {
+            answer,
+            enc,
+            x: 0,
+            y: 0,
+        };
+    };
+    let c = encode_bit(code, half(code), state, u);
+    Pushed {
+        answer: Answer::Accepted,
+        enc: ConvEncoder { state: c.state },
+        x: c.x,
+        y: c.y,
+    }
+}
+
+// The places of an array of path values.
+fn places(pm: &[f32; 64]) -> usize
+    ensures { λ r. ⌜ (r ≡ 64) × (length (now (pm .entry)) ≡ 64) ⌝ }
+{
+    let values: &[f32] = pm;
+    values.len()
+}
+
+// A fresh decoder with the path values pm; a refused one is all zero.
+fn fresh(code: Code, traceback: usize, pm: [f32; 64]) -> Made
+    ensures answers { λ r. ⌜ r .answer ≡ firstRow (freshRows code traceback) ⌝ }
+    ensures made { λ r. ⌜ Either (r .answer) (Fresh traceback pm (r .dec)) (Zero (r .dec)) ⌝ }
+{
+    if traceback > 1024 {
+        return Made {
+            answer: Answer::Traceback,
+            dec: ViterbiDecoder {
+                pm: [0.0f32; 64],
+                held: 0,
+                traceback: 0,
+            },
+        };
+    }
+    if bad(code) {
+        return Made {
+            answer: Answer::Code,
+            dec: ViterbiDecoder {
+                pm: [0.0f32; 64],
+                held: 0,
+                traceback: 0,
+            },
+        };
+    }
+    let depth = if traceback == 0 { 1 } else { traceback };
+    Made {
+        answer: Answer::Accepted,
+        dec: ViterbiDecoder {
+            pm,
+            held: 0,
+            traceback: depth,
+        },
+    }
+}
+
+// The path values of a known start; all 0 for a code that is refused.
+fn start(code: Code, state: u8) -> [f32; 64]
+    ensures { λ r. ⌜ (goodCode code ≡ true → r ≡ startValues code state) ⌝ }
+{
+    let mut pm = [0.0f32; 64];
+    if good(code) {
+        let n = 2 * half(code);
+        start_at(&mut pm[0..n], state);
+    }
+    pm
+}
+
+// A decoder that starts in the given state, mod 2^(length-1).
+pub fn with_state(code: Code, traceback: usize, state: u8) -> Made
+    ensures answers { λ r. ⌜ r .answer ≡ firstRow (freshRows code traceback) ⌝ }
+    ensures made { λ r. ⌜ Either (r .answer) (Fresh traceback (startValues code state) (r .dec)) (Zero (r .dec)) ⌝ }
+{
+    fresh(code, traceback, start(code, state))
+}
+
+// A decoder whose start state is not known.
+pub fn new_unknown_state(code: Code, traceback: usize) -> Made
+    ensures answers { λ r. ⌜ r .answer ≡ firstRow (freshRows code traceback) ⌝ }
+    ensures made { λ r. ⌜ Either (r .answer) (Fresh traceback (unknownValues code) (r .dec)) (Zero (r .dec)) ⌝ }
+{
+    fresh(code, traceback, [0.0f32; 64])
+}
+
+// The rows of a handed state.
+fn answer_handed(code: Code, dec: ViterbiDecoder) -> Answer
+    ensures { λ r. ⌜ r ≡ firstRow (handedRows code dec) ⌝ }
+{
+    let traceback = dec.traceback;
+    if traceback == 0 {
+        return Answer::Traceback;
+    }
+    if traceback > 1024 {
+        return Answer::Traceback;
+    }
+    if bad(code) {
+        return Answer::Code;
+    }
+    if dec.held >= BLOCK + traceback {
+        return Answer::State;
+    }
+    let pm = dec.pm;
+    let all = places(&pm);
+    let n = 2 * half(code);
+    if some_beyond(&pm[0..n], 4294967296.0) {
+        return Answer::State;
+    }
+    Answer::Accepted
+}
+
+// The answer to a call of n steps on a state that is not refused: is there space?
+fn answer_space(dec: ViterbiDecoder, n: usize, decisions: usize, out: usize) -> Answer
+    requires { ⌜ (1 ≤ dec .traceback) × (dec .traceback ≤ 1024) × (dec .held < 4096 + dec .traceback) ⌝ }
+    ensures { λ r. ⌜ r ≡ cond (stepsShort n dec decisions out) Answer.Space Answer.Accepted ⌝ }
+{
+    let traceback = dec.traceback;
+    if few_places(traceback, dec.held, n, out) {
+        return Answer::Space;
+    }
+    if decisions < BLOCK + traceback {
+        return Answer::Space;
+    }
+    Answer::Accepted
+}
+
+// The answer to a call of soft values or metrics, `per` for each step.
+fn answer_stream(
+    code: Code,
+    dec: ViterbiDecoder,
+    values: &[f32],
+    per: usize,
+    decisions: usize,
+    out: usize,
+) -> Answer
+    requires { ⌜ 0 < per ⌝ }
+    ensures { λ r. ⌜ r ≡ firstRow (streamRows code per dec (now (values .entry)) decisions out) ⌝ }
+{
+    let answer = answer_handed(code, dec);
+    let Answer::Accepted = answer else {
+        return answer;
+    };
+    if values.len() % per != 0 {
+        return Answer::Length;
+    }
+    if some_beyond(values, 1048576.0) {
+        return Answer::Sample;
+    }
+    answer_space(dec, values.len() / per, decisions, out)
+}
+
+// The answer to a call of n known bits.
+fn answer_known(code: Code, dec: ViterbiDecoder, n: usize, decisions: usize, out: usize) -> Answer
+    ensures { λ r. ⌜ r ≡ firstRow (knownRows code dec n decisions out) ⌝ }
+{
+    let answer = answer_handed(code, dec);
+    let Answer::Accepted = answer else {
+        return answer;
+    };
+    answer_space(dec, n, decisions, out)
+}
+
+// The answer to a flush.
+fn answer_flush(code: Code, dec: ViterbiDecoder, decisions: usize, out: usize) -> Answer
+    ensures { λ r. ⌜ r ≡ firstRow (flushRows code dec decisions out) ⌝ }
+{
+    let answer = answer_handed(code, dec);
+    let Answer::Accepted = answer else {
+        return answer;
+    };
+    if out < dec.held {
+        return Answer::Space;
+    }
+    if decisions < BLOCK + dec.traceback {
+        return Answer::Space;
+    }
+    Answer::Accepted
+}
+
+// All steps of a call of soft values or metrics, and the subtraction at its end.
+fn soft_run(
+    pm: &mut [f32],
+    code: Code,
+    h: usize,
+    at: At,
+    traceback: usize,
+    values: &[f32],
+    per: usize,
+    n: usize,
+    decisions: &mut [u64],
+    out: &mut [u8],
+) -> At
+    requires { ⌜ (1 ≤ h) × (h ≤ 32) × Fits code h × (length (now pm) ≡ 2 * h) × ((per ≡ 2) ⊎ (per ≡ 4)) × (per * n ≤ length (now values))
+        × (1 ≤ traceback) × (traceback ≤ 1024) × (at .held < 4096 + traceback) × (at .count ≡ 0) × (4096 + traceback ≤ length (now decisions))
+        × (4096 * releases traceback (at .held) n ≤ length (now out)) ⌝ }
+    ensures { λ r. ⌜ Holds traceback (now (decisions .entry)) (now (out .entry)) (pushed h (labels code) rule traceback (softSteps per (now (values .entry))) (holding (now (pm .entry)) (at .held) (now (decisions .entry))) n)
+        (now (pm .exit)) (r .held) (r .count) (now (decisions .exit)) (now (out .exit)) ⌝ }
+{
+    let end = soft_steps(pm, code, h, at, traceback, values, per, n, decisions, out);
+    renormalise(pm, h);
+    end
+}
+
+// Feeds soft values, `per` for each step, to a decoder that is not refused.
+fn soft(
+    code: Code,
+    dec: ViterbiDecoder,
+    values: &[f32],
+    per: usize,
+    decisions: &mut [u64],
+    out: &mut [u8],
+) -> Released
+    requires { ⌜ ((per ≡ 2) ⊎ (per ≡ 4)) × (goodCode code ≡ true) × Enough dec (length (now values) / per) (length (now decisions)) (length (now out)) ⌝ }
+    ensures { λ r. ⌜ (r .answer ≡ Answer.Accepted) × Leaves dec (call code (dec .traceback) (softSteps per (now (values .entry))) (handed code dec (now (decisions .entry))) (length (now (values .entry)) / per)) r (now (decisions .entry)) (now (decisions .exit)) (now (out .entry)) (now (out .exit)) ⌝ }
+{
+    let h = half(code);
+    let n = 2 * h;
+    let traceback = dec.traceback;
+    let mut pm = dec.pm;
+    let all = places(&pm);
+    let at = At {
+        held: dec.held,
+        count: 0,
+    };
+    let count = values.len() / per;
+    let end = soft_run(
+        &mut pm[0..n],
+        code,
+        h,
+        at,
+        traceback,
+        values,
+        per,
+        count,
+        decisions,
+        out,
+    );
+    Released {
+        answer: Answer::Accepted,
+        dec: ViterbiDecoder {
+            pm,
+            held: end.held,
+            traceback,
+        },
+        count: end.count,
+    }
+}
+
+// Feeds soft-value pairs.
+pub fn push(
+    code: Code,
+    dec: ViterbiDecoder,
+    pairs: &[f32],
+    decisions: &mut [u64],
+    out: &mut [u8],
+) -> Released
+    ensures answers { λ r. ⌜ r .answer ≡ firstRow (streamRows code 2 dec (now (pairs .entry)) (length (now (decisions .entry))) (length (now (out .entry)))) ⌝ }
+    ensures leaves { λ r. ⌜ Either (r .answer)
+        (Leaves dec (call code (dec .traceback) (pairSteps (now (pairs .entry))) (handed code dec (now (decisions .entry))) (length (now (pairs .entry)) / 2)) r (now (decisions .entry)) (now (decisions .exit)) (now (out .entry)) (now (out .exit)))
+        (Unchanged dec r (now (decisions .entry)) (now (decisions .exit)) (now (out .entry)) (now (out .exit))) ⌝ }
+{
+    let answer = answer_stream(code, dec, pairs, 2, decisions.len(), out.len());
+    let Answer::Accepted = answer else {
+        return Released {
+            answer,
+            dec,
+            count: 0,
+        };
+    };
+    soft(code, dec, pairs, 2, decisions, out)
+}
+
+// Feeds metrics, four for each step: that of the branches with the outputs (X, Y) at 2X + Y.
+pub fn push_metrics(
+    code: Code,
+    dec: ViterbiDecoder,
+    metrics: &[f32],
+    decisions: &mut [u64],
+    out: &mut [u8],
+) -> Released
+    ensures answers { λ r. ⌜ r .answer ≡ firstRow (streamRows code 4 dec (now (metrics .entry)) (length (now (decisions .entry))) (length (now (out .entry)))) ⌝ }
+    ensures leaves { λ r. ⌜ Either (r .answer)
+        (Leaves dec (call code (dec .traceback) (fourSteps (now (metrics .entry))) (handed code dec (now (decisions .entry))) (length (now (metrics .entry)) / 4)) r (now (decisions .entry)) (now (decisions .exit)) (now (out .entry)) (now (out .exit)))
+        (Unchanged dec r (now (decisions .entry)) (now (decisions .exit)) (now (out .entry)) (now (out .exit))) ⌝ }
+{
+    let answer = answer_stream(code, dec, metrics, 4, decisions.len(), out.len());
+    let Answer::Accepted = answer else {
+        return Released {
+            answer,
+            dec,
+            count: 0,
+        };
+    };
+    soft(code, dec, metrics, 4, decisions, out)
+}
+
+// Advances over known input bits: only the low bit of each byte counts.
+pub fn push_known(
+    code: Code,
+    dec: ViterbiDecoder,
+    bits: &[u8],
+    decisions: &mut [u64],
+    out: &mut [u8],
+) -> Released
+    ensures answers { λ r. ⌜ r .answer ≡ firstRow (knownRows code dec (length (now (bits .entry))) (length (now (decisions .entry))) (length (now (out .entry)))) ⌝ }
+    ensures leaves { λ r. ⌜ Either (r .answer)
+        (Leaves dec (steps code (dec .traceback) (knownSteps (now (bits .entry))) (handed code dec (now (decisions .entry))) (length (now (bits .entry)))) r (now (decisions .entry)) (now (decisions .exit)) (now (out .entry)) (now (out .exit)))
+        (Unchanged dec r (now (decisions .entry)) (now (decisions .exit)) (now (out .entry)) (now (out .exit))) ⌝ }
+{
+    let answer = answer_known(code, dec, bits.len(), decisions.len(), out.len());
+    let Answer::Accepted = answer else {
+        return Released {
+            answer,
+            dec,
+            count: 0,
+        };
+    };
+    let h = half(code);
+    let n = 2 * h;
+    let traceback = dec.traceback;
+    let mut pm = dec.pm;
+    let all = places(&pm);
+    let at = At {
+        held: dec.held,
+        count: 0,
+    };
+    let end = known_steps(&mut pm[0..n], code, h, at, traceback, bits, decisions, out);
+    Released {
+        answer: Answer::Accepted,
+        dec: ViterbiDecoder {
+            pm,
+            held: end.held,
+            traceback,
+        },
+        count: end.count,
+    }
+}
+
+// Puts out all held bits of a decoder that is not refused, traced from `state`.
+fn flush_from(
+    code: Code,
+    dec: ViterbiDecoder,
+    state: usize,
+    decisions: &mut [u64],
+    out: &mut [u8],
+) -> Released
+    requires { ⌜ (goodCode code ≡ true) × (state < statesOf code) × (dec .held ≤ length (now decisions)) × (dec .held ≤ length (now out)) ⌝ }
+    ensures { λ r. ⌜ (r .answer ≡ Answer.Accepted) × Flushes code dec state r (now (decisions .entry)) (now (decisions .exit)) (now (out .entry)) (now (out .exit)) ⌝ }
+{
+    let pm = dec.pm;
+    let at = At {
+        held: dec.held,
+        count: 0,
+    };
+    let count = finish_at(state, half(code), at, decisions, out);
+    Released {
+        answer: Answer::Accepted,
+        dec: ViterbiDecoder {
+            pm,
+            held: 0,
+            traceback: dec.traceback,
+        },
+        count,
+    }
+}
+
+// Puts out all held bits, traced from the best state.
+pub fn flush(code: Code, dec: ViterbiDecoder, decisions: &mut [u64], out: &mut [u8]) -> Released
+    ensures answers { λ r. ⌜ r .answer ≡ firstRow (flushRows code dec (length (now (decisions .entry))) (length (now (out .entry)))) ⌝ }
+    ensures leaves { λ r. ⌜ Either (r .answer)
+        (Flushes code dec (bestOf code dec) r (now (decisions .entry)) (now (decisions .exit)) (now (out .entry)) (now (out .exit)))
+        (Unchanged dec r (now (decisions .entry)) (now (decisions .exit)) (now (out .entry)) (now (out .exit))) ⌝ }
+{
+    let answer = answer_flush(code, dec, decisions.len(), out.len());
+    let Answer::Accepted = answer else {
+        return Released {
+            answer,
+            dec,
+            count: 0,
+        };
+    };
+    let pm = dec.pm;
+    let all = places(&pm);
+    let h = half(code);
+    let n = 2 * h;
+    let best = best_state(&pm[0..n], h);
+    flush_from(code, dec, best, decisions, out)
+}
+
+// Puts out all held bits, traced from a known end, which is taken mod 2^(length-1).
+pub fn flush_at(
+    code: Code,
+    dec: ViterbiDecoder,
+    end: u8,
+    decisions: &mut [u64],
+    out: &mut [u8],
+) -> Released
+    ensures answers { λ r. ⌜ r .answer ≡ firstRow (flushRows code dec (length (now (decisions .entry))) (length (now (out .entry)))) ⌝ }
+    ensures leaves { λ r. ⌜ Either (r .answer)
+        (Flushes code dec (endOf code end) r (now (decisions .entry)) (now (decisions .exit)) (now (out .entry)) (now (out .exit)))
+        (Unchanged dec r (now (decisions .entry)) (now (decisions .exit)) (now (out .entry)) (now (out .exit))) ⌝ }
+{
+    let answer = answer_flush(code, dec, decisions.len(), out.len());
+    let Answer::Accepted = answer else {
+        return Released {
+            answer,
+            dec,
+            count: 0,
+        };
+    };
+    let state = (end as usize) % (2 * half(code));
+    flush_from(code, dec, state, decisions, out)
+}
