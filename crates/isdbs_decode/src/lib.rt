@@ -74,7 +74,7 @@ const TRACEBACK: usize = 128;
 pub const WORDS: usize = 4_096 + TRACEBACK;
 
 // Where the next step stands.
-fn next_phase(p: Phase, period: usize, count: usize) -> Phase
+pub fn next_phase(p: Phase, period: usize, count: usize) -> Phase
     requires { ⌜ (p .q < period) × (p .base + count < 2 ^ 32) ⌝ }
     ensures { λ r. ⌜ (r .q ≡ cond (eqb (p .q + 1) period) 0 (p .q + 1)) × (r .base ≡ cond (eqb (p .q + 1) period) (p .base + count) (p .base)) ⌝ }
 {

@@ -1,0 +1,1 @@
+// The strain of a frame's valid slots. Definitions and theorems in specs/, no code.
