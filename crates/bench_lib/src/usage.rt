@@ -45,9 +45,7 @@ fn usage_words() {
     text(
         b"  SCALES   scale N for all, or scales A,B,C,D,E,F,G in the order of words 1 to 7; 8 where they are not given\n",
     );
-    text(
-        b"  N        a number as 8 or 0.5, up to three digits before and after the point\n",
-    );
+    text(b"  N        a number as 8 or 0.5, up to three digits before and after the point\n");
 }
 
 fn usage() {

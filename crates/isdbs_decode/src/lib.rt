@@ -120,7 +120,7 @@ fn read_run(
 }
 
 // The place of a combination's scale.
-fn scale_place(c: Combination) -> usize
+pub fn scale_place(c: Combination) -> usize
     ensures { λ r. ⌜ (r ≡ wordOf c - 1) × (r < 7) ⌝ }
 {
     let word = c.word() as usize;

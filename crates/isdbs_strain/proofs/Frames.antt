@@ -23,7 +23,8 @@ use Rattle.isdbs_points.specs.Frame.{labelAt}
 use Rattle.isdbs_points.specs.LawsUpto.{laid-part, length-laid-upto}
 use Rattle.isdbs_points.specs.LawsState.{label-shift}
 use Rattle.isdbs_metrics.specs.Reading.{Received, metricsIn}
-use Rattle.isdbs_metrics.specs.Steps.{received, pieceMetrics, Covers, Bits}
+use Rattle.isdbs_metrics.specs.Steps.{pieceMetrics, Covers, Bits}
+use Rattle.isdbs_decode.specs.Scales.{scaleOf, receivedBy}
 use Rattle.isdbs_decode.proofs.Among.{stepsTo, validTo, among-step}
 use Rattle.isdbs_decode.proofs.Parts.{metrics-part}
 use Rattle.isdbs_decode.proofs.Packing.{state-more}
@@ -64,7 +65,7 @@ module _ {A : Type 0} (none : A) (f : Segment → ℕ → A) where
       let ez : b + 1624 * (n + validTo rs i) ≡ b + 1624 * n + 1624 * validTo rs i = omega arith in
       rw (t, es, ez) (among-slot rs (s + stepsOf r) (b + 1624 * n) (q + n) i v x (omega (arith, eb)) (le-of-suc-le-suc h) l (omega arith))
 
-module _ (count : ℕ) (list : List Run) (l : RunList count list) (i : ℕ) (h : i < count) (re im : List Float) (m : Mapping) (scale : Float) (s : ℕ) (us : List ℕ) (step : ℕ) where
+module _ (count : ℕ) (list : List Run) (l : RunList count list) (i : ℕ) (h : i < count) (re im : List Float) (m : Mapping) (scales : List Float) (s : ℕ) (us : List ℕ) (step : ℕ) where
   abbrev r : Run
   r = getD list i noRun
 
@@ -82,38 +83,38 @@ module _ (count : ℕ) (list : List Run) (l : RunList count list) (i : ℕ) (h :
 
   -- the strain of a run's slot is the frame's
   pub run-slot : (done x : ℕ) → step ≡ stepsTo rs i → done ≡ validTo rs i → x ≡ stateAt 32 s us step → (v : ℕ) → v < r .«valid_slots»
-      → runStrain (r .combination) partRe partIm m scale x partBits v ≡ listStrain rs (received re im m scale) s us (done + v)
+      → runStrain (r .combination) partRe partIm m (scaleOf scales (r .combination)) x partBits v ≡ listStrain rs (receivedBy re im m scales) s us (done + v)
   run-slot done x es ed ex v g =
       let c = l .counted in
       let n : i < length rs = omega arith in
       let e1 : getD rs i noRun ≡ r = sym (l .at i) in
       let w = slotSteps (r .combination) in
-      let a = among-slot 0 (overSlot (listStep rs (received re im m scale) s us)) rs 0 0 0 i v (done + v) refl n (rw e1 g) (omega arith) in
+      let a = among-slot 0 (overSlot (listStep rs (receivedBy re im m scales) s us)) rs 0 0 0 i v (done + v) refl n (rw e1 g) (omega arith) in
       let z : step ≡ 0 + stepsTo rs i = es ∙ sym (zero-add (stepsTo rs i)) in
       rw (tail-is (r .«symbol_start») re, tail-is (r .«symbol_start») im, tail-is step us)
-      (summed-same (λ j. bit (pieceStrained (r .combination) (drop (r .«symbol_start») re) (drop (r .«symbol_start») im) m scale x (drop step us) (w * v + j)))
-      (λ j. listStep rs (received re im m scale) s us (step + (w * v + j))) w each
+      (summed-same (λ j. bit (pieceStrained (r .combination) (drop (r .«symbol_start») re) (drop (r .«symbol_start») im) m (scaleOf scales (r .combination)) x (drop step us) (w * v + j)))
+      (λ j. listStep rs (receivedBy re im m scales) s us (step + (w * v + j))) w each
       ∙ sym (rw (e1, ← z) at a))
     where
       each : (j : ℕ) → j < slotSteps (r .combination)
-          → bit (pieceStrained (r .combination) (drop (r .«symbol_start») re) (drop (r .«symbol_start») im) m scale x (drop step us) (slotSteps (r .combination) * v + j))
-          ≡ listStep rs (received re im m scale) s us (step + (slotSteps (r .combination) * v + j))
+          → bit (pieceStrained (r .combination) (drop (r .«symbol_start») re) (drop (r .«symbol_start») im) m (scaleOf scales (r .combination)) x (drop step us) (slotSteps (r .combination) * v + j))
+          ≡ listStep rs (receivedBy re im m scales) s us (step + (slotSteps (r .combination) * v + j))
       each j q =
           let c = l .counted in
           let n : i < length rs = omega arith in
           let e1 : getD rs i noRun ≡ r = sym (l .at i) in
           let k = slotSteps (r .combination) * v + j in
           let f = slot-fits (slotSteps (r .combination)) v (r .«valid_slots») g in
-          let b = among-step [] (metricsIn (received re im m scale)) rs 0 0 i k (step + k) n (rw e1 (omega arith)) (omega arith) in
-          let p = metrics-part re im m scale r (0 + stepsTo rs i) (0 + 1624 * validTo rs i) k in
-          let e : pieceMetrics (r .combination) (drop (r .«symbol_start») re) (drop (r .«symbol_start») im) m scale k ≡ among (λ g. g .step) (λ g. g .steps) [] (metricsIn (received re im m scale)) (segmentsFrom rs 0 0) (step + k) =
+          let b = among-step [] (metricsIn (receivedBy re im m scales)) rs 0 0 i k (step + k) n (rw e1 (omega arith)) (omega arith) in
+          let p = metrics-part re im m scales r (0 + stepsTo rs i) (0 + 1624 * validTo rs i) k in
+          let e : pieceMetrics (r .combination) (drop (r .«symbol_start») re) (drop (r .«symbol_start») im) m (scaleOf scales (r .combination)) k ≡ among (λ g. g .step) (λ g. g .steps) [] (metricsIn (receivedBy re im m scales)) (segmentsFrom rs 0 0) (step + k) =
           p ∙ sym (rw e1 at b) in
           let y : labelAt x (drop step us) k ≡ labelAt s us (step + k) =
           rw ex (sym (label-shift s us step (drop step us) (k + 1) (λ a o. sym (getD-drop step us a 0)) k (omega arith))) in
           rw (e, y)
 
 -- the first i runs are counted, and run i has room
-pub record Done (m : Mapping) (scale : Float) (s : ℕ) (re im : List Float) (us counts₀ : List ℕ) (count : ℕ) (list : List Run) (counts : List ℕ) (state step done sum i : ℕ) : Type 0 where
+pub record Done (m : Mapping) (scales : List Float) (s : ℕ) (re im : List Float) (us counts₀ : List ℕ) (count : ℕ) (list : List Run) (counts : List ℕ) (state step done sum i : ℕ) : Type 0 where
   pub run : RunAt count list i step
   pub re-fits : 38976 ≤ length re
   pub im-fits : 38976 ≤ length im
@@ -126,12 +127,12 @@ pub record Done (m : Mapping) (scale : Float) (s : ℕ) (re im : List Float) (us
   pub small : state < 64
   pub state-is : state ≡ stateAt 32 s us step
   pub few : sum ≤ step
-  pub sum-is : sum ≡ summed (listStrain (take count list) (received re im m scale) s us) done
-  pub counts-are : counts ≡ laid (upto (listStrain (take count list) (received re im m scale) s us) done) counts₀
+  pub sum-is : sum ≡ summed (listStrain (take count list) (receivedBy re im m scales) s us) done
+  pub counts-are : counts ≡ laid (upto (listStrain (take count list) (receivedBy re im m scales) s us) done) counts₀
 
-module _ {m : Mapping} {scale : Float} {s : ℕ} {re im : List Float} {us counts₀ : List ℕ} {count : ℕ} {list : List Run} where
+module _ {m : Mapping} {scales : List Float} {s : ℕ} {re im : List Float} {us counts₀ : List ℕ} {count : ℕ} {list : List Run} where
   pub done-first : {t : Table} → Listed t count list → s < 64 → 38976 ≤ length re → 38976 ≤ length im → frameSteps t ≤ length us → Bits us (frameSteps t) → validTotal t ≤ length counts₀
-      → Done m scale s re im us counts₀ count list counts₀ s 0 0 0 0
+      → Done m scales s re im us counts₀ count list counts₀ s 0 0 0 0
   unfolding stepsIn validIn stateAt upto summed
   done-first l small gr gi gu b gc =
       let v = valid-fit count list (l .runs) 0 in
@@ -153,7 +154,7 @@ module _ {m : Mapping} {scale : Float} {s : ℕ} {re im : List Float} {us counts
       }
 
   -- what counting run i asks
-  pub done-room : {counts : List ℕ} {state step done sum i : ℕ} → Done m scale s re im us counts₀ count list counts state step done sum i
+  pub done-room : {counts : List ℕ} {state step done sum i : ℕ} → Done m scales s re im us counts₀ count list counts state step done sum i
       → (getD list i noRun .«valid_slots» ≤ 48)
       × Covers (getD list i noRun .combination) (stepsOf (getD list i noRun)) (length (take (length re - getD list i noRun .«symbol_start») (drop (getD list i noRun .«symbol_start») re)))
       × Covers (getD list i noRun .combination) (stepsOf (getD list i noRun)) (length (take (length im - getD list i noRun .«symbol_start») (drop (getD list i noRun .«symbol_start») im)))
@@ -174,20 +175,22 @@ module _ {m : Mapping} {scale : Float} {s : ℕ} {re im : List Float} {us counts
       )
 
   -- the sums stay small
-  pub done-small : {counts p q : List ℕ} {state step done sum i : ℕ} {x : RunCount} → Done m scale s re im us counts₀ count list counts state step done sum i
-      → {a b : List Float} {vs : List ℕ} → RunCounted (getD list i noRun .combination) a b m scale vs state (getD list i noRun .«valid_slots») x q p → sum + x .sum ≤ 68208
-  done-small {p = p} {q = q} {state = state} {i = i} {x = x} w {a} {b} {vs} k =
+  pub done-small : {counts p q : List ℕ} {state step done sum i : ℕ} {x : RunCount} → Done m scales s re im us counts₀ count list counts state step done sum i
+      → {a b : List Float} {scale : Float} {vs : List ℕ} → RunCounted (getD list i noRun .combination) a b m scale vs state (getD list i noRun .«valid_slots») x q p → sum + x .sum ≤ 68208
+  done-small {p = p} {q = q} {state = state} {i = i} {x = x} w {a} {b} {scale} {vs} k =
       let fx = slots.run-few (getD list i noRun .combination) a b m scale vs state q (getD list i noRun .«valid_slots») x p k in
       let fw = w .few in
       let f = w .run .steps-fit in
       let ls = w .run .runs .steps in
       omega arith
 
-  pub done-next : {counts p : List ℕ} {state step done sum i n : ℕ} {x : RunCount} → Done m scale s re im us counts₀ count list counts state step done sum i → i < count → n ≡ stepsOf (getD list i noRun)
+  pub done-next : {counts p : List ℕ} {state step done sum i n : ℕ} {x : RunCount} → Done m scales s re im us counts₀ count list counts state step done sum i → i < count → n ≡ stepsOf (getD list i noRun)
+      → {scale : Float} → scale ≡ scaleOf scales (getD list i noRun .combination)
       → RunCounted (getD list i noRun .combination) (take (length re - getD list i noRun .«symbol_start») (drop (getD list i noRun .«symbol_start») re)) (take (length im - getD list i noRun .«symbol_start») (drop (getD list i noRun .«symbol_start») im)) m scale
       (take (length us - step) (drop step us)) state (getD list i noRun .«valid_slots») x (midOf done (length counts - done) counts) p
-      → Done m scale s re im us counts₀ count list (putMid done (length counts - done) counts p) (x .state) (step + n) (done + getD list i noRun .«valid_slots») (sum + x .sum) (i + 1)
-  done-next {counts} {p} {state} {step} {done} {sum} {i} {n} {x} w h en k =
+      → Done m scales s re im us counts₀ count list (putMid done (length counts - done) counts p) (x .state) (step + n) (done + getD list i noRun .«valid_slots») (sum + x .sum) (i + 1)
+  done-next {counts} {p} {state} {step} {done} {sum} {i} {n} {x} w h en {scale} es given =
+      let k = rw es at given in
       let r = getD list i noRun in
       let l = w .run .runs in
       let v = valid-fit count list l (i + 1) in
@@ -196,16 +199,16 @@ module _ {m : Mapping} {scale : Float} {s : ℕ} {re im : List Float} {us counts
       let f = w .done-fit in
       let lf = w .counts-fit in
       let ew = w .same in
-      let all = listStrain (take count list) (received re im m scale) s us in
-      let own = runStrain (r .combination) (take (length re - r .«symbol_start») (drop (r .«symbol_start») re)) (take (length im - r .«symbol_start») (drop (r .«symbol_start») im)) m scale state (take (length us - step) (drop step us)) in
-      let each = run-slot count list l i h re im m scale s us step done state (w .run .step-is) d (w .state-is) in
+      let all = listStrain (take count list) (receivedBy re im m scales) s us in
+      let own = runStrain (r .combination) (take (length re - r .«symbol_start») (drop (r .«symbol_start») re)) (take (length im - r .«symbol_start») (drop (r .«symbol_start») im)) m (scaleOf scales (r .combination)) state (take (length us - step) (drop step us)) in
+      let each = run-slot count list l i h re im m scales s us step done state (w .run .step-is) d (w .state-is) in
       let laid-now : putMid done (length counts - done) counts p ≡ laid (upto all (done + r .«valid_slots»)) counts₀ =
       written-tail done counts p (upto own (r .«valid_slots»)) (omega arith) (k .counts-are)
       ∙ ap (λ (z : List ℕ). take done z ++ laid (upto own (r .«valid_slots»)) (drop done z)) (w .counts-are)
       ∙ laid-part all own done (r .«valid_slots») counts₀ each in
       let sn : sum + x .sum ≡ summed all (done + r .«valid_slots») =
       rw (summed-append all done (r .«valid_slots»), k .sum-is, summed-same own (λ j. all (done + j)) (r .«valid_slots») each, w .sum-is) in
-      let fx = slots.run-few (r .combination) _ _ m scale (take (length us - step) (drop step us)) state (midOf done (length counts - done) counts) (r .«valid_slots») x p k in
+      let fx = slots.run-few (r .combination) _ _ m (scaleOf scales (r .combination)) (take (length us - step) (drop step us)) state (midOf done (length counts - done) counts) (r .«valid_slots») x p k in
       let fw = w .few in
       record {
         run = run-next (w .run) h en;

@@ -4,6 +4,7 @@ use isdbs_core::slots::Plan;
 use isdbs_decode::DemodOptions;
 use isdbs_decode::decode;
 use isdbs_decode::next_phase;
+use isdbs_decode::scale_place;
 use isdbs_metrics::Code;
 use isdbs_metrics::Phase;
 use isdbs_metrics::code_of;
@@ -22,7 +23,8 @@ ghost use Rattle.isdbs_core.specs.Combinations.{slotSteps};
 ghost use Rattle.isdbs_core.specs.Frame.{mainSymbols};
 ghost use Rattle.isdbs_core.specs.RunsOf.{validTotal, frameSteps, loadBytes, Planned};
 ghost use Rattle.isdbs_metrics.specs.Reading.{frameWords};
-ghost use Rattle.isdbs_metrics.specs.Steps.{CodeOf, PhaseAt, Covers, Bits, received};
+ghost use Rattle.isdbs_metrics.specs.Steps.{CodeOf, PhaseAt, Covers, Bits};
+ghost use Rattle.isdbs_decode.specs.Scales.{receivedBy};
 ghost use Rattle.strain.specs.Counts.{summed};
 ghost use Rattle.isdbs_decode.specs.Runs.{FrameRead};
 ghost use Rattle.strain.specs.Strain.{strainedBy, StrainLaid};
@@ -142,7 +144,7 @@ fn count_run(
 pub fn count_strain(
     p: Plan,
     m: Mapping,
-    scale: f32,
+    scales: [f32; 7],
     start: u8,
     re: &[f64],
     im: &[f64],
@@ -150,7 +152,7 @@ pub fn count_strain(
     counts: &mut [u32],
 ) -> u32
     requires { ⌜ (start < 64) × Planned p × (mainSymbols ≤ length (now re)) × (mainSymbols ≤ length (now im)) × (frameSteps (p .table) ≤ length (now bits)) × Bits (now bits) (frameSteps (p .table)) × (validTotal (p .table) ≤ length (now counts)) ⌝ }
-    ensures { λ r. ⌜ (now (counts .exit) ≡ laid (upto (frameStrain (p .table) (received (now (re .entry)) (now (im .entry)) m scale) start (now (bits .entry))) (validTotal (p .table))) (now (counts .entry))) × (r ≡ summed (frameStrain (p .table) (received (now (re .entry)) (now (im .entry)) m scale) start (now (bits .entry))) (validTotal (p .table))) ⌝ }
+    ensures { λ r. ⌜ (now (counts .exit) ≡ laid (upto (frameStrain (p .table) (receivedBy (now (re .entry)) (now (im .entry)) m scales) start (now (bits .entry))) (validTotal (p .table))) (now (counts .entry))) × (r ≡ summed (frameStrain (p .table) (receivedBy (now (re .entry)) (now (im .entry)) m scales) start (now (bits .entry))) (validTotal (p .table))) ⌝ }
 {
     let count = p.count;
     let list = p.runs;
@@ -163,6 +165,8 @@ pub fn count_strain(
         let c = r.combination;
         let from = r.symbol_start;
         let n = r.valid_slots;
+        let place = scale_place(c);
+        let scale = scales[place];
         let x = count_run(
             &re[from..],
             &im[from..],
@@ -195,20 +199,13 @@ pub fn decode_strained(
     counts: &mut [u32],
 ) -> u32
     requires { ⌜ Planned p × (mainSymbols ≤ length (now re)) × (mainSymbols ≤ length (now im)) × (frameWords ≤ length (now decisions)) × (frameSteps (p .table) + 16 ≤ length (now bits)) × (loadBytes (p .table) ≤ length (now bytes)) × (validTotal (p .table) ≤ length (now counts)) ⌝ }
-    ensures read { λ _. ⌜ FrameRead (p .table) (received (now (re .entry)) (now (im .entry)) (o .mapping) (o .«llr_scale»)) (o .«known_start») first (now (decisions .entry)) (now (decisions .exit)) (now (bits .entry)) (now (bits .exit)) (now (bytes .entry)) (now (bytes .exit)) ⌝ }
-    ensures strain { λ r. ⌜ StrainLaid (p .table) (received (now (re .entry)) (now (im .entry)) (o .mapping) (o .«llr_scale»)) (o .«known_start») first (now (counts .entry)) (now (counts .exit)) r ⌝ }
+    ensures read { λ _. ⌜ FrameRead (p .table) (receivedBy (now (re .entry)) (now (im .entry)) (o .mapping) (o .scales)) (o .«known_start») first (now (decisions .entry)) (now (decisions .exit)) (now (bits .entry)) (now (bits .exit)) (now (bytes .entry)) (now (bytes .exit)) ⌝ }
+    ensures strain { λ r. ⌜ StrainLaid (p .table) (receivedBy (now (re .entry)) (now (im .entry)) (o .mapping) (o .scales)) (o .«known_start») first (now (counts .entry)) (now (counts .exit)) r ⌝ }
 {
     decode(p, first, o, re, im, decisions, bits, bytes);
     let end = p.steps + 16;
     let state = start_state(first);
-    count_strain(
-        p,
-        o.mapping,
-        o.llr_scale,
-        state,
-        re,
-        im,
-        &bits[0..end],
-        counts,
-    )
+    let m = o.mapping;
+    let scales = o.scales;
+    count_strain(p, m, scales, state, re, im, &bits[0..end], counts)
 }

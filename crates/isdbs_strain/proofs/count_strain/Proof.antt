@@ -5,7 +5,8 @@ use Prim.Native.Nat.{ℕ, _+_, _-_, _*_, _≤_}
 use mathlib.Core.Path.{_≡_, refl, _∙_, ap}
 use lib.ListN.{length, getD, length-drop, length-map}
 use lib.Seq.{getD-drop}
-use Rattle.isdbs_core.specs.RunsOf.{noRun, stepsOf}
+use lib.Ieee.{nan}
+use Rattle.isdbs_core.specs.RunsOf.{noRun}
 use Rattle.isdbs_decode.proofs.FrameRuns.{listed-runs, steps-by, tail-is, all-valid, part-covers}
 use Rattle.isdbs_metrics.specs.Reading.{metricsAt}
 use Rattle.strain.specs.Slots.{bySlot}
@@ -14,10 +15,10 @@ use Rattle.isdbs_strain.proofs.count_strain.Statement.{statement}
 use Rattle.isdbs_strain.proofs.count_strain.Tie as tie
 
 abbrev Inv-loop : tie.InvT-loop
-Inv-loop m scale start re im bits counts₀ count list state₀ step₀ done₀ sum₀ i₀ counts state step done sum i = Done m scale start re im bits counts₀ count list counts state step done sum i
+Inv-loop m start re im bits counts₀ scales count list state₀ step₀ done₀ sum₀ i₀ counts state step done sum i = Done m scales start re im bits counts₀ count list counts state step done sum i
 
 abbrev μ-loop : tie.MeasureT-loop
-μ-loop m scale start re im bits counts₀ count list state₀ step₀ done₀ sum₀ i₀ counts state step done sum i = count - i
+μ-loop m start re im bits counts₀ scales count list state₀ step₀ done₀ sum₀ i₀ counts state step done sum i = count - i
 
 loop-holds : tie.Need-loop-holds Inv-loop μ-loop
 loop-holds c =
@@ -29,6 +30,15 @@ mul-r c = search needs
 
 array-copy-out-r : tie.Need-array-copy-out-r Inv-loop μ-loop
 array-copy-out-r c = search needs
+
+scale-place-requires : tie.Need-scale-place-requires Inv-loop μ-loop
+scale-place-requires c κs = search needs
+
+mul-scale : tie.Need-mul-scale Inv-loop μ-loop
+mul-scale c = search needs
+
+array-read-scale : tie.Need-array-read-scale Inv-loop μ-loop
+array-read-scale c = search needs
 
 mul-count-run : tie.Need-mul-count-run Inv-loop μ-loop
 mul-count-run c = search needs
@@ -77,7 +87,7 @@ part-count-run-end-4 c = search needs
 
 count-run-requires : tie.Need-count-run-requires Inv-loop μ-loop
 count-run-requires c κs =
-    let at = c .before .before .before .before .before .before .loop in
+    let at = c .before .before .before .before .before .before .before .loop in
     let w = at .inv in
     let d = length-drop (at .done) (at .counts) in
     let r = done-room w in
@@ -88,7 +98,7 @@ count-run-requires c κs =
 
 add-sum : tie.Need-add-sum Inv-loop μ-loop
 add-sum c =
-    let f = done-small (c .before .before .before .before .before .before .before .before .before .before .loop .inv) (c .before .before .before .count-run .ensures) in
+    let f = done-small (c .before .before .before .before .before .before .before .before .before .before .before .loop .inv) (c .before .before .before .count-run .ensures) in
     record { fits = omega arith }
 
 steps-per-slot-requires : tie.Need-steps-per-slot-requires Inv-loop μ-loop
@@ -96,16 +106,16 @@ steps-per-slot-requires c κs = search needs
 
 mul-step : tie.Need-mul-step Inv-loop μ-loop
 mul-step c =
-    let at = c .before .before .before .before .before .before .before .before .before .before .before .loop in
-    let e = steps-by (getD (c .before .before .before .before .before .before .before .before .before .before .before .before .before .before .before .before .before .args .p .runs) (at .i) noRun) _ (c .steps-per-slot .ensures) in
+    let at = c .before .before .before .before .before .before .before .before .before .before .before .before .loop in
+    let e = steps-by (getD (c .before .before .before .before .before .before .before .before .before .before .before .before .before .before .before .before .before .before .args .p .runs) (at .i) noRun) _ (c .steps-per-slot .ensures) in
     let f = at .inv .run .steps-fit in
     let ls = at .inv .run .runs .steps in
     record { fits = omega arith }
 
 add-step : tie.Need-add-step Inv-loop μ-loop
 add-step c =
-    let at = c .before .before .before .before .before .before .before .before .before .before .before .loop in
-    let e = steps-by (getD (c .before .before .before .before .before .before .before .before .before .before .before .before .before .before .before .before .before .args .p .runs) (at .i) noRun) _ (c .steps-per-slot .ensures) in
+    let at = c .before .before .before .before .before .before .before .before .before .before .before .before .loop in
+    let e = steps-by (getD (c .before .before .before .before .before .before .before .before .before .before .before .before .before .before .before .before .before .before .args .p .runs) (at .i) noRun) _ (c .steps-per-slot .ensures) in
     let f = at .inv .run .steps-fit in
     let ls = at .inv .run .runs .steps in
     record { fits = omega arith }
@@ -121,8 +131,10 @@ loop-less c = search needs
 
 loop-again : tie.Need-loop-again Inv-loop μ-loop
 loop-again c =
-    let at = c .before .before .before .before .before .before .before .before .before .before .before .loop in
-    done-next (at .inv) (c .before .before .before .before .before .before .before .before .before .before .loop-test .taken) (steps-by (getD (c .before .before .before .before .before .before .before .before .before .before .before .before .before .before .before .before .before .args .p .runs) (at .i) noRun) _ (c .steps-per-slot .ensures)) (c .before .before .before .before .count-run .ensures)
+    let at = c .before .before .before .before .before .before .before .before .before .before .before .before .loop in
+    let st = c .before .before .before .before .before .before .before .before .before .before .before .before .before .before .before .before .before .before in
+    let x = ap (λ (k : ℕ). getD (st .args .t3) k nan) (c .before .before .before .before .before .before .before .before .before .scale-place .ensures .0) in
+    done-next (at .inv) (c .before .before .before .before .before .before .before .before .before .before .before .loop-test .taken) (steps-by (getD (st .args .p .runs) (at .i) noRun) _ (c .steps-per-slot .ensures)) x (c .before .before .before .before .count-run .ensures)
 
 same-length : tie.Need-same-length Inv-loop μ-loop
 same-length c = search needs
@@ -146,6 +158,9 @@ count-strain-spec =
     loop-holds
     mul-r
     array-copy-out-r
+    scale-place-requires
+    mul-scale
+    array-read-scale
     mul-count-run
     sub-count-run
     part-count-run-start

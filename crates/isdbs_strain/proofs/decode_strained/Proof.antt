@@ -11,7 +11,7 @@ use Rattle.isdbs_core.specs.declared.slots.Plan.{Plan}
 use Rattle.isdbs_core.specs.declared.tmcc.Table.{Table}
 use Rattle.isdbs_core.specs.RunsOf.{frameSteps, Planned}
 use Rattle.isdbs_metrics.specs.Reading.{Received, decodedBits}
-use Rattle.isdbs_metrics.specs.Steps.{received}
+use Rattle.isdbs_decode.specs.Scales.{receivedBy}
 use Rattle.isdbs_decode.specs.LawsDecoded.{decoded-count, decoded-binary, binary-at}
 use Rattle.isdbs_decode.proofs.FrameRuns.{front-is}
 use Rattle.isdbs_strain.proofs.decode_strained.Statement.{statement}
@@ -49,19 +49,19 @@ part-count-strain-start c = search needs
 
 part-count-strain-end : tie.Need-part-count-strain-end
 part-count-strain-end c =
-    let st = c .before .before .before .before .before .before .before .before .before .before .before .before .before .before .before .before .before .before .before in
+    let st = c .before .before .before .before .before .before .before .before .before .before .before .before .before .before .before .before .before .before .before .before .before in
     let q = steps-are (st .args .p) (st .pre .0) in
     search needs
 
 count-strain-requires : tie.Need-count-strain-requires
 count-strain-requires c κs =
-    let st = c .before .before .before .before .before .before .before .before .before .before .before .before .before .before .before .before .before .before .before .before .before in
+    let st = c .before .before .before .before .before .before .before .before .before .before .before .before .before .before .before .before .before .before .before .before .before .before .before in
     let p = st .args .p in
-    let rx = received (st .args .re .now) (st .args .im .now) (st .args .o .mapping) (st .args .o .«llr_scale») in
+    let rx = receivedBy (st .args .re .now) (st .args .im .now) (st .args .o .mapping) (st .args .o .scales) in
     let us = decodedBits (p .table) rx (st .args .o .«known_start») (st .args .first) in
     let n = decoded-count (p .table) rx (st .args .o .«known_start») (st .args .first) in
-    let f = front p rx (st .args .o .«known_start») (st .args .first) _ (st .args .bits .now) (st .pre .0) (c .before .before .before .before .before .before .before .before .before .before .before .decode .ensures .decoded) in (
-      c .before .before .before .start-state .ensures .1,
+    let f = front p rx (st .args .o .«known_start») (st .args .first) _ (st .args .bits .now) (st .pre .0) (c .before .before .before .before .before .before .before .before .before .before .before .before .before .decode .ensures .decoded) in (
+      c .before .before .before .before .before .start-state .ensures .1,
       st .pre .0,
       st .pre .1,
       st .pre .2,
@@ -84,12 +84,12 @@ same-length-4 c = search needs
 
 returns : tie.Need-returns
 returns c =
-    let st = c .before .before .before .before .before .before .before .before .before .before .before .before .before .before .before .before .before .before .before .before .before .before .before .before in
+    let st = c .before .before .before .before .before .before .before .before .before .before .before .before .before .before .before .before .before .before .before .before .before .before .before .before .before .before in
     let p = st .args .p in
-    let rx = received (st .args .re .now) (st .args .im .now) (st .args .o .mapping) (st .args .o .«llr_scale») in
-    let read = c .before .before .before .before .before .before .before .before .before .before .before .before .before .before .decode .ensures in
+    let rx = receivedBy (st .args .re .now) (st .args .im .now) (st .args .o .mapping) (st .args .o .scales) in
+    let read = c .before .before .before .before .before .before .before .before .before .before .before .before .before .before .before .before .decode .ensures in
     let f = front p rx (st .args .o .«known_start») (st .args .first) _ (st .args .bits .now) (st .pre .0) (read .decoded) in
-    let e = c .before .before .before .before .before .before .start-state .ensures .0 in
+    let e = c .before .before .before .before .before .before .before .before .start-state .ensures .0 in
     let k = rw (f, e) at (c .before .before .count-strain .ensures) in
     (read, record { counts-are = k .0; sum-is = k .1 })
 
