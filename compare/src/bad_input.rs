@@ -161,7 +161,7 @@ struct Count {
     name: &'static str,
     calls: u64,
     wrong: u64,
-    answers: [u64; 10],
+    answers: [u64; 16],
 }
 
 impl Count {
@@ -181,7 +181,7 @@ impl Count {
     }
 
     fn done(self, all: &mut (u64, u64)) {
-        println!("{:>8} calls, {} wrong: {}; by answer 0 to 9: {:?}", self.calls, self.wrong, self.name, self.answers);
+        println!("{:>8} calls, {} wrong: {}; by answer 0 to 15: {:?}", self.calls, self.wrong, self.name, self.answers);
         all.0 += self.calls;
         all.1 += self.wrong;
     }

@@ -2,7 +2,10 @@
 ghost use mathlib.Core.Path.{_≡_};
 ghost use mathlib.Core.List.{[], _∷_};
 ghost use Prim.Native.Nat.{_+_, _-_, _*_};
+ghost use Rattle.isdbs_core.specs.declared.combination.Combination.the-variants.{«Bpsk1_2», «Qpsk1_2», «Qpsk2_3», «Qpsk3_4», «Qpsk5_6», «Qpsk7_8», «Tc8psk2_3»};
 ghost use Rattle.constants.specs.Tails.{codedTail};
+use isdbs_core::combination::ALL;
+use isdbs_core::combination::Combination;
 use isdbs_core::frame::BURST_PERIOD;
 use isdbs_core::frame::BURST_SYMBOLS;
 use isdbs_core::frame::BURSTS;
@@ -73,4 +76,11 @@ pub fn dummy() -> Entry
     ensures { λ r. ⌜ (r .word ≡ 15) × (r .slots ≡ 0) ⌝ }
 {
     DUMMY
+}
+
+// Every combination, from the most to the least efficient.
+pub fn all_combinations() -> [Combination; 7]
+    ensures { λ r. ⌜ r ≡ «Tc8psk2_3» ∷ «Qpsk7_8» ∷ «Qpsk5_6» ∷ «Qpsk3_4» ∷ «Qpsk2_3» ∷ «Qpsk1_2» ∷ «Bpsk1_2» ∷ [] ⌝ }
+{
+    ALL
 }
