@@ -8,7 +8,7 @@ use bench_words::words::same;
 ghost use Rattle.libc.specs.Io.{Ended};
 
 // The bytes of a full load of 48 slots, and one more, so that a file that is longer is told from one that is full.
-pub const LOAD: usize = 9_745;
+const LOAD: usize = 9_745;
 
 // Why the system failed, in words.
 fn reason(error: i32) {

@@ -5,7 +5,7 @@ use mathlib.Core.List.{List, []}
 use Prim.Native.Nat.{ℕ, zero, suc, _+_, _-_, _*_, _/_, _%_, _≤_, _<_}
 use native.Mathlib.Omega.{arith}
 use lib.IntN.{ℤ}
-use lib.Dec.{T, eqb, leb, ltb, leb→le, ltb→lt, lt→ltb, lit≤, lit<}
+use lib.Dec.{T, eqb, ltb, ltb→lt, lt→ltb, lit≤, lit<}
 use lib.ListN.{length, getD}
 use lib.Ieee.{Float, nan, binary32, neg, le, ofBits, fits}
 use lib.Ieee.Fits.{and-i}
@@ -43,9 +43,6 @@ is-false false h = refl
 
 not-less : (m n : ℕ) → n ≤ m → ltb m n ≡ false
 not-less m n h = is-false (ltb m n) (λ t. let l = ltb→lt m n t in omega arith)
-
-not-most : (m n : ℕ) → n < m → leb m n ≡ false
-not-most m n h = is-false (leb m n) (λ t. let l = leb→le m n t in omega arith)
 
 -- ---- the limits as whole numbers
 stream-limit : Whole streamLimit 1048576 0

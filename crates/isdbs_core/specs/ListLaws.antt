@@ -5,7 +5,7 @@ use mathlib.Core.List.{List, [], _∷_, _++_, append-assoc}
 use Prim.Native.Nat.{ℕ, zero, suc, _+_, _-_, _≤_, _<_}
 use native.Mathlib.Omega.{arith}
 use native.Mathlib.Nat.{not-suc-le-zero, ne-of-lt, eq-or-lt-of-le}
-use lib.ListN.{length, getD, set, replicate, length-append, length-replicate, List·getD-append}
+use lib.ListN.{length, getD, set, replicate, length-append, List·getD-append}
 use lib.Seq.{getD-at, getD-set-same, getD-set-other, set-append-seam, ext-getD}
 use borrow.Author.Count.{below-none, below-more}
 use Rattle.isdbs_core.specs.Lists.{padded, table}
@@ -44,9 +44,6 @@ module _ {A : Type 0} where
     pub written-all : (d : A) (n : ℕ) (l : List A) → length l ≡ n → Written d n l → l ≡ table f n
     written-all d n l e w =
         ext-getD d l (table f n) (e ∙ sym (length-table n)) (λ i h. w i (omega arith) ∙ sym (table-at n i d (omega arith)))
-
-  pub length-padded : (n : ℕ) (d : A) (l : List A) → length l ≤ n → length (padded n d l) ≡ n
-  length-padded n d l h = simp (length-append, length-replicate) (omega arith)
 
   -- the front of a padded list is the list
   pub padded-at : (n : ℕ) (d : A) (l : List A) (i : ℕ) → i < length l → getD (padded n d l) i d ≡ getD l i d

@@ -49,15 +49,6 @@ pairs-most «R3_4» b = omega arith
 pairs-most «R5_6» b = omega arith
 pairs-most «R7_8» b = omega arith
 
-pub symbol-most : (c : Combination) (b : ℕ) → symbolOfBit c b ≤ 2 * b + 4
-symbol-most «Bpsk1_2» b = omega arith
-symbol-most «Qpsk1_2» b = omega arith
-symbol-most «Qpsk2_3» b = let f = first-most (b % 4) (pairsOf «R2_3») in omega arith
-symbol-most «Qpsk3_4» b = let f = first-most (b % 3) (pairsOf «R3_4») in omega arith
-symbol-most «Qpsk5_6» b = let f = first-most (b % 5) (pairsOf «R5_6») in omega arith
-symbol-most «Qpsk7_8» b = let f = first-most (b % 7) (pairsOf «R7_8») in omega arith
-symbol-most «Tc8psk2_3» b = omega arith
-
 -- each input of a period is in a pair
 pub pair-found : (p : Puncture) (i : ℕ) → i < periodOf p → firstPair i (pairsOf p) < length (pairsOf p)
 unfolding firstPair

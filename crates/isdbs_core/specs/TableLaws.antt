@@ -13,7 +13,6 @@ use Rattle.isdbs_core.specs.declared.tmcc.Entry.{Entry}
 use Rattle.isdbs_core.specs.declared.tmcc.Table.{Table}
 use Rattle.isdbs_core.specs.Lists.{Each, either}
 use Rattle.isdbs_core.specs.Tables.{slotSum, partUnit, reservedWord, some, tableRows, tableAnswer, TableAccepted}
-use Rattle.isdbs_core.specs.RunsOf.{runsOf, fourOf, fourRuns}
 use Rattle.isdbs_core.specs.RunLaws.{WholeUnits, Laid, laid}
 
 neither : (a b : Bool) → either a b ≡ false → (a ≡ false) × (b ≡ false)
@@ -49,10 +48,6 @@ module _ (t : Table) where
   -- so its runs lie within the frame, each of whole units: no slot is left over
   pub table-laid : TableAccepted t → Laid t
   table-laid a = laid t (sum-fits a) (units-whole a)
-
-  -- and `runs` gives them
-  pub accepted-runs : TableAccepted t → fourRuns t ≡ fourOf answer.Accepted (runsOf t)
-  accepted-runs a = rw a
 
   -- rows after those of an accepted table decide, and not those after the rows of a refused one
   pub then-rows : (rows : List Row) → TableAccepted t → firstRow (tableRows t ++ rows) ≡ firstRow rows

@@ -29,15 +29,6 @@ use Rattle.isdbs_strain.specs.Pieces.{pieceStrained, slotStrained, Count
 abbrev pub runCount : ℕ → ℕ → RunCount
 runCount sum state = record { sum = sum; state = state }
 
-pub steps-small : (c : Combination) → slotSteps c ≤ 1624
-steps-small «Bpsk1_2» = omega arith
-steps-small «Qpsk1_2» = omega arith
-steps-small «Qpsk2_3» = omega arith
-steps-small «Qpsk3_4» = omega arith
-steps-small «Qpsk5_6» = omega arith
-steps-small «Qpsk7_8» = omega arith
-steps-small «Tc8psk2_3» = omega arith
-
 -- slot v of n lies within the run's steps
 pub slot-fits : (w v n : ℕ) → v < n → w * v + w ≤ w * n
 slot-fits w v n h = rw (mul-suc w v) at (mul-le-mul-left w h)

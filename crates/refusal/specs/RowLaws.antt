@@ -47,9 +47,6 @@ told-by tag z a o e = miss refusals 0 tt (rw (ap tag e ∙ z) at o)
 pub accepted-is : (a : Answer) → accepted a ≡ true → a ≡ Accepted
 accepted-is a h = zero-accepted a (eqb-true (numberOf a) 0 h)
 
-pub is-accepted : (a : Answer) → a ≡ Accepted → accepted a ≡ true
-is-accepted a e = eq-eqb (numberOf a) 0 (ap numberOf e)
-
 pub refused-is : (a : Answer) → accepted a ≡ false → a ≡ Accepted → ⊥
 refused-is a h e = eqb-false (numberOf a) 0 h (ap numberOf e)
 

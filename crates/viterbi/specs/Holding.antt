@@ -87,21 +87,6 @@ holds-lengths tb d dec₀ out₀ pm held count dec out few fits room h =
     under : (t : Bool) → length (laid (d .words) (cond t (laid (replicate (block + tb) 0) dec₀) dec₀)) ≡ length dec₀
     under t = length-laid (d .words) (cond t (laid (replicate (block + tb) 0) dec₀) dec₀) (let b = base t in omega arith) ∙ base t
 
--- the decisions, once all that a call may have used are set to 0
-pub holds-cleared : (tb : ℕ) (d : Decoder) (dec₀ out₀ : List ℕ) (pm : List Float) (held count : ℕ) (dec dec′ out : List ℕ)
-    → length (d .words) < 4096 + tb
-    → Holds tb dec₀ out₀ d pm held count dec out
-    → dec′ ≡ laid (replicate held 0) dec
-    → laid (replicate (block + tb) 0) dec′ ≡ laid (replicate (block + tb) 0) dec₀
-holds-cleared tb d dec₀ out₀ pm held count dec dec′ out few h e =
-    let zeros : length (replicate {A = ℕ} (4096 + tb) 0) ≡ 4096 + tb = length-replicate (4096 + tb) 0 in
-    let some : length (replicate {A = ℕ} held 0) ≡ held = length-replicate held 0 in
-    let eh = h .held-is in
-    ap (λ (y : List ℕ). laid (replicate (block + tb) 0) y) e
-    ∙ laid-laid (replicate held 0) (replicate (block + tb) 0) dec (omega arith)
-    ∙ ap (λ (y : List ℕ). laid (replicate (block + tb) 0) y) (h .words)
-    ∙ cleared tb (d .words) (d .bits) dec₀ few
-
 module _ (half : ℕ) (label : ℕ → ℕ → ℕ) (rule : Tie) where
   module _ (tb i : ℕ) (x : Step) (d : Decoder) (dec₀ out₀ : List ℕ) where
     -- a step adds its bits to those put out before

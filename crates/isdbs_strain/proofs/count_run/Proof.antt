@@ -12,7 +12,7 @@ use Rattle.isdbs_decode.proofs.Carried.{phase-start}
 use Rattle.isdbs_decode.proofs.FrameRuns.{tail-is}
 use Rattle.isdbs_strain.specs.Pieces.{Counted, RunCounted}
 use Rattle.isdbs_strain.proofs.Counting.{count-few}
-use Rattle.isdbs_strain.proofs.Slots.{runCount, steps-small, slot-fits, next-slot, run-first, run-few, run-next, run-length, run-steps-few}
+use Rattle.isdbs_strain.proofs.Slots.{runCount, slot-fits, next-slot, run-first, run-few, run-next, run-length, run-steps-few}
 use Rattle.isdbs_strain.proofs.count_run.Statement.{statement}
 use Rattle.isdbs_strain.proofs.count_run.Tie as tie
 
