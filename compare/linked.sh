@@ -3,9 +3,9 @@
 #   compare/linked.sh NAME
 set -eu
 cd "$(dirname "$0")/.."
-archive=target/staticlib/libisdb_c.a
+archive=target/staticlib/libisdb.a
 mkdir -p target/compare
-rt staticlib isdb_c >target/compare/staticlib.log 2>&1 || { tail -n 20 target/compare/staticlib.log; exit 1; }
+tools/archive >/dev/null
 calls=
 for pair in isdbt:isdbt_depuncture encode:isdbs_encode_frame decode:isdbs_decode_frame; do
     if nm "$archive" 2>/dev/null | grep -q " T ${pair#*:}\$"; then calls="$calls --cfg ${pair%%:*}"; fi
@@ -13,4 +13,4 @@ done
 peer=target/compare/peer/usr/lib/x86_64-linux-gnu
 if [ "$1" = speed ] && [ -f "$peer/libfec.a" ]; then calls="$calls --cfg peer -L $peer -l static=fec"; fi
 # shellcheck disable=SC2086
-compare/program.sh "$1" -A unexpected_cfgs $calls -L target/staticlib -l static=isdb_c
+compare/program.sh "$1" -A unexpected_cfgs $calls -L target/staticlib -l static=isdb

@@ -1,6 +1,6 @@
 /* ISDB-S frames and the inner code of ISDB: the calls of crate isdb_c.
  *
- * Link target/staticlib/libisdb_c.a, which `rt staticlib isdb_c` writes (x86-64 Linux). No call allocates, keeps anything or prints.
+ * Link target/staticlib/libisdb.a, which `tools/archive` writes (x86-64 Linux). No call allocates, keeps anything or prints.
  *
  * A slice is a pointer and a length, in elements. A pointer must be good for that many elements, also where the length is 0 (it is then not read);
  * slices that a call writes must not overlap others.
@@ -49,7 +49,7 @@
  *       return 0;
  *   }
  *
- *   cc -I include example.c target/staticlib/libisdb_c.a
+ *   cc -I include example.c target/staticlib/libisdb.a
  */
 #ifndef ISDB_H
 #define ISDB_H
