@@ -1,0 +1,72 @@
+-- A reading by a code of constraint length 3 to 7: a fresh decoder of traceback 128, a call of metrics, a flush. P7: "The best-path statement is established
+-- over the length". Assumes nothing.
+use mathlib.Core.Path.{_≡_}
+use mathlib.Core.Bool.{true, not, _||_}
+use mathlib.Core.List.{List, [], _∷_}
+use Prim.Native.Nat.{ℕ, _+_, _*_, _/_, _%_, _≤_}
+use lib.Dec.{eqb, ltb}
+use lib.IntN.{ℤ}
+use lib.ListN.{length, getD, take, replicate}
+use lib.Ieee.{Float, nan}
+use Rattle.refusal.specs.Rows.{Row}
+use Rattle.refusal.specs.declared.Answer.the-variants as answer
+use Rattle.trellis.specs.Isdb.{rule}
+use Rattle.trellis.specs.Lists.{laid}
+use Rattle.trellis.specs.Run.{Decoder, block, startAt, startUnknown, decisionsAfter, flushed}
+use Rattle.viterbi.specs.Calls.{fourSteps}
+use Rattle.best_path.specs.Paths.{longest, Quadruples, Reading}
+use Rattle.isdb_fec.specs.Values.{someBeyond, streamLimit}
+use Rattle.short_code.specs.declared.Code.{Code}
+use Rattle.short_code.specs.Codes.{labels, halfOf, statesOf, goodCode}
+use Rattle.short_fec.specs.Calls.{call}
+use Rattle.short_best.specs.declared.Done.{Done}
+use Rattle.short_best.specs.declared.Start.{Start}
+use Rattle.short_best.specs.declared.Start.the-variants.{Given, Unknown}
+
+-- the path values of n states in a fresh decoder, and the states in which a path may start: "decoder start .. states are taken mod 2^(length-1)"
+abbrev pub startValues : ℕ → Start → List Float
+startValues n (Given s) = startAt n s
+startValues n Unknown = startUnknown n
+
+abbrev pub StartsIn : Code → Start → ℕ → Type 0
+StartsIn c (Given s) z = z ≡ s % statesOf c
+StartsIn c Unknown z = Unit {0}
+
+-- the decoder with its held words and its bits once the metrics xs have been pushed; all its bits
+abbrev pub read : Code → Start → List Float → Decoder
+read c start xs = call c 128 (fourSteps xs) (record { values = startValues (statesOf c) start; words = []; bits = [] }) (length xs / 4)
+
+abbrev pub readBits : Code → Start → List Float → List ℕ
+readBits c start xs = flushed (halfOf c) (labels c) rule (read c start xs) .bits
+
+-- 12; 5 "metrics not in fours"; 7 "not finite; beyond .. 1,048,576 for a stream value"; 9, a place for each bit, and "decisions always need 4,096 + traceback"
+abbrev pub readingRows : Code → List Float → ℕ → ℕ → List Row
+readingRows c xs decisions out =
+    (answer.Code, not (goodCode c))
+    ∷ (answer.Length, not (eqb (length xs % 4) 0))
+    ∷ (answer.Sample, someBeyond streamLimit xs)
+    ∷ (answer.Space, ltb out (length xs / 4) || ltb decisions (block + 128))
+    ∷ []
+
+-- what an accepted reading leaves: all bits, one for each quadruple, at the front of the output, and the held words zeroed
+pub record Finished (c : Code) (start : Start) (xs : List Float) (count : ℕ) (decisions₀ decisions out₀ out : List ℕ) : Type 0 where
+  pub count-is : count ≡ length xs / 4
+  pub words : decisions ≡ laid (replicate (length (read c start xs .words)) 0) (decisionsAfter 128 (read c start xs .words) (read c start xs .bits) decisions₀)
+  pub bits : out ≡ laid (readBits c start xs) out₀
+
+pub record Refused (count : ℕ) (decisions₀ decisions out₀ out : List ℕ) : Type 0 where
+  pub count-is : count ≡ 0
+  pub words : decisions ≡ decisions₀
+  pub bits : out ≡ out₀
+
+-- quadruple k of a flat list
+abbrev pub quadruple : List Float → ℕ → List Float
+quadruple xs k = getD xs (4 * k) nan ∷ getD xs (4 * k + 1) nan ∷ getD xs (4 * k + 2) nan ∷ getD xs (4 * k + 3) nan ∷ []
+
+-- Viterbi's rule: of at most 4,096 quadruples of whole numbers within 16 of 0, by a good code and with memory enough lent, the reading is accepted, has a bit
+-- for each quadruple, and its bits are the inputs of the first path of greatest sum from the given start, or from any where none is given (`Reading.best`);
+-- any path from there with the greatest sum and none of that sum before it is the one returned (`Reading.only`)
+abbrev pub GreatestSum : Code → Start → List Float → Done → ℕ → ℕ → List ℕ → Type 0
+GreatestSum c start xs r decisions space out =
+    (n : ℕ) (m : ℕ → ℕ → ℤ) → goodCode c ≡ true → length xs ≡ 4 * n → n ≤ longest → Quadruples (quadruple xs) m n → block + 128 ≤ decisions → n ≤ space
+    → (r .answer ≡ answer.Accepted) × (r .count ≡ n) × Reading (halfOf c) (labels c) rule (StartsIn c start) m n (take n out)
