@@ -15,7 +15,7 @@ use Rattle.refusal.specs.RowLaws.{decided}
 use Rattle.refusal.specs.declared.Answer.the-variants.{Accepted}
 use Rattle.trellis.specs.Lists.{laid}
 use Rattle.trellis.specs.ListLaws.{length-upto}
-use Rattle.trellis.specs.Step.{Step, Tie, pair, four, known, top, next, nexts, renormalised, ruled}
+use Rattle.trellis.specs.Step.{Step, Tie, pair, four, known, top, next, nexts, renormalised, ruled, traced}
 use Rattle.trellis.specs.Run.{Decoder, settled, valuesAt, after, startAt, startUnknown}
 use Rattle.trellis.specs.RunLaws.{after-values}
 use Rattle.trellis.specs.Isdb as isdb
@@ -24,12 +24,14 @@ use Rattle.isdb_fec.specs.declared.conv.ViterbiDecoder.{ViterbiDecoder}
 use Rattle.isdb_fec.specs.declared.conv.Released.{Released}
 use Rattle.isdb_fec.specs.Rows as fec
 use Rattle.isdb_fec.specs.Calls as fec-calls
-use Rattle.isdb_fec.specs.Calls.{Unchanged}
+use Rattle.isdb_fec.specs.declared.conv.Made.{Made}
+use Rattle.isdb_fec.specs.declared.conv.Pushed.{Pushed}
+use Rattle.isdb_fec.specs.Calls.{Unchanged, Fresh, Zero}
 use Rattle.isdb_fec.specs.TwoCalls.{leaves-same}
 use Rattle.short_code.specs.declared.Code.{Code}
 use Rattle.trellis.specs.Code as trellis
-use Rattle.trellis.specs.Code.{output}
-use Rattle.short_code.specs.Codes.{codeOf}
+use Rattle.trellis.specs.Code.{output, moved}
+use Rattle.short_code.specs.Codes.{codeOf, halfOf}
 use Rattle.short_fec.specs.Rows as short
 use Rattle.short_fec.specs.Calls as short-calls
 
@@ -153,53 +155,127 @@ module _ (v : ViterbiDecoder) (long : length (v .pm) ≡ 64) (r r′ : Released)
       (after-length isdb.half isdb.labels isdb.rule (v .traceback) (knownSteps bits) (fec-calls.handed v dec₀) n long)
       (a ∙ known-rows v long n (length dec₀) (length out₀) ∙ sym a′) s f
 
-  -- `flush`
-  pub flush-agrees :
-      r .answer ≡ firstRow (short.flushRows isdbCode v (length dec₀) (length out₀))
-      → Either (r .answer) (short-calls.Flushes isdbCode v (short-calls.bestOf isdbCode v) r dec₀ dec out₀ out) (Unchanged v r dec₀ dec out₀ out)
+  -- a flush that traces from the state e, which puts out what the other does
+  flushed-agree : (e : ℕ) (emitted : List ℕ) → traced isdb.half (take (v .held) dec₀) e ≡ emitted
+      → r .answer ≡ firstRow (short.flushRows isdbCode v (length dec₀) (length out₀))
+      → Either (r .answer) (short-calls.Flushes isdbCode v e r dec₀ dec out₀ out) (Unchanged v r dec₀ dec out₀ out)
       → r′ .answer ≡ firstRow (fec.flushRows v (length dec₀) (length out₀))
-      → Either (r′ .answer) (fec-calls.Flushes v r′ dec₀ dec′ out₀ out′) (Unchanged v r′ dec₀ dec′ out₀ out′)
+      → Either (r′ .answer) (fec-calls.Emits emitted v r′ dec₀ dec′ out₀ out′) (Unchanged v r′ dec₀ dec′ out₀ out′)
       → Agree r r′ dec dec′ out out′
-  flush-agrees a s a′ f =
+  flushed-agree e emitted is a s a′ f =
       let same : r .answer ≡ r′ .answer = a ∙ flush-rows v long (length dec₀) (length out₀) ∙ sym a′ in
       ⊎-elim
       (λ y.
-      let k = rw (whole v long) at (s .0 y) in
+      let k = s .0 y in
       let l = f .0 (sym same ∙ y) in
       let p = k .values ∙ sym (l .values) in
       let h = k .held-is ∙ sym (l .held-is) in
       let t = k .traceback-is ∙ sym (l .traceback-is) in
-      (same, λ i. record { pm = p i; held = h i; traceback = t i }, k .count-is ∙ sym (l .count-is), k .words ∙ sym (l .words), k .bits ∙ sym (l .bits)))
+      (same, λ i. record { pm = p i; held = h i; traceback = t i }, k .count-is ∙ sym (l .count-is), k .words ∙ sym (l .words), k .bits ∙ ap (λ (x : List ℕ). laid x out₀) is ∙ sym (l .bits)))
       (λ n.
       let k = s .1 n in
       let l = f .1 (λ y. n (same ∙ y)) in
       (same, k .state ∙ sym (l .state), k .count-is ∙ sym (l .count-is), k .words ∙ sym (l .words), k .bits ∙ sym (l .bits)))
       (decided (r .answer))
 
--- ---- fresh decoders
-pub fresh-rows : (tb : ℕ) → firstRow (short.freshRows isdbCode tb) ≡ firstRow (fec.freshRows tb)
-fresh-rows tb = refl
+  -- `flush`, and `flush_at` with a known end
+  pub flush-agrees :
+      r .answer ≡ firstRow (short.flushRows isdbCode v (length dec₀) (length out₀))
+      → Either (r .answer) (short-calls.Flushes isdbCode v (short-calls.bestOf isdbCode v) r dec₀ dec out₀ out) (Unchanged v r dec₀ dec out₀ out)
+      → r′ .answer ≡ firstRow (fec.flushRows v (length dec₀) (length out₀))
+      → Either (r′ .answer) (fec-calls.Flushes v r′ dec₀ dec′ out₀ out′) (Unchanged v r′ dec₀ dec′ out₀ out′)
+      → Agree r r′ dec dec′ out out′
+  flush-agrees =
+      flushed-agree (short-calls.bestOf isdbCode v) (isdb.flush (fec-calls.handed v dec₀) .bits)
+      (ap (λ (y : List Float). traced isdb.half (take (v .held) dec₀) (isdb.best y 63)) (whole v long))
 
+  pub flush-at-agrees : (end : ℕ)
+      → r .answer ≡ firstRow (short.flushRows isdbCode v (length dec₀) (length out₀))
+      → Either (r .answer) (short-calls.Flushes isdbCode v (short-calls.endOf isdbCode end) r dec₀ dec out₀ out) (Unchanged v r dec₀ dec out₀ out)
+      → r′ .answer ≡ firstRow (fec.flushRows v (length dec₀) (length out₀))
+      → Either (r′ .answer) (fec-calls.FlushesAt end v r′ dec₀ dec′ out₀ out′) (Unchanged v r′ dec₀ dec′ out₀ out′)
+      → Agree r r′ dec dec′ out out′
+  flush-at-agrees end = flushed-agree (short-calls.endOf isdbCode end) (isdb.flushAt end (fec-calls.handed v dec₀) .bits) refl
+
+-- ---- fresh decoders
 front-alone : (front back : List Float) → length back ≤ length front → laid front back ≡ front
 front-alone front back h = ap (λ (y : List Float). front ++ y) (drop-of-length-le back {i = length front} h) ∙ append-nil front
 
-pub start-agrees : (s : ℕ) → short-calls.startValues isdbCode s ≡ startAt 64 s
+start-same : (s : ℕ) → short-calls.startValues isdbCode s ≡ startAt 64 s
 unfolding startAt
-start-agrees s =
+start-same s =
     let l = length-upto (λ k. cond (eqb k (s % 64)) (ofBits binary32 0) (ofBits binary32 0xc974_2400)) 64 in
     let z = length-replicate 64 (ofBits binary32 0) in
     front-alone (startAt 64 s) (replicate 64 (ofBits binary32 0)) (omega arith)
 
-pub unknown-agrees : short-calls.unknownValues isdbCode ≡ startUnknown 64
+unknown-same : short-calls.unknownValues isdbCode ≡ startUnknown 64
 unfolding startUnknown
-unknown-agrees =
+unknown-same =
     let l = length-upto (λ k. ofBits binary32 0) 64 in
     let z = length-replicate 64 (ofBits binary32 0) in
     front-alone (startUnknown 64) (replicate 64 (ofBits binary32 0)) (omega arith)
 
--- ---- the encoder
-pub encoder-rows : (s : ℕ) → firstRow (short.encoderRows isdbCode s) ≡ firstRow (fec.encoderRows s)
-encoder-rows s = refl
+module _ (tb : ℕ) (r r′ : Made) where
+  -- decoders with the path values pm and pm′
+  fresh-agree : (pm pm′ : List Float) → pm ≡ pm′
+      → r .answer ≡ firstRow (short.freshRows isdbCode tb) → Either (r .answer) (Fresh tb pm (r .dec)) (Zero (r .dec))
+      → r′ .answer ≡ firstRow (fec.freshRows tb) → Either (r′ .answer) (Fresh tb pm′ (r′ .dec)) (Zero (r′ .dec))
+      → (r .answer ≡ r′ .answer) × (r .dec ≡ r′ .dec)
+  fresh-agree pm pm′ e a s a′ f =
+      let same : r .answer ≡ r′ .answer = a ∙ sym a′ in (
+        same,
+        ⊎-elim
+            (λ y.
+            let k = s .0 y in
+            let l = f .0 (sym same ∙ y) in
+            let p = k .values ∙ e ∙ sym (l .values) in
+            let h = k .held-is ∙ sym (l .held-is) in
+            let t = k .traceback-is ∙ sym (l .traceback-is) in
+            λ i. record { pm = p i; held = h i; traceback = t i })
+            (λ n.
+            let k = s .1 n in
+            let l = f .1 (λ y. n (same ∙ y)) in
+            let p = k .values ∙ sym (l .values) in
+            let h = k .held-is ∙ sym (l .held-is) in
+            let t = k .traceback-is ∙ sym (l .traceback-is) in
+            λ i. record { pm = p i; held = h i; traceback = t i })
+            (decided (r .answer)),
+      )
 
-pub outputs-agree : (g u s : ℕ) → output (codeOf isdbCode) g u s ≡ output trellis.isdb g u s
-outputs-agree g u s = refl
+  -- `with_state` and `new_unknown_state`
+  pub with-state-agrees : (s : ℕ)
+      → r .answer ≡ firstRow (short.freshRows isdbCode tb) → Either (r .answer) (Fresh tb (short-calls.startValues isdbCode s) (r .dec)) (Zero (r .dec))
+      → r′ .answer ≡ firstRow (fec.freshRows tb) → Either (r′ .answer) (Fresh tb (startAt 64 s) (r′ .dec)) (Zero (r′ .dec))
+      → (r .answer ≡ r′ .answer) × (r .dec ≡ r′ .dec)
+  with-state-agrees s = fresh-agree (short-calls.startValues isdbCode s) (startAt 64 s) (start-same s)
+
+  pub unknown-state-agrees :
+      r .answer ≡ firstRow (short.freshRows isdbCode tb) → Either (r .answer) (Fresh tb (short-calls.unknownValues isdbCode) (r .dec)) (Zero (r .dec))
+      → r′ .answer ≡ firstRow (fec.freshRows tb) → Either (r′ .answer) (Fresh tb (startUnknown 64) (r′ .dec)) (Zero (r′ .dec))
+      → (r .answer ≡ r′ .answer) × (r .dec ≡ r′ .dec)
+  unknown-state-agrees = fresh-agree (short-calls.unknownValues isdbCode) (startUnknown 64) unknown-same
+
+-- ---- the encoder
+-- what `push_bit` and `ConvEncoder::push` say of the code c of crate trellis with half h of its states, the state s and the input byte u
+abbrev Coded : trellis.Code → ℕ → ℕ → ℕ → Pushed → Type 0
+Coded c h s u r =
+    Either (r .answer)
+    ((r .x ≡ output c (c .g1) (u % 2) s) × (r .y ≡ output c (c .g2) (u % 2) s) × (r .enc .state ≡ moved h (u % 2) s))
+    ((r .x ≡ 0) × (r .y ≡ 0) × (r .enc .state ≡ s))
+
+pub bit-agrees : (s u : ℕ) (r r′ : Pushed)
+    → r .answer ≡ firstRow (short.encoderRows isdbCode s) → Coded (codeOf isdbCode) (halfOf isdbCode) s u r
+    → r′ .answer ≡ firstRow (fec.encoderRows s) → Coded trellis.isdb 32 s u r′
+    → (r .answer ≡ r′ .answer) × (r .x ≡ r′ .x) × (r .y ≡ r′ .y) × (r .enc .state ≡ r′ .enc .state)
+bit-agrees s u r r′ a k a′ l =
+    let same : r .answer ≡ r′ .answer = a ∙ sym a′ in
+    ⊎-elim
+    (λ y.
+    let p = k .0 y in
+    let q = l .0 (sym same ∙ y) in
+    (same, p .0 ∙ sym (q .0), p .1 ∙ sym (q .1), p .2 ∙ sym (q .2)))
+    (λ n.
+    let p = k .1 n in
+    let q = l .1 (λ y. n (same ∙ y)) in
+    (same, p .0 ∙ sym (q .0), p .1 ∙ sym (q .1), p .2 ∙ sym (q .2)))
+    (decided (r .answer))
