@@ -13,7 +13,8 @@
  *  11 reserved   an entry of word 0 or 8 to 14 with slots
  *   2 position   bit above 1,000,000; word outside 1 to 7
  *   3 traceback  above 1,024, or 0 in a handed state
- *   4 state      held count 4,096 + traceback or more; encoder state above 63; lent path value not finite or beyond 2^32
+ *  12 code       a constraint length outside 3 to 7; a generator not below 2^length or without its top bit (isdb_code_*)
+ *   4 state      held count 4,096 + traceback or more; encoder state above 63 (of isdb_code_encode: 2^(length-1) or more); lent path value not finite or beyond 2^32
  *  14 window     outside 1 to 256; fill above it; next not below it or, while the window is not full, unlike fill; a pushed or kept sum above 68,208
  *   5 length     metrics not in fours, soft values not in twos, stream not whole periods; path values not 64; an unknown rate
  *   6 symbols    under 38,976 of either part; for a full frame an input shorter than its length (isdbs_lay_frame, isdbs_take_frame)
@@ -136,6 +137,26 @@ uint32_t isdb_flush(float *pm, size_t pm_len, uint64_t *held, uint64_t traceback
                     uint64_t *decisions, size_t decisions_len, uint8_t *out, size_t out_len, uint64_t *count);
 uint32_t isdb_flush_at(float *pm, size_t pm_len, uint64_t *held, uint64_t traceback, uint8_t end,
                        uint64_t *decisions, size_t decisions_len, uint8_t *out, size_t out_len, uint64_t *count);
+
+/* Codes of constraint length 3 to 7 with two generators, each below 2^length with its top bit set: the encoder, and the decoder's calls as above. `length`, `g1` and
+ * `g2` stand first; `pm` is 64 long at every length. The first 2^(length-1) path values are those of the states, the others are neither read nor written, also not by
+ * row 4. Row 12: any other length or generator, right before 4. Length 7 with 0171 and 0133 answers and leaves what the calls above do.
+ *
+ * isdb_code_encode  X then Y of the low bit of each byte, one in a byte, from *state, which becomes the state after the last.   Rows 12, 4 (*state is 2^(length-1) or
+ *                   more), 9 (fewer than two places for each input).
+ * The others: the rows of the call above, and 12. A known end is taken mod 2^(length-1).
+ */
+uint32_t isdb_code_encode(uint8_t length, uint8_t g1, uint8_t g2, uint8_t *state, const uint8_t *bits, size_t bits_len, uint8_t *out, size_t out_len);
+uint32_t isdb_code_push(uint8_t length, uint8_t g1, uint8_t g2, float *pm, size_t pm_len, uint64_t *held, uint64_t traceback, const float *pairs, size_t pairs_len,
+                        uint64_t *decisions, size_t decisions_len, uint8_t *out, size_t out_len, uint64_t *count);
+uint32_t isdb_code_push_metrics(uint8_t length, uint8_t g1, uint8_t g2, float *pm, size_t pm_len, uint64_t *held, uint64_t traceback,
+                                const float *metrics, size_t metrics_len, uint64_t *decisions, size_t decisions_len, uint8_t *out, size_t out_len, uint64_t *count);
+uint32_t isdb_code_push_known(uint8_t length, uint8_t g1, uint8_t g2, float *pm, size_t pm_len, uint64_t *held, uint64_t traceback,
+                              const uint8_t *bits, size_t bits_len, uint64_t *decisions, size_t decisions_len, uint8_t *out, size_t out_len, uint64_t *count);
+uint32_t isdb_code_flush(uint8_t length, uint8_t g1, uint8_t g2, float *pm, size_t pm_len, uint64_t *held, uint64_t traceback,
+                         uint64_t *decisions, size_t decisions_len, uint8_t *out, size_t out_len, uint64_t *count);
+uint32_t isdb_code_flush_at(uint8_t length, uint8_t g1, uint8_t g2, float *pm, size_t pm_len, uint64_t *held, uint64_t traceback, uint8_t end,
+                            uint64_t *decisions, size_t decisions_len, uint8_t *out, size_t out_len, uint64_t *count);
 
 /* The punctured code of ISDB-T. Rates 0 to 4: 1/2, 2/3, 3/4, 5/6, 7/8. A period is 1, 2, 3, 5, 7 bits and 2, 3, 4, 6, 8 sent ones.
  *

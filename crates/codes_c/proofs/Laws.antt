@@ -1,0 +1,127 @@
+-- A call of a code's decoder as the C call hands it back: answered, and the lent places, from what the library's call leaves. Assumes nothing.
+use mathlib.Core.Path.{_≡_, refl, sym, _∙_, ap}
+use mathlib.Core.Bool.{Bool, true, false, cond, not}
+use mathlib.Core.List.{List, [], _∷_}
+use Prim.Native.Nat.{ℕ, _<_}
+use native.Mathlib.Omega.{arith}
+use lib.Dec.{eqb}
+use lib.ListN.{length, getD}
+use lib.Seq.{ext-getD}
+use lib.Ieee.{Float}
+use borrow.Author.Tests.{eq-eqb, ne-eqb, eqb-true, eqb-false}
+use Rattle.refusal.specs.declared.Answer.{Answer}
+use Rattle.refusal.specs.declared.Answer.the-variants as answer
+use Rattle.refusal.specs.Rows.{Row, numberOf, firstRow, Either}
+use Rattle.refusal.specs.RowLaws.{zero-accepted}
+use Rattle.trellis.specs.Run.{Decoder}
+use Rattle.isdb_fec.specs.declared.conv.ViterbiDecoder.{ViterbiDecoder}
+use Rattle.isdb_fec.specs.declared.conv.Released.{Released}
+use Rattle.isdb_fec.specs.Calls.{Unchanged}
+use Rattle.short_code.specs.declared.Code.{Code}
+use Rattle.short_code.specs.Codes.{codeOf}
+use Rattle.short_fec.specs.Rows.{encodeRows}
+use Rattle.trellis.specs.Lists.{laid}
+use Rattle.trellis.specs.Encoded.{reached}
+use Rattle.short_fec.specs.Calls.{lowBits, codedBits, Leaves, Flushes}
+use Rattle.isdb_c.specs.Rows.{answered, left}
+use Rattle.isdb_c.specs.Lengths.{aboveLength, withLength, withStates}
+use Rattle.codes_c.specs.Stored.{Stored, Traced}
+
+-- a list that has what another of its length has is that list
+pub copied : {A : Type 0} (d : A) (n : ℕ) (a l : List A) → length a ≡ n → length l ≡ n → ((i : ℕ) → i < n → getD l i d ≡ getD a i d) → l ≡ a
+copied d n a l e f w = ext-getD d l a (f ∙ sym e) (λ i h. w i (omega arith))
+
+-- a call that refuses leaves what was there
+pub kept : {A : Type 0} (n : ℕ) (new old : A) → (n ≡ 0 → ⊥) → old ≡ left n new old
+kept n new old h = rw (ne-eqb n 0 h) refl
+
+-- ---- row 5 at its place
+length-step : (b : Bool) (row : Row) (rows : List Row) → firstRow (withLength false rows) ≡ firstRow rows → firstRow (cond b (row ∷ withLength false rows) ((answer.Length, false) ∷ row ∷ rows)) ≡ firstRow (row ∷ rows)
+length-step true row rows e = rw e
+length-step false row rows e = refl
+
+length-false : (rows : List Row) → firstRow (withLength false rows) ≡ firstRow rows
+length-false [] = refl
+length-false (row ∷ rows) = length-step (aboveLength row) row rows (length-false rows)
+
+module _ (pm : List Float) (rows : List Row) (n : ℕ) where
+  -- path values that are not 64
+  pub not-states : (length pm ≡ 64 → ⊥) → n ≡ answered (withLength true rows) → n ≡ answered (withStates pm rows)
+  not-states h e = rw (ne-eqb (length pm) 64 h) e
+
+  -- and where they are 64 the other rows decide
+  states-answer : (a : Answer) → length pm ≡ 64 → n ≡ numberOf a → a ≡ firstRow rows → n ≡ answered (withStates pm rows)
+  states-answer a h e f = rw (eq-eqb (length pm) 64 h) (e ∙ ap numberOf (f ∙ sym (length-false rows)))
+
+-- what ends with a row 5 that holds refuses
+pub refused-3 : (a b c : Bool) (n : ℕ) → n ≡ numberOf (cond a answer.Traceback (cond b answer.Code (cond c answer.State answer.Length))) → n ≡ 0 → ⊥
+refused-3 true b c n e z = absurd (omega arith)
+refused-3 false true c n e z = absurd (omega arith)
+refused-3 false false true n e z = absurd (omega arith)
+refused-3 false false false n e z = absurd (omega arith)
+
+-- ---- what is handed back
+-- where nothing is
+pub unstored : (n tb : ℕ) (d : Decoder) (pm : List Float) (held count : ℕ) (decisions out : List ℕ) → (n ≡ 0 → ⊥) → Stored n tb d pm pm held held count count decisions decisions out out
+unstored n tb d pm held count decisions out h =
+    let e = ne-eqb n 0 h in
+    record { values = rw e; held-is = rw e; count-is = rw e; words = rw e; bits = rw e }
+
+pub unflushed : (c : Code) (s n : ℕ) (v : ViterbiDecoder) (count : ℕ) (decisions out : List ℕ) → (n ≡ 0 → ⊥) → Traced c s n v (v .pm) (v .held) count count decisions decisions out out
+unflushed c s n v count decisions out h =
+    let e = ne-eqb n 0 h in
+    record { values = refl; held-is = rw e; count-is = rw e; words = rw e; bits = rw e }
+
+module _ (v : ViterbiDecoder) (r : Released) (n : ℕ) (pm : List Float) (held count₀ count : ℕ) (decisions₀ decisions out₀ out : List ℕ)
+    (en : n ≡ numberOf (r .answer)) (ep : pm ≡ left n (r .dec .pm) (v .pm)) (eh : held ≡ left n (r .dec .held) (v .held)) (ec : count ≡ left n (r .count) count₀) where
+  refuses : (n ≡ 0 → ⊥) → r .answer ≡ answer.Accepted → ⊥
+  refuses h e = h (en ∙ ap numberOf e)
+
+  stored-by : (d : Decoder) (b : Bool) → eqb n 0 ≡ b → Either (r .answer) (Leaves v d r decisions₀ decisions out₀ out) (Unchanged v r decisions₀ decisions out₀ out)
+      → Stored n (v .traceback) d (v .pm) pm (v .held) held count₀ count decisions₀ decisions out₀ out
+  stored-by d true t k =
+      let z = eqb-true n 0 t in
+      let l = k .0 (zero-accepted (r .answer) (sym en ∙ z)) in
+      record { values = ep ∙ rw t (l .values); held-is = eh ∙ rw t (l .held-is); count-is = ec ∙ rw t (l .count-is); words = rw t (l .words); bits = rw t (l .bits) }
+  stored-by d false t k =
+      let u = k .1 (refuses (eqb-false n 0 t)) in
+      record { values = ep ∙ rw t refl; held-is = eh ∙ rw t refl; count-is = ec ∙ rw t refl; words = rw t (u .words); bits = rw t (u .bits) }
+
+  traced-by : (c : Code) (s : ℕ) (b : Bool) → eqb n 0 ≡ b → Either (r .answer) (Flushes c v s r decisions₀ decisions out₀ out) (Unchanged v r decisions₀ decisions out₀ out)
+      → Traced c s n v pm held count₀ count decisions₀ decisions out₀ out
+  traced-by c s true t k =
+      let z = eqb-true n 0 t in
+      let l = k .0 (zero-accepted (r .answer) (sym en ∙ z)) in
+      record { values = ep ∙ rw t (l .values); held-is = eh ∙ rw t (l .held-is); count-is = ec ∙ rw t (l .count-is); words = rw t (l .words); bits = rw t (l .bits) }
+  traced-by c s false t k =
+      let u = k .1 (refuses (eqb-false n 0 t)) in
+      record { values = ep ∙ rw t refl; held-is = eh ∙ rw t refl; count-is = ec ∙ rw t refl; words = rw t (u .words); bits = rw t (u .bits) }
+
+-- a call by the code c, of which k is a copy, on the decoder w, of which v is one
+module _ (k c : Code) (ek : k ≡ c) (v w : ViterbiDecoder) (ev : v ≡ w) (rows : Code → ViterbiDecoder → List Row) (r : Released) (n : ℕ) (pm : List Float) (held count₀ count : ℕ)
+    (decisions₀ decisions out₀ out : List ℕ) (states : length (w .pm) ≡ 64) (en : n ≡ numberOf (r .answer)) (ep : pm ≡ left n (r .dec .pm) (w .pm)) (eh : held ≡ left n (r .dec .held) (w .held))
+    (ec : count ≡ left n (r .count) count₀) (ea : r .answer ≡ firstRow (rows k v)) where
+  number : n ≡ answered (withStates (w .pm) (rows c w))
+  number = states-answer (w .pm) (rows c w) n (r .answer) states en (rw (ek, ev) at ea)
+
+  pub pushed : (d : Code → ViterbiDecoder → Decoder) → Either (r .answer) (Leaves v (d k v) r decisions₀ decisions out₀ out) (Unchanged v r decisions₀ decisions out₀ out)
+      → (n ≡ answered (withStates (w .pm) (rows c w))) × Stored n (w .traceback) (d c w) (w .pm) pm (w .held) held count₀ count decisions₀ decisions out₀ out
+  pushed d l = (number, stored-by w r n pm held count₀ count decisions₀ decisions out₀ out en ep eh ec (d c w) (eqb n 0) refl (rw (ek, ev) at l))
+
+  pub flushed : (s : Code → ViterbiDecoder → ℕ) → Either (r .answer) (Flushes k v (s k v) r decisions₀ decisions out₀ out) (Unchanged v r decisions₀ decisions out₀ out)
+      → (n ≡ answered (withStates (w .pm) (rows c w))) × Traced c (s c w) n w pm held count₀ count decisions₀ decisions out₀ out
+  flushed s l = (number, traced-by w r n pm held count₀ count decisions₀ decisions out₀ out en ep eh ec c (s c w) (eqb n 0) refl (rw (ek, ev) at l))
+
+-- ---- the list encoder
+module _ (k c : Code) (ek : k ≡ c) (s n : ℕ) (a : Answer) (us out₀ out : List ℕ) (s′ : ℕ) (en : n ≡ numberOf a) (ea : a ≡ firstRow (encodeRows k s (length us) (length out₀)))
+    (es : Either a (s′ ≡ reached (codeOf k) s (lowBits us)) (s′ ≡ s)) (eo : Either a (out ≡ laid (codedBits k s us) out₀) (out ≡ out₀)) where
+  encode-number : n ≡ answered (encodeRows c s (length us) (length out₀))
+  encode-number = en ∙ ap numberOf (rw ek at ea)
+
+  pub encode-done : n ≡ 0 → (0 ≡ answered (encodeRows c s (length us) (length out₀))) × (s′ ≡ reached (codeOf c) s (lowBits us)) × (out ≡ laid (codedBits c s us) out₀)
+  encode-done z =
+      let y = zero-accepted a (sym en ∙ z) in
+      (sym z ∙ encode-number, rw ek at (es .0 y), rw ek at (eo .0 y))
+
+  pub encode-refused : (n ≡ 0 → ⊥) → (n ≡ answered (encodeRows c s (length us) (length out₀))) × (s ≡ left n (reached (codeOf c) s (lowBits us)) s) × (out ≡ left n (laid (codedBits c s us) out₀) out₀)
+  encode-refused h = (encode-number, kept n (reached (codeOf c) s (lowBits us)) s h, eo .1 (λ y. h (en ∙ ap numberOf y)) ∙ kept n (laid (codedBits c s us) out₀) out₀ h)
