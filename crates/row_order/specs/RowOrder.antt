@@ -20,6 +20,7 @@ use Rattle.best_reading.specs.Calls.{readingRows}
 use Rattle.known_end.specs.Calls.{betweenRows}
 use Rattle.short_code.specs.declared.Code.{Code}
 use Rattle.short_fec.specs.Rows as short
+use Rattle.short_best.specs.Readings as short-best
 use Rattle.full_frame.specs.declared.Input.{Input}
 use Rattle.full_frame.specs.Rows.{layRows, takeRows}
 use Rattle.strain_window.specs.declared.WindowState.{WindowState}
@@ -67,7 +68,7 @@ module _ (t : Table) (v : ViterbiDecoder) (c : Code) (w : WindowState) (parts : 
       ∷ readingRows xs i j
       -- known_end
       ∷ betweenRows i xs j k
-      -- short_fec: a code; the encoder's bit and list; a fresh decoder; the calls
+      -- short_fec: a code; the encoder's bit, and the list of short_encode; a fresh decoder; the calls
       ∷ short.codeRows c
       ∷ short.encoderRows c i
       ∷ short.encodeRows c i j k
@@ -76,6 +77,8 @@ module _ (t : Table) (v : ViterbiDecoder) (c : Code) (w : WindowState) (parts : 
       ∷ short.streamRows c 4 v xs i j
       ∷ short.knownRows c v i j k
       ∷ short.flushRows c v i j
+      -- short_best
+      ∷ short-best.readingRows c xs i j
       -- full_frame
       ∷ layRows parts parts re im
       ∷ takeRows re im parts parts
@@ -89,6 +92,11 @@ module _ (t : Table) (v : ViterbiDecoder) (c : Code) (w : WindowState) (parts : 
       ∷ withStates xs (pushMetricsRows v xs i j)
       ∷ withStates xs (pushKnownRows v i j k)
       ∷ withStates xs (flushRows v i j)
+      -- and the same of codes_c
+      ∷ withStates xs (short.streamRows c 2 v xs i j)
+      ∷ withStates xs (short.streamRows c 4 v xs i j)
+      ∷ withStates xs (short.knownRows c v i j k)
+      ∷ withStates xs (short.flushRows c v i j)
       -- with a row 5 for scales that are not seven
       ∷ scalesRows t re im xs i j k
       -- with a rate that is unknown: where it is known, they are those of isdbt_fec
