@@ -144,7 +144,8 @@ uint32_t isdb_flush_at(float *pm, size_t pm_len, uint64_t *held, uint64_t traceb
  *
  * isdb_code_encode  X then Y of the low bit of each byte, one in a byte, from *state, which becomes the state after the last.   Rows 12, 4 (*state is 2^(length-1) or
  *                   more), 9 (fewer than two places for each input).
- * The others: the rows of the call above, and 12. A known end is taken mod 2^(length-1).
+ * The others: the rows of the call above, and 12. A known end is taken mod 2^(length-1). A fresh state is 0 at the start state, -1,000,000
+ * at the other states and 0 past them, or all 0. What is said above of one call of metrics and a flush holds at every length.
  */
 uint32_t isdb_code_encode(uint8_t length, uint8_t g1, uint8_t g2, uint8_t *state, const uint8_t *bits, size_t bits_len, uint8_t *out, size_t out_len);
 uint32_t isdb_code_push(uint8_t length, uint8_t g1, uint8_t g2, float *pm, size_t pm_len, uint64_t *held, uint64_t traceback, const float *pairs, size_t pairs_len,

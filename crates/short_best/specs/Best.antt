@@ -62,7 +62,7 @@ module _ (c : Code) (xs : List Float) (n : ℕ) (m : ℕ → ℕ → ℤ) (good 
       go (suc (suc (suc zero))) l e = ap (λ (j : ℕ). getD xs j nan) (sym e)
       go (suc (suc (suc (suc j)))) l e = absurd (omega arith)
 
-  accepts : (decisions space : ℕ) → block + 128 ≤ decisions → n ≤ space → firstRow (readingRows c xs decisions space) ≡ answer.Accepted
+  pub accepts : (decisions space : ℕ) → block + 128 ≤ decisions → n ≤ space → firstRow (readingRows c xs decisions space) ≡ answer.Accepted
   accepts decisions space h k =
       let whole : eqb (length xs % 4) 0 ≡ true = eq-eqb (length xs % 4) 0 (omega arith) in
       let out : ltb space (length xs / 4) ≡ false = le-ltb space (length xs / 4) (omega arith) in
@@ -80,7 +80,7 @@ module _ (c : Code) (xs : List Float) (n : ℕ) (m : ℕ → ℕ → ℤ) (good 
   bits-are (Given s) = subst (λ (k : ℕ). Reading (halfOf c) (labels c) rule (This (s % k)) m n (bitsFrom (startAt k s))) states (code-given (codeOf c) rule 128 (lit< tt) (quadruple xs) m n few quads s)
   bits-are Unknown = subst (λ (k : ℕ). Reading (halfOf c) (labels c) rule Any m n (bitsFrom (startUnknown k))) states (code-unknown (codeOf c) rule 128 (lit< tt) (quadruple xs) m n few quads)
 
-  reads : (start : Start) → Reading (halfOf c) (labels c) rule (StartsIn c start) m n (readBits c start xs)
+  pub reads : (start : Start) → Reading (halfOf c) (labels c) rule (StartsIn c start) m n (readBits c start xs)
   reads start = let e : length xs / 4 ≡ n = omega arith in rw e (bits-are start)
 
 -- what a call promises whose answer and leavings are those of a reading
