@@ -20,7 +20,7 @@ use Rattle.trellis.specs.RunLaws.{after-values}
 use Rattle.lead.specs.Complement.{small}
 use Rattle.path_range.specs.Bounds.{Within, wider}
 use Rattle.path_range.specs.Values.{nothing, from-least, to-most}
-use Rattle.path_range.specs.Steps.{Soft, two, quad}
+use Rattle.path_range.specs.Steps.{Soft, two, quad, soft-falls}
 use Rattle.path_range.specs.Invariant.{Bounded, bounded-within}
 use Rattle.path_range.specs.Run.{soft-call, known-call}
 use Rattle.path_range.specs.Starts.{given-bounded, unknown-bounded}
@@ -31,7 +31,7 @@ use Rattle.isdb_fec.specs.Rows.{badTraceback, badState, freshRows, handedRows, 
 use Rattle.isdb_fec.specs.Calls.{pairSteps, fourSteps, knownSteps, call, steps, handed, Fresh, Leaves, Emits}
 use Rattle.viterbi.specs.Count.{counted}
 use Rattle.refusal.specs.RowLaws.{passed}
-use Rattle.call_ranges.specs.Numbers.{stepMost, streamMost, ruledOut, deepest, leastPath, pathMost, stream-limits, path-limit, stream-limit, least-path}
+use Rattle.call_ranges.specs.Numbers.{stepMost, streamMost, ruledOut, deepest, leastPath, pathMost, stream-limits, stream-deep, path-limit, stream-limit, least-path}
 use Rattle.call_ranges.specs.Inside.{inside-within, within-inside, none-beyond, all-inside}
 use Rattle.call_ranges.specs.Reached as reached
 use Rattle.call_ranges.specs.Reached.{Reached, Floats, with-state, unknown-state}
@@ -41,7 +41,7 @@ pub record Fit (v : ViterbiDecoder) : Type 0 where
   pub least : 1 ≤ v .traceback
   pub most : v .traceback ≤ 1024
   pub fewer : v .held < 4096 + v .traceback
-  pub values : Bounded stepMost ruledOut 0 (v .pm)
+  pub values : Bounded stepMost ruledOut 0 0 (v .pm)
 
 -- ---- the fresh start
 traceback-is : (b : Bool) (tb : ℕ) → (T b → tb ≡ 0) → (tb ≡ 0 → T b) → tb ≤ 1024 → (1 ≤ cond b 1 tb) × (cond b 1 tb ≤ 1024)
@@ -52,7 +52,7 @@ fresh-traceback : (tb : ℕ) → Accepted ≡ firstRow (freshRows tb) → (1 ≤
 fresh-traceback tb e =
     traceback-is (eqb tb 0) tb (eqb→eq tb 0) (λ z. rw z tt) (ltb-false 1024 tb (passed (freshRows tb) tt (sym e) Traceback))
 
-fresh-fit : {tb : ℕ} {pm : List Float} {v : ViterbiDecoder} → Accepted ≡ firstRow (freshRows tb) → Bounded stepMost ruledOut 0 pm → Fresh tb pm v → Fit v
+fresh-fit : {tb : ℕ} {pm : List Float} {v : ViterbiDecoder} → Accepted ≡ firstRow (freshRows tb) → Bounded stepMost ruledOut 0 0 pm → Fresh tb pm v → Fit v
 fresh-fit {tb} {pm} {v} e b f =
     let t = fresh-traceback tb e in
     let h = f .held-is in
@@ -90,7 +90,7 @@ soft-fit {v} i xs n soft decisions₀ = record {
   least = i .least;
   most = i .most;
   fewer = held-fit i decisions₀ xs n;
-  values = rw (after-values Isdb.half Isdb.labels Isdb.rule (v .traceback) xs (handed v decisions₀) n) (soft-call stream-limits Isdb.labels small Isdb.rule xs n soft (v .pm) (i .values));
+  values = rw (after-values Isdb.half Isdb.labels Isdb.rule (v .traceback) xs (handed v decisions₀) n) (soft-call stream-limits Isdb.labels small Isdb.rule xs n soft (λ k h. soft-falls Isdb.labels small (soft k h)) (v .pm) (i .values));
 }
 
 known-fit : {v : ViterbiDecoder} → Fit v → (bits : List ℕ) (n : ℕ) (decisions₀ : List ℕ) → Fit (stateOf (v .traceback) (steps (v .traceback) (knownSteps bits) (handed v decisions₀) n))
@@ -98,7 +98,7 @@ known-fit {v} i bits n decisions₀ = record {
   least = i .least;
   most = i .most;
   fewer = held-fit i decisions₀ (knownSteps bits) n;
-  values = rw (after-values Isdb.half Isdb.labels Isdb.rule (v .traceback) (knownSteps bits) (handed v decisions₀) n) (known-call stream-limits Isdb.labels small Isdb.rule (λ k. getD bits k 0) (v .pm) (i .values) n);
+  values = rw (after-values Isdb.half Isdb.labels Isdb.rule (v .traceback) (knownSteps bits) (handed v decisions₀) n) (known-call stream-limits Isdb.labels small Isdb.rule stream-deep (λ k. getD bits k 0) (v .pm) (i .values) n);
 }
 
 -- ---- the values of an accepted stream

@@ -111,7 +111,7 @@ unfolding renormalised
 normalised pm h e = rw e (map-plus pm h)
 
 -- ---- the greatest of bounded values
-module _ {c B : ℕ} (r : Limits c B) (pm : List Float) (J : ℕ) (i : Bounded c B J pm) where
+module _ {c d B : ℕ} (r : Limits c d B) (pm : List Float) (J : ℕ) {D : ℕ} (i : Bounded c B J D pm) where
   greatest : Top pm (B + 12 * c - J) J (let f = r .fits in omega arith) (bounded-within i) 63
   greatest = top-is pm (B + 12 * c - J) J (let f = r .fits in omega arith) (bounded-within i) 63 (lit< tt)
 
@@ -120,7 +120,7 @@ module _ {c B : ℕ} (r : Limits c B) (pm : List Float) (J : ℕ) (i : Bounded c
   of-greatest P h = let g = greatest in rw (g .is) (h (g .at) (g .under))
 
 -- no value is above 0, one is 0, and the greatest is not -0
-normalised-plain : {c B : ℕ} (r : Limits c B) (pm : List Float) (i : Bounded c B 0 pm) → T (plain (top pm 64)) → Normalised pm
+normalised-plain : {c d B : ℕ} (r : Limits c d B) (pm : List Float) (i : Bounded c B 0 0 pm) → T (plain (top pm 64)) → Normalised pm
 normalised-plain r pm i h =
     let g = greatest r pm 0 i in
     let n = i .count in
@@ -131,15 +131,15 @@ normalised-plain r pm i h =
     (g .is ∙ zero-plus (getD pm (g .at) nan) (i .num (g .at) (g .under)) (rw (g .is) at h) (omega arith))
 
 -- a start: no value is -0
-pub normalised-start : {c B : ℕ} (r : Limits c B) (pm : List Float) (i : Bounded c B 0 pm) → ((s : ℕ) → s < 64 → T (plain (getD pm s nan))) → Normalised pm
+pub normalised-start : {c d B : ℕ} (r : Limits c d B) (pm : List Float) (i : Bounded c B 0 0 pm) → ((s : ℕ) → s < 64 → T (plain (getD pm s nan))) → Normalised pm
 normalised-start r pm i h = normalised-plain r pm i (of-greatest r pm 0 i (λ x. T (plain x)) h)
 
 -- ---- the maximum subtracted twice
-pub renormalised-twice : {c B : ℕ} (r : Limits c B) (pm : List Float) (J : ℕ) → J ≤ 64 * c → Bounded c B J pm → Normalised (renormalised 32 pm)
-renormalised-twice {c} {B} r pm J few i =
+pub renormalised-twice : {c d B : ℕ} (r : Limits c d B) (pm : List Float) (J : ℕ) {D : ℕ} → J ≤ 64 * c → Bounded c B J D pm → Normalised (renormalised 32 pm)
+renormalised-twice {c} {d} {B} r pm J {D} few i =
     go (minus-from (getD pm k nan) (top pm 64) (i .num k u) (of-greatest r pm J i (λ x. Num binary32 x) (i .num)) (subst (λ (y : Float). Num binary32 y) (getD-renormalised pm k) (less .num k u)))
   where
-    less : Bounded c B 0 (renormalised 32 pm)
+    less : Bounded c B 0 0 (renormalised 32 pm)
     less = renormalised-bounded r pm J few i
 
     k : ℕ

@@ -1,7 +1,7 @@
 -- The bounds of a decoder's stream values and path values, in one place. All but the stream's limit itself are multiples of 512, which is the unit of
 -- crate path_range. Assumes nothing.
 use mathlib.Core.Path.{_≡_, refl}
-use Prim.Native.Nat.{ℕ, _+_, _*_}
+use Prim.Native.Nat.{ℕ, _+_, _*_, _≤_}
 use lib.Dec.{lit≤}
 use lib.Ieee.{Float, binary32, fits, ofBits}
 use Rattle.ieee.specs.Value.{hi, lo}
@@ -34,8 +34,12 @@ leastPath = ofBits binary32 0xce74_6b28
 abbrev pub pathMost : ℕ
 pathMost = 8388608
 
-pub stream-limits : Limits stepMost ruledOut
-stream-limits = record { wide = lit≤ tt; deep = lit≤ tt; fits = lit≤ tt }
+pub stream-limits : Limits stepMost stepMost ruledOut
+stream-limits = record { wide = lit≤ tt; start = lit≤ tt; fits = lit≤ tt }
+
+-- room for -1.0e9
+pub stream-deep : 1953125 ≤ ruledOut
+stream-deep = lit≤ tt
 
 pub deepest-is : ruledOut + 12 * stepMost ≡ deepest
 deepest-is = refl

@@ -20,7 +20,7 @@ use Rattle.trellis.specs.Run as run
 use Rattle.trellis.specs.Run.{startAt, startUnknown, settled}
 use Rattle.trellis.specs.RunLaws.{after-values}
 use Rattle.lead.specs.Complement.{small}
-use Rattle.path_range.specs.Steps.{Soft, soft-moves}
+use Rattle.path_range.specs.Steps.{Soft, soft-moves, Falls, soft-falls}
 use Rattle.path_range.specs.Invariant.{Bounded, step-bounded}
 use Rattle.path_range.specs.Known.{known-bounded}
 use Rattle.path_range.specs.Run.{values-bounded, settled-soft, known-call}
@@ -32,7 +32,7 @@ use Rattle.isdb_fec.specs.Calls.{pairSteps, fourSteps, knownSteps, steps, call,
 use Rattle.viterbi.specs.Calls.{pairCall, fourCall}
 use Rattle.isdb_fec.specs.TwoCalls as calls
 use Rattle.isdb_fec.specs.TwoCalls.{both}
-use Rattle.call_ranges.specs.Numbers.{stepMost, ruledOut, stream-limits}
+use Rattle.call_ranges.specs.Numbers.{stepMost, ruledOut, stream-limits, stream-deep}
 use Rattle.call_ranges.specs.Normalised.{Normalised, normalised-start, renormalised-twice}
 use Rattle.call_ranges.specs.Reached as reached
 use Rattle.call_ranges.specs.Reached.{Reached, Floats, with-state, unknown-state}
@@ -48,11 +48,15 @@ module _ {v : ViterbiDecoder} (i : Fit v) (start : Normalised (v .pm)) (decision
     abbrev new : ℕ → List Float
     new k = nexts (values k) (xs k)
 
-    bounded : (k : ℕ) → k ≤ n → Bounded stepMost ruledOut (k % 64 * stepMost) (values k)
-    bounded = values-bounded stream-limits Isdb.labels small Isdb.rule xs n soft (v .pm) (i .values)
+    falls : (k : ℕ) → k < n → (s : ℕ) → s < 64 → Falls stepMost stepMost Isdb.labels (xs k) s
+    falls k h = soft-falls Isdb.labels small (soft k h)
 
-    new-bounded : (k : ℕ) → k < n → Bounded stepMost ruledOut (k % 64 * stepMost + stepMost) (new k)
-    new-bounded k h = step-bounded stream-limits Isdb.labels small Isdb.rule (values k) (xs k) (soft-moves (soft k h)) (k % 64 * stepMost) (omega arith) (bounded k (omega arith))
+    bounded : (k : ℕ) → k ≤ n → Bounded stepMost ruledOut (k % 64 * stepMost) (k % 64 * stepMost) (values k)
+    bounded = values-bounded stream-limits Isdb.labels small Isdb.rule xs n soft falls (v .pm) (i .values)
+
+    new-bounded : (k : ℕ) → k < n → Bounded stepMost ruledOut (k % 64 * stepMost + stepMost) (k % 64 * stepMost + stepMost) (new k)
+    new-bounded k h =
+        step-bounded stream-limits Isdb.labels small Isdb.rule (values k) (xs k) (soft-moves (soft k h)) (falls k h) (k % 64 * stepMost) (k % 64 * stepMost) (omega arith) (omega arith) (bounded k (omega arith))
 
     multiple : (k : ℕ) → k ≤ n → k % 64 ≡ 0 → Normalised (values k)
     unfolding run.valuesAt
@@ -79,7 +83,7 @@ module _ {v : ViterbiDecoder} (i : Fit v) (start : Normalised (v .pm)) (decision
       let pm = valuesAt (knownSteps bits) (v .pm) n in
       let b = getD bits n 0 in
       renormalised-twice stream-limits (ruled 32 b (nexts pm (known b))) 0 (omega arith)
-      (known-bounded stream-limits Isdb.labels small Isdb.rule pm b (known-call stream-limits Isdb.labels small Isdb.rule (λ k. getD bits k 0) (v .pm) (i .values) n))
+      (known-bounded stream-limits stream-deep Isdb.labels small Isdb.rule pm b (known-call stream-limits Isdb.labels small Isdb.rule stream-deep (λ k. getD bits k 0) (v .pm) (i .values) n))
 
   normalised-known : (bits : List ℕ) (n : ℕ) → Normalised (steps (v .traceback) (knownSteps bits) (handed v decisions₀) n .values)
   normalised-known bits n = rw (after-values Isdb.half Isdb.labels Isdb.rule (v .traceback) (knownSteps bits) (handed v decisions₀) n) (known-values bits n)

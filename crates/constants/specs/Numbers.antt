@@ -50,8 +50,8 @@ pub path-limit : HasValue pathLimit false (2 ^ 32) 1
 unfolding ofBits
 path-limit = (refl, refl)
 
--- "beyond 1,024 for a frame part, 1,048,576 for a stream value"
-pub part-limit : HasValue partLimit false 1024 1
+-- "The frame part limit in refusal 7 becomes 65,536" (document 02, P8); "1,048,576 for a stream value"
+pub part-limit : HasValue partLimit false 65536 1
 unfolding ofBits
 part-limit = (refl, refl)
 
@@ -98,18 +98,18 @@ pub call-least : HasValue calls.leastPath true 1025165824 1
 unfolding ofBits
 call-least = (refl, refl)
 
-pub frame-soft : HasValue frames.softLimit false 65536 1
+pub frame-soft : HasValue frames.softLimit false (2 ^ 22) 1
 unfolding ofBits
 frame-soft = (refl, refl)
 
-pub frame-metric : HasValue frames.metricLimit false 131072 1
+pub frame-metric : HasValue frames.metricLimit false (2 ^ 23) 1
 unfolding ofBits
 frame-metric = (refl, refl)
 
-pub frame-least : HasValue frames.leastPath true 1001572864 1
+pub frame-least : HasValue frames.leastPath true 1000000000 1
 unfolding ofBits
 frame-least = (refl, refl)
 
-pub frame-most : HasValue frames.mostPath false 8388608 1
+pub frame-most : HasValue frames.mostPath false (2 ^ 29) 1
 unfolding ofBits
 frame-most = (refl, refl)

@@ -30,7 +30,7 @@ use Rattle.exact_frame.specs.Bits.{label-small, subset-small, load-bit-s
 use Rattle.exact_frame.specs.Steps.{received}
 use Rattle.exact_frame.specs.Exact.{decoded-load}
 
--- ---- row 7, "not finite; beyond 1,024 for a frame part": no part within the margins is so
+-- ---- row 7, "not finite; beyond" 65,536: no part within the margins is so
 holds-accepted : (free : Bool) (clean x : Float) → T (holds free clean x) → T (anyAccepted x)
 holds-accepted true clean x h = h
 holds-accepted false clean x h = keeps-accepted clean x h

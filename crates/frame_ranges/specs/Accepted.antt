@@ -1,12 +1,13 @@
 -- The rows of `decode_frame` give the sizes of the parts and of the scale, and these give the ranges. Assumes nothing.
 use mathlib.Core.Path.{_≡_, refl, sym, ap, _∙_, subst}
+use mathlib.Core.Logic.{_⊎_, inl, inr}
 use mathlib.Core.Bool.{Bool, true, false, not, cond, _||_}
 use mathlib.Core.List.{List, [], _∷_, _++_}
 use Prim.Native.Nat.{ℕ, zero, suc, _+_, _-_, _*_, _<_, _≤_}
 use native.Mathlib.Nat.{not-suc-le-zero}
 use native.Mathlib.Omega.{arith}
 use borrow.Author.Count.{below-more}
-use lib.Dec.{T, ltb, lit≤}
+use lib.Dec.{T, ltb, lit≤, lit<}
 use lib.ListN.{getD, length}
 use lib.Ieee.{Float, nan, inf, fin, binary32, binary64, neg, lt, le, fits, ofBits}
 use lib.Ieee.Fits.{and-i, and-l, and-r}
@@ -19,13 +20,13 @@ use Rattle.trellis.specs.Code.{isdb, label}
 use Rattle.trellis.specs.Step.{Tie, nexts, renormalised}
 use Rattle.trellis.specs.Run.{valuesAt, pushed}
 use Rattle.trellis.specs.RunLaws.{after-values}
-use Rattle.lead.specs.Complement.{small}
-use Rattle.path_range.specs.Bounds.{Within}
+use Rattle.lead.specs.Complement.{small, complement}
+use Rattle.path_range.specs.Bounds.{Within, wider}
 use Rattle.path_range.specs.Values.{nothing, from-least, to-most}
-use Rattle.path_range.specs.Steps.{Soft, quad}
+use Rattle.path_range.specs.Steps.{Soft, quad, Falls, quad-falls}
 use Rattle.path_range.specs.Invariant.{Bounded, bounded-within}
 use Rattle.path_range.specs.Run.{InRange, soft-call, known-call, path-within, path-within-next}
-use Rattle.path_range.specs.Starts.{given-bounded, unknown-bounded}
+use Rattle.path_range.specs.Starts.{level, given-bounded, unknown-bounded}
 use Rattle.refusal.specs.RowLaws as row
 use Rattle.isdbs_core.specs.TableLaws.{then-accepted}
 use Rattle.isdbs_core.specs.declared.combination.Combination.{Combination}
@@ -41,9 +42,10 @@ use Rattle.isdbs_metrics.specs.Reading.{Received, metricsAt, startValues}
 use Rattle.isdbs_decode.specs.Scales.{scaleOf, receivedBy}
 use Rattle.isdbs_decode.specs.ScaleLaws.{word-in}
 use Rattle.isdbs_decode.specs.Runs.{frameMetrics, freshFrom, knownBits}
-use Rattle.frame_ranges.specs.Numbers.{partPower, scalePower, metricPower, softLimit, metricLimit, stepMost, floor, leastPath, mostPath, part-limit, scale-limit, soft-limit, metric-limit, step-most, path-limits, least-path, most-path}
+use Rattle.frame_ranges.specs.Numbers.{partPower, scalePower, metricPower, softLimit, metricLimit, stepMost, floor, ruledOut, leastPath, mostPath, part-limit, scale-limit, soft-limit, metric-limit, step-most, path-limits, known-limits, known-deep, under-ruled, least-path, most-path}
 use Rattle.frame_ranges.specs.Size.{Size, two-lo, between-size, size-from, size-to}
-use Rattle.frame_ranges.specs.Metrics.{Sized, soft-in, metric-in}
+use Rattle.frame_ranges.specs.Rising.{Up, Rises}
+use Rattle.frame_ranges.specs.Metrics.{Sized, soft-in, metric-in, metric-rises}
 use Rattle.frame_ranges.specs.Ranges.{Between, pathRange, Ranges, frameAt}
 
 -- ---- a value within a power of two, as a test
@@ -91,7 +93,7 @@ scale-num (inf true) f h k = absurd h
 scale-num (inf false) f h k = absurd (subst T k tt)
 scale-num (fin b m e) f h k = record { fin-x = tt; fits-x = f }
 
-scale-size : (s : Float) → T (fits binary32 s) → badScale s ≡ false → Size binary32 scalePower s
+scale-size : (s : Float) → T (fits binary32 s) → badScale s ≡ false → Size binary32 scalePower s × Up binary32 s
 scale-size s f e =
     let p = neither (not (lt (ofBits binary32 0) s)) (lt scaleLimit s) e in
     let a = not-false (lt (ofBits binary32 0) s) (p .0) in
@@ -103,10 +105,10 @@ scale-size s f e =
     let h' = hi-neg binary32 (two-to scalePower) in
     let l' = two-lo binary32 scalePower in
     let u = not-lt→value binary32 (two-to scalePower) s n m (rw (← scale-limit, p .1) tt) in
-    between-size (record { num = m; from = omega arith; to = u })
+    (between-size (record { num = m; from = omega arith; to = u }), omega arith)
 
 -- the scale of each combination is one of the seven
-scales-in : (scales : List Float) → ((i : ℕ) → T (fits binary32 (getD scales i nan))) → someBad scales ≡ false → (c : Combination) → Size binary32 scalePower (scaleOf scales c)
+scales-in : (scales : List Float) → ((i : ℕ) → T (fits binary32 (getD scales i nan))) → someBad scales ≡ false → (c : Combination) → Size binary32 scalePower (scaleOf scales c) × Up binary32 (scaleOf scales c)
 scales-in scales f e c =
     let w = word-in c in
     let h : wordOf c - 1 < 7 = omega arith in
@@ -129,49 +131,66 @@ module _ (t : Table) (re im scales : List Float) (decisions bits bytes : ℕ) wh
       record { fit = b .0; re-fine = q .0; im-fine = q .1; scales-fine = p Scale }
 
 -- ---- the path values of sized steps
-module _ (e : Tie) (t : Table) (r : Received) (metrics : (k l : ℕ) → k < frameSteps t → l < 4 → Size binary32 metricPower (getD (metricsAt t r k) l nan)) (pm : List Float) (start : Bounded stepMost floor 0 pm) where
-  soft-step : (k : ℕ) → k < frameSteps t → Soft stepMost (frameMetrics t r k)
-  soft-step k h = quad go
-    where
-      go : (l : ℕ) → l < 4 → Within (getD (metricsAt t r k) l nan) stepMost stepMost
-      go l g =
-          let s = metrics k l h g in
-          let a = s .above in
-          let b = s .below in
-          let m = step-most in
-          record { num = s .num; low = omega arith; high = omega arith }
+module _ (e : Tie) (t : Table) (r : Received) (metrics : (k l : ℕ) → k < frameSteps t → l < 4 → Size binary32 metricPower (getD (metricsAt t r k) l nan))
+    (rises : (k l : ℕ) → k < frameSteps t → l < 4 → Rises (metricsAt t r k) l) (pm : List Float) (start : Bounded stepMost floor 0 0 pm)
+  where
+    metric-within : (k l : ℕ) → k < frameSteps t → l < 4 → Within (getD (metricsAt t r k) l nan) stepMost stepMost
+    metric-within k l h g =
+        let s = metrics k l h g in
+        let a = s .above in
+        let b = s .below in
+        let m = step-most in
+        record { num = s .num; low = omega arith; high = omega arith }
 
-  in-between : (vs : List Float) → InRange stepMost floor vs → Between leastPath mostPath vs
-  in-between vs i s h =
-      let w = i s h in
-      let x = getD vs s nan in
-      (from-least leastPath x (floor + 12 * stepMost) (64 * stepMost) (floor + 12 * stepMost) least-path (lit≤ tt) w, to-most mostPath x (floor + 12 * stepMost) (64 * stepMost) (64 * stepMost) most-path (lit≤ tt) w)
+    soft-step : (k : ℕ) → k < frameSteps t → Soft stepMost (frameMetrics t r k)
+    soft-step k h = quad (λ l. metric-within k l h)
 
-  below-zero : (vs : List Float) → Bounded stepMost floor 0 vs → Between leastPath (ofBits binary32 0) vs
-  below-zero vs i s h =
-      let w = bounded-within i s h in
-      let x = getD vs s nan in
-      (from-least leastPath x (floor + 12 * stepMost) 0 (floor + 12 * stepMost) least-path (lit≤ tt) w, to-most (ofBits binary32 0) x (floor + 12 * stepMost) 0 0 nothing (lit≤ tt) w)
+    -- one of the two branches that leave a state has a metric that is not below 0
+    falls : (k : ℕ) → k < frameSteps t → (s : ℕ) → s < 64 → Falls stepMost 0 (label isdb) (frameMetrics t r k) s
+    falls k h s l = go (rises k (label isdb 0 s) h (small 0 s (lit< tt) l))
+      where
+        at : (u : ℕ) → u < 2 → Within (getD (metricsAt t r k) (label isdb u s) nan) stepMost stepMost
+        at u g = metric-within k (label isdb u s) h (small u s g l)
 
-  values-are : (i : ℕ) → frameAt e t r pm i .values ≡ valuesAt 32 (label isdb) e (frameMetrics t r) pm i
-  values-are = after-values 32 (label isdb) e 128 (frameMetrics t r) (freshFrom pm)
+        go : Rises (metricsAt t r k) (label isdb 0 s) → Falls stepMost 0 (label isdb) (frameMetrics t r k) s
+        go (inl p) = quad-falls (label isdb) s 0 (lit< tt) (at 0 (lit< tt)) (omega arith)
+        go (inr p) = let c : label isdb 1 s ≡ 3 - label isdb 0 s = complement 0 s (lit< tt) l in quad-falls (label isdb) s 1 (lit< tt) (at 1 (lit< tt)) (rw c (omega arith))
 
-  ended : Bounded stepMost floor 0 (renormalised 32 (frameAt e t r pm (frameSteps t) .values))
-  ended = rw (values-are (frameSteps t)) (soft-call path-limits (label isdb) small e (frameMetrics t r) (frameSteps t) soft-step pm start)
+    in-between : (vs : List Float) → InRange stepMost floor vs → Between leastPath mostPath vs
+    in-between vs i s h =
+        let w = i s h in
+        let x = getD vs s nan in
+        (from-least leastPath x (floor + 12 * stepMost) (64 * stepMost) ruledOut least-path under-ruled w, to-most mostPath x (floor + 12 * stepMost) (64 * stepMost) (64 * stepMost) most-path (lit≤ tt) w)
 
-  pub paths-in : pathRange e t r pm
-  paths-in = record {
-    at-step = λ i h. rw (values-are i) (in-between (valuesAt 32 (label isdb) e (frameMetrics t r) pm i) (path-within path-limits (label isdb) small e (frameMetrics t r) (frameSteps t) soft-step pm start i h));
-    in-step = λ i h.
-        rw (values-are i)
-        (in-between (nexts 32 (label isdb) e (valuesAt 32 (label isdb) e (frameMetrics t r) pm i) (frameMetrics t r i)) (path-within-next path-limits (label isdb) small e (frameMetrics t r) (frameSteps t) soft-step pm start i h));
-    at-known = λ j.
-        let d = pushed 32 (label isdb) e 128 (frameMetrics t r) (freshFrom pm) (frameSteps t) in
-        rw (after-values 32 (label isdb) e 128 knownBits d j)
-        (below-zero (valuesAt 32 (label isdb) e knownBits (d .values) j) (known-call path-limits (label isdb) small e (wordBit 0x1b95) (d .values) ended j));
-  }
+    below-zero : (vs : List Float) → Bounded 0 ruledOut 0 0 vs → Between leastPath (ofBits binary32 0) vs
+    below-zero vs i s h =
+        let w : Within (getD vs s nan) ruledOut 0 = bounded-within i s h in
+        let x = getD vs s nan in
+        (from-least leastPath x ruledOut 0 ruledOut least-path (lit≤ tt) w, to-most (ofBits binary32 0) x ruledOut 0 0 nothing (lit≤ tt) w)
 
-start-bounded : (knownStart first : Bool) → Bounded stepMost floor 0 (startValues knownStart first)
+    values-are : (i : ℕ) → frameAt e t r pm i .values ≡ valuesAt 32 (label isdb) e (frameMetrics t r) pm i
+    values-are = after-values 32 (label isdb) e 128 (frameMetrics t r) (freshFrom pm)
+
+    -- the call's end, as the known bits find it
+    ended : Bounded 0 ruledOut 0 0 (renormalised 32 (frameAt e t r pm (frameSteps t) .values))
+    ended = rw (values-are (frameSteps t)) (go (soft-call path-limits (label isdb) small e (frameMetrics t r) (frameSteps t) soft-step falls pm start))
+      where
+        go : {vs : List Float} → Bounded stepMost floor 0 0 vs → Bounded 0 ruledOut 0 0 vs
+        go {vs} i = level vs (i .count) (λ s h. wider (getD vs s nan) (floor + 12 * stepMost - 0) 0 ruledOut 0 under-ruled (lit≤ tt) (bounded-within i s h)) (i .best) (i .best-under) (i .best-above)
+
+    pub paths-in : pathRange e t r pm
+    paths-in = record {
+      at-step = λ i h. rw (values-are i) (in-between (valuesAt 32 (label isdb) e (frameMetrics t r) pm i) (path-within path-limits (label isdb) small e (frameMetrics t r) (frameSteps t) soft-step falls pm start i h));
+      in-step = λ i h.
+          rw (values-are i)
+          (in-between (nexts 32 (label isdb) e (valuesAt 32 (label isdb) e (frameMetrics t r) pm i) (frameMetrics t r i)) (path-within-next path-limits (label isdb) small e (frameMetrics t r) (frameSteps t) soft-step falls pm start i h));
+      at-known = λ j.
+          let d = pushed 32 (label isdb) e 128 (frameMetrics t r) (freshFrom pm) (frameSteps t) in
+          rw (after-values 32 (label isdb) e 128 knownBits d j)
+          (below-zero (valuesAt 32 (label isdb) e knownBits (d .values) j) (known-call known-limits (label isdb) small e known-deep (wordBit 0x1b95) (d .values) ended j));
+    }
+
+start-bounded : (knownStart first : Bool) → Bounded stepMost floor 0 0 (startValues knownStart first)
 start-bounded true first = given-bounded path-limits (startState first)
 start-bounded false first = unknown-bounded path-limits
 
@@ -190,15 +209,19 @@ module _ (e : Tie) (t : Table) (re im : List Float) (m : Mapping) (scales : List
     sized = record {
       re-in = λ k h. part-size (getD re k nan) (re-fits k) (parts-in re 38976 (p .re-fine) k h);
       im-in = λ k h. part-size (getD im k nan) (im-fits k) (parts-in im 38976 (p .im-fine) k h);
-      scale-in = scales-in scales scale-fits (p .scales-fine);
+      scale-in = λ c. scales-in scales scale-fits (p .scales-fine) c .0;
+      scale-up = λ c. scales-in scales scale-fits (p .scales-fine) c .1;
     }
 
     metrics-sized : (k l : ℕ) → k < frameSteps t → l < 4 → Size binary32 metricPower (getD (metricsAt t r k) l nan)
     metrics-sized k l h g = metric-in partPower scalePower (lit≤ tt) t (p .fit) r sized k h l g
 
+    metrics-rise : (k l : ℕ) → k < frameSteps t → l < 4 → Rises (metricsAt t r k) l
+    metrics-rise k l h g = metric-rises partPower scalePower (lit≤ tt) t (p .fit) r sized k h l g
+
     pub frame-ranges : Ranges e t r (startValues knownStart first)
     frame-ranges = record {
       soft = λ g i n k b h. size-within softLimit soft-limit (lit≤ tt) (soft-in partPower scalePower (lit≤ tt) t (p .fit) r sized g i n k b h);
       metrics = λ k l h g. size-within metricLimit metric-limit (lit≤ tt) (metrics-sized k l h g);
-      paths = paths-in e t r metrics-sized (startValues knownStart first) (start-bounded knownStart first);
+      paths = paths-in e t r metrics-sized metrics-rise (startValues knownStart first) (start-bounded knownStart first);
     }

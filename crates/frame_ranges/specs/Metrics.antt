@@ -1,6 +1,7 @@
 -- The soft values and the metrics of a frame whose parts are within 2 ^ p and whose scales are within 2 ^ s: a soft value is within 2 ^ (p + s), a metric within
 -- twice that. Assumes nothing.
 use mathlib.Core.Path.{_≡_, refl, sym, _∙_}
+use mathlib.Core.Logic.{inl}
 use mathlib.Core.Bool.{Bool, true, false, cond}
 use mathlib.Core.List.{[], _∷_}
 use Prim.Native.Nat.{ℕ, zero, suc, _+_, _*_, _/_, _%_, _≤_, _<_}
@@ -27,13 +28,15 @@ use Rattle.isdbs_points.specs.Layout.{Segment, segments, sentOrder, orderOf, st
 use Rattle.isdbs_points.specs.Places.{In}
 use Rattle.isdbs_points.specs.Sizes.{table-whole, symbol-fits, at-step, find-step}
 use Rattle.isdbs_metrics.specs.Reading.{Received, symbolAt, scaled, partOf, carrier, softAt, pairMetrics, correlation, absolute, subsetPoint, subsetMetrics, metricsBy, metricsIn, metricsAt}
+use Rattle.frame_ranges.specs.Rising.{Up, Rises, pair-rises, product-up, absolute-up, soft-up}
 use Rattle.frame_ranges.specs.Size.{Size, size-more, size-neg, size-add, size-sub, size-mul, size-absolute, size-soft, size-zero}
 
--- the parts of all 38,976 points are within 2 ^ p, and each scale is within 2 ^ s
+-- the parts of all 38,976 points are within 2 ^ p, and each scale is within 2 ^ s and not below 0
 pub record Sized (p s : ℕ) (r : Received) : Type 0 where
   pub re-in : (k : ℕ) → k < 38976 → Size binary64 p (getD (r .re) k nan)
   pub im-in : (k : ℕ) → k < 38976 → Size binary64 p (getD (r .im) k nan)
   pub scale-in : (c : Combination) → Size binary32 s (r .scale c)
+  pub scale-up : (c : Combination) → Up binary32 (r .scale c)
 
 -- ---- the parts of the 8PSK points are within 1
 zero-in : Size binary64 0 zero64
@@ -164,16 +167,29 @@ module _ (p s : ℕ) (room : p + s + 2 ≤ 127) (t : Table) (fit : TableAccepted
         let h : p + 0 ≤ p = omega arith in
         size-add (omega arith) (size-more (p + 0) p h (size-mul {s = p} {t = 0} (omega arith) a (w .0))) (size-more (p + 0) p h (size-mul {s = p} {t = 0} (omega arith) b (w .1)))
 
-    subset-in : (k : ℕ) → modulationOf (g .combination) ≡ Tc8psk → k < g .steps → (l : ℕ) → l < 4 → Size binary32 (suc (p + s)) (getD (subsetMetrics r g (symbolAt r (g .symbol + k))) l nan)
-    subset-in k e K l h =
-        let o = table-whole t fit g m in
-        let j : k < g .symbols = rw (o .symbols-are) (alone-in (g .combination) (o .units) k e (rw (o .steps-are) at K)) in
-        let at = symbol-fits t fit g m k j in
-        let v = symbolAt r (g .symbol + k) in
-        let x = correlation v (subsetPoint r l) in
-        rw (getD-upto (λ l. scaled r g (absolute (correlation v (subsetPoint r l)))) nan 4 l h)
-        (size-more (suc p + s) (suc (p + s)) (omega arith)
-        (scaled-in g (absolute x) (suc p) (omega arith) (size-absolute x (correlation-in v (subsetPoint r l) (re-at (g .symbol + k) at) (im-at (g .symbol + k) at) (psk8-in (subset (r .mapping .«tc8psk_c1_is_y») l))))))
+    module _ (k : ℕ) (e : modulationOf (g .combination) ≡ Tc8psk) (K : k < g .steps) (l : ℕ) (h : l < 4) where
+      abbrev v : Cplx
+      v = symbolAt r (g .symbol + k)
+
+      abbrev x : Float
+      x = correlation v (subsetPoint r l)
+
+      magnitude-in : Size binary64 (suc p) (absolute x)
+      magnitude-in =
+          let o = table-whole t fit g m in
+          let j : k < g .symbols = rw (o .symbols-are) (alone-in (g .combination) (o .units) k e (rw (o .steps-are) at K)) in
+          let at = symbol-fits t fit g m k j in
+          size-absolute x (correlation-in v (subsetPoint r l) (re-at (g .symbol + k) at) (im-at (g .symbol + k) at) (psk8-in (subset (r .mapping .«tc8psk_c1_is_y») l)))
+
+      subset-in : Size binary32 (suc (p + s)) (getD (subsetMetrics r g v) l nan)
+      subset-in =
+          rw (getD-upto (λ l. scaled r g (absolute (correlation v (subsetPoint r l)))) nan 4 l h)
+          (size-more (suc p + s) (suc (p + s)) (omega arith) (scaled-in g (absolute x) (suc p) (omega arith) magnitude-in))
+
+      subset-up : Up binary32 (getD (subsetMetrics r g v) l nan)
+      subset-up =
+          rw (getD-upto (λ l. scaled r g (absolute (correlation v (subsetPoint r l)))) nan 4 l h)
+          (product-up {s = suc p} {t = s} (omega arith) (size-soft (omega arith) magnitude-in) (z .scale-in (g .combination)) (soft-up (omega arith) magnitude-in (absolute-up binary64 x)) (z .scale-up (g .combination)))
 
     -- ---- a step of any segment
     metrics-in : (k : ℕ) → k < g .steps → (l : ℕ) → l < 4 → Size binary32 (suc (p + s)) (getD (metricsIn r g k) l nan)
@@ -185,9 +201,27 @@ module _ (p s : ℕ) (room : p + s + 2 ≤ 127) (t : Table) (fit : TableAccepted
         go Qpsk e = pair-in (softAt r g k 0) (softAt r g k 1) (soft-in (not-three e qpsk-not) k 0 K) (soft-in (not-three e qpsk-not) k 1 K) l h
         go Tc8psk e = subset-in k e K l h
 
+    metrics-rise : (k : ℕ) → k < g .steps → (l : ℕ) → l < 4 → Rises (metricsIn r g k) l
+    unfolding metricsBy
+    metrics-rise k K l h = go (modulationOf (g .combination)) refl
+      where
+        few : suc (p + s) ≤ 127
+        few = omega arith
+
+        go : (x : Modulation) → modulationOf (g .combination) ≡ x → Rises (metricsBy x r g k) l
+        go Bpsk e = pair-rises few (soft-in (not-three e bpsk-not) k 0 K) (soft-in (not-three e bpsk-not) k 1 K) l h
+        go Qpsk e = pair-rises few (soft-in (not-three e qpsk-not) k 0 K) (soft-in (not-three e qpsk-not) k 1 K) l h
+        go Tc8psk e = inl (subset-up k e K l h)
+
   -- ---- a step of the frame
   pub metric-in : (k : ℕ) → k < frameSteps t → (l : ℕ) → l < 4 → Size binary32 (suc (p + s)) (getD (metricsAt t r k) l nan)
   unfolding metricsAt
   metric-in k K l h =
       let f = find-step t k K in
       rw (f .place-is, at-step t [] (metricsIn r) (f .segment) (f .member) (f .place) (f .small)) (metrics-in (f .segment) (f .member) (f .place) (f .small) l h)
+
+  pub metric-rises : (k : ℕ) → k < frameSteps t → (l : ℕ) → l < 4 → Rises (metricsAt t r k) l
+  unfolding metricsAt
+  metric-rises k K l h =
+      let f = find-step t k K in
+      rw (f .place-is, at-step t [] (metricsIn r) (f .segment) (f .member) (f .place) (f .small)) (metrics-rise (f .segment) (f .member) (f .place) (f .small) l h)

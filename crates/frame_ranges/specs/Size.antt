@@ -117,7 +117,7 @@ module _ {f : Format} {t : ℕ} {x y : Float} (room : suc t ≤ emax f) (s : Siz
       between-size (sub-between f x y (neg (two-to (suc t))) (two-to (suc t)) (s .num) (q .num) (num-neg n) n (omega arith) (omega arith))
 
 -- a product
-powers : (f : Format) (s t : ℕ) → pow2 (s + low f) * pow2 (t + low f) ≡ hi f (two-to (s + t)) * 2 ^ low f
+pub powers : (f : Format) (s t : ℕ) → pow2 (s + low f) * pow2 (t + low f) ≡ hi f (two-to (s + t)) * 2 ^ low f
 powers f s t =
     let e : s + low f + (t + low f) ≡ s + t + low f + low f = omega arith in
     ap (λ (k : ℕ). k * pow2 (t + low f)) (pow2-is (s + low f)) ∙ sym (pow2-add (s + low f) (t + low f)) ∙ pow2-is (s + low f + (t + low f)) ∙ ap (λ (k : ℕ). 2 ^ k) e

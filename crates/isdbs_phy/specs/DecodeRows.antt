@@ -30,9 +30,9 @@ someOf bad xs (suc n) = someOf bad xs n || bad (getD xs n nan)
 abbrev pub someBeyond : Float → List Float → ℕ → Bool
 someBeyond limit xs n = someOf (λ x. not (within limit x)) xs n
 
--- "beyond 1,024 for a frame part"
+-- "The frame part limit in refusal 7 becomes 65,536 in place of 1,024" (document 02, P8)
 abbrev pub partLimit : Float
-partLimit = ofBits binary64 0x4090_0000_0000_0000
+partLimit = ofBits binary64 0x40f0_0000_0000_0000
 
 -- 8: "not above 0, or above 64"
 abbrev pub scaleLimit : Float

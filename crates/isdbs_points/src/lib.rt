@@ -12,7 +12,7 @@ ghost use Rattle.isdbs_points.specs.Layout.{wordBit};
 ghost use Rattle.isdbs_points.specs.Frame.{stateAfter, startState};
 
 // The greatest part of a received point that is taken, of either sign.
-pub const PART_LIMIT: f64 = 1024.0;
+pub const PART_LIMIT: f64 = 65536.0;
 
 // 1 / sqrt 2 as an f64.
 const ROOT: f64 = 0.7071067811865476;

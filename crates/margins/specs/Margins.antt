@@ -22,7 +22,7 @@ use Rattle.margin_ends.specs.Ends.{near0, low1, high1, lowRoot, highRoot}
 abbrev pub between : Float → Float → Float → Bool
 between a b x = le a x && le x b
 
--- row 7's limit of a part, 1,024
+-- row 7's limit of a part, 65,536
 abbrev pub limit : Float
 limit = partLimit
 
@@ -35,7 +35,7 @@ keeps clean x =
     (cond (eq clean (neg one64)) (between (neg high1) (neg low1) x)
     (cond (eq clean root64) (between lowRoot highRoot x) (between (neg highRoot) (neg lowRoot) x))))
 
--- any accepted value: finite and within 1,024
+-- any accepted value: finite and within 65,536
 abbrev pub anyAccepted : Float → Bool
 anyAccepted x = between (neg limit) limit x
 

@@ -71,6 +71,20 @@ adds x y a b d w v A B D =
       high = λ q h l. let e = add-mul q d U in let f = rounds-cap (q + d) 158 r h (omega arith) in omega arith;
     }
 
+-- what is not below 0 takes nothing
+pub raised : (x y : Float) (a b d q : ℕ) → Within x a b → Within y d d → Above y 0 → a ≤ most → b ≤ most → d ≤ most → q ≤ most → Above x q → Above (add binary32 x y) q
+raised x y a b d q w v u A B D Q l =
+    let p = mul-le-mul-right U A in
+    let k = mul-le-mul-right U B in
+    let s = mul-le-mul-right U D in
+    let xl = w .low in
+    let xh = w .high in
+    let yl = v .low in
+    let yh = v .high in
+    let r = add-rounds binary32 x y (w .num) (v .num) (fine-pow2 binary32 158 (hi binary32 x + hi binary32 y) (lo binary32 x + lo binary32 y) (lit< tt) (omega arith) (omega arith)) in
+    let f = rounds-floor q 158 r Q (omega arith) in
+    omega arith
+
 -- two sums in a row
 pub adds-twice : {x y z : Float} {d e : ℕ} → Adds x y d → Adds y z e → Adds x z (d + e)
 adds-twice {x} {y} {z} {d} {e} f g = record {

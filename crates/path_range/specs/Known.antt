@@ -1,5 +1,5 @@
 -- A known bit after a subtraction of the maximum: the step adds nothing, the states that the bit rules out become -1.0e9, and the best state leads to one that is
--- kept. So the bounds stay as they are. Assumes nothing.
+-- kept. So the bounds stay as they are, where they have room for -1.0e9. Assumes nothing.
 use mathlib.Core.Path.{_≡_, refl}
 use mathlib.Core.Bool.{cond}
 use mathlib.Core.List.{List}
@@ -30,7 +30,7 @@ ruled-is = (refl, refl)
 ruled-within : Within (ofBits binary32 0xce6e_6b28) 1953125 0
 ruled-within = let v = ruled-is in record { num = ruled-num; low = omega arith; high = omega arith }
 
-module _ {c B : ℕ} (r : Limits c B) (out : ℕ → ℕ → ℕ) (labels : (u s : ℕ) → u < 2 → s < 64 → out u s < 4) (t : Tie) (pm : List Float) (b : ℕ) (i : Bounded c B 0 pm) where
+module _ {c d B : ℕ} (r : Limits c d B) (deep : 1953125 ≤ B) (out : ℕ → ℕ → ℕ) (labels : (u s : ℕ) → u < 2 → s < 64 → out u s < 4) (t : Tie) (pm : List Float) (b : ℕ) (i : Bounded c B 0 0 pm) where
   abbrev new : List Float
   new = nexts 32 out t pm (known b)
 
@@ -52,7 +52,7 @@ module _ {c B : ℕ} (r : Limits c B) (out : ℕ → ℕ → ℕ) (labels : (u s
   ruled-pick P s h p q = rw (ruled-at s h) (pick P (eqb (s / 32) (b % 2)) (getD new s nan) (ofBits binary32 0xce6e_6b28) p q)
 
   low-all : (q s : ℕ) → s < 64 → B ≤ q → Above (getD new s nan) q → Above (getD (ruled 32 b new) s nan) q
-  low-all q s h k w = let d = r .deep in ruled-pick (λ z. Above z q) s h w (above-more (ofBits binary32 0xce6e_6b28) 1953125 q (omega arith) (ruled-within .low))
+  low-all q s h k w = ruled-pick (λ z. Above z q) s h w (above-more (ofBits binary32 0xce6e_6b28) 1953125 q (omega arith) (ruled-within .low))
 
   -- where the best state goes
   abbrev kept : ℕ
@@ -74,13 +74,13 @@ module _ {c B : ℕ} (r : Limits c B) (out : ℕ → ℕ → ℕ) (labels : (u s
   reached zero h s l e = rw e (above-more (getD (ruled 32 b new) kept nan) 0 (B - 0) (omega arith) kept-above)
   reached (suc k) h s l e =
       let f = r .fits in
-      let d = depth-least c B k in
-      let d' = depth-most c B k (omega arith) in
+      let p = depth-least c B k in
+      let p' = depth-most c B k (omega arith) in
       low-all (depth c B k + 2 * c - 0) s l (omega arith)
       (above-more (getD new s nan) (depth c B k - 0 + 0) (depth c B k + 2 * c - 0) (omega arith)
       (above s (e .0) (depth c B k - 0) l (e .1) (omega arith) (i .reach k (omega arith) (2 * (s % 32) + e .0) (omega arith) (e .2))))
 
-  pub known-bounded : Bounded c B 0 (ruled 32 b new)
+  pub known-bounded : Bounded c B 0 0 (ruled 32 b new)
   unfolding ruled
   known-bounded = record {
     count = length-upto (λ k. cond (eqb (k / 32) (b % 2)) (getD new k nan) (ofBits binary32 0xce6e_6b28)) 64;

@@ -95,7 +95,7 @@ renormalised-count : (pm : List Float) → length (renormalised 32 pm) ≡ lengt
 unfolding renormalised
 renormalised-count pm = length-map pm (λ x. sub binary32 x (top pm 64))
 
-module _ {c B : ℕ} (r : Limits c B) (pm : List Float) (J : ℕ) (few : J ≤ 64 * c) (i : Bounded c B J pm) where
+module _ {c d B : ℕ} (r : Limits c d B) (pm : List Float) (J : ℕ) {D : ℕ} (few : J ≤ 64 * c) (i : Bounded c B J D pm) where
   A : B + 12 * c - J ≤ most
   A = let f = r .fits in omega arith
 
@@ -110,7 +110,7 @@ module _ {c B : ℕ} (r : Limits c B) (pm : List Float) (J : ℕ) (few : J ≤ 6
       rw (getD-renormalised pm s, greatest .is)
       (bounds.takes (getD pm s nan) (getD pm (greatest .at) nan) (B + 12 * c - J) J J (bounded-within i s h) (bounded-within i (greatest .at) (greatest .under)) A H H (greatest .over s h))
 
-  pub renormalised-bounded : Bounded c B 0 (renormalised 32 pm)
+  pub renormalised-bounded : Bounded c B 0 0 (renormalised 32 pm)
   renormalised-bounded = record {
     count = renormalised-count pm ∙ i .count;
     num = λ s h. less s h .num;
@@ -121,8 +121,8 @@ module _ {c B : ℕ} (r : Limits c B) (pm : List Float) (J : ℕ) (few : J ≤ 6
     seed = i .seed;
     seed-under = i .seed-under;
     reach = λ k l s h e.
-        let d = depth-least c B k in
-        let d' = depth-most c B k l in
+        let p = depth-least c B k in
+        let p' = depth-most c B k l in
         let w = r .wide in
         let f = r .fits in
         above-more (getD (renormalised 32 pm) s nan) (depth c B k - J + J) (depth c B k - 0) (omega arith) (less s h .low (depth c B k - J) (omega arith) (i .reach k l s h e));

@@ -17,7 +17,7 @@ use Rattle.path_range.specs.Steps.{zero-within}
 use Rattle.path_range.specs.Invariant.{Limits, depth, depth-least, Bounded}
 
 -- the bounds hold where no value is above 0 or below -512 B, and one is 0
-pub level : {c B : ℕ} (pm : List Float) → length pm ≡ 64 → ((s : ℕ) → s < 64 → Within (getD pm s nan) B 0) → (b : ℕ) → b < 64 → Above (getD pm b nan) 0 → Bounded c B 0 pm
+pub level : {c B : ℕ} (pm : List Float) → length pm ≡ 64 → ((s : ℕ) → s < 64 → Within (getD pm s nan) B 0) → (b : ℕ) → b < 64 → Above (getD pm b nan) 0 → Bounded c B 0 0 pm
 level {c} {B} pm e all b h a = record {
   count = e;
   num = λ s l. all s l .num;
@@ -42,14 +42,14 @@ far-is = (refl, refl)
 far-within : Within (ofBits binary32 0xc974_2400) 1954 0
 far-within = let v = far-is in let e : U ≡ 512 * pow2 149 = pow2-add 9 149 in record { num = far-num; low = omega arith; high = omega arith }
 
-module _ {c B : ℕ} (r : Limits c B) where
+module _ {c d B : ℕ} (r : Limits c d B) where
   zero-in : Within (ofBits binary32 0) B 0
   zero-in = wider (ofBits binary32 0) 0 0 B 0 (omega arith) (omega arith) zero-within
 
   far-in : Within (ofBits binary32 0xc974_2400) B 0
-  far-in = let d = r .deep in wider (ofBits binary32 0xc974_2400) 1954 0 B 0 (omega arith) (omega arith) far-within
+  far-in = wider (ofBits binary32 0xc974_2400) 1954 0 B 0 (r .start) (omega arith) far-within
 
-  pub given-bounded : (s : ℕ) → Bounded c B 0 (startAt 64 s)
+  pub given-bounded : (s : ℕ) → Bounded c B 0 0 (startAt 64 s)
   unfolding startAt
   given-bounded s =
       level (startAt 64 s) (length-upto start 64)
@@ -60,7 +60,7 @@ module _ {c B : ℕ} (r : Limits c B) where
       start : ℕ → Float
       start k = cond (eqb k (s % 64)) (ofBits binary32 0) (ofBits binary32 0xc974_2400)
 
-  pub unknown-bounded : Bounded c B 0 (startUnknown 64)
+  pub unknown-bounded : Bounded c B 0 0 (startUnknown 64)
   unfolding startUnknown
   unknown-bounded =
       level (startUnknown 64) (length-upto (λ k. ofBits binary32 0) 64)

@@ -11,7 +11,7 @@ use Rattle.ieee.specs.Order.{Le, lt→value, not-lt→value, le→value, not-le
 use Rattle.lead.specs.Ties.{pick}
 use Rattle.lead.specs.Lists.{getD-nexts}
 use Rattle.trellis.specs.Step.{Step, pair, four, known, Tie, lower, upper, takes, term, addPair, branch, cand, wins, next, nexts}
-use Rattle.path_range.specs.Bounds.{most, Above, above-more, below-more, Within, within-neg, Adds, adds, adds-twice, adds-within}
+use Rattle.path_range.specs.Bounds.{most, Above, above-more, below-more, Within, within-neg, Adds, adds, raised, adds-twice, adds-within}
 
 -- a step of soft values or metrics that adds at most 512 c: two terms of at most half of it each, or one metric
 pub data Soft (c : ℕ) : Step → Type 0 where
@@ -43,6 +43,26 @@ pub soft-moves : {c : ℕ} {x : Step} → Soft c x → Moves c x
 unfolding branch
 soft-moves {c} (two {lx} {ly} d h x y) = record { by = λ v a b l g w i j. adds-more c h (pair-adds lx ly v a b d l x y w (omega arith) (omega arith)) }
 soft-moves {c} (quad {m} s) = record { by = λ v a b l g w i j. adds v (getD m l nan) a b c w (s l g) (omega arith) (omega arith) (omega arith) }
+
+-- ---- one of the two branches that leave the state s takes at most 512 d
+pub record Falls (c d : ℕ) (out : ℕ → ℕ → ℕ) (x : Step) (s : ℕ) : Type 0 where
+  pub input : ℕ
+  pub under : input < 2
+  pub by : (v : Float) (a b q : ℕ) → Within v a b → a + c ≤ most → b + c ≤ most → q + d ≤ most → Above v q → Above (branch x v (out input s)) (q + d)
+
+-- any step takes at most what it adds
+pub soft-falls : {c : ℕ} {x : Step} (out : ℕ → ℕ → ℕ) → ((u s : ℕ) → u < 2 → s < 64 → out u s < 4) → Soft c x → (s : ℕ) → s < 64 → Falls c c out x s
+soft-falls out labels f s h = record { input = 0; under = lit< tt; by = λ v a b q w A B Q l. soft-moves f .by v a b (out 0 s) (labels 0 s (lit< tt) h) w A B .low q Q l }
+
+-- a metric that is not below 0 takes nothing
+pub quad-falls : {c : ℕ} {m : List Float} (out : ℕ → ℕ → ℕ) (s u : ℕ) → u < 2 → Within (getD m (out u s) nan) c c → Above (getD m (out u s) nan) 0 → Falls c 0 out (four m) s
+unfolding branch
+quad-falls {c} {m} out s u h w p = record {
+  input = u;
+  under = h;
+  by = λ v a b q i A B Q l.
+      above-more (add binary32 v (getD m (out u s) nan)) q (q + 0) (omega arith) (raised v (getD m (out u s) nan) a b c q i w p (omega arith) (omega arith) (omega arith) (omega arith) l);
+}
 
 -- ---- a known bit: a pair of zeros
 pub zero-within : Within (ofBits binary32 0) 0 0
@@ -98,6 +118,13 @@ module _ (out : ℕ → ℕ → ℕ) (labels : (u s : ℕ) → u < 2 → s < 64 
     -- all of them
     pub nexts-within : (s : ℕ) → s < 64 → Within (getD (nexts 32 out t pm x) s nan) (a + d) (b + d)
     nexts-within s h = rw (getD-nexts 32 out t pm x s h) (next-within s h)
+
+    -- none is worse than a branch that leads to it
+    pub nexts-from : (s e q : ℕ) → s < 64 → e < 2 → Above (branch x (getD pm (2 * (s % 32) + e) nan) (out (s / 32) (2 * (s % 32) + e))) q → Above (getD (nexts 32 out t pm x) s nan) q
+    unfolding cand
+    nexts-from s e q h k w =
+        let o = next-over s e h k in
+        rw (getD-nexts 32 out t pm x s h) (omega arith)
 
     -- none is worse than the path by a given predecessor
     pub nexts-above : (s e q : ℕ) → s < 64 → e < 2 → q + d ≤ most → Above (getD pm (2 * (s % 32) + e) nan) q → Above (getD (nexts 32 out t pm x) s nan) (q + d)
