@@ -18,7 +18,7 @@
  *  14 window     outside 1 to 256; fill above it; next not below it or, while the window is not full, unlike fill; a pushed or kept sum above 68,208
  *   5 length     metrics not in fours, soft values not in twos, stream not whole periods; path values not 64; an unknown rate
  *   6 symbols    under 38,976 of either part; for a full frame an input shorter than its length (isdbs_lay_frame, isdbs_take_frame)
- *   7 sample     not finite; beyond 1,024 for a frame part, 1,048,576 for a stream value
+ *   7 sample     not finite; beyond 65,536 for a frame part, 1,048,576 for a stream value
  *   8 scale      a scale not above 0, or above 64
  *   9 space      an output or decision slice shorter than the call writes; decisions always need 4,096 + traceback
  *

@@ -448,7 +448,7 @@ fn decoding(all: &mut (u64, u64), scale: u64) {
         }
     }
     kind.done(all);
-    let mut kind = Kind::new("decode_frame: extreme parts and scales (+-1,024, -0.0, subnormal numbers; scales from the least to 64)");
+    let mut kind = Kind::new("decode_frame: extreme parts and scales (+-65,536, -0.0, subnormal numbers, every part at a limit; scales from the least to 64)");
     let scales = [64.0, f32::from_bits(1), f32::from_bits(0x0080_0000), 1.0e-20, 8.0, 63.999_996, 0.1];
     for turn in 0..100 * scale {
         let t = if turn % 2 == 0 { draws.pick(&some_tables()) } else { random_table(&mut draws) };
@@ -456,7 +456,7 @@ fn decoding(all: &mut (u64, u64), scale: u64) {
         let first = draws.below(2) == 0;
         let bytes = draws.bytes(valid_slots(t) * 203);
         let (clean, _) = reference_frame(&bytes, t, m, start(first)).unwrap();
-        let points = received(&clean, draws.next(), 1, 0.0);
+        let points = received(&clean, draws.next(), 1 + (turn / 2 % 2) as u8, 0.0);
         let known = draws.below(2) as u8;
         let one = draws.pick(&scales);
         let s = calls::Settings { table: t, mapping: m, first: u8::from(first), known, scales: &[one; 7] };
@@ -470,7 +470,7 @@ fn decoding(all: &mut (u64, u64), scale: u64) {
         let first = draws.below(2) == 0;
         let bytes = draws.bytes(valid_slots(t) * 203);
         let (clean, _) = reference_frame(&bytes, t, m, start(first)).unwrap();
-        let amplitude = draws.pick(&[0.5, 1.0, 1.5, 2.0, 4.0, 100.0]);
+        let amplitude = draws.pick(&[0.5, 1.0, 1.5, 2.0, 4.0, 100.0, 131_000.0]);
         let points = received(&clean, draws.next(), 0, amplitude);
         let known = draws.below(2) as u8;
         let one = draws.pick(&scales);

@@ -74,7 +74,7 @@ impl<T: Copy> Fence<T> {
 /// An f32 of any class, the limits of the rows among them.
 fn wild(draws: &mut Draws) -> f32 {
     let r = draws.next();
-    let limit = [1_048_576.0f32, 4_294_967_296.0, 1024.0][(r >> 20) as usize % 3];
+    let limit = [1_048_576.0f32, 4_294_967_296.0, 65_536.0][(r >> 20) as usize % 3];
     let above = f32::from_bits(limit.to_bits() + 1);
     let x = match (r >> 40) % 12 {
         0 => f32::NAN,
@@ -451,9 +451,9 @@ fn decoding(all: &mut (u64, u64), draws: &mut Draws) {
     let mut bytes = Fence::<u8>::new(12_288);
     let mut scales = Fence::<f32>::new(32);
     let mut count = Count::new("decode_frame");
-    let above = f64::from_bits(1024f64.to_bits() + 1);
+    let above = f64::from_bits(65_536f64.to_bits() + 1);
     let bad = [f64::NAN, f64::INFINITY, -f64::INFINITY, above, -above, f64::MAX, f64::from_bits(0x7ff0_0000_0000_0001), -f64::NAN];
-    let good = [1024.0, -1024.0, -0.0, f64::from_bits(1), 1.0, 0.0];
+    let good = [65_536.0, -65_536.0, -0.0, f64::from_bits(1), 1.0, 0.0];
     for _ in 0..4_000 {
         let t = any_table(draws);
         let (valid, steps) = load_of(t);
@@ -484,7 +484,7 @@ fn decoding(all: &mut (u64, u64), draws: &mut Draws) {
         decisions.lend(draws, c, Draws::next);
         bits.lend(draws, d, |d| d.next() as u8);
         bytes.lend(draws, e, |d| d.next() as u8);
-        let out = |x: &f64| !x.is_finite() || x.abs() > 1024.0;
+        let out = |x: &f64| !x.is_finite() || x.abs() > 65_536.0;
         let row = if table_row(t) != 0 {
             table_row(t)
         } else if scales.len != 7 {

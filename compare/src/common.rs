@@ -94,15 +94,19 @@ pub fn received(clean: &[Cplx], seed: u64, kind: u8, amplitude: f64) -> Vec<Cplx
         if kind == 0 {
             return clean + u * amplitude;
         }
+        if kind == 2 {
+            let loud = if clean < 0.0 { -65_536.0 } else { 65_536.0 };
+            return if r % 8 == 0 { -loud } else { loud };
+        }
         match r % 8 {
-            0 => 1024.0,
-            1 => -1024.0,
+            0 => 65_536.0,
+            1 => -65_536.0,
             2 => -0.0,
             3 => f64::from_bits(1),
             4 => f64::from_bits(0xb6a0_0000_0000_0000),
             5 => 0.0,
             6 => clean,
-            _ => u * 2048.0,
+            _ => u * 131_072.0,
         }
     };
     clean

@@ -41,7 +41,7 @@ fn decode_line(out: &mut String, t: u64, m: u8, first: bool, known: bool, scale:
     let valid = valid_slots(t);
     let (clean, _) = reference_frame(&load(seed, valid * 203), t, m, start(first)).unwrap();
     let points = received(&clean, seed, kind, amplitude);
-    assert!(points.iter().all(|v| v.re.abs() <= 1024.0 && v.im.abs() <= 1024.0));
+    assert!(points.iter().all(|v| v.re.abs() <= 65_536.0 && v.im.abs() <= 65_536.0));
     // the Rust has one scale, and reads the points of each run times 2^k
     let points = louder(&points, t, powers);
     let frame = isdbs_phy::demod::decode_frame(&points, &info(t), first, &options(m, known, scale));
@@ -73,9 +73,11 @@ fn decode() -> String {
             let n = i + usize::from(m);
             let first = n % 2 == 0;
             // clean, slightly and strongly noisy, hopeless
-            decode_line(&mut out, t, m, first, n % 3 != 0, 8.0, &[0; 7], seeds.next(), 0, [0.0, 1.0 / 16.0, 0.9, 1.6, 2.5, 2040.0][n % 6]);
+            decode_line(&mut out, t, m, first, n % 3 != 0, 8.0, &[0; 7], seeds.next(), 0, [0.0, 1.0 / 16.0, 0.9, 1.6, 2.5, 131_000.0][n % 6]);
             if m % 4 == 1 {
-                decode_line(&mut out, t, m, !first, n % 3 == 0, scales[n % 8], &[0; 7], seeds.next(), 1, 0.0);
+                // extreme parts under any scale, or every part at a limit and the greatest scale
+                let (scale, kind) = if m == 1 { (scales[n % 8], 1) } else { (64.0, 2) };
+                decode_line(&mut out, t, m, !first, n % 3 == 0, scale, &[0; 7], seeds.next(), kind, 0.0);
                 decode_line(&mut out, t, m, first, true, scales[(n + 3) % 8], &[0; 7], seeds.next(), 0, 1.3);
             }
         }

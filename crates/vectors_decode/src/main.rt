@@ -1,5 +1,5 @@
 // `decode_frame` on 286 frames, held to what the given Rust makes of them: every combination alone and mixed, the empty table, all mappings, known and unknown
-// start, clean, noisy and random points, extreme parts, scales from the least subnormal to 64, unequal scales. data/decode.hex is written by compare/vectors.sh; compare/README.md
+// start, clean, noisy and random points, extreme parts, every part at a limit of row 7, scales from the least subnormal to 64, unequal scales. data/decode.hex is written by compare/vectors.sh; compare/README.md
 // has its fields. Lines that differ are shown, then how many agree and differ. The last line is that of the empty table with decision words of ones before it.
 ghost use Prim.Native.Nat.{_≤_, _<_};
 use isdbs_core::tmcc::Entry;
@@ -111,20 +111,24 @@ fn around_0(draw: u64) -> f64 {
     double_of(0x3ff0_0000_0000_0000 + (draw >> 12)) - 1.5
 }
 
-// A part of a point: the clean one with noise, or an extreme one.
+// A part of a point: the clean one with noise, an extreme one, or one at a limit of row 7.
 fn part(kind: u64, clean: f64, draw: u64, amplitude: f64) -> f64 {
     if kind == 0 {
         return clean + around_0(draw) * amplitude;
     }
+    if kind == 2 {
+        let loud = if clean < 0.0 { -65536.0 } else { 65536.0 };
+        return if draw % 8 == 0 { -loud } else { loud };
+    }
     match draw % 8 {
-        0 => 1024.0,
-        1 => -1024.0,
+        0 => 65536.0,
+        1 => -65536.0,
         2 => -0.0,
         3 => double_of(1),
         4 => double_of(0xb6a0_0000_0000_0000),
         5 => 0.0,
         6 => clean,
-        _ => around_0(draw) * 2048.0,
+        _ => around_0(draw) * 131072.0,
     }
 }
 

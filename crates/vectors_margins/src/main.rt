@@ -1,7 +1,7 @@
 // `read_frame` on 25 frames at the ends of the margins: every combination alone and mixed, words that stand for no combination, the empty table, all
 // mappings, both kinds of frame. Each part of each point lies at one end or the other of its margin, as the generator draws; a free part, which may have any accepted value,
-// is 1,024 or -1,024. Free are the imaginary parts of BPSK and both parts of the points outside every run. The slices are ten points longer than a frame, and these hold
-// 5,000, more than a part of a frame may be. A line for each frame shows its table as WORDxSLOTS, how many bytes of the load come back, and how many parts are free: one for each
+// is 65,536 or -65,536. Free are the imaginary parts of BPSK and both parts of the points outside every run. The slices are ten points longer than a frame, and these hold
+// 100,000, more than a part of a frame may be. A line for each frame shows its table as WORDxSLOTS, how many bytes of the load come back, and how many parts are free: one for each
 // symbol of BPSK, and two for each of the 38,976 that is in no run, a slot of a run being 812 symbols.
 ghost use Prim.Native.Nat.{_≤_, _<_};
 use isdbs_core::combination::Combination;
@@ -172,7 +172,7 @@ fn bpsk_symbols(table: u64) -> Symbols {
 // The part received for a clean one.
 fn part(clean: f64, free: bool, draw: u64) -> f64 {
     if free {
-        return if draw >> 63 == 1 { 1024.0 } else { -1024.0 };
+        return if draw >> 63 == 1 { 65536.0 } else { -65536.0 };
     }
     moved(clean, draw)
 }
@@ -406,8 +406,8 @@ fn passing(
 }
 
 fn main() {
-    let mut re = [5000.0f64; 38986];
-    let mut im = [5000.0f64; 38986];
+    let mut re = [100000.0f64; 38986];
+    let mut im = [100000.0f64; 38986];
     let mut decisions = [0u64; 4224];
     let mut bits = [0u8; 68224];
     let mut load = [0u8; 9744];
