@@ -97,7 +97,7 @@ fn row(number: u32) {
         4 => text(b"a state is out of its range"),
         5 => text(b"a length does not fit"),
         6 => text(b"a frame has 38,976 points"),
-        7 => text(b"a part of a point is not a finite number, or is beyond 1,024"),
+        7 => text(b"a part of a point is not a finite number, or is beyond 65,536"),
         8 => text(b"a scale is not above 0, or is above 64"),
         9 => text(b"the space for what is written is too short"),
         10 => text(b"the slots of an entry do not fill whole units"),
@@ -311,7 +311,7 @@ fn bad_part(k: usize, name: &[u8], x: f64) {
     text(b"'s ");
     text(name);
     if is_number(x) {
-        text(b" part is beyond 1,024 (points are counted from 0)\n");
+        text(b" part is beyond 65,536 (points are counted from 0)\n");
     } else {
         text(b" part is not a finite number (points are counted from 0)\n");
     }
