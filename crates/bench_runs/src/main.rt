@@ -95,14 +95,17 @@ fn refusals() {
 }
 
 fn damaged() {
+    note(b"point 7's real part becomes 65,536, which a part may be: the reading is accepted");
+    patch(b"frame.cf64", 112, b"\x00\x00\x00\x00\x00\x00\xf0\x40");
+    bench(b"read 7:44,1:4 001 first frame.cf64 loud");
     note(b"point 1,203's imaginary part becomes a NaN");
     patch(b"frame.cf64", 19256, b"\x00\x00\x00\x00\x00\x00\xf8\x7f");
     bench(b"read 7:44,1:4 001 first frame.cf64 none");
     note(b"point 7's real part becomes minus infinity");
     patch(b"frame.cf64", 112, b"\x00\x00\x00\x00\x00\x00\xf0\xff");
     bench(b"read 7:44,1:4 001 first frame.cf64 none");
-    note(b"point 7's real part becomes 1,025");
-    patch(b"frame.cf64", 112, b"\x00\x00\x00\x00\x00\x04\x90\x40");
+    note(b"point 7's real part becomes 65,537");
+    patch(b"frame.cf64", 112, b"\x00\x00\x00\x00\x10\x00\xf0\x40");
     bench(b"read 7:44,1:4 001 first frame.cf64 none");
     note(b"a part of the file is text");
     patch(
