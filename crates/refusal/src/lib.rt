@@ -18,6 +18,7 @@ pub enum Answer {
     ReservedWord,
     Window,
     Code,
+    NoLoad,
 }
 
 // The row's number, and 0 for accepted.
@@ -39,5 +40,6 @@ pub fn number(answer: Answer) -> u32
         Answer::ReservedWord => 11,
         Answer::Window => 14,
         Answer::Code => 12,
+        Answer::NoLoad => 13,
     }
 }
