@@ -23,7 +23,8 @@ use Rattle.isdbs_metrics.specs.Reading.{decodedBits, decodedBytes}
 use Rattle.isdbs_phy.specs.declared.demod.FrameDecoded.{FrameDecoded}
 use Rattle.isdbs_phy.specs.declared.demod.FrameDecoded.the-variants.{Decoded, Refused}
 use Rattle.isdbs_phy.specs.DecodeRows.{shortSpace, decodeRows, frameSaid, frameAnswer}
-use Rattle.margins.specs.Margins.{freeRe, freeIm, holds, Within, FullLoad}
+use Rattle.isdbs_points.specs.Layout.{FullLoad}
+use Rattle.margins.specs.Margins.{freeRe, freeIm, holds, Within}
 use Rattle.isdbs_decode.specs.Scales.{receivedBy}
 use Rattle.exact_frame.specs.Frames.{encoded-within}
 use Rattle.exact_frame.specs.Call.{eights, ReadsBack, exactly, short, read-back}

@@ -22,7 +22,8 @@ use Rattle.isdbs_phy.specs.DecodeRows.{within, someOf, someBeyond, partLimit, s
 use Rattle.isdbs_decode.specs.Runs.{FrameRead}
 use Rattle.isdbs_decode.specs.Scales.{receivedBy}
 use Rattle.isdbs_decode.specs.ScaleLaws.{equal-scales}
-use Rattle.margins.specs.Margins.{anyAccepted, Within, FullLoad}
+use Rattle.isdbs_points.specs.Layout.{FullLoad}
+use Rattle.margins.specs.Margins.{anyAccepted, Within}
 use Rattle.exact_frame.specs.Exact.{decoded-load}
 use Rattle.exact_frame.specs.Frames.{re-accepted, im-accepted}
 

@@ -4,7 +4,7 @@
 use mathlib.Core.Path.{_≡_, sym, _∙_, ap}
 use mathlib.Core.Bool.{Bool, true, false}
 use mathlib.Core.List.{List}
-use Prim.Native.Nat.{ℕ, _+_, _*_, _/_, _<_, _≤_}
+use Prim.Native.Nat.{ℕ, _+_, _*_, _/_, _<_}
 use native.Mathlib.Omega.{arith}
 use lib.Dec.{lit<}
 use lib.ListN.{getD}
@@ -13,7 +13,6 @@ use Rattle.trellis.specs.Lists.{upto}
 use Rattle.trellis.specs.Code.{stateAt}
 use Rattle.trellis.specs.Isdb.{rule}
 use Rattle.lead.specs.Favour.{Favours}
-use Rattle.trellis.specs.ListLaws.{getD-upto}
 use Rattle.lead.specs.Frame.{decoded-sent}
 use Rattle.isdbs_core.specs.declared.combination.Modulation.{Modulation}
 use Rattle.isdbs_core.specs.declared.tmcc.Table.{Table}
@@ -21,33 +20,21 @@ use Rattle.isdbs_core.specs.Combinations.{modulationOf, unitOf, slotSteps}
 use Rattle.isdbs_core.specs.Tables.{TableAccepted}
 use Rattle.isdbs_core.specs.RunsOf.{frameSteps, loadBytes}
 use Rattle.isdbs_points.specs.declared.Mapping.{Mapping}
-use Rattle.isdbs_points.specs.Layout.{Segment, segments, atStep, atBit, loadBit, wordBit}
+use Rattle.isdbs_points.specs.Layout.{Segment, segments, atBit, loadBit, FullLoad, wordBit}
 use Rattle.isdbs_points.specs.Frame.{coded, inputIn, inputs, labelAt, stateAfter, startState}
 use Rattle.isdbs_metrics.specs.Reading.{Received, metricsAt, decodedBits, uncoded, bitBy, bitIn, bytesFrom, decodedBytes}
-use Rattle.margins.specs.Margins.{Within, FullLoad}
+use Rattle.margins.specs.Margins.{Within}
 use Rattle.isdbs_points.specs.Places.{In}
-use Rattle.isdbs_points.specs.Sizes.{table-whole, few-steps, step-fits, at-step, at-bit, find-step, find-bit}
-use Rattle.exact_frame.specs.Order.{Pairs, Kind, one, two, three, kind}
-use Rattle.exact_frame.specs.Bits.{load-bit-small, of-pair}
+use Rattle.isdbs_points.specs.Sizes.{table-whole, few-steps, step-fits, at-bit, find-bit}
+use Rattle.isdbs_points.specs.Order.{Pairs, Kind, one, two, three, kind}
+use Rattle.isdbs_points.specs.LawsBits.{of-pair, bytes-are}
+use Rattle.isdbs_points.specs.LawsInputs.{label-alike, input-at, input-small}
 use Rattle.exact_frame.specs.Steps.{received, step-favours, tc-bit}
-use Rattle.exact_frame.specs.Bytes.{label-alike, bytes-are}
 
 start-small : (first : Bool) → startState first < 64
 unfolding stateAfter stateAt upto
 start-small true = lit< tt
 start-small false = lit< tt
-
--- the input of the frame's code at a step of a segment, a bit of the load
-input-at : (t : Table) (load : List ℕ) (g : Segment) → In g (segments t) → (k : ℕ) → k < g .steps → getD (inputs t load) (g .step + k) 0 ≡ inputIn load g k
-unfolding inputs
-input-at t load g i k l =
-    getD-upto (atStep 0 (inputIn load) t) 0 (frameSteps t) (g .step + k) (step-fits t g i k l) ∙ at-step t 0 (inputIn load) g i k l
-
-input-small : (t : Table) (load : List ℕ) (k : ℕ) → k < frameSteps t → getD (inputs t load) k 0 < 2
-input-small t load k l =
-    let f = find-step t k l in
-    let g = f .segment in
-    rw (f .place-is, input-at t load g (f .member) (f .place) (f .small)) (load-bit-small load (g .bit + coded (modulationOf (g .combination)) (f .place)))
 
 module _ (t : Table) (fit : TableAccepted t) (m : Mapping) (first : Bool) (load : List ℕ) (re im : List Float) (within : Within re im load t m first) where
   abbrev r : Received

@@ -1,11 +1,11 @@
 -- Which frames lie within the margins. Each part of such a frame is one that decoding accepts; the encoded frame is one, whatever is lent past it; and so are
 -- the frames with each part at an end of its margin, in which every part is another one. Assumes nothing.
 use mathlib.Core.Path.{_≡_, _∙_}
-use mathlib.Core.Bool.{Bool, true, false, not, cond}
-use mathlib.Core.List.{List, [], _∷_, _++_}
-use Prim.Native.Nat.{ℕ, _+_, _*_, _-_, _<_, _≤_}
+use mathlib.Core.Bool.{Bool, true, false, not}
+use mathlib.Core.List.{List, _++_}
+use Prim.Native.Nat.{ℕ, _+_, _*_, _<_, _≤_}
 use native.Mathlib.Omega.{arith}
-use lib.Dec.{T, ltb}
+use lib.Dec.{T}
 use lib.ListN.{getD, length, drop, length-append, List·getD-append}
 use lib.Ieee.{Float, nan, binary64, fits, neg, eq, le, ofBits}
 use Rattle.trellis.specs.Lists.{upto}
@@ -20,13 +20,15 @@ use Rattle.isdbs_core.specs.RunsOf.{loadBytes}
 use Rattle.isdbs_points.specs.declared.Cplx.{Cplx}
 use Rattle.isdbs_points.specs.declared.Mapping.{Mapping}
 use Rattle.isdbs_points.specs.Points.{unused, zero64, one64, root64, qpskOf, subset}
-use Rattle.isdbs_points.specs.Layout.{Segment, segments, among, atSymbol, loadBit}
+use Rattle.isdbs_points.specs.Layout.{Segment, segments, atSymbol, loadBit, FullLoad}
 use Rattle.isdbs_points.specs.Frame.{inputs, labelAt, sentBit, pointBy, pointIn, pointAt, frameRe, frameIm, startState}
 use Rattle.isdbs_encode.specs.Encoding.{FrameLaid}
 use Rattle.isdbs_metrics.specs.Reading.{decodedBytes}
-use Rattle.margins.specs.Margins.{keeps, anyAccepted, holds, freeRe, freeIm, Within, FullLoad}
+use Rattle.margins.specs.Margins.{keeps, anyAccepted, holds, freeRe, freeIm, Within}
 use Rattle.margins.specs.Clean.{Clean, clean-zero, clean-minus-zero, clean-one, clean-minus-one, clean-root, clean-minus-root, turned-clean, term-clean, psk8-clean, lowEnd, highEnd, keeps-accepted, clean-within, Other}
-use Rattle.exact_frame.specs.Bits.{label-small, subset-small, load-bit-small}
+use Rattle.isdbs_points.specs.Places.{among-all}
+use Rattle.isdbs_points.specs.LawsBits.{subset-small, load-bit-small}
+use Rattle.exact_frame.specs.Bits.{label-small}
 use Rattle.exact_frame.specs.Steps.{received}
 use Rattle.exact_frame.specs.Exact.{decoded-load}
 
@@ -45,17 +47,6 @@ module _ {re im : List Float} {load : List ℕ} {t : Table} {m : Mapping} {first
 -- ---- the parts of an encoded frame are clean
 abbrev CleanPoint : Cplx → Type 0
 CleanPoint p = Clean (p .re) × Clean (p .im)
-
--- what holds of each value and of `none` holds of each place
-among-all : {A : Type 0} (P : A → Type 0) (first size : Segment → ℕ) (none : A) (f : Segment → ℕ → A) → P none → ((g : Segment) (i : ℕ) → P (f g i))
-    → (gs : List Segment) (k : ℕ) → P (among first size none f gs k)
-unfolding among
-among-all P first size none f p q [] k = p
-among-all {A} P first size none f p q (g ∷ gs) k = go (ltb k (first g + size g)) (among first size none f gs k) (among-all P first size none f p q gs k)
-  where
-    go : (t : Bool) (y : A) → P y → P (cond t (f g (k - first g)) y)
-    go true y r = q g (k - first g)
-    go false y r = r
 
 qpsk-clean : (reverse : Bool) (p1 p0 : ℕ) → CleanPoint (qpskOf reverse p1 p0)
 qpsk-clean true p1 p0 = (term-clean p0 root64 clean-root, term-clean p1 root64 clean-root)

@@ -1,7 +1,5 @@
-pub mod Order
 pub mod Bits
 pub mod Steps
-pub mod Bytes
 pub mod Exact
 pub mod Frames
 pub mod Call

@@ -3,7 +3,7 @@ use mathlib.Core.Path.{_≡_, refl, sym, ap, subst}
 use mathlib.Core.Logic.{_⊎_, inl, inr}
 use mathlib.Core.Bool.{Bool, true, false}
 use mathlib.Core.List.{List, []}
-use Prim.Native.Nat.{ℕ, _+_, _*_, _/_, _%_, _<_, _≤_}
+use Prim.Native.Nat.{ℕ, _+_, _*_, _/_, _%_, _<_}
 use native.Mathlib.Nat.{mod-lt}
 use native.Mathlib.Omega.{arith}
 use lib.Dec.{T, ltb, lt→ltb, ltb→lt, lit<}
@@ -35,8 +35,9 @@ use Rattle.margins.specs.Pairs.{pair-favours}
 use Rattle.margins.specs.Tc8psk.{tc-favours, tc-uncoded}
 use Rattle.isdbs_points.specs.Places.{In}
 use Rattle.isdbs_points.specs.Sizes.{table-whole, symbol-fits, at-symbol, at-step, find-step}
-use Rattle.exact_frame.specs.Order.{Sends, Pairs, Kind, one, two, three, kind, Kept, mother, number, sent-at}
-use Rattle.exact_frame.specs.Bits.{label-small, load-bit-small, coded-small, subset-small, carries, of-pair}
+use Rattle.isdbs_points.specs.Order.{Sends, Pairs, Kind, one, two, three, kind, Kept, mother, number, sent-at}
+use Rattle.isdbs_points.specs.LawsBits.{load-bit-small, coded-small, subset-small, of-pair}
+use Rattle.exact_frame.specs.Bits.{label-small, carries}
 
 -- ---- a frame within the margins, as it is read at the scale 8
 abbrev pub received : List Float → List Float → Mapping → Received

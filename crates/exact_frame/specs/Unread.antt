@@ -26,7 +26,7 @@ use Rattle.isdbs_metrics.specs.Reading.{Received, symbolAt, scaled, partOf, car
 use Rattle.isdbs_points.specs.LawsUpto.{upto-cong}
 use Rattle.isdbs_points.specs.Places.{In}
 use Rattle.isdbs_points.specs.Sizes.{table-whole, symbol-fits, at-step, at-bit, find-step, find-bit}
-use Rattle.exact_frame.specs.Order.{Sends, Pairs, Kind, one, two, three, kind, mother, number}
+use Rattle.isdbs_points.specs.Order.{Sends, Pairs, Kind, one, two, three, kind, mother, number}
 
 -- n steps of a call see its first n steps
 after-alike : (half : ℕ) (out : ℕ → ℕ → ℕ) (t : Tie) (tb : ℕ) (xs ys : ℕ → Step) (d : Decoder) (n : ℕ) → ((k : ℕ) → k < n → xs k ≡ ys k)

@@ -5,8 +5,10 @@ use Prim.Native.Nat.{ℕ, zero, suc, _+_, _<_, _≤_}
 use native.Mathlib.Nat.{add-zero, add-suc}
 use native.Mathlib.Numerals.{add-one}
 use native.Mathlib.Omega.{arith}
-use lib.ListN.{length, take, drop, set}
+use lib.ListN.{length, getD, take, drop, set}
+use lib.Seq.{ext-getD, getD-take, length-take-le}
 use Rattle.trellis.specs.Lists.{upto, laid}
+use Rattle.trellis.specs.ListLaws.{getD-upto}
 use Rattle.viterbi.specs.Upto.{length-upto}
 use Rattle.viterbi.specs.Laid.{laid-more, laid-after, length-laid}
 
@@ -42,3 +44,12 @@ module _ {A : Type 0} where
 
   pub length-laid-upto : (f : ℕ → A) (k : ℕ) (w : List A) → k ≤ length w → length (laid (upto f k) w) ≡ length w
   length-laid-upto f k w h = length-laid (upto f k) w (rw (length-upto f k) h)
+
+  -- a list whose first n elements are the first n values of a function
+  pub front-upto : (d : A) (f : ℕ → A) (n : ℕ) (xs : List A) → n ≤ length xs → ((k : ℕ) → k < n → getD xs k d ≡ f k) → upto f n ≡ take n xs
+  front-upto d f n xs room h =
+      let l : length (take n xs) ≡ n = length-take-le n xs room in
+      ext-getD d (upto f n) (take n xs) (length-upto f n ∙ sym l)
+      (λ k K.
+      let N : k < n = rw (length-upto f n) at K in
+      getD-upto f d n k N ∙ sym (h k N) ∙ sym (getD-take n xs k d N))

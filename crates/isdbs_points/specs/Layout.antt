@@ -1,8 +1,9 @@
 -- Where the symbols, the trellis steps and the load's bits of each run lie in the frame. Assumes nothing.
+use mathlib.Core.Path.{_≡_}
 use mathlib.Core.Bool.{cond}
 use mathlib.Core.List.{List, [], _∷_}
-use Prim.Native.Nat.{ℕ, suc, _+_, _-_, _*_, _/_, _%_, _^_}
-use lib.ListN.{getD}
+use Prim.Native.Nat.{ℕ, suc, _+_, _-_, _*_, _/_, _%_, _^_, _<_}
+use lib.ListN.{getD, length}
 use lib.Dec.{eqb, ltb}
 use Rattle.isdbs_core.specs.declared.combination.Combination.{Combination}
 use Rattle.isdbs_core.specs.declared.combination.MaybePuncture.{MaybePuncture}
@@ -90,6 +91,11 @@ module _ {A : Type 0} (none : A) (f : Segment → ℕ → A) (t : Table) where
 -- bit n of a load; "Missing bits are 0, surplus ones ignored"
 abbrev pub loadBit : List ℕ → ℕ → ℕ
 loadBit load n = getD load (n / 8) 0 / 2 ^ (7 - n % 8) % 2
+
+-- "a full load is 203 bytes for each" valid slot
+pub record FullLoad (load : List ℕ) (count : ℕ) : Type 0 where
+  pub size : length load ≡ count
+  pub bytes : (k : ℕ) → k < count → getD load k 0 < 256
 
 -- the byte whose bits, high bit first, are f 0 to f 7
 abbrev pub byteOf : (ℕ → ℕ) → ℕ

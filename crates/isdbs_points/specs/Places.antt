@@ -1,6 +1,6 @@
 -- Segments that lie end to end, in symbols, in steps or in bits: `first` and `size` pick which. What `among` says of a place. Assumes nothing.
 use mathlib.Core.Path.{_≡_, refl}
-use mathlib.Core.Bool.{Bool, true, false, not}
+use mathlib.Core.Bool.{Bool, true, false, not, cond}
 use mathlib.Core.List.{List, [], _∷_}
 use Prim.Native.Nat.{ℕ, zero, suc, _+_, _-_, _<_, _≤_}
 use native.Mathlib.Omega.{arith}
@@ -114,3 +114,14 @@ module _ (first size : Segment → ℕ) where
       let n = fill-ends first size gs (a + size g) b (c .1) in
       let e = c .0 in
       rw (le-ltb k (first g + size g) (omega arith)) (among-past none f gs (a + size g) b (c .1) k h)
+
+-- what holds of each value and of `none` holds of each place
+pub among-all : {A : Type 0} (P : A → Type 0) (first size : Segment → ℕ) (none : A) (f : Segment → ℕ → A) → P none → ((g : Segment) (i : ℕ) → P (f g i))
+    → (gs : List Segment) (k : ℕ) → P (among first size none f gs k)
+unfolding among
+among-all P first size none f p q [] k = p
+among-all {A} P first size none f p q (g ∷ gs) k = go (ltb k (first g + size g)) (among first size none f gs k) (among-all P first size none f p q gs k)
+  where
+    go : (t : Bool) (y : A) → P y → P (cond t (f g (k - first g)) y)
+    go true y r = q g (k - first g)
+    go false y r = r

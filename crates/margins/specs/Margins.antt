@@ -1,6 +1,5 @@
 -- The margins of demand 3. Document 01, "A capture enters `decode_frame`": "Margins of demand 3, per part as lent, before decoding conjugates".
 -- Definitions only. Assumes nothing.
-use mathlib.Core.Path.{_≡_}
 use mathlib.Core.Bool.{Bool, true, false, cond, _&&_}
 use mathlib.Core.List.{List}
 use Prim.Native.Nat.{ℕ, _<_, _≤_}
@@ -62,8 +61,3 @@ pub record Within (re im : List Float) (load : List ℕ) (t : Table) (m : Mappin
   pub im-count : 38976 ≤ length im
   pub re-parts : (k : ℕ) → k < 38976 → T (holds (freeRe t k) (pointAt t m load (startState first) k .re) (getD re k nan))
   pub im-parts : (k : ℕ) → k < 38976 → T (holds (freeIm t k) (pointAt t m load (startState first) k .im) (getD im k nan))
-
--- "a full load is 203 bytes for each" valid slot
-pub record FullLoad (load : List ℕ) (count : ℕ) : Type 0 where
-  pub size : length load ≡ count
-  pub bytes : (k : ℕ) → k < count → getD load k 0 < 256
