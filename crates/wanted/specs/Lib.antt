@@ -1,0 +1,5 @@
+pub mod Wanted
+pub mod ReadOff
+pub mod Shown
+pub mod Inputs
+pub mod Only
