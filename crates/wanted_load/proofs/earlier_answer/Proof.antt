@@ -1,0 +1,35 @@
+-- `earlier_answer` meets its contract. Assumes nothing.
+use mathlib.Core.Path.{sym, _∙_, ap}
+use Prim.Native.Nat.{ℕ}
+use borrow.Author.Needs.{needs}
+use Rattle.refusal.specs.Rows.{firstRow}
+use Rattle.isdb_fec.specs.Told.{told}
+use Rattle.isdbs_core.specs.declared.slots.Plan.{Plan}
+use Rattle.wanted_load.specs.Rows.{lentRows}
+use Rattle.wanted_load.proofs.Rows.{by-table, by-lengths}
+use Rattle.wanted_load.proofs.earlier_answer.Statement.{statement}
+use Rattle.wanted_load.proofs.earlier_answer.Tie as tie
+
+table-answer-requires : tie.Need-table-answer-requires
+table-answer-requires c κs = search needs
+
+enum-told : tie.Need-enum-told
+enum-told c = search needs
+
+returns : tie.Need-returns
+returns c =
+    let a = c .before .before in
+    by-table (a .args .p .table) (a .args .re) (a .args .im) (a .args .bytes) (c .before .table-answer .result) (c .before .table-answer .ensures) (told (c .before .table-answer .result) (c .match .keys2))
+
+lent-answer-requires : tie.Need-lent-answer-requires
+lent-answer-requires c κs = search needs
+
+returns-2 : tie.Need-returns-2
+returns-2 c =
+    let a = c .before .before .before .before in
+    by-lengths (a .args .p .table) (a .args .re) (a .args .im) (a .args .bytes) (sym (c .before .enum-told .given .1) ∙ c .before .before .before .table-answer .ensures)
+    (c .lent-answer .ensures ∙ ap (λ (n : ℕ). firstRow (lentRows n (a .args .re) (a .args .im) (a .args .bytes))) (ap (λ (z : Plan). z .bytes) (a .pre)))
+
+pub earlier-answer-spec : {M : Type 1} → statement M
+earlier-answer-spec =
+    tie.close (tie.spec table-answer-requires enum-told returns lent-answer-requires returns-2)

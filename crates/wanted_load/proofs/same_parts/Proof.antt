@@ -1,0 +1,77 @@
+-- `same_parts` meets its contract. Assumes nothing.
+use borrow.Author.Needs.{needs}
+use Rattle.wanted_load.specs.Compare.{parts-differ, parts-same, parts-more}
+use Rattle.wanted_load.specs.Found.{Same}
+use lib.ListN.{getD}
+use lib.Ieee.{nan}
+use native.Mathlib.Omega.{arith}
+use Prim.Native.Nat.{ℕ, _-_, _<_, _≤_}
+use mathlib.Core.Path.{_≡_, subst}
+use Rattle.wanted_load.proofs.same_parts.Statement.{statement}
+use Rattle.wanted_load.proofs.same_parts.Tie as tie
+
+abbrev Inv-loop : tie.InvT-loop
+Inv-loop xs ys n i₀ i = (i ≤ n) × ((k : ℕ) → k < i → getD xs k nan ≡ getD ys k nan)
+
+abbrev μ-loop : tie.MeasureT-loop
+μ-loop xs ys n i₀ i = n - i
+
+loop-holds : tie.Need-loop-holds Inv-loop μ-loop
+loop-holds c = (search needs, λ k l. absurd (omega arith))
+
+mul-same-bits : tie.Need-mul-same-bits Inv-loop μ-loop
+mul-same-bits c = search needs
+
+shared-slice-read-same-bits : tie.Need-shared-slice-read-same-bits Inv-loop μ-loop
+shared-slice-read-same-bits c = search needs
+
+mul-same-bits-2 : tie.Need-mul-same-bits-2 Inv-loop μ-loop
+mul-same-bits-2 c = search needs
+
+shared-slice-read-same-bits-2 : tie.Need-shared-slice-read-same-bits-2 Inv-loop μ-loop
+shared-slice-read-same-bits-2 c = search needs
+
+same-bits-requires : tie.Need-same-bits-requires Inv-loop μ-loop
+same-bits-requires c κs = search needs
+
+returns : tie.Need-returns Inv-loop μ-loop
+returns c =
+    let st = c .before .before .before .before .before .before .before .before in
+    let i = c .before .before .before .before .before .loop .i in
+    parts-differ (st .args .xs .now) (st .args .ys .now) (st .args .n) i (omega arith) (subst (Same (getD (st .args .xs .now) i nan) (getD (st .args .ys .now) i nan)) (c .if1 .left) (c .before .same-bits .ensures))
+
+add-i : tie.Need-add-i Inv-loop μ-loop
+add-i c = search needs
+
+loop-less : tie.Need-loop-less Inv-loop μ-loop
+loop-less c = search needs
+
+loop-again : tie.Need-loop-again Inv-loop μ-loop
+loop-again c =
+    let st = c .before .before .before .before .before .before .before .before in
+    let i = c .before .before .before .before .before .loop .i in
+    (omega arith, parts-more (st .args .xs .now) (st .args .ys .now) i (c .before .before .before .before .before .loop .inv .1) (c .before .same-bits .ensures .yes (c .if1 .taken)))
+
+returns-2 : tie.Need-returns-2 Inv-loop μ-loop
+returns-2 c =
+    let st = c .before .before .before .before in
+    let e : c .before .loop .i ≡ st .args .n = omega arith in
+    parts-same (st .args .xs .now) (st .args .ys .now) (st .args .n) (λ k l. c .before .loop .inv .1 k (omega arith))
+
+pub same-parts-spec : {M : Type 1} → statement M
+same-parts-spec =
+    tie.close
+    (tie.spec
+    Inv-loop
+    μ-loop
+    loop-holds
+    mul-same-bits
+    shared-slice-read-same-bits
+    mul-same-bits-2
+    shared-slice-read-same-bits-2
+    same-bits-requires
+    returns
+    add-i
+    loop-less
+    loop-again
+    returns-2)

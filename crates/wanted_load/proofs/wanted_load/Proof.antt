@@ -1,0 +1,103 @@
+-- `wanted_load` meets its contract. Assumes nothing.
+use mathlib.Core.Path.{refl, sym, _∙_, ap}
+use lib.ListN.{length}
+use borrow.Author.Needs.{needs}
+use Rattle.refusal.specs.declared.Answer.{Answer}
+use Rattle.refusal.specs.declared.Answer.the-variants.{NoLoad}
+use Rattle.refusal.specs.Rows.{firstRow, Either}
+use Rattle.refusal.specs.RowLaws.{refused}
+use Rattle.isdb_fec.specs.Told.{told}
+use Rattle.isdbs_core.specs.declared.slots.Plan.{Plan}
+use Rattle.isdbs_core.specs.declared.tmcc.Table.{Table}
+use Rattle.wanted_load.specs.declared.LoadFound.the-variants.{Load, Refused}
+use Rattle.wanted_load.specs.Rows.{earlierRows}
+use Rattle.wanted_load.specs.Found.{Outcome, found, none, Turned}
+use Rattle.wanted_load.specs.Answers.{by-rows}
+use Rattle.wanted_load.proofs.Rows.{passed, plan-is}
+use Rattle.wanted_load.proofs.wanted_load.Statement.{statement}
+use Rattle.wanted_load.proofs.wanted_load.Tie as tie
+
+plan-of-requires : tie.Need-plan-of-requires
+plan-of-requires c κs = search needs
+
+earlier-answer-requires : tie.Need-earlier-answer-requires
+earlier-answer-requires c κs = plan-is _ _ (c .plan-of .ensures .0)
+
+enum-told : tie.Need-enum-told
+enum-told c = search needs
+
+returns : tie.Need-returns
+returns c =
+    let a = c .before .before .before .before .before .before in
+    let et = ap (λ (z : Plan). z .table) (c .before .before .plan-of .ensures .0) in
+    let ans = c .before .earlier-answer in
+    let ea = ans .ensures ∙ ap (λ (z : Table). firstRow (earlierRows z (length (a .args .re .now)) (length (a .args .im .now)) (length (a .args .bytes .now)))) et in
+    let n = told (ans .result) (c .match .keys2) in
+    let out : Either (firstRow (earlierRows (a .args .t) (length (a .args .re .now)) (length (a .args .im .now)) (length (a .args .bytes .now))))
+    (Outcome (a .args .t) (a .args .m) (a .args .first) (a .args .re .now) (a .args .im .now) (Refused (ans .result)) (a .args .bytes .now) (a .args .bytes .now))
+    (Turned (firstRow (earlierRows (a .args .t) (length (a .args .re .now)) (length (a .args .im .now)) (length (a .args .bytes .now)))) (Refused (ans .result)) (a .args .bytes .now) (a .args .bytes .now)) =
+    refused _ (λ q. n (ea ∙ q)) (record { answer = ap (λ (z : Answer). Refused z) ea; kept = refl }) in
+    (by-rows (a .args .t) (a .args .m) (a .args .first) (a .args .re .now) (a .args .im .now) (Refused (ans .result)) (a .args .bytes .now) (a .args .bytes .now) out, out)
+
+find-load-requires : tie.Need-find-load-requires
+find-load-requires c κs =
+    let a = c .before .before .before .before .before .before .before .before in
+    let pl = c .before .before .before .before .plan-of in
+    let et = ap (λ (z : Plan). z .table) (pl .ensures .0) in
+    let ea = c .before .before .before .earlier-answer .ensures ∙ ap (λ (z : Table). firstRow (earlierRows z (length (a .args .re .now)) (length (a .args .im .now)) (length (a .args .bytes .now)))) et in
+    let p = passed (a .args .t) (length (a .args .re .now)) (length (a .args .im .now)) (length (a .args .bytes .now)) (sym (c .before .enum-told .given .1) ∙ ea) in
+    (record { is = plan-is (a .args .t) (pl .result) (pl .ensures .0); few = pl .ensures .1; accepted = rw et (p .table) }, p .real, p .imaginary, rw et (p .room))
+
+same-length : tie.Need-same-length
+same-length c = search needs
+
+returns-2 : tie.Need-returns-2
+returns-2 c =
+    let a = c .before .before .before .before .before .before .before .before .before .before .before .before in
+    let t = a .args .t in
+    let re = a .args .re .now in
+    let im = a .args .im .now in
+    let pl = c .before .before .before .before .before .before .before .before .plan-of in
+    let et = ap (λ (z : Plan). z .table) (pl .ensures .0) in
+    let ok = sym (c .before .before .before .before .before .enum-told .given .1) ∙ c .before .before .before .before .before .before .before .earlier-answer .ensures ∙ ap (λ (z : Table). firstRow (earlierRows z (length re) (length im) (length (a .args .bytes .now)))) et in
+    let w = rw et at (c .before .before .before .find-load .ensures) in
+    let bytes = c .before .before .before .find-load .last .1 .1 .1 .1 .1 .0 in
+    let f = w .yes (c .if1 .taken) in
+    let out : Either (firstRow (earlierRows t (length re) (length im) (length (a .args .bytes .now)))) (Outcome t (a .args .m) (a .args .first) re im (Load (pl .result .bytes)) (a .args .bytes .now) bytes)
+    (Turned (firstRow (earlierRows t (length re) (length im) (length (a .args .bytes .now)))) (Load (pl .result .bytes)) (a .args .bytes .now) bytes) =
+    ((λ q. found (ap (λ (z : Plan). Load (z .bytes)) (pl .ensures .0)) (f .0) (f .1) (f .2)), (λ n. absurd (n (sym ok)))) in
+    (by-rows t (a .args .m) (a .args .first) re im (Load (pl .result .bytes)) (a .args .bytes .now) bytes out, out)
+
+same-length-2 : tie.Need-same-length-2
+same-length-2 c = search needs
+
+returns-3 : tie.Need-returns-3
+returns-3 c =
+    let a = c .before .before .before .before .before .before .before .before .before .before .before .before in
+    let t = a .args .t in
+    let re = a .args .re .now in
+    let im = a .args .im .now in
+    let pl = c .before .before .before .before .before .before .before .before .plan-of in
+    let et = ap (λ (z : Plan). z .table) (pl .ensures .0) in
+    let ok = sym (c .before .before .before .before .before .enum-told .given .1) ∙ c .before .before .before .before .before .before .before .earlier-answer .ensures ∙ ap (λ (z : Table). firstRow (earlierRows z (length re) (length im) (length (a .args .bytes .now)))) et in
+    let w = rw et at (c .before .before .before .find-load .ensures) in
+    let bytes = c .before .before .before .find-load .last .1 .1 .1 .1 .1 .0 in
+    let f = w .no (c .if1 .left) in
+    let out : Either (firstRow (earlierRows t (length re) (length im) (length (a .args .bytes .now)))) (Outcome t (a .args .m) (a .args .first) re im (Refused NoLoad) (a .args .bytes .now) bytes)
+    (Turned (firstRow (earlierRows t (length re) (length im) (length (a .args .bytes .now)))) (Refused NoLoad) (a .args .bytes .now) bytes) =
+    ((λ q. none refl (f .0) (f .1)), (λ n. absurd (n (sym ok)))) in
+    (by-rows t (a .args .m) (a .args .first) re im (Refused NoLoad) (a .args .bytes .now) bytes out, out)
+
+pub wanted-load-spec : {M : Type 1} → statement M
+wanted-load-spec =
+    tie.close
+    (tie.spec
+    plan-of-requires
+    earlier-answer-requires
+    enum-told
+    returns
+    find-load-requires
+    same-length
+    returns-2
+    same-length-2
+    returns-3)

@@ -1,0 +1,218 @@
+// Request P9: the bytes behind a wanted frame. What the frame shows is read off, encoded again and compared bit by bit; the lent bytes are written only then.
+use isdbs_core::frame::MAIN_SYMBOLS;
+use isdbs_core::slots::Plan;
+use isdbs_core::slots::plan_of;
+use isdbs_core::tmcc::Table;
+use isdbs_core::tmcc::table_answer;
+use isdbs_encode::encode_main;
+pub use isdbs_points::Mapping;
+use isdbs_points::start_state;
+use isdbs_wanted::read_load;
+use refusal::Answer;
+ghost use mathlib.Core.Path.{_≡_};
+ghost use mathlib.Core.Bool.{cond};
+ghost use Prim.Native.Nat.{_≤_};
+ghost use lib.ListN.{length};
+ghost use Rattle.trellis.specs.Lists.{laid};
+ghost use Rattle.refusal.specs.Rows.{firstRow, Either};
+ghost use Rattle.isdbs_core.specs.Frame.{mainSymbols};
+ghost use Rattle.isdbs_core.specs.Tables.{TableAccepted};
+ghost use Rattle.isdbs_core.specs.RunsOf.{planOf, Planned, loadBytes};
+ghost use Rattle.wanted_load.specs.Rows.{lentRows, earlierRows};
+ghost use Rattle.wanted_load.specs.Found.{Answered, Same, SameParts, Matches, Searched, Outcome, Turned};
+
+// Whether two parts have the same bits. A NaN has none to compare.
+fn same_bits(x: f64, y: f64) -> bool
+    ensures { λ r. ⌜ Same x y r ⌝ }
+{
+    if x != x {
+        return false;
+    }
+    if y != y {
+        return false;
+    }
+    if x == y {
+        f64::to_bits(x) == f64::to_bits(y)
+    } else {
+        false
+    }
+}
+
+// Whether the first n parts have the same bits.
+fn same_parts(xs: &[f64], ys: &[f64], n: usize) -> bool
+    requires { ⌜ (n ≤ length (now xs)) × (n ≤ length (now ys)) ⌝ }
+    ensures { λ r. ⌜ SameParts (now (xs .entry)) (now (ys .entry)) n r ⌝ }
+{
+    for i in 0..n {
+        if same_bits(xs[i], ys[i]) {} else {
+            return false;
+        }
+    }
+    true
+}
+
+// A load, laid over the beginning of the lent bytes.
+fn put(load: &[u8], bytes: &mut [u8])
+    requires { ⌜ length (now load) ≤ length (now bytes) ⌝ }
+    ensures { λ _. ⌜ now (bytes .exit) ≡ laid (now (load .entry)) (now (bytes .entry)) ⌝ }
+{
+    for i in 0..load.len() {
+        bytes[i] = load[i];
+    }
+}
+
+// Whether a load encodes to the frame, which is made in the lent xs and ys.
+fn matches(
+    re: &[f64],
+    im: &[f64],
+    t: Table,
+    m: Mapping,
+    first: bool,
+    load: &[u8],
+    xs: &mut [f64],
+    ys: &mut [f64],
+) -> bool
+    requires { ⌜ TableAccepted t × (mainSymbols ≤ length (now re)) × (mainSymbols ≤ length (now im)) × (mainSymbols ≤ length (now xs)) × (mainSymbols ≤ length (now ys)) ⌝ }
+    ensures { λ r. ⌜ Matches t m first (now (re .entry)) (now (im .entry)) (now (load .entry)) r ⌝ }
+{
+    encode_main(load, t, start_state(first), m, xs, ys);
+    if same_parts(re, xs, MAIN_SYMBOLS) {
+        same_parts(im, ys, MAIN_SYMBOLS)
+    } else {
+        false
+    }
+}
+
+// Lays a load over the beginning of the lent bytes if it encodes to the frame.
+fn keep_load(
+    re: &[f64],
+    im: &[f64],
+    t: Table,
+    m: Mapping,
+    first: bool,
+    load: &[u8],
+    xs: &mut [f64],
+    ys: &mut [f64],
+    bytes: &mut [u8],
+) -> bool
+    requires { ⌜ TableAccepted t × (mainSymbols ≤ length (now re)) × (mainSymbols ≤ length (now im)) × (mainSymbols ≤ length (now xs)) × (mainSymbols ≤ length (now ys)) × (length (now load) ≤ length (now bytes)) ⌝ }
+    ensures { λ r. ⌜ Matches t m first (now (re .entry)) (now (im .entry)) (now (load .entry)) r × (now (bytes .exit) ≡ cond r (laid (now (load .entry)) (now (bytes .entry))) (now (bytes .entry))) ⌝ }
+{
+    if matches(re, im, t, m, first, load, xs, ys) {
+        put(load, bytes);
+        true
+    } else {
+        false
+    }
+}
+
+// Reads the load off the frame, encodes it and compares; what it finds is written once that is known. The other lent slices are scratch space.
+fn search_load(
+    p: Plan,
+    re: &[f64],
+    im: &[f64],
+    m: Mapping,
+    first: bool,
+    load: &mut [u8],
+    xs: &mut [f64],
+    ys: &mut [f64],
+    bytes: &mut [u8],
+) -> bool
+    requires { ⌜ Planned p × (mainSymbols ≤ length (now re)) × (mainSymbols ≤ length (now im)) × (loadBytes (p .table) ≤ length (now load)) × (mainSymbols ≤ length (now xs)) × (mainSymbols ≤ length (now ys)) × (loadBytes (p .table) ≤ length (now bytes)) ⌝ }
+    ensures { λ r. ⌜ Searched (p .table) m first (now (re .entry)) (now (im .entry)) r (now (bytes .entry)) (now (bytes .exit)) ⌝ }
+{
+    let start = start_state(first);
+    read_load(p, m, start, re, im, load);
+    let t = p.table;
+    let n = p.bytes;
+    keep_load(re, im, t, m, first, &load[0..n], xs, ys, bytes)
+}
+
+// The same in lent arrays, of the size that any accepted table needs.
+fn search_arrays(
+    p: Plan,
+    re: &[f64],
+    im: &[f64],
+    m: Mapping,
+    first: bool,
+    load: &mut [u8; 9744],
+    xs: &mut [f64; 38976],
+    ys: &mut [f64; 38976],
+    bytes: &mut [u8],
+) -> bool
+    requires { ⌜ Planned p × (mainSymbols ≤ length (now re)) × (mainSymbols ≤ length (now im)) × (loadBytes (p .table) ≤ length (now bytes)) ⌝ }
+    ensures { λ r. ⌜ Searched (p .table) m first (now (re .entry)) (now (im .entry)) r (now (bytes .entry)) (now (bytes .exit)) ⌝ }
+{
+    search_load(p, re, im, m, first, load, xs, ys, bytes)
+}
+
+// The full load that encodes to the frame, written over the beginning of the lent bytes. Where there is none, no byte changes.
+fn find_load(p: Plan, re: &[f64], im: &[f64], m: Mapping, first: bool, bytes: &mut [u8]) -> bool
+    requires { ⌜ Planned p × (mainSymbols ≤ length (now re)) × (mainSymbols ≤ length (now im)) × (loadBytes (p .table) ≤ length (now bytes)) ⌝ }
+    ensures { λ r. ⌜ Searched (p .table) m first (now (re .entry)) (now (im .entry)) r (now (bytes .entry)) (now (bytes .exit)) ⌝ }
+{
+    let mut load = [0u8; 9744];
+    let mut xs = [0.0f64; 38976];
+    let mut ys = [0.0f64; 38976];
+    search_arrays(p, re, im, m, first, &mut load, &mut xs, &mut ys, bytes)
+}
+
+// Rows 6 and 9: the lent slices have these lengths, and the load has `need` bytes.
+fn lent_answer(need: usize, re: usize, im: usize, bytes: usize) -> Answer
+    ensures { λ r. ⌜ r ≡ firstRow (lentRows need re im bytes) ⌝ }
+{
+    if re < MAIN_SYMBOLS {
+        return Answer::Symbols;
+    }
+    if im < MAIN_SYMBOLS {
+        return Answer::Symbols;
+    }
+    if bytes < need {
+        return Answer::Space;
+    }
+    Answer::Accepted
+}
+
+// Why the call is turned back before the frame is read.
+fn earlier_answer(p: Plan, re: usize, im: usize, bytes: usize) -> Answer
+    requires { ⌜ p ≡ planOf (p .table) ⌝ }
+    ensures { λ r. ⌜ r ≡ firstRow (earlierRows (p .table) re im bytes) ⌝ }
+{
+    let table = table_answer(p.table);
+    let Answer::Accepted = table else {
+        return table;
+    };
+    lent_answer(p.bytes, re, im, bytes)
+}
+
+// What the call answers: the bytes of the load, or why it is turned back.
+pub enum LoadFound {
+    Load(usize),
+    Refused(Answer),
+}
+
+// The bytes behind a wanted frame: the full load that encodes, from the start state for `first`, to exactly the first 38,976 points that are lent.
+pub fn wanted_load(
+    re: &[f64],
+    im: &[f64],
+    t: Table,
+    m: Mapping,
+    first: bool,
+    bytes: &mut [u8],
+) -> LoadFound
+    ensures answers { λ r. ⌜ Answered t m first (now (re .entry)) (now (im .entry)) (length (now (bytes .entry))) r ⌝ }
+    ensures leaves { λ r. ⌜ Either (firstRow (earlierRows t (length (now (re .entry))) (length (now (im .entry))) (length (now (bytes .entry)))))
+        (Outcome t m first (now (re .entry)) (now (im .entry)) r (now (bytes .entry)) (now (bytes .exit)))
+        (Turned (firstRow (earlierRows t (length (now (re .entry))) (length (now (im .entry))) (length (now (bytes .entry))))) r (now (bytes .entry)) (now (bytes .exit))) ⌝ }
+{
+    let p = plan_of(t);
+    let answer = earlier_answer(p, re.len(), im.len(), bytes.len());
+    let Answer::Accepted = answer else {
+        return LoadFound::Refused(answer);
+    };
+    if find_load(p, re, im, m, first, bytes) {
+        LoadFound::Load(p.bytes)
+    } else {
+        LoadFound::Refused(Answer::NoLoad)
+    }
+}
