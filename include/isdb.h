@@ -21,6 +21,7 @@
  *   7 sample     not finite; beyond 65,536 for a frame part, 1,048,576 for a stream value
  *   8 scale      a scale not above 0, or above 64
  *   9 space      an output or decision slice shorter than the call writes; decisions always need 4,096 + traceback
+ *  13 no load    no full load encodes to the frame (isdbs_wanted_load)
  *
  * A table is one number: entry i (0 to 3) has its word in bits 16i to 16i+7, of which the low 4 count, and its slot count in bits 16i+8 to 16i+15.
  * Words 1 to 7 are BPSK 1/2, QPSK 1/2, 2/3, 3/4, 5/6, 7/8 and TC8PSK 2/3, in units of 4, 2, 3, 4, 6, 8 and 1 slots. 15 takes its slots and sends nothing; with 0 slots it is
@@ -89,6 +90,12 @@ uint32_t isdbs_encode_frame(const uint8_t *bytes, size_t bytes_len, uint64_t tab
 uint32_t isdbs_decode_frame(const double *re, size_t re_len, const double *im, size_t im_len, uint64_t table, uint8_t mapping,
                             uint8_t first, uint8_t known_start, const float *scales, size_t scales_len,
                             uint64_t *decisions, size_t decisions_len, uint8_t *bits, size_t bits_len, uint8_t *bytes, size_t bytes_len);
+
+/* The bytes behind a wanted frame: the full load (203 bytes for each valid slot) that encodes, from the start state for `first` (any number but 0 for the first
+ * frame of a superframe), to exactly the f64 bits of the first 38,976 points, unused points included. There is at most one. Points past them are not read, and
+ * a NaN is in no frame. Row 13: no full load encodes to the frame; `bytes` is as it was. Takes about 640 kB of stack. Rows 1, 10, 11, 6, 9, 13. */
+uint32_t isdbs_wanted_load(const double *re, size_t re_len, const double *im, size_t im_len, uint64_t table, uint8_t mapping,
+                           uint8_t first, uint8_t *bytes, size_t bytes_len);
 
 /* Full frames of 39,936 symbols, as real and imaginary parts: 192 header points at places 0 to 191, then 192 times 203 main points and a burst of 4.
  * Symbol j of burst b is point 4b + j of the burst's 768. Points are only copied, NaN and infinities too (a NaN's bits are free); those past 192, 38,976,
