@@ -1,0 +1,66 @@
+-- `one_way` is safe and ends. Assumes nothing.
+use Prim.Native.Nat.{_-_, _≤_}
+use borrow.Author.Needs.{needs}
+use Rattle.vectors_wanted.proofs.one_way.Statement.{statement}
+use Rattle.vectors_wanted.proofs.one_way.Tie as tie
+
+abbrev Inv-loop : tie.InvT-loop
+Inv-loop way table re₀ im₀ xs₀ ys₀ load bytes₀ count back g₀ how₀ re im xs ys bytes g how = how ≤ 4
+
+abbrev μ-loop : tie.MeasureT-loop
+μ-loop way table re₀ im₀ xs₀ ys₀ load bytes₀ count back g₀ how₀ re im xs ys bytes g how = 4 - how
+
+load-bytes-requires : tie.Need-load-bytes-requires Inv-loop μ-loop
+load-bytes-requires c κs = search needs
+
+step-requires : tie.Need-step-requires Inv-loop μ-loop
+step-requires c κs = search needs
+
+fill-requires : tie.Need-fill-requires Inv-loop μ-loop
+fill-requires c κs = search needs
+
+comes-back-requires : tie.Need-comes-back-requires Inv-loop μ-loop
+comes-back-requires c κs = search needs
+
+one-more-requires : tie.Need-one-more-requires Inv-loop μ-loop
+one-more-requires c κs = search needs
+
+loop-holds : tie.Need-loop-holds Inv-loop μ-loop
+loop-holds c = search needs
+
+one-change-requires : tie.Need-one-change-requires Inv-loop μ-loop
+one-change-requires c κs = search needs
+
+counted-requires : tie.Need-counted-requires Inv-loop μ-loop
+counted-requires c κs = search needs
+
+add-how : tie.Need-add-how Inv-loop μ-loop
+add-how c = search needs
+
+loop-less : tie.Need-loop-less Inv-loop μ-loop
+loop-less c = search needs
+
+loop-again : tie.Need-loop-again Inv-loop μ-loop
+loop-again c = search needs
+
+returns : tie.Need-returns Inv-loop μ-loop
+returns c = search needs
+
+pub one-way-spec : {M : Type 1} → statement M
+one-way-spec =
+    tie.close
+    (tie.spec
+    Inv-loop
+    μ-loop
+    load-bytes-requires
+    step-requires
+    fill-requires
+    comes-back-requires
+    one-more-requires
+    loop-holds
+    one-change-requires
+    counted-requires
+    add-how
+    loop-less
+    loop-again
+    returns)
