@@ -20,7 +20,7 @@ ghost use Rattle.isdb_c.specs.Rows.{answered, left};
 ghost use Rattle.isdb_c.specs.Lengths.{untilLength, scalesRows};
 
 // The mapping of a number.
-fn mapping_of(mapping: u8) -> Mapping
+pub fn mapping_of(mapping: u8) -> Mapping
     ensures { λ r. ⌜ r ≡ mappingOf mapping ⌝ }
 {
     Mapping {

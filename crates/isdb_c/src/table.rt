@@ -27,7 +27,7 @@ fn entry_of(bits: u64) -> Entry
 }
 
 // The table of a number.
-pub(crate) fn table_of(table: u64) -> Table
+pub fn table_of(table: u64) -> Table
     ensures { λ r. ⌜ r ≡ tableOf table ⌝ }
 {
     let e0 = entry_of(table);
