@@ -23,6 +23,7 @@ use Rattle.short_fec.specs.Rows as short
 use Rattle.short_best.specs.Readings as short-best
 use Rattle.full_frame.specs.declared.Input.{Input}
 use Rattle.full_frame.specs.Rows.{layRows, takeRows}
+use Rattle.wanted_load.specs.Rows.{wantedRows}
 use Rattle.strain_window.specs.declared.WindowState.{WindowState}
 use Rattle.strain_window.specs.Rows as window
 use Rattle.isdb_c.specs.Rows.{placesRows, bitSymbolRows}
@@ -82,6 +83,9 @@ module _ (t : Table) (v : ViterbiDecoder) (c : Code) (w : WindowState) (parts : 
       -- full_frame
       ∷ layRows parts parts re im
       ∷ takeRows re im parts parts
+      -- wanted_load: a load encodes to the frame, or none does
+      ∷ wantedRows t i j k false
+      ∷ wantedRows t i j k true
       -- strain_window
       ∷ window.pushRows w i bytes
       -- isdb_c: the lists of its own
