@@ -1,0 +1,40 @@
+-- `read_by_table` meets its contract. Assumes nothing.
+use mathlib.Core.Path.{sym, _∙_, ap}
+use borrow.Author.Needs.{needs}
+use Rattle.isdbs_core.specs.declared.slots.Plan.{Plan}
+use Rattle.isdbs_core.specs.declared.tmcc.Table.{Table}
+use Rattle.isdbs_core.specs.RunsOf.{planOf}
+use Rattle.bench_wanted.proofs.misfit.read_by_table.Statement.{statement}
+use Rattle.bench_wanted.proofs.misfit.read_by_table.Tie as tie
+use Rattle.bench_wanted.proofs.misfit.read_by_table.Reads as reads
+use Rattle.bench_wanted.proofs.misfit.read_by_table.Lts as lts
+use Rattle.bench_wanted.proofs.misfit.read_off.Reads as read-off-reads
+use Rattle.isdbs_core.proofs.slots.plan_of.Reads as plan-of-reads
+use Rattle.isdbs_core.proofs.tmcc.table_answer.Reads as table-answer-reads
+
+plan-of-requires : tie.Need-plan-of-requires
+plan-of-requires c κs = search needs
+
+table-answer-requires : tie.Need-table-answer-requires
+table-answer-requires c κs = search needs
+
+enum-told : tie.Need-enum-told
+enum-told c = search needs
+
+returns : tie.Need-returns
+returns c = search needs
+
+read-off-requires : tie.Need-read-off-requires
+read-off-requires c κs =
+    let p = c .before .before .before .before .plan-of in
+    let e = ap (λ (z : Plan). z .table) (p .ensures .0) in
+    let ok = sym (c .before .before .before .table-answer .ensures) ∙ c .before .enum-told .given .1 in
+    record { is = p .ensures .0 ∙ ap (λ (z : Table). planOf z) (sym e); few = p .ensures .1; accepted = rw e ok }
+
+returns-2 : tie.Need-returns-2
+returns-2 c = search needs
+
+pub read-by-table-spec : {M : Type 1} → statement M
+read-by-table-spec =
+    tie.close
+    (tie.spec plan-of-requires table-answer-requires enum-told returns read-off-requires returns-2)

@@ -1,0 +1,92 @@
+// The bench program's command bytes: the full load behind the points of a wanted frame.
+mod misfit;
+
+use bench_files::files;
+use bench_files::files::Got;
+use bench_words::report;
+use bench_words::text::count;
+use bench_words::text::quoted;
+use bench_words::text::text;
+use bench_words::words::front;
+use bench_words::words::front_parts;
+use isdbs_core::tmcc::Table;
+use isdbs_points::Mapping;
+use refusal::Answer;
+use wanted_load::LoadFound;
+use wanted_load::wanted_load;
+
+// Writes the load.
+fn keep(name: &[u8], bytes: &[u8]) {
+    text(b"writing the load\n");
+    if files::write_bytes(name, bytes) {
+        text(b"bytes ");
+        quoted(name);
+        text(b": ");
+        count(bytes.len());
+        text(b" bytes\nok\n");
+    }
+}
+
+// The last lines of a frame that was turned back.
+fn refuse(
+    answer: Answer,
+    points: Got,
+    t: Table,
+    m: Mapping,
+    first: bool,
+    re: &[f64; 38976],
+    im: &[f64; 38976],
+    load: &mut [u8; 9745],
+) {
+    match answer {
+        Answer::NoLoad => misfit::show(t, m, first, re, im, load),
+        _ => report::refuse_reading(answer, points.count, points.over, re, im),
+    }
+}
+
+// Asks for the load of the points that were read, and writes it.
+fn find(
+    points: Got,
+    t: Table,
+    m: Mapping,
+    first: bool,
+    output: &[u8],
+    re: &[f64; 38976],
+    im: &[f64; 38976],
+    bytes: &mut [u8; 9745],
+) {
+    let n = points.count;
+    let found = wanted_load(front_parts(re, n), front_parts(im, n), t, m, first, bytes);
+    match found {
+        LoadFound::Load(size) => keep(output, front(bytes, size)),
+        LoadFound::Refused(answer) => refuse(answer, points, t, m, first, re, im, bytes),
+    }
+}
+
+// bench bytes TABLE MAPPING KIND FRAME BYTES, on lent space for the points and the load.
+pub fn bytes(
+    t: Table,
+    m: Mapping,
+    first: bool,
+    input: &[u8],
+    output: &[u8],
+    re: &mut [f64; 38976],
+    im: &mut [f64; 38976],
+    load: &mut [u8; 9745],
+) {
+    let file = files::open_for(input, output);
+    if file < 0 {
+        return;
+    }
+    text(b"reading the points\n");
+    let got = files::read_points(file, input, re, im);
+    if !got.well {
+        return;
+    }
+    text(b"frame ");
+    quoted(input);
+    text(b": ");
+    count(got.count);
+    text(b" points\n");
+    find(got, t, m, first, output, re, im, load);
+}

@@ -1,0 +1,164 @@
+// The first point that fits no load: the load that the points show is read off and encoded again, and the frames are compared point by point.
+use bench_words::report;
+use bench_words::text::count;
+use bench_words::text::text;
+use bench_words::words::front;
+use isdbs_core::slots::Plan;
+use isdbs_core::slots::plan_of;
+use isdbs_core::tmcc::Table;
+use isdbs_core::tmcc::table_answer;
+use isdbs_phy::demod::encode_frame;
+use isdbs_points::Mapping;
+use isdbs_points::start_state;
+use isdbs_wanted::read_load;
+use libc::STDOUT_FILENO;
+use refusal::Answer;
+ghost use Prim.Native.Nat.{_≤_};
+ghost use Rattle.isdbs_core.specs.RunsOf.{Planned};
+
+// The bits of a part, one pattern for every NaN.
+fn bits(x: f64) -> u64 {
+    if x != x {
+        return 0x7ff8_0000_0000_0000;
+    }
+    f64::to_bits(x)
+}
+
+// Whether two parts have other bits.
+fn differ(x: f64, y: f64) -> bool {
+    bits(x) != bits(y)
+}
+
+// The first point in which two frames differ, or 38,976.
+fn first_difference(
+    re: &[f64; 38976],
+    im: &[f64; 38976],
+    xs: &[f64; 38976],
+    ys: &[f64; 38976],
+) -> usize
+    ensures { λ r. ⌜ r ≤ 38976 ⌝ }
+{
+    let mut k: usize = 0;
+    while k < 38976 {
+        if differ(re[k], xs[k]) || differ(im[k], ys[k]) {
+            break;
+        }
+        k = k + 1;
+    }
+    k
+}
+
+// A part in words: those of a made frame as numbers, others by their bits.
+fn part(x: f64) {
+    let n = bits(x);
+    match n {
+        0 => text(b"0"),
+        0x8000_0000_0000_0000 => text(b"-0"),
+        0x3ff0_0000_0000_0000 => text(b"1"),
+        0xbff0_0000_0000_0000 => text(b"-1"),
+        0x3fe6_a09e_667f_3bcd => text(b"0.7071"),
+        0xbfe6_a09e_667f_3bcd => text(b"-0.7071"),
+        0x7ff8_0000_0000_0000 => text(b"NaN"),
+        _ => {
+            text(b"0x");
+            io::print_hex(STDOUT_FILENO, n, 16);
+        }
+    }
+}
+
+fn point(x: f64, y: f64) {
+    text(b"(");
+    part(x);
+    text(b", ");
+    part(y);
+    text(b")");
+}
+
+// The last lines: point k as it is, and as the load that is read off has it.
+fn refuse_at(k: usize, x: f64, y: f64, u: f64, v: f64) {
+    text(b"point ");
+    count(k);
+    text(b" is ");
+    point(x, y);
+    text(b"; the load that the points show has ");
+    point(u, v);
+    text(b" there\n");
+    report::refused(Answer::NoLoad);
+    text(b"point ");
+    count(k);
+    text(b" fits no load (points are counted from 0)\n");
+}
+
+fn refuse_first(re: &[f64; 38976], im: &[f64; 38976], xs: &[f64; 38976], ys: &[f64; 38976]) {
+    let k = first_difference(re, im, xs, ys);
+    if k < 38976 {
+        refuse_at(k, re[k], im[k], xs[k], ys[k]);
+    }
+}
+
+// Reads the load of a plan off the points.
+fn read_off(
+    p: Plan,
+    m: Mapping,
+    first: bool,
+    re: &[f64; 38976],
+    im: &[f64; 38976],
+    load: &mut [u8; 9745],
+)
+    requires { ⌜ Planned p ⌝ }
+{
+    read_load(p, m, start_state(first), re, im, load);
+}
+
+// Reads the load off the points, and answers how many bytes it has; 0 where the table is none.
+fn read_by_table(
+    t: Table,
+    m: Mapping,
+    first: bool,
+    re: &[f64; 38976],
+    im: &[f64; 38976],
+    load: &mut [u8; 9745],
+) -> usize {
+    let p = plan_of(t);
+    let n = p.bytes;
+    let answer = table_answer(t);
+    let Answer::Accepted = answer else {
+        return 0;
+    };
+    read_off(p, m, first, re, im, load);
+    n
+}
+
+// Encodes a load into xs and ys, and shows the first point that differs.
+fn show_against(
+    t: Table,
+    m: Mapping,
+    first: bool,
+    load: &[u8],
+    re: &[f64; 38976],
+    im: &[f64; 38976],
+    xs: &mut [f64; 38976],
+    ys: &mut [f64; 38976],
+) {
+    let answer = encode_frame(load, t, first, m, xs, ys);
+    if refusal::number(answer) != 0 {
+        report::refuse(answer);
+        return;
+    }
+    refuse_first(re, im, xs, ys);
+}
+
+// The last lines of a frame that no load has, on lent space for the load that its points show.
+pub(crate) fn show(
+    t: Table,
+    m: Mapping,
+    first: bool,
+    re: &[f64; 38976],
+    im: &[f64; 38976],
+    load: &mut [u8; 9745],
+) {
+    let n = read_by_table(t, m, first, re, im, load);
+    let mut xs = [0.0f64; 38976];
+    let mut ys = [0.0f64; 38976];
+    show_against(t, m, first, front(load, n), re, im, &mut xs, &mut ys);
+}
