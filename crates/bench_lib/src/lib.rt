@@ -8,6 +8,7 @@ mod make;
 mod read;
 mod setting;
 mod usage;
+mod wanted;
 
 use bench_words::words::part;
 use bench_words::words::same;
@@ -57,6 +58,10 @@ fn run_on(
     }
     if same(command, b"part") {
         full::take_apart(line, re, im);
+        return;
+    }
+    if same(command, b"bytes") {
+        wanted::bytes(line, re, im, bytes);
         return;
     }
     if is_help(command) {

@@ -22,6 +22,9 @@ fn usage_commands() {
     text(
         b"  bench part FULL HEADER MAIN BURST                                points of FULL to header, main and burst points\n",
     );
+    text(
+        b"  bench bytes TABLE MAPPING KIND FRAME BYTES                       the full load behind the points of FRAME to BYTES\n",
+    );
     text(b"  bench help                                                       these words\n");
     text(
         b"  bench version                                                    the version of the program\n",

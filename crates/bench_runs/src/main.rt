@@ -161,6 +161,56 @@ fn full_frames() {
     bench(b"part whole.cf64 header.cf64 main.cf64");
 }
 
+fn wanted() {
+    note(b"the main points were taken out of the full frame before any was damaged");
+    bench(b"bytes 7:44,1:4 001 first main.cf64 wanted");
+    bench(b"compare 7:44,1:4 load wanted");
+    bench(b"bytes 15:10,2:2,6:16,1:4 001 other mixed.cf64 wanted_mixed");
+    bench(b"compare 15:10,2:2,6:16,1:4 mixed wanted_mixed");
+    note(b"the sign of the last imaginary part, which no run uses, turns");
+    patch(b"mixed.cf64", 623615, b"\x80");
+    bench(b"bytes 15:10,2:2,6:16,1:4 001 other mixed.cf64 wanted_mixed");
+    bench(b"compare 15:10,2:2,6:16,1:4 mixed wanted_mixed");
+    bench(b"bytes 7:44,1:4 001 other main.cf64 none");
+    bench(b"bytes 7:48 001 first main.cf64 none");
+    bench(b"bytes 7:44,1:4 110 other frame.cf32 none");
+}
+
+fn wanted_damaged() {
+    note(b"point 100 turns from (-1, 0) to (1, 0): another load has this frame");
+    patch(
+        b"main.cf64",
+        1600,
+        b"\x00\x00\x00\x00\x00\x00\xf0\x3f\x00\x00\x00\x00\x00\x00\x00\x00",
+    );
+    bench(b"bytes 7:44,1:4 001 first main.cf64 wanted");
+    bench(b"compare 7:44,1:4 load wanted");
+    note(b"point 1,203's imaginary part becomes a NaN");
+    patch(b"main.cf64", 19256, b"\x00\x00\x00\x00\x00\x00\xf8\x7f");
+    bench(b"bytes 7:44,1:4 001 first main.cf64 none");
+    note(b"point 100 turns to (0, 1): a load has the points up to it, and none the next too");
+    patch(
+        b"main.cf64",
+        1600,
+        b"\x00\x00\x00\x00\x00\x00\x00\x00\x00\x00\x00\x00\x00\x00\xf0\x3f",
+    );
+    bench(b"bytes 7:44,1:4 001 first main.cf64 none");
+    note(b"point 7's real part moves by its last bit");
+    patch(b"main.cf64", 112, b"\x01");
+    bench(b"bytes 7:44,1:4 001 first main.cf64 none");
+}
+
+fn wanted_refused() {
+    bench(b"bytes 7:49 001 first main.cf64 none");
+    bench(b"bytes 7:44,1:5 001 first main.cf64 none");
+    bench(b"bytes 8:3,1:4 001 first main.cf64 none");
+    bench(b"bytes 7:44,1:4 001 first load none");
+    bench(b"bytes 7:44,1:4 001 first missing.cf64 none");
+    bench(b"bytes 7:44,1:4 001 first main.cf64 ./main.cf64");
+    bench(b"compare 7:44,1:4 load none");
+    bench(b"bytes 7:44,1:4 001 first main.cf64");
+}
+
 fn misuse() {
     bench(b"make 7:44 001 first load");
     bench(b"read 7:44,1:x 001 first frame.cf64 none");
@@ -191,5 +241,8 @@ fn main() {
     refusals();
     differences();
     damaged();
+    wanted();
+    wanted_damaged();
+    wanted_refused();
     misuse();
 }
