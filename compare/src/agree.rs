@@ -408,6 +408,64 @@ fn encoding(all: &mut (u64, u64), scale: u64) {
     kind.done(all);
 }
 
+/// The load that the Rust makes these points of, if there is one: where there is, the points are its clean frame, which the Rust's decoder reads back.
+#[cfg(wanted)]
+fn behind(points: &[Cplx], t: u64, m: u8, first: bool) -> Option<Vec<u8>> {
+    if points.iter().any(|v| !v.re.is_finite() || !v.im.is_finite()) {
+        return None;
+    }
+    let bytes = isdbs_phy::demod::decode_frame(points, &info(t), first, &options(m, true, 8.0)).bytes;
+    let (made, _) = isdbs_phy::demod::encode_frame_with_state(&bytes, &info(t), first, mapping(m));
+    let same = made.iter().zip(points).all(|(a, b)| a.re.to_bits() == b.re.to_bits() && a.im.to_bits() == b.im.to_bits());
+    same.then_some(bytes)
+}
+
+#[cfg(wanted)]
+fn wanting(all: &mut (u64, u64)) {
+    let check = |kind: &mut Kind, points: &[Cplx], t: u64, m: u8, first: bool| {
+        let want = behind(points, t, m, first);
+        let (mut re, im): (Vec<f64>, Vec<f64>) = points.iter().map(|v| (v.re, v.im)).unzip();
+        // past the points nothing is read
+        re.push(f64::NAN);
+        let n = valid_slots(t) * 203;
+        let mut bytes = vec![0xa5; n + 3];
+        let answer = calls::wanted_load(&re, &im, t, m, first.into(), &mut bytes);
+        let same = match &want {
+            Some(load) => answer == 0 && bytes[..n] == load[..n] && bytes[n..] == [0xa5; 3],
+            None => answer == 13 && bytes.iter().all(|&b| b == 0xa5),
+        };
+        kind.case(same, || format!("table {t:016x} mapping {m} first {first} answer {answer} a load fits: {}", want.is_some()));
+        want.is_some()
+    };
+    let mut draws = Draws(0xb17e5);
+    let mut clean = Kind::new("wanted_load: frames of the Rust, tables of every kind, all mappings, both frame kinds");
+    let mut changed = Kind::new("wanted_load: frames with a part or a point changed, the Rust saying whether another load fits");
+    let mut others = 0;
+    for t in some_tables() {
+        for m in 0..8 {
+            for first in [true, false] {
+                let load = draws.bytes(valid_slots(t) * 203);
+                let (points, _) = isdbs_phy::demod::encode_frame_with_state(&load, &info(t), first, mapping(m));
+                check(&mut clean, &points, t, m, first);
+                for change in 0..4 {
+                    let mut points = points.clone();
+                    let k = draws.below(MAIN as u64) as usize;
+                    match change {
+                        0 => points[k].re = f64::from_bits(points[k].re.to_bits() ^ 1 << draws.below(64)),
+                        1 => points[k].im = -points[k].im,
+                        2 => points[k] = Cplx::new(-points[k].re, -points[k].im),
+                        _ => points[MAIN - 1 - k % 4].re *= -1.0,
+                    }
+                    others += u32::from(check(&mut changed, &points, t, m, first));
+                }
+            }
+        }
+    }
+    clean.done(all);
+    changed.done(all);
+    println!("{others:>10} of the changed frames are another load's");
+}
+
 #[cfg(decode)]
 fn decoding(all: &mut (u64, u64), scale: u64) {
     // the Rust has one scale: `scale`, and the points of each run times 2^k where the scales are `scale` times 2^k
@@ -599,6 +657,8 @@ fn main() {
     encoding(&mut all, scale);
     #[cfg(decode)]
     decoding(&mut all, scale);
+    #[cfg(wanted)]
+    wanting(&mut all);
     println!("{} cases, {} different", all.0, all.1);
     if all.1 != 0 {
         std::process::exit(1);

@@ -31,6 +31,9 @@ mod c {
         #[cfg(decode)]
         #[rustfmt::skip]
         pub fn isdbs_decode_frame(re: *const f64, re_len: usize, im: *const f64, im_len: usize, table: u64, mapping: u8, first: u8, known_start: u8, scales: *const f32, scales_len: usize, decisions: *mut u64, decisions_len: usize, bits: *mut u8, bits_len: usize, bytes: *mut u8, bytes_len: usize) -> u32;
+        #[cfg(wanted)]
+        #[rustfmt::skip]
+        pub fn isdbs_wanted_load(re: *const f64, re_len: usize, im: *const f64, im_len: usize, table: u64, mapping: u8, first: u8, bytes: *mut u8, bytes_len: usize) -> u32;
     }
 }
 
@@ -91,6 +94,11 @@ pub fn decode_punctured(rate: u8, llrs: &[f32], traceback: u64, decisions: &mut 
 #[cfg(encode)]
 pub fn encode_frame(bytes: &[u8], table: u64, mapping: u8, state: u8, re: &mut [f64], im: &mut [f64], end: &mut u8) -> u32 {
     unsafe { c::isdbs_encode_frame(bytes.as_ptr(), bytes.len(), table, mapping, state, re.as_mut_ptr(), re.len(), im.as_mut_ptr(), im.len(), end) }
+}
+
+#[cfg(wanted)]
+pub fn wanted_load(re: &[f64], im: &[f64], table: u64, mapping: u8, first: u8, bytes: &mut [u8]) -> u32 {
+    unsafe { c::isdbs_wanted_load(re.as_ptr(), re.len(), im.as_ptr(), im.len(), table, mapping, first, bytes.as_mut_ptr(), bytes.len()) }
 }
 
 #[cfg(decode)]
