@@ -121,10 +121,10 @@ record Passed (t : Table) (re im scales : List Float) : Type 0 where
   im-fine : someBeyond partLimit im 38976 ≡ false
   scales-fine : someBad scales ≡ false
 
-module _ (t : Table) (re im scales : List Float) (decisions bits bytes : ℕ) where
-  passed : Accepted ≡ firstRow (decodeRows t re im scales decisions bits bytes) → Passed t re im scales
+module _ (t : Table) (re im scales : List Float) (decisions bits bytes counts : ℕ) where
+  passed : Accepted ≡ firstRow (decodeRows t re im scales decisions bits bytes counts) → Passed t re im scales
   passed e =
-      let rest : List Row = pointRows re im ++ lastRows t (someBad scales) decisions bits bytes in
+      let rest : List Row = pointRows re im ++ lastRows t (someBad scales) decisions bits bytes counts in
       let b = then-accepted t rest (sym e) in
       let p = row.passed rest tt (b .1) in
       let q = neither (someBeyond partLimit re 38976) (someBeyond partLimit im 38976) (p Sample) in
@@ -195,15 +195,15 @@ start-bounded true first = given-bounded path-limits (startState first)
 start-bounded false first = unknown-bounded path-limits
 
 -- ---- the theorem: an accepted call keeps to the ranges. Every value of a lent slice and a scale is one of its format, which the borrow checker tells
-module _ (e : Tie) (t : Table) (re im : List Float) (m : Mapping) (scales : List Float) (decisions bits bytes : ℕ) (knownStart first : Bool)
+module _ (e : Tie) (t : Table) (re im : List Float) (m : Mapping) (scales : List Float) (decisions bits bytes counts : ℕ) (knownStart first : Bool)
     (re-fits : (i : ℕ) → T (fits binary64 (getD re i nan))) (im-fits : (i : ℕ) → T (fits binary64 (getD im i nan))) (scale-fits : (i : ℕ) → T (fits binary32 (getD scales i nan)))
-    (yes : Accepted ≡ firstRow (decodeRows t re im scales decisions bits bytes))
+    (yes : Accepted ≡ firstRow (decodeRows t re im scales decisions bits bytes counts))
   where
     abbrev r : Received
     r = receivedBy re im m scales
 
     p : Passed t re im scales
-    p = passed t re im scales decisions bits bytes yes
+    p = passed t re im scales decisions bits bytes counts yes
 
     sized : Sized partPower scalePower r
     sized = record {

@@ -57,6 +57,6 @@ pub record Ranges (e : Tie) (t : Table) (r : Received) (pm : List Float) : Type 
   pub paths : pathRange e t r pm
 
 -- what a call promises where it is accepted
-abbrev pub Promised : Table → List Float → List Float → Mapping → List Float → Bool → Bool → ℕ → ℕ → ℕ → Type 0
-Promised t re im m scales knownStart first decisions bits bytes =
-    Accepted ≡ firstRow (decodeRows t re im scales decisions bits bytes) → Ranges rule t (receivedBy re im m scales) (startValues knownStart first)
+abbrev pub Promised : Table → List Float → List Float → Mapping → List Float → Bool → Bool → ℕ → ℕ → ℕ → ℕ → Type 0
+Promised t re im m scales knownStart first decisions bits bytes counts =
+    Accepted ≡ firstRow (decodeRows t re im scales decisions bits bytes counts) → Ranges rule t (receivedBy re im m scales) (startValues knownStart first)

@@ -3,9 +3,9 @@ ghost use mathlib.Core.Path.{_≡_};
 ghost use lib.ListN.{length};
 ghost use Rattle.refusal.specs.Rows.{firstRow};
 ghost use Rattle.isdb_fec.specs.Calls.{Either};
-ghost use Rattle.isdbs_phy.specs.DecodeRows.{decodeRows, frameSaid, frameAnswer, Kept};
+ghost use Rattle.isdbs_phy.specs.DecodeRows.{decodeRows, frameSaid, frameAnswer, Kept, FrameLeft};
 ghost use Rattle.isdbs_decode.specs.Scales.{receivedBy};
-ghost use Rattle.isdbs_decode.specs.Runs.{FrameRead};
+ghost use Rattle.strain.specs.Strain.{strainSum};
 ghost use Rattle.frame_ranges.specs.Ranges.{Promised};
 use isdbs_core::tmcc::Table;
 use isdbs_phy::demod::DemodOptions;
@@ -22,12 +22,13 @@ pub fn decode_in_range(
     decisions: &mut [u64],
     bits: &mut [u8],
     bytes: &mut [u8],
+    counts: &mut [u32],
 ) -> FrameDecoded
-    ensures answers { λ r. ⌜ frameSaid r ≡ frameAnswer (firstRow (decodeRows t (now (re .entry)) (now (im .entry)) (o .scales) (length (now (decisions .entry))) (length (now (bits .entry))) (length (now (bytes .entry))))) t ⌝ }
-    ensures leaves { λ _. ⌜ Either (firstRow (decodeRows t (now (re .entry)) (now (im .entry)) (o .scales) (length (now (decisions .entry))) (length (now (bits .entry))) (length (now (bytes .entry)))))
-        (FrameRead t (receivedBy (now (re .entry)) (now (im .entry)) (o .mapping) (o .scales)) (o .«known_start») first (now (decisions .entry)) (now (decisions .exit)) (now (bits .entry)) (now (bits .exit)) (now (bytes .entry)) (now (bytes .exit)))
-        (Kept (now (decisions .entry)) (now (decisions .exit)) (now (bits .entry)) (now (bits .exit)) (now (bytes .entry)) (now (bytes .exit))) ⌝ }
-    ensures ranges { λ _. ⌜ Promised t (now (re .entry)) (now (im .entry)) (o .mapping) (o .scales) (o .«known_start») first (length (now (decisions .entry))) (length (now (bits .entry))) (length (now (bytes .entry))) ⌝ }
+    ensures answers { λ r. ⌜ frameSaid r ≡ frameAnswer (firstRow (decodeRows t (now (re .entry)) (now (im .entry)) (o .scales) (length (now (decisions .entry))) (length (now (bits .entry))) (length (now (bytes .entry))) (length (now (counts .entry))))) t (strainSum t (receivedBy (now (re .entry)) (now (im .entry)) (o .mapping) (o .scales)) (o .«known_start») first) ⌝ }
+    ensures leaves { λ _. ⌜ Either (firstRow (decodeRows t (now (re .entry)) (now (im .entry)) (o .scales) (length (now (decisions .entry))) (length (now (bits .entry))) (length (now (bytes .entry))) (length (now (counts .entry)))))
+        (FrameLeft t (receivedBy (now (re .entry)) (now (im .entry)) (o .mapping) (o .scales)) (o .«known_start») first (now (decisions .entry)) (now (decisions .exit)) (now (bits .entry)) (now (bits .exit)) (now (bytes .entry)) (now (bytes .exit)) (now (counts .entry)) (now (counts .exit)))
+        (Kept (now (decisions .entry)) (now (decisions .exit)) (now (bits .entry)) (now (bits .exit)) (now (bytes .entry)) (now (bytes .exit)) (now (counts .entry)) (now (counts .exit))) ⌝ }
+    ensures ranges { λ _. ⌜ Promised t (now (re .entry)) (now (im .entry)) (o .mapping) (o .scales) (o .«known_start») first (length (now (decisions .entry))) (length (now (bits .entry))) (length (now (bytes .entry))) (length (now (counts .entry))) ⌝ }
 {
-    decode_frame(re, im, t, first, o, decisions, bits, bytes)
+    decode_frame(re, im, t, first, o, decisions, bits, bytes, counts)
 }

@@ -18,7 +18,7 @@ use Rattle.isdbs_core.specs.declared.tmcc.Table.{Table}
 use Rattle.isdbs_core.specs.Tables.{tableRows, tableAnswer, TableAccepted}
 use Rattle.isdbs_core.specs.TableLaws.{table-refusing, then-accepted}
 use Rattle.isdbs_core.specs.Frame.{mainSymbols}
-use Rattle.isdbs_core.specs.RunsOf.{frameSteps, loadBytes}
+use Rattle.isdbs_core.specs.RunsOf.{validTotal, frameSteps, loadBytes}
 use Rattle.isdbs_metrics.specs.Reading.{frameWords}
 use Rattle.isdbs_phy.specs.DecodeRows.{someOf, badScale, someBad, pointRows, lastRows, frameRows, frameSaid, frameAnswer}
 
@@ -48,45 +48,48 @@ some-none bad xs i h e =
     ap (λ (k : ℕ). someOf bad xs k) q ∙ rw (h, e)
 
 -- what an accepted call may rest on
-pub record Passed (t : Table) (re im : List Float) (decisions bits bytes : ℕ) : Type 0 where
+pub record Passed (t : Table) (re im : List Float) (decisions bits bytes counts : ℕ) : Type 0 where
   pub table : TableAccepted t
   pub real : mainSymbols ≤ length re
   pub imaginary : mainSymbols ≤ length im
   pub words : frameWords ≤ decisions
   pub places : frameSteps t + 16 ≤ bits
   pub room : loadBytes t ≤ bytes
+  pub slots : validTotal t ≤ counts
 
-module _ (t : Table) (re im : List Float) (bad : Bool) (decisions bits bytes : ℕ) where
+module _ (t : Table) (re im : List Float) (bad : Bool) (decisions bits bytes counts : ℕ) where
   abbrev last : List Row
-  last = lastRows t bad decisions bits bytes
+  last = lastRows t bad decisions bits bytes counts
 
   -- the table refuses; or it passes and the points refuse; or both pass
-  pub by-table : (a : Answer) → a ≡ tableAnswer t → (a ≡ Accepted → ⊥) → a ≡ firstRow (frameRows t re im bad decisions bits bytes)
+  pub by-table : (a : Answer) → a ≡ tableAnswer t → (a ≡ Accepted → ⊥) → a ≡ firstRow (frameRows t re im bad decisions bits bytes counts)
   by-table a e n = refused-by (tableRows t) (pointRows re im ++ last) a e n
 
   module _ (fit : Accepted ≡ tableAnswer t) where
-    pub by-points : (a : Answer) → a ≡ firstRow (pointRows re im) → (a ≡ Accepted → ⊥) → a ≡ firstRow (frameRows t re im bad decisions bits bytes)
+    pub by-points : (a : Answer) → a ≡ firstRow (pointRows re im) → (a ≡ Accepted → ⊥) → a ≡ firstRow (frameRows t re im bad decisions bits bytes counts)
     by-points a e n = passed-by (tableRows t) (pointRows re im ++ last) (table-refusing t) fit (refused-by (pointRows re im) last a e n)
 
-    pub by-last : {a : Answer} → Accepted ≡ firstRow (pointRows re im) → a ≡ firstRow (lastRows t bad decisions bits bytes) → a ≡ firstRow (frameRows t re im bad decisions bits bytes)
+    pub by-last : {a : Answer} → Accepted ≡ firstRow (pointRows re im) → a ≡ firstRow (lastRows t bad decisions bits bytes counts) → a ≡ firstRow (frameRows t re im bad decisions bits bytes counts)
     by-last p e = passed-by (tableRows t) (pointRows re im ++ last) (table-refusing t) fit (passed-by (pointRows re im) last tt p e)
 
-  pub passed : Accepted ≡ firstRow (frameRows t re im bad decisions bits bytes) → Passed t re im decisions bits bytes
+  pub passed : Accepted ≡ firstRow (frameRows t re im bad decisions bits bytes counts) → Passed t re im decisions bits bytes counts
   passed h =
       let b = then-accepted t (pointRows re im ++ last) (sym h) in
       let p = row.passed (pointRows re im ++ last) tt (b .1) in
       let s = neither (ltb (length re) mainSymbols) (ltb (length im) mainSymbols) (p Symbols) in
-      let q = neither (ltb decisions frameWords) (ltb bits (frameSteps t + 16) || ltb bytes (loadBytes t)) (p Space) in
-      let r = neither (ltb bits (frameSteps t + 16)) (ltb bytes (loadBytes t)) (q .1) in
+      let q = neither (ltb decisions frameWords) (ltb bits (frameSteps t + 16) || (ltb bytes (loadBytes t) || ltb counts (validTotal t))) (p Space) in
+      let r = neither (ltb bits (frameSteps t + 16)) (ltb bytes (loadBytes t) || ltb counts (validTotal t)) (q .1) in
+      let v = neither (ltb bytes (loadBytes t)) (ltb counts (validTotal t)) (r .1) in
       record {
         table = b .0;
         real = ltb-false (length re) mainSymbols (s .0);
         imaginary = ltb-false (length im) mainSymbols (s .1);
         words = ltb-false decisions frameWords (q .0);
         places = ltb-false bits (frameSteps t + 16) (r .0);
-        room = ltb-false bytes (loadBytes t) (r .1);
+        room = ltb-false bytes (loadBytes t) (v .0);
+        slots = ltb-false counts (validTotal t) (v .1);
       }
 
 -- a refusal's answer
-pub refused-answer : (a : Answer) (t : Table) → (a ≡ Accepted → ⊥) → frameSaid (Refused a) ≡ frameAnswer a t
-refused-answer a t n = rw (is-refused a n)
+pub refused-answer : (a : Answer) (t : Table) (sum : ℕ) → (a ≡ Accepted → ⊥) → frameSaid (Refused a) ≡ frameAnswer a t sum
+refused-answer a t sum n = rw (is-refused a n)

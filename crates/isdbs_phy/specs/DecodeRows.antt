@@ -14,8 +14,11 @@ use Rattle.isdbs_phy.specs.declared.demod.FrameDecoded.the-variants.{Dec
 use Rattle.isdbs_core.specs.declared.tmcc.Table.{Table}
 use Rattle.isdbs_core.specs.Tables.{tableRows}
 use Rattle.isdbs_core.specs.Frame.{mainSymbols}
-use Rattle.isdbs_core.specs.RunsOf.{frameSteps, loadBytes}
-use Rattle.isdbs_metrics.specs.Reading.{frameWords}
+use Rattle.isdbs_core.specs.RunsOf.{validTotal, frameSteps, loadBytes}
+use Rattle.trellis.specs.Lists.{laid}
+use Rattle.isdbs_metrics.specs.Reading.{Received, frameWords}
+use Rattle.isdbs_decode.specs.Runs.{FrameRead}
+use Rattle.strain.specs.Strain.{strainCounts}
 
 -- from -limit to limit, both included; no comparison holds of a NaN
 abbrev pub within : Float → Float → Bool
@@ -45,39 +48,46 @@ badScale s = not (lt (ofBits binary32 0) s) || lt scaleLimit s
 abbrev pub someBad : List Float → Bool
 someBad scales = someOf badScale scales 7
 
--- 9: "a lent output or decision slice shorter than this call writes; decisions always need 4,096 + traceback"
-abbrev pub shortSpace : Table → ℕ → ℕ → ℕ → Bool
-shortSpace t decisions bits bytes = ltb decisions frameWords || (ltb bits (frameSteps t + 16) || ltb bytes (loadBytes t))
+-- 9: "a lent output or decision slice shorter than this call writes; decisions always need 4,096 + traceback".
+-- "A count slice shorter than the valid slots falls under 9" (document 02, P10)
+abbrev pub shortSpace : Table → ℕ → ℕ → ℕ → ℕ → Bool
+shortSpace t decisions bits bytes counts = ltb decisions frameWords || (ltb bits (frameSteps t + 16) || (ltb bytes (loadBytes t) || ltb counts (validTotal t)))
 
 -- the rows of the points, then those below them, over row 8's test and the lengths of the lent outputs
 abbrev pub pointRows : List Float → List Float → List Row
 pointRows re im = (Symbols, ltb (length re) mainSymbols || ltb (length im) mainSymbols) ∷ (Sample, someBeyond partLimit re mainSymbols || someBeyond partLimit im mainSymbols) ∷ []
 
-abbrev pub lastRows : Table → Bool → ℕ → ℕ → ℕ → List Row
-lastRows t bad decisions bits bytes = (Scale, bad) ∷ (Space, shortSpace t decisions bits bytes) ∷ []
+abbrev pub lastRows : Table → Bool → ℕ → ℕ → ℕ → ℕ → List Row
+lastRows t bad decisions bits bytes counts = (Scale, bad) ∷ (Space, shortSpace t decisions bits bytes counts) ∷ []
 
-abbrev pub frameRows : Table → List Float → List Float → Bool → ℕ → ℕ → ℕ → List Row
-frameRows t re im bad decisions bits bytes = tableRows t ++ (pointRows re im ++ lastRows t bad decisions bits bytes)
+abbrev pub frameRows : Table → List Float → List Float → Bool → ℕ → ℕ → ℕ → ℕ → List Row
+frameRows t re im bad decisions bits bytes counts = tableRows t ++ (pointRows re im ++ lastRows t bad decisions bits bytes counts)
 
 -- the rows of `decode_frame`
-abbrev pub decodeRows : Table → List Float → List Float → List Float → ℕ → ℕ → ℕ → List Row
+abbrev pub decodeRows : Table → List Float → List Float → List Float → ℕ → ℕ → ℕ → ℕ → List Row
 decodeRows t re im scales = frameRows t re im (someBad scales)
 
 -- the same with one scale
-abbrev pub oneScaleRows : Table → List Float → List Float → Float → ℕ → ℕ → ℕ → List Row
+abbrev pub oneScaleRows : Table → List Float → List Float → Float → ℕ → ℕ → ℕ → ℕ → List Row
 oneScaleRows t re im scale = frameRows t re im (badScale scale)
 
 -- document 01's number and values for each case of its answer
 abbrev pub frameSaid : FrameDecoded → Said
-frameSaid (Decoded bytes steps) = (0, bytes ∷ steps ∷ [])
+frameSaid (Decoded bytes steps strained) = (0, bytes ∷ steps ∷ strained ∷ [])
 frameSaid (Refused a) = (numberOf a, [])
 
--- what it says where the rows answer a: the bytes and the steps
-abbrev pub frameAnswer : Answer → Table → Said
-frameAnswer a t = says a (loadBytes t ∷ frameSteps t ∷ [])
+-- what it says where the rows answer a: the bytes, the steps and the sum of the strained ones
+abbrev pub frameAnswer : Answer → Table → ℕ → Said
+frameAnswer a t strained = says a (loadBytes t ∷ frameSteps t ∷ strained ∷ [])
 
 -- "no buffer changes"
-pub record Kept (decisions₀ decisions bits₀ bits bytes₀ bytes : List ℕ) : Type 0 where
+pub record Kept (decisions₀ decisions bits₀ bits bytes₀ bytes counts₀ counts : List ℕ) : Type 0 where
   pub words : decisions ≡ decisions₀
   pub decoded : bits ≡ bits₀
   pub load : bytes ≡ bytes₀
+  pub strain : counts ≡ counts₀
+
+-- what an accepted call leaves: the frame's bits and bytes, and "one count per valid slot"; counts past them are as before
+pub record FrameLeft (t : Table) (r : Received) (knownStart first : Bool) (decisions₀ decisions bits₀ bits bytes₀ bytes counts₀ counts : List ℕ) : Type 0 where
+  pub read : FrameRead t r knownStart first decisions₀ decisions bits₀ bits bytes₀ bytes
+  pub strain : counts ≡ laid (strainCounts t r knownStart first) counts₀

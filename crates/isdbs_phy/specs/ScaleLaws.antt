@@ -17,5 +17,5 @@ unfolding someOf
 equal-bad s = seven (badScale s)
 
 -- "Seven equal scales answer as the old single one did": the rows are the same
-pub equal-rows : (t : Table) (re im : List Float) (s : Float) (decisions bits bytes : ℕ) → decodeRows t re im (replicate 7 s) decisions bits bytes ≡ oneScaleRows t re im s decisions bits bytes
-equal-rows t re im s decisions bits bytes = ap (λ (b : Bool). frameRows t re im b decisions bits bytes) (equal-bad s)
+pub equal-rows : (t : Table) (re im : List Float) (s : Float) (decisions bits bytes counts : ℕ) → decodeRows t re im (replicate 7 s) decisions bits bytes counts ≡ oneScaleRows t re im s decisions bits bytes counts
+equal-rows t re im s decisions bits bytes counts = ap (λ (b : Bool). frameRows t re im b decisions bits bytes counts) (equal-bad s)

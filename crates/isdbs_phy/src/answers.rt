@@ -85,9 +85,9 @@ fn points_answer(re: &[f64], im: &[f64]) -> Answer
 }
 
 // Row 9.
-fn space_answer(p: Plan, decisions: usize, bits: usize, bytes: usize) -> Answer
+fn space_answer(p: Plan, decisions: usize, bits: usize, bytes: usize, counts: usize) -> Answer
     requires { ⌜ Planned p ⌝ }
-    ensures { λ r. ⌜ r ≡ cond (shortSpace (p .table) decisions bits bytes) Answer.Space Answer.Accepted ⌝ }
+    ensures { λ r. ⌜ r ≡ cond (shortSpace (p .table) decisions bits bytes counts) Answer.Space Answer.Accepted ⌝ }
 {
     if decisions < WORDS {
         return Answer::Space;
@@ -96,6 +96,9 @@ fn space_answer(p: Plan, decisions: usize, bits: usize, bytes: usize) -> Answer
         return Answer::Space;
     }
     if bytes < p.bytes {
+        return Answer::Space;
+    }
+    if counts < p.valid_slots {
         return Answer::Space;
     }
     Answer::Accepted
@@ -110,9 +113,10 @@ pub(crate) fn decode_answer(
     decisions: usize,
     bits: usize,
     bytes: usize,
+    counts: usize,
 ) -> Answer
     requires { ⌜ (p ≡ planOf (p .table)) × (p .count ≤ 4) ⌝ }
-    ensures { λ r. ⌜ r ≡ firstRow (decodeRows (p .table) (now (re .entry)) (now (im .entry)) scales decisions bits bytes) ⌝ }
+    ensures { λ r. ⌜ r ≡ firstRow (decodeRows (p .table) (now (re .entry)) (now (im .entry)) scales decisions bits bytes counts) ⌝ }
 {
     let table = table_answer(p.table);
     let Answer::Accepted = table else {
@@ -125,5 +129,5 @@ pub(crate) fn decode_answer(
     if some_bad(scales) {
         return Answer::Scale;
     }
-    space_answer(p, decisions, bits, bytes)
+    space_answer(p, decisions, bits, bytes, counts)
 }

@@ -22,7 +22,6 @@ use isdbs_core::slots::plan_of;
 use isdbs_core::tmcc::Table;
 use isdbs_core::tmcc::table_answer;
 pub use isdbs_decode::DemodOptions;
-use isdbs_decode::decode;
 use isdbs_encode::encode_main;
 pub use isdbs_points::Mapping;
 pub use isdbs_points::PART_LIMIT;
@@ -30,18 +29,19 @@ pub use isdbs_points::psk8_point;
 pub use isdbs_points::qpsk_point;
 pub use isdbs_points::start_state;
 pub use isdbs_points::state_after;
+use isdbs_strain::decode_strained;
 use refusal::Answer;
 ghost use mathlib.Core.Path.{_≡_};
 ghost use lib.ListN.{length};
 ghost use Rattle.refusal.specs.Rows.{firstRow};
 ghost use Rattle.isdb_fec.specs.Calls.{Either};
 ghost use Rattle.isdbs_points.specs.Frame.{startState, endState};
-ghost use Rattle.isdbs_phy.specs.DecodeRows.{decodeRows, oneScaleRows, frameSaid, frameAnswer, Kept};
+ghost use Rattle.isdbs_phy.specs.DecodeRows.{decodeRows, oneScaleRows, frameSaid, frameAnswer, Kept, FrameLeft};
 ghost use Rattle.isdbs_encode.specs.Encoding.{FrameLaid};
 ghost use Rattle.isdbs_phy.specs.EncodeRows.{encodeRows, encodeFrameRows, PartsKept};
 ghost use Rattle.isdbs_metrics.specs.Steps.{received};
 ghost use Rattle.isdbs_decode.specs.Scales.{receivedBy};
-ghost use Rattle.isdbs_decode.specs.Runs.{FrameRead};
+ghost use Rattle.strain.specs.Strain.{strainSum};
 
 // Whether encoding is turned back: the parts have a and b elements.
 fn encode_answer(t: Table, state: u8, a: usize, b: usize) -> Answer
@@ -115,13 +115,14 @@ pub fn encode_frame(
 
 // ---- decoding
 
-// What decoding a frame answers: the bytes of its load and its trellis steps, or why it is turned back.
+// What decoding a frame answers: the bytes of its load, its trellis steps and how many of them are strained, or why it is turned back.
 pub enum FrameDecoded {
-    Decoded(usize, usize),
+    Decoded(usize, usize, u32),
     Refused(Answer),
 }
 
-// The main signal of a frame to bytes. `first`: the first frame of a superframe. Afterwards `bits` begins with the decoded bits, `bytes` with the load.
+// The main signal of a frame to bytes. `first`: the first frame of a superframe. Afterwards `bits` begins with the decoded bits, `bytes` with the load,
+// `counts` with the strained steps of each valid slot.
 pub fn decode_frame(
     re: &[f64],
     im: &[f64],
@@ -131,20 +132,30 @@ pub fn decode_frame(
     decisions: &mut [u64],
     bits: &mut [u8],
     bytes: &mut [u8],
+    counts: &mut [u32],
 ) -> FrameDecoded
-    ensures answers { λ r. ⌜ frameSaid r ≡ frameAnswer (firstRow (decodeRows t (now (re .entry)) (now (im .entry)) (o .scales) (length (now (decisions .entry))) (length (now (bits .entry))) (length (now (bytes .entry))))) t ⌝ }
-    ensures leaves { λ _. ⌜ Either (firstRow (decodeRows t (now (re .entry)) (now (im .entry)) (o .scales) (length (now (decisions .entry))) (length (now (bits .entry))) (length (now (bytes .entry)))))
-        (FrameRead t (receivedBy (now (re .entry)) (now (im .entry)) (o .mapping) (o .scales)) (o .«known_start») first (now (decisions .entry)) (now (decisions .exit)) (now (bits .entry)) (now (bits .exit)) (now (bytes .entry)) (now (bytes .exit)))
-        (Kept (now (decisions .entry)) (now (decisions .exit)) (now (bits .entry)) (now (bits .exit)) (now (bytes .entry)) (now (bytes .exit))) ⌝ }
+    ensures answers { λ r. ⌜ frameSaid r ≡ frameAnswer (firstRow (decodeRows t (now (re .entry)) (now (im .entry)) (o .scales) (length (now (decisions .entry))) (length (now (bits .entry))) (length (now (bytes .entry))) (length (now (counts .entry))))) t (strainSum t (receivedBy (now (re .entry)) (now (im .entry)) (o .mapping) (o .scales)) (o .«known_start») first) ⌝ }
+    ensures leaves { λ _. ⌜ Either (firstRow (decodeRows t (now (re .entry)) (now (im .entry)) (o .scales) (length (now (decisions .entry))) (length (now (bits .entry))) (length (now (bytes .entry))) (length (now (counts .entry)))))
+        (FrameLeft t (receivedBy (now (re .entry)) (now (im .entry)) (o .mapping) (o .scales)) (o .«known_start») first (now (decisions .entry)) (now (decisions .exit)) (now (bits .entry)) (now (bits .exit)) (now (bytes .entry)) (now (bytes .exit)) (now (counts .entry)) (now (counts .exit)))
+        (Kept (now (decisions .entry)) (now (decisions .exit)) (now (bits .entry)) (now (bits .exit)) (now (bytes .entry)) (now (bytes .exit)) (now (counts .entry)) (now (counts .exit))) ⌝ }
 {
     let p = plan_of(t);
     let scales = o.scales;
-    let answer = decode_answer(p, re, im, scales, decisions.len(), bits.len(), bytes.len());
+    let answer = decode_answer(
+        p,
+        re,
+        im,
+        scales,
+        decisions.len(),
+        bits.len(),
+        bytes.len(),
+        counts.len(),
+    );
     let Answer::Accepted = answer else {
         return FrameDecoded::Refused(answer);
     };
-    decode(p, first, o, re, im, decisions, bits, bytes);
-    FrameDecoded::Decoded(p.bytes, p.steps)
+    let strained = decode_strained(p, first, o, re, im, decisions, bits, bytes, counts);
+    FrameDecoded::Decoded(p.bytes, p.steps, strained)
 }
 
 // Decoder settings with one scale for all combinations.
@@ -164,11 +175,12 @@ pub fn decode_frame_one_scale(
     decisions: &mut [u64],
     bits: &mut [u8],
     bytes: &mut [u8],
+    counts: &mut [u32],
 ) -> FrameDecoded
-    ensures answers { λ r. ⌜ frameSaid r ≡ frameAnswer (firstRow (oneScaleRows t (now (re .entry)) (now (im .entry)) (o .«llr_scale») (length (now (decisions .entry))) (length (now (bits .entry))) (length (now (bytes .entry))))) t ⌝ }
-    ensures leaves { λ _. ⌜ Either (firstRow (oneScaleRows t (now (re .entry)) (now (im .entry)) (o .«llr_scale») (length (now (decisions .entry))) (length (now (bits .entry))) (length (now (bytes .entry)))))
-        (FrameRead t (received (now (re .entry)) (now (im .entry)) (o .mapping) (o .«llr_scale»)) (o .«known_start») first (now (decisions .entry)) (now (decisions .exit)) (now (bits .entry)) (now (bits .exit)) (now (bytes .entry)) (now (bytes .exit)))
-        (Kept (now (decisions .entry)) (now (decisions .exit)) (now (bits .entry)) (now (bits .exit)) (now (bytes .entry)) (now (bytes .exit))) ⌝ }
+    ensures answers { λ r. ⌜ frameSaid r ≡ frameAnswer (firstRow (oneScaleRows t (now (re .entry)) (now (im .entry)) (o .«llr_scale») (length (now (decisions .entry))) (length (now (bits .entry))) (length (now (bytes .entry))) (length (now (counts .entry))))) t (strainSum t (received (now (re .entry)) (now (im .entry)) (o .mapping) (o .«llr_scale»)) (o .«known_start») first) ⌝ }
+    ensures leaves { λ _. ⌜ Either (firstRow (oneScaleRows t (now (re .entry)) (now (im .entry)) (o .«llr_scale») (length (now (decisions .entry))) (length (now (bits .entry))) (length (now (bytes .entry))) (length (now (counts .entry)))))
+        (FrameLeft t (received (now (re .entry)) (now (im .entry)) (o .mapping) (o .«llr_scale»)) (o .«known_start») first (now (decisions .entry)) (now (decisions .exit)) (now (bits .entry)) (now (bits .exit)) (now (bytes .entry)) (now (bytes .exit)) (now (counts .entry)) (now (counts .exit)))
+        (Kept (now (decisions .entry)) (now (decisions .exit)) (now (bits .entry)) (now (bits .exit)) (now (bytes .entry)) (now (bytes .exit)) (now (counts .entry)) (now (counts .exit))) ⌝ }
 {
     let mapping = o.mapping;
     let scales = [o.llr_scale; 7];
@@ -177,5 +189,5 @@ pub fn decode_frame_one_scale(
         known_start: o.known_start,
         scales,
     };
-    decode_frame(re, im, t, first, same, decisions, bits, bytes)
+    decode_frame(re, im, t, first, same, decisions, bits, bytes, counts)
 }

@@ -39,11 +39,14 @@ same-length-2 c = search needs
 same-length-3 : tie.Need-same-length-3
 same-length-3 c = search needs
 
+same-length-4 : tie.Need-same-length-4
+same-length-4 c = search needs
+
 returns : tie.Need-returns
 returns c =
-    let call = c .before .before .before .before .before .before in
+    let call = c .before .before .before .before .before .before .before .before in
     let d = call .decode-frame in
-    let im-known = call .before .before .before .before .before .before .before in
+    let im-known = call .before .before .before .before .before .before .before .before .before in
     let re-known = im-known .before in
     let start = re-known .before in
     let a = start .args in
@@ -55,10 +58,10 @@ returns c =
       (
         d .ensures .1,
         λ yes.
-            frame-ranges rule (a .t) (now (a .re)) (now (a .im)) (a .o .mapping) (a .o .scales) (length (now (a .decisions))) (length (now (a .bits))) (length (now (a .bytes))) (a .o .«known_start») (a .first) x y scale yes,
+            frame-ranges rule (a .t) (now (a .re)) (now (a .im)) (a .o .mapping) (a .o .scales) (length (now (a .decisions))) (length (now (a .bits))) (length (now (a .bytes))) (length (now (a .counts))) (a .o .«known_start») (a .first) x y scale yes,
       ),
     )
 
 pub decode-in-range-spec : {M : Type 1} → statement M
 decode-in-range-spec =
-    tie.close (tie.spec decode-frame-requires same-length same-length-2 same-length-3 returns)
+    tie.close (tie.spec decode-frame-requires same-length same-length-2 same-length-3 same-length-4 returns)

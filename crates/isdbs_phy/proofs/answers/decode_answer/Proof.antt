@@ -16,7 +16,7 @@ enum-told c = search needs
 returns : tie.Need-returns
 returns c =
     let st = c .before .before .before .before in
-    by-table (st .args .p .table) (st .args .re .now) (st .args .im .now) (someBad (st .args .scales)) (st .args .decisions) (st .args .bits) (st .args .bytes) (c .before .table-answer .result) (c .before .table-answer .ensures) (told (c .before .table-answer .result) (c .match .keys2))
+    by-table (st .args .p .table) (st .args .re .now) (st .args .im .now) (someBad (st .args .scales)) (st .args .decisions) (st .args .bits) (st .args .bytes) (st .args .counts) (c .before .table-answer .result) (c .before .table-answer .ensures) (told (c .before .table-answer .result) (c .match .keys2))
 
 points-answer-requires : tie.Need-points-answer-requires
 points-answer-requires c κs = search needs
@@ -27,7 +27,7 @@ enum-told-2 c = search needs
 returns-2 : tie.Need-returns-2
 returns-2 c =
     let st = c .before .before .before .before .before .before .before in
-    by-points (st .args .p .table) (st .args .re .now) (st .args .im .now) (someBad (st .args .scales)) (st .args .decisions) (st .args .bits) (st .args .bytes) (sym (c .before .before .enum-told .given .1) ∙ c .before .before .before .before .table-answer .ensures)
+    by-points (st .args .p .table) (st .args .re .now) (st .args .im .now) (someBad (st .args .scales)) (st .args .decisions) (st .args .bits) (st .args .bytes) (st .args .counts) (sym (c .before .before .enum-told .given .1) ∙ c .before .before .before .before .table-answer .ensures)
     (c .before .points-answer .result) (c .before .points-answer .ensures) (told (c .before .points-answer .result) (c .match2 .keys2))
 
 some-bad-requires : tie.Need-some-bad-requires
@@ -36,7 +36,7 @@ some-bad-requires c κs = search needs
 returns-3 : tie.Need-returns-3
 returns-3 c =
     let st = c .before .before .before .before .before .before .before .before .before .before in
-    by-last (st .args .p .table) (st .args .re .now) (st .args .im .now) (someBad (st .args .scales)) (st .args .decisions) (st .args .bits) (st .args .bytes) (sym (c .before .before .before .before .before .enum-told .given .1) ∙ c .before .before .before .before .before .before .before .table-answer .ensures)
+    by-last (st .args .p .table) (st .args .re .now) (st .args .im .now) (someBad (st .args .scales)) (st .args .decisions) (st .args .bits) (st .args .bytes) (st .args .counts) (sym (c .before .before .before .before .before .enum-told .given .1) ∙ c .before .before .before .before .before .before .before .table-answer .ensures)
     (sym (c .before .before .enum-told2 .given .1) ∙ c .before .before .before .before .points-answer .ensures) (rw (sym (c .before .some-bad .ensures) ∙ c .if1 .taken))
 
 space-answer-requires : tie.Need-space-answer-requires
@@ -47,7 +47,7 @@ space-answer-requires c κs =
 returns-4 : tie.Need-returns-4
 returns-4 c =
     let st = c .before .before .before .before .before .before .before .before .before .before .before in
-    by-last (st .args .p .table) (st .args .re .now) (st .args .im .now) (someBad (st .args .scales)) (st .args .decisions) (st .args .bits) (st .args .bytes) (sym (c .before .before .before .before .before .before .enum-told .given .1) ∙ c .before .before .before .before .before .before .before .before .table-answer .ensures)
+    by-last (st .args .p .table) (st .args .re .now) (st .args .im .now) (someBad (st .args .scales)) (st .args .decisions) (st .args .bits) (st .args .bytes) (st .args .counts) (sym (c .before .before .before .before .before .before .enum-told .given .1) ∙ c .before .before .before .before .before .before .before .before .table-answer .ensures)
     (sym (c .before .before .before .enum-told2 .given .1) ∙ c .before .before .before .before .before .points-answer .ensures)
     (rw (sym (c .before .before .some-bad .ensures) ∙ c .before .if1 .left) (c .space-answer .ensures))
 

@@ -1,7 +1,7 @@
 -- `answers::space_answer` meets its contract. Assumes nothing.
 use Rattle.isdbs_core.specs.declared.slots.Plan.{Plan}
 use Rattle.isdbs_core.specs.TableLaws.{table-laid}
-use Rattle.isdbs_core.specs.RunsOf.{frameSteps, loadBytes}
+use Rattle.isdbs_core.specs.RunsOf.{validTotal, frameSteps, loadBytes}
 use borrow.Author.Tests.{lt-ltb, le-ltb, ltb-false}
 use lib.ListN.{length}
 use native.Mathlib.Omega.{arith}
@@ -40,12 +40,25 @@ returns-3 c =
 
 returns-4 : tie.Need-returns-4
 returns-4 c =
-    let st = c .before .before .before .before .before in
+    let st = c .before .before .before .before .before .before .before in
     let d = ap (λ (z : Plan). z .bytes) (st .pre .is) in
     let e = ap (λ (z : Plan). z .steps) (st .pre .is) in
-    let f = c .before .before .if2 .left in
-    let g = c .if3 .left in
-    rw (le-ltb _ _ (c .before .before .before .before .if1 .left), le-ltb (st .args .bits) (frameSteps (st .args .p .table) + 16) (omega arith), le-ltb (st .args .bytes) (loadBytes (st .args .p .table)) (omega arith))
+    let n = ap (λ (z : Plan). z .«valid_slots») (st .pre .is) in
+    let f = c .before .before .before .before .if2 .left in
+    let g = c .before .before .if3 .left in
+    let h = c .if4 .taken in
+    rw (le-ltb _ _ (c .before .before .before .before .before .before .if1 .left), le-ltb (st .args .bits) (frameSteps (st .args .p .table) + 16) (omega arith), le-ltb (st .args .bytes) (loadBytes (st .args .p .table)) (omega arith), lt-ltb (st .args .counts) (validTotal (st .args .p .table)) (omega arith))
+
+returns-5 : tie.Need-returns-5
+returns-5 c =
+    let st = c .before .before .before .before .before .before .before in
+    let d = ap (λ (z : Plan). z .bytes) (st .pre .is) in
+    let e = ap (λ (z : Plan). z .steps) (st .pre .is) in
+    let n = ap (λ (z : Plan). z .«valid_slots») (st .pre .is) in
+    let f = c .before .before .before .before .if2 .left in
+    let g = c .before .before .if3 .left in
+    let h = c .if4 .left in
+    rw (le-ltb _ _ (c .before .before .before .before .before .before .if1 .left), le-ltb (st .args .bits) (frameSteps (st .args .p .table) + 16) (omega arith), le-ltb (st .args .bytes) (loadBytes (st .args .p .table)) (omega arith), le-ltb (st .args .counts) (validTotal (st .args .p .table)) (omega arith))
 
 pub space-answer-spec : {M : Type 1} → statement M
-space-answer-spec = tie.close (tie.spec returns add-if2 returns-2 returns-3 returns-4)
+space-answer-spec = tie.close (tie.spec returns add-if2 returns-2 returns-3 returns-4 returns-5)

@@ -6,6 +6,8 @@ use Rattle.isdbs_core.specs.declared.slots.Plan.{Plan}
 use Rattle.isdbs_core.specs.declared.tmcc.Table.{Table}
 use Rattle.isdbs_core.specs.RunsOf.{planOf}
 use Rattle.refusal.specs.Rows.{firstRow}
+use Rattle.isdbs_decode.specs.Scales.{receivedBy}
+use Rattle.strain.specs.Strain.{strainSum}
 use Rattle.isdb_fec.specs.Answers.{refused}
 use Rattle.refusal.specs.declared.Answer.{Answer}
 use borrow.Author.Tests.{lt-ltb, le-ltb, ltb-false}
@@ -32,33 +34,36 @@ enum-told c = search needs
 
 returns : tie.Need-returns
 returns c =
-    let st = c .before .before .before .before .before .before .before .before .before in
+    let st = c .before .before .before .before .before .before .before .before .before .before in
     let t = st .args .t in
+    let rx = receivedBy (st .args .re .now) (st .args .im .now) (st .args .o .mapping) (st .args .o .scales) in
+    let sum = strainSum t rx (st .args .o .«known_start») (st .args .first) in
     let pl = c .before .before .before .plan-of in
     let et = ap (λ (z : Plan). z .table) (pl .ensures .0) in
     let da = c .before .decode-answer in
-    let ea = da .ensures ∙ ap (λ (z : Table). firstRow (decodeRows z (st .args .re .now) (st .args .im .now) (st .args .o .scales) (length (st .args .decisions .now)) (length (st .args .bits .now)) (length (st .args .bytes .now)))) et in
+    let ea = da .ensures ∙ ap (λ (z : Table). firstRow (decodeRows z (st .args .re .now) (st .args .im .now) (st .args .o .scales) (length (st .args .decisions .now)) (length (st .args .bits .now)) (length (st .args .bytes .now)) (length (st .args .counts .now)))) et in
     let n = told (da .result) (c .match .keys2) in (
-      refused-answer (da .result) t n ∙ ap (λ (z : Answer). frameAnswer z t) ea,
-      refused _ (λ q. n (ea ∙ q)) (record { words = refl; decoded = refl; load = refl }),
+      refused-answer (da .result) t sum n ∙ ap (λ (z : Answer). frameAnswer z t sum) ea,
+      refused _ (λ q. n (ea ∙ q)) (record { words = refl; decoded = refl; load = refl; strain = refl }),
     )
 
-decode-requires : tie.Need-decode-requires
-decode-requires c κs =
-    let st = c .before .before .before .before .before .before .before .before .before .before .before .before .before in
+decode-strained-requires : tie.Need-decode-strained-requires
+decode-strained-requires c κs =
+    let st = c .before .before .before .before .before .before .before .before .before .before .before .before .before .before .before in
     let t = st .args .t in
-    let pl = c .before .before .before .before .before .before .before .plan-of in
+    let pl = c .before .before .before .before .before .before .before .before .plan-of in
     let et = ap (λ (z : Plan). z .table) (pl .ensures .0) in
-    let da = c .before .before .before .before .before .decode-answer in
-    let ea = da .ensures ∙ ap (λ (z : Table). firstRow (decodeRows z (st .args .re .now) (st .args .im .now) (st .args .o .scales) (length (st .args .decisions .now)) (length (st .args .bits .now)) (length (st .args .bytes .now)))) et in
-    let ok = sym (c .before .before .before .enum-told .given .1) ∙ ea in
-    let p = passed t (st .args .re .now) (st .args .im .now) (someBad (st .args .o .scales)) (length (st .args .decisions .now)) (length (st .args .bits .now)) (length (st .args .bytes .now)) ok in (
+    let da = c .before .before .before .before .before .before .decode-answer in
+    let ea = da .ensures ∙ ap (λ (z : Table). firstRow (decodeRows z (st .args .re .now) (st .args .im .now) (st .args .o .scales) (length (st .args .decisions .now)) (length (st .args .bits .now)) (length (st .args .bytes .now)) (length (st .args .counts .now)))) et in
+    let ok = sym (c .before .before .before .before .enum-told .given .1) ∙ ea in
+    let p = passed t (st .args .re .now) (st .args .im .now) (someBad (st .args .o .scales)) (length (st .args .decisions .now)) (length (st .args .bits .now)) (length (st .args .bytes .now)) (length (st .args .counts .now)) ok in (
       record { is = plan-is t (pl .result) (pl .ensures .0); few = pl .ensures .1; accepted = rw et (p .table) },
       p .real,
       p .imaginary,
       p .words,
       rw et (p .places),
       rw et (p .room),
+      rw et (p .slots),
     )
 
 same-length : tie.Need-same-length
@@ -70,17 +75,24 @@ same-length-2 c = search needs
 same-length-3 : tie.Need-same-length-3
 same-length-3 c = search needs
 
+same-length-4 : tie.Need-same-length-4
+same-length-4 c = search needs
+
 returns-2 : tie.Need-returns-2
 returns-2 c =
-    let st = c .before .before .before .before .before .before .before .before .before .before .before .before .before .before .before .before .before .before .before .before in
+    let st = c .before .before .before .before .before .before .before .before .before .before .before .before .before .before .before .before .before .before .before .before .before .before .before .before in
     let t = st .args .t in
-    let pl = c .before .before .before .before .before .before .before .before .before .before .before .before .before .before .plan-of in
+    let rx = receivedBy (st .args .re .now) (st .args .im .now) (st .args .o .mapping) (st .args .o .scales) in
+    let sum = strainSum t rx (st .args .o .«known_start») (st .args .first) in
+    let pl = c .before .before .before .before .before .before .before .before .before .before .before .before .before .before .before .before .before .plan-of in
     let et = ap (λ (z : Plan). z .table) (pl .ensures .0) in
-    let da = c .before .before .before .before .before .before .before .before .before .before .before .before .decode-answer in
-    let ea = da .ensures ∙ ap (λ (z : Table). firstRow (decodeRows z (st .args .re .now) (st .args .im .now) (st .args .o .scales) (length (st .args .decisions .now)) (length (st .args .bits .now)) (length (st .args .bytes .now)))) et in
-    let ok = sym (c .before .before .before .before .before .before .before .before .before .before .enum-told .given .1) ∙ ea in (
-      rw (pl .ensures .0) (ap (λ (z : Answer). frameAnswer z t) ok),
-      ((λ q. rw et at (c .before .before .before .before .before .before .decode .ensures)), (λ n. absurd (n (sym ok)))),
+    let da = c .before .before .before .before .before .before .before .before .before .before .before .before .before .before .before .decode-answer in
+    let ea = da .ensures ∙ ap (λ (z : Table). firstRow (decodeRows z (st .args .re .now) (st .args .im .now) (st .args .o .scales) (length (st .args .decisions .now)) (length (st .args .bits .now)) (length (st .args .bytes .now)) (length (st .args .counts .now)))) et in
+    let ok = sym (c .before .before .before .before .before .before .before .before .before .before .before .before .before .enum-told .given .1) ∙ ea in
+    let ds = c .before .before .before .before .before .before .before .before .decode-strained in
+    let e = rw et at (ds .ensures) in (
+      rw (pl .ensures .0, e .1 .sum-is) (ap (λ (z : Answer). frameAnswer z t sum) ok),
+      ((λ q. record { read = e .0; strain = e .1 .counts-are }), (λ n. absurd (n (sym ok)))),
     )
 
 pub decode-frame-spec : {M : Type 1} → statement M
@@ -91,8 +103,9 @@ decode-frame-spec =
     decode-answer-requires
     enum-told
     returns
-    decode-requires
+    decode-strained-requires
     same-length
     same-length-2
     same-length-3
+    same-length-4
     returns-2)
