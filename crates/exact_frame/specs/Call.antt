@@ -5,26 +5,27 @@ use mathlib.Core.List.{List, [], _∷_, _++_}
 use Prim.Native.Nat.{ℕ, zero, suc, _-_, _<_, _≤_}
 use native.Mathlib.Omega.{arith}
 use lib.Dec.{T}
-use lib.ListN.{length, getD, take, drop, replicate}
+use lib.ListN.{length, getD, take, drop, replicate, length-replicate}
 use lib.Seq.{take-at}
 use lib.Ieee.{Float, nan, binary32, lt, ofBits}
 use borrow.Author.Tests.{le-ltb}
+use Rattle.refusal.specs.declared.Answer.{Answer}
 use Rattle.refusal.specs.declared.Answer.the-variants.{Accepted, Space}
 use Rattle.refusal.specs.Rows.{numberOf, firstRow}
 use Rattle.isdb_fec.specs.Calls.{Either}
 use Rattle.isdbs_core.specs.declared.tmcc.Table.{Table}
 use Rattle.isdbs_core.specs.Tables.{TableAccepted}
 use Rattle.isdbs_core.specs.TableLaws.{then-rows}
-use Rattle.isdbs_core.specs.RunsOf.{frameSteps, loadBytes}
+use Rattle.isdbs_core.specs.RunsOf.{validTotal, frameSteps, loadBytes}
 use Rattle.isdbs_points.specs.declared.Mapping.{Mapping}
 use Rattle.isdbs_phy.specs.declared.demod.FrameDecoded.{FrameDecoded}
-use Rattle.isdbs_phy.specs.DecodeRows.{within, someOf, someBeyond, partLimit, someBad, shortSpace, pointRows, lastRows, decodeRows, frameSaid, frameAnswer, Kept}
-use Rattle.isdbs_decode.specs.Runs.{FrameRead}
+use Rattle.isdbs_phy.specs.DecodeRows.{within, someOf, someBeyond, partLimit, someBad, shortSpace, pointRows, lastRows, decodeRows, frameSaid, frameAnswer, Kept, FrameLeft}
+use Rattle.strain.specs.Strain.{strainSum}
 use Rattle.isdbs_decode.specs.Scales.{receivedBy}
 use Rattle.isdbs_decode.specs.ScaleLaws.{equal-scales}
 use Rattle.isdbs_points.specs.Layout.{FullLoad}
 use Rattle.margins.specs.Margins.{anyAccepted, Within}
-use Rattle.exact_frame.specs.Exact.{decoded-load}
+use Rattle.exact_frame.specs.StrainLaws.{decoded-exactly}
 use Rattle.exact_frame.specs.Frames.{re-accepted, im-accepted}
 
 -- 8.0
@@ -35,15 +36,15 @@ eight = ofBits binary32 0x4100_0000
 abbrev pub eights : List Float
 eights = replicate 7 eight
 
--- what comes back: the load at the front of the byte output, or 9 where a lent slice is too short; nothing else
-pub data ReadsBack (t : Table) (load : List ℕ) (decisions bits space : ℕ) (r : FrameDecoded) (bytes : List ℕ) : Type 0 where
-  exactly : frameSaid r ≡ (0, loadBytes t ∷ frameSteps t ∷ []) → take (loadBytes t) bytes ≡ load → ReadsBack t load decisions bits space r bytes
-  short : frameSaid r ≡ (numberOf Space, []) → T (shortSpace t decisions bits space) → ReadsBack t load decisions bits space r bytes
+-- what comes back: the load at the front of the byte output, and a zero count for each valid slot; or 9 where a lent slice is too short; nothing else
+pub data ReadsBack (t : Table) (load : List ℕ) (decisions bits space slots : ℕ) (r : FrameDecoded) (bytes counts : List ℕ) : Type 0 where
+  exactly : frameSaid r ≡ (0, loadBytes t ∷ frameSteps t ∷ 0 ∷ []) → take (loadBytes t) bytes ≡ load → take (validTotal t) counts ≡ replicate (validTotal t) 0 → ReadsBack t load decisions bits space slots r bytes counts
+  short : frameSaid r ≡ (numberOf Space, []) → T (shortSpace t decisions bits space slots) → ReadsBack t load decisions bits space slots r bytes counts
 
 -- demand 3 of one call: whatever full load the received frame lies within the margins of, it reads back
-abbrev pub Exact : Table → Mapping → Bool → List Float → List Float → ℕ → ℕ → ℕ → FrameDecoded → List ℕ → Type 0
-Exact t m first re im decisions bits space r bytes =
-    (load : List ℕ) → TableAccepted t → FullLoad load (loadBytes t) → Within re im load t m first → ReadsBack t load decisions bits space r bytes
+abbrev pub Exact : Table → Mapping → Bool → List Float → List Float → ℕ → ℕ → ℕ → ℕ → FrameDecoded → List ℕ → List ℕ → Type 0
+Exact t m first re im decisions bits space slots r bytes counts =
+    (load : List ℕ) → TableAccepted t → FullLoad load (loadBytes t) → Within re im load t m first → ReadsBack t load decisions bits space slots r bytes counts
 
 none-beyond : (xs : List Float) (n : ℕ) → ((k : ℕ) → k < n → T (anyAccepted (getD xs k nan))) → someBeyond partLimit xs n ≡ false
 unfolding someOf
@@ -60,10 +61,10 @@ unfolding someOf ofBits lt
 eights-fine = refl
 
 -- within the margins, at the scales 8, only the last row can hold
-last-row : (t : Table) → TableAccepted t → (m : Mapping) (first : Bool) (load : List ℕ) (re im : List Float) → Within re im load t m first → (d b y : ℕ)
-    → firstRow (decodeRows t re im eights d b y) ≡ cond (shortSpace t d b y) Space Accepted
-last-row t fit m first load re im w d b y =
-    then-rows t (pointRows re im ++ lastRows t (someBad eights) d b y) fit
+last-row : (t : Table) → TableAccepted t → (m : Mapping) (first : Bool) (load : List ℕ) (re im : List Float) → Within re im load t m first → (d b y n : ℕ)
+    → firstRow (decodeRows t re im eights d b y n) ≡ cond (shortSpace t d b y n) Space Accepted
+last-row t fit m first load re im w d b y n =
+    then-rows t (pointRows re im ++ lastRows t (someBad eights) d b y n) fit
     ∙ rw (
       le-ltb (length re) 38976 (w .re-count),
       le-ltb (length im) 38976 (w .im-count),
@@ -72,19 +73,25 @@ last-row t fit m first load re im w d b y =
       eights-fine,
     )
 
--- THE THEOREM about the call: whatever the lent slices held, the load comes back, or a slice is too short
-pub read-back : (t : Table) → TableAccepted t → (m : Mapping) (first : Bool) (load : List ℕ) → FullLoad load (loadBytes t) → (re im : List Float) → Within re im load t m first
-    → (decisions₀ decisions bits₀ bits bytes₀ bytes : List ℕ) (r : FrameDecoded)
-    → frameSaid r ≡ frameAnswer (firstRow (decodeRows t re im eights (length decisions₀) (length bits₀) (length bytes₀))) t
-    → Either (firstRow (decodeRows t re im eights (length decisions₀) (length bits₀) (length bytes₀)))
-    (FrameRead t (receivedBy re im m eights) true first decisions₀ decisions bits₀ bits bytes₀ bytes)
-    (Kept decisions₀ decisions bits₀ bits bytes₀ bytes)
-    → ReadsBack t load (length decisions₀) (length bits₀) (length bytes₀) r bytes
-read-back t fit m first load full re im w decisions₀ decisions bits₀ bits bytes₀ bytes r answers leaves =
-    go (shortSpace t (length decisions₀) (length bits₀) (length bytes₀)) refl (last-row t fit m first load re im w (length decisions₀) (length bits₀) (length bytes₀))
-  where
-    go : (s : Bool) → shortSpace t (length decisions₀) (length bits₀) (length bytes₀) ≡ s → firstRow (decodeRows t re im eights (length decisions₀) (length bits₀) (length bytes₀)) ≡ cond s Space Accepted → ReadsBack t load (length decisions₀) (length bits₀) (length bytes₀) r bytes
-    go true e h = short (rw h at answers) (rw e tt)
-    go false e h =
-        let f = leaves .0 h in
-        exactly (rw h at answers) (rw (f .load, equal-scales re im m eight, decoded-load t fit m first load full re im w) (take-at load (drop (length load) bytes₀) (loadBytes t) (full .size)))
+-- THE THEOREM about the call: whatever the lent slices held, the load comes back without strain, or a slice is too short
+module _ (t : Table) (fit : TableAccepted t) (m : Mapping) (first : Bool) (load : List ℕ) (full : FullLoad load (loadBytes t)) (re im : List Float) (w : Within re im load t m first)
+    (decisions₀ decisions bits₀ bits bytes₀ bytes counts₀ counts : List ℕ) (r : FrameDecoded) where
+  abbrev a : Answer
+  a = firstRow (decodeRows t re im eights (length decisions₀) (length bits₀) (length bytes₀) (length counts₀))
+
+  pub read-back : frameSaid r ≡ frameAnswer a t (strainSum t (receivedBy re im m eights) true first)
+      → Either a (FrameLeft t (receivedBy re im m eights) true first decisions₀ decisions bits₀ bits bytes₀ bytes counts₀ counts) (Kept decisions₀ decisions bits₀ bits bytes₀ bytes counts₀ counts)
+      → ReadsBack t load (length decisions₀) (length bits₀) (length bytes₀) (length counts₀) r bytes counts
+  read-back answers leaves =
+      go (shortSpace t (length decisions₀) (length bits₀) (length bytes₀) (length counts₀)) refl (last-row t fit m first load re im w (length decisions₀) (length bits₀) (length bytes₀) (length counts₀))
+    where
+      go : (s : Bool) → shortSpace t (length decisions₀) (length bits₀) (length bytes₀) (length counts₀) ≡ s → a ≡ cond s Space Accepted → ReadsBack t load (length decisions₀) (length bits₀) (length bytes₀) (length counts₀) r bytes counts
+      go true e h = short (rw h at answers) (rw e tt)
+      go false e h =
+          let f = leaves .0 h in
+          let x = decoded-exactly t fit m first load full re im w in
+          let n = validTotal t in
+          exactly
+          (rw (h, equal-scales re im m eight, x .sum-is) at answers)
+          (rw (f .read .load, equal-scales re im m eight, x .bytes-are) (take-at load (drop (length load) bytes₀) (loadBytes t) (full .size)))
+          (rw (f .strain, equal-scales re im m eight, x .counts-are) (take-at (replicate n 0) (drop (length (replicate n 0)) counts₀) n (length-replicate n 0)))

@@ -47,7 +47,7 @@ module _ (t : Table) (fit : TableAccepted t) (m : Mapping) (first : Bool) (load 
   abbrev us : List ℕ
   us = decodedBits t r true first
 
-  sent-bits : (i : ℕ) → i < frameSteps t → getD us i 0 ≡ getD (inputs t load) i 0
+  pub sent-bits : (i : ℕ) → i < frameSteps t → getD us i 0 ≡ getD (inputs t load) i 0
   unfolding decodedBits
   sent-bits = decoded-sent rule 128 (startState first) (inputs t load) (metricsAt t r) (frameSteps t) (few-steps t fit) favours (wordBit 0x1b95) 16 .sent
 

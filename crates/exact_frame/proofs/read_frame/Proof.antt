@@ -9,28 +9,26 @@ use Rattle.exact_frame.proofs.read_frame.Reads as reads
 use Rattle.exact_frame.proofs.read_frame.Lts as lts
 use Rattle.isdbs_phy.proofs.demod.decode_frame.Reads as decode-frame-reads
 
--- src/lib.rt:40:5
 decode-frame-requires : tie.Need-decode-frame-requires
 decode-frame-requires c κs = search needs
 
--- src/lib.rt:19:1
 same-length : tie.Need-same-length
 same-length c = search needs
 
--- src/lib.rt:19:1
 same-length-2 : tie.Need-same-length-2
 same-length-2 c = search needs
 
--- src/lib.rt:19:1
 same-length-3 : tie.Need-same-length-3
 same-length-3 c = search needs
 
--- src/lib.rt:19:1
+same-length-4 : tie.Need-same-length-4
+same-length-4 c = search needs
+
 returns : tie.Need-returns
 unfolding ofBits
 returns c =
-    let d = c .before .before .before .before .before .before .decode-frame in
-    let a = c .before .before .before .before .before .before .before .before .before .before .before .before .before .before .before .args in (
+    let d = c .before .before .before .before .before .before .before .before .decode-frame in
+    let a = c .before .before .before .before .before .before .before .before .before .before .before .before .before .before .before .before .before .before .before .args in (
       d .ensures .0,
       (
         d .ensures .1,
@@ -38,6 +36,8 @@ returns c =
             read-back (a .t) fit (a .mapping) (a .first) load full (now (a .re)) (now (a .im)) w (now (a .decisions)) (d .last .1 .1 .1 .1 .1 .0) (now (a .bits)) (d .last .1 .1 .1 .1 .1 .1 .0)
             (now (a .bytes))
             (d .last .1 .1 .1 .1 .1 .1 .1 .0)
+            (now (a .counts))
+            (d .last .1 .1 .1 .1 .1 .1 .1 .1 .0)
             (d .result)
             (d .ensures .0)
             (d .ensures .1),
@@ -46,4 +46,4 @@ returns c =
 
 pub read-frame-spec : {M : Type 1} → statement M
 read-frame-spec =
-    tie.close (tie.spec decode-frame-requires same-length same-length-2 same-length-3 returns)
+    tie.close (tie.spec decode-frame-requires same-length same-length-2 same-length-3 same-length-4 returns)
