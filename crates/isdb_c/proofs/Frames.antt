@@ -1,7 +1,8 @@
 -- What `decode_frame` answers, as a number. Assumes nothing.
 use mathlib.Core.Path.{_≡_, sym, _∙_, ap}
-use mathlib.Core.List.{[], _∷_}
+use mathlib.Core.List.{List, [], _∷_}
 use Prim.Native.Nat.{ℕ}
+use lib.ListN.{getD}
 use Rattle.refusal.specs.declared.Answer.{Answer}
 use Rattle.refusal.specs.declared.Answer.the-variants.{Accepted}
 use Rattle.refusal.specs.Rows.{numberOf}
@@ -12,9 +13,11 @@ use Rattle.isdbs_phy.specs.declared.demod.FrameDecoded.{FrameDecoded}
 use Rattle.isdbs_phy.specs.declared.demod.FrameDecoded.the-variants.{Decoded, Refused}
 use Rattle.isdbs_phy.specs.DecodeRows.{frameSaid, frameAnswer}
 
-module _ (a : Answer) (t : Table) (r : FrameDecoded) (e : frameSaid r ≡ frameAnswer a t) where
-  pub decoded : (x y : ℕ) → r ≡ Decoded x y → a ≡ Accepted
-  decoded x y f = said-some a (loadBytes t ∷ frameSteps t ∷ []) 0 x (y ∷ []) (sym (ap frameSaid f) ∙ e) .0
+module _ (a : Answer) (t : Table) (sum : ℕ) (r : FrameDecoded) (e : frameSaid r ≡ frameAnswer a t sum) where
+  pub decoded : (x y z : ℕ) → r ≡ Decoded x y z → (a ≡ Accepted) × (z ≡ sum)
+  decoded x y z f =
+      let s = said-some a (loadBytes t ∷ frameSteps t ∷ sum ∷ []) 0 x (y ∷ z ∷ []) (sym (ap frameSaid f) ∙ e) in
+      (s .0, sym (ap (λ (l : List ℕ). getD l 2 0) (s .2)))
 
   pub refused : (c : Answer) → r ≡ Refused c → (numberOf c ≡ numberOf a) × (a ≡ Accepted → ⊥)
-  refused c f = said-none a (loadBytes t) (frameSteps t ∷ []) (numberOf c) (sym (ap frameSaid f) ∙ e)
+  refused c f = said-none a (loadBytes t) (frameSteps t ∷ sum ∷ []) (numberOf c) (sym (ap frameSaid f) ∙ e)

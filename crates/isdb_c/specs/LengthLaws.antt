@@ -34,14 +34,14 @@ until-refuses t n e z =
     let q = ap numberOf (then-accepted t ((Length, true) ∷ []) a .1) in
     absurd (omega arith)
 
-module _ (t : Table) (re im scales : List Float) (decisions bits bytes : ℕ) where
+module _ (t : Table) (re im scales : List Float) (decisions bits bytes counts : ℕ) where
   abbrev rest : List Row
-  rest = pointRows re im ++ lastRows t (someBad scales) decisions bits bytes
+  rest = pointRows re im ++ lastRows t (someBad scales) decisions bits bytes counts
 
   -- seven scales: the other rows decide
-  pub seven-rows : length scales ≡ 7 → firstRow (scalesRows t re im scales decisions bits bytes) ≡ firstRow (decodeRows t re im scales decisions bits bytes)
+  pub seven-rows : length scales ≡ 7 → firstRow (scalesRows t re im scales decisions bits bytes counts) ≡ firstRow (decodeRows t re im scales decisions bits bytes counts)
   seven-rows h = rw (eq-eqb (length scales) 7 h) (row-false (tableRows t) rest Length)
 
   -- not seven: the table's rows, then 5
-  pub not-seven : (length scales ≡ 7 → ⊥) → firstRow (scalesRows t re im scales decisions bits bytes) ≡ firstRow (untilLength (tableRows t))
+  pub not-seven : (length scales ≡ 7 → ⊥) → firstRow (scalesRows t re im scales decisions bits bytes counts) ≡ firstRow (untilLength (tableRows t))
   not-seven h = rw (ne-eqb (length scales) 7 h) (row-true (tableRows t) rest Length)

@@ -29,6 +29,6 @@ abbrev pub untilLength : List Row → List Row
 untilLength above = above ++ (Length, true) ∷ []
 
 -- 5: scales that are not seven, directly below the table's rows
-abbrev pub scalesRows : Table → List Float → List Float → List Float → ℕ → ℕ → ℕ → List Row
-scalesRows t re im scales decisions bits bytes =
-    tableRows t ++ (Length, not (eqb (length scales) 7)) ∷ (pointRows re im ++ lastRows t (someBad scales) decisions bits bytes)
+abbrev pub scalesRows : Table → List Float → List Float → List Float → ℕ → ℕ → ℕ → ℕ → List Row
+scalesRows t re im scales decisions bits bytes counts =
+    tableRows t ++ (Length, not (eqb (length scales) 7)) ∷ (pointRows re im ++ lastRows t (someBad scales) decisions bits bytes counts)

@@ -14,6 +14,7 @@ ghost use Rattle.isdbs_phy.specs.EncodeRows.{encodeRows};
 ghost use Rattle.isdbs_core.specs.Tables.{tableRows};
 ghost use Rattle.isdbs_decode.specs.Scales.{receivedBy};
 ghost use Rattle.isdbs_metrics.specs.Reading.{frameWords, decodedBits, decodedBytes};
+ghost use Rattle.strain.specs.Strain.{strainCounts, strainSum};
 ghost use Rattle.isdb_c.specs.Forms.{tableOf};
 ghost use Rattle.isdb_c.specs.Mappings.{mappingOf, isSet};
 ghost use Rattle.isdb_c.specs.Rows.{answered, left};
@@ -85,7 +86,7 @@ fn scales_of(scales: &[f32]) -> [f32; 7]
 }
 
 // The bytes of a frame from its 38,976 points. `first` and `known_start` are true unless 0. `scales` has one for each combination, in the order of words 1
-// to 7.
+// to 7. `counts` gets the strained steps of each valid slot, `sum` those of the frame.
 #[no_mangle]
 pub extern "C" fn isdbs_decode_frame(
     re: &[f64],
@@ -98,11 +99,15 @@ pub extern "C" fn isdbs_decode_frame(
     decisions: &mut [u64],
     bits: &mut [u8],
     bytes: &mut [u8],
+    counts: &mut [u32],
+    sum: &mut u32,
 ) -> u32
-    ensures answers { λ r. ⌜ r ≡ answered (scalesRows (tableOf table) (now (re .entry)) (now (im .entry)) (now (scales .entry)) (length (now (decisions .entry))) (length (now (bits .entry))) (length (now (bytes .entry)))) ⌝ }
+    ensures answers { λ r. ⌜ r ≡ answered (scalesRows (tableOf table) (now (re .entry)) (now (im .entry)) (now (scales .entry)) (length (now (decisions .entry))) (length (now (bits .entry))) (length (now (bytes .entry))) (length (now (counts .entry)))) ⌝ }
     ensures words { λ r. ⌜ now (decisions .exit) ≡ left r (laid (replicate frameWords 0) (now (decisions .entry))) (now (decisions .entry)) ⌝ }
     ensures decoded { λ r. ⌜ now (bits .exit) ≡ left r (laid (decodedBits (tableOf table) (receivedBy (now (re .entry)) (now (im .entry)) (mappingOf mapping) (now (scales .entry))) (isSet «known_start») (isSet first)) (now (bits .entry))) (now (bits .entry)) ⌝ }
     ensures load { λ r. ⌜ now (bytes .exit) ≡ left r (laid (decodedBytes (tableOf table) (receivedBy (now (re .entry)) (now (im .entry)) (mappingOf mapping) (now (scales .entry))) (isSet «known_start») (isSet first)) (now (bytes .entry))) (now (bytes .entry)) ⌝ }
+    ensures strain { λ r. ⌜ now (counts .exit) ≡ left r (laid (strainCounts (tableOf table) (receivedBy (now (re .entry)) (now (im .entry)) (mappingOf mapping) (now (scales .entry))) (isSet «known_start») (isSet first)) (now (counts .entry))) (now (counts .entry)) ⌝ }
+    ensures total { λ r. ⌜ now (sum .exit) ≡ left r (strainSum (tableOf table) (receivedBy (now (re .entry)) (now (im .entry)) (mappingOf mapping) (now (scales .entry))) (isSet «known_start») (isSet first)) (now (sum .entry)) ⌝ }
 {
     let t = table_of(table);
     if scales.len() != 7 {
@@ -115,9 +120,22 @@ pub extern "C" fn isdbs_decode_frame(
         known_start: known_start != 0,
         scales: all,
     };
-    let r = isdbs_phy::demod::decode_frame(re, im, t, first != 0, o, decisions, bits, bytes);
+    let r = isdbs_phy::demod::decode_frame(
+        re,
+        im,
+        t,
+        first != 0,
+        o,
+        decisions,
+        bits,
+        bytes,
+        counts,
+    );
     match r {
-        FrameDecoded::Decoded(_, _) => 0,
+        FrameDecoded::Decoded(_, _, strained) => {
+            *sum = strained;
+            0
+        }
         FrameDecoded::Refused(a) => refusal::number(a),
     }
 }

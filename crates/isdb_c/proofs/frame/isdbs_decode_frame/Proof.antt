@@ -7,11 +7,13 @@ use Rattle.refusal.specs.Rows.{firstRow, numberOf}
 use Rattle.refusal.specs.RowLaws.{zero-accepted}
 use Rattle.isdbs_phy.specs.DecodeRows.{decodeRows}
 use Rattle.isdbs_core.specs.Tables.{tableRows}
+use Rattle.isdbs_decode.specs.Scales.{receivedBy}
+use Rattle.strain.specs.Strain.{strainSum}
 use Rattle.isdb_c.specs.Forms.{tableOf}
 use Rattle.isdb_c.specs.Rows.{answered}
 use Rattle.isdb_c.specs.Lengths.{untilLength, scalesRows}
 use Rattle.isdb_c.specs.LengthLaws.{until-refuses, seven-rows, not-seven}
-use Rattle.isdb_c.specs.Mappings.{mappingOf}
+use Rattle.isdb_c.specs.Mappings.{mappingOf, isSet}
 use Rattle.isdb_c.proofs.Answers.{kept}
 use Rattle.isdb_c.proofs.Frames.{decoded, refused}
 use borrow.Author.Needs.{needs}
@@ -27,12 +29,12 @@ not-scales-requires c κs = search needs
 returns : tie.Need-returns
 returns c =
     let q = c .before .before in
-    let a = q .before .before .before .before .before .before .before .args in
+    let a = q .before .before .before .before .before .before .before .before .args in
     let n = c .not-scales .result in
     let e : n ≡ answered (untilLength (tableRows (tableOf (a .table)))) = c .not-scales .ensures ∙ rw (q .table-of .ensures) refl in
     let h = until-refuses (tableOf (a .table)) n e in
-    let w = e ∙ ap numberOf (sym (not-seven (tableOf (a .table)) (a .re .now) (a .im .now) (a .scales .now) (length (a .decisions .now)) (length (a .bits .now)) (length (a .bytes .now)) (c .before .if1 .taken))) in
-    (w, (kept n _ _ h, (kept n _ _ h, kept n _ _ h)))
+    let w = e ∙ ap numberOf (sym (not-seven (tableOf (a .table)) (a .re .now) (a .im .now) (a .scales .now) (length (a .decisions .now)) (length (a .bits .now)) (length (a .bytes .now)) (length (a .counts .now)) (c .before .if1 .taken))) in
+    (w, (kept n _ _ h, (kept n _ _ h, (kept n _ _ h, (kept n _ _ h, kept n _ _ h)))))
 
 scales-of-requires : tie.Need-scales-of-requires
 scales-of-requires c κs = search needs
@@ -43,11 +45,11 @@ mapping-of-requires c κs = search needs
 decode-frame-requires : tie.Need-decode-frame-requires
 decode-frame-requires c κs = search needs
 
-enum-told : tie.Need-enum-told
-enum-told c = search needs
-
 enum-known-r : tie.Need-enum-known-r
 enum-known-r c = search needs
+
+enum-known-r-2 : tie.Need-enum-known-r-2
+enum-known-r-2 c = search needs
 
 number-requires : tie.Need-number-requires
 number-requires c κs = search needs
@@ -61,26 +63,27 @@ same-length-2 c = search needs
 same-length-3 : tie.Need-same-length-3
 same-length-3 c = search needs
 
+same-length-4 : tie.Need-same-length-4
+same-length-4 c = search needs
+
 returns-2 : tie.Need-returns-2
 returns-2 c =
-    let p = c .before .before .before .before .before .before .before .before in
-    let o = p .before .before .before .before in
+    let p = c .before .before .before .before .before .before .before .before .before .before .before in
+    let o = p .before .before .before .before .before in
     let g = o .before in
     let q = g .before .before in
-    let a = q .before .before .before .before .before .before .before .args in
+    let a = q .before .before .before .before .before .before .before .before .args in
     let t : q .table-of .result ≡ tableOf (a .table) = q .table-of .ensures in
     let z : o .scales-of .result ≡ a .scales .now = o .scales-of .ensures in
     let m : g .mapping-of .result ≡ mappingOf (a .mapping) = g .mapping-of .ensures in
-    let k : Answer = firstRow (decodeRows (q .table-of .result) (a .re .now) (a .im .now) (o .scales-of .result) (length (a .decisions .now)) (length (a .bits .now)) (length (a .bytes .now))) in
-    let seven = seven-rows (tableOf (a .table)) (a .re .now) (a .im .now) (a .scales .now) (length (a .decisions .now)) (length (a .bits .now)) (length (a .bytes .now)) (g .before .if1 .left) in
-    let k-is : k ≡ firstRow (scalesRows (tableOf (a .table)) (a .re .now) (a .im .now) (a .scales .now) (length (a .decisions .now)) (length (a .bits .now)) (length (a .bytes .now))) = rw (t, z) (sym seven) in
+    let k : Answer = firstRow (decodeRows (q .table-of .result) (a .re .now) (a .im .now) (o .scales-of .result) (length (a .decisions .now)) (length (a .bits .now)) (length (a .bytes .now)) (length (a .counts .now))) in
+    let seven = seven-rows (tableOf (a .table)) (a .re .now) (a .im .now) (a .scales .now) (length (a .decisions .now)) (length (a .bits .now)) (length (a .bytes .now)) (length (a .counts .now)) (g .before .if1 .left) in
+    let k-is : k ≡ firstRow (scalesRows (tableOf (a .table)) (a .re .now) (a .im .now) (a .scales .now) (length (a .decisions .now)) (length (a .bits .now)) (length (a .bytes .now)) (length (a .counts .now))) = rw (t, z) (sym seven) in
+    let x = strainSum (q .table-of .result) (receivedBy (a .re .now) (a .im .now) (g .mapping-of .result) (o .scales-of .result)) (isSet (a .known-start)) (isSet (a .first)) in
     let e = p .decode-frame .ensures .0 in
-    let y : k ≡ Accepted = decoded k (q .table-of .result) (p .decode-frame .result) e _ _ (c .enum-told .given .1) in
-    let f = p .decode-frame .ensures .1 .0 y in
-    (sym (ap numberOf y) ∙ ap numberOf k-is, (f .words, (f .decoded ∙ rw (t, m, z) refl, f .load ∙ rw (t, m, z) refl)))
-
-same-length-4 : tie.Need-same-length-4
-same-length-4 c = search needs
+    let s = decoded k (q .table-of .result) x (p .decode-frame .result) e _ _ _ (c .before .r .given .1) in
+    let f = p .decode-frame .ensures .1 .0 (s .0) in
+    (sym (ap numberOf (s .0)) ∙ ap numberOf k-is, (f .read .words, (f .read .decoded ∙ rw (t, m, z) refl, (f .read .load ∙ rw (t, m, z) refl, (f .strain ∙ rw (t, m, z) refl, s .1 ∙ rw (t, m, z) refl)))))
 
 same-length-5 : tie.Need-same-length-5
 same-length-5 c = search needs
@@ -88,25 +91,32 @@ same-length-5 c = search needs
 same-length-6 : tie.Need-same-length-6
 same-length-6 c = search needs
 
+same-length-7 : tie.Need-same-length-7
+same-length-7 c = search needs
+
+same-length-8 : tie.Need-same-length-8
+same-length-8 c = search needs
+
 returns-3 : tie.Need-returns-3
 returns-3 c =
-    let p = c .before .before .before .before .before .before .before .before .before .before in
-    let o = p .before .before .before .before in
+    let p = c .before .before .before .before .before .before .before .before .before .before .before .before in
+    let o = p .before .before .before .before .before in
     let g = o .before in
     let q = g .before .before in
-    let a = q .before .before .before .before .before .before .before .args in
+    let a = q .before .before .before .before .before .before .before .before .args in
     let t : q .table-of .result ≡ tableOf (a .table) = q .table-of .ensures in
     let z : o .scales-of .result ≡ a .scales .now = o .scales-of .ensures in
     let m : g .mapping-of .result ≡ mappingOf (a .mapping) = g .mapping-of .ensures in
-    let k : Answer = firstRow (decodeRows (q .table-of .result) (a .re .now) (a .im .now) (o .scales-of .result) (length (a .decisions .now)) (length (a .bits .now)) (length (a .bytes .now))) in
-    let seven = seven-rows (tableOf (a .table)) (a .re .now) (a .im .now) (a .scales .now) (length (a .decisions .now)) (length (a .bits .now)) (length (a .bytes .now)) (g .before .if1 .left) in
-    let k-is : k ≡ firstRow (scalesRows (tableOf (a .table)) (a .re .now) (a .im .now) (a .scales .now) (length (a .decisions .now)) (length (a .bits .now)) (length (a .bytes .now))) = rw (t, z) (sym seven) in
+    let k : Answer = firstRow (decodeRows (q .table-of .result) (a .re .now) (a .im .now) (o .scales-of .result) (length (a .decisions .now)) (length (a .bits .now)) (length (a .bytes .now)) (length (a .counts .now))) in
+    let seven = seven-rows (tableOf (a .table)) (a .re .now) (a .im .now) (a .scales .now) (length (a .decisions .now)) (length (a .bits .now)) (length (a .bytes .now)) (length (a .counts .now)) (g .before .if1 .left) in
+    let k-is : k ≡ firstRow (scalesRows (tableOf (a .table)) (a .re .now) (a .im .now) (a .scales .now) (length (a .decisions .now)) (length (a .bits .now)) (length (a .bytes .now)) (length (a .counts .now))) = rw (t, z) (sym seven) in
+    let x = strainSum (q .table-of .result) (receivedBy (a .re .now) (a .im .now) (g .mapping-of .result) (o .scales-of .result)) (isSet (a .known-start)) (isSet (a .first)) in
     let e = p .decode-frame .ensures .0 in
-    let x = refused k (q .table-of .result) (p .decode-frame .result) e (c .before .before .r .given .0 .0) (c .before .before .r .given .1) in
-    let w : c .number .result ≡ numberOf k = c .number .ensures ∙ x .0 in
-    let h : c .number .result ≡ 0 → ⊥ = λ z. x .1 (zero-accepted k (sym w ∙ z)) in
-    let l = p .decode-frame .ensures .1 .1 (x .1) in
-    (w ∙ ap numberOf k-is, (l .words ∙ kept (c .number .result) _ _ h, (l .decoded ∙ kept (c .number .result) _ _ h, l .load ∙ kept (c .number .result) _ _ h)))
+    let n = refused k (q .table-of .result) x (p .decode-frame .result) e (c .before .before .r2 .given .0 .0) (c .before .before .r2 .given .1) in
+    let w : c .number .result ≡ numberOf k = c .number .ensures ∙ n .0 in
+    let h : c .number .result ≡ 0 → ⊥ = λ z. n .1 (zero-accepted k (sym w ∙ z)) in
+    let l = p .decode-frame .ensures .1 .1 (n .1) in
+    (w ∙ ap numberOf k-is, (l .words ∙ kept (c .number .result) _ _ h, (l .decoded ∙ kept (c .number .result) _ _ h, (l .load ∙ kept (c .number .result) _ _ h, (l .strain ∙ kept (c .number .result) _ _ h, kept (c .number .result) _ _ h)))))
 
 pub isdbs-decode-frame-spec : {M : Type 1} → statement M
 isdbs-decode-frame-spec =
@@ -118,14 +128,16 @@ isdbs-decode-frame-spec =
     mapping-of-requires
     scales-of-requires
     decode-frame-requires
-    enum-told
     enum-known-r
+    enum-known-r-2
     number-requires
     same-length
     same-length-2
     same-length-3
-    returns-2
     same-length-4
+    returns-2
     same-length-5
     same-length-6
+    same-length-7
+    same-length-8
     returns-3)
