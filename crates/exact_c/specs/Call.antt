@@ -11,12 +11,12 @@ use borrow.Author.Tests.{eq-eqb, ne-eqb, eqb-true, eqb-false}
 use Rattle.refusal.specs.declared.Answer.{Answer}
 use Rattle.refusal.specs.declared.Answer.the-variants.{Accepted}
 use Rattle.refusal.specs.Rows.{numberOf, accepted, firstRow, Said}
-use Rattle.refusal.specs.RowLaws.{zero-accepted, says-number}
+use Rattle.refusal.specs.RowLaws.{zero-accepted, says-number, said-some}
 use Rattle.trellis.specs.Lists.{laid, upto}
 use Rattle.trellis.specs.ListLaws.{length-upto, getD-upto}
 use Rattle.isdbs_core.specs.declared.tmcc.Table as tmcc
 use Rattle.isdbs_core.specs.Tables.{TableAccepted}
-use Rattle.isdbs_core.specs.RunsOf.{frameSteps, loadBytes}
+use Rattle.isdbs_core.specs.RunsOf.{validTotal, frameSteps, loadBytes}
 use Rattle.isdbs_points.specs.declared.Mapping.{Mapping}
 use Rattle.isdbs_points.specs.Frame.{pointAt, frameRe, frameIm, startState}
 use Rattle.isdbs_metrics.specs.Reading.{decodedBits, decodedBytes}
@@ -26,6 +26,7 @@ use Rattle.isdbs_phy.specs.DecodeRows.{shortSpace, decodeRows, frameSaid, frame
 use Rattle.isdbs_points.specs.Layout.{FullLoad}
 use Rattle.margins.specs.Margins.{freeRe, freeIm, holds, Within}
 use Rattle.isdbs_decode.specs.Scales.{receivedBy}
+use Rattle.strain.specs.Strain.{strainCounts, strainSum}
 use Rattle.exact_frame.specs.Frames.{encoded-within}
 use Rattle.exact_frame.specs.Call.{eights, ReadsBack, exactly, short, read-back}
 use Rattle.isdb_c.specs.Forms.{tableOf}
@@ -74,49 +75,69 @@ lays answer t m load state re₀ im₀ re im er ei = record {
 
 -- ---- what is read
 
--- what comes back: 0 and the load at the front of the byte output, or 9 where a lent slice is too short; nothing else
-pub data ReadsBackC (t : tmcc.Table) (load : List ℕ) (decisions bits space : ℕ) (answer : ℕ) (bytes : List ℕ) : Type 0 where
-  exactly-c : answer ≡ 0 → take (loadBytes t) bytes ≡ load → ReadsBackC t load decisions bits space answer bytes
-  short-c : answer ≡ 9 → T (shortSpace t decisions bits space) → ReadsBackC t load decisions bits space answer bytes
+-- what comes back: 0, the load at the front of the byte output, a zero count for each valid slot and the sum 0; or 9 where a lent slice is too short; nothing else
+pub data ReadsBackC (t : tmcc.Table) (load : List ℕ) (decisions bits space slots : ℕ) (answer : ℕ) (bytes counts : List ℕ) (sum : ℕ) : Type 0 where
+  exactly-c : answer ≡ 0 → take (loadBytes t) bytes ≡ load → take (validTotal t) counts ≡ replicate (validTotal t) 0 → sum ≡ 0 → ReadsBackC t load decisions bits space slots answer bytes counts sum
+  short-c : answer ≡ 9 → T (shortSpace t decisions bits space slots) → ReadsBackC t load decisions bits space slots answer bytes counts sum
 
 -- demand 3 of one call: whatever full load the received frame lies within the margins of, it reads back
-abbrev pub ExactC : tmcc.Table → Mapping → Bool → List Float → List Float → ℕ → ℕ → ℕ → ℕ → List ℕ → Type 0
-ExactC t m first re im decisions bits space answer bytes =
-    (load : List ℕ) → TableAccepted t → FullLoad load (loadBytes t) → Within re im load t m first → ReadsBackC t load decisions bits space answer bytes
+abbrev pub ExactC : tmcc.Table → Mapping → Bool → List Float → List Float → ℕ → ℕ → ℕ → ℕ → ℕ → List ℕ → List ℕ → ℕ → Type 0
+ExactC t m first re im decisions bits space slots answer bytes counts sum =
+    (load : List ℕ) → TableAccepted t → FullLoad load (loadBytes t) → Within re im load t m first → ReadsBackC t load decisions bits space slots answer bytes counts sum
 
 -- the answer of `decode_frame` whose rows answer a
-answerOf : Answer → tmcc.Table → FrameDecoded
-answerOf a t = cond (accepted a) (Decoded (loadBytes t) (frameSteps t)) (Refused a)
+answerOf : Answer → tmcc.Table → ℕ → FrameDecoded
+answerOf a t n = cond (accepted a) (Decoded (loadBytes t) (frameSteps t) n) (Refused a)
 
-answer-said : (a : Answer) (t : tmcc.Table) → frameSaid (answerOf a t) ≡ frameAnswer a t
+answer-said : (a : Answer) (t : tmcc.Table) (n : ℕ) → frameSaid (answerOf a t n) ≡ frameAnswer a t n
 unfolding answerOf
-answer-said a t = go (accepted a)
+answer-said a t n = go (accepted a)
   where
-    go : (b : Bool) → frameSaid (cond b (Decoded (loadBytes t) (frameSteps t)) (Refused a)) ≡ cond {A = Said} b (0, loadBytes t ∷ frameSteps t ∷ []) (numberOf a, [])
+    go : (b : Bool) → frameSaid (cond b (Decoded (loadBytes t) (frameSteps t) n) (Refused a)) ≡ cond {A = Said} b (0, loadBytes t ∷ frameSteps t ∷ n ∷ []) (numberOf a, [])
     go true = refl
     go false = refl
 
--- THE THEOREM about the call: whatever the lent slices held, the load comes back, or a slice is too short
+-- THE THEOREM about the call: whatever the lent slices held, the load comes back without strain, or a slice is too short
 module _
-    (t : tmcc.Table) (m : Mapping) (first : Bool) (re im : List Float) (decisions₀ decisions bits₀ bits bytes₀ bytes : List ℕ) (answer : ℕ)
-    (answers : answer ≡ answered (decodeRows t re im eights (length decisions₀) (length bits₀) (length bytes₀)))
+    (t : tmcc.Table) (m : Mapping) (first : Bool) (re im : List Float) (decisions₀ decisions bits₀ bits bytes₀ bytes counts₀ counts : List ℕ) (sum₀ sum answer : ℕ)
+    (answers : answer ≡ answered (decodeRows t re im eights (length decisions₀) (length bits₀) (length bytes₀) (length counts₀)))
     (words-are : decisions ≡ left answer (laid (replicate 4224 0) decisions₀) decisions₀)
     (bits-are : bits ≡ left answer (laid (decodedBits t (receivedBy re im m eights) true first) bits₀) bits₀)
-    (bytes-are : bytes ≡ left answer (laid (decodedBytes t (receivedBy re im m eights) true first) bytes₀) bytes₀) where
+    (bytes-are : bytes ≡ left answer (laid (decodedBytes t (receivedBy re im m eights) true first) bytes₀) bytes₀)
+    (counts-are : counts ≡ left answer (laid (strainCounts t (receivedBy re im m eights) true first) counts₀) counts₀)
+    (sum-is : sum ≡ left answer (strainSum t (receivedBy re im m eights) true first) sum₀) where
   abbrev a : Answer
-  a = firstRow (decodeRows t re im eights (length decisions₀) (length bits₀) (length bytes₀))
+  a = firstRow (decodeRows t re im eights (length decisions₀) (length bits₀) (length bytes₀) (length counts₀))
 
-  said : (n : ℕ) (values : List ℕ) → frameSaid (answerOf a t) ≡ (n, values) → answer ≡ n
-  said n values e = answers ∙ sym (says-number a (loadBytes t ∷ frameSteps t ∷ [])) ∙ ap (λ (x : Said). x .0) (sym (answer-said a t) ∙ e)
+  abbrev strain : ℕ
+  strain = strainSum t (receivedBy re im m eights) true first
 
-  number-of : (load : List ℕ) → ReadsBack t load (length decisions₀) (length bits₀) (length bytes₀) (answerOf a t) bytes → ReadsBackC t load (length decisions₀) (length bits₀) (length bytes₀) answer bytes
-  number-of load (exactly e h) = exactly-c (said 0 (loadBytes t ∷ frameSteps t ∷ []) e) h
+  told : (n : ℕ) (values : List ℕ) → frameSaid (answerOf a t strain) ≡ (n, values) → frameAnswer a t strain ≡ (n, values)
+  told n values e = sym (answer-said a t strain) ∙ e
+
+  said : (n : ℕ) (values : List ℕ) → frameSaid (answerOf a t strain) ≡ (n, values) → answer ≡ n
+  said n values e = answers ∙ sym (says-number a (loadBytes t ∷ frameSteps t ∷ strain ∷ [])) ∙ ap (λ (x : Said). x .0) (told n values e)
+
+  -- the third value of an accepted answer is the sum
+  no-strain : frameSaid (answerOf a t strain) ≡ (0, loadBytes t ∷ frameSteps t ∷ 0 ∷ []) → sum ≡ 0
+  no-strain e =
+      let z = eq-eqb answer 0 (said 0 (loadBytes t ∷ frameSteps t ∷ 0 ∷ []) e) in
+      let s = said-some a (loadBytes t ∷ frameSteps t ∷ strain ∷ []) 0 (loadBytes t) (frameSteps t ∷ 0 ∷ []) (sym (told 0 (loadBytes t ∷ frameSteps t ∷ 0 ∷ []) e)) in
+      sum-is ∙ rw z (ap (λ (l : List ℕ). getD l 2 0) (s .2))
+
+  number-of : (load : List ℕ) → ReadsBack t load (length decisions₀) (length bits₀) (length bytes₀) (length counts₀) (answerOf a t strain) bytes counts
+      → ReadsBackC t load (length decisions₀) (length bits₀) (length bytes₀) (length counts₀) answer bytes counts sum
+  number-of load (exactly e h k) = exactly-c (said 0 (loadBytes t ∷ frameSteps t ∷ 0 ∷ []) e) h k (no-strain e)
   number-of load (short e h) = short-c (said 9 [] e) h
 
-  pub reads-back : ExactC t m first re im (length decisions₀) (length bits₀) (length bytes₀) answer bytes
+  pub reads-back : ExactC t m first re im (length decisions₀) (length bits₀) (length bytes₀) (length counts₀) answer bytes counts sum
   reads-back load fit full w =
       number-of load
-      (read-back t fit m first load full re im w decisions₀ decisions bits₀ bits bytes₀ bytes (answerOf a t) (answer-said a t) (
-        (λ y. let z = eq-eqb answer 0 (answers ∙ ap numberOf y) in record { words = words-are ∙ rw z refl; decoded = bits-are ∙ rw z refl; load = bytes-are ∙ rw z refl }),
-        (λ n. let z = ne-eqb answer 0 (λ q. n (zero-accepted a (sym answers ∙ q))) in record { words = words-are ∙ rw z refl; decoded = bits-are ∙ rw z refl; load = bytes-are ∙ rw z refl }),
+      (read-back t fit m first load full re im w decisions₀ decisions bits₀ bits bytes₀ bytes counts₀ counts (answerOf a t strain) (answer-said a t strain) (
+        (λ y.
+            let z = eq-eqb answer 0 (answers ∙ ap numberOf y) in
+            record { read = record { words = words-are ∙ rw z refl; decoded = bits-are ∙ rw z refl; load = bytes-are ∙ rw z refl }; strain = counts-are ∙ rw z refl }),
+        (λ n.
+            let z = ne-eqb answer 0 (λ q. n (zero-accepted a (sym answers ∙ q))) in
+            record { words = words-are ∙ rw z refl; decoded = bits-are ∙ rw z refl; load = bytes-are ∙ rw z refl; strain = counts-are ∙ rw z refl }),
       ))

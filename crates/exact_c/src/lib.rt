@@ -8,6 +8,7 @@ ghost use Rattle.isdbs_metrics.specs.Reading.{decodedBits, decodedBytes};
 ghost use Rattle.isdbs_phy.specs.EncodeRows.{encodeRows};
 ghost use Rattle.isdbs_phy.specs.DecodeRows.{decodeRows};
 ghost use Rattle.isdbs_decode.specs.Scales.{receivedBy};
+ghost use Rattle.strain.specs.Strain.{strainCounts, strainSum};
 ghost use Rattle.exact_frame.specs.Call.{eights};
 ghost use Rattle.isdb_c.specs.Forms.{tableOf};
 ghost use Rattle.isdb_c.specs.Mappings.{mappingOf, isSet};
@@ -35,7 +36,7 @@ pub fn lay_frame(
 }
 
 // isdbs_decode_frame with a known start and all seven scales at 8. For every table of at most 48 slots, every mapping and frame kind, every full load and every
-// frame within the load's margins, whatever the three lent slices held: 0 and the load, or 9 where one of the slices is too short.
+// frame within the load's margins, whatever the four lent slices held: 0, the load and no strain, or 9 where one of the slices is too short.
 pub fn read_frame(
     re: &[f64],
     im: &[f64],
@@ -45,12 +46,16 @@ pub fn read_frame(
     decisions: &mut [u64],
     bits: &mut [u8],
     bytes: &mut [u8],
+    counts: &mut [u32],
+    sum: &mut u32,
 ) -> u32
-    ensures answers { λ r. ⌜ r ≡ answered (decodeRows (tableOf table) (now (re .entry)) (now (im .entry)) eights (length (now (decisions .entry))) (length (now (bits .entry))) (length (now (bytes .entry)))) ⌝ }
+    ensures answers { λ r. ⌜ r ≡ answered (decodeRows (tableOf table) (now (re .entry)) (now (im .entry)) eights (length (now (decisions .entry))) (length (now (bits .entry))) (length (now (bytes .entry))) (length (now (counts .entry)))) ⌝ }
     ensures words { λ r. ⌜ now (decisions .exit) ≡ left r (laid (replicate 4224 0) (now (decisions .entry))) (now (decisions .entry)) ⌝ }
     ensures decoded { λ r. ⌜ now (bits .exit) ≡ left r (laid (decodedBits (tableOf table) (receivedBy (now (re .entry)) (now (im .entry)) (mappingOf mapping) eights) true (isSet first)) (now (bits .entry))) (now (bits .entry)) ⌝ }
     ensures load { λ r. ⌜ now (bytes .exit) ≡ left r (laid (decodedBytes (tableOf table) (receivedBy (now (re .entry)) (now (im .entry)) (mappingOf mapping) eights) true (isSet first)) (now (bytes .entry))) (now (bytes .entry)) ⌝ }
-    ensures exact { λ r. ⌜ ExactC (tableOf table) (mappingOf mapping) (isSet first) (now (re .entry)) (now (im .entry)) (length (now (decisions .entry))) (length (now (bits .entry))) (length (now (bytes .entry))) r (now (bytes .exit)) ⌝ }
+    ensures strain { λ r. ⌜ now (counts .exit) ≡ left r (laid (strainCounts (tableOf table) (receivedBy (now (re .entry)) (now (im .entry)) (mappingOf mapping) eights) true (isSet first)) (now (counts .entry))) (now (counts .entry)) ⌝ }
+    ensures total { λ r. ⌜ now (sum .exit) ≡ left r (strainSum (tableOf table) (receivedBy (now (re .entry)) (now (im .entry)) (mappingOf mapping) eights) true (isSet first)) (now (sum .entry)) ⌝ }
+    ensures exact { λ r. ⌜ ExactC (tableOf table) (mappingOf mapping) (isSet first) (now (re .entry)) (now (im .entry)) (length (now (decisions .entry))) (length (now (bits .entry))) (length (now (bytes .entry))) (length (now (counts .entry))) r (now (bytes .exit)) (now (counts .exit)) (now (sum .exit)) ⌝ }
 {
     let scales = [8.0f32; 7];
     isdb_c::frame::isdbs_decode_frame(
@@ -64,5 +69,7 @@ pub fn read_frame(
         decisions,
         bits,
         bytes,
+        counts,
+        sum,
     )
 }
