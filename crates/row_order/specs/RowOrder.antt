@@ -63,8 +63,8 @@ module _ (t : Table) (v : ViterbiDecoder) (c : Code) (w : WindowState) (parts : 
       -- isdbs_phy
       ∷ encodeRows t i j k
       ∷ encodeFrameRows t i j
-      ∷ decodeRows t re im xs i j k
-      ∷ oneScaleRows t re im scale i j k
+      ∷ decodeRows t re im xs i j k l
+      ∷ oneScaleRows t re im scale i j k l
       -- best_reading
       ∷ readingRows xs i j
       -- known_end
@@ -102,7 +102,7 @@ module _ (t : Table) (v : ViterbiDecoder) (c : Code) (w : WindowState) (parts : 
       ∷ withStates xs (short.knownRows c v i j k)
       ∷ withStates xs (short.flushRows c v i j)
       -- with a row 5 for scales that are not seven
-      ∷ scalesRows t re im xs i j k
+      ∷ scalesRows t re im xs i j k l
       -- with a rate that is unknown: where it is known, they are those of isdbt_fec
       ∷ rateRows (encoderRows i) NoRate (λ c. isdbt.encodeRows c i j k)
       ∷ rateRows [] NoRate (λ c. isdbt.depunctureRows c i j)
