@@ -37,6 +37,7 @@
  *   static double re[38976], im[38976];
  *   static uint64_t decisions[4224];
  *   static uint8_t bits[7 * 1624 + 16], bytes[7 * 203];
+ *   static uint32_t counts[7], sum;
  *
  *   int main(void) {
  *       uint64_t table = 6 | 8 << 8 | (uint64_t)0x000f000f000f << 16; // 8 slots of QPSK 7/8, of which 7 are valid; no other entry
@@ -44,10 +45,10 @@
  *       float scales[7] = {8, 8, 8, 8, 8, 8, 8}; // of words 1 to 7
  *       for (int i = 0; i < 7 * 203; i++) load[i] = (uint8_t)(i * 37);
  *       uint32_t made = isdbs_encode_frame(load, sizeof load, table, 4, 0, re, 38976, im, 38976, &end);
- *       uint32_t read = isdbs_decode_frame(re, 38976, im, 38976, table, 4, 1, 1, scales, 7, decisions, 4224, bits, sizeof bits, bytes, sizeof bytes);
+ *       uint32_t read = isdbs_decode_frame(re, 38976, im, 38976, table, 4, 1, 1, scales, 7, decisions, 4224, bits, sizeof bits, bytes, sizeof bytes, counts, 7, &sum);
  *       int same = 0;
  *       for (int i = 0; i < 7 * 203; i++) same += bytes[i] == load[i];
- *       printf("answers %u and %u, %d of %d bytes the same\n", made, read, same, 7 * 203);
+ *       printf("answers %u and %u, %d of %d bytes the same, %u steps strained\n", made, read, same, 7 * 203, sum);
  *       return 0;
  *   }
  *
@@ -86,10 +87,14 @@ uint32_t isdbs_encode_frame(const uint8_t *bytes, size_t bytes_len, uint64_t tab
  * `known_start`: the decoder starts in that frame's start state (any number but 0), else in no known one. `scales` (usually all 8) has seven scales of the
  * soft values in the order of words 1 to 7: a run is read with the scale of its combination. Row 5: they are not seven; row 8 is of any of them, used or not.
  * Afterwards `bits` begins with steps + 16 decoded bits, one in a byte, the first 4,224 words of `decisions` are 0, and `bytes` begins with 203 bytes
- * for each valid slot. A trellis step is an information bit; TC8PSK takes two bits a step. At most 68,224 bits and 9,744 bytes. Rows 1, 10, 11, 5, 6, 7, 8, 9. */
+ * for each valid slot. A trellis step is an information bit; TC8PSK takes two bits a step. At most 68,224 bits and 9,744 bytes.
+ * `counts` begins with the strained steps of each valid slot (812 steps to a TC8PSK slot, 1,624 to another; at most 48 slots), and *sum is their sum, at most
+ * 68,208. A step is strained if one of its four branch metrics is greater than that of the coded bits that the decoded ones give again. 0 does not mean that the
+ * frame is good. Rows 1, 10, 11, 5, 6, 7, 8, 9. */
 uint32_t isdbs_decode_frame(const double *re, size_t re_len, const double *im, size_t im_len, uint64_t table, uint8_t mapping,
                             uint8_t first, uint8_t known_start, const float *scales, size_t scales_len,
-                            uint64_t *decisions, size_t decisions_len, uint8_t *bits, size_t bits_len, uint8_t *bytes, size_t bytes_len);
+                            uint64_t *decisions, size_t decisions_len, uint8_t *bits, size_t bits_len, uint8_t *bytes, size_t bytes_len,
+                            uint32_t *counts, size_t counts_len, uint32_t *sum);
 
 /* The bytes behind a wanted frame: the full load (203 bytes for each valid slot) that encodes, from the start state for `first` (any number but 0 for the first
  * frame of a superframe), to exactly the f64 bits of the first 38,976 points, unused points included. There is at most one. Points past them are not read, and

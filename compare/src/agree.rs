@@ -472,8 +472,10 @@ fn decoding(all: &mut (u64, u64), scale: u64) {
     let check = |kind: &mut Kind, points: &[Cplx], s: &calls::Settings, scale: f32, powers: &[i32; 7]| {
         let (known, first) = (s.known != 0, s.first != 0);
         assert_eq!(s.scales, scales_of(scale, powers));
-        let want = isdbs_phy::demod::decode_frame(&louder(points, s.table, powers), &info(s.table), first, &options(s.mapping, known, scale)).bytes;
+        let louder = louder(points, s.table, powers);
+        let want = isdbs_phy::demod::decode_frame(&louder, &info(s.table), first, &options(s.mapping, known, scale)).bytes;
         let bits = decoded_bits(&want, s.table);
+        let strain = reference_strain(&louder, s.table, s.mapping, first, scale, &bits);
         let (mut re, mut im): (Vec<f64>, Vec<f64>) = points.iter().map(|v| (v.re, v.im)).unzip();
         // past the points nothing is read
         re.push(f64::NAN);
@@ -481,14 +483,19 @@ fn decoding(all: &mut (u64, u64), scale: u64) {
         let mut decisions = vec![u64::MAX; 4226];
         let mut got_bits = vec![0xa5u8; bits.len() + 2];
         let mut got_bytes = vec![0xa5u8; want.len() + 2];
-        let answer = calls::decode_frame(&re, &im, s, &mut decisions, &mut got_bits, &mut got_bytes);
+        let mut got_strain = vec![0xa5a5u32; strain.len() + 2];
+        let mut got_sum = u32::MAX;
+        let answer = calls::decode_frame(&re, &im, s, &mut decisions, &mut got_bits, &mut got_bytes, &mut got_strain, &mut got_sum);
         let same = answer == 0
             && got_bytes[..want.len()] == want[..]
             && got_bits[..bits.len()] == bits[..]
             && decisions[..4224].iter().all(|&w| w == 0)
             && decisions[4224..] == [u64::MAX; 2]
             && got_bits[bits.len()..] == [0xa5; 2]
-            && got_bytes[want.len()..] == [0xa5; 2];
+            && got_bytes[want.len()..] == [0xa5; 2]
+            && got_strain[..strain.len()] == strain[..]
+            && got_strain[strain.len()..] == [0xa5a5; 2]
+            && got_sum == strain.iter().sum::<u32>();
         kind.case(same, || format!("table {:016x} mapping {} first {} known {} scales {:x?}", s.table, s.mapping, s.first, s.known, s.scales.iter().map(|x| x.to_bits()).collect::<Vec<_>>()));
     };
     let mut draws = Draws(0xdec0_de2);

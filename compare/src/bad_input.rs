@@ -450,6 +450,8 @@ fn decoding(all: &mut (u64, u64), draws: &mut Draws) {
     let mut bits = Fence::<u8>::new(69_632);
     let mut bytes = Fence::<u8>::new(12_288);
     let mut scales = Fence::<f32>::new(32);
+    let mut counts = Fence::<u32>::new(1024);
+    let mut sum = Fence::<u32>::new(1);
     let mut count = Count::new("decode_frame");
     let above = f64::from_bits(65_536f64.to_bits() + 1);
     let bad = [f64::NAN, f64::INFINITY, -f64::INFINITY, above, -above, f64::MAX, f64::from_bits(0x7ff0_0000_0000_0001), -f64::NAN];
@@ -480,10 +482,12 @@ fn decoding(all: &mut (u64, u64), draws: &mut Draws) {
             scales.before = scales.watched().map(|i| unsafe { scales.data.add(i).read() }).collect();
         }
         let space = |d: &mut Draws, need: usize| if d.below(8) == 0 { near(d, &[need as u64, 0]) as usize % 70_000 } else { need };
-        let (c, d, e) = (space(draws, 4224), space(draws, steps + 16), space(draws, 203 * valid));
+        let (c, d, e, f) = (space(draws, 4224), space(draws, steps + 16), space(draws, 203 * valid), space(draws, valid));
         decisions.lend(draws, c, Draws::next);
         bits.lend(draws, d, |d| d.next() as u8);
         bytes.lend(draws, e, |d| d.next() as u8);
+        counts.lend(draws, f, |d| d.next() as u32);
+        sum.lend(draws, 1, |d| d.next() as u32);
         let out = |x: &f64| !x.is_finite() || x.abs() > 65_536.0;
         let row = if table_row(t) != 0 {
             table_row(t)
@@ -495,16 +499,16 @@ fn decoding(all: &mut (u64, u64), draws: &mut Draws) {
             7
         } else if scales.slice().iter().any(|x| x.is_nan() || *x <= 0.0 || *x > 64.0) {
             8
-        } else if decisions.len < 4224 || bits.len < steps + 16 || bytes.len < 203 * valid {
+        } else if decisions.len < 4224 || bits.len < steps + 16 || bytes.len < 203 * valid || counts.len < valid {
             9
         } else {
             0
         };
         let s = calls::Settings { table: t, mapping: draws.next() as u8, first: draws.below(256) as u8, known: draws.below(256) as u8, scales: scales.slice() };
-        let answer = calls::decode_frame(re.slice(), im.slice(), &s, decisions.slice(), bits.slice(), bytes.slice());
+        let answer = calls::decode_frame(re.slice(), im.slice(), &s, decisions.slice(), bits.slice(), bytes.slice(), counts.slice(), &mut sum.slice()[0]);
         let ok = answer == 0;
-        let kept = re.kept(false) && im.kept(false) && scales.kept(false) && decisions.kept(ok) && bits.kept(ok) && bytes.kept(ok);
-        count.call(answer, row, kept, || format!("table {t:016x} re {a} im {b} scales {:?} decisions {c} bits {d} bytes {e}", s.scales));
+        let kept = re.kept(false) && im.kept(false) && scales.kept(false) && decisions.kept(ok) && bits.kept(ok) && bytes.kept(ok) && counts.kept(ok) && sum.kept(ok);
+        count.call(answer, row, kept, || format!("table {t:016x} re {a} im {b} scales {:?} decisions {c} bits {d} bytes {e} counts {f}", s.scales));
     }
     count.done(all);
 }

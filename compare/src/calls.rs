@@ -30,7 +30,7 @@ mod c {
         pub fn isdbs_encode_frame(bytes: *const u8, bytes_len: usize, table: u64, mapping: u8, state: u8, re: *mut f64, re_len: usize, im: *mut f64, im_len: usize, end: *mut u8) -> u32;
         #[cfg(decode)]
         #[rustfmt::skip]
-        pub fn isdbs_decode_frame(re: *const f64, re_len: usize, im: *const f64, im_len: usize, table: u64, mapping: u8, first: u8, known_start: u8, scales: *const f32, scales_len: usize, decisions: *mut u64, decisions_len: usize, bits: *mut u8, bits_len: usize, bytes: *mut u8, bytes_len: usize) -> u32;
+        pub fn isdbs_decode_frame(re: *const f64, re_len: usize, im: *const f64, im_len: usize, table: u64, mapping: u8, first: u8, known_start: u8, scales: *const f32, scales_len: usize, decisions: *mut u64, decisions_len: usize, bits: *mut u8, bits_len: usize, bytes: *mut u8, bytes_len: usize, counts: *mut u32, counts_len: usize, sum: *mut u32) -> u32;
         #[cfg(wanted)]
         #[rustfmt::skip]
         pub fn isdbs_wanted_load(re: *const f64, re_len: usize, im: *const f64, im_len: usize, table: u64, mapping: u8, first: u8, bytes: *mut u8, bytes_len: usize) -> u32;
@@ -112,11 +112,13 @@ pub struct Settings<'a> {
 }
 
 #[cfg(decode)]
-pub fn decode_frame(re: &[f64], im: &[f64], s: &Settings, decisions: &mut [u64], bits: &mut [u8], bytes: &mut [u8]) -> u32 {
+#[rustfmt::skip]
+pub fn decode_frame(re: &[f64], im: &[f64], s: &Settings, decisions: &mut [u64], bits: &mut [u8], bytes: &mut [u8], counts: &mut [u32], sum: &mut u32) -> u32 {
     unsafe {
         c::isdbs_decode_frame(
             re.as_ptr(), re.len(), im.as_ptr(), im.len(), s.table, s.mapping, s.first, s.known, s.scales.as_ptr(), s.scales.len(),
             decisions.as_mut_ptr(), decisions.len(), bits.as_mut_ptr(), bits.len(), bytes.as_mut_ptr(), bytes.len(),
+            counts.as_mut_ptr(), counts.len(), sum,
         )
     }
 }

@@ -194,6 +194,29 @@ pub fn reference_bits(points: &[Cplx], t: u64, m: u8, first: bool, known: bool, 
     bits
 }
 
+/// The strained steps of each valid slot, from `metrics` and the decoded bits, which are encoded again from the start state.
+pub fn reference_strain(points: &[Cplx], t: u64, m: u8, first: bool, scale: f32, bits: &[u8]) -> Vec<u32> {
+    let mut state = u32::from(start(first));
+    let parity = |w: u32| (w.count_ones() % 2) as usize;
+    let strained = metrics(points, t, m, scale).into_iter().zip(bits).map(|(four, &u)| {
+        let word = u32::from(u) << 6 | state;
+        state = word >> 1;
+        let at = four[2 * parity(word & 0o171) + parity(word & 0o133)];
+        u32::from(four.iter().any(|&x| x > at))
+    });
+    let strained: Vec<u32> = strained.collect();
+    let mut counts = Vec::new();
+    let mut from = 0;
+    for r in runs(&info(t)) {
+        for _ in 0..r.valid_slots {
+            let to = from + steps_of(r.combination, 1);
+            counts.push(strained[from..to].iter().sum());
+            from = to;
+        }
+    }
+    counts
+}
+
 /// The bits of a decoded frame, from its bytes (C2 left out) and the 16 known bits: what the decoder gave.
 pub fn decoded_bits(bytes: &[u8], t: u64) -> Vec<u8> {
     let mut all = bytes.iter().flat_map(|&b| (0..8).rev().map(move |i| b >> i & 1));

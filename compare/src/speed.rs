@@ -121,12 +121,14 @@ fn decoding(rounds: usize) {
         let mut decisions = vec![0u64; 4224];
         let mut bits = vec![0u8; steps(t) + 16];
         let mut out = vec![0u8; bytes.len()];
+        let mut counts = vec![0u32; valid_slots(t)];
+        let mut sum = 0;
         let rust = || {
             black_box(isdbs_phy::demod::decode_frame(&points, &info, true, &o));
         };
         let most = held_by(rust);
-        let times = beside(rounds, rust, || assert_eq!(calls::decode_frame(&re, &im, &s, &mut decisions, &mut bits, &mut out), 0));
-        row(&format!("decode a frame, {name}"), "step", steps(t), times, (most, 4224 * 8 + bits.len() + out.len()));
+        let times = beside(rounds, rust, || assert_eq!(calls::decode_frame(&re, &im, &s, &mut decisions, &mut bits, &mut out, &mut counts, &mut sum), 0));
+        row(&format!("decode a frame, {name}"), "step", steps(t), times, (most, 4224 * 8 + bits.len() + out.len() + 4 * counts.len()));
     }
 }
 
