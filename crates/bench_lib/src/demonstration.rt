@@ -86,10 +86,22 @@ fn read(
     bytes: &mut [u8; 9745],
 ) {
     let o = DemodOptions::default();
-    let done = decode_frame(re, im, table(), true, o, decisions, bits, bytes);
+    let mut counts = [0u32; 48];
+    let done = decode_frame(
+        re,
+        im,
+        table(),
+        true,
+        o,
+        decisions,
+        bits,
+        bytes,
+        &mut counts,
+    );
     match done {
-        FrameDecoded::Decoded(_, steps) => {
+        FrameDecoded::Decoded(_, steps, strained) => {
             read_line(steps);
+            bench_strain::in_all(steps, strained);
             verdict(front(load, CARRIED), front(bytes, CARRIED));
         }
         FrameDecoded::Refused(answer) => report::refuse(answer),

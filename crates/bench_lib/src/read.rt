@@ -15,6 +15,7 @@ use bench_words::words::front_parts;
 use bench_words::words::part;
 use bench_words::words::parts;
 use bench_words::words::same;
+use isdbs_core::tmcc::Table;
 use isdbs_phy::demod::DemodOptions;
 use isdbs_phy::demod::FrameDecoded;
 use isdbs_phy::demod::decode_frame;
@@ -99,10 +100,12 @@ fn choice_of(line: &[u8]) -> Choice {
 }
 
 // Writes the bytes that were read, and reports.
-fn keep(name: &[u8], bytes: &[u8], steps: usize) {
+fn keep(name: &[u8], bytes: &[u8], t: Table, steps: usize, strained: u32, counts: &[u32; 48]) {
     text(b"decoded: ");
     count(steps);
     text(b" trellis steps\n");
+    bench_strain::by_slot(t, counts);
+    bench_strain::in_all(steps, strained);
     if files::write_bytes(name, bytes) {
         text(b"bytes ");
         quoted(name);
@@ -133,6 +136,7 @@ fn read_frame(
         scales,
     };
     let n = points.count;
+    let mut counts = [0u32; 48];
     let done = decode_frame(
         front_parts(re, n),
         front_parts(im, n),
@@ -142,9 +146,12 @@ fn read_frame(
         decisions,
         bits,
         bytes,
+        &mut counts,
     );
     match done {
-        FrameDecoded::Decoded(size, steps) => keep(name, front(bytes, size), steps),
+        FrameDecoded::Decoded(size, steps, strained) => {
+            keep(name, front(bytes, size), t, steps, strained, &counts);
+        }
         FrameDecoded::Refused(answer) => report::refuse_reading(answer, n, points.over, re, im),
     }
 }
