@@ -194,7 +194,8 @@ fn decoded(
         scales,
     };
     let first = number(line, 20, 22) == 1;
-    decode_frame(re, im, t, first, o, decisions, bits, bytes)
+    let mut counts = [0u32; 48];
+    decode_frame(re, im, t, first, o, decisions, bits, bytes, &mut counts)
 }
 
 // The clean frame of the first `count` bytes.
@@ -250,7 +251,7 @@ fn agrees(
     );
     let r = decoded(line, re, im, decisions, bits, bytes);
     match r {
-        FrameDecoded::Decoded(n, steps) => matches(line, n, steps, bits, bytes),
+        FrameDecoded::Decoded(n, steps, _) => matches(line, n, steps, bits, bytes),
         FrameDecoded::Refused(_) => false,
     }
 }
@@ -343,8 +344,19 @@ fn empty_table(
         known_start: true,
         scales,
     };
-    let r = decode_frame(re, im, table_of(0), true, o, decisions, bits, bytes);
-    let FrameDecoded::Decoded(n, steps) = r else {
+    let mut counts = [7u32; 1];
+    let r = decode_frame(
+        re,
+        im,
+        table_of(0),
+        true,
+        o,
+        decisions,
+        bits,
+        bytes,
+        &mut counts,
+    );
+    let FrameDecoded::Decoded(n, steps, _) = r else {
         return;
     };
     io::write_all(STDOUT_FILENO, b"empty table: bytes ");
@@ -398,9 +410,20 @@ fn answer_at(
         known_start: true,
         scales,
     };
-    let r = decode_frame(re, im, table_of(table), true, o, decisions, bits, bytes);
+    let mut counts = [0u32; 48];
+    let r = decode_frame(
+        re,
+        im,
+        table_of(table),
+        true,
+        o,
+        decisions,
+        bits,
+        bytes,
+        &mut counts,
+    );
     match r {
-        FrameDecoded::Decoded(_, _) => 0,
+        FrameDecoded::Decoded(_, _, _) => 0,
         FrameDecoded::Refused(a) => refusal::number(a),
     }
 }
