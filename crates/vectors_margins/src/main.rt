@@ -235,13 +235,14 @@ fn read(
     let t = table_of(table);
     let m = mapping_of(k);
     let first = is_first(k);
-    exact_frame::read_frame(re, im, t, first, m, decisions, bits, bytes)
+    let mut counts = [7u32; 48];
+    exact_frame::read_frame(re, im, t, first, m, decisions, bits, bytes, &mut counts)
 }
 
-// Whether the answer is that of a load of so many bytes.
+// Whether the answer is that of a load of so many bytes, without strain.
 fn told(r: FrameDecoded, count: usize) -> bool {
     match r {
-        FrameDecoded::Decoded(n, _) => n == count,
+        FrameDecoded::Decoded(n, _, strained) => n == count && strained == 0,
         FrameDecoded::Refused(_) => false,
     }
 }
@@ -421,7 +422,10 @@ fn main() {
         &mut bytes,
     );
     if agree == 25 {
-        io::write_all(STDOUT_FILENO, b"25 frames, all bytes agree\n");
+        io::write_all(
+            STDOUT_FILENO,
+            b"25 frames, all bytes agree, no step is strained\n",
+        );
     } else {
         io::print_decimal(STDOUT_FILENO, (25 - agree) as u64);
         io::write_all(STDOUT_FILENO, b" of 25 frames differ\n");
