@@ -140,6 +140,14 @@ fn differences() {
     bench(b"compare 7:44,1:4 load none");
 }
 
+fn strained() {
+    bench(b"make 2:4 001 first load half.cf64");
+    note(b"point 1,629 is turned by 180 degrees");
+    patch(b"half.cf64", 26071, b"\xbf");
+    patch(b"half.cf64", 26079, b"\x3f");
+    bench(b"read 2:4 001 first half.cf64 half");
+}
+
 fn full_frames() {
     note(
         b"a frame's points serve as header and burst points too: more points than are taken are not read",
@@ -237,6 +245,7 @@ fn main() {
     help_and_version();
     make_and_read();
     other_tables();
+    strained();
     full_frames();
     refusals();
     differences();
