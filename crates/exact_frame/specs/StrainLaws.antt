@@ -17,11 +17,12 @@ use Rattle.isdbs_core.specs.RunsOf.{validTotal, frameSteps, loadBytes}
 use Rattle.isdbs_points.specs.declared.Mapping.{Mapping}
 use Rattle.isdbs_points.specs.Frame.{inputs, labelAt, startState}
 use Rattle.isdbs_metrics.specs.Reading.{Received, metricsAt, decodedBits, decodedBytes}
-use Rattle.margins.specs.Margins.{Within, FullLoad}
+use Rattle.isdbs_points.specs.Layout.{FullLoad}
+use Rattle.margins.specs.Margins.{Within}
 use Rattle.strain.specs.Strain.{strainedBy, strained, strainOf, strainCounts, strainSum}
 use Rattle.strain.specs.StrainLaws.{none-above, strain-none, strain-of-none}
 use Rattle.exact_frame.specs.Bits.{label-small}
-use Rattle.exact_frame.specs.Bytes.{label-alike}
+use Rattle.isdbs_points.specs.LawsInputs.{label-alike}
 use Rattle.exact_frame.specs.Steps.{received, step-favours}
 use Rattle.exact_frame.specs.Exact.{sent-bits, decoded-load}
 
