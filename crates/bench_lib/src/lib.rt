@@ -6,6 +6,7 @@ mod demonstration;
 mod full;
 mod make;
 mod read;
+mod series;
 mod setting;
 mod usage;
 mod wanted;
@@ -62,6 +63,10 @@ fn run_on(
     }
     if same(command, b"bytes") {
         wanted::bytes(line, re, im, bytes);
+        return;
+    }
+    if same(command, b"series") {
+        series::series(line, re, im, decisions, bits, bytes);
         return;
     }
     if is_help(command) {

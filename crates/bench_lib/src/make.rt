@@ -87,7 +87,7 @@ pub(crate) fn make(
         misused(b"make takes TABLE MAPPING KIND LOAD FRAME", b"");
         return;
     }
-    let s = setting_of(line);
+    let s = setting_of(part(line, 0, 1), part(line, 0, 2), part(line, 0, 3));
     if !s.is_good {
         return;
     }

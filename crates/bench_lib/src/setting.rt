@@ -2,7 +2,6 @@
 use crate::usage::misused;
 use bench_words::words;
 use bench_words::words::MaybeMapping;
-use bench_words::words::part;
 use bench_words::words::same;
 use isdbs_core::tmcc::Table;
 use isdbs_phy::demod::Mapping;
@@ -30,18 +29,17 @@ fn bad_setting(table: Table, why: &[u8], word: &[u8]) -> Setting {
     settled(false, table, m, false)
 }
 
-// Words 1 to 3 of a line.
-pub(crate) fn setting_of(line: &[u8]) -> Setting {
-    let parsed = words::table(part(line, 0, 1));
+// What three words of a line say.
+pub(crate) fn setting_of(table: &[u8], mapping: &[u8], kind: &[u8]) -> Setting {
+    let parsed = words::table(table);
     let t = parsed.table;
     if !parsed.is_table {
-        return bad_setting(t, b"this is no TABLE:", part(line, 0, 1));
+        return bad_setting(t, b"this is no TABLE:", table);
     }
-    let mapping = words::mapping(part(line, 0, 2));
-    let MaybeMapping::Is(m) = mapping else {
-        return bad_setting(t, b"this is no MAPPING:", part(line, 0, 2));
+    let meant = words::mapping(mapping);
+    let MaybeMapping::Is(m) = meant else {
+        return bad_setting(t, b"this is no MAPPING:", mapping);
     };
-    let kind = part(line, 0, 3);
     if same(kind, b"first") {
         return settled(true, t, m, true);
     }

@@ -25,6 +25,9 @@ fn usage_commands() {
     text(
         b"  bench bytes TABLE MAPPING KIND FRAME BYTES                       the full load behind the points of FRAME to BYTES\n",
     );
+    text(
+        b"  bench series WINDOW TABLE MAPPING KIND FRAME..                   strained steps of each FRAME; total and greatest of the last WINDOW\n",
+    );
     text(b"  bench help                                                       these words\n");
     text(
         b"  bench version                                                    the version of the program\n",
@@ -45,6 +48,7 @@ fn usage_words() {
     text(
         b"  HEADER, MAIN, BURST, FULL    192, 38,976, 768 and 39,936 points in the same forms as FRAME\n",
     );
+    text(b"  WINDOW   how many of the last frames are summed, 1 to 256\n");
     text(
         b"  SCALES   scale N for all, or scales A,B,C,D,E,F,G in the order of words 1 to 7; 8 where they are not given\n",
     );

@@ -148,6 +148,19 @@ fn strained() {
     bench(b"read 2:4 001 first half.cf64 half");
 }
 
+fn series() {
+    bench(b"make 2:4 001 first load clean.cf64");
+    bench(b"series 2 2:4 001 first clean.cf64 half.cf64 half.cf64 clean.cf64 clean.cf64");
+    bench(b"series 256 2:4 001 first half.cf64 clean.cf64");
+    bench(b"series 2 2:4 001 first clean.cf64 missing.cf64 half.cf64");
+    bench(b"series 2 2:4 001 first half.cf64 clean.cf64 load");
+    bench(b"series 0 2:4 001 first clean.cf64");
+    bench(b"series 257 2:4 001 first clean.cf64");
+    bench(b"series 0 7:49 001 first clean.cf64");
+    bench(b"series two 2:4 001 first clean.cf64");
+    bench(b"series 2 2:4 001 first");
+}
+
 fn full_frames() {
     note(
         b"a frame's points serve as header and burst points too: more points than are taken are not read",
@@ -246,6 +259,7 @@ fn main() {
     make_and_read();
     other_tables();
     strained();
+    series();
     full_frames();
     refusals();
     differences();
