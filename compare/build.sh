@@ -1,5 +1,6 @@
 #!/bin/sh
-# Builds the given Rust, unchanged, and the stub crates around it: target/compare/lib/*.rlib.
+# Builds the given Rust and the stub crates around it: target/compare/lib/*.rlib. Three comparisons of its decoder are altered, since ties are broken
+# as the chassis does (docs/changes/P12.md): on equality the odd predecessor, in both kinds of step, and the highest best state.
 #   compare/build.sh [DIR]     DIR holds crates/isdb-fec/.. (default: $ISDB_RUST, else ../shared/docs/src)
 set -eu
 cd "$(dirname "$0")/.."
@@ -10,7 +11,16 @@ stubs=$PWD/compare/stubs
 out=$PWD/target/compare
 mkdir -p "$out/src/isdb_fec" "$out/src/isdbs_core" "$out/src/isdbs_phy" "$out/src/isdbt_fec" "$out/lib" "$out/bin"
 
-cat "$given/isdb-fec/src/conv.rs" "$stubs/conv_access.rs" > "$out/src/isdb_fec/conv.rs"
+sed -e 's/^\( *\)let c = m1\[j\] > m0\[j\];$/\1let c = m1[j] >= m0[j];/' \
+    -e 's/^\( *\)let c = m1 > m0;$/\1let c = m1 >= m0;/' \
+    -e 's/^\( *\)if self\.pm\[s\] > self\.pm\[best\] {$/\1if self.pm[s] >= self.pm[best] {/' \
+    "$given/isdb-fec/src/conv.rs" > "$out/src/isdb_fec/altered.rs"
+# exactly these three lines are other ones
+changed=$(diff "$given/isdb-fec/src/conv.rs" "$out/src/isdb_fec/altered.rs" | sed -n 's/^> *//p')
+[ "$changed" = "let c = m1[j] >= m0[j];
+let c = m1 >= m0;
+if self.pm[s] >= self.pm[best] {" ] || { echo "the three comparisons of conv.rs were not altered as they should be" >&2; exit 2; }
+cat "$out/src/isdb_fec/altered.rs" "$stubs/conv_access.rs" > "$out/src/isdb_fec/conv.rs"
 ln -sf "$stubs/isdb_fec.rs" "$out/src/isdb_fec/lib.rs"
 for name in combination frame slots tmcc; do
     ln -sf "$given/isdbs-core/src/$name.rs" "$out/src/isdbs_core/$name.rs"

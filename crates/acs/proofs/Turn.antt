@@ -16,7 +16,7 @@ use Rattle.trellis.specs.Code.{isdb, label}
 use Rattle.trellis.specs.Lists.{bit, packed}
 use Rattle.trellis.specs.Step as trellis
 use Rattle.trellis.specs.Step.{Step, pair, four}
-use Rattle.trellis.specs.Isdb.{cand, wins, next, nexts, word}
+use Rattle.trellis.specs.Isdb.{rule, cand, wins, next, nexts, word}
 use Rattle.acs.specs.Written.{written-whole, lt-or-ge}
 use Rattle.acs.specs.Packed.{packed-more, packed-both}
 use Rattle.acs.specs.Half.{Half}
@@ -46,11 +46,11 @@ module _ (pm : List Float) (u b j : ℕ) (h : j < 32) where
   four-cand m n p is-n is-p = rw (is-p, is-n, at-j, at-u)
 
 module _ (pm : List Float) (x : Step) where
-  beats-wins : (k : ℕ) (e o : Float) (b : ℕ) → e ≡ cand pm x k 0 → o ≡ cand pm x k 1 → b ≡ bit (lt e o) → b ≡ bit (wins pm x k)
+  beats-wins : (k : ℕ) (e o : Float) (b : ℕ) → e ≡ cand pm x k 0 → o ≡ cand pm x k 1 → b ≡ bit (trellis.takes rule e o) → b ≡ bit (wins pm x k)
   unfolding trellis.wins
   beats-wins k e o b is-e is-o is-b = rw (is-b, is-e, is-o)
 
-  larger-next : (k : ℕ) (e o v : Float) → e ≡ cand pm x k 0 → o ≡ cand pm x k 1 → v ≡ cond (lt e o) o e → v ≡ next pm x k
+  larger-next : (k : ℕ) (e o v : Float) → e ≡ cand pm x k 0 → o ≡ cand pm x k 1 → v ≡ cond (trellis.takes rule e o) o e → v ≡ next pm x k
   unfolding trellis.next trellis.wins
   larger-next k e o v is-e is-o is-v = rw (is-v, is-e, is-o)
 
@@ -65,7 +65,7 @@ module _ (pm : List Float) (x : Step) where
 
   -- a turn, by the even and the odd path into its state
   pub half-more : (u : ℕ) (l₀ : List Float) (j : ℕ) (l : List Float) (w : ℕ) → Half pm x u l₀ j l w → u < 2 → j < 32 → (e o v : Float) (a : ℕ)
-      → e ≡ cand pm x (32 * u + j) 0 → o ≡ cand pm x (32 * u + j) 1 → v ≡ cond (lt e o) o e → a ≡ bit (lt e o)
+      → e ≡ cand pm x (32 * u + j) 0 → o ≡ cand pm x (32 * u + j) 1 → v ≡ cond (trellis.takes rule e o) o e → a ≡ bit (trellis.takes rule e o)
       → Half pm x u l₀ (j + 1) (set l (32 * u + j) v) (bitOr w ((a * 2 ^ j) % 2 ^ 32))
   half-more u l₀ j l w t hu hj e o v a is-e is-o is-v is-a =
       let k = 32 * u + j in

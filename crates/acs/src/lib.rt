@@ -6,8 +6,8 @@ ghost use lib.ListN.{length, getD};
 ghost use lib.Ieee.{lt, neg, nan, binary32, ofBits};
 ghost use Rattle.trellis.specs.Code.{isdb, label};
 ghost use Rattle.trellis.specs.Lists.{bit};
-ghost use Rattle.trellis.specs.Step.{pair, four, renormalised, ruled, top};
-ghost use Rattle.trellis.specs.Isdb.{cand, nexts, word, bestState};
+ghost use Rattle.trellis.specs.Step.{takes, pair, four, renormalised, ruled, top};
+ghost use Rattle.trellis.specs.Isdb.{rule, cand, nexts, word, bestState};
 ghost use Rattle.acs.specs.Signs.{XSigns, YSigns};
 ghost use Rattle.acs.specs.Branches.{BranchNumbers};
 ghost use Rattle.acs.specs.Half.{Half};
@@ -40,18 +40,25 @@ fn term(s: f32, x: f32) -> f32
     if s < 0.0 { -x } else { x }
 }
 
-// The greater of two paths; of equals the even one, which is the first.
+// The greater of two paths; of equals the odd one.
 fn larger(even: f32, odd: f32) -> f32
-    ensures { λ r. ⌜ r ≡ cond (lt even odd) odd even ⌝ }
+    ensures { λ r. ⌜ r ≡ cond (takes rule even odd) odd even ⌝ }
 {
-    if odd > even { odd } else { even }
+    if even > odd { even } else { odd }
 }
 
-// Whether the odd path is strictly greater, as a bit.
+// Whether the odd path is taken, as a bit: the even one is not strictly greater.
 fn beats(odd: f32, even: f32) -> u32
-    ensures { λ r. ⌜ r ≡ bit (lt even odd) ⌝ }
+    ensures { λ r. ⌜ r ≡ bit (takes rule even odd) ⌝ }
 {
-    (odd > even) as u32
+    !(even > odd) as u32
+}
+
+// The greater of two path values; of equals the first.
+fn greater(first: f32, second: f32) -> f32
+    ensures { λ r. ⌜ r ≡ cond (lt first second) second first ⌝ }
+{
+    if second > first { second } else { first }
 }
 
 fn wide(x: u32) -> u64
@@ -193,7 +200,7 @@ fn greatest(pm: &[f32; 64]) -> f32
 {
     let mut t = -3.4028235e38f32;
     for s in 0..STATES {
-        t = larger(t, pm[s]);
+        t = greater(t, pm[s]);
     }
     t
 }
@@ -222,13 +229,13 @@ pub fn rule_out(pm: &mut [f32; 64], b: u8)
     }
 }
 
-// The lowest state of the greatest path value.
+// The highest state of the greatest path value.
 pub fn best_state(pm: &[f32; 64]) -> usize
     ensures { λ r. ⌜ (r < 64) × (r ≡ bestState (now (pm .entry))) ⌝ }
 {
     let mut best: usize = 0;
     for s in 1..STATES {
-        if pm[s] > pm[best] {
+        if !(pm[best] > pm[s]) {
             best = s;
         }
     }

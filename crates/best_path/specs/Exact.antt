@@ -1,14 +1,14 @@
 -- Whole floats: `Is x z off` says that x is z - off. Their sums are exact, and a comparison of two with one off is that of the whole numbers. Assumes nothing.
 use mathlib.Core.Path.{_≡_, refl, sym, ap, _∙_}
-use mathlib.Core.Bool.{Bool, true, false}
+use mathlib.Core.Bool.{Bool, true, false, not}
 use Prim.Native.Nat.{ℕ, _+_, _-_, _*_, _≤_, _<_}
-use native.Mathlib.Nat.{add-mul, lt-of-mul-lt-mul-right, mul-lt-mul-of-pos-right, le-of-mul-le-mul-right, mul-le-mul-right}
+use native.Mathlib.Nat.{add-mul, lt-of-mul-lt-mul-right, mul-lt-mul-of-pos-right, mul-le-mul-right}
 use native.Mathlib.Omega.{arith}
-use lib.Dec.{T, ltb, leb, ltb→lt, lt→ltb, leb→le, le→leb, lit<, lit≤}
+use lib.Dec.{T, ltb, leb, ltb→lt, lt→ltb, leb→le, le→leb, nltb→le, lit<, lit≤}
 use lib.Pow.{pow-mono}
 use lib.Ieee.{Float, binary32, add, sub, lt, le, ofBits, fits}
 use Rattle.ieee.specs.Value.{hi, lo, Num}
-use Rattle.ieee.specs.Order.{lt→value, value→lt, le→value, value→le}
+use Rattle.ieee.specs.Order.{lt→value, value→lt, value→le}
 use Rattle.ieee.specs.Rounding.{pow2, pow2-add, pow2-pos}
 use Rattle.ieee.specs.Whole.{On, add-on, sub-on}
 use Rattle.trellis.specs.Step.{Tie, lower, upper, takes}
@@ -47,14 +47,6 @@ module _ (x y : Float) (p n p' n' : ℕ) (a : Whole x p n) (b : Whole y p' n') w
       let f = right in
       value→lt binary32 x y (a .num) (b .num) (omega arith)
 
-  pub le-to : T (le x y) → p + n' ≤ p' + n
-  le-to h =
-      let l = le→value binary32 x y (a .num) (b .num) h in
-      let e = left in
-      let f = right in
-      let g : (p + n') * pow2 149 ≤ (p' + n) * pow2 149 = omega arith in
-      le-of-mul-le-mul-right g (pow2-pos 149)
-
   pub le-from : p + n' ≤ p' + n → T (le x y)
   le-from h =
       let l : (p + n') * pow2 149 ≤ (p' + n) * pow2 149 = mul-le-mul-right (pow2 149) h in
@@ -69,15 +61,22 @@ pub record Is (x : Float) (z off : Z) : Type 0 where
   pub on : Whole x p n
   pub same : p + z .1 + off .0 ≡ n + z .0 + off .1
 
-pub takes-is : (t : Tie) (x y : Float) (a b off : Z) → Is x a off → Is y b off → takes t x y ≡ beats t a b
-takes-is lower x y a b off h k =
+not-less : (m n : ℕ) → not (ltb m n) ≡ leb n m
+not-less m n = bool-eq (not (ltb m n)) (leb n m) (λ w. le→leb n m (nltb→le m n w)) (λ w. le-not m n (ltb m n) (ltb→lt m n) (leb→le n m w))
+  where
+    le-not : (m n : ℕ) (t : Bool) → (T t → m < n) → n ≤ m → T (not t)
+    le-not m n true h k = let l = h tt in absurd (omega arith)
+    le-not m n false h k = tt
+
+lt-is : (x y : Float) (a b off : Z) → Is x a off → Is y b off → lt x y ≡ ltb (a .0 + b .1) (b .0 + a .1)
+lt-is x y a b off h k =
     bool-eq (lt x y) (ltb (a .0 + b .1) (b .0 + a .1))
     (λ w. let l = lt-to x y (h .p) (h .n) (k .p) (k .n) (h .on) (k .on) w in lt→ltb (a .0 + b .1) (b .0 + a .1) (omega arith))
     (λ w. let l = ltb→lt (a .0 + b .1) (b .0 + a .1) w in lt-from x y (h .p) (h .n) (k .p) (k .n) (h .on) (k .on) (omega arith))
-takes-is upper x y a b off h k =
-    bool-eq (le x y) (leb (a .0 + b .1) (b .0 + a .1))
-    (λ w. let l = le-to x y (h .p) (h .n) (k .p) (k .n) (h .on) (k .on) w in le→leb (a .0 + b .1) (b .0 + a .1) (omega arith))
-    (λ w. let l = leb→le (a .0 + b .1) (b .0 + a .1) w in le-from x y (h .p) (h .n) (k .p) (k .n) (h .on) (k .on) (omega arith))
+
+pub takes-is : (t : Tie) (x y : Float) (a b off : Z) → Is x a off → Is y b off → takes t x y ≡ beats t a b
+takes-is lower x y a b off h k = lt-is x y a b off h k
+takes-is upper x y a b off h k = ap not (lt-is y x b a off k h) ∙ not-less (b .0 + a .1) (a .0 + b .1)
 
 -- ---- sums
 -- z - off is at most 2 ^ 24 in size

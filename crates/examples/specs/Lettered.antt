@@ -91,10 +91,10 @@ zero = ofBits binary32 0
 abbrev one : Float
 one = ofBits binary32 0x3f80_0000
 
--- "Fresh known state 0, one quadruple: (0,0,0,0) → 0; (0,0,0,1) → 1. None: no bits."
+-- "Fresh known state 0, one quadruple: ..; (0,0,0,1) → 1. None: no bits." Document 02, P12: "Example I's all-zero quadruple then gives 1."
 abbrev pub I : Type 0
 I =
-    (readFrom0 (quadruple zero zero zero zero) 1 ≡ 0 ∷ [])
+    (readFrom0 (quadruple zero zero zero zero) 1 ≡ 1 ∷ [])
     × (readFrom0 (quadruple zero zero zero one) 1 ≡ 1 ∷ [])
     × (readFrom0 [] 0 ≡ [])
 

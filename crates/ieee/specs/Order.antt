@@ -268,6 +268,3 @@ num-between {f} {lo} {x} {hi} p q t h k = record { fin-x = finite-between lo x h
 -- ---- a test that failed
 pub not-lt→value : (f : Format) (x y : Float) → Num f x → Num f y → T (not (lt x y)) → Le f y x
 not-lt→value f x y p q t = le-of-suc-le-suc (lt-of-not-le (λ (h : suc (hi f x + lo f y) ≤ hi f y + lo f x). T-not (lt x y) t (value→lt f x y p q h)))
-
-pub not-le→value : (f : Format) (x y : Float) → Num f x → Num f y → T (not (le x y)) → Lt f y x
-not-le→value f x y p q t = lt-of-not-le (λ (h : hi f x + lo f y ≤ hi f y + lo f x). T-not (le x y) t (value→le f x y p q h))

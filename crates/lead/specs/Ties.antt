@@ -1,15 +1,15 @@
 -- Where two path values differ, both rules for equals decide alike. This is the only chapter that looks at the rule: all that follows holds for either.
 -- Assumes nothing.
-use mathlib.Core.Path.{_≡_, refl, subst}
+use mathlib.Core.Path.{_≡_, refl, subst, ap}
 use mathlib.Core.Logic.{_⊎_, inl, inr}
-use mathlib.Core.Bool.{Bool, true, false, cond}
+use mathlib.Core.Bool.{Bool, true, false, not, cond}
 use mathlib.Core.List.{List}
 use Prim.Native.Nat.{ℕ, zero, suc, _-_, _<_}
 use native.Mathlib.Omega.{arith}
 use lib.Dec.{T, eqb, eqb→eq, eqb-refl}
-use lib.Ieee.{Float, binary32, lt, le}
+use lib.Ieee.{Float, binary32, lt}
 use Rattle.ieee.specs.Value.{Num}
-use Rattle.ieee.specs.Order.{Lt, lt→value, value→lt, le→value, value→le}
+use Rattle.ieee.specs.Order.{Lt, lt→value, value→lt}
 use Rattle.trellis.specs.Step.{Step, Tie, lower, upper, takes, cand, wins, next}
 
 -- ---- tests
@@ -37,11 +37,11 @@ same a b = go (eqb a b) (eqb→eq a b) (λ e. subst (λ (x : ℕ). T (eqb a x)) 
 -- ---- the rules
 pub takes-greater : (t : Tie) (x y : Float) → Num binary32 x → Num binary32 y → Lt binary32 x y → takes t x y ≡ true
 takes-greater lower x y p q h = true-of (lt x y) (value→lt binary32 x y p q h)
-takes-greater upper x y p q h = true-of (le x y) (value→le binary32 x y p q (omega arith))
+takes-greater upper x y p q h = ap not (false-of (lt y x) (λ b. let a = lt→value binary32 y x q p b in omega arith))
 
 pub takes-less : (t : Tie) (x y : Float) → Num binary32 x → Num binary32 y → Lt binary32 y x → takes t x y ≡ false
 takes-less lower x y p q h = false-of (lt x y) (λ b. let a = lt→value binary32 x y p q b in omega arith)
-takes-less upper x y p q h = false-of (le x y) (λ b. let a = le→value binary32 x y p q b in omega arith)
+takes-less upper x y p q h = ap not (true-of (lt y x) (value→lt binary32 y x q p h))
 
 -- ---- a state whose path by the predecessor of low bit b is the greater one
 module _ (half : ℕ) (out : ℕ → ℕ → ℕ) (t : Tie) (pm : List Float) (x : Step) (k b : ℕ) (B : b < 2)

@@ -5,9 +5,9 @@ use Prim.Native.Nat.{ℕ, zero, suc, _+_, _*_, _/_, _%_, _<_, _≤_, zero-le}
 use native.Mathlib.Omega.{arith}
 use lib.Dec.{T, eqb, lit<}
 use lib.ListN.{getD}
-use lib.Ieee.{Float, nan, binary32, neg, add, lt, le, fits, ofBits}
+use lib.Ieee.{Float, nan, binary32, neg, add, lt, fits, ofBits}
 use Rattle.ieee.specs.Value.{hi, lo, Num}
-use Rattle.ieee.specs.Order.{Le, lt→value, not-lt→value, le→value, not-le→value}
+use Rattle.ieee.specs.Order.{Le, lt→value, not-lt→value}
 use Rattle.lead.specs.Ties.{pick}
 use Rattle.lead.specs.Lists.{getD-nexts}
 use Rattle.trellis.specs.Step.{Step, pair, four, known, Tie, lower, upper, takes, term, addPair, branch, cand, wins, next, nexts}
@@ -80,11 +80,11 @@ greater lower x y p q = go (lt x y) (lt→value binary32 x y p q) (not-lt→valu
     go : (w : Bool) → (T w → hi binary32 x + lo binary32 y < hi binary32 y + lo binary32 x) → (T (not w) → Le binary32 y x) → Le binary32 x (cond w y x) × Le binary32 y (cond w y x)
     go true h k = let l = h tt in (omega arith, omega arith)
     go false h k = (omega arith, k tt)
-greater upper x y p q = go (le x y) (le→value binary32 x y p q) (not-le→value binary32 x y p q)
+greater upper x y p q = go (lt y x) (lt→value binary32 y x q p) (not-lt→value binary32 y x q p)
   where
-    go : (w : Bool) → (T w → Le binary32 x y) → (T (not w) → hi binary32 y + lo binary32 x < hi binary32 x + lo binary32 y) → Le binary32 x (cond w y x) × Le binary32 y (cond w y x)
-    go true h k = (h tt, omega arith)
-    go false h k = let l = k tt in (omega arith, omega arith)
+    go : (w : Bool) → (T w → hi binary32 y + lo binary32 x < hi binary32 x + lo binary32 y) → (T (not w) → Le binary32 x y) → Le binary32 x (cond (not w) y x) × Le binary32 y (cond (not w) y x)
+    go true h k = let l = h tt in (omega arith, omega arith)
+    go false h k = (k tt, omega arith)
 
 -- ---- the new path values, from values between -512 a and 512 b
 module _ (out : ℕ → ℕ → ℕ) (labels : (u s : ℕ) → u < 2 → s < 64 → out u s < 4) (t : Tie) (pm : List Float) (x : Step) (a b d : ℕ)

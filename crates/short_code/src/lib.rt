@@ -8,7 +8,7 @@ ghost use lib.Ieee.{lt, neg, nan, binary32, ofBits};
 ghost use Rattle.trellis.specs.Lists.{bit, upto};
 ghost use Rattle.trellis.specs.Code.{output, moved};
 ghost use Rattle.trellis.specs.Step as trellis;
-ghost use Rattle.trellis.specs.Step.{cand, next, nexts, word, top, best, renormalised, ruled};
+ghost use Rattle.trellis.specs.Step.{takes, cand, next, nexts, word, top, best, renormalised, ruled};
 ghost use Rattle.trellis.specs.Run.{settled, startAt};
 ghost use Rattle.trellis.specs.Isdb.{rule};
 ghost use Rattle.acs.specs.Written.{Written};
@@ -115,18 +115,25 @@ fn path(pm: &[f32], code: Code, h: usize, k: usize, b: usize, x: Step) -> f32
     branch(x, pm[s], label(code, h, k / h, s))
 }
 
-// The greater of two paths; of equals the even one, which is the first.
+// The greater of two paths; of equals the odd one.
 fn larger(even: f32, odd: f32) -> f32
-    ensures { λ r. ⌜ r ≡ cond (lt even odd) odd even ⌝ }
+    ensures { λ r. ⌜ r ≡ cond (takes rule even odd) odd even ⌝ }
 {
-    if odd > even { odd } else { even }
+    if even > odd { even } else { odd }
 }
 
-// Whether the odd path is strictly greater, as a bit.
+// Whether the odd path is taken, as a bit: the even one is not strictly greater.
 fn beats(odd: f32, even: f32) -> u64
-    ensures { λ r. ⌜ r ≡ bit (lt even odd) ⌝ }
+    ensures { λ r. ⌜ r ≡ bit (takes rule even odd) ⌝ }
 {
-    (odd > even) as u64
+    !(even > odd) as u64
+}
+
+// The greater of two path values; of equals the first.
+fn greater(first: f32, second: f32) -> f32
+    ensures { λ r. ⌜ r ≡ cond (lt first second) second first ⌝ }
+{
+    if second > first { second } else { first }
 }
 
 fn places(pm: &[f32; 64]) -> usize
@@ -179,7 +186,7 @@ fn greatest(pm: &[f32]) -> f32
 {
     let mut t = -3.4028235e38f32;
     for s in 0..pm.len() {
-        t = larger(t, pm[s]);
+        t = greater(t, pm[s]);
     }
     t
 }
@@ -208,14 +215,14 @@ fn rule_out(pm: &mut [f32], h: usize, b: u8)
     }
 }
 
-// The lowest state of the greatest path value.
+// The highest state of the greatest path value.
 pub fn best_state(pm: &[f32], h: usize) -> usize
     requires { ⌜ (1 ≤ h) × (length (now pm) ≡ 2 * h) ⌝ }
     ensures { λ r. ⌜ (r < 2 * h) × (r ≡ best rule (now (pm .entry)) (2 * h - 1)) ⌝ }
 {
     let mut best: usize = 0;
     for s in 1..pm.len() {
-        if pm[s] > pm[best] {
+        if !(pm[best] > pm[s]) {
             best = s;
         }
     }

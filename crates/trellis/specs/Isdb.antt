@@ -5,7 +5,7 @@ use Prim.Native.Nat.{ℕ}
 use lib.Ieee.{Float}
 use Rattle.trellis.specs.Code.{isdb, label}
 use Rattle.trellis.specs.Step as step
-use Rattle.trellis.specs.Step.{Step, Tie, lower}
+use Rattle.trellis.specs.Step.{Step, Tie, upper}
 use Rattle.trellis.specs.Run as run
 use Rattle.trellis.specs.Run.{Decoder}
 
@@ -16,9 +16,9 @@ half = 32
 abbrev pub labels : ℕ → ℕ → ℕ
 labels = label isdb
 
--- "A strictly greater odd predecessor wins", and the lowest best state is traced
+-- document 02, P12: on equality the odd predecessor is taken, and the highest best state is traced
 abbrev pub rule : Tie
-rule = lower
+rule = upper
 
 -- ---- a step
 -- the paths into a new state from its predecessors with the low bit 0 and 1; whether the second wins; its value

@@ -47,7 +47,7 @@ module _ (half : ℕ) (out : ℕ → ℕ → ℕ) (t : Tie) where
   abbrev pub decoded : Decoder → List ℕ
   decoded d = traced half (d .words) (best t (d .values) (2 * half - 1))
 
-  -- "At 4,096 + traceback held decisions, the lowest best state is traced and 4,096 bits leave"
+  -- "At 4,096 + traceback held decisions," the best state "is traced and 4,096 bits leave"
   unfoldable pub released : ℕ → Decoder → Decoder
   released tb d =
       cond (leb (block + tb) (length (d .words)))

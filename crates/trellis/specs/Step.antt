@@ -1,11 +1,11 @@
 -- One step of Viterbi's algorithm in f32, over a trellis of 2 * half states whose branch from state s on input u carries the label
 -- `out u s` = 2 X + Y, and over the rule for equals. Document 01, "The decoder and encoder". Assumes nothing.
-use mathlib.Core.Bool.{Bool, cond}
+use mathlib.Core.Bool.{Bool, cond, not}
 use mathlib.Core.List.{List, map}
 use Prim.Native.Nat.{ℕ, zero, suc, _+_, _-_, _*_, _/_, _%_, _^_}
 use lib.ListN.{getD, length}
 use lib.Dec.{eqb}
-use lib.Ieee.{Float, nan, binary32, neg, add, sub, lt, le, ofBits}
+use lib.Ieee.{Float, nan, binary32, neg, add, sub, lt, ofBits}
 use Rattle.trellis.specs.Lists.{upto, packed}
 
 -- "A trellis step carries two soft values, four branch metrics, or one known bit"
@@ -22,7 +22,7 @@ pub data Tie : Type 0 where
 -- whether b, of the upper number, takes over from a, of the lower one
 abbrev pub takes : Tie → Float → Float → Bool
 takes lower a b = lt a b
-takes upper a b = le a b
+takes upper a b = not (lt b a)
 
 -- a soft value's term for a coded bit: x for 0, -x for 1
 abbrev pub term : ℕ → Float → Float
@@ -43,7 +43,7 @@ module _ (half : ℕ) (out : ℕ → ℕ → ℕ) where
   unfoldable pub cand : List Float → Step → ℕ → ℕ → Float
   cand pm x k b = branch x (getD pm (2 * (k % half) + b) nan) (out (k / half) (2 * (k % half) + b))
 
-  -- "A strictly greater odd predecessor wins", under the rule `lower`
+  -- whether the odd predecessor wins
   unfoldable pub wins : Tie → List Float → Step → ℕ → Bool
   wins t pm x k = takes t (cand pm x k 0) (cand pm x k 1)
 
@@ -63,7 +63,7 @@ unfoldable pub top : List Float → ℕ → Float
 top pm zero = ofBits binary32 0xff7f_ffff
 top pm (suc n) = cond (lt (top pm n) (getD pm n nan)) (getD pm n nan) (top pm n)
 
--- the best of the states 0 to n: under `lower` the lowest of the greatest
+-- the best of the states 0 to n: of the greatest the lowest under `lower`, the highest under `upper`
 unfoldable pub best : Tie → List Float → ℕ → ℕ
 best t pm zero = 0
 best t pm (suc n) = cond (takes t (getD pm (best t pm n) nan) (getD pm (suc n) nan)) (suc n) (best t pm n)

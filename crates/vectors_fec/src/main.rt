@@ -193,16 +193,16 @@ fn start_loses() -> bool {
     p[0] < 0.0 && p[1] == 0.0 && b.count == 1 && out[0] == 0 && out[1] == 7
 }
 
-// An even predecessor keeps a tie, and the lowest of the best states is traced.
+// An odd predecessor takes a tie, and the highest of the best states is traced.
 fn ties() -> bool {
-    let mut decisions = [1u64; 4224];
+    let mut decisions = [0u64; 4224];
     let mut out = [7u8; 4];
     let metrics = [0.0f32; 4];
     let made = ViterbiDecoder::new_unknown_state(128);
     let a = made.dec.push_metrics(&metrics, &mut decisions, &mut out);
     let word = decisions[0];
     let b = a.dec.flush(&mut decisions, &mut out);
-    word == 0 && b.count == 1 && out[0] == 0
+    word == 0xffff_ffff_ffff_ffff && b.count == 1 && out[0] == 1
 }
 
 // The row's number in a call's answer.
@@ -502,20 +502,20 @@ fn sent_and_released() {
     flush_sent(dec, &bits, &metrics, &mut decisions, &mut out);
 }
 
-// Held words are traced as they are handed. With ones every predecessor is odd: from state 0, the lowest best, the last six bits are the state's and the ten before them are 1.
+// Held words are traced as they are handed. With zeros every predecessor is even: from state 63, the highest best, the last six bits are the state's and the ten before them are 0.
 fn handed_words() {
     let dec = ViterbiDecoder {
         pm: [0.0f32; 64],
         held: 16,
         traceback: 128,
     };
-    let mut decisions = [0xffff_ffff_ffff_ffffu64; 4224];
+    let mut decisions = [0u64; 4224];
     let mut out = [7u8; 16];
     let r = dec.flush(&mut decisions, &mut out);
-    let traced = [1u8, 1, 1, 1, 1, 1, 1, 1, 1, 1, 0, 0, 0, 0, 0, 0];
+    let traced = [0u8, 0, 0, 0, 0, 0, 0, 0, 0, 0, 1, 1, 1, 1, 1, 1];
     let found = [r.count, alike(&traced, 0, &out, 16)];
     show(
-        b"held words of ones: # bits, # as in 1111111111000000\n",
+        b"held words of zeros: # bits, # as in 0000000000111111\n",
         &found,
     );
 }

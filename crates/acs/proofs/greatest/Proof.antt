@@ -26,14 +26,14 @@ loop-holds : tie.Need-loop-holds Inv-loop μ-loop
 unfolding top ofBits neg
 loop-holds c = (omega arith, refl)
 
-mul-larger : tie.Need-mul-larger Inv-loop μ-loop
-mul-larger c = omega arith
+mul-greater : tie.Need-mul-greater Inv-loop μ-loop
+mul-greater c = omega arith
 
-element-copy-out-larger : tie.Need-element-copy-out-larger Inv-loop μ-loop
-element-copy-out-larger c = omega arith
+element-copy-out-greater : tie.Need-element-copy-out-greater Inv-loop μ-loop
+element-copy-out-greater c = omega arith
 
-larger-requires : tie.Need-larger-requires Inv-loop μ-loop
-larger-requires c κs = search needs
+greater-requires : tie.Need-greater-requires Inv-loop μ-loop
+greater-requires c κs = search needs
 
 add-s : tie.Need-add-s Inv-loop μ-loop
 add-s c = omega arith
@@ -44,7 +44,7 @@ loop-less c = omega arith
 loop-again : tie.Need-loop-again Inv-loop μ-loop
 loop-again c =
     let at = c .before .before .before in
-    (omega arith, c .larger .ensures ∙ more (at .before .args .pm .now) (at .loop .t) (at .loop .s) (at .loop .inv .1))
+    (omega arith, c .greater .ensures ∙ more (at .before .args .pm .now) (at .loop .t) (at .loop .s) (at .loop .inv .1))
 
 returns : tie.Need-returns Inv-loop μ-loop
 returns c =
@@ -59,9 +59,9 @@ greatest-spec =
     Inv-loop
     μ-loop
     loop-holds
-    mul-larger
-    element-copy-out-larger
-    larger-requires
+    mul-greater
+    element-copy-out-greater
+    greater-requires
     add-s
     loop-less
     loop-again

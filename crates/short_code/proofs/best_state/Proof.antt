@@ -12,7 +12,7 @@ use Rattle.trellis.specs.Isdb.{rule}
 use Rattle.short_code.proofs.best_state.Statement.{statement}
 use Rattle.short_code.proofs.best_state.Tie as tie
 
-more : (pm : List Float) (b s : ℕ) (t : Bool) → 1 ≤ s → b ≡ trellis.best rule pm (s - 1) → lt (getD pm b nan) (getD pm s nan) ≡ t
+more : (pm : List Float) (b s : ℕ) (t : Bool) → 1 ≤ s → b ≡ trellis.best rule pm (s - 1) → trellis.takes rule (getD pm b nan) (getD pm s nan) ≡ t
     → cond t s b ≡ trellis.best rule pm (s + 1 - 1)
 unfolding trellis.best
 more pm b s t h is-b test =

@@ -26,14 +26,14 @@ loop-holds : tie.Need-loop-holds Inv-loop μ-loop
 unfolding top ofBits neg
 loop-holds c = (refl, omega arith, refl)
 
-mul-larger : tie.Need-mul-larger Inv-loop μ-loop
-mul-larger c = omega arith
+mul-greater : tie.Need-mul-greater Inv-loop μ-loop
+mul-greater c = omega arith
 
-shared-slice-read-larger : tie.Need-shared-slice-read-larger Inv-loop μ-loop
-shared-slice-read-larger c = omega arith
+shared-slice-read-greater : tie.Need-shared-slice-read-greater Inv-loop μ-loop
+shared-slice-read-greater c = omega arith
 
-larger-requires : tie.Need-larger-requires Inv-loop μ-loop
-larger-requires c κs = search needs
+greater-requires : tie.Need-greater-requires Inv-loop μ-loop
+greater-requires c κs = search needs
 
 add-s : tie.Need-add-s Inv-loop μ-loop
 add-s c = omega arith
@@ -44,7 +44,7 @@ loop-less c = omega arith
 loop-again : tie.Need-loop-again Inv-loop μ-loop
 loop-again c =
     let at = c .before .before .before in
-    (at .loop .inv .0, omega arith, c .larger .ensures ∙ more (at .before .before .args .pm .now) (at .loop .t) (at .loop .s) (at .loop .inv .2))
+    (at .loop .inv .0, omega arith, c .greater .ensures ∙ more (at .before .before .args .pm .now) (at .loop .t) (at .loop .s) (at .loop .inv .2))
 
 returns : tie.Need-returns Inv-loop μ-loop
 returns c =
@@ -60,9 +60,9 @@ greatest-spec =
     Inv-loop
     μ-loop
     loop-holds
-    mul-larger
-    shared-slice-read-larger
-    larger-requires
+    mul-greater
+    shared-slice-read-greater
+    greater-requires
     add-s
     loop-less
     loop-again

@@ -9,7 +9,7 @@ use lib.Ieee.{Float, nan, binary32, lt, neg, add, sub, ofBits}
 use borrow.Author.Needs.{needs}
 use lib.Bits.{bitOr}
 use Rattle.trellis.specs.Lists.{bit, packed}
-use Rattle.trellis.specs.Step.{Step, cand, wins, next, word}
+use Rattle.trellis.specs.Step.{Step, takes, cand, wins, next, word}
 use Rattle.trellis.specs.Isdb.{rule}
 use Rattle.acs.specs.Packed.{packed-more}
 use Rattle.viterbi.specs.Calls.{stepOf}
@@ -20,11 +20,11 @@ use Rattle.short_code.proofs.select.Tie as tie
 
 -- a turn, by the even and the odd path into its state
 module _ (h : ℕ) (l : ℕ → ℕ → ℕ) (pm : List Float) (x : Step) (k : ℕ) (e o : Float) (is-e : e ≡ cand h l pm x k 0) (is-o : o ≡ cand h l pm x k 1) where
-  larger-next : (v : Float) → v ≡ cond (lt e o) o e → v ≡ next h l rule pm x k
+  larger-next : (v : Float) → v ≡ cond (takes rule e o) o e → v ≡ next h l rule pm x k
   unfolding next wins
   larger-next v is-v = rw (is-v, is-e, is-o)
 
-  beats-wins : (b : ℕ) → b ≡ bit (lt e o) → b ≡ bit (wins h l rule pm x k)
+  beats-wins : (b : ℕ) → b ≡ bit (takes rule e o) → b ≡ bit (wins h l rule pm x k)
   unfolding wins
   beats-wins b is-b = rw (is-b, is-e, is-o)
 
