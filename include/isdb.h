@@ -136,7 +136,7 @@ uint32_t isdbs_window_push(uint32_t window, uint32_t *fill, uint32_t *next, uint
  * isdb_flush_at      the same, traced from the state `end` (mod 64) in place of the best one.   Rows 3, 4, 5, 9.
  *
  * One isdb_push_metrics of at most 4,096 quadruples of whole numbers within 16 of zero on a fresh state, then isdb_flush: the bits are the inputs
- * of the first path of greatest sum, the one of lowest end state, then of the smaller low bit of the predecessor at the last step, the step before
+ * of the first path of greatest sum, the one of highest end state, then of the larger low bit of the predecessor at the last step, the step before
  * it, and so on.
  */
 uint32_t isdb_push(float *pm, size_t pm_len, uint64_t *held, uint64_t traceback, const float *pairs, size_t pairs_len,
