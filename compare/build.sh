@@ -11,15 +11,7 @@ stubs=$PWD/compare/stubs
 out=$PWD/target/compare
 mkdir -p "$out/src/isdb_fec" "$out/src/isdbs_core" "$out/src/isdbs_phy" "$out/src/isdbt_fec" "$out/lib" "$out/bin"
 
-sed -e 's/^\( *\)let c = m1\[j\] > m0\[j\];$/\1let c = m1[j] >= m0[j];/' \
-    -e 's/^\( *\)let c = m1 > m0;$/\1let c = m1 >= m0;/' \
-    -e 's/^\( *\)if self\.pm\[s\] > self\.pm\[best\] {$/\1if self.pm[s] >= self.pm[best] {/' \
-    "$given/isdb-fec/src/conv.rs" > "$out/src/isdb_fec/altered.rs"
-# exactly these three lines are other ones
-changed=$(diff "$given/isdb-fec/src/conv.rs" "$out/src/isdb_fec/altered.rs" | sed -n 's/^> *//p')
-[ "$changed" = "let c = m1[j] >= m0[j];
-let c = m1 >= m0;
-if self.pm[s] >= self.pm[best] {" ] || { echo "the three comparisons of conv.rs were not altered as they should be" >&2; exit 2; }
+compare/altered.sh "$given/isdb-fec/src/conv.rs" "$out/src/isdb_fec/altered.rs"
 cat "$out/src/isdb_fec/altered.rs" "$stubs/conv_access.rs" > "$out/src/isdb_fec/conv.rs"
 ln -sf "$stubs/isdb_fec.rs" "$out/src/isdb_fec/lib.rs"
 for name in combination frame slots tmcc; do

@@ -1,5 +1,5 @@
 #!/bin/sh
-# The stored answers of crate vectors_isdbt, from the given Rust, built unchanged.
+# The stored answers of crate vectors_isdbt, from the given Rust, its ties altered (compare/altered.sh).
 #   compare/isdbt_vectors.sh [DIR]     DIR holds crates/isdb-fec/.. (default: ../shared/docs/src)
 set -eu
 cd "$(dirname "$0")/.."
@@ -9,7 +9,8 @@ given=$(cd "$given" && pwd)
 out=$PWD/target/isdbt_vectors
 mkdir -p "$out"
 echo 'pub enum CodeRate { R1_2, R2_3, R3_4, R5_6, R7_8 }' | sed 's/^/#[derive(Debug, Clone, Copy, PartialEq, Eq)] /' > "$out/isdbt_core.rs"
-echo "#[path = \"$given/isdb-fec/src/conv.rs\"] pub mod conv;" > "$out/isdb_fec.rs"
+compare/altered.sh "$given/isdb-fec/src/conv.rs" "$out/altered.rs"
+echo "#[path = \"$out/altered.rs\"] pub mod conv;" > "$out/isdb_fec.rs"
 if grep -q 'crate::simd' "$given/isdb-fec/src/conv.rs"; then echo "#[path = \"$given/isdb-fec/src/simd.rs\"] mod simd;" >> "$out/isdb_fec.rs"; fi
 echo "#[path = \"$given/isdbt-fec/src/conv.rs\"] pub mod conv;" > "$out/isdbt_fec.rs"
 # lib NAME [--extern NAME ..]

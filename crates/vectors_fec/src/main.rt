@@ -190,7 +190,7 @@ fn start_loses() -> bool {
     let a = made.dec.push_metrics(&metrics, &mut decisions, &mut out);
     let p = a.dec.pm;
     let b = a.dec.flush(&mut decisions, &mut out);
-    p[0] < 0.0 && p[1] == 0.0 && b.count == 1 && out[0] == 0 && out[1] == 7
+    p[0] < 0.0 && p[1] == 0.0 && b.count == 1 && out[0] == 1 && out[1] == 7
 }
 
 // An odd predecessor takes a tie, and the highest of the best states is traced.

@@ -81,11 +81,11 @@ fn chosen(c: u32) -> Errors {
     Errors { count, wrong }
 }
 
-// Whether the inputs 1000000 are read where the coded bits `wrong` are received wrong.
+// Whether the inputs 0000000 are read where the coded bits `wrong` are received wrong.
 fn mended(wrong: u32, decisions: &mut [u64; 5120]) -> bool {
     let mut out = [9u8; 7];
-    let answer = read(0x38f7 ^ wrong, 0, 0, decisions, &mut out);
-    answer == 0 && out[0] == 1 && rest_zero(&out)
+    let answer = read(wrong, 0, 0, decisions, &mut out);
+    answer == 0 && out[0] == 0 && rest_zero(&out)
 }
 
 // How many choices of so many of the ten places there are, and of how many of them the sent inputs are read.
