@@ -10,7 +10,7 @@ use lib.Dec.{T, eqb}
 use lib.ListN.{length}
 use types.Run.{OneOf, miss}
 use Rattle.refusal.specs.declared.Answer.{Answer}
-use Rattle.refusal.specs.declared.Answer.the-variants.{Accepted, Table, Position, Traceback, State, Length, Symbols, Sample, Scale, Space, PartUnit, ReservedWord, Window, Code, NoLoad}
+use Rattle.refusal.specs.declared.Answer.the-variants.{Accepted, Table, Position, Traceback, State, Length, Symbols, Sample, Scale, Space, PartUnit, ReservedWord, Window, Code, NoLoad, Unmendable}
 use Rattle.refusal.specs.Rows.{numberOf, accepted, Row, firstRow, Either, Said, says, fromTop}
 
 -- ---- answers
@@ -32,6 +32,7 @@ zero-accepted ReservedWord e = absurd (omega arith)
 zero-accepted Window e = absurd (omega arith)
 zero-accepted Code e = absurd (omega arith)
 zero-accepted NoLoad e = absurd (omega arith)
+zero-accepted Unmendable e = absurd (omega arith)
 
 -- an answer with a row's number is a refusal
 pub numbered : (a : Answer) → 0 < numberOf a → a ≡ Accepted → ⊥
@@ -39,7 +40,7 @@ numbered a h e = let z : numberOf a ≡ 0 = ap numberOf e in omega arith
 
 -- the places of the refusals among the answers, and what `let Answer::Accepted = .. else` tells where it leaves: `tag` is the place of an answer
 abbrev pub refusals : List ℕ
-refusals = 1 ∷ 2 ∷ 3 ∷ 4 ∷ 5 ∷ 6 ∷ 7 ∷ 8 ∷ 9 ∷ 10 ∷ 11 ∷ 12 ∷ 13 ∷ 14 ∷ []
+refusals = 1 ∷ 2 ∷ 3 ∷ 4 ∷ 5 ∷ 6 ∷ 7 ∷ 8 ∷ 9 ∷ 10 ∷ 11 ∷ 12 ∷ 13 ∷ 14 ∷ 15 ∷ []
 
 pub told-by : (tag : Answer → ℕ) → tag Accepted ≡ 0 → (a : Answer) → OneOf refusals (tag a) → a ≡ Accepted → ⊥
 told-by tag z a o e = miss refusals 0 tt (rw (ap tag e ∙ z) at o)
@@ -193,8 +194,8 @@ both-passed (row ∷ rows) below r e =
 -- ---- the order of the table
 
 -- one row for each of the table's, in its order
-abbrev pub wholeTable : (table part reserved position traceback code state window long symbols sample scale space load : Bool) → List Row
-wholeTable table part reserved position traceback code state window long symbols sample scale space load =
+abbrev pub wholeTable : (table part reserved position traceback code state window long symbols sample scale space load mend : Bool) → List Row
+wholeTable table part reserved position traceback code state window long symbols sample scale space load mend =
     (Table, table)
     ∷ (PartUnit, part)
     ∷ (ReservedWord, reserved)
@@ -209,7 +210,8 @@ wholeTable table part reserved position traceback code state window long symbols
     ∷ (Scale, scale)
     ∷ (Space, space)
     ∷ (NoLoad, load)
+    ∷ (Unmendable, mend)
     ∷ []
 
-pub whole-from-top : (table part reserved position traceback code state window long symbols sample scale space load : Bool) → T (fromTop (wholeTable table part reserved position traceback code state window long symbols sample scale space load))
-whole-from-top table part reserved position traceback code state window long symbols sample scale space load = tt
+pub whole-from-top : (table part reserved position traceback code state window long symbols sample scale space load mend : Bool) → T (fromTop (wholeTable table part reserved position traceback code state window long symbols sample scale space load mend))
+whole-from-top table part reserved position traceback code state window long symbols sample scale space load mend = tt

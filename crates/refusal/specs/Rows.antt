@@ -6,7 +6,7 @@ use Prim.Native.Nat.{ℕ, suc}
 use lib.Dec.{eqb, leb, ltb}
 use lib.ListN.{length}
 use Rattle.refusal.specs.declared.Answer.{Answer}
-use Rattle.refusal.specs.declared.Answer.the-variants.{Accepted, Table, Position, Traceback, State, Length, Symbols, Sample, Scale, Space, PartUnit, ReservedWord, Window, Code, NoLoad}
+use Rattle.refusal.specs.declared.Answer.the-variants.{Accepted, Table, Position, Traceback, State, Length, Symbols, Sample, Scale, Space, PartUnit, ReservedWord, Window, Code, NoLoad, Unmendable}
 
 -- the table's first column; 0 where no row holds
 abbrev pub numberOf : Answer → ℕ
@@ -25,11 +25,12 @@ numberOf ReservedWord = 11
 numberOf Window = 14
 numberOf Code = 12
 numberOf NoLoad = 13
+numberOf Unmendable = 15
 
 -- the numbers as the table has them, from the top; document 02: 10 and 11 "in that sequence directly after 1 and before 2" (P5),
--- 12 "checked right before 4" (P7), 14 "checked where refusal 4 stands" (P11), 13 "checked last" (P9)
+-- 12 "checked right before 4" (P7), 14 "checked where refusal 4 stands" (P11), 13 "checked last" (P9), 15 "checked last" (P13)
 abbrev pub order : List ℕ
-order = 1 ∷ 10 ∷ 11 ∷ 2 ∷ 3 ∷ 12 ∷ 4 ∷ 14 ∷ 5 ∷ 6 ∷ 7 ∷ 8 ∷ 9 ∷ 13 ∷ []
+order = 1 ∷ 10 ∷ 11 ∷ 2 ∷ 3 ∷ 12 ∷ 4 ∷ 14 ∷ 5 ∷ 6 ∷ 7 ∷ 8 ∷ 9 ∷ 13 ∷ 15 ∷ []
 
 -- no row holds
 abbrev pub accepted : Answer → Bool

@@ -19,6 +19,7 @@ pub enum Answer {
     Window,
     Code,
     NoLoad,
+    Unmendable,
 }
 
 // The row's number, and 0 for accepted.
@@ -41,5 +42,6 @@ pub fn number(answer: Answer) -> u32
         Answer::Window => 14,
         Answer::Code => 12,
         Answer::NoLoad => 13,
+        Answer::Unmendable => 15,
     }
 }
