@@ -1,0 +1,4 @@
+pub mod Stretches
+pub mod StretchLaws
+pub mod Distances
+pub mod DistanceLaws
