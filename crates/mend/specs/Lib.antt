@@ -1,0 +1,7 @@
+pub mod Rows
+pub mod Calls
+pub mod Allowed
+pub mod Tail
+pub mod Positions
+pub mod Listed
+pub mod Promises

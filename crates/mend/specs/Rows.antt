@@ -1,0 +1,37 @@
+-- The rows of `mend`: request P13, and document 01, "Where a call is turned back". Assumes nothing.
+use mathlib.Core.Bool.{Bool, false, not, _||_}
+use mathlib.Core.List.{List, [], _∷_, _++_}
+use Prim.Native.Nat.{ℕ, _%_}
+use lib.Dec.{eqb, ltb}
+use lib.ListN.{length}
+use Rattle.refusal.specs.Rows.{Row}
+use Rattle.refusal.specs.declared.Answer.the-variants.{Length, Space, Unmendable}
+use Rattle.mend_distance.specs.Distances.{unmendable}
+
+-- "A bit byte above 1"
+unfoldable pub someNoBit : List ℕ → Bool
+someNoBit [] = false
+someNoBit (b ∷ bs) = ltb 1 b || someNoBit bs
+
+-- "at most 4,096 steps", two bits each
+abbrev pub mostBits : ℕ
+mostBits = 8192
+
+-- "the position list always needing four places"
+abbrev pub places : ℕ
+places = 4
+
+-- "traceback is 128": decisions always need 4,096 + traceback
+abbrev pub words : ℕ
+words = 4224
+
+-- 5: "A bit byte above 1 and a stretch not in twos or too long"; 9: "too short an output", the list, the decisions
+abbrev pub lentRows : List ℕ → ℕ → ℕ → ℕ → List Row
+lentRows bits decisions out list =
+    (Length, not (eqb (length bits % 2) 0) || ltb mostBits (length bits) || someNoBit bits)
+    ∷ (Space, ltb out (length bits) || ltb list places || ltb decisions words)
+    ∷ []
+
+-- 15 is "checked last"; "states are taken mod 64"
+abbrev pub mendRows : ℕ → ℕ → List ℕ → ℕ → ℕ → ℕ → List Row
+mendRows s e bits decisions out list = lentRows bits decisions out list ++ (Unmendable, unmendable (s % 64) (e % 64) bits) ∷ []
