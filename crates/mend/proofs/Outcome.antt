@@ -1,8 +1,8 @@
 -- How a call's outcome follows from its rows and from what was written. Assumes nothing.
-use mathlib.Core.Path.{_≡_, refl, sym, ap, _∙_, subst}
+use mathlib.Core.Path.{_≡_, refl, sym, ap, _∙_}
 use mathlib.Core.Bool.{Bool, true, false, cond, not, _||_}
 use mathlib.Core.List.{List, [], _∷_}
-use Prim.Native.Nat.{ℕ, _*_, _/_, _%_, _≤_, _<_}
+use Prim.Native.Nat.{ℕ, _%_, _≤_, _<_}
 use native.Mathlib.Omega.{arith}
 use borrow.Author.Tests.{lt-ltb, le-ltb}
 use lib.Dec.{eqb, ltb}
@@ -17,7 +17,7 @@ use Rattle.refusal.specs.declared.Answer.the-variants.{Accepted, Length, Space,
 use Rattle.trellis.specs.Lists.{upto, laid}
 use Rattle.trellis.specs.ListLaws.{length-upto}
 use Rattle.viterbi.specs.Laid.{laid-laid, take-laid}
-use Rattle.mend_distance.specs.Stretches.{mostChanged, unlike, sentFrom, Within}
+use Rattle.mend_distance.specs.Stretches.{mostChanged, unlike, sentFrom}
 use Rattle.mend_distance.specs.StretchLaws.{length-sent}
 use Rattle.mend_distance.specs.Distances.{least, unmendable}
 use Rattle.mend_distance.specs.DistanceLaws.{none-within}

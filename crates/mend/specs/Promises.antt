@@ -2,12 +2,12 @@
 use mathlib.Core.Path.{_≡_, refl, sym, ap, _∙_, subst}
 use mathlib.Core.Bool.{Bool, true, false, not, cond, _||_}
 use mathlib.Core.Logic.{_⊎_, inl, inr, ⊎-elim}
-use mathlib.Core.List.{List, [], _∷_, _++_}
-use Prim.Native.Nat.{ℕ, zero, suc, _+_, _*_, _/_, _%_, _≤_, _<_}
+use mathlib.Core.List.{List, [], _∷_}
+use Prim.Native.Nat.{ℕ, _*_, _%_, _≤_, _<_}
 use native.Mathlib.Omega.{arith}
 use native.Mathlib.Nat.{zero-add}
-use borrow.Author.Tests.{le-ltb, eq-eqb, eqb-true}
-use lib.Dec.{T, eqb, ltb}
+use borrow.Author.Tests.{le-ltb, eq-eqb}
+use lib.Dec.{eqb, ltb}
 use lib.ListN.{length, getD, take}
 use Rattle.refusal.specs.Rows.{firstRow}
 use Rattle.refusal.specs.RowLaws.{both-passed, passed-above}
@@ -23,10 +23,10 @@ use Rattle.mend_distance.specs.StretchLaws.{unique, unlike-self, length-changed
 use Rattle.mend_distance.specs.Distances.{unmendable}
 use Rattle.mend_distance.specs.DistanceLaws.{none-within}
 use Rattle.mend.specs.declared.Mended.{Mended}
-use Rattle.mend.specs.Rows.{places, words, mostBits, someNoBit, lentRows, mendRows}
+use Rattle.mend.specs.Rows.{places, words, mostBits, lentRows}
 use Rattle.mend.specs.Allowed.{allowed, no-other}
 use Rattle.mend.specs.Listed.{Rising, listed, changed-rising, changed-listed}
-use Rattle.mend.specs.Calls.{Mends, Called}
+use Rattle.mend.specs.Calls.{Called}
 
 -- a row that does not hold decides nothing, and one that holds
 decided : (b : Bool) (a : Answer) → (cond b a Accepted ≡ Accepted) ⊎ (cond b a Accepted ≡ a)

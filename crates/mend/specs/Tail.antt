@@ -13,9 +13,9 @@ use Rattle.trellis.specs.RunLaws.{label-under}
 use Rattle.trellis.specs.Stretch.{apart, Bits}
 use Rattle.trellis.specs.Distance.{bits-at}
 use Rattle.viterbi.specs.Laid.{length-laid}
-use Rattle.mend_distance.specs.Stretches.{mostChanged, codedBits, unlike, sentFrom, Within}
+use Rattle.mend_distance.specs.Stretches.{mostChanged, unlike, sentFrom, Within}
 use Rattle.mend_distance.specs.StretchLaws.{label-x, label-y, pair-apart, length-sent}
-use Rattle.mend_distance.specs.Distances.{pairAt, through, next, odd, word, nearest, least, wordAt}
+use Rattle.mend_distance.specs.Distances.{pairAt, through, odd, word, nearest, wordAt}
 use Rattle.mend_distance.specs.DistanceLaws.{chosen, next-at, from-start}
 
 pub record Tail (start e : ℕ) (bits out₀ : List ℕ) (t s : ℕ) (out : List ℕ) : Type 0 where

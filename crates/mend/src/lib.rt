@@ -123,9 +123,9 @@ fn mend_near(
     requires { ⌜ Allowed (now bits) (length (now decisions)) (length (now out)) (length (now list)) × (least (start % 64) (end % 64) (now bits) ≤ 4) ⌝ }
     ensures { λ r. ⌜ (r .answer ≡ Answer.Accepted) × Mends start end (now (bits .entry)) r (now (decisions .entry)) (now (decisions .exit)) (now (out .entry)) (now (out .exit)) (now (list .entry)) (now (list .exit)) ⌝ }
 {
+    let n = bits.len();
     write_stretch(bits, start, end, decisions, out);
     clear(decisions, WORDS);
-    let n = bits.len();
     let count = list_changes(&out[..n], bits, list);
     Mended {
         answer: Answer::Accepted,

@@ -1,16 +1,16 @@
 -- Laws of the table: where a coded stretch lies within four, its number is at most 4; and by which predecessor a number came about. Assumes nothing.
-use mathlib.Core.Path.{_≡_, refl, sym, ap, _∙_, subst}
+use mathlib.Core.Path.{_≡_, refl, sym, _∙_}
 use mathlib.Core.Bool.{Bool, true, false, cond}
 use mathlib.Core.List.{List}
 use mathlib.Core.Logic.{⊎-elim}
 use Prim.Native.Nat.{ℕ, zero, suc, _+_, _*_, _/_, _%_, _≤_, _<_, min}
 use native.Mathlib.Omega.{arith}
 use borrow.Author.Tests.{ltb-true, ltb-false, eqb-true}
-use lib.Dec.{T, eqb, eqb-refl, ltb}
+use lib.Dec.{T, eqb, eqb-refl}
 use lib.ListN.{length, getD, List·getD-eq-default}
 use Rattle.trellis.specs.Code.{isdb, label, moved, stateAt}
 use Rattle.trellis.specs.Encoded.{reached-is}
-use Rattle.trellis.specs.Lists.{bit, upto}
+use Rattle.trellis.specs.Lists.{bit}
 use Rattle.trellis.specs.ListLaws.{length-upto, getD-upto}
 use Rattle.trellis.specs.Stretch.{apart, Bits}
 use Rattle.trellis.specs.Distance.{wrong, labelsOf, bits-at}

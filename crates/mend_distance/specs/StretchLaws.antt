@@ -12,7 +12,7 @@ use Rattle.trellis.specs.Encoded.{encoded, length-encoded, encoded-at}
 use Rattle.trellis.specs.RunLaws.{label-under}
 use Rattle.trellis.specs.Stretch.{apart, differing, Bits}
 use Rattle.trellis.specs.Distance.{same-or-ten, wrong, first-out, by-place, wrong-same, triangle, labelsOf}
-use Rattle.mend_distance.specs.Stretches.{mostChanged, codedBits, unlike, changed, sentFrom, Within}
+use Rattle.mend_distance.specs.Stretches.{codedBits, unlike, changed, sentFrom, Within}
 use Rattle.mend_distance.specs.Distances.{pairAt}
 
 -- ---- the two bits of a branch

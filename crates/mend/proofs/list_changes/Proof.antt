@@ -1,11 +1,10 @@
 -- `mend::list_changes` meets its contract. The invariant: the changed positions below i are at the front of the list. Assumes nothing.
-use mathlib.Core.Path.{_≡_, refl, sym, _∙_, ap}
+use mathlib.Core.Path.{_≡_, refl}
 use mathlib.Core.Logic.{⊎-elim}
-use mathlib.Core.List.{List}
-use Prim.Native.Nat.{ℕ, suc, _+_, _-_, _≤_, _<_}
+use Prim.Native.Nat.{_-_, _≤_, _<_}
 use native.Mathlib.Omega.{arith}
 use borrow.Author.Needs.{needs}
-use lib.ListN.{length, getD}
+use lib.ListN.{length}
 use Rattle.trellis.specs.Lists.{laid}
 use Rattle.mend.specs.Positions.{passed, passed-whole, passed-room, filled-long, filled-more, filled-same}
 use Rattle.mend.proofs.list_changes.Statement.{statement}

@@ -1,5 +1,5 @@
 -- `mend::mend` meets its contract. Assumes nothing.
-use mathlib.Core.Path.{_≡_, sym, _∙_}
+use mathlib.Core.Path.{sym, _∙_}
 use lib.ListN.{length}
 use Rattle.mend.specs.Allowed.{allowed}
 use Rattle.mend.proofs.Outcome.{told, turned-back, unmended, mended}

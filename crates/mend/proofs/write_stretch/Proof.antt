@@ -1,10 +1,9 @@
 -- `mend::write_stretch` meets its contract. The invariant: what is traced so far is the tail of a stretch. Assumes nothing.
-use mathlib.Core.Path.{_≡_, refl, sym, _∙_, ap}
-use mathlib.Core.List.{List}
-use Prim.Native.Nat.{ℕ, suc, _+_, _-_, _*_, _/_, _%_, _≤_, _<_}
+use mathlib.Core.Path.{_≡_, refl}
+use Prim.Native.Nat.{suc, _+_, _-_, _*_, _/_, _%_, _≤_, _<_}
 use native.Mathlib.Omega.{arith}
 use borrow.Author.Needs.{needs}
-use lib.ListN.{length, getD, length-set}
+use lib.ListN.{length, length-set}
 use Rattle.mend_distance.specs.Distances.{wordAt}
 use Rattle.mend.specs.Tail.{Tail, kept-long, kept-at, tail-none, tail-more, tail-whole}
 use Rattle.mend.proofs.write_stretch.Statement.{statement}

@@ -1,5 +1,5 @@
 -- `mend_distance::keep_words` meets its contract. The invariant: the table is that after t steps, and the words of t steps are laid. Assumes nothing.
-use mathlib.Core.Path.{_≡_, refl}
+use mathlib.Core.Path.{_≡_}
 use Prim.Native.Nat.{_+_, _-_, _*_, _/_, _%_, _≤_, _<_}
 use native.Mathlib.Omega.{arith}
 use borrow.Author.Needs.{needs}
