@@ -16,12 +16,14 @@
  *  12 code       a constraint length outside 3 to 7; a generator not below 2^length or without its top bit (isdb_code_*)
  *   4 state      held count 4,096 + traceback or more; encoder state above 63 (of isdb_code_encode: 2^(length-1) or more); lent path value not finite or beyond 2^32
  *  14 window     outside 1 to 256; fill above it; next not below it or, while the window is not full, unlike fill; a pushed or kept sum above 68,208
- *   5 length     metrics not in fours, soft values not in twos, stream not whole periods; path values not 64; an unknown rate
+ *   5 length     metrics not in fours, soft values not in twos, stream not whole periods; path values not 64; an unknown rate; a
+ *                stretch to be mended not in twos, above 8,192 bits, or with a byte above 1
  *   6 symbols    under 38,976 of either part; for a full frame an input shorter than its length (isdbs_lay_frame, isdbs_take_frame)
  *   7 sample     not finite; beyond 65,536 for a frame part, 1,048,576 for a stream value
  *   8 scale      a scale not above 0, or above 64
  *   9 space      an output or decision slice shorter than the call writes; decisions always need 4,096 + traceback
  *  13 no load    no full load encodes to the frame (isdbs_wanted_load)
+ *  15 unmendable no coded stretch between the two states lies within four bits (isdb_mend)
  *
  * A table is one number: entry i (0 to 3) has its word in bits 16i to 16i+7, of which the low 4 count, and its slot count in bits 16i+8 to 16i+15.
  * Words 1 to 7 are BPSK 1/2, QPSK 1/2, 2/3, 3/4, 5/6, 7/8 and TC8PSK 2/3, in units of 4, 2, 3, 4, 6, 8 and 1 slots. 15 takes its slots and sends nothing; with 0 slots it is
@@ -182,6 +184,13 @@ uint32_t isdbt_encode_punctured(uint8_t rate, uint8_t *state, const uint8_t *bit
 uint32_t isdbt_depuncture(uint8_t rate, const float *llrs, size_t llrs_len, float *out, size_t out_len, uint64_t *count);
 uint32_t isdbt_decode_punctured(uint8_t rate, const float *llrs, size_t llrs_len, uint64_t traceback,
                                 uint64_t *decisions, size_t decisions_len, uint8_t *out, size_t out_len, uint64_t *count);
+
+/* A stored stretch of coded bits, X then Y of each step, one in a byte, between the states `start` and `end` (mod 64), with at most four wrong bits. `out` begins with the coded
+ * stretch between those states that differs from `bits` in at most four bits (there is only one), as long as `bits`; `places` with the positions in which it differs, rising, X of
+ * step t at 2t and Y at 2t + 1, and *count is how many. `places` needs four places and `decisions` 4,224 words, which are 0 afterwards. Answer 15: there is no such stretch. Rows 5 (an odd
+ * number of bits, more than 8,192, a byte above 1), 9, 15. Crate mend_c. */
+uint32_t isdb_mend(const uint8_t *bits, size_t bits_len, uint8_t start, uint8_t end, uint64_t *decisions, size_t decisions_len,
+                   uint8_t *out, size_t out_len, uint32_t *places, size_t places_len, uint64_t *count);
 
 #ifdef __cplusplus
 }
