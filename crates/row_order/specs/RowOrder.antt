@@ -24,6 +24,7 @@ use Rattle.short_best.specs.Readings as short-best
 use Rattle.full_frame.specs.declared.Input.{Input}
 use Rattle.full_frame.specs.Rows.{layRows, takeRows}
 use Rattle.wanted_load.specs.Rows.{wantedRows}
+use Rattle.mend.specs.Rows.{mendRows}
 use Rattle.strain_window.specs.declared.WindowState.{WindowState}
 use Rattle.strain_window.specs.Rows as window
 use Rattle.isdb_c.specs.Rows.{placesRows, bitSymbolRows}
@@ -88,6 +89,8 @@ module _ (t : Table) (v : ViterbiDecoder) (c : Code) (w : WindowState) (parts : 
       ∷ wantedRows t i j k true
       -- strain_window
       ∷ window.pushRows w i bytes
+      -- mend
+      ∷ mendRows i j bytes k l i
       -- isdb_c: the lists of its own
       ∷ placesRows t i j
       ∷ bitSymbolRows i j

@@ -1,0 +1,79 @@
+-- `answer_of` is safe and ends. Assumes nothing.
+use mathlib.Core.Path.{sym}
+use lib.Seq.{length-take-le}
+use borrow.Author.Needs.{needs}
+use Rattle.vectors_mend.proofs.answer_of.Statement.{statement}
+use Rattle.vectors_mend.proofs.answer_of.Tie as tie
+
+returns : tie.Need-returns
+returns c = search needs
+
+returns-2 : tie.Need-returns-2
+returns-2 c = search needs
+
+returns-3 : tie.Need-returns-3
+returns-3 c = search needs
+
+returns-4 : tie.Need-returns-4
+returns-4 c = search needs
+
+slice-aggregate-mend : tie.Need-slice-aggregate-mend
+slice-aggregate-mend c = let a = c .before .before .before .before .before .before .before .before .before .args in sym (length-take-le (a .n) (a .bits .now) (search needs))
+
+slice-relend-prefix-mend : tie.Need-slice-relend-prefix-mend
+slice-relend-prefix-mend c = search needs
+
+slice-aggregate-mend-2 : tie.Need-slice-aggregate-mend-2
+slice-aggregate-mend-2 c = let a = c .before .before .before .before .before .before .before .before .before .before .args in sym (length-take-le (a .words) (a .decisions .now) (search needs))
+
+slice-relend-prefix-mend-2 : tie.Need-slice-relend-prefix-mend-2
+slice-relend-prefix-mend-2 c = search needs
+
+slice-aggregate-mend-3 : tie.Need-slice-aggregate-mend-3
+slice-aggregate-mend-3 c = let a = c .before .before .before .before .before .before .before .before .before .before .before .args in sym (length-take-le (a .places) (a .out .now) (search needs))
+
+slice-relend-prefix-mend-3 : tie.Need-slice-relend-prefix-mend-3
+slice-relend-prefix-mend-3 c = search needs
+
+slice-aggregate-mend-4 : tie.Need-slice-aggregate-mend-4
+slice-aggregate-mend-4 c = let a = c .before .before .before .before .before .before .before .before .before .before .before .before .args in sym (length-take-le (a .positions) (a .list .now) (search needs))
+
+mend-requires : tie.Need-mend-requires
+mend-requires c κs = search needs
+
+number-requires : tie.Need-number-requires
+number-requires c κs = search needs
+
+same-length : tie.Need-same-length
+same-length c = search needs
+
+same-length-2 : tie.Need-same-length-2
+same-length-2 c = search needs
+
+same-length-3 : tie.Need-same-length-3
+same-length-3 c = search needs
+
+returns-5 : tie.Need-returns-5
+returns-5 c = search needs
+
+pub answer-of-spec : {M : Type 1} → statement M
+answer-of-spec =
+    tie.close
+    (tie.spec
+    returns
+    returns-2
+    returns-3
+    returns-4
+    slice-aggregate-mend
+    slice-relend-prefix-mend
+    slice-aggregate-mend-2
+    slice-relend-prefix-mend-2
+    slice-aggregate-mend-3
+    slice-relend-prefix-mend-3
+    slice-aggregate-mend-4
+    mend-requires
+    number-requires
+    same-length
+    same-length-2
+    same-length-3
+    returns-5)

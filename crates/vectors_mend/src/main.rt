@@ -1,0 +1,507 @@
+// Mended stretches: the cases of request P13 and its rows, a stretch of 4,096 steps, and every stretch of up to 7 steps beside an exhaustive search.
+use isdb_fec::conv::ConvEncoder;
+use mend::Mended;
+
+// A coded stretch of up to 7 steps: its bits, the first of them at bit 0, and the state that it leads to.
+struct Sent {
+    bits: u32,
+    end: u8,
+}
+
+// What the search finds: how many coded stretches lie within four bits, and the last of them.
+struct Near {
+    count: u32,
+    bits: u32,
+}
+
+fn put(byte: u8) {
+    let one = [byte];
+    io::write_all(1, &one);
+}
+
+// Words, and a number after them.
+fn say(words: &[u8], n: usize) {
+    io::write_all(1, words);
+    io::print_decimal(1, n as u64);
+}
+
+// The coded stretch of n inputs, the first at bit 0 of `inputs`.
+fn send(start: u8, inputs: u32, n: u32) -> Sent {
+    let mut enc = ConvEncoder { state: start % 64 };
+    let mut rest = inputs;
+    let mut bits: u32 = 0;
+    let mut weight: u32 = 1;
+    for i in 0..7u32 {
+        if i < n {
+            let pushed = enc.push((rest % 2) as u8);
+            if pushed.x == 1 {
+                bits = bits | weight;
+            }
+            if pushed.y == 1 {
+                bits = bits | (weight % 16384 * 2);
+            }
+            let after = pushed.enc;
+            enc = after;
+        }
+        rest = rest / 2;
+        weight = weight % 16384 * 4;
+    }
+    Sent {
+        bits,
+        end: enc.state(),
+    }
+}
+
+// All coded stretches of n steps.
+fn send_all(start: u8, n: u32, bits: &mut [u32; 128], ends: &mut [u8; 128]) {
+    for i in 0..128u32 {
+        let sent = send(start, i, n);
+        bits[i as usize] = sent.bits;
+        ends[i as usize] = sent.end;
+    }
+}
+
+// Those of the first `count` that lead to `end` and differ from `stored` in at most four bits.
+fn search(stored: u32, end: u8, count: u32, bits: &[u32; 128], ends: &[u8; 128]) -> Near {
+    let mut found: u32 = 0;
+    let mut last: u32 = 0;
+    for i in 0..128u32 {
+        if i < count {
+            let sent = bits[i as usize];
+            if ends[i as usize] == end && u32::count_ones(sent ^ stored) <= 4 {
+                found = found % 128 + 1;
+                last = sent;
+            }
+        }
+    }
+    Near {
+        count: found,
+        bits: last,
+    }
+}
+
+fn unpack(stored: u32) -> [u8; 14] {
+    let mut bits = [0u8; 14];
+    let mut rest = stored;
+    for k in 0..14 {
+        bits[k] = (rest % 2) as u8;
+        rest = rest / 2;
+    }
+    bits
+}
+
+// The first n bits, or none where there are fewer.
+fn front<'a>(s: &'a [u8], n: usize) -> &'a [u8] {
+    if n <= s.len() { &s[0..n] } else { &s[0..0] }
+}
+
+// Whether the first `count` places hold the bits of `sent`, and the others what they held before.
+fn out_is(out: &[u8; 14], sent: u32, count: usize) -> bool {
+    let mut rest = sent;
+    for k in 0..14 {
+        let bit = (rest % 2) as u8;
+        if k < count && out[k] != bit {
+            return false;
+        }
+        if k >= count && out[k] != 9 {
+            return false;
+        }
+        rest = rest / 2;
+    }
+    true
+}
+
+// Whether the places from `count` on hold what they held before.
+fn rest_kept(list: &[u32; 6], count: usize) -> bool {
+    for k in 0..6 {
+        if k >= count && list[k] != 77 {
+            return false;
+        }
+    }
+    true
+}
+
+// Whether the first `count` places hold the places of the ones of `changes`, rising, and the others what they held before.
+fn list_is(list: &[u32; 6], count: usize, changes: u32) -> bool {
+    let mut rest = changes;
+    let mut at: usize = 0;
+    for k in 0..14u32 {
+        if rest % 2 == 1 {
+            if at > 3 {
+                return false;
+            }
+            if list[at] != k {
+                return false;
+            }
+            at = at + 1;
+        }
+        rest = rest / 2;
+    }
+    at == count && rest_kept(list, at)
+}
+
+// What the mended stretches of a survey were.
+struct Tally {
+    mended: u32,
+    refused: u32,
+    wrong: u32,
+}
+
+fn add(t: Tally, mended: bool, right: bool) -> Tally {
+    if !right {
+        return Tally {
+            mended: t.mended,
+            refused: t.refused,
+            wrong: t.wrong % 10000000 + 1,
+        };
+    }
+    if mended {
+        return Tally {
+            mended: t.mended % 10000000 + 1,
+            refused: t.refused,
+            wrong: t.wrong,
+        };
+    }
+    Tally {
+        mended: t.mended,
+        refused: t.refused % 10000000 + 1,
+        wrong: t.wrong,
+    }
+}
+
+// Mends the stored stretch of `steps` steps, and compares with what the search found.
+fn judge(
+    t: Tally,
+    stored: u32,
+    steps: usize,
+    start: u8,
+    end: u8,
+    near: Near,
+    decisions: &mut [u64; 4226],
+) -> Tally {
+    let bits = unpack(stored);
+    let mut out = [9u8; 14];
+    let mut list = [77u32; 6];
+    let n = steps % 8 * 2;
+    let m = mend::mend(front(&bits, n), start, end, decisions, &mut out, &mut list);
+    let answer = m.answer;
+    let number = refusal::number(answer);
+    let count = m.count;
+    if number == 15 {
+        return add(
+            t,
+            false,
+            near.count == 0 && count == 0 && out_is(&out, 0, 0) && list_is(&list, 0, 0),
+        );
+    }
+    add(
+        t,
+        true,
+        number == 0
+            && near.count == 1
+            && out_is(&out, near.bits, n)
+            && list_is(&list, count, near.bits ^ stored),
+    )
+}
+
+// All ends of one stored stretch.
+fn all_ends(
+    t: Tally,
+    stored: u32,
+    steps: usize,
+    start: u8,
+    bits: &[u32; 128],
+    ends: &[u8; 128],
+    decisions: &mut [u64; 4226],
+) -> Tally {
+    let mut tally = t;
+    let count = 1u32 << (steps % 8);
+    for end in 0..64u8 {
+        let near = search(stored, end, count, bits, ends);
+        let more = judge(tally, stored, steps, start, end, near, decisions);
+        tally = more;
+    }
+    tally
+}
+
+// Every stored stretch of so many steps, beside the search among the coded ones.
+fn all_stored(
+    steps: usize,
+    start: u8,
+    bits: &[u32; 128],
+    ends: &[u8; 128],
+    decisions: &mut [u64; 4226],
+) -> Tally {
+    let mut tally = Tally {
+        mended: 0,
+        refused: 0,
+        wrong: 0,
+    };
+    let most = 1u32 << (steps % 8 * 2);
+    for stored in 0..16384u32 {
+        if stored < most {
+            let more = all_ends(tally, stored, steps, start, bits, ends, decisions);
+            tally = more;
+        }
+    }
+    tally
+}
+
+fn survey(steps: usize, start: u8, decisions: &mut [u64; 4226]) {
+    let mut bits = [0u32; 128];
+    let mut ends = [0u8; 128];
+    send_all(start, (steps % 8) as u32, &mut bits, &mut ends);
+    let tally = all_stored(steps, start, &bits, &ends, decisions);
+    say(b"steps ", steps);
+    say(b" from ", start as usize);
+    say(b" to every end: mended ", tally.mended as usize);
+    say(b", refused by 15 ", tally.refused as usize);
+    say(b", otherwise than the search ", tally.wrong as usize);
+    put(b'\n');
+}
+
+// Fills the words anew.
+fn fill(decisions: &mut [u64; 4226]) {
+    for k in 0..4226 {
+        decisions[k] = 7;
+    }
+}
+
+// How many of the words are 0.
+fn zeros(decisions: &[u64; 4226]) -> usize {
+    let mut n: usize = 0;
+    for k in 0..4226 {
+        if decisions[k] == 0 {
+            n = n % 10000 + 1;
+        }
+    }
+    n
+}
+
+fn put_out(out: &[u8; 14]) {
+    for k in 0..14 {
+        put(b'0' + out[k] % 10);
+    }
+}
+
+fn put_position(place: u32) {
+    say(b" ", place as usize);
+}
+
+fn put_list(list: &[u32; 6]) {
+    for k in 0..6 {
+        put_position(list[k]);
+    }
+}
+
+// The answer, and how many bits were changed.
+fn put_answer(m: Mended) {
+    let answer = m.answer;
+    say(b": answer ", refusal::number(answer) as usize);
+    say(b", changed ", m.count);
+}
+
+// The list whole, and the words that became 0.
+fn put_lent(list: &[u32; 6], decisions: &[u64; 4226]) {
+    io::write_all(1, b", list");
+    put_list(list);
+    say(b", words of 0: ", zeros(decisions));
+    put(b'\n');
+}
+
+// One stretch, with all that was lent.
+fn show(stored: u32, steps: usize, start: u8, end: u8, decisions: &mut [u64; 4226]) {
+    fill(decisions);
+    let bits = unpack(stored);
+    let mut out = [9u8; 14];
+    let mut list = [77u32; 6];
+    let n = steps % 8 * 2;
+    let m = mend::mend(front(&bits, n), start, end, decisions, &mut out, &mut list);
+    say(b"steps ", steps);
+    say(b" from ", start as usize);
+    say(b" to ", end as usize);
+    put_answer(m);
+    io::write_all(1, b", output ");
+    put_out(&out);
+    put_lent(&list, decisions);
+}
+
+fn cases(decisions: &mut [u64; 4226]) {
+    show(0, 0, 67, 3, decisions);
+    show(0, 0, 3, 4, decisions);
+    show(0, 1, 0, 32, decisions);
+    show(0, 1, 0, 1, decisions);
+    show(23, 7, 0, 0, decisions);
+    show(55, 7, 0, 0, decisions);
+    show(119, 7, 128, 192, decisions);
+}
+
+// The answer of the first n bits from state 0 to state 0, where the output, the list and the words are so long.
+fn answer_of(
+    bits: &[u8],
+    n: usize,
+    out: &mut [u8],
+    places: usize,
+    list: &mut [u32],
+    positions: usize,
+    decisions: &mut [u64],
+    words: usize,
+) -> u32 {
+    if n > bits.len() {
+        return 99;
+    }
+    if places > out.len() {
+        return 99;
+    }
+    if positions > list.len() {
+        return 99;
+    }
+    if words > decisions.len() {
+        return 99;
+    }
+    let m = mend::mend(
+        &bits[..n],
+        0,
+        64,
+        &mut decisions[..words],
+        &mut out[..places],
+        &mut list[..positions],
+    );
+    let answer = m.answer;
+    refusal::number(answer)
+}
+
+// The row of a stretch whose first byte is `first`.
+fn row(
+    n: usize,
+    first: u8,
+    places: usize,
+    positions: usize,
+    words: usize,
+    bits: &mut [u8; 8194],
+    out: &mut [u8; 8194],
+    decisions: &mut [u64; 4226],
+) {
+    let mut list = [77u32; 4];
+    bits[0] = first;
+    let answer = answer_of(bits, n, out, places, &mut list, positions, decisions, words);
+    say(b"bits ", n);
+    say(b", the first ", first as usize);
+    say(b", output ", places);
+    say(b", list ", positions);
+    say(b", words ", words);
+    say(b": answer ", answer as usize);
+    put(b'\n');
+}
+
+fn rows_on(bits: &mut [u8; 8194], out: &mut [u8; 8194], decisions: &mut [u64; 4226]) {
+    row(3, 0, 8194, 4, 4224, bits, out, decisions);
+    row(8194, 0, 8194, 4, 4224, bits, out, decisions);
+    row(8192, 0, 8192, 4, 4224, bits, out, decisions);
+    row(14, 2, 14, 4, 4224, bits, out, decisions);
+    row(14, 2, 13, 3, 4223, bits, out, decisions);
+    row(14, 0, 13, 4, 4224, bits, out, decisions);
+    row(14, 0, 14, 3, 4224, bits, out, decisions);
+    row(14, 0, 14, 4, 4223, bits, out, decisions);
+    row(2, 1, 1, 4, 4224, bits, out, decisions);
+    row(0, 0, 0, 4, 4224, bits, out, decisions);
+}
+
+fn rows(decisions: &mut [u64; 4226]) {
+    let mut bits = [0u8; 8194];
+    let mut out = [9u8; 8194];
+    rows_on(&mut bits, &mut out, decisions);
+}
+
+// The coded bits of 4,096 inputs from the state 5. The state that they lead to.
+fn encode_long(bits: &mut [u8; 8192]) -> u8 {
+    let mut enc = ConvEncoder { state: 5 };
+    for t in 0..4096usize {
+        let pushed = enc.push((t / 3 % 2) as u8);
+        bits[2 * t] = pushed.x;
+        bits[2 * t + 1] = pushed.y;
+        let after = pushed.enc;
+        enc = after;
+    }
+    enc.state()
+}
+
+fn flip(bits: &mut [u8; 8192], k: usize) {
+    if k < 8192 {
+        bits[k] = 1 - bits[k] % 2;
+    }
+}
+
+// In how many places two stretches differ.
+fn unlike(a: &[u8; 8192], b: &[u8; 8192]) -> usize {
+    let mut n: usize = 0;
+    for k in 0..8192 {
+        if a[k] != b[k] {
+            n = n % 10000 + 1;
+        }
+    }
+    n
+}
+
+// Makes the first `wrong` of the places 8191, 4096, 1, 0 and 8190 wrong.
+fn spoil(bits: &mut [u8; 8192], wrong: usize) {
+    let places = [8191usize, 4096, 1, 0, 8190];
+    for k in 0..5 {
+        if k < wrong {
+            flip(bits, places[k]);
+        }
+    }
+}
+
+// 4,096 steps with so many wrong bits.
+fn long(
+    wrong: usize,
+    sent: &mut [u8; 8192],
+    bits: &mut [u8; 8192],
+    out: &mut [u8; 8192],
+    decisions: &mut [u64; 4226],
+) {
+    fill(decisions);
+    let end = encode_long(sent);
+    encode_long(bits);
+    spoil(bits, wrong);
+    let mut list = [77u32; 6];
+    let m = mend::mend(bits, 5, end, decisions, out, &mut list);
+    say(b"steps 4096, wrong bits ", wrong);
+    put_answer(m);
+    say(b", output unlike what was sent in ", unlike(out, sent));
+    put_lent(&list, decisions);
+}
+
+fn longs(decisions: &mut [u64; 4226]) {
+    let mut sent = [0u8; 8192];
+    let mut bits = [0u8; 8192];
+    let mut out = [9u8; 8192];
+    long(5, &mut sent, &mut bits, &mut out, decisions);
+    long(4, &mut sent, &mut bits, &mut out, decisions);
+    long(1, &mut sent, &mut bits, &mut out, decisions);
+    long(0, &mut sent, &mut bits, &mut out, decisions);
+}
+
+// Up to 7 steps.
+fn surveys(decisions: &mut [u64; 4226]) {
+    for n in 0..8usize {
+        survey(n, 0, decisions);
+    }
+}
+
+// Up to 5 steps from another start.
+fn other_start(decisions: &mut [u64; 4226]) {
+    for n in 0..6usize {
+        survey(n, 45, decisions);
+    }
+}
+
+fn main() {
+    let mut decisions = [7u64; 4226];
+    cases(&mut decisions);
+    rows(&mut decisions);
+    longs(&mut decisions);
+    surveys(&mut decisions);
+    other_start(&mut decisions);
+}
