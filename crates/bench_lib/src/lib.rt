@@ -5,6 +5,7 @@ mod compare;
 mod demonstration;
 mod full;
 mod make;
+mod mend;
 mod read;
 mod series;
 mod setting;
@@ -67,6 +68,10 @@ fn run_on(
     }
     if same(command, b"series") {
         series::series(line, re, im, decisions, bits, bytes);
+        return;
+    }
+    if same(command, b"mend") {
+        mend::mend(line, decisions, load, bytes);
         return;
     }
     if is_help(command) {

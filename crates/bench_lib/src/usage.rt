@@ -28,6 +28,9 @@ fn usage_commands() {
     text(
         b"  bench series WINDOW TABLE MAPPING KIND FRAME..                   strained steps of each FRAME; total and greatest of the last WINDOW\n",
     );
+    text(
+        b"  bench mend START END BITS OUT                                    coded bits of BITS to the coded stretch within four bits in OUT\n",
+    );
     text(b"  bench help                                                       these words\n");
     text(
         b"  bench version                                                    the version of the program\n",
@@ -51,6 +54,9 @@ fn usage_words() {
     text(b"  WINDOW   how many of the last frames are summed, 1 to 256\n");
     text(
         b"  SCALES   scale N for all, or scales A,B,C,D,E,F,G in the order of words 1 to 7; 8 where they are not given\n",
+    );
+    text(
+        b"  START, END, BITS    states, taken mod 64; coded bits X, Y of up to 4,096 steps, a byte of 0 or 1 for each\n",
     );
     text(b"  N        a number as 8 or 0.5, up to three digits before and after the point\n");
 }

@@ -232,6 +232,28 @@ fn wanted_refused() {
     bench(b"bytes 7:44,1:4 001 first main.cf64");
 }
 
+fn stretches() {
+    note(b"seven steps from state 0 to state 0, ones at places 0, 1, 2 and 4");
+    bench(b"mend 0 0 stretch mended");
+    bench(b"mend 64 128 mended mended_again");
+    note(b"place 5 becomes 1");
+    patch(b"stretch", 5, b"\x01");
+    bench(b"mend 0 0 stretch none");
+    note(b"place 6 becomes 1");
+    patch(b"stretch", 6, b"\x01");
+    bench(b"mend 0 0 stretch mended");
+    bench(b"mend 0 0 mended mended_again");
+    bench(b"mend 0 1 stretch none");
+    note(b"place 3 becomes 2");
+    patch(b"stretch", 3, b"\x02");
+    bench(b"mend 0 0 stretch none");
+    bench(b"mend 0 0 load none");
+    bench(b"mend 0 0 mended ./mended");
+    bench(b"mend 0 0 missing none");
+    bench(b"mend 0 x mended none");
+    bench(b"mend 0 0 mended");
+}
+
 fn misuse() {
     bench(b"make 7:44 001 first load");
     bench(b"read 7:44,1:x 001 first frame.cf64 none");
@@ -261,6 +283,7 @@ fn main() {
     strained();
     series();
     full_frames();
+    stretches();
     refusals();
     differences();
     damaged();

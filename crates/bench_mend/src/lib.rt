@@ -1,0 +1,114 @@
+// The bench program's command on stored coded stretches: mend.
+use bench_files::files;
+use bench_words::report;
+use bench_words::text::count;
+use bench_words::text::quoted;
+use bench_words::text::text;
+use bench_words::words::front;
+use bench_words::words::part;
+use refusal::Answer;
+
+// A file of n bits, by what it holds and its name.
+fn bits_of(kind: &[u8], name: &[u8], n: usize) {
+    text(kind);
+    text(b" ");
+    quoted(name);
+    text(b": ");
+    count(n);
+    text(b" bits\n");
+}
+
+// A position in words.
+fn position(place: u32) {
+    if place % 2 == 0 {
+        text(b"  X of step ");
+    } else {
+        text(b"  Y of step ");
+    }
+    count((place / 2) as usize);
+    text(b"\n");
+}
+
+fn position_at(list: [u32; 4], n: usize, i: usize) {
+    if i < n {
+        if i < 4 {
+            position(list[i]);
+        }
+    }
+}
+
+// How many bits were changed, and which.
+fn changes(list: [u32; 4], n: usize) {
+    if n == 0 {
+        text(b"no bit is changed\n");
+        return;
+    }
+    text(b"bits changed: ");
+    count(n);
+    text(b"\n");
+    position_at(list, n, 0);
+    position_at(list, n, 1);
+    position_at(list, n, 2);
+    position_at(list, n, 3);
+}
+
+// The last line of a call that was turned back.
+fn refuse(answer: Answer) {
+    match answer {
+        Answer::Length => {
+            report::refused(answer);
+            text(b"a stretch is bytes of 0 or 1, two for each of at most 4,096 steps\n");
+        }
+        Answer::Unmendable => {
+            report::refused(answer);
+            text(b"no coded stretch between these states lies within four bits\n");
+        }
+        _ => report::refuse(answer),
+    }
+}
+
+// Mends a stretch, and writes it.
+fn mend_read(
+    stored: &[u8],
+    start: u8,
+    end: u8,
+    output: &[u8],
+    decisions: &mut [u64; 4224],
+    out: &mut [u8; 9745],
+) {
+    let mut list = [0u32; 4];
+    let m = mend::mend(stored, start, end, decisions, out, &mut list);
+    let answer = m.answer;
+    if refusal::number(answer) != 0 {
+        refuse(answer);
+        return;
+    }
+    changes(list, m.count);
+    if files::write_bytes(output, front(out, stored.len())) {
+        bits_of(b"mended", output, stored.len());
+        text(b"ok\n");
+    }
+}
+
+// bench mend START END BITS OUT, on lent space for the bits.
+pub fn mend(
+    line: &[u8],
+    start: u8,
+    end: u8,
+    decisions: &mut [u64; 4224],
+    bits: &mut [u8; 9745],
+    out: &mut [u8; 9745],
+) {
+    let input = part(line, 0, 3);
+    let output = part(line, 0, 4);
+    let file = files::open_for(input, output);
+    if file < 0 {
+        return;
+    }
+    let got = files::read_bytes(file, input, bits);
+    if !got.well {
+        return;
+    }
+    bits_of(b"stretch", input, got.count);
+    mend_read(front(bits, got.count), start, end, output, decisions, out);
+}
