@@ -95,6 +95,18 @@ fn front<'a>(s: &'a [u8], n: usize) -> &'a [u8] {
     if n <= s.len() { &s[0..n] } else { &s[0..0] }
 }
 
+// The call, named once: its code is then compiled once.
+fn mend_stretch(
+    bits: &[u8],
+    start: u8,
+    end: u8,
+    decisions: &mut [u64],
+    out: &mut [u8],
+    list: &mut [u32],
+) -> Mended {
+    mend::mend(bits, start, end, decisions, out, list)
+}
+
 // Whether the first `count` places hold the bits of `sent`, and the others what they held before.
 fn out_is(out: &[u8; 14], sent: u32, count: usize) -> bool {
     let mut rest = sent;
@@ -183,7 +195,7 @@ fn judge(
     let mut out = [9u8; 14];
     let mut list = [77u32; 6];
     let n = steps % 8 * 2;
-    let m = mend::mend(front(&bits, n), start, end, decisions, &mut out, &mut list);
+    let m = mend_stretch(front(&bits, n), start, end, decisions, &mut out, &mut list);
     let answer = m.answer;
     let number = refusal::number(answer);
     let count = m.count;
@@ -316,7 +328,7 @@ fn show(stored: u32, steps: usize, start: u8, end: u8, decisions: &mut [u64; 422
     let mut out = [9u8; 14];
     let mut list = [77u32; 6];
     let n = steps % 8 * 2;
-    let m = mend::mend(front(&bits, n), start, end, decisions, &mut out, &mut list);
+    let m = mend_stretch(front(&bits, n), start, end, decisions, &mut out, &mut list);
     say(b"steps ", steps);
     say(b" from ", start as usize);
     say(b" to ", end as usize);
@@ -359,7 +371,7 @@ fn answer_of(
     if words > decisions.len() {
         return 99;
     }
-    let m = mend::mend(
+    let m = mend_stretch(
         &bits[..n],
         0,
         64,
@@ -466,7 +478,7 @@ fn long(
     encode_long(bits);
     spoil(bits, wrong);
     let mut list = [77u32; 6];
-    let m = mend::mend(bits, 5, end, decisions, out, &mut list);
+    let m = mend_stretch(bits, 5, end, decisions, out, &mut list);
     say(b"steps 4096, wrong bits ", wrong);
     put_answer(m);
     say(b", output unlike what was sent in ", unlike(out, sent));

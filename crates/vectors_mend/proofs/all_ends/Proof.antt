@@ -3,10 +3,6 @@ use Prim.Native.Nat.{_-_, _≤_}
 use borrow.Author.Needs.{needs}
 use Rattle.vectors_mend.proofs.all_ends.Statement.{statement}
 use Rattle.vectors_mend.proofs.all_ends.Tie as tie
-use Rattle.vectors_mend.proofs.all_ends.Reads as reads
-use Rattle.vectors_mend.proofs.all_ends.Lts as lts
-use Rattle.vectors_mend.proofs.judge.Reads as judge-reads
-use Rattle.vectors_mend.proofs.search.Reads as search-reads
 
 abbrev Inv-loop : tie.InvT-loop
 Inv-loop stored steps start bits ends decisions₀ tally₀ count end₀ decisions tally end = end ≤ 64
@@ -14,39 +10,30 @@ Inv-loop stored steps start bits ends decisions₀ tally₀ count end₀ decisio
 abbrev μ-loop : tie.MeasureT-loop
 μ-loop stored steps start bits ends decisions₀ tally₀ count end₀ decisions tally end = 64 - end
 
--- src/main.rt:218:26
 cast-count : tie.Need-cast-count Inv-loop μ-loop
 cast-count c = search needs
 
--- src/main.rt:218:17
 shl-count : tie.Need-shl-count Inv-loop μ-loop
 shl-count c = search needs
 
--- src/main.rt:219:5
 loop-holds : tie.Need-loop-holds Inv-loop μ-loop
 loop-holds c = search needs
 
--- src/main.rt:220:13
 search-requires : tie.Need-search-requires Inv-loop μ-loop
 search-requires c κs = search needs
 
--- src/main.rt:221:13
 judge-requires : tie.Need-judge-requires Inv-loop μ-loop
 judge-requires c κs = search needs
 
--- src/main.rt:219:9
 add-end : tie.Need-add-end Inv-loop μ-loop
 add-end c = search needs
 
--- src/main.rt:219:5
 loop-less : tie.Need-loop-less Inv-loop μ-loop
 loop-less c = search needs
 
--- src/main.rt:219:5
 loop-again : tie.Need-loop-again Inv-loop μ-loop
 loop-again c = search needs
 
--- src/main.rt:208:1
 returns : tie.Need-returns Inv-loop μ-loop
 returns c = search needs
 

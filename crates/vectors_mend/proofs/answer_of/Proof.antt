@@ -17,29 +17,29 @@ returns-3 c = search needs
 returns-4 : tie.Need-returns-4
 returns-4 c = search needs
 
-slice-aggregate-mend : tie.Need-slice-aggregate-mend
-slice-aggregate-mend c = let a = c .before .before .before .before .before .before .before .before .before .args in sym (length-take-le (a .n) (a .bits .now) (search needs))
+slice-aggregate-mend-stretch : tie.Need-slice-aggregate-mend-stretch
+slice-aggregate-mend-stretch c = let a = c .before .before .before .before .before .before .before .before .before .args in sym (length-take-le (a .n) (a .bits .now) (search needs))
 
-slice-relend-prefix-mend : tie.Need-slice-relend-prefix-mend
-slice-relend-prefix-mend c = search needs
+slice-relend-prefix-mend-stretch : tie.Need-slice-relend-prefix-mend-stretch
+slice-relend-prefix-mend-stretch c = search needs
 
-slice-aggregate-mend-2 : tie.Need-slice-aggregate-mend-2
-slice-aggregate-mend-2 c = let a = c .before .before .before .before .before .before .before .before .before .before .args in sym (length-take-le (a .words) (a .decisions .now) (search needs))
+slice-aggregate-mend-stretch-2 : tie.Need-slice-aggregate-mend-stretch-2
+slice-aggregate-mend-stretch-2 c = let a = c .before .before .before .before .before .before .before .before .before .before .args in sym (length-take-le (a .words) (a .decisions .now) (search needs))
 
-slice-relend-prefix-mend-2 : tie.Need-slice-relend-prefix-mend-2
-slice-relend-prefix-mend-2 c = search needs
+slice-relend-prefix-mend-stretch-2 : tie.Need-slice-relend-prefix-mend-stretch-2
+slice-relend-prefix-mend-stretch-2 c = search needs
 
-slice-aggregate-mend-3 : tie.Need-slice-aggregate-mend-3
-slice-aggregate-mend-3 c = let a = c .before .before .before .before .before .before .before .before .before .before .before .args in sym (length-take-le (a .places) (a .out .now) (search needs))
+slice-aggregate-mend-stretch-3 : tie.Need-slice-aggregate-mend-stretch-3
+slice-aggregate-mend-stretch-3 c = let a = c .before .before .before .before .before .before .before .before .before .before .before .args in sym (length-take-le (a .places) (a .out .now) (search needs))
 
-slice-relend-prefix-mend-3 : tie.Need-slice-relend-prefix-mend-3
-slice-relend-prefix-mend-3 c = search needs
+slice-relend-prefix-mend-stretch-3 : tie.Need-slice-relend-prefix-mend-stretch-3
+slice-relend-prefix-mend-stretch-3 c = search needs
 
-slice-aggregate-mend-4 : tie.Need-slice-aggregate-mend-4
-slice-aggregate-mend-4 c = let a = c .before .before .before .before .before .before .before .before .before .before .before .before .args in sym (length-take-le (a .positions) (a .list .now) (search needs))
+slice-aggregate-mend-stretch-4 : tie.Need-slice-aggregate-mend-stretch-4
+slice-aggregate-mend-stretch-4 c = let a = c .before .before .before .before .before .before .before .before .before .before .before .before .args in sym (length-take-le (a .positions) (a .list .now) (search needs))
 
-mend-requires : tie.Need-mend-requires
-mend-requires c κs = search needs
+mend-stretch-requires : tie.Need-mend-stretch-requires
+mend-stretch-requires c κs = search needs
 
 number-requires : tie.Need-number-requires
 number-requires c κs = search needs
@@ -64,14 +64,14 @@ answer-of-spec =
     returns-2
     returns-3
     returns-4
-    slice-aggregate-mend
-    slice-relend-prefix-mend
-    slice-aggregate-mend-2
-    slice-relend-prefix-mend-2
-    slice-aggregate-mend-3
-    slice-relend-prefix-mend-3
-    slice-aggregate-mend-4
-    mend-requires
+    slice-aggregate-mend-stretch
+    slice-relend-prefix-mend-stretch
+    slice-aggregate-mend-stretch-2
+    slice-relend-prefix-mend-stretch-2
+    slice-aggregate-mend-stretch-3
+    slice-relend-prefix-mend-stretch-3
+    slice-aggregate-mend-stretch-4
+    mend-stretch-requires
     number-requires
     same-length
     same-length-2
