@@ -1,0 +1,1 @@
+// Overlaying two test patterns. Definitions and theorems in specs/, no code.
