@@ -6,15 +6,16 @@ use mathlib.Core.List.{List, [], _∷_}
 use Prim.Native.Nat.{ℕ, zero, suc, _+_, _-_, _*_, _/_, _%_, _^_, _<_}
 use native.Mathlib.Omega.{arith}
 use lib.Bits.{bitXor, xor-block, xor-lt}
-use lib.ListN.{length, length-map}
+use lib.ListN.{length}
 use Rattle.trellis.specs.Code as trellis
 use Rattle.trellis.specs.Code.{half, output, label, moved}
-use Rattle.trellis.specs.Encoded.{encoded, reached, length-encoded}
+use Rattle.trellis.specs.Encoded.{encoded, reached}
 use Rattle.trellis.specs.Linear.{xor-low, xor-bit, output-xor, moved-xor}
 use Rattle.short_code.specs.declared.Code.{Code}
 use Rattle.short_code.specs.Codes.{codeOf, halfOf, statesOf, goodCode}
 use Rattle.short_code.specs.CodeLaws.{states-are, good-length}
 use Rattle.short_fec.specs.Calls.{lowBits, parts}
+use Rattle.short_encode.specs.Encoding.{length-coded}
 use Rattle.overlay.specs.Overlaid.{overlaid, chosen, length-overlaid, chosen-overlaid, parts-overlaid}
 
 -- ---- definitions
@@ -117,14 +118,8 @@ overlays c us vs s r e hs hr =
       end = reached-overlaid c us vs s r e hs hr;
     }
 
-length-parts : (ls : List ℕ) → length (parts ls) ≡ 2 * length ls
-unfolding parts
-length-parts [] = refl
-length-parts (l ∷ ls) = let i = length-parts ls in omega arith
-
 pub length-outputs : (c : trellis.Code) (s : ℕ) (us : List ℕ) → length (outputsOf c s us) ≡ 2 * length us
-length-outputs c s us =
-    length-parts (encoded c s (lowBits us)) ∙ ap (λ (n : ℕ). 2 * n) (length-encoded c s (lowBits us) ∙ length-map us (λ u. u % 2))
+length-outputs c s us = length-coded (record { constraint = c .constraint; g1 = c .g1; g2 = c .g2 }) s us
 
 -- and of any choice of the coded bits, in any order: what a puncturing keeps
 pub overlays-chosen : (c : trellis.Code) (us vs : List ℕ) (s r : ℕ) → length us ≡ length vs → s < 2 * half c → r < 2 * half c → (ps : List ℕ)
