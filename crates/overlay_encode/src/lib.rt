@@ -8,7 +8,7 @@ ghost use Rattle.refusal.specs.Rows.{firstRow, Either};
 ghost use Rattle.trellis.specs.Lists.{laid};
 ghost use Rattle.short_code.specs.Codes.{goodCode, statesOf};
 ghost use Rattle.overlay.specs.Overlaid.{overlaid};
-ghost use Rattle.overlay_encode.specs.Rows.{shortOutputs, overlayRows};
+ghost use Rattle.overlay_encode.specs.Rows.{stringRows, shortOutputs, overlayRows};
 ghost use Rattle.overlay_encode.specs.Calls.{lent, Three, Encodes, Unencoded, Overlays};
 use isdb_fec::conv::ConvEncoder;
 use refusal::Answer;
@@ -89,13 +89,28 @@ fn answer_overlay(
 }
 
 // The exclusive-or of two strings of equal length, at the front of `ws`.
-fn overlay(us: &[u8], vs: &[u8], ws: &mut [u8])
+fn lay_overlaid(us: &[u8], vs: &[u8], ws: &mut [u8])
     requires { ⌜ (length (now us) ≡ length (now vs)) × (length (now us) ≤ length (now ws)) ⌝ }
     ensures { λ _. ⌜ now (ws .exit) ≡ laid (overlaid (now (us .entry)) (now (vs .entry))) (now (ws .entry)) ⌝ }
 {
     for i in 0..us.len() {
         ws[i] = us[i] ^ vs[i];
     }
+}
+
+// The exclusive-or of two strings of equal length, byte by byte, at the front of `ws`.
+pub fn overlay(us: &[u8], vs: &[u8], ws: &mut [u8]) -> Answer
+    ensures answers { λ a. ⌜ a ≡ firstRow (stringRows (length (now (us .entry))) (length (now (vs .entry))) (length (now (ws .entry)))) ⌝ }
+    ensures bytes { λ a. ⌜ Either a (now (ws .exit) ≡ laid (overlaid (now (us .entry)) (now (vs .entry))) (now (ws .entry))) (now (ws .exit) ≡ now (ws .entry)) ⌝ }
+{
+    if us.len() != vs.len() {
+        return Answer::Length;
+    }
+    if ws.len() < us.len() {
+        return Answer::Space;
+    }
+    lay_overlaid(us, vs, ws);
+    Answer::Accepted
 }
 
 // The strings `us` and `vs` from their states, and their exclusive-or, the string `ws`, from the exclusive-or of the states.
@@ -170,6 +185,6 @@ pub fn encode_overlaid(
             third: ConvEncoder { state: 0 },
         };
     };
-    overlay(us, vs, ws);
+    lay_overlaid(us, vs, ws);
     encode_three(code, s, r, us, vs, &ws[0..n], out1, out2, out3)
 }

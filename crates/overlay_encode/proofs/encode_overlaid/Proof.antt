@@ -28,8 +28,8 @@ returns c =
       ),
     )
 
-overlay-requires : tie.Need-overlay-requires
-overlay-requires c κs =
+lay-overlaid-requires : tie.Need-lay-overlaid-requires
+lay-overlaid-requires c κs =
     let yes = c .before in
     let asked = yes .before .before in
     let a = asked .before .before .before .before .before .before .before .args in
@@ -57,7 +57,7 @@ encode-three-requires c κs =
     let asked = yes .before .before in
     let a = asked .before .before .before .before .before .before .before .args in
     let e = enough (a .code) (a .first .state) (a .second .state) (length (a .us .now)) (length (a .vs .now)) (length (a .ws .now)) (length (a .out1 .now)) (length (a .out2 .now)) (length (a .out3 .now)) (sym (yes .enum-told .given .1) ∙ asked .answer-overlay .ensures) in
-    let laid = c .before .before .before .before .before .before .before .overlay in
+    let laid = c .before .before .before .before .before .before .before .lay-overlaid in
     asks (a .code) (a .first .state) (a .second .state) (a .us .now) (a .vs .now) (a .ws .now) (laid .last .1 .1 .0) (length (a .out1 .now)) (length (a .out2 .now)) (length (a .out3 .now)) e (laid .ensures)
 
 same-length : tie.Need-same-length
@@ -86,7 +86,7 @@ returns-2 c =
     (lent (three .last .1 .1 .1 .1 .1 .1 .0) (three .last .1 .1 .1 .1 .1 .1 .1 .0) (three .last .1 .1 .1 .1 .1 .1 .1 .1 .0)) (e .good) (e .first-state) (e .second-state) (e .long) (three .ensures .1) in (
       ok ∙ sym (yes .enum-told .given .1) ∙ asked .answer-overlay .ensures,
       (
-        ((λ y. laid .overlay .ensures), (λ never. absurd (never ok))),
+        ((λ y. laid .lay-overlaid .ensures), (λ never. absurd (never ok))),
         (((λ y. three .ensures .1), (λ never. absurd (never ok))), λ y. law),
       ),
     )
@@ -98,7 +98,7 @@ encode-overlaid-spec =
     answer-overlay-requires
     enum-told
     returns
-    overlay-requires
+    lay-overlaid-requires
     sub-encode-three
     part-encode-three-start
     part-encode-three-end
