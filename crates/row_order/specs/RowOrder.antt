@@ -21,6 +21,7 @@ use Rattle.known_end.specs.Calls.{betweenRows}
 use Rattle.short_code.specs.declared.Code.{Code}
 use Rattle.short_fec.specs.Rows as short
 use Rattle.short_best.specs.Readings as short-best
+use Rattle.overlay_encode.specs.Rows.{stringRows, overlayRows}
 use Rattle.full_frame.specs.declared.Input.{Input}
 use Rattle.full_frame.specs.Rows.{layRows, takeRows}
 use Rattle.wanted_load.specs.Rows.{wantedRows}
@@ -81,6 +82,9 @@ module _ (t : Table) (v : ViterbiDecoder) (c : Code) (w : WindowState) (parts : 
       ∷ short.flushRows c v i j
       -- short_best
       ∷ short-best.readingRows c xs i j
+      -- overlay_encode
+      ∷ stringRows i j k
+      ∷ overlayRows c i j k l i j k l
       -- full_frame
       ∷ layRows parts parts re im
       ∷ takeRows re im parts parts
