@@ -1,0 +1,106 @@
+// The bench program's command overlay: the exclusive-or of two loads.
+use bench_files::files;
+use bench_files::files::Got;
+use bench_words::report;
+use bench_words::text::count;
+use bench_words::text::quoted;
+use bench_words::text::text;
+use bench_words::words::front;
+use bench_words::words::part;
+use refusal::Answer;
+
+// The most bytes of a load.
+const MOST: usize = 9744;
+
+// What was read of a file.
+fn bytes_of(name: &[u8], n: usize) {
+    text(b"load ");
+    quoted(name);
+    if n > MOST {
+        text(b": more than 9,744 bytes\n");
+        return;
+    }
+    text(b": ");
+    count(n);
+    text(b" bytes\n");
+}
+
+// Reads an input, where the output may be written.
+fn read(input: &[u8], output: &[u8], bytes: &mut [u8; 9745]) -> Got {
+    let file = files::open_for(input, output);
+    if file < 0 {
+        return Got {
+            well: false,
+            count: 0,
+            over: 0,
+        };
+    }
+    let got = files::read_bytes(file, input, bytes);
+    if got.well {
+        bytes_of(input, got.count);
+    }
+    got
+}
+
+// Writes the exclusive-or.
+fn keep(name: &[u8], bytes: &[u8]) {
+    text(b"writing the exclusive-or\n");
+    if files::write_bytes(name, bytes) {
+        text(b"overlaid ");
+        quoted(name);
+        text(b": ");
+        count(bytes.len());
+        text(b" bytes\nok\n");
+    }
+}
+
+fn refuse(answer: Answer, why: &[u8]) {
+    report::refused(answer);
+    text(why);
+    text(b"\n");
+}
+
+// Overlays the first n and m bytes.
+fn overlay_read(
+    n: usize,
+    m: usize,
+    output: &[u8],
+    first: &[u8; 9745],
+    second: &[u8; 9745],
+    sum: &mut [u8; 9745],
+) {
+    if n > MOST || m > MOST {
+        refuse(Answer::Length, b"a load has at most 9,744 bytes");
+        return;
+    }
+    let answer = overlay_encode::overlay(front(first, n), front(second, m), sum);
+    match answer {
+        Answer::Accepted => keep(output, front(sum, n)),
+        Answer::Length => refuse(answer, b"the two files do not have equally many bytes"),
+        _ => report::refuse(answer),
+    }
+}
+
+fn overlay_files(
+    line: &[u8],
+    first: &mut [u8; 9745],
+    second: &mut [u8; 9745],
+    sum: &mut [u8; 9745],
+) {
+    let output = part(line, 0, 3);
+    let a = read(part(line, 0, 1), output, first);
+    if !a.well {
+        return;
+    }
+    let b = read(part(line, 0, 2), output, second);
+    if !b.well {
+        return;
+    }
+    overlay_read(a.count, b.count, output, first, second, sum);
+}
+
+// bench overlay LOAD1 LOAD2 OUT, on lent space for two loads.
+pub fn overlay(line: &[u8], first: &mut [u8; 9745], second: &mut [u8; 9745]) {
+    let mut sum = [0u8; 9745];
+    overlay_files(line, first, second, &mut sum);
+}
