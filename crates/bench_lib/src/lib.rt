@@ -6,6 +6,7 @@ mod demonstration;
 mod full;
 mod make;
 mod mend;
+mod overlay;
 mod read;
 mod series;
 mod setting;
@@ -72,6 +73,10 @@ fn run_on(
     }
     if same(command, b"mend") {
         mend::mend(line, decisions, load, bytes);
+        return;
+    }
+    if same(command, b"overlay") {
+        overlay::overlay(line, load, bytes);
         return;
     }
     if is_help(command) {

@@ -31,6 +31,9 @@ fn usage_commands() {
     text(
         b"  bench mend START END BITS OUT                                    coded bits of BITS to the coded stretch within four bits in OUT\n",
     );
+    text(
+        b"  bench overlay LOAD1 LOAD2 OUT                                    the exclusive-or of two loads to OUT\n",
+    );
     text(b"  bench help                                                       these words\n");
     text(
         b"  bench version                                                    the version of the program\n",
@@ -52,6 +55,7 @@ fn usage_words() {
         b"  HEADER, MAIN, BURST, FULL    192, 38,976, 768 and 39,936 points in the same forms as FRAME\n",
     );
     text(b"  WINDOW   how many of the last frames are summed, 1 to 256\n");
+    text(b"  LOAD1, LOAD2    raw bytes, equally many in both, up to 9,744\n");
     text(
         b"  SCALES   scale N for all, or scales A,B,C,D,E,F,G in the order of words 1 to 7; 8 where they are not given\n",
     );

@@ -254,6 +254,21 @@ fn stretches() {
     bench(b"mend 0 0 mended");
 }
 
+fn overlays() {
+    note(
+        b"the exclusive-or of the load and of what was read damaged, and of that and the load again",
+    );
+    bench(b"overlay load damaged difference");
+    bench(b"overlay difference load again");
+    bench(b"compare 7:44,1:4 damaged again");
+    bench(b"overlay load mixed none");
+    bench(b"overlay frame.cf64 load none");
+    bench(b"overlay load missing none");
+    bench(b"overlay load damaged ./load");
+    bench(b"overlay load damaged damaged");
+    bench(b"overlay load damaged");
+}
+
 fn misuse() {
     bench(b"make 7:44 001 first load");
     bench(b"read 7:44,1:x 001 first frame.cf64 none");
@@ -290,5 +305,6 @@ fn main() {
     wanted();
     wanted_damaged();
     wanted_refused();
+    overlays();
     misuse();
 }
