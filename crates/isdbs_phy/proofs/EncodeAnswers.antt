@@ -24,14 +24,6 @@ module _ (t : Table) (s a b : ℕ) where
   abbrev rest : List Row
   rest = (State, ltb 63 s) ∷ (Space, shortParts a b) ∷ []
 
-  -- the table's answer x has the number n: it refuses, or the rows below decide
-  module _ (x : Answer) (n : ℕ) (e : x ≡ tableAnswer t) (m : n ≡ numberOf x) where
-    pub table-refuses : (n ≡ 0 → ⊥) → x ≡ firstRow (encodeRows t s a b)
-    table-refuses z = refused-by (tableRows t) rest x e (λ y. z (m ∙ ap numberOf y))
-
-    pub table-passes : {y : Answer} → n ≡ 0 → y ≡ firstRow ((State, ltb 63 s) ∷ (Space, shortParts a b) ∷ []) → y ≡ firstRow (encodeRows t s a b)
-    table-passes z h = passed-by (tableRows t) rest (table-refusing t) (sym (zero-accepted x (sym m ∙ z)) ∙ e) h
-
   -- where all rows pass, none of their conditions holds
   pub rows-pass : (x : Answer) → x ≡ firstRow (encodeRows t s a b) → numberOf x ≡ 0 → TableAccepted t × (ltb 63 s ≡ false) × (ltb a 38976 ≡ false) × (ltb b 38976 ≡ false)
   rows-pass x e z =

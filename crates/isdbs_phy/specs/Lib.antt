@@ -1,3 +1,2 @@
 pub mod DecodeRows
 pub mod EncodeRows
-pub mod ScaleLaws

@@ -14,13 +14,12 @@
 // metrics for each coded bit, then the 16 bits of the next frame's W1, which it knows, and puts out all bits. For each (C1, C0) the two points of TC8PSK
 // lie opposite each other: the metric is the magnitude of the correlation with the one of C2 = 0, and C2 is read from its sign once the bits are known,
 // which are encoded again for it.
-pub use crate::answers::SCALE_LIMIT;
-use crate::answers::decode_answer;
+pub use frame_rows::SCALE_LIMIT;
+use frame_rows::decode_answer;
+use frame_rows::encode_answer;
 use isdb_fec::conv::ConvEncoder;
-use isdbs_core::frame::MAIN_SYMBOLS;
 use isdbs_core::slots::plan_of;
 use isdbs_core::tmcc::Table;
-use isdbs_core::tmcc::table_answer;
 pub use isdbs_decode::DemodOptions;
 use isdbs_encode::encode_main;
 pub use isdbs_points::Mapping;
@@ -42,26 +41,6 @@ ghost use Rattle.isdbs_phy.specs.EncodeRows.{encodeRows, encodeFrameRows
 ghost use Rattle.isdbs_metrics.specs.Steps.{received};
 ghost use Rattle.isdbs_decode.specs.Scales.{receivedBy};
 ghost use Rattle.strain.specs.Strain.{strainSum};
-
-// Whether encoding is turned back: the parts have a and b elements.
-fn encode_answer(t: Table, state: u8, a: usize, b: usize) -> Answer
-    ensures { λ r. ⌜ r ≡ firstRow (encodeRows t state a b) ⌝ }
-{
-    let first = table_answer(t);
-    if refusal::number(first) != 0 {
-        return first;
-    }
-    if state > 63 {
-        return Answer::State;
-    }
-    if a < MAIN_SYMBOLS {
-        return Answer::Space;
-    }
-    if b < MAIN_SYMBOLS {
-        return Answer::Space;
-    }
-    Answer::Accepted
-}
 
 // What encoding a frame answers: the encoder after the last bit, or as it was given.
 pub struct FrameEncoded {

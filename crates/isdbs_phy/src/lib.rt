@@ -1,5 +1,4 @@
 // Bytes to signal points, and signal points to bytes.
-mod answers;
 pub mod demod;
 
 pub use isdbs_points::Cplx;

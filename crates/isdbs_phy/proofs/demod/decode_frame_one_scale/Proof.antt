@@ -8,7 +8,7 @@ use Rattle.isdbs_metrics.specs.Reading.{Received}
 use Rattle.isdbs_decode.specs.Scales.{receivedBy}
 use Rattle.strain.specs.Strain.{strainSum}
 use Rattle.isdbs_phy.specs.DecodeRows.{decodeRows, oneScaleRows, frameAnswer, FrameLeft}
-use Rattle.isdbs_phy.specs.ScaleLaws.{equal-rows}
+use Rattle.frame_rows.specs.ScaleLaws.{equal-rows}
 use Rattle.isdbs_decode.specs.ScaleLaws.{equal-scales}
 use borrow.Author.Needs.{needs}
 use Rattle.isdbs_phy.proofs.demod.decode_frame_one_scale.Statement.{statement}

@@ -1,13 +1,13 @@
--- `answers::some_bad` meets its contract. Assumes nothing.
+-- `some_bad` meets its contract. Assumes nothing.
 use borrow.Author.Needs.{needs}
-use Rattle.isdbs_phy.proofs.Rows.{some-found, some-none}
-use Rattle.isdbs_phy.specs.DecodeRows.{someOf, badScale}
+use Rattle.frame_rows.proofs.Rows.{some-found, some-none}
+use Rattle.frame_rows.specs.DecodeRows.{someOf, badScale}
 use native.Mathlib.Omega.{arith}
 use Prim.Native.Nat.{_-_, _≤_}
 use mathlib.Core.Bool.{false}
 use mathlib.Core.Path.{_≡_, refl, sym, _∙_}
-use Rattle.isdbs_phy.proofs.answers.some_bad.Statement.{statement}
-use Rattle.isdbs_phy.proofs.answers.some_bad.Tie as tie
+use Rattle.frame_rows.proofs.some_bad.Statement.{statement}
+use Rattle.frame_rows.proofs.some_bad.Tie as tie
 
 abbrev Inv-loop : tie.InvT-loop
 Inv-loop scales i₀ i = (i ≤ 7) × (someOf badScale scales i ≡ false)

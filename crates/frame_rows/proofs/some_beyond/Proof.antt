@@ -1,14 +1,14 @@
--- `answers::some_beyond` meets its contract. Assumes nothing.
+-- `some_beyond` meets its contract. Assumes nothing.
 use borrow.Author.Needs.{needs}
-use Rattle.isdbs_phy.proofs.Rows.{some-found, some-none}
-use Rattle.isdbs_phy.specs.DecodeRows.{within, someOf, someBeyond}
+use Rattle.frame_rows.proofs.Rows.{some-found, some-none}
+use Rattle.frame_rows.specs.DecodeRows.{within, someOf, someBeyond}
 use lib.ListN.{length, getD, take, length-map}
 use native.Mathlib.Omega.{arith}
 use Prim.Native.Nat.{ℕ, _+_, _-_, _*_, _<_, _≤_}
 use mathlib.Core.Bool.{true, false, not}
 use mathlib.Core.Path.{_≡_, refl, sym, _∙_, ap}
-use Rattle.isdbs_phy.proofs.answers.some_beyond.Statement.{statement}
-use Rattle.isdbs_phy.proofs.answers.some_beyond.Tie as tie
+use Rattle.frame_rows.proofs.some_beyond.Statement.{statement}
+use Rattle.frame_rows.proofs.some_beyond.Tie as tie
 
 abbrev Inv-loop : tie.InvT-loop
 Inv-loop xs n limit i₀ i = (i ≤ n) × (someBeyond limit xs i ≡ false)

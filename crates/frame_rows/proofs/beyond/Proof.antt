@@ -1,6 +1,6 @@
--- `answers::beyond` meets its contract. Assumes nothing.
-use Rattle.isdbs_phy.proofs.answers.beyond.Statement.{statement}
-use Rattle.isdbs_phy.proofs.answers.beyond.Tie as tie
+-- `beyond` meets its contract. Assumes nothing.
+use Rattle.frame_rows.proofs.beyond.Statement.{statement}
+use Rattle.frame_rows.proofs.beyond.Tie as tie
 
 returns : tie.Need-returns
 returns c = rw (c .before .if1 .taken, c .if2 .taken)

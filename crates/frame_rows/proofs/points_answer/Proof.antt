@@ -1,15 +1,15 @@
--- `answers::points_answer` meets its contract. Assumes nothing.
+-- `points_answer` meets its contract. Assumes nothing.
 use Rattle.isdbs_core.specs.Frame.{mainSymbols}
 use borrow.Author.Tests.{lt-ltb, le-ltb, ltb-false}
 use lib.ListN.{length}
 use native.Mathlib.Omega.{arith}
 use Prim.Native.Nat.{ℕ, _+_, _<_, _≤_}
 use mathlib.Core.Bool.{true, false}
-use Rattle.isdbs_phy.specs.DecodeRows.{someBeyond, partLimit}
+use Rattle.frame_rows.specs.DecodeRows.{someBeyond, partLimit}
 use mathlib.Core.Path.{_≡_, refl, sym, _∙_, ap}
 use borrow.Author.Needs.{needs}
-use Rattle.isdbs_phy.proofs.answers.points_answer.Statement.{statement}
-use Rattle.isdbs_phy.proofs.answers.points_answer.Tie as tie
+use Rattle.frame_rows.proofs.points_answer.Statement.{statement}
+use Rattle.frame_rows.proofs.points_answer.Tie as tie
 
 returns : tie.Need-returns
 returns c = rw (lt-ltb _ _ (c .if1 .taken))

@@ -1,11 +1,11 @@
--- `answers::decode_answer` meets its contract. Assumes nothing.
+-- `decode_answer` meets its contract. Assumes nothing.
 use mathlib.Core.Path.{sym, _∙_}
 use Rattle.isdb_fec.specs.Told.{told}
-use Rattle.isdbs_phy.proofs.Rows.{by-table, by-points, by-last}
-use Rattle.isdbs_phy.specs.DecodeRows.{someBad}
+use Rattle.frame_rows.proofs.Rows.{by-table, by-points, by-last}
+use Rattle.frame_rows.specs.DecodeRows.{someBad}
 use borrow.Author.Needs.{needs}
-use Rattle.isdbs_phy.proofs.answers.decode_answer.Statement.{statement}
-use Rattle.isdbs_phy.proofs.answers.decode_answer.Tie as tie
+use Rattle.frame_rows.proofs.decode_answer.Statement.{statement}
+use Rattle.frame_rows.proofs.decode_answer.Tie as tie
 
 table-answer-requires : tie.Need-table-answer-requires
 table-answer-requires c κs = search needs

@@ -1,6 +1,7 @@
-// The rows of `decode_frame`, in the order of the table.
+// The answers of the frame calls by their rows, in the order of the table.
 use isdbs_core::frame::MAIN_SYMBOLS;
 use isdbs_core::slots::Plan;
+use isdbs_core::tmcc::Table;
 use isdbs_core::tmcc::table_answer;
 use isdbs_decode::WORDS;
 use isdbs_points::PART_LIMIT;
@@ -13,7 +14,8 @@ ghost use lib.ListN.{length};
 ghost use Rattle.refusal.specs.Rows.{firstRow};
 ghost use Rattle.isdbs_core.specs.Frame.{mainSymbols};
 ghost use Rattle.isdbs_core.specs.RunsOf.{planOf, Planned};
-ghost use Rattle.isdbs_phy.specs.DecodeRows.{within, someBeyond, partLimit, badScale, someBad, shortSpace, decodeRows};
+ghost use Rattle.frame_rows.specs.DecodeRows.{within, someBeyond, partLimit, badScale, someBad, shortSpace, decodeRows};
+ghost use Rattle.frame_rows.specs.EncodeRows.{encodeRows};
 
 // The greatest scale that is taken.
 pub const SCALE_LIMIT: f32 = 64.0;
@@ -105,7 +107,7 @@ fn space_answer(p: Plan, decisions: usize, bits: usize, bytes: usize, counts: us
 }
 
 // The answer of `decode_frame`, over the lengths of the lent outputs.
-pub(crate) fn decode_answer(
+pub fn decode_answer(
     p: Plan,
     re: &[f64],
     im: &[f64],
@@ -130,4 +132,24 @@ pub(crate) fn decode_answer(
         return Answer::Scale;
     }
     space_answer(p, decisions, bits, bytes, counts)
+}
+
+// The answer of `encode_frame_with_state`: the parts have a and b elements.
+pub fn encode_answer(t: Table, state: u8, a: usize, b: usize) -> Answer
+    ensures { λ r. ⌜ r ≡ firstRow (encodeRows t state a b) ⌝ }
+{
+    let first = table_answer(t);
+    if refusal::number(first) != 0 {
+        return first;
+    }
+    if state > 63 {
+        return Answer::State;
+    }
+    if a < MAIN_SYMBOLS {
+        return Answer::Space;
+    }
+    if b < MAIN_SYMBOLS {
+        return Answer::Space;
+    }
+    Answer::Accepted
 }

@@ -1,6 +1,6 @@
--- `answers::bad_scale` meets its contract. Assumes nothing.
-use Rattle.isdbs_phy.proofs.answers.bad_scale.Statement.{statement}
-use Rattle.isdbs_phy.proofs.answers.bad_scale.Tie as tie
+-- `bad_scale` meets its contract. Assumes nothing.
+use Rattle.frame_rows.proofs.bad_scale.Statement.{statement}
+use Rattle.frame_rows.proofs.bad_scale.Tie as tie
 
 returns : tie.Need-returns
 returns c = rw (c .before .if1 .taken, c .if2 .taken)

@@ -1,4 +1,4 @@
--- `answers::space_answer` meets its contract. Assumes nothing.
+-- `space_answer` meets its contract. Assumes nothing.
 use Rattle.isdbs_core.specs.declared.slots.Plan.{Plan}
 use Rattle.isdbs_core.specs.TableLaws.{table-laid}
 use Rattle.isdbs_core.specs.RunsOf.{validTotal, frameSteps, loadBytes}
@@ -8,8 +8,8 @@ use native.Mathlib.Omega.{arith}
 use Prim.Native.Nat.{ℕ, _+_, _<_, _≤_}
 use mathlib.Core.Path.{_≡_, refl, sym, _∙_, ap}
 use borrow.Author.Needs.{needs}
-use Rattle.isdbs_phy.proofs.answers.space_answer.Statement.{statement}
-use Rattle.isdbs_phy.proofs.answers.space_answer.Tie as tie
+use Rattle.frame_rows.proofs.space_answer.Statement.{statement}
+use Rattle.frame_rows.proofs.space_answer.Tie as tie
 
 returns : tie.Need-returns
 returns c = rw (lt-ltb _ _ (c .if1 .taken))

@@ -1,13 +1,13 @@
--- `demod::encode_answer` meets its contract. Assumes nothing.
+-- `encode_answer` meets its contract. Assumes nothing.
 use Rattle.isdbs_core.specs.Frame.{mainSymbols}
 use mathlib.Core.Path.{_≡_, refl, sym, _∙_, ap}
 use Prim.Native.Nat.{ℕ, _+_, _*_, _-_, _<_, _≤_}
 use native.Mathlib.Omega.{arith}
 use borrow.Author.Tests.{lt-ltb, le-ltb}
-use Rattle.isdbs_phy.proofs.EncodeAnswers.{table-refuses, table-passes}
+use Rattle.frame_rows.proofs.EncodeAnswers.{table-refuses, table-passes}
 use borrow.Author.Needs.{needs}
-use Rattle.isdbs_phy.proofs.demod.encode_answer.Statement.{statement}
-use Rattle.isdbs_phy.proofs.demod.encode_answer.Tie as tie
+use Rattle.frame_rows.proofs.encode_answer.Statement.{statement}
+use Rattle.frame_rows.proofs.encode_answer.Tie as tie
 
 table-answer-requires : tie.Need-table-answer-requires
 table-answer-requires c κs = search needs

@@ -6,7 +6,7 @@ use Prim.Native.Nat.{ℕ}
 use lib.ListN.{replicate}
 use lib.Ieee.{Float}
 use Rattle.isdbs_core.specs.declared.tmcc.Table.{Table}
-use Rattle.isdbs_phy.specs.DecodeRows.{someOf, badScale, someBad, frameRows, decodeRows, oneScaleRows}
+use Rattle.frame_rows.specs.DecodeRows.{someOf, badScale, someBad, frameRows, decodeRows, oneScaleRows}
 
 seven : (b : Bool) → (((((((false || b) || b) || b) || b) || b) || b) || b) ≡ b
 seven true = refl

@@ -1,0 +1,2 @@
+pub mod EncodeAnswers
+pub mod Rows

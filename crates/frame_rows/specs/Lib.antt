@@ -1,0 +1,3 @@
+pub mod DecodeRows
+pub mod EncodeRows
+pub mod ScaleLaws
