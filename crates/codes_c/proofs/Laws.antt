@@ -1,14 +1,13 @@
 -- A call of a code's decoder as the C call hands it back: answered, and the lent places, from what the library's call leaves. Assumes nothing.
 use mathlib.Core.Path.{_≡_, refl, sym, _∙_, ap}
-use mathlib.Core.Bool.{Bool, true, false, cond, not}
-use mathlib.Core.List.{List, [], _∷_}
-use Prim.Native.Nat.{ℕ, _<_}
+use mathlib.Core.Bool.{Bool, true, false, cond}
+use mathlib.Core.List.{List}
+use Prim.Native.Nat.{ℕ}
 use native.Mathlib.Omega.{arith}
 use lib.Dec.{eqb}
-use lib.ListN.{length, getD}
-use lib.Seq.{ext-getD}
+use lib.ListN.{length}
 use lib.Ieee.{Float}
-use borrow.Author.Tests.{eq-eqb, ne-eqb, eqb-true, eqb-false}
+use borrow.Author.Tests.{ne-eqb, eqb-true, eqb-false}
 use Rattle.refusal.specs.declared.Answer.{Answer}
 use Rattle.refusal.specs.declared.Answer.the-variants as answer
 use Rattle.refusal.specs.Rows.{Row, numberOf, firstRow, Either}
@@ -23,35 +22,11 @@ use Rattle.short_fec.specs.Rows.{encodeRows}
 use Rattle.trellis.specs.Lists.{laid}
 use Rattle.trellis.specs.Encoded.{reached}
 use Rattle.short_fec.specs.Calls.{lowBits, codedBits, Leaves, Flushes}
-use Rattle.isdb_c.specs.Rows.{answered, left}
-use Rattle.isdb_c.specs.Lengths.{aboveLength, withLength, withStates}
+use Rattle.answers_c.specs.Answers.{answered, left}
+use Rattle.answers_c.specs.AnswerLaws.{kept}
+use Rattle.answers_c.specs.Lengths.{withStates}
+use Rattle.answers_c.specs.LengthLaws.{states-answer}
 use Rattle.codes_c.specs.Stored.{Stored, Traced}
-
--- a list that has what another of its length has is that list
-pub copied : {A : Type 0} (d : A) (n : ℕ) (a l : List A) → length a ≡ n → length l ≡ n → ((i : ℕ) → i < n → getD l i d ≡ getD a i d) → l ≡ a
-copied d n a l e f w = ext-getD d l a (f ∙ sym e) (λ i h. w i (omega arith))
-
--- a call that refuses leaves what was there
-pub kept : {A : Type 0} (n : ℕ) (new old : A) → (n ≡ 0 → ⊥) → old ≡ left n new old
-kept n new old h = rw (ne-eqb n 0 h) refl
-
--- ---- row 5 at its place
-length-step : (b : Bool) (row : Row) (rows : List Row) → firstRow (withLength false rows) ≡ firstRow rows → firstRow (cond b (row ∷ withLength false rows) ((answer.Length, false) ∷ row ∷ rows)) ≡ firstRow (row ∷ rows)
-length-step true row rows e = rw e
-length-step false row rows e = refl
-
-length-false : (rows : List Row) → firstRow (withLength false rows) ≡ firstRow rows
-length-false [] = refl
-length-false (row ∷ rows) = length-step (aboveLength row) row rows (length-false rows)
-
-module _ (pm : List Float) (rows : List Row) (n : ℕ) where
-  -- path values that are not 64
-  pub not-states : (length pm ≡ 64 → ⊥) → n ≡ answered (withLength true rows) → n ≡ answered (withStates pm rows)
-  not-states h e = rw (ne-eqb (length pm) 64 h) e
-
-  -- and where they are 64 the other rows decide
-  states-answer : (a : Answer) → length pm ≡ 64 → n ≡ numberOf a → a ≡ firstRow rows → n ≡ answered (withStates pm rows)
-  states-answer a h e f = rw (eq-eqb (length pm) 64 h) (e ∙ ap numberOf (f ∙ sym (length-false rows)))
 
 -- what ends with a row 5 that holds refuses
 pub refused-3 : (a b c : Bool) (n : ℕ) → n ≡ numberOf (cond a answer.Traceback (cond b answer.Code (cond c answer.State answer.Length))) → n ≡ 0 → ⊥

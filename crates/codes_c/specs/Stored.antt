@@ -8,8 +8,8 @@ use Rattle.trellis.specs.Lists.{laid}
 use Rattle.trellis.specs.Step.{traced}
 use Rattle.trellis.specs.Run.{Decoder, decisionsAfter}
 use Rattle.isdb_fec.specs.declared.conv.ViterbiDecoder.{ViterbiDecoder}
-use Rattle.isdb_c.specs.Rows.{left}
-use Rattle.isdb_c.specs.Decoders.{Emitted}
+use Rattle.answers_c.specs.Answers.{left}
+use Rattle.decoder_c.specs.Decoders.{Emitted}
 use Rattle.short_code.specs.declared.Code.{Code}
 use Rattle.short_code.specs.Codes.{halfOf}
 

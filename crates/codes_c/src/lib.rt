@@ -1,8 +1,8 @@
 // The C calls of a code of constraint length 3 to 7 with two generators. The caller holds the state: 64 path values at every length, how many decision words are
 // held, and the traceback.
+use decoder_c::decoder_of;
+use decoder_c::store;
 use isdb_fec::conv::ConvEncoder;
-use isdb_fec::conv::Released;
-use isdb_fec::conv::ViterbiDecoder;
 use isdb_fec::conv::some_beyond;
 use short_code::good;
 use short_code::half;
@@ -11,7 +11,6 @@ ghost use mathlib.Core.Path.{_≡_};
 ghost use mathlib.Core.Bool.{not};
 ghost use Prim.Native.Nat.{ℕ, _/_};
 ghost use lib.ListN.{length, take};
-ghost use Rattle.refusal.specs.Rows.{numberOf};
 ghost use Rattle.trellis.specs.Lists.{laid};
 ghost use Rattle.trellis.specs.Encoded.{reached};
 ghost use Rattle.viterbi.specs.Calls.{pairSteps, fourSteps, knownSteps};
@@ -19,9 +18,9 @@ ghost use Rattle.short_code.specs.Codes.{codeOf, goodCode};
 ghost use Rattle.short_fec.specs.Calls.{lowBits, codedBits, steps, call, handed, bestOf, endOf};
 ghost use Rattle.short_fec.specs.Rows.{encodeRows, handedRows, streamRows, knownRows, flushRows};
 ghost use Rattle.isdb_fec.specs.Values.{someBeyond, pathLimit};
-ghost use Rattle.isdb_c.specs.Rows.{answered, left};
-ghost use Rattle.isdb_c.specs.Lengths.{untilLength, withStates};
-ghost use Rattle.isdb_c.specs.Decoders.{decoderOf};
+ghost use Rattle.answers_c.specs.Answers.{answered, left};
+ghost use Rattle.answers_c.specs.Lengths.{untilLength, withStates};
+ghost use Rattle.decoder_c.specs.Decoders.{decoderOf};
 ghost use Rattle.codes_c.specs.Stored.{codeFrom, Stored, Traced};
 
 // The code of three numbers.
@@ -69,61 +68,6 @@ fn not_states(code: Code, pm: &[f32], held: u64, traceback: u64) -> u32
         return 4;
     }
     5
-}
-
-// The decoder with these path values.
-fn decoder_of(pm: &[f32], held: u64, traceback: u64) -> ViterbiDecoder
-    requires { ⌜ length (now pm) ≡ 64 ⌝ }
-    ensures { λ r. ⌜ r ≡ decoderOf (now (pm .entry)) held traceback ⌝ }
-{
-    let mut values = [0.0f32; 64];
-    for s in 0..64 {
-        values[s] = pm[s];
-    }
-    ViterbiDecoder {
-        pm: values,
-        held: held as usize,
-        traceback: traceback as usize,
-    }
-}
-
-// The number of states, which the type of the path values fixes.
-fn states(values: &[f32; 64]) -> usize
-    ensures { λ r. ⌜ (r ≡ 64) × (length (now (values .entry)) ≡ 64) ⌝ }
-{
-    let all: &[f32] = values;
-    all.len()
-}
-
-// Copies the path values back.
-fn put_values(values: &[f32; 64], pm: &mut [f32])
-    requires { ⌜ length (now pm) ≡ 64 ⌝ }
-    ensures { λ _. ⌜ now (pm .exit) ≡ now (values .entry) ⌝ }
-{
-    let n = states(values);
-    for s in 0..n {
-        pm[s] = values[s];
-    }
-}
-
-// Hands the state back where the call was accepted.
-fn store(r: Released, pm: &mut [f32], held: &mut u64, count: &mut u64) -> u32
-    requires { ⌜ length (now pm) ≡ 64 ⌝ }
-    ensures answers { λ n. ⌜ n ≡ numberOf (r .answer) ⌝ }
-    ensures values { λ n. ⌜ now (pm .exit) ≡ left n (r .dec .pm) (now (pm .entry)) ⌝ }
-    ensures counts { λ n. ⌜ (now (held .exit) ≡ left n (r .dec .held) (now (held .entry))) × (now (count .exit) ≡ left n (r .count) (now (count .entry))) ⌝ }
-{
-    let a = r.answer;
-    let answer = refusal::number(a);
-    if answer != 0 {
-        return answer;
-    }
-    let dec = r.dec;
-    let values = dec.pm;
-    put_values(&values, pm);
-    *held = dec.held as u64;
-    *count = r.count as u64;
-    0
 }
 
 // Encodes the low bit of each byte: X then Y of each at the front of `out`.

@@ -29,9 +29,9 @@ use Rattle.isdbs_decode.specs.Scales.{receivedBy}
 use Rattle.strain.specs.Strain.{strainCounts, strainSum}
 use Rattle.exact_frame.specs.Frames.{encoded-within}
 use Rattle.exact_frame.specs.Call.{eights, ReadsBack, exactly, short, read-back}
-use Rattle.isdb_c.specs.Forms.{tableOf}
+use Rattle.table_c.specs.Forms.{tableOf}
 use Rattle.isdb_c.specs.Mappings.{mappingOf, isSet}
-use Rattle.isdb_c.specs.Rows.{answered, left}
+use Rattle.answers_c.specs.Answers.{answered, left}
 
 -- ---- what is laid
 

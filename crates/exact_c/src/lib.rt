@@ -10,9 +10,9 @@ ghost use Rattle.isdbs_phy.specs.DecodeRows.{decodeRows};
 ghost use Rattle.isdbs_decode.specs.Scales.{receivedBy};
 ghost use Rattle.strain.specs.Strain.{strainCounts, strainSum};
 ghost use Rattle.exact_frame.specs.Call.{eights};
-ghost use Rattle.isdb_c.specs.Forms.{tableOf};
+ghost use Rattle.table_c.specs.Forms.{tableOf};
 ghost use Rattle.isdb_c.specs.Mappings.{mappingOf, isSet};
-ghost use Rattle.isdb_c.specs.Rows.{answered, left};
+ghost use Rattle.answers_c.specs.Answers.{answered, left};
 ghost use Rattle.exact_c.specs.Call.{Lays, ExactC};
 
 // isdbs_encode_frame. Where it accepts, at the start state for either kind of frame, the frame lies within its load's margins, and so does every frame

@@ -7,7 +7,7 @@ use Rattle.refusal.specs.declared.Answer.{Answer}
 use Rattle.refusal.specs.Rows.{numberOf}
 use Rattle.trellis.specs.Lists.{laid}
 use Rattle.full_frame.specs.Rows.{leaves}
-use Rattle.isdb_c.specs.Rows.{left}
+use Rattle.answers_c.specs.Answers.{left}
 
 pub by-number : (n : ℕ) (a : Answer) → n ≡ numberOf a → {x : List Float} (new old : List Float) → x ≡ leaves a new old → x ≡ left n (laid new old) old
 by-number n a e new old h = h ∙ ap (λ (k : ℕ). left k (laid new old) old) (sym e)

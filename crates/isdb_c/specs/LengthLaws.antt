@@ -15,8 +15,9 @@ use Rattle.isdbs_core.specs.declared.tmcc.Table.{Table}
 use Rattle.isdbs_core.specs.Tables.{tableRows}
 use Rattle.isdbs_core.specs.TableLaws.{then-accepted}
 use Rattle.isdbs_phy.specs.DecodeRows.{someBad, pointRows, lastRows, decodeRows}
-use Rattle.isdb_c.specs.Rows.{answered}
-use Rattle.isdb_c.specs.Lengths.{untilLength, scalesRows}
+use Rattle.answers_c.specs.Answers.{answered}
+use Rattle.answers_c.specs.Lengths.{untilLength}
+use Rattle.isdb_c.specs.Lengths.{scalesRows}
 
 -- a row that does not hold changes nothing; those below one that holds change nothing
 row-false : (above below : List Row) (a : Answer) → firstRow (above ++ (a, false) ∷ below) ≡ firstRow (above ++ below)

@@ -1,32 +1,15 @@
--- Row 5 of what only a C call can be handed: path values that are not 64, scales that are not seven, and an unknown rate. Assumes nothing.
-use mathlib.Core.Bool.{Bool, true, cond, not}
-use mathlib.Core.List.{List, [], _∷_, _++_}
+-- Row 5 of scales that are not seven. Assumes nothing.
+use mathlib.Core.Bool.{not}
+use mathlib.Core.List.{List, _∷_, _++_}
 use Prim.Native.Nat.{ℕ}
-use lib.Dec.{eqb, ltb}
+use lib.Dec.{eqb}
 use lib.ListN.{length}
 use lib.Ieee.{Float}
 use Rattle.refusal.specs.declared.Answer.the-variants.{Length}
-use Rattle.refusal.specs.Rows.{Row, place}
+use Rattle.refusal.specs.Rows.{Row}
 use Rattle.isdbs_core.specs.declared.tmcc.Table.{Table}
 use Rattle.isdbs_core.specs.Tables.{tableRows}
 use Rattle.isdbs_phy.specs.DecodeRows.{someBad, pointRows, lastRows}
-
--- a row that stands above row 5 in document 01's table
-abbrev pub aboveLength : Row → Bool
-aboveLength row = ltb (place row) (place (Length, true))
-
--- a row 5 at its place among a call's rows: below those that stand above it
-abbrev pub withLength : Bool → List Row → List Row
-withLength b [] = (Length, b) ∷ []
-withLength b (row ∷ rows) = cond (aboveLength row) (row ∷ withLength b rows) ((Length, b) ∷ row ∷ rows)
-
--- 5: path values that are not 64
-abbrev pub withStates : List Float → List Row → List Row
-withStates pm rows = withLength (not (eqb (length pm) 64)) rows
-
--- the rows above row 5, then a row 5 that holds
-abbrev pub untilLength : List Row → List Row
-untilLength above = above ++ (Length, true) ∷ []
 
 -- 5: scales that are not seven, directly below the table's rows
 abbrev pub scalesRows : Table → List Float → List Float → List Float → ℕ → ℕ → ℕ → ℕ → List Row

@@ -1,13 +1,15 @@
-// Calls on whole frames.
-use crate::table::table_of;
+// Calls on whole frames, and `soft`.
 use isdb_fec::conv::ConvEncoder;
 use isdbs_core::tmcc::Table;
 use isdbs_core::tmcc::table_answer;
 use isdbs_phy::demod::DemodOptions;
 use isdbs_phy::demod::FrameDecoded;
 use isdbs_phy::demod::Mapping;
+use table_c::table_of;
 ghost use mathlib.Core.Path.{_≡_};
 ghost use lib.ListN.{length, replicate};
+ghost use lib.Ieee.{binary32};
+ghost use Rattle.ieee.specs.Conversion.{rounded};
 ghost use Rattle.trellis.specs.Lists.{laid};
 ghost use Rattle.isdbs_points.specs.Frame.{endState, frameRe, frameIm};
 ghost use Rattle.isdbs_phy.specs.EncodeRows.{encodeRows};
@@ -15,10 +17,11 @@ ghost use Rattle.isdbs_core.specs.Tables.{tableRows};
 ghost use Rattle.isdbs_decode.specs.Scales.{receivedBy};
 ghost use Rattle.isdbs_metrics.specs.Reading.{frameWords, decodedBits, decodedBytes};
 ghost use Rattle.strain.specs.Strain.{strainCounts, strainSum};
-ghost use Rattle.isdb_c.specs.Forms.{tableOf};
+ghost use Rattle.table_c.specs.Forms.{tableOf};
 ghost use Rattle.isdb_c.specs.Mappings.{mappingOf, isSet};
-ghost use Rattle.isdb_c.specs.Rows.{answered, left};
-ghost use Rattle.isdb_c.specs.Lengths.{untilLength, scalesRows};
+ghost use Rattle.answers_c.specs.Answers.{answered, left};
+ghost use Rattle.answers_c.specs.Lengths.{untilLength};
+ghost use Rattle.isdb_c.specs.Lengths.{scalesRows};
 
 // The mapping of a number.
 pub fn mapping_of(mapping: u8) -> Mapping
@@ -138,4 +141,12 @@ pub extern "C" fn isdbs_decode_frame(
         }
         FrameDecoded::Refused(a) => refusal::number(a),
     }
+}
+
+// The f32 nearest to x.
+#[no_mangle]
+pub extern "C" fn isdbs_soft(x: f64) -> f32
+    ensures { λ r. ⌜ r ≡ rounded binary32 x ⌝ }
+{
+    isdbs_phy::soft(x)
 }

@@ -4,7 +4,7 @@ ghost use Rattle.trellis.specs.Lists.{laid};
 ghost use Rattle.full_frame.specs.declared.Input.the-variants.{Header, Main, Burst};
 ghost use Rattle.full_frame.specs.Places.{inputs, fullPart, taken};
 ghost use Rattle.full_frame.specs.Rows.{layRows, takeRows};
-ghost use Rattle.isdb_c.specs.Rows.{answered, left};
+ghost use Rattle.answers_c.specs.Answers.{answered, left};
 
 // A full frame from header, main signal and bursts; symbol j of burst b is point 4 b + j of the burst input.
 #[no_mangle]

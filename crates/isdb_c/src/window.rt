@@ -6,7 +6,7 @@ ghost use lib.Dec.{eqb};
 ghost use lib.ListN.{set};
 ghost use Rattle.strain_window.specs.Rows.{keptSums, pushRows};
 ghost use Rattle.strain_window.specs.Calls.{totalOf, greatestOf, placeOf, moved};
-ghost use Rattle.isdb_c.specs.Rows.{answered, left};
+ghost use Rattle.answers_c.specs.Answers.{answered, left};
 ghost use Rattle.isdb_c.specs.Windows.{windowOf};
 
 // Keeps the sum of a frame, and gives the total and the greatest of the last ones. `clear` is true unless 0.

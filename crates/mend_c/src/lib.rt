@@ -2,7 +2,7 @@
 // declares it.
 ghost use mathlib.Core.Path.{_≡_};
 ghost use lib.ListN.{length};
-ghost use Rattle.isdb_c.specs.Rows.{answered};
+ghost use Rattle.answers_c.specs.Answers.{answered};
 ghost use Rattle.mend.specs.Rows.{mendRows};
 ghost use Rattle.mend_c.specs.Calls.{Left};
 

@@ -28,10 +28,11 @@ use Rattle.wanted_load.specs.Rows.{wantedRows}
 use Rattle.mend.specs.Rows.{mendRows}
 use Rattle.strain_window.specs.declared.WindowState.{WindowState}
 use Rattle.strain_window.specs.Rows as window
-use Rattle.isdb_c.specs.Rows.{placesRows, bitSymbolRows}
-use Rattle.isdb_c.specs.Lengths.{withStates, scalesRows}
-use Rattle.isdb_c.specs.Rates.{rateRows}
-use Rattle.isdb_c.specs.declared.isdbt.MaybeRate.the-variants.{NoRate}
+use Rattle.table_c.specs.Rows.{placesRows, bitSymbolRows}
+use Rattle.answers_c.specs.Lengths.{withStates}
+use Rattle.isdb_c.specs.Lengths.{scalesRows}
+use Rattle.isdbt_c.specs.Rates.{rateRows}
+use Rattle.isdbt_c.specs.declared.MaybeRate.the-variants.{NoRate}
 
 abbrev pub eachFromTop : List (List Row) → Bool
 eachFromTop [] = true

@@ -11,7 +11,7 @@ use Rattle.isdbs_points.specs.declared.Mapping.{Mapping}
 use Rattle.wanted.specs.Wanted.{Wants, Unwanted}
 use Rattle.wanted_load.specs.Rows.{wantedRows}
 use Rattle.wanted_load.specs.Found.{Tells}
-use Rattle.isdb_c.specs.Rows.{answered}
+use Rattle.answers_c.specs.Answers.{answered}
 
 -- the number of the first row that holds; none is whether no full load encodes to the frame
 abbrev pub AnsweredC : Table → Mapping → Bool → List Float → List Float → ℕ → ℕ → Type 0

@@ -1,12 +1,12 @@
 // The call for C that gives the bytes behind a wanted frame (request P9). It answers document 01's number, 0 for accepted; refused, it leaves the lent bytes as they were. include/isdb.h
 // declares it.
 use isdb_c::frame::mapping_of;
-use isdb_c::table::table_of;
+use table_c::table_of;
 use wanted_load::LoadFound;
 use wanted_load::wanted_load;
 ghost use mathlib.Core.Path.{_≡_};
 ghost use lib.ListN.{length};
-ghost use Rattle.isdb_c.specs.Forms.{tableOf};
+ghost use Rattle.table_c.specs.Forms.{tableOf};
 ghost use Rattle.isdb_c.specs.Mappings.{mappingOf, isSet};
 ghost use Rattle.wanted_load.specs.Found.{loadSaid};
 ghost use Rattle.wanted_c.specs.Calls.{AnsweredC, Left};

@@ -1,7 +1,7 @@
 -- `exact_c::lay_frame` meets its contract: that of `isdbs_encode_frame`, and where its frame lies. Assumes nothing.
 use borrow.Author.Needs.{needs}
 use denote.Ref.{now}
-use Rattle.isdb_c.specs.Forms.{tableOf}
+use Rattle.table_c.specs.Forms.{tableOf}
 use Rattle.isdb_c.specs.Mappings.{mappingOf}
 use Rattle.exact_c.specs.Call.{lays}
 use Rattle.exact_c.proofs.lay_frame.Statement.{statement}

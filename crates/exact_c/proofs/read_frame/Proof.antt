@@ -7,7 +7,7 @@ use lib.Ieee.{ofBits}
 use Rattle.refusal.specs.Rows.{numberOf}
 use Rattle.exact_frame.specs.Call.{eights}
 use Rattle.isdb_c.specs.LengthLaws.{seven-rows}
-use Rattle.isdb_c.specs.Forms.{tableOf}
+use Rattle.table_c.specs.Forms.{tableOf}
 use Rattle.isdb_c.specs.Mappings.{mappingOf, isSet}
 use Rattle.exact_c.specs.Call.{reads-back}
 use Rattle.exact_c.proofs.read_frame.Statement.{statement}

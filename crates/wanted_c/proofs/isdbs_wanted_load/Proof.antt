@@ -1,6 +1,6 @@
 -- `isdbs_wanted_load` meets its contract. Assumes nothing.
 use borrow.Author.Needs.{needs}
-use Rattle.isdb_c.specs.Forms.{tableOf}
+use Rattle.table_c.specs.Forms.{tableOf}
 use Rattle.isdb_c.specs.Mappings.{mappingOf, isSet}
 use Rattle.wanted_c.specs.CallLaws.{answered-c, left-c}
 use Rattle.wanted_c.proofs.isdbs_wanted_load.Statement.{statement}

@@ -9,12 +9,13 @@ use Rattle.isdbs_phy.specs.DecodeRows.{decodeRows}
 use Rattle.isdbs_core.specs.Tables.{tableRows}
 use Rattle.isdbs_decode.specs.Scales.{receivedBy}
 use Rattle.strain.specs.Strain.{strainSum}
-use Rattle.isdb_c.specs.Forms.{tableOf}
-use Rattle.isdb_c.specs.Rows.{answered}
-use Rattle.isdb_c.specs.Lengths.{untilLength, scalesRows}
+use Rattle.table_c.specs.Forms.{tableOf}
+use Rattle.answers_c.specs.Answers.{answered}
+use Rattle.answers_c.specs.Lengths.{untilLength}
+use Rattle.isdb_c.specs.Lengths.{scalesRows}
 use Rattle.isdb_c.specs.LengthLaws.{until-refuses, seven-rows, not-seven}
 use Rattle.isdb_c.specs.Mappings.{mappingOf, isSet}
-use Rattle.isdb_c.proofs.Answers.{kept}
+use Rattle.answers_c.specs.AnswerLaws.{kept}
 use Rattle.isdb_c.proofs.Frames.{decoded, refused}
 use borrow.Author.Needs.{needs}
 use Rattle.isdb_c.proofs.frame.isdbs_decode_frame.Statement.{statement}

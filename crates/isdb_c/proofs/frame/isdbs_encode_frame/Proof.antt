@@ -3,12 +3,12 @@ use mathlib.Core.Path.{_≡_, refl, sym, _∙_, ap}
 use lib.ListN.{length}
 use Rattle.refusal.specs.Rows.{numberOf}
 use Rattle.isdbs_phy.specs.EncodeRows.{encodeRows}
-use Rattle.isdb_c.specs.Forms.{tableOf}
+use Rattle.table_c.specs.Forms.{tableOf}
 use Rattle.isdb_c.specs.Mappings.{mappingOf}
-use Rattle.isdb_c.specs.Rows.{answered}
-use Rattle.isdb_c.proofs.Answers.{kept}
+use Rattle.answers_c.specs.Answers.{answered}
+use Rattle.answers_c.specs.AnswerLaws.{kept}
 use Rattle.refusal.specs.RowLaws.{zero-accepted}
-use Rattle.isdb_c.proofs.Rates.{refusing}
+use Rattle.answers_c.specs.AnswerLaws.{refusing}
 use borrow.Author.Needs.{needs}
 use Rattle.isdb_c.proofs.frame.isdbs_encode_frame.Statement.{statement}
 use Rattle.isdb_c.proofs.frame.isdbs_encode_frame.Tie as tie

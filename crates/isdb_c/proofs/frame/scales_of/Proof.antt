@@ -8,7 +8,7 @@ use native.Mathlib.Omega.{arith}
 use borrow.Author.Needs.{needs}
 use lib.ListN.{length, getD, length-set}
 use lib.Ieee.{Float, nan}
-use Rattle.isdb_c.proofs.Laws.{copied}
+use Rattle.answers_c.specs.AnswerLaws.{copied}
 use Rattle.isdb_c.proofs.frame.scales_of.Statement.{statement}
 use Rattle.isdb_c.proofs.frame.scales_of.Tie as tie
 

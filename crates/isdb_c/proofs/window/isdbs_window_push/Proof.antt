@@ -4,7 +4,7 @@ use borrow.Author.Needs.{needs}
 use Rattle.refusal.specs.Rows.{numberOf}
 use Rattle.refusal.specs.RowLaws.{zero-accepted}
 use Rattle.strain_window.specs.declared.WindowState.{WindowState}
-use Rattle.isdb_c.proofs.Answers.{kept}
+use Rattle.answers_c.specs.AnswerLaws.{kept}
 use Rattle.isdb_c.proofs.window.isdbs_window_push.Statement.{statement}
 use Rattle.isdb_c.proofs.window.isdbs_window_push.Tie as tie
 

@@ -1,0 +1,84 @@
+// A decoder whose state C holds: 64 path values, how many decision words are held, and the traceback. Taken from the lent places, and handed back.
+use isdb_fec::conv::Released;
+use isdb_fec::conv::ViterbiDecoder;
+ghost use mathlib.Core.Path.{_≡_};
+ghost use lib.ListN.{length};
+ghost use Rattle.refusal.specs.Rows.{numberOf};
+ghost use Rattle.isdb_fec.specs.Rows.{handedRows};
+ghost use Rattle.answers_c.specs.Answers.{answered, left};
+ghost use Rattle.answers_c.specs.Lengths.{untilLength};
+ghost use Rattle.decoder_c.specs.Decoders.{decoderOf};
+
+// The answer where the path values are not 64: rows 3 and 4 stand above 5.
+pub fn not_states(pm: &[f32], held: u64, traceback: u64) -> u32
+    ensures { λ r. ⌜ r ≡ answered (untilLength (handedRows (decoderOf (now (pm .entry)) held traceback))) ⌝ }
+{
+    if traceback == 0 {
+        return 3;
+    }
+    if traceback > 1024 {
+        return 3;
+    }
+    if held >= 4096 + traceback {
+        return 4;
+    }
+    if isdb_fec::conv::some_beyond(pm, 4294967296.0) {
+        return 4;
+    }
+    5
+}
+
+// The decoder with these path values.
+pub fn decoder_of(pm: &[f32], held: u64, traceback: u64) -> ViterbiDecoder
+    requires { ⌜ length (now pm) ≡ 64 ⌝ }
+    ensures { λ r. ⌜ r ≡ decoderOf (now (pm .entry)) held traceback ⌝ }
+{
+    let mut values = [0.0f32; 64];
+    for s in 0..64 {
+        values[s] = pm[s];
+    }
+    ViterbiDecoder {
+        pm: values,
+        held: held as usize,
+        traceback: traceback as usize,
+    }
+}
+
+// The number of states, which the type of the path values fixes.
+fn states(values: &[f32; 64]) -> usize
+    ensures { λ r. ⌜ (r ≡ 64) × (length (now (values .entry)) ≡ 64) ⌝ }
+{
+    let all: &[f32] = values;
+    all.len()
+}
+
+// Copies the path values back.
+fn put_values(values: &[f32; 64], pm: &mut [f32])
+    requires { ⌜ length (now pm) ≡ 64 ⌝ }
+    ensures { λ _. ⌜ now (pm .exit) ≡ now (values .entry) ⌝ }
+{
+    let n = states(values);
+    for s in 0..n {
+        pm[s] = values[s];
+    }
+}
+
+// Hands the state back where the call was accepted.
+pub fn store(r: Released, pm: &mut [f32], held: &mut u64, count: &mut u64) -> u32
+    requires { ⌜ length (now pm) ≡ 64 ⌝ }
+    ensures answers { λ n. ⌜ n ≡ numberOf (r .answer) ⌝ }
+    ensures values { λ n. ⌜ now (pm .exit) ≡ left n (r .dec .pm) (now (pm .entry)) ⌝ }
+    ensures counts { λ n. ⌜ (now (held .exit) ≡ left n (r .dec .held) (now (held .entry))) × (now (count .exit) ≡ left n (r .count) (now (count .entry))) ⌝ }
+{
+    let a = r.answer;
+    let answer = refusal::number(a);
+    if answer != 0 {
+        return answer;
+    }
+    let dec = r.dec;
+    let values = dec.pm;
+    put_values(&values, pm);
+    *held = dec.held as u64;
+    *count = r.count as u64;
+    0
+}
