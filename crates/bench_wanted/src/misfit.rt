@@ -14,7 +14,7 @@ use isdbs_wanted::read_load;
 use libc::STDOUT_FILENO;
 use refusal::Answer;
 ghost use Prim.Native.Nat.{_≤_};
-ghost use Rattle.isdbs_core.specs.RunsOf.{Planned};
+ghost use Rattle.isdbs_runs.specs.RunsOf.{Planned};
 
 // The bits of a part, one pattern for every NaN.
 fn bits(x: f64) -> u64 {

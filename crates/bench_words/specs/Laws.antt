@@ -10,7 +10,7 @@ use borrow.Author.Tests.{eqb-true}
 use lib.Dec.{eqb}
 use lib.ListN.{length, getD, take, drop}
 use lib.Seq.{drop-cons}
-use Rattle.isdbs_core.specs.Lists.{both}
+use Rattle.isdbs_combination.specs.Lists.{both}
 use Rattle.bench_words.specs.Parts.{after, until, stops, equal}
 use Rattle.bench_words.specs.Agreement.{agreement}
 

@@ -16,7 +16,7 @@ use lib.Ieee.Exact.{HasValue}
 use lib.Ieee.Back.{round-whole}
 use lib.Ieee.Scale.{round-same}
 use lib.Ieee.Fits.{down-pos}
-use Rattle.isdbs_core.specs.Lists.{both}
+use Rattle.isdbs_combination.specs.Lists.{both}
 use Rattle.bench_words.specs.declared.words.Number.{Number}
 use Rattle.bench_words.specs.declared.words.Number.the-variants as number
 use Rattle.bench_words.specs.Numbers.{digitOf, numberFrom, digitsOf}

@@ -5,7 +5,7 @@ use Prim.Native.Nat.{ℕ, _+_, _-_, _*_, _^_}
 use lib.Dec.{eqb, ltb, leb}
 use lib.ListN.{length}
 use lib.Ieee.{Float, binary32, round}
-use Rattle.isdbs_core.specs.Lists.{both}
+use Rattle.isdbs_combination.specs.Lists.{both}
 use Rattle.bench_words.specs.declared.words.Number.{Number}
 use Rattle.bench_words.specs.declared.words.Number.the-variants as number
 use Rattle.bench_words.specs.declared.words.MaybeScale.{MaybeScale}

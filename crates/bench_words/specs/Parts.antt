@@ -3,7 +3,7 @@ use mathlib.Core.Bool.{Bool, true, false, cond}
 use mathlib.Core.List.{List, [], _∷_}
 use Prim.Native.Nat.{ℕ, zero, suc, _+_}
 use lib.Dec.{eqb}
-use Rattle.isdbs_core.specs.Lists.{both}
+use Rattle.isdbs_combination.specs.Lists.{both}
 
 -- what follows the i-th stop; nothing where there are fewer
 unfoldable pub after : ℕ → ℕ → List ℕ → List ℕ

@@ -4,8 +4,8 @@ use mathlib.Core.List.{List, [], _∷_}
 use Prim.Native.Nat.{ℕ, _-_}
 use lib.Dec.{eqb, ltb, leb}
 use lib.ListN.{length, getD, drop}
-use Rattle.isdbs_core.specs.Lists.{both, either}
-use Rattle.isdbs_core.specs.declared.tmcc.Entry.{Entry}
+use Rattle.isdbs_combination.specs.Lists.{both, either}
+use Rattle.isdbs_tables.specs.declared.Entry.{Entry}
 use Rattle.bench_words.specs.declared.words.Number.{Number}
 use Rattle.bench_words.specs.declared.words.Number.the-variants as number
 use Rattle.bench_words.specs.declared.words.MaybeEntry.{MaybeEntry}

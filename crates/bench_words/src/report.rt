@@ -15,7 +15,7 @@ use isdbs_points::PART_LIMIT;
 use refusal::Answer;
 ghost use mathlib.Core.Path.{_≡_};
 ghost use Prim.Native.Nat.{_-_, _%_, _<_, _≤_};
-ghost use Rattle.isdbs_core.specs.Combinations.{unitOf};
+ghost use Rattle.isdbs_combination.specs.Combinations.{unitOf};
 ghost use Rattle.bench_words.specs.Agreement.{agreement};
 
 fn wide(n: u32) -> u64 {

@@ -14,9 +14,9 @@ use Rattle.refusal.specs.Rows.{numberOf, accepted, firstRow, Said}
 use Rattle.refusal.specs.RowLaws.{zero-accepted, says-number, said-some}
 use Rattle.trellis.specs.Lists.{laid, upto}
 use Rattle.trellis.specs.ListLaws.{length-upto, getD-upto}
-use Rattle.isdbs_core.specs.declared.tmcc.Table as tmcc
-use Rattle.isdbs_core.specs.Tables.{TableAccepted}
-use Rattle.isdbs_core.specs.RunsOf.{validTotal, frameSteps, loadBytes}
+use Rattle.isdbs_tables.specs.declared.Table as tmcc
+use Rattle.isdbs_tables.specs.Tables.{TableAccepted}
+use Rattle.isdbs_runs.specs.RunsOf.{validTotal, frameSteps, loadBytes}
 use Rattle.isdbs_points.specs.declared.Mapping.{Mapping}
 use Rattle.isdbs_points.specs.Frame.{pointAt, frameRe, frameIm, startState}
 use Rattle.isdbs_metrics.specs.Reading.{decodedBits, decodedBytes}

@@ -13,10 +13,10 @@ use Rattle.refusal.specs.declared.Answer.{Answer}
 use Rattle.refusal.specs.declared.Answer.the-variants.{Accepted, Space}
 use Rattle.refusal.specs.Rows.{numberOf, firstRow}
 use Rattle.isdb_fec.specs.Calls.{Either}
-use Rattle.isdbs_core.specs.declared.tmcc.Table.{Table}
-use Rattle.isdbs_core.specs.Tables.{TableAccepted}
-use Rattle.isdbs_core.specs.TableLaws.{then-rows}
-use Rattle.isdbs_core.specs.RunsOf.{validTotal, frameSteps, loadBytes}
+use Rattle.isdbs_tables.specs.declared.Table.{Table}
+use Rattle.isdbs_tables.specs.Tables.{TableAccepted}
+use Rattle.isdbs_tables.specs.TableLaws.{then-rows}
+use Rattle.isdbs_runs.specs.RunsOf.{validTotal, frameSteps, loadBytes}
 use Rattle.isdbs_points.specs.declared.Mapping.{Mapping}
 use Rattle.isdbs_phy.specs.declared.demod.FrameDecoded.{FrameDecoded}
 use Rattle.isdbs_phy.specs.DecodeRows.{within, someOf, someBeyond, partLimit, someBad, shortSpace, pointRows, lastRows, decodeRows, frameSaid, frameAnswer, Kept, FrameLeft}

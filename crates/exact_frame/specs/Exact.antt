@@ -14,11 +14,11 @@ use Rattle.trellis.specs.Code.{stateAt}
 use Rattle.trellis.specs.Isdb.{rule}
 use Rattle.lead.specs.Favour.{Favours}
 use Rattle.lead.specs.Frame.{decoded-sent}
-use Rattle.isdbs_core.specs.declared.combination.Modulation.{Modulation}
-use Rattle.isdbs_core.specs.declared.tmcc.Table.{Table}
-use Rattle.isdbs_core.specs.Combinations.{modulationOf, unitOf, slotSteps}
-use Rattle.isdbs_core.specs.Tables.{TableAccepted}
-use Rattle.isdbs_core.specs.RunsOf.{frameSteps, loadBytes}
+use Rattle.isdbs_combination.specs.declared.Modulation.{Modulation}
+use Rattle.isdbs_tables.specs.declared.Table.{Table}
+use Rattle.isdbs_combination.specs.Combinations.{modulationOf, unitOf, slotSteps}
+use Rattle.isdbs_tables.specs.Tables.{TableAccepted}
+use Rattle.isdbs_runs.specs.RunsOf.{frameSteps, loadBytes}
 use Rattle.isdbs_points.specs.declared.Mapping.{Mapping}
 use Rattle.isdbs_points.specs.Layout.{Segment, segments, atBit, loadBit, FullLoad, wordBit}
 use Rattle.isdbs_points.specs.Frame.{coded, inputIn, inputs, labelAt, stateAfter, startState}

@@ -11,9 +11,9 @@ use Rattle.trellis.specs.Lists.{upto}
 use Rattle.trellis.specs.Code.{stateAt}
 use Rattle.lead.specs.Favour.{Favour}
 use Rattle.lead.specs.Ties.{false-of}
-use Rattle.isdbs_core.specs.declared.tmcc.Table.{Table}
-use Rattle.isdbs_core.specs.Tables.{TableAccepted}
-use Rattle.isdbs_core.specs.RunsOf.{validTotal, frameSteps, loadBytes}
+use Rattle.isdbs_tables.specs.declared.Table.{Table}
+use Rattle.isdbs_tables.specs.Tables.{TableAccepted}
+use Rattle.isdbs_runs.specs.RunsOf.{validTotal, frameSteps, loadBytes}
 use Rattle.isdbs_points.specs.declared.Mapping.{Mapping}
 use Rattle.isdbs_points.specs.Frame.{inputs, labelAt, startState}
 use Rattle.isdbs_metrics.specs.Reading.{Received, metricsAt, decodedBits, decodedBytes}

@@ -4,15 +4,15 @@ use mathlib.Core.Bool.{false}
 use mathlib.Core.List.{List, [], _∷_}
 use Prim.Native.Nat.{ℕ}
 use Rattle.refusal.specs.declared.Answer.the-variants.{Accepted}
-use Rattle.isdbs_core.specs.declared.combination.Combination.{Combination}
-use Rattle.isdbs_core.specs.declared.combination.Combination.the-variants.{«Bpsk1_2», «Qpsk1_2», «Qpsk7_8», «Tc8psk2_3»}
+use Rattle.isdbs_combination.specs.declared.Combination.{Combination}
+use Rattle.isdbs_combination.specs.declared.Combination.the-variants.{«Bpsk1_2», «Qpsk1_2», «Qpsk7_8», «Tc8psk2_3»}
 use Rattle.refusal.specs.Rows.{numberOf, Said}
-use Rattle.isdbs_core.specs.declared.tmcc.Entry.{Entry}
-use Rattle.isdbs_core.specs.declared.tmcc.Table.{Table}
-use Rattle.isdbs_core.specs.declared.slots.Run.{Run}
-use Rattle.isdbs_core.specs.Frame.{mainSymbolPosition, burstSymbolPosition}
-use Rattle.isdbs_core.specs.Tables.{slotSum, some, tableRows, tableAnswer}
-use Rattle.isdbs_core.specs.RunsOf.{runsFrom, runsOf, validIn, validTotal}
+use Rattle.isdbs_tables.specs.declared.Entry.{Entry}
+use Rattle.isdbs_tables.specs.declared.Table.{Table}
+use Rattle.isdbs_runs.specs.declared.Run.{Run}
+use Rattle.isdbs_frame.specs.Frame.{mainSymbolPosition, burstSymbolPosition}
+use Rattle.isdbs_tables.specs.Tables.{slotSum, some, tableRows, tableAnswer}
+use Rattle.isdbs_runs.specs.RunsOf.{runsFrom, runsOf, validIn, validTotal}
 use Rattle.isdbs_core.specs.Symbols.{firstPair, bitSymbol}
 use lib.IntN.{pos, negsuc}
 use lib.Ieee.{Float, fin, binary32, add, sub, neg, lt, ofBits}

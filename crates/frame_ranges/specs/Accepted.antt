@@ -28,12 +28,12 @@ use Rattle.path_range.specs.Invariant.{Bounded, bounded-within}
 use Rattle.path_range.specs.Run.{InRange, soft-call, known-call, path-within, path-within-next}
 use Rattle.path_range.specs.Starts.{level, given-bounded, unknown-bounded}
 use Rattle.refusal.specs.RowLaws as row
-use Rattle.isdbs_core.specs.TableLaws.{then-accepted}
-use Rattle.isdbs_core.specs.declared.combination.Combination.{Combination}
-use Rattle.isdbs_core.specs.declared.tmcc.Table.{Table}
-use Rattle.isdbs_core.specs.Combinations.{wordOf}
-use Rattle.isdbs_core.specs.Tables.{TableAccepted}
-use Rattle.isdbs_core.specs.RunsOf.{frameSteps}
+use Rattle.isdbs_tables.specs.TableLaws.{then-accepted}
+use Rattle.isdbs_combination.specs.declared.Combination.{Combination}
+use Rattle.isdbs_tables.specs.declared.Table.{Table}
+use Rattle.isdbs_combination.specs.Combinations.{wordOf}
+use Rattle.isdbs_tables.specs.Tables.{TableAccepted}
+use Rattle.isdbs_runs.specs.RunsOf.{frameSteps}
 use Rattle.isdbs_points.specs.declared.Mapping.{Mapping}
 use Rattle.isdbs_phy.specs.DecodeRows.{within, someOf, someBeyond, partLimit, scaleLimit, badScale, someBad, pointRows, lastRows, decodeRows}
 use Rattle.isdbs_points.specs.Layout.{wordBit}

@@ -13,10 +13,10 @@ use Rattle.trellis.specs.Code.{isdb, label}
 use Rattle.trellis.specs.Isdb.{rule}
 use Rattle.trellis.specs.Step.{Tie, nexts}
 use Rattle.trellis.specs.Run.{Decoder, after, pushed}
-use Rattle.isdbs_core.specs.declared.combination.Modulation.the-variants.{Tc8psk}
-use Rattle.isdbs_core.specs.declared.tmcc.Table.{Table}
-use Rattle.isdbs_core.specs.Combinations.{modulationOf}
-use Rattle.isdbs_core.specs.RunsOf.{frameSteps}
+use Rattle.isdbs_combination.specs.declared.Modulation.the-variants.{Tc8psk}
+use Rattle.isdbs_tables.specs.declared.Table.{Table}
+use Rattle.isdbs_combination.specs.Combinations.{modulationOf}
+use Rattle.isdbs_runs.specs.RunsOf.{frameSteps}
 use Rattle.isdbs_points.specs.declared.Mapping.{Mapping}
 use Rattle.isdbs_phy.specs.DecodeRows.{within, decodeRows}
 use Rattle.isdbs_points.specs.Layout.{Segment, segments}

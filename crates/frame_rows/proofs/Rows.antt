@@ -10,9 +10,9 @@ use Rattle.refusal.specs.Rows.{Row, firstRow}
 use Rattle.refusal.specs.RowLaws.{refused-by, passed-by}
 use Rattle.refusal.specs.declared.Answer.{Answer}
 use Rattle.refusal.specs.declared.Answer.the-variants.{Accepted}
-use Rattle.isdbs_core.specs.declared.tmcc.Table.{Table}
-use Rattle.isdbs_core.specs.Tables.{tableRows, tableAnswer}
-use Rattle.isdbs_core.specs.TableLaws.{table-refusing}
+use Rattle.isdbs_tables.specs.declared.Table.{Table}
+use Rattle.isdbs_tables.specs.Tables.{tableRows, tableAnswer}
+use Rattle.isdbs_tables.specs.TableLaws.{table-refusing}
 use Rattle.frame_rows.specs.DecodeRows.{someOf, pointRows, lastRows, frameRows}
 
 pub or-second : (a b : Bool) → b ≡ true → (a || b) ≡ true

@@ -5,10 +5,10 @@ use Prim.Native.Nat.{ℕ}
 use lib.Dec.{ltb}
 use Rattle.refusal.specs.declared.Answer.the-variants.{State, Space}
 use Rattle.refusal.specs.Rows.{Row}
-use Rattle.isdbs_core.specs.declared.tmcc.Table.{Table}
-use Rattle.isdbs_core.specs.Frame.{mainSymbols}
-use Rattle.isdbs_core.specs.Lists.{either}
-use Rattle.isdbs_core.specs.Tables.{tableRows}
+use Rattle.isdbs_tables.specs.declared.Table.{Table}
+use Rattle.isdbs_frame.specs.Frame.{mainSymbols}
+use Rattle.isdbs_combination.specs.Lists.{either}
+use Rattle.isdbs_tables.specs.Tables.{tableRows}
 
 -- refusal 9: "a lent output .. shorter than this call writes": 38,976 points, in parts of a and b elements
 abbrev pub shortParts : ℕ → ℕ → Bool

@@ -5,7 +5,7 @@ use mathlib.Core.List.{List}
 use Prim.Native.Nat.{ℕ}
 use lib.ListN.{replicate}
 use lib.Ieee.{Float}
-use Rattle.isdbs_core.specs.declared.tmcc.Table.{Table}
+use Rattle.isdbs_tables.specs.declared.Table.{Table}
 use Rattle.frame_rows.specs.DecodeRows.{someOf, badScale, someBad, frameRows, decodeRows, oneScaleRows}
 
 seven : (b : Bool) → (((((((false || b) || b) || b) || b) || b) || b) || b) ≡ b

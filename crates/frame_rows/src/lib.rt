@@ -12,8 +12,8 @@ ghost use Prim.Native.Nat.{_≤_};
 ghost use lib.Dec.{ltb};
 ghost use lib.ListN.{length};
 ghost use Rattle.refusal.specs.Rows.{firstRow};
-ghost use Rattle.isdbs_core.specs.Frame.{mainSymbols};
-ghost use Rattle.isdbs_core.specs.RunsOf.{planOf, Planned};
+ghost use Rattle.isdbs_frame.specs.Frame.{mainSymbols};
+ghost use Rattle.isdbs_runs.specs.RunsOf.{planOf, Planned};
 ghost use Rattle.frame_rows.specs.DecodeRows.{within, someBeyond, partLimit, badScale, someBad, shortSpace, decodeRows};
 ghost use Rattle.frame_rows.specs.EncodeRows.{encodeRows};
 

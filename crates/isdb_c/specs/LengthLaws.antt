@@ -11,9 +11,9 @@ use Rattle.refusal.specs.declared.Answer.{Answer}
 use Rattle.refusal.specs.declared.Answer.the-variants.{Length}
 use Rattle.refusal.specs.Rows.{Row, numberOf, firstRow}
 use Rattle.refusal.specs.RowLaws.{zero-accepted}
-use Rattle.isdbs_core.specs.declared.tmcc.Table.{Table}
-use Rattle.isdbs_core.specs.Tables.{tableRows}
-use Rattle.isdbs_core.specs.TableLaws.{then-accepted}
+use Rattle.isdbs_tables.specs.declared.Table.{Table}
+use Rattle.isdbs_tables.specs.Tables.{tableRows}
+use Rattle.isdbs_tables.specs.TableLaws.{then-accepted}
 use Rattle.isdbs_phy.specs.DecodeRows.{someBad, pointRows, lastRows, decodeRows}
 use Rattle.answers_c.specs.Answers.{answered}
 use Rattle.answers_c.specs.Lengths.{untilLength}

@@ -7,8 +7,8 @@ use lib.ListN.{length}
 use lib.Ieee.{Float}
 use Rattle.refusal.specs.declared.Answer.the-variants.{Length}
 use Rattle.refusal.specs.Rows.{Row}
-use Rattle.isdbs_core.specs.declared.tmcc.Table.{Table}
-use Rattle.isdbs_core.specs.Tables.{tableRows}
+use Rattle.isdbs_tables.specs.declared.Table.{Table}
+use Rattle.isdbs_tables.specs.Tables.{tableRows}
 use Rattle.isdbs_phy.specs.DecodeRows.{someBad, pointRows, lastRows}
 
 -- 5: scales that are not seven, directly below the table's rows

@@ -5,8 +5,8 @@ use Prim.Native.Nat.{ℕ, _≤_, _<_}
 use native.Mathlib.Omega.{arith}
 use lib.Dec.{leb, ltb}
 use borrow.Author.Tests.{leb-true, ltb-true}
-use Rattle.isdbs_core.specs.declared.slots.Run.{Run}
-use Rattle.isdbs_core.specs.Lists.{both}
+use Rattle.isdbs_runs.specs.declared.Run.{Run}
+use Rattle.isdbs_combination.specs.Lists.{both}
 use Rattle.isdbs_core.specs.Symbols.{hasSlot}
 
 two : (a b : Bool) → both a b ≡ true → (a ≡ true) × (b ≡ true)

@@ -6,10 +6,10 @@ use Prim.Native.Nat.{ℕ, suc, _+_, _-_, _≤_, _<_}
 use native.Mathlib.Omega.{arith}
 use lib.ListN.{length, getD, take, drop, replicate}
 use lib.Seq.{take-append-seam, getD-take}
-use Rattle.isdbs_core.specs.declared.combination.Puncture.{Puncture}
-use Rattle.isdbs_core.specs.declared.combination.BitPair.{BitPair}
-use Rattle.isdbs_core.specs.declared.combination.BitPairs.{BitPairs}
-use Rattle.isdbs_core.specs.Combinations.{pairsOf, fourPairs}
+use Rattle.isdbs_combination.specs.declared.Puncture.{Puncture}
+use Rattle.isdbs_combination.specs.declared.BitPair.{BitPair}
+use Rattle.isdbs_combination.specs.declared.BitPairs.{BitPairs}
+use Rattle.isdbs_combination.specs.Combinations.{pairsOf, fourPairs}
 use Rattle.isdbs_core.specs.Symbols.{pairHolds, firstPair}
 use Rattle.isdbs_core.specs.SymbolLaws.{first-more, first-end}
 

@@ -1,15 +1,8 @@
--- Document 01's number and values for each case of an answer that is an enum. Assumes nothing.
+-- Document 01's number and values for each case of the place of a byte. Assumes nothing.
 use mathlib.Core.List.{[], _∷_}
 use Rattle.refusal.specs.Rows.{numberOf, Said}
-use Rattle.isdbs_core.specs.declared.frame.Position as position
-use Rattle.isdbs_core.specs.declared.frame.Position.the-variants as place
 use Rattle.isdbs_core.specs.declared.slots.SlotByte.{SlotByte}
 use Rattle.isdbs_core.specs.declared.slots.SlotByte.the-variants.{At, Nothing, Refused}
-
--- a position
-abbrev pub positionSaid : position.Position → Said
-positionSaid (place.At p) = (0, p ∷ [])
-positionSaid (place.Refused a) = (numberOf a, [])
 
 -- the place of a slot's byte: accepted, and nothing, where no symbol carries it
 abbrev pub byteSaid : SlotByte → Said

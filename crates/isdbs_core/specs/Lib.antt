@@ -1,16 +1,4 @@
-pub mod Lists
 pub mod Answers
-pub mod Frame
-pub mod Combinations
-pub mod Tables
-pub mod RunsOf
 pub mod Symbols
-pub mod SlotPart
-pub mod ListLaws
-pub mod CombinationLaws
-pub mod RunLaws
-pub mod TableLaws
 pub mod SymbolLaws
 pub mod MarkLaws
-pub mod PartLaws
-pub mod PlaceLaws

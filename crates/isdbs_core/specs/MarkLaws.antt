@@ -5,18 +5,19 @@ use mathlib.Core.List.{List, [], _∷_, _++_}
 use Prim.Native.Nat.{ℕ, zero, suc, _+_, _-_, _≤_, _<_}
 use native.Mathlib.Omega.{arith}
 use borrow.Author.Tests.{lt-ltb, le-ltb}
-use Rattle.isdbs_core.specs.declared.combination.Combination.{Combination}
-use Rattle.isdbs_core.specs.declared.combination.MaybeCombination.{MaybeCombination}
-use Rattle.isdbs_core.specs.declared.combination.MaybeCombination.the-variants.{Some, None}
-use Rattle.isdbs_core.specs.declared.tmcc.Entry.{Entry}
-use Rattle.isdbs_core.specs.declared.tmcc.Table as declared
-use Rattle.isdbs_core.specs.declared.tmcc.SlotMark.{SlotMark}
-use Rattle.isdbs_core.specs.declared.slots.Run.{Run}
-use Rattle.isdbs_core.specs.Lists.{table}
-use Rattle.isdbs_core.specs.Tables.{entryCombination, slotSum, partOf, TableAccepted, marked, markIn, markAt, mark, marksOf}
-use Rattle.isdbs_core.specs.RunsOf.{entryRuns, entrySymbols, runsFrom, validIn, validTotal}
-use Rattle.isdbs_core.specs.RunLaws.{WholeUnits, no-part}
-use Rattle.isdbs_core.specs.TableLaws.{sum-fits, units-whole}
+use Rattle.isdbs_combination.specs.declared.Combination.{Combination}
+use Rattle.isdbs_combination.specs.declared.MaybeCombination.{MaybeCombination}
+use Rattle.isdbs_combination.specs.declared.MaybeCombination.the-variants.{Some, None}
+use Rattle.isdbs_tables.specs.declared.Entry.{Entry}
+use Rattle.isdbs_tables.specs.declared.Table as declared
+use Rattle.isdbs_tables.specs.declared.SlotMark.{SlotMark}
+use Rattle.isdbs_runs.specs.declared.Run.{Run}
+use Rattle.isdbs_combination.specs.Lists.{table}
+use Rattle.isdbs_tables.specs.Tables.{entryCombination, slotSum, partOf, TableAccepted, marked, markIn, markAt, mark, marksOf}
+use Rattle.isdbs_runs.specs.RunsOf.{entryRuns, entrySymbols, runsFrom, validIn, validTotal}
+use Rattle.isdbs_tables.specs.TableLaws.{WholeUnits}
+use Rattle.isdbs_runs.specs.RunLaws.{no-part}
+use Rattle.isdbs_tables.specs.TableLaws.{sum-fits, units-whole}
 use Rattle.isdbs_core.specs.Symbols.{markedBefore}
 use Rattle.isdbs_core.specs.SymbolLaws.{marked-whole}
 

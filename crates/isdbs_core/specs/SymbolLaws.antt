@@ -9,19 +9,19 @@ use lib.Dec.{ltb, lit<, leb·zero, leb·suc-zero}
 use borrow.Author.Tests.{ltb-true, ltb-false}
 use lib.ListN.{length, getD, drop, replicate, drop-of-length-le}
 use lib.Seq.{drop-cons}
-use Rattle.isdbs_core.specs.declared.combination.Combination.{Combination}
-use Rattle.isdbs_core.specs.declared.combination.Combination.the-variants.{«Bpsk1_2», «Qpsk1_2», «Qpsk2_3», «Qpsk3_4», «Qpsk5_6», «Qpsk7_8», «Tc8psk2_3»}
-use Rattle.isdbs_core.specs.declared.combination.Puncture.{Puncture}
-use Rattle.isdbs_core.specs.declared.combination.Puncture.the-variants.{«R2_3», «R3_4», «R5_6», «R7_8»}
-use Rattle.isdbs_core.specs.declared.combination.BitPair.{BitPair}
-use Rattle.isdbs_core.specs.declared.slots.Run.{Run}
+use Rattle.isdbs_combination.specs.declared.Combination.{Combination}
+use Rattle.isdbs_combination.specs.declared.Combination.the-variants.{«Bpsk1_2», «Qpsk1_2», «Qpsk2_3», «Qpsk3_4», «Qpsk5_6», «Qpsk7_8», «Tc8psk2_3»}
+use Rattle.isdbs_combination.specs.declared.Puncture.{Puncture}
+use Rattle.isdbs_combination.specs.declared.Puncture.the-variants.{«R2_3», «R3_4», «R5_6», «R7_8»}
+use Rattle.isdbs_combination.specs.declared.BitPair.{BitPair}
+use Rattle.isdbs_runs.specs.declared.Run.{Run}
 use Rattle.isdbs_core.specs.declared.slots.SlotByte.{SlotByte}
 use Rattle.isdbs_core.specs.declared.slots.SlotByte.the-variants.{Nothing}
-use Rattle.isdbs_core.specs.Lists.{padded}
-use Rattle.isdbs_core.specs.Combinations.{pairsOf, periodOf, unitOf}
-use Rattle.isdbs_core.specs.Tables.{marked}
-use Rattle.isdbs_core.specs.RunsOf.{noRun}
-use Rattle.isdbs_core.specs.RunLaws.{Whole}
+use Rattle.isdbs_combination.specs.Lists.{padded}
+use Rattle.isdbs_combination.specs.Combinations.{pairsOf, periodOf, unitOf}
+use Rattle.isdbs_tables.specs.Tables.{marked}
+use Rattle.isdbs_runs.specs.RunsOf.{noRun}
+use Rattle.isdbs_runs.specs.RunLaws.{Whole}
 use Rattle.isdbs_core.specs.Symbols.{pairHolds, firstPair, symbolOfBit, markedBefore, hasSlot, runByte, byteIn}
 
 step-le : (b : Bool) (n k : ℕ) → n ≤ k → cond b 0 (suc n) ≤ suc k

@@ -6,21 +6,21 @@ use lib.Dec.{leb, ltb, eqb}
 use lib.ListN.{length}
 use Rattle.refusal.specs.declared.Answer.the-variants.{Position}
 use Rattle.refusal.specs.Rows.{numberOf, accepted, Row, firstRow, Said, says}
-use Rattle.isdbs_core.specs.declared.combination.Combination.{Combination}
-use Rattle.isdbs_core.specs.declared.combination.MaybePuncture.{MaybePuncture}
-use Rattle.isdbs_core.specs.declared.combination.MaybePuncture.the-variants.{Some, None}
-use Rattle.isdbs_core.specs.declared.combination.Ratio.{Ratio}
-use Rattle.isdbs_core.specs.declared.combination.BitPair.{BitPair}
-use Rattle.isdbs_core.specs.declared.tmcc.Table.{Table}
-use Rattle.isdbs_core.specs.declared.slots.Run.{Run}
+use Rattle.isdbs_combination.specs.declared.Combination.{Combination}
+use Rattle.isdbs_combination.specs.declared.MaybePuncture.{MaybePuncture}
+use Rattle.isdbs_combination.specs.declared.MaybePuncture.the-variants.{Some, None}
+use Rattle.isdbs_combination.specs.declared.Ratio.{Ratio}
+use Rattle.isdbs_combination.specs.declared.BitPair.{BitPair}
+use Rattle.isdbs_tables.specs.declared.Table.{Table}
+use Rattle.isdbs_runs.specs.declared.Run.{Run}
 use Rattle.isdbs_core.specs.declared.slots.SlotByte.{SlotByte}
 use Rattle.isdbs_core.specs.declared.slots.SlotByte.the-variants.{At, Nothing}
-use Rattle.isdbs_core.specs.Lists.{both, either}
+use Rattle.isdbs_combination.specs.Lists.{both, either}
 use Rattle.isdbs_core.specs.Answers.{byteSaid}
-use Rattle.isdbs_core.specs.Frame.{slotBytes, main, placeOf}
-use Rattle.isdbs_core.specs.Combinations.{efficiencyOf, punctureOf, pairsOf, periodOf}
-use Rattle.isdbs_core.specs.Tables.{tableAnswer, marked}
-use Rattle.isdbs_core.specs.RunsOf.{runsOf}
+use Rattle.isdbs_frame.specs.Frame.{slotBytes, main, placeOf}
+use Rattle.isdbs_combination.specs.Combinations.{efficiencyOf, punctureOf, pairsOf, periodOf}
+use Rattle.isdbs_tables.specs.Tables.{tableAnswer, marked}
+use Rattle.isdbs_runs.specs.RunsOf.{runsOf}
 
 -- a pair holds X or Y of input i of a period, from 0
 abbrev pub pairHolds : ℕ → BitPair → Bool

@@ -8,8 +8,8 @@ use native.Mathlib.Nat.{not-suc-le-zero, le-of-suc-le-suc}
 use lib.Dec.{ltb}
 use lib.ListN.{length, getD, take}
 use borrow.Author.Tests.{lt-ltb, le-ltb}
-use Rattle.isdbs_core.specs.declared.slots.Run.{Run}
-use Rattle.isdbs_core.specs.RunsOf.{validIn, stepsOf, stepsIn, noRun}
+use Rattle.isdbs_runs.specs.declared.Run.{Run}
+use Rattle.isdbs_runs.specs.RunsOf.{validIn, stepsOf, stepsIn, noRun}
 use Rattle.trellis.specs.Step.{Step, four}
 use Rattle.isdbs_metrics.specs.Reading.{Received, metricsIn}
 use Rattle.isdbs_points.specs.Layout.{Segment, segmentOf, segmentsFrom, among}

@@ -20,8 +20,8 @@ use Rattle.viterbi.specs.Calls.{stepOnce, steps, traced, bestState, holding, Ho
 use Rattle.viterbi.specs.Count.{step-counts}
 use Rattle.viterbi.specs.Holding.{holds-next, holding-is, cleared}
 use Rattle.viterbi.specs.Laid.{laid-after, laid-laid}
-use Rattle.isdbs_core.specs.declared.combination.Combination.{Combination}
-use Rattle.isdbs_core.specs.declared.combination.Combination.the-variants.{«Bpsk1_2», «Qpsk1_2», «Qpsk2_3», «Qpsk3_4», «Qpsk5_6», «Qpsk7_8», «Tc8psk2_3»}
+use Rattle.isdbs_combination.specs.declared.Combination.{Combination}
+use Rattle.isdbs_combination.specs.declared.Combination.the-variants.{«Bpsk1_2», «Qpsk1_2», «Qpsk2_3», «Qpsk3_4», «Qpsk5_6», «Qpsk7_8», «Tc8psk2_3»}
 use Rattle.isdbs_metrics.specs.declared.Phase.{Phase}
 use Rattle.isdbs_points.specs.Layout.{orderOf, stepsPerPeriod, sentOrder}
 use Rattle.isdbs_metrics.specs.Steps.{PhaseAt}

@@ -13,7 +13,7 @@ use mir.Val.{boolByte}
 use mathlib.Core.Bool.{Bool, true, false}
 use Rattle.trellis.specs.Lists.{bit}
 use Rattle.trellis.specs.Code.{isdb, label, output, moved, stateAt}
-use Rattle.isdbs_core.specs.declared.combination.Combination.the-variants.{«Tc8psk2_3»}
+use Rattle.isdbs_combination.specs.declared.Combination.the-variants.{«Tc8psk2_3»}
 use Rattle.isdbs_points.specs.declared.Mapping.{Mapping}
 use Rattle.isdbs_points.specs.Points.{point, turned, psk8Of, subset, zero64}
 use Rattle.isdbs_points.specs.Frame.{labelAt}

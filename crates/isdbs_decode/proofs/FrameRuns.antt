@@ -8,16 +8,16 @@ use lib.ListN.{length, getD, take, drop, replicate, length-drop}
 use lib.Seq.{take-at, take-all, take-length}
 use lib.Ieee.{Float}
 use Rattle.trellis.specs.Step.{four}
-use Rattle.isdbs_core.specs.declared.combination.Combination.{Combination}
-use Rattle.isdbs_core.specs.declared.combination.Combination.the-variants.{«Bpsk1_2», «Qpsk1_2», «Qpsk2_3», «Qpsk3_4», «Qpsk5_6», «Qpsk7_8», «Tc8psk2_3»}
-use Rattle.isdbs_core.specs.declared.slots.Run.{Run}
-use Rattle.isdbs_core.specs.declared.slots.Plan.{Plan}
-use Rattle.isdbs_core.specs.declared.tmcc.Table.{Table}
-use Rattle.isdbs_core.specs.Lists.{padded, Each}
-use Rattle.isdbs_core.specs.Combinations.{modulationOf, punctureOf, periodSteps, periodSymbols, slotSteps}
-use Rattle.isdbs_core.specs.TableLaws.{table-laid}
-use Rattle.isdbs_core.specs.RunsOf.{runsOf, Planned, stepsOf, stepsIn, frameSteps, validIn, validTotal, noRun, RunFits}
-use Rattle.isdbs_core.specs.RunLaws.{Whole, run-whole}
+use Rattle.isdbs_combination.specs.declared.Combination.{Combination}
+use Rattle.isdbs_combination.specs.declared.Combination.the-variants.{«Bpsk1_2», «Qpsk1_2», «Qpsk2_3», «Qpsk3_4», «Qpsk5_6», «Qpsk7_8», «Tc8psk2_3»}
+use Rattle.isdbs_runs.specs.declared.Run.{Run}
+use Rattle.isdbs_runs.specs.declared.Plan.{Plan}
+use Rattle.isdbs_tables.specs.declared.Table.{Table}
+use Rattle.isdbs_combination.specs.Lists.{padded, Each}
+use Rattle.isdbs_combination.specs.Combinations.{modulationOf, punctureOf, periodSteps, periodSymbols, slotSteps}
+use Rattle.isdbs_runs.specs.PlanLaws.{table-laid}
+use Rattle.isdbs_runs.specs.RunsOf.{runsOf, Planned, stepsOf, stepsIn, frameSteps, validIn, validTotal, noRun, RunFits}
+use Rattle.isdbs_runs.specs.RunLaws.{Whole, run-whole}
 use Rattle.isdbs_points.specs.declared.Mapping.{Mapping}
 use Rattle.isdbs_points.specs.Layout.{sentOrder}
 use Rattle.isdbs_metrics.specs.Reading.{metricsIn}

@@ -9,9 +9,9 @@ use Rattle.trellis.specs.Run.{after}
 use Rattle.viterbi.specs.declared.At.{At}
 use Rattle.viterbi.specs.Calls.{steps, Holds}
 use Rattle.viterbi.specs.Holding.{holds-start}
-use Rattle.isdbs_core.specs.declared.slots.Run.{Run}
-use Rattle.isdbs_core.specs.declared.tmcc.Table.{Table}
-use Rattle.isdbs_core.specs.RunsOf.{stepsOf, stepsIn, frameSteps, noRun}
+use Rattle.isdbs_runs.specs.declared.Run.{Run}
+use Rattle.isdbs_tables.specs.declared.Table.{Table}
+use Rattle.isdbs_runs.specs.RunsOf.{stepsOf, stepsIn, frameSteps, noRun}
 use Rattle.isdbs_points.specs.declared.Mapping.{Mapping}
 use Rattle.isdbs_metrics.specs.Reading.{metricsAt}
 use Rattle.isdbs_decode.specs.Runs.{Carried, RunsRead, runSteps, freshFrom}

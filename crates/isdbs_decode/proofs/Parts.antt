@@ -8,10 +8,10 @@ use lib.Dec.{eqb, ltb}
 use lib.ListN.{length, getD, drop}
 use lib.Seq.{getD-drop}
 use lib.Ieee.{Float, nan, lt, binary32, ofBits}
-use Rattle.isdbs_core.specs.declared.combination.Modulation.{Modulation}
-use Rattle.isdbs_core.specs.declared.combination.Modulation.the-variants.{Bpsk, Qpsk, Tc8psk}
-use Rattle.isdbs_core.specs.declared.slots.Run.{Run}
-use Rattle.isdbs_core.specs.Combinations.{modulationOf}
+use Rattle.isdbs_combination.specs.declared.Modulation.{Modulation}
+use Rattle.isdbs_combination.specs.declared.Modulation.the-variants.{Bpsk, Qpsk, Tc8psk}
+use Rattle.isdbs_runs.specs.declared.Run.{Run}
+use Rattle.isdbs_combination.specs.Combinations.{modulationOf}
 use Rattle.isdbs_points.specs.declared.Cplx.{Cplx}
 use Rattle.isdbs_points.specs.declared.Mapping.{Mapping}
 use Rattle.isdbs_points.specs.Points.{psk8Of, subset, zero64}

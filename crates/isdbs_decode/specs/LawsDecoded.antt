@@ -18,8 +18,8 @@ use Rattle.trellis.specs.Run.{Decoder, block, stepped, after}
 use Rattle.viterbi.specs.Calls.{nexts, word, settle, steps}
 use Rattle.viterbi.specs.Count.{counted}
 use Rattle.viterbi.specs.Traced.{length-traced}
-use Rattle.isdbs_core.specs.declared.tmcc.Table.{Table}
-use Rattle.isdbs_core.specs.RunsOf.{frameSteps}
+use Rattle.isdbs_tables.specs.declared.Table.{Table}
+use Rattle.isdbs_runs.specs.RunsOf.{frameSteps}
 use Rattle.isdbs_metrics.specs.Reading.{Received, startValues, decodedBits}
 use Rattle.isdbs_decode.specs.Runs.{frameMetrics, freshFrom, knownBits, endedBits, bitsFrom}
 

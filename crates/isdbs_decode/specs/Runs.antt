@@ -11,9 +11,9 @@ use Rattle.trellis.specs.Step.{Step, four, known}
 use Rattle.trellis.specs.Run.{Decoder}
 use Rattle.viterbi.specs.declared.At.{At}
 use Rattle.viterbi.specs.Calls.{steps, flush, Holds}
-use Rattle.isdbs_core.specs.declared.combination.Combination.{Combination}
-use Rattle.isdbs_core.specs.declared.tmcc.Table.{Table}
-use Rattle.isdbs_core.specs.RunsOf.{frameSteps}
+use Rattle.isdbs_combination.specs.declared.Combination.{Combination}
+use Rattle.isdbs_tables.specs.declared.Table.{Table}
+use Rattle.isdbs_runs.specs.RunsOf.{frameSteps}
 use Rattle.isdbs_points.specs.declared.Mapping.{Mapping}
 use Rattle.isdbs_points.specs.Layout.{wordBit, atBit, byteOf}
 use Rattle.isdbs_points.specs.Frame.{labelAt}

@@ -13,10 +13,10 @@ use Rattle.trellis.specs.Lists.{upto, laid}
 use Rattle.trellis.specs.Code.{isdb, output, label, moved, stateAt}
 use Rattle.trellis.specs.Step.{term}
 use Rattle.viterbi.specs.Upto.{getD-upto}
-use Rattle.isdbs_core.specs.declared.combination.Combination.{Combination}
-use Rattle.isdbs_core.specs.declared.combination.Combination.the-variants.{«Bpsk1_2», «Qpsk1_2», «Qpsk2_3», «Qpsk3_4», «Qpsk5_6», «Qpsk7_8», «Tc8psk2_3»}
-use Rattle.isdbs_core.specs.declared.combination.Modulation.the-variants.{Bpsk, Tc8psk}
-use Rattle.isdbs_core.specs.Combinations.{modulationOf}
+use Rattle.isdbs_combination.specs.declared.Combination.{Combination}
+use Rattle.isdbs_combination.specs.declared.Combination.the-variants.{«Bpsk1_2», «Qpsk1_2», «Qpsk2_3», «Qpsk3_4», «Qpsk5_6», «Qpsk7_8», «Tc8psk2_3»}
+use Rattle.isdbs_combination.specs.declared.Modulation.the-variants.{Bpsk, Tc8psk}
+use Rattle.isdbs_combination.specs.Combinations.{modulationOf}
 use Rattle.isdbs_points.specs.declared.Mapping.{Mapping}
 use Rattle.isdbs_points.specs.Points.{one64, bpskOf, psk8Of, subset}
 use Rattle.isdbs_points.specs.Layout.{loadBit}

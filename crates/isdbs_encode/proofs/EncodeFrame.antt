@@ -11,15 +11,15 @@ use lib.Seq.{getD-take}
 use Rattle.trellis.specs.Lists.{upto, laid}
 use Rattle.trellis.specs.Code.{stateAt}
 use Rattle.viterbi.specs.Upto.{getD-upto}
-use Rattle.isdbs_core.specs.declared.combination.Combination.{Combination}
-use Rattle.isdbs_core.specs.declared.combination.Combination.the-variants.{«Bpsk1_2», «Qpsk1_2», «Qpsk2_3», «Qpsk3_4», «Qpsk5_6», «Qpsk7_8», «Tc8psk2_3»}
-use Rattle.isdbs_core.specs.declared.combination.Modulation.{Modulation}
-use Rattle.isdbs_core.specs.declared.combination.Modulation.the-variants.{Bpsk, Qpsk, Tc8psk}
-use Rattle.isdbs_core.specs.declared.combination.MaybePuncture.{MaybePuncture}
-use Rattle.isdbs_core.specs.declared.combination.MaybePuncture.the-variants.{Some, None}
-use Rattle.isdbs_core.specs.declared.slots.Run.{Run}
-use Rattle.isdbs_core.specs.Combinations.{modulationOf, punctureOf, unitOf, slotSteps}
-use Rattle.isdbs_core.specs.RunsOf.{stepsIn, stepsOf, noRun}
+use Rattle.isdbs_combination.specs.declared.Combination.{Combination}
+use Rattle.isdbs_combination.specs.declared.Combination.the-variants.{«Bpsk1_2», «Qpsk1_2», «Qpsk2_3», «Qpsk3_4», «Qpsk5_6», «Qpsk7_8», «Tc8psk2_3»}
+use Rattle.isdbs_combination.specs.declared.Modulation.{Modulation}
+use Rattle.isdbs_combination.specs.declared.Modulation.the-variants.{Bpsk, Qpsk, Tc8psk}
+use Rattle.isdbs_combination.specs.declared.MaybePuncture.{MaybePuncture}
+use Rattle.isdbs_combination.specs.declared.MaybePuncture.the-variants.{Some, None}
+use Rattle.isdbs_runs.specs.declared.Run.{Run}
+use Rattle.isdbs_combination.specs.Combinations.{modulationOf, punctureOf, unitOf, slotSteps}
+use Rattle.isdbs_runs.specs.RunsOf.{stepsIn, stepsOf, noRun}
 use Rattle.isdbs_points.specs.declared.Cplx.{Cplx}
 use Rattle.isdbs_points.specs.declared.Mapping.{Mapping}
 use Rattle.isdbs_points.specs.Points.{unused, bpskOf, qpskOf, psk8Of, subset}

@@ -9,16 +9,17 @@ use lib.Ieee.{Float}
 use lib.ListN.{length, getD, take, drop, replicate, length-append}
 use lib.Seq.{take-append-seam}
 use Rattle.trellis.specs.Lists.{upto, laid}
-use Rattle.isdbs_core.specs.declared.combination.MaybeCombination.{MaybeCombination}
-use Rattle.isdbs_core.specs.declared.combination.MaybeCombination.the-variants.{Some, None}
-use Rattle.isdbs_core.specs.declared.slots.Run.{Run}
-use Rattle.isdbs_core.specs.declared.slots.Plan.{Plan}
-use Rattle.isdbs_core.specs.declared.tmcc.Entry.{Entry}
-use Rattle.isdbs_core.specs.declared.tmcc.Table.{Table}
-use Rattle.isdbs_core.specs.Lists.{Each, padded}
-use Rattle.isdbs_core.specs.Tables.{TableAccepted, entryCombination}
-use Rattle.isdbs_core.specs.RunsOf.{runsOf, planOf, noRun, RunFits}
-use Rattle.isdbs_core.specs.TableLaws.{sum-fits, table-laid}
+use Rattle.isdbs_combination.specs.declared.MaybeCombination.{MaybeCombination}
+use Rattle.isdbs_combination.specs.declared.MaybeCombination.the-variants.{Some, None}
+use Rattle.isdbs_runs.specs.declared.Run.{Run}
+use Rattle.isdbs_runs.specs.declared.Plan.{Plan}
+use Rattle.isdbs_tables.specs.declared.Entry.{Entry}
+use Rattle.isdbs_tables.specs.declared.Table.{Table}
+use Rattle.isdbs_combination.specs.Lists.{Each, padded}
+use Rattle.isdbs_tables.specs.Tables.{TableAccepted, entryCombination}
+use Rattle.isdbs_runs.specs.RunsOf.{runsOf, planOf, noRun, RunFits}
+use Rattle.isdbs_tables.specs.TableLaws.{sum-fits}
+use Rattle.isdbs_runs.specs.PlanLaws.{table-laid}
 use Rattle.isdbs_points.specs.declared.Cplx.{Cplx}
 use Rattle.isdbs_points.specs.declared.Mapping.{Mapping}
 use Rattle.isdbs_encode.specs.declared.RunsEncoded.{RunsEncoded}

@@ -10,7 +10,7 @@ use lib.ListN.{length, getD, take, drop}
 use Rattle.trellis.specs.Lists.{upto, laid}
 use Rattle.trellis.specs.Code.{stateAt}
 use Rattle.viterbi.specs.Upto.{getD-upto}
-use Rattle.isdbs_core.specs.declared.combination.Combination.the-variants.{«Tc8psk2_3»}
+use Rattle.isdbs_combination.specs.declared.Combination.the-variants.{«Tc8psk2_3»}
 use Rattle.isdbs_points.specs.declared.Mapping.{Mapping}
 use Rattle.isdbs_points.specs.Layout.{loadBit}
 use Rattle.isdbs_points.specs.Frame.{inputIn}

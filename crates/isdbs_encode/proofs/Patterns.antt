@@ -8,11 +8,11 @@ use native.Mathlib.Omega.{arith}
 use borrow.Author.Count.{below-more}
 use lib.Dec.{T, eqb, eqb→eq, ltb, ltb→lt, lit<, lit≤}
 use lib.ListN.{getD}
-use Rattle.isdbs_core.specs.declared.combination.BitPair.{BitPair}
-use Rattle.isdbs_core.specs.declared.combination.Puncture.{Puncture}
-use Rattle.isdbs_core.specs.declared.combination.Puncture.the-variants.{«R2_3», «R3_4», «R5_6», «R7_8»}
-use Rattle.isdbs_core.specs.declared.combination.MaybePuncture.the-variants.{Some, None}
-use Rattle.isdbs_core.specs.Combinations.{periodOf, fourPairs, pairsOf}
+use Rattle.isdbs_combination.specs.declared.BitPair.{BitPair}
+use Rattle.isdbs_combination.specs.declared.Puncture.{Puncture}
+use Rattle.isdbs_combination.specs.declared.Puncture.the-variants.{«R2_3», «R3_4», «R5_6», «R7_8»}
+use Rattle.isdbs_combination.specs.declared.MaybePuncture.the-variants.{Some, None}
+use Rattle.isdbs_combination.specs.Combinations.{periodOf, fourPairs, pairsOf}
 use Rattle.isdbs_encode.specs.declared.Pattern.{Pattern}
 use Rattle.isdbs_points.specs.Layout.{sentOrder}
 use Rattle.isdbs_encode.specs.Encoded.{PatternOf}

@@ -6,10 +6,10 @@ use lib.Ieee.{Float}
 use lib.ListN.{length, getD}
 use Rattle.trellis.specs.Lists.{upto, laid}
 use Rattle.trellis.specs.Code.{stateAt}
-use Rattle.isdbs_core.specs.declared.slots.Run.{Run}
-use Rattle.isdbs_core.specs.declared.tmcc.Table.{Table}
-use Rattle.isdbs_core.specs.Frame.{mainSymbols}
-use Rattle.isdbs_core.specs.RunsOf.{stepsIn, noRun}
+use Rattle.isdbs_runs.specs.declared.Run.{Run}
+use Rattle.isdbs_tables.specs.declared.Table.{Table}
+use Rattle.isdbs_frame.specs.Frame.{mainSymbols}
+use Rattle.isdbs_runs.specs.RunsOf.{stepsIn, noRun}
 use Rattle.isdbs_points.specs.declared.Cplx.{Cplx}
 use Rattle.isdbs_points.specs.declared.Mapping.{Mapping}
 use Rattle.isdbs_encode.specs.declared.RunsEncoded.{RunsEncoded}

@@ -13,11 +13,11 @@ use Rattle.refusal.specs.RowLaws.{neither, is-refused}
 use Rattle.refusal.specs.declared.Answer.{Answer}
 use Rattle.refusal.specs.declared.Answer.the-variants.{Accepted, Symbols, Space}
 use Rattle.isdbs_phy.specs.declared.demod.FrameDecoded.the-variants.{Refused}
-use Rattle.isdbs_core.specs.declared.tmcc.Table.{Table}
-use Rattle.isdbs_core.specs.Tables.{TableAccepted}
-use Rattle.isdbs_core.specs.TableLaws.{then-accepted}
-use Rattle.isdbs_core.specs.Frame.{mainSymbols}
-use Rattle.isdbs_core.specs.RunsOf.{validTotal, frameSteps, loadBytes}
+use Rattle.isdbs_tables.specs.declared.Table.{Table}
+use Rattle.isdbs_tables.specs.Tables.{TableAccepted}
+use Rattle.isdbs_tables.specs.TableLaws.{then-accepted}
+use Rattle.isdbs_frame.specs.Frame.{mainSymbols}
+use Rattle.isdbs_runs.specs.RunsOf.{validTotal, frameSteps, loadBytes}
 use Rattle.isdbs_metrics.specs.Reading.{frameWords}
 use Rattle.isdbs_phy.specs.DecodeRows.{pointRows, lastRows, frameRows, frameSaid, frameAnswer}
 

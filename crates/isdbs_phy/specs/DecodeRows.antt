@@ -7,8 +7,8 @@ use Rattle.refusal.specs.Rows.{numberOf, Said, says}
 use Rattle.refusal.specs.declared.Answer.{Answer}
 use Rattle.isdbs_phy.specs.declared.demod.FrameDecoded.{FrameDecoded}
 use Rattle.isdbs_phy.specs.declared.demod.FrameDecoded.the-variants.{Decoded, Refused}
-use Rattle.isdbs_core.specs.declared.tmcc.Table.{Table}
-use Rattle.isdbs_core.specs.RunsOf.{frameSteps, loadBytes}
+use Rattle.isdbs_tables.specs.declared.Table.{Table}
+use Rattle.isdbs_runs.specs.RunsOf.{frameSteps, loadBytes}
 use Rattle.trellis.specs.Lists.{laid}
 use Rattle.isdbs_metrics.specs.Reading.{Received}
 use Rattle.isdbs_decode.specs.Runs.{FrameRead}

@@ -6,9 +6,9 @@ use native.Mathlib.Omega.{arith}
 use lib.ListN.{getD}
 use Rattle.trellis.specs.Code.{stateAt}
 use Rattle.trellis.specs.ListLaws.{getD-upto}
-use Rattle.isdbs_core.specs.declared.tmcc.Table.{Table}
-use Rattle.isdbs_core.specs.Combinations.{modulationOf}
-use Rattle.isdbs_core.specs.RunsOf.{frameSteps}
+use Rattle.isdbs_tables.specs.declared.Table.{Table}
+use Rattle.isdbs_combination.specs.Combinations.{modulationOf}
+use Rattle.isdbs_runs.specs.RunsOf.{frameSteps}
 use Rattle.isdbs_points.specs.Layout.{Segment, segments, atStep}
 use Rattle.isdbs_points.specs.Frame.{coded, inputIn, inputs, labelAt}
 use Rattle.isdbs_points.specs.Places.{In}

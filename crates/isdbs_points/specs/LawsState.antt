@@ -8,8 +8,8 @@ use lib.ListN.{getD}
 use Rattle.trellis.specs.Code.{isdb, stateAt}
 use Rattle.trellis.specs.Encoded.{encoded, reached, encoded-at, reached-is}
 use Rattle.trellis.specs.ListLaws.{length-upto}
-use Rattle.isdbs_core.specs.declared.tmcc.Table.{Table}
-use Rattle.isdbs_core.specs.RunsOf.{frameSteps}
+use Rattle.isdbs_tables.specs.declared.Table.{Table}
+use Rattle.isdbs_runs.specs.RunsOf.{frameSteps}
 use Rattle.isdbs_points.specs.Layout.{atStep}
 use Rattle.isdbs_points.specs.Frame.{labelAt, inputIn, inputs, endState}
 

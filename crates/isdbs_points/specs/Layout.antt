@@ -5,14 +5,14 @@ use mathlib.Core.List.{List, [], _∷_}
 use Prim.Native.Nat.{ℕ, suc, _+_, _-_, _*_, _/_, _%_, _^_, _<_}
 use lib.ListN.{getD, length}
 use lib.Dec.{eqb, ltb}
-use Rattle.isdbs_core.specs.declared.combination.Combination.{Combination}
-use Rattle.isdbs_core.specs.declared.combination.MaybePuncture.{MaybePuncture}
-use Rattle.isdbs_core.specs.declared.combination.MaybePuncture.the-variants.{Some, None}
-use Rattle.isdbs_core.specs.declared.combination.BitPair.{BitPair}
-use Rattle.isdbs_core.specs.declared.slots.Run.{Run}
-use Rattle.isdbs_core.specs.declared.tmcc.Table.{Table}
-use Rattle.isdbs_core.specs.Combinations.{punctureOf, pairsOf, periodOf}
-use Rattle.isdbs_core.specs.RunsOf.{runsOf, stepsOf}
+use Rattle.isdbs_combination.specs.declared.Combination.{Combination}
+use Rattle.isdbs_combination.specs.declared.MaybePuncture.{MaybePuncture}
+use Rattle.isdbs_combination.specs.declared.MaybePuncture.the-variants.{Some, None}
+use Rattle.isdbs_combination.specs.declared.BitPair.{BitPair}
+use Rattle.isdbs_runs.specs.declared.Run.{Run}
+use Rattle.isdbs_tables.specs.declared.Table.{Table}
+use Rattle.isdbs_combination.specs.Combinations.{punctureOf, pairsOf, periodOf}
+use Rattle.isdbs_runs.specs.RunsOf.{runsOf, stepsOf}
 
 -- ---- the code of a combination
 -- the mother bits of one period in the order in which they are sent: the pairs' first and second bits; X then Y where nothing is punctured

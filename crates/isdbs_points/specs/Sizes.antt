@@ -6,19 +6,20 @@ use mathlib.Core.List.{List, [], _∷_, _++_}
 use Prim.Native.Nat.{ℕ, _+_, _-_, _*_, _%_, _<_, _≤_}
 use native.Mathlib.Nat.{add-assoc, add-zero, zero-add}
 use native.Mathlib.Omega.{arith}
-use Rattle.isdbs_core.specs.declared.combination.Combination.{Combination}
-use Rattle.isdbs_core.specs.declared.combination.Combination.the-variants.{«Bpsk1_2», «Qpsk1_2», «Qpsk2_3», «Qpsk3_4», «Qpsk5_6», «Qpsk7_8», «Tc8psk2_3»}
-use Rattle.isdbs_core.specs.declared.combination.MaybeCombination.{MaybeCombination}
-use Rattle.isdbs_core.specs.declared.combination.MaybeCombination.the-variants.{Some, None}
-use Rattle.isdbs_core.specs.declared.tmcc.Entry.{Entry}
-use Rattle.isdbs_core.specs.declared.tmcc.Table.{Table}
-use Rattle.isdbs_core.specs.declared.slots.Run.{Run}
-use Rattle.isdbs_core.specs.Frame.{mainSymbols}
-use Rattle.isdbs_core.specs.Combinations.{unitOf, slotSteps}
-use Rattle.isdbs_core.specs.Tables.{slotSum, entryCombination, partOf, TableAccepted}
-use Rattle.isdbs_core.specs.TableLaws.{sum-fits, units-whole}
-use Rattle.isdbs_core.specs.RunLaws.{WholeUnits, entry-units}
-use Rattle.isdbs_core.specs.RunsOf.{unitsIn, symbolsIn, runOf, entryRuns, entrySymbols, runsFrom, runsOf, validIn, validTotal, loadBytes, stepsOf, stepsIn, frameSteps}
+use Rattle.isdbs_combination.specs.declared.Combination.{Combination}
+use Rattle.isdbs_combination.specs.declared.Combination.the-variants.{«Bpsk1_2», «Qpsk1_2», «Qpsk2_3», «Qpsk3_4», «Qpsk5_6», «Qpsk7_8», «Tc8psk2_3»}
+use Rattle.isdbs_combination.specs.declared.MaybeCombination.{MaybeCombination}
+use Rattle.isdbs_combination.specs.declared.MaybeCombination.the-variants.{Some, None}
+use Rattle.isdbs_tables.specs.declared.Entry.{Entry}
+use Rattle.isdbs_tables.specs.declared.Table.{Table}
+use Rattle.isdbs_runs.specs.declared.Run.{Run}
+use Rattle.isdbs_frame.specs.Frame.{mainSymbols}
+use Rattle.isdbs_combination.specs.Combinations.{unitOf, slotSteps}
+use Rattle.isdbs_tables.specs.Tables.{slotSum, entryCombination, partOf, TableAccepted}
+use Rattle.isdbs_tables.specs.TableLaws.{sum-fits, units-whole}
+use Rattle.isdbs_tables.specs.TableLaws.{WholeUnits}
+use Rattle.isdbs_runs.specs.RunLaws.{entry-units}
+use Rattle.isdbs_runs.specs.RunsOf.{unitsIn, symbolsIn, runOf, entryRuns, entrySymbols, runsFrom, runsOf, validIn, validTotal, loadBytes, stepsOf, stepsIn, frameSteps}
 use Rattle.isdbs_points.specs.Layout.{Segment, segmentOf, segmentsFrom, segments, atSymbol, atStep, atBit}
 use Rattle.isdbs_points.specs.Places.{In, here, there, Fill, Found, fill-member, among-at, find}
 

@@ -12,7 +12,7 @@ use lib.Ieee.{Float}
 use Rattle.trellis.specs.Lists.{bit}
 use Rattle.trellis.specs.Code.{isdb, output, label, moved, stateAt}
 use Rattle.trellis.specs.Step.{Step, four}
-use Rattle.isdbs_core.specs.declared.combination.Combination.{Combination}
+use Rattle.isdbs_combination.specs.declared.Combination.{Combination}
 use Rattle.isdbs_points.specs.declared.Mapping.{Mapping}
 use Rattle.isdbs_points.specs.Frame.{labelAt}
 use Rattle.isdbs_metrics.specs.declared.Phase.{Phase}

@@ -13,10 +13,10 @@ use borrow.Author.Tests.{lt-ltb, le-ltb}
 use borrow.Rule.Slice.PartMut.{midOf, putMid}
 use Rattle.trellis.specs.Lists.{upto, laid, bit}
 use Rattle.trellis.specs.Code.{stateAt}
-use Rattle.isdbs_core.specs.declared.slots.Run.{Run}
-use Rattle.isdbs_core.specs.declared.tmcc.Table.{Table}
-use Rattle.isdbs_core.specs.Combinations.{slotSteps}
-use Rattle.isdbs_core.specs.RunsOf.{stepsOf, stepsIn, validIn, validTotal, frameSteps, noRun}
+use Rattle.isdbs_runs.specs.declared.Run.{Run}
+use Rattle.isdbs_tables.specs.declared.Table.{Table}
+use Rattle.isdbs_combination.specs.Combinations.{slotSteps}
+use Rattle.isdbs_runs.specs.RunsOf.{stepsOf, stepsIn, validIn, validTotal, frameSteps, noRun}
 use Rattle.isdbs_points.specs.declared.Mapping.{Mapping}
 use Rattle.isdbs_points.specs.Layout.{Segment, segmentOf, segmentsFrom, among}
 use Rattle.isdbs_points.specs.Frame.{labelAt}

@@ -11,9 +11,9 @@ use lib.Seq.{getD-drop}
 use lib.Ieee.{Float}
 use Rattle.trellis.specs.Lists.{upto, laid, bit}
 use Rattle.trellis.specs.Code.{stateAt}
-use Rattle.isdbs_core.specs.declared.combination.Combination.{Combination}
-use Rattle.isdbs_core.specs.declared.combination.Combination.the-variants.{«Bpsk1_2», «Qpsk1_2», «Qpsk2_3», «Qpsk3_4», «Qpsk5_6», «Qpsk7_8», «Tc8psk2_3»}
-use Rattle.isdbs_core.specs.Combinations.{slotSteps}
+use Rattle.isdbs_combination.specs.declared.Combination.{Combination}
+use Rattle.isdbs_combination.specs.declared.Combination.the-variants.{«Bpsk1_2», «Qpsk1_2», «Qpsk2_3», «Qpsk3_4», «Qpsk5_6», «Qpsk7_8», «Tc8psk2_3»}
+use Rattle.isdbs_combination.specs.Combinations.{slotSteps}
 use Rattle.isdbs_points.specs.declared.Mapping.{Mapping}
 use Rattle.isdbs_points.specs.LawsUpto.{length-laid-upto}
 use Rattle.isdbs_points.specs.LawsState.{label-shift}

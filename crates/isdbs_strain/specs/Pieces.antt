@@ -7,9 +7,9 @@ use lib.Ieee.{Float}
 use Rattle.trellis.specs.Lists.{upto, laid, bit}
 use Rattle.trellis.specs.Code.{stateAt}
 use Rattle.trellis.specs.Step.{Step, pair, four, known}
-use Rattle.isdbs_core.specs.declared.combination.Combination.{Combination}
-use Rattle.isdbs_core.specs.declared.tmcc.Table.{Table}
-use Rattle.isdbs_core.specs.Combinations.{slotSteps}
+use Rattle.isdbs_combination.specs.declared.Combination.{Combination}
+use Rattle.isdbs_tables.specs.declared.Table.{Table}
+use Rattle.isdbs_combination.specs.Combinations.{slotSteps}
 use Rattle.isdbs_points.specs.declared.Mapping.{Mapping}
 use Rattle.isdbs_points.specs.Frame.{labelAt}
 use Rattle.isdbs_metrics.specs.Reading.{Received}

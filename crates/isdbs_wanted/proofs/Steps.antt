@@ -8,11 +8,11 @@ use borrow.Author.Tests.{eq-eqb, ne-eqb}
 use lib.Dec.{eqb, ltb, lit<}
 use lib.ListN.{getD, length}
 use Rattle.trellis.specs.Code.{isdb, label, output, moved}
-use Rattle.isdbs_core.specs.declared.combination.Combination.{Combination}
-use Rattle.isdbs_core.specs.declared.combination.Combination.the-variants.{«Bpsk1_2», «Qpsk1_2», «Qpsk2_3», «Qpsk3_4», «Qpsk5_6», «Qpsk7_8», «Tc8psk2_3»}
-use Rattle.isdbs_core.specs.declared.combination.Modulation.{Modulation}
-use Rattle.isdbs_core.specs.declared.combination.Modulation.the-variants.{Bpsk, Qpsk, Tc8psk}
-use Rattle.isdbs_core.specs.Combinations.{modulationOf}
+use Rattle.isdbs_combination.specs.declared.Combination.{Combination}
+use Rattle.isdbs_combination.specs.declared.Combination.the-variants.{«Bpsk1_2», «Qpsk1_2», «Qpsk2_3», «Qpsk3_4», «Qpsk5_6», «Qpsk7_8», «Tc8psk2_3»}
+use Rattle.isdbs_combination.specs.declared.Modulation.{Modulation}
+use Rattle.isdbs_combination.specs.declared.Modulation.the-variants.{Bpsk, Qpsk, Tc8psk}
+use Rattle.isdbs_combination.specs.Combinations.{modulationOf}
 use Rattle.isdbs_points.specs.declared.Cplx.{Cplx}
 use Rattle.isdbs_points.specs.declared.Mapping.{Mapping}
 use Rattle.isdbs_points.specs.Layout.{Segment, sentOrder, orderOf, stepsPerPeriod, placeIn}

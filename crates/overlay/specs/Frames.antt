@@ -11,8 +11,8 @@ use Rattle.trellis.specs.Lists.{upto}
 use Rattle.trellis.specs.ListLaws.{length-upto, getD-upto}
 use Rattle.trellis.specs.Linear.{xor-bit}
 use Rattle.trellis.specs.Code.{isdb, stateAt}
-use Rattle.isdbs_core.specs.declared.tmcc.Table.{Table}
-use Rattle.isdbs_core.specs.RunsOf.{frameSteps}
+use Rattle.isdbs_tables.specs.declared.Table.{Table}
+use Rattle.isdbs_runs.specs.RunsOf.{frameSteps}
 use Rattle.isdbs_points.specs.Layout.{Segment, orderOf, stepsPerPeriod, among, atStep, segments, loadBit}
 use Rattle.isdbs_points.specs.Frame.{inputIn, inputs, labelAt, codedBit, sentBit, endState}
 use Rattle.isdbs_points.specs.Points.{subset}

@@ -6,7 +6,7 @@ use native.Mathlib.Omega.{arith}
 use lib.ListN.{length, getD}
 use Rattle.trellis.specs.Lists.{upto}
 use Rattle.trellis.specs.Code.{isdb}
-use Rattle.isdbs_core.specs.declared.combination.Combination.the-variants.{«Qpsk2_3»}
+use Rattle.isdbs_combination.specs.declared.Combination.the-variants.{«Qpsk2_3»}
 use Rattle.isdbs_points.specs.Layout.{sentOrder, orderOf, stepsPerPeriod}
 use Rattle.isdbs_points.specs.LawsUpto.{upto-cong}
 use Rattle.isdbt_fec.specs.declared.conv.CodeRate.the-variants.{R2_3}

@@ -9,11 +9,11 @@ use Rattle.isdb_fec.specs.declared.conv.ViterbiDecoder.{ViterbiDecoder}
 use Rattle.isdb_fec.specs.Rows.{encoderRows, freshRows, handedRows, streamRest, pushRows, pushMetricsRows, pushKnownRows, flushRows}
 use Rattle.isdbt_fec.specs.declared.conv.CodeRate.{CodeRate}
 use Rattle.isdbt_fec.specs.Rows as isdbt
-use Rattle.isdbs_core.specs.declared.tmcc.Table.{Table}
-use Rattle.isdbs_core.specs.Frame.{mainRows, burstRows}
+use Rattle.isdbs_tables.specs.declared.Table.{Table}
+use Rattle.isdbs_frame.specs.Frame.{mainRows, burstRows}
 use Rattle.isdbs_core.specs.Symbols.{bitRows}
-use Rattle.isdbs_core.specs.Tables.{tableRows}
-use Rattle.isdbs_core.specs.SlotPart.{slotPartRows}
+use Rattle.isdbs_tables.specs.Tables.{tableRows}
+use Rattle.isdbs_parts.specs.SlotPart.{slotPartRows}
 use Rattle.isdbs_phy.specs.EncodeRows.{encodeRows, encodeFrameRows}
 use Rattle.isdbs_phy.specs.DecodeRows.{decodeRows, oneScaleRows}
 use Rattle.best_reading.specs.Calls.{readingRows}

@@ -1,7 +1,7 @@
 -- The valid slots of a frame, "numbered from 0 through all runs": which segment has slot j, and which of the frame's steps are its own. Assumes nothing.
 use Prim.Native.Nat.{ℕ, _+_, _*_, _/_}
-use Rattle.isdbs_core.specs.declared.tmcc.Table.{Table}
-use Rattle.isdbs_core.specs.Combinations.{slotSteps}
+use Rattle.isdbs_tables.specs.declared.Table.{Table}
+use Rattle.isdbs_combination.specs.Combinations.{slotSteps}
 use Rattle.isdbs_points.specs.Layout.{Segment, segments, among}
 use Rattle.strain.specs.Counts.{summed}
 

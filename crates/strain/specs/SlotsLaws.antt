@@ -5,13 +5,13 @@ use Prim.Native.Nat.{ℕ, _+_, _-_, _*_, _/_, _<_, _≤_}
 use native.Mathlib.Nat.{add-assoc, zero-add, mul-suc, mul-le-mul-left}
 use native.Mathlib.Omega.{arith}
 use borrow.Author.Tests.{lt-ltb, le-ltb}
-use Rattle.isdbs_core.specs.declared.slots.Run.{Run}
-use Rattle.isdbs_core.specs.declared.tmcc.Table.{Table}
-use Rattle.isdbs_core.specs.Combinations.{unitOf, slotSteps}
-use Rattle.isdbs_core.specs.RunsOf.{runsOf, validIn, validTotal, stepsOf, stepsIn, frameSteps}
+use Rattle.isdbs_runs.specs.declared.Run.{Run}
+use Rattle.isdbs_tables.specs.declared.Table.{Table}
+use Rattle.isdbs_combination.specs.Combinations.{unitOf, slotSteps}
+use Rattle.isdbs_runs.specs.RunsOf.{runsOf, validIn, validTotal, stepsOf, stepsIn, frameSteps}
 use Rattle.isdbs_points.specs.Layout.{Segment, segmentOf, segmentsFrom, segments, among}
 use Rattle.isdbs_points.specs.Places.{In, Fill, Found, among-at, among-past, find}
-use Rattle.isdbs_core.specs.Tables.{TableAccepted}
+use Rattle.isdbs_tables.specs.Tables.{TableAccepted}
 use Rattle.isdbs_points.specs.Sizes.{table-whole, step-fits}
 use Rattle.strain.specs.Counts.{summed}
 use Rattle.strain.specs.CountsLaws.{summed-same, summed-append, summed-parts}

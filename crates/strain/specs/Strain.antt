@@ -6,8 +6,8 @@ use Prim.Native.Nat.{ℕ, zero, suc}
 use lib.ListN.{getD}
 use lib.Ieee.{Float, nan, lt}
 use Rattle.trellis.specs.Lists.{upto, laid, bit}
-use Rattle.isdbs_core.specs.declared.tmcc.Table.{Table}
-use Rattle.isdbs_core.specs.RunsOf.{validTotal}
+use Rattle.isdbs_tables.specs.declared.Table.{Table}
+use Rattle.isdbs_runs.specs.RunsOf.{validTotal}
 use Rattle.isdbs_points.specs.Frame.{labelAt, startState}
 use Rattle.isdbs_metrics.specs.Reading.{Received, metricsAt, decodedBits}
 use Rattle.strain.specs.Counts.{summed}

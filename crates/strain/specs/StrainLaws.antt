@@ -7,9 +7,9 @@ use native.Mathlib.Omega.{arith}
 use lib.ListN.{getD}
 use lib.Ieee.{Float, nan, lt}
 use Rattle.trellis.specs.Lists.{bit}
-use Rattle.isdbs_core.specs.declared.tmcc.Table.{Table}
-use Rattle.isdbs_core.specs.Tables.{TableAccepted}
-use Rattle.isdbs_core.specs.RunsOf.{validTotal, frameSteps}
+use Rattle.isdbs_tables.specs.declared.Table.{Table}
+use Rattle.isdbs_tables.specs.Tables.{TableAccepted}
+use Rattle.isdbs_runs.specs.RunsOf.{validTotal, frameSteps}
 use Rattle.isdbs_points.specs.Sizes.{few-steps}
 use Rattle.isdbs_metrics.specs.Reading.{Received}
 use Rattle.strain.specs.Counts.{counted}

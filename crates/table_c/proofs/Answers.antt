@@ -11,22 +11,22 @@ use Rattle.refusal.specs.declared.Answer.{Answer}
 use Rattle.refusal.specs.declared.Answer.the-variants as answer
 use Rattle.refusal.specs.Rows.{numberOf, accepted, Row, firstRow}
 use Rattle.refusal.specs.RowLaws.{zero-accepted, said-some, said-none}
-use Rattle.isdbs_core.specs.declared.combination.Combination.{Combination}
-use Rattle.isdbs_core.specs.declared.combination.MaybeCombination.{MaybeCombination}
-use Rattle.isdbs_core.specs.declared.combination.MaybeCombination.the-variants.{Some}
-use Rattle.isdbs_core.specs.declared.frame.Position.{Position}
-use Rattle.isdbs_core.specs.declared.frame.Position.the-variants.{At, Refused}
-use Rattle.isdbs_core.specs.declared.tmcc.Table.{Table}
-use Rattle.isdbs_core.specs.Answers.{positionSaid}
-use Rattle.isdbs_core.specs.declared.tmcc.SlotMark.{SlotMark}
-use Rattle.isdbs_core.specs.declared.tmcc.SlotMarks.{SlotMarks}
-use Rattle.isdbs_core.specs.declared.slots.FrameRuns.{FrameRuns}
-use Rattle.isdbs_core.specs.Lists.{padded}
-use Rattle.isdbs_core.specs.ListLaws.{table-at, padded-at}
-use Rattle.isdbs_core.specs.RunsOf.{runsOf, noRun, fourRuns}
-use Rattle.isdbs_core.specs.RunLaws.{each-at}
-use Rattle.isdbs_core.specs.Tables.{slotSum, tableAnswer, TableAccepted, slotMarks, mark, markAt}
-use Rattle.isdbs_core.specs.TableLaws.{sum-fits, then-rows, before-rows}
+use Rattle.isdbs_combination.specs.declared.Combination.{Combination}
+use Rattle.isdbs_combination.specs.declared.MaybeCombination.{MaybeCombination}
+use Rattle.isdbs_combination.specs.declared.MaybeCombination.the-variants.{Some}
+use Rattle.isdbs_frame.specs.declared.Position.{Position}
+use Rattle.isdbs_frame.specs.declared.Position.the-variants.{At, Refused}
+use Rattle.isdbs_tables.specs.declared.Table.{Table}
+use Rattle.isdbs_frame.specs.Answers.{positionSaid}
+use Rattle.isdbs_tables.specs.declared.SlotMark.{SlotMark}
+use Rattle.isdbs_tables.specs.declared.SlotMarks.{SlotMarks}
+use Rattle.isdbs_runs.specs.declared.FrameRuns.{FrameRuns}
+use Rattle.isdbs_combination.specs.Lists.{padded}
+use Rattle.isdbs_combination.specs.ListLaws.{table-at, padded-at}
+use Rattle.isdbs_runs.specs.RunsOf.{runsOf, noRun, fourRuns}
+use Rattle.isdbs_runs.specs.RunLaws.{each-at}
+use Rattle.isdbs_tables.specs.Tables.{slotSum, tableAnswer, TableAccepted, slotMarks, mark, markAt}
+use Rattle.isdbs_tables.specs.TableLaws.{sum-fits, then-rows, before-rows}
 use Rattle.table_c.specs.Forms.{tableOf, runNumbers, runNumber}
 use Rattle.table_c.proofs.Runs.{Small, small-number, runs-small, runs-count}
 use Rattle.isdbs_core.specs.Symbols.{symbolOfBit, bitRows, bitSymbol}

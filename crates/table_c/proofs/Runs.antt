@@ -5,17 +5,17 @@ use mathlib.Core.List.{List, [], _∷_, _++_}
 use Prim.Native.Nat.{ℕ, zero, suc, _+_, _*_, _≤_, _<_}
 use native.Mathlib.Omega.{arith}
 use lib.ListN.{length, getD}
-use Rattle.isdbs_core.specs.declared.combination.Combination.{Combination}
-use Rattle.isdbs_core.specs.declared.combination.Combination.the-variants.{«Bpsk1_2», «Qpsk1_2», «Qpsk2_3», «Qpsk3_4», «Qpsk5_6», «Qpsk7_8», «Tc8psk2_3»}
-use Rattle.isdbs_core.specs.declared.combination.MaybeCombination.{MaybeCombination}
-use Rattle.isdbs_core.specs.declared.combination.MaybeCombination.the-variants.{Some, None}
-use Rattle.isdbs_core.specs.declared.tmcc.Entry.{Entry}
-use Rattle.isdbs_core.specs.declared.slots.Run.{Run}
-use Rattle.isdbs_core.specs.Lists.{Each}
-use Rattle.isdbs_core.specs.Combinations.{wordOf}
-use Rattle.isdbs_core.specs.Tables.{slotSum, entryCombination}
-use Rattle.isdbs_core.specs.RunsOf.{runOf, runsFrom, entryRuns, entrySymbols}
-use Rattle.isdbs_core.specs.RunLaws.{entry-fits}
+use Rattle.isdbs_combination.specs.declared.Combination.{Combination}
+use Rattle.isdbs_combination.specs.declared.Combination.the-variants.{«Bpsk1_2», «Qpsk1_2», «Qpsk2_3», «Qpsk3_4», «Qpsk5_6», «Qpsk7_8», «Tc8psk2_3»}
+use Rattle.isdbs_combination.specs.declared.MaybeCombination.{MaybeCombination}
+use Rattle.isdbs_combination.specs.declared.MaybeCombination.the-variants.{Some, None}
+use Rattle.isdbs_tables.specs.declared.Entry.{Entry}
+use Rattle.isdbs_runs.specs.declared.Run.{Run}
+use Rattle.isdbs_combination.specs.Lists.{Each}
+use Rattle.isdbs_combination.specs.Combinations.{wordOf}
+use Rattle.isdbs_tables.specs.Tables.{slotSum, entryCombination}
+use Rattle.isdbs_runs.specs.RunsOf.{runOf, runsFrom, entryRuns, entrySymbols}
+use Rattle.isdbs_runs.specs.RunLaws.{entry-fits}
 use Rattle.table_c.specs.Forms.{runNumbers}
 
 -- each number of the run is at most 38,976

@@ -2,13 +2,13 @@
 use mathlib.Core.List.{List, [], _∷_}
 use Prim.Native.Nat.{ℕ, _/_, _%_, _^_}
 use lib.ListN.{getD}
-use Rattle.isdbs_core.specs.declared.combination.MaybeCombination.{MaybeCombination}
-use Rattle.isdbs_core.specs.declared.combination.MaybeCombination.the-variants.{Some, None}
-use Rattle.isdbs_core.specs.declared.tmcc.Entry.{Entry}
-use Rattle.isdbs_core.specs.declared.tmcc.Table.{Table}
-use Rattle.isdbs_core.specs.declared.slots.Run.{Run}
-use Rattle.isdbs_core.specs.Combinations.{wordOf}
-use Rattle.isdbs_core.specs.RunsOf.{noRun}
+use Rattle.isdbs_combination.specs.declared.MaybeCombination.{MaybeCombination}
+use Rattle.isdbs_combination.specs.declared.MaybeCombination.the-variants.{Some, None}
+use Rattle.isdbs_tables.specs.declared.Entry.{Entry}
+use Rattle.isdbs_tables.specs.declared.Table.{Table}
+use Rattle.isdbs_runs.specs.declared.Run.{Run}
+use Rattle.isdbs_combination.specs.Combinations.{wordOf}
+use Rattle.isdbs_runs.specs.RunsOf.{noRun}
 
 -- the word in the low byte, the slot count in the next
 abbrev pub entryOf : ℕ → Entry

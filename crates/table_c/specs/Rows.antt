@@ -7,12 +7,12 @@ use lib.ListN.{length}
 use Rattle.refusal.specs.declared.Answer.the-variants.{Position, Space}
 use Rattle.refusal.specs.Rows.{Row}
 use Rattle.trellis.specs.Lists.{upto}
-use Rattle.isdbs_core.specs.declared.combination.MaybeCombination.{MaybeCombination}
-use Rattle.isdbs_core.specs.declared.combination.MaybeCombination.the-variants.{Some, None}
-use Rattle.isdbs_core.specs.declared.tmcc.Table.{Table}
-use Rattle.isdbs_core.specs.Combinations.{combinationOf}
-use Rattle.isdbs_core.specs.Tables.{tableRows, markAt}
-use Rattle.isdbs_core.specs.RunsOf.{runsOf}
+use Rattle.isdbs_combination.specs.declared.MaybeCombination.{MaybeCombination}
+use Rattle.isdbs_combination.specs.declared.MaybeCombination.the-variants.{Some, None}
+use Rattle.isdbs_tables.specs.declared.Table.{Table}
+use Rattle.isdbs_combination.specs.Combinations.{combinationOf}
+use Rattle.isdbs_tables.specs.Tables.{tableRows, markAt}
+use Rattle.isdbs_runs.specs.RunsOf.{runsOf}
 use Rattle.isdbs_core.specs.Symbols.{bitRows, symbolOfBit}
 use Rattle.table_c.specs.Forms.{markWord, runNumber}
 

@@ -9,11 +9,11 @@ use lib.Dec.{eqb, ltb}
 use lib.Ieee.{Float, nan, lt}
 use Rattle.trellis.specs.Lists.{upto, bit}
 use Rattle.trellis.specs.Code.{isdb, label, moved}
-use Rattle.isdbs_core.specs.declared.combination.Modulation.{Modulation}
-use Rattle.isdbs_core.specs.declared.combination.Modulation.the-variants.{Bpsk, Qpsk, Tc8psk}
-use Rattle.isdbs_core.specs.declared.tmcc.Table.{Table}
-use Rattle.isdbs_core.specs.Combinations.{modulationOf}
-use Rattle.isdbs_core.specs.RunsOf.{loadBytes}
+use Rattle.isdbs_combination.specs.declared.Modulation.{Modulation}
+use Rattle.isdbs_combination.specs.declared.Modulation.the-variants.{Bpsk, Qpsk, Tc8psk}
+use Rattle.isdbs_tables.specs.declared.Table.{Table}
+use Rattle.isdbs_combination.specs.Combinations.{modulationOf}
+use Rattle.isdbs_runs.specs.RunsOf.{loadBytes}
 use Rattle.isdbs_points.specs.declared.Cplx.{Cplx}
 use Rattle.isdbs_points.specs.declared.Mapping.{Mapping}
 use Rattle.isdbs_points.specs.Points.{point, zero64, subset, turned}

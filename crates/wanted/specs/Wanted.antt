@@ -5,9 +5,9 @@ use mathlib.Core.List.{List}
 use Prim.Native.Nat.{ℕ}
 use lib.ListN.{take}
 use lib.Ieee.{Float}
-use Rattle.isdbs_core.specs.declared.tmcc.Table.{Table}
-use Rattle.isdbs_core.specs.Frame.{mainSymbols}
-use Rattle.isdbs_core.specs.RunsOf.{loadBytes}
+use Rattle.isdbs_tables.specs.declared.Table.{Table}
+use Rattle.isdbs_frame.specs.Frame.{mainSymbols}
+use Rattle.isdbs_runs.specs.RunsOf.{loadBytes}
 use Rattle.isdbs_points.specs.declared.Mapping.{Mapping}
 use Rattle.isdbs_points.specs.Layout.{FullLoad}
 use Rattle.isdbs_points.specs.Frame.{frameRe, frameIm, startState}

@@ -10,8 +10,8 @@ use lib.Ieee.{Float}
 use Rattle.refusal.specs.declared.Answer.the-variants.{Accepted}
 use Rattle.refusal.specs.Rows.{numberOf, firstRow, Either, Said}
 use Rattle.refusal.specs.RowLaws.{zero-accepted, decided, says-number}
-use Rattle.isdbs_core.specs.declared.tmcc.Table.{Table}
-use Rattle.isdbs_core.specs.RunsOf.{loadBytes}
+use Rattle.isdbs_tables.specs.declared.Table.{Table}
+use Rattle.isdbs_runs.specs.RunsOf.{loadBytes}
 use Rattle.isdbs_points.specs.declared.Mapping.{Mapping}
 use Rattle.wanted_load.specs.declared.LoadFound.{LoadFound}
 use Rattle.wanted_load.specs.Rows.{earlierRows, wantedRows}

@@ -6,7 +6,7 @@ use Prim.Native.Nat.{ℕ}
 use lib.ListN.{length}
 use lib.Ieee.{Float}
 use Rattle.trellis.specs.Lists.{laid}
-use Rattle.isdbs_core.specs.declared.tmcc.Table.{Table}
+use Rattle.isdbs_tables.specs.declared.Table.{Table}
 use Rattle.isdbs_points.specs.declared.Mapping.{Mapping}
 use Rattle.wanted.specs.Wanted.{Wants, Unwanted}
 use Rattle.wanted_load.specs.Rows.{wantedRows}

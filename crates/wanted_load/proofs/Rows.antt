@@ -11,12 +11,12 @@ use Rattle.refusal.specs.RowLaws as row
 use Rattle.refusal.specs.RowLaws.{neither, refused-by, passed-by}
 use Rattle.refusal.specs.declared.Answer.{Answer}
 use Rattle.refusal.specs.declared.Answer.the-variants.{Accepted, Symbols, Space}
-use Rattle.isdbs_core.specs.declared.slots.Plan.{Plan}
-use Rattle.isdbs_core.specs.declared.tmcc.Table.{Table}
-use Rattle.isdbs_core.specs.Frame.{mainSymbols}
-use Rattle.isdbs_core.specs.Tables.{tableRows, tableAnswer, TableAccepted}
-use Rattle.isdbs_core.specs.TableLaws.{table-refusing, then-accepted}
-use Rattle.isdbs_core.specs.RunsOf.{planOf, Planned, loadBytes}
+use Rattle.isdbs_runs.specs.declared.Plan.{Plan}
+use Rattle.isdbs_tables.specs.declared.Table.{Table}
+use Rattle.isdbs_frame.specs.Frame.{mainSymbols}
+use Rattle.isdbs_tables.specs.Tables.{tableRows, tableAnswer, TableAccepted}
+use Rattle.isdbs_tables.specs.TableLaws.{table-refusing, then-accepted}
+use Rattle.isdbs_runs.specs.RunsOf.{planOf, Planned, loadBytes}
 use Rattle.wanted_load.specs.Rows.{lentRows, earlierRows}
 
 pub or-second : (a b : Bool) → b ≡ true → (a || b) ≡ true

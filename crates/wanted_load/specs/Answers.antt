@@ -11,9 +11,9 @@ use Rattle.refusal.specs.declared.Answer.{Answer}
 use Rattle.refusal.specs.declared.Answer.the-variants.{Accepted, NoLoad}
 use Rattle.refusal.specs.Rows.{Row, firstRow, Either, says}
 use Rattle.refusal.specs.RowLaws.{refusing, decided, is-refused, refused-above, passed-above}
-use Rattle.isdbs_core.specs.declared.tmcc.Table.{Table}
-use Rattle.isdbs_core.specs.Tables.{tableRows}
-use Rattle.isdbs_core.specs.RunsOf.{loadBytes}
+use Rattle.isdbs_tables.specs.declared.Table.{Table}
+use Rattle.isdbs_tables.specs.Tables.{tableRows}
+use Rattle.isdbs_runs.specs.RunsOf.{loadBytes}
 use Rattle.isdbs_points.specs.declared.Mapping.{Mapping}
 use Rattle.wanted.specs.Wanted.{Unwanted}
 use Rattle.wanted_load.specs.declared.LoadFound.{LoadFound}

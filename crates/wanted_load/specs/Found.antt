@@ -9,8 +9,8 @@ use Rattle.trellis.specs.Lists.{laid}
 use Rattle.refusal.specs.declared.Answer.{Answer}
 use Rattle.refusal.specs.declared.Answer.the-variants.{NoLoad}
 use Rattle.refusal.specs.Rows.{numberOf, firstRow, Said, says}
-use Rattle.isdbs_core.specs.declared.tmcc.Table.{Table}
-use Rattle.isdbs_core.specs.RunsOf.{loadBytes}
+use Rattle.isdbs_tables.specs.declared.Table.{Table}
+use Rattle.isdbs_runs.specs.RunsOf.{loadBytes}
 use Rattle.isdbs_points.specs.declared.Mapping.{Mapping}
 use Rattle.wanted.specs.Wanted.{Encodes, Wants, Unwanted}
 use Rattle.wanted_load.specs.Rows.{wantedRows}

@@ -5,10 +5,10 @@ use Prim.Native.Nat.{ℕ}
 use lib.Dec.{ltb}
 use Rattle.refusal.specs.declared.Answer.the-variants.{Symbols, Space, NoLoad}
 use Rattle.refusal.specs.Rows.{Row}
-use Rattle.isdbs_core.specs.declared.tmcc.Table.{Table}
-use Rattle.isdbs_core.specs.Frame.{mainSymbols}
-use Rattle.isdbs_core.specs.Tables.{tableRows}
-use Rattle.isdbs_core.specs.RunsOf.{loadBytes}
+use Rattle.isdbs_tables.specs.declared.Table.{Table}
+use Rattle.isdbs_frame.specs.Frame.{mainSymbols}
+use Rattle.isdbs_tables.specs.Tables.{tableRows}
+use Rattle.isdbs_runs.specs.RunsOf.{loadBytes}
 
 -- those of the lent lengths: 6, and 9 where the load needs more bytes than are lent
 abbrev pub lentRows : ℕ → ℕ → ℕ → ℕ → List Row

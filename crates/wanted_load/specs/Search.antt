@@ -8,9 +8,9 @@ use lib.ListN.{getD, length, drop, List·getD-append}
 use lib.Ieee.{Float, nan, ne}
 use Rattle.trellis.specs.Lists.{upto, laid}
 use Rattle.trellis.specs.ListLaws.{length-upto, getD-upto}
-use Rattle.isdbs_core.specs.declared.tmcc.Table.{Table}
-use Rattle.isdbs_core.specs.Frame.{mainSymbols}
-use Rattle.isdbs_core.specs.Tables.{TableAccepted}
+use Rattle.isdbs_tables.specs.declared.Table.{Table}
+use Rattle.isdbs_frame.specs.Frame.{mainSymbols}
+use Rattle.isdbs_tables.specs.Tables.{TableAccepted}
 use Rattle.isdbs_points.specs.declared.Mapping.{Mapping}
 use Rattle.isdbs_points.specs.Frame.{pointAt, startState}
 use Rattle.isdbs_encode.specs.Encoding.{FrameLaid}

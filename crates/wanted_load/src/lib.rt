@@ -15,9 +15,9 @@ ghost use Prim.Native.Nat.{_≤_};
 ghost use lib.ListN.{length};
 ghost use Rattle.trellis.specs.Lists.{laid};
 ghost use Rattle.refusal.specs.Rows.{firstRow, Either};
-ghost use Rattle.isdbs_core.specs.Frame.{mainSymbols};
-ghost use Rattle.isdbs_core.specs.Tables.{TableAccepted};
-ghost use Rattle.isdbs_core.specs.RunsOf.{planOf, Planned, loadBytes};
+ghost use Rattle.isdbs_frame.specs.Frame.{mainSymbols};
+ghost use Rattle.isdbs_tables.specs.Tables.{TableAccepted};
+ghost use Rattle.isdbs_runs.specs.RunsOf.{planOf, Planned, loadBytes};
 ghost use Rattle.wanted_load.specs.Rows.{lentRows, earlierRows};
 ghost use Rattle.wanted_load.specs.Found.{Answered, Same, SameParts, Matches, Searched, Outcome, Turned};
 

@@ -7,7 +7,7 @@ use borrow.Author.Needs.{needs}
 use borrow.Author.Count.{below-none}
 use lib.ListN.{length, getD, length-set}
 use lib.Ieee.{Float, nan}
-use Rattle.isdbs_core.specs.ListLaws.{Written, written-more}
+use Rattle.isdbs_combination.specs.ListLaws.{Written, written-more}
 use Rattle.answers_c.specs.AnswerLaws.{copied}
 use Rattle.decoder_c.proofs.put_values.Statement.{statement}
 use Rattle.decoder_c.proofs.put_values.Tie as tie

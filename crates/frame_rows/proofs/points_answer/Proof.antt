@@ -1,5 +1,5 @@
 -- `points_answer` meets its contract. Assumes nothing.
-use Rattle.isdbs_core.specs.Frame.{mainSymbols}
+use Rattle.isdbs_frame.specs.Frame.{mainSymbols}
 use borrow.Author.Tests.{lt-ltb, le-ltb, ltb-false}
 use lib.ListN.{length}
 use native.Mathlib.Omega.{arith}

@@ -1,7 +1,7 @@
 -- `space_answer` meets its contract. Assumes nothing.
-use Rattle.isdbs_core.specs.declared.slots.Plan.{Plan}
-use Rattle.isdbs_core.specs.TableLaws.{table-laid}
-use Rattle.isdbs_core.specs.RunsOf.{validTotal, frameSteps, loadBytes}
+use Rattle.isdbs_runs.specs.declared.Plan.{Plan}
+use Rattle.isdbs_runs.specs.PlanLaws.{table-laid}
+use Rattle.isdbs_runs.specs.RunsOf.{validTotal, frameSteps, loadBytes}
 use borrow.Author.Tests.{lt-ltb, le-ltb, ltb-false}
 use lib.ListN.{length}
 use native.Mathlib.Omega.{arith}

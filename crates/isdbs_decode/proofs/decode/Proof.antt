@@ -6,7 +6,7 @@ use Rattle.isdbs_decode.specs.Scales.{receivedBy}
 use Rattle.isdbs_metrics.specs.Reading.{startValues, bytesFrom, decodedBits}
 use Rattle.trellis.specs.Run.{startAt, startUnknown}
 use Rattle.trellis.specs.Lists.{laid}
-use Rattle.isdbs_core.specs.declared.slots.Plan.{Plan}
+use Rattle.isdbs_runs.specs.declared.Plan.{Plan}
 use lib.Ieee.{Float}
 use lib.ListN.{take}
 use native.Mathlib.Omega.{arith}

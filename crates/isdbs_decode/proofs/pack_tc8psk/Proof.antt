@@ -7,7 +7,7 @@ use lib.ListN.{length-drop, length}
 use borrow.Author.Needs.{needs}
 use Rattle.isdbs_metrics.specs.Steps.{pieceBit}
 use Rattle.isdbs_points.specs.Layout.{byteOf}
-use Rattle.isdbs_core.specs.declared.combination.Combination.the-variants.{«Tc8psk2_3»}
+use Rattle.isdbs_combination.specs.declared.Combination.the-variants.{«Tc8psk2_3»}
 use Rattle.trellis.specs.Code.{stateAt}
 use Rattle.trellis.specs.Lists.{upto, laid}
 use native.Mathlib.Omega.{arith}

@@ -2,7 +2,7 @@
 use borrow.Author.Needs.{needs}
 use Rattle.isdbs_decode.proofs.FrameRuns.{listed-runs, steps-by, part-covers}
 use Rattle.isdbs_decode.proofs.FrameSteps.{Read, read-first, read-next, read-last}
-use Rattle.isdbs_core.specs.RunsOf.{noRun}
+use Rattle.isdbs_runs.specs.RunsOf.{noRun}
 use lib.ListN.{getD}
 use lib.Ieee.{nan}
 use native.Mathlib.Omega.{arith}

@@ -2,7 +2,7 @@
 use borrow.Author.Needs.{needs}
 use Rattle.isdbs_decode.proofs.FrameBytes.{Written, written-first, written-room, written-next}
 use Rattle.isdbs_decode.proofs.FrameRuns.{listed-runs, steps-by, tail-is, all-valid}
-use Rattle.isdbs_core.specs.RunsOf.{noRun}
+use Rattle.isdbs_runs.specs.RunsOf.{noRun}
 use lib.ListN.{getD, length-drop}
 use native.Mathlib.Omega.{arith}
 use Prim.Native.Nat.{ℕ, _-_, _*_}

@@ -6,7 +6,7 @@ use Prim.Native.Nat.{ℕ, _*_, _-_, _/_, _%_, _≤_}
 use mathlib.Core.List.{[], _∷_}
 use lib.Ieee.{nan, neg}
 use lib.ListN.{getD, length-set}
-use Rattle.isdbs_core.specs.declared.combination.Combination.the-variants.{«Bpsk1_2»}
+use Rattle.isdbs_combination.specs.declared.Combination.the-variants.{«Bpsk1_2»}
 use Rattle.isdbs_points.specs.declared.Cplx.{Cplx}
 use Rattle.isdbs_points.specs.Points.{one64}
 use Rattle.isdbs_points.specs.Pieces.{pieceInputs, pieceLabel}

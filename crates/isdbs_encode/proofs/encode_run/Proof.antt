@@ -1,8 +1,8 @@
 -- `encode_run` meets its contract. Assumes nothing.
 use mathlib.Core.Path.{_≡_, sym, _∙_}
 use native.Mathlib.Omega.{arith}
-use Rattle.isdbs_core.specs.declared.combination.Modulation.the-variants.{Qpsk}
-use Rattle.isdbs_core.specs.Combinations.{modulationOf}
+use Rattle.isdbs_combination.specs.declared.Modulation.the-variants.{Qpsk}
+use Rattle.isdbs_combination.specs.Combinations.{modulationOf}
 use Rattle.isdbs_encode.proofs.Encode.{is-bpsk, is-tc8psk}
 use borrow.Author.Needs.{needs}
 use Rattle.isdbs_encode.proofs.encode_run.Statement.{statement}

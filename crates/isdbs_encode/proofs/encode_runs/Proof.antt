@@ -1,6 +1,6 @@
 -- `encode_runs` meets its contract. Assumes nothing.
 use lib.ListN.{length-take, length-drop}
-use Rattle.isdbs_core.specs.RunsOf.{stepsIn}
+use Rattle.isdbs_runs.specs.RunsOf.{stepsIn}
 use Rattle.isdbs_points.specs.Places.{before-zero, fill-last}
 use Rattle.isdbs_points.specs.Sizes.{fill-steps}
 use Rattle.isdbs_encode.proofs.EncodeFrame.{length-segments, run-in, run-more, runs-end, slot-steps-four}
@@ -9,7 +9,7 @@ use mathlib.Core.Path.{_≡_, refl, sym, _∙_, ap}
 use Prim.Native.Nat.{ℕ, _+_, _*_, _-_, _/_, _%_, _<_, _≤_}
 use native.Mathlib.Omega.{arith}
 use lib.ListN.{length, getD, take, drop}
-use Rattle.isdbs_core.specs.RunsOf.{noRun}
+use Rattle.isdbs_runs.specs.RunsOf.{noRun}
 use Rattle.isdbs_points.specs.Layout.{segmentsFrom}
 use Rattle.isdbs_points.specs.Places.{before}
 use Rattle.isdbs_encode.specs.Encoding.{inputsOf, pointOf}

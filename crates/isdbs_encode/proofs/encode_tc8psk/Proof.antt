@@ -6,7 +6,7 @@ use Prim.Native.Nat.{_+_, _-_, _%_, _≤_}
 use lib.Ieee.{nan}
 use lib.ListN.{getD, length-take, length-drop}
 use Rattle.trellis.specs.Lists.{upto}
-use Rattle.isdbs_core.specs.declared.combination.Combination.the-variants.{«Tc8psk2_3»}
+use Rattle.isdbs_combination.specs.declared.Combination.the-variants.{«Tc8psk2_3»}
 use Rattle.isdbs_points.specs.declared.Cplx.{Cplx}
 use Rattle.isdbs_points.specs.Pieces.{pieceInputs}
 use Rattle.isdbs_encode.specs.Encoded.{byteLabel}

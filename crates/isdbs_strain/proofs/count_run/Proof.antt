@@ -6,7 +6,7 @@ use mathlib.Core.Path.{_≡_, refl}
 use lib.ListN.{length, getD, drop, length-drop}
 use native.Mathlib.Nat.{mul-zero}
 use lib.Seq.{getD-drop}
-use Rattle.isdbs_core.specs.Combinations.{slotSteps}
+use Rattle.isdbs_combination.specs.Combinations.{slotSteps}
 use Rattle.isdbs_metrics.specs.Steps.{PhaseAt}
 use Rattle.isdbs_decode.proofs.Carried.{phase-start}
 use Rattle.isdbs_decode.proofs.FrameRuns.{tail-is}

@@ -6,7 +6,7 @@ use mathlib.Core.Path.{_≡_, refl, _∙_, ap}
 use lib.ListN.{length, getD, length-drop, length-map}
 use lib.Seq.{getD-drop}
 use lib.Ieee.{nan}
-use Rattle.isdbs_core.specs.RunsOf.{noRun}
+use Rattle.isdbs_runs.specs.RunsOf.{noRun}
 use Rattle.isdbs_decode.proofs.FrameRuns.{listed-runs, steps-by, tail-is, all-valid, part-covers}
 use Rattle.isdbs_metrics.specs.Reading.{metricsAt}
 use Rattle.strain.specs.Slots.{bySlot}

@@ -4,7 +4,7 @@ use Prim.Native.Nat.{ℕ, _+_, _-_, _*_, _<_, _≤_}
 use native.Mathlib.Numerals.{add-one}
 use native.Mathlib.Omega.{arith}
 use borrow.Author.Needs.{needs}
-use Rattle.isdbs_core.specs.Combinations.{modulationOf}
+use Rattle.isdbs_combination.specs.Combinations.{modulationOf}
 use Rattle.isdbs_metrics.specs.Steps.{digits}
 use Rattle.isdbs_decode.proofs.Digits.{digits-seven, byte-digits}
 use Rattle.wanted.specs.ReadOff.{shown}

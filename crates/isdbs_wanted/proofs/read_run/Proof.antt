@@ -5,7 +5,7 @@ use native.Mathlib.Omega.{arith}
 use lib.ListN.{length}
 use borrow.Author.Needs.{needs}
 use Rattle.trellis.specs.Lists.{upto, laid}
-use Rattle.isdbs_core.specs.declared.combination.Combination.{Combination}
+use Rattle.isdbs_combination.specs.declared.Combination.{Combination}
 use Rattle.isdbs_points.specs.LawsUpto.{length-laid-upto}
 use Rattle.isdbs_decode.proofs.Packing.{byte-more}
 use Rattle.wanted.specs.ReadOff.{shown}

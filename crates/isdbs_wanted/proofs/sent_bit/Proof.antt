@@ -3,7 +3,7 @@ use mathlib.Core.Path.{subst}
 use Prim.Native.Nat.{_+_, _/_, _<_}
 use native.Mathlib.Omega.{arith}
 use borrow.Author.Needs.{needs}
-use Rattle.isdbs_core.specs.declared.combination.Modulation.{Modulation}
+use Rattle.isdbs_combination.specs.declared.Modulation.{Modulation}
 use Rattle.wanted.specs.ReadOff.{bitAs}
 use Rattle.isdbs_wanted.specs.Pieces.{SentIn}
 use Rattle.isdbs_wanted.proofs.sent_bit.Statement.{statement}

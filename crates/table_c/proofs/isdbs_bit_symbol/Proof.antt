@@ -1,6 +1,6 @@
 -- `isdbs_bit_symbol` meets its contract. Assumes nothing.
 use mathlib.Core.Path.{_≡_, sym, _∙_}
-use Rattle.isdbs_core.specs.Combinations.{combinationOf}
+use Rattle.isdbs_combination.specs.Combinations.{combinationOf}
 use Rattle.table_c.proofs.Answers.{bit-found, bit-lost}
 use Rattle.answers_c.specs.AnswerLaws.{kept}
 use borrow.Author.Needs.{needs}

@@ -7,7 +7,7 @@ use native.Mathlib.Omega.{arith}
 use borrow.Author.Needs.{needs}
 use lib.ListN.{length, length-set}
 use Rattle.trellis.specs.Lists.{laid, upto}
-use Rattle.isdbs_core.specs.RunsOf.{runsOf}
+use Rattle.isdbs_runs.specs.RunsOf.{runsOf}
 use Rattle.table_c.specs.Forms.{tableOf, runNumber}
 use Rattle.table_c.proofs.Laws.{front-more}
 use Rattle.table_c.proofs.isdbs_runs.Statement.{statement}

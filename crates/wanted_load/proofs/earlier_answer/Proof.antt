@@ -4,7 +4,7 @@ use Prim.Native.Nat.{ℕ}
 use borrow.Author.Needs.{needs}
 use Rattle.refusal.specs.Rows.{firstRow}
 use Rattle.isdb_fec.specs.Told.{told}
-use Rattle.isdbs_core.specs.declared.slots.Plan.{Plan}
+use Rattle.isdbs_runs.specs.declared.Plan.{Plan}
 use Rattle.wanted_load.specs.Rows.{lentRows}
 use Rattle.wanted_load.proofs.Rows.{by-table, by-lengths}
 use Rattle.wanted_load.proofs.earlier_answer.Statement.{statement}

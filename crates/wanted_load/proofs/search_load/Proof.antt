@@ -2,7 +2,7 @@
 use mathlib.Core.Path.{ap}
 use native.Mathlib.Omega.{arith}
 use borrow.Author.Needs.{needs}
-use Rattle.isdbs_core.specs.declared.slots.Plan.{Plan}
+use Rattle.isdbs_runs.specs.declared.Plan.{Plan}
 use Rattle.wanted.specs.Only.{read-off-full}
 use Rattle.wanted_load.specs.Search.{searched}
 use Rattle.wanted_load.proofs.Loads.{read-is}

@@ -7,8 +7,8 @@ use Rattle.refusal.specs.declared.Answer.the-variants.{NoLoad}
 use Rattle.refusal.specs.Rows.{firstRow, Either}
 use Rattle.refusal.specs.RowLaws.{refused}
 use Rattle.isdb_fec.specs.Told.{told}
-use Rattle.isdbs_core.specs.declared.slots.Plan.{Plan}
-use Rattle.isdbs_core.specs.declared.tmcc.Table.{Table}
+use Rattle.isdbs_runs.specs.declared.Plan.{Plan}
+use Rattle.isdbs_tables.specs.declared.Table.{Table}
 use Rattle.wanted_load.specs.declared.LoadFound.the-variants.{Load, Refused}
 use Rattle.wanted_load.specs.Rows.{earlierRows}
 use Rattle.wanted_load.specs.Found.{Outcome, found, none, Turned}

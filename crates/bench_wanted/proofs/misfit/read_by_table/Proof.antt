@@ -1,9 +1,9 @@
 -- `read_by_table` meets its contract. Assumes nothing.
 use mathlib.Core.Path.{sym, _∙_, ap}
 use borrow.Author.Needs.{needs}
-use Rattle.isdbs_core.specs.declared.slots.Plan.{Plan}
-use Rattle.isdbs_core.specs.declared.tmcc.Table.{Table}
-use Rattle.isdbs_core.specs.RunsOf.{planOf}
+use Rattle.isdbs_runs.specs.declared.Plan.{Plan}
+use Rattle.isdbs_tables.specs.declared.Table.{Table}
+use Rattle.isdbs_runs.specs.RunsOf.{planOf}
 use Rattle.bench_wanted.proofs.misfit.read_by_table.Statement.{statement}
 use Rattle.bench_wanted.proofs.misfit.read_by_table.Tie as tie
 use Rattle.bench_wanted.proofs.misfit.read_by_table.Reads as reads

@@ -1,5 +1,5 @@
 -- `unit_of` meets its contract. Assumes nothing.
-use Rattle.isdbs_core.specs.CombinationLaws.{unit-fits}
+use Rattle.isdbs_combination.specs.CombinationLaws.{unit-fits}
 use borrow.Author.Needs.{needs}
 use mathlib.Core.Path.{refl}
 use Rattle.bench_words.proofs.report.unit_of.Statement.{statement}

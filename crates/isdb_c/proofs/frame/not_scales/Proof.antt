@@ -5,7 +5,7 @@ use mathlib.Core.List.{[], _∷_}
 use Rattle.refusal.specs.declared.Answer.the-variants.{Length}
 use Rattle.refusal.specs.Rows.{numberOf}
 use Rattle.refusal.specs.RowLaws.{zero-accepted}
-use Rattle.isdbs_core.specs.TableLaws.{then-rows, before-rows}
+use Rattle.isdbs_tables.specs.TableLaws.{then-rows, before-rows}
 use borrow.Author.Needs.{needs}
 use Rattle.isdb_c.proofs.frame.not_scales.Statement.{statement}
 use Rattle.isdb_c.proofs.frame.not_scales.Tie as tie

@@ -1,7 +1,7 @@
 -- `first_pair` meets its contract: the pairs passed do not hold the input. Assumes nothing.
 use Prim.Native.Nat.{_-_, _≤_}
 use Rattle.isdbs_core.proofs.Pairs.{front, Passed, pair-next, pair-found, pair-none}
-use Rattle.isdbs_core.specs.CombinationLaws.{period-fits}
+use Rattle.isdbs_combination.specs.CombinationLaws.{period-fits}
 use mathlib.Core.Path.{_≡_, refl, sym, _∙_, ap}
 use native.Mathlib.Omega.{arith}
 use Rattle.isdbs_core.proofs.slots.first_pair.Statement.{statement}

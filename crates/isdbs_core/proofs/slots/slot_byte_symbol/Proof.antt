@@ -1,11 +1,12 @@
 -- `slot_byte_symbol` meets its contract. Assumes nothing.
-use Rattle.isdbs_core.proofs.Calls.{accepts, refuses, runs-answer, runs-are, runs-in, runs-units}
+use Rattle.refusal.specs.RowLaws.{accepts, refuses}
+use Rattle.isdbs_runs.specs.PlanLaws.{runs-answer, runs-are, runs-in, runs-units}
 use Rattle.isdbs_core.specs.Answers.{byteSaid}
-use Rattle.isdbs_core.specs.RunsOf.{runsOf}
+use Rattle.isdbs_runs.specs.RunsOf.{runsOf}
 use Rattle.isdbs_core.specs.SymbolLaws.{byte-padded}
 use Rattle.isdbs_core.specs.Symbols.{byteIn}
-use Rattle.isdbs_core.specs.Tables.{tableAnswer}
-use Rattle.isdbs_core.specs.declared.slots.Run.{Run}
+use Rattle.isdbs_tables.specs.Tables.{tableAnswer}
+use Rattle.isdbs_runs.specs.declared.Run.{Run}
 use mathlib.Core.List.{List}
 use mathlib.Core.Path.{_≡_, refl, sym, _∙_, ap}
 use Rattle.isdbs_core.proofs.slots.slot_byte_symbol.Statement.{statement}

@@ -1,7 +1,7 @@
 -- `symbol_of_bit` meets its contract. Assumes nothing.
 use Prim.Native.Nat.{_%_}
-use Rattle.isdbs_core.specs.CombinationLaws.{period-fits, efficiency-fits}
-use Rattle.isdbs_core.specs.Combinations.{pairsOf, periodOf}
+use Rattle.isdbs_combination.specs.CombinationLaws.{period-fits, efficiency-fits}
+use Rattle.isdbs_combination.specs.Combinations.{pairsOf, periodOf}
 use Rattle.isdbs_core.specs.SymbolLaws.{first-most, pairs-most}
 use mathlib.Core.Path.{_≡_, refl, sym, _∙_, ap}
 use native.Mathlib.Nat.{mul-le-mul-left}

@@ -2,9 +2,9 @@
 use Rattle.isdb_fec.specs.Told.{told}
 use Rattle.isdbs_phy.proofs.Rows.{passed, refused-answer}
 use Rattle.isdbs_phy.specs.DecodeRows.{someBad, decodeRows, frameAnswer}
-use Rattle.isdbs_core.specs.declared.slots.Plan.{Plan}
-use Rattle.isdbs_core.specs.declared.tmcc.Table.{Table}
-use Rattle.isdbs_core.specs.RunsOf.{planOf}
+use Rattle.isdbs_runs.specs.declared.Plan.{Plan}
+use Rattle.isdbs_tables.specs.declared.Table.{Table}
+use Rattle.isdbs_runs.specs.RunsOf.{planOf}
 use Rattle.refusal.specs.Rows.{firstRow}
 use Rattle.isdbs_decode.specs.Scales.{receivedBy}
 use Rattle.strain.specs.Strain.{strainSum}

@@ -1,0 +1,202 @@
+-- The combinations of modulation and code of STD-B20 (ITU-R BO.1408-1, Tables 1 and 2), as document 01, "Runs and points", lists them. Assumes nothing.
+use mathlib.Core.Bool.{cond}
+use mathlib.Core.List.{List, [], _∷_}
+use Prim.Native.Nat.{ℕ, suc, _+_, _-_, _*_, _%_}
+use lib.Dec.{eqb, ltb}
+use lib.ListN.{length, getD}
+use Rattle.isdbs_combination.specs.declared.Combination.{Combination}
+use Rattle.isdbs_combination.specs.declared.Combination.the-variants.{«Bpsk1_2», «Qpsk1_2», «Qpsk2_3», «Qpsk3_4», «Qpsk5_6», «Qpsk7_8», «Tc8psk2_3»}
+use Rattle.isdbs_combination.specs.declared.Modulation.{Modulation}
+use Rattle.isdbs_combination.specs.declared.Modulation.the-variants.{Bpsk, Qpsk, Tc8psk}
+use Rattle.isdbs_combination.specs.declared.CombinationWord.{CombinationWord}
+use Rattle.isdbs_combination.specs.declared.CombinationWord.the-variants.{Assigned, Dummy, Reserved}
+use Rattle.isdbs_combination.specs.declared.MaybeCombination.{MaybeCombination}
+use Rattle.isdbs_combination.specs.declared.MaybeCombination.the-variants.{Some, None}
+use Rattle.isdbs_combination.specs.declared.Puncture.{Puncture}
+use Rattle.isdbs_combination.specs.declared.Puncture.the-variants.{«R2_3», «R3_4», «R5_6», «R7_8»}
+use Rattle.isdbs_combination.specs.declared.MaybePuncture.{MaybePuncture}
+use Rattle.isdbs_combination.specs.declared.MaybePuncture.the-variants as puncture
+use Rattle.isdbs_combination.specs.declared.Ratio.{Ratio}
+use Rattle.isdbs_combination.specs.declared.SlotUnit.{SlotUnit}
+use Rattle.isdbs_combination.specs.declared.BitPair.{BitPair}
+use Rattle.isdbs_combination.specs.declared.BitPairs.{BitPairs}
+use Rattle.isdbs_combination.specs.Lists.{padded}
+
+-- "words 1 to 7 are BPSK 1/2, QPSK 1/2, 2/3, 3/4, 5/6, 7/8, TC8PSK 2/3"; no other word has a combination
+abbrev pub words : List MaybeCombination
+words =
+    None
+    ∷ Some «Bpsk1_2»
+    ∷ Some «Qpsk1_2»
+    ∷ Some «Qpsk2_3»
+    ∷ Some «Qpsk3_4»
+    ∷ Some «Qpsk5_6»
+    ∷ Some «Qpsk7_8»
+    ∷ Some «Tc8psk2_3»
+    ∷ []
+
+abbrev pub combinationOf : ℕ → MaybeCombination
+combinationOf w = getD words w None
+
+-- a word without combination: 15 is the dummy of unused entries, the others are reserved
+abbrev pub unassigned : ℕ → MaybeCombination → CombinationWord
+unassigned w (Some c) = Assigned c
+unassigned w None = cond (eqb w 15) Dummy (Reserved w)
+
+-- "a word, of which the low 4 bits count"
+abbrev pub wordMeans : ℕ → CombinationWord
+wordMeans w = unassigned (w % 16) (combinationOf (w % 16))
+
+abbrev pub assignedOf : CombinationWord → MaybeCombination
+assignedOf (Assigned c) = Some c
+assignedOf Dummy = None
+assignedOf (Reserved w) = None
+
+abbrev pub wordOf : Combination → ℕ
+wordOf «Bpsk1_2» = 1
+wordOf «Qpsk1_2» = 2
+wordOf «Qpsk2_3» = 3
+wordOf «Qpsk3_4» = 4
+wordOf «Qpsk5_6» = 5
+wordOf «Qpsk7_8» = 6
+wordOf «Tc8psk2_3» = 7
+
+abbrev pub codeOf : CombinationWord → ℕ
+codeOf (Assigned c) = wordOf c
+codeOf Dummy = 15
+codeOf (Reserved w) = w
+
+abbrev pub modulationOf : Combination → Modulation
+modulationOf «Bpsk1_2» = Bpsk
+modulationOf «Qpsk1_2» = Qpsk
+modulationOf «Qpsk2_3» = Qpsk
+modulationOf «Qpsk3_4» = Qpsk
+modulationOf «Qpsk5_6» = Qpsk
+modulationOf «Qpsk7_8» = Qpsk
+modulationOf «Tc8psk2_3» = Tc8psk
+
+-- coded bits of a symbol
+abbrev pub symbolBits : Modulation → ℕ
+symbolBits Bpsk = 1
+symbolBits Qpsk = 2
+symbolBits Tc8psk = 3
+
+abbrev ratio : ℕ → ℕ → Ratio
+ratio n d = record { num = n; den = d }
+
+abbrev pub rateOf : Combination → Ratio
+rateOf «Bpsk1_2» = ratio 1 2
+rateOf «Qpsk1_2» = ratio 1 2
+rateOf «Qpsk2_3» = ratio 2 3
+rateOf «Qpsk3_4» = ratio 3 4
+rateOf «Qpsk5_6» = ratio 5 6
+rateOf «Qpsk7_8» = ratio 7 8
+rateOf «Tc8psk2_3» = ratio 2 3
+
+-- information bits per symbol: the rate times the coded bits of a symbol; TC8PSK carries two
+abbrev pub efficiencyOf : Combination → Ratio
+efficiencyOf «Bpsk1_2» = ratio 1 2
+efficiencyOf «Qpsk1_2» = ratio 2 2
+efficiencyOf «Qpsk2_3» = ratio 4 3
+efficiencyOf «Qpsk3_4» = ratio 6 4
+efficiencyOf «Qpsk5_6» = ratio 10 6
+efficiencyOf «Qpsk7_8» = ratio 14 8
+efficiencyOf «Tc8psk2_3» = ratio 2 1
+
+-- the combinations from the most to the least efficient
+abbrev pub byEfficiency : List Combination
+byEfficiency = «Tc8psk2_3» ∷ «Qpsk7_8» ∷ «Qpsk5_6» ∷ «Qpsk3_4» ∷ «Qpsk2_3» ∷ «Qpsk1_2» ∷ «Bpsk1_2» ∷ []
+
+-- how many of a list are more efficient than the ratio
+unfoldable pub above : Ratio → List Combination → ℕ
+above r [] = 0
+above r (c ∷ cs) = cond (ltb (r .num * efficiencyOf c .den) (efficiencyOf c .num * r .den)) (suc (above r cs)) (above r cs)
+
+-- the rank of a combination: how many are more efficient
+abbrev pub rankOf : Combination → ℕ
+rankOf c = above (efficiencyOf c) byEfficiency
+
+abbrev unit : ℕ → ℕ → SlotUnit
+unit n v = record { slots = n; valid = v }
+
+-- "(slots, valid slots) per unit (4,1) (2,1) (3,2) (4,3) (6,5) (8,7) (1,1)"
+abbrev pub unitOf : Combination → SlotUnit
+unitOf «Bpsk1_2» = unit 4 1
+unitOf «Qpsk1_2» = unit 2 1
+unitOf «Qpsk2_3» = unit 3 2
+unitOf «Qpsk3_4» = unit 4 3
+unitOf «Qpsk5_6» = unit 6 5
+unitOf «Qpsk7_8» = unit 8 7
+unitOf «Tc8psk2_3» = unit 1 1
+
+-- trellis steps of a valid slot: one for each of its 1,624 bits; TC8PSK takes two bits a step, one of them uncoded
+abbrev pub slotSteps : Combination → ℕ
+slotSteps «Bpsk1_2» = 1624
+slotSteps «Qpsk1_2» = 1624
+slotSteps «Qpsk2_3» = 1624
+slotSteps «Qpsk3_4» = 1624
+slotSteps «Qpsk5_6» = 1624
+slotSteps «Qpsk7_8» = 1624
+slotSteps «Tc8psk2_3» = 812
+
+abbrev pub punctureOf : Combination → MaybePuncture
+punctureOf «Bpsk1_2» = puncture.None
+punctureOf «Qpsk1_2» = puncture.None
+punctureOf «Qpsk2_3» = puncture.Some «R2_3»
+punctureOf «Qpsk3_4» = puncture.Some «R3_4»
+punctureOf «Qpsk5_6» = puncture.Some «R5_6»
+punctureOf «Qpsk7_8» = puncture.Some «R7_8»
+punctureOf «Tc8psk2_3» = puncture.None
+
+-- mother bits by number: outputs X_i and Y_i of input i of a period, from 1
+abbrev pub X : ℕ → ℕ
+X i = 2 * (i - 1)
+
+abbrev pub Y : ℕ → ℕ
+Y i = 2 * (i - 1) + 1
+
+abbrev pair : ℕ → ℕ → BitPair
+pair a b = record { p1 = a; p0 = b }
+
+-- "Punctured QPSK pairs per period: 2/3, period 4: X1Y1 Y2X3 Y3Y4; 3/4: X1Y1 Y2X3; 5/6: X1Y1 Y2X3 Y4X5; 7/8: X1Y1 Y2Y3 Y4X5 Y6X7"
+abbrev pub pairsOf : Puncture → List BitPair
+pairsOf «R2_3» = pair (X 1) (Y 1) ∷ pair (Y 2) (X 3) ∷ pair (Y 3) (Y 4) ∷ []
+pairsOf «R3_4» = pair (X 1) (Y 1) ∷ pair (Y 2) (X 3) ∷ []
+pairsOf «R5_6» = pair (X 1) (Y 1) ∷ pair (Y 2) (X 3) ∷ pair (Y 4) (X 5) ∷ []
+pairsOf «R7_8» = pair (X 1) (Y 1) ∷ pair (Y 2) (Y 3) ∷ pair (Y 4) (X 5) ∷ pair (Y 6) (X 7) ∷ []
+
+-- input bits per period
+abbrev pub periodOf : Puncture → ℕ
+periodOf «R2_3» = 4
+periodOf «R3_4» = 3
+periodOf «R5_6» = 5
+periodOf «R7_8» = 7
+
+-- the pairs as four records and a count, with (0, 0) past the count
+abbrev pub fourPairs : Puncture → BitPairs
+fourPairs p = record { count = length (pairsOf p); pairs = padded 4 (pair 0 0) (pairsOf p) }
+
+-- a period of a combination: as many steps as symbols carry whole. Unpunctured, a step is a period: BPSK sends X then Y, QPSK and TC8PSK one symbol
+abbrev pub periodSteps : MaybePuncture → ℕ
+periodSteps (puncture.Some p) = periodOf p
+periodSteps puncture.None = 1
+
+abbrev pub periodSymbols : MaybePuncture → Modulation → ℕ
+periodSymbols (puncture.Some p) m = length (pairsOf p)
+periodSymbols puncture.None Bpsk = 2
+periodSymbols puncture.None Qpsk = 1
+periodSymbols puncture.None Tc8psk = 1
+
+-- information bits of a step: TC8PSK takes C2 uncoded besides the coded bit
+abbrev pub stepBits : Modulation → ℕ
+stepBits Bpsk = 1
+stepBits Qpsk = 1
+stepBits Tc8psk = 2
+
+-- pairs of the bits of a list, two by two
+abbrev pub pairsFrom : ℕ → List ℕ → BitPairs
+pairsFrom n b =
+    record {
+      count = n;
+      pairs = pair (getD b 0 0) (getD b 1 0) ∷ pair (getD b 2 0) (getD b 3 0) ∷ pair (getD b 4 0) (getD b 5 0) ∷ pair (getD b 6 0) (getD b 7 0) ∷ [];
+    }

@@ -1,0 +1,2 @@
+pub mod SlotPart
+pub mod PartLaws

@@ -1,0 +1,3 @@
+pub mod RunsOf
+pub mod RunLaws
+pub mod PlanLaws
