@@ -30,7 +30,7 @@ use Rattle.isdbs_points.specs.LawsUpto.{laid-part, length-laid-upto}
 use Rattle.isdbs_points.specs.Places.{Fill, before, fill-last, among-past}
 use Rattle.isdbs_points.specs.Sizes.{symbolSum, fill-symbols, symbol-sum-few, table-whole}
 use Rattle.isdbs_encode.specs.Encoding.{symbolsOf, inputsOf, pointOf, Tiled, RunsMade, FrameLaid}
-use Rattle.isdbs_encode.proofs.Encode.{tail-back}
+use Rattle.isdbs_pieces.specs.PieceLaws.{tail-back}
 
 -- ---- the runs of a table
 each-at : (P : Run → Type 0) (l : List Run) (d : Run) (i : ℕ) → Each P l → i < length l → P (getD l i d)

@@ -13,7 +13,7 @@ use Rattle.isdbs_runs.specs.RunsOf.{noRun}
 use Rattle.isdbs_points.specs.Layout.{segmentsFrom}
 use Rattle.isdbs_points.specs.Places.{before}
 use Rattle.isdbs_encode.specs.Encoding.{inputsOf, pointOf}
-use Rattle.isdbs_encode.proofs.Encode.{Going, going-start}
+use Rattle.isdbs_pieces.specs.PieceLaws.{Going, going-start}
 use Rattle.isdbs_encode.proofs.encode_runs.Statement.{statement}
 use Rattle.isdbs_encode.proofs.encode_runs.Tie as tie
 

@@ -5,7 +5,7 @@ use Prim.Native.Nat.{ℕ, _+_, _*_, _-_, _/_, _%_, _<_, _≤_}
 use native.Mathlib.Omega.{arith}
 use lib.ListN.{length, getD}
 use Rattle.isdbs_points.specs.Points.{zero64}
-use Rattle.isdbs_encode.proofs.Encode.{Put, put-none, put-one}
+use Rattle.isdbs_pieces.specs.PieceLaws.{Put, put-none, put-one}
 use Rattle.isdbs_encode.proofs.put_unused.Statement.{statement}
 use Rattle.isdbs_encode.proofs.put_unused.Tie as tie
 

@@ -1,0 +1,57 @@
+// The bits of a frame's load, and the trellis steps that they make.
+use viterbi::encode_bit;
+ghost use mathlib.Core.Path.{_≡_};
+ghost use Prim.Native.Nat.{_%_, _<_};
+ghost use lib.ListN.{getD};
+ghost use Rattle.trellis.specs.Code.{isdb, label, moved};
+ghost use Rattle.isdbs_points.specs.Layout.{loadBit};
+ghost use Rattle.isdbs_load.specs.Bits.{byteBit};
+
+// Byte `at` of the load; missing bytes are 0.
+pub fn load_byte(bytes: &[u8], at: usize) -> u8
+    ensures { λ r. ⌜ r ≡ getD (now (bytes .entry)) at 0 ⌝ }
+{
+    if at < bytes.len() { bytes[at] } else { 0 }
+}
+
+// Bit i of a byte, high bit first.
+pub fn byte_bit(byte: u8, i: usize) -> u8
+    requires { ⌜ i < 8 ⌝ }
+    ensures { λ r. ⌜ r ≡ byteBit byte i ⌝ }
+{
+    (byte >> (7 - i)) % 2
+}
+
+// Bit n of the load, high bit first; missing bits are 0.
+fn load_bit(bytes: &[u8], n: usize) -> u8
+    ensures { λ r. ⌜ r ≡ loadBit (now (bytes .entry)) n ⌝ }
+{
+    byte_bit(load_byte(bytes, n / 8), n % 8)
+}
+
+// 2 X + Y of a trellis step, and the state after it.
+pub struct Sent {
+    pub state: u8,
+    pub label: usize,
+}
+
+// The trellis step of an input, of which the low bit counts.
+pub fn encode_input(u: u8, state: u8) -> Sent
+    requires { ⌜ state < 64 ⌝ }
+    ensures { λ r. ⌜ (r .label ≡ label isdb (u % 2) state) × (r .state ≡ moved 32 (u % 2) state) × (r .state < 64) × (r .label < 4) ⌝ }
+{
+    let c = encode_bit(state, u);
+    let label = 2 * c.x + c.y;
+    Sent {
+        state: c.state,
+        label: label as usize,
+    }
+}
+
+// The trellis step that bit n of the load makes.
+pub fn encode_step(bytes: &[u8], n: usize, state: u8) -> Sent
+    requires { ⌜ state < 64 ⌝ }
+    ensures { λ r. ⌜ (r .label ≡ label isdb (loadBit (now (bytes .entry)) n) state) × (r .state ≡ moved 32 (loadBit (now (bytes .entry)) n) state) × (r .state < 64) × (r .label < 4) ⌝ }
+{
+    encode_input(load_bit(bytes, n), state)
+}

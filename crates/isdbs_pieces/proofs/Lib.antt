@@ -1,0 +1,4 @@
+pub mod EncodeQpsk
+pub mod EncodeTc8psk
+pub mod Gathered
+pub mod Written
