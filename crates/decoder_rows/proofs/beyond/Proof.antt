@@ -1,11 +1,11 @@
--- `conv::beyond` meets its contract. Assumes nothing.
+-- `beyond` meets its contract. Assumes nothing.
 use mathlib.Core.Path.{_≡_, refl, sym, _∙_, ap}
 use Prim.Native.Nat.{ℕ, suc, _+_, _-_, _*_, _/_, _%_, _<_, _≤_}
 use native.Mathlib.Omega.{arith}
 use borrow.Author.Needs.{needs}
 use mathlib.Core.Bool.{not}
-use Rattle.isdb_fec.proofs.conv.beyond.Statement.{statement}
-use Rattle.isdb_fec.proofs.conv.beyond.Tie as tie
+use Rattle.decoder_rows.proofs.beyond.Statement.{statement}
+use Rattle.decoder_rows.proofs.beyond.Tie as tie
 
 returns : tie.Need-returns
 returns c = rw (c .before .if1 .taken, c .if2 .taken) refl

@@ -1,4 +1,4 @@
--- `conv::some_beyond` meets its contract. The invariant: what is said of the list is said of what is left of it. Assumes nothing.
+-- `some_beyond` meets its contract. The invariant: what is said of the list is said of what is left of it. Assumes nothing.
 use mathlib.Core.Path.{_≡_, refl, sym, _∙_, ap}
 use Prim.Native.Nat.{ℕ, suc, _+_, _-_, _*_, _/_, _%_, _<_, _≤_}
 use native.Mathlib.Omega.{arith}
@@ -9,9 +9,9 @@ use lib.ListN.{length, getD, drop}
 use lib.Seq.{drop-cons, drop-length}
 use lib.Ieee.{Float, nan}
 use native.Mathlib.Numerals.{add-one}
-use Rattle.isdb_fec.specs.Values.{within, someBeyond}
-use Rattle.isdb_fec.proofs.conv.some_beyond.Statement.{statement}
-use Rattle.isdb_fec.proofs.conv.some_beyond.Tie as tie
+use Rattle.decoder_rows.specs.Values.{within, someBeyond}
+use Rattle.decoder_rows.proofs.some_beyond.Statement.{statement}
+use Rattle.decoder_rows.proofs.some_beyond.Tie as tie
 
 -- at an element of the list
 here : (limit : Float) (xs : List Float) (i : ℕ) (t : Bool) → i < length xs → t ≡ not (within limit (getD xs i nan)) → someBeyond limit (drop i xs) ≡ (t || someBeyond limit (drop (suc i) xs))
