@@ -128,7 +128,7 @@ pub fn answer_flush(
     if out < held {
         return Answer::Space;
     }
-    if decisions < BLOCK + traceback {
+    if BLOCK + traceback > decisions {
         return Answer::Space;
     }
     Answer::Accepted

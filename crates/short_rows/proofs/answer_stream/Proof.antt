@@ -6,13 +6,13 @@ use borrow.Author.Needs.{needs}
 use lib.ListN.{length}
 use borrow.Author.Tests.{lt-ltb, le-ltb, le-leb, lt-leb, eq-eqb, ne-eqb}
 use Rattle.isdb_fec.specs.Rows.{streamRest}
-use Rattle.short_fec.specs.Rows.{handedRows}
+use Rattle.short_rows.specs.Rows.{handedRows}
 use Rattle.refusal.specs.RowLaws.{refused-by, passed-by}
-use Rattle.short_fec.specs.Answers.{sound}
+use Rattle.short_rows.specs.RowLaws.{sound}
 use Rattle.isdb_fec.specs.Told.{told}
 use borrow.Author.Needs.{needs}
-use Rattle.short_fec.proofs.answer_stream.Statement.{statement}
-use Rattle.short_fec.proofs.answer_stream.Tie as tie
+use Rattle.short_rows.proofs.answer_stream.Statement.{statement}
+use Rattle.short_rows.proofs.answer_stream.Tie as tie
 
 answer-handed-requires : tie.Need-answer-handed-requires
 answer-handed-requires c κs = search needs

@@ -7,8 +7,8 @@ use borrow.Author.Tests.{lt-ltb, le-ltb, le-leb, lt-leb, eq-eqb, ne-eqb}
 use Rattle.short_code.specs.Codes.{statesOf}
 use Rattle.short_code.specs.CodeLaws.{states-are, good-length}
 use borrow.Author.Needs.{needs}
-use Rattle.short_fec.proofs.answer_encoder.Statement.{statement}
-use Rattle.short_fec.proofs.answer_encoder.Tie as tie
+use Rattle.short_rows.proofs.answer_encoder.Statement.{statement}
+use Rattle.short_rows.proofs.answer_encoder.Tie as tie
 
 bad-requires : tie.Need-bad-requires
 bad-requires c κs = search needs

@@ -10,8 +10,8 @@ use Prim.Native.Nat.{ℕ, _+_, _-_, _*_, _≤_, _<_}
 use lib.ListN.{take}
 use Rattle.isdb_fec.specs.Values.{someBeyond, pathLimit}
 use borrow.Author.Needs.{needs}
-use Rattle.short_fec.proofs.answer_handed.Statement.{statement}
-use Rattle.short_fec.proofs.answer_handed.Tie as tie
+use Rattle.short_rows.proofs.answer_handed.Statement.{statement}
+use Rattle.short_rows.proofs.answer_handed.Tie as tie
 
 returns : tie.Need-returns
 returns c = rw (eq-eqb (c .before .args .dec .traceback) 0 (c .if1 .taken)) refl

@@ -7,8 +7,8 @@ use mathlib.Core.Bool.{Bool, true, false, cond, _||_, or-true}
 use borrow.Author.Tests.{lt-ltb, le-ltb, le-leb, lt-leb, eq-eqb, ne-eqb}
 use Rattle.isdb_fec.specs.Rows.{shortOf, stepsShort}
 use borrow.Author.Needs.{needs}
-use Rattle.short_fec.proofs.answer_space.Statement.{statement}
-use Rattle.short_fec.proofs.answer_space.Tie as tie
+use Rattle.short_rows.proofs.answer_space.Statement.{statement}
+use Rattle.short_rows.proofs.answer_space.Tie as tie
 
 few-places-requires : tie.Need-few-places-requires
 few-places-requires c κs = search needs

@@ -1,8 +1,8 @@
 -- `short_fec::bad` meets its contract, in either arm. Assumes nothing.
 use mathlib.Core.Path.{refl, sym, _∙_}
 use borrow.Author.Needs.{needs}
-use Rattle.short_fec.proofs.bad.Statement.{statement}
-use Rattle.short_fec.proofs.bad.Tie as tie
+use Rattle.short_rows.proofs.bad.Statement.{statement}
+use Rattle.short_rows.proofs.bad.Tie as tie
 
 good-requires : tie.Need-good-requires
 good-requires c κs = search needs

@@ -18,7 +18,7 @@ use Rattle.isdb_fec.specs.Rows.{releases, shortOf, stepsShort, streamRest}
 use Rattle.isdb_fec.specs.Answers.{Enough, FlushEnough}
 use Rattle.short_code.specs.declared.Code.{Code}
 use Rattle.short_code.specs.Codes.{goodCode, statesOf}
-use Rattle.short_fec.specs.Rows.{handedRows, streamRows, knownRows, flushRows}
+use Rattle.short_rows.specs.Rows.{handedRows, streamRows, knownRows, flushRows}
 
 -- a handed state that is not refused
 pub record Sound (c : Code) (v : ViterbiDecoder) : Type 0 where
