@@ -3,39 +3,27 @@ use mathlib.Core.Path.{_≡_, sym}
 use mathlib.Core.Bool.{false}
 use mathlib.Core.List.{List, [], _∷_}
 use Prim.Native.Nat.{ℕ, _+_, _*_, _/_, _≤_, _<_}
-use native.Mathlib.Omega.{arith}
-use borrow.Author.Tests.{ltb-false, leb-false, eqb-false}
-use lib.Dec.{eqb, leb, ltb}
+use borrow.Author.Tests.{ltb-false}
+use lib.Dec.{ltb}
 use lib.ListN.{length}
 use lib.Ieee.{Float}
 use Rattle.refusal.specs.Rows.{Row, firstRow, Either}
 pub use Rattle.refusal.specs.RowLaws.{refused, numbered, neither}
 use Rattle.refusal.specs.RowLaws.{done, passed, both-passed}
-use Rattle.refusal.specs.declared.Answer.the-variants.{Accepted, Traceback, State, Space}
-use Rattle.trellis.specs.Run.{block}
+use Rattle.refusal.specs.declared.Answer.the-variants.{Accepted, Space}
+use Rattle.decoder_rows.specs.RowLaws as handed
 use Rattle.isdb_fec.specs.declared.conv.ViterbiDecoder.{ViterbiDecoder}
-use Rattle.isdb_fec.specs.Values.{someBeyond, pathLimit}
 use Rattle.isdb_fec.specs.Rows.{releases, shortOf, stepsShort, handedRows, streamRest, streamRows, pushKnownRows, flushRows}
 
 pub accepted : {P Q : Type 0} → P → Either Accepted P Q
 accepted = done
 
--- the numbers of a handed state that is not refused
-pub record Sound (v : ViterbiDecoder) : Type 0 where
-  pub least : 1 ≤ v .traceback
-  pub most : v .traceback ≤ 1024
-  pub fewer : v .held < 4096 + v .traceback
-  pub finite : someBeyond pathLimit (v .pm) ≡ false
+-- the numbers of a handed decoder that is not refused
+abbrev pub Sound : ViterbiDecoder → Type 0
+Sound v = handed.Sound (v .pm) (v .held) (v .traceback)
 
 pub sound : (v : ViterbiDecoder) → Accepted ≡ firstRow (handedRows v) → Sound v
-sound v e =
-    let p = passed (handedRows v) tt (sym e) in
-    let t = neither (eqb (v .traceback) 0) (ltb 1024 (v .traceback)) (p Traceback) in
-    let s = neither (leb (block + v .traceback) (v .held)) (someBeyond pathLimit (v .pm)) (p State) in
-    let n : v .traceback ≡ 0 → ⊥ = eqb-false (v .traceback) 0 (t .0) in
-    let h : v .traceback ≤ 1024 = ltb-false 1024 (v .traceback) (t .1) in
-    let g : v .held < 4096 + v .traceback = leb-false (4096 + v .traceback) (v .held) (s .0) in
-    record { least = omega arith; most = h; fewer = g; finite = s .1 }
+sound v e = handed.sound (v .pm) (v .held) (v .traceback) e
 
 -- an accepted call of n steps has the numbers that it needs
 pub record Enough (v : ViterbiDecoder) (n decisions out : ℕ) : Type 0 where

@@ -1,21 +1,19 @@
 // The mother code of constraint length 7 with generators 171 and 133 octal, and its soft-decision Viterbi decoder: the inner code of
 // every ISDB system. Puncturing lives with the systems.
 ghost use mathlib.Core.Path.{_≡_};
-ghost use mathlib.Core.Bool.{cond, not};
 ghost use Prim.Native.Nat.{ℕ, _+_, _*_, _<_, _≤_, _/_, _%_};
 ghost use lib.ListN.{length};
 ghost use Rattle.refusal.specs.Rows.{firstRow};
 ghost use Rattle.trellis.specs.Code.{isdb, output, moved};
 ghost use Rattle.trellis.specs.Run.{startAt, startUnknown};
-ghost use Rattle.isdb_fec.specs.Values.{within, someBeyond};
-ghost use Rattle.isdb_fec.specs.Rows.{encoderRows, freshRows, handedRows, streamRows, pushRows, pushMetricsRows, pushKnownRows, flushRows, stepsShort};
+ghost use Rattle.isdb_fec.specs.Rows.{encoderRows, freshRows, streamRows, pushRows, pushMetricsRows, pushKnownRows, flushRows};
 ghost use Rattle.isdb_fec.specs.Calls.{pairSteps, fourSteps, knownSteps, steps, call, handed, Leaves, Flushes, FlushesAt, Unchanged, Either, Fresh, Zero};
+pub use decoder_rows::some_beyond;
 use refusal::Answer;
 use viterbi::At;
 use viterbi::Step;
 use viterbi::advance;
 use viterbi::encode_bit;
-use viterbi::few_places;
 use viterbi::finish;
 use viterbi::finish_at;
 use viterbi::parity;
@@ -33,9 +31,6 @@ pub const STATES: usize = 64;
 
 // 16 constraint lengths.
 pub const DEFAULT_TRACEBACK: usize = 112;
-
-// The bits that leave at a release.
-const BLOCK: usize = 4096;
 
 pub struct Branch {
     pub answer: Answer,
@@ -110,29 +105,6 @@ impl ConvEncoder {
             y: c.y,
         }
     }
-}
-
-// Whether a value is not a number or beyond the limit.
-fn beyond(x: f32, limit: f32) -> bool
-    ensures { λ r. ⌜ r ≡ not (within limit x) ⌝ }
-{
-    if -limit <= x {
-        if x <= limit { false } else { true }
-    } else {
-        true
-    }
-}
-
-// Whether any of the values is.
-pub fn some_beyond(xs: &[f32], limit: f32) -> bool
-    ensures { λ r. ⌜ r ≡ someBeyond limit (now (xs .entry)) ⌝ }
-{
-    for i in 0..xs.len() {
-        if beyond(xs[i], limit) {
-            return true;
-        }
-    }
-    false
 }
 
 // The decoder: a path value for each state, how many decision words it holds in the lent slice, and the traceback depth.
@@ -225,69 +197,21 @@ impl ViterbiDecoder {
         self.held
     }
 
-    // The rows of a handed state.
-    fn answer_handed(self) -> Answer
-        ensures { λ r. ⌜ r ≡ firstRow (handedRows self) ⌝ }
-    {
-        let traceback = self.traceback;
-        if traceback == 0 {
-            return Answer::Traceback;
-        }
-        if traceback > 1024 {
-            return Answer::Traceback;
-        }
-        if self.held >= BLOCK + traceback {
-            return Answer::State;
-        }
-        let pm = self.pm;
-        if some_beyond(&pm, 4294967296.0) {
-            return Answer::State;
-        }
-        Answer::Accepted
-    }
-
-    // The answer to a call of n steps on a state that is not refused: is there space?
-    fn answer_space(self, n: usize, decisions: usize, out: usize) -> Answer
-        requires { ⌜ (1 ≤ self .traceback) × (self .traceback ≤ 1024) × (self .held < 4096 + self .traceback) ⌝ }
-        ensures { λ r. ⌜ r ≡ cond (stepsShort n self decisions out) Answer.Space Answer.Accepted ⌝ }
-    {
-        let traceback = self.traceback;
-        if few_places(traceback, self.held, n, out) {
-            return Answer::Space;
-        }
-        if decisions < BLOCK + traceback {
-            return Answer::Space;
-        }
-        Answer::Accepted
-    }
-
     // The answer to a call of soft values or metrics, `per` for each step.
     fn answer_stream(self, values: &[f32], per: usize, decisions: usize, out: usize) -> Answer
         requires { ⌜ 0 < per ⌝ }
         ensures { λ r. ⌜ r ≡ firstRow (streamRows per self (now (values .entry)) decisions out) ⌝ }
     {
-        let answer = self.answer_handed();
-        let Answer::Accepted = answer else {
-            return answer;
-        };
-        if values.len() % per != 0 {
-            return Answer::Length;
-        }
-        if some_beyond(values, 1048576.0) {
-            return Answer::Sample;
-        }
-        self.answer_space(values.len() / per, decisions, out)
+        let pm = self.pm;
+        decoder_rows::answer_stream(&pm, self.held, self.traceback, values, per, decisions, out)
     }
 
     // The answer to a call of n known bits.
     fn answer_known(self, n: usize, decisions: usize, out: usize) -> Answer
         ensures { λ r. ⌜ r ≡ firstRow (pushKnownRows self n decisions out) ⌝ }
     {
-        let answer = self.answer_handed();
-        let Answer::Accepted = answer else {
-            return answer;
-        };
-        self.answer_space(n, decisions, out)
+        let pm = self.pm;
+        decoder_rows::answer_known(&pm, self.held, self.traceback, n, decisions, out)
     }
 
     // Feeds soft-value pairs.
@@ -475,16 +399,7 @@ impl ViterbiDecoder {
     fn answer_flush(self, decisions: usize, out: usize) -> Answer
         ensures { λ r. ⌜ r ≡ firstRow (flushRows self decisions out) ⌝ }
     {
-        let answer = self.answer_handed();
-        let Answer::Accepted = answer else {
-            return answer;
-        };
-        if out < self.held {
-            return Answer::Space;
-        }
-        if decisions < BLOCK + self.traceback {
-            return Answer::Space;
-        }
-        Answer::Accepted
+        let pm = self.pm;
+        decoder_rows::answer_flush(&pm, self.held, self.traceback, decisions, out)
     }
 }

@@ -4,7 +4,7 @@ use mathlib.Core.List.{List}
 use Prim.Native.Nat.{ℕ, zero, suc}
 use Rattle.refusal.specs.declared.Answer.{Answer}
 use Rattle.refusal.specs.Rows.{Row, numberOf, firstRow}
-use Rattle.isdbt_fec.specs.declared.conv.CodeRate.{CodeRate}
+use Rattle.isdbt_table.specs.declared.CodeRate.{CodeRate}
 use Rattle.isdbt_c.specs.declared.MaybeRate.{MaybeRate}
 use Rattle.isdbt_c.specs.declared.MaybeRate.the-variants.{Rate, NoRate}
 use Rattle.answers_c.specs.Answers.{answered}

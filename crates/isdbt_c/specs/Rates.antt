@@ -3,8 +3,8 @@ use mathlib.Core.List.{List, [], _∷_}
 use Prim.Native.Nat.{ℕ}
 use lib.ListN.{getD}
 use Rattle.refusal.specs.Rows.{Row}
-use Rattle.isdbt_fec.specs.declared.conv.CodeRate.{CodeRate}
-use Rattle.isdbt_fec.specs.declared.conv.CodeRate.the-variants.{«R1_2», «R2_3», «R3_4», «R5_6», «R7_8»}
+use Rattle.isdbt_table.specs.declared.CodeRate.{CodeRate}
+use Rattle.isdbt_table.specs.declared.CodeRate.the-variants.{«R1_2», «R2_3», «R3_4», «R5_6», «R7_8»}
 use Rattle.answers_c.specs.Lengths.{untilLength}
 use Rattle.isdbt_c.specs.declared.MaybeRate.{MaybeRate}
 use Rattle.isdbt_c.specs.declared.MaybeRate.the-variants.{Rate, NoRate}

@@ -16,9 +16,9 @@ use Rattle.isdb_fec.specs.Calls.{Holds, Stepped, Room, holding, stepOnce, bestS
 use Rattle.isdb_fec.specs.Answers.{Enough}
 use Rattle.viterbi.specs.Count.{counted}
 use Rattle.isdb_fec.specs.Whole.{begins, lengths, ready, goes-on}
-use Rattle.isdbt_fec.specs.declared.conv.CodeRate.{CodeRate}
-use Rattle.isdbt_fec.specs.declared.conv.Puncturing.{Puncturing}
-use Rattle.isdbt_fec.specs.Table.{period, sent, compiled}
+use Rattle.isdbt_table.specs.declared.CodeRate.{CodeRate}
+use Rattle.isdbt_table.specs.declared.Puncturing.{Puncturing}
+use Rattle.isdbt_table.specs.Table.{period, sent, compiled}
 use Rattle.isdbt_fec.specs.Calls.{decodedBits}
 use Rattle.isdbt_fec.specs.Decode.{stepsBy, begun, room-for, all-bits, bits-out, words-out}
 use Rattle.isdbt_fec.proofs.Turns.{bit-count}

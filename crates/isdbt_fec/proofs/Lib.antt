@@ -1,5 +1,3 @@
-pub mod Written
 pub mod Turns
 pub mod Periods
 pub mod Decoding
-pub mod Refusals

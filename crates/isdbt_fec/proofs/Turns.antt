@@ -5,11 +5,11 @@ use Prim.Native.Nat.{ℕ, _+_, _*_, _/_, _<_, _≤_}
 use native.Mathlib.Omega.{arith}
 use native.Mathlib.Nat.{mul-left-comm}
 use lib.ListN.{length}
-use Rattle.isdbt_fec.specs.declared.conv.CodeRate.{CodeRate}
-use Rattle.isdbt_fec.specs.declared.conv.Puncturing.{Puncturing}
-use Rattle.isdbt_fec.specs.Table.{period, sent, compiled}
-use Rattle.isdbt_fec.specs.Numbers.{numbers}
-use Rattle.isdbt_fec.specs.Sizes.{values-there}
+use Rattle.isdbt_table.specs.declared.CodeRate.{CodeRate}
+use Rattle.isdbt_table.specs.declared.Puncturing.{Puncturing}
+use Rattle.isdbt_table.specs.Table.{period, sent, compiled}
+use Rattle.isdbt_table.specs.Numbers.{numbers}
+use Rattle.isdbt_table.specs.Sizes.{values-there}
 
 -- how many bits, mother bits and sent bits whole periods give
 module _ (rate : CodeRate) (p : Puncturing) (count : ℕ) (e : p ≡ compiled rate) where

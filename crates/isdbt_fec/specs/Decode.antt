@@ -22,21 +22,14 @@ use Rattle.viterbi.specs.Upto.{getD-upto}
 use Rattle.viterbi.specs.Laid.{laid-laid, laid-after}
 use Rattle.viterbi.specs.Count.{releases-is, counted}
 use Rattle.viterbi.specs.Holding.{cleared, holding-is}
-use Rattle.isdbt_fec.specs.declared.conv.CodeRate.{CodeRate}
-use Rattle.isdbt_fec.specs.declared.conv.CodeRate.the-variants.{R1_2, R2_3, R3_4, R5_6, R7_8}
-use Rattle.isdbt_fec.specs.declared.conv.Puncturing.{Puncturing}
-use Rattle.isdbt_fec.specs.Table.{period, sent, compiled}
-use Rattle.isdbt_fec.specs.Puncture.{spread, softAt, depunctured}
-use Rattle.isdbt_fec.specs.Rows.{depth}
+use Rattle.isdbt_table.specs.declared.CodeRate.{CodeRate}
+use Rattle.isdbt_table.specs.declared.CodeRate.the-variants.{R1_2, R2_3, R3_4, R5_6, R7_8}
+use Rattle.isdbt_table.specs.declared.Puncturing.{Puncturing}
+use Rattle.isdbt_table.specs.Table.{period, sent, compiled}
+use Rattle.isdbt_table.specs.Puncture.{spread, softAt, depunctured}
+use Rattle.isdbt_rows.specs.Rows.{depth}
 use Rattle.isdbt_fec.specs.Calls.{steps, fresh, decodedBits}
-use Rattle.isdbt_fec.specs.Numbers.{numbers}
-
-depth-case : (tb : ℕ) (t : Bool) → eqb tb 0 ≡ t → tb ≤ 1024 → (1 ≤ cond t 1 tb) × (cond t 1 tb ≤ 1024)
-depth-case tb true e h = (omega arith, omega arith)
-depth-case tb false e h = let n = eqb-false tb 0 e in (omega arith, h)
-
-pub depth-range : (tb : ℕ) → tb ≤ 1024 → (1 ≤ depth tb) × (depth tb ≤ 1024)
-depth-range tb h = depth-case tb (eqb tb 0) refl h
+use Rattle.isdbt_table.specs.Numbers.{numbers}
 
 -- equal steps give equal decoders
 pub after-same : (tb : ℕ) (xs ys : ℕ → trellis.Step) (d : Decoder) (n : ℕ) → ((i : ℕ) → i < n → xs i ≡ ys i) → fec.steps tb xs d n ≡ fec.steps tb ys d n

@@ -10,14 +10,14 @@ use lib.Seq.{length-take-le, getD-take, getD-drop, getD-set-same, getD-set-other
 use borrow.Author.Count.{below-more}
 use Rattle.trellis.specs.Lists.{upto}
 use Rattle.trellis.specs.Code.{isdb, output, moved, stateAt}
-use Rattle.isdbt_fec.specs.declared.conv.CodeRate.{CodeRate}
-use Rattle.isdbt_fec.specs.declared.conv.CodeRate.the-variants.{R1_2, R2_3, R3_4, R5_6, R7_8}
-use Rattle.isdbt_fec.specs.declared.conv.Puncturing.{Puncturing}
-use Rattle.isdbt_fec.specs.Table.{period, sent, compiled}
-use Rattle.isdbt_fec.specs.Puncture.{inputs, mother, place, punctured}
-use Rattle.isdbt_fec.specs.Upto.{upto-same}
-use Rattle.isdbt_fec.specs.Numbers.{numbers}
-use Rattle.isdbt_fec.specs.Sizes.{sizes, order-at, order-below, place-in}
+use Rattle.isdbt_table.specs.declared.CodeRate.{CodeRate}
+use Rattle.isdbt_table.specs.declared.CodeRate.the-variants.{R1_2, R2_3, R3_4, R5_6, R7_8}
+use Rattle.isdbt_table.specs.declared.Puncturing.{Puncturing}
+use Rattle.isdbt_table.specs.Table.{period, sent, compiled}
+use Rattle.isdbt_table.specs.Puncture.{inputs, mother, place, punctured}
+use Rattle.isdbt_table.specs.Upto.{upto-same}
+use Rattle.isdbt_table.specs.Numbers.{numbers}
+use Rattle.isdbt_table.specs.Sizes.{sizes, order-at, order-below, place-in}
 
 -- the low bit of a byte, past the end too
 pub input-at : (bits : List ℕ) (i : ℕ) → getD (inputs bits) i 0 ≡ getD bits i 0 % 2

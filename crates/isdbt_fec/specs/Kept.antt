@@ -10,13 +10,13 @@ use lib.Ieee.{Float, nan, binary32, ofBits}
 use borrow.Author.Tests.{eqb-true}
 use Rattle.trellis.specs.Lists.{upto}
 use Rattle.viterbi.specs.Upto.{length-upto, getD-upto}
-use Rattle.isdbt_fec.specs.declared.conv.CodeRate.{CodeRate}
-use Rattle.isdbt_fec.specs.declared.conv.CodeRate.the-variants.{R1_2, R2_3, R3_4, R5_6, R7_8}
-use Rattle.isdbt_fec.specs.Table.{period, sent, order}
-use Rattle.isdbt_fec.specs.Puncture.{place, spread, softAt, depunctured, kept}
+use Rattle.isdbt_table.specs.declared.CodeRate.{CodeRate}
+use Rattle.isdbt_table.specs.declared.CodeRate.the-variants.{R1_2, R2_3, R3_4, R5_6, R7_8}
+use Rattle.isdbt_table.specs.Table.{period, sent, order}
+use Rattle.isdbt_table.specs.Puncture.{place, spread, softAt, depunctured, kept}
 use Rattle.viterbi.specs.Each.{all, each}
-use Rattle.isdbt_fec.specs.Upto.{upto-same}
-use Rattle.isdbt_fec.specs.Sizes.{place-in}
+use Rattle.isdbt_table.specs.Upto.{upto-same}
+use Rattle.isdbt_table.specs.Sizes.{place-in}
 
 -- whether k is one of ps
 abbrev has : List ℕ → ℕ → Bool

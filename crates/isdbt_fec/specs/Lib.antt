@@ -1,13 +1,5 @@
-pub mod Table
-pub mod Puncture
-pub mod Rows
 pub mod Calls
-pub mod Upto
-pub mod Compiled
-pub mod Sizes
-pub mod Numbers
 pub mod Kept
 pub mod Encode
 pub mod Spread
 pub mod Decode
-pub mod Answers

@@ -8,7 +8,7 @@ use lib.ListN.{length, getD, take, drop, drop-of-length-le}
 use lib.Seq.{getD-take, drop-cons, length-take-le}
 use lib.Ieee.{Float, nan, binary32, ofBits}
 use borrow.Author.Tests.{eq-eqb, ne-eqb}
-use Rattle.isdbt_fec.specs.Puncture.{spread}
+use Rattle.isdbt_table.specs.Puncture.{spread}
 
 module _ (ps : List ℕ) (xs : List Float) (base n place : ℕ) (long : n ≤ length ps) where
   left : (i : ℕ) → i < n → drop i (take n ps) ≡ getD ps i 0 ∷ drop (i + 1) (take n ps)

@@ -12,11 +12,11 @@ use Rattle.trellis.specs.Lists.{upto}
 use Rattle.trellis.specs.Code.{isdb, output, label, stateAt}
 use Rattle.trellis.specs.Encoded.{reached-is}
 use Rattle.isdbs_points.specs.Frame.{labelAt, codedBit}
-use Rattle.isdbt_fec.specs.declared.conv.CodeRate.{CodeRate}
-use Rattle.isdbt_fec.specs.declared.conv.CodeRate.the-variants.{R1_2, R2_3, R3_4, R5_6, R7_8}
-use Rattle.isdbt_fec.specs.Table.{order, period, sent}
-use Rattle.isdbt_fec.specs.Puncture.{inputs, mother, place, punctured}
-use Rattle.isdbt_fec.specs.Sizes.{order-below}
+use Rattle.isdbt_table.specs.declared.CodeRate.{CodeRate}
+use Rattle.isdbt_table.specs.declared.CodeRate.the-variants.{R1_2, R2_3, R3_4, R5_6, R7_8}
+use Rattle.isdbt_table.specs.Table.{order, period, sent}
+use Rattle.isdbt_table.specs.Puncture.{inputs, mother, place, punctured}
+use Rattle.isdbt_table.specs.Sizes.{order-below}
 use Rattle.overlay.specs.Overlaid.{overlaid, chosen, length-overlaid}
 use Rattle.overlay.specs.Coding.{outputsOf, lastState, overlays, overlays-chosen}
 use Rattle.overlay.specs.Kept.{kept-is}

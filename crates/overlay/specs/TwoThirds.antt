@@ -9,9 +9,9 @@ use Rattle.trellis.specs.Code.{isdb}
 use Rattle.isdbs_combination.specs.declared.Combination.the-variants.{«Qpsk2_3»}
 use Rattle.isdbs_points.specs.Layout.{sentOrder, orderOf, stepsPerPeriod}
 use Rattle.isdbs_points.specs.LawsUpto.{upto-cong}
-use Rattle.isdbt_fec.specs.declared.conv.CodeRate.the-variants.{R2_3}
-use Rattle.isdbt_fec.specs.Table.{order, period}
-use Rattle.isdbt_fec.specs.Puncture.{place, punctured}
+use Rattle.isdbt_table.specs.declared.CodeRate.the-variants.{R2_3}
+use Rattle.isdbt_table.specs.Table.{order, period}
+use Rattle.isdbt_table.specs.Puncture.{place, punctured}
 use Rattle.overlay.specs.Overlaid.{chosen}
 use Rattle.overlay.specs.Coding.{outputsOf}
 use Rattle.overlay.specs.IsdbT.{sentPlaces, punctured-chosen}

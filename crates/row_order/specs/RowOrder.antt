@@ -7,8 +7,8 @@ use lib.Ieee.{Float}
 use Rattle.refusal.specs.Rows.{Row, fromTop}
 use Rattle.isdb_fec.specs.declared.conv.ViterbiDecoder.{ViterbiDecoder}
 use Rattle.isdb_fec.specs.Rows.{encoderRows, freshRows, handedRows, streamRest, pushRows, pushMetricsRows, pushKnownRows, flushRows}
-use Rattle.isdbt_fec.specs.declared.conv.CodeRate.{CodeRate}
-use Rattle.isdbt_fec.specs.Rows as isdbt
+use Rattle.isdbt_table.specs.declared.CodeRate.{CodeRate}
+use Rattle.isdbt_rows.specs.Rows as isdbt
 use Rattle.isdbs_tables.specs.declared.Table.{Table}
 use Rattle.isdbs_frame.specs.Frame.{mainRows, burstRows}
 use Rattle.isdbs_core.specs.Symbols.{bitRows}

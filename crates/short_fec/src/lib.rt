@@ -12,17 +12,15 @@ ghost use Rattle.trellis.specs.Isdb.{rule};
 ghost use Rattle.viterbi.specs.Calls.{pairSteps, fourSteps, knownSteps, releases, holding, Holds};
 ghost use Rattle.short_code.specs.Codes.{codeOf, labels, halfOf, statesOf, goodCode, Fits};
 ghost use Rattle.short_viterbi.specs.Soft.{softSteps};
-ghost use Rattle.isdb_fec.specs.Rows.{stepsShort};
 ghost use Rattle.isdb_fec.specs.Calls.{Fresh, Zero, Unchanged};
 ghost use Rattle.isdb_fec.specs.Answers.{Enough};
-ghost use Rattle.short_fec.specs.Rows.{encoderRows, freshRows, handedRows, streamRows, knownRows, flushRows};
+ghost use Rattle.short_fec.specs.Rows.{encoderRows, freshRows, streamRows, knownRows, flushRows};
 ghost use Rattle.short_fec.specs.Calls.{startValues, unknownValues, call, steps, handed, bestOf, endOf, Leaves, Flushes};
 use isdb_fec::conv::ConvEncoder;
 use isdb_fec::conv::Made;
 use isdb_fec::conv::Pushed;
 use isdb_fec::conv::Released;
 use isdb_fec::conv::ViterbiDecoder;
-use isdb_fec::conv::some_beyond;
 use refusal::Answer;
 pub use short_code::Code;
 use short_code::best_state;
@@ -31,34 +29,16 @@ use short_code::good;
 use short_code::half;
 use short_code::renormalise;
 use short_code::start_at;
+use short_rows::answer_encoder;
+use short_rows::answer_flush;
+use short_rows::answer_known;
+use short_rows::answer_stream;
+use short_rows::bad;
+use short_rows::places;
 use short_viterbi::finish_at;
 use short_viterbi::known_steps;
 use short_viterbi::soft_steps;
 use viterbi::At;
-use viterbi::few_places;
-
-// The bits that leave at a release.
-const BLOCK: usize = 4096;
-
-// Row 12.
-fn bad(code: Code) -> bool
-    ensures { λ r. ⌜ r ≡ not (goodCode code) ⌝ }
-{
-    if good(code) { false } else { true }
-}
-
-// The rows of an encoder.
-fn answer_encoder(code: Code, state: u8) -> Answer
-    ensures { λ r. ⌜ r ≡ firstRow (encoderRows code state) ⌝ }
-{
-    if bad(code) {
-        return Answer::Code;
-    }
-    if (state as usize) >= 2 * half(code) {
-        return Answer::State;
-    }
-    Answer::Accepted
-}
 
 // Encodes one bit.
 pub fn push_bit(code: Code, enc: ConvEncoder, u: u8) -> Pushed
@@ -82,14 +62,6 @@ pub fn push_bit(code: Code, enc: ConvEncoder, u: u8) -> Pushed
         x: c.x,
         y: c.y,
     }
-}
-
-// The places of an array of path values.
-fn places(pm: &[f32; 64]) -> usize
-    ensures { λ r. ⌜ (r ≡ 64) × (length (now (pm .entry)) ≡ 64) ⌝ }
-{
-    let values: &[f32] = pm;
-    values.len()
 }
 
 // A fresh decoder with the path values pm; a refused one is all zero.
@@ -154,100 +126,6 @@ pub fn new_unknown_state(code: Code, traceback: usize) -> Made
     ensures made { λ r. ⌜ Either (r .answer) (Fresh traceback (unknownValues code) (r .dec)) (Zero (r .dec)) ⌝ }
 {
     fresh(code, traceback, [0.0f32; 64])
-}
-
-// The rows of a handed state.
-fn answer_handed(code: Code, dec: ViterbiDecoder) -> Answer
-    ensures { λ r. ⌜ r ≡ firstRow (handedRows code dec) ⌝ }
-{
-    let traceback = dec.traceback;
-    if traceback == 0 {
-        return Answer::Traceback;
-    }
-    if traceback > 1024 {
-        return Answer::Traceback;
-    }
-    if bad(code) {
-        return Answer::Code;
-    }
-    if dec.held >= BLOCK + traceback {
-        return Answer::State;
-    }
-    let pm = dec.pm;
-    let all = places(&pm);
-    let n = 2 * half(code);
-    if some_beyond(&pm[0..n], 4294967296.0) {
-        return Answer::State;
-    }
-    Answer::Accepted
-}
-
-// The answer to a call of n steps on a state that is not refused: is there space?
-fn answer_space(dec: ViterbiDecoder, n: usize, decisions: usize, out: usize) -> Answer
-    requires { ⌜ (1 ≤ dec .traceback) × (dec .traceback ≤ 1024) × (dec .held < 4096 + dec .traceback) ⌝ }
-    ensures { λ r. ⌜ r ≡ cond (stepsShort n dec decisions out) Answer.Space Answer.Accepted ⌝ }
-{
-    let traceback = dec.traceback;
-    if few_places(traceback, dec.held, n, out) {
-        return Answer::Space;
-    }
-    if decisions < BLOCK + traceback {
-        return Answer::Space;
-    }
-    Answer::Accepted
-}
-
-// The answer to a call of soft values or metrics, `per` for each step.
-fn answer_stream(
-    code: Code,
-    dec: ViterbiDecoder,
-    values: &[f32],
-    per: usize,
-    decisions: usize,
-    out: usize,
-) -> Answer
-    requires { ⌜ 0 < per ⌝ }
-    ensures { λ r. ⌜ r ≡ firstRow (streamRows code per dec (now (values .entry)) decisions out) ⌝ }
-{
-    let answer = answer_handed(code, dec);
-    let Answer::Accepted = answer else {
-        return answer;
-    };
-    if values.len() % per != 0 {
-        return Answer::Length;
-    }
-    if some_beyond(values, 1048576.0) {
-        return Answer::Sample;
-    }
-    answer_space(dec, values.len() / per, decisions, out)
-}
-
-// The answer to a call of n known bits.
-fn answer_known(code: Code, dec: ViterbiDecoder, n: usize, decisions: usize, out: usize) -> Answer
-    ensures { λ r. ⌜ r ≡ firstRow (knownRows code dec n decisions out) ⌝ }
-{
-    let answer = answer_handed(code, dec);
-    let Answer::Accepted = answer else {
-        return answer;
-    };
-    answer_space(dec, n, decisions, out)
-}
-
-// The answer to a flush.
-fn answer_flush(code: Code, dec: ViterbiDecoder, decisions: usize, out: usize) -> Answer
-    ensures { λ r. ⌜ r ≡ firstRow (flushRows code dec decisions out) ⌝ }
-{
-    let answer = answer_handed(code, dec);
-    let Answer::Accepted = answer else {
-        return answer;
-    };
-    if out < dec.held {
-        return Answer::Space;
-    }
-    if decisions < BLOCK + dec.traceback {
-        return Answer::Space;
-    }
-    Answer::Accepted
 }
 
 // All steps of a call of soft values or metrics, and the subtraction at its end.

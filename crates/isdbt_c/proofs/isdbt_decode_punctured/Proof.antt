@@ -5,7 +5,7 @@ use lib.Dec.{ltb}
 use lib.ListN.{length}
 use Rattle.refusal.specs.Rows.{Row}
 use Rattle.trellis.specs.Lists.{laid}
-use Rattle.isdbt_fec.specs.declared.conv.CodeRate.{CodeRate}
+use Rattle.isdbt_table.specs.declared.CodeRate.{CodeRate}
 use Rattle.isdbt_c.specs.declared.MaybeRate.the-variants.{Rate, NoRate}
 use Rattle.isdbt_c.specs.Rates.{rateOf}
 use Rattle.answers_c.specs.AnswerLaws.{kept, refusing}
@@ -14,8 +14,8 @@ use Rattle.refusal.specs.RowLaws.{zero-accepted}
 use Rattle.isdbt_c.proofs.Rates.{rate-answer, rate-value}
 use Prim.Native.Nat.{ℕ, _*_, _/_}
 use Rattle.isdb_fec.specs.Rows.{freshRows}
-use Rattle.isdbt_fec.specs.Table.{period, sent}
-use Rattle.isdbt_fec.specs.Rows.{depth, decodeRows}
+use Rattle.isdbt_table.specs.Table.{period, sent}
+use Rattle.isdbt_rows.specs.Rows.{depth, decodeRows}
 use Rattle.isdbt_fec.specs.Calls.{decodedBits}
 use borrow.Author.Needs.{needs}
 use Rattle.isdbt_c.proofs.isdbt_decode_punctured.Statement.{statement}

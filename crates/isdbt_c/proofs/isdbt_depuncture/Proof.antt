@@ -4,7 +4,7 @@ use mathlib.Core.List.{List, []}
 use lib.ListN.{length}
 use Rattle.refusal.specs.Rows.{Row}
 use Rattle.trellis.specs.Lists.{laid}
-use Rattle.isdbt_fec.specs.declared.conv.CodeRate.{CodeRate}
+use Rattle.isdbt_table.specs.declared.CodeRate.{CodeRate}
 use Rattle.isdbt_c.specs.declared.MaybeRate.the-variants.{Rate}
 use Rattle.isdbt_c.specs.Rates.{rateOf}
 use Rattle.answers_c.specs.AnswerLaws.{kept, refusing}
@@ -12,9 +12,9 @@ use Rattle.refusal.specs.RowLaws.{zero-accepted}
 use Rattle.isdbt_c.proofs.Rates.{rate-answer, rate-value}
 use Prim.Native.Nat.{ℕ, _*_, _/_}
 use lib.Ieee.{Float}
-use Rattle.isdbt_fec.specs.Table.{period, sent}
-use Rattle.isdbt_fec.specs.Puncture.{depunctured}
-use Rattle.isdbt_fec.specs.Rows.{depunctureRows}
+use Rattle.isdbt_table.specs.Table.{period, sent}
+use Rattle.isdbt_table.specs.Puncture.{depunctured}
+use Rattle.isdbt_rows.specs.Rows.{depunctureRows}
 use borrow.Author.Needs.{needs}
 use Rattle.isdbt_c.proofs.isdbt_depuncture.Statement.{statement}
 use Rattle.isdbt_c.proofs.isdbt_depuncture.Tie as tie

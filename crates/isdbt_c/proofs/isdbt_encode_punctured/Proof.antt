@@ -5,7 +5,7 @@ use lib.Dec.{ltb}
 use lib.ListN.{length}
 use Rattle.refusal.specs.Rows.{Row}
 use Rattle.trellis.specs.Lists.{laid}
-use Rattle.isdbt_fec.specs.declared.conv.CodeRate.{CodeRate}
+use Rattle.isdbt_table.specs.declared.CodeRate.{CodeRate}
 use Rattle.isdbt_c.specs.declared.MaybeRate.the-variants.{Rate, NoRate}
 use Rattle.isdbt_c.specs.Rates.{rateOf}
 use Rattle.answers_c.specs.AnswerLaws.{kept, refusing}
@@ -14,9 +14,9 @@ use Rattle.refusal.specs.RowLaws.{zero-accepted}
 use Rattle.isdbt_c.proofs.Rates.{rate-answer, rate-value}
 use Prim.Native.Nat.{ℕ, _*_, _/_}
 use Rattle.isdb_fec.specs.Rows.{encoderRows}
-use Rattle.isdbt_fec.specs.Table.{period, sent}
-use Rattle.isdbt_fec.specs.Puncture.{punctured}
-use Rattle.isdbt_fec.specs.Rows.{encodeRows}
+use Rattle.isdbt_table.specs.Table.{period, sent}
+use Rattle.isdbt_table.specs.Puncture.{punctured}
+use Rattle.isdbt_rows.specs.Rows.{encodeRows}
 use borrow.Author.Needs.{needs}
 use Rattle.isdbt_c.proofs.isdbt_encode_punctured.Statement.{statement}
 use Rattle.isdbt_c.proofs.isdbt_encode_punctured.Tie as tie

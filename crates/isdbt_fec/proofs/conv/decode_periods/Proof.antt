@@ -4,7 +4,7 @@ use Prim.Native.Nat.{_+_, _-_, _*_, _/_, _<_, _≤_}
 use native.Mathlib.Omega.{arith}
 use borrow.Author.Needs.{needs}
 use lib.ListN.{length}
-use Rattle.isdbt_fec.specs.Numbers.{numbers}
+use Rattle.isdbt_table.specs.Numbers.{numbers}
 use Rattle.isdbt_fec.specs.Decode.{stepsBy, count-most}
 use Rattle.isdbt_fec.proofs.Turns.{Readable, bit-count, bits-twice, readable}
 use Rattle.isdbt_fec.proofs.Decoding.{Decoding, decoding-none, decoding-ready, decoding-next, pair-same, decoded}

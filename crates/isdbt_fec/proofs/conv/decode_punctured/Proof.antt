@@ -2,8 +2,8 @@
 use mathlib.Core.Path.{refl, sym, _∙_}
 use borrow.Author.Needs.{needs}
 use lib.ListN.{length}
-use Rattle.isdbt_fec.specs.Answers.{decode-enough}
-use Rattle.isdbt_fec.specs.Decode.{depth-range}
+use Rattle.isdbt_rows.specs.RowLaws.{decode-enough}
+use Rattle.isdbt_rows.specs.RowLaws.{depth-range}
 use Rattle.isdb_fec.specs.Answers.{accepted, refused}
 use Rattle.isdb_fec.specs.Told.{told}
 use Rattle.isdbt_fec.proofs.conv.decode_punctured.Statement.{statement}

@@ -2,7 +2,7 @@
 use mathlib.Core.Path.{refl, sym, _∙_}
 use borrow.Author.Needs.{needs}
 use lib.ListN.{length}
-use Rattle.isdbt_fec.specs.Answers.{depuncture-enough}
+use Rattle.isdbt_rows.specs.RowLaws.{depuncture-enough}
 use Rattle.isdb_fec.specs.Answers.{accepted, refused}
 use Rattle.isdb_fec.specs.Told.{told}
 use Rattle.isdbt_fec.proofs.conv.depuncture.Statement.{statement}

@@ -3,8 +3,8 @@ use mathlib.Core.Path.{refl, sym, _∙_}
 use native.Mathlib.Omega.{arith}
 use borrow.Author.Needs.{needs}
 use lib.ListN.{length}
-use Rattle.isdbt_fec.specs.Numbers.{numbers}
-use Rattle.isdbt_fec.specs.Answers.{encode-enough}
+use Rattle.isdbt_table.specs.Numbers.{numbers}
+use Rattle.isdbt_rows.specs.RowLaws.{encode-enough}
 use Rattle.isdb_fec.specs.Answers.{accepted, refused}
 use Rattle.isdb_fec.specs.Told.{told}
 use Rattle.isdbt_fec.proofs.Turns.{sent-count}

@@ -5,8 +5,8 @@ use native.Mathlib.Omega.{arith}
 use borrow.Author.Needs.{needs}
 use lib.ListN.{take, drop}
 use Rattle.isdbt_fec.specs.Spread.{spread-hit, spread-miss, spread-end}
-use Rattle.isdbt_fec.specs.Table.{order}
-use Rattle.isdbt_fec.specs.Puncture.{place, spread}
+use Rattle.isdbt_table.specs.Table.{order}
+use Rattle.isdbt_table.specs.Puncture.{place, spread}
 use Rattle.isdbt_fec.proofs.conv.value_at.Statement.{statement}
 use Rattle.isdbt_fec.proofs.conv.value_at.Tie as tie
 

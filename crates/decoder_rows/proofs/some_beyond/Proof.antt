@@ -1,0 +1,87 @@
+-- `some_beyond` meets its contract. The invariant: what is said of the list is said of what is left of it. Assumes nothing.
+use mathlib.Core.Path.{_≡_, refl, sym, _∙_, ap}
+use Prim.Native.Nat.{ℕ, suc, _+_, _-_, _*_, _/_, _%_, _<_, _≤_}
+use native.Mathlib.Omega.{arith}
+use borrow.Author.Needs.{needs}
+use mathlib.Core.Bool.{Bool, true, false, not, _||_}
+use mathlib.Core.List.{List, [], _∷_}
+use lib.ListN.{length, getD, drop}
+use lib.Seq.{drop-cons, drop-length}
+use lib.Ieee.{Float, nan}
+use native.Mathlib.Numerals.{add-one}
+use Rattle.decoder_rows.specs.Values.{within, someBeyond}
+use Rattle.decoder_rows.proofs.some_beyond.Statement.{statement}
+use Rattle.decoder_rows.proofs.some_beyond.Tie as tie
+
+-- at an element of the list
+here : (limit : Float) (xs : List Float) (i : ℕ) (t : Bool) → i < length xs → t ≡ not (within limit (getD xs i nan)) → someBeyond limit (drop i xs) ≡ (t || someBeyond limit (drop (suc i) xs))
+unfolding someBeyond
+here limit xs i t h e = rw (drop-cons xs i nan h, e) refl
+
+-- at its end
+over : (limit : Float) (xs : List Float) → someBeyond limit (drop (length xs) xs) ≡ false
+unfolding someBeyond
+over limit xs = rw (drop-length xs) refl
+
+abbrev Inv-loop : tie.InvT-loop
+Inv-loop xs limit i₀ i-end i = (i ≤ length xs) × (someBeyond limit xs ≡ someBeyond limit (drop i xs))
+
+abbrev μ-loop : tie.MeasureT-loop
+μ-loop xs limit i₀ i-end i = length xs - i
+
+loop-holds : tie.Need-loop-holds Inv-loop μ-loop
+loop-holds c = (search needs, refl)
+
+mul-beyond : tie.Need-mul-beyond Inv-loop μ-loop
+mul-beyond c = search needs
+
+shared-slice-read-beyond : tie.Need-shared-slice-read-beyond Inv-loop μ-loop
+shared-slice-read-beyond c = search needs
+
+beyond-requires : tie.Need-beyond-requires Inv-loop μ-loop
+beyond-requires c κs = tt
+
+returns : tie.Need-returns Inv-loop μ-loop
+returns c =
+    let at = c .before .before .before .before in
+    let xs = at .before .before .args .xs .now in
+    let h : at .loop .i < length xs = search needs in
+    sym (at .loop .inv .1 ∙ here (at .before .before .args .limit) xs (at .loop .i) true h (sym (c .if1 .taken) ∙ c .before .beyond .ensures))
+
+add-i : tie.Need-add-i Inv-loop μ-loop
+add-i c = search needs
+
+loop-less : tie.Need-loop-less Inv-loop μ-loop
+loop-less c = search needs
+
+loop-again : tie.Need-loop-again Inv-loop μ-loop
+loop-again c =
+    let at = c .before .before .before .before in
+    let xs = at .before .before .args .xs .now in
+    let h : at .loop .i < length xs = search needs in (
+      search needs,
+      at .loop .inv .1 ∙ rw (add-one (at .loop .i)) (here (at .before .before .args .limit) xs (at .loop .i) false h (sym (c .if1 .left) ∙ c .before .beyond .ensures)),
+    )
+
+returns-2 : tie.Need-returns-2 Inv-loop μ-loop
+returns-2 c =
+    let at = c .before in
+    let xs = at .before .before .args .xs .now in
+    let e : at .loop .i ≡ length xs = omega arith in
+    sym (rw e at (at .loop .inv .1) ∙ over (at .before .before .args .limit) xs)
+
+pub some-beyond-spec : {M : Type 1} → statement M
+some-beyond-spec =
+    tie.close
+    (tie.spec
+    Inv-loop
+    μ-loop
+    loop-holds
+    mul-beyond
+    shared-slice-read-beyond
+    beyond-requires
+    returns
+    add-i
+    loop-less
+    loop-again
+    returns-2)

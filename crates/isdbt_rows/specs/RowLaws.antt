@@ -1,0 +1,44 @@
+-- What an accepted call may rely on. Assumes nothing.
+use mathlib.Core.Path.{_≡_, refl, sym}
+use mathlib.Core.Bool.{Bool, true, false, cond}
+use mathlib.Core.List.{List}
+use Prim.Native.Nat.{ℕ, _+_, _*_, _/_, _%_, _<_, _≤_}
+use native.Mathlib.Omega.{arith}
+use lib.Dec.{eqb, ltb}
+use lib.ListN.{length}
+use lib.Ieee.{Float}
+use borrow.Author.Tests.{ltb-false, eqb-true, eqb-false, not-false}
+use Rattle.refusal.specs.Rows.{firstRow}
+use Rattle.refusal.specs.declared.Answer.the-variants.{Accepted, Traceback, State, Length, Space}
+use Rattle.refusal.specs.RowLaws.{passed, neither}
+use Rattle.isdbt_table.specs.declared.CodeRate.{CodeRate}
+use Rattle.isdbt_table.specs.Table.{period, sent}
+use Rattle.isdbt_rows.specs.Rows.{broken, depth, encodeRows, depunctureRows, decodeRows}
+
+whole : (per count : ℕ) → broken per count ≡ false → count % per ≡ 0
+whole per count e = eqb-true (count % per) 0 (not-false (eqb (count % per) 0) e)
+
+pub encode-enough : (rate : CodeRate) (s count out : ℕ) → Accepted ≡ firstRow (encodeRows rate s count out)
+    → (s < 64) × (count % period rate ≡ 0) × (count / period rate * sent rate ≤ out)
+encode-enough rate s count out e =
+    let p = passed (encodeRows rate s count out) tt (sym e) in
+    let g : s ≤ 63 = ltb-false 63 s (p State) in
+    (omega arith, whole (period rate) count (p Length), ltb-false out (count / period rate * sent rate) (p Space))
+
+pub depuncture-enough : (rate : CodeRate) (count out : ℕ) → Accepted ≡ firstRow (depunctureRows rate count out) → count / sent rate * (2 * period rate) ≤ out
+depuncture-enough rate count out e = ltb-false out (count / sent rate * (2 * period rate)) (passed (depunctureRows rate count out) tt (sym e) Space)
+
+pub decode-enough : (rate : CodeRate) (xs : List Float) (tb decisions out : ℕ) → Accepted ≡ firstRow (decodeRows rate xs tb decisions out)
+    → (tb ≤ 1024) × (4096 + depth tb ≤ decisions) × (length xs / sent rate * period rate ≤ out)
+decode-enough rate xs tb decisions out e =
+    let need = length xs / sent rate * period rate in
+    let p = passed (decodeRows rate xs tb decisions out) tt (sym e) in
+    let q = neither (ltb out need) (ltb decisions (4096 + depth tb)) (p Space) in
+    (ltb-false 1024 tb (p Traceback), ltb-false decisions (4096 + depth tb) (q .1), ltb-false out need (q .0))
+
+depth-case : (tb : ℕ) (t : Bool) → eqb tb 0 ≡ t → tb ≤ 1024 → (1 ≤ cond t 1 tb) × (cond t 1 tb ≤ 1024)
+depth-case tb true e h = (omega arith, omega arith)
+depth-case tb false e h = let n = eqb-false tb 0 e in (omega arith, h)
+
+pub depth-range : (tb : ℕ) → tb ≤ 1024 → (1 ≤ depth tb) × (depth tb ≤ 1024)
+depth-range tb h = depth-case tb (eqb tb 0) refl h

@@ -1,0 +1,7 @@
+pub mod Table
+pub mod Puncture
+pub mod Upto
+pub mod Compiled
+pub mod Sizes
+pub mod Numbers
+pub mod Written

@@ -1,0 +1,147 @@
+// The answers to calls with a code of constraint length 3 to 7 by their rows: those of isdb_fec with row 12 right before 4. The calls are in short_fec.
+ghost use mathlib.Core.Path.{_≡_};
+ghost use mathlib.Core.Bool.{cond, not};
+ghost use Prim.Native.Nat.{ℕ, _+_, _<_, _≤_};
+ghost use lib.ListN.{length};
+ghost use Rattle.refusal.specs.Rows.{firstRow};
+ghost use Rattle.short_code.specs.Codes.{goodCode};
+ghost use Rattle.isdb_fec.specs.Rows.{stepsShort};
+ghost use Rattle.short_rows.specs.Rows.{encoderRows, handedRows, streamRows, knownRows, flushRows};
+use isdb_fec::conv::ViterbiDecoder;
+use isdb_fec::conv::some_beyond;
+use refusal::Answer;
+use short_code::Code;
+use short_code::good;
+use short_code::half;
+use viterbi::few_places;
+
+// The bits that leave at a release.
+const BLOCK: usize = 4096;
+
+// Row 12.
+pub fn bad(code: Code) -> bool
+    ensures { λ r. ⌜ r ≡ not (goodCode code) ⌝ }
+{
+    if good(code) { false } else { true }
+}
+
+// The rows of an encoder.
+pub fn answer_encoder(code: Code, state: u8) -> Answer
+    ensures { λ r. ⌜ r ≡ firstRow (encoderRows code state) ⌝ }
+{
+    if bad(code) {
+        return Answer::Code;
+    }
+    if (state as usize) >= 2 * half(code) {
+        return Answer::State;
+    }
+    Answer::Accepted
+}
+
+// The places of an array of path values.
+pub fn places(pm: &[f32; 64]) -> usize
+    ensures { λ r. ⌜ (r ≡ 64) × (length (now (pm .entry)) ≡ 64) ⌝ }
+{
+    let values: &[f32] = pm;
+    values.len()
+}
+
+// The rows of a handed state.
+fn answer_handed(code: Code, dec: ViterbiDecoder) -> Answer
+    ensures { λ r. ⌜ r ≡ firstRow (handedRows code dec) ⌝ }
+{
+    let traceback = dec.traceback;
+    if traceback == 0 {
+        return Answer::Traceback;
+    }
+    if traceback > 1024 {
+        return Answer::Traceback;
+    }
+    if bad(code) {
+        return Answer::Code;
+    }
+    if dec.held >= BLOCK + traceback {
+        return Answer::State;
+    }
+    let pm = dec.pm;
+    let all = places(&pm);
+    let n = 2 * half(code);
+    if some_beyond(&pm[0..n], 4294967296.0) {
+        return Answer::State;
+    }
+    Answer::Accepted
+}
+
+// The answer to a call of n steps on a state that is not refused: is there space?
+fn answer_space(dec: ViterbiDecoder, n: usize, decisions: usize, out: usize) -> Answer
+    requires { ⌜ (1 ≤ dec .traceback) × (dec .traceback ≤ 1024) × (dec .held < 4096 + dec .traceback) ⌝ }
+    ensures { λ r. ⌜ r ≡ cond (stepsShort n dec decisions out) Answer.Space Answer.Accepted ⌝ }
+{
+    let traceback = dec.traceback;
+    if few_places(traceback, dec.held, n, out) {
+        return Answer::Space;
+    }
+    if decisions < BLOCK + traceback {
+        return Answer::Space;
+    }
+    Answer::Accepted
+}
+
+// The answer to a call of soft values or metrics, `per` for each step.
+pub fn answer_stream(
+    code: Code,
+    dec: ViterbiDecoder,
+    values: &[f32],
+    per: usize,
+    decisions: usize,
+    out: usize,
+) -> Answer
+    requires { ⌜ 0 < per ⌝ }
+    ensures { λ r. ⌜ r ≡ firstRow (streamRows code per dec (now (values .entry)) decisions out) ⌝ }
+{
+    let answer = answer_handed(code, dec);
+    let Answer::Accepted = answer else {
+        return answer;
+    };
+    if values.len() % per != 0 {
+        return Answer::Length;
+    }
+    if some_beyond(values, 1048576.0) {
+        return Answer::Sample;
+    }
+    answer_space(dec, values.len() / per, decisions, out)
+}
+
+// The answer to a call of n known bits.
+pub fn answer_known(
+    code: Code,
+    dec: ViterbiDecoder,
+    n: usize,
+    decisions: usize,
+    out: usize,
+) -> Answer
+    ensures { λ r. ⌜ r ≡ firstRow (knownRows code dec n decisions out) ⌝ }
+{
+    let answer = answer_handed(code, dec);
+    let Answer::Accepted = answer else {
+        return answer;
+    };
+    answer_space(dec, n, decisions, out)
+}
+
+// The answer to a flush.
+pub fn answer_flush(code: Code, dec: ViterbiDecoder, decisions: usize, out: usize) -> Answer
+    ensures { λ r. ⌜ r ≡ firstRow (flushRows code dec decisions out) ⌝ }
+{
+    let answer = answer_handed(code, dec);
+    let Answer::Accepted = answer else {
+        return answer;
+    };
+    if out < dec.held {
+        return Answer::Space;
+    }
+    if decisions < BLOCK + dec.traceback {
+        return Answer::Space;
+    }
+    Answer::Accepted
+}
