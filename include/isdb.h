@@ -1,4 +1,4 @@
-/* ISDB-S frames and the inner code of ISDB: the calls of crate isdb_c.
+/* ISDB-S frames and the inner code of ISDB: the calls of the crates of C calls.
  *
  * Link target/staticlib/libisdb.a, which `tools/archive` writes (x86-64 Linux). No call allocates, keeps anything or prints.
  *
