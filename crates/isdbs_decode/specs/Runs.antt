@@ -2,7 +2,7 @@
 use mathlib.Core.Path.{_≡_}
 use mathlib.Core.Bool.{Bool}
 use mathlib.Core.List.{List, []}
-use Prim.Native.Nat.{ℕ, _+_, _*_, _<_, _≤_}
+use Prim.Native.Nat.{ℕ, _+_, _<_, _≤_}
 use lib.ListN.{length, replicate}
 use lib.Ieee.{Float}
 use Rattle.trellis.specs.Isdb.{closed}
@@ -15,9 +15,8 @@ use Rattle.isdbs_combination.specs.declared.Combination.{Combination}
 use Rattle.isdbs_tables.specs.declared.Table.{Table}
 use Rattle.isdbs_runs.specs.RunsOf.{frameSteps}
 use Rattle.isdbs_points.specs.declared.Mapping.{Mapping}
-use Rattle.isdbs_points.specs.Layout.{wordBit, atBit, byteOf}
-use Rattle.isdbs_points.specs.Frame.{labelAt}
-use Rattle.isdbs_metrics.specs.Reading.{Received, frameTraceback, frameWords, metricsAt, bitIn, decodedBits, decodedBytes}
+use Rattle.isdbs_points.specs.Layout.{wordBit}
+use Rattle.isdbs_metrics.specs.Reading.{Received, frameTraceback, frameWords, metricsAt, decodedBits, decodedBytes}
 use Rattle.isdbs_metrics.specs.Steps.{pieceMetrics}
 
 -- n steps ys of a call, the first of which is its step i0. Whatever the call's other steps are: the decoder that the values and slices held goes
@@ -56,10 +55,6 @@ endedBits d = flush (steps frameTraceback knownBits (closed d) 16) .bits
 pub record Ended (pm : List Float) (at : At) (dec out dec′ out′ : List ℕ) : Type 0 where
   pub ends : (d : Decoder) (dec₀ out₀ : List ℕ) → frameWords ≤ length dec₀ → Holds frameTraceback dec₀ out₀ d pm (at .held) (at .count) dec out
       → (out′ ≡ laid (endedBits d) out₀) × (dec′ ≡ laid (replicate frameWords 0) dec₀)
-
--- byte j of a frame from the decoded bits us, encoded again from the state s
-abbrev pub byteAt : Table → Received → ℕ → List ℕ → ℕ → ℕ
-byteAt t r s us j = byteOf (λ i. atBit 0 (bitIn r (labelAt s us) us) t (8 * j + i))
 
 -- the bits of a frame whose path values start as pm
 abbrev pub bitsFrom : Table → Received → List Float → List ℕ

@@ -1,48 +1,37 @@
-// The core of frame decoding: points to decoded bits, and these to bytes. No row is checked here.
+// The core of frame decoding: points to decoded bits. No row is checked here.
 use isdbs_core::combination::Combination;
-use isdbs_core::combination::Modulation;
-use isdbs_core::frame::SLOT_BYTES;
 use isdbs_core::frame::W1;
 use isdbs_core::slots::Plan;
 use isdbs_metrics::Phase;
 use isdbs_metrics::code_of;
-use isdbs_metrics::correlation;
 use isdbs_metrics::metrics;
-use isdbs_metrics::symbol;
+use isdbs_pack::write_bytes;
 use isdbs_points::Mapping;
-use isdbs_points::psk8_point;
 use isdbs_points::start_state;
-use isdbs_points::subset_of;
 use isdbs_points::word_bit;
 use viterbi::At;
 use viterbi::Step;
 use viterbi::advance;
 use viterbi::clear;
-use viterbi::encode_bit;
 use viterbi::finish;
 use viterbi::renormalise;
 use viterbi::start_at;
 use viterbi::start_unknown;
 ghost use mathlib.Core.Path.{_≡_};
 ghost use mathlib.Core.Bool.{cond, true, false};
-ghost use mathlib.Core.List.{List};
 ghost use Prim.Native.Nat.{_+_, _-_, _*_, _<_, _≤_, _^_};
 ghost use lib.Dec.{eqb};
-ghost use lib.ListN.{length, getD, replicate};
-ghost use lib.Ieee.{Float, nan, lt, binary32, ofBits};
-ghost use Rattle.trellis.specs.Lists.{upto, laid, bit};
-ghost use Rattle.trellis.specs.Code.{stateAt};
+ghost use lib.ListN.{length, replicate};
+ghost use lib.Ieee.{binary32, ofBits};
+ghost use Rattle.trellis.specs.Lists.{laid};
 ghost use Rattle.trellis.specs.Run.{startAt, startUnknown};
-ghost use Rattle.isdbs_combination.specs.declared.Combination.the-variants.{«Tc8psk2_3»};
 ghost use Rattle.isdbs_combination.specs.Combinations.{wordOf};
 ghost use Rattle.isdbs_frame.specs.Frame.{mainSymbols};
 ghost use Rattle.isdbs_runs.specs.RunsOf.{frameSteps, loadBytes, Planned};
-ghost use Rattle.isdbs_points.specs.Points.{zero64, point, turned, psk8Of, subset};
-ghost use Rattle.isdbs_points.specs.Layout.{byteOf};
-ghost use Rattle.isdbs_metrics.specs.Reading.{frameWords, correlation};
-ghost use Rattle.isdbs_metrics.specs.Steps.{Covers, Bits, pieceBit, stepsOfBytes, PackRoom};
+ghost use Rattle.isdbs_metrics.specs.Reading.{frameWords};
+ghost use Rattle.isdbs_metrics.specs.Steps.{Covers};
 ghost use Rattle.isdbs_decode.specs.Scales.{receivedBy};
-ghost use Rattle.isdbs_decode.specs.Runs.{runSteps, Carried, RunsRead, Ended, byteAt, bitsFrom, FrameRead};
+ghost use Rattle.isdbs_decode.specs.Runs.{runSteps, Carried, RunsRead, Ended, bitsFrom, FrameRead};
 
 // Decoder settings.
 pub struct DemodOptions {
@@ -183,152 +172,6 @@ fn read_end(pm: &mut [f32; 64], at: At, decisions: &mut [u64], bits: &mut [u8])
     }
     finish(pm, now_at, decisions, bits);
     clear(decisions, WORDS);
-}
-
-// A byte, and the encoder's state after its bits.
-pub struct Packed {
-    pub byte: u8,
-    pub state: u8,
-}
-
-// The byte of 8 decoded bits, high bit first.
-fn plain_byte(bits: &[u8], start: u8) -> Packed
-    requires { ⌜ (start < 64) × (8 ≤ length (now bits)) × Bits (now bits) 8 ⌝ }
-    ensures { λ r. ⌜ (r .byte ≡ byteOf (λ i. getD (now (bits .entry)) i 0)) × (r .state ≡ stateAt 32 start (now (bits .entry)) 8) × (r .state < 64) ⌝ }
-{
-    let mut byte: u8 = 0;
-    let mut state = start;
-    for i in 0..8 {
-        let u = bits[i];
-        byte = 2 * byte + u;
-        state = 32 * u + state / 2;
-    }
-    Packed { byte, state }
-}
-
-// C2 of symbol k: on which side of 0 it lies along the point of C2 = 0 whose subset 2 X + Y names.
-fn uncoded_bit(re: &[f64], im: &[f64], m: Mapping, label: u8, k: usize) -> u8
-    requires { ⌜ (label < 4) × (k < length (now re)) × (k < length (now im)) ⌝ }
-    ensures { λ r. ⌜ r ≡ bit (lt (correlation (point (getD (now (re .entry)) k nan) (turned (m .conjugate) (getD (now (im .entry)) k nan))) (psk8Of (subset (m .«tc8psk_c1_is_y») label))) zero64) ⌝ }
-{
-    let v = symbol(re, im, m.conjugate, k);
-    let p = psk8_point(subset_of(m.tc8psk_c1_is_y, label));
-    (correlation(v, p) < 0.0) as u8
-}
-
-// The byte of 4 steps of TC8PSK: C2, then the decoded bit, of each.
-fn tc8psk_byte(re: &[f64], im: &[f64], m: Mapping, bits: &[u8], start: u8) -> Packed
-    requires { ⌜ (start < 64) × (4 ≤ length (now re)) × (4 ≤ length (now im)) × (4 ≤ length (now bits)) × Bits (now bits) 4 ⌝ }
-    ensures { λ r. ⌜ (r .byte ≡ byteOf (pieceBit «Tc8psk2_3» (now (re .entry)) (now (im .entry)) m start (now (bits .entry)))) × (r .state ≡ stateAt 32 start (now (bits .entry)) 4) × (r .state < 64) ⌝ }
-{
-    let mut byte: u8 = 0;
-    let mut state = start;
-    for i in 0..4 {
-        let u = bits[i];
-        let c = encode_bit(state, u);
-        let c2 = uncoded_bit(re, im, m, 2 * c.x + c.y, i);
-        byte = 2 * (2 * byte + c2) + u;
-        state = c.state;
-    }
-    Packed { byte, state }
-}
-
-// The bytes of a run of BPSK or QPSK.
-fn pack_plain(bits: &[u8], n: usize, start: u8, bytes: &mut [u8]) -> u8
-    requires { ⌜ (start < 64) × (n < 2 ^ 16) × (8 * n ≤ length (now bits)) × Bits (now bits) (8 * n) × (n ≤ length (now bytes)) ⌝ }
-    ensures { λ r. ⌜ (now (bytes .exit) ≡ laid (upto (λ j. byteOf (λ i. getD (now (bits .entry)) (8 * j + i) 0)) n) (now (bytes .entry))) × (r ≡ stateAt 32 start (now (bits .entry)) (8 * n)) × (r < 64) ⌝ }
-{
-    let mut state = start;
-    for j in 0..n {
-        let from = 8 * j;
-        let b = plain_byte(&bits[from..], state);
-        bytes[j] = b.byte;
-        state = b.state;
-    }
-    state
-}
-
-// The bytes of a run of TC8PSK.
-fn pack_tc8psk(
-    re: &[f64],
-    im: &[f64],
-    m: Mapping,
-    bits: &[u8],
-    n: usize,
-    start: u8,
-    bytes: &mut [u8],
-) -> u8
-    requires { ⌜ (start < 64) × (n < 2 ^ 16) × (4 * n ≤ length (now re)) × (4 * n ≤ length (now im)) × (4 * n ≤ length (now bits)) × Bits (now bits) (4 * n) × (n ≤ length (now bytes)) ⌝ }
-    ensures { λ r. ⌜ (now (bytes .exit) ≡ laid (upto (λ j. byteOf (λ i. pieceBit «Tc8psk2_3» (now (re .entry)) (now (im .entry)) m start (now (bits .entry)) (8 * j + i))) n) (now (bytes .entry))) × (r ≡ stateAt 32 start (now (bits .entry)) (4 * n)) × (r < 64) ⌝ }
-{
-    let mut state = start;
-    for j in 0..n {
-        let from = 4 * j;
-        let b = tc8psk_byte(&re[from..], &im[from..], m, &bits[from..], state);
-        bytes[j] = b.byte;
-        state = b.state;
-    }
-    state
-}
-
-// The bytes of a run: n of them.
-fn pack_run(
-    c: Combination,
-    m: Mapping,
-    re: &[f64],
-    im: &[f64],
-    bits: &[u8],
-    n: usize,
-    start: u8,
-    bytes: &mut [u8],
-) -> u8
-    requires { ⌜ (start < 64) × (n < 2 ^ 16) × PackRoom c n (length (now re)) (length (now im)) (length (now bits)) (now bits) × (n ≤ length (now bytes)) ⌝ }
-    ensures { λ r. ⌜ (now (bytes .exit) ≡ laid (upto (λ j. byteOf (λ i. pieceBit c (now (re .entry)) (now (im .entry)) m start (now (bits .entry)) (8 * j + i))) n) (now (bytes .entry))) × (r ≡ stateAt 32 start (now (bits .entry)) (stepsOfBytes c n)) × (r < 64) ⌝ }
-{
-    let modulation = c.modulation();
-    match modulation {
-        Modulation::Bpsk => pack_plain(bits, n, start, bytes),
-        Modulation::Qpsk => pack_plain(bits, n, start, bytes),
-        Modulation::Tc8psk => pack_tc8psk(re, im, m, bits, n, start, bytes),
-    }
-}
-
-// The bytes of a frame from its decoded bits, which are encoded again from the start state for C2.
-fn write_bytes(
-    p: Plan,
-    m: Mapping,
-    start: u8,
-    re: &[f64],
-    im: &[f64],
-    bits: &[u8],
-    bytes: &mut [u8],
-)
-    requires { ⌜ (start < 64) × Planned p × (mainSymbols ≤ length (now re)) × (mainSymbols ≤ length (now im)) × (frameSteps (p .table) ≤ length (now bits)) × Bits (now bits) (frameSteps (p .table)) × (loadBytes (p .table) ≤ length (now bytes)) ⌝ }
-    ensures { λ _. ⌜ ((scales : List Float) → now (bytes .exit) ≡ laid (upto (byteAt (p .table) (receivedBy (now (re .entry)) (now (im .entry)) m scales) start (now (bits .entry))) (loadBytes (p .table))) (now (bytes .entry))) ⌝ }
-{
-    let count = p.count;
-    let list = p.runs;
-    let mut state = start;
-    let mut step: usize = 0;
-    let mut done: usize = 0;
-    for i in 0..count {
-        let r = list[i];
-        let c = r.combination;
-        let from = r.symbol_start;
-        let n = SLOT_BYTES * r.valid_slots;
-        state = pack_run(
-            c,
-            m,
-            &re[from..],
-            &im[from..],
-            &bits[step..],
-            n,
-            state,
-            &mut bytes[done..],
-        );
-        step = step + c.steps_per_slot() * r.valid_slots;
-        done = done + n;
-    }
 }
 
 // The decoded bits of a frame: one for each step, then the 16 of W1. The path values start as `start`.

@@ -25,11 +25,11 @@ use Rattle.isdbs_points.specs.LawsState.{label-shift}
 use Rattle.isdbs_metrics.specs.Reading.{Received, metricsIn}
 use Rattle.isdbs_metrics.specs.Steps.{pieceMetrics, Covers, Bits}
 use Rattle.isdbs_decode.specs.Scales.{scaleOf, receivedBy}
-use Rattle.isdbs_decode.proofs.Among.{stepsTo, validTo, among-step}
-use Rattle.isdbs_decode.proofs.Parts.{metrics-part}
-use Rattle.isdbs_decode.proofs.Packing.{state-more}
-use Rattle.isdbs_decode.proofs.FrameBytes.{written-tail}
-use Rattle.isdbs_decode.proofs.FrameRuns.{RunList, RunAt, Listed, tail-is, part-covers, next-valid, valid-fit, run-first, run-next}
+use Rattle.isdbs_pack.proofs.Among.{stepsTo, validTo, among-step}
+use Rattle.isdbs_pack.proofs.Parts.{metrics-part}
+use Rattle.isdbs_pack.proofs.Packing.{state-more}
+use Rattle.isdbs_pack.proofs.FrameBytes.{written-tail}
+use Rattle.isdbs_pack.proofs.FrameRuns.{RunList, RunAt, Listed, tail-is, part-covers, next-valid, valid-fit, run-first, run-next}
 use Rattle.strain.specs.Counts.{summed}
 use Rattle.strain.specs.CountsLaws.{summed-same, summed-append}
 use Rattle.strain.specs.Slots.{slotOf, slotsOf, overSlot}
@@ -106,7 +106,7 @@ module _ (count : ℕ) (list : List Run) (l : RunList count list) (i : ℕ) (h :
           let k = slotSteps (r .combination) * v + j in
           let f = slot-fits (slotSteps (r .combination)) v (r .«valid_slots») g in
           let b = among-step [] (metricsIn (receivedBy re im m scales)) rs 0 0 i k (step + k) n (rw e1 (omega arith)) (omega arith) in
-          let p = metrics-part re im m scales r (0 + stepsTo rs i) (0 + 1624 * validTo rs i) k in
+          let p = metrics-part re im m (scaleOf scales) r (0 + stepsTo rs i) (0 + 1624 * validTo rs i) k in
           let e : pieceMetrics (r .combination) (drop (r .«symbol_start») re) (drop (r .«symbol_start») im) m (scaleOf scales (r .combination)) k ≡ among (λ g. g .step) (λ g. g .steps) [] (metricsIn (receivedBy re im m scales)) (segmentsFrom rs 0 0) (step + k) =
           p ∙ sym (rw e1 at b) in
           let y : labelAt x (drop step us) k ≡ labelAt s us (step + k) =

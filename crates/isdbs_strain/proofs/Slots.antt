@@ -18,7 +18,7 @@ use Rattle.isdbs_points.specs.declared.Mapping.{Mapping}
 use Rattle.isdbs_points.specs.LawsUpto.{length-laid-upto}
 use Rattle.isdbs_points.specs.LawsState.{label-shift}
 use Rattle.isdbs_metrics.specs.Steps.{pieceMetrics}
-use Rattle.isdbs_decode.proofs.Packing.{state-more, byte-more}
+use Rattle.isdbs_pack.proofs.Packing.{state-more, byte-more}
 use Rattle.strain.specs.Counts.{summed, counted}
 use Rattle.strain.specs.CountsLaws.{summed-same, summed-parts, counted-few}
 use Rattle.strain.specs.Strain.{strainedBy}

@@ -1,8 +1,8 @@
 -- `decode` meets its contract. Assumes nothing.
-use Rattle.isdbs_decode.proofs.FrameRuns.{front-is}
+use Rattle.isdbs_pack.proofs.FrameRuns.{front-is}
 use Rattle.isdbs_decode.specs.LawsDecoded.{from-count, from-binary, binary-at, decoded-from}
 use Rattle.isdbs_decode.specs.Runs.{bitsFrom}
-use Rattle.isdbs_decode.specs.Scales.{receivedBy}
+use Rattle.isdbs_decode.specs.Scales.{scaleOf, receivedBy}
 use Rattle.isdbs_metrics.specs.Reading.{startValues, bytesFrom, decodedBits}
 use Rattle.trellis.specs.Run.{startAt, startUnknown}
 use Rattle.trellis.specs.Lists.{laid}
@@ -90,7 +90,7 @@ returns c =
     record {
       words = db .ensures .1;
       decoded = db .ensures .0 ∙ ap (λ (z : List ℕ). laid z (st .args .bits .now)) whole;
-      load = rw (front ∙ whole, es) at (c .before .before .write-bytes .ensures (st .args .o .scales));
+      load = rw (front ∙ whole, es) at (c .before .before .write-bytes .ensures (scaleOf (st .args .o .scales)));
     }
 
 pub decode-spec : {M : Type 1} → statement M

@@ -1,6 +1,6 @@
 -- `read_runs` meets its contract. Assumes nothing.
 use borrow.Author.Needs.{needs}
-use Rattle.isdbs_decode.proofs.FrameRuns.{listed-runs, steps-by, part-covers}
+use Rattle.isdbs_pack.proofs.FrameRuns.{listed-runs, steps-by, part-covers}
 use Rattle.isdbs_decode.proofs.FrameSteps.{Read, read-first, read-next, read-last}
 use Rattle.isdbs_runs.specs.RunsOf.{noRun}
 use lib.ListN.{getD}

@@ -9,7 +9,7 @@ use lib.Seq.{getD-drop}
 use Rattle.isdbs_combination.specs.Combinations.{slotSteps}
 use Rattle.isdbs_metrics.specs.Steps.{PhaseAt}
 use Rattle.isdbs_decode.proofs.Carried.{phase-start}
-use Rattle.isdbs_decode.proofs.FrameRuns.{tail-is}
+use Rattle.isdbs_pack.proofs.FrameRuns.{tail-is}
 use Rattle.isdbs_strain.specs.Pieces.{Counted, RunCounted}
 use Rattle.isdbs_strain.proofs.Counting.{count-few}
 use Rattle.isdbs_strain.proofs.Slots.{runCount, slot-fits, next-slot, run-first, run-few, run-next, run-length, run-steps-few}

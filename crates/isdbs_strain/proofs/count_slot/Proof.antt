@@ -6,7 +6,7 @@ use mathlib.Core.Path.{_≡_, refl}
 use lib.ListN.{getD}
 use Rattle.viterbi.specs.Calls.{stepOf}
 use Rattle.isdbs_metrics.proofs.ByStep.{base-small, place-small}
-use Rattle.isdbs_decode.proofs.Digits.{outputs-small, bool-bit}
+use Rattle.isdbs_pack.proofs.Digits.{outputs-small, bool-bit}
 use Rattle.isdbs_decode.proofs.Carried.{phase-next}
 use Rattle.isdbs_strain.specs.Pieces.{Counted}
 use Rattle.isdbs_strain.proofs.Counting.{slot, counted-first, count-few, counted-next, bool-few}

@@ -7,7 +7,7 @@ use lib.ListN.{length, getD, length-drop, length-map}
 use lib.Seq.{getD-drop}
 use lib.Ieee.{nan}
 use Rattle.isdbs_runs.specs.RunsOf.{noRun}
-use Rattle.isdbs_decode.proofs.FrameRuns.{listed-runs, steps-by, tail-is, all-valid, part-covers}
+use Rattle.isdbs_pack.proofs.FrameRuns.{listed-runs, steps-by, tail-is, all-valid, part-covers}
 use Rattle.isdbs_metrics.specs.Reading.{metricsAt}
 use Rattle.strain.specs.Slots.{bySlot}
 use Rattle.isdbs_strain.proofs.Frames.{Done, done-first, done-room, done-small, done-next}

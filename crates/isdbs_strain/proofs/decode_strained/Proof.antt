@@ -13,7 +13,7 @@ use Rattle.isdbs_runs.specs.RunsOf.{frameSteps, Planned}
 use Rattle.isdbs_metrics.specs.Reading.{Received, decodedBits}
 use Rattle.isdbs_decode.specs.Scales.{receivedBy}
 use Rattle.isdbs_decode.specs.LawsDecoded.{decoded-count, decoded-binary, binary-at}
-use Rattle.isdbs_decode.proofs.FrameRuns.{front-is}
+use Rattle.isdbs_pack.proofs.FrameRuns.{front-is}
 use Rattle.isdbs_strain.proofs.decode_strained.Statement.{statement}
 use Rattle.isdbs_strain.proofs.decode_strained.Tie as tie
 

@@ -10,8 +10,6 @@ use lib.ListN.{length, getD, take}
 use borrow.Author.Tests.{lt-ltb, le-ltb}
 use Rattle.isdbs_runs.specs.declared.Run.{Run}
 use Rattle.isdbs_runs.specs.RunsOf.{validIn, stepsOf, stepsIn, noRun}
-use Rattle.trellis.specs.Step.{Step, four}
-use Rattle.isdbs_metrics.specs.Reading.{Received, metricsIn}
 use Rattle.isdbs_points.specs.Layout.{Segment, segmentOf, segmentsFrom, among}
 
 -- the steps and the valid slots of the first i runs
@@ -83,7 +81,3 @@ module _ {A : Type 0} (none : A) (f : Segment → ℕ → A) where
       let es : s + (stepsOf r + stepsTo rs i) ≡ s + stepsOf r + stepsTo rs i = omega arith in
       let eb : b + 1624 * (r .«valid_slots» + validTo rs i) ≡ b + 1624 * r .«valid_slots» + 1624 * validTo rs i = omega arith in
       rw (t, es, eb) (among-bit rs (s + stepsOf r) (b + 1624 * r .«valid_slots») i k x (le-of-suc-le-suc h) l (omega arith))
-
--- the metric steps of a list of runs
-abbrev pub listMetrics : List Run → Received → ℕ → Step
-listMetrics rs r k = four (among (λ g. g .step) (λ g. g .steps) [] (metricsIn r) (segmentsFrom rs 0 0) k)

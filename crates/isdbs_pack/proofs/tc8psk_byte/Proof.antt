@@ -1,10 +1,10 @@
 -- `tc8psk_byte` meets its contract. Assumes nothing.
 use borrow.Author.Needs.{needs}
-use Rattle.isdbs_decode.proofs.Digits.{outputs-small, Taken, taken-first, taken-next, taken-all}
+use Rattle.isdbs_pack.proofs.Digits.{outputs-small, Taken, taken-first, taken-next, taken-all}
 use native.Mathlib.Omega.{arith}
 use Prim.Native.Nat.{_-_}
-use Rattle.isdbs_decode.proofs.tc8psk_byte.Statement.{statement}
-use Rattle.isdbs_decode.proofs.tc8psk_byte.Tie as tie
+use Rattle.isdbs_pack.proofs.tc8psk_byte.Statement.{statement}
+use Rattle.isdbs_pack.proofs.tc8psk_byte.Tie as tie
 
 abbrev Inv-loop : tie.InvT-loop
 Inv-loop re im m bits start byte₀ state₀ i₀ byte state i = Taken re im m start bits byte state i

@@ -1,12 +1,12 @@
 -- `pack_run` meets its contract. Assumes nothing.
-use Rattle.isdbs_decode.proofs.Packing.{bpsk-bytes, qpsk-bytes, tc8psk-only}
+use Rattle.isdbs_pack.proofs.Packing.{bpsk-bytes, qpsk-bytes, tc8psk-only}
 use Rattle.trellis.specs.Lists.{laid}
 use Prim.Native.Nat.{ℕ}
 use mathlib.Core.List.{List}
 use mathlib.Core.Path.{sym, _∙_, ap}
 use borrow.Author.Needs.{needs}
-use Rattle.isdbs_decode.proofs.pack_run.Statement.{statement}
-use Rattle.isdbs_decode.proofs.pack_run.Tie as tie
+use Rattle.isdbs_pack.proofs.pack_run.Statement.{statement}
+use Rattle.isdbs_pack.proofs.pack_run.Tie as tie
 
 modulation-requires : tie.Need-modulation-requires
 modulation-requires c κs = search needs

@@ -23,12 +23,12 @@ use Rattle.isdbs_metrics.specs.Reading.{Received, bitIn}
 use Rattle.isdbs_points.specs.LawsUpto.{laid-part, length-laid-upto}
 use Rattle.isdbs_points.specs.LawsState.{label-shift}
 use Rattle.isdbs_metrics.specs.Steps.{pieceBit, Covers, Bits, PackRoom, stepsOfBytes}
-use Rattle.isdbs_decode.specs.Scales.{receivedBy}
-use Rattle.isdbs_decode.proofs.Digits.{byte-cong}
-use Rattle.isdbs_decode.proofs.Among.{stepsTo, validTo, among-bit}
-use Rattle.isdbs_decode.proofs.Parts.{bit-part}
-use Rattle.isdbs_decode.proofs.Packing.{state-more}
-use Rattle.isdbs_decode.proofs.FrameRuns.{RunList, RunAt, Listed, tail-is, part-covers, next-valid, valid-fit, run-first, run-next}
+use Rattle.isdbs_pack.specs.Bytes.{receivedWith}
+use Rattle.isdbs_pack.proofs.Digits.{byte-cong}
+use Rattle.isdbs_pack.proofs.Among.{stepsTo, validTo, among-bit}
+use Rattle.isdbs_pack.proofs.Parts.{bit-part}
+use Rattle.isdbs_pack.proofs.Packing.{state-more}
+use Rattle.isdbs_pack.proofs.FrameRuns.{RunList, RunAt, Listed, tail-is, part-covers, next-valid, valid-fit, run-first, run-next}
 
 -- byte j of a list of runs
 abbrev pub listByte : List Run → Received → ℕ → List ℕ → ℕ → ℕ
@@ -97,20 +97,20 @@ module _ (count : ℕ) (list : List Run) (l : RunList count list) (i : ℕ) (h :
       state-more s us step (stepsOf r) (step + stepsOf r) x y refl ex (rw (tail-is step us, bytes-steps (r .combination) (r .«valid_slots»)) at ey)
 
   -- its bytes are the frame's
-  run-byte : (scales : List Float) (done x : ℕ) → step ≡ stepsTo rs i → done ≡ 203 * validTo rs i → x ≡ stateAt 32 s us step → (j : ℕ) → j < 203 * r .«valid_slots»
-      → runByte list i re im m us step x j ≡ listByte rs (receivedBy re im m scales) s us (done + j)
+  run-byte : (scales : Combination → Float) (done x : ℕ) → step ≡ stepsTo rs i → done ≡ 203 * validTo rs i → x ≡ stateAt 32 s us step → (j : ℕ) → j < 203 * r .«valid_slots»
+      → runByte list i re im m us step x j ≡ listByte rs (receivedWith re im m scales) s us (done + j)
   run-byte scales done x es ed ex j g =
       rw (tail-is (r .«symbol_start») re, tail-is (r .«symbol_start») im, tail-is step us)
       (byte-cong (λ k. pieceBit (r .combination) (drop (r .«symbol_start») re) (drop (r .«symbol_start») im) m x (drop step us) (8 * j + k))
-      (λ k. among (λ g. g .bit) (λ g. g .bits) 0 (bitIn (receivedBy re im m scales) (labelAt s us) us) (segmentsFrom rs 0 0) (8 * (done + j) + k)) each)
+      (λ k. among (λ g. g .bit) (λ g. g .bits) 0 (bitIn (receivedWith re im m scales) (labelAt s us) us) (segmentsFrom rs 0 0) (8 * (done + j) + k)) each)
     where
       each : (k : ℕ) → k < 8 → pieceBit (r .combination) (drop (r .«symbol_start») re) (drop (r .«symbol_start») im) m x (drop step us) (8 * j + k)
-          ≡ among (λ g. g .bit) (λ g. g .bits) 0 (bitIn (receivedBy re im m scales) (labelAt s us) us) (segmentsFrom rs 0 0) (8 * (done + j) + k)
+          ≡ among (λ g. g .bit) (λ g. g .bits) 0 (bitIn (receivedWith re im m scales) (labelAt s us) us) (segmentsFrom rs 0 0) (8 * (done + j) + k)
       each k q =
           let c = l .counted in
           let n : i < length rs = omega arith in
           let e1 : getD rs i noRun ≡ r = sym (l .at i) in
-          let a = among-bit 0 (bitIn (receivedBy re im m scales) (labelAt s us) us) rs 0 0 i (8 * j + k) (8 * (done + j) + k) n (rw e1 (omega arith)) (omega arith) in
+          let a = among-bit 0 (bitIn (receivedWith re im m scales) (labelAt s us) us) rs 0 0 i (8 * j + k) (8 * (done + j) + k) n (rw e1 (omega arith)) (omega arith) in
           let z : step ≡ 0 + stepsTo rs i = es ∙ sym (zero-add (stepsTo rs i)) in
           bit-part re im m scales r step (0 + 1624 * validTo rs i) x (labelAt s us) us (8 * j + k)
           (λ o. ap (λ (y : ℕ). labelAt y (drop step us) ((8 * j + k) / 2)) ex
@@ -130,7 +130,7 @@ pub record Written (m : Mapping) (s : ℕ) (re im : List Float) (us bytes₀ : L
   pub done-is : done ≡ 203 * validTo (take count list) i
   pub small : state < 64
   pub state-is : state ≡ stateAt 32 s us step
-  pub bytes-are : (scales : List Float) → bytes ≡ laid (upto (listByte (take count list) (receivedBy re im m scales) s us) done) bytes₀
+  pub bytes-are : (scales : Combination → Float) → bytes ≡ laid (upto (listByte (take count list) (receivedWith re im m scales) s us) done) bytes₀
 
 module _ {m : Mapping} {s : ℕ} {re im : List Float} {us bytes₀ : List ℕ} {count : ℕ} {list : List Run} where
   pub written-first : {t : Table} → Listed t count list → s < 64 → 38976 ≤ length re → 38976 ≤ length im → frameSteps t ≤ length us → Bits us (frameSteps t) → loadBytes t ≤ length bytes₀
@@ -175,11 +175,11 @@ module _ {m : Mapping} {s : ℕ} {re im : List Float} {us bytes₀ : List ℕ} {
       let f = w .bytes-fit in
       let lf = w .load-fits in
       let ew = w .same in
-      let all : (scales : List Float) → putMid done (length bytes - done) bytes p ≡ laid (upto (listByte (take count list) (receivedBy re im m scales) s us) (done + 203 * r .«valid_slots»)) bytes₀ =
+      let all : (scales : Combination → Float) → putMid done (length bytes - done) bytes p ≡ laid (upto (listByte (take count list) (receivedWith re im m scales) s us) (done + 203 * r .«valid_slots»)) bytes₀ =
       λ scales.
       written-tail done bytes p (upto (runByte list i re im m us step state) (203 * r .«valid_slots»)) (omega arith) ep
       ∙ ap (λ (z : List ℕ). take done z ++ laid (upto (runByte list i re im m us step state) (203 * r .«valid_slots»)) (drop done z)) (w .bytes-are scales)
-      ∙ laid-part (listByte (take count list) (receivedBy re im m scales) s us) (runByte list i re im m us step state) done (203 * r .«valid_slots») bytes₀
+      ∙ laid-part (listByte (take count list) (receivedWith re im m scales) s us) (runByte list i re im m us step state) done (203 * r .«valid_slots») bytes₀
       (run-byte count list l i h re im m s us step scales done state (w .run .step-is) d (w .state-is)) in
       record {
         run = run-next (w .run) h en;
@@ -188,7 +188,7 @@ module _ {m : Mapping} {s : ℕ} {re im : List Float} {us bytes₀ : List ℕ} {
         bits-fit = w .bits-fit;
         bits = w .bits;
         load-fits = lf;
-        same = ap length (all []) ∙ length-laid-upto (listByte (take count list) (receivedBy re im m []) s us) (done + 203 * r .«valid_slots») bytes₀ (omega arith);
+        same = ap length (all (λ c. nan)) ∙ length-laid-upto (listByte (take count list) (receivedWith re im m (λ c. nan)) s us) (done + 203 * r .«valid_slots») bytes₀ (omega arith);
         bytes-fit = omega arith;
         done-is = omega arith;
         small = small;

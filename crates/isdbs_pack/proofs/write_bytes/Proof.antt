@@ -1,14 +1,14 @@
 -- `write_bytes` meets its contract. Assumes nothing.
 use borrow.Author.Needs.{needs}
-use Rattle.isdbs_decode.proofs.FrameBytes.{Written, written-first, written-room, written-next}
-use Rattle.isdbs_decode.proofs.FrameRuns.{listed-runs, steps-by, tail-is, all-valid}
+use Rattle.isdbs_pack.proofs.FrameBytes.{Written, written-first, written-room, written-next}
+use Rattle.isdbs_pack.proofs.FrameRuns.{listed-runs, steps-by, tail-is, all-valid}
 use Rattle.isdbs_runs.specs.RunsOf.{noRun}
 use lib.ListN.{getD, length-drop}
 use native.Mathlib.Omega.{arith}
 use Prim.Native.Nat.{ℕ, _-_, _*_}
 use mathlib.Core.Path.{_≡_, _∙_, ap}
-use Rattle.isdbs_decode.proofs.write_bytes.Statement.{statement}
-use Rattle.isdbs_decode.proofs.write_bytes.Tie as tie
+use Rattle.isdbs_pack.proofs.write_bytes.Statement.{statement}
+use Rattle.isdbs_pack.proofs.write_bytes.Tie as tie
 
 abbrev Inv-loop : tie.InvT-loop
 Inv-loop m start re im bits bytes₀ count list state₀ step₀ done₀ i₀ bytes state step done i = Written m start re im bits bytes₀ count list bytes state step done i

@@ -8,6 +8,7 @@ use lib.Dec.{eqb, ltb}
 use lib.ListN.{length, getD, drop}
 use lib.Seq.{getD-drop}
 use lib.Ieee.{Float, nan, lt, binary32, ofBits}
+use Rattle.isdbs_combination.specs.declared.Combination.{Combination}
 use Rattle.isdbs_combination.specs.declared.Modulation.{Modulation}
 use Rattle.isdbs_combination.specs.declared.Modulation.the-variants.{Bpsk, Qpsk, Tc8psk}
 use Rattle.isdbs_runs.specs.declared.Run.{Run}
@@ -20,23 +21,23 @@ use Rattle.isdbs_points.specs.Pieces.{piece}
 use Rattle.isdbs_points.specs.Frame.{labelAt}
 use Rattle.isdbs_metrics.specs.Reading.{Received, correlation, symbolAt, carrier, softAt, scaled, pairMetrics, subsetMetrics, metricsBy, metricsIn, bitBy, bitIn, uncoded}
 use Rattle.isdbs_metrics.specs.Steps.{received, pieceMetrics, pieceBit}
-use Rattle.isdbs_decode.specs.Scales.{scaleOf, receivedBy}
+use Rattle.isdbs_pack.specs.Bytes.{receivedWith}
 
 -- a symbol of a part
-symbol-part : (re im : List Float) (m : Mapping) (a : Float) (scales : List Float) (s i : ℕ) → symbolAt (received (drop s re) (drop s im) m a) (0 + i) ≡ symbolAt (receivedBy re im m scales) (s + i)
+symbol-part : (re im : List Float) (m : Mapping) (a : Float) (scales : Combination → Float) (s i : ℕ) → symbolAt (received (drop s re) (drop s im) m a) (0 + i) ≡ symbolAt (receivedWith re im m scales) (s + i)
 symbol-part re im m a scales s i =
     rw (zero-add i, getD-drop s re i nan, getD-drop s im i nan)
 
-module _ (re im : List Float) (m : Mapping) (scales : List Float) (r : Run) (step bit k : ℕ) where
+module _ (re im : List Float) (m : Mapping) (scales : Combination → Float) (r : Run) (step bit k : ℕ) where
   -- the scale of the run
   abbrev scale : Float
-  scale = scaleOf scales (r .combination)
+  scale = scales (r .combination)
 
   abbrev part : Received
   part = received (drop (r .«symbol_start») re) (drop (r .«symbol_start») im) m scale
 
   abbrev whole : Received
-  whole = receivedBy re im m scales
+  whole = receivedWith re im m scales
 
   carrier-part : (o : Modulation) (i : ℕ) → carrier o part (piece (r .combination) 0) i ≡ carrier o whole (segmentOf r step bit) i
   carrier-part Bpsk i = ap (λ (z : Cplx). z .re) (symbol-part re im m scale scales (r .«symbol_start») i)
@@ -68,21 +69,21 @@ module _ (re im : List Float) (m : Mapping) (scales : List Float) (r : Run) (ste
   metrics-part = by-modulation (modulationOf (r .combination))
 
 -- bit i of a run's bytes
-module _ (re im : List Float) (m : Mapping) (scales : List Float) (r : Run) (step bit s : ℕ) (at : ℕ → ℕ) (us : List ℕ) (i : ℕ) where
+module _ (re im : List Float) (m : Mapping) (scales : Combination → Float) (r : Run) (step bit s : ℕ) (at : ℕ → ℕ) (us : List ℕ) (i : ℕ) where
   bit-by : (o : Modulation) → (o ≡ Tc8psk → labelAt s (drop step us) (i / 2) ≡ at (step + i / 2))
       → bitBy o (received (drop (r .«symbol_start») re) (drop (r .«symbol_start») im) m nan) (labelAt s (drop step us)) (drop step us) (piece (r .combination) 0) i
-      ≡ bitBy o (receivedBy re im m scales) at us (segmentOf r step bit) i
+      ≡ bitBy o (receivedWith re im m scales) at us (segmentOf r step bit) i
   unfolding bitBy
   bit-by Bpsk h = rw (zero-add i) (getD-drop step us i 0)
   bit-by Qpsk h = rw (zero-add i) (getD-drop step us i 0)
   bit-by Tc8psk h =
       let j = i / 2 in
       ap (λ (z : Cplx). cond (eqb (i % 2) 0) (Rattle.trellis.specs.Lists.bit (lt (correlation z (psk8Of (subset (m .«tc8psk_c1_is_y») (labelAt s (drop step us) (0 + j))))) zero64)) (getD (drop step us) (0 + j) 0)) (symbol-part re im m nan scales (r .«symbol_start») j)
-      ∙ ap (λ (x : ℕ). cond (eqb (i % 2) 0) (Rattle.trellis.specs.Lists.bit (lt (correlation (symbolAt (receivedBy re im m scales) (r .«symbol_start» + j)) (psk8Of (subset (m .«tc8psk_c1_is_y») (labelAt s (drop step us) x)))) zero64)) (getD (drop step us) x 0)) (zero-add j)
-      ∙ ap (λ (x : ℕ). cond (eqb (i % 2) 0) (Rattle.trellis.specs.Lists.bit (lt (correlation (symbolAt (receivedBy re im m scales) (r .«symbol_start» + j)) (psk8Of (subset (m .«tc8psk_c1_is_y») x))) zero64)) (getD (drop step us) j 0)) (h refl)
-      ∙ ap (λ (x : ℕ). cond (eqb (i % 2) 0) (uncoded (receivedBy re im m scales) at (segmentOf r step bit) j) x) (getD-drop step us j 0)
+      ∙ ap (λ (x : ℕ). cond (eqb (i % 2) 0) (Rattle.trellis.specs.Lists.bit (lt (correlation (symbolAt (receivedWith re im m scales) (r .«symbol_start» + j)) (psk8Of (subset (m .«tc8psk_c1_is_y») (labelAt s (drop step us) x)))) zero64)) (getD (drop step us) x 0)) (zero-add j)
+      ∙ ap (λ (x : ℕ). cond (eqb (i % 2) 0) (Rattle.trellis.specs.Lists.bit (lt (correlation (symbolAt (receivedWith re im m scales) (r .«symbol_start» + j)) (psk8Of (subset (m .«tc8psk_c1_is_y») x))) zero64)) (getD (drop step us) j 0)) (h refl)
+      ∙ ap (λ (x : ℕ). cond (eqb (i % 2) 0) (uncoded (receivedWith re im m scales) at (segmentOf r step bit) j) x) (getD-drop step us j 0)
 
   -- bit i of a run's bytes is the frame's
   pub bit-part : (modulationOf (r .combination) ≡ Tc8psk → labelAt s (drop step us) (i / 2) ≡ at (step + i / 2))
-      → pieceBit (r .combination) (drop (r .«symbol_start») re) (drop (r .«symbol_start») im) m s (drop step us) i ≡ bitIn (receivedBy re im m scales) at us (segmentOf r step bit) i
+      → pieceBit (r .combination) (drop (r .«symbol_start») re) (drop (r .«symbol_start») im) m s (drop step us) i ≡ bitIn (receivedWith re im m scales) at us (segmentOf r step bit) i
   bit-part h = bit-by (modulationOf (r .combination)) h

@@ -1,6 +1,6 @@
 -- A byte more of a run. Assumes nothing.
 use mathlib.Core.Path.{_≡_, refl, sym, _∙_, ap}
-use mathlib.Core.List.{List, []}
+use mathlib.Core.List.{List}
 use Prim.Native.Nat.{ℕ, _+_, _*_, _/_, _%_, _<_}
 use native.Mathlib.Omega.{arith}
 use native.Mathlib.Nat.{zero-add}
@@ -23,9 +23,9 @@ use Rattle.isdbs_metrics.specs.Reading.{bitBy, bitIn}
 use Rattle.isdbs_points.specs.LawsUpto.{laid-upto, upto-cong}
 use Rattle.isdbs_points.specs.LawsState.{state-shift, label-shift}
 use Rattle.isdbs_metrics.specs.Steps.{received, pieceBit}
-use Rattle.isdbs_decode.proofs.Digits.{byte-cong}
-use Rattle.isdbs_decode.specs.Scales.{receivedBy}
-use Rattle.isdbs_decode.proofs.Parts.{bit-part}
+use Rattle.isdbs_pack.proofs.Digits.{byte-cong}
+use Rattle.isdbs_pack.specs.Bytes.{receivedWith}
+use Rattle.isdbs_pack.proofs.Parts.{bit-part}
 
 -- the state after n more inputs
 pub state-more : (s : ℕ) (us : List ℕ) (a n b x y : ℕ) → b ≡ a + n → x ≡ stateAt 32 s us a → y ≡ stateAt 32 x (drop a us) n → y ≡ stateAt 32 s us b
@@ -52,7 +52,7 @@ from j =
     }
 
 module _ (re im : List Float) (m : Mapping) (s : ℕ) (us : List ℕ) (j : ℕ) where
-  shifted : (i : ℕ) → bitIn (receivedBy re im m []) (labelAt s us) us (segmentOf (from j) (4 * j) 0) i ≡ pieceBit «Tc8psk2_3» re im m s us (8 * j + i)
+  shifted : (i : ℕ) → bitIn (receivedWith re im m (λ c. nan)) (labelAt s us) us (segmentOf (from j) (4 * j) 0) i ≡ pieceBit «Tc8psk2_3» re im m s us (8 * j + i)
   unfolding bitBy
   shifted i =
       let e : (8 * j + i) % 2 ≡ i % 2 = omega arith in
@@ -63,7 +63,7 @@ module _ (re im : List Float) (m : Mapping) (s : ℕ) (us : List ℕ) (j : ℕ) 
       → v ≡ byteOf (λ i. pieceBit «Tc8psk2_3» re im m s us (8 * j + i))
   tc8psk-is x v e q =
       q ∙ byte-cong (pieceBit «Tc8psk2_3» (drop (4 * j) re) (drop (4 * j) im) m x (drop (4 * j) us)) (λ i. pieceBit «Tc8psk2_3» re im m s us (8 * j + i))
-      (λ i l. bit-part re im m [] (from j) (4 * j) 0 x (labelAt s us) us i
+      (λ i l. bit-part re im m (λ c. nan) (from j) (4 * j) 0 x (labelAt s us) us i
       (λ o. ap (λ (z : ℕ). labelAt z (drop (4 * j) us) (i / 2)) e ∙ sym (label-shift s us (4 * j) (drop (4 * j) us) 4 (λ h g. sym (getD-drop (4 * j) us h 0)) (i / 2) (omega arith)))
       ∙ shifted i)
 

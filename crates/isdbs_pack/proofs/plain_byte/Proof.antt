@@ -1,6 +1,6 @@
 -- `plain_byte` meets its contract. Assumes nothing.
 use borrow.Author.Needs.{needs}
-use Rattle.isdbs_decode.proofs.Digits.{digits-seven, byte-digits}
+use Rattle.isdbs_pack.proofs.Digits.{digits-seven, byte-digits}
 use Rattle.isdbs_metrics.specs.Steps.{digits}
 use Rattle.trellis.specs.Code.{stateAt}
 use lib.ListN.{getD}
@@ -8,8 +8,8 @@ use native.Mathlib.Numerals.{add-one}
 use native.Mathlib.Omega.{arith}
 use Prim.Native.Nat.{ℕ, _+_, _-_, _*_, _/_, _<_, _≤_}
 use mathlib.Core.Path.{_≡_, refl, sym, _∙_, ap}
-use Rattle.isdbs_decode.proofs.plain_byte.Statement.{statement}
-use Rattle.isdbs_decode.proofs.plain_byte.Tie as tie
+use Rattle.isdbs_pack.proofs.plain_byte.Statement.{statement}
+use Rattle.isdbs_pack.proofs.plain_byte.Tie as tie
 
 abbrev Inv-loop : tie.InvT-loop
 Inv-loop bits start byte₀ state₀ i₀ byte state i = (i ≤ 8) × (byte ≡ digits (λ j. getD bits j 0) i) × (state ≡ stateAt 32 start bits i) × (state < 64)

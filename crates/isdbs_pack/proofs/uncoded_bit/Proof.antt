@@ -1,12 +1,12 @@
 -- `uncoded_bit` meets its contract. Assumes nothing.
 use lib.Ieee.{lt, ofBits, binary64}
 use mathlib.Core.Path.{_≡_, _∙_}
-use Rattle.isdbs_decode.proofs.Digits.{bool-bit}
+use Rattle.isdbs_pack.proofs.Digits.{bool-bit}
 use native.Mathlib.Omega.{arith}
 use Prim.Native.Nat.{_%_}
 use borrow.Author.Needs.{needs}
-use Rattle.isdbs_decode.proofs.uncoded_bit.Statement.{statement}
-use Rattle.isdbs_decode.proofs.uncoded_bit.Tie as tie
+use Rattle.isdbs_pack.proofs.uncoded_bit.Statement.{statement}
+use Rattle.isdbs_pack.proofs.uncoded_bit.Tie as tie
 
 symbol-requires : tie.Need-symbol-requires
 symbol-requires c κs = search needs

@@ -1,4 +1,4 @@
--- The runs of an accepted table as the code walks them: each within the frame, its points enough for its steps, its steps the frame's. Assumes nothing.
+-- The runs of an accepted table as the code walks them: each within the frame, its points enough for its steps. Assumes nothing.
 use mathlib.Core.Path.{_≡_, refl, sym, _∙_, ap}
 use mathlib.Core.List.{List, [], _∷_, _++_}
 use Prim.Native.Nat.{ℕ, zero, suc, _+_, _-_, _*_, _<_, _≤_}
@@ -7,7 +7,6 @@ use native.Mathlib.Numerals.{add-one}
 use lib.ListN.{length, getD, take, drop, replicate, length-drop}
 use lib.Seq.{take-at, take-all, take-length}
 use lib.Ieee.{Float}
-use Rattle.trellis.specs.Step.{four}
 use Rattle.isdbs_combination.specs.declared.Combination.{Combination}
 use Rattle.isdbs_combination.specs.declared.Combination.the-variants.{«Bpsk1_2», «Qpsk1_2», «Qpsk2_3», «Qpsk3_4», «Qpsk5_6», «Qpsk7_8», «Tc8psk2_3»}
 use Rattle.isdbs_runs.specs.declared.Run.{Run}
@@ -18,14 +17,9 @@ use Rattle.isdbs_combination.specs.Combinations.{modulationOf, punctureOf, peri
 use Rattle.isdbs_runs.specs.PlanLaws.{table-laid}
 use Rattle.isdbs_runs.specs.RunsOf.{runsOf, Planned, stepsOf, stepsIn, frameSteps, validIn, validTotal, noRun, RunFits}
 use Rattle.isdbs_runs.specs.RunLaws.{Whole, run-whole}
-use Rattle.isdbs_points.specs.declared.Mapping.{Mapping}
 use Rattle.isdbs_points.specs.Layout.{sentOrder}
-use Rattle.isdbs_metrics.specs.Reading.{metricsIn}
 use Rattle.isdbs_metrics.specs.Steps.{Covers}
-use Rattle.isdbs_decode.specs.Runs.{runSteps}
-use Rattle.isdbs_decode.specs.Scales.{scaleOf, receivedBy}
-use Rattle.isdbs_decode.proofs.Among.{stepsTo, validTo, steps-more, valid-more, steps-within, valid-within, listMetrics, among-step}
-use Rattle.isdbs_decode.proofs.Parts.{metrics-part}
+use Rattle.isdbs_pack.proofs.Among.{stepsTo, validTo, steps-more, valid-more, steps-within, valid-within}
 
 -- the first `count` of a list are runs within a frame, and past them stands the empty run
 pub record RunList (count : ℕ) (list : List Run) : Type 0 where
@@ -101,15 +95,6 @@ run-covers r n w f h =
 pub tail-is : {A : Type 0} (a : ℕ) (xs : List A) → take (length xs - a) (drop a xs) ≡ drop a xs
 tail-is a xs = take-all (length xs - a) (drop a xs) (rw (length-drop a xs) (omega arith))
 
--- the steps of run i are the frame's from its first step on
-pub run-steps : (rs : List Run) (re im : List Float) (m : Mapping) (scales : List Float) (i k step : ℕ) → i < length rs → step ≡ stepsTo rs i → k < stepsOf (getD rs i noRun)
-    → listMetrics rs (receivedBy re im m scales) (step + k)
-    ≡ runSteps (getD rs i noRun .combination) (drop (getD rs i noRun .«symbol_start») re) (drop (getD rs i noRun .«symbol_start») im) m (scaleOf scales (getD rs i noRun .combination)) k
-run-steps rs re im m scales i k step h e l =
-    let r = getD rs i noRun in
-    ap four (among-step [] (metricsIn (receivedBy re im m scales)) rs 0 0 i k (step + k) h l (omega arith)
-    ∙ sym (metrics-part re im m scales r (0 + stepsTo rs i) (0 + 1624 * validTo rs i) k))
-
 pub steps-by : (r : Run) (x : ℕ) → x ≡ slotSteps (r .combination) → x * r .«valid_slots» ≡ stepsOf r
 steps-by r x e = rw e
 
@@ -140,15 +125,6 @@ module _ (count : ℕ) (list : List Run) (l : RunList count list) (i : ℕ) wher
       let fe = f .ends in
       let d = length-drop (run .«symbol_start») xs in
       rw (e, tail-is (run .«symbol_start») xs) (run-covers run (length (drop (run .«symbol_start») xs)) (l .whole i) f (omega arith))
-
-  -- and the frame's steps are the run's
-  pub step-is : (re im : List Float) (m : Mapping) (scales : List Float) (step n k : ℕ) → i < count → step ≡ stepsTo rs i → n ≡ stepsOf run → k < n
-      → listMetrics rs (receivedBy re im m scales) (step + k)
-      ≡ runSteps (run .combination) (take (length re - run .«symbol_start») (drop (run .«symbol_start») re)) (take (length im - run .«symbol_start») (drop (run .«symbol_start») im)) m (scaleOf scales (run .combination)) k
-  step-is re im m scales step n k h e en g =
-      let c = l .counted in
-      rw (tail-is (run .«symbol_start») re, tail-is (run .«symbol_start») im, l .at i)
-      (run-steps rs re im m scales i k step (omega arith) e (let q = rw (l .at i) at en in omega arith))
 
 -- before run i: its points start within the frame, and its steps are within the frame's
 pub record RunAt (count : ℕ) (list : List Run) (i step : ℕ) : Type 0 where
