@@ -3,8 +3,8 @@ use crate::points;
 use bench_words::text::number;
 use bench_words::text::quoted;
 use bench_words::text::text;
-use bench_words::words::front;
-use bench_words::words::same;
+use bench_line::words::front;
+use bench_line::words::same;
 ghost use Rattle.libc.specs.Io.{Ended};
 
 // The bytes of a full load of 48 slots, and one more, so that a file that is longer is told from one that is full.
@@ -263,7 +263,7 @@ fn fill(file: i32, narrow: bool, n: usize, re: &mut [f64], im: &mut [f64]) -> Go
 // Reads an open file's points, as many as the slices hold, and closes it.
 pub fn read_points(file: i32, name: &[u8], re: &mut [f64], im: &mut [f64]) -> Got {
     let all = re.len();
-    let got = fill(file, bench_words::words::is_narrow(name), all, re, im);
+    let got = fill(file, bench_line::words::is_narrow(name), all, re, im);
     let n = got.count;
     let well = n == all || has_ended(file, name);
     libc::close(file);
@@ -354,7 +354,7 @@ pub fn stage_points(name: &[u8], re: &[f64], im: &[f64]) -> bool {
     if file < 0 {
         return false;
     }
-    let is_written = pour(file, bench_words::words::is_narrow(name), re, im);
+    let is_written = pour(file, bench_line::words::is_narrow(name), re, im);
     close_part(file, is_written, part, name)
 }
 

@@ -3,8 +3,8 @@ use crate::points;
 use bench_files::files;
 use bench_files::files::Got;
 use bench_words::text::text;
-use bench_words::words::front_parts;
-use bench_words::words::part;
+use bench_line::words::front_parts;
+use bench_line::words::part;
 
 // Reads the points of an input, where the output may be written.
 fn read_input(kind: &[u8], input: &[u8], output: &[u8], re: &mut [f64], im: &mut [f64]) -> Got {

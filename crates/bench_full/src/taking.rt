@@ -3,9 +3,9 @@ use crate::points;
 use bench_files::files;
 use bench_words::text::quoted;
 use bench_words::text::text;
-use bench_words::words::front_parts;
-use bench_words::words::part;
-use bench_words::words::same;
+use bench_line::words::front_parts;
+use bench_line::words::part;
+use bench_line::words::same;
 
 // The last 5 bytes of a name; all of a shorter one.
 fn end_of<'a>(name: &'a [u8]) -> &'a [u8] {

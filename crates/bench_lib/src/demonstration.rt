@@ -2,7 +2,7 @@
 use bench_words::report;
 use bench_words::text::count;
 use bench_words::text::text;
-use bench_words::words::front;
+use bench_line::words::front;
 use isdbs_core::tmcc;
 use isdbs_core::tmcc::Entry;
 use isdbs_core::tmcc::Table;
@@ -45,7 +45,7 @@ fn disturb(parts: &mut [f64; 38976]) {
 }
 
 fn verdict(load: &[u8], bytes: &[u8]) {
-    let n = report::agreeing(load, bytes);
+    let n = bench_line::agreement::agreeing(load, bytes);
     report::agree(n, CARRIED);
     if n == CARRIED {
         text(b": every byte that was sent was read.\nok\n");

@@ -1,6 +1,6 @@
 // lay and part: a full frame from header, main and burst points, and back.
 use crate::usage::misused;
-use bench_words::words::parts;
+use bench_line::words::parts;
 
 // bench lay HEADER MAIN BURST FULL
 pub(crate) fn lay(line: &[u8], re: &mut [f64; 38976], im: &mut [f64; 38976]) {

@@ -13,8 +13,8 @@ mod setting;
 mod usage;
 mod wanted;
 
-use bench_words::words::part;
-use bench_words::words::same;
+use bench_line::words::part;
+use bench_line::words::same;
 
 // Puts src into dst from `at` on, as far as it goes, and answers where it ends.
 pub fn put(dst: &mut [u8; 4096], at: usize, src: &[u8]) -> usize {
@@ -133,7 +133,7 @@ pub fn run_first(line: &[u8; 4096], n: usize) {
         usage::misused(b"the words are longer than 4,095 bytes together", b"");
         return;
     }
-    run(bench_words::words::front(line, n));
+    run(bench_line::words::front(line, n));
 }
 
 // The place after a byte that separates words.

@@ -8,9 +8,9 @@ use bench_words::report::Valid;
 use bench_words::text::count;
 use bench_words::text::quoted;
 use bench_words::text::text;
-use bench_words::words::front;
-use bench_words::words::part;
-use bench_words::words::parts;
+use bench_line::words::front;
+use bench_line::words::part;
+use bench_line::words::parts;
 use isdbs_phy::demod::encode_frame;
 
 // The load that was read, against what the frame carries.

@@ -1,9 +1,9 @@
 // mend: a stored coded stretch between two states.
 use crate::usage::misused;
-use bench_words::words::Number;
-use bench_words::words::digits;
-use bench_words::words::part;
-use bench_words::words::parts;
+use bench_line::words::Number;
+use bench_line::words::digits;
+use bench_line::words::part;
+use bench_line::words::parts;
 
 // bench mend START END BITS OUT; the states are taken mod 64.
 pub(crate) fn mend(

@@ -4,10 +4,10 @@ use crate::usage::misused;
 use bench_series::Reading;
 use bench_words::report;
 use bench_words::report::Valid;
-use bench_words::words::Number;
-use bench_words::words::digits;
-use bench_words::words::part;
-use bench_words::words::parts;
+use bench_line::words::Number;
+use bench_line::words::digits;
+use bench_line::words::part;
+use bench_line::words::parts;
 
 // bench series WINDOW TABLE MAPPING KIND FRAME..
 pub(crate) fn series(

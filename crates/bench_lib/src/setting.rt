@@ -1,8 +1,8 @@
 // The words that commands share: TABLE, MAPPING and KIND.
 use crate::usage::misused;
-use bench_words::words;
-use bench_words::words::MaybeMapping;
-use bench_words::words::same;
+use bench_line::words;
+use bench_line::words::MaybeMapping;
+use bench_line::words::same;
 use isdbs_core::tmcc::Table;
 use isdbs_phy::demod::Mapping;
 

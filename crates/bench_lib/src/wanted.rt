@@ -3,8 +3,8 @@ use crate::setting::setting_of;
 use crate::usage::misused;
 use bench_words::report;
 use bench_words::report::Valid;
-use bench_words::words::part;
-use bench_words::words::parts;
+use bench_line::words::part;
+use bench_line::words::parts;
 
 // bench bytes TABLE MAPPING KIND FRAME BYTES
 pub(crate) fn bytes(

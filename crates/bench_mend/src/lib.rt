@@ -4,8 +4,8 @@ use bench_words::report;
 use bench_words::text::count;
 use bench_words::text::quoted;
 use bench_words::text::text;
-use bench_words::words::front;
-use bench_words::words::part;
+use bench_line::words::front;
+use bench_line::words::part;
 use refusal::Answer;
 
 // A file of n bits, by what it holds and its name.
@@ -58,10 +58,6 @@ fn refuse(answer: Answer) {
         Answer::Length => {
             report::refused(answer);
             text(b"a stretch is bytes of 0 or 1, two for each of at most 4,096 steps\n");
-        }
-        Answer::Unmendable => {
-            report::refused(answer);
-            text(b"no coded stretch between these states lies within four bits\n");
         }
         _ => report::refuse(answer),
     }

@@ -5,8 +5,8 @@ use bench_words::report;
 use bench_words::text::count;
 use bench_words::text::quoted;
 use bench_words::text::text;
-use bench_words::words::front;
-use bench_words::words::part;
+use bench_line::words::front;
+use bench_line::words::part;
 use refusal::Answer;
 
 // The most bytes of a load.

@@ -2,7 +2,7 @@
 use bench_words::report;
 use bench_words::text::count;
 use bench_words::text::text;
-use bench_words::words::front;
+use bench_line::words::front;
 use isdbs_core::slots::Plan;
 use isdbs_core::slots::plan_of;
 use isdbs_core::tmcc::Table;

@@ -1,4 +1,3 @@
-// The bench program's words: those of a command, and those of its reports.
+// The words of the bench program's reports.
 pub mod report;
 pub mod text;
-pub mod words;

@@ -4,7 +4,7 @@ use crate::text::combination;
 use crate::text::count;
 use crate::text::number;
 use crate::text::text;
-use crate::words::tally;
+use bench_line::agreement::agreeing;
 use isdbs_core::combination::Combination;
 use isdbs_core::combination::MaybeCombination;
 use isdbs_core::slots;
@@ -16,7 +16,6 @@ use refusal::Answer;
 ghost use mathlib.Core.Path.{_≡_};
 ghost use Prim.Native.Nat.{_-_, _%_, _<_, _≤_};
 ghost use Rattle.isdbs_combination.specs.Combinations.{unitOf};
-ghost use Rattle.bench_words.specs.Agreement.{agreement};
 
 fn wide(n: u32) -> u64 {
     n as u64
@@ -102,6 +101,10 @@ fn row(number: u32) {
         9 => text(b"the space for what is written is too short"),
         10 => text(b"the slots of an entry do not fill whole units"),
         11 => text(b"an entry gives slots to a reserved word"),
+        12 => text(b"a code has a length of 3 to 7 and two generators of that length"),
+        13 => text(b"no full load has exactly these points"),
+        14 => text(b"a window is of 1 to 256 frames"),
+        15 => text(b"no coded stretch between these states lies within four bits"),
         _ => text(b"the library does not take this"),
     }
 }
@@ -351,19 +354,6 @@ pub fn refuse_reading(
         Answer::Sample => refuse_sample(re, im),
         _ => refuse(answer),
     }
-}
-
-// How many bytes of two slices agree, place by place.
-pub fn agreeing(a: &[u8], b: &[u8]) -> usize
-    ensures { λ r. ⌜ r ≡ agreement (now (a .entry)) (now (b .entry)) ⌝ }
-{
-    let mut n: usize = 0;
-    let mut i: usize = 0;
-    while i < a.len() && i < b.len() {
-        n = n + tally(a[i] == b[i]);
-        i = i + 1;
-    }
-    n
 }
 
 // The first place where two slices differ, or the shorter one's end.

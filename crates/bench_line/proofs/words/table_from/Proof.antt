@@ -1,0 +1,85 @@
+-- `table_from` meets its contract. Assumes nothing.
+use borrow.Author.Needs.{needs}
+use Rattle.bench_line.proofs.words.table_from.Statement.{statement}
+use Rattle.bench_line.proofs.words.table_from.Tie as tie
+
+enum-known-first : tie.Need-enum-known-first
+enum-known-first c = search needs
+
+enum-told : tie.Need-enum-told
+enum-told c = search needs
+
+no-table-requires : tie.Need-no-table-requires
+no-table-requires c κs = search needs
+
+returns : tie.Need-returns
+returns c = search needs
+
+enum-known-second : tie.Need-enum-known-second
+enum-known-second c = search needs
+
+enum-told-2 : tie.Need-enum-told-2
+enum-told-2 c = search needs
+
+no-table-requires-2 : tie.Need-no-table-requires-2
+no-table-requires-2 c κs = search needs
+
+returns-2 : tie.Need-returns-2
+returns-2 c = search needs
+
+enum-known-third : tie.Need-enum-known-third
+enum-known-third c = search needs
+
+enum-told-3 : tie.Need-enum-told-3
+enum-told-3 c = search needs
+
+no-table-requires-3 : tie.Need-no-table-requires-3
+no-table-requires-3 c κs = search needs
+
+returns-3 : tie.Need-returns-3
+returns-3 c = search needs
+
+enum-known-fourth : tie.Need-enum-known-fourth
+enum-known-fourth c = search needs
+
+enum-told-4 : tie.Need-enum-told-4
+enum-told-4 c = search needs
+
+no-table-requires-4 : tie.Need-no-table-requires-4
+no-table-requires-4 c κs = search needs
+
+returns-4 : tie.Need-returns-4
+returns-4 c =
+    let third = c .before .before .before .before in
+    let second = third .before .before .before in
+    let first = second .before .before .before in
+    rw (first .first .given .1, second .second .given .1, third .third .given .1, c .before .enum-told4 .given .1) (c .no-table4 .ensures)
+
+returns-5 : tie.Need-returns-5
+returns-5 c =
+    let third = c .before .before .before .before in
+    let second = third .before .before .before in
+    let first = second .before .before .before in
+    rw (first .first .given .1, second .second .given .1, third .third .given .1, c .before .fourth .given .1)
+
+pub table-from-spec : {M : Type 1} → statement M
+table-from-spec =
+    tie.close
+    (tie.spec
+    enum-known-first
+    enum-told
+    no-table-requires
+    returns
+    enum-known-second
+    enum-told-2
+    no-table-requires-2
+    returns-2
+    enum-known-third
+    enum-told-3
+    no-table-requires-3
+    returns-3
+    enum-known-fourth
+    enum-told-4
+    no-table-requires-4
+    returns-4
+    returns-5)
