@@ -1,0 +1,203 @@
+// What the executed programs share: lines of text with numbers, numbers that go by no rule, comparing and counting, the hexadecimal numbers of a stored line. All calls are total.
+ghost use Prim.Native.Nat.{_+_, _≤_, _<_};
+ghost use lib.ListN.{length};
+use libc::STDOUT_FILENO;
+use refusal::Answer;
+
+// ---- lines
+
+pub fn text(s: &[u8]) {
+    io::write_all(STDOUT_FILENO, s);
+}
+
+fn put(byte: u8) {
+    let one = [byte];
+    text(&one);
+}
+
+// The last decimal digit.
+fn digit_of(n: usize) -> u8 {
+    b'0' + (n % 10) as u8
+}
+
+fn put_three(n: usize) {
+    let digits = [digit_of(n / 100), digit_of(n / 10), digit_of(n)];
+    text(&digits);
+}
+
+fn put_five(n: usize) {
+    put_three(n / 100);
+    let digits = [digit_of(n / 10), digit_of(n)];
+    text(&digits);
+}
+
+fn put_verdict(n: usize) {
+    if n == 1 {
+        text(b"holds");
+    } else {
+        text(b"FAILS");
+    }
+}
+
+fn put_decimal(n: usize) {
+    io::print_decimal(STDOUT_FILENO, n as u64);
+}
+
+fn put_number(mark: u8, n: usize) {
+    match mark {
+        b'#' => put_decimal(n),
+        b'%' => put_three(n),
+        b'$' => put_five(n),
+        _ => put_verdict(n),
+    }
+}
+
+fn is_mark(byte: u8) -> bool {
+    match byte {
+        b'#' | b'%' | b'$' | b'@' => true,
+        _ => false,
+    }
+}
+
+// A byte of a text, or the number that stands for it. How many numbers were shown.
+fn put_next(byte: u8, numbers: &[usize], k: usize) -> usize {
+    if k < numbers.len() {
+        if is_mark(byte) {
+            put_number(byte, numbers[k]);
+            return k + 1;
+        }
+    }
+    put(byte);
+    k
+}
+
+// A text with numbers, a mark for each: # in decimal, % by three digits, $ by five, @ for "holds" where it is 1 and else "FAILS". One call for a line costs a check less than one for each part of it.
+pub fn show(words: &[u8], numbers: &[usize]) {
+    let mut k: usize = 0;
+    for i in 0..words.len() {
+        k = put_next(words[i], numbers, k);
+    }
+}
+
+fn put_bit(bit: u8) {
+    match bit {
+        0 => put(b'0'),
+        1 => put(b'1'),
+        _ => put(b'?'),
+    }
+}
+
+// Bits as 0 and 1, anything else as ?.
+pub fn show_bits(bits: &[u8]) {
+    for i in 0..bits.len() {
+        put_bit(bits[i]);
+    }
+}
+
+// ---- numbers
+
+// The row's number, and 0 for accepted.
+pub fn row(answer: Answer) -> usize {
+    refusal::number(answer) as usize
+}
+
+// To be counted.
+pub fn one(holds: bool) -> usize
+    ensures { λ r. ⌜ r ≤ 1 ⌝ }
+{
+    if holds { 1 } else { 0 }
+}
+
+pub fn least(a: usize, b: usize) -> usize
+    ensures { λ r. ⌜ (r ≤ a) × (r ≤ b) ⌝ }
+{
+    if a < b { a } else { b }
+}
+
+// The generator of the lists.
+pub fn step(x: u64) -> u64 {
+    let a = x ^ (x << 13);
+    let b = a ^ (a >> 7);
+    b ^ (b << 17)
+}
+
+// The first `count` bytes of the load of a seed.
+pub fn draw(bytes: &mut [u8], count: usize, seed: u64) {
+    let end = least(count, bytes.len());
+    let mut x = seed;
+    for i in 0..end {
+        x = step(x);
+        bytes[i] = (x / 0x100_0000_0000_0000 % 256) as u8;
+    }
+}
+
+fn wide(byte: u8) -> u64
+    ensures { λ r. ⌜ r < 256 ⌝ }
+{
+    byte as u64
+}
+
+// The lists' digest of the first n bytes.
+pub fn digest(bytes: &[u8], n: usize) -> u64 {
+    let end = least(n, bytes.len());
+    let mut h: u64 = 0x9e37_79b9_7f4a_7c15;
+    for i in 0..end {
+        h = step(h ^ wide(bytes[i]));
+    }
+    h
+}
+
+fn digit(byte: u8) -> u64 {
+    match byte {
+        b'0'..=b'9' => wide(byte - b'0'),
+        b'a'..=b'f' => wide(byte - b'a') + 10,
+        _ => 0,
+    }
+}
+
+// The number of the hexadecimal digits from..to of a line, of which the last 16 count.
+pub fn number(line: &[u8], from: usize, to: usize) -> u64 {
+    let end = least(to, line.len());
+    let mut value: u64 = 0;
+    for i in from..end {
+        value = value % 0x1000_0000_0000_0000 * 16 + digit(line[i]) % 16;
+    }
+    value
+}
+
+// ---- comparing
+
+// How many of the n bytes of a from `from` on are those of b, as far as both reach.
+pub fn alike(a: &[u8], from: usize, b: &[u8], n: usize) -> usize
+    ensures { λ r. ⌜ r ≤ n ⌝ }
+{
+    if from > a.len() {
+        return 0;
+    }
+    let end = least(n, least(a.len() - from, b.len()));
+    let mut same: usize = 0;
+    for i in 0..end {
+        same += one(a[from + i] == b[i]);
+    }
+    same
+}
+
+// How many of the bytes from..to are x, as far as they reach.
+pub fn bytes_of(bytes: &[u8], from: usize, to: usize, x: u8) -> usize {
+    let end = least(to, bytes.len());
+    let mut n: usize = 0;
+    for i in from..end {
+        n += one(bytes[i] == x);
+    }
+    n
+}
+
+// How many of the words from..to are w, as far as they reach.
+pub fn words_of(words: &[u64], from: usize, to: usize, w: u64) -> usize {
+    let end = least(to, words.len());
+    let mut n: usize = 0;
+    for i in from..end {
+        n += one(words[i] == w);
+    }
+    n
+}
