@@ -2,29 +2,11 @@
 // ten points longer than it. A line for each place that the request names, for the frame laid again, and for each short slice.
 use full_frame::lay;
 use full_frame::take_apart;
-use libc::STDOUT_FILENO;
-use refusal::Answer;
+use vectors_lib::one;
+use vectors_lib::row;
+use vectors_lib::show;
 ghost use Prim.Native.Nat.{_≤_};
 ghost use lib.ListN.{length};
-
-fn text(s: &[u8]) {
-    io::write_all(STDOUT_FILENO, s);
-}
-
-fn wide(n: u32) -> u64 {
-    n as u64
-}
-
-fn number(n: usize) {
-    io::print_decimal(STDOUT_FILENO, n as u64);
-}
-
-// A label, and the number of the row.
-fn row(label: &[u8], a: Answer) {
-    text(label);
-    io::print_decimal(STDOUT_FILENO, wide(refusal::number(a)));
-    text(b"\n");
-}
 
 fn nan() -> f64 {
     0.0 / 0.0
@@ -70,17 +52,14 @@ fn alike(a: &[f64; 39946], b: &[f64; 39946]) -> usize {
     n
 }
 
-// A label, and whether a point is that of a place.
-fn point(label: &[u8], re: f64, im: f64, p: f64) {
-    text(label);
-    if same(re, p) + same(im, -p) == 2 {
-        text(b" holds its place\n");
-    } else {
-        text(b" DIFFERS\n");
-    }
+// Whether a point is that of a place.
+fn at(re: f64, im: f64, p: f64) -> usize {
+    one(same(re, p) + same(im, -p) == 2)
 }
 
-fn show(
+// The answer of taking a frame apart, and the points that the request names.
+fn show_apart(
+    answer: usize,
     hr: &[f64; 192],
     hi: &[f64; 192],
     mr: &[f64; 38976],
@@ -88,51 +67,42 @@ fn show(
     br: &[f64; 768],
     bi: &[f64; 768],
 ) {
-    point(b"header 0 (0 and -0.0)", hr[0], hi[0], 0.0);
-    point(b"header 191", hr[191], hi[191], 191.0);
-    point(b"main 0", mr[0], mi[0], 192.0);
-    point(b"main 202", mr[202], mi[202], 394.0);
-    point(b"burst 0, symbol 0 (NaN)", br[0], bi[0], nan());
-    point(b"burst 0, symbol 1", br[1], bi[1], 396.0);
-    point(b"burst 0, symbol 2", br[2], bi[2], 397.0);
-    point(b"burst 0, symbol 3", br[3], bi[3], 398.0);
-    point(b"main 203", mr[203], mi[203], 399.0);
-    point(b"main 38,975", mr[38975], mi[38975], 39931.0);
-    point(b"burst 191, symbol 3", br[767], bi[767], 39935.0);
+    let found = [
+        answer,
+        at(hr[0], hi[0], 0.0),
+        at(hr[191], hi[191], 191.0),
+        at(mr[0], mi[0], 192.0),
+        at(mr[202], mi[202], 394.0),
+        at(br[0], bi[0], nan()),
+        at(br[1], bi[1], 396.0),
+        at(br[2], bi[2], 397.0),
+        at(br[3], bi[3], 398.0),
+        at(mr[203], mi[203], 399.0),
+        at(mr[38975], mi[38975], 39931.0),
+        at(br[767], bi[767], 39935.0),
+    ];
+    show(
+        b"take apart: #\nheader 0 (0 and -0.0) @ its place\nheader 191 @ its place\nmain 0 @ its place\nmain 202 @ its place\nburst 0, symbol 0 (NaN) @ its place\nburst 0, symbol 1 @ its place\nburst 0, symbol 2 @ its place\nburst 0, symbol 3 @ its place\nmain 203 @ its place\nmain 38,975 @ its place\nburst 191, symbol 3 @ its place\n",
+        &found,
+    );
 }
 
-// The frame laid again over places that hold 5 and -5.
-fn again(
-    hr: &[f64; 192],
-    hi: &[f64; 192],
-    mr: &[f64; 38976],
-    mi: &[f64; 38976],
-    br: &[f64; 768],
-    bi: &[f64; 768],
-    out_re: &mut [f64; 39946],
-    out_im: &mut [f64; 39946],
-) {
-    row(b"lay: ", lay(hr, hi, mr, mi, br, bi, out_re, out_im));
+fn show_laid(answer: usize, real: usize, imaginary: usize) {
+    let found = [answer, real, imaginary];
+    show(
+        b"lay: #\nplaces alike, real #, imaginary # of 39,946, of which 10 lie past the frame\n",
+        &found,
+    );
 }
 
-fn apart(
-    re: &[f64; 39946],
-    im: &[f64; 39946],
-    hr: &mut [f64; 192],
-    hi: &mut [f64; 192],
-    mr: &mut [f64; 38976],
-    mi: &mut [f64; 38976],
-    br: &mut [f64; 768],
-    bi: &mut [f64; 768],
-) {
-    row(b"take apart: ", take_apart(re, im, hr, hi, mr, mi, br, bi));
-}
-
-// Laying from the first `h` and `g` points of a header, `k` of a main signal and `q` of bursts into the first `o` places of an output.
+// The answer of laying from the first `h` points of a header, `g` of its imaginary parts, `k` of a main signal's and `q` of the bursts into the first `o` places of an output.
 fn lay_parts(
-    hs: &[f64],
-    ms: &[f64],
-    bs: &[f64],
+    hr: &[f64],
+    hi: &[f64],
+    mr: &[f64],
+    mi: &[f64],
+    br: &[f64],
+    bi: &[f64],
     re: &mut [f64],
     im: &mut [f64],
     h: usize,
@@ -140,19 +110,46 @@ fn lay_parts(
     k: usize,
     q: usize,
     o: usize,
-) -> Answer
-    requires { ⌜ (h ≤ length (now hs)) × (g ≤ length (now hs)) × (k ≤ length (now ms)) × (q ≤ length (now bs)) × (o ≤ length (now im)) ⌝ }
+) -> usize
+    requires { ⌜ (h ≤ length (now hr)) × (g ≤ length (now hi)) × (k ≤ length (now mi)) × (q ≤ length (now br)) × (o ≤ length (now im)) ⌝ }
 {
-    lay(
-        &hs[0..h],
-        &hs[0..g],
-        ms,
-        &ms[0..k],
-        &bs[0..q],
-        bs,
+    row(lay(
+        &hr[0..h],
+        &hi[0..g],
+        mr,
+        &mi[0..k],
+        &br[0..q],
+        bi,
         re,
         &mut im[0..o],
-    )
+    ))
+}
+
+// The answer of laying. Of the cases from 0 on: a header of 191 and an output of 39,935; an imaginary header of 191; a main signal of 38,975; bursts of 767; an output of 39,935; one of 39,936; one of 39,946.
+fn lay_case(
+    case: usize,
+    hr: &[f64; 192],
+    hi: &[f64; 192],
+    mr: &[f64; 38976],
+    mi: &[f64; 38976],
+    br: &[f64; 768],
+    bi: &[f64; 768],
+    re: &mut [f64; 39946],
+    im: &mut [f64; 39946],
+) -> usize {
+    let h = 192 - one(case == 0);
+    let g = 192 - one(case == 1);
+    let k = 38976 - one(case == 2);
+    let q = 768 - one(case == 3);
+    let o = 39936 + one(case == 6) * 10 - one((case == 0) | (case == 4));
+    lay_parts(hr, hi, mr, mi, br, bi, re, im, h, g, k, q, o)
+}
+
+fn show_lay(found: [usize; 6]) {
+    show(
+        b"header of 191, output of 39,935: #\nimaginary header of 191: #\nmain of 38,975: #\nbursts of 767: #\noutput of 39,935: #\noutput of 39,936: #\n",
+        &found,
+    );
 }
 
 fn refused_lay(
@@ -162,33 +159,15 @@ fn refused_lay(
     re: &mut [f64; 39946],
     im: &mut [f64; 39946],
 ) {
-    row(
-        b"header of 191, output of 39,935: ",
-        lay_parts(hs, ms, bs, re, im, 191, 192, 38976, 768, 39935),
-    );
-    row(
-        b"imaginary header of 191: ",
-        lay_parts(hs, ms, bs, re, im, 192, 191, 38976, 768, 39936),
-    );
-    row(
-        b"main of 38,975: ",
-        lay_parts(hs, ms, bs, re, im, 192, 192, 38975, 768, 39936),
-    );
-    row(
-        b"bursts of 767: ",
-        lay_parts(hs, ms, bs, re, im, 192, 192, 38976, 767, 39936),
-    );
-    row(
-        b"output of 39,935: ",
-        lay_parts(hs, ms, bs, re, im, 192, 192, 38976, 768, 39935),
-    );
-    row(
-        b"output of 39,936: ",
-        lay_parts(hs, ms, bs, re, im, 192, 192, 38976, 768, 39936),
-    );
+    let mut found = [99usize; 6];
+    for case in 0..6usize {
+        let n = lay_case(case, hs, hs, ms, ms, bs, bs, re, im);
+        found[case] = n;
+    }
+    show_lay(found);
 }
 
-// Taking the first `o` places of a frame apart, into the first `h` places of a header output.
+// The answer of taking the first `o` places of a frame apart, into the first `h` places of a header output.
 fn take_parts(
     re: &[f64],
     im: &[f64],
@@ -200,10 +179,34 @@ fn take_parts(
     bi: &mut [f64],
     o: usize,
     h: usize,
-) -> Answer
+) -> usize
     requires { ⌜ (o ≤ length (now im)) × (h ≤ length (now hr)) ⌝ }
 {
-    take_apart(re, &im[0..o], &mut hr[0..h], hi, mr, mi, br, bi)
+    row(take_apart(re, &im[0..o], &mut hr[0..h], hi, mr, mi, br, bi))
+}
+
+// The answer of taking a frame apart. Of the cases from 0 on: a frame of 39,935 and a header output of 191; a header output of 191; a frame of 39,936; one of 39,946.
+fn take_case(
+    case: usize,
+    re: &[f64; 39946],
+    im: &[f64; 39946],
+    hr: &mut [f64; 192],
+    hi: &mut [f64; 192],
+    mr: &mut [f64; 38976],
+    mi: &mut [f64; 38976],
+    br: &mut [f64; 768],
+    bi: &mut [f64; 768],
+) -> usize {
+    let o = 39936 + one(case == 3) * 10 - one(case == 0);
+    let h = 192 - one(case < 2);
+    take_parts(re, im, hr, hi, mr, mi, br, bi, o, h)
+}
+
+fn show_take(found: [usize; 3]) {
+    show(
+        b"frame of 39,935, header output of 191: #\nheader output of 191: #\nframe of 39,936: #\n",
+        &found,
+    );
 }
 
 fn refused_take(
@@ -216,43 +219,12 @@ fn refused_take(
     br: &mut [f64; 768],
     bi: &mut [f64; 768],
 ) {
-    row(
-        b"frame of 39,935, header output of 191: ",
-        take_parts(re, im, hr, hi, mr, mi, br, bi, 39935, 191),
-    );
-    row(
-        b"header output of 191: ",
-        take_parts(re, im, hr, hi, mr, mi, br, bi, 39936, 191),
-    );
-    row(
-        b"frame of 39,936: ",
-        take_parts(re, im, hr, hi, mr, mi, br, bi, 39936, 192),
-    );
-}
-
-fn run(
-    re: &mut [f64; 39946],
-    im: &mut [f64; 39946],
-    out_re: &mut [f64; 39946],
-    out_im: &mut [f64; 39946],
-    hr: &mut [f64; 192],
-    hi: &mut [f64; 192],
-    mr: &mut [f64; 38976],
-    mi: &mut [f64; 38976],
-    br: &mut [f64; 768],
-    bi: &mut [f64; 768],
-) {
-    fill(re, im);
-    apart(re, im, hr, hi, mr, mi, br, bi);
-    show(hr, hi, mr, mi, br, bi);
-    again(hr, hi, mr, mi, br, bi, out_re, out_im);
-    text(b"places alike, real ");
-    number(alike(re, out_re));
-    text(b", imaginary ");
-    number(alike(im, out_im));
-    text(b" of 39,946, of which 10 lie past the frame\n");
-    refused_take(re, im, hr, hi, mr, mi, br, bi);
-    refused_lay(hr, mr, br, re, im);
+    let mut found = [99usize; 3];
+    for case in 0..3usize {
+        let n = take_case(case, re, im, hr, hi, mr, mi, br, bi);
+        found[case] = n;
+    }
+    show_take(found);
 }
 
 fn main() {
@@ -266,11 +238,11 @@ fn main() {
     let mut mi = [7.0f64; 38976];
     let mut br = [7.0f64; 768];
     let mut bi = [7.0f64; 768];
-    run(
-        &mut re,
-        &mut im,
-        &mut out_re,
-        &mut out_im,
+    fill(&mut re, &mut im);
+    let taken = take_case(
+        3,
+        &re,
+        &im,
         &mut hr,
         &mut hi,
         &mut mr,
@@ -278,4 +250,18 @@ fn main() {
         &mut br,
         &mut bi,
     );
+    show_apart(taken, &hr, &hi, &mr, &mi, &br, &bi);
+    let laid = lay_case(6, &hr, &hi, &mr, &mi, &br, &bi, &mut out_re, &mut out_im);
+    show_laid(laid, alike(&re, &out_re), alike(&im, &out_im));
+    refused_take(
+        &re,
+        &im,
+        &mut hr,
+        &mut hi,
+        &mut mr,
+        &mut mi,
+        &mut br,
+        &mut bi,
+    );
+    refused_lay(&hr, &mr, &br, &mut re, &mut im);
 }

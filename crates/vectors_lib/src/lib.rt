@@ -31,11 +31,19 @@ fn put_five(n: usize) {
     text(&digits);
 }
 
-fn put_verdict(n: usize) {
+fn put_holds(n: usize) {
     if n == 1 {
         text(b"holds");
     } else {
         text(b"FAILS");
+    }
+}
+
+fn put_agree(n: usize) {
+    if n == 1 {
+        text(b"agree");
+    } else {
+        text(b"DIFFER");
     }
 }
 
@@ -48,13 +56,14 @@ fn put_number(mark: u8, n: usize) {
         b'#' => put_decimal(n),
         b'%' => put_three(n),
         b'$' => put_five(n),
-        _ => put_verdict(n),
+        b'&' => put_agree(n),
+        _ => put_holds(n),
     }
 }
 
 fn is_mark(byte: u8) -> bool {
     match byte {
-        b'#' | b'%' | b'$' | b'@' => true,
+        b'#' | b'%' | b'$' | b'&' | b'@' => true,
         _ => false,
     }
 }
@@ -71,7 +80,7 @@ fn put_next(byte: u8, numbers: &[usize], k: usize) -> usize {
     k
 }
 
-// A text with numbers, a mark for each: # in decimal, % by three digits, $ by five, @ for "holds" where it is 1 and else "FAILS". One call for a line costs a check less than one for each part of it.
+// A text with numbers, a mark for each: # in decimal, % by three digits, $ by five, & for "agree" where it is 1 and else "DIFFER", @ for "holds" or "FAILS".
 pub fn show(words: &[u8], numbers: &[usize]) {
     let mut k: usize = 0;
     for i in 0..words.len() {
@@ -131,7 +140,16 @@ pub fn draw(bytes: &mut [u8], count: usize, seed: u64) {
     }
 }
 
-fn wide(byte: u8) -> u64
+// A number as it is shown: a call leaves a caller no need, where a cast can.
+pub fn wide(n: u32) -> usize {
+    n as usize
+}
+
+pub fn small(n: u8) -> usize {
+    n as usize
+}
+
+fn word_of(byte: u8) -> u64
     ensures { λ r. ⌜ r < 256 ⌝ }
 {
     byte as u64
@@ -142,15 +160,15 @@ pub fn digest(bytes: &[u8], n: usize) -> u64 {
     let end = least(n, bytes.len());
     let mut h: u64 = 0x9e37_79b9_7f4a_7c15;
     for i in 0..end {
-        h = step(h ^ wide(bytes[i]));
+        h = step(h ^ word_of(bytes[i]));
     }
     h
 }
 
 fn digit(byte: u8) -> u64 {
     match byte {
-        b'0'..=b'9' => wide(byte - b'0'),
-        b'a'..=b'f' => wide(byte - b'a') + 10,
+        b'0'..=b'9' => word_of(byte - b'0'),
+        b'a'..=b'f' => word_of(byte - b'a') + 10,
         _ => 0,
     }
 }
@@ -163,6 +181,40 @@ pub fn number(line: &[u8], from: usize, to: usize) -> u64 {
         value = value % 0x1000_0000_0000_0000 * 16 + digit(line[i]) % 16;
     }
     value
+}
+
+// The f64 of a pattern that is no NaN's.
+pub fn double_of(bits: u64) -> f64 {
+    if bits % 0x8000_0000_0000_0000 <= 0x7ff0_0000_0000_0000 {
+        f64::from_bits(bits)
+    } else {
+        0.0
+    }
+}
+
+// The f32 of a pattern that is no NaN's.
+pub fn float_of(bits: u32) -> f32 {
+    if bits % 0x8000_0000 <= 0x7f80_0000 {
+        f32::from_bits(bits)
+    } else {
+        0.0
+    }
+}
+
+// The pattern of an f64, one for every NaN.
+pub fn double_bits(x: f64) -> u64 {
+    if x != x {
+        return 0x7ff8_0000_0000_0000;
+    }
+    f64::to_bits(x)
+}
+
+// The pattern of an f32, one for every NaN.
+pub fn float_bits(x: f32) -> u32 {
+    if x != x {
+        return 0x7fc0_0000;
+    }
+    f32::to_bits(x)
 }
 
 // ---- comparing

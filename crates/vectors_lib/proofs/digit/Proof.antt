@@ -5,11 +5,11 @@ use borrow.Author.Needs.{needs}
 use Rattle.vectors_lib.proofs.digit.Statement.{statement}
 use Rattle.vectors_lib.proofs.digit.Tie as tie
 
-wide-requires : tie.Need-wide-requires
-wide-requires c κs = search needs
+word-of-requires : tie.Need-word-of-requires
+word-of-requires c κs = search needs
 
-wide-requires-2 : tie.Need-wide-requires-2
-wide-requires-2 c κs = search needs
+word-of-requires-2 : tie.Need-word-of-requires-2
+word-of-requires-2 c κs = search needs
 
 add-result : tie.Need-add-result
 add-result c = record { fits = omega arith }
@@ -33,8 +33,8 @@ pub digit-spec : {M : Type 1} → statement M
 digit-spec =
     tie.close
     (tie.spec
-    wide-requires
-    wide-requires-2
+    word-of-requires
+    word-of-requires-2
     add-result
     returns
     returns-2
