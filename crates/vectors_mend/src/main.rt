@@ -1,6 +1,12 @@
 // Mended stretches: the cases of request P13 and its rows, a stretch of 4,096 steps, and every stretch of up to 7 steps beside an exhaustive search.
 use isdb_fec::conv::ConvEncoder;
 use mend::Mended;
+use vectors_lib::alike;
+use vectors_lib::row;
+use vectors_lib::show;
+use vectors_lib::small;
+use vectors_lib::wide;
+use vectors_lib::words_of;
 
 // A coded stretch of up to 7 steps: its bits, the first of them at bit 0, and the state that it leads to.
 struct Sent {
@@ -14,35 +20,22 @@ struct Near {
     bits: u32,
 }
 
-fn put(byte: u8) {
-    let one = [byte];
-    io::write_all(1, &one);
+// The weight where the bit is 1, else 0.
+fn weighed(bit: u8, weight: u32) -> u32 {
+    if bit == 1 { weight } else { 0 }
 }
 
-// Words, and a number after them.
-fn say(words: &[u8], n: usize) {
-    io::write_all(1, words);
-    io::print_decimal(1, n as u64);
-}
-
-// The coded stretch of n inputs, the first at bit 0 of `inputs`.
+// The coded stretch of n inputs, up to 7, the first at bit 0 of `inputs`.
 fn send(start: u8, inputs: u32, n: u32) -> Sent {
     let mut enc = ConvEncoder { state: start % 64 };
     let mut rest = inputs;
     let mut bits: u32 = 0;
     let mut weight: u32 = 1;
-    for i in 0..7u32 {
-        if i < n {
-            let pushed = enc.push((rest % 2) as u8);
-            if pushed.x == 1 {
-                bits = bits | weight;
-            }
-            if pushed.y == 1 {
-                bits = bits | (weight % 16384 * 2);
-            }
-            let after = pushed.enc;
-            enc = after;
-        }
+    for i in 0..n {
+        let pushed = enc.push((rest % 2) as u8);
+        bits = bits | weighed(pushed.x, weight) | weighed(pushed.y, weight % 16384 * 2);
+        let after = pushed.enc;
+        enc = after;
         rest = rest / 2;
         weight = weight % 16384 * 4;
     }
@@ -149,7 +142,7 @@ fn list_is(list: &[u32; 6], count: usize, changes: u32) -> bool {
         }
         rest = rest / 2;
     }
-    at == count && rest_kept(list, at)
+    (at == count) & rest_kept(list, at)
 }
 
 // What the mended stretches of a survey were.
@@ -203,16 +196,16 @@ fn judge(
         return add(
             t,
             false,
-            near.count == 0 && count == 0 && out_is(&out, 0, 0) && list_is(&list, 0, 0),
+            (near.count == 0) & (count == 0) & out_is(&out, 0, 0) & list_is(&list, 0, 0),
         );
     }
     add(
         t,
         true,
-        number == 0
-            && near.count == 1
-            && out_is(&out, near.bits, n)
-            && list_is(&list, count, near.bits ^ stored),
+        (number == 0)
+            & (near.count == 1)
+            & out_is(&out, near.bits, n)
+            & list_is(&list, count, near.bits ^ stored),
     )
 }
 
@@ -264,12 +257,17 @@ fn survey(steps: usize, start: u8, decisions: &mut [u64; 4226]) {
     let mut ends = [0u8; 128];
     send_all(start, (steps % 8) as u32, &mut bits, &mut ends);
     let tally = all_stored(steps, start, &bits, &ends, decisions);
-    say(b"steps ", steps);
-    say(b" from ", start as usize);
-    say(b" to every end: mended ", tally.mended as usize);
-    say(b", refused by 15 ", tally.refused as usize);
-    say(b", otherwise than the search ", tally.wrong as usize);
-    put(b'\n');
+    let found = [
+        steps,
+        small(start),
+        wide(tally.mended),
+        wide(tally.refused),
+        wide(tally.wrong),
+    ];
+    show(
+        b"steps # from # to every end: mended #, refused by 15 #, otherwise than the search #\n",
+        &found,
+    );
 }
 
 // Fills the words anew.
@@ -279,73 +277,55 @@ fn fill(decisions: &mut [u64; 4226]) {
     }
 }
 
-// How many of the words are 0.
-fn zeros(decisions: &[u64; 4226]) -> usize {
-    let mut n: usize = 0;
-    for k in 0..4226 {
-        if decisions[k] == 0 {
-            n = n % 10000 + 1;
-        }
-    }
-    n
-}
-
+// The places of an output as digits.
 fn put_out(out: &[u8; 14]) {
     for k in 0..14 {
-        put(b'0' + out[k] % 10);
+        let one = [small(out[k])];
+        show(b"#", &one);
     }
 }
 
-fn put_position(place: u32) {
-    say(b" ", place as usize);
-}
-
-fn put_list(list: &[u32; 6]) {
-    for k in 0..6 {
-        put_position(list[k]);
-    }
-}
-
-// The answer, and how many bits were changed.
-fn put_answer(m: Mended) {
+fn number(m: Mended) -> usize {
     let answer = m.answer;
-    say(b": answer ", refusal::number(answer) as usize);
-    say(b", changed ", m.count);
+    row(answer)
 }
 
 // The list whole, and the words that became 0.
 fn put_lent(list: &[u32; 6], decisions: &[u64; 4226]) {
-    io::write_all(1, b", list");
-    put_list(list);
-    say(b", words of 0: ", zeros(decisions));
-    put(b'\n');
+    let found = [
+        wide(list[0]),
+        wide(list[1]),
+        wide(list[2]),
+        wide(list[3]),
+        wide(list[4]),
+        wide(list[5]),
+        words_of(decisions, 0, 4226, 0),
+    ];
+    show(b", list # # # # # #, words of 0: #\n", &found);
 }
 
 // One stretch, with all that was lent.
-fn show(stored: u32, steps: usize, start: u8, end: u8, decisions: &mut [u64; 4226]) {
+fn stretch(stored: u32, steps: usize, start: u8, end: u8, decisions: &mut [u64; 4226]) {
     fill(decisions);
     let bits = unpack(stored);
     let mut out = [9u8; 14];
     let mut list = [77u32; 6];
     let n = steps % 8 * 2;
     let m = mend_stretch(front(&bits, n), start, end, decisions, &mut out, &mut list);
-    say(b"steps ", steps);
-    say(b" from ", start as usize);
-    say(b" to ", end as usize);
-    put_answer(m);
-    io::write_all(1, b", output ");
+    let found = [steps, small(start), small(end), number(m), m.count];
+    show(b"steps # from # to #: answer #, changed #, output ", &found);
     put_out(&out);
     put_lent(&list, decisions);
 }
 
 fn cases(decisions: &mut [u64; 4226]) {
-    show(0, 0, 67, 3, decisions);
-    show(0, 0, 3, 4, decisions);
-    show(0, 1, 0, 32, decisions);
-    show(0, 1, 0, 1, decisions);
-    show(23, 7, 0, 0, decisions);
-    show(55, 7, 0, 0, decisions);
-    show(119, 7, 128, 192, decisions);
+    stretch(0, 0, 67, 3, decisions);
+    stretch(0, 0, 3, 4, decisions);
+    stretch(0, 1, 0, 32, decisions);
+    stretch(0, 1, 0, 1, decisions);
+    stretch(23, 7, 0, 0, decisions);
+    stretch(55, 7, 0, 0, decisions);
+    stretch(119, 7, 128, 192, decisions);
 }
 
 // The answer of the first n bits from state 0 to state 0, where the output, the list and the words are so long.
@@ -358,7 +338,7 @@ fn answer_of(
     positions: usize,
     decisions: &mut [u64],
     words: usize,
-) -> u32 {
+) -> usize {
     if n > bits.len() {
         return 99;
     }
@@ -379,12 +359,11 @@ fn answer_of(
         &mut out[..places],
         &mut list[..positions],
     );
-    let answer = m.answer;
-    refusal::number(answer)
+    number(m)
 }
 
 // The row of a stretch whose first byte is `first`.
-fn row(
+fn row_of(
     n: usize,
     first: u8,
     places: usize,
@@ -397,26 +376,42 @@ fn row(
     let mut list = [77u32; 4];
     bits[0] = first;
     let answer = answer_of(bits, n, out, places, &mut list, positions, decisions, words);
-    say(b"bits ", n);
-    say(b", the first ", first as usize);
-    say(b", output ", places);
-    say(b", list ", positions);
-    say(b", words ", words);
-    say(b": answer ", answer as usize);
-    put(b'\n');
+    let found = [n, small(first), places, positions, words, answer];
+    show(
+        b"bits #, the first #, output #, list #, words #: answer #\n",
+        &found,
+    );
 }
 
 fn rows_on(bits: &mut [u8; 8194], out: &mut [u8; 8194], decisions: &mut [u64; 4226]) {
-    row(3, 0, 8194, 4, 4224, bits, out, decisions);
-    row(8194, 0, 8194, 4, 4224, bits, out, decisions);
-    row(8192, 0, 8192, 4, 4224, bits, out, decisions);
-    row(14, 2, 14, 4, 4224, bits, out, decisions);
-    row(14, 2, 13, 3, 4223, bits, out, decisions);
-    row(14, 0, 13, 4, 4224, bits, out, decisions);
-    row(14, 0, 14, 3, 4224, bits, out, decisions);
-    row(14, 0, 14, 4, 4223, bits, out, decisions);
-    row(2, 1, 1, 4, 4224, bits, out, decisions);
-    row(0, 0, 0, 4, 4224, bits, out, decisions);
+    let ns = [3usize, 8194, 8192, 14, 14, 14, 14, 14, 2, 0];
+    let firsts = [0u8, 0, 0, 2, 2, 0, 0, 0, 1, 0];
+    let places = [8194usize, 8194, 8192, 14, 13, 13, 14, 14, 1, 0];
+    let positions = [4usize, 4, 4, 4, 3, 4, 3, 4, 4, 4];
+    let words = [
+        4224usize,
+        4224,
+        4224,
+        4224,
+        4223,
+        4224,
+        4224,
+        4223,
+        4224,
+        4224,
+    ];
+    for k in 0..10usize {
+        row_of(
+            ns[k],
+            firsts[k],
+            places[k],
+            positions[k],
+            words[k],
+            bits,
+            out,
+            decisions,
+        );
+    }
 }
 
 fn rows(decisions: &mut [u64; 4226]) {
@@ -444,17 +439,6 @@ fn flip(bits: &mut [u8; 8192], k: usize) {
     }
 }
 
-// In how many places two stretches differ.
-fn unlike(a: &[u8; 8192], b: &[u8; 8192]) -> usize {
-    let mut n: usize = 0;
-    for k in 0..8192 {
-        if a[k] != b[k] {
-            n = n % 10000 + 1;
-        }
-    }
-    n
-}
-
 // Makes the first `wrong` of the places 8191, 4096, 1, 0 and 8190 wrong.
 fn spoil(bits: &mut [u8; 8192], wrong: usize) {
     let places = [8191usize, 4096, 1, 0, 8190];
@@ -479,9 +463,11 @@ fn long(
     spoil(bits, wrong);
     let mut list = [77u32; 6];
     let m = mend_stretch(bits, 5, end, decisions, out, &mut list);
-    say(b"steps 4096, wrong bits ", wrong);
-    put_answer(m);
-    say(b", output unlike what was sent in ", unlike(out, sent));
+    let found = [wrong, number(m), m.count, 8192 - alike(out, 0, sent, 8192)];
+    show(
+        b"steps 4096, wrong bits #: answer #, changed #, output unlike what was sent in #",
+        &found,
+    );
     put_lent(&list, decisions);
 }
 
@@ -489,23 +475,16 @@ fn longs(decisions: &mut [u64; 4226]) {
     let mut sent = [0u8; 8192];
     let mut bits = [0u8; 8192];
     let mut out = [9u8; 8192];
-    long(5, &mut sent, &mut bits, &mut out, decisions);
-    long(4, &mut sent, &mut bits, &mut out, decisions);
-    long(1, &mut sent, &mut bits, &mut out, decisions);
-    long(0, &mut sent, &mut bits, &mut out, decisions);
-}
-
-// Up to 7 steps.
-fn surveys(decisions: &mut [u64; 4226]) {
-    for n in 0..8usize {
-        survey(n, 0, decisions);
+    let wrong = [5usize, 4, 1, 0];
+    for k in 0..4usize {
+        long(wrong[k], &mut sent, &mut bits, &mut out, decisions);
     }
 }
 
-// Up to 5 steps from another start.
-fn other_start(decisions: &mut [u64; 4226]) {
-    for n in 0..6usize {
-        survey(n, 45, decisions);
+// Every stretch of fewer than `count` steps.
+fn surveys(count: usize, start: u8, decisions: &mut [u64; 4226]) {
+    for n in 0..count {
+        survey(n, start, decisions);
     }
 }
 
@@ -514,6 +493,6 @@ fn main() {
     cases(&mut decisions);
     rows(&mut decisions);
     longs(&mut decisions);
-    surveys(&mut decisions);
-    other_start(&mut decisions);
+    surveys(8, 0, &mut decisions);
+    surveys(6, 45, &mut decisions);
 }

@@ -45,9 +45,6 @@ rest-kept-requires c κs = search needs
 returns-3 : tie.Need-returns-3 Inv-loop μ-loop
 returns-3 c = search needs
 
-returns-4 : tie.Need-returns-4 Inv-loop μ-loop
-returns-4 c = search needs
-
 pub list-is-spec : {M : Type 1} → statement M
 list-is-spec =
     tie.close
@@ -64,5 +61,4 @@ list-is-spec =
     loop-less
     loop-again
     rest-kept-requires
-    returns-3
-    returns-4)
+    returns-3)

@@ -1,14 +1,14 @@
--- `send` is safe and ends. Assumes nothing.
-use Prim.Native.Nat.{_-_, _≤_}
+-- `send` meets its contract. Assumes nothing.
 use borrow.Author.Needs.{needs}
+use Prim.Native.Nat.{_-_, _≤_}
 use Rattle.vectors_mend.proofs.send.Statement.{statement}
 use Rattle.vectors_mend.proofs.send.Tie as tie
 
 abbrev Inv-loop : tie.InvT-loop
-Inv-loop start inputs n enc₀ rest₀ bits₀ weight₀ i₀ enc rest bits weight i = (i ≤ 7)
+Inv-loop start inputs n enc₀ rest₀ bits₀ weight₀ i₀ enc rest bits weight i = i ≤ n
 
 abbrev μ-loop : tie.MeasureT-loop
-μ-loop start inputs n enc₀ rest₀ bits₀ weight₀ i₀ enc rest bits weight i = 7 - i
+μ-loop start inputs n enc₀ rest₀ bits₀ weight₀ i₀ enc rest bits weight i = n - i
 
 loop-holds : tie.Need-loop-holds Inv-loop μ-loop
 loop-holds c = search needs
@@ -19,8 +19,14 @@ cast-push c = search needs
 push-requires : tie.Need-push-requires Inv-loop μ-loop
 push-requires c κs = search needs
 
-mul-bits : tie.Need-mul-bits Inv-loop μ-loop
-mul-bits c = search needs
+weighed-requires : tie.Need-weighed-requires Inv-loop μ-loop
+weighed-requires c κs = search needs
+
+mul-weighed : tie.Need-mul-weighed Inv-loop μ-loop
+mul-weighed c = search needs
+
+weighed-requires-2 : tie.Need-weighed-requires-2 Inv-loop μ-loop
+weighed-requires-2 c κs = search needs
 
 mul-weight : tie.Need-mul-weight Inv-loop μ-loop
 mul-weight c = search needs
@@ -49,7 +55,9 @@ send-spec =
     loop-holds
     cast-push
     push-requires
-    mul-bits
+    weighed-requires
+    mul-weighed
+    weighed-requires-2
     mul-weight
     add-i
     loop-less

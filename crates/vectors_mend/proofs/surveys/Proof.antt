@@ -1,14 +1,14 @@
--- `surveys` is safe and ends. Assumes nothing.
-use Prim.Native.Nat.{_-_, _≤_}
+-- `surveys` meets its contract. Assumes nothing.
 use borrow.Author.Needs.{needs}
+use Prim.Native.Nat.{_-_, _≤_}
 use Rattle.vectors_mend.proofs.surveys.Statement.{statement}
 use Rattle.vectors_mend.proofs.surveys.Tie as tie
 
 abbrev Inv-loop : tie.InvT-loop
-Inv-loop decisions₀ n₀ decisions n = n ≤ 8
+Inv-loop count start decisions₀ n₀ decisions n = n ≤ count
 
 abbrev μ-loop : tie.MeasureT-loop
-μ-loop decisions₀ n₀ decisions n = 8 - n
+μ-loop count start decisions₀ n₀ decisions n = count - n
 
 loop-holds : tie.Need-loop-holds Inv-loop μ-loop
 loop-holds c = search needs
