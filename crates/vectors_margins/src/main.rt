@@ -3,17 +3,23 @@
 // is 65,536 or -65,536. Free are the imaginary parts of BPSK and both parts of the points outside every run. The slices are ten points longer than a frame, and these hold
 // 100,000, more than a part of a frame may be. A line for each frame shows its table as WORDxSLOTS, how many bytes of the load come back, and how many parts are free: one for each
 // symbol of BPSK, and two for each of the 38,976 that is in no run, a slot of a run being 812 symbols.
-ghost use Prim.Native.Nat.{_≤_, _<_};
+ghost use Prim.Native.Nat.{_≤_};
 use isdbs_core::combination::Combination;
 use isdbs_core::slots::Run;
 use isdbs_core::slots::runs;
-use isdbs_core::tmcc::Entry;
-use isdbs_core::tmcc::Table;
 use isdbs_phy::demod::FrameDecoded;
-use isdbs_phy::demod::Mapping;
 use isdbs_phy::demod::encode_frame;
-use libc::STDOUT_FILENO;
-use refusal::Answer;
+use vectors_frames::load_bytes;
+use vectors_frames::mapping_of;
+use vectors_frames::show_table;
+use vectors_frames::table_of;
+use vectors_lib::alike;
+use vectors_lib::draw;
+use vectors_lib::least;
+use vectors_lib::one;
+use vectors_lib::row;
+use vectors_lib::show;
+use vectors_lib::step;
 
 // The tables. Entry i has its word at bit 16 i and its slots at bit 16 i + 8. Frame k has the mapping k % 8.
 const TABLES: [u64; 25] = [
@@ -54,67 +60,9 @@ const TABLES: [u64; 25] = [
     0x000f_000f_000f_000f,
 ];
 
-// The lists' generator.
-fn step(x: u64) -> u64 {
-    let a = x ^ (x << 13);
-    let b = a ^ (a >> 7);
-    b ^ (b << 17)
-}
-
-// Entry i of a table.
-fn entry(table: u64, i: u32) -> Entry
-    requires { ⌜ i < 4 ⌝ }
-{
-    let at = table >> (16 * i);
-    Entry {
-        word: (at % 256) as u8,
-        slots: (at / 256 % 256) as u8,
-    }
-}
-
-fn table_of(table: u64) -> Table {
-    let a = entry(table, 0);
-    let b = entry(table, 1);
-    let c = entry(table, 2);
-    let d = entry(table, 3);
-    Table {
-        entries: [a, b, c, d],
-    }
-}
-
-fn mapping_of(bits: u64) -> Mapping {
-    Mapping {
-        conjugate: bits % 2 == 1,
-        qpsk_p1_on_q: bits / 2 % 2 == 1,
-        tc8psk_c1_is_y: bits / 4 % 2 == 1,
-    }
-}
-
 // The kind of frame k: both kinds with each mapping.
 fn is_first(k: u64) -> bool {
     k % 2 == k / 8 % 2
-}
-
-// The bytes of a table's load: 203 for each valid slot.
-fn load_bytes(table: u64) -> usize
-    ensures { λ r. ⌜ r ≤ 9744 ⌝ }
-{
-    let r = runs(table_of(table));
-    let valid = r.valid_slots;
-    valid % 49 * 203
-}
-
-// The first `count` bytes of the load of a seed.
-fn fill(bytes: &mut [u8; 9744], count: usize, seed: u64)
-    requires { ⌜ count ≤ 9744 ⌝ }
-{
-    let mut x = seed;
-    let mut i: usize = 0;
-    while i < count {
-        x = step(x);
-        bytes[i] = (x / 0x100_0000_0000_0000 % 256) as u8;
-        i += 1;
-    }
 }
 
 // An end of the margin of a clean 0, 1/sqrt 2 or 1.
@@ -179,18 +127,12 @@ fn part(clean: f64, free: bool, draw: u64) -> f64 {
 
 // Whether a point is outside every run: none within is (0, 0).
 fn is_outside(re: f64, im: f64) -> bool {
-    re == 0.0 && im == 0.0
+    (re == 0.0) & (im == 0.0)
 }
 
 // Whether the imaginary part of symbol k is free.
 fn is_free(outside: bool, k: usize, bpsk: Symbols) -> bool {
-    outside || (bpsk.from <= k && k < bpsk.to)
-}
-
-fn one(holds: bool) -> usize
-    ensures { λ r. ⌜ r ≤ 1 ⌝ }
-{
-    if holds { 1 } else { 0 }
+    outside | ((bpsk.from <= k) & (k < bpsk.to))
 }
 
 // Moves every part of the clean points to an end of its margin. How many parts are free.
@@ -211,26 +153,30 @@ fn receive(re: &mut [f64; 38986], im: &mut [f64; 38986], bpsk: Symbols, seed: u6
     n
 }
 
-// The clean frame of the first `count` bytes.
-fn clean(k: u64, table: u64, bytes: &[u8], count: usize, re: &mut [f64], im: &mut [f64]) -> Answer {
+// The clean frame of the first `count` bytes: the number of its answer.
+fn clean(
+    k: u64,
+    table: u64,
+    bytes: &[u8],
+    count: usize,
+    re: &mut [f64; 38986],
+    im: &mut [f64; 38986],
+) -> usize {
+    let n = least(count, bytes.len());
     let t = table_of(table);
     let m = mapping_of(k);
-    let first = is_first(k);
-    if count <= bytes.len() {
-        return encode_frame(&bytes[0..count], t, first, m, re, im);
-    }
-    encode_frame(bytes, t, first, m, re, im)
+    row(encode_frame(&bytes[0..n], t, is_first(k), m, re, im))
 }
 
 // What is read.
 fn read(
     k: u64,
     table: u64,
-    re: &[f64],
-    im: &[f64],
-    decisions: &mut [u64],
-    bits: &mut [u8],
-    bytes: &mut [u8],
+    re: &[f64; 38986],
+    im: &[f64; 38986],
+    decisions: &mut [u64; 4224],
+    bits: &mut [u8; 68224],
+    bytes: &mut [u8; 9744],
 ) -> FrameDecoded {
     let t = table_of(table);
     let m = mapping_of(k);
@@ -242,37 +188,12 @@ fn read(
 // Whether the answer is that of a load of so many bytes, without strain.
 fn told(r: FrameDecoded, count: usize) -> bool {
     match r {
-        FrameDecoded::Decoded(n, _, strained) => n == count && strained == 0,
+        FrameDecoded::Decoded(n, _, strained) => (n == count) & (strained == 0),
         FrameDecoded::Refused(_) => false,
     }
 }
 
-fn same(a: u8, b: u8) -> usize
-    ensures { λ r. ⌜ r ≤ 1 ⌝ }
-{
-    if a == b { 1 } else { 0 }
-}
-
-// How many of the first `count` bytes are the same.
-fn alike(load: &[u8; 9744], bytes: &[u8; 9744], count: usize) -> usize
-    requires { ⌜ count ≤ 9744 ⌝ }
-{
-    let mut n: usize = 0;
-    let mut i: usize = 0;
-    while i < count {
-        n += same(load[i], bytes[i]);
-        i += 1;
-    }
-    n
-}
-
-// The load is encoded; how many received parts are free.
-struct Sent {
-    encoded: bool,
-    free: usize,
-}
-
-// Makes the load and the received points of frame k.
+// Makes the load and the received points of frame k. How many received parts are free; 99,999 where the load is not encoded.
 fn make(
     k: u64,
     table: u64,
@@ -280,24 +201,12 @@ fn make(
     re: &mut [f64; 38986],
     im: &mut [f64; 38986],
     load: &mut [u8; 9744],
-) -> Sent
-    requires { ⌜ count ≤ 9744 ⌝ }
-{
+) -> usize {
     let seed = step(k ^ 0x9e37_79b9_7f4a_7c15);
-    fill(load, count, seed);
+    draw(load, count, seed);
     let answer = clean(k, table, load, count, re, im);
     let free = receive(re, im, bpsk_symbols(table), seed ^ 0x5555_5555_5555_5555);
-    Sent {
-        encoded: refusal::number(answer) == 0,
-        free,
-    }
-}
-
-// Whether the answer is that of a full load, how many of its bytes come back, and how many parts of the frame are free.
-struct Back {
-    full: bool,
-    agree: usize,
-    free: usize,
+    if answer == 0 { free } else { 99999 }
 }
 
 // Lends words that are not 0, another one at each place.
@@ -309,125 +218,77 @@ fn soil(decisions: &mut [u64; 4224], seed: u64) {
     }
 }
 
-// What comes back of the load of frame k.
+// How many of the first `count` bytes are the same.
+fn same_bytes(load: &[u8; 9744], bytes: &[u8; 9744], count: usize) -> usize {
+    alike(load, 0, bytes, count)
+}
+
+// How many bytes of the load of frame k come back: none where the answer is not that of a full load without strain.
 fn read_back(
     k: u64,
     table: u64,
     count: usize,
-    re: &mut [f64; 38986],
-    im: &mut [f64; 38986],
-    decisions: &mut [u64; 4224],
-    bits: &mut [u8; 68224],
-    load: &mut [u8; 9744],
-    bytes: &mut [u8; 9744],
-) -> Back
-    requires { ⌜ count ≤ 9744 ⌝ }
-{
-    let s = make(k, table, count, re, im, load);
-    soil(decisions, k ^ 0x9e37_79b9_7f4a_7c15);
-    let r = read(k, table, re, im, decisions, bits, bytes);
-    Back {
-        full: s.encoded && told(r, count),
-        agree: alike(load, bytes, count),
-        free: s.free,
+    re: &[f64; 38986],
+    im: &[f64; 38986],
+    load: &[u8; 9744],
+) -> usize {
+    let mut decisions = [0u64; 4224];
+    let mut bits = [0u8; 68224];
+    let mut bytes = [0u8; 9744];
+    soil(&mut decisions, k ^ 0x9e37_79b9_7f4a_7c15);
+    let r = read(k, table, re, im, &mut decisions, &mut bits, &mut bytes);
+    if told(r, count) {
+        return same_bytes(load, &bytes, count);
     }
+    99999
 }
 
-// Shows an entry that has slots.
-fn show_entry(e: Entry) {
-    if e.slots > 0 {
-        io::write_all(STDOUT_FILENO, b" ");
-        io::print_decimal(STDOUT_FILENO, e.word as u64);
-        io::write_all(STDOUT_FILENO, b"x");
-        io::print_decimal(STDOUT_FILENO, e.slots as u64);
-    }
-}
-
-fn show_frame(k: u64, table: u64) {
-    io::write_all(STDOUT_FILENO, b"table");
-    show_entry(entry(table, 0));
-    show_entry(entry(table, 1));
-    show_entry(entry(table, 2));
-    show_entry(entry(table, 3));
-    io::write_all(STDOUT_FILENO, b" mapping ");
-    io::print_decimal(STDOUT_FILENO, k % 8);
+fn show_frame(k: u64, table: u64, agree: usize, count: usize, free: usize) {
+    show_table(table);
+    let found = [(k % 8) as usize, agree, count, free];
     if is_first(k) {
-        io::write_all(STDOUT_FILENO, b" kind first: ");
+        show(
+            b" mapping # kind first: # of # bytes agree, # parts free\n",
+            &found,
+        );
     } else {
-        io::write_all(STDOUT_FILENO, b" kind other: ");
+        show(
+            b" mapping # kind other: # of # bytes agree, # parts free\n",
+            &found,
+        );
     }
-}
-
-fn show_bytes(b: Back, count: usize) {
-    io::print_decimal(STDOUT_FILENO, b.agree as u64);
-    io::write_all(STDOUT_FILENO, b" of ");
-    io::print_decimal(STDOUT_FILENO, count as u64);
-    io::write_all(STDOUT_FILENO, b" bytes agree, ");
-    io::print_decimal(STDOUT_FILENO, b.free as u64);
-    io::write_all(STDOUT_FILENO, b" parts free\n");
 }
 
 // Whether the whole load of frame k comes back.
-fn passes(
-    k: u64,
-    table: u64,
-    re: &mut [f64; 38986],
-    im: &mut [f64; 38986],
-    decisions: &mut [u64; 4224],
-    bits: &mut [u8; 68224],
-    load: &mut [u8; 9744],
-    bytes: &mut [u8; 9744],
-) -> bool {
+fn passes(k: u64, table: u64) -> bool {
+    let mut re = [100000.0f64; 38986];
+    let mut im = [100000.0f64; 38986];
+    let mut load = [0u8; 9744];
     let count = load_bytes(table);
-    let b = read_back(k, table, count, re, im, decisions, bits, load, bytes);
-    show_frame(k, table);
-    show_bytes(b, count);
-    b.full && b.agree == count
+    let free = make(k, table, count, &mut re, &mut im, &mut load);
+    let agree = read_back(k, table, count, &re, &im, &load);
+    show_frame(k, table, agree, count, free);
+    (agree == count) & (free != 99999)
 }
 
 // How many frames pass.
-fn passing(
-    re: &mut [f64; 38986],
-    im: &mut [f64; 38986],
-    decisions: &mut [u64; 4224],
-    bits: &mut [u8; 68224],
-    load: &mut [u8; 9744],
-    bytes: &mut [u8; 9744],
-) -> u32
+fn passing() -> usize
     ensures { λ r. ⌜ r ≤ 25 ⌝ }
 {
     let tables = TABLES;
-    let mut agree: u32 = 0;
+    let mut n: usize = 0;
     for k in 0..25usize {
-        if passes(k as u64, tables[k], re, im, decisions, bits, load, bytes) {
-            agree = agree + 1;
-        }
+        n += one(passes(k as u64, tables[k]));
     }
-    agree
+    n
 }
 
 fn main() {
-    let mut re = [100000.0f64; 38986];
-    let mut im = [100000.0f64; 38986];
-    let mut decisions = [0u64; 4224];
-    let mut bits = [0u8; 68224];
-    let mut load = [0u8; 9744];
-    let mut bytes = [0u8; 9744];
-    let agree = passing(
-        &mut re,
-        &mut im,
-        &mut decisions,
-        &mut bits,
-        &mut load,
-        &mut bytes,
-    );
-    if agree == 25 {
-        io::write_all(
-            STDOUT_FILENO,
-            b"25 frames, all bytes agree, no step is strained\n",
-        );
+    let n = passing();
+    let found = [25 - n];
+    if n == 25 {
+        show(b"25 frames, all bytes agree, no step is strained\n", &found);
     } else {
-        io::print_decimal(STDOUT_FILENO, (25 - agree) as u64);
-        io::write_all(STDOUT_FILENO, b" of 25 frames differ\n");
+        show(b"# of 25 frames differ\n", &found);
     }
 }

@@ -1,16 +1,14 @@
 -- `passing` meets its contract. Assumes nothing.
-use Prim.Native.Nat.{_-_, _≤_}
-use mathlib.Core.Logic.{⊎-elim}
-use native.Mathlib.Omega.{arith}
 use borrow.Author.Needs.{needs}
+use Prim.Native.Nat.{_-_, _≤_}
 use Rattle.vectors_margins.proofs.passing.Statement.{statement}
 use Rattle.vectors_margins.proofs.passing.Tie as tie
 
 abbrev Inv-loop : tie.InvT-loop
-Inv-loop re₀ im₀ decisions₀ bits₀ load₀ bytes₀ tables agree₀ k₀ re im decisions bits load bytes agree k = (agree ≤ k) × (k ≤ 25)
+Inv-loop tables n₀ k₀ n k = (n ≤ k) × (k ≤ 25)
 
 abbrev μ-loop : tie.MeasureT-loop
-μ-loop re₀ im₀ decisions₀ bits₀ load₀ bytes₀ tables agree₀ k₀ re im decisions bits load bytes agree k = 25 - k
+μ-loop tables n₀ k₀ n k = 25 - k
 
 loop-holds : tie.Need-loop-holds Inv-loop μ-loop
 loop-holds c = search needs
@@ -24,8 +22,11 @@ array-read-passes c = search needs
 passes-requires : tie.Need-passes-requires Inv-loop μ-loop
 passes-requires c κs = search needs
 
-add-agree : tie.Need-add-agree Inv-loop μ-loop
-add-agree c = search needs
+one-requires : tie.Need-one-requires Inv-loop μ-loop
+one-requires c κs = search needs
+
+add-n : tie.Need-add-n Inv-loop μ-loop
+add-n c = search needs
 
 add-k : tie.Need-add-k Inv-loop μ-loop
 add-k c = search needs
@@ -34,7 +35,7 @@ loop-less : tie.Need-loop-less Inv-loop μ-loop
 loop-less c = search needs
 
 loop-again : tie.Need-loop-again Inv-loop μ-loop
-loop-again c = ⊎-elim (λ w. rw (w .1) (omega arith, omega arith)) (λ w. rw (w .1) (omega arith, omega arith)) (c .if1 .came)
+loop-again c = search needs
 
 returns : tie.Need-returns Inv-loop μ-loop
 returns c = search needs
@@ -49,7 +50,8 @@ passing-spec =
     mul-passes
     array-read-passes
     passes-requires
-    add-agree
+    one-requires
+    add-n
     add-k
     loop-less
     loop-again
