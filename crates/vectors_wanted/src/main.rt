@@ -3,12 +3,19 @@
 // its last bit, the sign of an imaginary part of the last point is turned, and it is no number. A changed frame must be answered by 13 with no byte changed, or by a load that encodes to it.
 // The slices are ten points longer than a frame, and these hold no numbers.
 ghost use Prim.Native.Nat.{_≤_, _<_};
-use isdbs_core::slots::runs;
-use isdbs_core::tmcc::Entry;
-use isdbs_core::tmcc::Table;
-use isdbs_phy::demod::Mapping;
 use isdbs_phy::demod::encode_frame;
-use libc::STDOUT_FILENO;
+use vectors_frames::load_bytes;
+use vectors_frames::mapping_of;
+use vectors_frames::show_table;
+use vectors_frames::table_of;
+use vectors_lib::alike;
+use vectors_lib::bytes_of;
+use vectors_lib::draw;
+use vectors_lib::least;
+use vectors_lib::one;
+use vectors_lib::row;
+use vectors_lib::show;
+use vectors_lib::step;
 use wanted_load::LoadFound;
 use wanted_load::wanted_load;
 
@@ -51,40 +58,8 @@ const TABLES: [u64; 25] = [
     0x300f,
 ];
 
-// The lists' generator.
-fn step(x: u64) -> u64 {
-    let a = x ^ (x << 13);
-    let b = a ^ (a >> 7);
-    b ^ (b << 17)
-}
-
-// Entry i of a table.
-fn entry(table: u64, i: u32) -> Entry
-    requires { ⌜ i < 4 ⌝ }
-{
-    let at = table >> (16 * i);
-    Entry {
-        word: (at % 256) as u8,
-        slots: (at / 256 % 256) as u8,
-    }
-}
-
-fn table_of(table: u64) -> Table {
-    let a = entry(table, 0);
-    let b = entry(table, 1);
-    let c = entry(table, 2);
-    let d = entry(table, 3);
-    Table {
-        entries: [a, b, c, d],
-    }
-}
-
-fn mapping_of(bits: u64) -> Mapping {
-    Mapping {
-        conjugate: bits % 2 == 1,
-        qpsk_p1_on_q: bits / 2 % 2 == 1,
-        tc8psk_c1_is_y: bits / 4 % 2 == 1,
-    }
+fn nan() -> f64 {
+    0.0 / 0.0
 }
 
 // Which of the 16 ways: the mapping, then the kind.
@@ -92,106 +67,55 @@ fn is_first(way: u64) -> bool {
     way / 8 % 2 == 1
 }
 
-// The bytes of a table's load: 203 for each valid slot.
-fn load_bytes(table: u64) -> usize
-    ensures { λ r. ⌜ r ≤ 9744 ⌝ }
-{
-    let r = runs(table_of(table));
-    let valid = r.valid_slots;
-    valid % 49 * 203
-}
-
-// The first `count` bytes of the load of a seed.
-fn fill(bytes: &mut [u8; 9744], count: usize, seed: u64)
-    requires { ⌜ count ≤ 9744 ⌝ }
-{
-    let mut x = seed;
-    let mut i: usize = 0;
-    while i < count {
-        x = step(x);
-        bytes[i] = (x / 0x100_0000_0000_0000 % 256) as u8;
-        i += 1;
-    }
-}
-
-// Lends bytes that are all 165.
-fn soil(bytes: &mut [u8; 9750]) {
-    for i in 0..9750usize {
-        bytes[i] = 165;
-    }
-}
-
 // The first n bytes, or none where there are fewer.
 fn front<'a>(s: &'a [u8], n: usize) -> &'a [u8] {
     if n <= s.len() { &s[0..n] } else { &s[0..0] }
 }
 
-// The first n parts, or none where there are fewer.
-fn front_parts<'a>(s: &'a [f64], n: usize) -> &'a [f64] {
-    if n <= s.len() { &s[0..n] } else { &s[0..0] }
-}
-
 // The frame of the first `count` bytes.
-fn encode(way: u64, table: u64, bytes: &[u8], count: usize, re: &mut [f64], im: &mut [f64]) -> u32 {
+fn encode(
+    way: u64,
+    table: u64,
+    bytes: &[u8],
+    count: usize,
+    re: &mut [f64; 38986],
+    im: &mut [f64; 38986],
+) -> usize {
     let t = table_of(table);
     let m = mapping_of(way);
-    let first = is_first(way);
-    let answer = encode_frame(front(bytes, count), t, first, m, re, im);
-    refusal::number(answer)
+    row(encode_frame(front(bytes, count), t, is_first(way), m, re, im))
 }
 
 // What `wanted_load` says: its number, and the bytes of the load.
 struct Told {
-    number: u32,
+    number: usize,
     bytes: usize,
 }
 
-fn ask(way: u64, table: u64, re: &[f64], im: &[f64], bytes: &mut [u8]) -> Told {
-    let t = table_of(table);
-    let m = mapping_of(way);
-    let first = is_first(way);
-    let r = wanted_load(re, im, t, m, first, bytes);
+fn tell(r: LoadFound) -> Told {
     match r {
         LoadFound::Load(n) => Told {
             number: 0,
             bytes: n,
         },
         LoadFound::Refused(a) => Told {
-            number: refusal::number(a),
+            number: row(a),
             bytes: 0,
         },
     }
 }
 
-// Whether the first `count` bytes are the load's.
-fn begins(load: &[u8; 9744], bytes: &[u8; 9750], count: usize) -> bool
-    requires { ⌜ count ≤ 9744 ⌝ }
-{
-    for i in 0..count {
-        if load[i] != bytes[i] {
-            return false;
-        }
-    }
-    true
-}
-
-// Whether the bytes from `count` on are 165.
-fn rest_kept(bytes: &[u8; 9750], count: usize) -> bool
-    requires { ⌜ count ≤ 9744 ⌝ }
-{
-    for i in count..9750 {
-        if bytes[i] != 165 {
-            return false;
-        }
-    }
-    true
+fn ask(way: u64, table: u64, re: &[f64], im: &[f64], bytes: &mut [u8]) -> Told {
+    let t = table_of(table);
+    let m = mapping_of(way);
+    tell(wanted_load(re, im, t, m, is_first(way), bytes))
 }
 
 // Whether the first `count` bytes are the load and the others 165.
 fn is_laid(load: &[u8; 9744], bytes: &[u8; 9750], count: usize) -> bool
     requires { ⌜ count ≤ 9744 ⌝ }
 {
-    begins(load, bytes, count) && rest_kept(bytes, count)
+    (alike(load, 0, bytes, count) == count) & (bytes_of(bytes, count, 9750, 165) == 9750 - count)
 }
 
 // A symbol of the frame.
@@ -216,7 +140,7 @@ fn changed(x: f64, how: u64) -> f64 {
         0 => -x,
         1 => nudged(x),
         2 => -x,
-        _ => 0.0 / 0.0,
+        _ => nan(),
     }
 }
 
@@ -237,7 +161,7 @@ fn same(x: f64, y: f64) -> bool {
 }
 
 // Whether two frames are the same.
-fn alike(a: &[f64; 38986], b: &[f64; 38986]) -> bool {
+fn same_points(a: &[f64; 38986], b: &[f64; 38986]) -> bool {
     for k in 0..38976usize {
         if same(a[k], b[k]) {} else {
             return false;
@@ -254,22 +178,19 @@ struct Found {
     wrong: u32,
 }
 
-// Whether the bytes encode to the frame, made in xs and ys.
+// Whether the load encodes to the frame.
 fn fits(
     way: u64,
     table: u64,
-    bytes: &[u8; 9750],
+    load: &[u8; 9750],
     count: usize,
     re: &[f64; 38986],
     im: &[f64; 38986],
-    xs: &mut [f64; 38986],
-    ys: &mut [f64; 38986],
 ) -> bool {
-    let number = encode(way, table, bytes, count, xs, ys);
-    if number != 0 {
-        return false;
-    }
-    if alike(re, xs) { alike(im, ys) } else { false }
+    let mut xs = [0.0f64; 38986];
+    let mut ys = [0.0f64; 38986];
+    let number = encode(way, table, load, count, &mut xs, &mut ys);
+    (number == 0) & same_points(re, &xs) & same_points(im, &ys)
 }
 
 // How a changed frame is answered: 13 and no byte changed; a load that encodes to it; or neither.
@@ -279,39 +200,29 @@ enum Verdict {
     Wrong,
 }
 
+fn right_or_wrong(holds: bool, v: Verdict) -> Verdict {
+    if holds { v } else { Verdict::Wrong }
+}
+
 fn judge(
     way: u64,
     table: u64,
     count: usize,
     re: &[f64; 38986],
     im: &[f64; 38986],
-    xs: &mut [f64; 38986],
-    ys: &mut [f64; 38986],
     load: &[u8; 9744],
-    bytes: &mut [u8; 9750],
 ) -> Verdict
     requires { ⌜ count ≤ 9744 ⌝ }
 {
-    soil(bytes);
-    let told = ask(way, table, re, im, bytes);
+    let mut bytes = [165u8; 9750];
+    let told = ask(way, table, re, im, &mut bytes);
     if told.number == 13 {
-        return if is_laid(load, bytes, 0) {
-            Verdict::None
-        } else {
-            Verdict::Wrong
-        };
+        return right_or_wrong(is_laid(load, &bytes, 0), Verdict::None);
     }
-    if told.number != 0 {
-        return Verdict::Wrong;
+    if (told.number == 0) & (told.bytes == count) {
+        return right_or_wrong(fits(way, table, &bytes, count, re, im), Verdict::Other);
     }
-    if told.bytes != count {
-        return Verdict::Wrong;
-    }
-    if fits(way, table, bytes, count, re, im, xs, ys) {
-        Verdict::Other
-    } else {
-        Verdict::Wrong
-    }
+    Verdict::Wrong
 }
 
 fn one_more(n: u32) -> u32 {
@@ -358,20 +269,16 @@ fn one_change(
     how: u64,
     re: &mut [f64; 38986],
     im: &mut [f64; 38986],
-    xs: &mut [f64; 38986],
-    ys: &mut [f64; 38986],
     load: &[u8; 9744],
-    bytes: &mut [u8; 9750],
 ) -> Verdict
     requires { ⌜ count ≤ 9744 ⌝ }
 {
-    let made = encode(way, table, load, count, re, im);
-    if made != 0 {
+    if encode(way, table, load, count, re, im) != 0 {
         return Verdict::Wrong;
     }
-    let draw = step(step(table ^ (way << 40) ^ (how << 50) ^ 0x9e37_79b9));
-    change_drawn(re, im, draw, how);
-    judge(way, table, count, re, im, xs, ys, load, bytes)
+    let drawn = step(step(table ^ (way << 40) ^ (how << 50) ^ 0x9e37_79b9));
+    change_drawn(re, im, drawn, how);
+    judge(way, table, count, re, im, load)
 }
 
 // Whether the load comes back.
@@ -382,93 +289,58 @@ fn comes_back(
     re: &mut [f64; 38986],
     im: &mut [f64; 38986],
     load: &[u8; 9744],
-    bytes: &mut [u8; 9750],
 ) -> bool
     requires { ⌜ count ≤ 9744 ⌝ }
 {
     let made = encode(way, table, load, count, re, im);
-    soil(bytes);
-    let told = ask(way, table, re, im, bytes);
-    made == 0 && told.number == 0 && told.bytes == count && is_laid(load, bytes, count)
+    let mut bytes = [165u8; 9750];
+    let told = ask(way, table, re, im, &mut bytes);
+    (made == 0) & (told.number == 0) & (told.bytes == count) & is_laid(load, &bytes, count)
 }
 
-// A table in one of 16 ways: the load there and back, and four changed frames.
-fn one_way(
-    f: Found,
-    way: u64,
-    table: u64,
-    re: &mut [f64; 38986],
-    im: &mut [f64; 38986],
-    xs: &mut [f64; 38986],
-    ys: &mut [f64; 38986],
-    load: &mut [u8; 9744],
-    bytes: &mut [u8; 9750],
-) -> Found {
-    let count = load_bytes(table);
-    fill(load, count, step(table ^ (way << 40) ^ 0x7f4a_7c15));
-    let back = comes_back(way, table, count, re, im, load, bytes);
-    let mut g = if back {
-        Found {
+// What was found, and the load there and back.
+fn and_back(f: Found, back: bool) -> Found {
+    if back {
+        return Found {
             back: one_more(f.back),
             none: f.none,
             other: f.other,
             wrong: f.wrong,
-        }
-    } else {
-        f
-    };
+        };
+    }
+    f
+}
+
+// A table in one of 16 ways: the load there and back, and four changed frames. Past a frame there are no numbers.
+fn one_way(f: Found, way: u64, table: u64) -> Found {
+    let mut re = [nan(); 38986];
+    let mut im = [nan(); 38986];
+    let mut load = [0u8; 9744];
+    let count = load_bytes(table);
+    draw(&mut load, count, step(table ^ (way << 40) ^ 0x7f4a_7c15));
+    let mut g = and_back(f, comes_back(way, table, count, &mut re, &mut im, &load));
     for how in 0..4u64 {
-        let v = one_change(way, table, count, how, re, im, xs, ys, load, bytes);
+        let v = one_change(way, table, count, how, &mut re, &mut im, &load);
         g = counted(g, v);
     }
     g
 }
 
-fn text(b: &[u8]) {
-    io::write_all(STDOUT_FILENO, b);
-}
-
-fn number(n: u32) {
-    io::print_decimal(STDOUT_FILENO, n as u64);
-}
-
-// Shows an entry that has slots.
-fn show_entry(e: Entry) {
-    if e.slots > 0 {
-        text(b" ");
-        io::print_decimal(STDOUT_FILENO, e.word as u64);
-        text(b"x");
-        io::print_decimal(STDOUT_FILENO, e.slots as u64);
-    }
-}
-
-fn show(table: u64, f: Found) {
-    text(b"table");
-    show_entry(entry(table, 0));
-    show_entry(entry(table, 1));
-    show_entry(entry(table, 2));
-    show_entry(entry(table, 3));
-    text(b": ");
-    number(f.back);
-    text(b" of 16 loads come back; of 64 changed frames ");
-    number(f.none);
-    text(b" fit no load, ");
-    number(f.other);
-    text(b" another one, ");
-    number(f.wrong);
-    text(b" wrong\n");
+fn show_found(f: Found) {
+    let found = [
+        f.back as usize,
+        f.none as usize,
+        f.other as usize,
+        f.wrong as usize,
+    ];
+    show(
+        b": # of 16 loads come back; of 64 changed frames # fit no load, # another one, # wrong\n",
+        &found,
+    );
 }
 
 // Whether all is right with a table.
-fn one_table(
-    table: u64,
-    re: &mut [f64; 38986],
-    im: &mut [f64; 38986],
-    xs: &mut [f64; 38986],
-    ys: &mut [f64; 38986],
-    load: &mut [u8; 9744],
-    bytes: &mut [u8; 9750],
-) -> bool {
+fn one_table(table: u64) -> bool {
     let mut f = Found {
         back: 0,
         none: 0,
@@ -476,159 +348,94 @@ fn one_table(
         wrong: 0,
     };
     for way in 0..16u64 {
-        let g = one_way(f, way, table, re, im, xs, ys, load, bytes);
+        let g = one_way(f, way, table);
         f = g;
     }
-    show(table, f);
-    f.back == 16 && f.wrong == 0
+    show_table(table);
+    show_found(f);
+    (f.back == 16) & (f.wrong == 0)
 }
 
 // How many tables pass.
-fn passing(
-    re: &mut [f64; 38986],
-    im: &mut [f64; 38986],
-    xs: &mut [f64; 38986],
-    ys: &mut [f64; 38986],
-    load: &mut [u8; 9744],
-    bytes: &mut [u8; 9750],
-) -> u32
+fn passing() -> usize
     ensures { λ r. ⌜ r ≤ 25 ⌝ }
 {
     let tables = TABLES;
-    let mut n: u32 = 0;
+    let mut n: usize = 0;
     for i in 0..25usize {
-        if one_table(tables[i], re, im, xs, ys, load, bytes) {
-            n = n + 1;
-        }
+        n += one(one_table(tables[i]));
     }
     n
 }
 
-// No numbers past a frame.
-fn soil_past(re: &mut [f64; 38986], im: &mut [f64; 38986]) {
-    for k in 38976..38986usize {
-        re[k] = 0.0 / 0.0;
-        im[k] = 0.0 / 0.0;
-    }
-}
-
-// A row's case, the number that it must give, and the one that it gives.
-fn show_row(name: &[u8], expected: u32, found: u32) -> bool {
-    text(name);
-    text(b": ");
-    number(found);
-    text(b"\n");
-    found == expected
-}
-
 // The answer to the first `points` points and `room` bytes.
-fn answer(
-    way: u64,
-    table: u64,
-    re: &[f64],
-    im: &[f64],
-    points: usize,
-    bytes: &mut [u8],
-    room: usize,
-) -> u32 {
-    if room <= bytes.len() {
-        let told = ask(
-            way,
-            table,
-            front_parts(re, points),
-            front_parts(im, points),
-            &mut bytes[0..room],
-        );
-        return told.number;
-    }
-    99
+fn answer(way: u64, table: u64, re: &[f64], im: &[f64], points: usize, room: usize) -> usize {
+    let mut bytes = [165u8; 9750];
+    let n = least(room, 9750);
+    let x = least(points, re.len());
+    let y = least(points, im.len());
+    let told = ask(way, table, &re[0..x], &im[0..y], &mut bytes[0..n]);
+    told.number
 }
 
-// The rows in their order, on a frame that no load has; then frames without a valid slot.
-fn rows(
-    re: &mut [f64; 38986],
-    im: &mut [f64; 38986],
-    load: &[u8; 9744],
-    bytes: &mut [u8; 9750],
-) -> bool {
-    let made = encode(4, 0x3006, load, 8526, re, im);
-    re[0] = 0.0 / 0.0;
-    let a = show_row(
-        b"49 slots, 38,975 points",
-        1,
-        answer(4, 0x3106, re, im, 38975, bytes, 8525),
-    );
-    let b = show_row(
-        b"a part of a unit and a reserved word, 38,975 points",
-        10,
-        answer(4, 0x0108_2f06, re, im, 38975, bytes, 8525),
-    );
-    let c = show_row(
-        b"a reserved word, 38,975 points",
-        11,
-        answer(4, 0x0108_2806, re, im, 38975, bytes, 8525),
-    );
-    let d = show_row(
-        b"38,975 points and 8,525 bytes",
-        6,
-        answer(4, 0x3006, re, im, 38975, bytes, 8525),
-    );
-    let e = show_row(
-        b"a wrong frame and 8,525 bytes",
-        9,
-        answer(4, 0x3006, re, im, 38976, bytes, 8525),
-    );
-    let f = show_row(
-        b"a wrong frame and 8,526 bytes",
-        13,
-        answer(4, 0x3006, re, im, 38976, bytes, 8526),
-    );
-    let empty = encode(0, 0x300f, load, 0, re, im);
-    let g = show_row(
-        b"no valid slot, all points (+0, +0)",
-        0,
-        answer(0, 0x300f, re, im, 38976, bytes, 0),
-    );
-    let h = show_row(
-        b"the same conjugated",
-        13,
-        answer(1, 0x300f, re, im, 38976, bytes, 0),
-    );
-    let mirrored = encode(1, 0x300f, load, 0, re, im);
-    let i = show_row(
-        b"no valid slot, all points (+0, -0), conjugated",
-        0,
-        answer(1, 0x300f, re, im, 38976, bytes, 0),
-    );
-    made == 0 && empty == 0 && mirrored == 0 && a && b && c && d && e && f && g && h && i
+// The rows in their order, on a frame that no load has: 49 slots; a part of a unit and a reserved word; a reserved word; a point too few; a byte too few; neither.
+fn refused_rows(re: &mut [f64; 38986], im: &[f64; 38986]) -> [usize; 6] {
+    re[0] = nan();
+    let tables = [0x3106u64, 0x0108_2f06, 0x0108_2806, 0x3006, 0x3006, 0x3006];
+    let points = [38975usize, 38975, 38975, 38975, 38976, 38976];
+    let rooms = [8525usize, 8525, 8525, 8525, 8525, 8526];
+    let mut found = [99usize; 6];
+    for k in 0..6usize {
+        let n = answer(4, tables[k], re, im, points[k], rooms[k]);
+        found[k] = n;
+    }
+    found
 }
 
-// All cases.
-fn run(
-    re: &mut [f64; 38986],
-    im: &mut [f64; 38986],
-    xs: &mut [f64; 38986],
-    ys: &mut [f64; 38986],
-    load: &mut [u8; 9744],
-    bytes: &mut [u8; 9750],
-) {
-    soil_past(re, im);
-    let n = passing(re, im, xs, ys, load, bytes);
-    let right = rows(re, im, load, bytes);
-    number(n);
-    if n == 25 && right {
-        text(b" tables, all as expected\n");
-    } else {
-        text(b" tables pass, SOME CASE IS WRONG\n");
-    }
+// The answer to a frame without a valid slot.
+fn answer_without_slot(way: u64, re: &[f64; 38986], im: &[f64; 38986]) -> usize {
+    answer(way, 0x300f, re, im, 38976, 0)
+}
+
+// The rows; then frames without a valid slot, the last encoded with conjugation.
+fn rows() -> bool {
+    let mut re = [nan(); 38986];
+    let mut im = [nan(); 38986];
+    let mut load = [0u8; 9744];
+    draw(&mut load, 9744, 1);
+    let made = encode(4, 0x3006, &load, 8526, &mut re, &mut im);
+    let r = refused_rows(&mut re, &im);
+    let empty = encode(0, 0x300f, &load, 0, &mut re, &mut im);
+    let g = answer_without_slot(0, &re, &im);
+    let h = answer_without_slot(1, &re, &im);
+    let mirrored = encode(1, 0x300f, &load, 0, &mut re, &mut im);
+    let i = answer_without_slot(1, &re, &im);
+    show_rows(r, g, h, i) & (made == 0) & (empty == 0) & (mirrored == 0)
+}
+
+// Shows the answers; whether they are as expected.
+fn show_rows(r: [usize; 6], g: usize, h: usize, i: usize) -> bool {
+    let found = [r[0], r[1], r[2], r[3], r[4], r[5], g, h, i];
+    show(
+        b"49 slots, 38,975 points: #\na part of a unit and a reserved word, 38,975 points: #\na reserved word, 38,975 points: #\n38,975 points and 8,525 bytes: #\na wrong frame and 8,525 bytes: #\na wrong frame and 8,526 bytes: #\nno valid slot, all points (+0, +0): #\nthe same conjugated: #\nno valid slot, all points (+0, -0), conjugated: #\n",
+        &found,
+    );
+    let first = (r[0] == 1)
+        & (r[1] == 10)
+        & (r[2] == 11)
+        & (r[3] == 6)
+        & (r[4] == 9)
+        & (r[5] == 13);
+    first & (g == 0) & (h == 13) & (i == 0)
 }
 
 fn main() {
-    let mut re = [0.0f64; 38986];
-    let mut im = [0.0f64; 38986];
-    let mut xs = [0.0f64; 38986];
-    let mut ys = [0.0f64; 38986];
-    let mut load = [0u8; 9744];
-    let mut bytes = [0u8; 9750];
-    run(&mut re, &mut im, &mut xs, &mut ys, &mut load, &mut bytes);
+    let n = passing();
+    let right = rows();
+    let found = [n];
+    if (n == 25) & right {
+        show(b"# tables, all as expected\n", &found);
+    } else {
+        show(b"# tables pass, SOME CASE IS WRONG\n", &found);
+    }
 }

@@ -1,14 +1,14 @@
--- `one_table` is safe and ends. Assumes nothing.
-use Prim.Native.Nat.{_-_, _≤_}
+-- `one_table` meets its contract. Assumes nothing.
 use borrow.Author.Needs.{needs}
+use Prim.Native.Nat.{_-_, _≤_}
 use Rattle.vectors_wanted.proofs.one_table.Statement.{statement}
 use Rattle.vectors_wanted.proofs.one_table.Tie as tie
 
 abbrev Inv-loop : tie.InvT-loop
-Inv-loop table re₀ im₀ xs₀ ys₀ load₀ bytes₀ f₀ way₀ re im xs ys load bytes f way = way ≤ 16
+Inv-loop table f₀ way₀ f way = way ≤ 16
 
 abbrev μ-loop : tie.MeasureT-loop
-μ-loop table re₀ im₀ xs₀ ys₀ load₀ bytes₀ f₀ way₀ re im xs ys load bytes f way = 16 - way
+μ-loop table f₀ way₀ f way = 16 - way
 
 loop-holds : tie.Need-loop-holds Inv-loop μ-loop
 loop-holds c = search needs
@@ -25,14 +25,14 @@ loop-less c = search needs
 loop-again : tie.Need-loop-again Inv-loop μ-loop
 loop-again c = search needs
 
-show-requires : tie.Need-show-requires Inv-loop μ-loop
-show-requires c κs = search needs
+show-table-requires : tie.Need-show-table-requires Inv-loop μ-loop
+show-table-requires c κs = search needs
+
+show-found-requires : tie.Need-show-found-requires Inv-loop μ-loop
+show-found-requires c κs = search needs
 
 returns : tie.Need-returns Inv-loop μ-loop
 returns c = search needs
-
-returns-2 : tie.Need-returns-2 Inv-loop μ-loop
-returns-2 c = search needs
 
 pub one-table-spec : {M : Type 1} → statement M
 one-table-spec =
@@ -45,6 +45,6 @@ one-table-spec =
     add-way
     loop-less
     loop-again
-    show-requires
-    returns
-    returns-2)
+    show-table-requires
+    show-found-requires
+    returns)

@@ -1,29 +1,38 @@
--- `one_way` is safe and ends. Assumes nothing.
-use Prim.Native.Nat.{_-_, _≤_}
+-- `one_way` meets its contract. Assumes nothing.
 use borrow.Author.Needs.{needs}
+use Prim.Native.Nat.{_-_, _≤_}
 use Rattle.vectors_wanted.proofs.one_way.Statement.{statement}
 use Rattle.vectors_wanted.proofs.one_way.Tie as tie
 
 abbrev Inv-loop : tie.InvT-loop
-Inv-loop way table re₀ im₀ xs₀ ys₀ load bytes₀ count back g₀ how₀ re im xs ys bytes g how = how ≤ 4
+Inv-loop way table re₀ im₀ load count g₀ how₀ re im g how = how ≤ 4
 
 abbrev μ-loop : tie.MeasureT-loop
-μ-loop way table re₀ im₀ xs₀ ys₀ load bytes₀ count back g₀ how₀ re im xs ys bytes g how = 4 - how
+μ-loop way table re₀ im₀ load count g₀ how₀ re im g how = 4 - how
+
+nan-requires : tie.Need-nan-requires Inv-loop μ-loop
+nan-requires c κs = search needs
+
+nan-requires-2 : tie.Need-nan-requires-2 Inv-loop μ-loop
+nan-requires-2 c κs = search needs
 
 load-bytes-requires : tie.Need-load-bytes-requires Inv-loop μ-loop
 load-bytes-requires c κs = search needs
 
+slice-aggregate-draw : tie.Need-slice-aggregate-draw Inv-loop μ-loop
+slice-aggregate-draw c = search needs
+
 step-requires : tie.Need-step-requires Inv-loop μ-loop
 step-requires c κs = search needs
 
-fill-requires : tie.Need-fill-requires Inv-loop μ-loop
-fill-requires c κs = search needs
+draw-requires : tie.Need-draw-requires Inv-loop μ-loop
+draw-requires c κs = search needs
 
 comes-back-requires : tie.Need-comes-back-requires Inv-loop μ-loop
 comes-back-requires c κs = search needs
 
-one-more-requires : tie.Need-one-more-requires Inv-loop μ-loop
-one-more-requires c κs = search needs
+and-back-requires : tie.Need-and-back-requires Inv-loop μ-loop
+and-back-requires c κs = search needs
 
 loop-holds : tie.Need-loop-holds Inv-loop μ-loop
 loop-holds c = search needs
@@ -52,11 +61,14 @@ one-way-spec =
     (tie.spec
     Inv-loop
     μ-loop
+    nan-requires
+    nan-requires-2
     load-bytes-requires
+    slice-aggregate-draw
     step-requires
-    fill-requires
+    draw-requires
     comes-back-requires
-    one-more-requires
+    and-back-requires
     loop-holds
     one-change-requires
     counted-requires

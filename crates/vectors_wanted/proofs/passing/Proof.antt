@@ -1,16 +1,14 @@
--- `passing` is safe and ends. Assumes nothing.
-use Prim.Native.Nat.{_-_, _≤_}
-use mathlib.Core.Logic.{⊎-elim}
-use native.Mathlib.Omega.{arith}
+-- `passing` meets its contract. Assumes nothing.
 use borrow.Author.Needs.{needs}
+use Prim.Native.Nat.{_-_, _≤_}
 use Rattle.vectors_wanted.proofs.passing.Statement.{statement}
 use Rattle.vectors_wanted.proofs.passing.Tie as tie
 
 abbrev Inv-loop : tie.InvT-loop
-Inv-loop re₀ im₀ xs₀ ys₀ load₀ bytes₀ tables n₀ i₀ re im xs ys load bytes n i = (n ≤ i) × (i ≤ 25)
+Inv-loop tables n₀ i₀ n i = (n ≤ i) × (i ≤ 25)
 
 abbrev μ-loop : tie.MeasureT-loop
-μ-loop re₀ im₀ xs₀ ys₀ load₀ bytes₀ tables n₀ i₀ re im xs ys load bytes n i = 25 - i
+μ-loop tables n₀ i₀ n i = 25 - i
 
 loop-holds : tie.Need-loop-holds Inv-loop μ-loop
 loop-holds c = search needs
@@ -24,6 +22,9 @@ array-read-one-table c = search needs
 one-table-requires : tie.Need-one-table-requires Inv-loop μ-loop
 one-table-requires c κs = search needs
 
+one-requires : tie.Need-one-requires Inv-loop μ-loop
+one-requires c κs = search needs
+
 add-n : tie.Need-add-n Inv-loop μ-loop
 add-n c = search needs
 
@@ -34,7 +35,7 @@ loop-less : tie.Need-loop-less Inv-loop μ-loop
 loop-less c = search needs
 
 loop-again : tie.Need-loop-again Inv-loop μ-loop
-loop-again c = ⊎-elim (λ w. rw (w .1) (omega arith, omega arith)) (λ w. rw (w .1) (omega arith, omega arith)) (c .if1 .came)
+loop-again c = search needs
 
 returns : tie.Need-returns Inv-loop μ-loop
 returns c = search needs
@@ -49,6 +50,7 @@ passing-spec =
     mul-one-table
     array-read-one-table
     one-table-requires
+    one-requires
     add-n
     add-i
     loop-less

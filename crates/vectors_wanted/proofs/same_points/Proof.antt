@@ -1,8 +1,8 @@
--- `alike` is safe and ends. Assumes nothing.
+-- `same_points` is safe and ends. Assumes nothing.
 use Prim.Native.Nat.{_-_, _≤_}
 use borrow.Author.Needs.{needs}
-use Rattle.vectors_wanted.proofs.alike.Statement.{statement}
-use Rattle.vectors_wanted.proofs.alike.Tie as tie
+use Rattle.vectors_wanted.proofs.same_points.Statement.{statement}
+use Rattle.vectors_wanted.proofs.same_points.Tie as tie
 
 abbrev Inv-loop : tie.InvT-loop
 Inv-loop a b k₀ k = k ≤ 38976
@@ -43,8 +43,8 @@ loop-again c = search needs
 returns-2 : tie.Need-returns-2 Inv-loop μ-loop
 returns-2 c = search needs
 
-pub alike-spec : {M : Type 1} → statement M
-alike-spec =
+pub same-points-spec : {M : Type 1} → statement M
+same-points-spec =
     tie.close
     (tie.spec
     Inv-loop
