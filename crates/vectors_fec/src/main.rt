@@ -1,6 +1,6 @@
 // The inner code on published and worked values: the coded tails of the synchronization words, the counts of released bits, and the
 // places where a decoder is easily wrong. `stdout` has the values of document 01.
-ghost use Prim.Native.Nat.{_+_, _≤_, _<_};
+ghost use Prim.Native.Nat.{_≤_, _<_};
 ghost use lib.ListN.{length};
 use acs::branch_number;
 use isdb_fec::conv::ConvEncoder;
@@ -8,7 +8,12 @@ use isdb_fec::conv::Made;
 use isdb_fec::conv::Released;
 use isdb_fec::conv::ViterbiDecoder;
 use isdb_fec::conv::branch_output;
-use libc::STDOUT_FILENO;
+use vectors_lib::alike;
+use vectors_lib::one;
+use vectors_lib::row;
+use vectors_lib::show;
+use vectors_lib::text;
+use vectors_lib::words_of;
 
 const W1: u32 = 0x1b95;
 
@@ -16,25 +21,22 @@ const W2: u32 = 0xa340;
 
 const W3: u32 = 0x5cbf;
 
-fn hex_digit(n: u32) -> u8
-    requires { ⌜ n < 16 ⌝ }
-{
-    if n < 10 {
-        48 + (n as u8)
-    } else {
-        55 + (n as u8)
-    }
+fn hex_digit(n: u32) -> u8 {
+    let d = (n % 16) as u8;
+    if d < 10 { 48 + d } else { 55 + d }
 }
 
-fn print_hex(n: u32) {
-    let text = [
-        hex_digit(n / 65536 % 16),
-        hex_digit(n / 4096 % 16),
-        hex_digit(n / 256 % 16),
-        hex_digit(n / 16 % 16),
-        hex_digit(n % 16),
+// Five hexadecimal digits, and the byte behind them.
+fn print_hex(n: u32, end: u8) {
+    let digits = [
+        hex_digit(n / 65536),
+        hex_digit(n / 4096),
+        hex_digit(n / 256),
+        hex_digit(n / 16),
+        hex_digit(n),
+        end,
     ];
-    io::write_all(STDOUT_FILENO, &text);
+    text(&digits);
 }
 
 // The last 20 coded bits of the word's 16 bits, high bit first, from the state `start`: X then Y of each of the last ten steps.
@@ -51,12 +53,9 @@ fn tail(word: u32, start: u8) -> u32 {
 }
 
 fn print_tails(start: u8) {
-    print_hex(tail(W1, start));
-    io::write_all(STDOUT_FILENO, b" ");
-    print_hex(tail(W2, start));
-    io::write_all(STDOUT_FILENO, b" ");
-    print_hex(tail(W3, start));
-    io::write_all(STDOUT_FILENO, b"\n");
+    print_hex(tail(W1, start), b' ');
+    print_hex(tail(W2, start), b' ');
+    print_hex(tail(W3, start), b'\n');
 }
 
 fn count_known(
@@ -82,20 +81,6 @@ fn released(traceback: usize, n: usize) -> usize {
     count_known(traceback, &bits, n, &mut decisions, &mut out)
 }
 
-fn print_count(n: usize) {
-    io::print_decimal(STDOUT_FILENO, n as u64);
-    io::write_all(STDOUT_FILENO, b"\n");
-}
-
-fn says(name: &[u8], holds: bool) {
-    io::write_all(STDOUT_FILENO, name);
-    if holds {
-        io::write_all(STDOUT_FILENO, b" holds\n");
-    } else {
-        io::write_all(STDOUT_FILENO, b" FAILS\n");
-    }
-}
-
 fn handed(pm: [f32; 64]) -> ViterbiDecoder {
     ViterbiDecoder {
         pm,
@@ -104,34 +89,48 @@ fn handed(pm: [f32; 64]) -> ViterbiDecoder {
     }
 }
 
+// The path values after a call on space of its own.
+fn after_pairs(pm: [f32; 64], pairs: &[f32]) -> [f32; 64] {
+    let mut decisions = [0u64; 4224];
+    let mut out = [0u8; 4];
+    let r = handed(pm).push(pairs, &mut decisions, &mut out);
+    r.dec.pm
+}
+
+fn after_metrics(pm: [f32; 64], metrics: &[f32]) -> [f32; 64] {
+    let mut decisions = [0u64; 4224];
+    let mut out = [0u8; 4];
+    let r = handed(pm).push_metrics(metrics, &mut decisions, &mut out);
+    r.dec.pm
+}
+
+fn after_known(pm: [f32; 64], bits: &[u8]) -> [f32; 64] {
+    let mut decisions = [0u64; 4224];
+    let mut out = [0u8; 4];
+    let r = handed(pm).push_known(bits, &mut decisions, &mut out);
+    r.dec.pm
+}
+
 // The maximum is subtracted at the end of an empty call of soft values, and not at that of known bits.
 fn empty_calls() -> bool {
     let mut pm = [1.0f32; 64];
     pm[0] = 5.0;
-    let mut decisions = [0u64; 4224];
-    let mut out = [0u8; 4];
-    let pairs = [0.0f32; 2];
-    let bits = [0u8; 2];
-    let a = handed(pm).push(&pairs[..0], &mut decisions, &mut out);
-    let b = handed(pm).push_known(&bits[..0], &mut decisions, &mut out);
-    let p = a.dec.pm;
-    let q = b.dec.pm;
-    p[0] == 0.0 && p[1] == -4.0 && q[0] == 5.0 && q[1] == 1.0
+    let pairs = [0.0f32; 0];
+    let bits = [0u8; 0];
+    let p = after_pairs(pm, &pairs);
+    let q = after_known(pm, &bits);
+    (p[0] == 0.0) & (p[1] == -4.0) & (q[0] == 5.0) & (q[1] == 1.0)
 }
 
 // A pair step adds lx, then ly, each rounded; four metrics add once. State 0 has 2^24, where 1 is half a unit.
 fn two_additions() -> bool {
     let mut pm = [0.0f32; 64];
     pm[0] = 16777216.0;
-    let mut decisions = [0u64; 4224];
-    let mut out = [0u8; 4];
     let pairs = [1.0f32; 2];
     let metrics = [2.0f32, 0.0, 0.0, -2.0];
-    let a = handed(pm).push(&pairs, &mut decisions, &mut out);
-    let b = handed(pm).push_metrics(&metrics, &mut decisions, &mut out);
-    let p = a.dec.pm;
-    let q = b.dec.pm;
-    p[0] == 0.0 && p[32] == -2.0 && q[0] == 0.0 && q[32] == -4.0
+    let p = after_pairs(pm, &pairs);
+    let q = after_metrics(pm, &metrics);
+    (p[0] == 0.0) & (p[32] == -2.0) & (q[0] == 0.0) & (q[32] == -4.0)
 }
 
 // The path values 1000.3 + 0.7 i.
@@ -145,137 +144,126 @@ fn rising() -> [f32; 64] {
     pm
 }
 
-// Whether state j has the greater of its two predecessors less the greatest of all, which is that of state 63, and state 32 + j has low.
-fn ruled_from(pm: [f32; 64], p: [f32; 64], low: f32) -> bool {
+// Of how many j the state j has the greater of its two predecessors less the greatest of all, which is that of state 63, and state 32 + j has low.
+fn ruled_from(pm: [f32; 64], p: [f32; 64], low: f32) -> usize {
+    let mut n: usize = 0;
     for j in 0..32usize {
-        if p[j] != pm[2 * j + 1] - pm[63] {
-            return false;
-        }
-        if p[32 + j] != low {
-            return false;
-        }
+        n += one((p[j] == pm[2 * j + 1] - pm[63]) & (p[32 + j] == low));
     }
-    true
+    n
 }
 
 // A known bit sets the states that it rules out before the maximum is subtracted, and has no other subtraction: one before it would leave -1.0e9.
 fn ruled_out() -> bool {
     let pm = rising();
     let bits = [0u8; 1];
+    let p = after_known(pm, &bits);
+    (p[31] == 0.0) & (ruled_from(pm, p, -1000001024.0) == 32)
+}
+
+// What a call and the flush behind it leave: the path values and the first decision word of the call, the count and the first two places of the flush.
+struct Left {
+    pm: [f32; 64],
+    word: u64,
+    count: usize,
+    first: u8,
+    second: u8,
+}
+
+fn flushed(pushed: Released, decisions: &mut [u64; 4224], out: &mut [u8; 4]) -> Left {
+    let dec = pushed.dec;
+    let pm = dec.pm;
+    let word = decisions[0];
+    let b = dec.flush(decisions, out);
+    Left {
+        pm,
+        word,
+        count: b.count,
+        first: out[0],
+        second: out[1],
+    }
+}
+
+fn known_and_flush(dec: ViterbiDecoder, bits: &[u8; 1]) -> Left {
     let mut decisions = [0u64; 4224];
-    let mut out = [0u8; 4];
-    let a = handed(pm).push_known(&bits, &mut decisions, &mut out);
-    let p = a.dec.pm;
-    p[31] == 0.0 && ruled_from(pm, p, -1000001024.0)
+    let mut out = [7u8; 4];
+    let a = dec.push_known(bits, &mut decisions, &mut out);
+    flushed(a, &mut decisions, &mut out)
+}
+
+fn metrics_and_flush(made: Made, metrics: &[f32; 4]) -> Left {
+    let mut decisions = [0u64; 4224];
+    let mut out = [7u8; 4];
+    let a = made.dec.push_metrics(metrics, &mut decisions, &mut out);
+    flushed(a, &mut decisions, &mut out)
 }
 
 // Below -1.0e9 a known bit is not the decoded one.
 fn known_bit_loses() -> bool {
-    let pm = [-4.0e9f32; 64];
     let bits = [0u8; 1];
-    let mut decisions = [0u64; 4224];
-    let mut out = [0u8; 4];
-    let a = handed(pm).push_known(&bits, &mut decisions, &mut out);
-    let p = a.dec.pm;
-    let b = a.dec.flush(&mut decisions, &mut out);
-    p[0] == -3.0e9 && p[32] == 0.0 && b.count == 1 && out[0] == 1
+    let l = known_and_flush(handed([-4.0e9f32; 64]), &bits);
+    let p = l.pm;
+    (p[0] == -3.0e9) & (p[32] == 0.0) & (l.count == 1) & (l.first == 1)
 }
 
 // A known start is no stronger than 1,000,000: the path of this one step does not begin in state 0.
 fn start_loses() -> bool {
-    let mut decisions = [0u64; 4224];
-    let mut out = [7u8; 4];
     let metrics = [-1048576.0f32, 1048576.0, -1048576.0, -1048576.0];
-    let made = ViterbiDecoder::new(128);
-    let a = made.dec.push_metrics(&metrics, &mut decisions, &mut out);
-    let p = a.dec.pm;
-    let b = a.dec.flush(&mut decisions, &mut out);
-    p[0] < 0.0 && p[1] == 0.0 && b.count == 1 && out[0] == 1 && out[1] == 7
+    let l = metrics_and_flush(ViterbiDecoder::new(128), &metrics);
+    let p = l.pm;
+    (p[0] < 0.0) & (p[1] == 0.0) & (l.count == 1) & (l.first == 1) & (l.second == 7)
 }
 
 // An odd predecessor takes a tie, and the highest of the best states is traced.
 fn ties() -> bool {
-    let mut decisions = [0u64; 4224];
-    let mut out = [7u8; 4];
     let metrics = [0.0f32; 4];
-    let made = ViterbiDecoder::new_unknown_state(128);
-    let a = made.dec.push_metrics(&metrics, &mut decisions, &mut out);
-    let word = decisions[0];
-    let b = a.dec.flush(&mut decisions, &mut out);
-    word == 0xffff_ffff_ffff_ffff && b.count == 1 && out[0] == 1
+    let l = metrics_and_flush(ViterbiDecoder::new_unknown_state(128), &metrics);
+    (l.word == 0xffff_ffff_ffff_ffff) & (l.count == 1) & (l.first == 1)
 }
 
 // The row's number in a call's answer.
-fn number(r: Released) -> u32 {
+fn number(r: Released) -> usize {
     let answer = r.answer;
-    refusal::number(answer)
+    row(answer)
 }
 
-fn pushed(dec: ViterbiDecoder, pairs: &[f32]) -> u32 {
+fn pushed(dec: ViterbiDecoder, pairs: &[f32]) -> usize {
     let mut decisions = [0u64; 4224];
     let mut out = [0u8; 4];
     number(dec.push(pairs, &mut decisions, &mut out))
 }
 
-fn pushed_short(dec: ViterbiDecoder, pairs: &[f32]) -> u32 {
+fn pushed_short(dec: ViterbiDecoder, pairs: &[f32]) -> usize {
     let mut decisions = [0u64; 4223];
     let mut out = [0u8; 4];
     number(dec.push(pairs, &mut decisions, &mut out))
 }
 
+fn not_a_number() -> f32 {
+    0.0f32 / 0.0f32
+}
+
+// Three values that are no numbers, to a state with its path values alike.
+fn pushed_odd(x: f32, held: usize, traceback: usize) -> usize {
+    let odd = [not_a_number(); 3];
+    let dec = ViterbiDecoder {
+        pm: [x; 64],
+        held,
+        traceback,
+    };
+    pushed(dec, &odd)
+}
+
 // The first row that holds, from the top: 3, 4, 5, 7, 9, and no row at the limits themselves.
 fn refusals() -> bool {
-    let not_a_number = 0.0f32 / 0.0f32;
-    let odd = [not_a_number; 3];
     let wide = [1048576.0f32, -1048576.0];
     let wider = [1048577.0f32, 0.0];
-    let dec = handed([4294967296.0f32; 64]);
-    let zero = ViterbiDecoder {
-        pm: [not_a_number; 64],
-        held: 0,
-        traceback: 0,
-    };
-    let full = ViterbiDecoder {
-        pm: [0.0f32; 64],
-        held: 4224,
-        traceback: 128,
-    };
-    let state = handed([not_a_number; 64]);
-    pushed(zero, &odd) == 3
-        && pushed(full, &odd) == 4
-        && pushed(state, &odd) == 4
-        && pushed(dec, &odd) == 5
-        && pushed(dec, &wider) == 7
-        && pushed_short(dec, &wide) == 9
-        && pushed(dec, &wide) == 0
-}
-
-// A byte of a text; # stands for the next number. How many numbers were shown.
-fn put(byte: u8, numbers: &[usize], k: usize) -> usize {
-    if byte == b'#' {
-        if k < numbers.len() {
-            io::print_decimal(STDOUT_FILENO, numbers[k] as u64);
-            return k + 1;
-        }
-    }
-    let text = [byte];
-    io::write_all(STDOUT_FILENO, &text);
-    k
-}
-
-// A text with numbers.
-fn show(text: &[u8], numbers: &[usize]) {
-    let mut k: usize = 0;
-    for i in 0..text.len() {
-        k = put(text[i], numbers, k);
-    }
-}
-
-// To be counted.
-fn one(holds: bool) -> usize
-    ensures { λ r. ⌜ r ≤ 1 ⌝ }
-{
-    if holds { 1 } else { 0 }
+    let limit = 4294967296.0f32;
+    let dec = handed([limit; 64]);
+    let a = (pushed_odd(not_a_number(), 0, 0) == 3) & (pushed_odd(0.0, 4224, 128) == 4);
+    let b = (pushed_odd(not_a_number(), 0, 128) == 4) & (pushed_odd(limit, 0, 128) == 5);
+    let c = (pushed(dec, &wider) == 7) & (pushed_short(dec, &wide) == 9);
+    a & b & c & (pushed(dec, &wide) == 0)
 }
 
 // Pushes the metrics from..to.
@@ -323,7 +311,7 @@ fn counted(name: &[u8], held: usize, n: usize)
     let b = push_part(a.dec, &metrics, n, 512, &mut decisions, &mut out);
     let pm = b.dec.pm;
     let values = [count_of(&pm, 0.0), count_of(&pm, -2.0), count_of(&pm, -4.0)];
-    io::write_all(STDOUT_FILENO, name);
+    text(name);
     show(b": # path values are 0, # are -2, # are -4\n", &values);
 }
 
@@ -351,10 +339,10 @@ fn is_branch(register: u32) -> bool {
     let b = branch_output(state, u);
     let answer = b.answer;
     let pair = label(register / 64, register);
-    refusal::number(answer) == 0
-        && b.x < 2
-        && 2 * (b.x as u32) + (b.y as u32) == pair
-        && branch_number(u, state) as u32 == pair
+    (row(answer) == 0)
+        & (b.x < 2)
+        & (2 * (b.x as u32) + (b.y as u32) == pair)
+        & (branch_number(u, state) as u32 == pair)
 }
 
 // How many of the 128 pairs of state and input have the branch output and the branch number that are worked out here.
@@ -372,11 +360,7 @@ fn show_branches() {
     let refused = b.answer;
     let p = ConvEncoder { state: 64 }.push(1);
     let answer = p.answer;
-    let found = [
-        branches(),
-        refusal::number(refused) as usize,
-        refusal::number(answer) as usize,
-    ];
+    let found = [branches(), row(refused), row(answer)];
     show(
         b"branch_output and branch_number: # of 128 pairs agree; in state 64 branch_output answers #, an encoder's push #\n",
         &found,
@@ -407,28 +391,6 @@ fn send(bits: &mut [u8; 4226], metrics: &mut [f32; 16904]) {
         metrics[4 * k + 2] = metric(x >> 16, sent == 2);
         metrics[4 * k + 3] = metric(x >> 24, sent == 3);
     }
-}
-
-// How many of the n bytes of a after the first `from` are those of b.
-fn alike(a: &[u8], from: usize, b: &[u8], n: usize) -> usize
-    requires { ⌜ (from + n ≤ length (now a)) × (n ≤ length (now b)) ⌝ }
-{
-    let mut same: usize = 0;
-    for i in 0..n {
-        same += one(a[from + i] == b[i]);
-    }
-    same
-}
-
-// How many of the words from..to are w.
-fn words_of(words: &[u64], from: usize, to: usize, w: u64) -> usize
-    requires { ⌜ to ≤ length (now words) ⌝ }
-{
-    let mut n: usize = 0;
-    for i in from..to {
-        n += one(words[i] == w);
-    }
-    n
 }
 
 // 4,095 + traceback steps release nothing. One more releases the 4,096 oldest bits, all as sent, traced from the best state; of 4,096 + traceback words, as many as the
@@ -523,7 +485,7 @@ fn handed_words() {
 // The row's number in a constructor's answer.
 fn made_number(m: Made) -> usize {
     let answer = m.answer;
-    refusal::number(answer) as usize
+    row(answer)
 }
 
 // Row 3 comes before 4,096 + traceback is worked out: 18,446,744,073,709,551,615 and 1,025 give 3 in every call; 1,024 is accepted (0), with no output place and just
@@ -541,10 +503,10 @@ fn tracebacks(traceback: usize, decisions: &mut [u64; 5120], out: &mut [u8; 0]) 
         made_number(ViterbiDecoder::new(traceback)),
         made_number(ViterbiDecoder::new_unknown_state(traceback)),
         made_number(ViterbiDecoder::with_state(traceback, 64)),
-        number(dec.push(&values, decisions, out)) as usize,
-        number(dec.push_metrics(&values, decisions, out)) as usize,
-        number(dec.push_known(&bits, decisions, out)) as usize,
-        number(dec.flush(decisions, out)) as usize,
+        number(dec.push(&values, decisions, out)),
+        number(dec.push_metrics(&values, decisions, out)),
+        number(dec.push_known(&bits, decisions, out)),
+        number(dec.flush(decisions, out)),
     ];
     show(b"traceback #: made # # #, handed # # # #\n", &found);
 }
@@ -552,27 +514,38 @@ fn tracebacks(traceback: usize, decisions: &mut [u64; 5120], out: &mut [u8; 0]) 
 fn all_tracebacks() {
     let mut decisions = [0u64; 5120];
     let mut out = [0u8; 0];
-    tracebacks(0, &mut decisions, &mut out);
-    tracebacks(1024, &mut decisions, &mut out);
-    tracebacks(1025, &mut decisions, &mut out);
-    tracebacks(18446744073709551615, &mut decisions, &mut out);
+    let tried = [0usize, 1024, 1025, 18446744073709551615];
+    for k in 0..4usize {
+        tracebacks(tried[k], &mut decisions, &mut out);
+    }
+}
+
+// How many bits are released, and the cases.
+fn cases() {
+    let found = [
+        released(128, 4223),
+        released(128, 4224),
+        released(1, 4096),
+        released(0, 4097),
+        one(empty_calls()),
+        one(two_additions()),
+        one(ruled_out()),
+        one(known_bit_loses()),
+        one(start_loses()),
+        one(ties()),
+        one(refusals()),
+    ];
+    show(
+        b"#\n#\n#\n#\nempty calls @\ntwo additions @\nruled out @\nknown bit loses @\nstart loses @\nties @\nrefusals @\n",
+        &found,
+    );
 }
 
 fn main() {
     print_tails(0);
     print_tails(17);
     print_tails(63);
-    print_count(released(128, 4223));
-    print_count(released(128, 4224));
-    print_count(released(1, 4096));
-    print_count(released(0, 4097));
-    says(b"empty calls", empty_calls());
-    says(b"two additions", two_additions());
-    says(b"ruled out", ruled_out());
-    says(b"known bit loses", known_bit_loses());
-    says(b"start loses", start_loses());
-    says(b"ties", ties());
-    says(b"refusals", refusals());
+    cases();
     // The maximum is subtracted after steps 64 and 128.
     counted(b"128 quadruples in one call", 0, 512);
     // After steps 64, 100 and 128.

@@ -1,53 +1,53 @@
--- `vectors_fec::ruled_from` is safe and ends. Assumes nothing.
-use Prim.Native.Nat.{_-_, _≤_}
+-- `ruled_from` meets its contract. Assumes nothing.
 use borrow.Author.Needs.{needs}
+use Prim.Native.Nat.{_-_, _≤_}
 use Rattle.vectors_fec.proofs.ruled_from.Statement.{statement}
 use Rattle.vectors_fec.proofs.ruled_from.Tie as tie
 
 abbrev Inv-loop : tie.InvT-loop
-Inv-loop low pm p j₀ j = j ≤ 32
+Inv-loop low pm p n₀ j₀ n j = n ≤ j
 
 abbrev μ-loop : tie.MeasureT-loop
-μ-loop low pm p j₀ j = 32 - j
+μ-loop low pm p n₀ j₀ n j = 32 - j
 
 loop-holds : tie.Need-loop-holds Inv-loop μ-loop
 loop-holds c = search needs
 
-mul-if1 : tie.Need-mul-if1 Inv-loop μ-loop
-mul-if1 c = search needs
+mul-one : tie.Need-mul-one Inv-loop μ-loop
+mul-one c = search needs
 
-array-read-if1 : tie.Need-array-read-if1 Inv-loop μ-loop
-array-read-if1 c = search needs
+array-read-one : tie.Need-array-read-one Inv-loop μ-loop
+array-read-one c = search needs
 
-mul-if1-2 : tie.Need-mul-if1-2 Inv-loop μ-loop
-mul-if1-2 c = search needs
+mul-one-2 : tie.Need-mul-one-2 Inv-loop μ-loop
+mul-one-2 c = search needs
 
-add-if1 : tie.Need-add-if1 Inv-loop μ-loop
-add-if1 c = search needs
+add-one : tie.Need-add-one Inv-loop μ-loop
+add-one c = search needs
 
-mul-if1-3 : tie.Need-mul-if1-3 Inv-loop μ-loop
-mul-if1-3 c = search needs
+mul-one-3 : tie.Need-mul-one-3 Inv-loop μ-loop
+mul-one-3 c = search needs
 
-array-read-if1-2 : tie.Need-array-read-if1-2 Inv-loop μ-loop
-array-read-if1-2 c = search needs
+array-read-one-2 : tie.Need-array-read-one-2 Inv-loop μ-loop
+array-read-one-2 c = search needs
 
-array-read-if1-3 : tie.Need-array-read-if1-3 Inv-loop μ-loop
-array-read-if1-3 c = search needs
+array-read-one-3 : tie.Need-array-read-one-3 Inv-loop μ-loop
+array-read-one-3 c = search needs
 
-returns : tie.Need-returns Inv-loop μ-loop
-returns c = search needs
+add-one-2 : tie.Need-add-one-2 Inv-loop μ-loop
+add-one-2 c = search needs
 
-add-if2 : tie.Need-add-if2 Inv-loop μ-loop
-add-if2 c = search needs
+mul-one-4 : tie.Need-mul-one-4 Inv-loop μ-loop
+mul-one-4 c = search needs
 
-mul-if2 : tie.Need-mul-if2 Inv-loop μ-loop
-mul-if2 c = search needs
+array-read-one-4 : tie.Need-array-read-one-4 Inv-loop μ-loop
+array-read-one-4 c = search needs
 
-array-read-if2 : tie.Need-array-read-if2 Inv-loop μ-loop
-array-read-if2 c = search needs
+one-requires : tie.Need-one-requires Inv-loop μ-loop
+one-requires c κs = search needs
 
-returns-2 : tie.Need-returns-2 Inv-loop μ-loop
-returns-2 c = search needs
+add-n : tie.Need-add-n Inv-loop μ-loop
+add-n c = search needs
 
 add-j : tie.Need-add-j Inv-loop μ-loop
 add-j c = search needs
@@ -58,8 +58,8 @@ loop-less c = search needs
 loop-again : tie.Need-loop-again Inv-loop μ-loop
 loop-again c = search needs
 
-returns-3 : tie.Need-returns-3 Inv-loop μ-loop
-returns-3 c = search needs
+returns : tie.Need-returns Inv-loop μ-loop
+returns c = search needs
 
 pub ruled-from-spec : {M : Type 1} → statement M
 ruled-from-spec =
@@ -68,19 +68,19 @@ ruled-from-spec =
     Inv-loop
     μ-loop
     loop-holds
-    mul-if1
-    array-read-if1
-    mul-if1-2
-    add-if1
-    mul-if1-3
-    array-read-if1-2
-    array-read-if1-3
-    returns
-    add-if2
-    mul-if2
-    array-read-if2
-    returns-2
+    mul-one
+    array-read-one
+    mul-one-2
+    add-one
+    mul-one-3
+    array-read-one-2
+    array-read-one-3
+    add-one-2
+    mul-one-4
+    array-read-one-4
+    one-requires
+    add-n
     add-j
     loop-less
     loop-again
-    returns-3)
+    returns)
