@@ -1,5 +1,5 @@
 #!/bin/sh
-# Every C call beside the given Rust: how many cases of each kind ran, and how many differ.
+# The C calls that the given Rust has, beside it: how many cases of each kind ran, and how many differ.
 #   compare/agree.sh [DIR [SCALE]]
 set -eu
 cd "$(dirname "$0")/.."

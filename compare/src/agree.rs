@@ -1,4 +1,4 @@
-// Every C call beside the given Rust, on input that is accepted. For each kind of case: how many ran, and how many differ.
+// The C calls that the given Rust has a counterpart of, beside it, on input that is accepted; the calls of a code of length 3 to 7 as the code of ISDB. For each kind of case: how many ran, and how many differ.
 // agree [SCALE]: SCALE (default 1) multiplies the number of random cases.
 mod calls;
 mod common;
@@ -201,6 +201,7 @@ impl Pair {
         // an output of exactly the bits that leave, and one place more that must stay
         let mut out = vec![0xa5u8; want.len() + 1];
         let mut count = u64::MAX;
+        let by_code = self.by_code(x, &out);
         let answer = calls::feed(&mut self.pm, &mut self.held, self.traceback, x, &mut self.decisions, &mut out, &mut count);
         let rust = self.rust.held();
         let left = self.held as usize;
@@ -216,7 +217,16 @@ impl Pair {
             _ if want.is_empty() => self.decisions[left..] == before[left..],
             _ => self.decisions[left..need].iter().all(|&w| w == 0) && self.decisions[need..] == before[need..],
         };
-        bits && values && words && past
+        let values_by_code = by_code.0.iter().zip(&self.pm).all(|(a, b)| a.to_bits() == b.to_bits());
+        let code = values_by_code && by_code.1 == (answer, self.held, count) && by_code.2 == self.decisions && by_code.3 == out;
+        bits && values && words && past && code
+    }
+
+    /// What the call of length 7 with 171 and 133 octal leaves: path values, answer and counts, words, output.
+    fn by_code(&self, x: Feed, out: &[u8]) -> (Vec<f32>, (u32, u64, u64), Vec<u64>, Vec<u8>) {
+        let (mut pm, mut held, mut decisions, mut out, mut count) = (self.pm.clone(), self.held, self.decisions.clone(), out.to_vec(), u64::MAX);
+        let answer = calls::feed_code(calls::ISDB, &mut pm, &mut held, self.traceback, x, &mut decisions, &mut out, &mut count);
+        (pm, (answer, held, count), decisions, out)
     }
 }
 
@@ -580,7 +590,10 @@ fn isdbt(all: &mut (u64, u64), scale: u64) {
         let (mut end, mut count) = (state, u64::MAX);
         let answer = calls::encode_punctured(rate as u8, &mut end, bits, &mut out, &mut count);
         let same = answer == 0 && end == enc.state() && count as usize == want.len() && out[..want.len()] == want[..] && out[want.len()] == 0xa5;
-        kind.case(same, || format!("rate {rate} state {state} bits {bits:?}"));
+        // rate 1/2 sends every bit, as the encoder of length 7 with 171 and 133 octal does
+        let (mut by_code, mut last) = (vec![0xa5; want.len() + 1], state);
+        let code = rate != 0 || calls::code_encode(calls::ISDB, &mut last, bits, &mut by_code) == 0 && last == end && by_code == out;
+        kind.case(same && code, || format!("rate {rate} state {state} bits {bits:?}"));
     };
     let mut draws = Draws(0x15d8);
     let mut kind = Kind::new("encode_punctured: every input of up to 2 periods (of up to 10 bits), every state");

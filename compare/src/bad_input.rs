@@ -1,8 +1,9 @@
-// Wrong input to every C call: wrong lengths, floats of every class, impossible settings, buffers that fit exactly or are one short, between guard pages.
+// Wrong input to every C call but isdbs_soft, which takes any: wrong lengths, floats of every class, impossible settings, buffers that fit exactly or are one short, between guard pages.
 // The answer must be the number of the first row of document 01 that holds, worked out here apart; nothing outside what is lent is touched; refused,
 // nothing inside either. Accepted calls are among them, so that no row is a row too much.
 mod calls;
 mod draws;
+mod later;
 use calls::Feed;
 use draws::*;
 use std::ffi::c_void;
@@ -127,11 +128,16 @@ fn releases(h: u64, n: u64, traceback: u64) -> u64 {
     r
 }
 
-fn feed_row(pm: &[f32], held: u64, traceback: u64, x: Feed, decisions: usize, out: usize) -> u32 {
+/// The row of a call of the decoder, or of one by a code.
+fn feed_row(code: Option<calls::Code>, pm: &[f32], held: u64, traceback: u64, x: Feed, decisions: usize, out: usize) -> u32 {
     if traceback == 0 || traceback > 1024 {
         return 3;
     }
-    if held >= 4096 + traceback || pm.iter().any(|&p| beyond(p, 4_294_967_296.0)) {
+    if code.is_some_and(later::bad_code) {
+        return 12;
+    }
+    let states = code.map_or(pm.len(), later::states_of).min(pm.len());
+    if held >= 4096 + traceback || pm[..states].iter().any(|&p| beyond(p, 4_294_967_296.0)) {
         return 4;
     }
     let (values, per): (&[f32], usize) = match x {
@@ -266,7 +272,7 @@ fn positions(all: &mut (u64, u64), draws: &mut Draws) {
     count.done(all);
 }
 
-fn decoders(all: &mut (u64, u64), draws: &mut Draws) {
+fn decoders(all: &mut (u64, u64), draws: &mut Draws, by_code: bool) {
     let mut pm = Fence::<f32>::new(1024);
     let mut held = Fence::<u64>::new(1);
     let mut values = Fence::<f32>::new(40_000);
@@ -274,10 +280,16 @@ fn decoders(all: &mut (u64, u64), draws: &mut Draws) {
     let mut decisions = Fence::<u64>::new(5_632);
     let mut out = Fence::<u8>::new(16_384);
     let mut counted = Fence::<u64>::new(1);
-    let mut counts = ["push", "push_metrics", "push_known", "flush", "flush_at"].map(Count::new);
+    let names = if by_code {
+        ["code_push", "code_push_metrics", "code_push_known", "code_flush", "code_flush_at"]
+    } else {
+        ["push", "push_metrics", "push_known", "flush", "flush_at"]
+    };
+    let mut counts = names.map(Count::new);
     for turn in 0..60_000u64 {
         let len = if draws.below(16) == 0 { near(draws, &[0, 64, 128]) as usize % 200 } else { 64 };
         lend_floats(&mut pm, draws, len);
+        let code = by_code.then(|| later::any_code(draws));
         let traceback = if draws.below(8) == 0 { near(draws, &[0, 1024, u64::MAX, 1 << 32]) } else { near(draws, &[2, 64, 128, 1023]) };
         let most = 4096 + traceback.min(1024);
         let h = if draws.below(8) == 0 { near(draws, &[most, u64::MAX, 1 << 33]) } else { near(draws, &[1, most - 2, 4096, 77]).min(most - 1) };
@@ -312,11 +324,18 @@ fn decoders(all: &mut (u64, u64), draws: &mut Draws) {
         out.lend(draws, places as usize % 20_000, |d| d.next() as u8);
         let words = if draws.below(4) == 0 { near(draws, &[most, 4096, 0]) } else { most + draws.below(2) };
         decisions.lend(draws, words as usize % 6_000, Draws::next);
-        let row = feed_row(pm.slice(), h, traceback, x, decisions.len, out.len);
-        let answer = calls::feed(pm.slice(), &mut held.slice()[0], traceback, x, decisions.slice(), out.slice(), &mut counted.slice()[0]);
+        let row = feed_row(code, pm.slice(), h, traceback, x, decisions.len, out.len);
+        // past the states of a code nothing is written
+        let states = code.map_or(64, later::states_of).min(pm.len);
+        let past: Vec<u32> = pm.slice()[states..].iter().map(|p| p.to_bits()).collect();
+        let answer = match code {
+            None => calls::feed(pm.slice(), &mut held.slice()[0], traceback, x, decisions.slice(), out.slice(), &mut counted.slice()[0]),
+            Some(c) => calls::feed_code(c, pm.slice(), &mut held.slice()[0], traceback, x, decisions.slice(), out.slice(), &mut counted.slice()[0]),
+        };
         let ok = answer == 0;
-        let kept = pm.kept(ok) && held.kept(ok) && decisions.kept(ok) && out.kept(ok) && counted.kept(ok) && (which > 1 || values.kept(false)) && (which != 2 || known.kept(false));
-        counts[which as usize].call(answer, row, kept, || format!("pm {len} held {h} traceback {traceback} steps {n} and {odd}, decisions {words}, out {places}"));
+        let unread = pm.slice()[states..].iter().zip(&past).all(|(p, &b)| p.to_bits() == b);
+        let kept = unread && pm.kept(ok) && held.kept(ok) && decisions.kept(ok) && out.kept(ok) && counted.kept(ok) && (which > 1 || values.kept(false)) && (which != 2 || known.kept(false));
+        counts[which as usize].call(answer, row, kept, || format!("code {code:?} pm {len} held {h} traceback {traceback} steps {n} and {odd}, decisions {words}, out {places}"));
     }
     counts.into_iter().for_each(|c| c.done(all));
 }
@@ -517,13 +536,20 @@ fn main() {
     let mut all = (0, 0);
     let mut draws = Draws(0xbad_1_4907);
     positions(&mut all, &mut draws);
-    decoders(&mut all, &mut draws);
+    decoders(&mut all, &mut draws, false);
     #[cfg(isdbt)]
     isdbt(&mut all, &mut draws);
     #[cfg(encode)]
     encoding(&mut all, &mut draws);
     #[cfg(decode)]
     decoding(&mut all, &mut draws);
+    decoders(&mut all, &mut draws, true);
+    later::encoding_by_code(&mut all, &mut draws);
+    later::mending(&mut all, &mut draws);
+    later::windows(&mut all, &mut draws);
+    later::full_frames(&mut all, &mut draws);
+    #[cfg(all(encode, wanted))]
+    later::wanting(&mut all, &mut draws);
     println!("{} calls, {} wrong", all.0, all.1);
     if all.1 != 0 {
         std::process::exit(1);

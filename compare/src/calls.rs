@@ -17,6 +17,26 @@ mod c {
         pub fn isdb_flush(pm: *mut f32, pm_len: usize, held: *mut u64, traceback: u64, decisions: *mut u64, decisions_len: usize, out: *mut u8, out_len: usize, count: *mut u64) -> u32;
         #[rustfmt::skip]
         pub fn isdb_flush_at(pm: *mut f32, pm_len: usize, held: *mut u64, traceback: u64, end: u8, decisions: *mut u64, decisions_len: usize, out: *mut u8, out_len: usize, count: *mut u64) -> u32;
+        #[rustfmt::skip]
+        pub fn isdb_code_encode(length: u8, g1: u8, g2: u8, state: *mut u8, bits: *const u8, bits_len: usize, out: *mut u8, out_len: usize) -> u32;
+        #[rustfmt::skip]
+        pub fn isdb_code_push(length: u8, g1: u8, g2: u8, pm: *mut f32, pm_len: usize, held: *mut u64, traceback: u64, pairs: *const f32, pairs_len: usize, decisions: *mut u64, decisions_len: usize, out: *mut u8, out_len: usize, count: *mut u64) -> u32;
+        #[rustfmt::skip]
+        pub fn isdb_code_push_metrics(length: u8, g1: u8, g2: u8, pm: *mut f32, pm_len: usize, held: *mut u64, traceback: u64, metrics: *const f32, metrics_len: usize, decisions: *mut u64, decisions_len: usize, out: *mut u8, out_len: usize, count: *mut u64) -> u32;
+        #[rustfmt::skip]
+        pub fn isdb_code_push_known(length: u8, g1: u8, g2: u8, pm: *mut f32, pm_len: usize, held: *mut u64, traceback: u64, bits: *const u8, bits_len: usize, decisions: *mut u64, decisions_len: usize, out: *mut u8, out_len: usize, count: *mut u64) -> u32;
+        #[rustfmt::skip]
+        pub fn isdb_code_flush(length: u8, g1: u8, g2: u8, pm: *mut f32, pm_len: usize, held: *mut u64, traceback: u64, decisions: *mut u64, decisions_len: usize, out: *mut u8, out_len: usize, count: *mut u64) -> u32;
+        #[rustfmt::skip]
+        pub fn isdb_code_flush_at(length: u8, g1: u8, g2: u8, pm: *mut f32, pm_len: usize, held: *mut u64, traceback: u64, end: u8, decisions: *mut u64, decisions_len: usize, out: *mut u8, out_len: usize, count: *mut u64) -> u32;
+        #[rustfmt::skip]
+        pub fn isdb_mend(bits: *const u8, bits_len: usize, start: u8, end: u8, decisions: *mut u64, decisions_len: usize, out: *mut u8, out_len: usize, places: *mut u32, places_len: usize, count: *mut u64) -> u32;
+        #[rustfmt::skip]
+        pub fn isdbs_window_push(window: u32, fill: *mut u32, next: *mut u32, clear: u8, sum: u32, kept: *mut u32, kept_len: usize, total: *mut u32, greatest: *mut u32) -> u32;
+        #[rustfmt::skip]
+        pub fn isdbs_lay_frame(header_re: *const f64, header_re_len: usize, header_im: *const f64, header_im_len: usize, main_re: *const f64, main_re_len: usize, main_im: *const f64, main_im_len: usize, burst_re: *const f64, burst_re_len: usize, burst_im: *const f64, burst_im_len: usize, re: *mut f64, re_len: usize, im: *mut f64, im_len: usize) -> u32;
+        #[rustfmt::skip]
+        pub fn isdbs_take_frame(re: *const f64, re_len: usize, im: *const f64, im_len: usize, header_re: *mut f64, header_re_len: usize, header_im: *mut f64, header_im_len: usize, main_re: *mut f64, main_re_len: usize, main_im: *mut f64, main_im_len: usize, burst_re: *mut f64, burst_re_len: usize, burst_im: *mut f64, burst_im_len: usize) -> u32;
         #[cfg(isdbt)]
         #[rustfmt::skip]
         pub fn isdbt_encode_punctured(rate: u8, state: *mut u8, bits: *const u8, bits_len: usize, out: *mut u8, out_len: usize, count: *mut u64) -> u32;
@@ -73,6 +93,58 @@ pub fn feed(pm: &mut [f32], held: &mut u64, traceback: u64, x: Feed, decisions: 
             Feed::Flush => c::isdb_flush(p, pn, held, traceback, d, dn, o, on, count),
             Feed::FlushAt(end) => c::isdb_flush_at(p, pn, held, traceback, end, d, dn, o, on, count),
         }
+    }
+}
+
+/// A code of `isdb_code_*`: its length and both generators. This one is ISDB's.
+pub type Code = [u8; 3];
+pub const ISDB: Code = [7, 0o171, 0o133];
+
+pub fn feed_code([l, g1, g2]: Code, pm: &mut [f32], held: &mut u64, traceback: u64, x: Feed, decisions: &mut [u64], out: &mut [u8], count: &mut u64) -> u32 {
+    let (p, pn, d, dn, o, on) = (pm.as_mut_ptr(), pm.len(), decisions.as_mut_ptr(), decisions.len(), out.as_mut_ptr(), out.len());
+    unsafe {
+        match x {
+            Feed::Pairs(s) => c::isdb_code_push(l, g1, g2, p, pn, held, traceback, s.as_ptr(), s.len(), d, dn, o, on, count),
+            Feed::Metrics(s) => c::isdb_code_push_metrics(l, g1, g2, p, pn, held, traceback, s.as_ptr(), s.len(), d, dn, o, on, count),
+            Feed::Known(s) => c::isdb_code_push_known(l, g1, g2, p, pn, held, traceback, s.as_ptr(), s.len(), d, dn, o, on, count),
+            Feed::Flush => c::isdb_code_flush(l, g1, g2, p, pn, held, traceback, d, dn, o, on, count),
+            Feed::FlushAt(end) => c::isdb_code_flush_at(l, g1, g2, p, pn, held, traceback, end, d, dn, o, on, count),
+        }
+    }
+}
+
+pub fn code_encode([l, g1, g2]: Code, state: &mut u8, bits: &[u8], out: &mut [u8]) -> u32 {
+    unsafe { c::isdb_code_encode(l, g1, g2, state, bits.as_ptr(), bits.len(), out.as_mut_ptr(), out.len()) }
+}
+
+pub fn mend(bits: &[u8], start: u8, end: u8, decisions: &mut [u64], out: &mut [u8], places: &mut [u32], count: &mut u64) -> u32 {
+    unsafe { c::isdb_mend(bits.as_ptr(), bits.len(), start, end, decisions.as_mut_ptr(), decisions.len(), out.as_mut_ptr(), out.len(), places.as_mut_ptr(), places.len(), count) }
+}
+
+pub fn window_push(window: u32, fill: &mut u32, next: &mut u32, clear: u8, sum: u32, kept: &mut [u32], total: &mut u32, greatest: &mut u32) -> u32 {
+    unsafe { c::isdbs_window_push(window, fill, next, clear, sum, kept.as_mut_ptr(), kept.len(), total, greatest) }
+}
+
+/// The inputs are header, main and burst, real part before imaginary part.
+#[rustfmt::skip]
+pub fn lay_frame(from: [&[f64]; 6], re: &mut [f64], im: &mut [f64]) -> u32 {
+    let [a, b, c, d, e, f] = from;
+    unsafe {
+        c::isdbs_lay_frame(
+            a.as_ptr(), a.len(), b.as_ptr(), b.len(), c.as_ptr(), c.len(), d.as_ptr(), d.len(), e.as_ptr(), e.len(), f.as_ptr(), f.len(),
+            re.as_mut_ptr(), re.len(), im.as_mut_ptr(), im.len(),
+        )
+    }
+}
+
+#[rustfmt::skip]
+pub fn take_frame(re: &[f64], im: &[f64], to: [&mut [f64]; 6]) -> u32 {
+    let [a, b, c, d, e, f] = to;
+    unsafe {
+        c::isdbs_take_frame(
+            re.as_ptr(), re.len(), im.as_ptr(), im.len(), a.as_mut_ptr(), a.len(), b.as_mut_ptr(), b.len(), c.as_mut_ptr(), c.len(),
+            d.as_mut_ptr(), d.len(), e.as_mut_ptr(), e.len(), f.as_mut_ptr(), f.len(),
+        )
     }
 }
 
