@@ -1,9 +1,10 @@
 /* ISDB-S frames and the inner code of ISDB: the calls of the crates of C calls.
+/* ISDB-S frames and the inner code of ISDB: the calls of crates isdb_c, codes_c, wanted_c and mend_c.
  *
  * Link target/staticlib/libisdb.a, which `tools/archive` writes (x86-64 Linux). No call allocates, keeps anything or prints.
  *
- * A slice is a pointer and a length, in elements. A pointer must be good for that many elements, also where the length is 0 (it is then not read);
- * slices that a call writes must not overlap others.
+ * A slice is a pointer and a length, in elements. A pointer must be good for that many elements, also where the length is 0 (it is then not read).
+ * A pointer to a number must be good for that number. Slices and numbers that a call writes must not overlap other slices or numbers that are lent to it.
  *
  * Every call but isdbs_soft returns 0 where it accepts, else the number of the first row of this table that holds, from the top. Refused, every lent
  * number and slice is as before. Accepted, what is not said to be written is as before.
@@ -16,7 +17,7 @@
  *  12 code       a constraint length outside 3 to 7; a generator not below 2^length or without its top bit (isdb_code_*)
  *   4 state      held count 4,096 + traceback or more; encoder state above 63 (of isdb_code_encode: 2^(length-1) or more); lent path value not finite or beyond 2^32
  *  14 window     outside 1 to 256; fill above it; next not below it or, while the window is not full, unlike fill; a pushed or kept sum above 68,208
- *   5 length     metrics not in fours, soft values not in twos, stream not whole periods; path values not 64; an unknown rate; a
+ *   5 length     metrics not in fours, soft values not in twos, stream not whole periods; path values not 64; scales not seven; an unknown rate; a
  *                stretch to be mended not in twos, above 8,192 bits, or with a byte above 1
  *   6 symbols    under 38,976 of either part; for a full frame an input shorter than its length (isdbs_lay_frame, isdbs_take_frame)
  *   7 sample     not finite; beyond 65,536 for a frame part, 1,048,576 for a stream value
@@ -137,7 +138,7 @@ uint32_t isdbs_window_push(uint32_t window, uint32_t *fill, uint32_t *next, uint
  * isdb_flush         no steps: all held bits leave.   Rows 3, 4, 5, 9.
  * isdb_flush_at      the same, traced from the state `end` (mod 64) in place of the best one.   Rows 3, 4, 5, 9.
  *
- * One isdb_push_metrics of at most 4,096 quadruples of whole numbers within 16 of zero on a fresh state, then isdb_flush: the bits are the inputs
+ * One isdb_push_metrics of at most 4,096 quadruples of whole numbers within 16 of zero on a fresh state of traceback 128, then isdb_flush: the bits are the inputs
  * of the first path of greatest sum, the one of highest end state, then of the larger low bit of the predecessor at the last step, the step before
  * it, and so on.
  */
@@ -154,12 +155,14 @@ uint32_t isdb_flush_at(float *pm, size_t pm_len, uint64_t *held, uint64_t traceb
 
 /* Codes of constraint length 3 to 7 with two generators, each below 2^length with its top bit set: the encoder, and the decoder's calls as above. `length`, `g1` and
  * `g2` stand first; `pm` is 64 long at every length. The first 2^(length-1) path values are those of the states, the others are neither read nor written, also not by
- * row 4. Row 12: any other length or generator, right before 4. Length 7 with 0171 and 0133 answers and leaves what the calls above do.
+ * row 4. Row 12: any other length or generator, right before 4. Where `pm` is 64 long, length 7 with 0171 and 0133 answers and leaves what the
+ * calls above do. (Another `pm` is refused by all; there row 4 of the calls above looks at every path value that is lent, here at those of the states.)
  *
  * isdb_code_encode  X then Y of the low bit of each byte, one in a byte, from *state, which becomes the state after the last.   Rows 12, 4 (*state is 2^(length-1) or
  *                   more), 9 (fewer than two places for each input).
  * The others: the rows of the call above, and 12. A known end is taken mod 2^(length-1). A fresh state is 0 at the start state, -1,000,000
- * at the other states and 0 past them, or all 0. What is said above of one call of metrics and a flush holds at every length.
+ * at the other states and 0 past them, or all 0. What is said above of one call of metrics and a flush, with traceback 128,
+ * holds at every length.
  */
 uint32_t isdb_code_encode(uint8_t length, uint8_t g1, uint8_t g2, uint8_t *state, const uint8_t *bits, size_t bits_len, uint8_t *out, size_t out_len);
 uint32_t isdb_code_push(uint8_t length, uint8_t g1, uint8_t g2, float *pm, size_t pm_len, uint64_t *held, uint64_t traceback, const float *pairs, size_t pairs_len,
