@@ -35,7 +35,7 @@ pub fn lay_frame(
     isdb_c::frame::isdbs_encode_frame(bytes, table, mapping, state, re, im, end)
 }
 
-// isdbs_decode_frame with a known start and all seven scales at 8. For every table of at most 48 slots, every mapping and frame kind, every full load and every
+// isdbs_decode_frame with a known start and all seven scales at 8. For every accepted table, every mapping and frame kind, every full load and every
 // frame within the load's margins, whatever the four lent slices held: 0, the load and no strain, or 9 where one of the slices is too short.
 pub fn read_frame(
     re: &[f64],

@@ -1,5 +1,5 @@
 -- Demand 3 for the whole frame: the bytes that decoding reads from points within the margins of a full load are that load. "This is a single claim about the whole
--- frame with all its runs": for every table that row 1 accepts, every `Mapping`, both values of `first`, a known start and the scale 8 for every combination.
+-- frame with all its runs": for every accepted table, every `Mapping`, both values of `first`, a known start and the scale 8 for every combination.
 -- Assumes nothing.
 use mathlib.Core.Path.{_≡_, sym, _∙_, ap}
 use mathlib.Core.Bool.{Bool, true, false}

@@ -14,7 +14,7 @@ use isdbs_phy::demod::FrameDecoded;
 use isdbs_phy::demod::Mapping;
 use isdbs_phy::demod::decode_frame;
 
-// decode_frame with a known start and all seven scales at 8. For every table of at most 48 slots, every mapping and frame kind, every full load and every frame
+// decode_frame with a known start and all seven scales at 8. For every accepted table, every mapping and frame kind, every full load and every frame
 // within the load's margins, whatever the four lent slices held: the load comes back and no step is strained, or 9 where one of the slices is too short.
 pub fn read_frame(
     re: &[f64],

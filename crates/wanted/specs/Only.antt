@@ -1,5 +1,5 @@
 -- P9's theorem: the load that a frame wants is the one read off, so there is at most one; and a full load is wanted exactly when the one read off encodes to the
--- frame. For every table that row 1 accepts, every `Mapping` and both values of `first`. Assumes nothing.
+-- frame. For every accepted table, every `Mapping` and both values of `first`. Assumes nothing.
 use mathlib.Core.Path.{_≡_, sym, _∙_, ap, subst}
 use mathlib.Core.Bool.{Bool, true, false, cond}
 use mathlib.Core.List.{List}
