@@ -16,24 +16,28 @@ use Rattle.isdbs_runs.specs.RunsOf.{stepsOf, stepsIn, frameSteps, noRun}
 use Rattle.isdbs_points.specs.declared.Mapping.{Mapping}
 use Rattle.isdbs_points.specs.Layout.{segmentsFrom, among}
 use Rattle.isdbs_metrics.specs.Reading.{Received, metricsIn, metricsAt}
+use Rattle.isdbs_metrics.specs.Steps.{pieceMetrics}
 use Rattle.isdbs_decode.specs.Runs.{Carried, RunsRead, runSteps, freshFrom}
 use Rattle.isdbs_decode.specs.Scales.{scaleOf, receivedBy}
 use Rattle.isdbs_pack.proofs.Among.{stepsTo, validTo, among-step}
 use Rattle.isdbs_pack.proofs.Parts.{metrics-part}
 use Rattle.isdbs_pack.proofs.FrameRuns.{RunList, RunAt, Listed, tail-is, run-first, run-next, run-last}
 
--- the metric steps of a list of runs
-abbrev listMetrics : List Run → Received → ℕ → Step
-listMetrics rs r k = four (among (λ g. g .step) (λ g. g .steps) [] (metricsIn r) (segmentsFrom rs 0 0) k)
+-- the metrics of a list of runs, as steps
+abbrev pub listed : List Run → Received → ℕ → List Float
+listed rs r k = among (λ g. g .step) (λ g. g .steps) [] (metricsIn r) (segmentsFrom rs 0 0) k
 
--- the steps of run i are the frame's from its first step on
-run-steps : (rs : List Run) (re im : List Float) (m : Mapping) (scales : List Float) (i k step : ℕ) → i < length rs → step ≡ stepsTo rs i → k < stepsOf (getD rs i noRun)
-    → listMetrics rs (receivedBy re im m scales) (step + k)
-    ≡ runSteps (getD rs i noRun .combination) (drop (getD rs i noRun .«symbol_start») re) (drop (getD rs i noRun .«symbol_start») im) m (scaleOf scales (getD rs i noRun .combination)) k
-run-steps rs re im m scales i k step h e l =
+abbrev listMetrics : List Run → Received → ℕ → Step
+listMetrics rs r k = four (listed rs r k)
+
+-- those of run i are the frame's from its first step on
+run-metrics : (rs : List Run) (re im : List Float) (m : Mapping) (scales : List Float) (i k step : ℕ) → i < length rs → step ≡ stepsTo rs i → k < stepsOf (getD rs i noRun)
+    → listed rs (receivedBy re im m scales) (step + k)
+    ≡ pieceMetrics (getD rs i noRun .combination) (drop (getD rs i noRun .«symbol_start») re) (drop (getD rs i noRun .«symbol_start») im) m (scaleOf scales (getD rs i noRun .combination)) k
+run-metrics rs re im m scales i k step h e l =
     let r = getD rs i noRun in
-    ap four (among-step [] (metricsIn (receivedBy re im m scales)) rs 0 0 i k (step + k) h l (omega arith)
-    ∙ sym (metrics-part re im m (scaleOf scales) r (0 + stepsTo rs i) (0 + 1624 * validTo rs i) k))
+    among-step [] (metricsIn (receivedBy re im m scales)) rs 0 0 i k (step + k) h l (omega arith)
+    ∙ sym (metrics-part re im m (scaleOf scales) r (0 + stepsTo rs i) (0 + 1624 * validTo rs i) k)
 
 module _ (count : ℕ) (list : List Run) (l : RunList count list) (i : ℕ) where
   abbrev run : Run
@@ -43,13 +47,13 @@ module _ (count : ℕ) (list : List Run) (l : RunList count list) (i : ℕ) wher
   rs = take count list
 
   -- and so for a run of the plan
-  step-is : (re im : List Float) (m : Mapping) (scales : List Float) (step n k : ℕ) → i < count → step ≡ stepsTo rs i → n ≡ stepsOf run → k < n
-      → listMetrics rs (receivedBy re im m scales) (step + k)
-      ≡ runSteps (run .combination) (take (length re - run .«symbol_start») (drop (run .«symbol_start») re)) (take (length im - run .«symbol_start») (drop (run .«symbol_start») im)) m (scaleOf scales (run .combination)) k
-  step-is re im m scales step n k h e en g =
+  pub metrics-are : (re im : List Float) (m : Mapping) (scales : List Float) (step n k : ℕ) → i < count → step ≡ stepsTo rs i → n ≡ stepsOf run → k < n
+      → listed rs (receivedBy re im m scales) (step + k)
+      ≡ pieceMetrics (run .combination) (take (length re - run .«symbol_start») (drop (run .«symbol_start») re)) (take (length im - run .«symbol_start») (drop (run .«symbol_start») im)) m (scaleOf scales (run .combination)) k
+  metrics-are re im m scales step n k h e en g =
       let c = l .counted in
       rw (tail-is (run .«symbol_start») re, tail-is (run .«symbol_start») im, l .at i)
-      (run-steps rs re im m scales i k step (omega arith) e (let q = rw (l .at i) at en in omega arith))
+      (run-metrics rs re im m scales i k step (omega arith) e (let q = rw (l .at i) at en in omega arith))
 
 -- the first i runs are read, and run i has room
 pub record Read (m : Mapping) (scales pm₀ re im : List Float) (dec₀ out₀ : List ℕ) (count : ℕ) (list : List Run) (pm : List Float) (dec out : List ℕ) (at : At) (step i : ℕ) : Type 0 where
@@ -102,7 +106,7 @@ module _ {m : Mapping} {scales pm₀ re im : List Float} {dec₀ out₀ : List �
         same-bits = lo ∙ r .same-bits;
         few = z .few;
         sum = omega arith;
-        holds = z .carries (listMetrics (take count list) (receivedBy re im m scales)) (freshFrom pm₀) dec₀ out₀ (λ k g. step-is count list (r .run .runs) i re im m scales step n k h (r .run .step-is) en g) (r .holds);
+        holds = z .carries (listMetrics (take count list) (receivedBy re im m scales)) (freshFrom pm₀) dec₀ out₀ (λ k g. ap four (metrics-are count list (r .run .runs) i re im m scales step n k h (r .run .step-is) en g)) (r .holds);
       }
 
   pub read-last : {t : Table} {pm : List Float} {dec out : List ℕ} {at : At} {step i : ℕ} → Listed t count list → Read m scales pm₀ re im dec₀ out₀ count list pm dec out at step i → count ≤ i

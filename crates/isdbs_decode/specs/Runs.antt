@@ -7,7 +7,7 @@ use lib.ListN.{length, replicate}
 use lib.Ieee.{Float}
 use Rattle.trellis.specs.Isdb.{closed}
 use Rattle.trellis.specs.Lists.{laid}
-use Rattle.trellis.specs.Step.{Step, four, known}
+use Rattle.trellis.specs.Step.{Step, pair, four, known}
 use Rattle.trellis.specs.Run.{Decoder}
 use Rattle.viterbi.specs.declared.At.{At}
 use Rattle.viterbi.specs.Calls.{steps, flush, Holds}
@@ -18,6 +18,7 @@ use Rattle.isdbs_points.specs.declared.Mapping.{Mapping}
 use Rattle.isdbs_points.specs.Layout.{wordBit}
 use Rattle.isdbs_metrics.specs.Reading.{Received, frameTraceback, frameWords, metricsAt, decodedBits, decodedBytes}
 use Rattle.isdbs_metrics.specs.Steps.{pieceMetrics}
+use Rattle.strain.specs.Marks.{markOf}
 
 -- n steps ys of a call, the first of which is its step i0. Whatever the call's other steps are: the decoder that the values and slices held goes
 -- n steps on.
@@ -28,10 +29,20 @@ pub record Carried (ys : ℕ → Step) (i0 n : ℕ) (pm : List Float) (at : At) 
       → Holds frameTraceback dec₀ out₀ (steps frameTraceback xs d i0) pm (at .held) (at .count) dec out
       → Holds frameTraceback dec₀ out₀ (steps frameTraceback xs d (i0 + n)) pm′ (r .held) (r .count) dec′ out′
 
--- the steps of a run, and the known bits that follow a frame
+-- the steps of a run
 abbrev pub runSteps : Combination → List Float → List Float → Mapping → Float → ℕ → Step
 runSteps c re im m scale k = four (pieceMetrics c re im m scale k)
 
+-- their marks, and the four metrics of a step
+abbrev pub runMark : Combination → List Float → List Float → Mapping → Float → ℕ → ℕ
+runMark c re im m scale k = markOf (pieceMetrics c re im m scale k)
+
+abbrev pub fourIn : Step → List Float
+fourIn (pair lx ly) = []
+fourIn (four ms) = ms
+fourIn (known b) = []
+
+-- the known bits that follow a frame
 abbrev pub knownBits : ℕ → Step
 knownBits k = known (wordBit 0x1b95 k)
 

@@ -9,6 +9,7 @@ use isdbs_pack::write_bytes;
 use isdbs_points::Mapping;
 use isdbs_points::start_state;
 use isdbs_points::word_bit;
+use strain::mark;
 use viterbi::At;
 use viterbi::Step;
 use viterbi::advance;
@@ -23,15 +24,17 @@ ghost use Prim.Native.Nat.{_+_, _-_, _*_, _<_, _≤_, _^_};
 ghost use lib.Dec.{eqb};
 ghost use lib.ListN.{length, replicate};
 ghost use lib.Ieee.{binary32, ofBits};
-ghost use Rattle.trellis.specs.Lists.{laid};
+ghost use Rattle.trellis.specs.Lists.{upto, laid};
+ghost use Rattle.viterbi.specs.Calls.{stepOf};
 ghost use Rattle.trellis.specs.Run.{startAt, startUnknown};
 ghost use Rattle.isdbs_combination.specs.Combinations.{wordOf};
 ghost use Rattle.isdbs_frame.specs.Frame.{mainSymbols};
 ghost use Rattle.isdbs_runs.specs.RunsOf.{frameSteps, loadBytes, Planned};
 ghost use Rattle.isdbs_metrics.specs.Reading.{frameWords};
 ghost use Rattle.isdbs_metrics.specs.Steps.{Covers};
+ghost use Rattle.strain.specs.Marks.{markOf, frameMark};
 ghost use Rattle.isdbs_decode.specs.Scales.{receivedBy};
-ghost use Rattle.isdbs_decode.specs.Runs.{runSteps, Carried, RunsRead, Ended, bitsFrom, FrameRead};
+ghost use Rattle.isdbs_decode.specs.Runs.{runSteps, runMark, fourIn, Carried, RunsRead, Ended, bitsFrom, FrameRead};
 
 // Decoder settings.
 pub struct DemodOptions {
@@ -63,7 +66,7 @@ const TRACEBACK: usize = 128;
 pub const WORDS: usize = 4_096 + TRACEBACK;
 
 // Where the next step stands.
-pub fn next_phase(p: Phase, period: usize, count: usize) -> Phase
+fn next_phase(p: Phase, period: usize, count: usize) -> Phase
     requires { ⌜ (p .q < period) × (p .base + count < 2 ^ 32) ⌝ }
     ensures { λ r. ⌜ (r .q ≡ cond (eqb (p .q + 1) period) 0 (p .q + 1)) × (r .base ≡ cond (eqb (p .q + 1) period) (p .base + count) (p .base)) ⌝ }
 {
@@ -80,7 +83,18 @@ pub fn next_phase(p: Phase, period: usize, count: usize) -> Phase
     }
 }
 
-// Reads n steps of a run; the first is step i0 of the frame.
+// The mark of a step of four metrics.
+fn mark_of(x: Step) -> u8
+    ensures { λ r. ⌜ r ≡ markOf (fourIn (stepOf x)) ⌝ }
+{
+    match x {
+        Step::Four(a, b, c, d) => mark(a, b, c, d),
+        Step::Pair(a, b) => 0,
+        Step::Known(a) => 0,
+    }
+}
+
+// Reads n steps of a run, and keeps their marks; the first is step i0 of the frame.
 fn read_run(
     pm: &mut [f32; 64],
     at: At,
@@ -93,15 +107,18 @@ fn read_run(
     im: &[f64],
     decisions: &mut [u64],
     bits: &mut [u8],
+    marks: &mut [u8],
 ) -> At
-    requires { ⌜ (at .held < frameWords) × (frameWords ≤ length (now decisions)) × (at .held + at .count + n ≤ length (now bits)) × (i0 + n < 2 ^ 30) × Covers c n (length (now re)) × Covers c n (length (now im)) ⌝ }
-    ensures { λ r. ⌜ Carried (runSteps c (now (re .entry)) (now (im .entry)) m scale) i0 n (now (pm .entry)) at (now (decisions .entry)) (now (bits .entry)) r (now (pm .exit)) (now (decisions .exit)) (now (bits .exit)) ⌝ }
+    requires { ⌜ (at .held < frameWords) × (frameWords ≤ length (now decisions)) × (at .held + at .count + n ≤ length (now bits)) × (n ≤ length (now marks)) × (i0 + n < 2 ^ 30) × Covers c n (length (now re)) × Covers c n (length (now im)) ⌝ }
+    ensures read { λ r. ⌜ Carried (runSteps c (now (re .entry)) (now (im .entry)) m scale) i0 n (now (pm .entry)) at (now (decisions .entry)) (now (bits .entry)) r (now (pm .exit)) (now (decisions .exit)) (now (bits .exit)) ⌝ }
+    ensures marked { λ _. ⌜ now (marks .exit) ≡ laid (upto (runMark c (now (re .entry)) (now (im .entry)) m scale) n) (now (marks .entry)) ⌝ }
 {
     let code = code_of(c);
     let mut now_at = at;
     let mut p = Phase { q: 0, base: 0 };
     for k in 0..n {
         let x = metrics(re, im, m, scale, code, p, k);
+        marks[k] = mark_of(x);
         now_at = advance(pm, now_at, TRACEBACK, i0 + k, x, decisions, bits);
         p = next_phase(p, code.period, code.count);
     }
@@ -109,7 +126,7 @@ fn read_run(
 }
 
 // The place of a combination's scale.
-pub fn scale_place(c: Combination) -> usize
+fn scale_place(c: Combination) -> usize
     ensures { λ r. ⌜ (r ≡ wordOf c - 1) × (r < 7) ⌝ }
 {
     let word = c.word() as usize;
@@ -126,9 +143,11 @@ fn read_runs(
     im: &[f64],
     decisions: &mut [u64],
     bits: &mut [u8],
+    marks: &mut [u8],
 ) -> At
-    requires { ⌜ Planned p × (mainSymbols ≤ length (now re)) × (mainSymbols ≤ length (now im)) × (frameWords ≤ length (now decisions)) × (frameSteps (p .table) ≤ length (now bits)) ⌝ }
-    ensures { λ r. ⌜ RunsRead (p .table) (receivedBy (now (re .entry)) (now (im .entry)) m scales) (now (pm .entry)) (now (decisions .entry)) (now (bits .entry)) r (now (pm .exit)) (now (decisions .exit)) (now (bits .exit)) ⌝ }
+    requires { ⌜ Planned p × (mainSymbols ≤ length (now re)) × (mainSymbols ≤ length (now im)) × (frameWords ≤ length (now decisions)) × (frameSteps (p .table) ≤ length (now bits)) × (frameSteps (p .table) ≤ length (now marks)) ⌝ }
+    ensures read { λ r. ⌜ RunsRead (p .table) (receivedBy (now (re .entry)) (now (im .entry)) m scales) (now (pm .entry)) (now (decisions .entry)) (now (bits .entry)) r (now (pm .exit)) (now (decisions .exit)) (now (bits .exit)) ⌝ }
+    ensures marked { λ _. ⌜ now (marks .exit) ≡ laid (upto (frameMark (p .table) (receivedBy (now (re .entry)) (now (im .entry)) m scales)) (frameSteps (p .table))) (now (marks .entry)) ⌝ }
 {
     let count = p.count;
     let list = p.runs;
@@ -153,6 +172,7 @@ fn read_runs(
             &im[start..],
             decisions,
             bits,
+            &mut marks[step..],
         );
         step = step + n;
     }
@@ -184,12 +204,14 @@ fn decode_bits(
     im: &[f64],
     decisions: &mut [u64],
     bits: &mut [u8],
+    marks: &mut [u8],
 )
-    requires { ⌜ Planned p × (mainSymbols ≤ length (now re)) × (mainSymbols ≤ length (now im)) × (frameWords ≤ length (now decisions)) × (frameSteps (p .table) + 16 ≤ length (now bits)) ⌝ }
-    ensures { λ _. ⌜ (now (bits .exit) ≡ laid (bitsFrom (p .table) (receivedBy (now (re .entry)) (now (im .entry)) m scales) start) (now (bits .entry))) × (now (decisions .exit) ≡ laid (replicate frameWords 0) (now (decisions .entry))) ⌝ }
+    requires { ⌜ Planned p × (mainSymbols ≤ length (now re)) × (mainSymbols ≤ length (now im)) × (frameWords ≤ length (now decisions)) × (frameSteps (p .table) + 16 ≤ length (now bits)) × (frameSteps (p .table) ≤ length (now marks)) ⌝ }
+    ensures read { λ _. ⌜ (now (bits .exit) ≡ laid (bitsFrom (p .table) (receivedBy (now (re .entry)) (now (im .entry)) m scales) start) (now (bits .entry))) × (now (decisions .exit) ≡ laid (replicate frameWords 0) (now (decisions .entry))) ⌝ }
+    ensures marked { λ _. ⌜ now (marks .exit) ≡ laid (upto (frameMark (p .table) (receivedBy (now (re .entry)) (now (im .entry)) m scales)) (frameSteps (p .table))) (now (marks .entry)) ⌝ }
 {
     let mut pm = start;
-    let at = read_runs(p, m, scales, &mut pm, re, im, decisions, bits);
+    let at = read_runs(p, m, scales, &mut pm, re, im, decisions, bits, marks);
     read_end(&mut pm, at, decisions, bits);
 }
 
@@ -204,7 +226,7 @@ fn start_values(known_start: bool, state: u8) -> [f32; 64]
     }
 }
 
-// A whole frame: its decoded bits, and its bytes.
+// A whole frame: its decoded bits, its bytes, and the mark of each step.
 pub fn decode(
     p: Plan,
     first: bool,
@@ -214,15 +236,17 @@ pub fn decode(
     decisions: &mut [u64],
     bits: &mut [u8],
     bytes: &mut [u8],
+    marks: &mut [u8],
 )
-    requires { ⌜ Planned p × (mainSymbols ≤ length (now re)) × (mainSymbols ≤ length (now im)) × (frameWords ≤ length (now decisions)) × (frameSteps (p .table) + 16 ≤ length (now bits)) × (loadBytes (p .table) ≤ length (now bytes)) ⌝ }
-    ensures { λ _. ⌜ FrameRead (p .table) (receivedBy (now (re .entry)) (now (im .entry)) (o .mapping) (o .scales)) (o .«known_start») first (now (decisions .entry)) (now (decisions .exit)) (now (bits .entry)) (now (bits .exit)) (now (bytes .entry)) (now (bytes .exit)) ⌝ }
+    requires { ⌜ Planned p × (mainSymbols ≤ length (now re)) × (mainSymbols ≤ length (now im)) × (frameWords ≤ length (now decisions)) × (frameSteps (p .table) + 16 ≤ length (now bits)) × (loadBytes (p .table) ≤ length (now bytes)) × (frameSteps (p .table) ≤ length (now marks)) ⌝ }
+    ensures read { λ _. ⌜ FrameRead (p .table) (receivedBy (now (re .entry)) (now (im .entry)) (o .mapping) (o .scales)) (o .«known_start») first (now (decisions .entry)) (now (decisions .exit)) (now (bits .entry)) (now (bits .exit)) (now (bytes .entry)) (now (bytes .exit)) ⌝ }
+    ensures marked { λ _. ⌜ now (marks .exit) ≡ laid (upto (frameMark (p .table) (receivedBy (now (re .entry)) (now (im .entry)) (o .mapping) (o .scales))) (frameSteps (p .table))) (now (marks .entry)) ⌝ }
 {
     let state = start_state(first);
     let m = o.mapping;
     let start = start_values(o.known_start, state);
     let scales = o.scales;
-    decode_bits(p, m, scales, start, re, im, decisions, bits);
+    decode_bits(p, m, scales, start, re, im, decisions, bits, marks);
     let end = p.steps + 16;
     write_bytes(p, m, state, re, im, &bits[0..end], bytes);
 }

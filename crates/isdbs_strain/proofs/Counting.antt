@@ -1,61 +1,55 @@
 -- A step more of a slot. Assumes nothing.
-use mathlib.Core.Path.{_≡_, refl, sym, _∙_, ap}
-use mathlib.Core.Bool.{Bool, true, false}
-use mir.Val.{boolByte}
+use mathlib.Core.Path.{_≡_, refl, _∙_}
 use mathlib.Core.List.{List}
-use Prim.Native.Nat.{ℕ, _+_, _*_, _/_, _%_, _<_, _≤_}
-use native.Mathlib.Nat.{add-zero, add-assoc}
+use Prim.Native.Nat.{ℕ, _+_, _*_, _/_, _%_, _^_, _<_, _≤_}
+use native.Mathlib.Nat.{mod-lt}
 use native.Mathlib.Numerals.{add-one}
 use native.Mathlib.Omega.{arith}
+use lib.Dec.{lit<}
 use lib.ListN.{getD}
-use lib.Ieee.{Float}
-use Rattle.trellis.specs.Lists.{bit}
-use Rattle.trellis.specs.Code.{isdb, output, label, moved, stateAt}
-use Rattle.trellis.specs.Step.{Step, four}
-use Rattle.isdbs_combination.specs.declared.Combination.{Combination}
-use Rattle.isdbs_points.specs.declared.Mapping.{Mapping}
+use Rattle.trellis.specs.Code.{label, stateAt}
 use Rattle.isdbs_points.specs.Frame.{labelAt}
-use Rattle.isdbs_metrics.specs.declared.Phase.{Phase}
-use Rattle.isdbs_metrics.specs.Steps.{pieceMetrics, PhaseAt}
 use Rattle.strain.specs.Counts.{summed}
-use Rattle.strain.specs.CountsLaws.{counted-few}
-use Rattle.strain.specs.Strain.{strainedBy}
+use Rattle.strain.specs.CountsLaws.{summed-few}
+use Rattle.strain.specs.Marks.{marked}
+use Rattle.strain.specs.MarksLaws.{label-small}
 use Rattle.isdbs_strain.specs.declared.Slot.{Slot}
-use Rattle.isdbs_strain.specs.Pieces.{fourIn, slotStrained, Counted}
+use Rattle.isdbs_strain.specs.Pieces.{Labels, Counted}
 
-pub bool-few : (b : Bool) → boolByte b ≤ 1
-bool-few true = omega arith
-bool-few false = omega arith
+abbrev pub slot : ℕ → ℕ → Slot
+slot count state = record { count = count; state = state }
 
-abbrev pub slot : ℕ → ℕ → Phase → Slot
-slot count state p = record { count = count; state = state; phase = p }
+pub marked-few : (ms : List ℕ) (s : ℕ) (us : List ℕ) (k : ℕ) → marked ms s us k ≤ 1
+marked-few ms s us k = let b : marked ms s us k < 2 = mod-lt _ (lit< tt) in omega arith
 
-module _ (c : Combination) (re im : List Float) (m : Mapping) (scale : Float) (us : List ℕ) (from state : ℕ) where
-  pub counted-first : (p : Phase) → PhaseAt c from p → state < 64 → Counted c re im m scale us from state 0 (slot 0 state p)
+module _ (ms us : List ℕ) (start : ℕ) where
+  pub counted-first : start < 64 → Counted ms us start 0 (slot 0 start)
   unfolding summed stateAt
-  counted-first p h l = record { phase-is = rw (add-zero from) h; small = l; count-is = refl; state-is = refl }
+  counted-first l = record { small = l; count-is = refl; state-is = refl }
 
-  pub count-few : (n : ℕ) (r : Slot) → Counted c re im m scale us from state n r → r .count ≤ n
-  count-few n r h = rw (h .count-is) (counted-few (slotStrained c re im m scale from state us) n)
+  pub count-few : (n : ℕ) (r : Slot) → Counted ms us start n r → r .count ≤ n
+  count-few n r h = rw (h .count-is) (summed-few (marked ms start us) n (marked-few ms start us))
 
-  module _ (i count s : ℕ) (p : Phase) (h : Counted c re im m scale us from state i (slot count s p)) (u x y : ℕ) (u-is : u ≡ getD us i 0) (U : getD us i 0 < 2)
-      (X : x ≡ output isdb 0o171 (u % 2) s) (Y : y ≡ output isdb 0o133 (u % 2) s) where
-    low : u % 2 ≡ getD us i 0
-    low = omega (arith, u-is)
+  module _ (i count state : ℕ) (h : Counted ms us start i (slot count state)) (U : getD us i 0 < 2) (k : ℕ) (K : k ≡ 64 * getD us i 0 + state) where
+    -- the place of the step's label
+    pub place-small : k < 128
+    place-small = let l = h .small in omega (arith, K)
 
-    pub label-is : 2 * x + y ≡ labelAt state us i
-    unfolding label
-    label-is = rw (X, Y, low, h .state-is)
-
-    pub counted-next : (step : Step) (b : Bool) (s′ : ℕ) (p′ : Phase) → step ≡ four (pieceMetrics c re im m scale (from + i)) → b ≡ strainedBy (fourIn step) (2 * x + y)
-        → s′ ≡ moved 32 (u % 2) s → PhaseAt c (from + i + 1) p′ → Counted c re im m scale us from state (i + 1) (slot (count + bit b) s′ p′)
-    unfolding summed stateAt
-    counted-next step b s′ p′ M B S P =
-        let f : b ≡ slotStrained c re im m scale from state us i = B ∙ rw (M, label-is) in
+    pub label-is : (ls : List ℕ) → Labels ls → (getD ls k 0 ≡ labelAt start us i) × (getD ls k 0 < 4)
+    label-is ls L =
         let l = h .small in
+        let u : k / 64 ≡ getD us i 0 = omega (arith, K) in
+        let s : k % 64 ≡ state = omega (arith, K) in
+        let e : getD ls k 0 ≡ labelAt start us i = L .are k place-small ∙ rw (u, s, h .state-is) in
+        (e, rw e (label-small (getD us i 0) (stateAt 32 start us i)))
+
+    pub counted-next : (x : ℕ) → x ≡ labelAt start us i → Counted ms us start (i + 1) (slot (count + getD ms i 0 / 2 ^ x % 2) (k / 2))
+    unfolding summed stateAt
+    counted-next x X =
+        let l = h .small in
+        let m : k / 2 ≡ 32 * getD us i 0 + state / 2 = omega (arith, K) in
         record {
-          phase-is = rw (← add-assoc from i 1) P;
-          small = rw S (omega arith);
-          count-is = rw (add-one i, f, h .count-is);
-          state-is = rw (add-one i, S, low, h .state-is);
+          small = omega (arith, K);
+          count-is = rw (add-one i, X, h .count-is);
+          state-is = rw (add-one i, m, h .state-is);
         }

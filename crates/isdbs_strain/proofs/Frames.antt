@@ -8,43 +8,35 @@ use native.Mathlib.Nat.{not-suc-le-zero, le-of-suc-le-suc, zero-add}
 use lib.Dec.{ltb}
 use lib.ListN.{length, getD, take, drop, length-drop}
 use lib.Seq.{getD-drop}
-use lib.Ieee.{Float}
 use borrow.Author.Tests.{lt-ltb, le-ltb}
 use borrow.Rule.Slice.PartMut.{midOf, putMid}
-use Rattle.trellis.specs.Lists.{upto, laid, bit}
+use Rattle.trellis.specs.Lists.{upto, laid}
 use Rattle.trellis.specs.Code.{stateAt}
+use Rattle.isdbs_combination.specs.declared.Combination.{Combination}
+use Rattle.isdbs_combination.specs.declared.Combination.the-variants.{«Bpsk1_2», «Qpsk1_2», «Qpsk2_3», «Qpsk3_4», «Qpsk5_6», «Qpsk7_8», «Tc8psk2_3»}
 use Rattle.isdbs_runs.specs.declared.Run.{Run}
 use Rattle.isdbs_tables.specs.declared.Table.{Table}
 use Rattle.isdbs_combination.specs.Combinations.{slotSteps}
 use Rattle.isdbs_runs.specs.RunsOf.{stepsOf, stepsIn, validIn, validTotal, frameSteps, noRun}
-use Rattle.isdbs_points.specs.declared.Mapping.{Mapping}
 use Rattle.isdbs_points.specs.Layout.{Segment, segmentOf, segmentsFrom, among}
-use Rattle.isdbs_points.specs.Frame.{labelAt}
 use Rattle.isdbs_points.specs.LawsUpto.{laid-part, length-laid-upto}
 use Rattle.isdbs_points.specs.LawsState.{label-shift}
-use Rattle.isdbs_metrics.specs.Reading.{Received, metricsIn}
-use Rattle.isdbs_metrics.specs.Steps.{pieceMetrics, Covers, Bits}
-use Rattle.isdbs_decode.specs.Scales.{scaleOf, receivedBy}
-use Rattle.isdbs_pack.proofs.Among.{stepsTo, validTo, among-step}
-use Rattle.isdbs_pack.proofs.Parts.{metrics-part}
+use Rattle.isdbs_metrics.specs.Steps.{Bits}
+use Rattle.isdbs_pack.proofs.Among.{stepsTo, validTo}
 use Rattle.isdbs_pack.proofs.Packing.{state-more}
 use Rattle.isdbs_pack.proofs.FrameBytes.{written-tail}
-use Rattle.isdbs_pack.proofs.FrameRuns.{RunList, RunAt, Listed, tail-is, part-covers, next-valid, valid-fit, run-first, run-next}
+use Rattle.isdbs_pack.proofs.FrameRuns.{RunList, RunAt, Listed, tail-is, next-valid, valid-fit, run-first, run-next}
 use Rattle.strain.specs.Counts.{summed}
 use Rattle.strain.specs.CountsLaws.{summed-same, summed-append}
 use Rattle.strain.specs.Slots.{slotOf, slotsOf, overSlot}
-use Rattle.strain.specs.Strain.{strainedBy}
+use Rattle.strain.specs.Marks.{marked}
 use Rattle.isdbs_strain.specs.declared.RunCount.{RunCount}
-use Rattle.isdbs_strain.specs.Pieces.{pieceStrained, runStrain, RunCounted}
-use Rattle.isdbs_strain.proofs.Slots.{slot-fits}
+use Rattle.isdbs_strain.specs.Pieces.{runStrain, RunCounted}
 use Rattle.isdbs_strain.proofs.Slots as slots
 
--- the strain of slot j, and of step k, of a list of runs
-abbrev listStep : List Run → Received → ℕ → List ℕ → ℕ → ℕ
-listStep rs r s us k = bit (strainedBy (among (λ g. g .step) (λ g. g .steps) [] (metricsIn r) (segmentsFrom rs 0 0) k) (labelAt s us k))
-
-abbrev pub listStrain : List Run → Received → ℕ → List ℕ → ℕ → ℕ
-listStrain rs r s us = among slotOf slotsOf 0 (overSlot (listStep rs r s us)) (segmentsFrom rs 0 0)
+-- the strain of slot j of a list of runs
+abbrev pub listStrain : List Run → List ℕ → ℕ → List ℕ → ℕ → ℕ
+listStrain rs ms s us = among slotOf slotsOf 0 (overSlot (marked ms s us)) (segmentsFrom rs 0 0)
 
 -- slot x of the frame is slot v of run i
 module _ {A : Type 0} (none : A) (f : Segment → ℕ → A) where
@@ -65,59 +57,48 @@ module _ {A : Type 0} (none : A) (f : Segment → ℕ → A) where
       let ez : b + 1624 * (n + validTo rs i) ≡ b + 1624 * n + 1624 * validTo rs i = omega arith in
       rw (t, es, ez) (among-slot rs (s + stepsOf r) (b + 1624 * n) (q + n) i v x (omega (arith, eb)) (le-of-suc-le-suc h) l (omega arith))
 
-module _ (count : ℕ) (list : List Run) (l : RunList count list) (i : ℕ) (h : i < count) (re im : List Float) (m : Mapping) (scales : List Float) (s : ℕ) (us : List ℕ) (step : ℕ) where
+-- "812 steps to a TC8PSK slot, 1,624 to another"
+pub slot-steps-few : (c : Combination) → slotSteps c ≤ 1624
+slot-steps-few «Bpsk1_2» = omega arith
+slot-steps-few «Qpsk1_2» = omega arith
+slot-steps-few «Qpsk2_3» = omega arith
+slot-steps-few «Qpsk3_4» = omega arith
+slot-steps-few «Qpsk5_6» = omega arith
+slot-steps-few «Qpsk7_8» = omega arith
+slot-steps-few «Tc8psk2_3» = omega arith
+
+-- what stands from a place of a slice on
+abbrev pub from : ℕ → List ℕ → List ℕ
+from step l = take (length l - step) (drop step l)
+
+module _ (count : ℕ) (list : List Run) (l : RunList count list) (i : ℕ) (h : i < count) (s : ℕ) (ms us : List ℕ) (step : ℕ) where
   abbrev r : Run
   r = getD list i noRun
 
   abbrev rs : List Run
   rs = take count list
 
-  abbrev partRe : List Float
-  partRe = take (length re - r .«symbol_start») (drop (r .«symbol_start») re)
-
-  abbrev partIm : List Float
-  partIm = take (length im - r .«symbol_start») (drop (r .«symbol_start») im)
-
-  abbrev partBits : List ℕ
-  partBits = take (length us - step) (drop step us)
-
   -- the strain of a run's slot is the frame's
   pub run-slot : (done x : ℕ) → step ≡ stepsTo rs i → done ≡ validTo rs i → x ≡ stateAt 32 s us step → (v : ℕ) → v < r .«valid_slots»
-      → runStrain (r .combination) partRe partIm m (scaleOf scales (r .combination)) x partBits v ≡ listStrain rs (receivedBy re im m scales) s us (done + v)
+      → runStrain (slotSteps (r .combination)) (from step ms) x (from step us) v ≡ listStrain rs ms s us (done + v)
   run-slot done x es ed ex v g =
       let c = l .counted in
       let n : i < length rs = omega arith in
       let e1 : getD rs i noRun ≡ r = sym (l .at i) in
       let w = slotSteps (r .combination) in
-      let a = among-slot 0 (overSlot (listStep rs (receivedBy re im m scales) s us)) rs 0 0 0 i v (done + v) refl n (rw e1 g) (omega arith) in
+      let a = among-slot 0 (overSlot (marked ms s us)) rs 0 0 0 i v (done + v) refl n (rw e1 g) (omega arith) in
       let z : step ≡ 0 + stepsTo rs i = es ∙ sym (zero-add (stepsTo rs i)) in
-      rw (tail-is (r .«symbol_start») re, tail-is (r .«symbol_start») im, tail-is step us)
-      (summed-same (λ j. bit (pieceStrained (r .combination) (drop (r .«symbol_start») re) (drop (r .«symbol_start») im) m (scaleOf scales (r .combination)) x (drop step us) (w * v + j)))
-      (λ j. listStep rs (receivedBy re im m scales) s us (step + (w * v + j))) w each
+      rw (tail-is step ms, tail-is step us)
+      (summed-same (λ j. marked (drop step ms) x (drop step us) (w * v + j)) (λ j. marked ms s us (step + (w * v + j))) w (λ j q. each (w * v + j))
       ∙ sym (rw (e1, ← z) at a))
     where
-      each : (j : ℕ) → j < slotSteps (r .combination)
-          → bit (pieceStrained (r .combination) (drop (r .«symbol_start») re) (drop (r .«symbol_start») im) m (scaleOf scales (r .combination)) x (drop step us) (slotSteps (r .combination) * v + j))
-          ≡ listStep rs (receivedBy re im m scales) s us (step + (slotSteps (r .combination) * v + j))
-      each j q =
-          let c = l .counted in
-          let n : i < length rs = omega arith in
-          let e1 : getD rs i noRun ≡ r = sym (l .at i) in
-          let k = slotSteps (r .combination) * v + j in
-          let f = slot-fits (slotSteps (r .combination)) v (r .«valid_slots») g in
-          let b = among-step [] (metricsIn (receivedBy re im m scales)) rs 0 0 i k (step + k) n (rw e1 (omega arith)) (omega arith) in
-          let p = metrics-part re im m (scaleOf scales) r (0 + stepsTo rs i) (0 + 1624 * validTo rs i) k in
-          let e : pieceMetrics (r .combination) (drop (r .«symbol_start») re) (drop (r .«symbol_start») im) m (scaleOf scales (r .combination)) k ≡ among (λ g. g .step) (λ g. g .steps) [] (metricsIn (receivedBy re im m scales)) (segmentsFrom rs 0 0) (step + k) =
-          p ∙ sym (rw e1 at b) in
-          let y : labelAt x (drop step us) k ≡ labelAt s us (step + k) =
-          rw ex (sym (label-shift s us step (drop step us) (k + 1) (λ a o. sym (getD-drop step us a 0)) k (omega arith))) in
-          rw (e, y)
+      each : (k : ℕ) → marked (drop step ms) x (drop step us) k ≡ marked ms s us (step + k)
+      each k = rw (getD-drop step ms k 0, ex, ← label-shift s us step (drop step us) (k + 1) (λ a o. sym (getD-drop step us a 0)) k (omega arith))
 
 -- the first i runs are counted, and run i has room
-pub record Done (m : Mapping) (scales : List Float) (s : ℕ) (re im : List Float) (us counts₀ : List ℕ) (count : ℕ) (list : List Run) (counts : List ℕ) (state step done sum i : ℕ) : Type 0 where
+pub record Done (s : ℕ) (ms us counts₀ : List ℕ) (count : ℕ) (list : List Run) (counts : List ℕ) (state step done sum i : ℕ) : Type 0 where
   pub run : RunAt count list i step
-  pub re-fits : 38976 ≤ length re
-  pub im-fits : 38976 ≤ length im
+  pub marks-fit : stepsIn (take count list) ≤ length ms
   pub bits-fit : stepsIn (take count list) ≤ length us
   pub bits : Bits us (stepsIn (take count list))
   pub counts-fit : validIn (take count list) ≤ length counts₀
@@ -127,19 +108,18 @@ pub record Done (m : Mapping) (scales : List Float) (s : ℕ) (re im : List Floa
   pub small : state < 64
   pub state-is : state ≡ stateAt 32 s us step
   pub few : sum ≤ step
-  pub sum-is : sum ≡ summed (listStrain (take count list) (receivedBy re im m scales) s us) done
-  pub counts-are : counts ≡ laid (upto (listStrain (take count list) (receivedBy re im m scales) s us) done) counts₀
+  pub sum-is : sum ≡ summed (listStrain (take count list) ms s us) done
+  pub counts-are : counts ≡ laid (upto (listStrain (take count list) ms s us) done) counts₀
 
-module _ {m : Mapping} {scales : List Float} {s : ℕ} {re im : List Float} {us counts₀ : List ℕ} {count : ℕ} {list : List Run} where
-  pub done-first : {t : Table} → Listed t count list → s < 64 → 38976 ≤ length re → 38976 ≤ length im → frameSteps t ≤ length us → Bits us (frameSteps t) → validTotal t ≤ length counts₀
-      → Done m scales s re im us counts₀ count list counts₀ s 0 0 0 0
+module _ {s : ℕ} {ms us counts₀ : List ℕ} {count : ℕ} {list : List Run} where
+  pub done-first : {t : Table} → Listed t count list → s < 64 → frameSteps t ≤ length ms → frameSteps t ≤ length us → Bits us (frameSteps t) → validTotal t ≤ length counts₀
+      → Done s ms us counts₀ count list counts₀ s 0 0 0 0
   unfolding stepsIn validIn stateAt upto summed
-  done-first l small gr gi gu b gc =
+  done-first l small gm gu b gc =
       let v = valid-fit count list (l .runs) 0 in
       record {
         run = run-first (l .runs);
-        re-fits = gr;
-        im-fits = gi;
+        marks-fit = rw (l .listed) gm;
         bits-fit = rw (l .listed) gu;
         bits = rw (l .listed) b;
         counts-fit = rw (l .listed) gc;
@@ -154,43 +134,38 @@ module _ {m : Mapping} {scales : List Float} {s : ℕ} {re im : List Float} {us 
       }
 
   -- what counting run i asks
-  pub done-room : {counts : List ℕ} {state step done sum i : ℕ} → Done m scales s re im us counts₀ count list counts state step done sum i
-      → (getD list i noRun .«valid_slots» ≤ 48)
-      × Covers (getD list i noRun .combination) (stepsOf (getD list i noRun)) (length (take (length re - getD list i noRun .«symbol_start») (drop (getD list i noRun .«symbol_start») re)))
-      × Covers (getD list i noRun .combination) (stepsOf (getD list i noRun)) (length (take (length im - getD list i noRun .«symbol_start») (drop (getD list i noRun .«symbol_start») im)))
-      × (stepsOf (getD list i noRun) ≤ length (take (length us - step) (drop step us)))
-      × Bits (take (length us - step) (drop step us)) (stepsOf (getD list i noRun))
+  pub done-room : {counts : List ℕ} {state step done sum i : ℕ} → Done s ms us counts₀ count list counts state step done sum i
+      → (getD list i noRun .«valid_slots» ≤ 48) × (stepsOf (getD list i noRun) ≤ length (from step ms)) × (stepsOf (getD list i noRun) ≤ length (from step us)) × Bits (from step us) (stepsOf (getD list i noRun))
   done-room {step = step} {i = i} w =
       let l = w .run .runs in
       let f = w .run .steps-fit in
-      let g = w .bits-fit in
+      let gm = w .marks-fit in
+      let gu = w .bits-fit in
       let v = w .done-fit in
       let lv = l .valid in
-      let d = length-drop step us in (
+      let dm = length-drop step ms in
+      let du = length-drop step us in
+      rw (tail-is step ms, tail-is step us) (
         omega arith,
-        part-covers count list l i re _ (w .re-fits) refl,
-        part-covers count list l i im _ (w .im-fits) refl,
-        rw (tail-is step us) (omega arith),
-        rw (tail-is step us) (λ k q. rw (getD-drop step us k 0) (w .bits (step + k) (omega arith))),
+        omega arith,
+        omega arith,
+        λ k q. rw (getD-drop step us k 0) (w .bits (step + k) (omega arith)),
       )
 
   -- the sums stay small
-  pub done-small : {counts p q : List ℕ} {state step done sum i : ℕ} {x : RunCount} → Done m scales s re im us counts₀ count list counts state step done sum i
-      → {a b : List Float} {scale : Float} {vs : List ℕ} → RunCounted (getD list i noRun .combination) a b m scale vs state (getD list i noRun .«valid_slots») x q p → sum + x .sum ≤ 68208
-  done-small {p = p} {q = q} {state = state} {i = i} {x = x} w {a} {b} {scale} {vs} k =
-      let fx = slots.run-few (getD list i noRun .combination) a b m scale vs state q (getD list i noRun .«valid_slots») x p k in
+  pub done-small : {counts p q : List ℕ} {state step done sum i : ℕ} {x : RunCount} → Done s ms us counts₀ count list counts state step done sum i
+      → {ns vs : List ℕ} → RunCounted (slotSteps (getD list i noRun .combination)) ns vs state (getD list i noRun .«valid_slots») x q p → sum + x .sum ≤ 68208
+  done-small {p = p} {q = q} {state = state} {i = i} {x = x} w {ns} {vs} k =
+      let fx = slots.run-few (slotSteps (getD list i noRun .combination)) ns vs state q (getD list i noRun .«valid_slots») x p k in
       let fw = w .few in
       let f = w .run .steps-fit in
       let ls = w .run .runs .steps in
       omega arith
 
-  pub done-next : {counts p : List ℕ} {state step done sum i n : ℕ} {x : RunCount} → Done m scales s re im us counts₀ count list counts state step done sum i → i < count → n ≡ stepsOf (getD list i noRun)
-      → {scale : Float} → scale ≡ scaleOf scales (getD list i noRun .combination)
-      → RunCounted (getD list i noRun .combination) (take (length re - getD list i noRun .«symbol_start») (drop (getD list i noRun .«symbol_start») re)) (take (length im - getD list i noRun .«symbol_start») (drop (getD list i noRun .«symbol_start») im)) m scale
-      (take (length us - step) (drop step us)) state (getD list i noRun .«valid_slots») x (midOf done (length counts - done) counts) p
-      → Done m scales s re im us counts₀ count list (putMid done (length counts - done) counts p) (x .state) (step + n) (done + getD list i noRun .«valid_slots») (sum + x .sum) (i + 1)
-  done-next {counts} {p} {state} {step} {done} {sum} {i} {n} {x} w h en {scale} es given =
-      let k = rw es at given in
+  pub done-next : {counts p : List ℕ} {state step done sum i n : ℕ} {x : RunCount} → Done s ms us counts₀ count list counts state step done sum i → i < count → n ≡ stepsOf (getD list i noRun)
+      → RunCounted (slotSteps (getD list i noRun .combination)) (from step ms) (from step us) state (getD list i noRun .«valid_slots») x (midOf done (length counts - done) counts) p
+      → Done s ms us counts₀ count list (putMid done (length counts - done) counts p) (x .state) (step + n) (done + getD list i noRun .«valid_slots») (sum + x .sum) (i + 1)
+  done-next {counts} {p} {state} {step} {done} {sum} {i} {n} {x} w h en k =
       let r = getD list i noRun in
       let l = w .run .runs in
       let v = valid-fit count list l (i + 1) in
@@ -199,21 +174,20 @@ module _ {m : Mapping} {scales : List Float} {s : ℕ} {re im : List Float} {us 
       let f = w .done-fit in
       let lf = w .counts-fit in
       let ew = w .same in
-      let all = listStrain (take count list) (receivedBy re im m scales) s us in
-      let own = runStrain (r .combination) (take (length re - r .«symbol_start») (drop (r .«symbol_start») re)) (take (length im - r .«symbol_start») (drop (r .«symbol_start») im)) m (scaleOf scales (r .combination)) state (take (length us - step) (drop step us)) in
-      let each = run-slot count list l i h re im m scales s us step done state (w .run .step-is) d (w .state-is) in
+      let all = listStrain (take count list) ms s us in
+      let own = runStrain (slotSteps (r .combination)) (from step ms) state (from step us) in
+      let each = run-slot count list l i h s ms us step done state (w .run .step-is) d (w .state-is) in
       let laid-now : putMid done (length counts - done) counts p ≡ laid (upto all (done + r .«valid_slots»)) counts₀ =
       written-tail done counts p (upto own (r .«valid_slots»)) (omega arith) (k .counts-are)
       ∙ ap (λ (z : List ℕ). take done z ++ laid (upto own (r .«valid_slots»)) (drop done z)) (w .counts-are)
       ∙ laid-part all own done (r .«valid_slots») counts₀ each in
       let sn : sum + x .sum ≡ summed all (done + r .«valid_slots») =
       rw (summed-append all done (r .«valid_slots»), k .sum-is, summed-same own (λ j. all (done + j)) (r .«valid_slots») each, w .sum-is) in
-      let fx = slots.run-few (r .combination) _ _ m (scaleOf scales (r .combination)) (take (length us - step) (drop step us)) state (midOf done (length counts - done) counts) (r .«valid_slots») x p k in
+      let fx = slots.run-few (slotSteps (r .combination)) (from step ms) (from step us) state (midOf done (length counts - done) counts) (r .«valid_slots») x p k in
       let fw = w .few in
       record {
         run = run-next (w .run) h en;
-        re-fits = w .re-fits;
-        im-fits = w .im-fits;
+        marks-fit = w .marks-fit;
         bits-fit = w .bits-fit;
         bits = w .bits;
         counts-fit = lf;

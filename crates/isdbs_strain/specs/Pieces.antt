@@ -1,57 +1,38 @@
--- Strain of a run by itself: slices start at the run's first symbol and step. Assumes nothing.
+-- Strain of a run by itself, by marks: slices start at the run's first step. Assumes nothing.
 use mathlib.Core.Path.{_≡_}
-use mathlib.Core.Bool.{Bool}
-use mathlib.Core.List.{List, []}
-use Prim.Native.Nat.{ℕ, _+_, _*_, _<_}
-use lib.Ieee.{Float}
-use Rattle.trellis.specs.Lists.{upto, laid, bit}
-use Rattle.trellis.specs.Code.{stateAt}
-use Rattle.trellis.specs.Step.{Step, pair, four, known}
-use Rattle.isdbs_combination.specs.declared.Combination.{Combination}
+use mathlib.Core.List.{List}
+use Prim.Native.Nat.{ℕ, _+_, _*_, _/_, _%_, _<_}
+use lib.ListN.{getD}
+use Rattle.trellis.specs.Lists.{upto, laid}
+use Rattle.trellis.specs.Code.{isdb, label, stateAt}
 use Rattle.isdbs_tables.specs.declared.Table.{Table}
-use Rattle.isdbs_combination.specs.Combinations.{slotSteps}
-use Rattle.isdbs_points.specs.declared.Mapping.{Mapping}
-use Rattle.isdbs_points.specs.Frame.{labelAt}
-use Rattle.isdbs_metrics.specs.Reading.{Received}
-use Rattle.isdbs_metrics.specs.Steps.{pieceMetrics, PhaseAt}
-use Rattle.strain.specs.Counts.{summed, counted}
+use Rattle.strain.specs.Counts.{summed}
 use Rattle.strain.specs.Slots.{bySlot}
-use Rattle.strain.specs.Strain.{strainedBy, strainedAt}
+use Rattle.strain.specs.Marks.{marked}
 use Rattle.isdbs_strain.specs.declared.Slot.{Slot}
 use Rattle.isdbs_strain.specs.declared.RunCount.{RunCount}
 
--- the four metrics of a step
-abbrev pub fourIn : Step → List Float
-fourIn (pair lx ly) = []
-fourIn (four ms) = ms
-fourIn (known b) = []
+-- a list that has 2 X + Y of the input u at the state s at 64 u + s
+pub record Labels (l : List ℕ) : Type 0 where
+  pub are : (k : ℕ) → k < 128 → getD l k 0 ≡ label isdb (k / 64) (k % 64)
 
--- step k of a run, whose decoded bits us are encoded again from the state s before it
-abbrev pub pieceStrained : Combination → List Float → List Float → Mapping → Float → ℕ → List ℕ → ℕ → Bool
-pieceStrained c re im m scale s us k = strainedBy (pieceMetrics c re im m scale k) (labelAt s us k)
-
--- step i after step `from` of a run; the decoded bits us begin there, and s is the encoder's state there
-abbrev pub slotStrained : Combination → List Float → List Float → Mapping → Float → ℕ → ℕ → List ℕ → ℕ → Bool
-slotStrained c re im m scale from s us i = strainedBy (pieceMetrics c re im m scale (from + i)) (labelAt s us i)
-
--- n steps from step `from` of a run are counted: how many are strained, and where the encoder and the code stand after them
-pub record Counted (c : Combination) (re im : List Float) (m : Mapping) (scale : Float) (us : List ℕ) (from state n : ℕ) (r : Slot) : Type 0 where
-  pub phase-is : PhaseAt c (from + n) (r .phase)
+-- n steps are counted by their marks ms: how many are strained where the decoded bits us are encoded again from the state s, and the state after them
+pub record Counted (ms us : List ℕ) (s n : ℕ) (r : Slot) : Type 0 where
   pub small : r .state < 64
-  pub count-is : r .count ≡ counted (slotStrained c re im m scale from state us) n
-  pub state-is : r .state ≡ stateAt 32 state us n
+  pub count-is : r .count ≡ summed (marked ms s us) n
+  pub state-is : r .state ≡ stateAt 32 s us n
 
--- the strained steps of slot v of a run
-abbrev pub runStrain : Combination → List Float → List Float → Mapping → Float → ℕ → List ℕ → ℕ → ℕ
-runStrain c re im m scale s us v = counted (λ i. pieceStrained c re im m scale s us (slotSteps c * v + i)) (slotSteps c)
+-- the strained steps of slot v of a run whose slots have w steps
+abbrev pub runStrain : ℕ → List ℕ → ℕ → List ℕ → ℕ → ℕ
+runStrain w ms s us v = summed (λ i. marked ms s us (w * v + i)) w
 
 -- n slots of a run are counted
-pub record RunCounted (c : Combination) (re im : List Float) (m : Mapping) (scale : Float) (us : List ℕ) (start n : ℕ) (r : RunCount) (counts₀ counts : List ℕ) : Type 0 where
+pub record RunCounted (w : ℕ) (ms us : List ℕ) (s n : ℕ) (r : RunCount) (counts₀ counts : List ℕ) : Type 0 where
   pub small : r .state < 64
-  pub state-is : r .state ≡ stateAt 32 start us (slotSteps c * n)
-  pub sum-is : r .sum ≡ summed (runStrain c re im m scale start us) n
-  pub counts-are : counts ≡ laid (upto (runStrain c re im m scale start us) n) counts₀
+  pub state-is : r .state ≡ stateAt 32 s us (w * n)
+  pub sum-is : r .sum ≡ summed (runStrain w ms s us) n
+  pub counts-are : counts ≡ laid (upto (runStrain w ms s us) n) counts₀
 
--- the strained steps of valid slot j of a frame whose decoded bits us are encoded again from the state s
-abbrev pub frameStrain : Table → Received → ℕ → List ℕ → ℕ → ℕ
-frameStrain t r s us = bySlot t (λ k. bit (strainedAt t r s us k))
+-- the strained steps of valid slot j of a frame with the marks ms, whose decoded bits us are encoded again from the state s
+abbrev pub frameStrain : Table → List ℕ → ℕ → List ℕ → ℕ → ℕ
+frameStrain t ms s us = bySlot t (marked ms s us)

@@ -36,21 +36,17 @@ zero-summed f zero e i h = absurd (not-suc-le-zero h)
 zero-summed f (suc n) e i h = below-more (λ i. f i ≡ 0) n (zero-summed f n (omega (arith, e))) (omega (arith, e)) i (omega arith)
 
 -- ---- counts
-bit-few : (b : Bool) → bit b ≤ 1
+pub bit-few : (b : Bool) → bit b ≤ 1
 bit-few true = omega arith
 bit-few false = omega arith
 
-pub counted-few : (p : ℕ → Bool) (n : ℕ) → counted p n ≤ n
+pub summed-few : (f : ℕ → ℕ) (n : ℕ) → ((i : ℕ) → f i ≤ 1) → summed f n ≤ n
 unfolding summed
-counted-few p zero = omega arith
-counted-few p (suc n) = omega (arith, counted-few p n, bit-few (p n))
+summed-few f zero h = omega arith
+summed-few f (suc n) h = omega (arith, summed-few f n h, h n)
 
-bit-zero : (b : Bool) → bit b ≡ 0 → b ≡ false
-bit-zero true e = absurd (omega (arith, e))
-bit-zero false e = refl
+pub counted-few : (p : ℕ → Bool) (n : ℕ) → counted p n ≤ n
+counted-few p n = summed-few (λ i. bit (p i)) n (λ i. bit-few (p i))
 
 pub counted-none : (p : ℕ → Bool) (n : ℕ) → ((i : ℕ) → i < n → p i ≡ false) → counted p n ≡ 0
 counted-none p n h = summed-zero (λ i. bit (p i)) n (λ i l. ap bit (h i l))
-
-pub none-counted : (p : ℕ → Bool) (n : ℕ) → counted p n ≡ 0 → (i : ℕ) → i < n → p i ≡ false
-none-counted p n e i l = bit-zero (p i) (zero-summed (λ i. bit (p i)) n e i l)

@@ -1,5 +1,7 @@
 pub mod Counts
 pub mod CountsLaws
+pub mod Marks
+pub mod MarksLaws
 pub mod Slots
 pub mod SlotsLaws
 pub mod Strain

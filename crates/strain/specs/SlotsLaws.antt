@@ -10,7 +10,7 @@ use Rattle.isdbs_tables.specs.declared.Table.{Table}
 use Rattle.isdbs_combination.specs.Combinations.{unitOf, slotSteps}
 use Rattle.isdbs_runs.specs.RunsOf.{runsOf, validIn, validTotal, stepsOf, stepsIn, frameSteps}
 use Rattle.isdbs_points.specs.Layout.{Segment, segmentOf, segmentsFrom, segments, among}
-use Rattle.isdbs_points.specs.Places.{In, Fill, Found, among-at, among-past, find}
+use Rattle.isdbs_points.specs.Places.{In, Fill, Found, among-at, find}
 use Rattle.isdbs_tables.specs.Tables.{TableAccepted}
 use Rattle.isdbs_points.specs.Sizes.{table-whole, step-fits}
 use Rattle.strain.specs.Counts.{summed}
@@ -58,13 +58,9 @@ module _ (t : Table) where
   table-slots : Fill slotOf slotsOf (segments t) 0 (validTotal t)
   table-slots = rw (zero-add (validTotal t)) at (fill-slots (runsOf t) 0 0 0 (omega arith))
 
-  -- what stands at a slot of a segment; past the valid slots there is none
-  module _ {A : Type 0} (none : A) (f : Segment → ℕ → A) where
-    pub at-slot : (g : Segment) → In g (segments t) → (v : ℕ) → v < slotsOf g → atSlot none f t (slotOf g + v) ≡ f g v
-    at-slot g m v l = among-at slotOf slotsOf none f g (segments t) 0 (validTotal t) m table-slots v l
-
-    pub past-slots : (j : ℕ) → validTotal t ≤ j → atSlot none f t j ≡ none
-    past-slots j l = among-past slotOf slotsOf none f (segments t) 0 (validTotal t) table-slots j l
+  -- what stands at a slot of a segment
+  at-slot : {A : Type 0} (none : A) (f : Segment → ℕ → A) (g : Segment) → In g (segments t) → (v : ℕ) → v < slotsOf g → atSlot none f t (slotOf g + v) ≡ f g v
+  at-slot none f g m v l = among-at slotOf slotsOf none f g (segments t) 0 (validTotal t) m table-slots v l
 
   pub find-slot : (j : ℕ) → j < validTotal t → Found slotOf slotsOf (segments t) j
   find-slot j l = find slotOf slotsOf (segments t) 0 (validTotal t) j table-slots (omega arith) l

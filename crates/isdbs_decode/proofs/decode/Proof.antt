@@ -29,7 +29,7 @@ decode-bits-requires c κs = search needs
 
 add-end : tie.Need-add-end
 add-end c =
-    let st = c .before .before .before .before .before .before .before .before .before .before .before .before .before .before .before .before .before in
+    let st = c .before .before .before .before .before .before .before .before .before .before .before .before .before .before .before .before .before .before .before .before .before in
     let ps = ap (λ (z : Plan). z .steps) (st .pre .0 .is) in
     let r = st .pre .4 in
     record { fits = omega arith }
@@ -42,20 +42,20 @@ part-write-bytes-start c = search needs
 
 part-write-bytes-end : tie.Need-part-write-bytes-end
 part-write-bytes-end c =
-    let st = c .before .before .before .before .before .before .before .before .before .before .before .before .before .before .before .before .before .before in
+    let st = c .before .before .before .before .before .before .before .before .before .before .before .before .before .before .before .before .before .before .before .before .before .before in
     let ps = ap (λ (z : Plan). z .steps) (st .pre .0 .is) in
     search needs
 
 write-bytes-requires : tie.Need-write-bytes-requires
 write-bytes-requires c κs =
-    let st = c .before .before .before .before .before .before .before .before .before .before .before .before .before .before .before .before .before .before .before .before in
+    let st = c .before .before .before .before .before .before .before .before .before .before .before .before .before .before .before .before .before .before .before .before .before .before .before .before in
     let rx = receivedBy (st .args .re .now) (st .args .im .now) (st .args .o .mapping) (st .args .o .scales) in
-    let pm = c .before .before .before .before .before .before .before .before .before .before .before .before .start-values .result in
-    let db = c .before .before .before .before .before .before .before .before .decode-bits in
+    let pm = c .before .before .before .before .before .before .before .before .before .before .before .before .before .before .before .start-values .result in
+    let db = c .before .before .before .before .before .before .before .before .before .before .decode-bits in
     let n = from-count (st .args .p .table) rx pm in
     let ps = ap (λ (z : Plan). z .steps) (st .pre .0 .is) in
-    let front : take (st .args .p .steps + 16 - 0) (db .last .1 .1 .1 .1 .1 .1 .1 .0) ≡ bitsFrom (st .args .p .table) rx pm = front-is _ (bitsFrom (st .args .p .table) rx pm) (st .args .bits .now) (st .args .p .steps + 16 - 0) (db .ensures .0) (omega arith) in (
-      c .before .before .before .before .before .before .before .before .before .before .before .before .before .before .start-state .ensures .1,
+    let front : take (st .args .p .steps + 16 - 0) (db .last .1 .1 .1 .1 .1 .1 .1 .0) ≡ bitsFrom (st .args .p .table) rx pm = front-is _ (bitsFrom (st .args .p .table) rx pm) (st .args .bits .now) (st .args .p .steps + 16 - 0) (db .ensures .0 .0) (omega arith) in (
+      c .before .before .before .before .before .before .before .before .before .before .before .before .before .before .before .before .before .start-state .ensures .1,
       st .pre .0,
       st .pre .1,
       st .pre .2,
@@ -73,25 +73,30 @@ same-length-2 c = search needs
 same-length-3 : tie.Need-same-length-3
 same-length-3 c = search needs
 
+same-length-4 : tie.Need-same-length-4
+same-length-4 c = search needs
+
 returns : tie.Need-returns
 unfolding bytesFrom
 returns c =
-    let st = c .before .before .before .before .before .before .before .before .before .before .before .before .before .before .before .before .before .before .before .before .before .before .before in
+    let st = c .before .before .before .before .before .before .before .before .before .before .before .before .before .before .before .before .before .before .before .before .before .before .before .before .before .before .before in
     let rx = receivedBy (st .args .re .now) (st .args .im .now) (st .args .o .mapping) (st .args .o .scales) in
-    let pm = c .before .before .before .before .before .before .before .before .before .before .before .before .before .before .before .start-values .result in
-    let db = c .before .before .before .before .before .before .before .before .before .before .before .decode-bits in
+    let pm = c .before .before .before .before .before .before .before .before .before .before .before .before .before .before .before .before .before .before .start-values .result in
+    let db = c .before .before .before .before .before .before .before .before .before .before .before .before .before .decode-bits in
     let n = from-count (st .args .p .table) rx pm in
     let ps = ap (λ (z : Plan). z .steps) (st .pre .0 .is) in
-    let front : take (st .args .p .steps + 16 - 0) (db .last .1 .1 .1 .1 .1 .1 .1 .0) ≡ bitsFrom (st .args .p .table) rx pm = front-is _ (bitsFrom (st .args .p .table) rx pm) (st .args .bits .now) (st .args .p .steps + 16 - 0) (db .ensures .0) (omega arith) in
-    let es = c .before .before .before .before .before .before .before .before .before .before .before .before .before .before .before .before .before .start-state .ensures .0 in
-    let epm : pm ≡ startValues (st .args .o .«known_start») (st .args .first) = c .before .before .before .before .before .before .before .before .before .before .before .before .before .before .before .start-values .ensures ∙ ap (λ (z : ℕ). cond (st .args .o .«known_start») (startAt 64 z) (startUnknown 64)) es in
+    let front : take (st .args .p .steps + 16 - 0) (db .last .1 .1 .1 .1 .1 .1 .1 .0) ≡ bitsFrom (st .args .p .table) rx pm = front-is _ (bitsFrom (st .args .p .table) rx pm) (st .args .bits .now) (st .args .p .steps + 16 - 0) (db .ensures .0 .0) (omega arith) in
+    let es = c .before .before .before .before .before .before .before .before .before .before .before .before .before .before .before .before .before .before .before .before .start-state .ensures .0 in
+    let epm : pm ≡ startValues (st .args .o .«known_start») (st .args .first) = c .before .before .before .before .before .before .before .before .before .before .before .before .before .before .before .before .before .before .start-values .ensures ∙ ap (λ (z : ℕ). cond (st .args .o .«known_start») (startAt 64 z) (startUnknown 64)) es in
     let whole : bitsFrom (st .args .p .table) rx pm ≡ decodedBits (st .args .p .table) rx (st .args .o .«known_start») (st .args .first) =
-    ap (λ (z : List Float). bitsFrom (st .args .p .table) rx z) epm ∙ sym (decoded-from (st .args .p .table) rx (st .args .o .«known_start») (st .args .first)) in
-    record {
-      words = db .ensures .1;
-      decoded = db .ensures .0 ∙ ap (λ (z : List ℕ). laid z (st .args .bits .now)) whole;
-      load = rw (front ∙ whole, es) at (c .before .before .write-bytes .ensures (scaleOf (st .args .o .scales)));
-    }
+    ap (λ (z : List Float). bitsFrom (st .args .p .table) rx z) epm ∙ sym (decoded-from (st .args .p .table) rx (st .args .o .«known_start») (st .args .first)) in (
+      record {
+        words = db .ensures .0 .1;
+        decoded = db .ensures .0 .0 ∙ ap (λ (z : List ℕ). laid z (st .args .bits .now)) whole;
+        load = rw (front ∙ whole, es) at (c .before .before .write-bytes .ensures (scaleOf (st .args .o .scales)));
+      },
+      db .ensures .1,
+    )
 
 pub decode-spec : {M : Type 1} → statement M
 decode-spec =
@@ -108,4 +113,5 @@ decode-spec =
     same-length
     same-length-2
     same-length-3
+    same-length-4
     returns)

@@ -1,9 +1,10 @@
 -- `read_runs` meets its contract. Assumes nothing.
 use borrow.Author.Needs.{needs}
-use Rattle.isdbs_pack.proofs.FrameRuns.{listed-runs, steps-by, part-covers}
+use Rattle.isdbs_pack.proofs.FrameRuns.{listed-runs, steps-by, part-covers, tail-is}
 use Rattle.isdbs_decode.proofs.FrameSteps.{Read, read-first, read-next, read-last}
+use Rattle.isdbs_decode.proofs.FrameMarks.{Marked, marked-first, marked-next, marked-last}
 use Rattle.isdbs_runs.specs.RunsOf.{noRun}
-use lib.ListN.{getD}
+use lib.ListN.{getD, length-drop}
 use lib.Ieee.{nan}
 use native.Mathlib.Omega.{arith}
 use Prim.Native.Nat.{ℕ, _-_}
@@ -12,15 +13,16 @@ use Rattle.isdbs_decode.proofs.read_runs.Statement.{statement}
 use Rattle.isdbs_decode.proofs.read_runs.Tie as tie
 
 abbrev Inv-loop : tie.InvT-loop
-Inv-loop m pm₀ re im decisions₀ bits₀ scales count list at₀ step₀ i₀ pm decisions bits at step i = Read m scales pm₀ re im decisions₀ bits₀ count list pm decisions bits at step i
+Inv-loop m pm₀ re im decisions₀ bits₀ marks₀ scales count list at₀ step₀ i₀ pm decisions bits marks at step i = Read m scales pm₀ re im decisions₀ bits₀ count list pm decisions bits at step i × Marked m scales re im marks₀ count list marks step
 
 abbrev μ-loop : tie.MeasureT-loop
-μ-loop m pm₀ re im decisions₀ bits₀ scales count list at₀ step₀ i₀ pm decisions bits at step i = count - i
+μ-loop m pm₀ re im decisions₀ bits₀ marks₀ scales count list at₀ step₀ i₀ pm decisions bits marks at step i = count - i
 
 loop-holds : tie.Need-loop-holds Inv-loop μ-loop
 loop-holds c =
-    let st = c .before .before .before .before .before in
-    read-first (listed-runs (st .args .p) (st .pre .0)) (st .pre .1) (st .pre .2) (st .pre .3) (st .pre .4)
+    let st = c .before .before .before .before .before .before in
+    let l = listed-runs (st .args .p) (st .pre .0) in
+    (read-first l (st .pre .1) (st .pre .2) (st .pre .3) (st .pre .4), marked-first l (st .pre .5))
 
 mul-r : tie.Need-mul-r Inv-loop μ-loop
 mul-r c = search needs
@@ -33,7 +35,7 @@ steps-per-slot-requires c κs = search needs
 
 mul-n : tie.Need-mul-n Inv-loop μ-loop
 mul-n c =
-    let e = steps-by (getD (c .before .before .before .before .before .before .before .before .before .before .args .p .runs) (c .before .before .before .before .loop .i) noRun) _ (c .before .steps-per-slot .ensures) in
+    let e = steps-by (getD (c .before .before .before .before .before .before .before .before .before .before .before .args .p .runs) (c .before .before .before .before .loop .i) noRun) _ (c .before .steps-per-slot .ensures) in
     record { fits = omega arith }
 
 scale-place-requires : tie.Need-scale-place-requires Inv-loop μ-loop
@@ -69,16 +71,30 @@ part-read-run-start-2 c = search needs
 part-read-run-end-2 : tie.Need-part-read-run-end-2 Inv-loop μ-loop
 part-read-run-end-2 c = search needs
 
+sub-read-run-3 : tie.Need-sub-read-run-3 Inv-loop μ-loop
+sub-read-run-3 c = search needs
+
+part-read-run-start-3 : tie.Need-part-read-run-start-3 Inv-loop μ-loop
+part-read-run-start-3 c = search needs
+
+part-read-run-end-3 : tie.Need-part-read-run-end-3 Inv-loop μ-loop
+part-read-run-end-3 c = search needs
+
 read-run-requires : tie.Need-read-run-requires Inv-loop μ-loop
 read-run-requires c κs =
-    let h = c .before .before .before .before .before .before .before in
-    let w = h .before .before .before in
-    let st = w .before .before .before .before .before .before in
-    let e = steps-by (getD (st .args .p .runs) (w .loop .i) noRun) _ (h .steps-per-slot .ensures) in
-    let r = w .loop .inv in (
+    let st = c .before .before .before .before .before .before .before .before .before .before .before .before .before .before .before .before .before .before in
+    let at = c .before .before .before .before .before .before .before .before .before .before .before .loop in
+    let e = steps-by (getD (st .args .p .runs) (at .i) noRun) _ (c .before .before .before .before .before .before .before .before .steps-per-slot .ensures) in
+    let r = at .inv .0 in
+    let w = at .inv .1 in
+    let g = w .fits in
+    let s = w .same in
+    let f = r .run .steps-fit in
+    let d = length-drop (at .step) (at .marks) in (
       r .few,
       r .words-fit,
       omega arith,
+      rw (tail-is (at .step) (at .marks)) (omega arith),
       omega arith,
       part-covers _ _ (r .run .runs) _ (st .args .re .now) _ (r .re-fits) e,
       part-covers _ _ (r .run .runs) _ (st .args .im .now) _ (r .im-fits) e,
@@ -86,9 +102,10 @@ read-run-requires c κs =
 
 add-step : tie.Need-add-step Inv-loop μ-loop
 add-step c =
-    let h = c .before .before .before .before .before .before .before .before .before .before .before .before in
-    let w = h .before .before .before in
-    let e = steps-by (getD (w .before .before .before .before .before .before .args .p .runs) (w .loop .i) noRun) _ (h .steps-per-slot .ensures) in
+    let at = c .before .before .before .before .before .before .before .before .before .before .before .before .before .before .before .before .before .before .loop in
+    let e = steps-by (getD (c .before .before .before .before .before .before .before .before .before .before .before .before .before .before .before .before .before .before .before .before .before .before .before .before .before .args .p .runs) (at .i) noRun) _ (c .before .before .before .before .before .before .before .before .before .before .before .before .before .before .before .steps-per-slot .ensures) in
+    let f = at .inv .0 .run .steps-fit in
+    let ls = at .inv .0 .run .runs .steps in
     record { fits = omega arith }
 
 add-i : tie.Need-add-i Inv-loop μ-loop
@@ -99,12 +116,13 @@ loop-less c = search needs
 
 loop-again : tie.Need-loop-again Inv-loop μ-loop
 loop-again c =
-    let h = c .before .before .before .before .before .before .before .before .before .before .before .before in
-    let w = h .before .before .before in
-    let st = w .before .before .before .before .before .before in
-    let e = steps-by (getD (st .args .p .runs) (w .loop .i) noRun) _ (h .steps-per-slot .ensures) in
-    let x = ap (λ (k : ℕ). getD (st .args .t3) k nan) (c .before .before .before .before .before .before .before .before .before .before .scale-place .ensures .0) in
-    read-next (w .loop .inv) (h .before .before .loop-test .taken) e (search needs) (search needs) _ x (c .before .before .before .before .read-run .ensures)
+    let st = c .before .before .before .before .before .before .before .before .before .before .before .before .before .before .before .before .before .before .before .before .before .before .before .before .before in
+    let at = c .before .before .before .before .before .before .before .before .before .before .before .before .before .before .before .before .before .before .loop in
+    let l = c .before .before .before .before .before .before .before .before .before .before .before .before .before .before .before .before .before .loop-test .taken in
+    let e = steps-by (getD (st .args .p .runs) (at .i) noRun) _ (c .before .before .before .before .before .before .before .before .before .before .before .before .before .before .before .steps-per-slot .ensures) in
+    let x = ap (λ (k : ℕ). getD (st .args .t3) k nan) (c .before .before .before .before .before .before .before .before .before .before .before .before .before .scale-place .ensures .0) in
+    let k = c .before .before .before .before .before .before .read-run .ensures in
+    (read-next (at .inv .0) l e (search needs) (search needs) _ x (k .0), marked-next (at .inv .0 .run) (at .inv .1) l e _ x (k .1))
 
 same-length : tie.Need-same-length Inv-loop μ-loop
 same-length c = search needs
@@ -112,10 +130,15 @@ same-length c = search needs
 same-length-2 : tie.Need-same-length-2 Inv-loop μ-loop
 same-length-2 c = search needs
 
+same-length-3 : tie.Need-same-length-3 Inv-loop μ-loop
+same-length-3 c = search needs
+
 returns : tie.Need-returns Inv-loop μ-loop
 returns c =
-    let st = c .before .before .before .before .before .before .before in
-    read-last (listed-runs (st .args .p) (st .pre .0)) (c .before .loop .inv) (omega arith)
+    let st = c .before .before .before .before .before .before .before .before in
+    let l = listed-runs (st .args .p) (st .pre .0) in
+    let h = c .before .loop .inv in
+    (read-last l (h .0) (omega arith), marked-last l (h .0 .run) (omega arith) (h .1))
 
 pub read-runs-spec : {M : Type 1} → statement M
 read-runs-spec =
@@ -139,6 +162,9 @@ read-runs-spec =
     sub-read-run-2
     part-read-run-start-2
     part-read-run-end-2
+    sub-read-run-3
+    part-read-run-start-3
+    part-read-run-end-3
     read-run-requires
     add-step
     add-i
@@ -146,4 +172,5 @@ read-runs-spec =
     loop-again
     same-length
     same-length-2
+    same-length-3
     returns)

@@ -1,0 +1,24 @@
+-- `labels` meets its contract: a test of the 128 entries, which antt computes. Assumes nothing.
+use mathlib.Core.Bool.{Bool}
+use mathlib.Core.List.{List}
+use Prim.Native.Nat.{ℕ, _/_, _%_}
+use lib.Dec.{T, eqb, eqb→eq}
+use lib.ListN.{getD}
+use Rattle.trellis.specs.Code.{isdb, tapped, output, label}
+use Rattle.acs.proofs.Table.{all, at}
+use Rattle.isdbs_strain.specs.Pieces.{Labels}
+use Rattle.isdbs_strain.proofs.labels.Statement.{statement}
+use Rattle.isdbs_strain.proofs.labels.Tie as tie
+
+abbrev entry : ℕ → ℕ → Bool
+entry k n = eqb n (label isdb (k / 64) (k % 64))
+
+labels-are : (l : List ℕ) → T (all 128 entry l) → Labels l
+labels-are l t = record { are = λ k h. eqb→eq (getD l k 0) (label isdb (k / 64) (k % 64)) (at 128 entry 0 l t k h) }
+
+returns : tie.Need-returns
+unfolding tapped output label
+returns c = labels-are _ tt
+
+pub labels-spec : {M : Type 1} → statement M
+labels-spec = tie.close (tie.spec returns)
