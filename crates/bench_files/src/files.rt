@@ -1,10 +1,10 @@
 // Files: read whole, and written whole or not at all.
 use crate::points;
+use bench_line::words::front;
+use bench_line::words::same;
 use bench_words::text::number;
 use bench_words::text::quoted;
 use bench_words::text::text;
-use bench_line::words::front;
-use bench_line::words::same;
 ghost use Rattle.libc.specs.Io.{Ended};
 
 // The bytes of a full load of 48 slots, and one more, so that a file that is longer is told from one that is full.
@@ -274,6 +274,36 @@ pub fn read_points(file: i32, name: &[u8], re: &mut [f64], im: &mut [f64]) -> Go
     }
 }
 
+// The last 5 bytes of a name; all of a shorter one.
+fn end_of<'a>(name: &'a [u8]) -> &'a [u8] {
+    if name.len() < 5 {
+        return name;
+    }
+    &name[name.len() - 5..]
+}
+
+// Whether an output's name is free of the ending that staged files have; else says so.
+pub fn is_plain(name: &[u8]) -> bool {
+    if !same(end_of(name), b".part") {
+        return true;
+    }
+    text(b"failed: the output ");
+    quoted(name);
+    text(b" has the ending of a file that is being written\n");
+    false
+}
+
+// Whether two outputs have two names; else says so.
+pub fn are_two(a: &[u8], b: &[u8]) -> bool {
+    if !same(a, b) {
+        return true;
+    }
+    text(b"failed: two outputs have the name ");
+    quoted(a);
+    text(b"\n");
+    false
+}
+
 // The file that is written before it takes the output's name.
 fn part_name(name: &[u8], part: &mut [u8; 4096]) -> usize {
     let at = put(part, 0, name);
@@ -321,8 +351,8 @@ pub fn discard(name: &[u8]) {
     os::unlink(front_of(&space, n));
 }
 
-// Writes a file of bytes, and answers whether it is there.
-pub fn write_bytes(name: &[u8], bytes: &[u8]) -> bool {
+// Writes bytes beside the output's place, and answers whether all are there: `keep` or `discard` follows.
+pub fn stage_bytes(name: &[u8], bytes: &[u8]) -> bool {
     let mut space = io::buffer();
     let n = part_name(name, &mut space);
     let part = front_of(&space, n);
@@ -331,7 +361,12 @@ pub fn write_bytes(name: &[u8], bytes: &[u8]) -> bool {
         return false;
     }
     let is_written = io::write_all(file, bytes);
-    close_part(file, is_written, part, name) && keep(name)
+    close_part(file, is_written, part, name)
+}
+
+// Writes a file of bytes, and answers whether it is there.
+pub fn write_bytes(name: &[u8], bytes: &[u8]) -> bool {
+    stage_bytes(name, bytes) && keep(name)
 }
 
 fn pour(file: i32, narrow: bool, re: &[f64], im: &[f64]) -> bool {

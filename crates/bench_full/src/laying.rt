@@ -2,9 +2,9 @@
 use crate::points;
 use bench_files::files;
 use bench_files::files::Got;
-use bench_words::text::text;
 use bench_line::words::front_parts;
 use bench_line::words::part;
+use bench_words::text::text;
 
 // Reads the points of an input, where the output may be written.
 fn read_input(kind: &[u8], input: &[u8], output: &[u8], re: &mut [f64], im: &mut [f64]) -> Got {

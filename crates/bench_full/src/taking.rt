@@ -1,50 +1,18 @@
 // part: a full frame to header, main and burst points.
 use crate::points;
 use bench_files::files;
-use bench_words::text::quoted;
-use bench_words::text::text;
 use bench_line::words::front_parts;
 use bench_line::words::part;
-use bench_line::words::same;
-
-// The last 5 bytes of a name; all of a shorter one.
-fn end_of<'a>(name: &'a [u8]) -> &'a [u8] {
-    if name.len() < 5 {
-        return name;
-    }
-    &name[name.len() - 5..]
-}
-
-// Whether an output's name is free of the ending that staged files have; else says so.
-fn is_plain(name: &[u8]) -> bool {
-    if !same(end_of(name), b".part") {
-        return true;
-    }
-    text(b"failed: the output ");
-    quoted(name);
-    text(b" has the ending of a file that is being written\n");
-    false
-}
-
-// Whether two outputs have two names; else says so.
-fn are_two(a: &[u8], b: &[u8]) -> bool {
-    if !same(a, b) {
-        return true;
-    }
-    text(b"failed: two outputs have the name ");
-    quoted(a);
-    text(b"\n");
-    false
-}
+use bench_words::text::text;
 
 // Whether three outputs can be staged side by side; else says why not.
 fn are_three(header: &[u8], signal: &[u8], burst: &[u8]) -> bool {
-    is_plain(header)
-        && is_plain(signal)
-        && is_plain(burst)
-        && are_two(header, signal)
-        && are_two(header, burst)
-        && are_two(signal, burst)
+    files::is_plain(header)
+        && files::is_plain(signal)
+        && files::is_plain(burst)
+        && files::are_two(header, signal)
+        && files::are_two(header, burst)
+        && files::are_two(signal, burst)
 }
 
 // Opens the full frame, where its three outputs may be written; else says why not and answers -1.

@@ -1,15 +1,15 @@
 // compare: how many bytes of two loads agree.
 use crate::usage::misused;
 use bench_files::files;
+use bench_line::words;
+use bench_line::words::front;
+use bench_line::words::part;
+use bench_line::words::parts;
 use bench_words::report;
 use bench_words::report::Valid;
 use bench_words::text::count;
 use bench_words::text::quoted;
 use bench_words::text::text;
-use bench_line::words;
-use bench_line::words::front;
-use bench_line::words::part;
-use bench_line::words::parts;
 use isdbs_core::slots;
 use isdbs_core::tmcc::Table;
 use refusal::Answer;

@@ -1,8 +1,8 @@
 // The demonstration on built-in data.
+use bench_line::words::front;
 use bench_words::report;
 use bench_words::text::count;
 use bench_words::text::text;
-use bench_line::words::front;
 use isdbs_core::tmcc;
 use isdbs_core::tmcc::Entry;
 use isdbs_core::tmcc::Table;

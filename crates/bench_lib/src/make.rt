@@ -3,14 +3,14 @@ use crate::setting::Setting;
 use crate::setting::setting_of;
 use crate::usage::misused;
 use bench_files::files;
+use bench_line::words::front;
+use bench_line::words::part;
+use bench_line::words::parts;
 use bench_words::report;
 use bench_words::report::Valid;
 use bench_words::text::count;
 use bench_words::text::quoted;
 use bench_words::text::text;
-use bench_line::words::front;
-use bench_line::words::part;
-use bench_line::words::parts;
 use isdbs_phy::demod::encode_frame;
 
 // The load that was read, against what the frame carries.

@@ -1,24 +1,16 @@
-// read: points of a frame to bytes.
+// The words of read.
 use crate::setting::Setting;
 use crate::setting::setting_of;
 use crate::usage::misused;
-use bench_files::files;
-use bench_words::report;
-use bench_words::report::Valid;
-use bench_words::text::count;
-use bench_words::text::quoted;
-use bench_words::text::text;
 use bench_line::words;
 use bench_line::words::MaybeScale;
 use bench_line::words::front;
-use bench_line::words::front_parts;
 use bench_line::words::part;
 use bench_line::words::parts;
 use bench_line::words::same;
-use isdbs_core::tmcc::Table;
-use isdbs_phy::demod::DemodOptions;
-use isdbs_phy::demod::FrameDecoded;
-use isdbs_phy::demod::decode_frame;
+use bench_read::Reading;
+use bench_words::report;
+use bench_words::report::Valid;
 ghost use Prim.Native.Nat.{_<_};
 
 // How the reading starts, and its scales in the order of words 1 to 7.
@@ -37,7 +29,10 @@ fn chosen(is_good: bool, known_start: bool, scales: [f32; 7]) -> Choice {
 }
 
 fn bad_choice(word: &[u8]) -> Choice {
-    misused(b"after BYTES comes [unknown] [SCALES], not", word);
+    misused(
+        b"after BYTES comes [unknown] [SCALES] [chart FILE], not",
+        word,
+    );
     chosen(false, false, [8.0f32; 7])
 }
 
@@ -81,9 +76,8 @@ fn scale_at(line: &[u8], i: usize, known_start: bool) -> Choice
     bad_choice(word)
 }
 
-// The words of `read` from the sixth on.
-fn choice_of(line: &[u8]) -> Choice {
-    let n = parts(line, 0);
+// The words of `read` from the sixth on, of which there are n in all.
+fn choice_of(line: &[u8], n: usize) -> Choice {
     if n == 6 {
         return chosen(true, true, [8.0f32; 7]);
     }
@@ -99,93 +93,40 @@ fn choice_of(line: &[u8]) -> Choice {
     scale_at(line, 7, false)
 }
 
-// Writes the bytes that were read, and reports.
-fn keep(name: &[u8], bytes: &[u8], t: Table, steps: usize, strained: u32, counts: &[u32; 48]) {
-    text(b"decoded: ");
-    count(steps);
-    text(b" trellis steps\n");
-    bench_strain::by_slot(t, counts);
-    bench_strain::in_all(steps, strained);
-    if files::write_bytes(name, bytes) {
-        text(b"bytes ");
-        quoted(name);
-        text(b": ");
-        count(bytes.len());
-        text(b" bytes\nok\n");
+// How many words stand before `chart FILE`.
+fn words_before(line: &[u8]) -> usize {
+    let n = parts(line, 0);
+    if n < 8 {
+        return n;
     }
+    if same(part(line, 0, n - 2), b"chart") {
+        return n - 2;
+    }
+    n
 }
 
-// Decodes the points, and keeps the bytes or says why they are refused.
-fn read_frame(
-    s: Setting,
-    c: Choice,
-    points: files::Got,
-    name: &[u8],
-    re: &[f64; 38976],
-    im: &[f64; 38976],
-    decisions: &mut [u64; 4224],
-    bits: &mut [u8; 68224],
-    bytes: &mut [u8; 9745],
-) {
-    let t = s.table;
+// The name after `chart`, or none.
+fn picture_of<'a>(line: &'a [u8], before: usize) -> &'a [u8] {
+    if before < parts(line, 0) {
+        return part(line, 0, before + 1);
+    }
+    front(line, 0)
+}
+
+fn reading_of(s: Setting, c: Choice) -> Reading {
+    let table = s.table;
     let mapping = s.mapping;
     let scales = c.scales;
-    let o = DemodOptions {
+    Reading {
+        table,
         mapping,
+        first: s.first,
         known_start: c.known_start,
         scales,
-    };
-    let n = points.count;
-    let mut counts = [0u32; 48];
-    let done = decode_frame(
-        front_parts(re, n),
-        front_parts(im, n),
-        t,
-        s.first,
-        o,
-        decisions,
-        bits,
-        bytes,
-        &mut counts,
-    );
-    match done {
-        FrameDecoded::Decoded(size, steps, strained) => {
-            keep(name, front(bytes, size), t, steps, strained, &counts);
-        }
-        FrameDecoded::Refused(answer) => report::refuse_reading(answer, n, points.over, re, im),
     }
 }
 
-// Reads the points, and decodes them.
-fn read_from(
-    s: Setting,
-    c: Choice,
-    input: &[u8],
-    output: &[u8],
-    re: &mut [f64; 38976],
-    im: &mut [f64; 38976],
-    decisions: &mut [u64; 4224],
-    bits: &mut [u8; 68224],
-    bytes: &mut [u8; 9745],
-) {
-    let file = files::open_for(input, output);
-    if file < 0 {
-        return;
-    }
-    text(b"reading the points\n");
-    let got = files::read_points(file, input, re, im);
-    if !got.well {
-        return;
-    }
-    text(b"frame ");
-    quoted(input);
-    text(b": ");
-    count(got.count);
-    text(b" points; decoding\n");
-    read_frame(s, c, got, output, re, im, decisions, bits, bytes);
-}
-
-// bench read TABLE MAPPING KIND FRAME BYTES [unknown] [SCALES]
+// bench read TABLE MAPPING KIND FRAME BYTES [unknown] [SCALES] [chart FILE]
 pub(crate) fn read(
     line: &[u8],
     re: &mut [f64; 38976],
@@ -194,10 +135,10 @@ pub(crate) fn read(
     bits: &mut [u8; 68224],
     bytes: &mut [u8; 9745],
 ) {
-    let n = parts(line, 0);
+    let n = words_before(line);
     if n < 6 || n > 9 {
         misused(
-            b"read takes TABLE MAPPING KIND FRAME BYTES [unknown] [SCALES]",
+            b"read takes TABLE MAPPING KIND FRAME BYTES [unknown] [SCALES] [chart FILE]",
             b"",
         );
         return;
@@ -206,17 +147,17 @@ pub(crate) fn read(
     if !s.is_good {
         return;
     }
-    let c = choice_of(line);
+    let c = choice_of(line, n);
     if !c.is_good {
         return;
     }
     let t = s.table;
     match report::table(t) {
-        Valid::Slots(_) => read_from(
-            s,
-            c,
+        Valid::Slots(_) => bench_read::read(
+            reading_of(s, c),
             part(line, 0, 4),
             part(line, 0, 5),
+            picture_of(line, n),
             re,
             im,
             decisions,

@@ -1,13 +1,13 @@
 // series: the strain of frame after frame.
 use crate::setting::setting_of;
 use crate::usage::misused;
-use bench_series::Reading;
-use bench_words::report;
-use bench_words::report::Valid;
 use bench_line::words::Number;
 use bench_line::words::digits;
 use bench_line::words::part;
 use bench_line::words::parts;
+use bench_series::Reading;
+use bench_words::report;
+use bench_words::report::Valid;
 
 // bench series WINDOW TABLE MAPPING KIND FRAME..
 pub(crate) fn series(

@@ -11,7 +11,7 @@ fn usage_commands() {
         b"  bench make TABLE MAPPING KIND LOAD FRAME                         bytes of LOAD to points in FRAME\n",
     );
     text(
-        b"  bench read TABLE MAPPING KIND FRAME BYTES [unknown] [SCALES]     points of FRAME to bytes in BYTES\n",
+        b"  bench read TABLE MAPPING KIND FRAME BYTES [unknown] [SCALES] [chart FILE]\n                                                                   points of FRAME to bytes in BYTES, and to a picture in FILE\n",
     );
     text(
         b"  bench compare TABLE SENT READ                                    how many bytes agree\n",

@@ -1,10 +1,10 @@
 // bytes: the full load behind the points of a wanted frame.
 use crate::setting::setting_of;
 use crate::usage::misused;
-use bench_words::report;
-use bench_words::report::Valid;
 use bench_line::words::part;
 use bench_line::words::parts;
+use bench_words::report;
+use bench_words::report::Valid;
 
 // bench bytes TABLE MAPPING KIND FRAME BYTES
 pub(crate) fn bytes(

@@ -1,11 +1,11 @@
 // The bench program's command on stored coded stretches: mend.
 use bench_files::files;
+use bench_line::words::front;
+use bench_line::words::part;
 use bench_words::report;
 use bench_words::text::count;
 use bench_words::text::quoted;
 use bench_words::text::text;
-use bench_line::words::front;
-use bench_line::words::part;
 use refusal::Answer;
 
 // A file of n bits, by what it holds and its name.

@@ -1,12 +1,12 @@
 // The bench program's command overlay: the exclusive-or of two loads.
 use bench_files::files;
 use bench_files::files::Got;
+use bench_line::words::front;
+use bench_line::words::part;
 use bench_words::report;
 use bench_words::text::count;
 use bench_words::text::quoted;
 use bench_words::text::text;
-use bench_line::words::front;
-use bench_line::words::part;
 use refusal::Answer;
 
 // The most bytes of a load.

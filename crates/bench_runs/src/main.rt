@@ -59,6 +59,37 @@ fn cut(name: &[u8], size: i64) {
     libc::close(file);
 }
 
+// Shows some of an open file, and answers whether there may be more.
+fn show_some(file: i32) -> bool {
+    let mut buffer = io::buffer();
+    let n = io::read_full(file, &mut buffer);
+    io::write_all(STDOUT_FILENO, &buffer[..n]);
+    n == 4096
+}
+
+// Shows an open file of up to 100 buffers.
+fn show_all(file: i32) {
+    let mut turns: usize = 100;
+    while turns > 0 && show_some(file) {
+        turns = turns - 1;
+    }
+}
+
+// Shows a file that was written.
+fn show(name: &[u8]) {
+    text(b"# the file ");
+    text(name);
+    text(b":\n");
+    let file = os::open_read(name);
+    if file < 0 {
+        text(b"there is none\n\n");
+        return;
+    }
+    show_all(file);
+    libc::close(file);
+    text(b"\n");
+}
+
 fn make_and_read() {
     bench(b"make 7:44,1:4 001 first load frame.cf64");
     bench(b"read 7:44,1:4 001 first frame.cf64 bytes");
@@ -146,6 +177,20 @@ fn strained() {
     patch(b"half.cf64", 26071, b"\xbf");
     patch(b"half.cf64", 26079, b"\x3f");
     bench(b"read 2:4 001 first half.cf64 half");
+}
+
+fn pictures() {
+    bench(b"read 2:4 001 first half.cf64 half chart half.svg");
+    show(b"half.svg");
+    bench(b"read 15:10,2:2,6:16,1:4 001 other mixed.cf64 mixed unknown scale 2 chart mixed.svg");
+    show(b"mixed.svg");
+    bench(b"read 15:48 001 first half.cf64 empty chart empty.svg");
+    bench(b"read 2:4 001 first half.cf64 none chart none");
+    bench(b"read 2:4 001 first half.cf64 none chart ./half.cf64");
+    bench(b"read 2:4 001 first half.cf64 none chart none.part");
+    bench(b"read 2:4 001 first half.cf64 none chart missing/none.svg");
+    show(b"none");
+    bench(b"read 2:4 001 first half.cf64 none chart");
 }
 
 fn series() {
@@ -296,6 +341,7 @@ fn main() {
     make_and_read();
     other_tables();
     strained();
+    pictures();
     series();
     full_frames();
     stretches();

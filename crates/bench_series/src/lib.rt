@@ -1,14 +1,14 @@
 // The bench program's command series: the strained steps of frame after frame, with the total and the greatest of the last frames.
 use bench_files::files;
 use bench_files::files::Got;
+use bench_line::words::front_parts;
+use bench_line::words::part;
+use bench_line::words::parts;
 use bench_words::report;
 use bench_words::text::count;
 use bench_words::text::number;
 use bench_words::text::quoted;
 use bench_words::text::text;
-use bench_line::words::front_parts;
-use bench_line::words::part;
-use bench_line::words::parts;
 use isdbs_core::tmcc::Table;
 use isdbs_phy::demod::DemodOptions;
 use isdbs_phy::demod::FrameDecoded;

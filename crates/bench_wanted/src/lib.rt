@@ -3,12 +3,12 @@ mod misfit;
 
 use bench_files::files;
 use bench_files::files::Got;
+use bench_line::words::front;
+use bench_line::words::front_parts;
 use bench_words::report;
 use bench_words::text::count;
 use bench_words::text::quoted;
 use bench_words::text::text;
-use bench_line::words::front;
-use bench_line::words::front_parts;
 use isdbs_core::tmcc::Table;
 use isdbs_points::Mapping;
 use refusal::Answer;

@@ -1,8 +1,8 @@
 // The first point that fits no load: the load that the points show is read off and encoded again, and the frames are compared point by point.
+use bench_line::words::front;
 use bench_words::report;
 use bench_words::text::count;
 use bench_words::text::text;
-use bench_line::words::front;
 use isdbs_core::slots::Plan;
 use isdbs_core::slots::plan_of;
 use isdbs_core::tmcc::Table;

@@ -1,0 +1,26 @@
+-- `number` meets its contract: `io::decimal` gives the digits. Assumes nothing.
+use borrow.Author.Needs.{needs}
+use Rattle.bench_sheet.proofs.number.Statement.{statement}
+use Rattle.bench_sheet.proofs.number.Tie as tie
+use Rattle.bench_sheet.proofs.number.Reads as reads
+use Rattle.bench_sheet.proofs.number.Lts as lts
+
+decimal-requires : tie.Need-decimal-requires
+decimal-requires c κs = search needs
+
+array-share-prefix-digits : tie.Need-array-share-prefix-digits
+array-share-prefix-digits c = search needs
+
+slice-aggregate-put : tie.Need-slice-aggregate-put
+slice-aggregate-put c = search needs
+
+put-requires : tie.Need-put-requires
+put-requires c κs = search needs
+
+returns : tie.Need-returns
+returns c =
+    let d = c .before .before .before .decimal in
+    record { count = d .result; fewest = d .ensures .1 .0; put = rw (d .ensures .1 .1) at (c .put .ensures) }
+
+pub number-spec : {M : Type 1} → statement M
+number-spec = tie.close (tie.spec decimal-requires array-share-prefix-digits slice-aggregate-put put-requires returns)

@@ -1,0 +1,106 @@
+use mathlib.Core.Path.{_≡_, refl}
+use mathlib.Core.Bool.{false, true}
+use mathlib.Core.List.{List}
+use Prim.Native.Nat.{ℕ, _-_, _+_, _≤_, _<_}
+use native.Mathlib.Numerals.{add-one}
+use native.Mathlib.Omega.{arith}
+use lib.ListN.{length, length-set}
+use lib.Dec.{leb}
+use lib.Seq.{paste, paste-zero, paste-suc, take-length}
+use borrow.Author.Tests.{le-leb, lt-leb}
+use Rattle.bench_sheet.specs.Sheet.{Put}
+use borrow.Author.Needs.{needs}
+use Rattle.bench_sheet.proofs.put.Statement.{statement}
+use Rattle.bench_sheet.proofs.put.Tie as tie
+use Rattle.bench_sheet.proofs.put.Reads as reads
+use Rattle.bench_sheet.proofs.put.Lts as lts
+
+-- what does not fit leaves the sheet as it was
+over : (at : ℕ) (s old : List ℕ) → 327680 < at + length s → Put at s old old 327681
+over at s old h = let e = lt-leb (at + length s) 327680 h in record { place = rw e; sheet = rw e }
+
+-- what fits is laid whole
+whole : (at : ℕ) (s old : List ℕ) → at + length s ≤ 327680 → Put at s old (paste old at s (length s)) (at + length s)
+whole at s old h = let e = le-leb (at + length s) 327680 h in record { place = rw e; sheet = rw (e, take-length s) }
+
+abbrev Inv-loop : tie.InvT-loop
+Inv-loop sheet₀ at s n i₀ sheet i = (i ≤ length s) × ((length sheet ≡ 327680) × (sheet ≡ paste sheet₀ at s i))
+
+abbrev μ-loop : tie.MeasureT-loop
+μ-loop sheet₀ at s n i₀ sheet i = length s - i
+
+-- src/lib.rt:15:9
+returns : tie.Need-returns Inv-loop μ-loop
+returns c = over _ _ _ (omega arith)
+
+-- src/lib.rt:18:9
+returns-2 : tie.Need-returns-2 Inv-loop μ-loop
+returns-2 c = over _ _ _ (omega arith)
+
+-- src/lib.rt:21:5
+size-requires : tie.Need-size-requires Inv-loop μ-loop
+size-requires c κs = search needs
+
+loop-holds : tie.Need-loop-holds Inv-loop μ-loop
+loop-holds c =
+    let a = c .before .before .before .before .before .args in
+    (omega arith, (c .before .before .size .ensures .1, paste-zero (a .sheet .now) (a .at) (a .s .now)))
+
+-- src/lib.rt:22:25
+shared-slice-read-sheet : tie.Need-shared-slice-read-sheet Inv-loop μ-loop
+shared-slice-read-sheet c = search needs
+
+-- src/lib.rt:22:15
+add-sheet : tie.Need-add-sheet Inv-loop μ-loop
+add-sheet c = search needs
+
+-- src/lib.rt:22:9
+element-write-sheet : tie.Need-element-write-sheet Inv-loop μ-loop
+element-write-sheet c = omega arith
+
+-- src/lib.rt:23:13
+add-i : tie.Need-add-i Inv-loop μ-loop
+add-i c = search needs
+
+-- src/lib.rt:21:5
+loop-less : tie.Need-loop-less Inv-loop μ-loop
+loop-less c = search needs
+
+-- src/lib.rt:21:5
+loop-again : tie.Need-loop-again Inv-loop μ-loop
+loop-again c =
+    let at = c .before .before in
+    let a = at .before .before .before .before .before .before .args in
+    let inv = at .loop .inv in
+    let known = at .before .before .before .size .ensures .1 in
+    (omega arith, (simp length-set (inv .1 .0), rw (inv .1 .1, add-one) (paste-suc (a .sheet .now) (a .at) (a .s .now) (at .loop .i) 0 (omega arith) (omega arith))))
+
+-- src/lib.rt:25:5
+add-result : tie.Need-add-result Inv-loop μ-loop
+add-result c = search needs
+
+-- src/lib.rt:11:1
+returns-3 : tie.Need-returns-3 Inv-loop μ-loop
+returns-3 c =
+    let at = c .before in
+    let end : at .loop .i ≡ length (at .before .before .before .before .before .before .args .s .now) = omega arith in
+    rw (at .loop .inv .1 .1, end) (whole _ _ _ (omega arith))
+
+pub put-spec : {M : Type 1} → statement M
+put-spec =
+    tie.close
+    (tie.spec
+    Inv-loop
+    μ-loop
+    size-requires
+    returns
+    returns-2
+    loop-holds
+    shared-slice-read-sheet
+    add-sheet
+    element-write-sheet
+    add-i
+    loop-less
+    loop-again
+    add-result
+    returns-3)
