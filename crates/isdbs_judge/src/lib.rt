@@ -1,0 +1,166 @@
+// The points of a received frame outside the margins of the frame that a load encodes to, counted by slot. No row is checked here.
+use isdbs_core::combination::Combination;
+use isdbs_core::combination::Modulation;
+use isdbs_core::slots::Plan;
+use isdbs_core::slots::Run;
+use isdbs_points::PART_LIMIT;
+ghost use mathlib.Core.Path.{_≡_};
+ghost use mathlib.Core.Bool.{cond, _&&_};
+ghost use Prim.Native.Nat.{_<_, _≤_};
+ghost use lib.ListN.{length};
+ghost use Rattle.trellis.specs.Lists.{upto, laid};
+ghost use Rattle.isdbs_combination.specs.Combinations.{modulationOf};
+ghost use Rattle.isdbs_frame.specs.Frame.{mainSymbols};
+ghost use Rattle.margins.specs.Margins.{between, keeps, anyAccepted, holds, isBpsk};
+ghost use Rattle.strain.specs.Counts.{summed};
+ghost use Rattle.verdict.specs.Outside.{frameSlots};
+ghost use Rattle.isdbs_judge.specs.Given.{reFree, imFree, outsideGiven, slotGiven};
+
+// The slots of a frame's main signal, and the symbols of each.
+pub const FRAME_SLOTS: usize = 48;
+
+pub const SLOT_SYMBOLS: usize = 812;
+
+fn both(a: bool, b: bool) -> bool
+    ensures { λ r. ⌜ r ≡ (a && b) ⌝ }
+{
+    if a { b } else { false }
+}
+
+fn pick(t: bool, a: bool, b: bool) -> bool
+    ensures { λ r. ⌜ r ≡ cond t a b ⌝ }
+{
+    if t { a } else { b }
+}
+
+// "A margin's ends belong to it."
+fn between(a: f64, b: f64, x: f64) -> bool
+    ensures { λ r. ⌜ r ≡ between a b x ⌝ }
+{
+    both(a <= x, x <= b)
+}
+
+// Finite and within the limit of a part.
+pub fn accepted(x: f64) -> bool
+    ensures { λ r. ⌜ r ≡ anyAccepted x ⌝ }
+{
+    between(-PART_LIMIT, PART_LIMIT, x)
+}
+
+// A part keeps the margin of a clean one: within 1/32 of 0; from 31/32 to 33/32 at 1; from 87/128 to 94/128 at 1/√2; negatives mirrored.
+fn keeps(clean: f64, x: f64) -> bool
+    ensures { λ r. ⌜ r ≡ keeps clean x ⌝ }
+{
+    let zero = between(-0.03125, 0.03125, x);
+    let one = between(0.96875, 1.03125, x);
+    let minus_one = between(-1.03125, -0.96875, x);
+    let root = between(0.6796875, 0.734375, x);
+    let minus_root = between(-0.734375, -0.6796875, x);
+    let d = pick(clean == 0.7071067811865476, root, minus_root);
+    let c = pick(clean == -1.0, minus_one, d);
+    let b = pick(clean == 1.0, one, c);
+    pick(clean == 0.0, zero, b)
+}
+
+// The same, or any accepted value where the part is free.
+fn holds(free: bool, clean: f64, x: f64) -> bool
+    ensures { λ r. ⌜ r ≡ holds free clean x ⌝ }
+{
+    pick(free, accepted(x), keeps(clean, x))
+}
+
+fn is_bpsk(c: Combination) -> bool
+    ensures { λ r. ⌜ r ≡ isBpsk (modulationOf c) ⌝ }
+{
+    let m = c.modulation();
+    match m {
+        Modulation::Bpsk => true,
+        Modulation::Qpsk => false,
+        Modulation::Tc8psk => false,
+    }
+}
+
+// Which parts of a point are free.
+pub struct Free {
+    pub re: bool,
+    pub im: bool,
+}
+
+// Of point k, by the first run that ends past it; both past all runs.
+fn free_at(list: [Run; 4], k: usize) -> Free
+    requires { ⌜ length list ≡ 4 ⌝ }
+    ensures { λ r. ⌜ (r .re ≡ reFree list k) × (r .im ≡ imFree list k) ⌝ }
+{
+    for i in 0..4 {
+        let r = list[i];
+        if k < r.symbol_end {
+            let c = r.combination;
+            return Free {
+                re: false,
+                im: is_bpsk(c),
+            };
+        }
+    }
+    Free { re: true, im: true }
+}
+
+// Point k has a part outside its margin.
+fn outside(list: [Run; 4], xs: &[f64], ys: &[f64], re: &[f64], im: &[f64], k: usize) -> bool
+    requires { ⌜ (length list ≡ 4) × (k < length (now xs)) × (k < length (now ys)) × (k < length (now re)) × (k < length (now im)) ⌝ }
+    ensures { λ r. ⌜ r ≡ outsideGiven list (now (xs .entry)) (now (ys .entry)) (now (re .entry)) (now (im .entry)) k ⌝ }
+{
+    let f = free_at(list, k);
+    let x = holds(f.re, xs[k], re[k]);
+    let y = holds(f.im, ys[k], im[k]);
+    !both(x, y)
+}
+
+// The points of slot j that have.
+fn count_slot(list: [Run; 4], xs: &[f64], ys: &[f64], re: &[f64], im: &[f64], j: usize) -> u32
+    requires { ⌜ (length list ≡ 4) × (j < frameSlots) × (mainSymbols ≤ length (now xs)) × (mainSymbols ≤ length (now ys)) × (mainSymbols ≤ length (now re)) × (mainSymbols ≤ length (now im)) ⌝ }
+    ensures { λ r. ⌜ r ≡ slotGiven list (now (xs .entry)) (now (ys .entry)) (now (re .entry)) (now (im .entry)) j ⌝ }
+{
+    let mut n: u32 = 0;
+    for i in 0..SLOT_SYMBOLS {
+        n = n + outside(list, xs, ys, re, im, SLOT_SYMBOLS * j + i) as u32;
+    }
+    n
+}
+
+// The first `slots` slots, each in its own count, and their sum.
+fn count_slots(
+    list: [Run; 4],
+    slots: usize,
+    xs: &[f64],
+    ys: &[f64],
+    re: &[f64],
+    im: &[f64],
+    counts: &mut [u32],
+) -> u32
+    requires { ⌜ (length list ≡ 4) × (slots ≤ frameSlots) × (mainSymbols ≤ length (now xs)) × (mainSymbols ≤ length (now ys)) × (mainSymbols ≤ length (now re)) × (mainSymbols ≤ length (now im)) × (slots ≤ length (now counts)) ⌝ }
+    ensures { λ r. ⌜ (now (counts .exit) ≡ laid (upto (slotGiven list (now (xs .entry)) (now (ys .entry)) (now (re .entry)) (now (im .entry))) slots) (now (counts .entry))) × (r ≡ summed (slotGiven list (now (xs .entry)) (now (ys .entry)) (now (re .entry)) (now (im .entry))) slots) ⌝ }
+{
+    let mut sum: u32 = 0;
+    for j in 0..slots {
+        let n = count_slot(list, xs, ys, re, im, j);
+        counts[j] = n;
+        sum = sum + n;
+    }
+    sum
+}
+
+// The points of a frame outside the margins of the encoded frame xs, ys: of each slot, and the sum.
+pub fn count_outside(
+    p: Plan,
+    xs: &[f64],
+    ys: &[f64],
+    re: &[f64],
+    im: &[f64],
+    counts: &mut [u32],
+) -> u32
+    requires { ⌜ (length (p .runs) ≡ 4) × (mainSymbols ≤ length (now xs)) × (mainSymbols ≤ length (now ys)) × (mainSymbols ≤ length (now re)) × (mainSymbols ≤ length (now im)) × (frameSlots ≤ length (now counts)) ⌝ }
+    ensures { λ r. ⌜ (now (counts .exit) ≡ laid (upto (slotGiven (p .runs) (now (xs .entry)) (now (ys .entry)) (now (re .entry)) (now (im .entry))) frameSlots) (now (counts .entry))) × (r ≡ summed (slotGiven (p .runs) (now (xs .entry)) (now (ys .entry)) (now (re .entry)) (now (im .entry))) frameSlots) ⌝ }
+{
+    let list = p.runs;
+    count_slots(list, FRAME_SLOTS, xs, ys, re, im, counts)
+}
