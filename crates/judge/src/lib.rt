@@ -1,0 +1,162 @@
+// The verdict: what a reading is worth. The points of a frame outside the margins of a load, for each of the frame's 48 slots (812 symbols each). Where there are none, no other load fits.
+use isdbs_core::frame::MAIN_SYMBOLS;
+use isdbs_core::slots::Plan;
+use isdbs_core::slots::plan_of;
+use isdbs_core::tmcc::Table;
+use isdbs_core::tmcc::table_answer;
+use isdbs_encode::encode_main;
+pub use isdbs_judge::FRAME_SLOTS;
+pub use isdbs_judge::SLOT_SYMBOLS;
+use isdbs_judge::accepted;
+use isdbs_judge::count_outside;
+pub use isdbs_points::Mapping;
+use isdbs_points::start_state;
+use refusal::Answer;
+ghost use mathlib.Core.Path.{_≡_};
+ghost use Prim.Native.Nat.{_≤_};
+ghost use lib.ListN.{length};
+ghost use Rattle.trellis.specs.Lists.{laid};
+ghost use Rattle.refusal.specs.Rows.{firstRow, Either};
+ghost use Rattle.isdbs_frame.specs.Frame.{mainSymbols};
+ghost use Rattle.isdbs_runs.specs.RunsOf.{planOf, Planned};
+ghost use Rattle.isdbs_phy.specs.DecodeRows.{someBeyond, partLimit};
+ghost use Rattle.verdict.specs.Outside.{frameSlots, outsideCounts};
+ghost use Rattle.judge.specs.Rows.{lentRows, judgeRows};
+ghost use Rattle.judge.specs.Judged.{CountsLaid, judgedSaid, judgedAnswer, Worth};
+
+// Whether any of the first 38,976 parts is not finite or beyond the limit.
+fn some_beyond(xs: &[f64]) -> bool
+    requires { ⌜ mainSymbols ≤ length (now xs) ⌝ }
+    ensures { λ r. ⌜ r ≡ someBeyond partLimit (now (xs .entry)) mainSymbols ⌝ }
+{
+    for i in 0..MAIN_SYMBOLS {
+        if accepted(xs[i]) {} else {
+            return true;
+        }
+    }
+    false
+}
+
+// Rows 5, 6, 7 and 9: the load has `need` bytes, `bytes` and `counts` are the lengths that are lent.
+fn lent_answer(need: usize, bytes: usize, re: &[f64], im: &[f64], counts: usize) -> Answer
+    ensures { λ r. ⌜ r ≡ firstRow (lentRows need bytes (now (re .entry)) (now (im .entry)) counts) ⌝ }
+{
+    if bytes != need {
+        return Answer::Length;
+    }
+    if re.len() < MAIN_SYMBOLS {
+        return Answer::Symbols;
+    }
+    if im.len() < MAIN_SYMBOLS {
+        return Answer::Symbols;
+    }
+    if some_beyond(re) {
+        return Answer::Sample;
+    }
+    if some_beyond(im) {
+        return Answer::Sample;
+    }
+    if counts < FRAME_SLOTS {
+        return Answer::Space;
+    }
+    Answer::Accepted
+}
+
+// Why the call is turned back.
+fn judge_answer(p: Plan, bytes: usize, re: &[f64], im: &[f64], counts: usize) -> Answer
+    requires { ⌜ p ≡ planOf (p .table) ⌝ }
+    ensures { λ r. ⌜ r ≡ firstRow (judgeRows (p .table) bytes (now (re .entry)) (now (im .entry)) counts) ⌝ }
+{
+    let table = table_answer(p.table);
+    let Answer::Accepted = table else {
+        return table;
+    };
+    lent_answer(p.bytes, bytes, re, im, counts)
+}
+
+// Encodes the load into the lent xs and ys, and counts the points outside its margins.
+fn judge_load(
+    p: Plan,
+    re: &[f64],
+    im: &[f64],
+    m: Mapping,
+    first: bool,
+    bytes: &[u8],
+    xs: &mut [f64],
+    ys: &mut [f64],
+    counts: &mut [u32],
+) -> u32
+    requires { ⌜ Planned p × (mainSymbols ≤ length (now re)) × (mainSymbols ≤ length (now im)) × (mainSymbols ≤ length (now xs)) × (mainSymbols ≤ length (now ys)) × (frameSlots ≤ length (now counts)) ⌝ }
+    ensures { λ r. ⌜ CountsLaid (now (re .entry)) (now (im .entry)) (now (bytes .entry)) (p .table) m first (now (counts .entry)) (now (counts .exit)) r ⌝ }
+{
+    let t = p.table;
+    encode_main(bytes, t, start_state(first), m, xs, ys);
+    count_outside(p, xs, ys, re, im, counts)
+}
+
+// The same in lent arrays of a frame's size.
+fn judge_arrays(
+    p: Plan,
+    re: &[f64],
+    im: &[f64],
+    m: Mapping,
+    first: bool,
+    bytes: &[u8],
+    xs: &mut [f64; 38976],
+    ys: &mut [f64; 38976],
+    counts: &mut [u32],
+) -> u32
+    requires { ⌜ Planned p × (mainSymbols ≤ length (now re)) × (mainSymbols ≤ length (now im)) × (frameSlots ≤ length (now counts)) ⌝ }
+    ensures { λ r. ⌜ CountsLaid (now (re .entry)) (now (im .entry)) (now (bytes .entry)) (p .table) m first (now (counts .entry)) (now (counts .exit)) r ⌝ }
+{
+    judge_load(p, re, im, m, first, bytes, xs, ys, counts)
+}
+
+// The same with the arrays.
+fn judge_frame(
+    p: Plan,
+    re: &[f64],
+    im: &[f64],
+    m: Mapping,
+    first: bool,
+    bytes: &[u8],
+    counts: &mut [u32],
+) -> u32
+    requires { ⌜ Planned p × (mainSymbols ≤ length (now re)) × (mainSymbols ≤ length (now im)) × (frameSlots ≤ length (now counts)) ⌝ }
+    ensures { λ r. ⌜ CountsLaid (now (re .entry)) (now (im .entry)) (now (bytes .entry)) (p .table) m first (now (counts .entry)) (now (counts .exit)) r ⌝ }
+{
+    let mut xs = [0.0f64; 38976];
+    let mut ys = [0.0f64; 38976];
+    judge_arrays(p, re, im, m, first, bytes, &mut xs, &mut ys, counts)
+}
+
+// What judging answers: the points with a part outside its margin, or why it is turned back.
+pub enum FrameJudged {
+    Judged(u32),
+    Refused(Answer),
+}
+
+// The first 38,976 points that are lent, held to the margins of demand 3 of a full load: `counts` begins with the points of each slot outside, and the answer has the sum. Where it is 0,
+// every full load within whose margins the points lie is the given one.
+pub fn judge(
+    re: &[f64],
+    im: &[f64],
+    t: Table,
+    m: Mapping,
+    first: bool,
+    bytes: &[u8],
+    counts: &mut [u32],
+) -> FrameJudged
+    ensures answers { λ r. ⌜ judgedSaid r ≡ judgedAnswer (now (re .entry)) (now (im .entry)) (now (bytes .entry)) t m first (length (now (counts .entry))) ⌝ }
+    ensures leaves { λ _. ⌜ Either (firstRow (judgeRows t (length (now (bytes .entry))) (now (re .entry)) (now (im .entry)) (length (now (counts .entry)))))
+        (now (counts .exit) ≡ laid (outsideCounts (now (re .entry)) (now (im .entry)) (now (bytes .entry)) t m first) (now (counts .entry)))
+        (now (counts .exit) ≡ now (counts .entry)) ⌝ }
+    ensures worth { λ r. ⌜ Worth (now (re .entry)) (now (im .entry)) (now (bytes .entry)) t m first r ⌝ }
+{
+    let p = plan_of(t);
+    let answer = judge_answer(p, bytes.len(), re, im, counts.len());
+    let Answer::Accepted = answer else {
+        return FrameJudged::Refused(answer);
+    };
+    FrameJudged::Judged(judge_frame(p, re, im, m, first, bytes, counts))
+}
