@@ -19,6 +19,9 @@
  *  14 window     outside 1 to 256; fill above it; next not below it or, while the window is not full, unlike fill; a pushed or kept sum above 68,208
  *   5 length     metrics not in fours, soft values not in twos, stream not whole periods; path values not 64; scales not seven; an unknown rate; a
  *                stretch to be mended not in twos, above 8,192 bits, or with a byte above 1
+ *   5 length     metrics not in fours, soft values not in twos, stream not whole periods; path values not 64; an unknown rate; a
+ *                stretch to be mended not in twos, above 8,192 bits, or with a byte above 1; bytes that are not exactly
+ *                the load (isdbs_judge)
  *   6 symbols    under 38,976 of either part; for a full frame an input shorter than its length (isdbs_lay_frame, isdbs_take_frame)
  *   7 sample     not finite; beyond 65,536 for a frame part, 1,048,576 for a stream value
  *   8 scale      a scale not above 0, or above 64
@@ -104,6 +107,14 @@ uint32_t isdbs_decode_frame(const double *re, size_t re_len, const double *im, s
  * a NaN is in no frame. Row 13: no full load encodes to the frame; `bytes` is as it was. Takes about 640 kB of stack. Rows 1, 10, 11, 6, 9, 13. */
 uint32_t isdbs_wanted_load(const double *re, size_t re_len, const double *im, size_t im_len, uint64_t table, uint8_t mapping,
                            uint8_t first, uint8_t *bytes, size_t bytes_len);
+
+/* The verdict: the points of a frame with a part outside the margins of a full load. `bytes` is exactly the load (203 for each valid slot), `first` as above. A margin, per part as lent, is
+ * from -1/32 to 1/32 where the encoded part is 0, from 31/32 to 33/32 where it is 1 and from 87/128 to 94/128 where it is 1/sqrt(2), negatives mirrored, ends included; imaginary parts of
+ * BPSK and points outside every run may hold anything that row 7 accepts. `counts` begins with the points outside in each of the frame's 48 slots, slot j being points 812j to 812j + 811
+ * (whatever the table has there), and *sum is their sum, at most 38,976. Where *sum is 0 the frame is certain: no other full load has the points within its margins. Where it is not, the bytes
+ * may still be right. Points past 38,976 are not read, counts past 48 not written. Takes about 630 kB of stack. Rows 1, 10, 11, 5 (bytes not exactly the load), 6, 7, 9. Crate judge_c. */
+uint32_t isdbs_judge(const double *re, size_t re_len, const double *im, size_t im_len, uint64_t table, uint8_t mapping,
+                     uint8_t first, const uint8_t *bytes, size_t bytes_len, uint32_t *counts, size_t counts_len, uint32_t *sum);
 
 /* Full frames of 39,936 symbols, as real and imaginary parts: 192 header points at places 0 to 191, then 192 times 203 main points and a burst of 4.
  * Symbol j of burst b is point 4b + j of the burst's 768. Points are only copied, NaN and infinities too (a NaN's bits are free); those past 192, 38,976,

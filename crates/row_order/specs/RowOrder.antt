@@ -25,6 +25,7 @@ use Rattle.overlay_encode.specs.Rows.{stringRows, overlayRows}
 use Rattle.full_frame.specs.declared.Input.{Input}
 use Rattle.full_frame.specs.Rows.{layRows, takeRows}
 use Rattle.wanted_load.specs.Rows.{wantedRows}
+use Rattle.judge.specs.Rows.{judgeRows}
 use Rattle.mend.specs.Rows.{mendRows}
 use Rattle.strain_window.specs.declared.WindowState.{WindowState}
 use Rattle.strain_window.specs.Rows as window
@@ -92,6 +93,8 @@ module _ (t : Table) (v : ViterbiDecoder) (c : Code) (w : WindowState) (parts : 
       -- wanted_load: a load encodes to the frame, or none does
       ∷ wantedRows t i j k false
       ∷ wantedRows t i j k true
+      -- judge
+      ∷ judgeRows t i re im j
       -- strain_window
       ∷ window.pushRows w i bytes
       -- mend

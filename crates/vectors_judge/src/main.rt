@@ -1,0 +1,522 @@
+// `judge` (the verdict) on 32 frames: each mapping and kind of frame with four tables. Of each frame are judged: the clean frame; every part at an end of its margin; noise; two points of
+// the first run with one part at an end, or one ulp beyond it; the same points negated; the last point at the limit of a part, which is free where no run has it. A point outside must be
+// counted alone and in its slot. Then each row, alone and before a later one, with no count changed. The slices are four points longer than a frame, and these are beyond the limit.
+ghost use Prim.Native.Nat.{_≤_, _<_};
+use isdbs_core::slots::runs;
+use isdbs_core::tmcc::Entry;
+use isdbs_core::tmcc::Table;
+use isdbs_phy::demod::encode_frame;
+use judge::FrameJudged;
+use judge::Mapping;
+use judge::judge;
+use libc::STDOUT_FILENO;
+
+// The tables. Entry i has its word at bit 16 i and its slots at bit 16 i + 8.
+const TABLES: [u64; 8] = [
+    0x3007,
+    0x2806,
+    0x1007_0a02_0a0f_0c05,
+    0x2c04,
+    0x2d03,
+    0x0801_0c05_0806_1407,
+    0x000f_0806_0107_0401,
+    0x2c07_0402,
+];
+
+// The lists' generator.
+fn step(x: u64) -> u64 {
+    let a = x ^ (x << 13);
+    let b = a ^ (a >> 7);
+    b ^ (b << 17)
+}
+
+// Entry i of a table.
+fn entry(table: u64, i: u32) -> Entry
+    requires { ⌜ i < 4 ⌝ }
+{
+    let at = table >> (16 * i);
+    Entry {
+        word: (at % 256) as u8,
+        slots: (at / 256 % 256) as u8,
+    }
+}
+
+fn table_of(table: u64) -> Table {
+    let a = entry(table, 0);
+    let b = entry(table, 1);
+    let c = entry(table, 2);
+    let d = entry(table, 3);
+    Table {
+        entries: [a, b, c, d],
+    }
+}
+
+fn mapping_of(bits: u64) -> Mapping {
+    Mapping {
+        conjugate: bits % 2 == 1,
+        qpsk_p1_on_q: bits / 2 % 2 == 1,
+        tc8psk_c1_is_y: bits / 4 % 2 == 1,
+    }
+}
+
+// The kind of frame k: both with each mapping.
+fn is_first(k: u64) -> bool {
+    k / 8 % 2 == 1
+}
+
+// The bytes of a table's load: 203 for each valid slot.
+fn load_bytes(table: u64) -> usize
+    ensures { λ r. ⌜ r ≤ 9744 ⌝ }
+{
+    let r = runs(table_of(table));
+    let valid = r.valid_slots;
+    valid % 49 * 203
+}
+
+// Bytes of a seed.
+fn fill(bytes: &mut [u8; 9750], seed: u64) {
+    let mut x = seed;
+    for i in 0..9750usize {
+        x = step(x);
+        bytes[i] = (x / 0x100_0000_0000_0000 % 256) as u8;
+    }
+}
+
+// The first n bytes or parts, or none where there are fewer.
+fn front<'a>(s: &'a [u8], n: usize) -> &'a [u8] {
+    if n <= s.len() { &s[0..n] } else { &s[0..0] }
+}
+
+fn front_parts<'a>(s: &'a [f64], n: usize) -> &'a [f64] {
+    if n <= s.len() { &s[0..n] } else { &s[0..0] }
+}
+
+// ---- changed parts
+
+// An end of the margin of a clean 0, 1/sqrt 2 or 1.
+fn end(clean: f64, upper: bool) -> f64 {
+    if clean < 0.25 {
+        return if upper { 0.03125 } else { -0.03125 };
+    }
+    if clean < 0.875 {
+        return if upper { 0.734375 } else { 0.6796875 };
+    }
+    if upper { 1.03125 } else { 0.96875 }
+}
+
+// One ulp from an end: away from 0 above 1/sqrt 2 and 1 and at 0, else towards it.
+fn beyond(x: f64, upper: bool) -> f64 {
+    if upper || x < 0.0 {
+        x * 1.0000000000000002
+    } else {
+        x * 0.9999999999999999
+    }
+}
+
+// The parts' changes: 0 and 1 an end, 2 and 3 one ulp beyond it, else the part negated. Where a part is negative, so is its margin.
+fn changed(clean: f64, how: u64) -> f64 {
+    if how > 3 {
+        return -clean;
+    }
+    if clean < 0.0 {
+        return -changed_up(-clean, how);
+    }
+    changed_up(clean, how)
+}
+
+fn changed_up(clean: f64, how: u64) -> f64 {
+    let upper = how % 2 == 1;
+    let x = end(clean, upper);
+    if how < 2 { x } else { beyond(x, upper) }
+}
+
+// A part at an end as drawn, or noise.
+fn spread_part(clean: f64, draw: u64, noisy: bool) -> f64 {
+    if noisy {
+        let n = (draw / 0x1_0000_0000) as u32;
+        return n as f64 / 1073741824.0 - 2.0;
+    }
+    changed(clean, draw / 0x1_0000_0000 % 2)
+}
+
+// Every part of the frame so.
+fn spread(re: &mut [f64; 38980], im: &mut [f64; 38980], seed: u64, noisy: bool) {
+    let mut x = seed;
+    for k in 0..38976usize {
+        x = step(x);
+        re[k] = spread_part(re[k], x, noisy);
+        x = step(x);
+        im[k] = spread_part(im[k], x, noisy);
+    }
+}
+
+// A point of the first run.
+fn place(draw: u64, table: u64) -> usize
+    ensures { λ r. ⌜ r < 38976 ⌝ }
+{
+    let e = entry(table, 0);
+    let slots = e.slots as u64;
+    if slots == 0 {
+        return 0;
+    }
+    let slot = draw / 65536 % slots;
+    if slot < 48 {
+        (slot * 812 + draw % 812) as usize
+    } else {
+        0
+    }
+}
+
+// ---- what is judged
+
+// What `judge` says.
+struct Told {
+    number: u32,
+    sum: u32,
+}
+
+fn ask(way: u64, table: u64, re: &[f64], im: &[f64], bytes: &[u8], counts: &mut [u32]) -> Told {
+    let t = table_of(table);
+    let m = mapping_of(way);
+    let r = judge(re, im, t, m, is_first(way), bytes, counts);
+    match r {
+        FrameJudged::Judged(n) => Told { number: 0, sum: n },
+        FrameJudged::Refused(a) => Told {
+            number: refusal::number(a),
+            sum: 0,
+        },
+    }
+}
+
+fn fewer(a: usize, b: usize) -> usize
+    ensures { λ r. ⌜ r ≤ b ⌝ }
+{
+    if a <= b { a } else { b }
+}
+
+fn one(b: bool) -> u32
+    ensures { λ r. ⌜ r ≤ 1 ⌝ }
+{
+    if b { 1 } else { 0 }
+}
+
+// The same with the first n counts.
+fn ask_front(
+    way: u64,
+    table: u64,
+    re: &[f64],
+    im: &[f64],
+    bytes: &[u8],
+    counts: &mut [u32],
+    n: usize,
+) -> Told {
+    let e = fewer(n, counts.len());
+    ask(way, table, re, im, bytes, &mut counts[0..e])
+}
+
+// The sum of the 48 counts.
+fn total(counts: &[u32; 50]) -> u32 {
+    let mut sum: u32 = 0;
+    for j in 0..48usize {
+        sum = std::num::wrapping_add_u32(sum, counts[j]);
+    }
+    sum
+}
+
+// What a case must give: the points outside, all of them in one slot; noise has more.
+struct Wanted {
+    outside: u32,
+    slot: usize,
+    noisy: bool,
+    end: u32,
+}
+
+fn is_right(told: Told, w: Wanted, counts: &[u32; 50]) -> bool
+    requires { ⌜ w .slot < 48 ⌝ }
+{
+    if told.number != 0 {
+        return false;
+    }
+    if told.sum != total(counts) {
+        return false;
+    }
+    if counts[48] != 7 || counts[49] != 7 {
+        return false;
+    }
+    if w.noisy {
+        return told.sum > 100;
+    }
+    let slot = w.slot;
+    told.sum == w.outside && counts[slot] == w.outside
+}
+
+// Point k with its real (how below 4) or its imaginary part changed, or both negated (8).
+fn change(re: &mut [f64; 38980], im: &mut [f64; 38980], k: usize, how: u64)
+    requires { ⌜ k < 38976 ⌝ }
+{
+    if how < 4 {
+        re[k] = changed(re[k], how);
+        return;
+    }
+    im[k] = changed(im[k], if how == 8 { 8 } else { how % 4 });
+    if how == 8 {
+        re[k] = changed(re[k], 8);
+    }
+}
+
+// Whether a change leaves the point outside. An imaginary part of BPSK is free.
+fn leaves(how: u64, bpsk: bool) -> u32 {
+    match how {
+        2 | 3 | 8 => 1,
+        6 | 7 => if bpsk { 0 } else { 1 },
+        _ => 0,
+    }
+}
+
+// 0, 1, -1, 1/sqrt 2, -1/sqrt 2 by their numbers.
+fn class(clean: f64) -> u32
+    ensures { λ r. ⌜ r < 5 ⌝ }
+{
+    if clean == 0.0 {
+        return 0;
+    }
+    if clean > 0.875 {
+        return 1;
+    }
+    if clean < -0.875 {
+        return 2;
+    }
+    if clean > 0.0 { 3 } else { 4 }
+}
+
+// A bit for each end of each margin, and one for one ulp beyond it; none for a point that is negated.
+fn end_of(re: f64, im: f64, how: u64) -> u32 {
+    if how > 7 {
+        return 0;
+    }
+    let c = class(if how < 4 { re } else { im });
+    1u32 << (4 * c + (how % 4) as u32)
+}
+
+// Case i of a frame: 0 clean, 1 at the ends, 2 noise, 3 the last point at the limit, then 9 changes of two points.
+fn prepare(re: &mut [f64; 38980], im: &mut [f64; 38980], table: u64, i: u64, seed: u64) -> Wanted
+    ensures { λ r. ⌜ r .slot < 48 ⌝ }
+{
+    if i == 3 {
+        let used = re[38975] != 0.0 || im[38975] != 0.0;
+        re[38975] = 65536.0;
+        im[38975] = -65536.0;
+        return Wanted {
+            outside: used as u32,
+            slot: 47,
+            noisy: false,
+            end: 0,
+        };
+    }
+    if i < 4 {
+        if i > 0 {
+            spread(re, im, seed, i == 2);
+        }
+        return Wanted {
+            outside: 0,
+            slot: 0,
+            noisy: i == 2,
+            end: 0,
+        };
+    }
+    let k = place(seed, table);
+    let how = (i - 4) % 9;
+    let end = end_of(re[k], im[k], how);
+    change(re, im, k, how);
+    let e = entry(table, 0);
+    Wanted {
+        outside: leaves(how, e.word % 16 == 1),
+        slot: k / 812,
+        noisy: false,
+        end,
+    }
+}
+
+// A case that is judged right, and its end.
+struct Case {
+    right: bool,
+    end: u32,
+}
+
+// Case i of frame k.
+fn one_case(
+    k: u64,
+    table: u64,
+    i: u64,
+    re: &mut [f64; 38980],
+    im: &mut [f64; 38980],
+    load: &[u8; 9750],
+) -> Case
+    requires { ⌜ (k < 32) × (i < 22) ⌝ }
+{
+    let mut counts = [7u32; 50];
+    let n = load_bytes(table);
+    let made = encode_frame(
+        front(load, n),
+        table_of(table),
+        is_first(k),
+        mapping_of(k),
+        re,
+        im,
+    );
+    let w = prepare(re, im, table, i, step(step(k * 64 + i + 0x9e37_79b9)));
+    let told = ask_front(k, table, re, im, front(load, n), &mut counts, 50);
+    Case {
+        right: refusal::number(made) == 0 && is_right(told, w, &counts),
+        end: w.end,
+    }
+}
+
+// How many cases are right, and the ends that were met.
+struct Cases {
+    right: u32,
+    ends: u32,
+}
+
+// The 22 cases of frame k.
+fn one_frame(
+    k: u64,
+    table: u64,
+    re: &mut [f64; 38980],
+    im: &mut [f64; 38980],
+    load: &[u8; 9750],
+) -> Cases
+    requires { ⌜ k < 32 ⌝ }
+    ensures { λ r. ⌜ r .right ≤ 22 ⌝ }
+{
+    let mut right: u32 = 0;
+    let mut ends: u32 = 0;
+    for i in 0..22u64 {
+        let c = one_case(k, table, i, re, im, load);
+        right = right + one(c.right);
+        ends = ends | c.end;
+    }
+    Cases { right, ends }
+}
+
+// The 32 frames.
+fn frames(re: &mut [f64; 38980], im: &mut [f64; 38980], load: &[u8; 9750]) -> Cases {
+    let tables = TABLES;
+    let mut right: u32 = 0;
+    let mut ends: u32 = 0;
+    for k in 0..32usize {
+        let c = one_frame(k as u64, tables[(k + 3 * (k / 8)) % 8], re, im, load);
+        right = right + c.right;
+        ends = ends | c.ends;
+    }
+    Cases { right, ends }
+}
+
+// ---- the rows
+
+// What is lent: lengths, the last imaginary part of the frame, and the number that must come back.
+struct Lent {
+    table: u64,
+    bytes: usize,
+    re: usize,
+    im: usize,
+    part: f64,
+    counts: usize,
+    answer: u32,
+}
+
+fn lends(
+    table: u64,
+    bytes: usize,
+    re: usize,
+    im: usize,
+    part: f64,
+    counts: usize,
+    answer: u32,
+) -> Lent {
+    Lent {
+        table,
+        bytes,
+        re,
+        im,
+        part,
+        counts,
+        answer,
+    }
+}
+
+fn lent_of(i: u64) -> Lent {
+    match i {
+        0 => lends(0x3007, 9744, 38976, 38976, 65536.0, 48, 0),
+        1 => lends(0x3107, 9744, 38976, 38976, 0.0, 48, 1),
+        2 => lends(0x0306, 609, 38976, 38976, 0.0, 48, 10),
+        3 => lends(0x0108, 0, 38976, 38976, 0.0, 48, 11),
+        4 => lends(0x3007, 9743, 38976, 38976, 0.0, 48, 5),
+        5 => lends(0x3007, 9745, 38976, 38976, 0.0, 48, 5),
+        6 => lends(0x3007, 9744, 38975, 38976, 0.0, 48, 6),
+        7 => lends(0x3007, 9744, 38976, 38975, 0.0, 48, 6),
+        8 => lends(0x3007, 9744, 38976, 38976, 65536.00000000001, 48, 7),
+        9 => lends(0x3007, 9744, 38976, 38976, -65536.00000000001, 48, 7),
+        10 => lends(0x3007, 9744, 38976, 38976, 1.0 / 0.0, 48, 7),
+        11 => lends(0x3007, 9744, 38976, 38976, 0.0 / 0.0, 48, 7),
+        12 => lends(0x3007, 9744, 38976, 38976, 0.0, 47, 9),
+        13 => lends(0x3107, 9743, 38975, 38976, 0.0 / 0.0, 47, 1),
+        14 => lends(0x3007, 9743, 38975, 38976, 0.0 / 0.0, 47, 5),
+        15 => lends(0x3007, 9744, 38975, 38976, 0.0 / 0.0, 47, 6),
+        _ => lends(0x3007, 9744, 38976, 38976, 0.0 / 0.0, 47, 7),
+    }
+}
+
+// Whether case i is answered right, and refused with all counts as they were.
+fn one_row(i: u64, re: &[f64; 38980], im: &mut [f64; 38980], load: &[u8; 9750]) -> bool {
+    let mut counts = [7u32; 50];
+    let l = lent_of(i);
+    im[38975] = l.part;
+    let told = ask_front(
+        4,
+        l.table,
+        front_parts(re, l.re),
+        front_parts(im, l.im),
+        front(load, l.bytes),
+        &mut counts,
+        l.counts,
+    );
+    let kept = total(&counts) == 336;
+    told.number == l.answer && kept == (l.answer != 0)
+}
+
+// How many of the 17 are.
+fn rows(re: &[f64; 38980], im: &mut [f64; 38980], load: &[u8; 9750]) -> u32 {
+    let mut right: u32 = 0;
+    for i in 0..17u64 {
+        right = right + one(one_row(i, re, im, load));
+    }
+    right
+}
+
+fn show(right: u32, of: u64, what: &[u8]) {
+    io::print_decimal(STDOUT_FILENO, right as u64);
+    io::write_all(STDOUT_FILENO, b" of ");
+    io::print_decimal(STDOUT_FILENO, of);
+    io::write_all(STDOUT_FILENO, what);
+}
+
+fn run(re: &mut [f64; 38980], im: &mut [f64; 38980], load: &mut [u8; 9750]) {
+    fill(load, 0x9e37_79b9_7f4a_7c15);
+    let c = frames(re, im, load);
+    show(c.right, 704, b" cases of 32 frames are judged right\n");
+    show(
+        u32::count_ones(c.ends),
+        20,
+        b" ends of margins and ulps beyond them were met\n",
+    );
+    let r = rows(re, im, load);
+    show(r, 17, b" rows are answered right\n");
+}
+
+fn main() {
+    let mut re = [100000.0f64; 38980];
+    let mut im = [100000.0f64; 38980];
+    let mut load = [0u8; 9750];
+    run(&mut re, &mut im, &mut load);
+}
