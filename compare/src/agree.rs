@@ -476,6 +476,70 @@ fn wanting(all: &mut (u64, u64)) {
     println!("{others:>10} of the changed frames are another load's");
 }
 
+/// A part keeps the margin of a clean one: document 01's fractions, worked out apart.
+#[cfg(judge)]
+fn keeps(clean: f64, x: f64) -> bool {
+    let y = if clean < 0.0 { -x } else { x };
+    match clean.abs() {
+        0.0 => y.abs() <= 1.0 / 32.0,
+        1.0 => (31.0 / 32.0..=33.0 / 32.0).contains(&y),
+        _ => (87.0 / 128.0..=94.0 / 128.0).contains(&y),
+    }
+}
+
+/// The points outside the margins of a clean frame, by slots of 812 symbols.
+#[cfg(judge)]
+fn outside(clean: &[Cplx], points: &[Cplx], t: u64) -> Vec<u32> {
+    let used = entries(t).into_iter().filter(|e| matches!(e.0 % 16, 1..=7));
+    let words: Vec<u8> = used.flat_map(|(w, n)| vec![w % 16; 812 * usize::from(n)]).collect();
+    let mut counts = vec![0; 48];
+    for (k, (c, p)) in clean.iter().zip(points).enumerate() {
+        let inside = match words.get(k) {
+            Some(1) => keeps(c.re, p.re),
+            Some(_) => keeps(c.re, p.re) && keeps(c.im, p.im),
+            None => true,
+        };
+        counts[k / 812] += u32::from(!inside);
+    }
+    counts
+}
+
+#[cfg(judge)]
+fn judging(all: &mut (u64, u64)) {
+    let mut draws = Draws(0x1d6e);
+    let mut kind = Kind::new("judge: frames of the Rust, clean, about the margins' ends, noisy, one point negated; tables of every kind, all mappings, both frame kinds");
+    let near = [0.0, 1.0 / 32.0, -1.0 / 32.0, 0.02, -0.02, 0.027, -0.027, 0.028, -0.028];
+    for t in some_tables() {
+        for m in 0..8 {
+            for first in [true, false] {
+                let load = draws.bytes(valid_slots(t) * 203);
+                let (clean, _) = isdbs_phy::demod::encode_frame_with_state(&load, &info(t), first, mapping(m));
+                for change in 0..4 {
+                    let mut points = clean.clone();
+                    match change {
+                        0 => {}
+                        1 => points.iter_mut().for_each(|p| *p = Cplx::new(p.re + draws.pick(&near), p.im + draws.pick(&near))),
+                        2 => points.iter_mut().for_each(|p| *p = Cplx::new(draws.below(65536) as f64 / 16384.0 - 2.0, draws.below(65536) as f64 / 16384.0 - 2.0)),
+                        _ => {
+                            let k = draws.below(MAIN as u64) as usize;
+                            points[k] = Cplx::new(-points[k].re, -points[k].im);
+                        }
+                    }
+                    let want = outside(&clean, &points, t);
+                    let (mut re, im): (Vec<f64>, Vec<f64>) = points.iter().map(|v| (v.re, v.im)).unzip();
+                    // past the points nothing is read
+                    re.push(f64::NAN);
+                    let (mut counts, mut sum) = (vec![7; 50], 0);
+                    let answer = calls::judge(&re, &im, t, m, first.into(), &load, &mut counts, &mut sum);
+                    let same = answer == 0 && counts[..48] == want[..] && counts[48..] == [7; 2] && sum == want.iter().sum::<u32>();
+                    kind.case(same, || format!("table {t:016x} mapping {m} first {first} change {change} answer {answer} sum {sum}"));
+                }
+            }
+        }
+    }
+    kind.done(all);
+}
+
 #[cfg(decode)]
 fn decoding(all: &mut (u64, u64), scale: u64) {
     // the Rust has one scale: `scale`, and the points of each run times 2^k where the scales are `scale` times 2^k
@@ -679,6 +743,8 @@ fn main() {
     decoding(&mut all, scale);
     #[cfg(wanted)]
     wanting(&mut all);
+    #[cfg(judge)]
+    judging(&mut all);
     println!("{} cases, {} different", all.0, all.1);
     if all.1 != 0 {
         std::process::exit(1);

@@ -54,6 +54,9 @@ mod c {
         #[cfg(wanted)]
         #[rustfmt::skip]
         pub fn isdbs_wanted_load(re: *const f64, re_len: usize, im: *const f64, im_len: usize, table: u64, mapping: u8, first: u8, bytes: *mut u8, bytes_len: usize) -> u32;
+        #[cfg(judge)]
+        #[rustfmt::skip]
+        pub fn isdbs_judge(re: *const f64, re_len: usize, im: *const f64, im_len: usize, table: u64, mapping: u8, first: u8, bytes: *const u8, bytes_len: usize, counts: *mut u32, counts_len: usize, sum: *mut u32) -> u32;
     }
 }
 
@@ -171,6 +174,12 @@ pub fn encode_frame(bytes: &[u8], table: u64, mapping: u8, state: u8, re: &mut [
 #[cfg(wanted)]
 pub fn wanted_load(re: &[f64], im: &[f64], table: u64, mapping: u8, first: u8, bytes: &mut [u8]) -> u32 {
     unsafe { c::isdbs_wanted_load(re.as_ptr(), re.len(), im.as_ptr(), im.len(), table, mapping, first, bytes.as_mut_ptr(), bytes.len()) }
+}
+
+#[cfg(judge)]
+#[allow(clippy::too_many_arguments)]
+pub fn judge(re: &[f64], im: &[f64], table: u64, mapping: u8, first: u8, bytes: &[u8], counts: &mut [u32], sum: &mut u32) -> u32 {
+    unsafe { c::isdbs_judge(re.as_ptr(), re.len(), im.as_ptr(), im.len(), table, mapping, first, bytes.as_ptr(), bytes.len(), counts.as_mut_ptr(), counts.len(), sum) }
 }
 
 #[cfg(decode)]

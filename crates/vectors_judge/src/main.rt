@@ -414,81 +414,73 @@ fn frames(re: &mut [f64; 38980], im: &mut [f64; 38980], load: &[u8; 9750]) -> Ca
 
 // ---- the rows
 
-// What is lent: lengths, the last imaginary part of the frame, and the number that must come back.
-struct Lent {
-    table: u64,
-    bytes: usize,
-    re: usize,
-    im: usize,
-    part: f64,
-    counts: usize,
-    answer: u32,
-}
+// What is lent in each case, of bytes, real parts, imaginary parts and counts, and the number that must come back.
+const LENT: [[usize; 5]; 17] = [
+    [9744, 38976, 38976, 48, 0],
+    [9744, 38976, 38976, 48, 1],
+    [609, 38976, 38976, 48, 10],
+    [0, 38976, 38976, 48, 11],
+    [9743, 38976, 38976, 48, 5],
+    [9745, 38976, 38976, 48, 5],
+    [9744, 38975, 38976, 48, 6],
+    [9744, 38976, 38975, 48, 6],
+    [9744, 38976, 38976, 48, 7],
+    [9744, 38976, 38976, 48, 7],
+    [9744, 38976, 38976, 48, 7],
+    [9744, 38976, 38976, 48, 7],
+    [9744, 38976, 38976, 47, 9],
+    [9743, 38975, 38976, 47, 1],
+    [9743, 38975, 38976, 47, 5],
+    [9744, 38975, 38976, 47, 6],
+    [9744, 38976, 38976, 47, 7],
+];
 
-fn lends(
-    table: u64,
-    bytes: usize,
-    re: usize,
-    im: usize,
-    part: f64,
-    counts: usize,
-    answer: u32,
-) -> Lent {
-    Lent {
-        table,
-        bytes,
-        re,
-        im,
-        part,
-        counts,
-        answer,
+// Its table: 49 slots, a part of a unit, a reserved word, or a good one.
+fn lent_table(i: usize) -> u64 {
+    match i {
+        1 | 13 => 0x3107,
+        2 => 0x0306,
+        3 => 0x0108,
+        _ => 0x3007,
     }
 }
 
-fn lent_of(i: u64) -> Lent {
+// Its last imaginary part.
+fn lent_part(i: usize) -> f64 {
     match i {
-        0 => lends(0x3007, 9744, 38976, 38976, 65536.0, 48, 0),
-        1 => lends(0x3107, 9744, 38976, 38976, 0.0, 48, 1),
-        2 => lends(0x0306, 609, 38976, 38976, 0.0, 48, 10),
-        3 => lends(0x0108, 0, 38976, 38976, 0.0, 48, 11),
-        4 => lends(0x3007, 9743, 38976, 38976, 0.0, 48, 5),
-        5 => lends(0x3007, 9745, 38976, 38976, 0.0, 48, 5),
-        6 => lends(0x3007, 9744, 38975, 38976, 0.0, 48, 6),
-        7 => lends(0x3007, 9744, 38976, 38975, 0.0, 48, 6),
-        8 => lends(0x3007, 9744, 38976, 38976, 65536.00000000001, 48, 7),
-        9 => lends(0x3007, 9744, 38976, 38976, -65536.00000000001, 48, 7),
-        10 => lends(0x3007, 9744, 38976, 38976, 1.0 / 0.0, 48, 7),
-        11 => lends(0x3007, 9744, 38976, 38976, 0.0 / 0.0, 48, 7),
-        12 => lends(0x3007, 9744, 38976, 38976, 0.0, 47, 9),
-        13 => lends(0x3107, 9743, 38975, 38976, 0.0 / 0.0, 47, 1),
-        14 => lends(0x3007, 9743, 38975, 38976, 0.0 / 0.0, 47, 5),
-        15 => lends(0x3007, 9744, 38975, 38976, 0.0 / 0.0, 47, 6),
-        _ => lends(0x3007, 9744, 38976, 38976, 0.0 / 0.0, 47, 7),
+        0 => 65536.0,
+        8 => 65536.00000000001,
+        9 => -65536.00000000001,
+        10 => 1.0 / 0.0,
+        11 | 13..=16 => 0.0 / 0.0,
+        _ => 0.0,
     }
 }
 
 // Whether case i is answered right, and refused with all counts as they were.
-fn one_row(i: u64, re: &[f64; 38980], im: &mut [f64; 38980], load: &[u8; 9750]) -> bool {
+fn one_row(i: usize, re: &[f64; 38980], im: &mut [f64; 38980], load: &[u8; 9750]) -> bool
+    requires { ⌜ i < 17 ⌝ }
+{
     let mut counts = [7u32; 50];
-    let l = lent_of(i);
-    im[38975] = l.part;
+    let l = LENT;
+    im[38975] = lent_part(i);
     let told = ask_front(
         4,
-        l.table,
-        front_parts(re, l.re),
-        front_parts(im, l.im),
-        front(load, l.bytes),
+        lent_table(i),
+        front_parts(re, l[i][1]),
+        front_parts(im, l[i][2]),
+        front(load, l[i][0]),
         &mut counts,
-        l.counts,
+        l[i][3],
     );
     let kept = total(&counts) == 336;
-    told.number == l.answer && kept == (l.answer != 0)
+    told.number as usize == l[i][4] && kept == (l[i][4] != 0)
 }
 
 // How many of the 17 are.
 fn rows(re: &[f64; 38980], im: &mut [f64; 38980], load: &[u8; 9750]) -> u32 {
     let mut right: u32 = 0;
-    for i in 0..17u64 {
+    for i in 0..17usize {
         right = right + one(one_row(i, re, im, load));
     }
     right
