@@ -1,15 +1,13 @@
 -- With the runs of a table and the frame that a load encodes to, the counts are those of the verdict. Assumes nothing.
 use mathlib.Core.Path.{_≡_, refl, sym, _∙_, ap}
-use mathlib.Core.Bool.{Bool, true, false, cond}
+use mathlib.Core.Bool.{Bool, true, false}
 use mathlib.Core.List.{List, [], _∷_, _++_}
-use Prim.Native.Nat.{ℕ, zero, suc, _+_, _-_, _*_, _<_, _≤_}
+use Prim.Native.Nat.{ℕ, zero, suc, _+_, _-_, _*_, _<_}
 use native.Mathlib.Omega.{arith}
-use lib.Dec.{ltb}
-use lib.ListN.{getD, length, replicate, drop, List·getD-append}
+use lib.ListN.{getD, length, replicate}
 use lib.Ieee.{Float, nan}
 use borrow.Author.Tests.{le-ltb}
-use Rattle.trellis.specs.Lists.{bit, upto, laid}
-use Rattle.trellis.specs.ListLaws.{length-upto, getD-upto}
+use Rattle.trellis.specs.Lists.{bit, upto}
 use Rattle.isdbs_combination.specs.declared.Combination.{Combination}
 use Rattle.isdbs_combination.specs.declared.MaybeCombination.{MaybeCombination}
 use Rattle.isdbs_combination.specs.declared.MaybeCombination.the-variants.{Some, None}
@@ -20,11 +18,11 @@ use Rattle.isdbs_frame.specs.Frame.{mainSymbols}
 use Rattle.isdbs_combination.specs.Lists.{padded}
 use Rattle.isdbs_tables.specs.Tables.{entryCombination}
 use Rattle.isdbs_combination.specs.Combinations.{modulationOf}
-use Rattle.isdbs_runs.specs.RunsOf.{runOf, entryRuns, entrySymbols, runsFrom, runsOf, stepsOf, symbolsIn, noRun}
+use Rattle.isdbs_runs.specs.RunsOf.{runOf, entryRuns, entrySymbols, runsFrom, runsOf, stepsOf, noRun}
 use Rattle.isdbs_points.specs.declared.Mapping.{Mapping}
 use Rattle.isdbs_points.specs.Layout.{segmentsFrom, among, atSymbol}
 use Rattle.isdbs_points.specs.LawsUpto.{upto-cong}
-use Rattle.isdbs_points.specs.Frame.{pointAt, frameRe, frameIm, startState}
+use Rattle.isdbs_points.specs.Frame.{pointAt, startState}
 use Rattle.margins.specs.Margins.{isBpsk}
 use Rattle.strain.specs.Counts.{summed}
 use Rattle.strain.specs.CountsLaws.{summed-same}

@@ -8,7 +8,7 @@ use lib.Ieee.{Float}
 use Rattle.trellis.specs.Lists.{laid}
 use Rattle.refusal.specs.declared.Answer.{Answer}
 use Rattle.refusal.specs.declared.Answer.the-variants.{Accepted}
-use Rattle.refusal.specs.Rows.{firstRow, Either, Said, says}
+use Rattle.refusal.specs.Rows.{firstRow, Either, says}
 use Rattle.refusal.specs.RowLaws as row
 use Rattle.refusal.specs.RowLaws.{is-refused}
 use Rattle.isdbs_tables.specs.declared.Table.{Table}

@@ -1,7 +1,7 @@
 -- What an accepted call is worth, from its rows and its sum. Assumes nothing.
-use mathlib.Core.Path.{_≡_, refl, sym, _∙_, ap}
-use mathlib.Core.Bool.{Bool, true, false, _||_}
-use mathlib.Core.List.{List, [], _∷_, _++_}
+use mathlib.Core.Path.{_≡_, sym, _∙_}
+use mathlib.Core.Bool.{Bool}
+use mathlib.Core.List.{List}
 use Prim.Native.Nat.{ℕ, _<_, _≤_}
 use native.Mathlib.Omega.{arith}
 use lib.Dec.{eqb, ltb}
@@ -24,8 +24,7 @@ use Rattle.verdict.specs.Outside.{frameSlots, outsideSum}
 use Rattle.verdict.specs.OutsideLaws.{sum-zero-within, within-sum-zero}
 use Rattle.verdict.specs.CertainLaws.{certain}
 use Rattle.judge.specs.Rows.{lentRows, judgeRows}
-use Rattle.judge.specs.Judged.{Certain, Worth}
-use Rattle.judge.specs.declared.FrameJudged.{FrameJudged}
+use Rattle.judge.specs.Judged.{Worth}
 use Rattle.judge.specs.declared.FrameJudged.the-variants.{Judged, Refused}
 
 -- what an accepted call may rest on

@@ -7,7 +7,6 @@ use lib.ListN.{length, getD}
 use lib.Ieee.{Float}
 use Rattle.trellis.specs.Lists.{laid}
 use Rattle.refusal.specs.declared.Answer.{Answer}
-use Rattle.refusal.specs.declared.Answer.the-variants.{Accepted}
 use Rattle.refusal.specs.Rows.{numberOf, firstRow, Either}
 use Rattle.refusal.specs.RowLaws.{zero-accepted, said-some, said-none}
 use Rattle.isdbs_tables.specs.declared.Table.{Table}
