@@ -47,7 +47,7 @@ fn bar(sheet: &mut [u8; 327680], at: usize, k: usize, n: usize, unit: usize) -> 
     fill(
         sheet,
         at,
-        b"<g transform=\"translate(@ 0)\"><rect x=\"4\" y=\"@\" width=\"24\" height=\"@\" fill=\"#3182bd\"/><text transform=\"translate(23 @) rotate(-90)\">$</text><text x=\"16\" y=\"424\" text-anchor=\"middle\" font-size=\"18\">@</text></g>\n",
+        b"<g transform=\"translate(@ 0)\"><rect x=\"4\" y=\"@\" width=\"24\" height=\"@\"/><text fill=\"#000\" transform=\"translate(23 @) rotate(-90)\">$</text><text fill=\"#000\" x=\"16\" y=\"424\" text-anchor=\"middle\" font-size=\"18\">@</text></g>\n",
         [140 + 32 * k, 400 - h, h, 392 - h, n, k],
     )
 }
@@ -68,14 +68,23 @@ fn bar_at(
     bar(sheet, at, k, wide(counts[k]), unit)
 }
 
-// The bars of the first n slots, at most 48.
-pub(crate) fn bars(sheet: &mut [u8; 327680], at: usize, counts: &[u32; 48], n: usize) -> usize {
+// The bars of the first n slots, at most 48, in a colour.
+pub(crate) fn bars(
+    sheet: &mut [u8; 327680],
+    at: usize,
+    counts: &[u32; 48],
+    n: usize,
+    colour: &[u8],
+) -> usize {
     let unit = scale_unit(greatest(counts));
-    let mut place = scale(sheet, at, unit);
+    let a = scale(sheet, at, unit);
+    let b = put(sheet, a, b"<g fill=\"");
+    let c = put(sheet, b, colour);
+    let mut place = put(sheet, c, b"\">\n");
     for k in 0..48usize {
         place = bar_at(sheet, place, counts, n, k, unit);
     }
-    place
+    put(sheet, place, b"</g>\n")
 }
 
 // The letter of run i.

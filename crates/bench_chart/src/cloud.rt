@@ -2,6 +2,8 @@
 use crate::form::fill;
 use bench_sheet::bin;
 use bench_sheet::put;
+use isdbs_core::combination::Modulation;
+use isdbs_core::slots::Run;
 ghost use Prim.Native.Nat.{_*_, _+_, _<_, _≤_};
 
 // One more, up to 65,535.
@@ -17,24 +19,93 @@ fn clear(bins: &mut [u32; 36864]) {
     }
 }
 
+fn is_bpsk(r: Run) -> bool {
+    let c = r.combination;
+    let m = c.modulation();
+    match m {
+        Modulation::Bpsk => true,
+        Modulation::Qpsk => false,
+        Modulation::Tc8psk => false,
+    }
+}
+
 // Counts a point. The rows of squares go down from the greatest imaginary part.
 fn mark(bins: &mut [u32; 36864], x: f64, y: f64) {
     let i = 192 * (191 - bin(y)) + bin(x);
     bins[i] = more(bins[i]);
 }
 
-// Counts the points from `from` up to but not including `to`.
-pub(crate) fn gather(
+fn between(a: f64, b: f64, x: f64) -> bool {
+    a <= x && x <= b
+}
+
+// Whether x lies within demand 3's margin of a part of 0, 1 or 0.7071.
+fn keeps_positive(clean: f64, x: f64) -> bool {
+    if clean == 0.0f64 {
+        return between(-0.03125f64, 0.03125f64, x);
+    }
+    if clean == 1.0f64 {
+        return between(0.96875f64, 1.03125f64, x);
+    }
+    between(0.6796875f64, 0.734375f64, x)
+}
+
+// The same; negative parts are mirrored.
+fn keeps(clean: f64, x: f64) -> bool {
+    if clean < 0.0f64 {
+        return keeps_positive(-clean, -x);
+    }
+    keeps_positive(clean, x)
+}
+
+// Whether a point lies outside the margins of the one that was read. The imaginary part of BPSK is free.
+fn is_outside(bpsk: bool, clean_re: f64, clean_im: f64, x: f64, y: f64) -> bool {
+    if !keeps(clean_re, x) {
+        return true;
+    }
+    if bpsk {
+        return false;
+    }
+    !keeps(clean_im, y)
+}
+
+// Counts point k where it lies inside or outside its margins, as asked.
+fn mark_at(
     bins: &mut [u32; 36864],
+    k: usize,
+    bpsk: bool,
+    outside: bool,
     re: &[f64; 38976],
     im: &[f64; 38976],
-    from: usize,
-    to: usize,
+    clean_re: &[f64; 38976],
+    clean_im: &[f64; 38976],
+) {
+    if k >= 38976 {
+        return;
+    }
+    let x = re[k];
+    let y = im[k];
+    if is_outside(bpsk, clean_re[k], clean_im[k], x, y) == outside {
+        mark(bins, x, y);
+    }
+}
+
+// Counts the points of a run inside or outside their margins.
+pub(crate) fn gather(
+    bins: &mut [u32; 36864],
+    r: Run,
+    outside: bool,
+    re: &[f64; 38976],
+    im: &[f64; 38976],
+    clean_re: &[f64; 38976],
+    clean_im: &[f64; 38976],
 ) {
     clear(bins);
-    let mut k = from;
-    while k < to && k < 38976 {
-        mark(bins, re[k], im[k]);
+    let bpsk = is_bpsk(r);
+    let to = r.symbol_end;
+    let mut k = r.symbol_start;
+    while k < to {
+        mark_at(bins, k, bpsk, outside, re, im, clean_re, clean_im);
         k = k + 1;
     }
 }
@@ -53,10 +124,11 @@ fn tally(so: bool) -> usize
     if so { 1 } else { 0 }
 }
 
-// How many of these points lie outside the picture.
-pub(crate) fn beyond(re: &[f64; 38976], im: &[f64; 38976], from: usize, to: usize) -> usize {
+// How many points of a run lie outside the picture.
+pub(crate) fn beyond(re: &[f64; 38976], im: &[f64; 38976], r: Run) -> usize {
+    let to = r.symbol_end;
     let mut n: usize = 0;
-    let mut k = from;
+    let mut k = r.symbol_start;
     while k < to && k < 38976 {
         n = n + tally(is_out(re[k], im[k]));
         k = k + 1;

@@ -1,4 +1,4 @@
-// The picture of a frame that was read, as SVG: the strained steps of each valid slot, and the received points of each combination.
+// The picture of a frame that was read, as SVG: the verdict, the strained steps of each valid slot, the points outside the margins of each slot of the frame, and the received points of each combination.
 mod bars;
 mod cloud;
 mod form;
@@ -14,9 +14,9 @@ ghost use Prim.Native.Nat.{_<_, _≤_};
 // How high the picture of n runs is.
 fn page(n: usize) -> usize {
     match n {
-        0 => 720,
-        1 | 2 => 1620,
-        _ => 2560,
+        0 => 1200,
+        1 | 2 => 2120,
+        _ => 3060,
     }
 }
 
@@ -30,19 +30,54 @@ fn open(sheet: &mut [u8; 327680], at: usize, n: usize) -> usize {
     )
 }
 
-// The two lines at the top.
-fn head(sheet: &mut [u8; 327680], at: usize, name: &[u8], steps: usize, strained: usize) -> usize {
+// What a picture is of: the frame's table, its steps and how many are strained, how many bytes were read and how many points lie outside their margins.
+pub struct Facts {
+    pub table: Table,
+    pub steps: usize,
+    pub strained: u32,
+    pub size: usize,
+    pub outside: u32,
+}
+
+// The verdict.
+fn verdict(sheet: &mut [u8; 327680], at: usize, f: Facts) -> usize {
+    if f.size == 0 {
+        return put(sheet, at, b"certain: the table carries no bytes");
+    }
+    if f.outside == 0 {
+        return put(
+            sheet,
+            at,
+            b"certain: every part lies within the margins of the bytes that were read: no other bytes fit",
+        );
+    }
+    fill(
+        sheet,
+        at,
+        b"doubtful: points outside the margins: $; the bytes are a reading, not a proof",
+        [f.outside as usize, 0, 0, 0, 0, 0],
+    )
+}
+
+// The lines at the top.
+fn head(sheet: &mut [u8; 327680], at: usize, name: &[u8], f: Facts) -> usize {
     let a = put(
         sheet,
         at,
-        b"<text x=\"60\" y=\"56\" font-size=\"36\">Strain and received points of frame ",
+        b"<text x=\"60\" y=\"56\" font-size=\"36\">Verdict, strain and received points of frame ",
     );
     let b = form::name(sheet, a, name);
-    fill(
+    let c = put(
         sheet,
         b,
-        b"</text>\n<text x=\"60\" y=\"100\" font-size=\"26\">$ of $ steps strained: there the points spoke against the bits that were read. 0 does not mean a good frame.</text>\n",
-        [strained, steps, 0, 0, 0, 0],
+        b"</text>\n<text x=\"60\" y=\"104\" font-size=\"30\">",
+    );
+    let d = verdict(sheet, c, f);
+    fill(
+        sheet,
+        d,
+        b"</text>\n<text x=\"60\" y=\"148\" font-size=\"26\">$ of $ steps strained: there the points spoke against the bits that were read. 0 alone does not mean a good frame.</text>\n",
+        [f.strained as usize, f.steps, 0, 0, 0, 0],
     )
 }
 
@@ -91,11 +126,35 @@ fn strain(
     n: usize,
     counts: &[u32; 48],
 ) -> usize {
-    let a = put(sheet, at, b"<g transform=\"translate(0 110)\">\n");
-    let b = bars::bars(sheet, a, counts, n);
+    let a = put(sheet, at, b"<g transform=\"translate(0 150)\">\n");
+    let b = bars::bars(sheet, a, counts, n, b"#3182bd");
     let c = strips(sheet, b, rs);
     let d = bar_words(sheet, c);
     put(sheet, d, b"</g>\n")
+}
+
+fn frame_strip(sheet: &mut [u8; 327680], at: usize, i: usize, r: Run) -> usize {
+    bars::strip(sheet, at, i, r.symbol_start / 812, r.symbol_end / 812)
+}
+
+// The strips of the runs' letters below the 48 slots of the frame.
+fn frame_strips(sheet: &mut [u8; 327680], at: usize, rs: [Run; 4]) -> usize {
+    let a = frame_strip(sheet, at, 0, rs[0]);
+    let b = frame_strip(sheet, a, 1, rs[1]);
+    let c = frame_strip(sheet, b, 2, rs[2]);
+    frame_strip(sheet, c, 3, rs[3])
+}
+
+// The bars of the points outside the margins of the 48 slots of the frame.
+fn misses(sheet: &mut [u8; 327680], at: usize, rs: [Run; 4], outside: &[u32; 48]) -> usize {
+    let a = put(sheet, at, b"<g transform=\"translate(0 640)\">\n");
+    let b = bars::bars(sheet, a, outside, 48, b"#de2d26");
+    let c = frame_strips(sheet, b, rs);
+    put(
+        sheet,
+        c,
+        b"<g text-anchor=\"middle\"><text transform=\"translate(48 240) rotate(-90)\">points outside their margin</text><text x=\"908\" y=\"500\">slot of the frame (812 points each)</text></g>\n</g>\n",
+    )
 }
 
 // What the squares and boxes of the panels are.
@@ -103,17 +162,22 @@ fn legend(sheet: &mut [u8; 327680], at: usize) -> usize {
     let a = put(
         sheet,
         at,
-        b"<g transform=\"translate(60 655)\">\n<rect width=\"20\" height=\"20\" fill=\"#9ecae1\"/><text x=\"30\" y=\"18\">1</text><rect x=\"90\" width=\"20\" height=\"20\" fill=\"#6baed6\"/><text x=\"120\" y=\"18\">2 or 3</text>",
+        b"<g transform=\"translate(60 1170)\">\n<path fill=\"#9ecae1\" d=\"M0 0h20v20h-20z\"/><path fill=\"#fcae91\" d=\"M24 0h20v20h-20z\"/><text x=\"52\" y=\"18\">1</text>",
     );
     let b = put(
         sheet,
         a,
-        b"<rect x=\"220\" width=\"20\" height=\"20\" fill=\"#3182bd\"/><text x=\"250\" y=\"18\">4 to 15</text><rect x=\"360\" width=\"20\" height=\"20\" fill=\"#08306b\"/><text x=\"390\" y=\"18\">16 or more points in a square of 1/64 by 1/64</text>\n",
+        b"<path fill=\"#6baed6\" d=\"M90 0h20v20h-20z\"/><path fill=\"#fb6a4a\" d=\"M114 0h20v20h-20z\"/><text x=\"142\" y=\"18\">2 or 3</text><path fill=\"#3182bd\" d=\"M230 0h20v20h-20z\"/><path fill=\"#de2d26\" d=\"M254 0h20v20h-20z\"/><text x=\"282\" y=\"18\">4 to 15</text>",
+    );
+    let c = put(
+        sheet,
+        b,
+        b"<path fill=\"#08306b\" d=\"M380 0h20v20h-20z\"/><path fill=\"#a50f15\" d=\"M404 0h20v20h-20z\"/><text x=\"432\" y=\"18\">16 or more points in a square of 1/64 by 1/64, blue within the margin, red outside</text>\n",
     );
     put(
         sheet,
-        b,
-        b"<path fill=\"none\" stroke=\"#ff7f0e\" stroke-width=\"3\" d=\"M962 2h16v16h-16z\"/><path stroke=\"#ff7f0e\" d=\"M965 10h10M970 5v10\"/><text x=\"990\" y=\"18\">an ideal point and its margin (BPSK: the imaginary part is free)</text>\n</g>\n",
+        c,
+        b"<path fill=\"none\" stroke=\"#ff7f0e\" stroke-width=\"3\" d=\"M1342 2h16v16h-16z\"/><path stroke=\"#ff7f0e\" d=\"M1345 10h10M1350 5v10\"/><text x=\"1370\" y=\"18\">an ideal point and its margin</text>\n</g>\n",
     )
 }
 
@@ -126,13 +190,15 @@ fn panel_at(
     i: usize,
     re: &[f64; 38976],
     im: &[f64; 38976],
+    clean_re: &[f64; 38976],
+    clean_im: &[f64; 38976],
 ) -> usize
     requires { ⌜ i < 4 ⌝ }
 {
     if i >= n {
         return at;
     }
-    panel::panel(sheet, at, bins, rs[i], i, re, im)
+    panel::panel(sheet, at, bins, rs[i], i, re, im, clean_re, clean_im)
 }
 
 // The panels of the first n runs.
@@ -144,32 +210,38 @@ fn panels(
     n: usize,
     re: &[f64; 38976],
     im: &[f64; 38976],
+    clean_re: &[f64; 38976],
+    clean_im: &[f64; 38976],
 ) -> usize {
-    let a = panel_at(sheet, at, bins, rs, n, 0, re, im);
-    let b = panel_at(sheet, a, bins, rs, n, 1, re, im);
-    let c = panel_at(sheet, b, bins, rs, n, 2, re, im);
-    panel_at(sheet, c, bins, rs, n, 3, re, im)
+    let a = panel_at(sheet, at, bins, rs, n, 0, re, im, clean_re, clean_im);
+    let b = panel_at(sheet, a, bins, rs, n, 1, re, im, clean_re, clean_im);
+    let c = panel_at(sheet, b, bins, rs, n, 2, re, im, clean_re, clean_im);
+    panel_at(sheet, c, bins, rs, n, 3, re, im, clean_re, clean_im)
 }
 
 // Draws the picture of a frame on a sheet, and answers how long it is; more than the sheet has where it does not fit.
+// Lent are the strained steps of each valid slot, the points outside of each slot, the received points and those of the bytes that were read.
 pub fn draw(
     sheet: &mut [u8; 327680],
     bins: &mut [u32; 36864],
     name: &[u8],
-    t: Table,
-    steps: usize,
-    strained: u32,
+    f: Facts,
     counts: &[u32; 48],
+    outside: &[u32; 48],
     re: &[f64; 38976],
     im: &[f64; 38976],
+    clean_re: &[f64; 38976],
+    clean_im: &[f64; 38976],
 ) -> usize {
+    let t = f.table;
     let all = slots::runs(t);
     let rs = all.runs;
     let n = all.count;
     let a = open(sheet, 0, n);
-    let b = head(sheet, a, name, steps, strained as usize);
+    let b = head(sheet, a, name, f);
     let c = strain(sheet, b, rs, all.valid_slots, counts);
-    let d = legend(sheet, c);
-    let e = panels(sheet, d, bins, rs, n, re, im);
-    put(sheet, e, b"</svg>\n")
+    let d = misses(sheet, c, rs, outside);
+    let e = legend(sheet, d);
+    let g = panels(sheet, e, bins, rs, n, re, im, clean_re, clean_im);
+    put(sheet, g, b"</svg>\n")
 }

@@ -125,17 +125,42 @@ fn axes(sheet: &mut [u8; 327680], at: usize) -> usize {
     )
 }
 
-// The squares of the points that were gathered. A stroke lies in the middle of its row.
-fn points(sheet: &mut [u8; 327680], at: usize, bins: &[u32; 36864]) -> usize {
+// The squares of the points within their margins, which were gathered. A stroke lies in the middle of its row.
+fn within(sheet: &mut [u8; 327680], at: usize, bins: &[u32; 36864]) -> usize {
     let a = put(sheet, at, b"<g transform=\"translate(0 2) scale(4)\">\n");
     let b = cloud::squares(sheet, a, bins, 1, b"#9ecae1");
     let c = cloud::squares(sheet, b, bins, 2, b"#6baed6");
     let d = cloud::squares(sheet, c, bins, 3, b"#3182bd");
-    let e = cloud::squares(sheet, d, bins, 4, b"#08306b");
-    put(sheet, e, b"</g>\n")
+    cloud::squares(sheet, d, bins, 4, b"#08306b")
 }
 
-// The panel of run i, which is one of four, two in a row; the first begins at y = 760.
+// The squares of those outside.
+fn outside(sheet: &mut [u8; 327680], at: usize, bins: &[u32; 36864]) -> usize {
+    let a = cloud::squares(sheet, at, bins, 1, b"#fcae91");
+    let b = cloud::squares(sheet, a, bins, 2, b"#fb6a4a");
+    let c = cloud::squares(sheet, b, bins, 3, b"#de2d26");
+    let d = cloud::squares(sheet, c, bins, 4, b"#a50f15");
+    put(sheet, d, b"</g>\n")
+}
+
+// The squares of a run.
+fn points(
+    sheet: &mut [u8; 327680],
+    at: usize,
+    bins: &mut [u32; 36864],
+    r: Run,
+    re: &[f64; 38976],
+    im: &[f64; 38976],
+    clean_re: &[f64; 38976],
+    clean_im: &[f64; 38976],
+) -> usize {
+    cloud::gather(bins, r, false, re, im, clean_re, clean_im);
+    let a = within(sheet, at, bins);
+    cloud::gather(bins, r, true, re, im, clean_re, clean_im);
+    outside(sheet, a, bins)
+}
+
+// The panel of run i, which is one of four, two in a row; the first begins at y = 1260.
 pub(crate) fn panel(
     sheet: &mut [u8; 327680],
     at: usize,
@@ -144,27 +169,26 @@ pub(crate) fn panel(
     i: usize,
     re: &[f64; 38976],
     im: &[f64; 38976],
+    clean_re: &[f64; 38976],
+    clean_im: &[f64; 38976],
 ) -> usize
     requires { ⌜ i < 4 ⌝ }
 {
-    let from = r.symbol_start;
-    let to = r.symbol_end;
-    if to < from {
+    if r.symbol_end < r.symbol_start {
         return at;
     }
     let c = r.combination;
+    let n = r.symbol_end - r.symbol_start;
     let m = c.modulation();
-    cloud::gather(bins, re, im, from, to);
-    let n = cloud::beyond(re, im, from, to);
     let a = fill(
         sheet,
         at,
         b"<g transform=\"translate(@ @)\">\n",
-        [120 + 860 * (i % 2), 760 + 940 * (i / 2), 0, 0, 0, 0],
+        [120 + 860 * (i % 2), 1260 + 940 * (i / 2), 0, 0, 0, 0],
     );
-    let b = title(sheet, a, i, c, to - from, n);
+    let b = title(sheet, a, i, c, n, cloud::beyond(re, im, r));
     let d = grid(sheet, b);
     let e = axes(sheet, d);
-    let f = points(sheet, e, bins);
+    let f = points(sheet, e, bins, r, re, im, clean_re, clean_im);
     overlay(sheet, f, m)
 }

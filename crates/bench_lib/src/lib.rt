@@ -1,9 +1,10 @@
 // The bench program's commands, on a line of words that are separated by 0 bytes. Reports go to standard output; the last line is ok, or
-// begins with refused or failed.
+// begins with doubtful, refused or failed.
 // A module for each command.
 mod compare;
 mod demonstration;
 mod full;
+mod judge;
 mod make;
 mod mend;
 mod overlay;
@@ -49,6 +50,10 @@ fn run_on(
     }
     if same(command, b"read") {
         read::read(line, re, im, decisions, bits, bytes);
+        return;
+    }
+    if same(command, b"judge") {
+        judge::judge(line, re, im, bytes);
         return;
     }
     if same(command, b"compare") {

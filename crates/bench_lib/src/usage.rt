@@ -14,6 +14,9 @@ fn usage_commands() {
         b"  bench read TABLE MAPPING KIND FRAME BYTES [unknown] [SCALES] [chart FILE]\n                                                                   points of FRAME to bytes in BYTES, and to a picture in FILE\n",
     );
     text(
+        b"  bench judge TABLE MAPPING KIND FRAME BYTES                       whether the points of FRAME prove the bytes of BYTES\n",
+    );
+    text(
         b"  bench compare TABLE SENT READ                                    how many bytes agree\n",
     );
     text(

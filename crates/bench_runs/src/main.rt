@@ -193,6 +193,64 @@ fn pictures() {
     bench(b"read 2:4 001 first half.cf64 none chart");
 }
 
+fn judged() {
+    note(b"clean.cf64 is the frame of the load, half.cf64 that with point 1,629 turned");
+    bench(b"judge 2:4 001 first clean.cf64 half");
+    bench(b"judge 2:4 001 first half.cf64 half");
+    bench(b"judge 2:4 001 other clean.cf64 half");
+    bench(b"judge 2:4 001 first clean.cf64 load");
+    bench(b"judge 7:44,1:4 001 first frame.cf64 load");
+    bench(b"judge 7:44,1:4 110 other frame.cf32 load");
+    bench(b"judge 7:44,1:4 001 first load load");
+    bench(b"judge 2:4 001 first clean.cf64 missing");
+    bench(b"judge 15:48 001 first clean.cf64 empty");
+    bench(b"judge 2:4 001 first clean.cf64");
+}
+
+// The next number of a sequence without order.
+fn next_random(n: u32) -> u32 {
+    let a = n ^ (n << 13);
+    let b = a ^ (a >> 17);
+    b ^ (b << 5)
+}
+
+fn low(n: u32) -> u8 {
+    (n % 256) as u8
+}
+
+fn sign(n: u32) -> u8 {
+    if n / 65_536 % 2 == 0 { 0x3f } else { 0xbf }
+}
+
+// Writes a part between 0.5 and 1 in size, as n has it.
+fn write_part(file: i32, n: u32) {
+    let high = 0xe0 + low(n) % 16;
+    let bytes = [0, 0, 0, low(n), low(n / 256), low(n / 4_096), high, sign(n)];
+    io::write_all(file, &bytes);
+}
+
+fn write_noise(file: i32) {
+    let mut n: u32 = 1;
+    let mut k: usize = 0;
+    while k < 77952 {
+        n = next_random(n);
+        write_part(file, n);
+        k = k + 1;
+    }
+}
+
+fn noise() {
+    bench(b"make 7:44,1:4 001 first load noise.cf64");
+    note(b"every part becomes a number without order, between 0.5 and 1 in size");
+    let file = os::open_update(b"noise.cf64");
+    if file >= 0 {
+        write_noise(file);
+        libc::close(file);
+    }
+    bench(b"read 7:44,1:4 001 first noise.cf64 noise chart noise.svg");
+    bench(b"judge 7:44,1:4 001 first noise.cf64 load");
+}
+
 fn series() {
     bench(b"make 2:4 001 first load clean.cf64");
     bench(b"series 2 2:4 001 first clean.cf64 half.cf64 half.cf64 clean.cf64 clean.cf64");
@@ -343,6 +401,8 @@ fn main() {
     strained();
     pictures();
     series();
+    judged();
+    noise();
     full_frames();
     stretches();
     refusals();

@@ -5,10 +5,10 @@ use Rattle.bench_chart.proofs.cloud.beyond.Statement.{statement}
 use Rattle.bench_chart.proofs.cloud.beyond.Tie as tie
 
 abbrev Inv-loop : tie.InvT-loop
-Inv-loop re im from to n₀ k₀ n k = n ≤ k
+Inv-loop re im to n₀ k₀ n k = n ≤ k
 
 abbrev μ-loop : tie.MeasureT-loop
-μ-loop re im from to n₀ k₀ n k = to - k
+μ-loop re im to n₀ k₀ n k = to - k
 
 loop-holds : tie.Need-loop-holds Inv-loop μ-loop
 loop-holds c = search needs
