@@ -5,11 +5,14 @@ use mathlib.Core.List.{List, _++_}
 use Prim.Native.Nat.{ℕ, _+_, _-_, _*_, _/_, _%_, _<_, _≤_}
 use native.Mathlib.Nat.{zero-add, add-zero, add-assoc, mul-le-mul-right, div-mul-le-self, mul-add-div-right, mul-add-mod-self-right, mod-eq-of-lt, div-eq-of-lt, div-add-mod', mod-lt}
 use native.Mathlib.Omega.{arith}
-use lib.Dec.{eqb}
+use borrow.Author.Tests.{ltb-true, ltb-false}
+use lib.Dec.{eqb, ltb}
 use lib.Ieee.{Float, nan}
 use lib.ListN.{length, getD, take, drop}
 use Rattle.trellis.specs.Lists.{upto, laid}
 use Rattle.trellis.specs.Code.{stateAt}
+use Rattle.code_windows.specs.Windows.{backward}
+use Rattle.code_windows.specs.WindowLaws.{backward-small}
 use Rattle.viterbi.specs.Upto.{getD-upto}
 use Rattle.isdbs_combination.specs.declared.Combination.{Combination}
 use Rattle.isdbs_combination.specs.declared.Combination.the-variants.{«Bpsk1_2», «Qpsk1_2», «Qpsk2_3», «Qpsk3_4», «Qpsk5_6», «Qpsk7_8», «Tc8psk2_3»}
@@ -24,9 +27,10 @@ use Rattle.isdbs_points.specs.Points.{qpskOf}
 use Rattle.isdbs_points.specs.Layout.{orderOf, stepsPerPeriod, loadBit}
 use Rattle.isdbs_points.specs.Frame.{sentBit, labelAt, pointIn, pointBy}
 use Rattle.isdbs_points.specs.Pieces.{piece, pieceInputs, pieceSymbols, mapped}
-use Rattle.isdbs_pieces.specs.Encoded.{piecePoint, TableOf, qpskLabel, plainInputs, PatternOf, AtMost, motherBit, pairLabel, patternBit, patternLabel, PeriodEncoded, PieceEncoded}
+use Rattle.isdbs_pieces.specs.Encoded.{piecePoint, TableOf, qpskLabel, plainInputs, PatternOf, AtMost, Shifted, shiftOf, outputBit, IsOutput, shiftedLabel, wordBit, pairLabel, patternBit, patternLabel, PeriodEncoded, PieceEncoded}
 use Rattle.isdbs_points.specs.LawsUpto.{upto-cong}
 use Rattle.isdbs_points.specs.LawsState.{Follow}
+use Rattle.isdbs_pieces.proofs.Windowed.{shift-output, shift-bit}
 use Rattle.isdbs_pieces.specs.PieceLaws.{Going, label-small, label-more, going-part}
 
 -- each period has its steps among n, and its symbols among a and among b
@@ -98,30 +102,47 @@ Within period count p1 p0 = (i : ℕ) → i < count → (getD p1 i 0 / 2 < perio
 pub pattern-within : (c : Combination) (p : Pattern) (r : PatternOf (punctureOf c) p) → Within (p .period) (p .count) (p .p1) (p .p0)
 pattern-within c p r i h = (rw (r .first i h) (r .within (2 * i)), rw (r .second i h) (r .within (2 * i + 1)))
 
-pub first-at-most : (period count : ℕ) (p1 p0 : List ℕ) → Within period count p1 p0 → AtMost count (2 * period - 1) p1
-first-at-most period count p1 p0 w i h = omega (arith, w i h .0)
+-- the digits that the pairs' bits stand at are outputs of the period
+abbrev pub Outputs : ℕ → ℕ → List ℕ → Type 0
+Outputs period count s = (i : ℕ) → i < count → IsOutput period (getD s i 0)
 
-pub second-at-most : (period count : ℕ) (p1 p0 : List ℕ) → Within period count p1 p0 → AtMost count (2 * period - 1) p0
-second-at-most period count p1 p0 w i h = omega (arith, w i h .1)
+pub outputs-of : (period count : ℕ) (p s : List ℕ) → period ≤ 8 → count ≤ 4 → Shifted period p s → ((i : ℕ) → i < count → getD p i 0 / 2 < period) → Outputs period count s
+outputs-of period count p s hp hc w h i l = rw (w .each i (omega arith)) (shift-output period (getD p i 0) hp (h i l))
 
-module _ (at : ℕ → ℕ) (period count : ℕ) (p1 p0 : List ℕ) where
-  pattern-at : (q i : ℕ) → i < count
-      → patternLabel at period count p1 p0 (q * count + i) ≡ 2 * patternBit at (q * period) (getD p1 i 0) + patternBit at (q * period) (getD p0 i 0)
-  unfolding patternLabel
-  pattern-at q i h = rw (quotient count q i (q * count + i) h refl, remainder count q i (q * count + i) h refl)
+pub at-most : (period count : ℕ) (s : List ℕ) → Outputs period count s → AtMost count 31 s
+at-most period count s w i h = omega (arith, w i h .1)
 
-  pub pair-label : (word q i : ℕ) → ((a : ℕ) → a / 2 < period → motherBit word (2 * period - 1) a ≡ patternBit at (q * period) a) → Within period count p1 p0 → i < count
-      → pairLabel word (2 * period - 1) p1 p0 i ≡ patternLabel at period count p1 p0 (q * count + i)
-  pair-label word q i h w l = rw (pattern-at q i l, h (getD p1 i 0) (w i l .0), h (getD p0 i 0) (w i l .1))
+module _ (at : ℕ → ℕ) (period count : ℕ) (s1 s0 : List ℕ) where
+  shifted-at : (q i : ℕ) → i < count
+      → shiftedLabel at period count s1 s0 (q * count + i) ≡ 2 * outputBit at period (q * period) (getD s1 i 0) + outputBit at period (q * period) (getD s0 i 0)
+  unfolding shiftedLabel
+  shifted-at q i h = rw (quotient count q i (q * count + i) h refl, remainder count q i (q * count + i) h refl)
+
+  pub pair-label : (word q i : ℕ) → ((x : ℕ) → IsOutput period x → wordBit word x ≡ outputBit at period (q * period) x) → Outputs period count s1 → Outputs period count s0 → i < count
+      → pairLabel word s1 s0 i ≡ shiftedLabel at period count s1 s0 (q * count + i)
+  pair-label word q i h w1 w0 l = rw (shifted-at q i l, h (getD s1 i 0) (w1 i l), h (getD s0 i 0) (w0 i l))
+
+-- the outputs of a period among those of the run
+output-shift : (f at : ℕ → ℕ) (n base x : ℕ) → IsOutput n x → ((i : ℕ) → i < n → f i ≡ at (base + i)) → outputBit f n 0 x ≡ outputBit at n base x
+unfolding outputBit
+output-shift f at n base x h e = by (ltb x 16) refl
+  where
+    by : (t : Bool) → ltb x 16 ≡ t → cond t (f (0 + (n - 1 - x)) % 2) (f (0 + (n - 1 - (x - 16))) / 2) ≡ cond t (at (base + (n - 1 - x)) % 2) (at (base + (n - 1 - (x - 16))) / 2)
+    by true d =
+        let l = ltb-true x 16 d in
+        rw (zero-add (n - 1 - x), e (n - 1 - x) (omega arith))
+    by false d =
+        let l = ltb-false x 16 d in
+        rw (zero-add (n - 1 - (x - 16)), e (n - 1 - (x - 16)) (omega arith))
 
 -- ---- a period more
-module _ (load : List ℕ) (bit n s period count : ℕ) (p1 p0 : List ℕ) where
+module _ (load : List ℕ) (bit n s period count : ℕ) (s1 s0 : List ℕ) where
   abbrev us : List ℕ
   us = plainInputs load bit n
 
   -- point k by a table of points
   abbrev pub tabled : List Float → ℕ → Float
-  tabled xs k = getD xs (patternLabel (labelAt s (plainInputs load bit n)) period count p1 p0 k) nan
+  tabled xs k = getD xs (shiftedLabel (labelAt s (plainInputs load bit n)) period count s1 s0 k) nan
 
   follow : (done : ℕ) → done + period ≤ n → Follow us done (plainInputs load (bit + done) period) period
   follow done h i l =
@@ -129,22 +150,22 @@ module _ (load : List ℕ) (bit n s period count : ℕ) (p1 p0 : List ℕ) where
       ∙ ap (λ (x : ℕ). loadBit load x) (sym (add-assoc bit done i))
       ∙ sym (getD-upto (λ k. loadBit load (bit + done + k)) 0 period i l)
 
-  pub going-period : (xs ys : List Float) {re₀ im₀ re im : List Float} {state done j : ℕ} → Going us s (tabled xs) (tabled ys) re₀ im₀ re im state done j
-      → (q : ℕ) → done ≡ q * period → j ≡ q * count → q * period + period ≤ n → q * count + count ≤ length re₀ → q * count + count ≤ length im₀ → Within period count p1 p0
+  pub going-period : (xs ys : List Float) {re₀ im₀ re im : List Float} {state done j : ℕ} → Going us s (tabled xs) (tabled ys) re₀ im₀ re im (backward state) done j
+      → (q : ℕ) → done ≡ q * period → j ≡ q * count → q * period + period ≤ n → q * count + count ≤ length re₀ → q * count + count ≤ length im₀ → Outputs period count s1 → Outputs period count s0
       → (e : Period) → PeriodEncoded load (bit + done) period state e
       → {re' im' : List Float}
-      → re' ≡ take j re ++ laid (upto (λ i. getD xs (pairLabel (e .word) (2 * period - 1) p1 p0 i) nan) count) (drop j re)
-      → im' ≡ take j im ++ laid (upto (λ i. getD ys (pairLabel (e .word) (2 * period - 1) p1 p0 i) nan) count) (drop j im)
-      → Going us s (tabled xs) (tabled ys) re₀ im₀ re' im' (e .state) (done + period) (j + count)
-  going-period xs ys {re₀} {im₀} {re} {im} {state} {done} {j} r q ed ej hn hr hi w e t {re'} {im'} er ei =
+      → re' ≡ take j re ++ laid (upto (λ i. getD xs (pairLabel (e .word) s1 s0 i) nan) count) (drop j re)
+      → im' ≡ take j im ++ laid (upto (λ i. getD ys (pairLabel (e .word) s1 s0 i) nan) count) (drop j im)
+      → Going us s (tabled xs) (tabled ys) re₀ im₀ re' im' (backward (e .state)) (done + period) (j + count)
+  going-period xs ys {re₀} {im₀} {re} {im} {state} {done} {j} r q ed ej hn hr hi w1 w0 e t {re'} {im'} er ei =
       let at = labelAt s us in
       let vs = plainInputs load (bit + done) period in
       let f : Follow us done vs period = follow done (omega arith) in
-      let bits : (a : ℕ) → a / 2 < period → motherBit (e .word) (2 * period - 1) a ≡ patternBit at (q * period) a =
-      λ a l. t .bits-are a (omega arith) ∙ rw (zero-add (a / 2), label-more r vs period f (a / 2) l, ed) in
-      let label : (i : ℕ) → i < count → pairLabel (e .word) (2 * period - 1) p1 p0 i ≡ patternLabel at period count p1 p0 (j + i) =
-      λ i l. pair-label at period count p1 p0 (e .word) q i bits w l ∙ ap (λ (x : ℕ). patternLabel at period count p1 p0 (x + i)) (sym ej) in
-      going-part r vs period f (e .state) (t .small) (t .state-is) (λ i. getD xs (pairLabel (e .word) (2 * period - 1) p1 p0 i) nan) (λ i. getD ys (pairLabel (e .word) (2 * period - 1) p1 p0 i) nan) count re' im' (omega arith) (omega arith) er ei
+      let bits : (x : ℕ) → IsOutput period x → wordBit (e .word) x ≡ outputBit at period (q * period) x =
+      λ x l. t .bits-are x l ∙ output-shift (labelAt (backward state) vs) at period done x l (λ i h. label-more r vs period f i h) ∙ ap (λ (y : ℕ). outputBit at period y x) ed in
+      let label : (i : ℕ) → i < count → pairLabel (e .word) s1 s0 i ≡ shiftedLabel at period count s1 s0 (j + i) =
+      λ i l. pair-label at period count s1 s0 (e .word) q i bits w1 w0 l ∙ ap (λ (x : ℕ). shiftedLabel at period count s1 s0 (x + i)) (sym ej) in
+      going-part r vs period f (backward (e .state)) (backward-small (e .state)) (t .state-is) (λ i. getD xs (pairLabel (e .word) s1 s0 i) nan) (λ i. getD ys (pairLabel (e .word) s1 s0 i) nan) count re' im' (omega arith) (omega arith) er ei
       (λ i l. ap (λ (z : ℕ). getD xs z nan) (label i l)) (λ i l. ap (λ (z : ℕ). getD ys z nan) (label i l))
 
 -- ---- the points of the run
@@ -214,19 +235,36 @@ module _ (c : Combination) (p : Pattern) (r : PatternOf (punctureOf c) p) (m : M
       )
 
 -- ---- the whole run
-module _ (c : Combination) (p : Pattern) (r : PatternOf (punctureOf c) p) (m : Mapping) (t : PointTable) (w : TableOf 4 (qpskLabel m) t) (load : List ℕ) (bit n s : ℕ) (e : modulationOf c ≡ Qpsk) where
+module _ (c : Combination) (p : Pattern) (r : PatternOf (punctureOf c) p) (s1 s0 : List ℕ) (x1 : Shifted (p .period) (p .p1) s1) (x0 : Shifted (p .period) (p .p0) s0) (at : ℕ → ℕ) where
+  bit-is : (i base : ℕ) → i < p .count → (a x : ℕ) → a / 2 < p .period → x ≡ shiftOf (p .period) a → outputBit at (p .period) base x ≡ patternBit at base a
+  bit-is i base l a x h e = rw e (shift-bit (p .period) a (r .short) h at base)
+
+  pub shifted-pattern : (j : ℕ) → shiftedLabel at (p .period) (p .count) s1 s0 j ≡ patternLabel at (p .period) (p .count) (p .p1) (p .p0) j
+  unfolding shiftedLabel patternLabel
+  shifted-pattern j =
+      let i = j % p .count in
+      let base = j / p .count * p .period in
+      let l : i < p .count = mod-lt j (r .pairs-many) in
+      let w = pattern-within c p r i l in
+      rw (
+        bit-is i base l (getD (p .p1) i 0) (getD s1 i 0) (w .0) (x1 .each i (omega (arith, r .few))),
+        bit-is i base l (getD (p .p0) i 0) (getD s0 i 0) (w .1) (x0 .each i (omega (arith, r .few))),
+      )
+
+module _ (c : Combination) (p : Pattern) (r : PatternOf (punctureOf c) p) (s1 s0 : List ℕ) (x1 : Shifted (p .period) (p .p1) s1) (x0 : Shifted (p .period) (p .p0) s0) (m : Mapping) (t : PointTable) (w : TableOf 4 (qpskLabel m) t) (load : List ℕ) (bit n s : ℕ) (e : modulationOf c ≡ Qpsk) where
   abbrev inTable : List Float → ℕ → Float
-  inTable = tabled load bit n s (p .period) (p .count) (p .p1) (p .p0)
+  inTable = tabled load bit n s (p .period) (p .count) s1 s0
 
   pub qpsk-end : {re₀ im₀ re im : List Float} {state done j : ℕ}
-      → Going (plainInputs load bit n) s (tabled load bit n s (p .period) (p .count) (p .p1) (p .p0) (t .re)) (tabled load bit n s (p .period) (p .count) (p .p1) (p .p0) (t .im)) re₀ im₀ re im state done j
+      → Going (plainInputs load bit n) s (tabled load bit n s (p .period) (p .count) s1 s0 (t .re)) (tabled load bit n s (p .period) (p .count) s1 s0 (t .im)) re₀ im₀ re im state done j
       → (q : ℕ) → q ≡ n / p .period → done ≡ q * p .period → j ≡ q * p .count → n ≡ n / stepsPerPeriod c * stepsPerPeriod c → PieceEncoded c m load bit n s state re₀ re im₀ im
   qpsk-end {re₀} {im₀} {re} {im} {state} {done} {j} g q eq ed ej en =
       let d : done ≡ n = ed ∙ ap (λ (x : ℕ). x * p .period) eq ∙ rw (← r .period-is) at (sym en) in
       let k : j ≡ pieceSymbols c n = ej ∙ ap (λ (x : ℕ). x * p .count) eq ∙ sym (symbols-qpsk c n e ∙ rw (half-order c p r, ← r .period-is)) in
-      let l = patternLabel (labelAt s (plainInputs load bit n)) (p .period) (p .count) (p .p1) (p .p0) in
-      let small : (i : ℕ) → l i < 4 = λ i. run-label-small c p r m load bit n s i e in
-      let point : (i : ℕ) → qpskLabel m (l i) ≡ piecePoint c m load bit n s i = λ i. run-point c p r m load bit n s i e in
+      let l = shiftedLabel (labelAt s (plainInputs load bit n)) (p .period) (p .count) s1 s0 in
+      let same : (i : ℕ) → l i ≡ patternLabel (labelAt s (plainInputs load bit n)) (p .period) (p .count) (p .p1) (p .p0) i = shifted-pattern c p r s1 s0 x1 x0 (labelAt s (plainInputs load bit n)) in
+      let small : (i : ℕ) → l i < 4 = λ i. rw (same i) (run-label-small c p r m load bit n s i e) in
+      let point : (i : ℕ) → qpskLabel m (l i) ≡ piecePoint c m load bit n s i = λ i. rw (same i) (run-point c p r m load bit n s i e) in
       let re-front : upto (inTable (t .re)) j ≡ upto (λ i. piecePoint c m load bit n s i .re) (pieceSymbols c n) =
       rw k (upto-cong (inTable (t .re)) (λ i. piecePoint c m load bit n s i .re) (pieceSymbols c n) (λ i h. w .re-at (l i) (small i) ∙ ap (λ (z : Cplx). z .re) (point i))) in
       let im-front : upto (inTable (t .im)) j ≡ upto (λ i. piecePoint c m load bit n s i .im) (pieceSymbols c n) =

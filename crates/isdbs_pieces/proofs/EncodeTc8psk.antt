@@ -9,6 +9,8 @@ use lib.Ieee.{Float, nan}
 use lib.ListN.{length, getD, take, drop}
 use Rattle.trellis.specs.Lists.{upto, laid}
 use Rattle.trellis.specs.Code.{stateAt}
+use Rattle.code_windows.specs.Windows.{backward}
+use Rattle.code_windows.specs.WindowLaws.{backward-small}
 use Rattle.viterbi.specs.Upto.{getD-upto}
 use Rattle.isdbs_combination.specs.declared.Combination.the-variants.{«Tc8psk2_3»}
 use Rattle.isdbs_points.specs.declared.Mapping.{Mapping}
@@ -56,16 +58,16 @@ module _ (load : List ℕ) (bit k : ℕ) (b : bit % 8 ≡ 0) (h : k % 4 ≡ 0) w
       ∙ sym (getD-upto (λ i. byteBit byteAt (2 * i + 1)) 0 4 i l)
 
   -- a byte more
-  pub going-byte : (n s : ℕ) (xs ys : List Float) {re₀ im₀ re im : List Float} {state : ℕ}
-      → Going (pieceInputs «Tc8psk2_3» load bit n) s (λ j. getD xs (tc8pskLabel load bit n s j) nan) (λ j. getD ys (tc8pskLabel load bit n s j) nan) re₀ im₀ re im state k k
-      → k + 4 ≤ n → n ≤ length re₀ → n ≤ length im₀ → (r : ℕ) → r < 64 → r ≡ stateAt 32 state (byteInputs byteAt) 4
+  pub going-byte : (n s : ℕ) (xs ys : List Float) {re₀ im₀ re im : List Float} (state : ℕ)
+      → Going (pieceInputs «Tc8psk2_3» load bit n) s (λ j. getD xs (tc8pskLabel load bit n s j) nan) (λ j. getD ys (tc8pskLabel load bit n s j) nan) re₀ im₀ re im (backward state) k k
+      → k + 4 ≤ n → n ≤ length re₀ → n ≤ length im₀ → (r : ℕ) → backward r ≡ stateAt 32 (backward state) (byteInputs byteAt) 4
       → {re' im' : List Float}
-      → re' ≡ take k re ++ laid (upto (λ i. getD xs (byteLabel byteAt state i) nan) 4) (drop k re)
-      → im' ≡ take k im ++ laid (upto (λ i. getD ys (byteLabel byteAt state i) nan) 4) (drop k im)
-      → Going (pieceInputs «Tc8psk2_3» load bit n) s (λ j. getD xs (tc8pskLabel load bit n s j) nan) (λ j. getD ys (tc8pskLabel load bit n s j) nan) re₀ im₀ re' im' r (k + 4) (k + 4)
-  going-byte n s xs ys {re₀} {im₀} {re} {im} {state} g l hr hi r small e {re'} {im'} er ei =
+      → re' ≡ take k re ++ laid (upto (λ i. getD xs (byteLabel byteAt (backward state) i) nan) 4) (drop k re)
+      → im' ≡ take k im ++ laid (upto (λ i. getD ys (byteLabel byteAt (backward state) i) nan) 4) (drop k im)
+      → Going (pieceInputs «Tc8psk2_3» load bit n) s (λ j. getD xs (tc8pskLabel load bit n s j) nan) (λ j. getD ys (tc8pskLabel load bit n s j) nan) re₀ im₀ re' im' (backward r) (k + 4) (k + 4)
+  going-byte n s xs ys {re₀} {im₀} {re} {im} state g l hr hi r e {re'} {im'} er ei =
       let w = follow-byte n l in
-      let label : (i : ℕ) → i < 4 → byteLabel byteAt state i ≡ tc8pskLabel load bit n s (k + i) =
+      let label : (i : ℕ) → i < 4 → byteLabel byteAt (backward state) i ≡ tc8pskLabel load bit n s (k + i) =
       λ i o. rw (← byte-bit (bit + 2 * (k + i)) (2 * i) (omega arith) (omega arith), label-more g (byteInputs byteAt) 4 w i o) in
-      going-part g (byteInputs byteAt) 4 w r small e (λ i. getD xs (byteLabel byteAt state i) nan) (λ i. getD ys (byteLabel byteAt state i) nan) 4 re' im' (omega arith) (omega arith) er ei
+      going-part g (byteInputs byteAt) 4 w (backward r) (backward-small r) e (λ i. getD xs (byteLabel byteAt (backward state) i) nan) (λ i. getD ys (byteLabel byteAt (backward state) i) nan) 4 re' im' (omega arith) (omega arith) er ei
       (λ i o. ap (λ (x : ℕ). getD xs x nan) (label i o)) (λ i o. ap (λ (x : ℕ). getD ys x nan) (label i o))

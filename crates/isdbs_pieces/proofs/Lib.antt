@@ -1,4 +1,4 @@
 pub mod EncodeQpsk
 pub mod EncodeTc8psk
-pub mod Gathered
+pub mod Windowed
 pub mod Written

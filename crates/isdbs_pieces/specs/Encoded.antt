@@ -1,11 +1,14 @@
 -- What encoding one run of a frame leaves, and its pieces: a table of points, a byte of TC8PSK, a period of QPSK. Assumes nothing.
 use mathlib.Core.Path.{_≡_}
+use mathlib.Core.Bool.{cond}
 use mathlib.Core.List.{List}
 use Prim.Native.Nat.{ℕ, _+_, _-_, _*_, _/_, _%_, _^_, _<_, _≤_}
+use lib.Dec.{eqb, ltb}
 use lib.ListN.{length, getD}
 use lib.Ieee.{Float, nan}
 use Rattle.trellis.specs.Lists.{upto, laid}
 use Rattle.trellis.specs.Code.{stateAt}
+use Rattle.code_windows.specs.Windows.{backward}
 use Rattle.isdbs_combination.specs.declared.Combination.{Combination}
 use Rattle.isdbs_combination.specs.declared.MaybePuncture.{MaybePuncture}
 use Rattle.isdbs_points.specs.declared.Cplx.{Cplx}
@@ -13,10 +16,10 @@ use Rattle.isdbs_points.specs.declared.Mapping.{Mapping}
 use Rattle.isdbs_pieces.specs.declared.Pattern.{Pattern}
 use Rattle.isdbs_pieces.specs.declared.Period.{Period}
 use Rattle.isdbs_pieces.specs.declared.PointTable.{PointTable}
-use Rattle.isdbs_load.specs.Bits.{byteBit}
 use Rattle.isdbs_points.specs.Points.{qpskOf, psk8Of, subset}
 use Rattle.isdbs_points.specs.Layout.{orderIn, periodIn, loadBit}
 use Rattle.isdbs_points.specs.Frame.{labelAt, pointIn, codedBit}
+use Rattle.isdbs_load.specs.Bits.{byteBit}
 use Rattle.isdbs_points.specs.Pieces.{piece, pieceLabel, pieceState, pieceSymbols, mapped}
 
 -- the parts of its points, encoded from the state s
@@ -49,6 +52,16 @@ qpskLabel m l = mapped m (qpskOf (m .«qpsk_p1_on_q») (l / 2) (l % 2))
 abbrev pub psk8Label : Mapping → ℕ → Cplx
 psk8Label m l = mapped m (psk8Of (4 * (l / 4) + subset (m .«tc8psk_c1_is_y») (l % 4)))
 
+-- ---- binary digits
+-- digit i of a word
+abbrev pub wordBit : ℕ → ℕ → ℕ
+wordBit word i = word / 2 ^ i % 2
+
+-- the first n of the bits us as the digits of a number, the first highest
+pub record Digits (us : List ℕ) (n r : ℕ) : Type 0 where
+  pub small : r < 2 ^ n
+  pub each : (k : ℕ) → k < n → getD us k 0 ≡ wordBit r (n - 1 - k)
+
 -- ---- one byte of a TC8PSK run
 -- the coded inputs of its four steps
 abbrev pub byteInputs : ℕ → List ℕ
@@ -58,30 +71,44 @@ byteInputs byte = upto (λ i. byteBit byte (2 * i + 1)) 4
 abbrev pub byteLabel : ℕ → ℕ → ℕ → ℕ
 byteLabel byte s i = 4 * byteBit byte (2 * i) + labelAt s (byteInputs byte) i
 
--- what encoding a byte leaves: the state r, and its four points from the tables over the beginning of the lent parts
+-- what encoding a byte leaves: the state r, and its four points from the tables over the beginning of the lent parts. Both states have their stages in the other order
 pub record ByteEncoded (byte s r : ℕ) (xs ys re₀ re im₀ im : List Float) : Type 0 where
   pub small : r < 64
-  pub state-is : r ≡ stateAt 32 s (byteInputs byte) 4
-  pub re-is : re ≡ laid (upto (λ i. getD xs (byteLabel byte s i) nan) 4) re₀
-  pub im-is : im ≡ laid (upto (λ i. getD ys (byteLabel byte s i) nan) 4) im₀
+  pub state-is : backward r ≡ stateAt 32 (backward s) (byteInputs byte) 4
+  pub re-is : re ≡ laid (upto (λ i. getD xs (byteLabel byte (backward s) i) nan) 4) re₀
+  pub im-is : im ≡ laid (upto (λ i. getD ys (byteLabel byte (backward s) i) nan) 4) im₀
 
 -- ---- one period of a QPSK run
 -- the inputs of n steps from a bit of the load on
 abbrev pub plainInputs : List ℕ → ℕ → ℕ → List ℕ
 plainInputs load bit n = upto (λ k. loadBit load (bit + k)) n
 
--- mother bit a of a period, by its steps' labels, and in a word whose lowest digit is the mother bit `last`
+-- mother bit a of a period by its steps' labels
 abbrev pub patternBit : (ℕ → ℕ) → ℕ → ℕ → ℕ
 patternBit at base a = codedBit a (at (base + a / 2))
 
-abbrev pub motherBit : ℕ → ℕ → ℕ → ℕ
-motherBit word last a = word / 2 ^ (last - a) % 2
+-- where it stands in the word of n steps' outputs: X of step k is digit 16 + n - 1 - k, Y digit n - 1 - k
+unfoldable pub shiftOf : ℕ → ℕ → ℕ
+shiftOf n a = cond (ltb (a / 2) n) (cond (eqb (a % 2) 0) (16 + (n - 1 - a / 2)) (n - 1 - a / 2)) 0
 
--- a period of n steps: its mother bits, and the state after it
+-- the same of the four mother bits p
+pub record Shifted (n : ℕ) (p r : List ℕ) : Type 0 where
+  pub each : (i : ℕ) → i < 4 → getD r i 0 ≡ shiftOf n (getD p i 0)
+  pub few : (i : ℕ) → i < 4 → getD r i 0 ≤ 31
+
+-- digit i of that word by the steps' labels, of which the first stands at `base`
+unfoldable pub outputBit : (ℕ → ℕ) → ℕ → ℕ → ℕ → ℕ
+outputBit at n base i = cond (ltb i 16) (at (base + (n - 1 - i)) % 2) (at (base + (n - 1 - (i - 16))) / 2)
+
+-- a digit that holds an output of n steps
+abbrev pub IsOutput : ℕ → ℕ → Type 0
+IsOutput n i = (i % 16 < n) × (i < 32)
+
+-- a period of n steps: its outputs, and the state after it. Both states have their stages in the other order
 pub record PeriodEncoded (load : List ℕ) (bit n s : ℕ) (r : Period) : Type 0 where
   pub small : r .state < 64
-  pub state-is : r .state ≡ stateAt 32 s (plainInputs load bit n) n
-  pub bits-are : (a : ℕ) → a < 2 * n → motherBit (r .word) (2 * n - 1) a ≡ patternBit (labelAt s (plainInputs load bit n)) 0 a
+  pub state-is : backward (r .state) ≡ stateAt 32 (backward s) (plainInputs load bit n) n
+  pub bits-are : (i : ℕ) → IsOutput n i → wordBit (r .word) i ≡ outputBit (labelAt (backward s) (plainInputs load bit n)) n 0 i
 
 -- a pattern in the code's form: its steps, and its mother bits in pairs
 pub record PatternOf (p : MaybePuncture) (r : Pattern) : Type 0 where
@@ -99,12 +126,18 @@ pub record PatternOf (p : MaybePuncture) (r : Pattern) : Type 0 where
 abbrev pub AtMost : ℕ → ℕ → List ℕ → Type 0
 AtMost count last ms = (i : ℕ) → i < count → getD ms i 0 ≤ last
 
--- 2 P1 + P0 of pair i of a period
-abbrev pub pairLabel : ℕ → ℕ → List ℕ → List ℕ → ℕ → ℕ
-pairLabel word last p1 p0 i = 2 * motherBit word last (getD p1 i 0) + motherBit word last (getD p0 i 0)
+-- 2 P1 + P0 of pair i of a period, whose bits stand in the word where s1 and s0 say
+abbrev pub pairLabel : ℕ → List ℕ → List ℕ → ℕ → ℕ
+pairLabel word s1 s0 i = 2 * wordBit word (getD s1 i 0) + wordBit word (getD s0 i 0)
 
 -- 2 P1 + P0 of point j of a QPSK run whose pattern has `period` steps and `count` pairs; `at` gives 2 X + Y at each step of the run
 unfoldable pub patternLabel : (ℕ → ℕ) → ℕ → ℕ → List ℕ → List ℕ → ℕ → ℕ
 patternLabel at period count p1 p0 j =
     let base = j / count * period in
     2 * patternBit at base (getD p1 (j % count) 0) + patternBit at base (getD p0 (j % count) 0)
+
+-- the same where the bits of a pair stand in the word of a period's outputs at the digits s1 and s0
+unfoldable pub shiftedLabel : (ℕ → ℕ) → ℕ → ℕ → List ℕ → List ℕ → ℕ → ℕ
+shiftedLabel at period count s1 s0 j =
+    let base = j / count * period in
+    2 * outputBit at period base (getD s1 (j % count) 0) + outputBit at period base (getD s0 (j % count) 0)

@@ -1,9 +1,10 @@
 // The points of a run of one combination, from a bit of the load and a state of the encoder on.
+use code_windows::outputs;
+use code_windows::reversed;
 use isdbs_core::combination::Combination;
 use isdbs_core::combination::MaybePuncture;
 use isdbs_core::combination::Modulation;
 use isdbs_load::byte_bit;
-use isdbs_load::encode_input;
 use isdbs_load::encode_step;
 use isdbs_load::load_byte;
 use isdbs_points::Mapping;
@@ -21,7 +22,7 @@ ghost use Rattle.isdbs_combination.specs.declared.Modulation.the-variants.{Qpsk
 ghost use Rattle.isdbs_combination.specs.Combinations.{modulationOf, punctureOf};
 ghost use Rattle.isdbs_points.specs.Layout.{stepsPerPeriod};
 ghost use Rattle.isdbs_points.specs.Pieces.{pieceSymbols};
-ghost use Rattle.isdbs_pieces.specs.Encoded.{PieceEncoded, ByteEncoded, TableOf, qpskLabel, psk8Label, PeriodEncoded, PatternOf, AtMost, motherBit, pairLabel};
+ghost use Rattle.isdbs_pieces.specs.Encoded.{PieceEncoded, Digits, byteInputs, plainInputs, ByteEncoded, TableOf, qpskLabel, psk8Label, PeriodEncoded, PatternOf, AtMost, shiftOf, Shifted, wordBit, pairLabel};
 
 // The points of a modulation under a mapping, by label.
 pub struct PointTable {
@@ -92,23 +93,39 @@ fn encode_bpsk(
     state
 }
 
-// The four points of a byte of a TC8PSK run: of each, C2 uncoded, then one coded bit.
+// The coded inputs of a byte of a TC8PSK run as binary digits, the first highest.
+fn coded_inputs(byte: u8) -> usize
+    ensures { λ r. ⌜ Digits (byteInputs byte) 4 r ⌝ }
+{
+    let first = 2 * byte_bit(byte, 1) + byte_bit(byte, 3);
+    let last = 2 * byte_bit(byte, 5) + byte_bit(byte, 7);
+    (4 * first + last) as usize
+}
+
+// Digit i of a number.
+fn digit(word: usize, i: usize) -> usize
+    requires { ⌜ i < 32 ⌝ }
+    ensures { λ r. ⌜ r ≡ wordBit word i ⌝ }
+{
+    (word >> i) % 2
+}
+
+// The four points of a byte of a TC8PSK run: of each, C2 uncoded, then one coded bit. The states' stages stand in the other order.
 fn put_byte(byte: u8, start: u8, xs: &[f64; 8], ys: &[f64; 8], re: &mut [f64], im: &mut [f64]) -> u8
     requires { ⌜ (start < 64) × (4 ≤ length (now re)) × (4 ≤ length (now im)) ⌝ }
     ensures { λ r. ⌜ ByteEncoded byte start r (now (xs .entry)) (now (ys .entry)) (now (re .entry)) (now (re .exit)) (now (im .entry)) (now (im .exit)) ⌝ }
 {
-    let mut state = start;
+    let z = 16 * (start as usize) + coded_inputs(byte);
+    let word = outputs(z);
     let mut i: usize = 0;
     while i < 4 {
         let c2 = byte_bit(byte, 2 * i);
-        let sent = encode_input(byte_bit(byte, 2 * i + 1), state);
-        let l = 4 * (c2 as usize) + sent.label;
-        state = sent.state;
+        let l = 4 * (c2 as usize) + 2 * digit(word, 19 - i) + digit(word, 3 - i);
         re[i] = xs[l];
         im[i] = ys[l];
         i += 1;
     }
-    state
+    (z % 64) as u8
 }
 
 // A run of TC8PSK, byte by byte.
@@ -127,17 +144,27 @@ fn encode_tc8psk(
     let t = psk8_table(m);
     let xs = t.re;
     let ys = t.im;
-    let mut state = start;
+    let mut state = reversed(start);
     let mut k: usize = 0;
     while k < n {
         let byte = load_byte(bytes, bit / 8 + k / 4);
         state = put_byte(byte, state, &xs, &ys, &mut re[k..], &mut im[k..]);
         k += 4;
     }
-    state
+    reversed(state)
 }
 
-// The mother bits of a period as the binary digits of a number, the first one highest, and the state after it.
+// n bits of the load from bit `bit` on as binary digits, the first highest.
+fn load_bits(bytes: &[u8], bit: usize, n: usize) -> usize
+    requires { ⌜ (n ≤ 8) × (bit + n < 2 ^ 32) ⌝ }
+    ensures { λ r. ⌜ Digits (plainInputs (now (bytes .entry)) bit n) n r ⌝ }
+{
+    let at = bit / 8;
+    let two = 256 * (load_byte(bytes, at) as usize) + (load_byte(bytes, at + 1) as usize);
+    (two >> (16 - bit % 8 - n)) % (1usize << n)
+}
+
+// The outputs of a period's steps in one word, and the state after it, its stages in the other order.
 pub struct Period {
     pub state: u8,
     pub word: usize,
@@ -148,24 +175,11 @@ fn encode_period(bytes: &[u8], bit: usize, n: usize, start: u8) -> Period
     requires { ⌜ (start < 64) × (n ≤ 8) × (bit + n < 2 ^ 32) ⌝ }
     ensures { λ r. ⌜ PeriodEncoded (now (bytes .entry)) bit n start r ⌝ }
 {
-    let mut word: usize = 0;
-    let mut state = start;
-    let mut k: usize = 0;
-    while k < n {
-        let sent = encode_step(bytes, bit + k, state);
-        state = sent.state;
-        word = 4 * word + sent.label;
-        k += 1;
+    let z = ((start as usize) << n) + load_bits(bytes, bit, n);
+    Period {
+        state: (z % 64) as u8,
+        word: outputs(z),
     }
-    Period { state, word }
-}
-
-// Mother bit a of a period whose last one is mother bit `last`.
-fn mother_bit(word: usize, last: usize, a: usize) -> usize
-    requires { ⌜ (a ≤ last) × (last < 16) ⌝ }
-    ensures { λ r. ⌜ r ≡ motherBit word last a ⌝ }
-{
-    (word >> (last - a)) % 2
 }
 
 // The steps and the pairs of a period of a QPSK code: the mother bits that are P1, and those that are P0.
@@ -205,25 +219,49 @@ fn pattern_of(c: Combination) -> Pattern
     }
 }
 
+// Where mother bit a of a period of n steps stands in the word of its outputs.
+fn shift_of(a: usize, n: usize) -> usize
+    requires { ⌜ n ≤ 8 ⌝ }
+    ensures { λ r. ⌜ (r ≡ shiftOf n a) × (r < 32) ⌝ }
+{
+    if a / 2 < n {
+        let y = n - 1 - a / 2;
+        if a % 2 == 0 { 16 + y } else { y }
+    } else {
+        0
+    }
+}
+
+// The same of four mother bits.
+fn shifts(p: [usize; 4], n: usize) -> [usize; 4]
+    requires { ⌜ n ≤ 8 ⌝ }
+    ensures { λ r. ⌜ Shifted n p r ⌝ }
+{
+    let a = shift_of(p[0], n);
+    let b = shift_of(p[1], n);
+    let c = shift_of(p[2], n);
+    let d = shift_of(p[3], n);
+    [a, b, c, d]
+}
+
 // The points of a period's pairs.
 fn put_pairs(
     word: usize,
-    last: usize,
-    p1: &[usize; 4],
-    p0: &[usize; 4],
+    s1: &[usize; 4],
+    s0: &[usize; 4],
     count: usize,
     xs: &[f64; 8],
     ys: &[f64; 8],
     re: &mut [f64],
     im: &mut [f64],
 )
-    requires { ⌜ (count ≤ 4) × (last < 16) × (count ≤ length (now re)) × (count ≤ length (now im)) × AtMost count last (now p1) × AtMost count last (now p0) ⌝ }
-    ensures { λ _. ⌜ (now (re .exit) ≡ laid (upto (λ i. getD (now (xs .entry)) (pairLabel word last (now (p1 .entry)) (now (p0 .entry)) i) nan) count) (now (re .entry))) × (now (im .exit) ≡ laid (upto (λ i. getD (now (ys .entry)) (pairLabel word last (now (p1 .entry)) (now (p0 .entry)) i) nan) count) (now (im .entry))) ⌝ }
+    requires { ⌜ (count ≤ 4) × (count ≤ length (now re)) × (count ≤ length (now im)) × AtMost count 31 (now s1) × AtMost count 31 (now s0) ⌝ }
+    ensures { λ _. ⌜ (now (re .exit) ≡ laid (upto (λ i. getD (now (xs .entry)) (pairLabel word (now (s1 .entry)) (now (s0 .entry)) i) nan) count) (now (re .entry))) × (now (im .exit) ≡ laid (upto (λ i. getD (now (ys .entry)) (pairLabel word (now (s1 .entry)) (now (s0 .entry)) i) nan) count) (now (im .entry))) ⌝ }
 {
     let mut i: usize = 0;
     while i < count {
-        let a = mother_bit(word, last, p1[i]);
-        let b = mother_bit(word, last, p0[i]);
+        let a = digit(word, s1[i]);
+        let b = digit(word, s0[i]);
         let l = 2 * a + b;
         re[i] = xs[l];
         im[i] = ys[l];
@@ -250,12 +288,13 @@ fn encode_qpsk(
     let count = p.count;
     let p1 = p.p1;
     let p0 = p.p0;
-    let last = 2 * period - 1;
+    let s1 = shifts(p1, period);
+    let s0 = shifts(p0, period);
     let t = qpsk_table(m);
     let xs = t.re;
     let ys = t.im;
     let periods = n / period;
-    let mut state = start;
+    let mut state = reversed(start);
     let mut done: usize = 0;
     let mut j: usize = 0;
     let mut q: usize = 0;
@@ -264,9 +303,8 @@ fn encode_qpsk(
         state = e.state;
         put_pairs(
             e.word,
-            last,
-            &p1,
-            &p0,
+            &s1,
+            &s0,
             count,
             &xs,
             &ys,
@@ -277,7 +315,7 @@ fn encode_qpsk(
         j += count;
         q += 1;
     }
-    state
+    reversed(state)
 }
 
 // A run of n steps, whose first bit is bit `bit` of the load: the first of a byte.

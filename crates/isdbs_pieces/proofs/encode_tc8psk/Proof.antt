@@ -2,10 +2,12 @@
 use borrow.Author.Needs.{needs}
 use native.Mathlib.Omega.{arith}
 use mathlib.Core.Path.{_≡_, _∙_, ap}
-use Prim.Native.Nat.{_+_, _-_, _%_, _≤_}
+use Prim.Native.Nat.{ℕ, _+_, _-_, _%_, _<_, _≤_}
 use lib.Ieee.{nan}
 use lib.ListN.{getD, length-take, length-drop}
 use Rattle.trellis.specs.Lists.{upto}
+use Rattle.code_windows.specs.Windows.{backward}
+use Rattle.code_windows.specs.WindowLaws.{backward-twice}
 use Rattle.isdbs_combination.specs.declared.Combination.the-variants.{«Tc8psk2_3»}
 use Rattle.isdbs_points.specs.declared.Cplx.{Cplx}
 use Rattle.isdbs_points.specs.Pieces.{pieceInputs}
@@ -19,7 +21,8 @@ abbrev Inv-loop : tie.InvT-loop
 Inv-loop bytes bit n start re₀ im₀ xs ys state₀ k₀ re im state k =
     (k ≤ n)
     × (k % 4 ≡ 0)
-    × Going (pieceInputs «Tc8psk2_3» bytes bit n) start (λ j. getD xs (tc8pskLabel bytes bit n start j) nan) (λ j. getD ys (tc8pskLabel bytes bit n start j) nan) re₀ im₀ re im state k k
+    × Going (pieceInputs «Tc8psk2_3» bytes bit n) start (λ j. getD xs (tc8pskLabel bytes bit n start j) nan) (λ j. getD ys (tc8pskLabel bytes bit n start j) nan) re₀ im₀ re im (backward state) k k
+    × (state < 64)
 
 abbrev μ-loop : tie.MeasureT-loop
 μ-loop bytes bit n start re₀ im₀ xs ys state₀ k₀ re im state k = n - k
@@ -27,9 +30,14 @@ abbrev μ-loop : tie.MeasureT-loop
 psk8-table-requires : tie.Need-psk8-table-requires Inv-loop μ-loop
 psk8-table-requires c κs = search needs
 
+reversed-requires : tie.Need-reversed-requires Inv-loop μ-loop
+reversed-requires c κs = search needs
+
 loop-holds : tie.Need-loop-holds Inv-loop μ-loop
 loop-holds c =
-    (search needs, search needs, going-start _ (c .before .before .before .before .before .before .args .start) _ _ (c .before .before .before .before .before .before .args .re .now) (c .before .before .before .before .before .before .args .im .now) (c .before .before .before .before .before .before .pre .0))
+    let st = c .before .before .before .before .before .before .before in
+    let e : backward (c .reversed .result) ≡ st .args .start = ap (λ (x : ℕ). backward x) (c .reversed .ensures .0) ∙ backward-twice (st .args .start) (st .pre .0) in
+    (search needs, search needs, rw e (going-start _ (st .args .start) _ _ (st .args .re .now) (st .args .im .now) (st .pre .0)), c .reversed .ensures .1)
 
 add-load-byte : tie.Need-add-load-byte Inv-loop μ-loop
 add-load-byte c = search needs
@@ -63,10 +71,10 @@ part-put-byte-end-2 c = search needs
 
 put-byte-requires : tie.Need-put-byte-requires Inv-loop μ-loop
 put-byte-requires c κs =
-    let st = c .before .before .before .before .before .before .before .before .before .before .before .before .before in
+    let st = c .before .before .before .before .before .before .before .before .before .before .before .before .before .before in
     let inv = c .before .before .before .before .before .before .loop .inv in
     let h : c .before .before .before .before .before .before .loop .k + 4 ≤ st .args .n = omega (arith, inv .1, c .before .before .before .before .before .loop-test .taken, st .pre .5) in
-    (inv .2 .small, simp (length-take, length-drop) (omega (arith, inv .2 .points .re-length, st .pre .2)), simp (length-take, length-drop) (omega (arith, inv .2 .points .im-length, st .pre .3)))
+    (inv .3, simp (length-take, length-drop) (omega (arith, inv .2 .points .re-length, st .pre .2)), simp (length-take, length-drop) (omega (arith, inv .2 .points .im-length, st .pre .3)))
 
 add-k : tie.Need-add-k Inv-loop μ-loop
 add-k c = search needs
@@ -76,10 +84,10 @@ loop-less c = search needs
 
 loop-again : tie.Need-loop-again Inv-loop μ-loop
 loop-again c =
-    let st = c .before .before .before .before .before .before .before .before .before .before .before .before .before .before .before .before .before .before in
+    let st = c .before .before .before .before .before .before .before .before .before .before .before .before .before .before .before .before .before .before .before in
     let bytes = st .args .bytes .now in
     let bit = st .args .bit in
-    let t = c .before .before .before .before .before .before .before .before .before .before .before .before .before .before .psk8-table .result in
+    let t = c .before .before .before .before .before .before .before .before .before .before .before .before .before .before .before .psk8-table .result in
     let k = c .before .before .before .before .before .before .before .before .before .before .before .loop .k in
     let inv = c .before .before .before .before .before .before .before .before .before .before .before .loop .inv in
     let state = c .before .before .before .before .before .before .before .before .before .before .before .loop .state in
@@ -88,9 +96,10 @@ loop-again c =
     let put = rw (c .before .before .before .before .before .before .before .before .before .load-byte .ensures) at (c .before .before .before .before .put-byte .ensures) in (
       omega arith,
       omega (arith, inv .1),
-      going-byte bytes bit k (st .pre .4) (inv .1) (st .args .n) (st .args .start) (t .re) (t .im) (inv .2) h (st .pre .2) (st .pre .3) (c .before .before .before .before .put-byte .result) (put .small) (put .state-is)
-          (tail-back k (c .before .before .before .before .before .before .before .before .before .before .before .loop .re) (upto (λ i. getD (t .re) (byteLabel byte state i) nan) 4) (omega (arith, inv .2 .points .re-length, st .pre .2)) (put .re-is))
-          (tail-back k (c .before .before .before .before .before .before .before .before .before .before .before .loop .im) (upto (λ i. getD (t .im) (byteLabel byte state i) nan) 4) (omega (arith, inv .2 .points .im-length, st .pre .3)) (put .im-is)),
+      going-byte bytes bit k (st .pre .4) (inv .1) (st .args .n) (st .args .start) (t .re) (t .im) state (inv .2) h (st .pre .2) (st .pre .3) (c .before .before .before .before .put-byte .result) (put .state-is)
+          (tail-back k (c .before .before .before .before .before .before .before .before .before .before .before .loop .re) (upto (λ i. getD (t .re) (byteLabel byte (backward state) i) nan) 4) (omega (arith, inv .2 .points .re-length, st .pre .2)) (put .re-is))
+          (tail-back k (c .before .before .before .before .before .before .before .before .before .before .before .loop .im) (upto (λ i. getD (t .im) (byteLabel byte (backward state) i) nan) 4) (omega (arith, inv .2 .points .im-length, st .pre .3)) (put .im-is)),
+      put .small,
     )
 
 same-length : tie.Need-same-length Inv-loop μ-loop
@@ -99,18 +108,21 @@ same-length c = search needs
 same-length-2 : tie.Need-same-length-2 Inv-loop μ-loop
 same-length-2 c = search needs
 
+reversed-requires-2 : tie.Need-reversed-requires-2 Inv-loop μ-loop
+reversed-requires-2 c κs = search needs
+
 returns : tie.Need-returns Inv-loop μ-loop
 returns c =
-    let st = c .before .before .before .before .before .before .before .before in
+    let st = c .before .before .before .before .before .before .before .before .before .before in
     let bytes = st .args .bytes .now in
     let bit = st .args .bit in
     let n = st .args .n in
     let start = st .args .start in
     let m = st .args .m in
-    let t = c .before .before .before .before .psk8-table .ensures in
-    let e : c .before .loop .k ≡ n = omega arith in
+    let t = c .before .before .before .before .before .before .psk8-table .ensures in
+    let e : c .before .before .loop .k ≡ n = omega arith in
     going-end «Tc8psk2_3» m bytes bit n start
-    (going-cong (c .before .loop .inv .2)
+    (going-cong (rw (← c .reversed2 .ensures .0) at (c .before .before .loop .inv .2))
     (λ i h. t .re-at (tc8pskLabel bytes bit n start i) (tc8psk-label-small bytes bit n start i) ∙ ap (λ (z : Cplx). z .re) (tc8psk-labelled bytes bit n start i m))
     (λ i h. t .im-at (tc8pskLabel bytes bit n start i) (tc8psk-label-small bytes bit n start i) ∙ ap (λ (z : Cplx). z .im) (tc8psk-labelled bytes bit n start i m)))
     e e
@@ -122,6 +134,7 @@ encode-tc8psk-spec =
     Inv-loop
     μ-loop
     psk8-table-requires
+    reversed-requires
     loop-holds
     add-load-byte
     load-byte-requires
@@ -137,6 +150,7 @@ encode-tc8psk-spec =
     add-k
     loop-less
     loop-again
+    reversed-requires-2
     same-length
     same-length-2
     returns)

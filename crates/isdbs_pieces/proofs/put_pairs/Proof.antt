@@ -11,32 +11,32 @@ use Rattle.isdbs_pieces.proofs.put_pairs.Statement.{statement}
 use Rattle.isdbs_pieces.proofs.put_pairs.Tie as tie
 
 abbrev Inv-loop : tie.InvT-loop
-Inv-loop word last p1 p0 count xs ys re₀ im₀ i₀ re im i =
-    (i ≤ count) × Put (λ k. getD xs (pairLabel word last p1 p0 k) nan) (λ k. getD ys (pairLabel word last p1 p0 k) nan) re₀ im₀ re im i
+Inv-loop word s1 s0 count xs ys re₀ im₀ i₀ re im i =
+    (i ≤ count) × Put (λ k. getD xs (pairLabel word s1 s0 k) nan) (λ k. getD ys (pairLabel word s1 s0 k) nan) re₀ im₀ re im i
 
 abbrev μ-loop : tie.MeasureT-loop
-μ-loop word last p1 p0 count xs ys re₀ im₀ i₀ re im i = count - i
+μ-loop word s1 s0 count xs ys re₀ im₀ i₀ re im i = count - i
 
 loop-holds : tie.Need-loop-holds Inv-loop μ-loop
 loop-holds c = (search needs, put-none _ _ (c .before .before .args .re .now) (c .before .before .args .im .now))
 
-mul-mother-bit : tie.Need-mul-mother-bit Inv-loop μ-loop
-mul-mother-bit c = search needs
+mul-digit : tie.Need-mul-digit Inv-loop μ-loop
+mul-digit c = search needs
 
-element-copy-out-mother-bit : tie.Need-element-copy-out-mother-bit Inv-loop μ-loop
-element-copy-out-mother-bit c = search needs
+element-copy-out-digit : tie.Need-element-copy-out-digit Inv-loop μ-loop
+element-copy-out-digit c = search needs
 
-mother-bit-requires : tie.Need-mother-bit-requires Inv-loop μ-loop
-mother-bit-requires c κs = (c .before .before .before .before .before .pre .4 (c .before .before .loop .i) (c .before .loop-test .taken), c .before .before .before .before .before .pre .1)
+digit-requires : tie.Need-digit-requires Inv-loop μ-loop
+digit-requires c κs = omega (arith, c .before .before .before .before .before .pre .3 (c .before .before .loop .i) (c .before .loop-test .taken))
 
-mul-mother-bit-2 : tie.Need-mul-mother-bit-2 Inv-loop μ-loop
-mul-mother-bit-2 c = search needs
+mul-digit-2 : tie.Need-mul-digit-2 Inv-loop μ-loop
+mul-digit-2 c = search needs
 
-element-copy-out-mother-bit-2 : tie.Need-element-copy-out-mother-bit-2 Inv-loop μ-loop
-element-copy-out-mother-bit-2 c = search needs
+element-copy-out-digit-2 : tie.Need-element-copy-out-digit-2 Inv-loop μ-loop
+element-copy-out-digit-2 c = search needs
 
-mother-bit-requires-2 : tie.Need-mother-bit-requires-2 Inv-loop μ-loop
-mother-bit-requires-2 c κs = (c .before .before .before .before .before .before .before .pre .5 (c .before .before .before .before .loop .i) (c .before .before .before .loop-test .taken), c .before .before .before .before .before .before .before .pre .1)
+digit-requires-2 : tie.Need-digit-requires-2 Inv-loop μ-loop
+digit-requires-2 c κs = omega (arith, c .before .before .before .before .before .before .before .pre .4 (c .before .before .before .before .loop .i) (c .before .before .before .loop-test .taken))
 
 mul-l : tie.Need-mul-l Inv-loop μ-loop
 mul-l c = search needs
@@ -78,8 +78,8 @@ loop-again : tie.Need-loop-again Inv-loop μ-loop
 loop-again c =
     let st = c .before .before .before .before .before .before .before .before .before .before in
     let i = c .before .before .before .before .before .before .before .loop .i in
-    let l = 2 * c .before .before .before .before .mother-bit .result + c .before .before .mother-bit2 .result in
-    let e : l ≡ pairLabel (st .args .word) (st .args .last) (st .args .p1 .now) (st .args .p0 .now) i = rw (c .before .before .before .before .mother-bit .ensures, c .before .before .mother-bit2 .ensures) in (
+    let l = 2 * c .before .before .before .before .digit .result + c .before .before .digit2 .result in
+    let e : l ≡ pairLabel (st .args .word) (st .args .s1 .now) (st .args .s0 .now) i = rw (c .before .before .before .before .digit .ensures, c .before .before .digit2 .ensures) in (
       omega arith,
       put-one (c .before .before .before .before .before .before .before .loop .inv .1) (getD (st .args .xs .now) l nan) (getD (st .args .ys .now) l nan) (omega arith) (omega arith)
           (ap (λ (x : ℕ). getD (st .args .xs .now) x nan) e) (ap (λ (x : ℕ). getD (st .args .ys .now) x nan) e),
@@ -104,12 +104,12 @@ put-pairs-spec =
     Inv-loop
     μ-loop
     loop-holds
-    mul-mother-bit
-    element-copy-out-mother-bit
-    mother-bit-requires
-    mul-mother-bit-2
-    element-copy-out-mother-bit-2
-    mother-bit-requires-2
+    mul-digit
+    element-copy-out-digit
+    digit-requires
+    mul-digit-2
+    element-copy-out-digit-2
+    digit-requires-2
     mul-l
     add-l
     mul-re
