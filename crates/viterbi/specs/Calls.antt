@@ -1,15 +1,18 @@
 -- What a step of a call leaves in the state and in the lent slices, and the steps that a call is made of. Assumes nothing.
 use mathlib.Core.Path.{_≡_}
 use mathlib.Core.Bool.{cond}
+use mathlib.Core.Logic.{_⊎_}
 use mathlib.Core.List.{List, [], _∷_, _++_}
-use Prim.Native.Nat.{ℕ, _+_, _-_, _*_, _/_, _≤_}
-use lib.Dec.{ltb}
+use Prim.Native.Nat.{ℕ, zero, suc, _+_, _-_, _*_, _/_, _%_, _<_, _≤_}
+use lib.Dec.{eqb, ltb}
 use lib.ListN.{length, getD, take, drop}
-use lib.Ieee.{Float, nan}
+use lib.Ieee.{Float}
 use Rattle.trellis.specs.Lists.{laid}
 use Rattle.trellis.specs.Step as trellis
-use Rattle.trellis.specs.Step.{pair, four, known}
-pub use Rattle.trellis.specs.Isdb.{nexts, word, bestState, traced, settle, stepOnce, steps, call, flush}
+use Rattle.trellis.specs.Step.{pair, four, known, renormalised}
+pub use Rattle.trellis.specs.Isdb.{nexts, word, bestState, traced, settle, stepOnce, steps, call, flush, released}
+-- the steps of a call: two soft values each, four metrics each
+pub use Rattle.acs_runs.specs.Runs.{pairSteps, fourSteps}
 use Rattle.trellis.specs.Run.{Decoder, block, decisionsAfter}
 use Rattle.viterbi.specs.declared.Step.{Step}
 use Rattle.viterbi.specs.declared.Step.the-variants.{Pair, Four, Known}
@@ -21,14 +24,7 @@ stepOf (Pair lx ly) = pair lx ly
 stepOf (Four a b c d) = four (a ∷ b ∷ c ∷ d ∷ [])
 stepOf (Known b) = known b
 
--- the steps of a call: two soft values each, four metrics each, one known bit each
-abbrev pub pairSteps : List Float → ℕ → trellis.Step
-pairSteps xs k = pair (getD xs (2 * k) nan) (getD xs (2 * k + 1) nan)
-
-abbrev pub fourSteps : List Float → ℕ → trellis.Step
-fourSteps xs k =
-    four (getD xs (4 * k) nan ∷ getD xs (4 * k + 1) nan ∷ getD xs (4 * k + 2) nan ∷ getD xs (4 * k + 3) nan ∷ [])
-
+-- the steps of a call: one known bit each
 abbrev pub knownSteps : List ℕ → ℕ → trellis.Step
 knownSteps bs k = known (getD bs k 0)
 
@@ -69,3 +65,24 @@ pub record Holds (tb : ℕ) (decisions₀ out₀ : List ℕ) (d : Decoder) (pm :
 -- where a step of a call releases, the output has room for the 4,096 bits
 abbrev pub Room : ℕ → ℕ → ℕ → ℕ → Type 0
 Room tb held count space = held + 1 ≡ block + tb → count + block ≤ space
+
+-- n steps ys of a call, the first of which is its step i
+unfoldable pub stepsFrom : ℕ → ℕ → (ℕ → trellis.Step) → Decoder → ℕ → Decoder
+stepsFrom tb i ys d zero = d
+stepsFrom tb i ys d (suc n) = stepOnce tb (i + n) (ys n) (stepsFrom tb i ys d n)
+
+-- what n steps ys of a call leave, the first of which is its step i: the decoder that the values and slices held goes n steps on
+pub record Carried (tb : ℕ) (ys : ℕ → trellis.Step) (i n : ℕ) (pm : List Float) (at : At) (dec out : List ℕ) (r : At) (pm′ : List Float) (dec′ out′ : List ℕ) : Type 0 where
+  pub few : r .held < block + tb
+  pub left : r .held + block * releases tb (at .held) n ≡ at .held + n
+  pub gone : r .count ≡ at .count + block * releases tb (at .held) n
+  pub carries : (d : Decoder) (dec₀ out₀ : List ℕ) → Holds tb dec₀ out₀ d pm (at .held) (at .count) dec out
+      → Holds tb dec₀ out₀ (stepsFrom tb i ys d n) pm′ (r .held) (r .count) dec′ out′
+
+-- the decoder at the end of a block of steps, before step i of its call: the maximum is subtracted after each 64th step, and a release follows where it is due
+abbrev pub blockEnd : ℕ → ℕ → Decoder → Decoder
+blockEnd tb i d = released tb (record { values = cond (eqb (i % 64) 0) (renormalised 32 (d .values)) (d .values); words = d .words; bits = d .bits })
+
+pub record Ended (tb i : ℕ) (pm : List Float) (at : At) (dec out : List ℕ) (r : At) (pm′ : List Float) (dec′ out′ : List ℕ) : Type 0 where
+  pub counts : ((at .held < block + tb) × (r .held ≡ at .held) × (r .count ≡ at .count)) ⊎ ((at .held ≡ block + tb) × (r .held ≡ tb) × (r .count ≡ at .count + block))
+  pub ends : (d : Decoder) (dec₀ out₀ : List ℕ) → Holds tb dec₀ out₀ d pm (at .held) (at .count) dec out → Holds tb dec₀ out₀ (blockEnd tb i d) pm′ (r .held) (r .count) dec′ out′

@@ -28,7 +28,7 @@ bare d = record { values = d .values; words = d .words; bits = [] }
 pub over-kept : (tb : ℕ) (ws more bs dec : List ℕ) → length ws ≤ length more → decisionsAfter tb more [] (decisionsAfter tb ws bs dec) ≡ decisionsAfter tb more bs dec
 over-kept tb ws more bs dec h = laid-laid ws more (cond (ltb 0 (length bs)) (laid (replicate (block + tb) 0) dec) dec) h
 
-zeroed : (tb : ℕ) (ws dec : List ℕ) (t : Bool) → length ws < 4096 + tb
+zeroed : (tb : ℕ) (ws dec : List ℕ) (t : Bool) → length ws ≤ 4096 + tb
     → laid (replicate (block + tb) 0) (laid ws (cond t (laid (replicate (block + tb) 0) dec) dec)) ≡ laid (replicate (block + tb) 0) dec
 zeroed tb ws dec t h =
     let l : length (replicate {A = ℕ} (4096 + tb) 0) ≡ 4096 + tb = length-replicate (4096 + tb) 0 in
@@ -40,14 +40,19 @@ zeroed tb ws dec t h =
 
 -- the decisions are cleared whatever was held
 pub cleared : (tb : ℕ) (ws bs dec : List ℕ) → length ws < 4096 + tb → laid (replicate (block + tb) 0) (decisionsAfter tb ws bs dec) ≡ laid (replicate (block + tb) 0) dec
-cleared tb ws bs dec h = zeroed tb ws dec (ltb 0 (length bs)) h
+cleared tb ws bs dec h = zeroed tb ws dec (ltb 0 (length bs)) (omega arith)
+
+-- as many words as there can be
+pub over-full : (tb : ℕ) (ws more bs new dec : List ℕ) → length ws ≤ 4096 + tb → 0 < length new
+    → decisionsAfter tb more new (decisionsAfter tb ws bs dec) ≡ decisionsAfter tb more (bs ++ new) dec
+over-full tb ws more bs new dec h p =
+    let one : ltb 0 (length new) ≡ true = lt-ltb 0 (length new) p in
+    let all : ltb 0 (length (bs ++ new)) ≡ true = lt-ltb 0 (length (bs ++ new)) (rw (length-append bs new) (omega arith)) in
+    rw (one, all) (ap (λ (x : List ℕ). laid more x) (zeroed tb ws dec (ltb 0 (length bs)) h))
 
 pub over-released : (tb : ℕ) (ws more bs new dec : List ℕ) → length ws < 4096 + tb → 0 < length new
     → decisionsAfter tb more new (decisionsAfter tb ws bs dec) ≡ decisionsAfter tb more (bs ++ new) dec
-over-released tb ws more bs new dec h p =
-    let one : ltb 0 (length new) ≡ true = lt-ltb 0 (length new) p in
-    let all : ltb 0 (length (bs ++ new)) ≡ true = lt-ltb 0 (length (bs ++ new)) (rw (length-append bs new) (omega arith)) in
-    rw (one, all) (ap (λ (x : List ℕ). laid more x) (cleared tb ws bs dec h))
+over-released tb ws more bs new dec h p = over-full tb ws more bs new dec (omega arith) p
 
 -- before the first step of a call
 pub holds-start : (tb : ℕ) (pm : List Float) (held : ℕ) (dec out : List ℕ) → held ≤ length dec → Holds tb dec out (holding pm held dec) pm held 0 dec out

@@ -8,3 +8,4 @@ pub mod Steps
 pub mod Count
 pub mod Holding
 pub mod Runs
+pub mod Blocks

@@ -2,14 +2,16 @@
 // decoder or an encoder runs on this. The calls check what these functions ask.
 ghost use mathlib.Core.Path.{_≡_};
 ghost use mathlib.Core.List.{_++_};
-ghost use Prim.Native.Nat.{ℕ, _+_, _*_, _<_, _≤_, _/_, _%_};
-ghost use lib.Dec.{ltb};
+ghost use mathlib.Core.Bool.{cond};
+ghost use Prim.Native.Nat.{ℕ, _+_, _*_, _<_, _≤_, _/_, _%_, _^_};
+ghost use lib.Dec.{eqb, ltb};
 ghost use lib.ListN.{length, getD, take, drop, replicate};
 ghost use Rattle.trellis.specs.Lists.{laid};
 ghost use Rattle.trellis.specs.Code.{isdb, output, moved};
 ghost use Rattle.trellis.specs.Parity.{ones};
+ghost use Rattle.trellis.specs.Step.{renormalised};
 ghost use Rattle.trellis.specs.Run.{startAt, startUnknown};
-ghost use Rattle.viterbi.specs.Calls.{stepOf, nexts, word, bestState, traced, settle, stepOnce, holding, releases, Room, Stepped};
+ghost use Rattle.viterbi.specs.Calls.{stepOf, nexts, word, bestState, traced, settle, stepOnce, holding, releases, Room, Stepped, pairSteps, fourSteps, Carried, Ended};
 pub use acs::renormalise;
 
 const HALF: usize = 32;
@@ -62,21 +64,21 @@ fn trellis_step(pm: &mut [f32; 64], i: usize, x: Step) -> u64
 {
     match x {
         Step::Pair(lx, ly) => {
-            let w = acs::acs(pm, lx, ly);
+            let w = acs_runs::step2(pm, lx, ly);
             if i % 64 == 63 {
                 renormalise(pm);
             }
             w
         }
         Step::Four(a, b, c, d) => {
-            let w = acs::acs4(pm, [a, b, c, d]);
+            let w = acs_runs::step4(pm, a, b, c, d);
             if i % 64 == 63 {
                 renormalise(pm);
             }
             w
         }
         Step::Known(b) => {
-            let w = acs::acs(pm, 0.0, 0.0);
+            let w = acs_runs::step2(pm, 0.0, 0.0);
             acs::rule_out(pm, b);
             renormalise(pm);
             w
@@ -166,6 +168,116 @@ pub fn advance(
         held: traceback,
         count: count + BLOCK,
     }
+}
+
+fn least(a: usize, b: usize) -> usize
+    ensures { λ r. ⌜ (r ≤ a) × (r ≤ b) × (0 < a → 0 < b → 0 < r) ⌝ }
+{
+    if a < b { a } else { b }
+}
+
+// The steps of the block that begins with step i of a call: up to the next 64th step, and within the steps left and the words up to the next release.
+fn block_steps(i: usize, left: usize, space: usize) -> usize
+    requires { ⌜ (0 < left) × (0 < space) ⌝ }
+    ensures { λ r. ⌜ (0 < r) × (r ≤ left) × (r ≤ space) × (i % 64 + r ≤ 64) ⌝ }
+{
+    least(least(left, 64 - i % 64), space)
+}
+
+// Subtracts the maximum where 64 steps of the call are done, before its step i.
+fn settle_block(pm: &mut [f32; 64], i: usize)
+    ensures { λ _. ⌜ now (pm .exit) ≡ cond (eqb (i % 64) 0) (renormalised 32 (now (pm .entry))) (now (pm .entry)) ⌝ }
+{
+    if i % 64 == 0 {
+        renormalise(pm);
+    }
+}
+
+// The end of a block, before step i of the call: the maximum is subtracted, and bits are released, where either is due.
+fn end_block(
+    pm: &mut [f32; 64],
+    at: At,
+    traceback: usize,
+    i: usize,
+    decisions: &mut [u64],
+    out: &mut [u8],
+) -> At
+    requires { ⌜ (1 ≤ traceback) × (traceback ≤ 1024) × (at .held ≤ 4096 + traceback) × (4096 + traceback ≤ length (now decisions)) × (at .count ≤ length (now out)) × (at .held ≡ 4096 + traceback → at .count + 4096 ≤ length (now out)) ⌝ }
+    ensures { λ r. ⌜ Ended traceback i (now (pm .entry)) at (now (decisions .entry)) (now (out .entry)) r (now (pm .exit)) (now (decisions .exit)) (now (out .exit)) ⌝ }
+{
+    let held = at.held;
+    let count = at.count;
+    settle_block(pm, i);
+    if held < BLOCK + traceback {
+        return At { held, count };
+    }
+    release(pm, traceback, decisions, &mut out[count..]);
+    At {
+        held: traceback,
+        count: count + BLOCK,
+    }
+}
+
+// n steps of a pair of soft values each, the first of which is step i of the call, in blocks that end where the maximum is subtracted or bits are released.
+pub fn run_pairs(
+    pm: &mut [f32; 64],
+    at: At,
+    traceback: usize,
+    i: usize,
+    n: usize,
+    pairs: &[f32],
+    decisions: &mut [u64],
+    out: &mut [u8],
+) -> At
+    requires { ⌜ (1 ≤ traceback) × (traceback ≤ 1024) × (at .held < 4096 + traceback) × (4096 + traceback ≤ length (now decisions)) × (at .count + 4096 * releases traceback (at .held) n ≤ length (now out)) × (i + n < 2 ^ 64) × (2 * n ≤ length (now pairs)) ⌝ }
+    ensures { λ r. ⌜ Carried traceback (pairSteps (now (pairs .entry))) i n (now (pm .entry)) at (now (decisions .entry)) (now (out .entry)) r (now (pm .exit)) (now (decisions .exit)) (now (out .exit)) ⌝ }
+{
+    let mut now_at = at;
+    let mut k: usize = 0;
+    while k < n {
+        let held = now_at.held;
+        let len = block_steps(i + k, n - k, BLOCK + traceback - held);
+        let from = 2 * k;
+        acs_runs::run2(pm, &pairs[from..], len, &mut decisions[held..]);
+        let grown = At {
+            held: held + len,
+            count: now_at.count,
+        };
+        k = k + len;
+        now_at = end_block(pm, grown, traceback, i + k, decisions, out);
+    }
+    now_at
+}
+
+// The same of four metrics each.
+pub fn run_fours(
+    pm: &mut [f32; 64],
+    at: At,
+    traceback: usize,
+    i: usize,
+    n: usize,
+    metrics: &[f32],
+    decisions: &mut [u64],
+    out: &mut [u8],
+) -> At
+    requires { ⌜ (1 ≤ traceback) × (traceback ≤ 1024) × (at .held < 4096 + traceback) × (4096 + traceback ≤ length (now decisions)) × (at .count + 4096 * releases traceback (at .held) n ≤ length (now out)) × (i + n < 2 ^ 64) × (4 * n ≤ length (now metrics)) ⌝ }
+    ensures { λ r. ⌜ Carried traceback (fourSteps (now (metrics .entry))) i n (now (pm .entry)) at (now (decisions .entry)) (now (out .entry)) r (now (pm .exit)) (now (decisions .exit)) (now (out .exit)) ⌝ }
+{
+    let mut now_at = at;
+    let mut k: usize = 0;
+    while k < n {
+        let held = now_at.held;
+        let len = block_steps(i + k, n - k, BLOCK + traceback - held);
+        let from = 4 * k;
+        acs_runs::run4(pm, &metrics[from..], len, &mut decisions[held..]);
+        let grown = At {
+            held: held + len,
+            count: now_at.count,
+        };
+        k = k + len;
+        now_at = end_block(pm, grown, traceback, i + k, decisions, out);
+    }
+    now_at
 }
 
 // Whether `space` places are too few for the bits that n steps release.

@@ -1,0 +1,110 @@
+-- One block more of a run of steps. Assumes nothing.
+use mathlib.Core.Path.{_≡_, refl, sym, _∙_, ap, fun-ext}
+use mathlib.Core.Logic.{⊎-elim}
+use mathlib.Core.List.{List, [], _∷_, _++_}
+use Prim.Native.Nat.{ℕ, _+_, _-_, _*_, _/_, _%_, _<_, _≤_}
+use native.Mathlib.Omega.{arith}
+use native.Mathlib.Nat.{add-zero}
+use lib.ListN.{length, getD, take, drop}
+use lib.Seq.{getD-drop}
+use borrow.Rule.Slice.PartMut.{midOf, putMid, same-len-mid, mid-len}
+use lib.Ieee.{Float, nan}
+use Rattle.trellis.specs.Lists.{laid}
+use Rattle.trellis.specs.ListLaws.{length-upto}
+use Rattle.trellis.specs.Step.{Step, pair, four}
+use Rattle.trellis.specs.Isdb
+use Rattle.trellis.specs.Run.{Decoder}
+use Rattle.acs_runs.specs.Runs.{wordAfter, runValues, runWords, pairSteps, fourSteps}
+use Rattle.viterbi.specs.declared.At.{At}
+use Rattle.viterbi.specs.Calls.{releases, stepsFrom, Carried, Ended, Holds, blockEnd}
+use Rattle.viterbi.specs.Count.{releases-is}
+use Rattle.viterbi.specs.Laid.{length-laid}
+use Rattle.viterbi.specs.Blocks.{Soft, ran, block-is, from-more}
+use Rattle.viterbi.proofs.Ends.{holds-ran}
+
+-- ---- the steps of a lent part
+pub pairs-from : (xs : List Float) (k : ℕ) → pairSteps (drop (2 * k) xs) ≡ (λ j. pairSteps xs (k + j))
+pairs-from xs k = fun-ext (λ j.
+    let a : 2 * k + 2 * j ≡ 2 * (k + j) = omega arith in
+    let b : 2 * k + (2 * j + 1) ≡ 2 * (k + j) + 1 = omega arith in
+    rw (getD-drop (2 * k) xs (2 * j) nan, getD-drop (2 * k) xs (2 * j + 1) nan, a, b) refl)
+
+pub fours-from : (xs : List Float) (k : ℕ) → fourSteps (drop (4 * k) xs) ≡ (λ j. fourSteps xs (k + j))
+fours-from xs k = fun-ext (λ j.
+    let a : 4 * k + 4 * j ≡ 4 * (k + j) = omega arith in
+    let b : 4 * k + (4 * j + 1) ≡ 4 * (k + j) + 1 = omega arith in
+    let c : 4 * k + (4 * j + 2) ≡ 4 * (k + j) + 2 = omega arith in
+    let e : 4 * k + (4 * j + 3) ≡ 4 * (k + j) + 3 = omega arith in
+    rw (getD-drop (4 * k) xs (4 * j) nan, getD-drop (4 * k) xs (4 * j + 1) nan, getD-drop (4 * k) xs (4 * j + 2) nan, getD-drop (4 * k) xs (4 * j + 3) nan, a, b, c, e) refl)
+
+-- ---- the words of a block
+pub length-words : (ys : ℕ → Step) (pm : List Float) (n : ℕ) → length (runWords ys pm n) ≡ n
+length-words ys pm n = length-upto (wordAfter Isdb.half Isdb.labels Isdb.rule ys pm) n
+
+-- the decisions keep their length as n words are laid from place a on
+pub length-put : (a n : ℕ) (ys : ℕ → Step) (pm : List Float) (l p : List ℕ) → a + n ≤ length l → p ≡ laid (runWords ys pm n) (midOf a (length l - a) l) → length (putMid a (length l - a) l p) ≡ length l
+length-put a n ys pm l p h e =
+    let m = midOf a (length l - a) l in
+    let lm : length m ≡ length l - a = mid-len a (length l) l (omega arith) in
+    let lf = length-words ys pm n in
+    same-len-mid a (length l - a) l p (ap length e ∙ length-laid (runWords ys pm n) m (omega arith))
+
+-- ---- how many words and bits
+-- a block that releases nothing, and one that does
+same-releases : (tb h k len l : ℕ) → tb ≤ 1024 → l + 4096 * releases tb h k ≡ h + k → l + len < 4096 + tb → releases tb h (k + len) ≡ releases tb h k
+same-releases tb h k len l most e f = let a = releases-is tb h k most in let b = releases-is tb h (k + len) most in omega arith
+
+one-release : (tb h k len l : ℕ) → tb ≤ 1024 → l + 4096 * releases tb h k ≡ h + k → l + len ≡ 4096 + tb → releases tb h (k + len) ≡ releases tb h k + 1
+one-release tb h k len l most e f = let a = releases-is tb h k most in let b = releases-is tb h (k + len) most in omega arith
+
+-- ---- the decoder
+module _ (tb : ℕ) (most : tb ≤ 1024) (ys : ℕ → Step) (i : ℕ) (pm₀ : List Float) (at₀ : At) (dec₀ out₀ : List ℕ) where
+  pub carried-none : at₀ .held < 4096 + tb → Carried tb ys i 0 pm₀ at₀ dec₀ out₀ at₀ pm₀ dec₀ out₀
+  unfolding stepsFrom
+  carried-none h =
+      let r = releases-is tb (at₀ .held) 0 most in
+      record { few = h; left = omega arith; gone = omega arith; carries = λ d dec out z. z }
+
+  module _ (soft : Soft ys) (k len : ℕ) (at : At) (pm : List Float) (dec out : List ℕ) (z : Carried tb ys i k pm₀ at₀ dec₀ out₀ at pm dec out)
+      (some : 0 < len) (inside : (i + k) % 64 + len ≤ 64) (fits : at .held + len ≤ 4096 + tb) where
+    -- where the block ends with a release, there is room if there is for the releases of all steps
+    pub block-room : (n space : ℕ) → k + len ≤ n → at₀ .count + 4096 * releases tb (at₀ .held) n ≤ space → at .held + len ≡ 4096 + tb → at .count + 4096 ≤ space
+    block-room n space h g full =
+        let a = z .left in
+        let b = z .gone in
+        let r = one-release tb (at₀ .held) k len (at .held) most (z .left) full in
+        let p = releases-is tb (at₀ .held) (k + len) most in
+        let q = releases-is tb (at₀ .held) n most in
+        omega arith
+
+    pub block-count : (n space : ℕ) → k ≤ n → at₀ .count + 4096 * releases tb (at₀ .held) n ≤ space → at .count ≤ space
+    block-count n space h g =
+        let b = z .gone in
+        let p = releases-is tb (at₀ .held) k most in
+        let q = releases-is tb (at₀ .held) n most in
+        omega arith
+
+    pub carried-more : (zs : ℕ → Step) (pm₁ pm′ : List Float) (dec₁ dec′ out′ : List ℕ) (r : At) → zs ≡ (λ j. ys (k + j))
+        → pm₁ ≡ runValues zs pm len → dec₁ ≡ take (at .held) dec ++ laid (runWords zs pm len) (drop (at .held) dec)
+        → Ended tb (i + (k + len)) pm₁ (record { held = at .held + len; count = at .count }) dec₁ out r pm′ dec′ out′
+        → Carried tb ys i (k + len) pm₀ at₀ dec₀ out₀ r pm′ dec′ out′
+    carried-more zs pm₁ pm′ dec₁ dec′ out′ r es ev ed e =
+        let a = z .left in
+        let b = z .gone in
+        let next : ℕ → Step = λ j. ys (k + j) in
+        let lands : (d : Decoder) (decs outs : List ℕ) → Holds tb decs outs d pm₀ (at₀ .held) (at₀ .count) dec₀ out₀
+        → Holds tb decs outs (stepsFrom tb i ys d (k + len)) pm′ (r .held) (r .count) dec′ out′ = λ d decs outs h.
+        let before = z .carries d decs outs h in
+        let here = stepsFrom tb i ys d k in
+        let eh = before .held-is in
+        let there : i + k + len ≡ i + (k + len) = omega arith in
+        let on = e .ends (ran next here len) decs outs (holds-ran tb decs outs here pm (at .held) (at .count) dec out before next len pm₁ dec₁ (rw es at ev) (rw es at ed)) in
+        rw (from-more tb i ys d k len, block-is tb (i + k) next (λ j m v. soft j (k + m) v) here len some inside (omega arith), there) on in
+        ⊎-elim
+        (λ kept.
+        let s = same-releases tb (at₀ .held) k len (at .held) most (z .left) (kept .0) in
+        record { few = omega arith; left = omega arith; gone = omega arith; carries = lands })
+        (λ full.
+        let s = one-release tb (at₀ .held) k len (at .held) most (z .left) (full .0) in
+        record { few = omega arith; left = omega arith; gone = omega arith; carries = lands })
+        (e .counts)
