@@ -2,7 +2,7 @@
 // from its loop alone: so the compiler keeps a step in one piece.
 ghost use mathlib.Core.Path.{_≡_};
 ghost use mathlib.Core.List.{[], _∷_};
-ghost use Prim.Native.Nat.{_*_, _≤_};
+ghost use Prim.Native.Nat.{_+_, _*_, _%_, _<_, _≤_};
 ghost use lib.ListN.{length};
 ghost use Rattle.trellis.specs.Lists.{laid};
 ghost use Rattle.trellis.specs.Step.{pair, four};
@@ -61,4 +61,18 @@ pub fn step4(pm: &mut [f32; 64], a: f32, b: f32, c: f32, d: f32) -> u64
     let mut words = [0u64; 1];
     run4(pm, &values, 1, &mut words);
     words[0]
+}
+
+fn least(a: usize, b: usize) -> usize
+    ensures { λ r. ⌜ (r ≤ a) × (r ≤ b) × (0 < a → 0 < b → 0 < r) ⌝ }
+{
+    if a < b { a } else { b }
+}
+
+// The steps of the block that begins with step i of a call: up to the next 64th step, and within the steps left and the words up to the next release.
+pub fn block_steps(i: usize, left: usize, space: usize) -> usize
+    requires { ⌜ (0 < left) × (0 < space) ⌝ }
+    ensures { λ r. ⌜ (0 < r) × (r ≤ left) × (r ≤ space) × (i % 64 + r ≤ 64) ⌝ }
+{
+    least(least(left, 64 - i % 64), space)
 }

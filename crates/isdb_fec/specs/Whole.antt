@@ -1,8 +1,9 @@
 -- A whole call of n steps on a handed decoder: how it begins, what each step asks and leaves, and what it leaves. Assumes nothing.
-use mathlib.Core.Path.{_≡_, refl, _∙_, ap}
+use mathlib.Core.Path.{_≡_, refl, sym, _∙_, ap}
 use mathlib.Core.List.{List}
 use Prim.Native.Nat.{ℕ, _+_, _*_, _<_, _≤_}
 use native.Mathlib.Omega.{arith}
+use native.Mathlib.Nat.{zero-add}
 use lib.ListN.{length, take}
 use lib.Seq.{length-take-le}
 use lib.Ieee.{Float}
@@ -17,6 +18,8 @@ use Rattle.isdb_fec.specs.declared.conv.ViterbiDecoder.{ViterbiDecoder}
 use Rattle.isdb_fec.specs.Rows.{releases}
 use Rattle.isdb_fec.specs.Calls.{stepOnce, steps, call, handed, holding, Holds, Stepped, Room, Leaves, Unchanged, Either}
 use Rattle.isdb_fec.specs.Answers.{Enough, refused}
+use Rattle.viterbi.specs.Calls.{stepsFrom, Carried}
+use Rattle.viterbi.specs.Blocks.{from-steps}
 use Rattle.viterbi.specs.Holding.{holds-start, steps-lengths, steps-ready, steps-next}
 
 -- the words that a handed decoder holds
@@ -44,6 +47,15 @@ module _ (v : ViterbiDecoder) (xs : ℕ → trellis.Step) (n : ℕ) (dec₀ out�
     pub goes-on : (r : At) (pm′ : List Float) (dec′ out′ : List ℕ) → Stepped (v .traceback) (stepOnce (v .traceback) i (xs i) (holding pm (at .held) dec)) (at .count) r pm′ dec dec′ out out′
         → Holds (v .traceback) dec₀ out₀ (steps (v .traceback) xs (handed v dec₀) (i + 1)) pm′ (r .held) (r .count) dec′ out′
     goes-on = steps-next Isdb.half Isdb.labels Isdb.rule (v .traceback) xs (handed v dec₀) dec₀ out₀ n (e .least) (e .most) (few dec₀ e) (e .fits) space pm (at .held) (at .count) dec out i h
+
+  -- all steps at once, as `run_pairs` and `run_fours` take them
+  pub runs : (r : At) (pm : List Float) (dec out : List ℕ) → Carried (v .traceback) xs 0 n (v .pm) (record { held = v .held; count = 0 }) dec₀ out₀ r pm dec out
+      → Holds (v .traceback) dec₀ out₀ (steps (v .traceback) xs (handed v dec₀) n) pm (r .held) (r .count) dec out
+  runs r pm dec out c =
+      let d = handed v dec₀ in
+      let same : steps (v .traceback) xs d n ≡ stepsFrom (v .traceback) 0 xs (steps (v .traceback) xs d 0) n =
+      ap (λ (k : ℕ). steps (v .traceback) xs d k) (sym (zero-add n)) ∙ from-steps (v .traceback) xs xs d 0 n (λ k h. ap xs (zero-add k)) in
+      rw same (c .carries (steps (v .traceback) xs d 0) dec₀ out₀ begins)
 
   -- the end, of known bits and of soft values or metrics
   pub ends : (pm : List Float) (at : At) (dec out : List ℕ) → Holds (v .traceback) dec₀ out₀ (steps (v .traceback) xs (handed v dec₀) n) pm (at .held) (at .count) dec out

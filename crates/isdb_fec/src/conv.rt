@@ -18,6 +18,8 @@ use viterbi::finish;
 use viterbi::finish_at;
 use viterbi::parity;
 pub use viterbi::renormalise;
+use viterbi::run_fours;
+use viterbi::run_pairs;
 use viterbi::start_at;
 use viterbi::start_unknown;
 
@@ -231,15 +233,12 @@ impl ViterbiDecoder {
         };
         let traceback = self.traceback;
         let mut pm = self.pm;
-        let mut at = At {
+        let start = At {
             held: self.held,
             count: 0,
         };
         let n = pairs.len() / 2;
-        for i in 0..n {
-            let pair = Step::Pair(pairs[2 * i], pairs[2 * i + 1]);
-            at = advance(&mut pm, at, traceback, i, pair, decisions, out);
-        }
+        let at = run_pairs(&mut pm, start, traceback, 0, n, pairs, decisions, out);
         renormalise(&mut pm);
         Released {
             answer: Answer::Accepted,
@@ -269,20 +268,12 @@ impl ViterbiDecoder {
         };
         let traceback = self.traceback;
         let mut pm = self.pm;
-        let mut at = At {
+        let start = At {
             held: self.held,
             count: 0,
         };
         let n = metrics.len() / 4;
-        for i in 0..n {
-            let four = Step::Four(
-                metrics[4 * i],
-                metrics[4 * i + 1],
-                metrics[4 * i + 2],
-                metrics[4 * i + 3],
-            );
-            at = advance(&mut pm, at, traceback, i, four, decisions, out);
-        }
+        let at = run_fours(&mut pm, start, traceback, 0, n, metrics, decisions, out);
         renormalise(&mut pm);
         Released {
             answer: Answer::Accepted,

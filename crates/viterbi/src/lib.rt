@@ -170,20 +170,6 @@ pub fn advance(
     }
 }
 
-fn least(a: usize, b: usize) -> usize
-    ensures { λ r. ⌜ (r ≤ a) × (r ≤ b) × (0 < a → 0 < b → 0 < r) ⌝ }
-{
-    if a < b { a } else { b }
-}
-
-// The steps of the block that begins with step i of a call: up to the next 64th step, and within the steps left and the words up to the next release.
-fn block_steps(i: usize, left: usize, space: usize) -> usize
-    requires { ⌜ (0 < left) × (0 < space) ⌝ }
-    ensures { λ r. ⌜ (0 < r) × (r ≤ left) × (r ≤ space) × (i % 64 + r ≤ 64) ⌝ }
-{
-    least(least(left, 64 - i % 64), space)
-}
-
 // Subtracts the maximum where 64 steps of the call are done, before its step i.
 fn settle_block(pm: &mut [f32; 64], i: usize)
     ensures { λ _. ⌜ now (pm .exit) ≡ cond (eqb (i % 64) 0) (renormalised 32 (now (pm .entry))) (now (pm .entry)) ⌝ }
@@ -236,7 +222,7 @@ pub fn run_pairs(
     let mut k: usize = 0;
     while k < n {
         let held = now_at.held;
-        let len = block_steps(i + k, n - k, BLOCK + traceback - held);
+        let len = acs_runs::block_steps(i + k, n - k, BLOCK + traceback - held);
         let from = 2 * k;
         acs_runs::run2(pm, &pairs[from..], len, &mut decisions[held..]);
         let grown = At {
@@ -267,7 +253,7 @@ pub fn run_fours(
     let mut k: usize = 0;
     while k < n {
         let held = now_at.held;
-        let len = block_steps(i + k, n - k, BLOCK + traceback - held);
+        let len = acs_runs::block_steps(i + k, n - k, BLOCK + traceback - held);
         let from = 4 * k;
         acs_runs::run4(pm, &metrics[from..], len, &mut decisions[held..]);
         let grown = At {

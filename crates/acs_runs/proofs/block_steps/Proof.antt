@@ -1,10 +1,10 @@
--- `viterbi::block_steps` meets its contract. Assumes nothing.
+-- `acs_runs::block_steps` meets its contract. Assumes nothing.
 use Prim.Native.Nat.{_<_}
 use native.Mathlib.Omega.{arith}
 use borrow.Author.Needs.{needs}
-use Rattle.viterbi.proofs.block_steps.Statement.{statement}
-use Rattle.viterbi.proofs.block_steps.Tie as tie
-use Rattle.viterbi.proofs.block_steps.Lts as lts
+use Rattle.acs_runs.proofs.block_steps.Statement.{statement}
+use Rattle.acs_runs.proofs.block_steps.Tie as tie
+use Rattle.acs_runs.proofs.block_steps.Lts as lts
 
 sub-least : tie.Need-sub-least
 sub-least c = search needs
