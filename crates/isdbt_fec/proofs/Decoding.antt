@@ -1,27 +1,31 @@
--- Decoding step by step: what each step may rely on, what it leaves, and the end. Assumes nothing.
-use mathlib.Core.Path.{_≡_, refl, _∙_, ap}
+-- Decoding block by block: what each block of steps may rely on, what it leaves, and the end. Assumes nothing.
+use mathlib.Core.Path.{_≡_, refl, sym, _∙_, ap}
 use mathlib.Core.List.{List, _++_}
 use Prim.Native.Nat.{ℕ, _+_, _*_, _/_, _<_, _≤_}
 use native.Mathlib.Omega.{arith}
-use lib.ListN.{length, take, drop, replicate}
-use lib.Ieee.{Float}
+use lib.ListN.{length, getD, take, drop, replicate, List·getD-append}
+use lib.Ieee.{Float, nan}
 use Rattle.trellis.specs.Isdb
-use Rattle.trellis.specs.Lists.{laid}
+use Rattle.trellis.specs.Lists.{upto, laid}
+use Rattle.trellis.specs.ListLaws.{length-upto, getD-upto}
 use Rattle.trellis.specs.Step as trellis
 use Rattle.trellis.specs.Step.{pair, renormalised}
 use Rattle.trellis.specs.Run.{startAt}
 use Rattle.viterbi.specs.declared.At.{At}
 use Rattle.isdb_fec.specs.Calls as fec
-use Rattle.isdb_fec.specs.Calls.{Holds, Stepped, Room, holding, stepOnce, bestState, traced}
+use Rattle.isdb_fec.specs.Calls.{Holds, holding, bestState, traced, pairSteps}
 use Rattle.isdb_fec.specs.Answers.{Enough}
-use Rattle.viterbi.specs.Count.{counted}
-use Rattle.isdb_fec.specs.Whole.{begins, lengths, ready, goes-on}
+use Rattle.viterbi.specs.Calls.{releases, Carried}
+use Rattle.viterbi.specs.Count.{counted, releases-le}
+use Rattle.viterbi.specs.Blocks.{from-steps}
+use Rattle.isdb_fec.specs.Whole.{begins, lengths}
 use Rattle.isdbt_table.specs.declared.CodeRate.{CodeRate}
 use Rattle.isdbt_table.specs.declared.Puncturing.{Puncturing}
 use Rattle.isdbt_table.specs.Table.{period, sent, compiled}
 use Rattle.isdbt_fec.specs.Calls.{decodedBits}
-use Rattle.isdbt_fec.specs.Decode.{stepsBy, begun, room-for, all-bits, bits-out, words-out}
+use Rattle.isdbt_fec.specs.Decode.{softBy, stepsBy, begun, room-for, all-bits, bits-out, words-out}
 use Rattle.isdbt_fec.proofs.Turns.{bit-count}
+use Rattle.isdbt_table.specs.Written.{Written}
 
 -- after i of the n steps xs, from the path values pm₀ and no held word
 pub record Decoding (tb : ℕ) (xs : ℕ → trellis.Step) (n : ℕ) (pm₀ : List Float) (dec₀ out₀ : List ℕ) (i : ℕ) (pm : List Float) (at : At) (dec out : List ℕ) : Type 0 where
@@ -60,20 +64,41 @@ module _ (tb : ℕ) (xs : ℕ → trellis.Step) (n : ℕ) (pm₀ : List Float) (
       let e = room-for pm₀ tb n (length dec₀) (length out₀) least most fits room in
       after-steps 0 pm₀ (record { held = 0; count = 0 }) dec₀ out₀ (omega arith) room e (begins (begun pm₀ tb) xs n dec₀ out₀ e)
 
-pub pair-same : {x y x′ y′ : Float} → x ≡ x′ → y ≡ y′ → pair x y ≡ pair x′ y′
-pair-same a b = cc
+-- the soft values of a block are its steps
+pub block-steps : (period n : ℕ) (order : List ℕ) (llrs : List Float) (i len : ℕ) (pairs₀ pairs : List Float) → Written (λ j. softBy period n order llrs (2 * i + j)) (2 * len) pairs₀ pairs
+    → (k : ℕ) → k < len → stepsBy period n order llrs (i + k) ≡ pairSteps pairs k
+block-steps period n order llrs i len pairs₀ pairs w k h =
+    let f : ℕ → Float = λ j. softBy period n order llrs (2 * i + j) in
+    let there : (j : ℕ) → j < 2 * len → f j ≡ getD pairs j nan = λ j g.
+    sym (ap (λ (l : List Float). getD l j nan) (w .front) ∙ List·getD-append (upto f (2 * len)) (drop (length (upto f (2 * len))) pairs₀) nan j (rw (length-upto f (2 * len)) g) ∙ getD-upto f nan (2 * len) j g) in
+    let x : 2 * (i + k) ≡ 2 * i + 2 * k = omega arith in
+    let y : 2 * (i + k) + 1 ≡ 2 * i + (2 * k + 1) = omega arith in
+    pair-same (ap (λ (j : ℕ). softBy period n order llrs j) x ∙ there (2 * k) (omega arith)) (ap (λ (j : ℕ). softBy period n order llrs j) y ∙ there (2 * k + 1) (omega arith))
+  where
+    pair-same : {a b a′ b′ : Float} → a ≡ a′ → b ≡ b′ → pair a b ≡ pair a′ b′
+    pair-same p q = cc
 
 module _ {tb : ℕ} {xs : ℕ → trellis.Step} {n : ℕ} {pm₀ : List Float} {dec₀ out₀ : List ℕ} {i : ℕ} {pm : List Float} {at : At} {dec out : List ℕ}
     (d : Decoding tb xs n pm₀ dec₀ out₀ i pm at dec out) where
-  pub decoding-ready : i < n
-      → (1 ≤ tb) × (tb ≤ 1024) × (at .held < 4096 + tb) × (4096 + tb ≤ length dec) × (at .count ≤ length out) × Room tb (at .held) (at .count) (length out)
-  decoding-ready h = ready (begun pm₀ tb) xs n dec₀ out₀ (d .enough) pm at dec out i (d .holds) h
+  -- what `run_pairs` asks of a block of steps
+  pub decoding-ready : (len : ℕ) → i + len ≤ n
+      → (1 ≤ tb) × (tb ≤ 1024) × (at .held < 4096 + tb) × (4096 + tb ≤ length dec) × (at .count + 4096 * releases tb (at .held) len ≤ length out)
+  decoding-ready len h =
+      let e = d .enough in
+      let fits = e .fits in
+      let most = releases-le tb (at .held) len (e .most) in
+      let words = d .words-long in
+      let bits = d .bits-long in
+      let places = d .places in
+      let sum = d .sum in
+      (e .least, e .most, d .few, omega arith, omega arith)
 
-  pub decoding-next : {x : trellis.Step} {r : At} {pm′ : List Float} {dec′ out′ : List ℕ} → i < n → x ≡ xs i
-      → Stepped tb (stepOnce tb i x (holding pm (at .held) dec)) (at .count) r pm′ dec dec′ out out′ → Decoding tb xs n pm₀ dec₀ out₀ (i + 1) pm′ r dec′ out′
-  decoding-next {x} {r} {pm′} {dec′} {out′} h e s =
-      after-steps tb xs n pm₀ dec₀ out₀ (i + 1) pm′ r dec′ out′ (omega arith) (d .places) (d .enough)
-      (goes-on (begun pm₀ tb) xs n dec₀ out₀ (d .enough) pm at dec out i (d .holds) r pm′ dec′ out′ (rw e at s))
+  -- and what it leaves
+  pub decoding-block : {ys : ℕ → trellis.Step} {len : ℕ} {r : At} {pm′ : List Float} {dec′ out′ : List ℕ} → i + len ≤ n → ((k : ℕ) → k < len → xs (i + k) ≡ ys k)
+      → Carried tb ys i len pm at dec out r pm′ dec′ out′ → Decoding tb xs n pm₀ dec₀ out₀ (i + len) pm′ r dec′ out′
+  decoding-block {ys} {len} {r} {pm′} {dec′} {out′} h e c =
+      after-steps tb xs n pm₀ dec₀ out₀ (i + len) pm′ r dec′ out′ h (d .places) (d .enough)
+      (rw (from-steps tb xs ys (holding pm₀ 0 dec₀) i len e) (c .carries (fec.steps tb xs (holding pm₀ 0 dec₀) i) dec₀ out₀ (d .holds)))
 
 -- the end: the path values are lowered, the held words traced, and the decisions zeroed
 pub decoded : (rate : CodeRate) (p : Puncturing) (e : p ≡ compiled rate) (llrs : List Float) {tb i : ℕ} {pm₀ pm low : List Float} {at : At} {dec₀ dec dec₁ dec₂ out₀ out out₁ : List ℕ} {r : ℕ}

@@ -2,15 +2,16 @@
 // The mother code and its Viterbi decoder are those of isdb_fec::conv.
 ghost use mathlib.Core.Path.{_≡_};
 ghost use mathlib.Core.Bool.{cond};
-ghost use Prim.Native.Nat.{ℕ, _+_, _-_, _*_, _<_, _≤_, _/_, _%_};
+ghost use Prim.Native.Nat.{ℕ, _+_, _-_, _*_, _<_, _≤_, _/_, _%_, _^_};
 ghost use lib.ListN.{length, getD, take, replicate};
 ghost use Rattle.refusal.specs.Rows.{firstRow};
 ghost use Rattle.trellis.specs.Lists.{upto, laid};
 ghost use Rattle.trellis.specs.Code.{stateAt};
-ghost use Rattle.isdb_fec.specs.Calls.{Either};
+ghost use Rattle.isdb_fec.specs.Calls.{Either, pairSteps};
 ghost use Rattle.isdbt_table.specs.Table.{period, sent};
 ghost use Rattle.isdbt_table.specs.Puncture.{inputs, mother, punctured, spread, depunctured};
 ghost use Rattle.isdbt_rows.specs.Rows.{depth, encodeRows, depunctureRows, decodeRows};
+ghost use Rattle.isdbt_fec.specs.Decode.{stepsBy};
 ghost use Rattle.isdbt_fec.specs.Calls.{Encodes, Unencoded, Depunctures, Untouched, decodedBits, Decodes, Undecoded};
 use isdb_fec::conv::ConvEncoder;
 use isdbt_rows::answer_decode;
@@ -24,12 +25,11 @@ pub use isdbt_table::TABLE_3_8;
 pub use isdbt_table::puncture_spec;
 use refusal::Answer;
 use viterbi::At;
-use viterbi::Step;
-use viterbi::advance;
 use viterbi::clear;
 use viterbi::encode_bit;
 use viterbi::finish;
 use viterbi::renormalise;
+use viterbi::run_pairs;
 use viterbi::start_at;
 
 // The mother code's bits of a period, X1, Y1, X2, Y2, .., and the state after it. Places from the period's end on hold 0.
@@ -188,6 +188,41 @@ pub fn depuncture(rate: CodeRate, llrs: &[f32], out: &mut [f32]) -> Done
     }
 }
 
+// The number of values, which the type fixes.
+fn values_of(pairs: &[f32; 128]) -> usize
+    ensures { λ r. ⌜ (r ≡ 128) × (length (now (pairs .entry)) ≡ 128) ⌝ }
+{
+    let values: &[f32] = pairs;
+    values.len()
+}
+
+// How many of the steps left are taken at once.
+fn block_of(left: usize) -> usize
+    ensures { λ r. ⌜ (r ≤ left) × (r ≤ 64) × (0 < left → 0 < r) ⌝ }
+{
+    if left < 64 { left } else { 64 }
+}
+
+// The soft values of `len` steps from step i on, to the front of `pairs`.
+fn soft_block(
+    order: &[usize; 8],
+    n: usize,
+    period: usize,
+    llrs: &[f32],
+    i: usize,
+    len: usize,
+    pairs: &mut [f32; 128],
+)
+    requires { ⌜ (n ≤ 8) × (n ≤ length (now order)) × (1 ≤ period) × (period ≤ 7) × (len ≤ 64) × (2 * (i + len) < 2 ^ 64) × ((k : ℕ) → k < 2 * (i + len) → n * (k / (2 * period)) + n ≤ length (now llrs)) ⌝ }
+    ensures { λ _. ⌜ (length (now (pairs .exit)) ≡ 128) × ((k : ℕ) → k < len → stepsBy period n (now (order .entry)) (now (llrs .entry)) (i + k) ≡ pairSteps (now (pairs .exit)) k) ⌝ }
+{
+    values_of(pairs);
+    let from = 2 * i;
+    for k in 0..2 * len {
+        pairs[k] = soft_at(order, n, period, llrs, from + k);
+    }
+}
+
 // Decodes whole periods from state 0: a push of all pairs, and a flush. How many bits that is.
 fn decode_periods(
     rate: CodeRate,
@@ -208,18 +243,13 @@ fn decode_periods(
     let mut pm = start_at(0);
     let mut at = At { held: 0, count: 0 };
     let count = llrs.len() / n * period;
-    for i in 0..count {
-        let lx = soft_at(&order, n, period, llrs, 2 * i);
-        let ly = soft_at(&order, n, period, llrs, 2 * i + 1);
-        at = advance(
-            &mut pm,
-            at,
-            traceback,
-            i,
-            Step::Pair(lx, ly),
-            decisions,
-            out,
-        );
+    let mut pairs = [0.0f32; 128];
+    let mut i: usize = 0;
+    while i < count {
+        let len = block_of(count - i);
+        soft_block(&order, n, period, llrs, i, len, &mut pairs);
+        at = run_pairs(&mut pm, at, traceback, i, len, &pairs, decisions, out);
+        i = i + len;
     }
     renormalise(&mut pm);
     let bits = finish(&pm, at, decisions, out);

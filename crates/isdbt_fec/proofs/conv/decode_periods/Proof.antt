@@ -1,21 +1,23 @@
 -- `conv::decode_periods` meets its contract. Assumes nothing.
 use mathlib.Core.Path.{_≡_, refl, _∙_}
-use Prim.Native.Nat.{_+_, _-_, _*_, _/_, _<_, _≤_}
+use Prim.Native.Nat.{ℕ, _+_, _-_, _*_, _/_, _<_, _≤_}
 use native.Mathlib.Omega.{arith}
 use borrow.Author.Needs.{needs}
 use lib.ListN.{length}
 use Rattle.isdbt_table.specs.Numbers.{numbers}
 use Rattle.isdbt_fec.specs.Decode.{stepsBy, count-most}
 use Rattle.isdbt_fec.proofs.Turns.{Readable, bit-count, bits-twice, readable}
-use Rattle.isdbt_fec.proofs.Decoding.{Decoding, decoding-none, decoding-ready, decoding-next, pair-same, decoded}
+use Rattle.isdbt_fec.proofs.Decoding.{Decoding, decoding-none, decoding-ready, decoding-block, decoded}
 use Rattle.isdbt_fec.proofs.conv.decode_periods.Statement.{statement}
 use Rattle.isdbt_fec.proofs.conv.decode_periods.Tie as tie
 
 abbrev Inv-loop : tie.InvT-loop
-Inv-loop llrs traceback decisions₀ out₀ period n order pm₀ at₀ count i₀ decisions out pm at i = (i ≤ count) × (2 * count < 18446744073709551616) × Readable (length llrs) period n (length order) (2 * count) × Decoding traceback (stepsBy period n order llrs) count pm₀ decisions₀ out₀ i pm at decisions out
+Inv-loop llrs traceback decisions₀ out₀ period n order pm₀ at₀ count pairs₀ i₀ decisions out pm at pairs i =
+    (i ≤ count) × (2 * count < 18446744073709551616) × Readable (length llrs) period n (length order) (2 * count) × Decoding traceback (stepsBy period n order llrs) count pm₀ decisions₀ out₀ i pm at decisions out
 
 abbrev μ-loop : tie.MeasureT-loop
-μ-loop llrs traceback decisions₀ out₀ period n order pm₀ at₀ count i₀ decisions out pm at i = count - i
+μ-loop llrs traceback decisions₀ out₀ period n order pm₀ at₀ count pairs₀ i₀ decisions out pm at pairs i =
+    count - i
 
 new-requires : tie.Need-new-requires Inv-loop μ-loop
 new-requires c κs = search needs
@@ -45,43 +47,54 @@ loop-holds c =
     let pre = start .pre in
     (search needs, omega arith, rw (bits-twice (a .rate) _ _ e) (readable (a .rate) _ _ e), decoding-none _ _ _ _ _ _ (pre .0) (pre .1) (pre .2) (omega arith))
 
-mul-soft-at : tie.Need-mul-soft-at Inv-loop μ-loop
-mul-soft-at c = omega arith
+sub-block-of : tie.Need-sub-block-of Inv-loop μ-loop
+sub-block-of c = search needs
 
-soft-at-requires : tie.Need-soft-at-requires Inv-loop μ-loop
-soft-at-requires c κs =
-    let r = c .before .before .loop .inv .2 in
-    (r .eight, r .in-order, r .least, r .most, r .there _ (omega arith))
+block-of-requires : tie.Need-block-of-requires Inv-loop μ-loop
+block-of-requires c κs = search needs
 
-mul-soft-at-2 : tie.Need-mul-soft-at-2 Inv-loop μ-loop
-mul-soft-at-2 c = omega arith
+soft-block-requires : tie.Need-soft-block-requires Inv-loop μ-loop
+soft-block-requires c κs =
+    let inv = c .before .before .before .before .loop .inv in
+    let r = inv .2 in
+    let len = c .before .before .block-of .ensures in
+    let inside = c .before .before .before .loop-test .taken in
+    (r .eight, r .in-order, r .least, r .most, len .1, omega arith, λ k h. r .there k (omega arith))
 
-add-soft-at : tie.Need-add-soft-at Inv-loop μ-loop
-add-soft-at c = omega arith
+slice-aggregate-run-pairs : tie.Need-slice-aggregate-run-pairs Inv-loop μ-loop
+slice-aggregate-run-pairs c = search needs
 
-soft-at-requires-2 : tie.Need-soft-at-requires-2 Inv-loop μ-loop
-soft-at-requires-2 c κs =
-    let r = c .before .before .before .before .loop .inv .2 in
-    (r .eight, r .in-order, r .least, r .most, r .there _ (omega arith))
-
-advance-requires : tie.Need-advance-requires Inv-loop μ-loop
-advance-requires c κs = decoding-ready (c .before .before .before .before .before .before .before .before .loop .inv .3) (c .before .before .before .before .before .before .before .loop-test .taken)
+run-pairs-requires : tie.Need-run-pairs-requires Inv-loop μ-loop
+run-pairs-requires c κs =
+    let inv = c .before .before .before .before .before .before .before .before .before .loop .inv in
+    let len = c .before .before .before .before .before .before .before .block-of in
+    let bound = len .ensures in
+    let inside = c .before .before .before .before .before .before .before .before .loop-test .taken in
+    let long = c .before .before .before .before .soft-block .ensures .0 in
+    let d = decoding-ready (inv .3) (len .result) (omega arith) in
+    (d .0, d .1, d .2, d .3, d .4, omega arith, omega arith)
 
 add-i : tie.Need-add-i Inv-loop μ-loop
 add-i c =
-    let inv = c .before .before .before .before .before .before .before .before .before .before .before .before .before .loop .inv in
-    let inside = c .before .before .before .before .before .before .before .before .before .before .before .before .loop-test .taken in
+    let inv = c .before .before .before .before .before .before .before .before .before .before .before .before .before .before .loop .inv in
+    let len = c .before .before .before .before .before .before .before .before .before .before .before .before .block-of .ensures in
+    let inside = c .before .before .before .before .before .before .before .before .before .before .before .before .before .loop-test .taken in
     omega arith
 
 loop-less : tie.Need-loop-less Inv-loop μ-loop
-loop-less c = search needs
+loop-less c =
+    let len = c .before .before .before .before .before .before .before .before .before .before .before .before .block-of .ensures in
+    let inside = c .before .before .before .before .before .before .before .before .before .before .before .before .before .loop-test .taken in
+    let some : 0 < c .before .before .before .before .before .before .before .before .before .before .before .before .block-of .result = len .2 (omega arith) in
+    omega arith
 
 loop-again : tie.Need-loop-again Inv-loop μ-loop
 loop-again c =
-    let inv = c .before .before .before .before .before .before .before .before .before .before .before .before .before .loop .inv in
-    let lx = c .before .before .before .before .before .before .before .before .before .before .soft-at .ensures in
-    let ly = c .before .before .before .before .before .before .before .before .soft-at2 .ensures in
-    (omega arith, inv .1, inv .2, decoding-next (inv .3) (c .before .before .before .before .before .before .before .before .before .before .before .before .loop-test .taken) (pair-same lx ly) (c .before .before .before .before .advance .ensures))
+    let inv = c .before .before .before .before .before .before .before .before .before .before .before .before .before .before .loop .inv in
+    let len = c .before .before .before .before .before .before .before .before .before .before .before .before .block-of .ensures in
+    let inside = c .before .before .before .before .before .before .before .before .before .before .before .before .before .loop-test .taken in
+    let soft = c .before .before .before .before .before .before .before .before .before .soft-block .ensures in
+    (omega arith, inv .1, inv .2, decoding-block (inv .3) (omega arith) (soft .1) (c .before .before .before .before .run-pairs .ensures))
 
 renormalise-requires : tie.Need-renormalise-requires Inv-loop μ-loop
 renormalise-requires c κs = tt
@@ -127,12 +140,11 @@ decode-periods-spec =
     div-count
     mul-count
     loop-holds
-    mul-soft-at
-    soft-at-requires
-    mul-soft-at-2
-    add-soft-at
-    soft-at-requires-2
-    advance-requires
+    sub-block-of
+    block-of-requires
+    soft-block-requires
+    slice-aggregate-run-pairs
+    run-pairs-requires
     add-i
     loop-less
     loop-again
