@@ -64,6 +64,9 @@ module _ (tb : ℕ) (xs : ℕ → trellis.Step) (n : ℕ) (pm₀ : List Float) (
       let e = room-for pm₀ tb n (length dec₀) (length out₀) least most fits room in
       after-steps 0 pm₀ (record { held = 0; count = 0 }) dec₀ out₀ (omega arith) room e (begins (begun pm₀ tb) xs n dec₀ out₀ e)
 
+pair-same : {x y x′ y′ : Float} → x ≡ x′ → y ≡ y′ → pair x y ≡ pair x′ y′
+pair-same p q = cc
+
 -- the soft values of a block are its steps
 pub block-steps : (period n : ℕ) (order : List ℕ) (llrs : List Float) (i len : ℕ) (pairs₀ pairs : List Float) → Written (λ j. softBy period n order llrs (2 * i + j)) (2 * len) pairs₀ pairs
     → (k : ℕ) → k < len → stepsBy period n order llrs (i + k) ≡ pairSteps pairs k
@@ -74,9 +77,6 @@ block-steps period n order llrs i len pairs₀ pairs w k h =
     let x : 2 * (i + k) ≡ 2 * i + 2 * k = omega arith in
     let y : 2 * (i + k) + 1 ≡ 2 * i + (2 * k + 1) = omega arith in
     pair-same (ap (λ (j : ℕ). softBy period n order llrs j) x ∙ there (2 * k) (omega arith)) (ap (λ (j : ℕ). softBy period n order llrs j) y ∙ there (2 * k + 1) (omega arith))
-  where
-    pair-same : {a b a′ b′ : Float} → a ≡ a′ → b ≡ b′ → pair a b ≡ pair a′ b′
-    pair-same p q = cc
 
 module _ {tb : ℕ} {xs : ℕ → trellis.Step} {n : ℕ} {pm₀ : List Float} {dec₀ out₀ : List ℕ} {i : ℕ} {pm : List Float} {at : At} {dec out : List ℕ}
     (d : Decoding tb xs n pm₀ dec₀ out₀ i pm at dec out) where
