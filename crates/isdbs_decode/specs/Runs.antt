@@ -10,7 +10,7 @@ use Rattle.trellis.specs.Lists.{laid}
 use Rattle.trellis.specs.Step.{Step, pair, four, known}
 use Rattle.trellis.specs.Run.{Decoder}
 use Rattle.viterbi.specs.declared.At.{At}
-use Rattle.viterbi.specs.Calls.{steps, flush, Holds}
+use Rattle.viterbi.specs.Calls.{steps, flush, Holds, fourSteps}
 use Rattle.isdbs_combination.specs.declared.Combination.{Combination}
 use Rattle.isdbs_tables.specs.declared.Table.{Table}
 use Rattle.isdbs_runs.specs.RunsOf.{frameSteps}
@@ -77,3 +77,15 @@ pub record FrameRead (t : Table) (r : Received) (knownStart first : Bool) (decis
   pub words : decisions ≡ laid (replicate frameWords 0) decisions₀
   pub decoded : bits ≡ laid (decodedBits t r knownStart first) bits₀
   pub load : bytes ≡ laid (decodedBytes t r knownStart first) bytes₀
+
+-- ---- blocks of steps
+-- a step's four metrics laid at place k of a block: they are the step there, and those of the places before stay
+pub record FourPut (x : Step) (k : ℕ) (block₀ block : List Float) : Type 0 where
+  pub long : length block ≡ length block₀
+  pub here : (ms : List Float) → x ≡ four ms → fourSteps block k ≡ x
+  pub before : (j : ℕ) → j < k → fourSteps block j ≡ fourSteps block₀ j
+
+-- a block holds n of the steps ys from step k0 on
+pub record BlockMade (ys : ℕ → Step) (k0 n : ℕ) (block : List Float) : Type 0 where
+  pub long : length block ≡ 256
+  pub made : (i : ℕ) → i < n → fourSteps block i ≡ ys (k0 + i)

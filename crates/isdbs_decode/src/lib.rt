@@ -2,6 +2,7 @@
 use isdbs_core::combination::Combination;
 use isdbs_core::frame::W1;
 use isdbs_core::slots::Plan;
+use isdbs_metrics::Code;
 use isdbs_metrics::Phase;
 use isdbs_metrics::code_of;
 use isdbs_metrics::metrics;
@@ -16,6 +17,7 @@ use viterbi::advance;
 use viterbi::clear;
 use viterbi::finish;
 use viterbi::renormalise;
+use viterbi::run_fours;
 use viterbi::start_at;
 use viterbi::start_unknown;
 ghost use mathlib.Core.Path.{_≡_};
@@ -31,10 +33,10 @@ ghost use Rattle.isdbs_combination.specs.Combinations.{wordOf};
 ghost use Rattle.isdbs_frame.specs.Frame.{mainSymbols};
 ghost use Rattle.isdbs_runs.specs.RunsOf.{frameSteps, loadBytes, Planned};
 ghost use Rattle.isdbs_metrics.specs.Reading.{frameWords};
-ghost use Rattle.isdbs_metrics.specs.Steps.{Covers};
+ghost use Rattle.isdbs_metrics.specs.Steps.{CodeOf, PhaseAt, Covers};
 ghost use Rattle.strain.specs.Marks.{markOf, frameMark};
 ghost use Rattle.isdbs_decode.specs.Scales.{receivedBy};
-ghost use Rattle.isdbs_decode.specs.Runs.{runSteps, runMark, fourIn, Carried, RunsRead, Ended, bitsFrom, FrameRead};
+ghost use Rattle.isdbs_decode.specs.Runs.{runSteps, runMark, fourIn, FourPut, BlockMade, Carried, RunsRead, Ended, bitsFrom, FrameRead};
 
 // Decoder settings.
 pub struct DemodOptions {
@@ -94,7 +96,68 @@ fn mark_of(x: Step) -> u8
     }
 }
 
-// Reads n steps of a run, and keeps their marks; the first is step i0 of the frame.
+// The number of values of a block, which the type fixes.
+fn values_of(block: &[f32; 256]) -> usize
+    ensures { λ r. ⌜ (r ≡ 256) × (length (now (block .entry)) ≡ 256) ⌝ }
+{
+    let values: &[f32] = block;
+    values.len()
+}
+
+// How many of the steps left are taken at once.
+fn block_of(left: usize) -> usize
+    ensures { λ r. ⌜ (r ≤ left) × (r ≤ 64) × (0 < left → 0 < r) ⌝ }
+{
+    if left < 64 { left } else { 64 }
+}
+
+// Lays the four metrics of a step at its place k of a block.
+fn put_four(x: Step, k: usize, block: &mut [f32; 256])
+    requires { ⌜ (k < 64) × (length (now block) ≡ 256) ⌝ }
+    ensures { λ _. ⌜ FourPut (stepOf x) k (now (block .entry)) (now (block .exit)) ⌝ }
+{
+    match x {
+        Step::Four(a, b, c, d) => {
+            block[4 * k] = a;
+            block[4 * k + 1] = b;
+            block[4 * k + 2] = c;
+            block[4 * k + 3] = d;
+        }
+        Step::Pair(a, b) => {}
+        Step::Known(a) => {}
+    }
+}
+
+// Makes the metrics of n steps of a run from step k0 on, and keeps their marks. Where the next step stands.
+fn make_block(
+    re: &[f64],
+    im: &[f64],
+    m: Mapping,
+    scale: f32,
+    code: Code,
+    phase: Phase,
+    k0: usize,
+    n: usize,
+    block: &mut [f32; 256],
+    marks: &mut [u8],
+) -> Phase
+    requires { ⌜ CodeOf code × PhaseAt (code .combination) k0 phase × (n ≤ 64) × (k0 + n < 2 ^ 30) × Covers (code .combination) (k0 + n) (length (now re)) × Covers (code .combination) (k0 + n) (length (now im)) × (n ≤ length (now marks)) ⌝ }
+    ensures stands { λ r. ⌜ PhaseAt (code .combination) (k0 + n) r ⌝ }
+    ensures made { λ _. ⌜ BlockMade (runSteps (code .combination) (now (re .entry)) (now (im .entry)) m scale) k0 n (now (block .exit)) ⌝ }
+    ensures marked { λ _. ⌜ now (marks .exit) ≡ laid (upto (λ i. runMark (code .combination) (now (re .entry)) (now (im .entry)) m scale (k0 + i)) n) (now (marks .entry)) ⌝ }
+{
+    values_of(block);
+    let mut p = phase;
+    for i in 0..n {
+        let x = metrics(re, im, m, scale, code, p, k0 + i);
+        marks[i] = mark_of(x);
+        put_four(x, i, block);
+        p = next_phase(p, code.period, code.count);
+    }
+    p
+}
+
+// Reads n steps of a run in blocks, and keeps their marks; the first is step i0 of the frame.
 fn read_run(
     pm: &mut [f32; 64],
     at: At,
@@ -116,11 +179,24 @@ fn read_run(
     let code = code_of(c);
     let mut now_at = at;
     let mut p = Phase { q: 0, base: 0 };
-    for k in 0..n {
-        let x = metrics(re, im, m, scale, code, p, k);
-        marks[k] = mark_of(x);
-        now_at = advance(pm, now_at, TRACEBACK, i0 + k, x, decisions, bits);
-        p = next_phase(p, code.period, code.count);
+    let mut block = [0.0f32; 256];
+    let mut k: usize = 0;
+    while k < n {
+        let len = block_of(n - k);
+        p = make_block(
+            re,
+            im,
+            m,
+            scale,
+            code,
+            p,
+            k,
+            len,
+            &mut block,
+            &mut marks[k..],
+        );
+        now_at = run_fours(pm, now_at, TRACEBACK, i0 + k, len, &block, decisions, bits);
+        k = k + len;
     }
     now_at
 }
