@@ -1,5 +1,4 @@
-/* ISDB-S frames and the inner code of ISDB: the calls of the crates of C calls.
-/* ISDB-S frames and the inner code of ISDB: the calls of crates isdb_c, codes_c, wanted_c and mend_c.
+/* ISDB-S frames and the inner code of ISDB: the calls of the crates of C calls (conv_c, isdbt_c, table_c, isdb_c, codes_c, wanted_c, mend_c, judge_c).
  *
  * Link target/staticlib/libisdb.a, which `tools/archive` writes (x86-64 Linux). No call allocates, keeps anything or prints.
  *
@@ -18,8 +17,6 @@
  *   4 state      held count 4,096 + traceback or more; encoder state above 63 (of isdb_code_encode: 2^(length-1) or more); lent path value not finite or beyond 2^32
  *  14 window     outside 1 to 256; fill above it; next not below it or, while the window is not full, unlike fill; a pushed or kept sum above 68,208
  *   5 length     metrics not in fours, soft values not in twos, stream not whole periods; path values not 64; scales not seven; an unknown rate; a
- *                stretch to be mended not in twos, above 8,192 bits, or with a byte above 1
- *   5 length     metrics not in fours, soft values not in twos, stream not whole periods; path values not 64; an unknown rate; a
  *                stretch to be mended not in twos, above 8,192 bits, or with a byte above 1; bytes that are not exactly
  *                the load (isdbs_judge)
  *   6 symbols    under 38,976 of either part; for a full frame an input shorter than its length (isdbs_lay_frame, isdbs_take_frame)
