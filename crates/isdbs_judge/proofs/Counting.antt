@@ -1,17 +1,22 @@
 -- Counts that grow by one point, and sums by one slot. Assumes nothing.
 use mathlib.Core.Path.{_≡_}
-use mathlib.Core.Bool.{Bool}
+use mathlib.Core.Bool.{Bool, true, false}
 use mathlib.Core.List.{List}
 use Prim.Native.Nat.{ℕ, _+_, _*_, _≤_}
 use native.Mathlib.Numerals.{add-one}
+use native.Mathlib.Omega.{arith}
 use lib.Ieee.{Float}
 use mir.Val.{boolByte}
 use Rattle.isdbs_runs.specs.declared.Run.{Run}
-use Rattle.isdbs_decode.proofs.Digits.{bool-bit}
+use Rattle.isdbs_pack.proofs.Digits.{bool-bit}
 use Rattle.strain.specs.Counts.{summed, counted}
 use Rattle.strain.specs.CountsLaws.{counted-few}
 use Rattle.verdict.specs.Outside.{slotSymbols}
 use Rattle.isdbs_judge.specs.Given.{outsideGiven, slotGiven}
+
+pub bool-few : (b : Bool) → boolByte b ≤ 1
+bool-few true = omega arith
+bool-few false = omega arith
 
 pub counted-more : (p : ℕ → Bool) (n i : ℕ) (b : Bool) → n ≡ counted p i → b ≡ p i → n + boolByte b ≡ counted p (i + 1)
 unfolding summed

@@ -13,7 +13,7 @@ use Rattle.isdbs_tables.specs.declared.Table.{Table}
 use Rattle.isdbs_points.specs.declared.Mapping.{Mapping}
 use Rattle.verdict.specs.Outside.{outsideCounts, outsideSum}
 use Rattle.answers_c.specs.Answers.{answered, left}
-use Rattle.isdb_c.proofs.Answers.{kept}
+use Rattle.answers_c.specs.AnswerLaws.{kept}
 use Rattle.judge.specs.declared.FrameJudged.{FrameJudged}
 use Rattle.judge.specs.declared.FrameJudged.the-variants.{Judged, Refused}
 use Rattle.judge.specs.Rows.{judgeRows}

@@ -1,9 +1,9 @@
 // The call for C that gives the verdict: the points of a frame outside the margins of a load. It answers document 01's number, 0 for accepted; refused, it leaves what is lent as it was.
 // include/isdb.h declares it.
 use isdb_c::frame::mapping_of;
-use isdb_c::table::table_of;
 use judge::FrameJudged;
 use judge::judge;
+use table_c::table_of;
 ghost use mathlib.Core.Path.{_≡_};
 ghost use lib.ListN.{length};
 ghost use Rattle.trellis.specs.Lists.{laid};

@@ -3,11 +3,10 @@ use mathlib.Core.Path.{_≡_, refl}
 use Prim.Native.Nat.{_+_, _-_, _*_, _≤_}
 use native.Mathlib.Omega.{arith}
 use borrow.Author.Needs.{needs}
-use Rattle.isdbs_strain.proofs.Counting.{bool-few}
 use Rattle.strain.specs.Counts.{summed, counted}
 use Rattle.verdict.specs.Outside.{slotSymbols}
 use Rattle.isdbs_judge.specs.Given.{outsideGiven}
-use Rattle.isdbs_judge.proofs.Counting.{counted-more}
+use Rattle.isdbs_judge.proofs.Counting.{bool-few, counted-more}
 use Rattle.isdbs_judge.proofs.count_slot.Statement.{statement}
 use Rattle.isdbs_judge.proofs.count_slot.Tie as tie
 
