@@ -4,7 +4,6 @@ use native.Mathlib.Omega.{arith}
 use borrow.Author.Needs.{needs}
 use Rattle.acs_runs.proofs.block_steps.Statement.{statement}
 use Rattle.acs_runs.proofs.block_steps.Tie as tie
-use Rattle.acs_runs.proofs.block_steps.Lts as lts
 
 sub-least : tie.Need-sub-least
 sub-least c = search needs

@@ -2,8 +2,6 @@ use borrow.Author.Needs.{needs}
 use Prim.Native.Nat.{_-_, _≤_}
 use Rattle.bench.proofs.join.Statement.{statement}
 use Rattle.bench.proofs.join.Tie as tie
-use Rattle.bench.proofs.put_argument.Reads as put-argument-reads
-use Rattle.bench_lib.proofs.after_separator.Reads as after-separator-reads
 
 abbrev Inv-loop : tie.InvT-loop
 Inv-loop line₀ count at₀ i₀ line at i = i₀ ≤ i

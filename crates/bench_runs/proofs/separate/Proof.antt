@@ -2,7 +2,6 @@ use borrow.Author.Needs.{needs}
 use Prim.Native.Nat.{_-_, _≤_}
 use Rattle.bench_runs.proofs.separate.Statement.{statement}
 use Rattle.bench_runs.proofs.separate.Tie as tie
-use Rattle.bench_runs.proofs.separated.Reads as separated-reads
 
 abbrev Inv-loop : tie.InvT-loop
 Inv-loop line₀ i₀ line i = i ≤ 4096

@@ -8,16 +8,11 @@ use borrow.Author.Tests.{le-leb, lt-leb}
 use Rattle.bench_sheet.specs.Places.{binAt}
 use Rattle.bench_sheet.proofs.bin_at.Statement.{statement}
 use Rattle.bench_sheet.proofs.bin_at.Tie as tie
-use Rattle.bench_sheet.proofs.bin_at.Reads as reads
-use Rattle.bench_sheet.proofs.bin_at.Lts as lts
-use Rattle.std.proofs.num.truncating_f64_to_u64.Reads as truncating-f64-to-u64-reads
 
--- src/lib.rt:43:17
 truncating-f64-to-u64-requires : tie.Need-truncating-f64-to-u64-requires
 unfolding ofBits neg
 truncating-f64-to-u64-requires c κs = (subst T (sym (c .before .if1 .taken)) tt, subst T (sym (c .if2 .taken)) tt)
 
--- src/lib.rt:45:17
 returns : tie.Need-returns
 unfolding binAt
 returns c =
@@ -25,7 +20,6 @@ returns c =
     let e = le-leb (c .before .truncating-f64-to-u64 .result) 191 (omega arith) in
     (rw (c .before .before .before .if1 .taken, c .before .before .if2 .taken, ← r, e), omega arith)
 
--- src/lib.rt:47:13
 returns-2 : tie.Need-returns-2
 unfolding binAt
 returns-2 c =
@@ -33,12 +27,10 @@ returns-2 c =
     let e = lt-leb (c .before .truncating-f64-to-u64 .result) 191 (omega arith) in
     (rw (c .before .before .before .if1 .taken, c .before .before .if2 .taken, ← r, e), omega arith)
 
--- src/lib.rt:49:9
 returns-3 : tie.Need-returns-3
 unfolding binAt
 returns-3 c = (rw (c .before .if1 .taken, c .if2 .left), omega arith)
 
--- src/lib.rt:38:1
 returns-4 : tie.Need-returns-4
 unfolding binAt
 returns-4 c = (rw (c .if1 .left), omega arith)

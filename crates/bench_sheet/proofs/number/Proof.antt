@@ -2,8 +2,6 @@
 use borrow.Author.Needs.{needs}
 use Rattle.bench_sheet.proofs.number.Statement.{statement}
 use Rattle.bench_sheet.proofs.number.Tie as tie
-use Rattle.bench_sheet.proofs.number.Reads as reads
-use Rattle.bench_sheet.proofs.number.Lts as lts
 
 decimal-requires : tie.Need-decimal-requires
 decimal-requires c κs = search needs

@@ -12,8 +12,6 @@ use Rattle.bench_sheet.specs.Sheet.{Put}
 use borrow.Author.Needs.{needs}
 use Rattle.bench_sheet.proofs.put.Statement.{statement}
 use Rattle.bench_sheet.proofs.put.Tie as tie
-use Rattle.bench_sheet.proofs.put.Reads as reads
-use Rattle.bench_sheet.proofs.put.Lts as lts
 
 -- what does not fit leaves the sheet as it was
 over : (at : ℕ) (s old : List ℕ) → 327680 < at + length s → Put at s old old 327681
@@ -29,15 +27,12 @@ Inv-loop sheet₀ at s n i₀ sheet i = (i ≤ length s) × ((length sheet ≡ 3
 abbrev μ-loop : tie.MeasureT-loop
 μ-loop sheet₀ at s n i₀ sheet i = length s - i
 
--- src/lib.rt:15:9
 returns : tie.Need-returns Inv-loop μ-loop
 returns c = over _ _ _ (omega arith)
 
--- src/lib.rt:18:9
 returns-2 : tie.Need-returns-2 Inv-loop μ-loop
 returns-2 c = over _ _ _ (omega arith)
 
--- src/lib.rt:21:5
 size-requires : tie.Need-size-requires Inv-loop μ-loop
 size-requires c κs = search needs
 
@@ -46,27 +41,21 @@ loop-holds c =
     let a = c .before .before .before .before .before .args in
     (omega arith, (c .before .before .size .ensures .1, paste-zero (a .sheet .now) (a .at) (a .s .now)))
 
--- src/lib.rt:22:25
 shared-slice-read-sheet : tie.Need-shared-slice-read-sheet Inv-loop μ-loop
 shared-slice-read-sheet c = search needs
 
--- src/lib.rt:22:15
 add-sheet : tie.Need-add-sheet Inv-loop μ-loop
 add-sheet c = search needs
 
--- src/lib.rt:22:9
 element-write-sheet : tie.Need-element-write-sheet Inv-loop μ-loop
 element-write-sheet c = omega arith
 
--- src/lib.rt:23:13
 add-i : tie.Need-add-i Inv-loop μ-loop
 add-i c = search needs
 
--- src/lib.rt:21:5
 loop-less : tie.Need-loop-less Inv-loop μ-loop
 loop-less c = search needs
 
--- src/lib.rt:21:5
 loop-again : tie.Need-loop-again Inv-loop μ-loop
 loop-again c =
     let at = c .before .before in
@@ -75,11 +64,9 @@ loop-again c =
     let known = at .before .before .before .size .ensures .1 in
     (omega arith, (simp length-set (inv .1 .0), rw (inv .1 .1, add-one) (paste-suc (a .sheet .now) (a .at) (a .s .now) (at .loop .i) 0 (omega arith) (omega arith))))
 
--- src/lib.rt:25:5
 add-result : tie.Need-add-result Inv-loop μ-loop
 add-result c = search needs
 
--- src/lib.rt:11:1
 returns-3 : tie.Need-returns-3 Inv-loop μ-loop
 returns-3 c =
     let at = c .before in

@@ -9,27 +9,19 @@ use Rattle.best_reading.proofs.Parts.{mid-rest, put-rest}
 use Rattle.best_reading.proofs.Compose.{flushed, flushed-few}
 use Rattle.best_reading.proofs.finished.Statement.{statement}
 use Rattle.best_reading.proofs.finished.Tie as tie
-use Rattle.best_reading.proofs.finished.Reads as reads
-use Rattle.best_reading.proofs.finished.Lts as lts
-use Rattle.isdb_fec.proofs.conv.ViterbiDecoder.flush.Reads as flush-reads
 
--- src/lib.rt:42:37
 sub-flush : tie.Need-sub-flush
 sub-flush c = search needs
 
--- src/lib.rt:42:37
 part-flush-start : tie.Need-part-flush-start
 part-flush-start c = search needs
 
--- src/lib.rt:42:37
 part-flush-end : tie.Need-part-flush-end
 part-flush-end c = search needs
 
--- src/lib.rt:42:9
 flush-requires : tie.Need-flush-requires
 flush-requires c κs = search needs
 
--- src/lib.rt:48:16
 add-t12 : tie.Need-add-t12
 add-t12 c =
     let x6 = c .before .before .before .before .before .before in
@@ -40,15 +32,12 @@ add-t12 c =
     let l : length part ≡ length (at .args .out .now) - at .args .pushed .count = ap length (mid-rest (at .args .pushed .count) (at .args .out .now)) ∙ length-drop (at .args .pushed .count) (at .args .out .now) in
     omega arith
 
--- src/lib.rt:36:1
 same-length : tie.Need-same-length
 same-length c = search needs
 
--- src/lib.rt:36:1
 same-length-2 : tie.Need-same-length-2
 same-length-2 c = search needs
 
--- src/lib.rt:36:1
 returns : tie.Need-returns
 returns c =
     let x6 = c .before .before .before .before .before .before in

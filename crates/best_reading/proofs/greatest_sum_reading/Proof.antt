@@ -6,41 +6,28 @@ use Rattle.isdb_fec.specs.Told.{told}
 use Rattle.best_reading.proofs.Compose.{short, refused, accepted, count-fits}
 use Rattle.best_reading.proofs.greatest_sum_reading.Statement.{statement}
 use Rattle.best_reading.proofs.greatest_sum_reading.Tie as tie
-use Rattle.best_reading.proofs.greatest_sum_reading.Reads as reads
-use Rattle.best_reading.proofs.greatest_sum_reading.Lts as lts
-use Rattle.best_reading.proofs.finished.Reads as finished-reads
-use Rattle.best_reading.proofs.started.Reads as started-reads
-use Rattle.isdb_fec.proofs.conv.ViterbiDecoder.push_metrics.Reads as push-metrics-reads
 
--- src/lib.rt:59:9
 started-requires : tie.Need-started-requires
 started-requires c κs = search needs
 
--- src/lib.rt:61:42
 sub-push-metrics : tie.Need-sub-push-metrics
 sub-push-metrics c = search needs
 
--- src/lib.rt:61:42
 part-push-metrics-start : tie.Need-part-push-metrics-start
 part-push-metrics-start c = search needs
 
--- src/lib.rt:61:42
 part-push-metrics-end : tie.Need-part-push-metrics-end
 part-push-metrics-end c = search needs
 
--- src/lib.rt:61:9
 push-metrics-requires : tie.Need-push-metrics-requires
 push-metrics-requires c κs = search needs
 
--- src/lib.rt:61:9
 same-length : tie.Need-same-length
 same-length c = search needs
 
--- src/lib.rt:61:9
 same-length-2 : tie.Need-same-length-2
 same-length-2 c = search needs
 
--- src/lib.rt:61:9
 returns : tie.Need-returns
 returns c =
     let pushed = c .before .before .before .before in
@@ -50,22 +37,18 @@ returns c =
     let w = short (a .start) (a .metrics .now) [] (pushed .push-metrics .last .1 .1 .0) (a .out .now) (pushed .push-metrics .last .1 .1 .1 .0) (pushed .push-metrics .result) (begun .started .result) (begun .started .ensures) (pushed .push-metrics .ensures) (a .decisions .now) (first .if1 .taken) refl in
     (w .answers, (w .leaves, w .greatest))
 
--- src/lib.rt:63:9
 push-metrics-requires-2 : tie.Need-push-metrics-requires-2
 push-metrics-requires-2 c κs = search needs
 
 enum-told : tie.Need-enum-told
 enum-told c = search needs
 
--- src/lib.rt:66:9
 same-length-3 : tie.Need-same-length-3
 same-length-3 c = search needs
 
--- src/lib.rt:66:9
 same-length-4 : tie.Need-same-length-4
 same-length-4 c = search needs
 
--- src/lib.rt:66:9
 returns-2 : tie.Need-returns-2
 returns-2 c =
     let pushed = c .before .before .before .before .before in
@@ -75,7 +58,6 @@ returns-2 c =
     let w = refused (a .start) (a .metrics .now) (a .decisions .now) (pushed .push-metrics2 .last .1 .1 .0) (a .out .now) (pushed .push-metrics2 .last .1 .1 .1 .0) (pushed .push-metrics2 .result) (begun .started .result) (begun .started .ensures) (pushed .push-metrics2 .ensures) (first .if1 .left) (told (pushed .push-metrics2 .result .answer) (c .match .keys2)) in
     (w .answers, (w .leaves, w .greatest))
 
--- src/lib.rt:68:5
 finished-requires : tie.Need-finished-requires
 finished-requires c κs =
     let yes = c .before .before in
@@ -87,15 +69,12 @@ finished-requires c κs =
     let a = begun .before .before .before .before .args in
     count-fits (a .start) (a .metrics .now) (a .decisions .now) (pushed .push-metrics2 .last .1 .1 .0) (a .out .now) (pushed .push-metrics2 .last .1 .1 .1 .0) (pushed .push-metrics2 .result) (begun .started .result) (begun .started .ensures) (pushed .push-metrics2 .ensures) (first .if1 .left) (yes .enum-told .given .1) (decs .decisions2 .given) (outs .out2 .given)
 
--- src/lib.rt:54:1
 same-length-5 : tie.Need-same-length-5
 same-length-5 c = search needs
 
--- src/lib.rt:54:1
 same-length-6 : tie.Need-same-length-6
 same-length-6 c = search needs
 
--- src/lib.rt:54:1
 returns-3 : tie.Need-returns-3
 returns-3 c =
     let done = c .before .before .before .before in

@@ -7,28 +7,19 @@ use Rattle.call_ranges.specs.Handed.{fresh-reached, fresh-is}
 use Rattle.call_ranges.specs.Answers.{stream-answer}
 use Rattle.call_ranges.proofs.push_fresh.Statement.{statement}
 use Rattle.call_ranges.proofs.push_fresh.Tie as tie
-use Rattle.call_ranges.proofs.push_fresh.Reads as reads
-use Rattle.call_ranges.proofs.push_fresh.Lts as lts
-use Rattle.isdb_fec.proofs.conv.ViterbiDecoder.push.Reads as push-reads
-use Rattle.isdb_fec.proofs.conv.ViterbiDecoder.with_state.Reads as with-state-reads
 
--- src/lib.rt:20:16
 with-state-requires : tie.Need-with-state-requires
 with-state-requires c κs = search needs
 
--- src/lib.rt:22:5
 push-requires : tie.Need-push-requires
 push-requires c κs = search needs
 
--- src/lib.rt:13:1
 same-length : tie.Need-same-length
 same-length c = search needs
 
--- src/lib.rt:13:1
 same-length-2 : tie.Need-same-length-2
 same-length-2 c = search needs
 
--- src/lib.rt:13:1
 returns : tie.Need-returns
 returns c =
     let p = c .before .before .before .before in

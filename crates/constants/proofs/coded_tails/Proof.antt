@@ -5,10 +5,7 @@ use Rattle.trellis.specs.Code.{label, output, tapped, stateAt}
 use Rattle.constants.specs.Tails.{tailOf}
 use Rattle.constants.proofs.coded_tails.Statement.{statement}
 use Rattle.constants.proofs.coded_tails.Tie as tie
-use Rattle.constants.proofs.coded_tails.Reads as reads
-use Rattle.constants.proofs.coded_tails.Lts as lts
 
--- src/lib.rt:65:1
 returns : tie.Need-returns
 unfolding tailOf label output tapped stateAt upto
 returns c = refl

@@ -5,9 +5,6 @@ use lib.Ieee.{ofBits}
 use Rattle.exact_frame.specs.Call.{read-back}
 use Rattle.exact_frame.proofs.read_frame.Statement.{statement}
 use Rattle.exact_frame.proofs.read_frame.Tie as tie
-use Rattle.exact_frame.proofs.read_frame.Reads as reads
-use Rattle.exact_frame.proofs.read_frame.Lts as lts
-use Rattle.isdbs_phy.proofs.demod.decode_frame.Reads as decode-frame-reads
 
 decode-frame-requires : tie.Need-decode-frame-requires
 decode-frame-requires c κs = search needs

@@ -7,27 +7,19 @@ use lib.ListN.{length}
 use Rattle.known_end.proofs.Compose.{length-tail, few-bits, behind}
 use Rattle.known_end.proofs.flush_behind.Statement.{statement}
 use Rattle.known_end.proofs.flush_behind.Tie as tie
-use Rattle.known_end.proofs.flush_behind.Reads as reads
-use Rattle.known_end.proofs.flush_behind.Lts as lts
-use Rattle.isdb_fec.proofs.conv.ViterbiDecoder.flush_at.Reads as flush-at-reads
 
--- src/lib.rt:54:45
 sub-flush-at : tie.Need-sub-flush-at
 sub-flush-at c = search needs
 
--- src/lib.rt:54:45
 part-flush-at-start : tie.Need-part-flush-at-start
 part-flush-at-start c = search needs
 
--- src/lib.rt:54:45
 part-flush-at-end : tie.Need-part-flush-at-end
 part-flush-at-end c = search needs
 
--- src/lib.rt:54:9
 flush-at-requires : tie.Need-flush-at-requires
 flush-at-requires c κs = search needs
 
--- src/lib.rt:60:16
 add-t13 : tie.Need-add-t13
 add-t13 c =
     let x6 = c .before .before .before .before .before .before in
@@ -39,15 +31,12 @@ add-t13 c =
     let l = length-tail (a .pushed .count) (a .out .now) (omega arith) in
     omega arith
 
--- src/lib.rt:47:1
 same-length : tie.Need-same-length
 same-length c = search needs
 
--- src/lib.rt:47:1
 same-length-2 : tie.Need-same-length-2
 same-length-2 c = search needs
 
--- src/lib.rt:47:1
 returns : tie.Need-returns
 returns c =
     let x6 = c .before .before .before .before .before .before in

@@ -5,25 +5,16 @@ use Rattle.isdb_fec.specs.Told.{told}
 use Rattle.known_end.proofs.Compose.{turned-back, fits-out, accepted}
 use Rattle.known_end.proofs.read_between.Statement.{statement}
 use Rattle.known_end.proofs.read_between.Tie as tie
-use Rattle.known_end.proofs.read_between.Reads as reads
-use Rattle.known_end.proofs.read_between.Lts as lts
-use Rattle.isdb_fec.proofs.conv.ViterbiDecoder.push.Reads as push-reads
-use Rattle.isdb_fec.proofs.conv.ViterbiDecoder.with_state.Reads as with-state-reads
-use Rattle.known_end.proofs.answer_between.Reads as answer-between-reads
-use Rattle.known_end.proofs.flush_behind.Reads as flush-behind-reads
 
--- src/lib.rt:77:9
 with-state-requires : tie.Need-with-state-requires
 with-state-requires c κs = search needs
 
--- src/lib.rt:79:9
 answer-between-requires : tie.Need-answer-between-requires
 answer-between-requires c κs = search needs
 
 enum-told : tie.Need-enum-told
 enum-told c = search needs
 
--- src/lib.rt:81:9
 returns : tie.Need-returns
 returns c =
     let asked = c .before in
@@ -33,11 +24,9 @@ returns c =
     (told (asked .answer-between .result) (c .match .keys2)) in
     (w .0, (w .1, w .2))
 
--- src/lib.rt:87:9
 push-requires : tie.Need-push-requires
 push-requires c κs = search needs
 
--- src/lib.rt:88:5
 flush-behind-requires : tie.Need-flush-behind-requires
 flush-behind-requires c κs =
     let pushed = c .before .before .before .before .before .before in
@@ -48,15 +37,12 @@ flush-behind-requires c κs =
     fits-out (a .traceback) (a .start) (a .end) (a .pairs .now) (a .decisions .now) (pushed .push .last .1 .1 .0) (a .out .now) (pushed .push .last .1 .1 .1 .0) (pushed .push .result) (made .with-state .result)
     (sym (asked .answer-between .ensures) ∙ yes .enum-told .given .1) (made .with-state .ensures) (pushed .push .ensures)
 
--- src/lib.rt:65:1
 same-length : tie.Need-same-length
 same-length c = search needs
 
--- src/lib.rt:65:1
 same-length-2 : tie.Need-same-length-2
 same-length-2 c = search needs
 
--- src/lib.rt:65:1
 returns-2 : tie.Need-returns-2
 returns-2 c =
     let done = c .before .before .before .before in

@@ -5,7 +5,6 @@ use Prim.Native.Nat.{ℕ, suc, _+_, _-_, _*_, _/_, _%_, _^_, _<_, _≤_}
 use Rattle.short_code.specs.Register.{register}
 use Rattle.short_code.proofs.Coded.{label-is}
 use Prim.Native.Nat.{ℕ, _+_, _-_, _*_, _/_, _%_, _^_, _<_, _≤_}
-use Rattle.trellis.specs.Code as trellis
 use borrow.Author.Needs.{needs}
 use Rattle.short_code.proofs.label.Statement.{statement}
 use Rattle.short_code.proofs.label.Tie as tie

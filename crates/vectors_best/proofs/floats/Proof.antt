@@ -4,8 +4,6 @@ use native.Mathlib.Omega.{arith}
 use borrow.Author.Needs.{needs}
 use Rattle.vectors_best.proofs.floats.Statement.{statement}
 use Rattle.vectors_best.proofs.floats.Tie as tie
-use Rattle.vectors_best.proofs.floats.Reads as reads
-use Rattle.vectors_best.proofs.floats.Lts as lts
 
 abbrev Inv-loop : tie.InvT-loop
 Inv-loop metrics xs₀ k₀ xs k = k ≤ 32
@@ -13,39 +11,30 @@ Inv-loop metrics xs₀ k₀ xs k = k ≤ 32
 abbrev μ-loop : tie.MeasureT-loop
 μ-loop metrics xs₀ k₀ xs k = 32 - k
 
--- src/main.rt:137:5
 loop-holds : tie.Need-loop-holds Inv-loop μ-loop
 loop-holds c = search needs
 
--- src/main.rt:138:17
 element-copy-out-m : tie.Need-element-copy-out-m Inv-loop μ-loop
 element-copy-out-m c = search needs
 
--- src/main.rt:138:17
 int-to-float-m : tie.Need-int-to-float-m Inv-loop μ-loop
 int-to-float-m c = search needs
 
--- src/main.rt:139:9
 mul-xs : tie.Need-mul-xs Inv-loop μ-loop
 mul-xs c = search needs
 
--- src/main.rt:139:9
 array-write-xs : tie.Need-array-write-xs Inv-loop μ-loop
 array-write-xs c = search needs
 
--- src/main.rt:137:9
 add-k : tie.Need-add-k Inv-loop μ-loop
 add-k c = search needs
 
--- src/main.rt:137:5
 loop-less : tie.Need-loop-less Inv-loop μ-loop
 loop-less c = search needs
 
--- src/main.rt:137:5
 loop-again : tie.Need-loop-again Inv-loop μ-loop
 loop-again c = search needs
 
--- src/main.rt:135:1
 returns : tie.Need-returns Inv-loop μ-loop
 returns c = search needs
 

@@ -4,8 +4,6 @@ use native.Mathlib.Omega.{arith}
 use borrow.Author.Needs.{needs}
 use Rattle.vectors_known_end.proofs.rest_zero.Statement.{statement}
 use Rattle.vectors_known_end.proofs.rest_zero.Tie as tie
-use Rattle.vectors_known_end.proofs.rest_zero.Reads as reads
-use Rattle.vectors_known_end.proofs.rest_zero.Lts as lts
 
 abbrev Inv-loop : tie.InvT-loop
 Inv-loop out k₀ k = k ≤ 7
@@ -13,31 +11,24 @@ Inv-loop out k₀ k = k ≤ 7
 abbrev μ-loop : tie.MeasureT-loop
 μ-loop out k₀ k = 7 - k
 
--- src/main.rt:50:5
 loop-holds : tie.Need-loop-holds Inv-loop μ-loop
 loop-holds c = search needs
 
--- src/main.rt:51:12
 element-copy-out-if1 : tie.Need-element-copy-out-if1 Inv-loop μ-loop
 element-copy-out-if1 c = search needs
 
--- src/main.rt:52:13
 returns : tie.Need-returns Inv-loop μ-loop
 returns c = search needs
 
--- src/main.rt:50:9
 add-k : tie.Need-add-k Inv-loop μ-loop
 add-k c = search needs
 
--- src/main.rt:50:5
 loop-less : tie.Need-loop-less Inv-loop μ-loop
 loop-less c = search needs
 
--- src/main.rt:50:5
 loop-again : tie.Need-loop-again Inv-loop μ-loop
 loop-again c = search needs
 
--- src/main.rt:49:1
 returns-2 : tie.Need-returns-2 Inv-loop μ-loop
 returns-2 c = search needs
 

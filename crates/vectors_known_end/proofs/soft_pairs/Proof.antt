@@ -4,8 +4,6 @@ use native.Mathlib.Omega.{arith}
 use borrow.Author.Needs.{needs}
 use Rattle.vectors_known_end.proofs.soft_pairs.Statement.{statement}
 use Rattle.vectors_known_end.proofs.soft_pairs.Tie as tie
-use Rattle.vectors_known_end.proofs.soft_pairs.Reads as reads
-use Rattle.vectors_known_end.proofs.soft_pairs.Lts as lts
 
 abbrev Inv-loop : tie.InvT-loop
 Inv-loop received bits₀ xs₀ k₀ bits xs k = k ≤ 14
@@ -13,31 +11,24 @@ Inv-loop received bits₀ xs₀ k₀ bits xs k = k ≤ 14
 abbrev μ-loop : tie.MeasureT-loop
 μ-loop received bits₀ xs₀ k₀ bits xs k = 14 - k
 
--- src/main.rt:32:5
 loop-holds : tie.Need-loop-holds Inv-loop μ-loop
 loop-holds c = search needs
 
--- src/main.rt:34:13
 mul-xs : tie.Need-mul-xs Inv-loop μ-loop
 mul-xs c = search needs
 
--- src/main.rt:34:13
 array-write-xs : tie.Need-array-write-xs Inv-loop μ-loop
 array-write-xs c = search needs
 
--- src/main.rt:32:9
 add-k : tie.Need-add-k Inv-loop μ-loop
 add-k c = search needs
 
--- src/main.rt:32:5
 loop-less : tie.Need-loop-less Inv-loop μ-loop
 loop-less c = search needs
 
--- src/main.rt:32:5
 loop-again : tie.Need-loop-again Inv-loop μ-loop
 loop-again c = search needs
 
--- src/main.rt:29:1
 returns : tie.Need-returns Inv-loop μ-loop
 returns c = search needs
 

@@ -10,31 +10,24 @@ Inv-loop file agree₀ i₀ agree i = (agree ≤ i) × (i ≤ 5324)
 abbrev μ-loop : tie.MeasureT-loop
 μ-loop file agree₀ i₀ agree i = 5324 - i
 
--- src/main.rt:74:5
 loop-holds : tie.Need-loop-holds Inv-loop μ-loop
 loop-holds c = (omega arith, omega arith)
 
--- src/main.rt:75:12
 passes-requires : tie.Need-passes-requires Inv-loop μ-loop
 passes-requires c κs = tt
 
--- src/main.rt:76:21
 add-agree : tie.Need-add-agree Inv-loop μ-loop
 add-agree c = record { fits = omega arith }
 
--- src/main.rt:74:9
 add-i : tie.Need-add-i Inv-loop μ-loop
 add-i c = record { fits = omega arith }
 
--- src/main.rt:74:5
 loop-less : tie.Need-loop-less Inv-loop μ-loop
 loop-less c = omega arith
 
--- src/main.rt:74:5
 loop-again : tie.Need-loop-again Inv-loop μ-loop
 loop-again c = ⊎-elim (λ w. rw (w .1) (omega arith, omega arith)) (λ w. rw (w .1) (omega arith, omega arith)) (c .if1 .came)
 
--- src/main.rt:70:1
 returns : tie.Need-returns Inv-loop μ-loop
 returns c = omega arith
 

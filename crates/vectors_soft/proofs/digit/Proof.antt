@@ -3,35 +3,27 @@ use Rattle.vectors_soft.proofs.digit.Statement.{statement}
 use Rattle.vectors_soft.proofs.digit.Tie as tie
 use native.Mathlib.Omega.{arith}
 
--- src/main.rt:27:24
 wide-requires : tie.Need-wide-requires
 wide-requires c κs = search needs
 
--- src/main.rt:28:24
 wide-requires-2 : tie.Need-wide-requires-2
 wide-requires-2 c κs = search needs
 
--- src/main.rt:28:24
 add-result : tie.Need-add-result
 add-result c = record { fits = omega arith }
 
--- src/main.rt:25:1
 returns : tie.Need-returns
 returns c = search needs
 
--- src/main.rt:25:1
 returns-2 : tie.Need-returns-2
 returns-2 c = search needs
 
--- src/main.rt:25:1
 returns-3 : tie.Need-returns-3
 returns-3 c = search needs
 
--- src/main.rt:25:1
 returns-4 : tie.Need-returns-4
 returns-4 c = search needs
 
--- src/main.rt:25:1
 returns-5 : tie.Need-returns-5
 returns-5 c = search needs
 

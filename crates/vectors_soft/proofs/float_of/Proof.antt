@@ -8,15 +8,12 @@ use lib.Dec.{T}
 use lib.Ieee.{binary64}
 use lib.Ieee.Bits.{nanBits-above}
 
--- src/main.rt:11:9
 float-from-bits-result : tie.Need-float-from-bits-result
 float-from-bits-result c = subst (λ (b : Bool). T (not b)) (sym (nanBits-above binary64 (c .before .args .bits) ∙ le-ltb _ _ (c .if1 .taken))) tt
 
--- src/main.rt:9:1
 returns : tie.Need-returns
 returns c = search needs
 
--- src/main.rt:9:1
 returns-2 : tie.Need-returns-2
 returns-2 c = search needs
 

@@ -3,15 +3,12 @@ use Rattle.vectors_soft.proofs.pattern_of.Statement.{statement}
 use Rattle.vectors_soft.proofs.pattern_of.Tie as tie
 use Rattle.ieee.specs.Bits.{number}
 
--- src/main.rt:20:9
 returns : tie.Need-returns
 returns c = search needs
 
--- src/main.rt:22:5
 float-to-bits-result : tie.Need-float-to-bits-result
 float-to-bits-result c = number (c .before .args .x) (c .if1 .left)
 
--- src/main.rt:18:1
 returns-2 : tie.Need-returns-2
 returns-2 c = search needs
 

@@ -10,7 +10,6 @@ use Rattle.viterbi.proofs.Ends.{kept-end, let-go-end}
 use borrow.Author.Needs.{needs}
 use Rattle.viterbi.proofs.end_block.Statement.{statement}
 use Rattle.viterbi.proofs.end_block.Tie as tie
-use Rattle.viterbi.proofs.end_block.Lts as lts
 
 settle-block-requires : tie.Need-settle-block-requires
 settle-block-requires c κs = search needs

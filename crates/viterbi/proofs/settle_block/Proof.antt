@@ -6,7 +6,6 @@ use borrow.Author.Tests.{eq-eqb, ne-eqb}
 use borrow.Author.Needs.{needs}
 use Rattle.viterbi.proofs.settle_block.Statement.{statement}
 use Rattle.viterbi.proofs.settle_block.Tie as tie
-use Rattle.viterbi.proofs.settle_block.Lts as lts
 
 renormalise-requires : tie.Need-renormalise-requires
 renormalise-requires c κs = search needs

@@ -4,11 +4,6 @@ use lib.ListN.{length}
 use borrow.Author.Needs.{needs}
 use Rattle.bench_files.proofs.files.fill.Statement.{statement}
 use Rattle.bench_files.proofs.files.fill.Tie as tie
-use Rattle.bench_files.proofs.files.fill.Reads as reads
-use Rattle.bench_files.proofs.files.fill.Lts as lts
-use Rattle.bench_files.proofs.files.set.Reads as set-reads
-use Rattle.bench_files.proofs.points.read_point.Reads as read-point-reads
-use Rattle.bench_files.proofs.points.size.Reads as size-reads
 
 abbrev Inv-loop : tie.InvT-loop
 Inv-loop file narrow n re₀ im₀ k₀ over₀ re im k over = (k ≤ n) × (length re ≡ length re₀) × (length im ≡ length im₀)

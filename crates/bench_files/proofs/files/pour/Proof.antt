@@ -3,10 +3,6 @@ use lib.ListN.{length}
 use borrow.Author.Needs.{needs}
 use Rattle.bench_files.proofs.files.pour.Statement.{statement}
 use Rattle.bench_files.proofs.files.pour.Tie as tie
-use Rattle.bench_files.proofs.files.pour.Reads as reads
-use Rattle.bench_files.proofs.files.pour.Lts as lts
-use Rattle.bench_files.proofs.files.get.Reads as get-reads
-use Rattle.bench_files.proofs.points.write_point.Reads as write-point-reads
 
 abbrev Inv-loop : tie.InvT-loop
 Inv-loop file narrow re im k₀ k = k ≤ length re

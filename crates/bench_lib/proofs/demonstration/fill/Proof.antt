@@ -2,7 +2,6 @@ use borrow.Author.Needs.{needs}
 use Prim.Native.Nat.{_-_, _≤_}
 use Rattle.bench_lib.proofs.demonstration.fill.Statement.{statement}
 use Rattle.bench_lib.proofs.demonstration.fill.Tie as tie
-use Rattle.std.proofs.num.wrapping_add_u8.Reads as wrapping-add-u8-reads
 
 abbrev Inv-loop : tie.InvT-loop
 Inv-loop load₀ b₀ i₀ load b i = i ≤ 9135

@@ -2,7 +2,6 @@ use borrow.Author.Needs.{needs}
 use Prim.Native.Nat.{_-_, _≤_}
 use Rattle.bench_wanted.proofs.misfit.first_difference.Statement.{statement}
 use Rattle.bench_wanted.proofs.misfit.first_difference.Tie as tie
-use Rattle.bench_wanted.proofs.misfit.differ.Reads as differ-reads
 
 abbrev Inv-loop : tie.InvT-loop
 Inv-loop re im xs ys k₀ k = k ≤ 38976

@@ -6,11 +6,6 @@ use Rattle.isdbs_tables.specs.declared.Table.{Table}
 use Rattle.isdbs_runs.specs.RunsOf.{planOf}
 use Rattle.bench_wanted.proofs.misfit.read_by_table.Statement.{statement}
 use Rattle.bench_wanted.proofs.misfit.read_by_table.Tie as tie
-use Rattle.bench_wanted.proofs.misfit.read_by_table.Reads as reads
-use Rattle.bench_wanted.proofs.misfit.read_by_table.Lts as lts
-use Rattle.bench_wanted.proofs.misfit.read_off.Reads as read-off-reads
-use Rattle.isdbs_core.proofs.slots.plan_of.Reads as plan-of-reads
-use Rattle.isdbs_core.proofs.tmcc.table_answer.Reads as table-answer-reads
 
 plan-of-requires : tie.Need-plan-of-requires
 plan-of-requires c κs = search needs

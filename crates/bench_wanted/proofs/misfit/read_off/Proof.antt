@@ -6,10 +6,6 @@ use borrow.Author.Needs.{needs}
 use Rattle.wanted.specs.Only.{few-bytes}
 use Rattle.bench_wanted.proofs.misfit.read_off.Statement.{statement}
 use Rattle.bench_wanted.proofs.misfit.read_off.Tie as tie
-use Rattle.bench_wanted.proofs.misfit.read_off.Reads as reads
-use Rattle.bench_wanted.proofs.misfit.read_off.Lts as lts
-use Rattle.isdbs_points.proofs.start_state.Reads as start-state-reads
-use Rattle.isdbs_wanted.proofs.read_load.Reads as read-load-reads
 
 start-state-requires : tie.Need-start-state-requires
 start-state-requires c κs = search needs

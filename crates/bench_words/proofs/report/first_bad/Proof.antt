@@ -2,7 +2,6 @@ use borrow.Author.Needs.{needs}
 use Prim.Native.Nat.{_-_, _≤_}
 use Rattle.bench_words.proofs.report.first_bad.Statement.{statement}
 use Rattle.bench_words.proofs.report.first_bad.Tie as tie
-use Rattle.bench_words.proofs.report.is_bad.Reads as is-bad-reads
 
 abbrev Inv-loop : tie.InvT-loop
 Inv-loop re im k₀ k = k ≤ 38976

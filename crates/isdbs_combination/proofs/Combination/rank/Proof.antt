@@ -3,68 +3,52 @@ use Rattle.isdbs_combination.specs.Combinations.{above}
 use borrow.Author.Needs.{needs}
 use Rattle.isdbs_combination.proofs.Combination.rank.Statement.{statement}
 use Rattle.isdbs_combination.proofs.Combination.rank.Tie as tie
-use Rattle.isdbs_combination.proofs.Combination.rank.Reads as reads
-use Rattle.isdbs_combination.proofs.Combination.rank.Lts as lts
 
--- src/combination.rt:165:39
 enum-told : tie.Need-enum-told
 enum-told c = search needs
 
--- src/combination.rt:166:37
 enum-told-2 : tie.Need-enum-told-2
 enum-told-2 c = search needs
 
--- src/combination.rt:167:37
 enum-told-3 : tie.Need-enum-told-3
 enum-told-3 c = search needs
 
--- src/combination.rt:168:37
 enum-told-4 : tie.Need-enum-told-4
 enum-told-4 c = search needs
 
--- src/combination.rt:169:37
 enum-told-5 : tie.Need-enum-told-5
 enum-told-5 c = search needs
 
--- src/combination.rt:170:37
 enum-told-6 : tie.Need-enum-told-6
 enum-told-6 c = search needs
 
--- src/combination.rt:171:37
 enum-told-7 : tie.Need-enum-told-7
 enum-told-7 c = search needs
 
--- src/combination.rt:161:5
 returns : tie.Need-returns
 unfolding above
 returns c = rw (c .enum-told .given .1)
 
--- src/combination.rt:161:5
 returns-2 : tie.Need-returns-2
 unfolding above
 returns-2 c = rw (c .enum-told2 .given .1)
 
--- src/combination.rt:161:5
 returns-3 : tie.Need-returns-3
 unfolding above
 returns-3 c = rw (c .enum-told3 .given .1)
 
--- src/combination.rt:161:5
 returns-4 : tie.Need-returns-4
 unfolding above
 returns-4 c = rw (c .enum-told4 .given .1)
 
--- src/combination.rt:161:5
 returns-5 : tie.Need-returns-5
 unfolding above
 returns-5 c = rw (c .enum-told5 .given .1)
 
--- src/combination.rt:161:5
 returns-6 : tie.Need-returns-6
 unfolding above
 returns-6 c = rw (c .enum-told6 .given .1)
 
--- src/combination.rt:161:5
 returns-7 : tie.Need-returns-7
 unfolding above
 returns-7 c = rw (c .enum-told7 .given .1)
