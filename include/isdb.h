@@ -2,7 +2,7 @@
  *
  * Link target/staticlib/libisdb.a, which `tools/archive` writes (x86-64 Linux). No call allocates, keeps anything or prints.
  *
- * A slice is a pointer and a length, in elements. A pointer must be good for that many elements, also where the length is 0 (it is then not read).
+ * A slice is a pointer and a length, in elements. A pointer must be aligned and good for that many elements, and not NULL also where the length is 0 (it is then not read).
  * A pointer to a number must be good for that number. Slices and numbers that a call writes must not overlap other slices or numbers that are lent to it.
  *
  * Every call but isdbs_soft returns 0 where it accepts, else the number of the first row of this table that holds, from the top. Refused, every lent
@@ -131,7 +131,8 @@ uint32_t isdbs_take_frame(const double *re, size_t re_len, const double *im, siz
 
 /* The last sums of a run of frames, `window` of them at most (1 to 256), with their total and greatest. The state is the caller's: how many sums are
  * kept (*fill) and the place of the next one (*next), both 0 at first; `kept` has the sums, the first *fill places. A push keeps `sum` at the next
- * place, or, where `clear` is not 0, forgets all earlier sums and keeps it at place 0; no other place is written. *total and *greatest are written and
+ * place, or, where `clear` is not 0, forgets all earlier sums and keeps it at place 0; no other place is written. *fill becomes one more, at most `window` (1 after a
+ * clearing push), and *next the place after that of the sum, 0 after the last. *total and *greatest are written and
  * not read: what the last `window` accepted sums since the last clearing push, or all when fewer, give. `kept` needs `window` places. Rows 14, 9. */
 uint32_t isdbs_window_push(uint32_t window, uint32_t *fill, uint32_t *next, uint8_t clear, uint32_t sum, uint32_t *kept, size_t kept_len,
                            uint32_t *total, uint32_t *greatest);
@@ -139,6 +140,8 @@ uint32_t isdbs_window_push(uint32_t window, uint32_t *fill, uint32_t *next, uint
 /* The decoder of the code of constraint length 7 with generators 171 and 133 octal. Its state is the caller's: 64 path values (0 at a known start
  * state and -1,000,000 elsewhere, or all 0), how many decision words are held (0) and the traceback (1 to 1,024). The held words are the first of
  * `decisions`. A call takes its steps one by one; as 4,096 + traceback words are held, 4,096 bits leave to `out`, one in a byte. *count is how many.
+ * Accepted, a push writes `pm`, *held, the held words at the front of `decisions` and *count places of `out`; where bits left, the words past the held ones up to
+ * 4,096 + traceback become 0. A flush sets *held and the words that were held to 0 and keeps `pm`.
  *
  * isdb_push          two soft values a step, above 0 for bit 0.   Rows 3, 4, 5, 7, 9.
  * isdb_push_metrics  four metrics a step, that of the outputs (X, Y) at 2X + Y.   Rows 3, 4, 5, 7, 9.
@@ -162,8 +165,8 @@ uint32_t isdb_flush_at(float *pm, size_t pm_len, uint64_t *held, uint64_t traceb
                        uint64_t *decisions, size_t decisions_len, uint8_t *out, size_t out_len, uint64_t *count);
 
 /* Codes of constraint length 3 to 7 with two generators, each below 2^length with its top bit set: the encoder, and the decoder's calls as above. `length`, `g1` and
- * `g2` stand first; `pm` is 64 long at every length. The first 2^(length-1) path values are those of the states, the others are neither read nor written, also not by
- * row 4. Row 12: any other length or generator, right before 4. Where `pm` is 64 long, length 7 with 0171 and 0133 answers and leaves what the
+ * `g2` stand first; `pm` is 64 long at every length. The first 2^(length-1) path values are those of the states, the others do not count, also not in
+ * row 4, and are as before (a NaN's bits are free). Row 12: any other length or generator, right before 4. Where `pm` is 64 long, length 7 with 0171 and 0133 answers and leaves what the
  * calls above do. (Another `pm` is refused by all; there row 4 of the calls above looks at every path value that is lent, here at those of the states.)
  *
  * isdb_code_encode  X then Y of the low bit of each byte, one in a byte, from *state, which becomes the state after the last.   Rows 12, 4 (*state is 2^(length-1) or
@@ -190,6 +193,7 @@ uint32_t isdb_code_flush_at(uint8_t length, uint8_t g1, uint8_t g2, float *pm, s
  * isdbt_depuncture        puts soft values back to their places among the mother code's, 0 at those not sent. Rows 5, 9.
  * isdbt_decode_punctured  decodes a block whole from state 0; traceback 0 acts as 1. The first 4,096 + traceback words of `decisions` are 0
  *                         afterwards. Rows 3, 5, 7, 9.
+ * *count is how many places of `out` are written, from its front.
  */
 uint32_t isdbt_encode_punctured(uint8_t rate, uint8_t *state, const uint8_t *bits, size_t bits_len, uint8_t *out, size_t out_len, uint64_t *count);
 uint32_t isdbt_depuncture(uint8_t rate, const float *llrs, size_t llrs_len, float *out, size_t out_len, uint64_t *count);
