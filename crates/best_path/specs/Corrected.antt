@@ -15,7 +15,8 @@ use lib.Ieee.{Float, nan, binary32, eq, fits, ofInt, ofBits}
 use Rattle.ieee.specs.Whole.{hiZ, loZ}
 use Rattle.trellis.specs.Isdb
 use Rattle.trellis.specs.Code.{isdb, stateAt}
-use Rattle.trellis.specs.Encoded.{encoded, reached, reached-is, length-encoded, encoded-at}
+use Rattle.trellis.specs.Encoded.{encoded, reached}
+use Rattle.trellis.specs.EncodedLaws.{reached-is, length-encoded, encoded-at}
 use Rattle.trellis.specs.ListLaws.{every, every-at}
 use Rattle.trellis.specs.RunLaws.{label-under}
 use Rattle.trellis.specs.Step.{Step, Tie, traced}

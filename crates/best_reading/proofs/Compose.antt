@@ -25,7 +25,8 @@ use Rattle.isdb_fec.specs.Calls.{fourSteps, call, flush, handed, bestState, Fre
 use Rattle.refusal.specs.RowLaws.{decided, passed}
 use Rattle.viterbi.specs.Laid.{take-laid, laid-after}
 use Rattle.best_reading.specs.declared.Start.{Start}
-use Rattle.best_reading.specs.Calls.{startValues, StartsIn, fresh, read, stateOf, readingRows, Flushed, Finished, Left, GreatestSum}
+use Rattle.call_ranges.specs.Finished.{Finished}
+use Rattle.best_reading.specs.Calls.{startValues, StartsIn, fresh, read, stateOf, readingRows, Flushed, Left, GreatestSum}
 use Rattle.best_reading.proofs.Accepts.{same-rows, short-rows, short-refused, flush-accepts, whole-accepts, reads}
 
 -- the fresh decoder
@@ -157,7 +158,7 @@ module _ (start : Start) (xs : List Float) (dec₀ dec₁ out₀ out₁ : List �
         traced-count = length-upto (input 32 (d .words) (length (d .words)) (bestState (d .values))) (length (d .words))
 
         -- `flush` accepts
-        finished : firstRow (flushRows (stateOf d) (length dec₀) (length out₀ - length (d .bits))) ≡ Accepted → Finished d r dec₀ dec₂ out₀ out₂
+        finished : firstRow (flushRows (stateOf d) (length dec₀) (length out₀ - length (d .bits))) ≡ Accepted → Finished 128 (flush d .bits) d r dec₀ dec₂ out₀ out₂
         finished e =
             let g = f .leaves .0 (answer-is ∙ e) in
             let a = f .after-is in

@@ -5,19 +5,19 @@ use mathlib.Core.List.{List, [], _∷_, _++_}
 use Prim.Native.Nat.{ℕ, _+_, _-_, _*_, _/_, _%_, _≤_}
 use lib.Dec.{eqb, ltb}
 use lib.IntN.{ℤ}
-use lib.ListN.{length, getD, take, drop, replicate}
+use lib.ListN.{length, getD, take, drop}
 use lib.Ieee.{Float, nan}
 use Rattle.refusal.specs.Rows.{Row, firstRow}
 use Rattle.refusal.specs.declared.Answer.the-variants.{Accepted, Length, Sample, Space}
 use Rattle.trellis.specs.Isdb
-use Rattle.trellis.specs.Lists.{laid}
-use Rattle.trellis.specs.Run.{Decoder, block, startAt, startUnknown, decisionsAfter}
+use Rattle.trellis.specs.Run.{Decoder, block, startAt, startUnknown}
 use Rattle.best_path.specs.Paths.{longest, Quadruples, Reading}
 use Rattle.isdb_fec.specs.declared.conv.ViterbiDecoder.{ViterbiDecoder}
 use Rattle.isdb_fec.specs.declared.conv.Released.{Released}
 use Rattle.isdb_fec.specs.Values.{someBeyond, streamLimit}
 use Rattle.isdb_fec.specs.Rows.{flushRows}
 use Rattle.isdb_fec.specs.Calls.{fourSteps, call, flush, Flushes, Unchanged, Either}
+use Rattle.call_ranges.specs.Finished.{Finished}
 use Rattle.best_reading.specs.declared.Start.{Start}
 use Rattle.best_reading.specs.declared.Start.the-variants.{Given, Unknown}
 
@@ -56,19 +56,10 @@ pub record Flushed (before after : Released) (decisions₀ decisions out₀ out 
   pub out-is : out ≡ take (before .count) out₀ ++ end
   pub after-is : after ≡ record { answer = rest .answer; dec = rest .dec; count = before .count + rest .count }
 
--- what an accepted reading leaves: all bits, one for each quadruple, at the front of the output, and the held words zeroed
-pub record Finished (d : Decoder) (r : Released) (decisions₀ decisions out₀ out : List ℕ) : Type 0 where
-  pub values : r .dec .pm ≡ d .values
-  pub held-is : r .dec .held ≡ 0
-  pub traceback-is : r .dec .traceback ≡ 128
-  pub count-is : r .count ≡ length (flush d .bits)
-  pub words : decisions ≡ laid (replicate (length (d .words)) 0) (decisionsAfter 128 (d .words) (d .bits) decisions₀)
-  pub bits : out ≡ laid (flush d .bits) out₀
-
--- accepted, that; refused, the fresh decoder and the lent memory are as they were
+-- accepted, all bits are put out, one for each quadruple; refused, the fresh decoder and the lent memory are as they were
 abbrev pub Left : Start → List Float → Released → List ℕ → List ℕ → List ℕ → List ℕ → Type 0
 Left start xs r decisions₀ decisions out₀ out =
-    Either (r .answer) (Finished (read start xs) r decisions₀ decisions out₀ out) (Unchanged (fresh start) r decisions₀ decisions out₀ out)
+    Either (r .answer) (Finished 128 (flush (read start xs) .bits) (read start xs) r decisions₀ decisions out₀ out) (Unchanged (fresh start) r decisions₀ decisions out₀ out)
 
 -- quadruple k of a flat list
 abbrev pub quadruple : List Float → ℕ → List Float

@@ -10,3 +10,4 @@ pub mod Closed
 pub mod Answers
 pub mod TwoCalls
 pub mod CutAtOne
+pub mod Finished

@@ -20,11 +20,10 @@ use Rattle.isdbs_combination.specs.Combinations.{modulationOf, unitOf, slotStep
 use Rattle.isdbs_tables.specs.Tables.{TableAccepted}
 use Rattle.isdbs_runs.specs.RunsOf.{frameSteps, loadBytes}
 use Rattle.isdbs_points.specs.declared.Mapping.{Mapping}
-use Rattle.isdbs_points.specs.Layout.{Segment, segments, atBit, loadBit, FullLoad, wordBit}
+use Rattle.isdbs_points.specs.Layout.{Segment, segments, atBit, loadBit, FullLoad, wordBit, In}
 use Rattle.isdbs_points.specs.Frame.{coded, inputIn, inputs, labelAt, stateAfter, startState}
 use Rattle.isdbs_metrics.specs.Reading.{Received, metricsAt, decodedBits, uncoded, bitBy, bitIn, bytesFrom, decodedBytes}
 use Rattle.margins.specs.Margins.{Within}
-use Rattle.isdbs_points.specs.Places.{In}
 use Rattle.isdbs_points.specs.Sizes.{table-whole, few-steps, step-fits, at-bit, find-bit}
 use Rattle.isdbs_points.specs.Order.{Pairs, Kind, one, two, three, kind}
 use Rattle.isdbs_points.specs.LawsBits.{of-pair, bytes-are}

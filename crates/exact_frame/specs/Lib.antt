@@ -4,5 +4,6 @@ pub mod Exact
 pub mod Frames
 pub mod StrainLaws
 pub mod Call
+pub mod CallLaws
 pub mod Unread
 pub mod Load

@@ -19,10 +19,10 @@ use Rattle.isdbs_runs.specs.RunsOf.{runsOf, validTotal, loadBytes, frameSteps}
 use Rattle.isdbs_points.specs.declared.Cplx.{Cplx}
 use Rattle.isdbs_points.specs.declared.Mapping.{Mapping}
 use Rattle.isdbs_points.specs.Points.{point, unused, turned}
-use Rattle.isdbs_points.specs.Layout.{Segment, segments, among, atSymbol, atStep, loadBit}
+use Rattle.isdbs_points.specs.Layout.{Segment, segments, among, atSymbol, atStep, loadBit, In, here, there}
 use Rattle.isdbs_points.specs.Frame.{coded, inputIn, inputs, labelAt, pointBy, pointIn, pointAt, frameRe, frameIm, endState}
 use Rattle.isdbs_points.specs.LawsUpto.{upto-cong}
-use Rattle.isdbs_points.specs.Places.{In, here, there, Fill, fill-member}
+use Rattle.isdbs_points.specs.Places.{Fill, fill-member}
 use Rattle.isdbs_points.specs.Sizes.{symbolSum, fill-steps, fill-bits, fill-symbols, table-whole}
 
 -- ---- two functions that say the same of each place of each segment

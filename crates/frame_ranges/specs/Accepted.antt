@@ -42,7 +42,8 @@ use Rattle.isdbs_metrics.specs.Reading.{Received, metricsAt, startValues}
 use Rattle.isdbs_decode.specs.Scales.{scaleOf, receivedBy}
 use Rattle.isdbs_decode.specs.ScaleLaws.{word-in}
 use Rattle.isdbs_decode.specs.Runs.{frameMetrics, freshFrom, knownBits}
-use Rattle.frame_ranges.specs.Numbers.{partPower, scalePower, metricPower, softLimit, metricLimit, stepMost, floor, ruledOut, leastPath, mostPath, part-limit, scale-limit, soft-limit, metric-limit, step-most, path-limits, known-limits, known-deep, under-ruled, least-path, most-path}
+use Rattle.frame_ranges.specs.Numbers.{partPower, scalePower, metricPower, softLimit, metricLimit, stepMost, floor, ruledOut, leastPath, mostPath}
+use Rattle.frame_ranges.specs.NumberLaws.{part-limit, scale-limit, soft-limit, metric-limit, step-most, path-limits, known-limits, known-deep, under-ruled, least-path, most-path}
 use Rattle.frame_ranges.specs.Size.{Size, two-lo, between-size, size-from, size-to}
 use Rattle.frame_ranges.specs.Rising.{Up, Rises}
 use Rattle.frame_ranges.specs.Metrics.{Sized, soft-in, metric-in, metric-rises}

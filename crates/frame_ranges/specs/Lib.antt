@@ -4,5 +4,6 @@ pub mod Size
 pub mod Rising
 pub mod Metrics
 pub mod Numbers
+pub mod NumberLaws
 pub mod Ranges
 pub mod Accepted

@@ -19,8 +19,7 @@ use Rattle.isdbs_combination.specs.Combinations.{modulationOf}
 use Rattle.isdbs_runs.specs.RunsOf.{frameSteps}
 use Rattle.isdbs_points.specs.declared.Mapping.{Mapping}
 use Rattle.isdbs_phy.specs.DecodeRows.{within, decodeRows}
-use Rattle.isdbs_points.specs.Layout.{Segment, segments}
-use Rattle.isdbs_points.specs.Places.{In}
+use Rattle.isdbs_points.specs.Layout.{Segment, segments, In}
 use Rattle.isdbs_metrics.specs.Reading.{Received, softAt, metricsAt, startValues}
 use Rattle.isdbs_decode.specs.Scales.{receivedBy}
 use Rattle.isdbs_decode.specs.Runs.{frameMetrics, freshFrom, knownBits}

@@ -18,7 +18,7 @@ use Rattle.ieee.specs.Bounds.{rounds-floor}
 use Rattle.ieee.specs.Sums.{add-rounds, add-fine, sub-is}
 use Rattle.ieee.specs.Products.{mul-rounds, fine-by, rnd-zero}
 use Rattle.ieee.specs.Constants.{two-to, two-to-num}
-use Rattle.ieee.specs.Conversion.{rounded-between}
+use Rattle.ieee.specs.ConversionLaws.{rounded-between}
 use Rattle.path_range.specs.Values.{nothing}
 use Rattle.isdbs_soft.specs.Soft.{softOf}
 use Rattle.isdbs_metrics.specs.Reading.{absolute, pairMetrics}

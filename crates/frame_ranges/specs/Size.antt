@@ -14,7 +14,7 @@ use Rattle.ieee.specs.Rounding.{pow2, pow2-is, pow2-add, Between}
 use Rattle.ieee.specs.Sums.{add-between, sub-between}
 use Rattle.ieee.specs.Products.{mul-bound}
 use Rattle.ieee.specs.Constants.{two-to, two-to-num}
-use Rattle.ieee.specs.Conversion.{rounded-between}
+use Rattle.ieee.specs.ConversionLaws.{rounded-between}
 use Rattle.isdbs_soft.specs.Soft.{softOf}
 use Rattle.isdbs_metrics.specs.Reading.{absolute}
 

@@ -11,7 +11,6 @@ use Rattle.refusal.specs.declared.Answer.the-variants.{State, Space}
 use Rattle.refusal.specs.Rows.{Row, numberOf, firstRow}
 use Rattle.refusal.specs.RowLaws.{zero-accepted, decided, refused-by, passed-by, passed}
 use Rattle.isdbs_tables.specs.declared.Table.{Table}
-use Rattle.isdbs_combination.specs.Lists.{either}
 use Rattle.isdbs_tables.specs.Tables.{tableRows, tableAnswer, TableAccepted}
 use Rattle.isdbs_tables.specs.TableLaws.{table-refusing, then-rows, before-rows, then-accepted}
 use Rattle.frame_rows.specs.EncodeRows.{shortParts, encodeRows, encodeFrameRows}

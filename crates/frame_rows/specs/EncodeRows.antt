@@ -1,5 +1,5 @@
 -- The rows of the encoding calls. Assumes nothing.
-use mathlib.Core.Bool.{Bool}
+use mathlib.Core.Bool.{Bool, _||_}
 use mathlib.Core.List.{List, [], _∷_, _++_}
 use Prim.Native.Nat.{ℕ}
 use lib.Dec.{ltb}
@@ -7,12 +7,11 @@ use Rattle.refusal.specs.declared.Answer.the-variants.{State, Space}
 use Rattle.refusal.specs.Rows.{Row}
 use Rattle.isdbs_tables.specs.declared.Table.{Table}
 use Rattle.isdbs_frame.specs.Frame.{mainSymbols}
-use Rattle.isdbs_combination.specs.Lists.{either}
 use Rattle.isdbs_tables.specs.Tables.{tableRows}
 
 -- refusal 9: "a lent output .. shorter than this call writes": 38,976 points, in parts of a and b elements
 abbrev pub shortParts : ℕ → ℕ → Bool
-shortParts a b = either (ltb a mainSymbols) (ltb b mainSymbols)
+shortParts a b = ltb a mainSymbols || ltb b mainSymbols
 
 -- the rows of `encode_frame`: 1 and 9
 abbrev pub encodeFrameRows : Table → ℕ → ℕ → List Row

@@ -4,8 +4,8 @@ use mathlib.Core.Path.{_≡_, refl, sym, _∙_, ap}
 use Prim.Native.Nat.{ℕ, _+_, _*_, _/_, _%_, _<_}
 use native.Mathlib.Omega.{arith}
 use borrow.Author.Tests.{lt-leb}
-use Rattle.isdbs_frame.specs.Frame.{Symbol, header, main, burst, placeOf, mainSymbolPosition, burstSymbolPosition}
-use Rattle.isdbs_frame.specs.PlaceLaws.{InFrame, symbolAt, place-below, holds-symbol, placed}
+use Rattle.isdbs_frame.specs.Frame.{Symbol, header, main, burst, placeOf, mainSymbolPosition, burstSymbolPosition, symbolAt}
+use Rattle.isdbs_frame.specs.PlaceLaws.{InFrame, place-below, holds-symbol, placed}
 use Rattle.full_frame.specs.declared.Input.the-variants.{Header, Main, Burst}
 use Rattle.full_frame.specs.Places.{Source, from, InInput, sourceOf, symbolOf, sourceAt, placeIn}
 

@@ -4,8 +4,7 @@ use Prim.Native.Nat.{ℕ, _+_, _*_, _/_, _%_, _<_}
 use lib.ListN.{getD}
 use lib.Ieee.{Float, nan}
 use Rattle.trellis.specs.Lists.{upto}
-use Rattle.isdbs_frame.specs.Frame.{Symbol, header, main, burst, placeOf}
-use Rattle.isdbs_frame.specs.PlaceLaws.{symbolAt}
+use Rattle.isdbs_frame.specs.Frame.{Symbol, header, main, burst, placeOf, symbolAt}
 use Rattle.full_frame.specs.declared.Input.{Input}
 use Rattle.full_frame.specs.declared.Input.the-variants.{Header, Main, Burst}
 

@@ -9,4 +9,5 @@ pub mod Whole
 pub mod Products
 pub mod Constants
 pub mod Conversion
+pub mod ConversionLaws
 pub mod Bits

@@ -1,15 +1,14 @@
 -- Tests of a run's slots. Assumes nothing.
 use mathlib.Core.Path.{_≡_, refl, sym, _∙_}
-use mathlib.Core.Bool.{Bool, true, false}
+use mathlib.Core.Bool.{Bool, true, false, _&&_}
 use Prim.Native.Nat.{ℕ, _≤_, _<_}
 use native.Mathlib.Omega.{arith}
 use lib.Dec.{leb, ltb}
 use borrow.Author.Tests.{leb-true, ltb-true}
 use Rattle.isdbs_runs.specs.declared.Run.{Run}
-use Rattle.isdbs_combination.specs.Lists.{both}
 use Rattle.isdbs_core.specs.Symbols.{hasSlot}
 
-two : (a b : Bool) → both a b ≡ true → (a ≡ true) × (b ≡ true)
+two : (a b : Bool) → a && b ≡ true → (a ≡ true) × (b ≡ true)
 two true b h = (refl, h)
 two false b h = let z : _≡_ {A = ℕ} 0 1 = cc in absurd (omega arith)
 

@@ -1,5 +1,5 @@
 -- Where the bits of a run and the bytes of a slot lie in the frame, as slots.rs has them. Assumes nothing.
-use mathlib.Core.Bool.{Bool, cond}
+use mathlib.Core.Bool.{Bool, cond, _&&_, _||_}
 use mathlib.Core.List.{List, [], _∷_}
 use Prim.Native.Nat.{ℕ, zero, suc, _+_, _-_, _*_, _/_, _%_}
 use lib.Dec.{leb, ltb, eqb}
@@ -15,7 +15,6 @@ use Rattle.isdbs_tables.specs.declared.Table.{Table}
 use Rattle.isdbs_runs.specs.declared.Run.{Run}
 use Rattle.isdbs_core.specs.declared.slots.SlotByte.{SlotByte}
 use Rattle.isdbs_core.specs.declared.slots.SlotByte.the-variants.{At, Nothing}
-use Rattle.isdbs_combination.specs.Lists.{both, either}
 use Rattle.isdbs_core.specs.Answers.{byteSaid}
 use Rattle.isdbs_frame.specs.Frame.{slotBytes, main, placeOf}
 use Rattle.isdbs_combination.specs.Combinations.{efficiencyOf, punctureOf, pairsOf, periodOf}
@@ -24,7 +23,7 @@ use Rattle.isdbs_runs.specs.RunsOf.{runsOf}
 
 -- a pair holds X or Y of input i of a period, from 0
 abbrev pub pairHolds : ℕ → BitPair → Bool
-pairHolds i p = either (eqb (p .p1 / 2) i) (eqb (p .p0 / 2) i)
+pairHolds i p = eqb (p .p1 / 2) i || eqb (p .p0 / 2) i
 
 -- "the search for a bit's first pair": its index, and how many pairs there are where none holds it
 unfoldable pub firstPair : ℕ → List BitPair → ℕ
@@ -55,12 +54,12 @@ markedBefore c (suc k) = cond (marked c k) (suc (markedBefore c k)) (markedBefor
 -- byte of slot k of a run: the bytes of the run's marked slots follow each other, 203 of 8 bits for each
 abbrev pub runByte : Run → ℕ → ℕ → SlotByte
 runByte r k byte =
-    cond (both (marked (r .combination) k) (ltb byte slotBytes))
+    cond (marked (r .combination) k && ltb byte slotBytes)
     (At (placeOf (main (r .«symbol_start» + symbolOfBit (r .combination) (markedBefore (r .combination) k * 1624 + 8 * byte)))))
     Nothing
 
 abbrev pub hasSlot : Run → ℕ → Bool
-hasSlot r slot = both (leb (r .«slot_start») slot) (ltb slot (r .«slot_end»))
+hasSlot r slot = leb (r .«slot_start») slot && ltb slot (r .«slot_end»)
 
 -- in the run that has the slot; a slot that no run has is nowhere
 unfoldable pub byteIn : List Run → ℕ → ℕ → SlotByte

@@ -23,12 +23,12 @@ use Rattle.isdbs_runs.specs.RunsOf.{stepsIn, stepsOf, noRun}
 use Rattle.isdbs_points.specs.declared.Cplx.{Cplx}
 use Rattle.isdbs_points.specs.declared.Mapping.{Mapping}
 use Rattle.isdbs_points.specs.Points.{unused, bpskOf, qpskOf, psk8Of, subset}
-use Rattle.isdbs_points.specs.Layout.{Segment, segmentOf, segmentsFrom, among, sentOrder, orderOf, stepsPerPeriod, orderIn, periodIn, loadBit}
+use Rattle.isdbs_points.specs.Layout.{Segment, segmentOf, segmentsFrom, among, sentOrder, orderOf, stepsPerPeriod, orderIn, periodIn, loadBit, In}
 use Rattle.isdbs_points.specs.Frame.{inputIn, codedBit, sentBit, labelAt, pointIn, pointBy}
 use Rattle.isdbs_points.specs.Pieces.{piece, pieceInputs, pieceLabel, pieceState, pieceSymbols, mapped}
 use Rattle.isdbs_pieces.specs.Encoded.{piecePoint, pieceRe, pieceIm, PieceEncoded}
 use Rattle.isdbs_points.specs.LawsState.{Follow, state-shift, label-shift}
-use Rattle.isdbs_points.specs.Places.{In, Fill, fill-member, among-at, getD-in, before, before-more, fill-first}
+use Rattle.isdbs_points.specs.Places.{Fill, fill-member, among-at, getD-in, before, before-more, fill-first}
 use Rattle.isdbs_points.specs.Sizes.{Whole, fill-steps, fill-bits}
 use Rattle.isdbs_encode.specs.Encoding.{symbolsOf, inputsOf, pointOf, Tiled, RunsMade}
 use Rattle.isdbs_pieces.specs.PieceLaws.{Put, put-part, Going, tail-back}

@@ -14,10 +14,10 @@ use Rattle.isdbs_points.specs.declared.Cplx.{Cplx}
 use Rattle.isdbs_points.specs.declared.Mapping.{Mapping}
 use Rattle.isdbs_encode.specs.declared.RunsEncoded.{RunsEncoded}
 use Rattle.isdbs_points.specs.Points.{unused}
-use Rattle.isdbs_points.specs.Layout.{Segment, segmentsFrom, among}
+use Rattle.isdbs_points.specs.Layout.{Segment, segmentsFrom, among, In}
 use Rattle.isdbs_points.specs.Frame.{inputIn, labelAt, pointIn, frameRe, frameIm}
 use Rattle.isdbs_points.specs.Pieces.{mapped}
-use Rattle.isdbs_points.specs.Places.{In, Fill, before}
+use Rattle.isdbs_points.specs.Places.{Fill, before}
 use Rattle.isdbs_points.specs.Sizes.{Whole}
 
 -- accepted: the frame lies over the beginning of the lent parts; what stands past its 38,976 points is as before

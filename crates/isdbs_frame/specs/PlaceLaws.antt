@@ -5,21 +5,13 @@ use Prim.Native.Nat.{ℕ, _+_, _-_, _*_, _/_, _%_, _<_}
 use native.Mathlib.Omega.{arith}
 use lib.Dec.{ltb}
 use borrow.Author.Tests.{lt-ltb, le-ltb, ltb-true, ltb-false}
-use Rattle.isdbs_frame.specs.Frame.{mainSymbols, Symbol, header, main, burst, placeOf}
+use Rattle.isdbs_frame.specs.Frame.{mainSymbols, Symbol, header, main, burst, placeOf, inPeriod, symbolAt}
 
 -- the symbols that a frame has: 192 of the header, 38,976 of the main signal, 192 bursts of 4
 abbrev pub InFrame : Symbol → Type 0
 InFrame (header i) = i < 192
 InFrame (main k) = k < mainSymbols
 InFrame (burst b j) = (b < 192) × (j < 4)
-
--- what stands at place q of the 207 from burst to burst
-abbrev pub inPeriod : ℕ → ℕ → Symbol
-inPeriod b q = cond (ltb q 203) (main (203 * b + q)) (burst b (q - 203))
-
--- what stands at a place of the frame
-abbrev pub symbolAt : ℕ → Symbol
-symbolAt p = cond (ltb p 192) (header p) (inPeriod ((p - 192) / 207) ((p - 192) % 207))
 
 pub place-below : (s : Symbol) → InFrame s → placeOf s < 39936
 place-below (header i) h = omega arith

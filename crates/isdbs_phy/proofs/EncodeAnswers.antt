@@ -1,7 +1,7 @@
 -- The rows of the encoding calls. Assumes nothing.
 use mathlib.Core.Path.{_≡_, refl, sym, _∙_, ap}
 use mathlib.Core.Logic.{⊎-elim}
-use mathlib.Core.Bool.{Bool, true, false}
+use mathlib.Core.Bool.{Bool, true, false, _||_}
 use mathlib.Core.List.{List, [], _∷_, _++_}
 use Prim.Native.Nat.{ℕ}
 use native.Mathlib.Omega.{arith}
@@ -11,12 +11,11 @@ use Rattle.refusal.specs.declared.Answer.the-variants.{State, Space}
 use Rattle.refusal.specs.Rows.{Row, numberOf, firstRow}
 use Rattle.refusal.specs.RowLaws.{zero-accepted, decided, refused-by, passed-by, passed}
 use Rattle.isdbs_tables.specs.declared.Table.{Table}
-use Rattle.isdbs_combination.specs.Lists.{either}
 use Rattle.isdbs_tables.specs.Tables.{tableRows, tableAnswer, TableAccepted}
 use Rattle.isdbs_tables.specs.TableLaws.{table-refusing, then-rows, before-rows, then-accepted}
 use Rattle.isdbs_phy.specs.EncodeRows.{shortParts, encodeRows, encodeFrameRows}
 
-neither : (x y : Bool) → either x y ≡ false → (x ≡ false) × (y ≡ false)
+neither : (x y : Bool) → x || y ≡ false → (x ≡ false) × (y ≡ false)
 neither false y e = (refl, e)
 neither true y e = (e, absurd (let z : _≡_ {A = ℕ} 0 1 = cc in omega arith))
 

@@ -9,9 +9,8 @@ use Rattle.trellis.specs.ListLaws.{getD-upto}
 use Rattle.isdbs_tables.specs.declared.Table.{Table}
 use Rattle.isdbs_combination.specs.Combinations.{modulationOf}
 use Rattle.isdbs_runs.specs.RunsOf.{frameSteps}
-use Rattle.isdbs_points.specs.Layout.{Segment, segments, atStep}
+use Rattle.isdbs_points.specs.Layout.{Segment, segments, atStep, In}
 use Rattle.isdbs_points.specs.Frame.{coded, inputIn, inputs, labelAt}
-use Rattle.isdbs_points.specs.Places.{In}
 use Rattle.isdbs_points.specs.Sizes.{step-fits, at-step, find-step}
 use Rattle.isdbs_points.specs.LawsBits.{load-bit-small}
 

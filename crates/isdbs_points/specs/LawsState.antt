@@ -6,7 +6,8 @@ use native.Mathlib.Nat.{add-zero, add-suc}
 use native.Mathlib.Omega.{arith}
 use lib.ListN.{getD}
 use Rattle.trellis.specs.Code.{isdb, stateAt}
-use Rattle.trellis.specs.Encoded.{encoded, reached, encoded-at, reached-is}
+use Rattle.trellis.specs.Encoded.{encoded, reached}
+use Rattle.trellis.specs.EncodedLaws.{encoded-at, reached-is}
 use Rattle.trellis.specs.ListLaws.{length-upto}
 use Rattle.isdbs_tables.specs.declared.Table.{Table}
 use Rattle.isdbs_runs.specs.RunsOf.{frameSteps}

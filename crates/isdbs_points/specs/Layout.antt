@@ -51,6 +51,11 @@ pub record Segment : Type 0 where
   pub bit : ℕ
   pub bits : ℕ
 
+-- g is one of a list
+pub data In (g : Segment) : List Segment → Type 0 where
+  here : {gs : List Segment} → In g (g ∷ gs)
+  there : {h : Segment} {gs : List Segment} → In g gs → In g (h ∷ gs)
+
 -- "A valid slot is 1,624 bits"
 abbrev pub segmentOf : Run → ℕ → ℕ → Segment
 segmentOf r step bit =

@@ -9,12 +9,7 @@ use native.Mathlib.Numerals.{add-one}
 use lib.Dec.{T, ltb, ltb→lt, nltb→le}
 use lib.ListN.{getD, length}
 use borrow.Author.Tests.{lt-ltb, le-ltb}
-use Rattle.isdbs_points.specs.Layout.{Segment, among}
-
--- g is one of a list
-pub data In (g : Segment) : List Segment → Type 0 where
-  here : {gs : List Segment} → In g (g ∷ gs)
-  there : {h : Segment} {gs : List Segment} → In g gs → In g (h ∷ gs)
+use Rattle.isdbs_points.specs.Layout.{Segment, In, here, there, among}
 
 module _ (first size : Segment → ℕ) where
   -- they fill the places from a up to b

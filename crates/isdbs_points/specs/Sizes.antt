@@ -20,8 +20,8 @@ use Rattle.isdbs_tables.specs.TableLaws.{sum-fits, units-whole}
 use Rattle.isdbs_tables.specs.TableLaws.{WholeUnits}
 use Rattle.isdbs_runs.specs.RunLaws.{entry-units}
 use Rattle.isdbs_runs.specs.RunsOf.{unitsIn, symbolsIn, runOf, entryRuns, entrySymbols, runsFrom, runsOf, validIn, validTotal, loadBytes, stepsOf, stepsIn, frameSteps}
-use Rattle.isdbs_points.specs.Layout.{Segment, segmentOf, segmentsFrom, segments, atSymbol, atStep, atBit}
-use Rattle.isdbs_points.specs.Places.{In, here, there, Fill, Found, fill-member, among-at, find}
+use Rattle.isdbs_points.specs.Layout.{Segment, segmentOf, segmentsFrom, segments, atSymbol, atStep, atBit, In, here, there}
+use Rattle.isdbs_points.specs.Places.{Fill, Found, fill-member, among-at, find}
 
 -- ---- steps and bits
 pub fill-steps : (rs : List Run) (s b : ℕ) → Fill (λ g. g .step) (λ g. g .steps) (segmentsFrom rs s b) s (s + stepsIn rs)

@@ -13,7 +13,8 @@ use lib.Ieee.Digits.{size-le}
 use lib.Ieee.Exact.{units-val}
 use lib.Ieee.Nearest.{closest}
 use Rattle.ieee.specs.Bits.{size-exact, units-bits, inf-bits, round-bits, closest-le, round-over}
-use Rattle.ieee.specs.Conversion.{rounded, rounded-value}
+use Rattle.ieee.specs.Conversion.{rounded}
+use Rattle.ieee.specs.ConversionLaws.{rounded-value}
 use Rattle.isdbs_soft.specs.Narrowed.{Narrowed}
 use Rattle.isdbs_soft.proofs.Shift.{closest-add, closest-none}
 

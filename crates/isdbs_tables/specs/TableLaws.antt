@@ -1,6 +1,6 @@
 -- What follows from a table's rows: the one place where they are opened. Assumes nothing.
 use mathlib.Core.Path.{_≡_, refl}
-use mathlib.Core.Bool.{Bool, true, false}
+use mathlib.Core.Bool.{Bool, true, false, _||_}
 use mathlib.Core.List.{List, [], _∷_, _++_}
 use Prim.Native.Nat.{ℕ, _≤_}
 use native.Mathlib.Omega.{arith}
@@ -11,14 +11,14 @@ use Rattle.refusal.specs.Rows.{Row, firstRow}
 use Rattle.refusal.specs.RowLaws.{refusing, passed, refused-above, passed-above, both-passed}
 use Rattle.isdbs_tables.specs.declared.Entry.{Entry}
 use Rattle.isdbs_tables.specs.declared.Table.{Table}
-use Rattle.isdbs_combination.specs.Lists.{Each, either}
+use Rattle.isdbs_combination.specs.Lists.{Each}
 use Rattle.isdbs_tables.specs.Tables.{slotSum, partUnit, reservedWord, some, tableRows, tableAnswer, TableAccepted}
 
 -- each entry is whole units
 abbrev pub WholeUnits : List Entry → Type 0
 WholeUnits es = Each (λ e. partUnit e ≡ false) es
 
-neither : (a b : Bool) → either a b ≡ false → (a ≡ false) × (b ≡ false)
+neither : (a b : Bool) → a || b ≡ false → (a ≡ false) × (b ≡ false)
 neither true b h = let z : _≡_ {A = ℕ} 0 1 = cc in absurd (omega arith)
 neither false b h = (refl, h)
 

@@ -1,6 +1,6 @@
 -- Document 01: "a table of four entries (a word, of which the low 4 bits count, and an 8-bit slot count)". Assumes nothing.
 use mathlib.Core.Path.{_≡_}
-use mathlib.Core.Bool.{Bool, false, cond, not}
+use mathlib.Core.Bool.{Bool, false, cond, not, _||_}
 use mathlib.Core.List.{List, [], _∷_}
 use Prim.Native.Nat.{ℕ, _+_, _-_, _%_}
 use lib.Dec.{eqb, ltb}
@@ -17,7 +17,7 @@ use Rattle.isdbs_tables.specs.declared.Entry.{Entry}
 use Rattle.isdbs_tables.specs.declared.Table.{Table}
 use Rattle.isdbs_tables.specs.declared.SlotMark.{SlotMark}
 use Rattle.isdbs_tables.specs.declared.SlotMarks.{SlotMarks}
-use Rattle.isdbs_combination.specs.Lists.{table, either}
+use Rattle.isdbs_combination.specs.Lists.{table}
 use Rattle.isdbs_combination.specs.Combinations.{combinationOf, wordMeans, unitOf}
 
 -- "`CombinationEntry::combination` means the assigned combination of the word, or none"
@@ -48,7 +48,7 @@ reservedWord e = slotsReserved (wordMeans (e .word)) (e .slots)
 -- of some entry
 unfoldable pub some : (Entry → Bool) → List Entry → Bool
 some test [] = false
-some test (e ∷ es) = either (test e) (some test es)
+some test (e ∷ es) = test e || some test es
 
 -- refusal 1: "slot counts sum above 48"; then 10 and 11, "in that sequence directly after 1". The rows that every call with a table begins with;
 -- TableLaws has what follows from them

@@ -1,4 +1,5 @@
 pub mod Table
+pub mod TableLaws
 pub mod Puncture
 pub mod Upto
 pub mod Compiled

@@ -34,7 +34,8 @@ use Rattle.isdb_fec.specs.TwoCalls.{soft-call}
 use Rattle.call_ranges.specs.Reached.{Reached, Floats, with-state}
 use Rattle.call_ranges.specs.Handed.{push-hands}
 use Rattle.call_ranges.specs.Answers.{stream-answer, flush-answer}
-use Rattle.known_end.specs.Calls.{depth, read, betweenRows, Finished, Left, Corrects}
+use Rattle.call_ranges.specs.Finished.{Finished}
+use Rattle.known_end.specs.Calls.{depth, read, betweenRows, Left, Corrects}
 use Rattle.known_end.specs.Behind.{Behind}
 use Rattle.known_end.proofs.Rows.{depth-small, started, Passed, passed, fresh-passes, fresh-is, started-is, soft-rows}
 
@@ -172,7 +173,7 @@ module _ (tb s e : ℕ) (xs : List Float) (dec₀ dec₁ out₀ out₁ : List �
         ∙ none-accepted ((Space, ltb (length out₁ - p .count) (p .dec .held) || ltb (length dec₁) (block + p .dec .traceback)) ∷ [])
         (rw (le-ltb (length out₁ - p .count) (p .dec .held) (omega arith), le-ltb (length dec₁) (block + p .dec .traceback) (omega arith)) refl, tt)
 
-    finished : Finished tb e d r dec₀ dec₂ out₀ out₂
+    finished : Finished (depth tb) (flushAt e d .bits) d r dec₀ dec₂ out₀ out₂
     finished =
         let g = b done in
         let c = left .count-is in

@@ -11,8 +11,7 @@ use Rattle.refusal.specs.declared.Answer.the-variants.{Accepted, Length, Sample
 use Rattle.trellis.specs.Code.{isdb}
 use Rattle.trellis.specs.Encoded.{encoded, reached}
 use Rattle.trellis.specs.Isdb.{flushAt}
-use Rattle.trellis.specs.Lists.{laid}
-use Rattle.trellis.specs.Run.{Decoder, block, startAt, decisionsAfter}
+use Rattle.trellis.specs.Run.{Decoder, block, startAt}
 use Rattle.trellis.specs.Stretch.{differing, Bits, Coded}
 use Rattle.best_path.specs.Hard.{mostWrong, softPairs}
 use Rattle.best_path.specs.Paths.{longest}
@@ -21,6 +20,7 @@ use Rattle.isdb_fec.specs.declared.conv.Released.{Released}
 use Rattle.isdb_fec.specs.Values.{someBeyond, streamLimit}
 use Rattle.isdb_fec.specs.Rows.{freshRows}
 use Rattle.isdb_fec.specs.Calls.{pairSteps, call, Unchanged, Either}
+use Rattle.call_ranges.specs.Finished.{Finished}
 
 -- "Traceback 0 acts as 1"
 abbrev pub depth : ℕ → ℕ
@@ -40,19 +40,10 @@ abbrev pub betweenRows : ℕ → List Float → ℕ → ℕ → List Row
 betweenRows tb xs decisions out =
     freshRows tb ++ (Length, not (eqb (length xs % 2) 0)) ∷ (Sample, someBeyond streamLimit xs) ∷ (Space, ltb out (length xs / 2) || ltb decisions (block + depth tb)) ∷ []
 
--- what an accepted reading leaves: all bits, one for each pair, at the front of the output, and the held words zeroed
-pub record Finished (tb e : ℕ) (d : Decoder) (r : Released) (decisions₀ decisions out₀ out : List ℕ) : Type 0 where
-  pub values : r .dec .pm ≡ d .values
-  pub held-is : r .dec .held ≡ 0
-  pub traceback-is : r .dec .traceback ≡ depth tb
-  pub count-is : r .count ≡ length (flushAt e d .bits)
-  pub words : decisions ≡ laid (replicate (length (d .words)) 0) (decisionsAfter (depth tb) (d .words) (d .bits) decisions₀)
-  pub bits : out ≡ laid (flushAt e d .bits) out₀
-
--- accepted, that; refused, the fresh decoder and the lent memory are as they were
+-- accepted, all bits are put out, one for each pair; refused, the fresh decoder and the lent memory are as they were
 abbrev pub Left : ℕ → ℕ → ℕ → List Float → Released → List ℕ → List ℕ → List ℕ → List ℕ → Type 0
 Left tb s e xs r decisions₀ decisions out₀ out =
-    Either (r .answer) (Finished tb e (read tb s xs) r decisions₀ decisions out₀ out) (Unchanged (fresh tb s) r decisions₀ decisions out₀ out)
+    Either (r .answer) (Finished (depth tb) (flushAt e (read tb s xs) .bits) (read tb s xs) r decisions₀ decisions out₀ out) (Unchanged (fresh tb s) r decisions₀ decisions out₀ out)
 
 -- "For an unpunctured stretch of at most 4,096 inputs, with a fresh decoder at the true start, soft pairs of +1 for a 0 bit or -1 for a 1 bit and the true end given, at most four
 -- wrong coded bits leave the decoded inputs right": the inputs us lead from the start to the end, and the received pairs ps differ from their coded pairs in at most four bits. Such

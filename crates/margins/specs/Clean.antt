@@ -8,11 +8,12 @@ use lib.Dec.{T, eqb}
 use lib.Ieee.{Float, binary64, fits, neg, eq, le, ofBits}
 use lib.Ieee.Fits.{and-l, and-r, and-i}
 use lib.Ieee.Scale.{finite}
-use Rattle.ieee.specs.Conversion.{le-neg}
+use Rattle.ieee.specs.ConversionLaws.{le-neg}
 use Rattle.trellis.specs.Step.{term}
 use Rattle.isdbs_points.specs.Points.{zero64, one64, root64, psk8Of, turned}
 use Rattle.margin_ends.specs.Ends.{near0, low1, high1, lowRoot, highRoot}
-use Rattle.margins.specs.Margins.{keeps, between, limit, anyAccepted}
+use Rattle.isdbs_phy.specs.DecodeRows.{partLimit}
+use Rattle.margins.specs.Margins.{keeps, between, anyAccepted}
 use Rattle.margins.specs.Intervals.{Inside, inside-wide}
 
 -- "the parts being 0, ±1, ±s exactly", a 0 of either sign
@@ -96,11 +97,11 @@ keeps-inside y x t = between-inside (lowEnd y) (highEnd y) x (subst (λ (b : Boo
 abbrev Accepts : Float → Float → Type 0
 Accepts a b = (x : Float) → Inside a b x → T (anyAccepted x)
 
-accepts : (a b : Float) → T (finite a) → T (finite b) → T (le (neg limit) a) → T (le b limit) → Accepts a b
+accepts : (a b : Float) → T (finite a) → T (finite b) → T (le (neg partLimit) a) → T (le b partLimit) → Accepts a b
 unfolding neg ofBits
 accepts a b p q h k x i =
-    let j = inside-wide a b (neg limit) limit x p q tt tt h k i in
-    and-i (le (neg limit) x) (le x limit) (j .from) (j .to)
+    let j = inside-wide a b (neg partLimit) partLimit x p q tt tt h k i in
+    and-i (le (neg partLimit) x) (le x partLimit) (j .from) (j .to)
 
 pub keeps-accepted : (y x : Float) → T (keeps y x) → T (anyAccepted x)
 unfolding le neg ofBits

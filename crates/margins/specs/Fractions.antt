@@ -14,7 +14,8 @@ use lib.Ieee.{Float, nan, inf, fin, Format, up, down, round, mul, le}
 use lib.Ieee.Fits.{down-pos, and-l, and-r, and-i, eq→eqb}
 use lib.Ieee.Scale.{finite}
 use Rattle.ieee.specs.Order.{or-l, or-r, or-split, sum-test}
-use Rattle.ieee.specs.Conversion.{rounded, rounded-mono}
+use Rattle.ieee.specs.Conversion.{rounded}
+use Rattle.ieee.specs.ConversionLaws.{rounded-mono}
 
 -- ---- a finite float is (above - below) / under, and above or below is 0
 abbrev pub above : Float → ℕ

@@ -15,7 +15,8 @@ use Rattle.ieee.specs.Order.{le→value, value→le, num-between}
 use Rattle.ieee.specs.Rounding.{prec-pos, Fine, rounds-mono}
 use Rattle.ieee.specs.Sums.{add-rounds, add-fine}
 use Rattle.ieee.specs.Constants.{mul-neg}
-use Rattle.ieee.specs.Conversion.{rounded, rounded-mono, le-neg}
+use Rattle.ieee.specs.Conversion.{rounded}
+use Rattle.ieee.specs.ConversionLaws.{rounded-mono, le-neg}
 use Rattle.isdbs_soft.specs.Soft.{softOf}
 use Rattle.margins.specs.Fractions.{finite-between, le-through, mul-keeps}
 

@@ -21,10 +21,6 @@ use Rattle.margin_ends.specs.Ends.{near0, low1, high1, lowRoot, highRoot}
 abbrev pub between : Float → Float → Float → Bool
 between a b x = le a x && le x b
 
--- row 7's limit of a part, 65,536
-abbrev pub limit : Float
-limit = partLimit
-
 -- "clean 0 within 1/32; clean 1 from 31/32 to 33/32; clean 1/√2 from 87/128 to 94/128; negatives mirrored", "-0.0 being a clean 0". A part of an encoded frame is
 -- 0, ±1 or ±s (`point-clean`, crate exact_frame), so that any other clean value than those tested for is -s: it has the last margin.
 unfoldable pub keeps : Float → Float → Bool
@@ -36,7 +32,7 @@ keeps clean x =
 
 -- any accepted value: finite and within 65,536
 abbrev pub anyAccepted : Float → Bool
-anyAccepted x = between (neg limit) limit x
+anyAccepted x = between (neg partLimit) partLimit x
 
 -- "A BPSK imaginary part and a point outside every run may hold any accepted value"
 abbrev pub isBpsk : Modulation → Bool

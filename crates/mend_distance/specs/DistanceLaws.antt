@@ -9,7 +9,7 @@ use borrow.Author.Tests.{ltb-true, ltb-false, eqb-true}
 use lib.Dec.{T, eqb, eqb-refl}
 use lib.ListN.{length, getD, List·getD-eq-default}
 use Rattle.trellis.specs.Code.{isdb, label, moved, stateAt}
-use Rattle.trellis.specs.Encoded.{reached-is}
+use Rattle.trellis.specs.EncodedLaws.{reached-is}
 use Rattle.trellis.specs.Lists.{bit}
 use Rattle.trellis.specs.ListLaws.{length-upto, getD-upto}
 use Rattle.trellis.specs.Stretch.{apart, Bits}

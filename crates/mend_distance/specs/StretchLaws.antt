@@ -8,7 +8,8 @@ use native.Mathlib.Omega.{arith}
 use lib.Dec.{T, eqb, eqb-refl}
 use lib.ListN.{length, getD, take, drop}
 use Rattle.trellis.specs.Code.{isdb, output, label, moved}
-use Rattle.trellis.specs.Encoded.{encoded, length-encoded, encoded-at}
+use Rattle.trellis.specs.Encoded.{encoded}
+use Rattle.trellis.specs.EncodedLaws.{length-encoded, encoded-at}
 use Rattle.trellis.specs.RunLaws.{label-under}
 use Rattle.trellis.specs.Stretch.{apart, differing, Bits}
 use Rattle.trellis.specs.Distance.{same-or-ten, wrong, first-out, by-place, wrong-same, triangle, labelsOf}

@@ -16,8 +16,9 @@ use Rattle.isdbs_runs.specs.RunsOf.{frameSteps}
 use Rattle.isdbs_points.specs.Layout.{Segment, orderOf, stepsPerPeriod, among, atStep, segments, loadBit}
 use Rattle.isdbs_points.specs.Frame.{inputIn, inputs, labelAt, codedBit, sentBit, endState}
 use Rattle.isdbs_points.specs.Points.{subset}
-use Rattle.overlay.specs.Overlaid.{overlaid, overlaid-at}
-use Rattle.overlay.specs.Coding.{pair-under}
+use Rattle.overlay.specs.Overlaid.{overlaid}
+use Rattle.overlay.specs.OverlaidLaws.{overlaid-at}
+use Rattle.overlay.specs.CodingLaws.{pair-under}
 use Rattle.overlay.specs.Places.{Sums, state-xor, pair-xor}
 
 -- ---- one coded bit

@@ -17,8 +17,10 @@ use Rattle.isdbs_points.specs.Layout.{sentOrder, orderOf, stepsPerPeriod}
 use Rattle.isdbs_points.specs.Frame.{labelAt, codedBit, sentBit}
 use Rattle.isdbs_points.specs.Pieces.{piece}
 use Rattle.short_fec.specs.Calls.{lowBits}
-use Rattle.overlay.specs.Overlaid.{overlaid, chosen, length-overlaid}
-use Rattle.overlay.specs.Coding.{outputsOf, overlays-chosen}
+use Rattle.overlay.specs.Overlaid.{overlaid, chosen}
+use Rattle.overlay.specs.OverlaidLaws.{length-overlaid}
+use Rattle.overlay.specs.Coding.{outputsOf}
+use Rattle.overlay.specs.CodingLaws.{overlays-chosen}
 use Rattle.overlay.specs.Kept.{kept-is}
 
 -- ---- definitions

@@ -10,15 +10,17 @@ use lib.Dec.{eqb}
 use lib.ListN.{length, getD, length-map}
 use Rattle.trellis.specs.Lists.{upto}
 use Rattle.trellis.specs.Code.{isdb, output, label, stateAt}
-use Rattle.trellis.specs.Encoded.{reached-is}
+use Rattle.trellis.specs.EncodedLaws.{reached-is}
 use Rattle.isdbs_points.specs.Frame.{labelAt, codedBit}
 use Rattle.isdbt_table.specs.declared.CodeRate.{CodeRate}
 use Rattle.isdbt_table.specs.declared.CodeRate.the-variants.{R1_2, R2_3, R3_4, R5_6, R7_8}
 use Rattle.isdbt_table.specs.Table.{order, period, sent}
 use Rattle.isdbt_table.specs.Puncture.{inputs, mother, place, punctured}
 use Rattle.isdbt_table.specs.Sizes.{order-below}
-use Rattle.overlay.specs.Overlaid.{overlaid, chosen, length-overlaid}
-use Rattle.overlay.specs.Coding.{outputsOf, lastState, overlays, overlays-chosen}
+use Rattle.overlay.specs.Overlaid.{overlaid, chosen}
+use Rattle.overlay.specs.OverlaidLaws.{length-overlaid}
+use Rattle.overlay.specs.Coding.{outputsOf, lastState}
+use Rattle.overlay.specs.CodingLaws.{overlays, overlays-chosen}
 use Rattle.overlay.specs.Kept.{kept-is}
 
 -- mother bit k is X or Y of step k / 2

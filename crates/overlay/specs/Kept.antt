@@ -8,7 +8,8 @@ use lib.Dec.{eqb}
 use lib.ListN.{length, getD, length-map}
 use Rattle.trellis.specs.Lists.{upto}
 use Rattle.trellis.specs.Code.{isdb}
-use Rattle.trellis.specs.Encoded.{encoded, encoded-at}
+use Rattle.trellis.specs.Encoded.{encoded}
+use Rattle.trellis.specs.EncodedLaws.{encoded-at}
 use Rattle.isdbs_points.specs.Frame.{labelAt, codedBit}
 use Rattle.isdbs_points.specs.LawsUpto.{upto-cong}
 use Rattle.short_fec.specs.Calls.{lowBits, parts}

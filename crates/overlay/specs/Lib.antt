@@ -1,5 +1,7 @@
 pub mod Overlaid
+pub mod OverlaidLaws
 pub mod Coding
+pub mod CodingLaws
 pub mod Kept
 pub mod IsdbT
 pub mod IsdbS

@@ -19,8 +19,10 @@ use Rattle.short_code.specs.Codes.{codeOf, goodCode, statesOf}
 use Rattle.short_fec.specs.Rows.{encodeRows}
 use Rattle.short_fec.specs.Calls.{lowBits, codedBits}
 use Rattle.short_encode.specs.declared.Encoded.{Encoded}
-use Rattle.overlay.specs.Overlaid.{overlaid, length-overlaid}
-use Rattle.overlay.specs.Coding.{outputsOf, lastState, length-outputs, state-sum, code-overlays}
+use Rattle.overlay.specs.Overlaid.{overlaid}
+use Rattle.overlay.specs.OverlaidLaws.{length-overlaid}
+use Rattle.overlay.specs.Coding.{outputsOf, lastState}
+use Rattle.overlay.specs.CodingLaws.{length-outputs, state-sum, code-overlays}
 use Rattle.overlay_encode.specs.declared.Encodings.{Encodings}
 use Rattle.overlay_encode.specs.Rows.{shortOutputs, overlayRows}
 use Rattle.overlay_encode.specs.Calls.{Lent, lent, Three, Encodes, Overlays}

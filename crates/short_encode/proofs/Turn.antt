@@ -11,7 +11,8 @@ use lib.ListN.{length, getD, take, set}
 use lib.Seq.{take-all}
 use Rattle.trellis.specs.Lists.{laid}
 use Rattle.trellis.specs.Code.{output, moved, stateAt}
-use Rattle.trellis.specs.Encoded.{reached, reached-is}
+use Rattle.trellis.specs.Encoded.{reached}
+use Rattle.trellis.specs.EncodedLaws.{reached-is}
 use Rattle.viterbi.specs.Laid.{laid-next}
 use Rattle.short_code.specs.declared.Code.{Code}
 use Rattle.short_code.specs.Codes.{codeOf, halfOf}

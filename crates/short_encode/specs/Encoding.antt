@@ -7,7 +7,8 @@ use native.Mathlib.Nat.{not-suc-le-zero}
 use lib.ListN.{length, getD, length-map}
 use Rattle.trellis.specs.Code as trellis
 use Rattle.trellis.specs.Code.{output, stateAt}
-use Rattle.trellis.specs.Encoded.{encoded, length-encoded, encoded-at}
+use Rattle.trellis.specs.Encoded.{encoded}
+use Rattle.trellis.specs.EncodedLaws.{length-encoded, encoded-at}
 use Rattle.short_code.specs.declared.Code.{Code}
 use Rattle.short_code.specs.Codes.{codeOf, halfOf}
 use Rattle.short_fec.specs.Calls.{lowBits, parts, codedBits}

@@ -15,7 +15,8 @@ use Rattle.refusal.specs.RowLaws.{decided}
 use Rattle.trellis.specs.Lists.{upto, laid}
 use Rattle.trellis.specs.ListLaws.{length-upto, getD-upto}
 use Rattle.trellis.specs.Code.{isdb, output, stateAt}
-use Rattle.trellis.specs.Encoded.{reached, reached-is}
+use Rattle.trellis.specs.Encoded.{reached}
+use Rattle.trellis.specs.EncodedLaws.{reached-is}
 use Rattle.isdbt_table.specs.declared.CodeRate.the-variants.{R1_2}
 use Rattle.isdbt_fec.specs.declared.conv.Encoded as isdbt
 use Rattle.isdbt_table.specs.Puncture.{inputs, mother, place, punctured}
@@ -26,7 +27,7 @@ use Rattle.short_fec.specs.Rows as short-rows
 use Rattle.short_fec.specs.Calls.{lowBits, codedBits}
 use Rattle.short_encode.specs.declared.Encoded as short
 use Rattle.short_encode.specs.Encoding.{low-at, length-low, length-coded, coded-x, coded-y}
-use Rattle.short_same.specs.Same.{isdbCode}
+use Rattle.short_same.specs.IsdbCode.{isdbCode}
 
 -- ---- the rows: every count is whole periods of one input, and two bits are sent for each
 pub encode-rows : (s n out : ℕ) → firstRow (short-rows.encodeRows isdbCode s n out) ≡ firstRow (isdbt-rows.encodeRows R1_2 s n out)

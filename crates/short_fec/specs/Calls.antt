@@ -1,18 +1,18 @@
 -- What each call leaves: the decoder of crate trellis at a code's half, labels and ISDB's rule for equals, on the path values of the code's states. "Path
 -- values past the last state are 0 in a fresh state, unread and kept". Assumes nothing.
-use mathlib.Core.Path.{_≡_}
 use mathlib.Core.List.{List, [], _∷_, map}
 use Prim.Native.Nat.{ℕ, _+_, _-_, _*_, _/_, _%_}
-use lib.ListN.{length, take, drop, replicate}
+use lib.ListN.{take, replicate}
 use lib.Ieee.{Float, binary32, ofBits}
 use Rattle.trellis.specs.Lists.{laid}
 use Rattle.trellis.specs.Step.{Step, traced, best}
 use Rattle.trellis.specs.Encoded.{encoded}
-use Rattle.trellis.specs.Run.{Decoder, after, pushed, decisionsAfter, startAt, startUnknown}
+use Rattle.trellis.specs.Run.{Decoder, after, pushed, startAt, startUnknown}
 use Rattle.trellis.specs.Isdb.{rule}
 use Rattle.viterbi.specs.Calls.{holding}
 use Rattle.isdb_fec.specs.declared.conv.ViterbiDecoder.{ViterbiDecoder}
 use Rattle.isdb_fec.specs.declared.conv.Released.{Released}
+use Rattle.isdb_fec.specs.Calls as isdb
 use Rattle.short_code.specs.declared.Code.{Code}
 use Rattle.short_code.specs.Codes.{codeOf, labels, halfOf, statesOf}
 
@@ -51,23 +51,17 @@ steps c = after (halfOf c) (labels c) rule
 abbrev pub call : Code → ℕ → (ℕ → Step) → Decoder → ℕ → Decoder
 call c = pushed (halfOf c) (labels c) rule
 
+-- the decoder d with its path values over the first of pm
+abbrev pub over : List Float → Decoder → Decoder
+over pm d = record { values = laid (d .values) pm; words = d .words; bits = d .bits }
+
 -- what an accepted call of the decoder v leaves, whole
-pub record Leaves (v : ViterbiDecoder) (d : Decoder) (r : Released) (decisions₀ decisions out₀ out : List ℕ) : Type 0 where
-  pub values : r .dec .pm ≡ laid (d .values) (v .pm)
-  pub held-is : r .dec .held ≡ length (d .words)
-  pub traceback-is : r .dec .traceback ≡ v .traceback
-  pub count-is : r .count ≡ length (d .bits)
-  pub words : decisions ≡ decisionsAfter (v .traceback) (d .words) (d .bits) decisions₀
-  pub bits : out ≡ laid (d .bits) out₀
+abbrev pub Leaves : ViterbiDecoder → Decoder → Released → List ℕ → List ℕ → List ℕ → List ℕ → Type 0
+Leaves v d = isdb.Leaves (v .traceback) (over (v .pm) d)
 
 -- a flush that traces from the state s: "Flush emits all held bits and zeroes their words; path values stay"
-pub record Flushes (c : Code) (v : ViterbiDecoder) (s : ℕ) (r : Released) (decisions₀ decisions out₀ out : List ℕ) : Type 0 where
-  pub values : r .dec .pm ≡ v .pm
-  pub held-is : r .dec .held ≡ 0
-  pub traceback-is : r .dec .traceback ≡ v .traceback
-  pub count-is : r .count ≡ v .held
-  pub words : decisions ≡ laid (replicate (v .held) 0) decisions₀
-  pub bits : out ≡ laid (traced (halfOf c) (take (v .held) decisions₀) s) out₀
+abbrev pub Flushes : Code → ViterbiDecoder → ℕ → Released → List ℕ → List ℕ → List ℕ → List ℕ → Type 0
+Flushes c v s r decisions₀ = isdb.Emits (traced (halfOf c) (take (v .held) decisions₀) s) v r decisions₀
 
 -- the best state, and a known end: "known end states are taken mod 2^(length-1)"
 abbrev pub bestOf : Code → ViterbiDecoder → ℕ

@@ -1,1 +1,2 @@
+pub mod IsdbCode
 pub mod Same

@@ -34,9 +34,7 @@ use Rattle.trellis.specs.Code.{output, moved}
 use Rattle.short_code.specs.Codes.{codeOf, halfOf}
 use Rattle.short_fec.specs.Rows as short
 use Rattle.short_fec.specs.Calls as short-calls
-
-abbrev pub isdbCode : Code
-isdbCode = record { constraint = 7; g1 = 0o171; g2 = 0o133 }
+use Rattle.short_same.specs.IsdbCode.{isdbCode}
 
 -- ---- the rows
 module _ (v : ViterbiDecoder) (long : length (v .pm) ≡ 64) where

@@ -1,6 +1,6 @@
 // Length 7 with 171 and 133 octal agrees with the decoder of ISDB: see specs/.
 ghost use mathlib.Core.Path.{_≡_};
-ghost use Rattle.short_same.specs.Same.{isdbCode};
+ghost use Rattle.short_same.specs.IsdbCode.{isdbCode};
 use short_fec::Code;
 
 // The code of ISDB as parameters.

@@ -9,8 +9,8 @@ use Rattle.isdbs_runs.specs.declared.Run.{Run}
 use Rattle.isdbs_tables.specs.declared.Table.{Table}
 use Rattle.isdbs_combination.specs.Combinations.{unitOf, slotSteps}
 use Rattle.isdbs_runs.specs.RunsOf.{runsOf, validIn, validTotal, stepsOf, stepsIn, frameSteps}
-use Rattle.isdbs_points.specs.Layout.{Segment, segmentOf, segmentsFrom, segments, among}
-use Rattle.isdbs_points.specs.Places.{In, Fill, Found, among-at, find}
+use Rattle.isdbs_points.specs.Layout.{Segment, segmentOf, segmentsFrom, segments, among, In}
+use Rattle.isdbs_points.specs.Places.{Fill, Found, among-at, find}
 use Rattle.isdbs_tables.specs.Tables.{TableAccepted}
 use Rattle.isdbs_points.specs.Sizes.{table-whole, step-fits}
 use Rattle.strain.specs.Counts.{summed}

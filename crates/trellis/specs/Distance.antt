@@ -12,7 +12,8 @@ use lib.Ieee.Fits.{and-l, and-r}
 use lib.ListN.{length, getD}
 use Rattle.trellis.specs.Code.{isdb, tapped, output, label, moved, stateAt}
 use Rattle.trellis.specs.Isdb
-use Rattle.trellis.specs.Encoded.{encoded, reached, length-encoded, encoded-at}
+use Rattle.trellis.specs.Encoded.{encoded, reached}
+use Rattle.trellis.specs.EncodedLaws.{length-encoded, encoded-at}
 use Rattle.trellis.specs.ListLaws.{every, every-at}
 use Rattle.trellis.specs.Linear.{output-xor, moved-xor}
 use Rattle.trellis.specs.Stretch.{apart, differing, Bits, Coded}

@@ -6,6 +6,7 @@ pub mod Run
 pub mod Taps
 pub mod Parity
 pub mod Encoded
+pub mod EncodedLaws
 pub mod RunLaws
 pub mod Isdb
 pub mod Stretch

@@ -25,9 +25,8 @@ use Rattle.isdbs_runs.specs.RunsOf.{frameSteps}
 use Rattle.isdbs_points.specs.declared.Cplx.{Cplx}
 use Rattle.isdbs_points.specs.declared.Mapping.{Mapping}
 use Rattle.isdbs_points.specs.Points.{point, unused, subset, turned}
-use Rattle.isdbs_points.specs.Layout.{Segment, segments, orderOf, stepsPerPeriod, placeIn, atStep, loadBit}
+use Rattle.isdbs_points.specs.Layout.{Segment, segments, orderOf, stepsPerPeriod, placeIn, atStep, loadBit, In}
 use Rattle.isdbs_points.specs.Frame.{inputs, labelAt, codedBit, sentBit, pointBy, pointIn, pointAt, startState}
-use Rattle.isdbs_points.specs.Places.{In}
 use Rattle.isdbs_points.specs.Sizes.{table-whole, symbol-fits, at-symbol, at-step, find-step}
 use Rattle.isdbs_points.specs.Order.{Sends, Pairs, Kind, one, two, three, kind, Kept, mother, number, sent-at}
 use Rattle.isdbs_points.specs.LawsBits.{load-bit-small, coded-small, subset-small, subset-back, of-pair}

@@ -20,9 +20,9 @@ use Rattle.isdbs_runs.specs.PlanLaws.{table-laid}
 use Rattle.isdbs_runs.specs.RunsOf.{loadBytes}
 use Rattle.isdbs_points.specs.declared.Cplx.{Cplx}
 use Rattle.isdbs_points.specs.declared.Mapping.{Mapping}
-use Rattle.isdbs_points.specs.Layout.{Segment, segments, among, loadBit, FullLoad}
+use Rattle.isdbs_points.specs.Layout.{Segment, segments, among, loadBit, FullLoad, In}
 use Rattle.isdbs_points.specs.Frame.{coded, codedBit, inputIn, pointAt, startState}
-use Rattle.isdbs_points.specs.Places.{In, among-all}
+use Rattle.isdbs_points.specs.Places.{among-all}
 use Rattle.isdbs_points.specs.Sizes.{table-whole, step-fits, at-bit, find-bit}
 use Rattle.isdbs_points.specs.Order.{Pairs, Kind, one, two, three, kind}
 use Rattle.isdbs_points.specs.LawsBits.{of-pair, bytes-are, bytes-full}

@@ -2,7 +2,7 @@
 use borrow.Author.Needs.{needs}
 use denote.Ref.{now}
 use lib.Ieee.{ofBits}
-use Rattle.exact_frame.specs.Call.{read-back}
+use Rattle.exact_frame.specs.CallLaws.{read-back}
 use Rattle.exact_frame.proofs.read_frame.Statement.{statement}
 use Rattle.exact_frame.proofs.read_frame.Tie as tie
 
