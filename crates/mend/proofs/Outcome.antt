@@ -70,6 +70,7 @@ module _ (s e : ℕ) (bits decisions₀ out₀ list₀ : List ℕ) where
   pub turned-back : (a : Answer) → a ≡ firstRow above → (a ≡ Accepted → ⊥) → Called s e bits (record { answer = a; count = 0 }) decisions₀ decisions₀ out₀ out₀ list₀ list₀
   turned-back a q n =
       record {
+        far = unmendable (s % 64) (e % 64) bits;
         answers = refused-by above last a q n;
         leaves = refused a n (kept a);
         none = λ z. absurd (not-last (not (eqb (length bits % 2) 0) || ltb mostBits (length bits) || someNoBit bits) (ltb (length out₀) (length bits) || ltb (length list₀) places || ltb (length decisions₀) words) (sym q ∙ z));
@@ -80,6 +81,7 @@ module _ (s e : ℕ) (bits decisions₀ out₀ list₀ : List ℕ) where
   unmended q h =
       let t : unmendable (s % 64) (e % 64) bits ≡ true = lt-ltb mostChanged (least (s % 64) (e % 64) bits) h in
       record {
+        far = unmendable (s % 64) (e % 64) bits;
         answers = passed-by above last {a = Unmendable} tt (sym q) (rw t refl);
         leaves = refused Unmendable (numbered Unmendable (omega arith)) (kept Unmendable);
         none = λ z. none-within (s % 64) (e % 64) bits (omega arith) (allowed bits (length decisions₀) (length out₀) (length list₀) q .are-bits) t;
@@ -91,6 +93,7 @@ module _ (s e : ℕ) (bits decisions₀ out₀ list₀ : List ℕ) where
   mended r decisions out list q h ok m =
       let t : unmendable (s % 64) (e % 64) bits ≡ false = le-ltb mostChanged (least (s % 64) (e % 64) bits) h in
       record {
+        far = unmendable (s % 64) (e % 64) bits;
         answers = ok ∙ passed-by above last {a = Accepted} tt (sym q) (rw t refl);
         leaves = ((λ z. m), (λ n. absurd (n ok)));
         none = λ z. absurd (numbered Unmendable (omega arith) (sym z ∙ ok));

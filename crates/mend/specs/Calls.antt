@@ -1,5 +1,6 @@
 -- What `mend` answers and leaves. Request P13, "Mending stored coded stretches". Assumes nothing.
 use mathlib.Core.Path.{_≡_}
+use mathlib.Core.Bool.{Bool}
 use mathlib.Core.List.{List}
 use Prim.Native.Nat.{ℕ, _%_}
 use lib.ListN.{length, replicate}
@@ -27,8 +28,10 @@ pub record Unchanged (r : Mended) (decisions₀ decisions out₀ out list₀ lis
   pub out-is : out ≡ out₀
   pub list-is : list ≡ list₀
 
--- a call: its answer, what it leaves, and "15 if .. no coded stretch between those states lies within four bits"
+-- A call: its answer, what it leaves, and "15 if and only if no coded stretch between those states lies within four bits". `far` is row 15's condition. Where no row above it holds, the
+-- answer is 15 or accepted by it; then `none` says that there is no such stretch, and `leaves` names one.
 pub record Called (s e : ℕ) (bits : List ℕ) (r : Mended) (decisions₀ decisions out₀ out list₀ list : List ℕ) : Type 0 where
-  pub answers : r .answer ≡ firstRow (mendRows s e bits (length decisions₀) (length out₀) (length list₀))
+  pub far : Bool
+  pub answers : r .answer ≡ firstRow (mendRows bits (length decisions₀) (length out₀) (length list₀) far)
   pub leaves : Either (r .answer) (Mends s e bits r decisions₀ decisions out₀ out list₀ list) (Unchanged r decisions₀ decisions out₀ out list₀ list)
   pub none : r .answer ≡ Unmendable → (us : List ℕ) → Within (s % 64) (e % 64) bits us → ⊥

@@ -20,8 +20,6 @@ use Rattle.trellis.specs.Lists.{laid}
 use Rattle.viterbi.specs.Laid.{take-laid}
 use Rattle.mend_distance.specs.Stretches.{mostChanged, sentFrom, unlike, changed, Within}
 use Rattle.mend_distance.specs.StretchLaws.{unique, unlike-self, length-changed, length-sent, bits-sent}
-use Rattle.mend_distance.specs.Distances.{unmendable}
-use Rattle.mend_distance.specs.DistanceLaws.{none-within}
 use Rattle.mend.specs.declared.Mended.{Mended}
 use Rattle.mend.specs.Rows.{places, words, mostBits, lentRows}
 use Rattle.mend.specs.Allowed.{allowed, no-other}
@@ -46,7 +44,7 @@ module _ (s e : ℕ) (bits : List ℕ) (r : Mended) (decisions₀ decisions out�
   bits-of : r .answer ≡ Accepted → Bits bits
   bits-of ok =
       allowed bits (length decisions₀) (length out₀) (length list₀)
-      (both-passed (lentRows bits (length decisions₀) (length out₀) (length list₀)) ((Unmendable, unmendable (s % 64) (e % 64) bits) ∷ []) tt (sym (call .answers) ∙ ok) .0) .are-bits
+      (both-passed (lentRows bits (length decisions₀) (length out₀) (length list₀)) ((Unmendable, call .far) ∷ []) tt (sym (call .answers) ∙ ok) .0) .are-bits
 
   -- "No other within four exists, by P6": whatever coded stretch between the states lies within four is the one put out
   pub only : r .answer ≡ Accepted → (us : List ℕ) → Within (s % 64) (e % 64) bits us → take (length bits) out ≡ sentFrom (s % 64) us
@@ -58,8 +56,8 @@ module _ (s e : ℕ) (bits : List ℕ) (r : Mended) (decisions₀ decisions out�
       ap (λ (k : ℕ). take k out) (sym l) ∙ ap (take (length sent)) (m .out-is) ∙ take-laid sent out₀ ∙ ap (sentFrom (s % 64)) same
 
   -- where rows 5 and 9 do not hold, row 15 decides
-  last-row : firstRow (lentRows bits (length decisions₀) (length out₀) (length list₀)) ≡ Accepted → r .answer ≡ cond (unmendable (s % 64) (e % 64) bits) Unmendable Accepted
-  last-row ok = call .answers ∙ passed-above (lentRows bits (length decisions₀) (length out₀) (length list₀)) ((Unmendable, unmendable (s % 64) (e % 64) bits) ∷ []) tt ok
+  last-row : firstRow (lentRows bits (length decisions₀) (length out₀) (length list₀)) ≡ Accepted → r .answer ≡ cond (call .far) Unmendable Accepted
+  last-row ok = call .answers ∙ passed-above (lentRows bits (length decisions₀) (length out₀) (length list₀)) ((Unmendable, call .far) ∷ []) tt ok
 
   -- "15 if and only if no coded stretch between those states lies within four bits, checked last": where rows 5 and 9 do not hold and there is none, the answer is 15. That there is
   -- none where the answer is 15 is `none` of the call
@@ -68,7 +66,7 @@ module _ (s e : ℕ) (bits : List ℕ) (r : Mended) (decisions₀ decisions out�
       ⊎-elim
       (λ yes. let m = call .leaves .0 (last-row ok ∙ yes) in absurd (free (m .inputs) (m .within)))
       (λ h. last-row ok ∙ h)
-      (decided (unmendable (s % 64) (e % 64) bits) Unmendable)
+      (decided (call .far) Unmendable)
 
   -- "A good stretch comes back as it went in, with an empty list": such a stretch is refused by 9 alone
   module _ (us : List ℕ) (few : length us ≤ 4096) (inputs : Bits us) (ends : reached isdb (s % 64) us ≡ e % 64) (coded : bits ≡ sentFrom (s % 64) us) where
@@ -86,16 +84,22 @@ module _ (s e : ℕ) (bits : List ℕ) (r : Mended) (decisions₀ decisions out�
         let z = unlike-self bits in
         record { count = long; inputs = inputs; ends = ends; four = subst (λ (l : List ℕ). unlike l bits ≤ mostChanged) coded (omega arith) }
 
-    mendable : (b : Bool) → unmendable (s % 64) (e % 64) bits ≡ b → b ≡ false
-    mendable true h = absurd (none-within (s % 64) (e % 64) bits start-below are-bits h us itself)
-    mendable false h = refl
-
     pub good-answer : r .answer ≡ firstRow ((Space, Short) ∷ [])
-    good-answer =
-        let n = long in
-        let even : length bits % 2 ≡ 0 = omega arith in
-        let most : length bits ≤ mostBits = omega arith in
-        call .answers ∙ rw (eq-eqb (length bits % 2) 0 even, le-ltb mostBits (length bits) most, no-other bits are-bits, mendable (unmendable (s % 64) (e % 64) bits) refl) refl
+    good-answer = go Short refl (call .far) refl
+      where
+        even : length bits % 2 ≡ 0
+        even = let n = long in omega arith
+
+        most : length bits ≤ mostBits
+        most = let n = long in omega arith
+
+        below : (x b : Bool) → Short ≡ x → call .far ≡ b → r .answer ≡ cond x Space (cond b Unmendable Accepted)
+        below x b p q = call .answers ∙ rw (eq-eqb (length bits % 2) 0 even, le-ltb mostBits (length bits) most, no-other bits are-bits, p, q) refl
+
+        go : (x : Bool) → Short ≡ x → (b : Bool) → call .far ≡ b → r .answer ≡ firstRow ((Space, Short) ∷ [])
+        go true p b q = below true b p q ∙ rw p refl
+        go false p true q = absurd (call .none (below false true p q) us itself)
+        go false p false q = below false false p q ∙ rw p refl
 
     pub good-stretch : r .answer ≡ Accepted → (out ≡ laid bits out₀) × (r .count ≡ 0) × (list ≡ list₀)
     good-stretch ok =

@@ -6,7 +6,6 @@ use lib.Dec.{eqb, ltb}
 use lib.ListN.{length}
 use Rattle.refusal.specs.Rows.{Row}
 use Rattle.refusal.specs.declared.Answer.the-variants.{Length, Space, Unmendable}
-use Rattle.mend_distance.specs.Distances.{unmendable}
 
 -- "A bit byte above 1"
 unfoldable pub someNoBit : List ℕ → Bool
@@ -32,6 +31,6 @@ lentRows bits decisions out list =
     ∷ (Space, ltb out (length bits) || ltb list places || ltb decisions words)
     ∷ []
 
--- 15 is "checked last"; "states are taken mod 64"
-abbrev pub mendRows : ℕ → ℕ → List ℕ → ℕ → ℕ → ℕ → List Row
-mendRows s e bits decisions out list = lentRows bits decisions out list ++ (Unmendable, unmendable (s % 64) (e % 64) bits) ∷ []
+-- all rows, over whether no coded stretch lies within four bits: 15 is "checked last"
+abbrev pub mendRows : List ℕ → ℕ → ℕ → ℕ → Bool → List Row
+mendRows bits decisions out list none = lentRows bits decisions out list ++ (Unmendable, none) ∷ []

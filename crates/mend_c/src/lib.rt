@@ -1,10 +1,7 @@
 // The call for C that mends a stored coded stretch. It answers document 01's number, 0 for accepted; refused, it leaves every lent number and slice as it was. include/isdb.h
 // declares it.
-ghost use mathlib.Core.Path.{_≡_};
 ghost use lib.ListN.{length};
-ghost use Rattle.answers_c.specs.Answers.{answered};
-ghost use Rattle.mend.specs.Rows.{mendRows};
-ghost use Rattle.mend_c.specs.Calls.{Left};
+ghost use Rattle.mend_c.specs.Calls.{Answers, Left};
 
 // The coded stretch within four bits of `bits`, and the positions in which it differs.
 #[no_mangle]
@@ -17,7 +14,7 @@ pub extern "C" fn isdb_mend(
     places: &mut [u32],
     count: &mut u64,
 ) -> u32
-    ensures answers { λ r. ⌜ r ≡ answered (mendRows start end (now (bits .entry)) (length (now (decisions .entry))) (length (now (out .entry))) (length (now (places .entry)))) ⌝ }
+    ensures answers { λ r. ⌜ Answers (now (bits .entry)) (length (now (decisions .entry))) (length (now (out .entry))) (length (now (places .entry))) r ⌝ }
     ensures leaves { λ r. ⌜ Left start end (now (bits .entry)) r (now (count .entry)) (now (count .exit)) (now (decisions .entry)) (now (decisions .exit)) (now (out .entry)) (now (out .exit)) (now (places .entry)) (now (places .exit)) ⌝ }
 {
     let m = mend::mend(bits, start, end, decisions, out, places);

@@ -97,8 +97,9 @@ module _ (t : Table) (v : ViterbiDecoder) (c : Code) (w : WindowState) (parts : 
       ∷ judgeRows t i re im j
       -- strain_window
       ∷ window.pushRows w i bytes
-      -- mend
-      ∷ mendRows i j bytes k l i
+      -- mend: a coded stretch lies within four bits, or none does
+      ∷ mendRows bytes i j k false
+      ∷ mendRows bytes i j k true
       -- isdb_c: the lists of its own
       ∷ placesRows t i j
       ∷ bitSymbolRows i j

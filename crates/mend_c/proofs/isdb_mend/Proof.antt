@@ -26,7 +26,7 @@ returns c =
     let a = c .before .before .before .before .before .before .before .before .before .before .before .before .before .before .before .before .args in
     let n = c .before .number in
     let m = c .before .before .before .before .before .before .before .before .mend in
-    (n .ensures ∙ ap numberOf (m .ensures .answers), left-refused (a .start) (a .end) (a .bits .now) (m .result) (a .decisions .now) _ (a .out .now) _ (a .places .now) _ (m .ensures) (n .result) (n .ensures) (a .count .now) (c .if1 .taken))
+    (record { far = m .ensures .far; answers = n .ensures ∙ ap numberOf (m .ensures .answers) }, left-refused (a .start) (a .end) (a .bits .now) (m .result) (a .decisions .now) _ (a .out .now) _ (a .places .now) _ (m .ensures) (n .result) (n .ensures) (a .count .now) (c .if1 .taken))
 
 same-length-4 : tie.Need-same-length-4
 same-length-4 c = search needs
@@ -42,7 +42,7 @@ returns-2 c =
     let a = c .before .before .before .before .before .before .before .before .before .before .before .before .before .before .before .before .args in
     let n = c .before .number in
     let m = c .before .before .before .before .before .before .before .before .mend in
-    (sym (c .if1 .left) ∙ n .ensures ∙ ap numberOf (m .ensures .answers), left-accepted (a .start) (a .end) (a .bits .now) (m .result) (a .decisions .now) _ (a .out .now) _ (a .places .now) _ (m .ensures) (n .result) (n .ensures) (a .count .now) (c .if1 .left))
+    (record { far = m .ensures .far; answers = sym (c .if1 .left) ∙ n .ensures ∙ ap numberOf (m .ensures .answers) }, left-accepted (a .start) (a .end) (a .bits .now) (m .result) (a .decisions .now) _ (a .out .now) _ (a .places .now) _ (m .ensures) (n .result) (n .ensures) (a .count .now) (c .if1 .left))
 
 pub isdb-mend-spec : {M : Type 1} → statement M
 isdb-mend-spec =
