@@ -1,49 +1,23 @@
--- A turn of a half step: the two paths are the candidates of its state, and the turn writes the state and its bit. Assumes nothing.
+-- A turn of a half step: it writes a state and its bit. Assumes nothing.
 use mathlib.Core.Path.{_≡_, refl, _∙_}
 use mathlib.Core.Logic.{_⊎_, inl, inr, ⊎-elim}
 use mathlib.Core.Bool.{cond}
 use mathlib.Core.List.{List}
-use Prim.Native.Nat.{ℕ, _+_, _-_, _*_, _/_, _%_, _^_, _<_}
+use Prim.Native.Nat.{ℕ, _+_, _-_, _*_, _%_, _^_, _<_}
 use native.Mathlib.Omega.{arith}
 use native.Mathlib.Nat.{zero-add}
 use lib.Bits.{bitOr}
-use lib.Dec.{eqb}
 use lib.ListN.{length, getD, set, length-set}
 use lib.Seq.{getD-set-same, getD-set-other}
-use lib.Ieee.{Float, nan, binary32, add, neg, lt, ofBits}
+use lib.Ieee.{Float, nan}
 use borrow.Author.Count.{below-none, below-more}
-use Rattle.trellis.specs.Code.{isdb, label}
 use Rattle.trellis.specs.Lists.{bit, packed}
 use Rattle.trellis.specs.Step as trellis
-use Rattle.trellis.specs.Step.{Step, pair, four}
+use Rattle.trellis.specs.Step.{Step}
 use Rattle.trellis.specs.Isdb.{rule, cand, wins, next, nexts, word}
 use Rattle.acs.specs.Written.{written-whole, lt-or-ge}
 use Rattle.acs.specs.Packed.{packed-more, packed-both}
 use Rattle.acs.specs.Half.{Half}
-
-abbrev zeroF : Float
-zeroF = ofBits binary32 0
-
--- the path from the state 2 j + b into the state 32 u + j
-module _ (pm : List Float) (u b j : ℕ) (h : j < 32) where
-  at-j : (32 * u + j) % 32 ≡ j
-  at-j = omega arith
-
-  at-u : (32 * u + j) / 32 ≡ u
-  at-u = omega arith
-
-  -- by the signs x and y of its branch
-  pub pair-cand : (x y : Float) → lt x zeroF ≡ eqb (label isdb u (2 * j + b) / 2) 1 → lt y zeroF ≡ eqb (label isdb u (2 * j + b) % 2) 1
-      → (lx ly p q : Float) → p ≡ cond (lt x zeroF) (neg lx) lx → q ≡ cond (lt y zeroF) (neg ly) ly
-      → add binary32 (add binary32 (getD pm (2 * j + b) nan) p) q ≡ cand pm (pair lx ly) (32 * u + j) b
-  unfolding trellis.cand trellis.branch
-  pair-cand x y is-x is-y lx ly p q is-p is-q = rw (is-p, is-q, at-j, at-u, is-x, is-y)
-
-  -- by the number n of its branch
-  pub four-cand : (m : List Float) (n : ℕ) (p : Float) → n ≡ label isdb u (2 * j + b) → p ≡ getD m n nan
-      → add binary32 (getD pm (2 * j + b) nan) p ≡ cand pm (four m) (32 * u + j) b
-  unfolding trellis.cand trellis.branch
-  four-cand m n p is-n is-p = rw (is-p, is-n, at-j, at-u)
 
 module _ (pm : List Float) (x : Step) where
   beats-wins : (k : ℕ) (e o : Float) (b : ℕ) → e ≡ cand pm x k 0 → o ≡ cand pm x k 1 → b ≡ bit (trellis.takes rule e o) → b ≡ bit (wins pm x k)

@@ -1,5 +1,3 @@
 pub mod Written
 pub mod Packed
-pub mod Signs
-pub mod Branches
 pub mod Half

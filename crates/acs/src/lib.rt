@@ -1,25 +1,23 @@
 // Add-compare-select: one step of the Viterbi decoder over its 64 path values, and what is done with them between steps.
 ghost use mathlib.Core.Path.{_≡_};
-ghost use mathlib.Core.Bool.{cond};
-ghost use Prim.Native.Nat.{_+_, _*_, _%_, _<_};
-ghost use lib.ListN.{length, getD};
-ghost use lib.Ieee.{lt, neg, nan, binary32, ofBits};
-ghost use Rattle.trellis.specs.Code.{isdb, label};
-ghost use Rattle.trellis.specs.Lists.{bit};
-ghost use Rattle.trellis.specs.Step.{takes, pair, four, renormalised, ruled, top};
-ghost use Rattle.trellis.specs.Isdb.{rule, cand, nexts, word, bestState};
-ghost use Rattle.acs.specs.Signs.{XSigns, YSigns};
-ghost use Rattle.acs.specs.Branches.{BranchNumbers};
+ghost use Prim.Native.Nat.{_+_, _*_, _<_};
+ghost use lib.ListN.{length};
+ghost use Rattle.trellis.specs.Step.{pair, four, renormalised, ruled, top};
+ghost use Rattle.trellis.specs.Isdb.{nexts, word, bestState};
+ghost use Rattle.acs_paths.specs.Signs.{XSigns, YSigns};
+ghost use Rattle.acs_paths.specs.Branches.{BranchNumbers};
 ghost use Rattle.acs.specs.Half.{Half};
-
-mod branches;
-mod signs;
-
-use branches::BRANCH;
-use branches::Numbers;
-use signs::SX;
-use signs::SY;
-use signs::Table;
+use acs_paths::BRANCH;
+use acs_paths::Numbers;
+use acs_paths::SX;
+use acs_paths::SY;
+use acs_paths::Table;
+pub use acs_paths::branch_number;
+use acs_paths::four_path;
+use acs_paths::pair_path;
+use path_choice::beats;
+use path_choice::greater;
+use path_choice::larger;
 
 const STATES: usize = 64;
 
@@ -33,34 +31,6 @@ fn states(pm: &[f32; 64]) -> usize
     values.len()
 }
 
-// The term of a soft value x on a branch whose sign is s.
-fn term(s: f32, x: f32) -> f32
-    ensures { λ r. ⌜ r ≡ cond (lt s (ofBits binary32 0)) (neg x) x ⌝ }
-{
-    if s < 0.0 { -x } else { x }
-}
-
-// The greater of two paths; of equals the odd one.
-fn larger(even: f32, odd: f32) -> f32
-    ensures { λ r. ⌜ r ≡ cond (takes rule even odd) odd even ⌝ }
-{
-    if even > odd { even } else { odd }
-}
-
-// Whether the odd path is taken, as a bit: the even one is not strictly greater.
-fn beats(odd: f32, even: f32) -> u32
-    ensures { λ r. ⌜ r ≡ bit (takes rule even odd) ⌝ }
-{
-    !(even > odd) as u32
-}
-
-// The greater of two path values; of equals the first.
-fn greater(first: f32, second: f32) -> f32
-    ensures { λ r. ⌜ r ≡ cond (lt first second) second first ⌝ }
-{
-    if second > first { second } else { first }
-}
-
 fn wide(x: u32) -> u64
     ensures { λ r. ⌜ r ≡ x ⌝ }
 {
@@ -72,23 +42,6 @@ fn join(low: u32, high: u32) -> u64
     ensures { λ r. ⌜ r ≡ low + high * 4294967296 ⌝ }
 {
     wide(low) + wide(high) * 4294967296
-}
-
-// The path of a pair step into the state 32u + j from its predecessor 2j + b: lx's term, then ly's.
-fn pair_path(
-    old: &[f32; 64],
-    x: &Table,
-    y: &Table,
-    u: usize,
-    b: usize,
-    j: usize,
-    lx: f32,
-    ly: f32,
-) -> f32
-    requires { ⌜ (u < 2) × (b < 2) × (j < 32) × XSigns (now x) × YSigns (now y) ⌝ }
-    ensures { λ r. ⌜ r ≡ cand (now (old .entry)) (pair lx ly) (32 * u + j) b ⌝ }
-{
-    old[2 * j + b] + term(x[u][b][j], lx) + term(y[u][b][j], ly)
 }
 
 // The states 32u + j of a pair step, and their decisions.
@@ -125,46 +78,6 @@ pub fn acs(pm: &mut [f32; 64], lx: f32, ly: f32) -> u64
     let low = pair_half(&old, pm, &x, &y, 0, lx, ly);
     let high = pair_half(&old, pm, &x, &y, 1, lx, ly);
     join(low, high)
-}
-
-// The number 2X + Y of the branch from the state 2j + b on the input u.
-fn number(t: &Numbers, u: usize, b: usize, j: usize) -> u8
-    requires { ⌜ (u < 2) × (b < 2) × (j < 32) × BranchNumbers (now t) ⌝ }
-    ensures { λ r. ⌜ r ≡ label isdb u (2 * j + b) ⌝ }
-{
-    t[u][b][j]
-}
-
-// The number 2X + Y of the branch from the state s (mod 64) on the low bit of u, as the step of four metrics reads it.
-pub fn branch_number(u: u8, s: u8) -> u8
-    ensures { λ r. ⌜ r ≡ label isdb (u % 2) (s % 64) ⌝ }
-{
-    let t = BRANCH;
-    let input = (u % 2) as usize;
-    let low = (s % 2) as usize;
-    let j = (s % 64 / 2) as usize;
-    number(&t, input, low, j)
-}
-
-// The metric of the branch with the number n.
-fn metric(m: [f32; 4], n: u8) -> f32
-    requires { ⌜ n < 4 ⌝ }
-    ensures { λ r. ⌜ r ≡ getD m n nan ⌝ }
-{
-    match n {
-        0 => m[0],
-        1 => m[1],
-        2 => m[2],
-        _ => m[3],
-    }
-}
-
-// The path of a step of four metrics into the state 32u + j from its predecessor 2j + b.
-fn four_path(old: &[f32; 64], t: &Numbers, u: usize, b: usize, j: usize, m: [f32; 4]) -> f32
-    requires { ⌜ (u < 2) × (b < 2) × (j < 32) × BranchNumbers (now t) ⌝ }
-    ensures { λ r. ⌜ r ≡ cand (now (old .entry)) (four m) (32 * u + j) b ⌝ }
-{
-    old[2 * j + b] + metric(m, number(t, u, b, j))
 }
 
 // The states 32u + j of a step of four metrics, and their decisions.
@@ -233,11 +146,6 @@ pub fn rule_out(pm: &mut [f32; 64], b: u8)
 pub fn best_state(pm: &[f32; 64]) -> usize
     ensures { λ r. ⌜ (r < 64) × (r ≡ bestState (now (pm .entry))) ⌝ }
 {
-    let mut best: usize = 0;
-    for s in 1..STATES {
-        if !(pm[best] > pm[s]) {
-            best = s;
-        }
-    }
-    best
+    let values: &[f32] = pm;
+    path_choice::best_state(values, HALF)
 }

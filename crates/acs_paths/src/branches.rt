@@ -1,9 +1,9 @@
 // The branch numbers, found by the input u, the low state bit b and the half state j.
 
-pub(crate) type Numbers = [[[u8; 32]; 2]; 2];
+pub type Numbers = [[[u8; 32]; 2]; 2];
 
 // The number 2X + Y of the branch from the state 2j + b on the input u: BRANCH[u][b][j]. Every eighth entry names its input and state.
-pub(crate) const BRANCH: Numbers = [
+pub const BRANCH: Numbers = [
     [
         [
             0, // u = 0, s = 0

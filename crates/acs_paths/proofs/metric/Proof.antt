@@ -1,9 +1,9 @@
--- `acs::metric` meets its contract, in each arm. Assumes nothing.
+-- `acs_paths::metric` meets its contract, in each arm. Assumes nothing.
 use mathlib.Core.Path.{_≡_, refl}
 use native.Mathlib.Omega.{arith}
 use borrow.Author.Needs.{needs}
-use Rattle.acs.proofs.metric.Statement.{statement}
-use Rattle.acs.proofs.metric.Tie as tie
+use Rattle.acs_paths.proofs.metric.Statement.{statement}
+use Rattle.acs_paths.proofs.metric.Tie as tie
 
 array-read-result : tie.Need-array-read-result
 array-read-result c = search needs

@@ -5,8 +5,8 @@ use Prim.Native.Nat.{ℕ, _+_, _*_}
 use lib.Dec.{T, eqb, eqb→eq}
 use lib.ListN.{getD}
 use Rattle.trellis.specs.Code.{isdb, label}
-use Rattle.acs.specs.Branches.{BranchNumbers}
-use Rattle.acs.proofs.Table.{all, at}
+use Rattle.acs_paths.specs.Branches.{BranchNumbers}
+use Rattle.acs_paths.proofs.Table.{all, at}
 
 -- the test of an entry, of a row, of a pair of rows, of the table
 abbrev entry : ℕ → ℕ → ℕ → ℕ → Bool

@@ -1,9 +1,9 @@
 // The sign tables, found by the input u, the low state bit b and the half state j.
 
-pub(crate) type Table = [[[f32; 32]; 2]; 2];
+pub type Table = [[[f32; 32]; 2]; 2];
 
 // The sign of X on the branch from the state 2j + b on the input u: SX[u][b][j], 1.0 for the coded bit 0 and -1.0 for 1.
-pub(crate) const SX: Table = [
+pub const SX: Table = [
     [
         [
             1.0,
@@ -147,7 +147,7 @@ pub(crate) const SX: Table = [
 ];
 
 // The same of Y.
-pub(crate) const SY: Table = [
+pub const SY: Table = [
     [
         [
             1.0,

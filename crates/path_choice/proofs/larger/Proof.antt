@@ -1,7 +1,7 @@
--- `acs::larger` meets its contract, in either arm. Assumes nothing.
+-- `path_choice::larger` meets its contract, in either arm. Assumes nothing.
 use mathlib.Core.Path.{refl}
-use Rattle.acs.proofs.larger.Statement.{statement}
-use Rattle.acs.proofs.larger.Tie as tie
+use Rattle.path_choice.proofs.larger.Statement.{statement}
+use Rattle.path_choice.proofs.larger.Tie as tie
 
 returns : tie.Need-returns
 returns c = rw (c .if1 .taken) refl

@@ -1,7 +1,7 @@
--- `acs::number` meets its contract: the table holds the branch numbers. Assumes nothing.
+-- `acs_paths::number` meets its contract: the table holds the branch numbers. Assumes nothing.
 use borrow.Author.Needs.{needs}
-use Rattle.acs.proofs.number.Statement.{statement}
-use Rattle.acs.proofs.number.Tie as tie
+use Rattle.acs_paths.proofs.number.Statement.{statement}
+use Rattle.acs_paths.proofs.number.Tie as tie
 
 mul-result : tie.Need-mul-result
 mul-result c = search needs

@@ -1,7 +1,7 @@
--- `acs::greater` meets its contract, in either arm. Assumes nothing.
+-- `path_choice::greater` meets its contract, in either arm. Assumes nothing.
 use mathlib.Core.Path.{refl}
-use Rattle.acs.proofs.greater.Statement.{statement}
-use Rattle.acs.proofs.greater.Tie as tie
+use Rattle.path_choice.proofs.greater.Statement.{statement}
+use Rattle.path_choice.proofs.greater.Tie as tie
 
 returns : tie.Need-returns
 returns c = rw (c .if1 .taken) refl

@@ -1,7 +1,7 @@
--- `acs::term` meets its contract, in either arm. Assumes nothing.
+-- `acs_paths::term` meets its contract, in either arm. Assumes nothing.
 use mathlib.Core.Path.{refl}
-use Rattle.acs.proofs.term.Statement.{statement}
-use Rattle.acs.proofs.term.Tie as tie
+use Rattle.acs_paths.proofs.term.Statement.{statement}
+use Rattle.acs_paths.proofs.term.Tie as tie
 
 returns : tie.Need-returns
 returns c = rw (c .if1 .taken) refl

@@ -8,8 +8,8 @@ use lib.Dec.{T, eqb}
 use lib.ListN.{getD}
 use lib.Ieee.{Float, nan, binary32, lt, ofBits}
 use Rattle.trellis.specs.Code.{isdb, label, output, tapped}
-use Rattle.acs.specs.Signs.{XSigns, YSigns}
-use Rattle.acs.proofs.Table.{all, at}
+use Rattle.acs_paths.specs.Signs.{XSigns, YSigns}
+use Rattle.acs_paths.proofs.Table.{all, at}
 
 abbrev same : Bool → Bool → Bool
 same true b = b

@@ -1,12 +1,12 @@
--- `acs::branch_number` meets its contract: each of the 128 entries of the constant is the number of its branch. Assumes nothing.
+-- `acs_paths::branch_number` meets its contract: each of the 128 entries of the constant is the number of its branch. Assumes nothing.
 use mathlib.Core.Path.{_≡_}
 use Prim.Native.Nat.{_+_, _*_, _/_, _%_}
 use native.Mathlib.Omega.{arith}
 use borrow.Author.Needs.{needs}
 use Rattle.trellis.specs.Code.{label, output, tapped}
-use Rattle.acs.proofs.BranchTable.{branch-numbers}
-use Rattle.acs.proofs.branch_number.Statement.{statement}
-use Rattle.acs.proofs.branch_number.Tie as tie
+use Rattle.acs_paths.proofs.BranchTable.{branch-numbers}
+use Rattle.acs_paths.proofs.branch_number.Statement.{statement}
+use Rattle.acs_paths.proofs.branch_number.Tie as tie
 
 cast-input : tie.Need-cast-input
 cast-input c = search needs

@@ -1,11 +1,11 @@
--- `acs::four_path` meets its contract: the metric is that of the branch's number. Assumes nothing.
+-- `acs_paths::four_path` meets its contract: the metric is that of the branch's number. Assumes nothing.
 use Prim.Native.Nat.{_+_, _*_}
 use borrow.Author.Needs.{needs}
 use Rattle.trellis.specs.Code.{isdb}
 use Rattle.trellis.specs.RunLaws.{label-under}
-use Rattle.acs.proofs.Turn.{four-cand}
-use Rattle.acs.proofs.four_path.Statement.{statement}
-use Rattle.acs.proofs.four_path.Tie as tie
+use Rattle.acs_paths.proofs.Paths.{four-cand}
+use Rattle.acs_paths.proofs.four_path.Statement.{statement}
+use Rattle.acs_paths.proofs.four_path.Tie as tie
 
 mul-result : tie.Need-mul-result
 mul-result c = search needs

@@ -1,9 +1,9 @@
--- `acs::pair_path` meets its contract: the signs of the branch are those of its label. Assumes nothing.
+-- `acs_paths::pair_path` meets its contract: the signs of the branch are those of its label. Assumes nothing.
 use mathlib.Core.Path.{_≡_}
 use borrow.Author.Needs.{needs}
-use Rattle.acs.proofs.Turn.{pair-cand}
-use Rattle.acs.proofs.pair_path.Statement.{statement}
-use Rattle.acs.proofs.pair_path.Tie as tie
+use Rattle.acs_paths.proofs.Paths.{pair-cand}
+use Rattle.acs_paths.proofs.pair_path.Statement.{statement}
+use Rattle.acs_paths.proofs.pair_path.Tie as tie
 
 mul-result : tie.Need-mul-result
 mul-result c = search needs

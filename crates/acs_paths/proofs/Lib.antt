@@ -1,0 +1,4 @@
+pub mod Table
+pub mod SignTables
+pub mod BranchTable
+pub mod Paths
