@@ -1,4 +1,4 @@
--- `viterbi::trace` meets its contract. The invariant: s is the state after t steps, the bits from t on are in their places, and the
+-- `release::trace` meets its contract. The invariant: s is the state after t steps, the bits from t on are in their places, and the
 -- places from `count` on are as they were. Assumes nothing.
 use mathlib.Core.Path.{_≡_, refl, sym, _∙_, ap}
 use mathlib.Core.Logic.{⊎-elim}
@@ -13,8 +13,8 @@ use Rattle.trellis.specs.Lists.{upto}
 use Rattle.trellis.specs.Step as trellis
 use Rattle.trellis.specs.Step.{back, input}
 use Rattle.acs.specs.Written.{Between, Kept, between-more, kept-set, laid-whole}
-use Rattle.viterbi.proofs.trace.Statement.{statement}
-use Rattle.viterbi.proofs.trace.Tie as tie
+use Rattle.release.proofs.trace.Statement.{statement}
+use Rattle.release.proofs.trace.Tie as tie
 
 long : (d : List ℕ) (n : ℕ) → n ≤ length d → length (take n d) ≡ n
 long d n h = length-take n d ∙ min-eq-left h

@@ -1,4 +1,4 @@
--- `viterbi::move_down` meets its contract. The invariant: the first t words are in their new places, and the rest is as before. Assumes nothing.
+-- `release::move_down` meets its contract. The invariant: the first t words are in their new places, and the rest is as before. Assumes nothing.
 use mathlib.Core.Path.{_≡_, refl, sym, _∙_, ap}
 use Prim.Native.Nat.{ℕ, suc, _+_, _-_, _*_, _/_, _%_, _<_, _≤_}
 use native.Mathlib.Omega.{arith}
@@ -8,9 +8,9 @@ use native.Mathlib.Numerals.{add-one}
 use lib.ListN.{length, getD, take, drop, set, length-append, length-take, length-drop, length-set}
 use lib.Seq.{length-take-le, getD-drop, getD-append-add}
 use Rattle.trellis.specs.Lists.{laid}
-use Rattle.viterbi.specs.Laid.{laid-next}
-use Rattle.viterbi.proofs.move_down.Statement.{statement}
-use Rattle.viterbi.proofs.move_down.Tie as tie
+use Rattle.release.specs.Laid.{laid-next}
+use Rattle.release.proofs.move_down.Statement.{statement}
+use Rattle.release.proofs.move_down.Tie as tie
 
 -- the word at its new place, b below the old one
 one-more : (d : List ℕ) (b t : ℕ) → 0 < b → b + t < length d → set (laid (take t (drop b d)) d) t (getD (laid (take t (drop b d)) d) (b + t) 0) ≡ laid (take (suc t) (drop b d)) d

@@ -1,4 +1,4 @@
--- `viterbi::release` meets its contract. Assumes nothing.
+-- `release::release` meets its contract. Assumes nothing.
 use mathlib.Core.Path.{_≡_, refl, sym, _∙_, ap}
 use Prim.Native.Nat.{ℕ, suc, _+_, _-_, _*_, _/_, _%_, _<_, _≤_}
 use native.Mathlib.Omega.{arith}
@@ -8,12 +8,12 @@ use lib.ListN.{length, take, drop, replicate, length-drop}
 use lib.Seq.{length-take-le}
 use borrow.Rule.Slice.PartMut.{midOf, putMid}
 use Rattle.trellis.specs.Lists.{laid}
-use Rattle.viterbi.specs.Calls.{traced}
-use Rattle.viterbi.specs.Laid.{laid-after, laid-freed, length-laid}
-use Rattle.viterbi.specs.Parts.{written-tail}
+use Rattle.trellis.specs.Isdb.{traced}
+use Rattle.release.specs.Laid.{laid-after, laid-freed, length-laid}
+use Rattle.release.specs.Parts.{written-tail}
 use borrow.Author.Needs.{needs}
-use Rattle.viterbi.proofs.release.Statement.{statement}
-use Rattle.viterbi.proofs.release.Tie as tie
+use Rattle.release.proofs.release.Statement.{statement}
+use Rattle.release.proofs.release.Tie as tie
 
 -- the words that are moved down, and those that are cleared after them
 shifted : (d m p : List ℕ) (b n : ℕ) → b + n ≤ length d → m ≡ laid (take n (drop b d)) d → p ≡ laid (replicate b 0) (midOf n (length m - n) m) → putMid n (length m - n) m p ≡ laid (drop b (take (b + n) d)) (laid (replicate (b + n) 0) d)

@@ -1,4 +1,4 @@
--- `viterbi::clear` meets its contract. The invariant: the first t words are 0, and the rest is as before. Assumes nothing.
+-- `release::clear` meets its contract. The invariant: the first t words are 0, and the rest is as before. Assumes nothing.
 use mathlib.Core.Path.{_≡_, refl, sym, _∙_, ap}
 use Prim.Native.Nat.{ℕ, suc, _+_, _-_, _*_, _/_, _%_, _<_, _≤_}
 use native.Mathlib.Omega.{arith}
@@ -6,8 +6,8 @@ use borrow.Author.Needs.{needs}
 use mathlib.Core.List.{List, _++_}
 use lib.ListN.{length, drop, replicate, set, length-set, length-replicate}
 use borrow.Author.Fill.{fill-none, fill-more}
-use Rattle.viterbi.proofs.clear.Statement.{statement}
-use Rattle.viterbi.proofs.clear.Tie as tie
+use Rattle.release.proofs.clear.Statement.{statement}
+use Rattle.release.proofs.clear.Tie as tie
 
 abbrev Inv-loop : tie.InvT-loop
 Inv-loop decisions₀ n t₀ decisions t = (t ≤ n) × (decisions ≡ replicate t 0 ++ drop t decisions₀) × (length decisions ≡ length decisions₀)

@@ -1,0 +1,58 @@
+// The release of decoded bits: the held decision words are traced back, those left move down, and freed words become 0.
+ghost use mathlib.Core.Path.{_≡_};
+ghost use Prim.Native.Nat.{_+_, _<_, _≤_};
+ghost use lib.ListN.{length, take, drop, replicate};
+ghost use Rattle.trellis.specs.Lists.{laid};
+ghost use Rattle.trellis.specs.Isdb.{bestState, traced};
+
+const HALF: usize = 32;
+// The bits that leave at a release.
+pub const BLOCK: usize = 4096;
+
+// Traces the first n decision words back from `state`, and writes the oldest `count` of the n bits to the front of `out`.
+pub fn trace(decisions: &[u64], n: usize, state: usize, count: usize, out: &mut [u8])
+    requires { ⌜ (state < 64) × (n ≤ length (now decisions)) × (count ≤ n) × (count ≤ length (now out)) ⌝ }
+    ensures { λ _. ⌜ now (out .exit) ≡ laid (take count (traced (take n (now (decisions .entry))) state)) (now (out .entry)) ⌝ }
+{
+    let mut s = state;
+    let mut t = n;
+    while t > 0 {
+        t -= 1;
+        if t < count {
+            out[t] = (s / HALF) as u8;
+        }
+        s = 2 * (s % HALF) + ((decisions[t] >> s) % 2) as usize;
+    }
+}
+
+// Moves n words down by the words of a release.
+pub fn move_down(decisions: &mut [u64], n: usize)
+    requires { ⌜ 4096 + n ≤ length (now decisions) ⌝ }
+    ensures { λ _. ⌜ now (decisions .exit) ≡ laid (take n (drop 4096 (now (decisions .entry)))) (now (decisions .entry)) ⌝ }
+{
+    for t in 0..n {
+        decisions[t] = decisions[BLOCK + t];
+    }
+}
+
+// Sets the first n words to 0.
+pub fn clear(decisions: &mut [u64], n: usize)
+    requires { ⌜ n ≤ length (now decisions) ⌝ }
+    ensures { λ _. ⌜ now (decisions .exit) ≡ laid (replicate n 0) (now (decisions .entry)) ⌝ }
+{
+    for t in 0..n {
+        decisions[t] = 0;
+    }
+}
+
+// The release of 4,096 bits to the front of `out`, as BLOCK + traceback words are held: those left move down, and freed words become 0.
+pub fn release(pm: &[f32; 64], traceback: usize, decisions: &mut [u64], out: &mut [u8])
+    requires { ⌜ (traceback ≤ 1024) × (4096 + traceback ≤ length (now decisions)) × (4096 ≤ length (now out)) ⌝ }
+    ensures { λ _. ⌜ (now (out .exit) ≡ laid (take 4096 (traced (take (4096 + traceback) (now (decisions .entry))) (bestState (now (pm .entry))))) (now (out .entry)))
+        × (now (decisions .exit) ≡ laid (drop 4096 (take (4096 + traceback) (now (decisions .entry)))) (laid (replicate (4096 + traceback) 0) (now (decisions .entry)))) ⌝ }
+{
+    let s = acs::best_state(pm);
+    trace(decisions, BLOCK + traceback, s, BLOCK, out);
+    move_down(decisions, traceback);
+    clear(&mut decisions[traceback..], BLOCK);
+}
