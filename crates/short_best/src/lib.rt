@@ -12,11 +12,11 @@ ghost use Rattle.short_best.specs.Readings.{startValues, readingRows, Fi
 use isdb_fec::conv::some_beyond;
 use refusal::Answer;
 pub use short_code::Code;
-use short_code::best_state;
 use short_code::good;
 use short_code::half;
-use short_code::renormalise;
-use short_code::start_at;
+use short_step::best_state;
+use short_step::renormalise;
+use short_step::start_at;
 use short_viterbi::finish_at;
 use short_viterbi::soft_steps;
 use viterbi::At;

@@ -13,8 +13,8 @@ ghost use Rattle.viterbi.specs.Calls.{stepOf, pairSteps, fourSteps, knownSteps,
 ghost use Rattle.short_code.specs.Codes.{labels, Fits};
 ghost use Rattle.short_viterbi.specs.Soft.{softSteps};
 use short_code::Code;
-use short_code::best_state;
-use short_code::trellis_step;
+use short_step::best_state;
+use short_step::trellis_step;
 use viterbi::At;
 use viterbi::Step;
 use viterbi::clear;
