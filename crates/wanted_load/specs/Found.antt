@@ -2,9 +2,9 @@
 use mathlib.Core.Path.{_≡_}
 use mathlib.Core.Bool.{Bool, true, false}
 use mathlib.Core.List.{List, [], _∷_}
-use Prim.Native.Nat.{ℕ, _<_}
-use lib.ListN.{getD, length}
-use lib.Ieee.{Float, nan, ne}
+use Prim.Native.Nat.{ℕ}
+use lib.ListN.{length}
+use lib.Ieee.{Float}
 use Rattle.trellis.specs.Lists.{laid}
 use Rattle.refusal.specs.declared.Answer.{Answer}
 use Rattle.refusal.specs.declared.Answer.the-variants.{NoLoad}
@@ -12,7 +12,7 @@ use Rattle.refusal.specs.Rows.{numberOf, firstRow, Said, says}
 use Rattle.isdbs_tables.specs.declared.Table.{Table}
 use Rattle.isdbs_runs.specs.RunsOf.{loadBytes}
 use Rattle.isdbs_points.specs.declared.Mapping.{Mapping}
-use Rattle.wanted.specs.Wanted.{Encodes, Wants, Unwanted}
+use Rattle.wanted.specs.Wanted.{Wants, Unwanted}
 use Rattle.wanted_load.specs.Rows.{wantedRows}
 use Rattle.wanted_load.specs.declared.LoadFound.{LoadFound}
 use Rattle.wanted_load.specs.declared.LoadFound.the-variants.{Load, Refused}
@@ -42,22 +42,7 @@ pub record Turned (a : Answer) (r : LoadFound) (bytes₀ bytes : List ℕ) : Typ
   pub answer : r ≡ Refused a
   pub kept : bytes ≡ bytes₀
 
--- ---- what the parts of the call find
--- two f64 have the same bits; a NaN is not compared
-pub record Same (x y : Float) (r : Bool) : Type 0 where
-  pub yes : r ≡ true → x ≡ y
-  pub no : r ≡ false → x ≡ y → ne y y ≡ true
-
--- the first n of two lists have, none of the second being a NaN
-pub record SameParts (xs ys : List Float) (n : ℕ) (r : Bool) : Type 0 where
-  pub yes : r ≡ true → (k : ℕ) → k < n → getD xs k nan ≡ getD ys k nan
-  pub no : r ≡ false → ((k : ℕ) → k < n → ne (getD ys k nan) (getD ys k nan) ≡ false) → ((k : ℕ) → k < n → getD xs k nan ≡ getD ys k nan) → ⊥
-
--- whether a load encodes to the frame
-pub record Matches (t : Table) (m : Mapping) (first : Bool) (re im : List Float) (load : List ℕ) (r : Bool) : Type 0 where
-  pub yes : r ≡ true → Encodes t m first re im load
-  pub no : r ≡ false → Encodes t m first re im load → ⊥
-
+-- ---- what the search finds
 -- found: the bytes begin with the wanted load; else no full load encodes to the frame, and no byte changes
 pub record Searched (t : Table) (m : Mapping) (first : Bool) (re im : List Float) (r : Bool) (bytes₀ bytes : List ℕ) : Type 0 where
   pub yes : r ≡ true → (load : List ℕ) × Wants t m first re im load × (bytes ≡ laid load bytes₀)

@@ -1,63 +1,18 @@
--- The search for a wanted load: what is read off the frame is encoded and compared with it part by part; where all are alike it is wanted, else no load is.
--- Assumes nothing.
-use mathlib.Core.Path.{_≡_, refl, sym, _∙_, ap, subst}
+-- The search for a wanted load: what is read off the frame is encoded and compared with it; where all is alike it is wanted, else no load is. Assumes nothing.
+use mathlib.Core.Path.{_≡_, refl, sym}
 use mathlib.Core.Bool.{Bool, true, false, cond, true≢false}
 use mathlib.Core.List.{List}
-use Prim.Native.Nat.{ℕ, _<_, _≤_}
-use lib.ListN.{getD, length, drop, List·getD-append}
-use lib.Ieee.{Float, nan, ne}
-use Rattle.trellis.specs.Lists.{upto, laid}
-use Rattle.trellis.specs.ListLaws.{length-upto, getD-upto}
+use Prim.Native.Nat.{ℕ}
+use lib.Ieee.{Float}
+use Rattle.trellis.specs.Lists.{laid}
 use Rattle.isdbs_tables.specs.declared.Table.{Table}
-use Rattle.isdbs_frame.specs.Frame.{mainSymbols}
 use Rattle.isdbs_tables.specs.Tables.{TableAccepted}
 use Rattle.isdbs_points.specs.declared.Mapping.{Mapping}
-use Rattle.isdbs_points.specs.Frame.{pointAt, startState}
-use Rattle.isdbs_encode.specs.Encoding.{FrameLaid}
 use Rattle.wanted.specs.ReadOff.{readOff}
-use Rattle.wanted.specs.Inputs.{re-at, im-at}
-use Rattle.wanted.specs.Only.{encodes-parts, read-wanted, unwanted}
-use Rattle.wanted_load.specs.Numbers.{point-number}
-use Rattle.wanted_load.specs.Found.{SameParts, Matches, Searched}
-
--- what stands in the front of a list that is written over
-pub laid-at : {A : Type 0} (d : A) (f : ℕ → A) (n : ℕ) (w : List A) (k : ℕ) → k < n → getD (laid (upto f n) w) k d ≡ f k
-laid-at d f n w k h = List·getD-append (upto f n) (drop (length (upto f n)) w) d k (rw (length-upto f n) h) ∙ getD-upto f d n k h
-
--- ---- the frame of a load, and the lent parts compared with it
-module _ (t : Table) (m : Mapping) (first : Bool) (re im : List Float) (load : List ℕ) (xs₀ xs ys₀ ys : List Float) (made : FrameLaid t m load (startState first) xs₀ xs ys₀ ys) where
-  xs-at : (k : ℕ) → k < mainSymbols → getD xs k nan ≡ pointAt t m load (startState first) k .re
-  xs-at k h = ap (λ (x : List Float). getD x k nan) (made .re-is) ∙ laid-at nan (λ k. pointAt t m load (startState first) k .re) mainSymbols xs₀ k h
-
-  ys-at : (k : ℕ) → k < mainSymbols → getD ys k nan ≡ pointAt t m load (startState first) k .im
-  ys-at k h = ap (λ (x : List Float). getD x k nan) (made .im-is) ∙ laid-at nan (λ k. pointAt t m load (startState first) k .im) mainSymbols ys₀ k h
-
-  xs-number : (k : ℕ) → k < mainSymbols → ne (getD xs k nan) (getD xs k nan) ≡ false
-  xs-number k h = subst (λ (x : Float). ne x x ≡ false) (sym (xs-at k h)) (point-number t m load (startState first) k .0)
-
-  ys-number : (k : ℕ) → k < mainSymbols → ne (getD ys k nan) (getD ys k nan) ≡ false
-  ys-number k h = subst (λ (x : Float). ne x x ≡ false) (sym (ys-at k h)) (point-number t m load (startState first) k .1)
-
-  pub both-alike : mainSymbols ≤ length re → mainSymbols ≤ length im → SameParts re xs mainSymbols true → SameParts im ys mainSymbols true → Matches t m first re im load true
-  both-alike p q x y =
-      record {
-        yes = λ e. encodes-parts t m first re im load p q (λ k h. x .yes refl k h ∙ xs-at k h) (λ k h. y .yes refl k h ∙ ys-at k h);
-        no = λ e. absurd (true≢false e);
-      }
-
-  pub re-differ : SameParts re xs mainSymbols false → Matches t m first re im load false
-  re-differ x = record { yes = λ e. absurd (true≢false (sym e)); no = λ e w. x .no refl xs-number (λ k h. re-at t m first re im load w k h ∙ sym (xs-at k h)) }
-
-  pub im-differ : SameParts im ys mainSymbols false → Matches t m first re im load false
-  im-differ y = record { yes = λ e. absurd (true≢false (sym e)); no = λ e w. y .no refl ys-number (λ k h. im-at t m first re im load w k h ∙ sym (ys-at k h)) }
-
-  -- by the answers of the two comparisons
-  pub both-compared : mainSymbols ≤ length re → mainSymbols ≤ length im → (a b : Bool) → a ≡ true → SameParts re xs mainSymbols a → SameParts im ys mainSymbols b → Matches t m first re im load b
-  both-compared p q a true e x y = both-alike p q (subst (SameParts re xs mainSymbols) e x) y
-  both-compared p q a false e x y = im-differ y
-
-  pub first-differs : (a : Bool) → a ≡ false → SameParts re xs mainSymbols a → Matches t m first re im load false
-  first-differs a e x = re-differ (subst (SameParts re xs mainSymbols) e x)
+use Rattle.wanted.specs.Only.{read-wanted, unwanted}
+pub use Rattle.same_frame.specs.Frames.{laid-at}
+use Rattle.same_frame.specs.Alike.{Matches}
+use Rattle.wanted_load.specs.Found.{Searched}
 
 -- ---- what the search leaves
 pub searched : (t : Table) → TableAccepted t → (m : Mapping) (first : Bool) (re im : List Float) (r : Bool) → Matches t m first re im (readOff t m first re im) r → (bytes₀ bytes : List ℕ)

@@ -1,14 +1,14 @@
-// Request P9: the bytes behind a wanted frame. What the frame shows is read off, encoded again and compared bit by bit; the lent bytes are written only then.
+// Request P9: the bytes behind a wanted frame. What the frame shows is read off, encoded again and compared (`same_frame`); the lent bytes are written only then.
 use isdbs_core::frame::MAIN_SYMBOLS;
 use isdbs_core::slots::Plan;
 use isdbs_core::slots::plan_of;
 use isdbs_core::tmcc::Table;
 use isdbs_core::tmcc::table_answer;
-use isdbs_encode::encode_main;
 pub use isdbs_points::Mapping;
 use isdbs_points::start_state;
 use isdbs_wanted::read_load;
 use refusal::Answer;
+use same_frame::matches;
 ghost use mathlib.Core.Path.{_≡_};
 ghost use mathlib.Core.Bool.{cond};
 ghost use Prim.Native.Nat.{_≤_};
@@ -19,37 +19,8 @@ ghost use Rattle.isdbs_frame.specs.Frame.{mainSymbols};
 ghost use Rattle.isdbs_tables.specs.Tables.{TableAccepted};
 ghost use Rattle.isdbs_runs.specs.RunsOf.{planOf, Planned, loadBytes};
 ghost use Rattle.wanted_load.specs.Rows.{lentRows, earlierRows};
-ghost use Rattle.wanted_load.specs.Found.{Answered, Same, SameParts, Matches, Searched, Outcome, Turned};
-
-// Whether two parts have the same bits. A NaN has none to compare.
-fn same_bits(x: f64, y: f64) -> bool
-    ensures { λ r. ⌜ Same x y r ⌝ }
-{
-    if x != x {
-        return false;
-    }
-    if y != y {
-        return false;
-    }
-    if x == y {
-        f64::to_bits(x) == f64::to_bits(y)
-    } else {
-        false
-    }
-}
-
-// Whether the first n parts have the same bits.
-fn same_parts(xs: &[f64], ys: &[f64], n: usize) -> bool
-    requires { ⌜ (n ≤ length (now xs)) × (n ≤ length (now ys)) ⌝ }
-    ensures { λ r. ⌜ SameParts (now (xs .entry)) (now (ys .entry)) n r ⌝ }
-{
-    for i in 0..n {
-        if same_bits(xs[i], ys[i]) {} else {
-            return false;
-        }
-    }
-    true
-}
+ghost use Rattle.same_frame.specs.Alike.{Matches};
+ghost use Rattle.wanted_load.specs.Found.{Answered, Searched, Outcome, Turned};
 
 // A load, laid over the beginning of the lent bytes.
 fn put(load: &[u8], bytes: &mut [u8])
@@ -58,28 +29,6 @@ fn put(load: &[u8], bytes: &mut [u8])
 {
     for i in 0..load.len() {
         bytes[i] = load[i];
-    }
-}
-
-// Whether a load encodes to the frame, which is made in the lent xs and ys.
-fn matches(
-    re: &[f64],
-    im: &[f64],
-    t: Table,
-    m: Mapping,
-    first: bool,
-    load: &[u8],
-    xs: &mut [f64],
-    ys: &mut [f64],
-) -> bool
-    requires { ⌜ TableAccepted t × (mainSymbols ≤ length (now re)) × (mainSymbols ≤ length (now im)) × (mainSymbols ≤ length (now xs)) × (mainSymbols ≤ length (now ys)) ⌝ }
-    ensures { λ r. ⌜ Matches t m first (now (re .entry)) (now (im .entry)) (now (load .entry)) r ⌝ }
-{
-    encode_main(load, t, start_state(first), m, xs, ys);
-    if same_parts(re, xs, MAIN_SYMBOLS) {
-        same_parts(im, ys, MAIN_SYMBOLS)
-    } else {
-        false
     }
 }
 

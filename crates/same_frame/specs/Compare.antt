@@ -10,7 +10,7 @@ use lib.Dec.{T, eqb, eqb→eq}
 use lib.ListN.{getD}
 use lib.Ieee.{Float, nan, ne, eq, binary64, fits, toBits, ofBits}
 use lib.Ieee.Bits.{ofBits-toBits}
-use Rattle.wanted_load.specs.Found.{Same, SameParts}
+use Rattle.same_frame.specs.Alike.{Same, SameParts}
 
 pub same-nan : (x y : Float) → ne x x ≡ true → Same x y false
 same-nan x y e = record { yes = λ q. absurd (true≢false (sym q)); no = λ q h. subst (λ (z : Float). ne z z ≡ true) h e }

@@ -1,14 +1,14 @@
 -- `same_parts` meets its contract. Assumes nothing.
 use borrow.Author.Needs.{needs}
-use Rattle.wanted_load.specs.Compare.{parts-differ, parts-same, parts-more}
-use Rattle.wanted_load.specs.Found.{Same}
+use Rattle.same_frame.specs.Compare.{parts-differ, parts-same, parts-more}
+use Rattle.same_frame.specs.Alike.{Same}
 use lib.ListN.{getD}
 use lib.Ieee.{nan}
 use native.Mathlib.Omega.{arith}
 use Prim.Native.Nat.{ℕ, _-_, _<_, _≤_}
 use mathlib.Core.Path.{_≡_, subst}
-use Rattle.wanted_load.proofs.same_parts.Statement.{statement}
-use Rattle.wanted_load.proofs.same_parts.Tie as tie
+use Rattle.same_frame.proofs.same_parts.Statement.{statement}
+use Rattle.same_frame.proofs.same_parts.Tie as tie
 
 abbrev Inv-loop : tie.InvT-loop
 Inv-loop xs ys n i₀ i = (i ≤ n) × ((k : ℕ) → k < i → getD xs k nan ≡ getD ys k nan)

@@ -1,12 +1,12 @@
 -- `matches` meets its contract. Assumes nothing.
-use Rattle.wanted_load.specs.Search.{both-compared, first-differs}
+use Rattle.same_frame.specs.Frames.{both-compared, first-differs}
 use Rattle.isdbs_encode.specs.Encoding.{FrameLaid}
 use Rattle.isdbs_points.specs.Frame.{startState}
 use Prim.Native.Nat.{ℕ}
 use mathlib.Core.Path.{subst}
 use borrow.Author.Needs.{needs}
-use Rattle.wanted_load.proofs.matches.Statement.{statement}
-use Rattle.wanted_load.proofs.matches.Tie as tie
+use Rattle.same_frame.proofs.matches.Statement.{statement}
+use Rattle.same_frame.proofs.matches.Tie as tie
 
 start-state-requires : tie.Need-start-state-requires
 start-state-requires c κs = search needs

@@ -5,9 +5,9 @@ use lib.Dec.{T}
 use lib.Ieee.{isNan}
 use borrow.Author.Needs.{needs}
 use Rattle.ieee.specs.Bits.{number}
-use Rattle.wanted_load.specs.Compare.{same-nan, same-nan-2, same-bits, same-unequal}
-use Rattle.wanted_load.proofs.same_bits.Statement.{statement}
-use Rattle.wanted_load.proofs.same_bits.Tie as tie
+use Rattle.same_frame.specs.Compare.{same-nan, same-nan-2, same-bits, same-unequal}
+use Rattle.same_frame.proofs.same_bits.Statement.{statement}
+use Rattle.same_frame.proofs.same_bits.Tie as tie
 
 returns : tie.Need-returns
 returns c = same-nan (c .before .args .x) (c .before .args .y) (c .if1 .taken)

@@ -1,0 +1,4 @@
+pub mod Alike
+pub mod Numbers
+pub mod Compare
+pub mod Frames
