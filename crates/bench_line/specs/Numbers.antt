@@ -10,7 +10,7 @@ use Rattle.bench_line.specs.declared.words.Number.{Number}
 use Rattle.bench_line.specs.declared.words.Number.the-variants as number
 use Rattle.bench_line.specs.declared.words.MaybeScale.{MaybeScale}
 use Rattle.bench_line.specs.declared.words.MaybeScale.the-variants as scale
-use Rattle.bench_line.specs.Parts.{partOf, partsOf}
+use Rattle.line_parts.specs.Parts.{partOf, partsOf}
 
 -- the digits '0' to '9' are 48 to 57; 10 for any other byte
 unfoldable pub digitOf : ℕ → ℕ

@@ -13,7 +13,7 @@ use Rattle.bench_line.specs.declared.words.MaybeEntry.the-variants as en
 use Rattle.bench_line.specs.declared.words.MaybeTable.{MaybeTable}
 use Rattle.bench_line.specs.declared.words.MaybeMapping.{MaybeMapping}
 use Rattle.bench_line.specs.declared.words.MaybeMapping.the-variants as mapping
-use Rattle.bench_line.specs.Parts.{partOf, partsOf, equal}
+use Rattle.line_parts.specs.Parts.{partOf, partsOf, equal}
 use Rattle.bench_line.specs.Numbers.{digitsOf}
 
 -- "Other words up to 15"; a slot count has 8 bits

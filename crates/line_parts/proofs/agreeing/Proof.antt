@@ -5,10 +5,10 @@ use native.Mathlib.Omega.{arith}
 use borrow.Author.Needs.{needs}
 use Prim.Native.Nat.{_+_, _-_, _≤_, _<_}
 use lib.ListN.{length, drop, drop-of-length-le}
-use Rattle.bench_line.specs.Agreement.{agreement}
-use Rattle.bench_line.specs.Laws.{agreement-none, agreement-next}
-use Rattle.bench_line.proofs.agreement.agreeing.Statement.{statement}
-use Rattle.bench_line.proofs.agreement.agreeing.Tie as tie
+use Rattle.line_parts.specs.Agreement.{agreement}
+use Rattle.line_parts.specs.Laws.{agreement-none, agreement-next}
+use Rattle.line_parts.proofs.agreeing.Statement.{statement}
+use Rattle.line_parts.proofs.agreeing.Tie as tie
 
 abbrev Inv-loop : tie.InvT-loop
 Inv-loop a b n₀ i₀ n i = ((n ≤ i) × (i ≤ length a)) × (n + agreement (drop i a) (drop i b) ≡ agreement a b)

@@ -6,10 +6,10 @@ use borrow.Author.Tests.{eq-eqb, ne-eqb}
 use borrow.Author.Needs.{needs}
 use Prim.Native.Nat.{_+_, _-_, _≤_, _<_}
 use lib.ListN.{length, drop, drop-of-length-le}
-use Rattle.bench_line.specs.Parts.{until}
-use Rattle.bench_line.specs.Laws.{until-next}
-use Rattle.bench_line.proofs.words.end_of.Statement.{statement}
-use Rattle.bench_line.proofs.words.end_of.Tie as tie
+use Rattle.line_parts.specs.Parts.{until}
+use Rattle.line_parts.specs.Laws.{until-next}
+use Rattle.line_parts.proofs.end_of.Statement.{statement}
+use Rattle.line_parts.proofs.end_of.Tie as tie
 
 abbrev Inv-loop : tie.InvT-loop
 Inv-loop s stop from j₀ j = ((from ≤ j) × (j ≤ length s)) × ((j - from) + length (until stop (drop j s)) ≡ length (until stop (drop from s)))

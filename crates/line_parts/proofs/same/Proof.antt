@@ -6,10 +6,10 @@ use borrow.Author.Tests.{eq-eqb, ne-eqb}
 use borrow.Author.Needs.{needs}
 use Prim.Native.Nat.{_-_, _≤_, _<_}
 use lib.ListN.{length, drop, drop-of-length-le}
-use Rattle.bench_line.specs.Parts.{equal}
-use Rattle.bench_line.specs.Laws.{equal-next, equal-not}
-use Rattle.bench_line.proofs.words.same.Statement.{statement}
-use Rattle.bench_line.proofs.words.same.Tie as tie
+use Rattle.line_parts.specs.Parts.{equal}
+use Rattle.line_parts.specs.Laws.{equal-next, equal-not}
+use Rattle.line_parts.proofs.same.Statement.{statement}
+use Rattle.line_parts.proofs.same.Tie as tie
 
 abbrev Inv-loop : tie.InvT-loop
 Inv-loop a b i₀ i = (i ≤ length a) × (equal (drop i a) (drop i b) ≡ equal a b)

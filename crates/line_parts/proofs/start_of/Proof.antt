@@ -7,10 +7,10 @@ use borrow.Author.Needs.{needs}
 use Prim.Native.Nat.{_+_, _-_, _≤_, _<_}
 use native.Mathlib.Nat.{sub-zero}
 use lib.ListN.{length, drop, drop-of-length-le}
-use Rattle.bench_line.specs.Parts.{after}
-use Rattle.bench_line.specs.Laws.{after-none, after-more}
-use Rattle.bench_line.proofs.words.start_of.Statement.{statement}
-use Rattle.bench_line.proofs.words.start_of.Tie as tie
+use Rattle.line_parts.specs.Parts.{after}
+use Rattle.line_parts.specs.Laws.{after-none, after-more}
+use Rattle.line_parts.proofs.start_of.Statement.{statement}
+use Rattle.line_parts.proofs.start_of.Tie as tie
 
 abbrev Inv-loop : tie.InvT-loop
 Inv-loop s stop i seen₀ j₀ seen j = ((seen ≤ i) × (seen ≤ j) × (j ≤ length s)) × (after stop (i - seen) (drop j s) ≡ after stop i s)

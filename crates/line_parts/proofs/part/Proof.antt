@@ -1,8 +1,8 @@
 -- `part` meets its contract. Assumes nothing.
-use Rattle.bench_line.specs.Laws.{until-front}
+use Rattle.line_parts.specs.Laws.{until-front}
 use borrow.Author.Needs.{needs}
-use Rattle.bench_line.proofs.words.part.Statement.{statement}
-use Rattle.bench_line.proofs.words.part.Tie as tie
+use Rattle.line_parts.proofs.part.Statement.{statement}
+use Rattle.line_parts.proofs.part.Tie as tie
 
 start-of-requires : tie.Need-start-of-requires
 start-of-requires c κs = search needs

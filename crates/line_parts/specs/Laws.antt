@@ -11,8 +11,8 @@ use lib.Dec.{eqb}
 use lib.ListN.{length, getD, take, drop}
 use lib.Seq.{drop-cons}
 use Rattle.isdbs_combination.specs.Lists.{both}
-use Rattle.bench_line.specs.Parts.{after, until, stops, equal}
-use Rattle.bench_line.specs.Agreement.{agreement}
+use Rattle.line_parts.specs.Parts.{after, until, stops, equal}
+use Rattle.line_parts.specs.Agreement.{agreement}
 
 -- lists are equal where `equal` says so
 pub equal-so : (a b : List ℕ) → equal a b ≡ true → a ≡ b

@@ -5,10 +5,10 @@ use native.Mathlib.Omega.{arith}
 use borrow.Author.Needs.{needs}
 use Prim.Native.Nat.{_+_, _-_, _≤_, _<_}
 use lib.ListN.{length, drop, drop-of-length-le}
-use Rattle.bench_line.specs.Parts.{stops}
-use Rattle.bench_line.specs.Laws.{stops-next}
-use Rattle.bench_line.proofs.words.parts.Statement.{statement}
-use Rattle.bench_line.proofs.words.parts.Tie as tie
+use Rattle.line_parts.specs.Parts.{stops}
+use Rattle.line_parts.specs.Laws.{stops-next}
+use Rattle.line_parts.proofs.parts.Statement.{statement}
+use Rattle.line_parts.proofs.parts.Tie as tie
 
 abbrev Inv-loop : tie.InvT-loop
 Inv-loop s stop n₀ j₀ n j = ((n ≤ j) × (j ≤ length s)) × (n + stops stop (drop j s) ≡ stops stop s)
