@@ -26,10 +26,11 @@ use Rattle.isdbt_table.specs.declared.CodeRate.{CodeRate}
 use Rattle.isdbt_table.specs.declared.CodeRate.the-variants.{R1_2, R2_3, R3_4, R5_6, R7_8}
 use Rattle.isdbt_table.specs.declared.Puncturing.{Puncturing}
 use Rattle.isdbt_table.specs.Table.{period, sent, compiled}
-use Rattle.isdbt_table.specs.Puncture.{spread, softAt, depunctured}
+use Rattle.isdbt_table.specs.Puncture.{softAt, depunctured}
 use Rattle.isdbt_rows.specs.Rows.{depth}
 use Rattle.isdbt_fec.specs.Calls.{steps, fresh, decodedBits}
 use Rattle.isdbt_table.specs.Numbers.{numbers}
+use Rattle.isdbt_steps.specs.Soft.{softBy, stepsBy}
 
 -- equal steps give equal decoders
 pub after-same : (tb : ℕ) (xs ys : ℕ → trellis.Step) (d : Decoder) (n : ℕ) → ((i : ℕ) → i < n → xs i ≡ ys i) → fec.steps tb xs d n ≡ fec.steps tb ys d n
@@ -38,13 +39,6 @@ after-same tb xs ys d zero h = refl
 after-same tb xs ys d (suc n) h =
     let before = after-same tb xs ys d n (λ i l. h i (omega arith)) in
     rw (before, h n (omega arith)) refl
-
--- the soft value of the mother bit k, and the steps, from the numbers of a compiled puncturing
-abbrev pub softBy : ℕ → ℕ → List ℕ → List Float → ℕ → Float
-softBy p n ps xs k = spread (take n ps) xs (n * (k / (2 * p))) (k % (2 * p))
-
-abbrev pub stepsBy : ℕ → ℕ → List ℕ → List Float → ℕ → trellis.Step
-stepsBy p n ps xs k = pair (softBy p n ps xs (2 * k)) (softBy p n ps xs (2 * k + 1))
 
 pub soft-is : (rate : CodeRate) (p : Puncturing) (xs : List Float) (k : ℕ) → p ≡ compiled rate → softBy (p .period) (p .n) (p .order) xs k ≡ softAt rate xs k
 unfolding softAt

@@ -1,5 +1,4 @@
 pub mod Calls
 pub mod Kept
 pub mod Encode
-pub mod Spread
 pub mod Decode

@@ -1,23 +1,24 @@
 // The punctured convolutional code of ISDB-T (ARIB STD-B31, section 3.8, Table 3-8): puncturing, and its inverse on soft values.
 // The mother code and its Viterbi decoder are those of isdb_fec::conv.
 ghost use mathlib.Core.Path.{_≡_};
-ghost use mathlib.Core.Bool.{cond};
 ghost use Prim.Native.Nat.{ℕ, _+_, _-_, _*_, _<_, _≤_, _/_, _%_, _^_};
 ghost use lib.ListN.{length, getD, take, replicate};
 ghost use Rattle.refusal.specs.Rows.{firstRow};
 ghost use Rattle.trellis.specs.Lists.{upto, laid};
 ghost use Rattle.trellis.specs.Code.{stateAt};
-ghost use Rattle.isdb_fec.specs.Calls.{Either, pairSteps};
+ghost use Rattle.isdb_fec.specs.Calls.{Either};
 ghost use Rattle.isdbt_table.specs.Table.{period, sent};
-ghost use Rattle.isdbt_table.specs.Puncture.{inputs, mother, punctured, spread, depunctured};
+ghost use Rattle.isdbt_table.specs.Puncture.{inputs, mother, punctured, depunctured};
 ghost use Rattle.isdbt_rows.specs.Rows.{depth, encodeRows, depunctureRows, decodeRows};
-ghost use Rattle.isdbt_fec.specs.Decode.{stepsBy};
 ghost use Rattle.isdbt_fec.specs.Calls.{Encodes, Unencoded, Depunctures, Untouched, decodedBits, Decodes, Undecoded};
 use isdb_fec::conv::ConvEncoder;
 use isdbt_rows::answer_decode;
 use isdbt_rows::answer_depuncture;
 use isdbt_rows::answer_encode;
 use isdbt_rows::depth_of;
+use isdbt_steps::end_call;
+use isdbt_steps::soft_at;
+use isdbt_steps::soft_block;
 pub use isdbt_table::CodeRate;
 pub use isdbt_table::PunctureSpec;
 pub use isdbt_table::Puncturing;
@@ -25,10 +26,7 @@ pub use isdbt_table::TABLE_3_8;
 pub use isdbt_table::puncture_spec;
 use refusal::Answer;
 use viterbi::At;
-use viterbi::clear;
 use viterbi::encode_bit;
-use viterbi::finish;
-use viterbi::renormalise;
 use viterbi::run_pairs;
 use viterbi::start_at;
 
@@ -130,28 +128,6 @@ pub fn encode_punctured(enc: ConvEncoder, rate: CodeRate, bits: &[u8], out: &mut
     }
 }
 
-// The value for the mother bit `place` of the period whose sent values begin at `base`; 0 where it is not sent.
-fn value_at(order: &[usize; 8], n: usize, llrs: &[f32], base: usize, place: usize) -> f32
-    requires { ⌜ (n ≤ 8) × (n ≤ length (now order)) × (base + n ≤ length (now llrs)) ⌝ }
-    ensures { λ r. ⌜ r ≡ spread (take n (now (order .entry))) (now (llrs .entry)) base place ⌝ }
-{
-    for i in 0..n {
-        if order[i] == place {
-            return llrs[base + i];
-        }
-    }
-    0.0
-}
-
-// The soft value of the mother bit k of a call, where each period has n sent values and 2 * period mother bits.
-fn soft_at(order: &[usize; 8], n: usize, period: usize, llrs: &[f32], k: usize) -> f32
-    requires { ⌜ (n ≤ 8) × (n ≤ length (now order)) × (1 ≤ period) × (period ≤ 7) × (n * (k / (2 * period)) + n ≤ length (now llrs)) ⌝ }
-    ensures { λ r. ⌜ r ≡ spread (take n (now (order .entry))) (now (llrs .entry)) (n * (k / (2 * period))) (k % (2 * period)) ⌝ }
-{
-    let width = 2 * period;
-    value_at(order, n, llrs, n * (k / width), k % width)
-}
-
 // Depunctures whole periods.
 fn depuncture_periods(rate: CodeRate, llrs: &[f32], out: &mut [f32]) -> usize
     requires { ⌜ length (now llrs) / sent rate * (2 * period rate) ≤ length (now out) ⌝ }
@@ -188,39 +164,11 @@ pub fn depuncture(rate: CodeRate, llrs: &[f32], out: &mut [f32]) -> Done
     }
 }
 
-// The number of values, which the type fixes.
-fn values_of(pairs: &[f32; 128]) -> usize
-    ensures { λ r. ⌜ (r ≡ 128) × (length (now (pairs .entry)) ≡ 128) ⌝ }
-{
-    let values: &[f32] = pairs;
-    values.len()
-}
-
 // How many of the steps left are taken at once.
 fn block_of(left: usize) -> usize
     ensures { λ r. ⌜ (r ≤ left) × (r ≤ 64) × (0 < left → 0 < r) ⌝ }
 {
     if left < 64 { left } else { 64 }
-}
-
-// The soft values of `len` steps from step i on, to the front of `pairs`.
-fn soft_block(
-    order: &[usize; 8],
-    n: usize,
-    period: usize,
-    llrs: &[f32],
-    i: usize,
-    len: usize,
-    pairs: &mut [f32; 128],
-)
-    requires { ⌜ (n ≤ 8) × (n ≤ length (now order)) × (1 ≤ period) × (period ≤ 7) × (len ≤ 64) × (2 * (i + len) < 2 ^ 64) × ((k : ℕ) → k < 2 * (i + len) → n * (k / (2 * period)) + n ≤ length (now llrs)) ⌝ }
-    ensures { λ _. ⌜ (length (now (pairs .exit)) ≡ 128) × ((k : ℕ) → k < len → stepsBy period n (now (order .entry)) (now (llrs .entry)) (i + k) ≡ pairSteps (now (pairs .exit)) k) ⌝ }
-{
-    values_of(pairs);
-    let from = 2 * i;
-    for k in 0..2 * len {
-        pairs[k] = soft_at(order, n, period, llrs, from + k);
-    }
 }
 
 // Decodes whole periods from state 0: a push of all pairs, and a flush. How many bits that is.
@@ -251,10 +199,7 @@ fn decode_periods(
         at = run_pairs(&mut pm, at, traceback, i, len, &pairs, decisions, out);
         i = i + len;
     }
-    renormalise(&mut pm);
-    let bits = finish(&pm, at, decisions, out);
-    clear(decisions, 4096 + traceback);
-    bits
+    end_call(&mut pm, at, traceback, decisions, out)
 }
 
 // Decodes a complete punctured block from state 0: depuncturing, the Viterbi decoder, its flush. The bits go to the front of `out`.

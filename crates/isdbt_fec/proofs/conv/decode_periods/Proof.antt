@@ -5,7 +5,8 @@ use native.Mathlib.Omega.{arith}
 use borrow.Author.Needs.{needs}
 use lib.ListN.{length}
 use Rattle.isdbt_table.specs.Numbers.{numbers}
-use Rattle.isdbt_fec.specs.Decode.{stepsBy, count-most}
+use Rattle.isdbt_steps.specs.Soft.{stepsBy}
+use Rattle.isdbt_fec.specs.Decode.{count-most}
 use Rattle.isdbt_fec.proofs.Turns.{Readable, bit-count, bits-twice, readable}
 use Rattle.isdbt_fec.proofs.Decoding.{Decoding, decoding-none, decoding-ready, decoding-block, decoded}
 use Rattle.isdbt_fec.proofs.conv.decode_periods.Statement.{statement}
@@ -96,38 +97,32 @@ loop-again c =
     let soft = c .before .before .before .before .before .before .before .before .before .soft-block .ensures in
     (omega arith, inv .1, inv .2, decoding-block (inv .3) (omega arith) (soft .1) (c .before .before .before .before .run-pairs .ensures))
 
-renormalise-requires : tie.Need-renormalise-requires Inv-loop μ-loop
-renormalise-requires c κs = tt
-
-finish-requires : tie.Need-finish-requires Inv-loop μ-loop
-finish-requires c κs =
-    let d = c .before .before .before .before .before .before .loop .inv .3 in
+end-call-requires : tie.Need-end-call-requires Inv-loop μ-loop
+end-call-requires c κs =
+    let at = c .before .before .before .before in
+    let d = at .loop .inv .3 in
     let enough = d .enough in
-    (omega arith, omega arith)
-
-add-clear : tie.Need-add-clear Inv-loop μ-loop
-add-clear c = omega arith
-
-clear-requires : tie.Need-clear-requires Inv-loop μ-loop
-clear-requires c κs =
-    let d = c .before .before .before .before .before .before .before .before .before .before .before .before .loop .inv .3 in
-    let enough = d .enough in
-    let kept = c .before .before .before .before .before .finish .kept .1 .1 .0 in
-    omega arith
+    let few = d .few in
+    let sum = d .sum in
+    let words = d .words-long in
+    let bits = d .bits-long in
+    let places = d .places in
+    (enough .most, omega arith, omega arith, omega arith)
 
 same-length : tie.Need-same-length Inv-loop μ-loop
-same-length c = c .before .before .clear .kept .0 ∙ c .before .before .before .before .before .before .before .before .finish .kept .1 .1 .0 ∙ c .before .before .before .before .before .before .before .before .before .before .before .before .before .before .before .loop .inv .3 .words-long
+same-length c = c .before .before .before .before .end-call .kept .1 .1 .1 .0 ∙ c .before .before .before .before .before .before .before .before .before .loop .inv .3 .words-long
 
 same-length-2 : tie.Need-same-length-2 Inv-loop μ-loop
-same-length-2 c = c .before .before .before .before .before .before .before .before .finish .kept .1 .1 .1 .0 ∙ c .before .before .before .before .before .before .before .before .before .before .before .before .before .before .before .loop .inv .3 .bits-long
+same-length-2 c = c .before .before .before .before .end-call .kept .1 .1 .1 .1 .0 ∙ c .before .before .before .before .before .before .before .before .before .loop .inv .3 .bits-long
 
 returns : tie.Need-returns Inv-loop μ-loop
 returns c =
-    let a = c .before .before .before .before .before .before .before .before .before .before .before .before .before .before .before .before .before .before .before .before .before .before .args in
-    let p = c .before .before .before .before .before .before .before .before .before .before .before .before .before .before .before .before .before .before .new in
-    let at = c .before .before .before .before .before .before .before .before .before .before .before .before .before .before .before .loop in
-    let end : at .i ≡ length (a .llrs .now) / p .result .n * p .result .period = omega arith in
-    decoded (a .rate) _ (p .ensures) (a .llrs .now) (at .inv .3) end (c .before .before .before .before .before .before .before .before .before .before .before .before .before .before .before .before .start-at .ensures) (c .before .before .before .before .before .before .before .before .before .before .before .before .renormalise .ensures) (c .before .before .before .before .before .before .before .before .finish .ensures) (c .before .before .clear .ensures)
+    let called = c .before .before .before .before in
+    let at = called .before .before .before .before .before in
+    let a = at .before .before .before .before .before .before .before .args in
+    let p = at .before .before .before .new in
+    let end : at .loop .i ≡ length (a .llrs .now) / p .result .n * p .result .period = omega arith in
+    decoded (a .rate) _ (p .ensures) (a .llrs .now) (at .loop .inv .3) end (at .before .start-at .ensures) (called .end-call .ensures)
 
 pub decode-periods-spec : {M : Type 1} → statement M
 decode-periods-spec =
@@ -148,10 +143,7 @@ decode-periods-spec =
     add-i
     loop-less
     loop-again
-    renormalise-requires
-    finish-requires
-    add-clear
-    clear-requires
+    end-call-requires
     same-length
     same-length-2
     returns)

@@ -8,7 +8,8 @@ use borrow.Author.Needs.{needs}
 use lib.ListN.{length}
 use Rattle.isdbt_table.specs.Numbers.{numbers}
 use Rattle.isdbt_table.specs.Upto.{upto-same}
-use Rattle.isdbt_fec.specs.Decode.{softBy, soft-is}
+use Rattle.isdbt_steps.specs.Soft.{softBy}
+use Rattle.isdbt_fec.specs.Decode.{soft-is}
 use Rattle.trellis.specs.Lists.{laid}
 use Rattle.isdbt_table.specs.Table.{period, sent}
 use Rattle.isdbt_table.specs.Puncture.{depunctured}

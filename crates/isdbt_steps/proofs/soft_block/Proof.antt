@@ -1,14 +1,14 @@
--- `conv::soft_block` meets its contract. Assumes nothing.
+-- `isdbt_steps::soft_block` meets its contract. Assumes nothing.
 use mathlib.Core.Path.{_≡_, refl, _∙_}
 use Prim.Native.Nat.{ℕ, _+_, _-_, _*_, _/_, _<_, _≤_}
 use native.Mathlib.Omega.{arith}
 use borrow.Author.Needs.{needs}
 use lib.ListN.{length}
-use Rattle.isdbt_fec.specs.Decode.{softBy, stepsBy}
+use Rattle.isdbt_steps.specs.Soft.{softBy, stepsBy}
 use Rattle.isdbt_table.specs.Written.{Written, written-none, written-next}
-use Rattle.isdbt_fec.proofs.Decoding.{block-steps}
-use Rattle.isdbt_fec.proofs.conv.soft_block.Statement.{statement}
-use Rattle.isdbt_fec.proofs.conv.soft_block.Tie as tie
+use Rattle.isdbt_steps.proofs.Blocks.{block-steps}
+use Rattle.isdbt_steps.proofs.soft_block.Statement.{statement}
+use Rattle.isdbt_steps.proofs.soft_block.Tie as tie
 
 abbrev Inv-loop : tie.InvT-loop
 Inv-loop order n period llrs i len pairs₀ from k₀ k-end pairs k = (k ≤ 2 * len) × (length pairs₀ ≡ 128) × Written (λ j. softBy period n order llrs (2 * i + j)) k pairs₀ pairs

@@ -1,14 +1,14 @@
--- `conv::value_at` meets its contract. Assumes nothing.
+-- `isdbt_steps::value_at` meets its contract. Assumes nothing.
 use mathlib.Core.Path.{_≡_, sym, _∙_, ap}
 use Prim.Native.Nat.{ℕ, _+_, _-_, _≤_}
 use native.Mathlib.Omega.{arith}
 use borrow.Author.Needs.{needs}
 use lib.ListN.{take, drop}
-use Rattle.isdbt_fec.specs.Spread.{spread-hit, spread-miss, spread-end}
+use Rattle.isdbt_steps.specs.Spread.{spread-hit, spread-miss, spread-end}
 use Rattle.isdbt_table.specs.Table.{order}
 use Rattle.isdbt_table.specs.Puncture.{place, spread}
-use Rattle.isdbt_fec.proofs.conv.value_at.Statement.{statement}
-use Rattle.isdbt_fec.proofs.conv.value_at.Tie as tie
+use Rattle.isdbt_steps.proofs.value_at.Statement.{statement}
+use Rattle.isdbt_steps.proofs.value_at.Tie as tie
 
 abbrev Inv-loop : tie.InvT-loop
 Inv-loop order n llrs base place i₀ i = (i ≤ n) × (spread (take n order) llrs base place ≡ spread (drop i (take n order)) llrs (base + i) place)
