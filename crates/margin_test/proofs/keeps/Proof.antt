@@ -2,8 +2,8 @@
 use lib.Ieee.{ofBits, neg}
 use borrow.Author.Needs.{needs}
 use Rattle.margins.specs.Margins.{keeps}
-use Rattle.isdbs_judge.proofs.keeps.Statement.{statement}
-use Rattle.isdbs_judge.proofs.keeps.Tie as tie
+use Rattle.margin_test.proofs.keeps.Statement.{statement}
+use Rattle.margin_test.proofs.keeps.Tie as tie
 
 between-requires : tie.Need-between-requires
 between-requires c κs = search needs

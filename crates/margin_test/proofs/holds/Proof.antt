@@ -1,7 +1,7 @@
 -- `holds` meets its contract. Assumes nothing.
 use borrow.Author.Needs.{needs}
-use Rattle.isdbs_judge.proofs.holds.Statement.{statement}
-use Rattle.isdbs_judge.proofs.holds.Tie as tie
+use Rattle.margin_test.proofs.holds.Statement.{statement}
+use Rattle.margin_test.proofs.holds.Tie as tie
 
 accepted-requires : tie.Need-accepted-requires
 accepted-requires c κs = search needs
