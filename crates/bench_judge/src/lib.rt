@@ -1,146 +1,22 @@
-// The verdict in words: whether the points of a frame prove the bytes that were read, or those at hand (the command judge).
+// The bench program's command judge: whether the points of a frame prove bytes at hand.
 use bench_files::files;
 use bench_files::files::Got;
 use bench_line::words::front;
 use bench_line::words::front_parts;
+use bench_line::words::part;
+use bench_line::words::parts;
+use bench_setting::setting::Setting;
+use bench_setting::setting::setting_of;
+use bench_setting::usage::misused;
+use bench_verdict::end;
+use bench_verdict::tell_at_hand;
 use bench_words::report;
+use bench_words::report::Valid;
 use bench_words::text::count;
-use bench_words::text::number;
 use bench_words::text::quoted;
 use bench_words::text::text;
-use isdbs_core::tmcc::Table;
-use isdbs_phy::demod::Mapping;
 use judge::FrameJudged;
-use judge::judge;
 use refusal::Answer;
-ghost use Prim.Native.Nat.{_≤_};
-
-// More slots than these are counted and not named.
-const NAMED: usize = 8;
-
-fn wide(n: u32) -> u64 {
-    n as u64
-}
-
-fn tally(so: bool) -> usize
-    ensures { λ r. ⌜ r ≤ 1 ⌝ }
-{
-    if so { 1 } else { 0 }
-}
-
-// How many of the counts are not 0.
-fn counted(counts: &[u32; 48]) -> usize
-    ensures { λ r. ⌜ r ≤ 48 ⌝ }
-{
-    let mut n: usize = 0;
-    for k in 0..48usize {
-        n = n + tally(counts[k] != 0);
-    }
-    n
-}
-
-// Names slot k where its count is not 0, the one of n of which `left` are not yet named; then how many are left.
-fn slot_name(n: usize, left: usize, k: usize, amount: u32) -> usize {
-    if amount == 0 {
-        return left;
-    }
-    if left == 0 {
-        return left;
-    }
-    if left < n {
-        if left == 1 {
-            text(b" and ");
-        } else {
-            text(b", ");
-        }
-    }
-    count(k);
-    left - 1
-}
-
-fn slot_names(counts: &[u32; 48], n: usize) {
-    let mut left = n;
-    for k in 0..48usize {
-        left = slot_name(n, left, k, counts[k]);
-    }
-}
-
-// In which slots the counts are not 0.
-fn places(counts: &[u32; 48], kind: &[u8]) {
-    let n = counted(counts);
-    if n == 0 {
-        return;
-    }
-    text(b", in");
-    if n > NAMED {
-        text(b" ");
-        count(n);
-        text(kind);
-        text(b"s");
-        return;
-    }
-    text(kind);
-    if n > 1 {
-        text(b"s");
-    }
-    text(b" ");
-    slot_names(counts, n);
-}
-
-// How many things there are.
-fn things(n: u32, name: &[u8]) {
-    number(wide(n));
-    text(name);
-    if n != 1 {
-        text(b"s");
-    }
-}
-
-fn points_outside(sum: u32, outside: &[u32; 48]) {
-    things(sum, b" point");
-    text(b" outside the margins");
-    places(outside, b" slot");
-}
-
-// The words of a reading: the points outside the margins of its bytes, and its strained steps.
-pub fn tell(size: usize, sum: u32, outside: &[u32; 48], strained: u32, counts: &[u32; 48]) {
-    if size == 0 {
-        text(b"certain: the table carries no bytes\n");
-        return;
-    }
-    if sum == 0 {
-        text(b"certain: every part lies within the margins of these bytes: no other bytes fit\n");
-        return;
-    }
-    text(b"not certain: ");
-    points_outside(sum, outside);
-    text(b"; ");
-    things(strained, b" strained step");
-    places(counts, b" valid slot");
-    text(b"; these bytes are a reading, not a proof\n");
-}
-
-// The last line of a run that was judged.
-pub fn end(sum: u32) {
-    if sum == 0 {
-        text(b"ok\n");
-        return;
-    }
-    text(b"doubtful: ");
-    things(sum, b" point");
-    text(b" outside the margins\n");
-}
-
-// The words of bytes at hand.
-fn tell_at_hand(size: usize, sum: u32, outside: &[u32; 48]) {
-    if size == 0 || sum == 0 {
-        tell(size, sum, outside, 0, outside);
-        return;
-    }
-    text(b"not certain: ");
-    points_outside(sum, outside);
-    text(b"; this frame is no proof of these bytes\n");
-}
 
 // The last line of bytes that were not judged.
 fn refuse(answer: Answer, points: Got, size: usize, re: &[f64; 38976], im: &[f64; 38976]) {
@@ -156,23 +32,17 @@ fn refuse(answer: Answer, points: Got, size: usize, re: &[f64; 38976], im: &[f64
 }
 
 // Judges the bytes by the points that were read.
-fn judge_read(
-    t: Table,
-    m: Mapping,
-    first: bool,
-    points: Got,
-    bytes: &[u8],
-    re: &[f64; 38976],
-    im: &[f64; 38976],
-) {
+fn judge_read(s: Setting, points: Got, bytes: &[u8], re: &[f64; 38976], im: &[f64; 38976]) {
+    let t = s.table;
+    let m = s.mapping;
     let n = points.count;
     let mut outside = [0u32; 48];
-    let done = judge(
+    let done = judge::judge(
         front_parts(re, n),
         front_parts(im, n),
         t,
         m,
-        first,
+        s.first,
         bytes,
         &mut outside,
     );
@@ -194,25 +64,15 @@ fn was_read(kind: &[u8], name: &[u8], n: usize, what: &[u8]) {
     text(what);
 }
 
-// bench judge TABLE MAPPING KIND FRAME BYTES, on lent space for the points and the bytes.
-pub fn judge_files(
-    t: Table,
-    m: Mapping,
-    first: bool,
-    frame: &[u8],
-    load: &[u8],
+// Reads the points of a frame, and judges bytes at hand by them.
+fn judge_frame(
+    s: Setting,
+    line: &[u8],
+    bytes: &[u8],
     re: &mut [f64; 38976],
     im: &mut [f64; 38976],
-    bytes: &mut [u8; 9745],
 ) {
-    let file = files::open(load);
-    if file < 0 {
-        return;
-    }
-    let had = files::read_bytes(file, load, bytes);
-    if !had.well {
-        return;
-    }
+    let frame = part(line, 0, 4);
     let file = files::open(frame);
     if file < 0 {
         return;
@@ -223,6 +83,45 @@ pub fn judge_files(
         return;
     }
     was_read(b"frame ", frame, got.count, b" points\n");
-    was_read(b"bytes ", load, had.count, b" bytes\n");
-    judge_read(t, m, first, got, front(bytes, had.count), re, im);
+    was_read(b"bytes ", part(line, 0, 5), bytes.len(), b" bytes\n");
+    judge_read(s, got, bytes, re, im);
+}
+
+// The same, on space of its own.
+fn judge_in_space(s: Setting, line: &[u8], bytes: &[u8]) {
+    let mut re = [0.0f64; 38976];
+    let mut im = [0.0f64; 38976];
+    judge_frame(s, line, bytes, &mut re, &mut im);
+}
+
+// Reads the bytes at hand, and judges them.
+fn judge_files(s: Setting, line: &[u8], bytes: &mut [u8; 9745]) {
+    let load = part(line, 0, 5);
+    let file = files::open(load);
+    if file < 0 {
+        return;
+    }
+    let had = files::read_bytes(file, load, bytes);
+    if !had.well {
+        return;
+    }
+    judge_in_space(s, line, front(bytes, had.count));
+}
+
+// bench judge TABLE MAPPING KIND FRAME BYTES
+pub fn judge(line: &[u8]) {
+    if parts(line, 0) != 6 {
+        misused(b"judge takes TABLE MAPPING KIND FRAME BYTES", b"");
+        return;
+    }
+    let s = setting_of(part(line, 0, 1), part(line, 0, 2), part(line, 0, 3));
+    if !s.is_good {
+        return;
+    }
+    let t = s.table;
+    let mut bytes = [0u8; 9745];
+    match report::table(t) {
+        Valid::Slots(_) => judge_files(s, line, &mut bytes),
+        Valid::Refused => {}
+    }
 }

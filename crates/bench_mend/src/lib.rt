@@ -1,7 +1,11 @@
 // The bench program's command on stored coded stretches: mend.
 use bench_files::files;
+use bench_line::words::Number;
+use bench_line::words::digits;
 use bench_line::words::front;
 use bench_line::words::part;
+use bench_line::words::parts;
+use bench_setting::usage::misused;
 use bench_words::report;
 use bench_words::text::count;
 use bench_words::text::quoted;
@@ -86,8 +90,8 @@ fn mend_read(
     }
 }
 
-// bench mend START END BITS OUT, on lent space for the bits.
-pub fn mend(
+// Reads a stretch between two states, and mends it.
+fn mend_file(
     line: &[u8],
     start: u8,
     end: u8,
@@ -107,4 +111,31 @@ pub fn mend(
     }
     bits_of(b"stretch", input, got.count);
     mend_read(front(bits, got.count), start, end, output, decisions, out);
+}
+
+// The same, on space of its own.
+fn mend_in_space(line: &[u8], start: u8, end: u8) {
+    let mut decisions = [0u64; 4224];
+    let mut bits = [0u8; 9745];
+    let mut out = [0u8; 9745];
+    mend_file(line, start, end, &mut decisions, &mut bits, &mut out);
+}
+
+// bench mend START END BITS OUT; the states are taken mod 64.
+pub fn mend(line: &[u8]) {
+    if parts(line, 0) != 5 {
+        misused(b"mend takes START END BITS OUT", b"");
+        return;
+    }
+    let first = digits(part(line, 0, 1));
+    let Number::Is(start) = first else {
+        misused(b"this is no state:", part(line, 0, 1));
+        return;
+    };
+    let last = digits(part(line, 0, 2));
+    let Number::Is(end) = last else {
+        misused(b"this is no state:", part(line, 0, 2));
+        return;
+    };
+    mend_in_space(line, (start % 64) as u8, (end % 64) as u8);
 }

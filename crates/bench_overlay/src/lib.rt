@@ -3,6 +3,8 @@ use bench_files::files;
 use bench_files::files::Got;
 use bench_line::words::front;
 use bench_line::words::part;
+use bench_line::words::parts;
+use bench_setting::usage::misused;
 use bench_words::report;
 use bench_words::text::count;
 use bench_words::text::quoted;
@@ -99,8 +101,14 @@ fn overlay_files(
     overlay_read(a.count, b.count, output, first, second, sum);
 }
 
-// bench overlay LOAD1 LOAD2 OUT, on lent space for two loads.
-pub fn overlay(line: &[u8], first: &mut [u8; 9745], second: &mut [u8; 9745]) {
+// bench overlay LOAD1 LOAD2 OUT
+pub fn overlay(line: &[u8]) {
+    if parts(line, 0) != 4 {
+        misused(b"overlay takes LOAD1 LOAD2 OUT", b"");
+        return;
+    }
+    let mut first = [0u8; 9745];
+    let mut second = [0u8; 9745];
     let mut sum = [0u8; 9745];
-    overlay_files(line, first, second, &mut sum);
+    overlay_files(line, &mut first, &mut second, &mut sum);
 }

@@ -1,10 +1,16 @@
 // The bench program's command series: the strained steps of frame after frame, with the total and the greatest of the last frames.
 use bench_files::files;
 use bench_files::files::Got;
+use bench_line::words::Number;
+use bench_line::words::digits;
 use bench_line::words::front_parts;
 use bench_line::words::part;
 use bench_line::words::parts;
+use bench_setting::setting::Setting;
+use bench_setting::setting::setting_of;
+use bench_setting::usage::misused;
 use bench_words::report;
+use bench_words::report::Valid;
 use bench_words::text::count;
 use bench_words::text::number;
 use bench_words::text::quoted;
@@ -24,11 +30,11 @@ ghost use Prim.Native.Nat.{_<_};
 const BEFORE: usize = 5;
 
 // How every frame of a series is read, and over how many the sums are kept.
-pub struct Reading {
-    pub window: u32,
-    pub table: Table,
-    pub mapping: Mapping,
-    pub first: bool,
+struct Reading {
+    window: u32,
+    table: Table,
+    mapping: Mapping,
+    first: bool,
 }
 
 // A frame's number, counted from 0, and how many frames there are.
@@ -241,16 +247,29 @@ fn is_window(window: u32, sums: &mut [u32; 256]) -> bool {
     false
 }
 
-// bench series WINDOW TABLE MAPPING KIND FRAME.., on lent space for a frame.
-pub fn series(
-    line: &[u8],
-    s: Reading,
-    re: &mut [f64; 38976],
-    im: &mut [f64; 38976],
-    decisions: &mut [u64; 4224],
-    bits: &mut [u8; 68224],
-    bytes: &mut [u8; 9745],
-) {
+// Reads the frames of a series of `words` words, on space of its own.
+fn read_in_space(line: &[u8], s: Reading, words: usize, sums: &mut [u32; 256])
+    requires { ⌜ 5 < words ⌝ }
+{
+    let mut re = [0.0f64; 38976];
+    let mut im = [0.0f64; 38976];
+    let mut decisions = [0u64; 4224];
+    let mut bits = [0u8; 68224];
+    let mut bytes = [0u8; 9745];
+    read_all(
+        line,
+        s,
+        words,
+        sums,
+        &mut re,
+        &mut im,
+        &mut decisions,
+        &mut bits,
+        &mut bytes,
+    );
+}
+
+fn series_of(line: &[u8], s: Reading) {
     let words = parts(line, 0);
     if words <= BEFORE {
         return;
@@ -264,5 +283,38 @@ pub fn series(
     text(b"; a sum of 0 alone does not mean a good frame\n");
     read_of(0, words - BEFORE);
     text(b"\n");
-    read_all(line, s, words, &mut sums, re, im, decisions, bits, bytes);
+    read_in_space(line, s, words, &mut sums);
+}
+
+fn reading_by(window: u32, s: Setting) -> Reading {
+    let table = s.table;
+    let mapping = s.mapping;
+    Reading {
+        window,
+        table,
+        mapping,
+        first: s.first,
+    }
+}
+
+// bench series WINDOW TABLE MAPPING KIND FRAME..
+pub fn series(line: &[u8]) {
+    if parts(line, 0) < 6 {
+        misused(b"series takes WINDOW TABLE MAPPING KIND FRAME..", b"");
+        return;
+    }
+    let length = digits(part(line, 0, 1));
+    let Number::Is(window) = length else {
+        misused(b"this is no WINDOW:", part(line, 0, 1));
+        return;
+    };
+    let s = setting_of(part(line, 0, 2), part(line, 0, 3), part(line, 0, 4));
+    if !s.is_good {
+        return;
+    }
+    let t = s.table;
+    match report::table(t) {
+        Valid::Slots(_) => series_of(line, reading_by(window, s)),
+        Valid::Refused => {}
+    }
 }

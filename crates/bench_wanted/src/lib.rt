@@ -5,7 +5,13 @@ use bench_files::files;
 use bench_files::files::Got;
 use bench_line::words::front;
 use bench_line::words::front_parts;
+use bench_line::words::part;
+use bench_line::words::parts;
+use bench_setting::setting::Setting;
+use bench_setting::setting::setting_of;
+use bench_setting::usage::misused;
 use bench_words::report;
+use bench_words::report::Valid;
 use bench_words::text::count;
 use bench_words::text::quoted;
 use bench_words::text::text;
@@ -63,17 +69,18 @@ fn find(
     }
 }
 
-// bench bytes TABLE MAPPING KIND FRAME BYTES, on lent space for the points and the load.
-pub fn bytes(
-    t: Table,
-    m: Mapping,
-    first: bool,
-    input: &[u8],
-    output: &[u8],
+// Reads the points, and finds their load.
+fn find_in(
+    s: Setting,
+    line: &[u8],
     re: &mut [f64; 38976],
     im: &mut [f64; 38976],
     load: &mut [u8; 9745],
 ) {
+    let input = part(line, 0, 4);
+    let output = part(line, 0, 5);
+    let t = s.table;
+    let m = s.mapping;
     let file = files::open_for(input, output);
     if file < 0 {
         return;
@@ -88,5 +95,30 @@ pub fn bytes(
     text(b": ");
     count(got.count);
     text(b" points\n");
-    find(got, t, m, first, output, re, im, load);
+    find(got, t, m, s.first, output, re, im, load);
+}
+
+// The same, on space of its own.
+fn find_in_space(s: Setting, line: &[u8]) {
+    let mut re = [0.0f64; 38976];
+    let mut im = [0.0f64; 38976];
+    let mut load = [0u8; 9745];
+    find_in(s, line, &mut re, &mut im, &mut load);
+}
+
+// bench bytes TABLE MAPPING KIND FRAME BYTES
+pub fn bytes(line: &[u8]) {
+    if parts(line, 0) != 6 {
+        misused(b"bytes takes TABLE MAPPING KIND FRAME BYTES", b"");
+        return;
+    }
+    let s = setting_of(part(line, 0, 1), part(line, 0, 2), part(line, 0, 3));
+    if !s.is_good {
+        return;
+    }
+    let t = s.table;
+    match report::table(t) {
+        Valid::Slots(_) => find_in_space(s, line),
+        Valid::Refused => {}
+    }
 }

@@ -1,0 +1,117 @@
+// Bars: a count for each of up to 48 slots, on a scale of five units, 320 high. They stand on y = 400.
+use crate::form::fill;
+use bench_sheet::height;
+use bench_sheet::put;
+use bench_sheet::scale_unit;
+ghost use Prim.Native.Nat.{_<_, _≤_};
+
+fn wide(n: u32) -> usize {
+    n as usize
+}
+
+fn larger(a: usize, b: usize) -> usize {
+    if a < b { b } else { a }
+}
+
+// The greatest of the counts.
+fn greatest(counts: &[u32; 48]) -> usize {
+    let mut most: usize = 0;
+    for k in 0..48usize {
+        most = larger(most, wide(counts[k]));
+    }
+    most
+}
+
+// The lines of the scale, and what each stands for.
+fn scale(sheet: &mut [u8; 327680], at: usize, unit: usize) -> usize
+    requires { ⌜ unit ≤ 400 ⌝ }
+{
+    let a = put(
+        sheet,
+        at,
+        b"<path stroke=\"#d0d0d0\" fill=\"none\" d=\"M140 400h1536M140 336h1536M140 272h1536M140 208h1536M140 144h1536M140 80h1536\"/>\n",
+    );
+    fill(
+        sheet,
+        a,
+        b"<g text-anchor=\"end\"><text x=\"128\" y=\"408\">$</text><text x=\"128\" y=\"344\">$</text><text x=\"128\" y=\"280\">$</text><text x=\"128\" y=\"216\">$</text><text x=\"128\" y=\"152\">$</text><text x=\"128\" y=\"88\">$</text></g>\n",
+        [0, unit, 2 * unit, 3 * unit, 4 * unit, 5 * unit],
+    )
+}
+
+// The bar of slot k, its count above it and its number below.
+fn bar(sheet: &mut [u8; 327680], at: usize, k: usize, n: usize, unit: usize) -> usize
+    requires { ⌜ (k < 48) × ((0 < unit) × (unit ≤ 400)) ⌝ }
+{
+    let h = height(n, unit);
+    fill(
+        sheet,
+        at,
+        b"<g transform=\"translate(@ 0)\"><rect x=\"4\" y=\"@\" width=\"24\" height=\"@\"/><text fill=\"#000\" transform=\"translate(23 @) rotate(-90)\">$</text><text fill=\"#000\" x=\"16\" y=\"424\" text-anchor=\"middle\" font-size=\"18\">@</text></g>\n",
+        [140 + 32 * k, 400 - h, h, 392 - h, n, k],
+    )
+}
+
+fn bar_at(
+    sheet: &mut [u8; 327680],
+    at: usize,
+    counts: &[u32; 48],
+    n: usize,
+    k: usize,
+    unit: usize,
+) -> usize
+    requires { ⌜ (k < 48) × ((0 < unit) × (unit ≤ 400)) ⌝ }
+{
+    if k >= n {
+        return at;
+    }
+    bar(sheet, at, k, wide(counts[k]), unit)
+}
+
+// The bars of the first n slots, at most 48, in a colour.
+pub fn bars(
+    sheet: &mut [u8; 327680],
+    at: usize,
+    counts: &[u32; 48],
+    n: usize,
+    colour: &[u8],
+) -> usize {
+    let unit = scale_unit(greatest(counts));
+    let a = scale(sheet, at, unit);
+    let b = put(sheet, a, b"<g fill=\"");
+    let c = put(sheet, b, colour);
+    let mut place = put(sheet, c, b"\">\n");
+    for k in 0..48usize {
+        place = bar_at(sheet, place, counts, n, k, unit);
+    }
+    put(sheet, place, b"</g>\n")
+}
+
+// The letter of run i.
+pub fn letter(sheet: &mut [u8; 327680], at: usize, i: usize) -> usize {
+    match i {
+        0 => put(sheet, at, b"A"),
+        1 => put(sheet, at, b"B"),
+        2 => put(sheet, at, b"C"),
+        _ => put(sheet, at, b"D"),
+    }
+}
+
+// A strip with the letter of run i below the slots from `from` up to but not including `to`.
+pub fn strip(sheet: &mut [u8; 327680], at: usize, i: usize, from: usize, to: usize) -> usize {
+    if from >= to {
+        return at;
+    }
+    if to > 48 {
+        return at;
+    }
+    let width = 32 * (to - from);
+    let a = fill(
+        sheet,
+        at,
+        b"<g transform=\"translate(@ 0)\"><rect x=\"2\" y=\"434\" width=\"@\" height=\"6\" fill=\"#888\"/><text x=\"@\" y=\"464\" text-anchor=\"middle\">",
+        [140 + 32 * from, width - 4, width / 2, 0, 0, 0],
+    );
+    let b = letter(sheet, a, i);
+    put(sheet, b, b"</text></g>\n")
+}

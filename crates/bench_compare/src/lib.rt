@@ -1,0 +1,147 @@
+// The bench program's command compare: how many bytes of two loads agree.
+use bench_files::files;
+use bench_line::words;
+use bench_line::words::front;
+use bench_line::words::part;
+use bench_line::words::parts;
+use bench_setting::usage::misused;
+use bench_words::report;
+use bench_words::report::Valid;
+use bench_words::text::count;
+use bench_words::text::quoted;
+use bench_words::text::text;
+use isdbs_core::slots;
+use isdbs_core::tmcc::Table;
+use refusal::Answer;
+ghost use Prim.Native.Nat.{_≤_, _*_};
+
+// Compares slot by slot, and answers how many bytes agree.
+fn compare_slots(t: Table, v: usize, sent: &[u8], read: &[u8]) -> usize
+    requires { ⌜ v ≤ 48 ⌝ }
+    ensures { λ r. ⌜ r ≤ 203 * v ⌝ }
+{
+    let mut n: usize = 0;
+    let mut k: usize = 0;
+    while k < v {
+        let a = slots::slot_part(sent, t, k);
+        let b = slots::slot_part(read, t, k);
+        n = n + report::slot_line(k, a, b);
+        k = k + 1;
+    }
+    n
+}
+
+// How a file's bytes differ from a load of the table.
+fn load_reason(n: usize) {
+    if n >= 9745 {
+        text(b" has more than 9,744 bytes");
+    } else {
+        text(b" has ");
+        count(n);
+        text(b" bytes");
+    }
+    text(b", which is not what the table carries\n");
+}
+
+// The refusal of a file that is not a load of the table.
+fn refuse_load(answer: Answer, name: &[u8], n: usize) {
+    match answer {
+        Answer::Length => {
+            report::refused(answer);
+            quoted(name);
+            load_reason(n);
+        }
+        _ => report::refuse(answer),
+    }
+}
+
+// Whether the bytes are a whole load of the table; else says why not.
+fn is_load(t: Table, name: &[u8], bytes: &[u8]) -> bool {
+    let answer = slots::slot_part_answer(bytes, t, 0);
+    if refusal::number(answer) == 0 {
+        return true;
+    }
+    refuse_load(answer, name, bytes.len());
+    false
+}
+
+// The last line of a comparison.
+fn verdict(n: usize, all: usize) {
+    if n < all {
+        text(b"failed: only ");
+    }
+    report::agree(n, all);
+    if n < all {
+        text(b"\n");
+    } else {
+        text(b"\nok\n");
+    }
+}
+
+fn compare_loads(t: Table, v: usize, sent: &[u8], read: &[u8]) {
+    if v > 48 {
+        return;
+    }
+    let n = compare_slots(t, v, sent, read);
+    verdict(n, 203 * v);
+}
+
+// Reads a file of bytes.
+fn read_load(name: &[u8], bytes: &mut [u8; 9745]) -> files::Got {
+    let file = files::open(name);
+    if file < 0 {
+        return files::Got {
+            well: false,
+            count: 0,
+            over: 0,
+        };
+    }
+    files::read_bytes(file, name, bytes)
+}
+
+// Reads both loads, and compares them.
+fn compare_files(t: Table, v: usize, line: &[u8], sent: &mut [u8; 9745], read: &mut [u8; 9745]) {
+    let sent_name = part(line, 0, 2);
+    let read_name = part(line, 0, 3);
+    let a = read_load(sent_name, sent);
+    if !a.well {
+        return;
+    }
+    let b = read_load(read_name, read);
+    if !b.well {
+        return;
+    }
+    let x = front(sent, a.count);
+    let y = front(read, b.count);
+    if !is_load(t, sent_name, x) {
+        return;
+    }
+    if is_load(t, read_name, y) {
+        compare_loads(t, v, x, y);
+    }
+}
+
+// The same, on space of its own.
+fn compare_in_space(t: Table, v: usize, line: &[u8]) {
+    let mut sent = [0u8; 9745];
+    let mut read = [0u8; 9745];
+    compare_files(t, v, line, &mut sent, &mut read);
+}
+
+// bench compare TABLE SENT READ
+pub fn compare(line: &[u8]) {
+    if parts(line, 0) != 4 {
+        misused(b"compare takes TABLE SENT READ", b"");
+        return;
+    }
+    let parsed = words::table(part(line, 0, 1));
+    let t = parsed.table;
+    if !parsed.is_table {
+        misused(b"this is no TABLE:", part(line, 0, 1));
+        return;
+    }
+    match report::table(t) {
+        Valid::Slots(v) => compare_in_space(t, v, line),
+        Valid::Refused => {}
+    }
+}

@@ -1,0 +1,132 @@
+// The verdict in words: whether the points of a frame prove the bytes that were read, or those at hand.
+use bench_words::text::count;
+use bench_words::text::number;
+use bench_words::text::text;
+ghost use Prim.Native.Nat.{_≤_};
+
+// More slots than these are counted and not named.
+const NAMED: usize = 8;
+
+fn wide(n: u32) -> u64 {
+    n as u64
+}
+
+fn tally(so: bool) -> usize
+    ensures { λ r. ⌜ r ≤ 1 ⌝ }
+{
+    if so { 1 } else { 0 }
+}
+
+// How many of the counts are not 0.
+fn counted(counts: &[u32; 48]) -> usize
+    ensures { λ r. ⌜ r ≤ 48 ⌝ }
+{
+    let mut n: usize = 0;
+    for k in 0..48usize {
+        n = n + tally(counts[k] != 0);
+    }
+    n
+}
+
+// Names slot k where its count is not 0, the one of n of which `left` are not yet named; then how many are left.
+fn slot_name(n: usize, left: usize, k: usize, amount: u32) -> usize {
+    if amount == 0 {
+        return left;
+    }
+    if left == 0 {
+        return left;
+    }
+    if left < n {
+        if left == 1 {
+            text(b" and ");
+        } else {
+            text(b", ");
+        }
+    }
+    count(k);
+    left - 1
+}
+
+fn slot_names(counts: &[u32; 48], n: usize) {
+    let mut left = n;
+    for k in 0..48usize {
+        left = slot_name(n, left, k, counts[k]);
+    }
+}
+
+// In which slots the counts are not 0.
+fn places(counts: &[u32; 48], kind: &[u8]) {
+    let n = counted(counts);
+    if n == 0 {
+        return;
+    }
+    text(b", in");
+    if n > NAMED {
+        text(b" ");
+        count(n);
+        text(kind);
+        text(b"s");
+        return;
+    }
+    text(kind);
+    if n > 1 {
+        text(b"s");
+    }
+    text(b" ");
+    slot_names(counts, n);
+}
+
+// How many things there are.
+fn things(n: u32, name: &[u8]) {
+    number(wide(n));
+    text(name);
+    if n != 1 {
+        text(b"s");
+    }
+}
+
+fn points_outside(sum: u32, outside: &[u32; 48]) {
+    things(sum, b" point");
+    text(b" outside the margins");
+    places(outside, b" slot");
+}
+
+// The words of a reading: the points outside the margins of its bytes, and its strained steps.
+pub fn tell(size: usize, sum: u32, outside: &[u32; 48], strained: u32, counts: &[u32; 48]) {
+    if size == 0 {
+        text(b"certain: the table carries no bytes\n");
+        return;
+    }
+    if sum == 0 {
+        text(b"certain: every part lies within the margins of these bytes: no other bytes fit\n");
+        return;
+    }
+    text(b"not certain: ");
+    points_outside(sum, outside);
+    text(b"; ");
+    things(strained, b" strained step");
+    places(counts, b" valid slot");
+    text(b"; these bytes are a reading, not a proof\n");
+}
+
+// The last line of a run that was judged.
+pub fn end(sum: u32) {
+    if sum == 0 {
+        text(b"ok\n");
+        return;
+    }
+    text(b"doubtful: ");
+    things(sum, b" point");
+    text(b" outside the margins\n");
+}
+
+// The words of bytes at hand.
+pub fn tell_at_hand(size: usize, sum: u32, outside: &[u32; 48]) {
+    if size == 0 || sum == 0 {
+        tell(size, sum, outside, 0, outside);
+        return;
+    }
+    text(b"not certain: ");
+    points_outside(sum, outside);
+    text(b"; this frame is no proof of these bytes\n");
+}
