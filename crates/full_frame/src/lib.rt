@@ -108,7 +108,7 @@ fn take_part(full: &[f64], header: &mut [f64], signal: &mut [f64], bursts: &mut 
 // ---- the rows, over lengths
 
 // Whether one part of header, main signal or bursts is short.
-fn short_inputs(header: usize, signal: usize, bursts: usize) -> bool
+pub fn short_inputs(header: usize, signal: usize, bursts: usize) -> bool
     ensures { λ r. ⌜ r ≡ shortInputs header signal bursts ⌝ }
 {
     if header < HEADER_SYMBOLS {
@@ -121,7 +121,7 @@ fn short_inputs(header: usize, signal: usize, bursts: usize) -> bool
 }
 
 // Whether either part of a full frame is short.
-fn short_frame(re: usize, im: usize) -> bool
+pub fn short_frame(re: usize, im: usize) -> bool
     ensures { λ r. ⌜ r ≡ shortFrame re im ⌝ }
 {
     if re < FRAME_SYMBOLS {

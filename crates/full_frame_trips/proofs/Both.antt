@@ -1,36 +1,41 @@
 -- Two calls in a row: their answer, and what they give back. Assumes nothing.
 use mathlib.Core.Path.{_≡_, refl, sym, _∙_, ap}
-use mathlib.Core.Bool.{Bool, true, false, cond, _||_}
-use mathlib.Core.List.{List, [], _∷_, _++_}
+use mathlib.Core.Bool.{Bool, false, cond, _||_}
+use mathlib.Core.List.{List}
 use Prim.Native.Nat.{ℕ, _≤_}
 use lib.ListN.{length, getD, take}
 use lib.Ieee.{Float, nan}
 use borrow.Author.Tests.{eq-eqb, ne-eqb}
 use Rattle.refusal.specs.declared.Answer.{Answer}
 use Rattle.refusal.specs.declared.Answer.the-variants.{Accepted, Symbols, Space}
-use Rattle.refusal.specs.Rows.{Row, numberOf, firstRow}
+use Rattle.refusal.specs.Rows.{numberOf, firstRow}
 use Rattle.trellis.specs.Lists.{laid}
 use Rattle.refusal.specs.RowLaws.{neither}
 use Rattle.isdbs_points.specs.LawsUpto.{length-laid-upto}
 use Rattle.full_frame.specs.declared.Input.{Input}
 use Rattle.full_frame.specs.declared.Input.the-variants.{Header, Main, Burst}
 use Rattle.full_frame.specs.Places.{from, pointsOf, sourceAt, placeIn, inputs, pointIn, fullPart, taken}
-use Rattle.full_frame.specs.Rows.{shortInputs, inputsShort, shortFrame, layRows, takeRows, leaves}
+use Rattle.full_frame.specs.Rows.{inputsShort, shortFrame, layRows, takeRows, leaves}
 use Rattle.full_frame.specs.RowLaws.{inputs-long, LongFrame, frame-long, no-row}
 use Rattle.full_frame.specs.RoundTrips.{taken-laid, full-taken}
+use Rattle.full_frame_trips.specs.Rows.{layTakeRows, takeLayRows}
 
--- ---- the first call's answer, and rows behind its own
-refused-by : (t : Bool) (x a y z : Answer) → (a ≡ y → a ≡ z) → a ≡ cond t x y → a ≡ cond t x z
-refused-by true x a y z f e = e
-refused-by false x a y z f e = f e
+-- ---- the answer by rows 6 and 9, the second of two tests
+abbrev answerBy : (s t u : Bool) → Answer
+answerBy s t u = cond s Symbols (cond (t || u) Space Accepted)
 
-pub refused-behind : (rows below : List Row) (a : Answer) → a ≡ firstRow rows → (numberOf a ≡ 0 → ⊥) → a ≡ firstRow (rows ++ below)
-refused-behind [] below a e n = absurd (n (ap numberOf e))
-refused-behind (row ∷ rows) below a e n =
-    refused-by (row .1) (row .0) a (firstRow rows) (firstRow (rows ++ below)) (λ h. refused-behind rows below a h n) e
+pub by-tests : (a : Answer) {s t u : Bool} (s' t' u' : Bool) → s ≡ s' → t ≡ t' → u ≡ u' → a ≡ answerBy s t u → a ≡ answerBy s' t' u'
+by-tests a {s} {t} {u} s' t' u' e f g h =
+    h ∙ ap (λ (x : Bool). answerBy x t u) e ∙ ap (λ (x : Bool). answerBy s' x u) f ∙ ap (λ (x : Bool). answerBy s' t' x) g
 
-passed-behind : (s t : Bool) (below : Answer) → s ≡ false → t ≡ false → below ≡ cond s Symbols (cond t Space below)
-passed-behind s t below e f = rw (e, f)
+pub none-short : (a : Answer) (s t u : Bool) → a ≡ answerBy s t u → numberOf a ≡ 0 → (s ≡ false) × (t ≡ false) × (u ≡ false)
+none-short a s t u e z = let p = no-row s (t || u) (sym (ap numberOf e) ∙ z) in let q = neither t u (p .1) in (p .0, q .0, q .1)
+
+none-held : (s t : Bool) → s ≡ false → t ≡ false → cond s Symbols (cond t Space Accepted) ≡ Accepted
+none-held s t e f = rw (e, f)
+
+neither-held : (t u : Bool) → t ≡ false → u ≡ false → (t || u) ≡ false
+neither-held t u e f = rw (e, f)
 
 -- ---- what a call leaves: refused, by an equal answer, accepted
 module _ (a : Answer) where
@@ -69,30 +74,51 @@ module _ (a : Answer) (z : numberOf a ≡ 0) (ins : Input → List Float) (out�
       ∙ ap (λ (w : List Float). leaves b (taken i w) old) (accepted-is a (fullPart ins) out₀ z e)
       ∙ ap (λ (w : List Float). leaves b w old) (taken-laid ins out₀ i l)
 
--- both parts
-module _ (a : Answer) (z : numberOf a ≡ 0) (res ims : Input → List Float) (re₀ im₀ re im : List Float) (ea : a ≡ firstRow (layRows res ims re₀ im₀))
-    (er : re ≡ leaves a (fullPart res) re₀) (ei : im ≡ leaves a (fullPart ims) im₀) where
-  lay-tests : ((inputsShort res || inputsShort ims) ≡ false) × (shortFrame (length re₀) (length im₀) ≡ false)
-  lay-tests = no-row (inputsShort res || inputsShort ims) (shortFrame (length re₀) (length im₀)) (sym (ap numberOf ea) ∙ z)
+-- both parts: what the two calls answer and leave, the second's answer being `b`
+pub record LaidTaken (res ims : Input → List Float) (re₀ im₀ re im : List Float) (outs outs' : Input → List Float) (b : Answer) : Type 0 where
+  pub answer : b ≡ firstRow (layTakeRows res ims re₀ im₀ outs outs')
+  pub real : re ≡ leaves b (fullPart res) re₀
+  pub imaginary : im ≡ leaves b (fullPart ims) im₀
+  pub real-back : (i : Input) (x old : List Float) → x ≡ leaves b (taken i re) old → x ≡ leaves b (take (pointsOf i) (res i)) old
+  pub imaginary-back : (i : Input) (x old : List Float) → x ≡ leaves b (taken i im) old → x ≡ leaves b (take (pointsOf i) (ims i)) old
 
-  lay-inputs : (inputsShort res ≡ false) × (inputsShort ims ≡ false)
-  lay-inputs = neither (inputsShort res) (inputsShort ims) (lay-tests .0)
+module _ (res ims : Input → List Float) (re₀ im₀ : List Float) (outs outs' : Input → List Float)
+    (tests : ((inputsShort res || inputsShort ims) ≡ false) × (shortFrame (length re₀) (length im₀) ≡ false) × ((inputsShort outs || inputsShort outs') ≡ false))
+    (re im : List Float) (a : Answer) (ea : a ≡ firstRow (layRows res ims re₀ im₀)) (er : re ≡ leaves a (fullPart res) re₀) (ei : im ≡ leaves a (fullPart ims) im₀)
+    (b : Answer) (eb : b ≡ firstRow (takeRows re im outs outs')) where
+  laid-first : a ≡ Accepted
+  laid-first = ea ∙ none-held (inputsShort res || inputsShort ims) (shortFrame (length re₀) (length im₀)) (tests .0) (tests .1)
 
-  lay-frame : LongFrame (length re₀) (length im₀)
-  lay-frame = frame-long (length re₀) (length im₀) (lay-tests .1)
+  laid-number : numberOf a ≡ 0
+  laid-number = ap numberOf laid-first
 
-  pub lay-take-answer : (b : Answer) (outs outs' : Input → List Float) → b ≡ firstRow (takeRows re im outs outs') → b ≡ firstRow (layRows res ims re₀ im₀ ++ takeRows re₀ im₀ outs outs')
-  lay-take-answer b outs outs' h =
-      h
-      ∙ ap (λ (n : ℕ). cond (shortFrame n (length im)) Symbols (cond (inputsShort outs || inputsShort outs') Space Accepted)) (laid-same a z res re₀ re er (lay-frame .re-long))
-      ∙ ap (λ (n : ℕ). cond (shortFrame (length re₀) n) Symbols (cond (inputsShort outs || inputsShort outs') Space Accepted)) (laid-same a z ims im₀ im ei (lay-frame .im-long))
-      ∙ passed-behind (inputsShort res || inputsShort ims) (shortFrame (length re₀) (length im₀)) (firstRow (takeRows re₀ im₀ outs outs')) (lay-tests .0) (lay-tests .1)
+  laid-inputs : (inputsShort res ≡ false) × (inputsShort ims ≡ false)
+  laid-inputs = neither (inputsShort res) (inputsShort ims) (tests .0)
 
-  pub re-back : (b : Answer) (i : Input) (old : List Float) {x : List Float} → x ≡ leaves b (taken i re) old → x ≡ leaves b (take (pointsOf i) (res i)) old
-  re-back b i old h = part-back a z res re₀ re er b i old (each-long res (lay-inputs .0) i) h
+  laid-frame : LongFrame (length re₀) (length im₀)
+  laid-frame = frame-long (length re₀) (length im₀) (tests .1)
 
-  pub im-back : (b : Answer) (i : Input) (old : List Float) {x : List Float} → x ≡ leaves b (taken i im) old → x ≡ leaves b (take (pointsOf i) (ims i)) old
-  im-back b i old h = part-back a z ims im₀ im ei b i old (each-long ims (lay-inputs .1) i) h
+  taken-second : b ≡ Accepted
+  taken-second =
+      eb
+      ∙ ap (λ (n : ℕ). cond (shortFrame n (length im)) Symbols (cond (inputsShort outs || inputsShort outs') Space Accepted)) (laid-same a laid-number res re₀ re er (laid-frame .re-long))
+      ∙ ap (λ (n : ℕ). cond (shortFrame (length re₀) n) Symbols (cond (inputsShort outs || inputsShort outs') Space Accepted)) (laid-same a laid-number ims im₀ im ei (laid-frame .im-long))
+      ∙ none-held (shortFrame (length re₀) (length im₀)) (inputsShort outs || inputsShort outs') (tests .1) (tests .2)
+
+  lay-take-answer : b ≡ firstRow (layTakeRows res ims re₀ im₀ outs outs')
+  lay-take-answer =
+      taken-second
+      ∙ sym (none-held (inputsShort res || inputsShort ims) (shortFrame (length re₀) (length im₀) || (inputsShort outs || inputsShort outs')) (tests .0) (neither-held (shortFrame (length re₀) (length im₀)) (inputsShort outs || inputsShort outs') (tests .1) (tests .2)))
+
+  pub laid-taken : LaidTaken res ims re₀ im₀ re im outs outs' b
+  laid-taken =
+      record {
+        answer = lay-take-answer;
+        real = by-answer a b (fullPart res) re₀ (laid-first ∙ sym taken-second) er;
+        imaginary = by-answer a b (fullPart ims) im₀ (laid-first ∙ sym taken-second) ei;
+        real-back = λ i x old h. part-back a laid-number res re₀ re er b i old (each-long res (laid-inputs .0) i) h;
+        imaginary-back = λ i x old h. part-back a laid-number ims im₀ im ei b i old (each-long ims (laid-inputs .1) i) h;
+      }
 
 -- ---- taking apart, then laying: one part
 module _ (a : Answer) (z : numberOf a ≡ 0) (full : List Float) (ins₀ ins : Input → List Float) (t : Taken a full ins₀ ins) where
@@ -108,27 +134,48 @@ module _ (a : Answer) (z : numberOf a ≡ 0) (full : List Float) (ins₀ ins : I
   part-again : (b : Answer) (old : List Float) {x : List Float} → 39936 ≤ length full → x ≡ leaves b (fullPart ins) old → x ≡ leaves b (take 39936 full) old
   part-again b old l h = h ∙ ap (λ (w : List Float). leaves b w old) (full-taken full ins ins₀ taken-is l)
 
--- both parts
-module _ (a : Answer) (z : numberOf a ≡ 0) (re im : List Float) (res₀ ims₀ res ims : Input → List Float) (ea : a ≡ firstRow (takeRows re im res₀ ims₀))
-    (tr : Taken a re res₀ res) (ti : Taken a im ims₀ ims) where
-  take-tests : (shortFrame (length re) (length im) ≡ false) × ((inputsShort res₀ || inputsShort ims₀) ≡ false)
-  take-tests = no-row (shortFrame (length re) (length im)) (inputsShort res₀ || inputsShort ims₀) (sym (ap numberOf ea) ∙ z)
+-- both parts: what the two calls answer and leave, the second's answer being `b`
+pub record TakenLaid (re im : List Float) (res₀ ims₀ res ims : Input → List Float) (out out' : List Float) (b : Answer) : Type 0 where
+  pub answer : b ≡ firstRow (takeLayRows re im res₀ ims₀ out out')
+  pub real : (i : Input) → res i ≡ leaves b (taken i re) (res₀ i)
+  pub imaginary : (i : Input) → ims i ≡ leaves b (taken i im) (ims₀ i)
+  pub real-again : (x old : List Float) → x ≡ leaves b (fullPart res) old → x ≡ leaves b (take 39936 re) old
+  pub imaginary-again : (x old : List Float) → x ≡ leaves b (fullPart ims) old → x ≡ leaves b (take 39936 im) old
 
-  take-inputs : (inputsShort res₀ ≡ false) × (inputsShort ims₀ ≡ false)
-  take-inputs = neither (inputsShort res₀) (inputsShort ims₀) (take-tests .1)
+module _ (re im : List Float) (res₀ ims₀ : Input → List Float) (out out' : List Float)
+    (tests : (shortFrame (length re) (length im) ≡ false) × ((inputsShort res₀ || inputsShort ims₀) ≡ false) × (shortFrame (length out) (length out') ≡ false))
+    (res ims : Input → List Float) (a : Answer) (ea : a ≡ firstRow (takeRows re im res₀ ims₀)) (tr : Taken a re res₀ res) (ti : Taken a im ims₀ ims)
+    (b : Answer) (eb : b ≡ firstRow (layRows res ims out out')) where
+  taken-first : a ≡ Accepted
+  taken-first = ea ∙ none-held (shortFrame (length re) (length im)) (inputsShort res₀ || inputsShort ims₀) (tests .0) (tests .1)
 
-  take-frame : LongFrame (length re) (length im)
-  take-frame = frame-long (length re) (length im) (take-tests .0)
+  taken-number : numberOf a ≡ 0
+  taken-number = ap numberOf taken-first
 
-  pub take-lay-answer : (b : Answer) (out out' : List Float) → b ≡ firstRow (layRows res ims out out') → b ≡ firstRow (takeRows re im res₀ ims₀ ++ layRows res₀ ims₀ out out')
-  take-lay-answer b out out' h =
-      h
-      ∙ ap (λ (t : Bool). cond (t || inputsShort ims) Symbols (cond (shortFrame (length out) (length out')) Space Accepted)) (short-same a z re res₀ res tr (take-inputs .0))
-      ∙ ap (λ (t : Bool). cond (inputsShort res₀ || t) Symbols (cond (shortFrame (length out) (length out')) Space Accepted)) (short-same a z im ims₀ ims ti (take-inputs .1))
-      ∙ passed-behind (shortFrame (length re) (length im)) (inputsShort res₀ || inputsShort ims₀) (firstRow (layRows res₀ ims₀ out out')) (take-tests .0) (take-tests .1)
+  taken-inputs : (inputsShort res₀ ≡ false) × (inputsShort ims₀ ≡ false)
+  taken-inputs = neither (inputsShort res₀) (inputsShort ims₀) (tests .1)
 
-  pub re-again : (b : Answer) (old : List Float) {x : List Float} → x ≡ leaves b (fullPart res) old → x ≡ leaves b (take 39936 re) old
-  re-again b old h = part-again a z re res₀ res tr b old (take-frame .re-long) h
+  taken-frame : LongFrame (length re) (length im)
+  taken-frame = frame-long (length re) (length im) (tests .0)
 
-  pub im-again : (b : Answer) (old : List Float) {x : List Float} → x ≡ leaves b (fullPart ims) old → x ≡ leaves b (take 39936 im) old
-  im-again b old h = part-again a z im ims₀ ims ti b old (take-frame .im-long) h
+  laid-second : b ≡ Accepted
+  laid-second =
+      eb
+      ∙ ap (λ (t : Bool). cond (t || inputsShort ims) Symbols (cond (shortFrame (length out) (length out')) Space Accepted)) (short-same a taken-number re res₀ res tr (taken-inputs .0))
+      ∙ ap (λ (t : Bool). cond (inputsShort res₀ || t) Symbols (cond (shortFrame (length out) (length out')) Space Accepted)) (short-same a taken-number im ims₀ ims ti (taken-inputs .1))
+      ∙ none-held (inputsShort res₀ || inputsShort ims₀) (shortFrame (length out) (length out')) (tests .1) (tests .2)
+
+  take-lay-answer : b ≡ firstRow (takeLayRows re im res₀ ims₀ out out')
+  take-lay-answer =
+      laid-second
+      ∙ sym (none-held (shortFrame (length re) (length im)) ((inputsShort res₀ || inputsShort ims₀) || shortFrame (length out) (length out')) (tests .0) (neither-held (inputsShort res₀ || inputsShort ims₀) (shortFrame (length out) (length out')) (tests .1) (tests .2)))
+
+  pub taken-laid-again : TakenLaid re im res₀ ims₀ res ims out out' b
+  taken-laid-again =
+      record {
+        answer = take-lay-answer;
+        real = λ i. by-answer a b (taken i re) (res₀ i) (taken-first ∙ sym laid-second) (tr i);
+        imaginary = λ i. by-answer a b (taken i im) (ims₀ i) (taken-first ∙ sym laid-second) (ti i);
+        real-again = λ x old h. part-again a taken-number re res₀ res tr b old (taken-frame .re-long) h;
+        imaginary-again = λ x old h. part-again a taken-number im ims₀ ims ti b old (taken-frame .im-long) h;
+      }

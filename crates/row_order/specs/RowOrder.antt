@@ -24,6 +24,7 @@ use Rattle.short_best.specs.Readings as short-best
 use Rattle.overlay_encode.specs.Rows.{stringRows, overlayRows}
 use Rattle.full_frame.specs.declared.Input.{Input}
 use Rattle.full_frame.specs.Rows.{layRows, takeRows}
+use Rattle.full_frame_trips.specs.Rows.{layTakeRows, takeLayRows}
 use Rattle.wanted_load.specs.Rows.{wantedRows}
 use Rattle.judge.specs.Rows.{judgeRows}
 use Rattle.mend.specs.Rows.{mendRows}
@@ -90,6 +91,9 @@ module _ (t : Table) (v : ViterbiDecoder) (c : Code) (w : WindowState) (parts : 
       -- full_frame
       ∷ layRows parts parts re im
       ∷ takeRows re im parts parts
+      -- full_frame_trips
+      ∷ layTakeRows parts parts re im parts parts
+      ∷ takeLayRows re im parts parts re im
       -- wanted_load: a load encodes to the frame, or none does
       ∷ wantedRows t i j k false
       ∷ wantedRows t i j k true
