@@ -1,5 +1,6 @@
--- Places of a picture: the bin of a part of a point, and the height of a bar. Assumes nothing.
+-- Places of a picture: the bin of a part of a point, the height of a bar, and the scale of bars. Assumes nothing.
 use mathlib.Core.Bool.{cond}
+use mathlib.Core.List.{List, [], _∷_}
 use Prim.Native.Nat.{ℕ, _*_, _/_}
 use lib.Dec.{leb}
 use lib.Ieee.{Float, binary64, ofBits, neg, lt, add, mul, toUnsigned}
@@ -19,6 +20,15 @@ binAt t =
 unfoldable pub binOf : Float → ℕ
 binOf x = binAt (add binary64 (mul binary64 x (ofBits binary64 0x4050_0000_0000_0000)) (ofBits binary64 0x4058_0000_0000_0000))
 
--- a bar's height where `top` is 320 high
-abbrev pub heightOf : ℕ → ℕ → ℕ
-heightOf n top = n * 320 / top
+-- a bar's height where `top` is 320 high; a larger bar ends with the scale
+unfoldable pub heightOf : ℕ → ℕ → ℕ
+heightOf n top = cond (leb n top) (n * 320 / top) 320
+
+-- docs/BENCH.md: "the first of 5, 10, 25, 50, 100, 250, 500, 1,000 and 2,000 that is enough"; 2,000 where none is
+abbrev pub firstEnough : List ℕ → ℕ → ℕ
+firstEnough [] most = 2000
+firstEnough (top ∷ tops) most = cond (leb most top) top (firstEnough tops most)
+
+-- what one of the scale's five lines stands for
+unfoldable pub unitFor : ℕ → ℕ
+unitFor most = firstEnough (5 ∷ 10 ∷ 25 ∷ 50 ∷ 100 ∷ 250 ∷ 500 ∷ 1000 ∷ []) most / 5

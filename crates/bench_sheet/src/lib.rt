@@ -3,7 +3,7 @@ ghost use mathlib.Core.Path.{_≡_};
 ghost use Prim.Native.Nat.{_*_, _<_, _≤_};
 ghost use lib.ListN.{length};
 ghost use Rattle.bench_sheet.specs.Sheet.{Put, PutNumber};
-ghost use Rattle.bench_sheet.specs.Places.{binAt, binOf, heightOf};
+ghost use Rattle.bench_sheet.specs.Places.{binAt, binOf, heightOf, unitFor};
 
 // The place of a sheet on which something did not fit.
 pub const OVER: usize = 327_681;
@@ -70,7 +70,7 @@ pub fn bin(x: f64) -> usize
 
 // What a line of a bar scale of five stands for, where the greatest bar is `most`.
 pub fn scale_unit(most: usize) -> usize
-    ensures { λ r. ⌜ ((0 < r) × (r ≤ 400)) × (most ≤ 2000 → most ≤ 5 * r) ⌝ }
+    ensures { λ r. ⌜ ((0 < r) × (r ≤ 400)) × (r ≡ unitFor most) ⌝ }
 {
     if most <= 5 {
         return 1;
@@ -102,7 +102,7 @@ pub fn scale_unit(most: usize) -> usize
 // The height of a bar on a scale of five units, 320 high; a bar that is larger ends with the scale.
 pub fn height(n: usize, unit: usize) -> usize
     requires { ⌜ (0 < unit) × (unit ≤ 400) ⌝ }
-    ensures { λ r. ⌜ (r ≤ 320) × (n ≤ 5 * unit → r ≡ heightOf n (5 * unit)) ⌝ }
+    ensures { λ r. ⌜ (r ≤ 320) × (r ≡ heightOf n (5 * unit)) ⌝ }
 {
     if n > 5 * unit {
         return 320;

@@ -1,7 +1,9 @@
-use mathlib.Core.Path.{refl}
+-- `height` meets its contract. Assumes nothing.
 use native.Mathlib.Nat.{div-le-of-le-mul}
 use native.Mathlib.Omega.{arith}
 use borrow.Author.Needs.{needs}
+use borrow.Author.Tests.{le-leb, lt-leb}
+use Rattle.bench_sheet.specs.Places.{heightOf}
 use Rattle.bench_sheet.proofs.height.Statement.{statement}
 use Rattle.bench_sheet.proofs.height.Tie as tie
 
@@ -9,7 +11,8 @@ mul-if1 : tie.Need-mul-if1
 mul-if1 c = search needs
 
 returns : tie.Need-returns
-returns c = (omega arith, λ h. absurd (omega arith))
+unfolding heightOf
+returns c = (omega arith, rw (lt-leb _ _ (c .if1 .taken)))
 
 mul-result : tie.Need-mul-result
 mul-result c = search needs
@@ -21,7 +24,8 @@ div-result : tie.Need-div-result
 div-result c = search needs
 
 returns-2 : tie.Need-returns-2
-returns-2 c = (div-le-of-le-mul _ (omega arith), λ h. refl)
+unfolding heightOf
+returns-2 c = (div-le-of-le-mul _ (omega arith), rw (le-leb _ _ (c .if1 .left)))
 
 pub height-spec : {M : Type 1} → statement M
 height-spec = tie.close (tie.spec mul-if1 returns mul-result mul-result-2 div-result returns-2)
