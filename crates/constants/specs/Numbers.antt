@@ -1,4 +1,4 @@
--- Each bit pattern in a definition that a public contract reaches, as the number that document 01 writes; the ends of the margins have theirs in crate margin_ends.
+-- Each bit pattern in a definition that a public contract reaches, as the number that document 01 or 02 writes; the ends of the margins have theirs in crate margin_ends.
 -- `HasValue x s a b` says that x is finite, has the sign s (true: minus), and is a / b in size. Every law is computed. Assumes nothing.
 use mathlib.Core.Path.{_≡_, refl}
 use mathlib.Core.Bool.{true, false, not, _||_}
@@ -12,6 +12,7 @@ use lib.Ieee.Exact.{HasValue}
 use Rattle.trellis.specs.Lists.{upto}
 use Rattle.trellis.specs.Step.{top, ruled}
 use Rattle.trellis.specs.Run.{startAt, startUnknown}
+use Rattle.best_path.specs.Hard.{soft}
 use Rattle.isdb_fec.specs.Values.{pathLimit, streamLimit}
 use Rattle.isdbs_points.specs.Points.{zero64, one64, root64}
 use Rattle.isdbs_phy.specs.DecodeRows.{partLimit, badScale}
@@ -43,6 +44,15 @@ ruled-out = (refl, refl)
 pub top-none : HasValue (top [] 0) true ((2 ^ 24 - 1) * 2 ^ 104) 1
 unfolding top ofBits
 top-none = (refl, refl)
+
+-- document 02, P6: "soft pairs of +1 for a 0 bit or -1 for a 1 bit"
+pub soft-zero : HasValue (soft 0) false 1 1
+unfolding ofBits
+soft-zero = (refl, refl)
+
+pub soft-one : HasValue (soft 1) true 1 1
+unfolding ofBits
+soft-one = (refl, refl)
 
 -- ---- the rows
 -- "path value not finite or beyond 2^32"
