@@ -1,5 +1,5 @@
 -- Laws of bits and bytes in a run. Assumes nothing.
-use mathlib.Core.Path.{_≡_, refl, sym, _∙_}
+use mathlib.Core.Path.{_≡_, refl, _∙_}
 use mathlib.Core.Bool.{Bool, true, false, cond}
 use mathlib.Core.List.{List, [], _∷_, _++_}
 use Prim.Native.Nat.{ℕ, zero, suc, _+_, _-_, _*_, _/_, _%_, _≤_, _<_}
@@ -9,6 +9,8 @@ use lib.Dec.{ltb, lit<, leb·zero, leb·suc-zero}
 use borrow.Author.Tests.{ltb-true, ltb-false}
 use lib.ListN.{length, getD, drop, replicate, drop-of-length-le}
 use lib.Seq.{drop-cons}
+use Rattle.refusal.specs.declared.Answer.{Answer}
+use Rattle.refusal.specs.Rows.{numberOf, accepted, Said}
 use Rattle.isdbs_combination.specs.declared.Combination.{Combination}
 use Rattle.isdbs_combination.specs.declared.Combination.the-variants.{«Bpsk1_2», «Qpsk1_2», «Qpsk2_3», «Qpsk3_4», «Qpsk5_6», «Qpsk7_8», «Tc8psk2_3»}
 use Rattle.isdbs_combination.specs.declared.Puncture.{Puncture}
@@ -16,13 +18,15 @@ use Rattle.isdbs_combination.specs.declared.Puncture.the-variants.{«R2_3», «
 use Rattle.isdbs_combination.specs.declared.BitPair.{BitPair}
 use Rattle.isdbs_runs.specs.declared.Run.{Run}
 use Rattle.isdbs_core.specs.declared.slots.SlotByte.{SlotByte}
-use Rattle.isdbs_core.specs.declared.slots.SlotByte.the-variants.{Nothing}
+use Rattle.isdbs_core.specs.declared.slots.SlotByte.the-variants.{Nothing, Refused}
 use Rattle.isdbs_combination.specs.Lists.{padded}
 use Rattle.isdbs_combination.specs.Combinations.{pairsOf, periodOf, unitOf}
-use Rattle.isdbs_tables.specs.Tables.{marked}
-use Rattle.isdbs_runs.specs.RunsOf.{noRun}
+use Rattle.isdbs_tables.specs.declared.Table.{Table}
+use Rattle.isdbs_tables.specs.Tables.{tableAnswer, marked}
+use Rattle.isdbs_runs.specs.RunsOf.{noRun, runsOf}
 use Rattle.isdbs_runs.specs.RunLaws.{Whole}
-use Rattle.isdbs_core.specs.Symbols.{pairHolds, firstPair, symbolOfBit, markedBefore, hasSlot, runByte, byteIn}
+use Rattle.isdbs_core.specs.Symbols.{pairHolds, firstPair, symbolOfBit, markedBefore, hasSlot, runByte, byteIn, slotByteSymbol}
+use Rattle.isdbs_core.specs.Answers.{byteSaid}
 
 step-le : (b : Bool) (n k : ℕ) → n ≤ k → cond b 0 (suc n) ≤ suc k
 step-le true n k h = omega arith
@@ -206,3 +210,11 @@ byte-append (r ∷ rs) n slot byte = rw (byte-append rs n slot byte)
 
 pub byte-padded : (n : ℕ) (rs : List Run) (slot byte : ℕ) → byteIn (padded n noRun rs) slot byte ≡ byteIn rs slot byte
 byte-padded n rs slot byte = byte-append rs (n - length rs) slot byte
+
+-- ---- document 01's number and values of a slot's byte: 0 and the place, 0 and none, or the table's row and none
+said-by : (b : Bool) (x : SlotByte) (a : Answer) → byteSaid (cond b x (Refused a)) ≡ cond {A = Said} b (byteSaid x) (numberOf a, [])
+said-by true x a = refl
+said-by false x a = refl
+
+pub byte-said : (t : Table) (slot byte : ℕ) → byteSaid (slotByteSymbol t slot byte) ≡ cond {A = Said} (accepted (tableAnswer t)) (byteSaid (byteIn (runsOf t) slot byte)) (numberOf (tableAnswer t), [])
+byte-said t slot byte = said-by (accepted (tableAnswer t)) (byteIn (runsOf t) slot byte) (tableAnswer t)

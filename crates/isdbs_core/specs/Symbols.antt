@@ -5,7 +5,7 @@ use Prim.Native.Nat.{ℕ, zero, suc, _+_, _-_, _*_, _/_, _%_}
 use lib.Dec.{leb, ltb, eqb}
 use lib.ListN.{length}
 use Rattle.refusal.specs.declared.Answer.the-variants.{Position}
-use Rattle.refusal.specs.Rows.{numberOf, accepted, Row, firstRow, Said, says}
+use Rattle.refusal.specs.Rows.{accepted, Row, firstRow, Said, says}
 use Rattle.isdbs_combination.specs.declared.Combination.{Combination}
 use Rattle.isdbs_combination.specs.declared.MaybePuncture.{MaybePuncture}
 use Rattle.isdbs_combination.specs.declared.MaybePuncture.the-variants.{Some, None}
@@ -14,8 +14,7 @@ use Rattle.isdbs_combination.specs.declared.BitPair.{BitPair}
 use Rattle.isdbs_tables.specs.declared.Table.{Table}
 use Rattle.isdbs_runs.specs.declared.Run.{Run}
 use Rattle.isdbs_core.specs.declared.slots.SlotByte.{SlotByte}
-use Rattle.isdbs_core.specs.declared.slots.SlotByte.the-variants.{At, Nothing}
-use Rattle.isdbs_core.specs.Answers.{byteSaid}
+use Rattle.isdbs_core.specs.declared.slots.SlotByte.the-variants.{At, Nothing, Refused}
 use Rattle.isdbs_frame.specs.Frame.{slotBytes, main, placeOf}
 use Rattle.isdbs_combination.specs.Combinations.{efficiencyOf, punctureOf, pairsOf, periodOf}
 use Rattle.isdbs_tables.specs.Tables.{tableAnswer, marked}
@@ -67,5 +66,6 @@ byteIn [] slot byte = Nothing
 byteIn (r ∷ rs) slot byte =
     cond (hasSlot r slot) (runByte r (slot - r .«slot_start») byte) (byteIn rs slot byte)
 
-abbrev pub slotByteSymbol : Table → ℕ → ℕ → Said
-slotByteSymbol t slot byte = cond (accepted (tableAnswer t)) (byteSaid (byteIn (runsOf t) slot byte)) (numberOf (tableAnswer t), [])
+-- the answer of a byte of a slot: the rows of the table, and where none holds the place or nothing
+abbrev pub slotByteSymbol : Table → ℕ → ℕ → SlotByte
+slotByteSymbol t slot byte = cond (accepted (tableAnswer t)) (byteIn (runsOf t) slot byte) (Refused (tableAnswer t))

@@ -20,7 +20,6 @@ use refusal::Answer;
 ghost use mathlib.Core.Path.{_≡_};
 ghost use Prim.Native.Nat.{_+_, _<_, _≤_};
 ghost use Rattle.isdbs_frame.specs.Answers.{positionSaid};
-ghost use Rattle.isdbs_core.specs.Answers.{byteSaid};
 ghost use Rattle.isdbs_combination.specs.Combinations.{pairsOf};
 ghost use Rattle.isdbs_runs.specs.RunsOf.{RunFits};
 ghost use Rattle.isdbs_runs.specs.RunLaws.{Whole};
@@ -111,15 +110,13 @@ fn marked_before(c: Combination, k: usize) -> usize
 
 // Byte of slot k of a run.
 fn run_byte(r: Run, k: usize, byte: usize) -> SlotByte
-    requires { ⌜ (r .«slot_start» + k < r .«slot_end») × RunFits r × Whole r ⌝ }
+    requires { ⌜ (r .«slot_start» + k < r .«slot_end») × RunFits r × Whole r × (byte < 203) ⌝ }
     ensures { λ a. ⌜ a ≡ runByte r k byte ⌝ }
 {
     let c = r.combination;
     if is_marked(c, k) {
-        if byte < SLOT_BYTES {
-            let m = r.symbol_start + symbol_of_bit(c, marked_before(c, k) * SLOT_BITS + 8 * byte);
-            return SlotByte::At(main_place(m));
-        }
+        let m = r.symbol_start + symbol_of_bit(c, marked_before(c, k) * SLOT_BITS + 8 * byte);
+        return SlotByte::At(main_place(m));
     }
     SlotByte::Nothing
 }
@@ -133,7 +130,7 @@ fn has_slot(r: Run, slot: usize) -> bool
 
 // Byte of a slot, in the run that has the slot.
 fn byte_in(runs: [Run; 4], slot: usize, byte: usize) -> SlotByte
-    requires { ⌜ Each RunFits runs × Each Whole runs ⌝ }
+    requires { ⌜ Each RunFits runs × Each Whole runs × (byte < 203) ⌝ }
     ensures { λ a. ⌜ a ≡ byteIn runs slot byte ⌝ }
 {
     for i in 0..4 {
@@ -147,14 +144,16 @@ fn byte_in(runs: [Run; 4], slot: usize, byte: usize) -> SlotByte
 
 // Symbol within the frame at which byte `byte` of slot `slot` starts.
 pub fn slot_byte_symbol(t: Table, slot: usize, byte: usize) -> SlotByte
-    ensures { λ r. ⌜ byteSaid r ≡ slotByteSymbol t slot byte ⌝ }
+    ensures { λ r. ⌜ r ≡ slotByteSymbol t slot byte ⌝ }
 {
     let all = runs(t);
     let answer = all.answer;
-    if refusal::number(answer) == 0 {
-        let rs = all.runs;
-        byte_in(rs, slot, byte)
-    } else {
-        SlotByte::Refused(answer)
+    if refusal::number(answer) != 0 {
+        return SlotByte::Refused(answer);
     }
+    if byte >= SLOT_BYTES {
+        return SlotByte::Nothing;
+    }
+    let rs = all.runs;
+    byte_in(rs, slot, byte)
 }

@@ -7,7 +7,7 @@ use Rattle.isdbs_core.specs.SymbolLaws.{byte-more, byte-end}
 use Rattle.isdbs_core.specs.Symbols.{byteIn}
 use borrow.Author.Needs.{needs}
 use lib.ListN.{length, getD, drop}
-use mathlib.Core.Path.{_≡_, refl, sym, _∙_, ap}
+use mathlib.Core.Path.{_≡_, refl, sym, _∙_}
 use native.Mathlib.Omega.{arith}
 use Rattle.isdbs_core.proofs.slots.byte_in.Statement.{statement}
 use Rattle.isdbs_core.proofs.slots.byte_in.Tie as tie
@@ -46,7 +46,7 @@ run-byte-requires c κs =
     let four : length runs ≡ 4 = search needs in
     let fits = each-at RunFits runs noRun (at .loop .i) (at .before .pre .0) (omega arith) in
     let whole = each-at Whole runs noRun (at .loop .i) (at .before .pre .1) (omega arith) in
-    (omega arith, fits, whole)
+    (omega arith, fits, whole, at .before .pre .2)
 
 returns : tie.Need-returns Inv-loop μ-loop
 returns c =

@@ -1,14 +1,15 @@
 -- `slot_byte_symbol` meets its contract. Assumes nothing.
 use Rattle.refusal.specs.RowLaws.{accepts, refuses}
 use Rattle.isdbs_runs.specs.PlanLaws.{runs-answer, runs-are, runs-in, runs-units}
-use Rattle.isdbs_core.specs.Answers.{byteSaid}
 use Rattle.isdbs_runs.specs.RunsOf.{runsOf}
 use Rattle.isdbs_core.specs.SymbolLaws.{byte-padded}
 use Rattle.isdbs_core.specs.Symbols.{byteIn}
 use Rattle.isdbs_tables.specs.Tables.{tableAnswer}
 use Rattle.isdbs_runs.specs.declared.Run.{Run}
 use mathlib.Core.List.{List}
-use mathlib.Core.Path.{_≡_, refl, sym, _∙_, ap}
+use borrow.Author.Tests.{le-ltb}
+use Rattle.isdbs_core.proofs.Bytes.{byte-none}
+use mathlib.Core.Path.{sym, _∙_, ap}
 use Rattle.isdbs_core.proofs.slots.slot_byte_symbol.Statement.{statement}
 use Rattle.isdbs_core.proofs.slots.slot_byte_symbol.Tie as tie
 
@@ -18,35 +19,45 @@ runs-requires c κs = tt
 number-requires : tie.Need-number-requires
 number-requires c κs = tt
 
-byte-in-requires : tie.Need-byte-in-requires
-byte-in-requires c κs =
-    let st = c .before .before .before in
-    let t = st .before .args .t in
-    let r = st .runs .result in
-    let e = st .runs .ensures in
-    let ok = accepts (r .answer) (tableAnswer t) _ (runs-answer t r e) (c .before .before .number .ensures) (c .before .if1 .taken) in
-    (runs-in t r e ok, runs-units t r e ok)
-
 returns : tie.Need-returns
 returns c =
-    let st = c .before .before .before .before in
-    let t = st .before .args .t in
-    let r = st .runs .result in
-    let e = st .runs .ensures in
-    let ok = accepts (r .answer) (tableAnswer t) _ (runs-answer t r e) (c .before .before .before .number .ensures) (c .before .before .if1 .taken) in
-    let slot = st .before .args .slot in
-    let byte = st .before .args .byte in
-    ap byteSaid (c .byte-in .ensures ∙ ap (λ (l : List Run). byteIn l slot byte) (runs-are t r e ok) ∙ byte-padded 4 (runsOf t) slot byte) ∙ rw ok
-
-returns-2 : tie.Need-returns-2
-returns-2 c =
     let st = c .before .before in
     let t = st .before .args .t in
     let r = st .runs .result in
     let e = st .runs .ensures in
-    let no = refuses (r .answer) (tableAnswer t) _ (runs-answer t r e) (c .before .number .ensures) (c .if1 .left) in
+    let no = refuses (r .answer) (tableAnswer t) _ (runs-answer t r e) (c .before .number .ensures) (c .if1 .taken) in
     rw (runs-answer t r e, no)
+
+returns-2 : tie.Need-returns-2
+returns-2 c =
+    let st = c .before .before .before in
+    let t = st .before .args .t in
+    let r = st .runs .result in
+    let e = st .runs .ensures in
+    let ok = accepts (r .answer) (tableAnswer t) _ (runs-answer t r e) (c .before .before .number .ensures) (c .before .if1 .left) in
+    let byte = st .before .args .byte in
+    sym (byte-none (runsOf t) (st .before .args .slot) byte (le-ltb byte 203 (c .if2 .taken))) ∙ rw ok
+
+byte-in-requires : tie.Need-byte-in-requires
+byte-in-requires c κs =
+    let st = c .before .before .before .before in
+    let t = st .before .args .t in
+    let r = st .runs .result in
+    let e = st .runs .ensures in
+    let ok = accepts (r .answer) (tableAnswer t) _ (runs-answer t r e) (c .before .before .before .number .ensures) (c .before .before .if1 .left) in
+    (runs-in t r e ok, runs-units t r e ok, c .before .if2 .left)
+
+returns-3 : tie.Need-returns-3
+returns-3 c =
+    let st = c .before .before .before .before .before in
+    let t = st .before .args .t in
+    let r = st .runs .result in
+    let e = st .runs .ensures in
+    let ok = accepts (r .answer) (tableAnswer t) _ (runs-answer t r e) (c .before .before .before .before .number .ensures) (c .before .before .before .if1 .left) in
+    let slot = st .before .args .slot in
+    let byte = st .before .args .byte in
+    c .byte-in .ensures ∙ ap (λ (l : List Run). byteIn l slot byte) (runs-are t r e ok) ∙ byte-padded 4 (runsOf t) slot byte ∙ rw ok
 
 pub slot-byte-symbol-spec : {M : Type 1} → statement M
 slot-byte-symbol-spec =
-    tie.close (tie.spec runs-requires number-requires byte-in-requires returns returns-2)
+    tie.close (tie.spec runs-requires number-requires returns returns-2 byte-in-requires returns-3)
