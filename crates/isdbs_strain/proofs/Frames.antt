@@ -33,6 +33,7 @@ use Rattle.strain.specs.Marks.{marked}
 use Rattle.isdbs_strain.specs.declared.RunCount.{RunCount}
 use Rattle.isdbs_strain.specs.Pieces.{runStrain, RunCounted}
 use Rattle.isdbs_strain.proofs.Slots as slots
+use Rattle.isdbs_strain.proofs.Slots.{from}
 
 -- the strain of slot j of a list of runs
 abbrev pub listStrain : List Run → List ℕ → ℕ → List ℕ → ℕ → ℕ
@@ -66,10 +67,6 @@ slot-steps-few «Qpsk3_4» = omega arith
 slot-steps-few «Qpsk5_6» = omega arith
 slot-steps-few «Qpsk7_8» = omega arith
 slot-steps-few «Tc8psk2_3» = omega arith
-
--- what stands from a place of a slice on
-abbrev pub from : ℕ → List ℕ → List ℕ
-from step l = take (length l - step) (drop step l)
 
 module _ (count : ℕ) (list : List Run) (l : RunList count list) (i : ℕ) (h : i < count) (s : ℕ) (ms us : List ℕ) (step : ℕ) where
   abbrev r : Run

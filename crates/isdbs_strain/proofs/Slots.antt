@@ -1,15 +1,18 @@
 -- A slot more of a run. Assumes nothing.
 use mathlib.Core.Path.{_≡_, refl, sym, _∙_}
 use mathlib.Core.List.{List}
-use Prim.Native.Nat.{ℕ, _+_, _*_, _<_, _≤_}
+use Prim.Native.Nat.{ℕ, _+_, _-_, _*_, _<_, _≤_}
 use native.Mathlib.Nat.{mul-zero, mul-suc, mul-le-mul-left, mul-le-mul}
 use native.Mathlib.Numerals.{add-one}
-use lib.ListN.{length, drop, set}
+use native.Mathlib.Omega.{arith}
+use lib.ListN.{length, take, drop, set, length-drop}
 use lib.Seq.{getD-drop}
 use Rattle.trellis.specs.Lists.{upto}
 use Rattle.trellis.specs.Code.{stateAt}
 use Rattle.isdbs_points.specs.LawsState.{label-shift}
+use Rattle.isdbs_metrics.specs.Steps.{Bits}
 use Rattle.isdbs_pack.proofs.Packing.{state-more, byte-more}
+use Rattle.isdbs_pack.proofs.FrameRuns.{tail-is}
 use Rattle.strain.specs.Counts.{summed}
 use Rattle.strain.specs.CountsLaws.{summed-same, summed-parts, summed-few}
 use Rattle.strain.specs.Marks.{marked}
@@ -40,6 +43,22 @@ pub record Within (w v n : ℕ) : Type 0 where
 pub within : (w v n : ℕ) → w ≤ 1624 → n ≤ 48 → v < n → Within w v n
 within w v n g h l = record { fits = slot-fits w v n l; few = run-steps-few w n g h }
 
+-- what stands from a place of a slice on
+abbrev pub from : ℕ → List ℕ → List ℕ
+from step l = take (length l - step) (drop step l)
+
+-- slot v of n lies within what stands from its first step on
+pub marks-from : (w v n : ℕ) (ms : List ℕ) → Within w v n → w * n ≤ length ms → w ≤ length (from (w * v) ms)
+marks-from w v n ms q g =
+    let f = q .fits in
+    let d = length-drop (w * v) ms in
+    rw (tail-is (w * v) ms) (omega arith)
+
+pub bits-from : (w v n : ℕ) (us : List ℕ) → Within w v n → w * n ≤ length us → Bits us (w * n) → Bits (from (w * v) us) w
+bits-from w v n us q g b =
+    let f = q .fits in
+    rw (tail-is (w * v) us) (λ i h. rw (getD-drop (w * v) us i 0) (b (w * v + i) (omega arith)))
+
 module _ (w : ℕ) (ms us : List ℕ) (start : ℕ) (counts₀ : List ℕ) where
   pub run-first : start < 64 → RunCounted w ms us start 0 (runCount 0 start) counts₀ counts₀
   unfolding summed stateAt upto
@@ -54,10 +73,11 @@ module _ (w : ℕ) (ms us : List ℕ) (start : ℕ) (counts₀ : List ℕ) where
       (λ i l. rw (getD-drop (w * v) ms i 0, e, ← label-shift start us (w * v) (drop (w * v) us) w (λ j g. sym (getD-drop (w * v) us j 0)) i l))
 
   pub run-next : (v sum state : ℕ) (counts : List ℕ) (r : Slot) → v < length counts₀ → RunCounted w ms us start v (runCount sum state) counts₀ counts
-      → Counted (drop (w * v) ms) (drop (w * v) us) state w r
+      → Counted (from (w * v) ms) (from (w * v) us) state w r
       → RunCounted w ms us start (v + 1) (runCount (sum + r .count) (r .state)) counts₀ (set counts v (r .count))
   unfolding summed
-  run-next v sum state counts r room h k =
+  run-next v sum state counts r room h own =
+      let k : Counted (drop (w * v) ms) (drop (w * v) us) state w r = rw (tail-is (w * v) ms, tail-is (w * v) us) at own in
       let e : r .count ≡ runStrain w ms start us v = k .count-is ∙ slot-is v state (h .state-is) in
       record {
         small = k .small;

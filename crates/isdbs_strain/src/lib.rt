@@ -15,7 +15,7 @@ ghost use Rattle.isdbs_decode.specs.Scales.{receivedBy};
 ghost use Rattle.isdbs_decode.specs.Runs.{FrameRead};
 ghost use Rattle.strain.specs.Counts.{summed};
 ghost use Rattle.strain.specs.Strain.{StrainLaid};
-ghost use Rattle.isdbs_strain.specs.Pieces.{Labels, Counted, RunCounted, frameStrain};
+ghost use Rattle.isdbs_strain.specs.Pieces.{Labels, Counted, RunCounted, frameStrain, FrameCounted};
 
 // The steps of the longest frame.
 const MARKS: usize = 68_208;
@@ -245,7 +245,7 @@ fn count_strain(p: Plan, start: usize, marks: &[u8], bits: &[u8], counts: &mut [
     sum
 }
 
-// A whole frame with room for its marks.
+// A whole frame with room for its marks: it is counted by these and the final bits.
 fn decode_marked(
     p: Plan,
     first: bool,
@@ -260,7 +260,7 @@ fn decode_marked(
 ) -> u32
     requires { ⌜ Planned p × (mainSymbols ≤ length (now re)) × (mainSymbols ≤ length (now im)) × (frameWords ≤ length (now decisions)) × (frameSteps (p .table) + 16 ≤ length (now bits)) × (loadBytes (p .table) ≤ length (now bytes)) × (validTotal (p .table) ≤ length (now counts)) ⌝ }
     ensures read { λ _. ⌜ FrameRead (p .table) (receivedBy (now (re .entry)) (now (im .entry)) (o .mapping) (o .scales)) (o .«known_start») first (now (decisions .entry)) (now (decisions .exit)) (now (bits .entry)) (now (bits .exit)) (now (bytes .entry)) (now (bytes .exit)) ⌝ }
-    ensures strain { λ r. ⌜ StrainLaid (p .table) (receivedBy (now (re .entry)) (now (im .entry)) (o .mapping) (o .scales)) (o .«known_start») first (now (counts .entry)) (now (counts .exit)) r ⌝ }
+    ensures counted { λ r. ⌜ FrameCounted (p .table) (receivedBy (now (re .entry)) (now (im .entry)) (o .mapping) (o .scales)) (o .«known_start») first (now (marks .exit)) (now (counts .entry)) (now (counts .exit)) r ⌝ }
 {
     decode(p, first, o, re, im, decisions, bits, bytes, marks);
     let end = p.steps + 16;

@@ -1,14 +1,12 @@
 -- `count_run` meets its contract. Assumes nothing.
 use borrow.Author.Needs.{needs}
 use native.Mathlib.Omega.{arith}
-use Prim.Native.Nat.{_+_, _-_, _*_, _≤_}
+use Prim.Native.Nat.{_-_, _≤_}
 use mathlib.Core.Path.{_≡_, refl, _∙_}
-use lib.ListN.{length, drop, length-drop, length-set}
-use lib.Seq.{getD-drop}
-use Rattle.isdbs_pack.proofs.FrameRuns.{tail-is}
-use Rattle.isdbs_strain.specs.Pieces.{Counted, RunCounted}
+use lib.ListN.{length, length-set}
+use Rattle.isdbs_strain.specs.Pieces.{RunCounted}
 use Rattle.isdbs_strain.proofs.Counting.{count-few}
-use Rattle.isdbs_strain.proofs.Slots.{runCount, within, run-first, run-few, run-next}
+use Rattle.isdbs_strain.proofs.Slots.{runCount, within, marks-from, bits-from, run-first, run-few, run-next}
 use Rattle.isdbs_strain.proofs.count_run.Statement.{statement}
 use Rattle.isdbs_strain.proofs.count_run.Tie as tie
 
@@ -74,18 +72,12 @@ count-slot-requires c κs =
     let st = c .before .before .before .before .before .before .before in
     let at = c .before .before .before .loop in
     let l = c .before .before .loop-test .taken in
-    let q = within (st .args .w) (at .v) (st .args .n) (st .pre .1) (st .pre .2) l in
-    let from = st .args .w * at .v in
-    let ms = st .args .marks .now in
-    let us = st .args .bits .now in
-    let dm = length-drop from ms in
-    let du = length-drop from us in
-    rw (tail-is from ms, tail-is from us) (
+    let q = within (st .args .w) (at .v) (st .args .n) (st .pre .1) (st .pre .2) l in (
       st .pre .0,
       st .pre .1,
-      omega arith,
-      omega arith,
-      λ i h. rw (getD-drop from us i 0) (st .pre .5 (from + i) (omega arith)),
+      marks-from (st .args .w) (at .v) (st .args .n) (st .args .marks .now) q (st .pre .3),
+      marks-from (st .args .w) (at .v) (st .args .n) (st .args .bits .now) q (st .pre .4),
+      bits-from (st .args .w) (at .v) (st .args .n) (st .args .bits .now) q (st .pre .4) (st .pre .5),
       at .inv .2 .small,
     )
 
@@ -117,15 +109,10 @@ loop-again c =
     let st = c .before .before .before .before .before .before .before .before .before in
     let at = c .before .before .before .before .before .loop in
     let l = c .before .before .before .before .loop-test .taken in
-    let q = within (st .args .w) (at .v) (st .args .n) (st .pre .1) (st .pre .2) l in
-    let from = st .args .w * at .v in
-    let ms = st .args .marks .now in
-    let us = st .args .bits .now in
-    let ks = c .before .count-slot in
-    let k : Counted (drop from ms) (drop from us) (at .state) (st .args .w) (ks .result) = rw (tail-is from ms, tail-is from us) at (ks .ensures) in (
+    let ks = c .before .count-slot in (
       omega arith,
       length-set (at .counts) (at .v) (ks .result .count) ∙ at .inv .1,
-      run-next (st .args .w) ms us (st .args .start) (st .args .counts .now) (at .v) (at .sum) (at .state) (at .counts) (ks .result) (omega arith) (at .inv .2) k,
+      run-next (st .args .w) (st .args .marks .now) (st .args .bits .now) (st .args .start) (st .args .counts .now) (at .v) (at .sum) (at .state) (at .counts) (ks .result) (omega arith) (at .inv .2) (ks .ensures),
     )
 
 same-length : tie.Need-same-length Inv-loop μ-loop

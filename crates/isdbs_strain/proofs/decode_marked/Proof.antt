@@ -1,10 +1,11 @@
 -- `decode_marked` meets its contract. Assumes nothing.
+use mathlib.Core.Path.{_∙_}
 use native.Mathlib.Omega.{arith}
 use Rattle.isdbs_points.specs.Sizes.{few-steps}
 use Rattle.isdbs_metrics.specs.Reading.{decodedBits}
 use Rattle.isdbs_decode.specs.Scales.{receivedBy}
 use Rattle.isdbs_decode.specs.LawsDecoded.{decoded-count, decoded-binary, binary-at}
-use Rattle.isdbs_strain.proofs.Whole.{steps-are, front, strain-laid}
+use Rattle.isdbs_strain.proofs.Whole.{steps-are, front, final-is, marks-are}
 use borrow.Author.Needs.{needs}
 use Rattle.isdbs_strain.proofs.decode_marked.Statement.{statement}
 use Rattle.isdbs_strain.proofs.decode_marked.Tie as tie
@@ -75,10 +76,10 @@ returns c =
     let p = st .args .p in
     let rx = receivedBy (st .args .re .now) (st .args .im .now) (st .args .o .mapping) (st .args .o .scales) in
     let read = c .before .before .before .before .before .before .before .before .before .before .before .before .before .before .before .before .decode .ensures in
-    let f = front p rx (st .args .o .«known_start») (st .args .first) _ (st .args .bits .now) (st .pre .0) (read .0 .decoded) in
+    let f = front p rx (st .args .o .«known_start») (st .args .first) _ (st .args .bits .now) (st .pre .0) (read .0 .decoded) ∙ final-is (p .table) rx (st .args .o .«known_start») (st .args .first) in
     let e = c .before .before .before .before .before .before .before .before .start-state .ensures .0 in
     let k = rw (f, e) at (c .before .before .count-strain .ensures) in
-    (read .0, strain-laid (p .table) rx (st .args .o .«known_start») (st .args .first) (st .pre .0 .accepted) _ _ (read .1) _ _ _ (k .0) (k .1))
+    (read .0, record { marks-are = marks-are (p .table) rx _ _ (read .1); counts-are = k .0; sum-is = k .1 })
 
 pub decode-marked-spec : {M : Type 1} → statement M
 decode-marked-spec =
