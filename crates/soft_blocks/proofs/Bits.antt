@@ -1,12 +1,12 @@
 -- The pattern of an f64 without its sign. Assumes nothing.
 use mathlib.Core.Path.{_≡_, refl, sym, ap, _∙_, subst}
 use mathlib.Core.Bool.{Bool, true, false, not, cond}
-use Prim.Native.Nat.{ℕ, zero, suc, _+_, _/_, _%_, _≤_, _<_}
+use Prim.Native.Nat.{ℕ, zero, suc, _+_, _/_, _%_, _<_}
 use native.Mathlib.Nat.{mod-lt}
 use native.Mathlib.Omega.{arith}
 use borrow.Author.Tests.{lt-leb}
 use lib.Dec.{T, eqb, leb, lit≤}
-use lib.Ieee.{Float, nan, inf, fin, Format, binary64, prec, low, ones, hid, top, fits, isNan, odd, ofFields, ofBits, toBits, nanBits}
+use lib.Ieee.{Float, nan, inf, fin, Format, binary64, prec, low, ones, hid, fits, isNan, odd, ofFields, ofBits, toBits, nanBits}
 use lib.Ieee.Bits.{ofBits-toBits, nanBits-is}
 use Rattle.isdbs_metrics.specs.Reading.{absolute}
 

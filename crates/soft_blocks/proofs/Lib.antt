@@ -1,2 +1,4 @@
 pub mod Fill
 pub mod Bits
+pub mod ShortRounding
+pub mod Range

@@ -1,12 +1,103 @@
-// The soft values of a block of parts, times the scale.
+// The soft values of a block of parts, times the scale. Where all parts are zero or in the range of the f32's normal numbers, in loops without a branch, which the compiler makes vector code of.
 use isdbs_soft::soft;
 ghost use mathlib.Core.Path.{_≡_};
-ghost use Prim.Native.Nat.{_≤_};
+ghost use mathlib.Core.Bool.{true};
+ghost use Prim.Native.Nat.{_%_, _≤_, _<_};
 ghost use lib.ListN.{length, getD};
-ghost use lib.Ieee.{nan, mul, binary32};
+ghost use lib.Ieee.{nan, mul, binary32, binary64, toBits};
 ghost use Rattle.trellis.specs.Lists.{upto, laid};
+ghost use Rattle.isdbs_soft.specs.Narrowed.{Narrowed};
 ghost use Rattle.isdbs_soft.specs.Soft.{softOf};
 ghost use Rattle.isdbs_metrics.specs.Reading.{absolute};
+ghost use Rattle.soft_blocks.specs.Range.{Between, InRange, AllInRange};
+
+// The pattern of |x|; of a zero that of 2^-126, and 0 of a NaN.
+fn range_bits(x: f64) -> u64
+    ensures { λ r. ⌜ (r < 0x8000_0000_0000_0000) × (Between r → InRange x) ⌝ }
+{
+    if x != x {
+        return 0;
+    }
+    if x == 0.0 {
+        return 0x3810_0000_0000_0000;
+    }
+    f64::to_bits(x) % 0x8000_0000_0000_0000
+}
+
+// A word whose highest bit is set where x is out of the range: of the sum from 2^128 on, of the difference below 2^-126.
+fn outside(x: f64) -> u64
+    ensures { λ r. ⌜ (r < 0x8000_0000_0000_0000 → InRange x) ⌝ }
+{
+    let bits = range_bits(x);
+    (bits + 0x3810_0000_0000_0000) | (0xb80f_ffff_ffff_ffff - bits)
+}
+
+// Whether the first n values are all in the range.
+fn all_in_range(xs: &[f64], n: usize) -> bool
+    requires { ⌜ n ≤ length (now xs) ⌝ }
+    ensures { λ r. ⌜ (r ≡ true → AllInRange (now (xs .entry)) n) ⌝ }
+{
+    let mut some: u64 = 0;
+    for i in 0..n {
+        some = some | outside(xs[i]);
+    }
+    some < 0x8000_0000_0000_0000
+}
+
+// The pattern of the f32 nearest to the f64 of this pattern, both without the sign: the 29 digits dropped are rounded by a sum that carries above a half, and at a half where the last digit kept is odd.
+fn near(bits: u64) -> u64
+    requires { ⌜ Between bits ⌝ }
+    ensures { λ r. ⌜ Narrowed bits r ⌝ }
+{
+    (bits - 0x37ff_ffff_f000_0001 + (bits >> 29) % 2) >> 29
+}
+
+// The same of x, whose pattern without the sign this is.
+fn near_or_zero(x: f64, bits: u64) -> u64
+    requires { ⌜ InRange x × (bits ≡ toBits binary64 x % 0x8000_0000_0000_0000) ⌝ }
+    ensures { λ r. ⌜ Narrowed bits r ⌝ }
+{
+    if x == 0.0 { 0 } else { near(bits) }
+}
+
+// soft of a value in the range.
+fn near_signed(x: f64) -> f32
+    requires { ⌜ InRange x ⌝ }
+    ensures { λ r. ⌜ r ≡ softOf x ⌝ }
+{
+    let bits = f64::to_bits(x);
+    let magnitude = near_or_zero(x, bits % 0x8000_0000_0000_0000);
+    f32::from_bits(((bits >> 63) * 0x8000_0000 + magnitude) as u32)
+}
+
+// soft of its magnitude.
+fn near_magnitude(x: f64) -> f32
+    requires { ⌜ InRange x ⌝ }
+    ensures { λ r. ⌜ r ≡ softOf (absolute x) ⌝ }
+{
+    let magnitude = near_or_zero(x, f64::to_bits(x) % 0x8000_0000_0000_0000);
+    f32::from_bits(magnitude as u32)
+}
+
+// soft of each of the first n values, all in the range.
+fn near_each(xs: &[f64], n: usize, out: &mut [f32])
+    requires { ⌜ (n ≤ length (now xs)) × (n ≤ length (now out)) × AllInRange (now xs) n ⌝ }
+    ensures { λ _. ⌜ now (out .exit) ≡ laid (upto (λ i. softOf (getD (now (xs .entry)) i nan)) n) (now (out .entry)) ⌝ }
+{
+    for i in 0..n {
+        out[i] = near_signed(xs[i]);
+    }
+}
+
+// soft of the magnitude of each.
+fn near_magnitudes(xs: &[f64], n: usize, out: &mut [f32])
+    requires { ⌜ (n ≤ length (now xs)) × (n ≤ length (now out)) × AllInRange (now xs) n ⌝ }
+    ensures { λ _. ⌜ now (out .exit) ≡ laid (upto (λ i. softOf (absolute (getD (now (xs .entry)) i nan))) n) (now (out .entry)) ⌝ }
+{
+    for i in 0..n {
+        out[i] = near_magnitude(xs[i]);
+    }
+}
 
 // The magnitude of x.
 fn unsigned(x: f64) -> f64
@@ -38,6 +129,30 @@ fn magnitude_each(xs: &[f64], n: usize, out: &mut [f32])
     }
 }
 
+// soft of each of the first n values.
+fn soft_values(xs: &[f64], n: usize, out: &mut [f32])
+    requires { ⌜ (n ≤ length (now xs)) × (n ≤ length (now out)) ⌝ }
+    ensures { λ _. ⌜ now (out .exit) ≡ laid (upto (λ i. softOf (getD (now (xs .entry)) i nan)) n) (now (out .entry)) ⌝ }
+{
+    if all_in_range(xs, n) {
+        near_each(xs, n, out);
+    } else {
+        soft_each(xs, n, out);
+    }
+}
+
+// soft of the magnitude of each.
+fn soft_magnitudes(xs: &[f64], n: usize, out: &mut [f32])
+    requires { ⌜ (n ≤ length (now xs)) × (n ≤ length (now out)) ⌝ }
+    ensures { λ _. ⌜ now (out .exit) ≡ laid (upto (λ i. softOf (absolute (getD (now (xs .entry)) i nan))) n) (now (out .entry)) ⌝ }
+{
+    if all_in_range(xs, n) {
+        near_magnitudes(xs, n, out);
+    } else {
+        magnitude_each(xs, n, out);
+    }
+}
+
 // Multiplies the first n values by the scale: a loop over f32 alone, so that whole vectors are multiplied.
 fn scale_block(out: &mut [f32], n: usize, scale: f32)
     requires { ⌜ n ≤ length (now out) ⌝ }
@@ -53,7 +168,7 @@ pub fn soft_block(xs: &[f64], n: usize, scale: f32, out: &mut [f32])
     requires { ⌜ (n ≤ length (now xs)) × (n ≤ length (now out)) ⌝ }
     ensures { λ _. ⌜ now (out .exit) ≡ laid (upto (λ i. mul binary32 (softOf (getD (now (xs .entry)) i nan)) scale) n) (now (out .entry)) ⌝ }
 {
-    soft_each(xs, n, out);
+    soft_values(xs, n, out);
     scale_block(out, n, scale);
 }
 
@@ -62,6 +177,6 @@ pub fn magnitude_block(xs: &[f64], n: usize, scale: f32, out: &mut [f32])
     requires { ⌜ (n ≤ length (now xs)) × (n ≤ length (now out)) ⌝ }
     ensures { λ _. ⌜ now (out .exit) ≡ laid (upto (λ i. mul binary32 (softOf (absolute (getD (now (xs .entry)) i nan))) scale) n) (now (out .entry)) ⌝ }
 {
-    magnitude_each(xs, n, out);
+    soft_magnitudes(xs, n, out);
     scale_block(out, n, scale);
 }

@@ -3,7 +3,7 @@ use mathlib.Core.Path.{_≡_, ap}
 use Prim.Native.Nat.{ℕ, _-_, _≤_}
 use native.Mathlib.Omega.{arith}
 use borrow.Author.Needs.{needs}
-use lib.ListN.{length, getD}
+use lib.ListN.{getD}
 use lib.Ieee.{Float, nan, binary32, mul}
 use Rattle.trellis.specs.Lists.{upto, laid}
 use Rattle.soft_blocks.proofs.Fill.{filled-none, filled-long, filled-more, filled-next}

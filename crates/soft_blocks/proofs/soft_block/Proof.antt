@@ -7,8 +7,8 @@ use Rattle.soft_blocks.proofs.Fill.{times}
 use Rattle.soft_blocks.proofs.soft_block.Statement.{statement}
 use Rattle.soft_blocks.proofs.soft_block.Tie as tie
 
-soft-each-requires : tie.Need-soft-each-requires
-soft-each-requires c κs = search needs
+soft-values-requires : tie.Need-soft-values-requires
+soft-values-requires c κs = search needs
 
 scale-block-requires : tie.Need-scale-block-requires
 scale-block-requires c κs = search needs
@@ -19,9 +19,9 @@ same-length c = search needs
 returns : tie.Need-returns
 returns c =
     let scaled = c .before .before .scale-block in
-    let filled = c .before .before .before .before .before .before .soft-each in
+    let filled = c .before .before .before .before .before .before .soft-values in
     let a = c .before .before .before .before .before .before .before .before .before .before .args in
     times (λ i. softOf (getD (a .xs .now) i nan)) (a .out .now) (a .n) (a .scale) (filled .last .1 .1 .0) (scaled .last .0) (filled .ensures) (scaled .ensures)
 
 pub soft-block-spec : {M : Type 1} → statement M
-soft-block-spec = tie.close (tie.spec soft-each-requires scale-block-requires same-length returns)
+soft-block-spec = tie.close (tie.spec soft-values-requires scale-block-requires same-length returns)

@@ -1,0 +1,92 @@
+-- The short rounding: one sum and one shift give what `closest` says, and of a zero the pattern is 0. Assumes nothing.
+use mathlib.Core.Path.{_≡_, refl, sym, ap, _∙_, subst}
+use mathlib.Core.Bool.{Bool, true, false, not, cond, _||_, Bool·beq, true≢false}
+use Prim.Native.Nat.{ℕ, _+_, _-_, _*_, _/_, _%_, _^_, _≤_, _<_}
+use native.Mathlib.Nat.{zero-add, zero-mul, zero-div, mul-one}
+use native.Mathlib.Omega.{arith}
+use borrow.Author.Tests.{ltb-true, ltb-false}
+use lib.Dec.{T, ltb, eqb, eqb→eq, lit<}
+use lib.Ieee.{Float, nan, inf, fin, binary32, binary64, up, down, size, span, climb, eq, fits, odd, ofFields, ofBits, toBits, nanBits}
+use lib.Ieee.Fits.{and-l}
+use lib.Ieee.Nearest.{closest}
+use Rattle.ieee.specs.Conversion.{rounded}
+use Rattle.isdbs_soft.specs.Narrowed.{Narrowed}
+use Rattle.isdbs_soft.specs.Soft.{softOf}
+use Rattle.isdbs_soft.proofs.Shift.{closest-up, closest-down}
+use Rattle.isdbs_soft.proofs.Narrow.{tiny, normal}
+use Rattle.isdbs_soft.proofs.Sign.{pattern-ok}
+use Rattle.isdbs_metrics.specs.Reading.{absolute}
+use Rattle.soft_blocks.specs.Range.{Between}
+use Rattle.soft_blocks.proofs.Bits.{unsigned-is}
+
+-- ---- q over 2 ^ 29: the sum carries where twice the rest and the last digit kept are above 2 ^ 29
+carries : (q k r : ℕ) → q ≡ k * 536870912 + r → r < 536870912 → 536870912 < 2 * r + k % 2 → (q + 268435455 + k % 2) / 536870912 ≡ k + 1
+carries q k r e l h = let t : k % 2 < 2 = omega arith in omega arith
+
+stays : (q k r : ℕ) → q ≡ k * 536870912 + r → r < 536870912 → 2 * r + k % 2 ≤ 536870912 → (q + 268435455 + k % 2) / 536870912 ≡ k
+stays q k r e l h = let t : k % 2 < 2 = omega arith in omega arith
+
+sum-closest : (q : ℕ) → (q + 268435455 + q / 536870912 % 2) / 536870912 ≡ closest q (2 ^ 29)
+sum-closest q = go (ltb 536870912 (2 * (q % 536870912) + q / 536870912 % 2)) refl
+  where
+    parts : q ≡ q / 536870912 * 536870912 + q % 536870912
+    parts = omega arith
+
+    less : q % 536870912 < 536870912
+    less = omega arith
+
+    go : (t : Bool) → ltb 536870912 (2 * (q % 536870912) + q / 536870912 % 2) ≡ t → (q + 268435455 + q / 536870912 % 2) / 536870912 ≡ closest q (2 ^ 29)
+    go true e = let h = ltb-true 536870912 (2 * (q % 536870912) + q / 536870912 % 2) e in carries q (q / 536870912) (q % 536870912) parts less h ∙ closest-up q (2 ^ 29) 536870912 refl h
+    go false e = let h = ltb-false 536870912 (2 * (q % 536870912) + q / 536870912 % 2) e in stays q (q / 536870912) (q % 536870912) parts less h ∙ closest-down q (2 ^ 29) 536870912 refl h
+
+-- the exponent's difference is an even multiple of 2 ^ 29
+same-digit : (b : ℕ) → 4039728865751334912 ≤ b → b / 536870912 % 2 ≡ (b - 4035225266123964416) / 536870912 % 2
+same-digit b h =
+    let k = (b - 4035225266123964416) / 536870912 in
+    let e : b / 536870912 ≡ k + 7516192768 = omega arith in
+    ap (λ (n : ℕ). n % 2) e ∙ even k
+  where
+    even : (k : ℕ) → (k + 7516192768) % 2 ≡ k % 2
+    even k = omega arith
+
+pub near-is : (b : ℕ) → Between b → Narrowed b ((b - 4035225265855528961 + b / 536870912 % 2) / 536870912)
+near-is b h =
+    let q = b - 4035225266123964416 in
+    let e : b - 4035225265855528961 ≡ q + 268435455 = shift b (h .0) in
+    subst (λ (r : ℕ). Narrowed b r)
+    (sym (ap (λ (n : ℕ). (n + b / 536870912 % 2) / 536870912) e ∙ ap (λ (n : ℕ). (q + 268435455 + n) / 536870912) (same-digit b (h .0)) ∙ sum-closest q))
+    (normal b (h .0) (h .1))
+  where
+    shift : (b : ℕ) → 4039728865751334912 ≤ b → b - 4035225265855528961 ≡ b - 4035225266123964416 + 268435455
+    shift b h = omega arith
+
+-- ---- what equals zero has the pattern 0 without the sign
+clear : (s : Bool) (n : ℕ) → n ≡ 0 → (cond s 9223372036854775808 0 + (size n - 53) * 4503599627370496 + n / 2 ^ (size n - 53)) % 9223372036854775808 ≡ 0
+unfolding size span climb
+clear true n e = ap (λ (k : ℕ). (9223372036854775808 + (size k - 53) * 4503599627370496 + k / 2 ^ (size k - 53)) % 9223372036854775808) e
+clear false n e = ap (λ (k : ℕ). (0 + (size k - 53) * 4503599627370496 + k / 2 ^ (size k - 53)) % 9223372036854775808) e
+
+zero-bits : (x : Float) → eq x (ofBits binary64 0) ≡ true → toBits binary64 x % 9223372036854775808 ≡ 0
+unfolding eq ofBits ofFields odd toBits
+zero-bits nan e = absurd (true≢false (sym e))
+zero-bits (inf s) e = absurd (true≢false (sym e))
+zero-bits (fin s m x) e =
+    let z : m * up x * 1 ≡ 0 * 1 * down x = eqb→eq (m * up x * 1) (0 * 1 * down x) (and-l (eqb (m * up x * 1) (0 * 1 * down x)) (Bool·beq s false || eqb (m * up x * 1) 0) (subst T (sym e) tt)) in
+    let y : m * up x ≡ 0 = sym (mul-one (m * up x)) ∙ z ∙ zero-mul (down x) in
+    clear s (m * up x * 2 ^ 1074 / down x) (ap (λ (k : ℕ). k * 2 ^ 1074 / down x) y ∙ ap (λ (k : ℕ). k / down x) (zero-mul (2 ^ 1074)) ∙ zero-div (down x))
+
+pub zero-is : (x : Float) (b : ℕ) → b ≡ toBits binary64 x % 9223372036854775808 → eq x (ofBits binary64 0) ≡ true → Narrowed b 0
+zero-is x b e z = subst (λ (n : ℕ). Narrowed n 0) (sym (e ∙ zero-bits x z)) (tiny 0 (lit< tt))
+
+-- ---- the magnitude's f32
+pub magnitude-ok : (r : ℕ) → r ≤ 2139095040 → T (not (nanBits binary32 r))
+magnitude-ok r h = subst (λ (n : ℕ). T (not (nanBits binary32 n))) (zero-add r) (pattern-ok 0 r h)
+
+pub magnitude-is : (x : Float) (r : ℕ) → T (fits binary64 x) → Narrowed (toBits binary64 x % 9223372036854775808) r → ofBits binary32 r ≡ softOf (absolute x)
+unfolding softOf
+magnitude-is x r t n =
+    let b = toBits binary64 x % 9223372036854775808 in
+    ap (λ (k : ℕ). ofBits binary32 k) (sym (zero-add r))
+    ∙ n .nearest false
+    ∙ ap (λ (k : ℕ). rounded binary32 (ofBits binary64 k)) (zero-add b)
+    ∙ ap (λ (y : Float). rounded binary32 y) (unsigned-is x t)
