@@ -24,12 +24,19 @@ fn range_bits(x: f64) -> u64
     f64::to_bits(x) % 0x8000_0000_0000_0000
 }
 
-// A word whose highest bit is set where x is out of the range: of the sum from 2^128 on, of the difference below 2^-126.
+// A word whose highest bit is set where that of one of the two is.
+fn either(a: u64, b: u64) -> u64
+    ensures { λ r. ⌜ (r < 0x8000_0000_0000_0000 → (a < 0x8000_0000_0000_0000) × (b < 0x8000_0000_0000_0000)) ⌝ }
+{
+    a | b
+}
+
+// A word whose highest bit is set where x is out of the range: the sum's from 2^128 on, the difference's below 2^-126.
 fn outside(x: f64) -> u64
     ensures { λ r. ⌜ (r < 0x8000_0000_0000_0000 → InRange x) ⌝ }
 {
     let bits = range_bits(x);
-    (bits + 0x3810_0000_0000_0000) | (0xb80f_ffff_ffff_ffff - bits)
+    either(bits + 0x3810_0000_0000_0000, 0xb80f_ffff_ffff_ffff - bits)
 }
 
 // Whether the first n values are all in the range.
@@ -39,7 +46,7 @@ fn all_in_range(xs: &[f64], n: usize) -> bool
 {
     let mut some: u64 = 0;
     for i in 0..n {
-        some = some | outside(xs[i]);
+        some = either(some, outside(xs[i]));
     }
     some < 0x8000_0000_0000_0000
 }

@@ -1,12 +1,14 @@
 -- `all_in_range` meets its contract. The invariant: where the word's highest bit is clear, the first i values are in the range. Assumes nothing.
 use mathlib.Core.Path.{_≡_}
-use Prim.Native.Nat.{_-_, _≤_, _<_}
+use Prim.Native.Nat.{ℕ, _-_, _≤_, _<_}
 use native.Mathlib.Omega.{arith}
 use native.Mathlib.Nat.{not-suc-le-zero}
+use borrow.Author.Count.{below-more}
 use borrow.Author.Needs.{needs}
 use borrow.Author.Tests.{ltb-true}
-use Rattle.soft_blocks.specs.Range.{AllInRange}
-use Rattle.soft_blocks.proofs.Range.{all-more}
+use lib.ListN.{getD}
+use lib.Ieee.{nan}
+use Rattle.soft_blocks.specs.Range.{InRange, AllInRange}
 use Rattle.soft_blocks.proofs.all_in_range.Statement.{statement}
 use Rattle.soft_blocks.proofs.all_in_range.Tie as tie
 
@@ -28,6 +30,9 @@ shared-slice-read-outside c = search needs
 outside-requires : tie.Need-outside-requires Inv-loop μ-loop
 outside-requires c κs = search needs
 
+either-requires : tie.Need-either-requires Inv-loop μ-loop
+either-requires c κs = search needs
+
 add-i : tie.Need-add-i Inv-loop μ-loop
 add-i c = search needs
 
@@ -36,8 +41,12 @@ loop-less c = search needs
 
 loop-again : tie.Need-loop-again Inv-loop μ-loop
 loop-again c =
-    let at = c .before .before .before in
-    (search needs, all-more (at .before .before .args .xs .now) (at .loop .some) (at .loop .i) (c .outside .result) (at .loop .inv .1) (c .outside .ensures))
+    let at = c .before .before .before .before in (
+      search needs,
+      λ h.
+          let l = c .either .ensures h in
+          below-more (λ (k : ℕ). InRange (getD (at .before .before .args .xs .now) k nan)) (at .loop .i) (at .loop .inv .1 (l .0)) (c .before .outside .ensures (l .1)),
+    )
 
 returns : tie.Need-returns Inv-loop μ-loop
 returns c =
@@ -55,6 +64,7 @@ all-in-range-spec =
     mul-outside
     shared-slice-read-outside
     outside-requires
+    either-requires
     add-i
     loop-less
     loop-again
