@@ -49,16 +49,12 @@ same-digit b h =
     even : (k : ℕ) → (k + 7516192768) % 2 ≡ k % 2
     even k = omega arith
 
-pub near-is : (b : ℕ) → Between b → Narrowed b ((b - 4035225265855528961 + b / 536870912 % 2) / 536870912)
-near-is b h =
+pub near-is : (b s : ℕ) → Between b → s ≡ b - 4035225266123964416 + 268435455 + b / 536870912 % 2 → Narrowed b (s / 536870912)
+near-is b s h e =
     let q = b - 4035225266123964416 in
-    let e : b - 4035225265855528961 ≡ q + 268435455 = shift b (h .0) in
     subst (λ (r : ℕ). Narrowed b r)
-    (sym (ap (λ (n : ℕ). (n + b / 536870912 % 2) / 536870912) e ∙ ap (λ (n : ℕ). (q + 268435455 + n) / 536870912) (same-digit b (h .0)) ∙ sum-closest q))
+    (sym (ap (λ (n : ℕ). n / 536870912) e ∙ ap (λ (n : ℕ). (q + 268435455 + n) / 536870912) (same-digit b (h .0)) ∙ sum-closest q))
     (normal b (h .0) (h .1))
-  where
-    shift : (b : ℕ) → 4039728865751334912 ≤ b → b - 4035225265855528961 ≡ b - 4035225266123964416 + 268435455
-    shift b h = omega arith
 
 -- ---- what equals zero has the pattern 0 without the sign
 clear : (s : Bool) (n : ℕ) → n ≡ 0 → (cond s 9223372036854775808 0 + (size n - 53) * 4503599627370496 + n / 2 ^ (size n - 53)) % 9223372036854775808 ≡ 0

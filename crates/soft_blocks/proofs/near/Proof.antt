@@ -1,4 +1,5 @@
 -- `near` meets its contract. Assumes nothing.
+use native.Mathlib.Omega.{arith}
 use borrow.Author.Needs.{needs}
 use Rattle.soft_blocks.proofs.ShortRounding.{near-is}
 use Rattle.soft_blocks.proofs.near.Statement.{statement}
@@ -11,7 +12,7 @@ add-result : tie.Need-add-result
 add-result c = search needs
 
 returns : tie.Need-returns
-returns c = near-is (c .args .bits) (c .pre)
+returns c = let h = c .pre .0 in near-is (c .args .bits) _ (c .pre) (omega arith)
 
 pub near-spec : {M : Type 1} → statement M
 near-spec = tie.close (tie.spec sub-result add-result returns)
