@@ -62,7 +62,7 @@ unfolding size span climb
 clear true n e = ap (λ (k : ℕ). (9223372036854775808 + (size k - 53) * 4503599627370496 + k / 2 ^ (size k - 53)) % 9223372036854775808) e
 clear false n e = ap (λ (k : ℕ). (0 + (size k - 53) * 4503599627370496 + k / 2 ^ (size k - 53)) % 9223372036854775808) e
 
-zero-bits : (x : Float) → eq x (ofBits binary64 0) ≡ true → toBits binary64 x % 9223372036854775808 ≡ 0
+pub zero-bits : (x : Float) → eq x (ofBits binary64 0) ≡ true → toBits binary64 x % 9223372036854775808 ≡ 0
 unfolding eq ofBits ofFields odd toBits
 zero-bits nan e = absurd (true≢false (sym e))
 zero-bits (inf s) e = absurd (true≢false (sym e))

@@ -18,10 +18,7 @@ fn range_bits(x: f64) -> u64
     if x != x {
         return 0;
     }
-    if x == 0.0 {
-        return 0x3810_0000_0000_0000;
-    }
-    f64::to_bits(x) % 0x8000_0000_0000_0000
+    f64::to_bits(x) % 0x8000_0000_0000_0000 + (x == 0.0) as u64 * 0x3810_0000_0000_0000
 }
 
 // A word whose highest bit is set where that of one of the two is.
