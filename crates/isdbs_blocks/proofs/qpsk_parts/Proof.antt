@@ -1,0 +1,47 @@
+-- `qpsk_parts` meets its contract. Assumes nothing.
+use borrow.Author.Needs.{needs}
+use mathlib.Core.Path.{_≡_, refl, sym, _∙_, ap}
+use mathlib.Core.List.{List}
+use Prim.Native.Nat.{ℕ, _+_, _-_, _*_, _<_, _≤_}
+use native.Mathlib.Omega.{arith}
+use lib.ListN.{length, getD, set, length-set}
+use lib.Ieee.{Float, nan}
+use Rattle.trellis.specs.Lists.{upto, laid}
+use borrow.Author.Needs.{needs}
+use mathlib.Core.Path.{_≡_, refl, sym, _∙_, ap}
+use mathlib.Core.List.{List}
+use Prim.Native.Nat.{ℕ, _+_, _-_, _*_, _<_, _≤_}
+use native.Mathlib.Omega.{arith}
+use lib.ListN.{length, getD, set, length-set}
+use lib.Ieee.{Float, nan}
+use Rattle.trellis.specs.Lists.{upto, laid}
+use Rattle.isdbs_blocks.proofs.Laws.{real-first, imaginary-first}
+use Rattle.isdbs_blocks.proofs.qpsk_parts.Statement.{statement}
+use Rattle.isdbs_blocks.proofs.qpsk_parts.Tie as tie
+
+by-turns-requires : tie.Need-by-turns-requires
+by-turns-requires c κs = search needs
+
+by-turns-requires-2 : tie.Need-by-turns-requires-2
+by-turns-requires-2 c κs = search needs
+
+same-length : tie.Need-same-length
+same-length c = search needs
+
+returns : tie.Need-returns
+returns c =
+    let a = c .before .before .before .before .before .before .before .before .args in
+    c .before .before .by-turns .ensures ∙ imaginary-first (a .re .now) (a .im .now) (a .m) (a .from) (a .n) (a .parts .now) (c .before .before .before .before .if1 .taken)
+
+same-length-2 : tie.Need-same-length-2
+same-length-2 c = search needs
+
+returns-2 : tie.Need-returns-2
+returns-2 c =
+    let a = c .before .before .before .before .before .before .before .before .args in
+    c .before .before .by-turns2 .ensures ∙ real-first (a .re .now) (a .im .now) (a .m) (a .from) (a .n) (a .parts .now) (c .before .before .before .before .if1 .left)
+
+pub qpsk-parts-spec : {M : Type 1} → statement M
+qpsk-parts-spec =
+    tie.close
+    (tie.spec by-turns-requires by-turns-requires-2 same-length returns same-length-2 returns-2)

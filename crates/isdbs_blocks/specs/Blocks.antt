@@ -1,0 +1,63 @@
+-- Blocks of a run's steps: whole periods, their soft values and their four metrics each, one after the other. Assumes nothing.
+use mathlib.Core.Path.{_≡_}
+use mathlib.Core.Bool.{Bool, cond}
+use mathlib.Core.List.{List, []}
+use Prim.Native.Nat.{ℕ, _+_, _*_, _/_, _%_, _<_, _≤_}
+use lib.Dec.{eqb, ltb}
+use lib.ListN.{length, getD}
+use lib.Ieee.{Float, nan, binary32, ofBits}
+use Rattle.trellis.specs.Lists.{upto}
+use Rattle.trellis.specs.Step.{Step, pair, four, known}
+use Rattle.viterbi.specs.Calls.{fourSteps}
+use Rattle.isdbs_combination.specs.declared.Combination.{Combination}
+use Rattle.isdbs_points.specs.declared.Mapping.{Mapping}
+use Rattle.isdbs_points.specs.Points.{point, turned, psk8Of, subset}
+use Rattle.isdbs_points.specs.Layout.{orderOf, stepsPerPeriod, placeIn}
+use Rattle.isdbs_points.specs.Pieces.{piece}
+use Rattle.isdbs_metrics.specs.Reading.{softAt, correlation}
+use Rattle.isdbs_metrics.specs.Steps.{received, pieceMetrics}
+use Rattle.strain.specs.Marks.{markOf}
+
+-- the steps of a run
+abbrev pub runSteps : Combination → List Float → List Float → Mapping → Float → ℕ → Step
+runSteps c re im m scale k = four (pieceMetrics c re im m scale k)
+
+-- their marks, and the four metrics of a step
+abbrev pub runMark : Combination → List Float → List Float → Mapping → Float → ℕ → ℕ
+runMark c re im m scale k = markOf (pieceMetrics c re im m scale k)
+
+abbrev pub fourIn : Step → List Float
+fourIn (pair lx ly) = []
+fourIn (four ms) = ms
+fourIn (known b) = []
+
+-- n steps are whole periods
+abbrev pub Periods : Combination → ℕ → Type 0
+Periods c n = n % stepsPerPeriod c ≡ 0
+
+-- a block holds n of the steps ys from step k0 on
+pub record BlockMade (ys : ℕ → Step) (k0 n : ℕ) (block : List Float) : Type 0 where
+  pub long : 4 * n ≤ length block
+  pub made : (i : ℕ) → i < n → fourSteps block i ≡ ys (k0 + i)
+
+-- two lists by turns, and the metrics of steps one after the other
+abbrev pub turns : (ℕ → Float) → (ℕ → Float) → ℕ → Float
+turns f g i = cond (eqb (i % 2) 0) (f (i / 2)) (g (i / 2))
+
+abbrev pub fours : (ℕ → List Float) → ℕ → Float
+fours ms i = getD (ms (i / 4)) (i % 4) nan
+
+-- the soft values of the steps from step k0 on, X and Y of each by turns
+abbrev pub stepSoft : Combination → List Float → List Float → Mapping → Float → ℕ → ℕ → Float
+stepSoft c re im m scale k0 j = softAt (received re im m scale) (piece c 0) (k0 + j / 2) (j % 2)
+
+-- those of whole periods from the soft values that were sent: 0 where the mother bit is erased
+abbrev pub spreadSoft : Combination → List Float → ℕ → Float
+spreadSoft c softs j =
+    let n = length (orderOf c) in
+    let i = placeIn (2 * (j / 2 % stepsPerPeriod c) + j % 2) (orderOf c) in
+    cond (ltb i n) (getD softs (j / 2 / stepsPerPeriod c * n + i) nan) (ofBits binary32 0)
+
+-- what a TC8PSK symbol k gives with the four points of C2 = 0, in the order of the labels 2 X + Y
+abbrev pub subsetParts : List Float → List Float → Mapping → ℕ → List Float
+subsetParts re im m k = upto (λ l. correlation (point (getD re k nan) (turned (m .conjugate) (getD im k nan))) (psk8Of (subset (m .«tc8psk_c1_is_y») l))) 4
