@@ -16,7 +16,7 @@ use Rattle.isdbs_metrics.specs.Reading.{Received, metricsAt}
 use Rattle.isdbs_pack.proofs.FrameBytes.{written-tail}
 use Rattle.isdbs_pack.proofs.FrameRuns.{RunAt, Listed, run-last}
 use Rattle.strain.specs.Marks.{markOf, frameMark}
-use Rattle.isdbs_decode.specs.Runs.{runMark}
+use Rattle.isdbs_blocks.specs.Blocks.{runMark}
 use Rattle.isdbs_decode.specs.Scales.{scaleOf, receivedBy}
 use Rattle.isdbs_decode.proofs.FrameSteps.{listed, metrics-are}
 

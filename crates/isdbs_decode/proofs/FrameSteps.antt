@@ -10,14 +10,20 @@ use Rattle.trellis.specs.Run.{after}
 use Rattle.viterbi.specs.declared.At.{At}
 use Rattle.viterbi.specs.Calls.{steps, Holds}
 use Rattle.viterbi.specs.Holding.{holds-start}
+use Rattle.isdbs_combination.specs.declared.Combination.{Combination}
+use Rattle.isdbs_combination.specs.declared.Combination.the-variants.{«Bpsk1_2», «Qpsk1_2», «Qpsk2_3», «Qpsk3_4», «Qpsk5_6», «Qpsk7_8», «Tc8psk2_3»}
+use Rattle.isdbs_combination.specs.Combinations.{punctureOf, periodSteps}
 use Rattle.isdbs_runs.specs.declared.Run.{Run}
+use Rattle.isdbs_runs.specs.RunLaws.{Whole}
 use Rattle.isdbs_tables.specs.declared.Table.{Table}
 use Rattle.isdbs_runs.specs.RunsOf.{stepsOf, stepsIn, frameSteps, noRun}
 use Rattle.isdbs_points.specs.declared.Mapping.{Mapping}
 use Rattle.isdbs_points.specs.Layout.{segmentsFrom, among}
 use Rattle.isdbs_metrics.specs.Reading.{Received, metricsIn, metricsAt}
 use Rattle.isdbs_metrics.specs.Steps.{pieceMetrics}
-use Rattle.isdbs_decode.specs.Runs.{Carried, RunsRead, runSteps, freshFrom}
+use Rattle.isdbs_blocks.specs.Blocks.{runSteps, Periods}
+use Rattle.isdbs_read.specs.Carried.{Carried}
+use Rattle.isdbs_decode.specs.Runs.{RunsRead, freshFrom}
 use Rattle.isdbs_decode.specs.Scales.{scaleOf, receivedBy}
 use Rattle.isdbs_pack.proofs.Among.{stepsTo, validTo, among-step}
 use Rattle.isdbs_pack.proofs.Parts.{metrics-part}
@@ -54,6 +60,19 @@ module _ (count : ℕ) (list : List Run) (l : RunList count list) (i : ℕ) wher
       let c = l .counted in
       rw (tail-is (run .«symbol_start») re, tail-is (run .«symbol_start») im, l .at i)
       (run-metrics rs re im m scales i k step (omega arith) e (let q = rw (l .at i) at en in omega arith))
+
+-- a run is whole periods
+periods-by : (c : Combination) (steps periods : ℕ) → steps ≡ periods * periodSteps (punctureOf c) → Periods c steps
+periods-by «Bpsk1_2» steps periods e = omega arith
+periods-by «Qpsk1_2» steps periods e = omega arith
+periods-by «Qpsk2_3» steps periods e = omega arith
+periods-by «Qpsk3_4» steps periods e = omega arith
+periods-by «Qpsk5_6» steps periods e = omega arith
+periods-by «Qpsk7_8» steps periods e = omega arith
+periods-by «Tc8psk2_3» steps periods e = omega arith
+
+pub run-periods : (r : Run) (n : ℕ) → Whole r → n ≡ stepsOf r → Periods (r .combination) n
+run-periods r n w e = periods-by (r .combination) n (w .periods) (e ∙ w .steps)
 
 -- the first i runs are read, and run i has room
 pub record Read (m : Mapping) (scales pm₀ re im : List Float) (dec₀ out₀ : List ℕ) (count : ℕ) (list : List Run) (pm : List Float) (dec out : List ℕ) (at : At) (step i : ℕ) : Type 0 where

@@ -1,4 +1,3 @@
-pub mod Blocks
 pub mod Carried
 pub mod FrameMarks
 pub mod FrameSteps

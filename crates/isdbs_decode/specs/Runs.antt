@@ -1,4 +1,4 @@
--- What reading a run leaves, and what closing a frame leaves: the decoder goes on. Assumes nothing.
+-- What reading the runs of a frame leaves, and what closing it leaves. Assumes nothing.
 use mathlib.Core.Path.{_≡_}
 use mathlib.Core.Bool.{Bool}
 use mathlib.Core.List.{List, []}
@@ -7,40 +7,14 @@ use lib.ListN.{length, replicate}
 use lib.Ieee.{Float}
 use Rattle.trellis.specs.Isdb.{closed}
 use Rattle.trellis.specs.Lists.{laid}
-use Rattle.trellis.specs.Step.{Step, pair, four, known}
+use Rattle.trellis.specs.Step.{Step, four, known}
 use Rattle.trellis.specs.Run.{Decoder}
 use Rattle.viterbi.specs.declared.At.{At}
-use Rattle.viterbi.specs.Calls.{steps, flush, Holds, fourSteps}
-use Rattle.isdbs_combination.specs.declared.Combination.{Combination}
+use Rattle.viterbi.specs.Calls.{steps, flush, Holds}
 use Rattle.isdbs_tables.specs.declared.Table.{Table}
 use Rattle.isdbs_runs.specs.RunsOf.{frameSteps}
-use Rattle.isdbs_points.specs.declared.Mapping.{Mapping}
 use Rattle.isdbs_points.specs.Layout.{wordBit}
 use Rattle.isdbs_metrics.specs.Reading.{Received, frameTraceback, frameWords, metricsAt, decodedBits, decodedBytes}
-use Rattle.isdbs_metrics.specs.Steps.{pieceMetrics}
-use Rattle.strain.specs.Marks.{markOf}
-
--- n steps ys of a call, the first of which is its step i0. Whatever the call's other steps are: the decoder that the values and slices held goes
--- n steps on.
-pub record Carried (ys : ℕ → Step) (i0 n : ℕ) (pm : List Float) (at : At) (dec out : List ℕ) (r : At) (pm′ : List Float) (dec′ out′ : List ℕ) : Type 0 where
-  pub few : r .held < frameWords
-  pub sum : r .held + r .count ≡ at .held + at .count + n
-  pub carries : (xs : ℕ → Step) (d : Decoder) (dec₀ out₀ : List ℕ) → ((k : ℕ) → k < n → xs (i0 + k) ≡ ys k)
-      → Holds frameTraceback dec₀ out₀ (steps frameTraceback xs d i0) pm (at .held) (at .count) dec out
-      → Holds frameTraceback dec₀ out₀ (steps frameTraceback xs d (i0 + n)) pm′ (r .held) (r .count) dec′ out′
-
--- the steps of a run
-abbrev pub runSteps : Combination → List Float → List Float → Mapping → Float → ℕ → Step
-runSteps c re im m scale k = four (pieceMetrics c re im m scale k)
-
--- their marks, and the four metrics of a step
-abbrev pub runMark : Combination → List Float → List Float → Mapping → Float → ℕ → ℕ
-runMark c re im m scale k = markOf (pieceMetrics c re im m scale k)
-
-abbrev pub fourIn : Step → List Float
-fourIn (pair lx ly) = []
-fourIn (four ms) = ms
-fourIn (known b) = []
 
 -- the known bits that follow a frame
 abbrev pub knownBits : ℕ → Step
@@ -77,15 +51,3 @@ pub record FrameRead (t : Table) (r : Received) (knownStart first : Bool) (decis
   pub words : decisions ≡ laid (replicate frameWords 0) decisions₀
   pub decoded : bits ≡ laid (decodedBits t r knownStart first) bits₀
   pub load : bytes ≡ laid (decodedBytes t r knownStart first) bytes₀
-
--- ---- blocks of steps
--- a step's four metrics laid at place k of a block: they are the step there, and those of the places before stay
-pub record FourPut (x : Step) (k : ℕ) (block₀ block : List Float) : Type 0 where
-  pub long : length block ≡ length block₀
-  pub here : (ms : List Float) → x ≡ four ms → fourSteps block k ≡ x
-  pub before : (j : ℕ) → j < k → fourSteps block j ≡ fourSteps block₀ j
-
--- a block holds n of the steps ys from step k0 on
-pub record BlockMade (ys : ℕ → Step) (k0 n : ℕ) (block : List Float) : Type 0 where
-  pub long : length block ≡ 256
-  pub made : (i : ℕ) → i < n → fourSteps block i ≡ ys (k0 + i)

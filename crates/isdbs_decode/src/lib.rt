@@ -2,41 +2,34 @@
 use isdbs_core::combination::Combination;
 use isdbs_core::frame::W1;
 use isdbs_core::slots::Plan;
-use isdbs_metrics::Code;
-use isdbs_metrics::Phase;
-use isdbs_metrics::code_of;
-use isdbs_metrics::metrics;
 use isdbs_pack::write_bytes;
 use isdbs_points::Mapping;
 use isdbs_points::start_state;
 use isdbs_points::word_bit;
-use strain::mark;
+use isdbs_read::TRACEBACK;
+use isdbs_read::read_run;
 use viterbi::At;
 use viterbi::Step;
 use viterbi::advance;
 use viterbi::clear;
 use viterbi::finish;
 use viterbi::renormalise;
-use viterbi::run_fours;
 use viterbi::start_at;
 use viterbi::start_unknown;
 ghost use mathlib.Core.Path.{_≡_};
 ghost use mathlib.Core.Bool.{cond, true, false};
-ghost use Prim.Native.Nat.{_+_, _-_, _*_, _<_, _≤_, _^_};
-ghost use lib.Dec.{eqb};
+ghost use Prim.Native.Nat.{_+_, _-_, _<_, _≤_};
 ghost use lib.ListN.{length, replicate};
 ghost use lib.Ieee.{binary32, ofBits};
 ghost use Rattle.trellis.specs.Lists.{upto, laid};
-ghost use Rattle.viterbi.specs.Calls.{stepOf};
 ghost use Rattle.trellis.specs.Run.{startAt, startUnknown};
 ghost use Rattle.isdbs_combination.specs.Combinations.{wordOf};
 ghost use Rattle.isdbs_frame.specs.Frame.{mainSymbols};
 ghost use Rattle.isdbs_runs.specs.RunsOf.{frameSteps, loadBytes, Planned};
 ghost use Rattle.isdbs_metrics.specs.Reading.{frameWords};
-ghost use Rattle.isdbs_metrics.specs.Steps.{CodeOf, PhaseAt, Covers};
-ghost use Rattle.strain.specs.Marks.{markOf, frameMark};
+ghost use Rattle.strain.specs.Marks.{frameMark};
 ghost use Rattle.isdbs_decode.specs.Scales.{receivedBy};
-ghost use Rattle.isdbs_decode.specs.Runs.{runSteps, runMark, fourIn, FourPut, BlockMade, Carried, RunsRead, Ended, bitsFrom, FrameRead};
+ghost use Rattle.isdbs_decode.specs.Runs.{RunsRead, Ended, bitsFrom, FrameRead};
 
 // Decoder settings.
 pub struct DemodOptions {
@@ -61,145 +54,8 @@ impl DemodOptions {
     }
 }
 
-// The traceback of a frame.
-const TRACEBACK: usize = 128;
-
 // The decision words that a frame needs: 4,096 and its traceback.
 pub const WORDS: usize = 4_096 + TRACEBACK;
-
-// Where the next step stands.
-fn next_phase(p: Phase, period: usize, count: usize) -> Phase
-    requires { ⌜ (p .q < period) × (p .base + count < 2 ^ 32) ⌝ }
-    ensures { λ r. ⌜ (r .q ≡ cond (eqb (p .q + 1) period) 0 (p .q + 1)) × (r .base ≡ cond (eqb (p .q + 1) period) (p .base + count) (p .base)) ⌝ }
-{
-    if p.q + 1 == period {
-        Phase {
-            q: 0,
-            base: p.base + count,
-        }
-    } else {
-        Phase {
-            q: p.q + 1,
-            base: p.base,
-        }
-    }
-}
-
-// The mark of a step of four metrics.
-fn mark_of(x: Step) -> u8
-    ensures { λ r. ⌜ r ≡ markOf (fourIn (stepOf x)) ⌝ }
-{
-    match x {
-        Step::Four(a, b, c, d) => mark(a, b, c, d),
-        Step::Pair(a, b) => 0,
-        Step::Known(a) => 0,
-    }
-}
-
-// The number of values of a block, which the type fixes.
-fn values_of(block: &[f32; 256]) -> usize
-    ensures { λ r. ⌜ (r ≡ 256) × (length (now (block .entry)) ≡ 256) ⌝ }
-{
-    let values: &[f32] = block;
-    values.len()
-}
-
-// How many of the steps left are taken at once.
-fn block_of(left: usize) -> usize
-    ensures { λ r. ⌜ (r ≤ left) × (r ≤ 64) × (0 < left → 0 < r) ⌝ }
-{
-    if left < 64 { left } else { 64 }
-}
-
-// Lays the four metrics of a step at its place k of a block.
-fn put_four(x: Step, k: usize, block: &mut [f32; 256])
-    requires { ⌜ (k < 64) × (length (now block) ≡ 256) ⌝ }
-    ensures { λ _. ⌜ FourPut (stepOf x) k (now (block .entry)) (now (block .exit)) ⌝ }
-{
-    match x {
-        Step::Four(a, b, c, d) => {
-            block[4 * k] = a;
-            block[4 * k + 1] = b;
-            block[4 * k + 2] = c;
-            block[4 * k + 3] = d;
-        }
-        Step::Pair(a, b) => {}
-        Step::Known(a) => {}
-    }
-}
-
-// Makes the metrics of n steps of a run from step k0 on, and keeps their marks. Where the next step stands.
-fn make_block(
-    re: &[f64],
-    im: &[f64],
-    m: Mapping,
-    scale: f32,
-    code: Code,
-    phase: Phase,
-    k0: usize,
-    n: usize,
-    block: &mut [f32; 256],
-    marks: &mut [u8],
-) -> Phase
-    requires { ⌜ CodeOf code × PhaseAt (code .combination) k0 phase × (n ≤ 64) × (k0 + n < 2 ^ 30) × Covers (code .combination) (k0 + n) (length (now re)) × Covers (code .combination) (k0 + n) (length (now im)) × (n ≤ length (now marks)) ⌝ }
-    ensures stands { λ r. ⌜ PhaseAt (code .combination) (k0 + n) r ⌝ }
-    ensures made { λ _. ⌜ BlockMade (runSteps (code .combination) (now (re .entry)) (now (im .entry)) m scale) k0 n (now (block .exit)) ⌝ }
-    ensures marked { λ _. ⌜ now (marks .exit) ≡ laid (upto (λ i. runMark (code .combination) (now (re .entry)) (now (im .entry)) m scale (k0 + i)) n) (now (marks .entry)) ⌝ }
-{
-    values_of(block);
-    let mut p = phase;
-    for i in 0..n {
-        let x = metrics(re, im, m, scale, code, p, k0 + i);
-        marks[i] = mark_of(x);
-        put_four(x, i, block);
-        p = next_phase(p, code.period, code.count);
-    }
-    p
-}
-
-// Reads n steps of a run in blocks, and keeps their marks; the first is step i0 of the frame.
-fn read_run(
-    pm: &mut [f32; 64],
-    at: At,
-    i0: usize,
-    n: usize,
-    c: Combination,
-    m: Mapping,
-    scale: f32,
-    re: &[f64],
-    im: &[f64],
-    decisions: &mut [u64],
-    bits: &mut [u8],
-    marks: &mut [u8],
-) -> At
-    requires { ⌜ (at .held < frameWords) × (frameWords ≤ length (now decisions)) × (at .held + at .count + n ≤ length (now bits)) × (n ≤ length (now marks)) × (i0 + n < 2 ^ 30) × Covers c n (length (now re)) × Covers c n (length (now im)) ⌝ }
-    ensures read { λ r. ⌜ Carried (runSteps c (now (re .entry)) (now (im .entry)) m scale) i0 n (now (pm .entry)) at (now (decisions .entry)) (now (bits .entry)) r (now (pm .exit)) (now (decisions .exit)) (now (bits .exit)) ⌝ }
-    ensures marked { λ _. ⌜ now (marks .exit) ≡ laid (upto (runMark c (now (re .entry)) (now (im .entry)) m scale) n) (now (marks .entry)) ⌝ }
-{
-    let code = code_of(c);
-    let mut now_at = at;
-    let mut p = Phase { q: 0, base: 0 };
-    let mut block = [0.0f32; 256];
-    let mut k: usize = 0;
-    while k < n {
-        let len = block_of(n - k);
-        p = make_block(
-            re,
-            im,
-            m,
-            scale,
-            code,
-            p,
-            k,
-            len,
-            &mut block,
-            &mut marks[k..],
-        );
-        now_at = run_fours(pm, now_at, TRACEBACK, i0 + k, len, &block, decisions, bits);
-        k = k + len;
-    }
-    now_at
-}
 
 // The place of a combination's scale.
 fn scale_place(c: Combination) -> usize

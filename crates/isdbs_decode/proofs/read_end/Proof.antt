@@ -1,9 +1,11 @@
 -- `read_end` meets its contract. Assumes nothing.
-use Rattle.isdbs_decode.proofs.Carried.{read-start, read-next, ended}
+use Rattle.isdbs_read.proofs.Blocks.{read-start}
+use Rattle.isdbs_decode.proofs.Carried.{read-next, ended}
 use Rattle.trellis.specs.Step.{known}
 use native.Mathlib.Nat.{zero-add}
 use borrow.Author.Needs.{needs}
-use Rattle.isdbs_decode.specs.Runs.{Carried, knownBits}
+use Rattle.isdbs_read.specs.Carried.{Carried}
+use Rattle.isdbs_decode.specs.Runs.{knownBits}
 use lib.ListN.{length}
 use native.Mathlib.Omega.{arith}
 use Prim.Native.Nat.{_-_, _≤_}

@@ -1,7 +1,7 @@
 -- `read_runs` meets its contract. Assumes nothing.
 use borrow.Author.Needs.{needs}
 use Rattle.isdbs_pack.proofs.FrameRuns.{listed-runs, steps-by, part-covers, tail-is}
-use Rattle.isdbs_decode.proofs.FrameSteps.{Read, read-first, read-next, read-last}
+use Rattle.isdbs_decode.proofs.FrameSteps.{run-periods, Read, read-first, read-next, read-last}
 use Rattle.isdbs_decode.proofs.FrameMarks.{Marked, marked-first, marked-next, marked-last}
 use Rattle.isdbs_runs.specs.RunsOf.{noRun}
 use lib.ListN.{getD, length-drop}
@@ -91,6 +91,7 @@ read-run-requires c κs =
     let s = w .same in
     let f = r .run .steps-fit in
     let d = length-drop (at .step) (at .marks) in (
+      run-periods (getD (st .args .p .runs) (at .i) noRun) _ (r .run .runs .whole (at .i)) e,
       r .few,
       r .words-fit,
       omega arith,

@@ -1,0 +1,123 @@
+// The steps of a run, read in blocks of at most 64 periods.
+use isdbs_blocks::make_block;
+use isdbs_core::combination::Combination;
+use isdbs_metrics::Code;
+use isdbs_metrics::code_of;
+use isdbs_points::Mapping;
+use viterbi::At;
+use viterbi::run_fours;
+ghost use mathlib.Core.Path.{_≡_};
+ghost use mathlib.Core.Logic.{_⊎_};
+ghost use Prim.Native.Nat.{_+_, _*_, _<_, _≤_, _^_};
+ghost use lib.ListN.{length};
+ghost use Rattle.trellis.specs.Lists.{upto, laid};
+ghost use Rattle.isdbs_metrics.specs.Reading.{frameWords};
+ghost use Rattle.isdbs_metrics.specs.Steps.{CodeOf, Covers};
+ghost use Rattle.isdbs_blocks.specs.Blocks.{runSteps, runMark, Periods};
+ghost use Rattle.isdbs_read.specs.Carried.{Carried};
+
+// The traceback of a frame.
+pub const TRACEBACK: usize = 128;
+
+// How many of the steps left are taken at once.
+fn block_of(left: usize, period: usize) -> usize
+    requires { ⌜ (0 < period) × (period ≤ 7) ⌝ }
+    ensures { λ r. ⌜ (r ≤ left) × (r ≤ 64 * period) × (0 < left → 0 < r) × ((r ≡ left) ⊎ (r ≡ 64 * period)) ⌝ }
+{
+    let most = 64 * period;
+    if left < most { left } else { most }
+}
+
+// Reads n steps of a run in blocks, and keeps their marks; the first is step i0 of the frame. The parts, the soft values, those at their steps and
+// the metrics of a block are laid in the lent slices.
+fn read_blocks(
+    pm: &mut [f32; 64],
+    at: At,
+    i0: usize,
+    n: usize,
+    code: Code,
+    m: Mapping,
+    scale: f32,
+    re: &[f64],
+    im: &[f64],
+    parts: &mut [f64],
+    softs: &mut [f32],
+    pairs: &mut [f32],
+    block: &mut [f32],
+    decisions: &mut [u64],
+    bits: &mut [u8],
+    marks: &mut [u8],
+) -> At
+    requires { ⌜ CodeOf code × Periods (code .combination) n × (at .held < frameWords) × (frameWords ≤ length (now decisions)) × (at .held + at .count + n ≤ length (now bits)) × (n ≤ length (now marks)) × (i0 + n < 2 ^ 30)
+        × Covers (code .combination) n (length (now re)) × Covers (code .combination) n (length (now im))
+        × (512 ≤ length (now parts)) × (512 ≤ length (now softs)) × (896 ≤ length (now pairs)) × (1792 ≤ length (now block)) ⌝ }
+    ensures read { λ r. ⌜ Carried (runSteps (code .combination) (now (re .entry)) (now (im .entry)) m scale) i0 n (now (pm .entry)) at (now (decisions .entry)) (now (bits .entry)) r (now (pm .exit)) (now (decisions .exit)) (now (bits .exit)) ⌝ }
+    ensures marked { λ _. ⌜ now (marks .exit) ≡ laid (upto (runMark (code .combination) (now (re .entry)) (now (im .entry)) m scale) n) (now (marks .entry)) ⌝ }
+{
+    let mut now_at = at;
+    let mut k: usize = 0;
+    while k < n {
+        let len = block_of(n - k, code.period);
+        make_block(
+            re,
+            im,
+            m,
+            scale,
+            code,
+            k,
+            len,
+            parts,
+            softs,
+            pairs,
+            block,
+            &mut marks[k..],
+        );
+        now_at = run_fours(pm, now_at, TRACEBACK, i0 + k, len, block, decisions, bits);
+        k = k + len;
+    }
+    now_at
+}
+
+// Reads n steps of a run, whole periods, and keeps their marks; the first is step i0 of the frame.
+pub fn read_run(
+    pm: &mut [f32; 64],
+    at: At,
+    i0: usize,
+    n: usize,
+    c: Combination,
+    m: Mapping,
+    scale: f32,
+    re: &[f64],
+    im: &[f64],
+    decisions: &mut [u64],
+    bits: &mut [u8],
+    marks: &mut [u8],
+) -> At
+    requires { ⌜ Periods c n × (at .held < frameWords) × (frameWords ≤ length (now decisions)) × (at .held + at .count + n ≤ length (now bits)) × (n ≤ length (now marks)) × (i0 + n < 2 ^ 30) × Covers c n (length (now re)) × Covers c n (length (now im)) ⌝ }
+    ensures read { λ r. ⌜ Carried (runSteps c (now (re .entry)) (now (im .entry)) m scale) i0 n (now (pm .entry)) at (now (decisions .entry)) (now (bits .entry)) r (now (pm .exit)) (now (decisions .exit)) (now (bits .exit)) ⌝ }
+    ensures marked { λ _. ⌜ now (marks .exit) ≡ laid (upto (runMark c (now (re .entry)) (now (im .entry)) m scale) n) (now (marks .entry)) ⌝ }
+{
+    let code = code_of(c);
+    let mut parts = [0.0f64; 512];
+    let mut softs = [0.0f32; 512];
+    let mut pairs = [0.0f32; 896];
+    let mut block = [0.0f32; 1792];
+    read_blocks(
+        pm,
+        at,
+        i0,
+        n,
+        code,
+        m,
+        scale,
+        re,
+        im,
+        &mut parts,
+        &mut softs,
+        &mut pairs,
+        &mut block,
+        decisions,
+        bits,
+        marks,
+    )
+}
