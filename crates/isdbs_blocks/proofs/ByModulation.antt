@@ -24,8 +24,8 @@ use Rattle.isdbs_points.specs.Layout.{orderOf, stepsPerPeriod, placeIn, sentOrd
 use Rattle.isdbs_points.specs.LawsUpto.{upto-cong}
 use Rattle.isdbs_points.specs.Pieces.{piece}
 use Rattle.isdbs_metrics.specs.Reading.{partOf, carrier, pairMetrics, metricsBy, softAt, absolute, subsetMetrics}
-use Rattle.isdbs_metrics.specs.declared.Code.{Code}
-use Rattle.isdbs_metrics.specs.Steps.{received, qpskPart, pieceMetrics, Covers, CodeOf}
+use Rattle.isdbs_metrics.specs.declared.PeriodLayout.{PeriodLayout}
+use Rattle.isdbs_metrics.specs.Steps.{received, qpskPart, pieceMetrics, Covers, LayoutOf}
 use Rattle.strain.specs.Marks.{markOf}
 use Rattle.isdbs_blocks.specs.Blocks.{Periods, fours, runSteps, runMark, fourIn, BlockMade, stepSoft, spreadSoft, subsetParts}
 use Rattle.isdbs_blocks.proofs.Periods.{short}
@@ -205,10 +205,10 @@ pub record Sizes (period count k0 n re im : ℕ) : Type 0 where
   pub re-fits : k0 / period * (count / 2) + n / period * (count / 2) ≤ re
   pub im-fits : k0 / period * (count / 2) + n / period * (count / 2) ≤ im
 
-pub sizes : (code : Code) (k0 n re im : ℕ) → CodeOf code → modulationOf (code .combination) ≡ Qpsk → Periods (code .combination) k0 → Periods (code .combination) n → n ≤ 64 * stepsPerPeriod (code .combination)
-    → Covers (code .combination) (k0 + n) re → Covers (code .combination) (k0 + n) im → Sizes (code .period) (code .count) k0 n re im
-sizes code k0 n re im h e p q few gr gi =
-    let c = code .combination in
+pub sizes : (layout : PeriodLayout) (k0 n re im : ℕ) → LayoutOf layout → modulationOf (layout .combination) ≡ Qpsk → Periods (layout .combination) k0 → Periods (layout .combination) n → n ≤ 64 * stepsPerPeriod (layout .combination)
+    → Covers (layout .combination) (k0 + n) re → Covers (layout .combination) (k0 + n) im → Sizes (layout .period) (layout .count) k0 n re im
+sizes layout k0 n re im h e p q few gr gi =
+    let c = layout .combination in
     let s = short c in
     let b = block-sizes c n q few in
     rw (h .period, h .count)

@@ -1,6 +1,6 @@
 // The four metrics of each step of a block, which is at most 64 whole periods of a run. The lent parts start at the run's first symbol.
 use isdbs_core::combination::Modulation;
-use isdbs_metrics::Code;
+use isdbs_metrics::PeriodLayout;
 use isdbs_metrics::correlation;
 use isdbs_metrics::symbol;
 use isdbs_points::Cplx;
@@ -25,7 +25,7 @@ ghost use Rattle.isdbs_soft.specs.Soft.{softOf};
 ghost use Rattle.isdbs_points.specs.Points.{turned, psk8Of, subset};
 ghost use Rattle.isdbs_points.specs.Layout.{stepsPerPeriod};
 ghost use Rattle.isdbs_metrics.specs.Reading.{pairMetrics};
-ghost use Rattle.isdbs_metrics.specs.Steps.{CodeOf, Covers, qpskPart};
+ghost use Rattle.isdbs_metrics.specs.Steps.{LayoutOf, Covers, qpskPart};
 ghost use Rattle.strain.specs.Marks.{markOf};
 ghost use Rattle.isdbs_blocks.specs.Blocks.{runSteps, runMark, fourIn, Periods, BlockMade, turns, fours, stepSoft, spreadSoft, subsetParts};
 
@@ -88,23 +88,23 @@ fn spread_period(softs: &[f32], places: &[usize; 14], count: usize, bits: usize,
 }
 
 // The soft values of the steps of n periods, from those that were sent.
-fn spread(softs: &[f32], code: Code, n: usize, pairs: &mut [f32])
-    requires { ⌜ CodeOf code × (code .count ≤ 8) × (code .period ≤ 7) × (n ≤ 64) × (512 ≤ length (now softs)) × (896 ≤ length (now pairs)) ⌝ }
-    ensures { λ _. ⌜ now (pairs .exit) ≡ laid (upto (spreadSoft (code .combination) (now (softs .entry))) (n * (2 * stepsPerPeriod (code .combination)))) (now (pairs .entry)) ⌝ }
+fn spread(softs: &[f32], layout: PeriodLayout, n: usize, pairs: &mut [f32])
+    requires { ⌜ LayoutOf layout × (layout .count ≤ 8) × (layout .period ≤ 7) × (n ≤ 64) × (512 ≤ length (now softs)) × (896 ≤ length (now pairs)) ⌝ }
+    ensures { λ _. ⌜ now (pairs .exit) ≡ laid (upto (spreadSoft (layout .combination) (now (softs .entry))) (n * (2 * stepsPerPeriod (layout .combination)))) (now (pairs .entry)) ⌝ }
 {
-    let places = code.places;
+    let places = layout.places;
     let mut from: usize = 0;
     let mut to: usize = 0;
     for t in 0..n {
         spread_period(
             &softs[from..],
             &places,
-            code.count,
-            2 * code.period,
+            layout.count,
+            2 * layout.period,
             &mut pairs[to..],
         );
-        from = from + code.count;
-        to = to + 2 * code.period;
+        from = from + layout.count;
+        to = to + 2 * layout.period;
     }
 }
 
@@ -114,23 +114,23 @@ fn qpsk_softs(
     im: &[f64],
     m: Mapping,
     scale: f32,
-    code: Code,
+    layout: PeriodLayout,
     k0: usize,
     n: usize,
     parts: &mut [f64],
     softs: &mut [f32],
     pairs: &mut [f32],
 )
-    requires { ⌜ CodeOf code × (modulationOf (code .combination) ≡ Qpsk) × Periods (code .combination) k0 × Periods (code .combination) n × (n ≤ 64 * stepsPerPeriod (code .combination)) × (k0 + n < 2 ^ 30)
-        × Covers (code .combination) (k0 + n) (length (now re)) × Covers (code .combination) (k0 + n) (length (now im)) × (512 ≤ length (now parts)) × (512 ≤ length (now softs)) × (896 ≤ length (now pairs)) ⌝ }
-    ensures { λ _. ⌜ now (pairs .exit) ≡ laid (upto (stepSoft (code .combination) (now (re .entry)) (now (im .entry)) m scale k0) (2 * n)) (now (pairs .entry)) ⌝ }
+    requires { ⌜ LayoutOf layout × (modulationOf (layout .combination) ≡ Qpsk) × Periods (layout .combination) k0 × Periods (layout .combination) n × (n ≤ 64 * stepsPerPeriod (layout .combination)) × (k0 + n < 2 ^ 30)
+        × Covers (layout .combination) (k0 + n) (length (now re)) × Covers (layout .combination) (k0 + n) (length (now im)) × (512 ≤ length (now parts)) × (512 ≤ length (now softs)) × (896 ≤ length (now pairs)) ⌝ }
+    ensures { λ _. ⌜ now (pairs .exit) ≡ laid (upto (stepSoft (layout .combination) (now (re .entry)) (now (im .entry)) m scale k0) (2 * n)) (now (pairs .entry)) ⌝ }
 {
-    let periods = n / code.period;
-    let symbols = code.count / 2;
-    let from = k0 / code.period * symbols;
+    let periods = n / layout.period;
+    let symbols = layout.count / 2;
+    let from = k0 / layout.period * symbols;
     qpsk_parts(re, im, m, from, periods * symbols, parts);
-    soft_block(parts, periods * code.count, scale, softs);
-    spread(softs, code, periods, pairs);
+    soft_block(parts, periods * layout.count, scale, softs);
+    spread(softs, layout, periods, pairs);
 }
 
 // The soft values of n steps of BPSK from step k0 on: X, then Y, on successive symbols.
@@ -201,7 +201,7 @@ fn fill(
     im: &[f64],
     m: Mapping,
     scale: f32,
-    code: Code,
+    layout: PeriodLayout,
     k0: usize,
     n: usize,
     parts: &mut [f64],
@@ -209,19 +209,19 @@ fn fill(
     pairs: &mut [f32],
     block: &mut [f32],
 )
-    requires { ⌜ CodeOf code × Periods (code .combination) k0 × Periods (code .combination) n × (n ≤ 64 * stepsPerPeriod (code .combination)) × (k0 + n < 2 ^ 30)
-        × Covers (code .combination) (k0 + n) (length (now re)) × Covers (code .combination) (k0 + n) (length (now im))
+    requires { ⌜ LayoutOf layout × Periods (layout .combination) k0 × Periods (layout .combination) n × (n ≤ 64 * stepsPerPeriod (layout .combination)) × (k0 + n < 2 ^ 30)
+        × Covers (layout .combination) (k0 + n) (length (now re)) × Covers (layout .combination) (k0 + n) (length (now im))
         × (512 ≤ length (now parts)) × (512 ≤ length (now softs)) × (896 ≤ length (now pairs)) × (1792 ≤ length (now block)) ⌝ }
-    ensures { λ _. ⌜ BlockMade (runSteps (code .combination) (now (re .entry)) (now (im .entry)) m scale) k0 n (now (block .exit)) ⌝ }
+    ensures { λ _. ⌜ BlockMade (runSteps (layout .combination) (now (re .entry)) (now (im .entry)) m scale) k0 n (now (block .exit)) ⌝ }
 {
-    let modulation = code.modulation;
+    let modulation = layout.modulation;
     match modulation {
         Modulation::Bpsk => {
             bpsk_softs(re, scale, k0, n, pairs);
             lay_pairs(pairs, n, block);
         }
         Modulation::Qpsk => {
-            qpsk_softs(re, im, m, scale, code, k0, n, parts, softs, pairs);
+            qpsk_softs(re, im, m, scale, layout, k0, n, parts, softs, pairs);
             lay_pairs(pairs, n, block);
         }
         Modulation::Tc8psk => {
@@ -252,7 +252,7 @@ pub fn make_block(
     im: &[f64],
     m: Mapping,
     scale: f32,
-    code: Code,
+    layout: PeriodLayout,
     k0: usize,
     n: usize,
     parts: &mut [f64],
@@ -261,12 +261,12 @@ pub fn make_block(
     block: &mut [f32],
     marks: &mut [u8],
 )
-    requires { ⌜ CodeOf code × Periods (code .combination) k0 × Periods (code .combination) n × (n ≤ 64 * stepsPerPeriod (code .combination)) × (k0 + n < 2 ^ 30)
-        × Covers (code .combination) (k0 + n) (length (now re)) × Covers (code .combination) (k0 + n) (length (now im))
+    requires { ⌜ LayoutOf layout × Periods (layout .combination) k0 × Periods (layout .combination) n × (n ≤ 64 * stepsPerPeriod (layout .combination)) × (k0 + n < 2 ^ 30)
+        × Covers (layout .combination) (k0 + n) (length (now re)) × Covers (layout .combination) (k0 + n) (length (now im))
         × (512 ≤ length (now parts)) × (512 ≤ length (now softs)) × (896 ≤ length (now pairs)) × (1792 ≤ length (now block)) × (n ≤ length (now marks)) ⌝ }
-    ensures made { λ _. ⌜ BlockMade (runSteps (code .combination) (now (re .entry)) (now (im .entry)) m scale) k0 n (now (block .exit)) ⌝ }
-    ensures marked { λ _. ⌜ now (marks .exit) ≡ laid (upto (λ i. runMark (code .combination) (now (re .entry)) (now (im .entry)) m scale (k0 + i)) n) (now (marks .entry)) ⌝ }
+    ensures made { λ _. ⌜ BlockMade (runSteps (layout .combination) (now (re .entry)) (now (im .entry)) m scale) k0 n (now (block .exit)) ⌝ }
+    ensures marked { λ _. ⌜ now (marks .exit) ≡ laid (upto (λ i. runMark (layout .combination) (now (re .entry)) (now (im .entry)) m scale (k0 + i)) n) (now (marks .entry)) ⌝ }
 {
-    fill(re, im, m, scale, code, k0, n, parts, softs, pairs, block);
+    fill(re, im, m, scale, layout, k0, n, parts, softs, pairs, block);
     mark_block(block, n, marks);
 }

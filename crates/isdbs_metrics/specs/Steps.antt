@@ -10,8 +10,7 @@ use Rattle.isdbs_combination.specs.declared.Modulation.{Modulation}
 use Rattle.isdbs_combination.specs.declared.Modulation.the-variants.{Bpsk, Qpsk, Tc8psk}
 use Rattle.isdbs_combination.specs.Combinations.{modulationOf}
 use Rattle.isdbs_points.specs.declared.Mapping.{Mapping}
-use Rattle.isdbs_metrics.specs.declared.Code.{Code}
-use Rattle.isdbs_metrics.specs.declared.Phase.{Phase}
+use Rattle.isdbs_metrics.specs.declared.PeriodLayout.{PeriodLayout}
 use Rattle.isdbs_points.specs.Points.{point, turned}
 use Rattle.isdbs_points.specs.Layout.{orderOf, stepsPerPeriod, placeIn}
 use Rattle.isdbs_points.specs.Pieces.{piece}
@@ -28,16 +27,11 @@ qpskPart re im m i =
     partOf (m .«qpsk_p1_on_q») (point (getD re (i / 2) nan) (turned (m .conjugate) (getD im (i / 2) nan))) (i % 2)
 
 -- the modulation, the steps and the sent mother bits of a period, and the place of each mother bit among those sent
-pub record CodeOf (r : Code) : Type 0 where
+pub record LayoutOf (r : PeriodLayout) : Type 0 where
   pub modulation : r .modulation ≡ modulationOf (r .combination)
   pub period : r .period ≡ stepsPerPeriod (r .combination)
   pub count : r .count ≡ length (orderOf (r .combination))
   pub places : (a : ℕ) → a < 2 * stepsPerPeriod (r .combination) → getD (r .places) a 0 ≡ placeIn a (orderOf (r .combination))
-
--- step k of a run: its place in the period, and the mother bits sent in the periods before
-pub record PhaseAt (c : Combination) (k : ℕ) (p : Phase) : Type 0 where
-  pub place : p .q ≡ k % stepsPerPeriod c
-  pub base : p .base ≡ k / stepsPerPeriod c * length (orderOf c)
 
 -- the points of step k lie among the first n
 abbrev pub ReachesBy : Modulation → Combination → ℕ → ℕ → Type 0

@@ -1,8 +1,8 @@
 // The steps of a run, read in blocks of at most 64 periods.
 use isdbs_blocks::make_block;
 use isdbs_core::combination::Combination;
-use isdbs_metrics::Code;
-use isdbs_metrics::code_of;
+use isdbs_metrics::PeriodLayout;
+use isdbs_metrics::layout_of;
 use isdbs_points::Mapping;
 use viterbi::At;
 use viterbi::run_fours;
@@ -12,7 +12,7 @@ ghost use Prim.Native.Nat.{_+_, _*_, _<_, _≤_, _^_};
 ghost use lib.ListN.{length};
 ghost use Rattle.trellis.specs.Lists.{upto, laid};
 ghost use Rattle.isdbs_metrics.specs.Reading.{frameWords};
-ghost use Rattle.isdbs_metrics.specs.Steps.{CodeOf, Covers};
+ghost use Rattle.isdbs_metrics.specs.Steps.{LayoutOf, Covers};
 ghost use Rattle.isdbs_blocks.specs.Blocks.{runSteps, runMark, Periods};
 ghost use Rattle.isdbs_read.specs.Carried.{Carried};
 
@@ -35,7 +35,7 @@ fn read_blocks(
     at: At,
     i0: usize,
     n: usize,
-    code: Code,
+    layout: PeriodLayout,
     m: Mapping,
     scale: f32,
     re: &[f64],
@@ -48,22 +48,22 @@ fn read_blocks(
     bits: &mut [u8],
     marks: &mut [u8],
 ) -> At
-    requires { ⌜ CodeOf code × Periods (code .combination) n × (at .held < frameWords) × (frameWords ≤ length (now decisions)) × (at .held + at .count + n ≤ length (now bits)) × (n ≤ length (now marks)) × (i0 + n < 2 ^ 30)
-        × Covers (code .combination) n (length (now re)) × Covers (code .combination) n (length (now im))
+    requires { ⌜ LayoutOf layout × Periods (layout .combination) n × (at .held < frameWords) × (frameWords ≤ length (now decisions)) × (at .held + at .count + n ≤ length (now bits)) × (n ≤ length (now marks)) × (i0 + n < 2 ^ 30)
+        × Covers (layout .combination) n (length (now re)) × Covers (layout .combination) n (length (now im))
         × (512 ≤ length (now parts)) × (512 ≤ length (now softs)) × (896 ≤ length (now pairs)) × (1792 ≤ length (now block)) ⌝ }
-    ensures read { λ r. ⌜ Carried (runSteps (code .combination) (now (re .entry)) (now (im .entry)) m scale) i0 n (now (pm .entry)) at (now (decisions .entry)) (now (bits .entry)) r (now (pm .exit)) (now (decisions .exit)) (now (bits .exit)) ⌝ }
-    ensures marked { λ _. ⌜ now (marks .exit) ≡ laid (upto (runMark (code .combination) (now (re .entry)) (now (im .entry)) m scale) n) (now (marks .entry)) ⌝ }
+    ensures read { λ r. ⌜ Carried (runSteps (layout .combination) (now (re .entry)) (now (im .entry)) m scale) i0 n (now (pm .entry)) at (now (decisions .entry)) (now (bits .entry)) r (now (pm .exit)) (now (decisions .exit)) (now (bits .exit)) ⌝ }
+    ensures marked { λ _. ⌜ now (marks .exit) ≡ laid (upto (runMark (layout .combination) (now (re .entry)) (now (im .entry)) m scale) n) (now (marks .entry)) ⌝ }
 {
     let mut now_at = at;
     let mut k: usize = 0;
     while k < n {
-        let len = block_of(n - k, code.period);
+        let len = block_of(n - k, layout.period);
         make_block(
             re,
             im,
             m,
             scale,
-            code,
+            layout,
             k,
             len,
             parts,
@@ -97,7 +97,7 @@ pub fn read_run(
     ensures read { λ r. ⌜ Carried (runSteps c (now (re .entry)) (now (im .entry)) m scale) i0 n (now (pm .entry)) at (now (decisions .entry)) (now (bits .entry)) r (now (pm .exit)) (now (decisions .exit)) (now (bits .exit)) ⌝ }
     ensures marked { λ _. ⌜ now (marks .exit) ≡ laid (upto (runMark c (now (re .entry)) (now (im .entry)) m scale) n) (now (marks .entry)) ⌝ }
 {
-    let code = code_of(c);
+    let layout = layout_of(c);
     let mut parts = [0.0f64; 512];
     let mut softs = [0.0f32; 512];
     let mut pairs = [0.0f32; 896];
@@ -107,7 +107,7 @@ pub fn read_run(
         at,
         i0,
         n,
-        code,
+        layout,
         m,
         scale,
         re,

@@ -18,8 +18,8 @@ use Rattle.isdbs_points.specs.declared.Mapping.{Mapping}
 use Rattle.isdbs_points.specs.Layout.{Segment, sentOrder, orderOf, stepsPerPeriod, placeIn}
 use Rattle.isdbs_points.specs.Frame.{codedBit}
 use Rattle.isdbs_points.specs.Order.{number, step-kept}
-use Rattle.isdbs_metrics.specs.declared.Code.{Code}
-use Rattle.isdbs_metrics.specs.Steps.{CodeOf}
+use Rattle.isdbs_metrics.specs.declared.PeriodLayout.{PeriodLayout}
+use Rattle.isdbs_metrics.specs.Steps.{LayoutOf}
 use Rattle.isdbs_metrics.proofs.ByStep.{place-small, period-small, base-small, tc8psk-reach}
 use Rattle.wanted.specs.ReadOff.{psk8Label, which, bitAs, bitBy, inputFrom}
 use Rattle.wanted.specs.Shown.{label-small}
@@ -48,7 +48,7 @@ module _ (c : Combination) (start k : ℕ) where
   sent-in h = in-frame c start k (placeIn (2 * (k % stepsPerPeriod c) + b) (orderOf c)) h place-fits
 
 -- what the code's table says of the bit that is read, and of its number among those sent
-module _ (r : Code) (h : CodeOf r) (start k : ℕ) where
+module _ (r : PeriodLayout) (h : LayoutOf r) (start k : ℕ) where
   pub which-is : (b : ℕ) → b ≡ cond (ltb (getD (r .places) (2 * (k % r .period)) 0) (r .count)) 0 1 → b ≡ which (runAt (r .combination) start) k
   which-is b e =
       let s = place-small (r .combination) k in

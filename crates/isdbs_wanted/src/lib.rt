@@ -4,8 +4,8 @@ use isdbs_core::combination::Combination;
 use isdbs_core::combination::Modulation;
 use isdbs_core::frame::SLOT_BYTES;
 use isdbs_core::slots::Plan;
-use isdbs_metrics::Code;
-use isdbs_metrics::code_of;
+use isdbs_metrics::PeriodLayout;
+use isdbs_metrics::layout_of;
 use isdbs_metrics::symbol;
 use isdbs_points::Cplx;
 use isdbs_points::Mapping;
@@ -24,7 +24,7 @@ ghost use Rattle.isdbs_runs.specs.RunsOf.{loadBytes, Planned};
 ghost use Rattle.isdbs_points.specs.Layout.{byteOf};
 ghost use Rattle.isdbs_points.specs.Frame.{codedBit};
 ghost use Rattle.isdbs_metrics.specs.Reading.{partOf};
-ghost use Rattle.isdbs_metrics.specs.Steps.{CodeOf};
+ghost use Rattle.isdbs_metrics.specs.Steps.{LayoutOf};
 ghost use Rattle.wanted.specs.ReadOff.{shown, hard, bySign, psk8Label, bitAs, inputFrom};
 ghost use Rattle.isdbs_wanted.specs.Pieces.{runAt, stepOf, SentIn, InFrame, ByteIn, BytesIn, nextBit, nextState, stateAfter, bitAfter, runState, runByte, frameByte};
 
@@ -133,22 +133,22 @@ fn read_input(
     re: &[f64],
     im: &[f64],
     m: Mapping,
-    code: Code,
+    layout: PeriodLayout,
     start: usize,
     k: usize,
     state: u8,
 ) -> u8
-    requires { ⌜ CodeOf code × (k < 2 ^ 30) × (state < 64) × InFrame (code .combination) start k × (mainSymbols ≤ length (now re)) × (mainSymbols ≤ length (now im)) ⌝ }
-    ensures { λ r. ⌜ (r ≡ inputFrom m (shown m (now (re .entry)) (now (im .entry))) state (runAt (code .combination) start) k) × (r < 2) ⌝ }
+    requires { ⌜ LayoutOf layout × (k < 2 ^ 30) × (state < 64) × InFrame (layout .combination) start k × (mainSymbols ≤ length (now re)) × (mainSymbols ≤ length (now im)) ⌝ }
+    ensures { λ r. ⌜ (r ≡ inputFrom m (shown m (now (re .entry)) (now (im .entry))) state (runAt (layout .combination) start) k) × (r < 2) ⌝ }
 {
-    let places = code.places;
-    let count = code.count;
-    let q = k % code.period;
+    let places = layout.places;
+    let count = layout.count;
+    let q = k % layout.period;
     let b = which_bit(places[2 * q], count);
-    let n = k / code.period * count + places[2 * q + b];
+    let n = k / layout.period * count + places[2 * q + b];
     let c = encode_bit(state, 0);
     let zero = coded_bit(b, 2 * c.x + c.y);
-    let modulation = code.modulation;
+    let modulation = layout.modulation;
     let shown = sent_bit(re, im, m, modulation, start, n, k, b);
     (shown + zero) % 2
 }
@@ -164,15 +164,15 @@ fn read_coded(
     re: &[f64],
     im: &[f64],
     m: Mapping,
-    code: Code,
+    layout: PeriodLayout,
     start: usize,
     k: usize,
     state: u8,
 ) -> BitRead
-    requires { ⌜ CodeOf code × (k < 2 ^ 30) × (state < 64) × InFrame (code .combination) start k × (mainSymbols ≤ length (now re)) × (mainSymbols ≤ length (now im)) ⌝ }
-    ensures { λ r. ⌜ (r .bit ≡ inputFrom m (shown m (now (re .entry)) (now (im .entry))) state (runAt (code .combination) start) k) × (r .state ≡ moved 32 (inputFrom m (shown m (now (re .entry)) (now (im .entry))) state (runAt (code .combination) start) k) state) × (r .bit < 2) × (r .state < 64) ⌝ }
+    requires { ⌜ LayoutOf layout × (k < 2 ^ 30) × (state < 64) × InFrame (layout .combination) start k × (mainSymbols ≤ length (now re)) × (mainSymbols ≤ length (now im)) ⌝ }
+    ensures { λ r. ⌜ (r .bit ≡ inputFrom m (shown m (now (re .entry)) (now (im .entry))) state (runAt (layout .combination) start) k) × (r .state ≡ moved 32 (inputFrom m (shown m (now (re .entry)) (now (im .entry))) state (runAt (layout .combination) start) k) state) × (r .bit < 2) × (r .state < 64) ⌝ }
 {
-    let u = read_input(re, im, m, code, start, k, state);
+    let u = read_input(re, im, m, layout, start, k, state);
     BitRead {
         bit: u,
         state: 32 * u + state / 2,
@@ -184,24 +184,24 @@ fn read_bit(
     re: &[f64],
     im: &[f64],
     m: Mapping,
-    code: Code,
+    layout: PeriodLayout,
     start: usize,
     i: usize,
     state: u8,
 ) -> BitRead
-    requires { ⌜ CodeOf code × (i < 2 ^ 30) × (state < 64) × InFrame (code .combination) start (stepOf (code .combination) i) × (mainSymbols ≤ length (now re)) × (mainSymbols ≤ length (now im)) ⌝ }
-    ensures { λ r. ⌜ (r .bit ≡ nextBit m (shown m (now (re .entry)) (now (im .entry))) (runAt (code .combination) start) state i) × (r .state ≡ nextState m (shown m (now (re .entry)) (now (im .entry))) (runAt (code .combination) start) state i) × (r .bit < 2) × (r .state < 64) ⌝ }
+    requires { ⌜ LayoutOf layout × (i < 2 ^ 30) × (state < 64) × InFrame (layout .combination) start (stepOf (layout .combination) i) × (mainSymbols ≤ length (now re)) × (mainSymbols ≤ length (now im)) ⌝ }
+    ensures { λ r. ⌜ (r .bit ≡ nextBit m (shown m (now (re .entry)) (now (im .entry))) (runAt (layout .combination) start) state i) × (r .state ≡ nextState m (shown m (now (re .entry)) (now (im .entry))) (runAt (layout .combination) start) state i) × (r .bit < 2) × (r .state < 64) ⌝ }
 {
-    let modulation = code.modulation;
+    let modulation = layout.modulation;
     match modulation {
-        Modulation::Bpsk => read_coded(re, im, m, code, start, i, state),
-        Modulation::Qpsk => read_coded(re, im, m, code, start, i, state),
+        Modulation::Bpsk => read_coded(re, im, m, layout, start, i, state),
+        Modulation::Qpsk => read_coded(re, im, m, layout, start, i, state),
         Modulation::Tc8psk => {
             if i % 2 == 0 {
                 let l = label_at(re, im, m, start + i / 2);
                 BitRead { bit: l / 4, state }
             } else {
-                read_coded(re, im, m, code, start, i / 2, state)
+                read_coded(re, im, m, layout, start, i / 2, state)
             }
         }
     }
@@ -218,18 +218,18 @@ fn read_byte(
     re: &[f64],
     im: &[f64],
     m: Mapping,
-    code: Code,
+    layout: PeriodLayout,
     start: usize,
     from: usize,
     prior: u8,
 ) -> ByteRead
-    requires { ⌜ CodeOf code × (from + 8 < 2 ^ 30) × (prior < 64) × ByteIn (code .combination) start from × (mainSymbols ≤ length (now re)) × (mainSymbols ≤ length (now im)) ⌝ }
-    ensures { λ r. ⌜ (r .byte ≡ byteOf (bitAfter m (shown m (now (re .entry)) (now (im .entry))) (runAt (code .combination) start) prior from)) × (r .state ≡ stateAfter m (shown m (now (re .entry)) (now (im .entry))) (runAt (code .combination) start) prior from 8) × (r .state < 64) ⌝ }
+    requires { ⌜ LayoutOf layout × (from + 8 < 2 ^ 30) × (prior < 64) × ByteIn (layout .combination) start from × (mainSymbols ≤ length (now re)) × (mainSymbols ≤ length (now im)) ⌝ }
+    ensures { λ r. ⌜ (r .byte ≡ byteOf (bitAfter m (shown m (now (re .entry)) (now (im .entry))) (runAt (layout .combination) start) prior from)) × (r .state ≡ stateAfter m (shown m (now (re .entry)) (now (im .entry))) (runAt (layout .combination) start) prior from 8) × (r .state < 64) ⌝ }
 {
     let mut byte: u8 = 0;
     let mut state = prior;
     for i in 0..8 {
-        let b = read_bit(re, im, m, code, start, from + i, state);
+        let b = read_bit(re, im, m, layout, start, from + i, state);
         byte = 2 * byte + b.bit;
         state = b.state;
     }
@@ -250,10 +250,10 @@ fn read_run(
     requires { ⌜ (prior < 64) × (n < 2 ^ 16) × BytesIn c start n × (mainSymbols ≤ length (now re)) × (mainSymbols ≤ length (now im)) × (n ≤ length (now bytes)) ⌝ }
     ensures { λ r. ⌜ (now (bytes .exit) ≡ laid (upto (runByte m (shown m (now (re .entry)) (now (im .entry))) (runAt c start) prior) n) (now (bytes .entry))) × (r ≡ runState m (shown m (now (re .entry)) (now (im .entry))) (runAt c start) prior (8 * n)) × (r < 64) ⌝ }
 {
-    let code = code_of(c);
+    let layout = layout_of(c);
     let mut state = prior;
     for j in 0..n {
-        let b = read_byte(re, im, m, code, start, 8 * j, state);
+        let b = read_byte(re, im, m, layout, start, 8 * j, state);
         bytes[j] = b.byte;
         state = b.state;
     }

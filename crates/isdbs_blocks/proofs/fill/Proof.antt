@@ -16,7 +16,7 @@ enum-told c = search needs
 bpsk-softs-requires : tie.Need-bpsk-softs-requires
 bpsk-softs-requires c κs =
     let st = c .before .before .before .before .before .before .before .before .before in
-    let co = st .args .code .combination in
+    let co = st .args .layout .combination in
     let e = sym (st .pre .0 .modulation) ∙ c .before .enum-told .given .1 in
     let few = steps-few co (st .args .n) (st .pre .3) in
     (bpsk-room co (st .args .k0) (st .args .n) _ e (st .pre .5), omega arith)
@@ -24,7 +24,7 @@ bpsk-softs-requires c κs =
 lay-pairs-requires : tie.Need-lay-pairs-requires
 lay-pairs-requires c κs =
     let st = c .before .before .before .before .before .before .before .before .before .before .before .before .before .before in
-    let few = steps-few (st .args .code .combination) (st .args .n) (st .pre .3) in
+    let few = steps-few (st .args .layout .combination) (st .args .n) (st .pre .3) in
     let long = st .pre .9 in
     let same = laid-long _ _ _ (st .args .pairs .now) (c .before .before .before .before .bpsk-softs .ensures) (omega arith) in
     (omega arith, omega arith)
@@ -41,7 +41,7 @@ qpsk-softs-requires c κs =
 lay-pairs-requires-2 : tie.Need-lay-pairs-requires-2
 lay-pairs-requires-2 c κs =
     let st = c .before .before .before .before .before .before .before .before .before .before .before .before .before .before .before .before .before .before .before .before in
-    let few = steps-few (st .args .code .combination) (st .args .n) (st .pre .3) in
+    let few = steps-few (st .args .layout .combination) (st .args .n) (st .pre .3) in
     let long = st .pre .9 in
     let same = laid-long _ _ _ (st .args .pairs .now) (c .before .before .before .before .before .before .before .before .qpsk-softs .ensures) (omega arith) in
     (omega arith, omega arith)
@@ -52,7 +52,7 @@ enum-told-3 c = search needs
 subset-parts-requires : tie.Need-subset-parts-requires
 subset-parts-requires c κs =
     let st = c .before .before .before .before .before .before .before .before .before in
-    let co = st .args .code .combination in
+    let co = st .args .layout .combination in
     let e = sym (st .pre .0 .modulation) ∙ c .before .enum-told3 .given .1 in
     let few = tc8psk-few co (st .args .n) e (st .pre .3) in
     let long = st .pre .7 in
@@ -64,7 +64,7 @@ mul-magnitude-block c = search needs
 magnitude-block-requires : tie.Need-magnitude-block-requires
 magnitude-block-requires c κs =
     let st = c .before .before .before .before .before .before .before .before .before .before .before .before .before .before in
-    let co = st .args .code .combination in
+    let co = st .args .layout .combination in
     let e = sym (st .pre .0 .modulation) ∙ c .before .before .before .before .before .before .enum-told3 .given .1 in
     let few = tc8psk-few co (st .args .n) e (st .pre .3) in
     let long = st .pre .7 in
@@ -81,7 +81,7 @@ returns : tie.Need-returns
 returns c =
     let st = c .before .before .before .before .before .before .before .before .before .before .before .before .before .before .before .before .before in
     let a = st .args in
-    let co = a .code .combination in
+    let co = a .layout .combination in
     let e = sym (st .pre .0 .modulation) ∙ c .before .before .before .before .before .before .before .before .before .enum-told .given .1 in
     let few = steps-few co (a .n) (st .pre .3) in
     let long = st .pre .10 in
@@ -104,7 +104,7 @@ returns-2 : tie.Need-returns-2
 returns-2 c =
     let st = c .before .before .before .before .before .before .before .before .before .before .before .before .before .before .before .before .before .before .before .before .before .before .before in
     let a = st .args in
-    let co = a .code .combination in
+    let co = a .layout .combination in
     let e = sym (st .pre .0 .modulation) ∙ c .before .before .before .before .before .before .before .before .before .before .before .before .before .before .before .enum-told2 .given .1 in
     let few = steps-few co (a .n) (st .pre .3) in
     let long = st .pre .10 in
@@ -121,7 +121,7 @@ returns-3 : tie.Need-returns-3
 returns-3 c =
     let st = c .before .before .before .before .before .before .before .before .before .before .before .before .before .before .before .before .before in
     let a = st .args in
-    let co = a .code .combination in
+    let co = a .layout .combination in
     let e = sym (st .pre .0 .modulation) ∙ c .before .before .before .before .before .before .before .before .before .enum-told3 .given .1 in
     let few = tc8psk-few co (a .n) e (st .pre .3) in
     let long = st .pre .10 in

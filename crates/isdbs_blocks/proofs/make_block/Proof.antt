@@ -30,7 +30,7 @@ returns : tie.Need-returns
 returns c =
     let a = c .before .before .before .before .before .before .before .before .before .before .before .before .before .before .before .before .before .before .before .before .before .before .before .before .before .args in
     let f = c .before .before .before .before .before .before .before .before .before .before .before .before .before .fill .ensures in
-    (f, c .before .before .mark-block .ensures ∙ marks-made (a .code .combination) (a .re .now) (a .im .now) (a .m) (a .scale) (a .k0) (a .n) _ (a .marks .now) f)
+    (f, c .before .before .mark-block .ensures ∙ marks-made (a .layout .combination) (a .re .now) (a .im .now) (a .m) (a .scale) (a .k0) (a .n) _ (a .marks .now) f)
 
 pub make-block-spec : {M : Type 1} → statement M
 make-block-spec =

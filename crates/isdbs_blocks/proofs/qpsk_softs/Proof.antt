@@ -17,19 +17,19 @@ use Rattle.isdbs_blocks.proofs.qpsk_softs.Tie as tie
 div-periods : tie.Need-div-periods
 div-periods c =
     let st = c .before .before .before .before .before .before in
-    let z = sizes (st .args .code) (st .args .k0) (st .args .n) (length (st .args .re .now)) (length (st .args .im .now)) (st .pre .0) (st .pre .1) (st .pre .2) (st .pre .3) (st .pre .4) (st .pre .6) (st .pre .7) in
+    let z = sizes (st .args .layout) (st .args .k0) (st .args .n) (length (st .args .re .now)) (length (st .args .im .now)) (st .pre .0) (st .pre .1) (st .pre .2) (st .pre .3) (st .pre .4) (st .pre .6) (st .pre .7) in
     z .some
 
 div-from : tie.Need-div-from
 div-from c =
     let st = c .before .before .before .before .before .before .before .before in
-    let z = sizes (st .args .code) (st .args .k0) (st .args .n) (length (st .args .re .now)) (length (st .args .im .now)) (st .pre .0) (st .pre .1) (st .pre .2) (st .pre .3) (st .pre .4) (st .pre .6) (st .pre .7) in
+    let z = sizes (st .args .layout) (st .args .k0) (st .args .n) (length (st .args .re .now)) (length (st .args .im .now)) (st .pre .0) (st .pre .1) (st .pre .2) (st .pre .3) (st .pre .4) (st .pre .6) (st .pre .7) in
     z .some
 
 mul-from : tie.Need-mul-from
 mul-from c =
     let st = c .before .before .before .before .before .before .before .before in
-    let z = sizes (st .args .code) (st .args .k0) (st .args .n) (length (st .args .re .now)) (length (st .args .im .now)) (st .pre .0) (st .pre .1) (st .pre .2) (st .pre .3) (st .pre .4) (st .pre .6) (st .pre .7) in
+    let z = sizes (st .args .layout) (st .args .k0) (st .args .n) (length (st .args .re .now)) (length (st .args .im .now)) (st .pre .0) (st .pre .1) (st .pre .2) (st .pre .3) (st .pre .4) (st .pre .6) (st .pre .7) in
     let few = z .from-few in
     let most = st .fits .k0 .fits in
     record { fits = omega arith }
@@ -37,7 +37,7 @@ mul-from c =
 mul-qpsk-parts : tie.Need-mul-qpsk-parts
 mul-qpsk-parts c =
     let st = c .before .before .before .before .before .before .before .before in
-    let z = sizes (st .args .code) (st .args .k0) (st .args .n) (length (st .args .re .now)) (length (st .args .im .now)) (st .pre .0) (st .pre .1) (st .pre .2) (st .pre .3) (st .pre .4) (st .pre .6) (st .pre .7) in
+    let z = sizes (st .args .layout) (st .args .k0) (st .args .n) (length (st .args .re .now)) (length (st .args .im .now)) (st .pre .0) (st .pre .1) (st .pre .2) (st .pre .3) (st .pre .4) (st .pre .6) (st .pre .7) in
     let few = z .sent-few in
     let two = z .twice in
     record { fits = omega arith }
@@ -45,7 +45,7 @@ mul-qpsk-parts c =
 qpsk-parts-requires : tie.Need-qpsk-parts-requires
 qpsk-parts-requires c κs =
     let st = c .before .before .before .before .before .before .before .before .before in
-    let z = sizes (st .args .code) (st .args .k0) (st .args .n) (length (st .args .re .now)) (length (st .args .im .now)) (st .pre .0) (st .pre .1) (st .pre .2) (st .pre .3) (st .pre .4) (st .pre .6) (st .pre .7) in
+    let z = sizes (st .args .layout) (st .args .k0) (st .args .n) (length (st .args .re .now)) (length (st .args .im .now)) (st .pre .0) (st .pre .1) (st .pre .2) (st .pre .3) (st .pre .4) (st .pre .6) (st .pre .7) in
     let few = z .sent-few in
     let two = z .twice in
     let long = st .pre .8 in
@@ -54,14 +54,14 @@ qpsk-parts-requires c κs =
 mul-soft-block : tie.Need-mul-soft-block
 mul-soft-block c =
     let st = c .before .before .before .before .before .before .before .before .before .before .before .before .before .before in
-    let z = sizes (st .args .code) (st .args .k0) (st .args .n) (length (st .args .re .now)) (length (st .args .im .now)) (st .pre .0) (st .pre .1) (st .pre .2) (st .pre .3) (st .pre .4) (st .pre .6) (st .pre .7) in
+    let z = sizes (st .args .layout) (st .args .k0) (st .args .n) (length (st .args .re .now)) (length (st .args .im .now)) (st .pre .0) (st .pre .1) (st .pre .2) (st .pre .3) (st .pre .4) (st .pre .6) (st .pre .7) in
     let few = z .sent-few in
     record { fits = omega arith }
 
 soft-block-requires : tie.Need-soft-block-requires
 soft-block-requires c κs =
     let st = c .before .before .before .before .before .before .before .before .before .before .before .before .before .before .before in
-    let z = sizes (st .args .code) (st .args .k0) (st .args .n) (length (st .args .re .now)) (length (st .args .im .now)) (st .pre .0) (st .pre .1) (st .pre .2) (st .pre .3) (st .pre .4) (st .pre .6) (st .pre .7) in
+    let z = sizes (st .args .layout) (st .args .k0) (st .args .n) (length (st .args .re .now)) (length (st .args .im .now)) (st .pre .0) (st .pre .1) (st .pre .2) (st .pre .3) (st .pre .4) (st .pre .6) (st .pre .7) in
     let few = z .sent-few in
     let two = z .twice in
     let long = st .pre .8 in
@@ -71,7 +71,7 @@ soft-block-requires c κs =
 spread-requires : tie.Need-spread-requires
 spread-requires c κs =
     let st = c .before .before .before .before .before .before .before .before .before .before .before .before .before .before .before .before .before .before .before .before in
-    let z = sizes (st .args .code) (st .args .k0) (st .args .n) (length (st .args .re .now)) (length (st .args .im .now)) (st .pre .0) (st .pre .1) (st .pre .2) (st .pre .3) (st .pre .4) (st .pre .6) (st .pre .7) in
+    let z = sizes (st .args .layout) (st .args .k0) (st .args .n) (length (st .args .re .now)) (length (st .args .im .now)) (st .pre .0) (st .pre .1) (st .pre .2) (st .pre .3) (st .pre .4) (st .pre .6) (st .pre .7) in
     let few = z .sent-few in
     let same = laid-long _ _ _ (st .args .softs .now) (c .before .before .before .before .soft-block .ensures) (omega arith) in
     (st .pre .0, z .count-few, z .period-few, z .few, omega arith, omega arith)
@@ -90,7 +90,7 @@ returns c =
     let st = c .before .before .before .before .before .before .before .before .before .before .before .before .before .before .before .before .before .before .before .before .before .before .before in
     let a = st .args in
     let h = st .pre .0 in
-    let co = a .code .combination in
+    let co = a .layout .combination in
     let b = block-sizes co (a .n) (st .pre .3) (st .pre .4) in
     let ep = rw (h .period, h .count, b .2) at (c .before .before .before .before .before .before .before .before .before .before .before .before .before .qpsk-parts .ensures) in
     let es = rw (h .period, h .count) at (c .before .before .before .before .before .before .before .soft-block .ensures) in

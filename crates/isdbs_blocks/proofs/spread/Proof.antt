@@ -19,17 +19,17 @@ use Rattle.isdbs_blocks.proofs.spread.Statement.{statement}
 use Rattle.isdbs_blocks.proofs.spread.Tie as tie
 
 abbrev Inv-loop : tie.InvT-loop
-Inv-loop softs code n pairs₀ places from₀ to₀ t₀ pairs from to t =
+Inv-loop softs layout n pairs₀ places from₀ to₀ t₀ pairs from to t =
     (t ≤ n)
     × (from ≤ 8 * t)
     × (to ≤ 14 * t)
-    × (from ≡ t * length (orderOf (code .combination)))
-    × (to ≡ t * (2 * stepsPerPeriod (code .combination)))
+    × (from ≡ t * length (orderOf (layout .combination)))
+    × (to ≡ t * (2 * stepsPerPeriod (layout .combination)))
     × (length pairs ≡ length pairs₀)
-    × (pairs ≡ laid (upto (spreadSoft (code .combination) softs) to) pairs₀)
+    × (pairs ≡ laid (upto (spreadSoft (layout .combination) softs) to) pairs₀)
 
 abbrev μ-loop : tie.MeasureT-loop
-μ-loop softs code n pairs₀ places from₀ to₀ t₀ pairs from to t = n - t
+μ-loop softs layout n pairs₀ places from₀ to₀ t₀ pairs from to t = n - t
 
 loop-holds : tie.Need-loop-holds Inv-loop μ-loop
 unfolding upto
@@ -92,8 +92,8 @@ loop-again c =
     let inside = c .before .before .before .before .before .before .before .before .before .loop-test .taken in
     let h = at .inv in
     let lp = h .5 in
-    let code = st .args .code in
-    let co = code .combination in
+    let layout = st .args .layout in
+    let co = layout .combination in
     let softs = st .args .softs .now in
     let most = st .pre .3 in
     let en = st .pre .0 .count in
@@ -103,11 +103,11 @@ loop-again c =
     let more = one-more co (at .t) in
     let mf = more .0 in
     let mt = more .1 in
-    let bits = 2 * code .period in
+    let bits = 2 * layout .period in
     let f = spreadSoft co softs in
-    let g : ℕ → Float = λ a. cond (ltb (getD (code .places) a 0) (code .count)) (getD (take (length softs - at .from) (drop (at .from) softs)) (getD (code .places) a 0) nan) (ofBits binary32 0) in
+    let g : ℕ → Float = λ a. cond (ltb (getD (layout .places) a 0) (layout .count)) (getD (take (length softs - at .from) (drop (at .from) softs)) (getD (layout .places) a 0) nan) (ofBits binary32 0) in
     let same : (a : ℕ) → a < bits → g a ≡ f (at .to + a) = λ a l. let s : a < 2 * stepsPerPeriod co = omega arith in
-    spread-at co softs (code .places) (code .count) (at .from) (at .to) (at .t) a en ef et (st .pre .0 .places a s) s in
+    spread-at co softs (layout .places) (layout .count) (at .from) (at .to) (at .t) a en ef et (st .pre .0 .places a s) s in
     let spread = written-tail (at .to) (at .pairs) _ (upto g bits) (omega arith) (c .before .before .before .before .spread-period .ensures)
     ∙ ap (λ (l : List Float). take (at .to) l ++ laid (upto g bits) (drop (at .to) l)) (h .6)
     ∙ laid-part f g (at .to) bits (st .args .pairs .now) same in (

@@ -19,27 +19,27 @@ use Rattle.isdbs_read.proofs.read_blocks.Statement.{statement}
 use Rattle.isdbs_read.proofs.read_blocks.Tie as tie
 
 abbrev Inv-loop : tie.InvT-loop
-Inv-loop pm₀ i0 n code m scale re im parts₀ softs₀ pairs₀ block₀ decisions₀ bits₀ marks₀ now-at₀ k₀ pm parts softs pairs block decisions bits marks now-at k =
+Inv-loop pm₀ i0 n layout m scale re im parts₀ softs₀ pairs₀ block₀ decisions₀ bits₀ marks₀ now-at₀ k₀ pm parts softs pairs block decisions bits marks now-at k =
     (k ≤ n)
-    × Periods (code .combination) k
+    × Periods (layout .combination) k
     × (length decisions ≡ length decisions₀)
     × (length bits ≡ length bits₀)
-    × Carried (runSteps (code .combination) re im m scale) i0 k pm₀ now-at₀ decisions₀ bits₀ now-at pm decisions bits
+    × Carried (runSteps (layout .combination) re im m scale) i0 k pm₀ now-at₀ decisions₀ bits₀ now-at pm decisions bits
     × (length marks ≡ length marks₀)
-    × (marks ≡ laid (upto (runMark (code .combination) re im m scale) k) marks₀)
+    × (marks ≡ laid (upto (runMark (layout .combination) re im m scale) k) marks₀)
     × (length parts ≡ length parts₀)
     × (length softs ≡ length softs₀)
     × (length pairs ≡ length pairs₀)
     × (length block ≡ length block₀)
 
 abbrev μ-loop : tie.MeasureT-loop
-μ-loop pm₀ i0 n code m scale re im parts₀ softs₀ pairs₀ block₀ decisions₀ bits₀ marks₀ now-at₀ k₀ pm parts softs pairs block decisions bits marks now-at k = n - k
+μ-loop pm₀ i0 n layout m scale re im parts₀ softs₀ pairs₀ block₀ decisions₀ bits₀ marks₀ now-at₀ k₀ pm parts softs pairs block decisions bits marks now-at k = n - k
 
 loop-holds : tie.Need-loop-holds Inv-loop μ-loop
 unfolding upto
 loop-holds c =
     let st = c .before .before .before .before .before .before .before .before .before in
-    (search needs, no-periods (st .args .code .combination), refl, refl, read-start _ _ _ _ _ _ (st .pre .2), refl, refl, refl, refl, refl, refl)
+    (search needs, no-periods (st .args .layout .combination), refl, refl, read-start _ _ _ _ _ _ (st .pre .2), refl, refl, refl, refl, refl, refl)
 
 sub-block-of : tie.Need-sub-block-of Inv-loop μ-loop
 sub-block-of c = search needs
@@ -47,7 +47,7 @@ sub-block-of c = search needs
 block-of-requires : tie.Need-block-of-requires Inv-loop μ-loop
 block-of-requires c κs =
     let st = c .before .before .before .before .before .before .before .before .before .before .before in
-    let s = short (st .args .code .combination) in
+    let s = short (st .args .layout .combination) in
     rw (st .pre .0 .period) (s .2, s .1)
 
 sub-make-block : tie.Need-sub-make-block Inv-loop μ-loop
@@ -66,7 +66,7 @@ make-block-requires c κs =
     let inside = c .before .before .before .before .before .before .loop-test .taken in
     let bo = c .before .before .before .before .before .block-of in
     let le = bo .ensures .0 in
-    let co = st .args .code .combination in
+    let co = st .args .layout .combination in
     let ep = st .pre .0 .period in
     let fits = st .pre .6 in
     let room = st .pre .5 in
@@ -141,7 +141,7 @@ loop-again c =
     let h = at .inv in
     let lm = h .5 in
     let room = st .pre .5 in
-    let co = st .args .code .combination in
+    let co = st .args .layout .combination in
     let g = runMark co (st .args .re .now) (st .args .im .now) (st .args .m) (st .args .scale) in
     let ys = runSteps co (st .args .re .now) (st .args .im .now) (st .args .m) (st .args .scale) in
     let f = upto (λ i. g (k + i)) (bo .result) in

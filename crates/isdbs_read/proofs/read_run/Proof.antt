@@ -4,8 +4,8 @@ use lib.Dec.{lit≤}
 use Rattle.isdbs_read.proofs.read_run.Statement.{statement}
 use Rattle.isdbs_read.proofs.read_run.Tie as tie
 
-code-of-requires : tie.Need-code-of-requires
-code-of-requires c κs = search needs
+layout-of-requires : tie.Need-layout-of-requires
+layout-of-requires c κs = search needs
 
 slice-aggregate-read-blocks : tie.Need-slice-aggregate-read-blocks
 slice-aggregate-read-blocks c = search needs
@@ -22,7 +22,7 @@ slice-aggregate-read-blocks-4 c = search needs
 read-blocks-requires : tie.Need-read-blocks-requires
 read-blocks-requires c κs =
     let st = c .before .before .before .before .before .before .before .before .before .before .before .before .before .before in
-    let co = c .before .before .before .before .before .before .before .before .code-of in
+    let co = c .before .before .before .before .before .before .before .before .layout-of in
     let e = co .ensures .0 in
     (co .ensures .1, rw e (st .pre .0), st .pre .1, st .pre .2, st .pre .3, st .pre .4, st .pre .5, rw e (st .pre .6), rw e (st .pre .7), lit≤ tt, lit≤ tt, lit≤ tt, lit≤ tt)
 
@@ -36,13 +36,13 @@ same-length-3 : tie.Need-same-length-3
 same-length-3 c = search needs
 
 returns : tie.Need-returns
-returns c = rw (c .before .before .before .before .before .before .before .before .before .before .before .before .before .before .before .before .before .before .before .code-of .ensures .0) at (c .before .before .before .before .before .before .before .before .before .before .read-blocks .ensures)
+returns c = rw (c .before .before .before .before .before .before .before .before .before .before .before .before .before .before .before .before .before .before .before .layout-of .ensures .0) at (c .before .before .before .before .before .before .before .before .before .before .read-blocks .ensures)
 
 pub read-run-spec : {M : Type 1} → statement M
 read-run-spec =
     tie.close
     (tie.spec
-    code-of-requires
+    layout-of-requires
     slice-aggregate-read-blocks
     slice-aggregate-read-blocks-2
     slice-aggregate-read-blocks-3

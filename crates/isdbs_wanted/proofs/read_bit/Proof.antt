@@ -17,7 +17,7 @@ enum-told c = search needs
 read-coded-requires : tie.Need-read-coded-requires
 read-coded-requires c κs =
     let a = c .before .before .before .before in
-    let co = a .args .code .combination in
+    let co = a .args .layout .combination in
     let e = sym (a .pre .0 .modulation) ∙ c .enum-told .given .1 in
     (a .pre .0, a .pre .1, a .pre .2, subst (λ (x : ℕ). InFrame co (a .args .start) x) (step-plain co Bpsk (a .args .i) e) (a .pre .3), a .pre .4, a .pre .5)
 
@@ -27,7 +27,7 @@ enum-told-2 c = search needs
 read-coded-requires-2 : tie.Need-read-coded-requires-2
 read-coded-requires-2 c κs =
     let a = c .before .before .before .before in
-    let co = a .args .code .combination in
+    let co = a .args .layout .combination in
     let e = sym (a .pre .0 .modulation) ∙ c .enum-told2 .given .1 in
     (a .pre .0, a .pre .1, a .pre .2, subst (λ (x : ℕ). InFrame co (a .args .start) x) (step-plain co Qpsk (a .args .i) e) (a .pre .3), a .pre .4, a .pre .5)
 
@@ -41,13 +41,13 @@ label-at-requires : tie.Need-label-at-requires
 label-at-requires c κs =
     let a = c .before .before .before .before .before in
     let e = sym (a .pre .0 .modulation) ∙ c .before .enum-told3 .given .1 in
-    let l = tc-in (a .args .code .combination) (a .args .start) (a .args .i) e (a .pre .3) in
+    let l = tc-in (a .args .layout .combination) (a .args .start) (a .args .i) e (a .pre .3) in
     (omega arith, omega arith)
 
 read-coded-requires-3 : tie.Need-read-coded-requires-3
 read-coded-requires-3 c κs =
     let a = c .before .before .before .before .before in
-    let co = a .args .code .combination in
+    let co = a .args .layout .combination in
     let e = sym (a .pre .0 .modulation) ∙ c .before .enum-told3 .given .1 in
     let l = a .pre .1 in
     (a .pre .0, omega arith, a .pre .2, subst (λ (x : ℕ). InFrame co (a .args .start) x) (step-plain co Tc8psk (a .args .i) e) (a .pre .3), a .pre .4, a .pre .5)
@@ -57,7 +57,7 @@ unfolding bitFrom stateFrom
 returns c =
     let a = c .before .before .before .before .before in
     let z = shown (a .args .m) (a .args .re .now) (a .args .im .now) in
-    let g = runAt (a .args .code .combination) (a .args .start) in
+    let g = runAt (a .args .layout .combination) (a .args .start) in
     let e = sym (a .pre .0 .modulation) ∙ c .before .enum-told .given .1 in
     let en = c .read-coded .ensures in
     (en .0 ∙ ap (λ (x : Modulation). bitFrom (a .args .m) z x (a .args .state) g (a .args .i)) (sym e), en .1 ∙ ap (λ (x : Modulation). stateFrom (a .args .m) z x (a .args .state) g (a .args .i)) (sym e), en .2, en .3)
@@ -67,7 +67,7 @@ unfolding bitFrom stateFrom
 returns-2 c =
     let a = c .before .before .before .before .before in
     let z = shown (a .args .m) (a .args .re .now) (a .args .im .now) in
-    let g = runAt (a .args .code .combination) (a .args .start) in
+    let g = runAt (a .args .layout .combination) (a .args .start) in
     let e = sym (a .pre .0 .modulation) ∙ c .before .enum-told2 .given .1 in
     let en = c .read-coded2 .ensures in
     (en .0 ∙ ap (λ (x : Modulation). bitFrom (a .args .m) z x (a .args .state) g (a .args .i)) (sym e), en .1 ∙ ap (λ (x : Modulation). stateFrom (a .args .m) z x (a .args .state) g (a .args .i)) (sym e), en .2, en .3)
@@ -79,7 +79,7 @@ returns-3 c =
     let s = a .args .state in
     let i = a .args .i in
     let z = shown m (a .args .re .now) (a .args .im .now) in
-    let g = runAt (a .args .code .combination) (a .args .start) in
+    let g = runAt (a .args .layout .combination) (a .args .start) in
     let e = sym (a .pre .0 .modulation) ∙ c .before .before .enum-told3 .given .1 in
     let en = c .label-at .ensures in
     let l = en .1 in (
@@ -96,7 +96,7 @@ returns-4 c =
     let s = a .args .state in
     let i = a .args .i in
     let z = shown m (a .args .re .now) (a .args .im .now) in
-    let g = runAt (a .args .code .combination) (a .args .start) in
+    let g = runAt (a .args .layout .combination) (a .args .start) in
     let e = sym (a .pre .0 .modulation) ∙ c .before .before .enum-told3 .given .1 in
     let en = c .read-coded3 .ensures in (
       en .0 ∙ odd-bit m z s g i (c .before .if1 .left) ∙ ap (λ (x : Modulation). bitFrom m z x s g i) (sym e),

@@ -14,11 +14,11 @@ use Rattle.isdbs_wanted.proofs.read_byte.Statement.{statement}
 use Rattle.isdbs_wanted.proofs.read_byte.Tie as tie
 
 abbrev Inv-loop : tie.InvT-loop
-Inv-loop re im m code start from prior byte₀ state₀ i₀ byte state i =
-    (i ≤ 8) × (byte ≡ digits (bitAfter m (shown m re im) (runAt (code .combination) start) prior from) i) × (state ≡ stateAfter m (shown m re im) (runAt (code .combination) start) prior from i) × (state < 64)
+Inv-loop re im m layout start from prior byte₀ state₀ i₀ byte state i =
+    (i ≤ 8) × (byte ≡ digits (bitAfter m (shown m re im) (runAt (layout .combination) start) prior from) i) × (state ≡ stateAfter m (shown m re im) (runAt (layout .combination) start) prior from i) × (state < 64)
 
 abbrev μ-loop : tie.MeasureT-loop
-μ-loop re im m code start from prior byte₀ state₀ i₀ byte state i = 8 - i
+μ-loop re im m layout start from prior byte₀ state₀ i₀ byte state i = 8 - i
 
 loop-holds : tie.Need-loop-holds Inv-loop μ-loop
 unfolding digits stateAfter
@@ -38,8 +38,8 @@ add-byte c =
     let a = c .before .before .before .before .before .before in
     let at = c .before .before .before .loop in
     let z = shown (a .args .m) (a .args .re .now) (a .args .im .now) in
-    let g = runAt (a .args .code .combination) (a .args .start) in
-    let d = digits-seven (bitAfter (a .args .m) z g (a .args .prior) (a .args .from)) (at .i) (omega arith) (λ j l. bit-small (a .args .m) z (stateAfter (a .args .m) z g (a .args .prior) (a .args .from) j) g (a .args .from + j) (modulationOf (a .args .code .combination))) in
+    let g = runAt (a .args .layout .combination) (a .args .start) in
+    let d = digits-seven (bitAfter (a .args .m) z g (a .args .prior) (a .args .from)) (at .i) (omega arith) (λ j l. bit-small (a .args .m) z (stateAfter (a .args .m) z g (a .args .prior) (a .args .from) j) g (a .args .from + j) (modulationOf (a .args .layout .combination))) in
     let e = at .inv .1 in
     let b = c .before .read-bit .ensures .2 in
     record { fits = omega arith }
@@ -49,8 +49,8 @@ mul-byte c =
     let a = c .before .before .before .before .before in
     let at = c .before .before .loop in
     let z = shown (a .args .m) (a .args .re .now) (a .args .im .now) in
-    let g = runAt (a .args .code .combination) (a .args .start) in
-    let d = digits-seven (bitAfter (a .args .m) z g (a .args .prior) (a .args .from)) (at .i) (omega arith) (λ j l. bit-small (a .args .m) z (stateAfter (a .args .m) z g (a .args .prior) (a .args .from) j) g (a .args .from + j) (modulationOf (a .args .code .combination))) in
+    let g = runAt (a .args .layout .combination) (a .args .start) in
+    let d = digits-seven (bitAfter (a .args .m) z g (a .args .prior) (a .args .from)) (at .i) (omega arith) (λ j l. bit-small (a .args .m) z (stateAfter (a .args .m) z g (a .args .prior) (a .args .from) j) g (a .args .from + j) (modulationOf (a .args .layout .combination))) in
     let e = at .inv .1 in
     record { fits = omega arith }
 
@@ -67,7 +67,7 @@ loop-again c =
     let at = c .before .before .before .loop in
     let m = a .args .m in
     let z = shown m (a .args .re .now) (a .args .im .now) in
-    let g = runAt (a .args .code .combination) (a .args .start) in
+    let g = runAt (a .args .layout .combination) (a .args .start) in
     let h = at .inv in
     let en = c .before .read-bit .ensures in
     let bit = en .0 ∙ ap (λ (x : ℕ). nextBit m z g x (a .args .from + at .i)) (h .2) in
@@ -83,7 +83,7 @@ returns c =
     let a = c .before .before .before .before in
     let e : c .before .loop .i ≡ 8 = omega arith in
     let h = rw e at (c .before .loop .inv) in
-    (h .1 ∙ sym (byte-digits (bitAfter (a .args .m) (shown (a .args .m) (a .args .re .now) (a .args .im .now)) (runAt (a .args .code .combination) (a .args .start)) (a .args .prior) (a .args .from))), h .2, h .3)
+    (h .1 ∙ sym (byte-digits (bitAfter (a .args .m) (shown (a .args .m) (a .args .re .now) (a .args .im .now)) (runAt (a .args .layout .combination) (a .args .start)) (a .args .prior) (a .args .from))), h .2, h .3)
 
 pub read-byte-spec : {M : Type 1} → statement M
 read-byte-spec =

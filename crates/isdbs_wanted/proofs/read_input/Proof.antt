@@ -13,43 +13,43 @@ use Rattle.isdbs_wanted.proofs.read_input.Statement.{statement}
 use Rattle.isdbs_wanted.proofs.read_input.Tie as tie
 
 rem-q : tie.Need-rem-q
-rem-q c = let a = c .before .before .before .before in some-period (a .args .code) (a .pre .0) (a .args .start) (a .args .k)
+rem-q c = let a = c .before .before .before .before in some-period (a .args .layout) (a .pre .0) (a .args .start) (a .args .k)
 
 mul-which-bit : tie.Need-mul-which-bit
-mul-which-bit c = let a = c .before .before .before .before in record { fits = under-fits _ (pair-small (a .args .code) (a .pre .0) (a .args .start) (a .args .k)) }
+mul-which-bit c = let a = c .before .before .before .before in record { fits = under-fits _ (pair-small (a .args .layout) (a .pre .0) (a .args .start) (a .args .k)) }
 
 mul-which-bit-2 : tie.Need-mul-which-bit-2
-mul-which-bit-2 c = let a = c .before .before .before .before in record { fits = eight-fits _ (pair-small (a .args .code) (a .pre .0) (a .args .start) (a .args .k)) }
+mul-which-bit-2 c = let a = c .before .before .before .before in record { fits = eight-fits _ (pair-small (a .args .layout) (a .pre .0) (a .args .start) (a .args .k)) }
 
 array-read-which-bit : tie.Need-array-read-which-bit
-array-read-which-bit c = let a = c .before .before .before .before in pair-small (a .args .code) (a .pre .0) (a .args .start) (a .args .k)
+array-read-which-bit c = let a = c .before .before .before .before in pair-small (a .args .layout) (a .pre .0) (a .args .start) (a .args .k)
 
 which-bit-requires : tie.Need-which-bit-requires
 which-bit-requires c κs = search needs
 
 div-n : tie.Need-div-n
-div-n c = let a = c .before .before .before .before .before .before in some-period (a .args .code) (a .pre .0) (a .args .start) (a .args .k)
+div-n c = let a = c .before .before .before .before .before .before in some-period (a .args .layout) (a .pre .0) (a .args .start) (a .args .k)
 
 mul-n : tie.Need-mul-n
-mul-n c = let a = c .before .before .before .before .before .before in record { fits = base-fits (a .args .code) (a .pre .0) (a .args .start) (a .args .k) (a .pre .1) }
+mul-n c = let a = c .before .before .before .before .before .before in record { fits = base-fits (a .args .layout) (a .pre .0) (a .args .start) (a .args .k) (a .pre .1) }
 
 mul-n-2 : tie.Need-mul-n-2
-mul-n-2 c = let a = c .before .before .before .before .before .before in record { fits = under-fits _ (pair-small (a .args .code) (a .pre .0) (a .args .start) (a .args .k)) }
+mul-n-2 c = let a = c .before .before .before .before .before .before in record { fits = under-fits _ (pair-small (a .args .layout) (a .pre .0) (a .args .start) (a .args .k)) }
 
 add-n : tie.Need-add-n
-add-n c = let a = c .before .before .before .before .before .before in record { fits = under-fits _ (index-small (a .args .code) (a .pre .0) (a .args .start) (a .args .k) (c .before .which-bit .result) (c .before .which-bit .ensures .1)) }
+add-n c = let a = c .before .before .before .before .before .before in record { fits = under-fits _ (index-small (a .args .layout) (a .pre .0) (a .args .start) (a .args .k) (c .before .which-bit .result) (c .before .which-bit .ensures .1)) }
 
 mul-n-3 : tie.Need-mul-n-3
-mul-n-3 c = let a = c .before .before .before .before .before .before in record { fits = eight-fits _ (index-small (a .args .code) (a .pre .0) (a .args .start) (a .args .k) (c .before .which-bit .result) (c .before .which-bit .ensures .1)) }
+mul-n-3 c = let a = c .before .before .before .before .before .before in record { fits = eight-fits _ (index-small (a .args .layout) (a .pre .0) (a .args .start) (a .args .k) (c .before .which-bit .result) (c .before .which-bit .ensures .1)) }
 
 array-read-n : tie.Need-array-read-n
-array-read-n c = let a = c .before .before .before .before .before .before in index-small (a .args .code) (a .pre .0) (a .args .start) (a .args .k) (c .before .which-bit .result) (c .before .which-bit .ensures .1)
+array-read-n c = let a = c .before .before .before .before .before .before in index-small (a .args .layout) (a .pre .0) (a .args .start) (a .args .k) (c .before .which-bit .result) (c .before .which-bit .ensures .1)
 
 add-n-2 : tie.Need-add-n-2
 add-n-2 c =
     let a = c .before .before .before .before .before .before in
     let b = c .before .which-bit in
-    record { fits = number-fits (a .args .code) (a .pre .0) (a .args .start) (a .args .k) (b .result) (which-is (a .args .code) (a .pre .0) (a .args .start) (a .args .k) (b .result) (b .ensures .0)) (a .pre .1) }
+    record { fits = number-fits (a .args .layout) (a .pre .0) (a .args .start) (a .args .k) (b .result) (which-is (a .args .layout) (a .pre .0) (a .args .start) (a .args .k) (b .result) (b .ensures .0)) (a .pre .1) }
 
 encode-bit-requires : tie.Need-encode-bit-requires
 encode-bit-requires c κs = search needs
@@ -76,7 +76,7 @@ sent-bit-requires : tie.Need-sent-bit-requires
 sent-bit-requires c κs =
     let a = c .before .before .before .before .before .before .before .before .before .before in
     let b = c .before .before .before .before .before .which-bit in
-    (reads-in (a .args .code) (a .pre .0) (a .args .start) (a .args .k) (b .result) (which-is (a .args .code) (a .pre .0) (a .args .start) (a .args .k) (b .result) (b .ensures .0)) (a .pre .3), a .pre .4, a .pre .5)
+    (reads-in (a .args .layout) (a .pre .0) (a .args .start) (a .args .k) (b .result) (which-is (a .args .layout) (a .pre .0) (a .args .start) (a .args .k) (b .result) (b .ensures .0)) (a .pre .3), a .pre .4, a .pre .5)
 
 add-result : tie.Need-add-result
 add-result c = search needs
@@ -87,8 +87,8 @@ returns c =
     let b = c .before .before .before .before .before .before .which-bit in
     let en = c .before .before .before .before .encode-bit .ensures in
     let w = c .before .coded-bit .ensures .0 ∙ ap (λ (x : ℕ). codedBit (b .result) x) (label-is (a .args .state) (en .0) (en .1)) in (
-      input-is (a .args .code) (a .pre .0) (a .args .start) (a .args .k) (a .args .m) (shown (a .args .m) (a .args .re .now) (a .args .im .now)) (a .args .state) (b .result) (c .sent-bit .result) (c .before .coded-bit .result)
-          (which-is (a .args .code) (a .pre .0) (a .args .start) (a .args .k) (b .result) (b .ensures .0)) (c .sent-bit .ensures .0) w,
+      input-is (a .args .layout) (a .pre .0) (a .args .start) (a .args .k) (a .args .m) (shown (a .args .m) (a .args .re .now) (a .args .im .now)) (a .args .state) (b .result) (c .sent-bit .result) (c .before .coded-bit .result)
+          (which-is (a .args .layout) (a .pre .0) (a .args .start) (a .args .k) (b .result) (b .ensures .0)) (c .sent-bit .ensures .0) w,
       mod-lt (c .sent-bit .result + c .before .coded-bit .result) (lit< tt),
     )
 

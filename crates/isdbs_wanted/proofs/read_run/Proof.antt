@@ -15,14 +15,14 @@ use Rattle.isdbs_wanted.proofs.read_run.Statement.{statement}
 use Rattle.isdbs_wanted.proofs.read_run.Tie as tie
 
 abbrev Inv-loop : tie.InvT-loop
-Inv-loop re im m start n prior bytes₀ code state₀ j₀ bytes state j =
-    (j ≤ n) × (state < 64) × (state ≡ runState m (shown m re im) (runAt (code .combination) start) prior (8 * j)) × (bytes ≡ laid (upto (runByte m (shown m re im) (runAt (code .combination) start) prior) j) bytes₀) × (length bytes ≡ length bytes₀)
+Inv-loop re im m start n prior bytes₀ layout state₀ j₀ bytes state j =
+    (j ≤ n) × (state < 64) × (state ≡ runState m (shown m re im) (runAt (layout .combination) start) prior (8 * j)) × (bytes ≡ laid (upto (runByte m (shown m re im) (runAt (layout .combination) start) prior) j) bytes₀) × (length bytes ≡ length bytes₀)
 
 abbrev μ-loop : tie.MeasureT-loop
-μ-loop re im m start n prior bytes₀ code state₀ j₀ bytes state j = n - j
+μ-loop re im m start n prior bytes₀ layout state₀ j₀ bytes state j = n - j
 
-code-of-requires : tie.Need-code-of-requires Inv-loop μ-loop
-code-of-requires c κs = search needs
+layout-of-requires : tie.Need-layout-of-requires Inv-loop μ-loop
+layout-of-requires c κs = search needs
 
 loop-holds : tie.Need-loop-holds Inv-loop μ-loop
 unfolding upto runState
@@ -34,7 +34,7 @@ mul-read-byte c = search needs
 read-byte-requires : tie.Need-read-byte-requires Inv-loop μ-loop
 read-byte-requires c κs =
     let a = c .before .before .before .before .before .before in
-    let co = c .before .before .code-of in
+    let co = c .before .before .layout-of in
     let at = c .before .loop in
     (co .ensures .1, omega arith, at .inv .1, (λ i l. subst (λ (x : Combination). InFrame x (a .args .start) (stepOf x (8 * at .j + i))) (sym (co .ensures .0)) (a .pre .2 (8 * at .j + i) (omega arith))), a .pre .3, a .pre .4)
 
@@ -50,7 +50,7 @@ loop-less c = search needs
 loop-again : tie.Need-loop-again Inv-loop μ-loop
 loop-again c =
     let a = c .before .before .before .before .before .before .before in
-    let co = c .before .before .before .code-of in
+    let co = c .before .before .before .layout-of in
     let at = c .before .before .loop in
     let m = a .args .m in
     let z = shown m (a .args .re .now) (a .args .im .now) in
@@ -71,7 +71,7 @@ same-length c = c .before .loop .inv .4
 returns : tie.Need-returns Inv-loop μ-loop
 returns c =
     let e : c .before .loop .j ≡ c .before .before .before .before .before .before .args .n = omega arith in
-    let h = rw (e, c .before .before .code-of .ensures .0) at (c .before .loop .inv) in
+    let h = rw (e, c .before .before .layout-of .ensures .0) at (c .before .loop .inv) in
     (h .3, h .2, h .1)
 
 pub read-run-spec : {M : Type 1} → statement M
@@ -80,7 +80,7 @@ read-run-spec =
     (tie.spec
     Inv-loop
     μ-loop
-    code-of-requires
+    layout-of-requires
     loop-holds
     mul-read-byte
     read-byte-requires

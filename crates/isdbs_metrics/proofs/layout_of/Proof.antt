@@ -1,10 +1,10 @@
--- `code_of` meets its contract. Assumes nothing.
+-- `layout_of` meets its contract. Assumes nothing.
 use Rattle.isdbs_metrics.proofs.Codes.{places-1, places-2, places-3, places-4, places-5, places-6, places-7}
 use Rattle.isdbs_points.specs.Layout.{sentOrder, placeIn}
 use mathlib.Core.Path.{_≡_, refl, sym, _∙_, ap}
 use borrow.Author.Needs.{needs}
-use Rattle.isdbs_metrics.proofs.code_of.Statement.{statement}
-use Rattle.isdbs_metrics.proofs.code_of.Tie as tie
+use Rattle.isdbs_metrics.proofs.layout_of.Statement.{statement}
+use Rattle.isdbs_metrics.proofs.layout_of.Tie as tie
 
 enum-told : tie.Need-enum-told
 enum-told c = search needs
@@ -55,8 +55,8 @@ returns-7 : tie.Need-returns-7
 unfolding sentOrder placeIn
 returns-7 c = rw (c .enum-told7 .given .1) (refl, record { modulation = refl; period = refl; count = refl; places = places-7 })
 
-pub code-of-spec : {M : Type 1} → statement M
-code-of-spec =
+pub layout-of-spec : {M : Type 1} → statement M
+layout-of-spec =
     tie.close
     (tie.spec
     enum-told
