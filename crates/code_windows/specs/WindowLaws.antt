@@ -3,7 +3,7 @@ use mathlib.Core.Path.{_≡_, refl, sym, ap, _∙_}
 use mathlib.Core.Bool.{Bool, true, false, cond}
 use mathlib.Core.List.{List}
 use Prim.Native.Nat.{ℕ, zero, suc, _+_, _-_, _*_, _/_, _%_, _^_, _<_, _≤_}
-use native.Mathlib.Nat.{add-comm, sub-zero, mod-eq-of-lt, mul-add-div-right}
+use native.Mathlib.Nat.{add-comm, sub-zero, mod-eq-of-lt, mul-add-div-right, div-one}
 use native.Mathlib.Omega.{arith}
 use lib.Bits.{bitXor, xor-shr, xor-lt}
 use lib.Dec.{T, eqb, eqb→eq}
@@ -167,6 +167,11 @@ module _ (z j : ℕ) (small : z < 16384) (few : j < 8) where
       ∙ digit-low (xOutputs z) (yOutputs z) 16 j (omega arith)
       ∙ sum-digit z 2 3 5 6 j
       ∙ sym (y-window w)
+
+-- 2 X + Y of the window at the lowest digit
+pub label-lowest : (w : ℕ) → w < 16384 → label isdb (w % 2) (backward (w / 2 % 64)) ≡ 2 * (outputsIn w / 2 ^ 16 % 2) + outputsIn w / 2 ^ 0 % 2
+unfolding label
+label-lowest w small = rw (rw (div-one w) at (x-digit w 0 small (omega arith)), rw (div-one w) at (y-digit w 0 small (omega arith)))
 
 -- ---- n steps, whose inputs are the lowest n digits of z, the first highest
 module _ (z n : ℕ) (us : List ℕ) (inputs : (k : ℕ) → k < n → getD us k 0 ≡ z / 2 ^ (n - 1 - k) % 2) where

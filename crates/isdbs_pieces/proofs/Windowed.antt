@@ -13,12 +13,12 @@ use lib.Pow.{pow-pos, pow-mono, shr-shr, field, mod-mod-pow, high}
 use Rattle.trellis.specs.Lists.{upto}
 use Rattle.trellis.specs.Code.{stateAt}
 use Rattle.code_windows.specs.Windows.{backward, outputsIn}
-use Rattle.code_windows.specs.WindowLaws.{digit-low, digit-high, state-window, label-window}
+use Rattle.code_windows.specs.WindowLaws.{backward-twice, digit-low, digit-high, state-window, label-window}
 use Rattle.viterbi.specs.Upto.{getD-upto}
 use Rattle.isdbs_points.specs.Layout.{loadBit}
 use Rattle.isdbs_points.specs.Frame.{labelAt}
 use Rattle.isdbs_load.specs.Bits.{byteBit}
-use Rattle.isdbs_pieces.specs.Encoded.{wordBit, Digits, plainInputs, patternBit, shiftOf, outputBit, IsOutput, byteInputs}
+use Rattle.isdbs_pieces.specs.Encoded.{wordBit, Digits, plainInputs, patternBit, shiftOf, outputBit, IsOutput, registerAt, byteInputs}
 
 -- ---- n steps from the state s, whose inputs are the digits of u; the states' stages stand in the other order
 module _ (s n u : ℕ) (us : List ℕ) (d : Digits us n u) (hs : s < 64) (hn : n ≤ 8) where
@@ -47,6 +47,16 @@ module _ (s n u : ℕ) (us : List ℕ) (d : Digits us n u) (hs : s < 64) (hn : n
 
   pub joined-label : (k : ℕ) → k < n → labelAt (backward s) us k ≡ 2 * wordBit (outputsIn joined) (16 + (n - 1 - k)) + wordBit (outputsIn joined) (n - 1 - k)
   joined-label k h = rw top at (label-window joined n us each-input joined-small hn k h)
+
+  pub joined-register : (k : ℕ) → k < n → registerAt (backward s) us k ≡ joined / 2 ^ (n - 1 - k) % 128
+  joined-register k h =
+      let x = joined / 2 ^ (n - 1 - k) in
+      let a : n - k ≡ (n - 1 - k) + 1 = omega arith in
+      let b : joined / 2 ^ (n - k) ≡ x / 2 = ap (λ (y : ℕ). joined / 2 ^ y) a ∙ sym (shr-shr joined (n - 1 - k) 1) in
+      let at = rw top at (state-window joined n us each-input k (omega arith)) in
+      let e : backward (stateAt 32 (backward s) us k) ≡ x / 2 % 64 =
+      ap (λ (y : ℕ). backward y) (at ∙ ap (λ (y : ℕ). backward (y % 64)) b) ∙ backward-twice (x / 2 % 64) (mod-lt (x / 2) (lit< tt)) in
+      rw (e, each-input k h) (omega arith)
 
   -- digit i of the outputs
   pub joined-bit : (i : ℕ) → IsOutput n i → wordBit (outputsIn joined) i ≡ outputBit (labelAt (backward s) us) n 0 i

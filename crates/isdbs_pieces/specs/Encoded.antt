@@ -7,7 +7,7 @@ use lib.Dec.{eqb, ltb}
 use lib.ListN.{length, getD}
 use lib.Ieee.{Float, nan}
 use Rattle.trellis.specs.Lists.{upto, laid}
-use Rattle.trellis.specs.Code.{stateAt}
+use Rattle.trellis.specs.Code.{isdb, label, stateAt}
 use Rattle.code_windows.specs.Windows.{backward}
 use Rattle.isdbs_combination.specs.declared.Combination.{Combination}
 use Rattle.isdbs_combination.specs.declared.MaybePuncture.{MaybePuncture}
@@ -16,6 +16,7 @@ use Rattle.isdbs_points.specs.declared.Mapping.{Mapping}
 use Rattle.isdbs_pieces.specs.declared.Pattern.{Pattern}
 use Rattle.isdbs_pieces.specs.declared.Period.{Period}
 use Rattle.isdbs_pieces.specs.declared.PointTable.{PointTable}
+use Rattle.isdbs_pieces.specs.declared.RegisterTable.{RegisterTable}
 use Rattle.isdbs_points.specs.Points.{qpskOf, psk8Of, subset}
 use Rattle.isdbs_points.specs.Layout.{orderIn, periodIn, loadBit}
 use Rattle.isdbs_points.specs.Frame.{labelAt, pointIn, codedBit}
@@ -52,6 +53,20 @@ qpskLabel m l = mapped m (qpskOf (m .«qpsk_p1_on_q») (l / 2) (l % 2))
 abbrev pub psk8Label : Mapping → ℕ → Cplx
 psk8Label m l = mapped m (psk8Of (4 * (l / 4) + subset (m .«tc8psk_c1_is_y») (l % 4)))
 
+-- ---- the TC8PSK points by register
+-- the register of step k, encoding the inputs us from the state s: the state with its stages in the other order, then the input
+abbrev pub registerAt : ℕ → List ℕ → ℕ → ℕ
+registerAt s us k = 2 * backward (stateAt 32 s us k) + getD us k 0
+
+-- 4 C2 + 2 X + Y of 128 C2 + a register
+abbrev pub registerLabel : ℕ → ℕ
+registerLabel w = 4 * (w / 128) + label isdb (w % 2) (backward (w / 2 % 64))
+
+-- a table that has the points there
+pub record ByRegister (m : Mapping) (t : RegisterTable) : Type 0 where
+  pub re-at : (w : ℕ) → w < 256 → getD (t .re) w nan ≡ psk8Label m (registerLabel w) .re
+  pub im-at : (w : ℕ) → w < 256 → getD (t .im) w nan ≡ psk8Label m (registerLabel w) .im
+
 -- ---- binary digits
 -- digit i of a word
 abbrev pub wordBit : ℕ → ℕ → ℕ
@@ -67,16 +82,16 @@ pub record Digits (us : List ℕ) (n r : ℕ) : Type 0 where
 abbrev pub byteInputs : ℕ → List ℕ
 byteInputs byte = upto (λ i. byteBit byte (2 * i + 1)) 4
 
--- 4 C2 + 2 X + Y of its points, encoded from the state s
-abbrev pub byteLabel : ℕ → ℕ → ℕ → ℕ
-byteLabel byte s i = 4 * byteBit byte (2 * i) + labelAt s (byteInputs byte) i
+-- 128 C2 + the register of its steps, encoded from the state s
+abbrev pub byteRegister : ℕ → ℕ → ℕ → ℕ
+byteRegister byte s i = 128 * byteBit byte (2 * i) + registerAt s (byteInputs byte) i
 
 -- what encoding a byte leaves: the state r, and its four points from the tables over the beginning of the lent parts. Both states have their stages in the other order
 pub record ByteEncoded (byte s r : ℕ) (xs ys re₀ re im₀ im : List Float) : Type 0 where
   pub small : r < 64
   pub state-is : backward r ≡ stateAt 32 (backward s) (byteInputs byte) 4
-  pub re-is : re ≡ laid (upto (λ i. getD xs (byteLabel byte (backward s) i) nan) 4) re₀
-  pub im-is : im ≡ laid (upto (λ i. getD ys (byteLabel byte (backward s) i) nan) 4) im₀
+  pub re-is : re ≡ laid (upto (λ i. getD xs (byteRegister byte (backward s) i) nan) 4) re₀
+  pub im-is : im ≡ laid (upto (λ i. getD ys (byteRegister byte (backward s) i) nan) 4) im₀
 
 -- ---- one period of a QPSK run
 -- the inputs of n steps from a bit of the load on

@@ -23,7 +23,7 @@ use Rattle.isdbs_points.specs.Layout.{loadBit}
 use Rattle.isdbs_points.specs.Frame.{coded, inputIn, labelAt, pointBy}
 use Rattle.isdbs_points.specs.Pieces.{piece, pieceInputs, pieceLabel, pieceSymbols, mapped}
 use Rattle.isdbs_load.specs.BitLaws.{output-small}
-use Rattle.isdbs_pieces.specs.Encoded.{piecePoint, PieceEncoded}
+use Rattle.isdbs_pieces.specs.Encoded.{piecePoint, PieceEncoded, registerAt}
 use Rattle.isdbs_points.specs.LawsState.{Follow, state-shift, label-shift}
 use Rattle.isdbs_points.specs.LawsUpto.{upto-cong, laid-upto, laid-part, length-laid-upto}
 
@@ -115,6 +115,11 @@ going-cong r ef eg = record { small = r .small; state-is = r .state-is; points =
 module _ {us : List ℕ} {s : ℕ} {f g : ℕ → Float} {re₀ im₀ re im : List Float} {state k j : ℕ} (r : Going us s f g re₀ im₀ re im state k j) (vs : List ℕ) (p : ℕ) (w : Follow us k vs p) where
   pub label-more : (i : ℕ) → i < p → labelAt state vs i ≡ labelAt s us (k + i)
   label-more i l = ap (λ (x : ℕ). labelAt x vs i) (r .state-is) ∙ sym (label-shift s us k vs p w i l)
+
+  pub register-more : (i : ℕ) → i < p → registerAt state vs i ≡ registerAt s us (k + i)
+  register-more i l =
+      ap (λ (x : ℕ). registerAt x vs i) (r .state-is)
+      ∙ sym (rw (w i l, state-shift 32 s us k vs i (λ o q. w o (omega arith))))
 
   pub going-part : (next : ℕ) → next < 64 → next ≡ stateAt 32 state vs p
       → (f' g' : ℕ → Float) (n : ℕ) (re' im' : List Float) → j + n ≤ length re₀ → j + n ≤ length im₀

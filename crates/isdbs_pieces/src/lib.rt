@@ -22,7 +22,7 @@ ghost use Rattle.isdbs_combination.specs.declared.Modulation.the-variants.{Qpsk
 ghost use Rattle.isdbs_combination.specs.Combinations.{modulationOf, punctureOf};
 ghost use Rattle.isdbs_points.specs.Layout.{stepsPerPeriod};
 ghost use Rattle.isdbs_points.specs.Pieces.{pieceSymbols};
-ghost use Rattle.isdbs_pieces.specs.Encoded.{PieceEncoded, Digits, byteInputs, plainInputs, ByteEncoded, TableOf, qpskLabel, psk8Label, PeriodEncoded, PatternOf, AtMost, shiftOf, Shifted, wordBit, pairLabel};
+ghost use Rattle.isdbs_pieces.specs.Encoded.{PieceEncoded, Digits, byteInputs, plainInputs, ByteEncoded, TableOf, qpskLabel, psk8Label, ByRegister, PeriodEncoded, PatternOf, AtMost, shiftOf, Shifted, wordBit, pairLabel};
 
 // The points of a modulation under a mapping, by label.
 pub struct PointTable {
@@ -61,6 +61,40 @@ fn psk8_table(m: Mapping) -> PointTable
         l += 1;
     }
     PointTable { re, im }
+}
+
+// Digit i of a number.
+fn digit(word: usize, i: usize) -> usize
+    requires { ⌜ i < 32 ⌝ }
+    ensures { λ r. ⌜ r ≡ wordBit word i ⌝ }
+{
+    (word >> i) % 2
+}
+
+// The TC8PSK points at 128 C2 + the register of the step, its oldest stage highest: no outputs are worked out for a step.
+pub struct RegisterTable {
+    pub re: [f64; 256],
+    pub im: [f64; 256],
+}
+
+// Those under a mapping.
+fn register_table(m: Mapping) -> RegisterTable
+    ensures { λ r. ⌜ ByRegister m r ⌝ }
+{
+    let t = psk8_table(m);
+    let xs = t.re;
+    let ys = t.im;
+    let mut re = [0.0; 256];
+    let mut im = [0.0; 256];
+    let mut w: usize = 0;
+    while w < 256 {
+        let out = outputs(w);
+        let l = 4 * (w / 128) + 2 * digit(out, 16) + digit(out, 0);
+        re[w] = xs[l];
+        im[w] = ys[l];
+        w += 1;
+    }
+    RegisterTable { re, im }
 }
 
 // A run of BPSK: X, then Y, on successive symbols.
@@ -102,27 +136,25 @@ fn coded_inputs(byte: u8) -> usize
     (4 * first + last) as usize
 }
 
-// Digit i of a number.
-fn digit(word: usize, i: usize) -> usize
-    requires { ⌜ i < 32 ⌝ }
-    ensures { λ r. ⌜ r ≡ wordBit word i ⌝ }
-{
-    (word >> i) % 2
-}
-
 // The four points of a byte of a TC8PSK run: of each, C2 uncoded, then one coded bit. The states' stages stand in the other order.
-fn put_byte(byte: u8, start: u8, xs: &[f64; 8], ys: &[f64; 8], re: &mut [f64], im: &mut [f64]) -> u8
+fn put_byte(
+    byte: u8,
+    start: u8,
+    xs: &[f64; 256],
+    ys: &[f64; 256],
+    re: &mut [f64],
+    im: &mut [f64],
+) -> u8
     requires { ⌜ (start < 64) × (4 ≤ length (now re)) × (4 ≤ length (now im)) ⌝ }
     ensures { λ r. ⌜ ByteEncoded byte start r (now (xs .entry)) (now (ys .entry)) (now (re .entry)) (now (re .exit)) (now (im .entry)) (now (im .exit)) ⌝ }
 {
     let z = 16 * (start as usize) + coded_inputs(byte);
-    let word = outputs(z);
     let mut i: usize = 0;
     while i < 4 {
         let c2 = byte_bit(byte, 2 * i);
-        let l = 4 * (c2 as usize) + 2 * digit(word, 19 - i) + digit(word, 3 - i);
-        re[i] = xs[l];
-        im[i] = ys[l];
+        let w = 128 * (c2 as usize) + (z >> (3 - i)) % 128;
+        re[i] = xs[w];
+        im[i] = ys[w];
         i += 1;
     }
     (z % 64) as u8
@@ -141,7 +173,7 @@ fn encode_tc8psk(
     requires { ⌜ (start < 64) × (bit + 2 * n < 2 ^ 32) × (n ≤ length (now re)) × (n ≤ length (now im)) × (bit % 8 ≡ 0) × (n % 4 ≡ 0) ⌝ }
     ensures { λ r. ⌜ PieceEncoded «Tc8psk2_3» m (now (bytes .entry)) bit n start r (now (re .entry)) (now (re .exit)) (now (im .entry)) (now (im .exit)) ⌝ }
 {
-    let t = psk8_table(m);
+    let t = register_table(m);
     let xs = t.re;
     let ys = t.im;
     let mut state = reversed(start);

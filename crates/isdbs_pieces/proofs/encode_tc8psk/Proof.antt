@@ -11,9 +11,9 @@ use Rattle.code_windows.specs.WindowLaws.{backward-twice}
 use Rattle.isdbs_combination.specs.declared.Combination.the-variants.{«Tc8psk2_3»}
 use Rattle.isdbs_points.specs.declared.Cplx.{Cplx}
 use Rattle.isdbs_points.specs.Pieces.{pieceInputs}
-use Rattle.isdbs_pieces.specs.Encoded.{byteLabel}
+use Rattle.isdbs_pieces.specs.Encoded.{byteRegister}
 use Rattle.isdbs_pieces.specs.PieceLaws.{Going, going-start, going-cong, going-end, tail-back}
-use Rattle.isdbs_pieces.proofs.EncodeTc8psk.{tc8pskLabel, tc8psk-label-small, tc8psk-labelled, byteAt, going-byte}
+use Rattle.isdbs_pieces.proofs.EncodeTc8psk.{tc8pskRegister, tc8psk-register-small, tc8psk-labelled, byteAt, going-byte}
 use Rattle.isdbs_pieces.proofs.encode_tc8psk.Statement.{statement}
 use Rattle.isdbs_pieces.proofs.encode_tc8psk.Tie as tie
 
@@ -21,14 +21,14 @@ abbrev Inv-loop : tie.InvT-loop
 Inv-loop bytes bit n start re₀ im₀ xs ys state₀ k₀ re im state k =
     (k ≤ n)
     × (k % 4 ≡ 0)
-    × Going (pieceInputs «Tc8psk2_3» bytes bit n) start (λ j. getD xs (tc8pskLabel bytes bit n start j) nan) (λ j. getD ys (tc8pskLabel bytes bit n start j) nan) re₀ im₀ re im (backward state) k k
+    × Going (pieceInputs «Tc8psk2_3» bytes bit n) start (λ j. getD xs (tc8pskRegister bytes bit n start j) nan) (λ j. getD ys (tc8pskRegister bytes bit n start j) nan) re₀ im₀ re im (backward state) k k
     × (state < 64)
 
 abbrev μ-loop : tie.MeasureT-loop
 μ-loop bytes bit n start re₀ im₀ xs ys state₀ k₀ re im state k = n - k
 
-psk8-table-requires : tie.Need-psk8-table-requires Inv-loop μ-loop
-psk8-table-requires c κs = search needs
+register-table-requires : tie.Need-register-table-requires Inv-loop μ-loop
+register-table-requires c κs = search needs
 
 reversed-requires : tie.Need-reversed-requires Inv-loop μ-loop
 reversed-requires c κs = search needs
@@ -87,7 +87,7 @@ loop-again c =
     let st = c .before .before .before .before .before .before .before .before .before .before .before .before .before .before .before .before .before .before .before in
     let bytes = st .args .bytes .now in
     let bit = st .args .bit in
-    let t = c .before .before .before .before .before .before .before .before .before .before .before .before .before .before .before .psk8-table .result in
+    let t = c .before .before .before .before .before .before .before .before .before .before .before .before .before .before .before .register-table .result in
     let k = c .before .before .before .before .before .before .before .before .before .before .before .loop .k in
     let inv = c .before .before .before .before .before .before .before .before .before .before .before .loop .inv in
     let state = c .before .before .before .before .before .before .before .before .before .before .before .loop .state in
@@ -97,8 +97,8 @@ loop-again c =
       omega arith,
       omega (arith, inv .1),
       going-byte bytes bit k (st .pre .4) (inv .1) (st .args .n) (st .args .start) (t .re) (t .im) state (inv .2) h (st .pre .2) (st .pre .3) (c .before .before .before .before .put-byte .result) (put .state-is)
-          (tail-back k (c .before .before .before .before .before .before .before .before .before .before .before .loop .re) (upto (λ i. getD (t .re) (byteLabel byte (backward state) i) nan) 4) (omega (arith, inv .2 .points .re-length, st .pre .2)) (put .re-is))
-          (tail-back k (c .before .before .before .before .before .before .before .before .before .before .before .loop .im) (upto (λ i. getD (t .im) (byteLabel byte (backward state) i) nan) 4) (omega (arith, inv .2 .points .im-length, st .pre .3)) (put .im-is)),
+          (tail-back k (c .before .before .before .before .before .before .before .before .before .before .before .loop .re) (upto (λ i. getD (t .re) (byteRegister byte (backward state) i) nan) 4) (omega (arith, inv .2 .points .re-length, st .pre .2)) (put .re-is))
+          (tail-back k (c .before .before .before .before .before .before .before .before .before .before .before .loop .im) (upto (λ i. getD (t .im) (byteRegister byte (backward state) i) nan) 4) (omega (arith, inv .2 .points .im-length, st .pre .3)) (put .im-is)),
       put .small,
     )
 
@@ -119,12 +119,12 @@ returns c =
     let n = st .args .n in
     let start = st .args .start in
     let m = st .args .m in
-    let t = c .before .before .before .before .before .before .psk8-table .ensures in
+    let t = c .before .before .before .before .before .before .register-table .ensures in
     let e : c .before .before .loop .k ≡ n = omega arith in
     going-end «Tc8psk2_3» m bytes bit n start
     (going-cong (rw (← c .reversed2 .ensures .0) at (c .before .before .loop .inv .2))
-    (λ i h. t .re-at (tc8pskLabel bytes bit n start i) (tc8psk-label-small bytes bit n start i) ∙ ap (λ (z : Cplx). z .re) (tc8psk-labelled bytes bit n start i m))
-    (λ i h. t .im-at (tc8pskLabel bytes bit n start i) (tc8psk-label-small bytes bit n start i) ∙ ap (λ (z : Cplx). z .im) (tc8psk-labelled bytes bit n start i m)))
+    (λ i h. let l : i < n = omega arith in t .re-at (tc8pskRegister bytes bit n start i) (tc8psk-register-small bytes bit n start (st .pre .0) i l) ∙ ap (λ (z : Cplx). z .re) (tc8psk-labelled bytes bit n start (st .pre .0) i l m))
+    (λ i h. let l : i < n = omega arith in t .im-at (tc8pskRegister bytes bit n start i) (tc8psk-register-small bytes bit n start (st .pre .0) i l) ∙ ap (λ (z : Cplx). z .im) (tc8psk-labelled bytes bit n start (st .pre .0) i l m)))
     e e
 
 pub encode-tc8psk-spec : {M : Type 1} → statement M
@@ -133,7 +133,7 @@ encode-tc8psk-spec =
     (tie.spec
     Inv-loop
     μ-loop
-    psk8-table-requires
+    register-table-requires
     reversed-requires
     loop-holds
     add-load-byte
