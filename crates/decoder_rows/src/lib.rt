@@ -15,23 +15,18 @@ const BLOCK: usize = 4096;
 fn beyond(x: f32, limit: f32) -> bool
     ensures { λ r. ⌜ r ≡ not (within limit x) ⌝ }
 {
-    if -limit <= x {
-        if x <= limit { false } else { true }
-    } else {
-        true
-    }
+    !(-limit <= x) | !(x <= limit)
 }
 
-// Whether any of the values is.
+// Whether any of the values is. All are looked at, so that the loop goes by vectors.
 pub fn some_beyond(xs: &[f32], limit: f32) -> bool
     ensures { λ r. ⌜ r ≡ someBeyond limit (now (xs .entry)) ⌝ }
 {
+    let mut some = false;
     for i in 0..xs.len() {
-        if beyond(xs[i], limit) {
-            return true;
-        }
+        some = some | beyond(xs[i], limit);
     }
-    false
+    some
 }
 
 // The rows of a handed state.

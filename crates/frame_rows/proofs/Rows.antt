@@ -1,8 +1,8 @@
 -- The rows of `decode_frame` one after the other. Assumes nothing.
-use mathlib.Core.Path.{_≡_, refl, sym, _∙_, ap}
-use mathlib.Core.Bool.{Bool, true, false, _||_}
+use mathlib.Core.Path.{_≡_, sym, ap}
+use mathlib.Core.Bool.{Bool, _||_}
 use mathlib.Core.List.{List, _++_}
-use Prim.Native.Nat.{ℕ, zero, suc, _+_, _-_, _<_}
+use Prim.Native.Nat.{ℕ, suc, _+_}
 use native.Mathlib.Omega.{arith}
 use lib.ListN.{getD}
 use lib.Ieee.{Float, nan}
@@ -15,30 +15,12 @@ use Rattle.isdbs_tables.specs.Tables.{tableRows, tableAnswer}
 use Rattle.isdbs_tables.specs.TableLaws.{table-refusing}
 use Rattle.frame_rows.specs.DecodeRows.{someOf, pointRows, lastRows, frameRows}
 
-pub or-second : (a b : Bool) → b ≡ true → (a || b) ≡ true
-or-second true b e = refl
-or-second false b e = e
-
--- a value that fails at i
-more : (bad : Float → Bool) (xs : List Float) (i d : ℕ) → someOf bad xs (suc i) ≡ true → someOf bad xs (suc i + d) ≡ true
+-- one value more
+pub some-more : (bad : Float → Bool) (xs : List Float) (i : ℕ) (some b : Bool) → some ≡ someOf bad xs i → b ≡ bad (getD xs i nan) → (some || b) ≡ someOf bad xs (i + 1)
 unfolding someOf
-more bad xs i zero e = ap (λ (n : ℕ). someOf bad xs n) (let q : suc i + 0 ≡ suc i = omega arith in q) ∙ e
-more bad xs i (suc d) e =
-    let q : suc i + suc d ≡ suc (suc i + d) = omega arith in
-    ap (λ (n : ℕ). someOf bad xs n) q ∙ rw (more bad xs i d e)
-
-pub some-found : (bad : Float → Bool) (xs : List Float) (n i : ℕ) → i < n → bad (getD xs i nan) ≡ true → someOf bad xs n ≡ true
-unfolding someOf
-some-found bad xs n i h e =
-    let d = n - suc i in
-    let q : suc i + d ≡ n = omega arith in
-    ap (λ (k : ℕ). someOf bad xs k) (sym q) ∙ more bad xs i d (or-second (someOf bad xs i) (bad (getD xs i nan)) e)
-
-pub some-none : (bad : Float → Bool) (xs : List Float) (i : ℕ) → someOf bad xs i ≡ false → bad (getD xs i nan) ≡ false → someOf bad xs (i + 1) ≡ false
-unfolding someOf
-some-none bad xs i h e =
+some-more bad xs i some b h e =
     let q : i + 1 ≡ suc i = omega arith in
-    ap (λ (k : ℕ). someOf bad xs k) q ∙ rw (h, e)
+    rw (h, e) (sym (ap (λ (k : ℕ). someOf bad xs k) q))
 
 module _ (t : Table) (re im : List Float) (bad : Bool) (decisions bits bytes counts : ℕ) where
   abbrev last : List Row

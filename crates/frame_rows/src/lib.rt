@@ -7,14 +7,12 @@ use isdbs_decode::WORDS;
 use isdbs_points::PART_LIMIT;
 use refusal::Answer;
 ghost use mathlib.Core.Path.{_≡_};
-ghost use mathlib.Core.Bool.{cond, not, _||_};
+ghost use mathlib.Core.Bool.{cond, not};
 ghost use Prim.Native.Nat.{_≤_};
-ghost use lib.Dec.{ltb};
 ghost use lib.ListN.{length};
 ghost use Rattle.refusal.specs.Rows.{firstRow};
-ghost use Rattle.isdbs_frame.specs.Frame.{mainSymbols};
 ghost use Rattle.isdbs_runs.specs.RunsOf.{planOf, Planned};
-ghost use Rattle.frame_rows.specs.DecodeRows.{within, someBeyond, partLimit, badScale, someBad, shortSpace, decodeRows};
+ghost use Rattle.frame_rows.specs.DecodeRows.{within, someBeyond, badScale, someBad, shortSpace, pointRows, decodeRows};
 ghost use Rattle.frame_rows.specs.EncodeRows.{encodeRows};
 
 // The greatest scale that is taken.
@@ -24,52 +22,42 @@ pub const SCALE_LIMIT: f32 = 64.0;
 fn beyond(x: f64, limit: f64) -> bool
     ensures { λ r. ⌜ r ≡ not (within limit x) ⌝ }
 {
-    if -limit <= x {
-        if x <= limit { false } else { true }
-    } else {
-        true
-    }
+    !(-limit <= x) | !(x <= limit)
 }
 
-// Whether any of the first n values is.
+// Whether any of the first n values is. All are looked at, so that the loop goes by vectors.
 fn some_beyond(xs: &[f64], n: usize, limit: f64) -> bool
     requires { ⌜ n ≤ length (now xs) ⌝ }
     ensures { λ r. ⌜ r ≡ someBeyond limit (now (xs .entry)) n ⌝ }
 {
+    let mut some = false;
     for i in 0..n {
-        if beyond(xs[i], limit) {
-            return true;
-        }
+        some = some | beyond(xs[i], limit);
     }
-    false
+    some
 }
 
 // Whether a scale is not above 0, or above the limit.
 fn bad_scale(s: f32) -> bool
     ensures { λ r. ⌜ r ≡ badScale s ⌝ }
 {
-    if s > 0.0 {
-        if s > SCALE_LIMIT { true } else { false }
-    } else {
-        true
-    }
+    !(s > 0.0) | (s > SCALE_LIMIT)
 }
 
 // Whether any of the seven is.
 fn some_bad(scales: [f32; 7]) -> bool
     ensures { λ r. ⌜ r ≡ someBad scales ⌝ }
 {
+    let mut some = false;
     for i in 0..7 {
-        if bad_scale(scales[i]) {
-            return true;
-        }
+        some = some | bad_scale(scales[i]);
     }
-    false
+    some
 }
 
 // Rows 6 and 7.
-fn points_answer(re: &[f64], im: &[f64]) -> Answer
-    ensures { λ r. ⌜ r ≡ cond (ltb (length (now (re .entry))) mainSymbols || ltb (length (now (im .entry))) mainSymbols) Answer.Symbols (cond (someBeyond partLimit (now (re .entry)) mainSymbols || someBeyond partLimit (now (im .entry)) mainSymbols) Answer.Sample Answer.Accepted) ⌝ }
+pub fn points_answer(re: &[f64], im: &[f64]) -> Answer
+    ensures { λ r. ⌜ r ≡ firstRow (pointRows (now (re .entry)) (now (im .entry))) ⌝ }
 {
     if re.len() < MAIN_SYMBOLS {
         return Answer::Symbols;

@@ -3,7 +3,7 @@ use mathlib.Core.Path.{_≡_, refl, sym, _∙_, ap}
 use Prim.Native.Nat.{ℕ, suc, _+_, _-_, _*_, _/_, _%_, _<_, _≤_}
 use native.Mathlib.Omega.{arith}
 use borrow.Author.Needs.{needs}
-use mathlib.Core.Bool.{Bool, true, false, not, _||_}
+use mathlib.Core.Bool.{Bool, true, false, not, _||_, or-assoc}
 use mathlib.Core.List.{List, [], _∷_}
 use lib.ListN.{length, getD, drop}
 use lib.Seq.{drop-cons, drop-length}
@@ -18,16 +18,23 @@ here : (limit : Float) (xs : List Float) (i : ℕ) (t : Bool) → i < length xs 
 unfolding someBeyond
 here limit xs i t h e = rw (drop-cons xs i nan h, e) refl
 
+-- one value more
+more : (limit : Float) (xs : List Float) (i : ℕ) (some t : Bool) → i < length xs → t ≡ not (within limit (getD xs i nan)) → someBeyond limit xs ≡ (some || someBeyond limit (drop i xs))
+    → someBeyond limit xs ≡ ((some || t) || someBeyond limit (drop (i + 1) xs))
+more limit xs i some t h e inv =
+    inv ∙ ap (λ (w : Bool). some || w) (here limit xs i t h e) ∙ rw (add-one i) (sym (or-assoc some t (someBeyond limit (drop (suc i) xs))))
+
 -- at its end
-over : (limit : Float) (xs : List Float) → someBeyond limit (drop (length xs) xs) ≡ false
+over : (limit : Float) (xs : List Float) (some : Bool) → (some || someBeyond limit (drop (length xs) xs)) ≡ some
 unfolding someBeyond
-over limit xs = rw (drop-length xs) refl
+over limit xs true = refl
+over limit xs false = rw (drop-length xs) refl
 
 abbrev Inv-loop : tie.InvT-loop
-Inv-loop xs limit i₀ i-end i = (i ≤ length xs) × (someBeyond limit xs ≡ someBeyond limit (drop i xs))
+Inv-loop xs limit some₀ i₀ i-end some i = (i ≤ length xs) × (someBeyond limit xs ≡ (some || someBeyond limit (drop i xs)))
 
 abbrev μ-loop : tie.MeasureT-loop
-μ-loop xs limit i₀ i-end i = length xs - i
+μ-loop xs limit some₀ i₀ i-end some i = length xs - i
 
 loop-holds : tie.Need-loop-holds Inv-loop μ-loop
 loop-holds c = (search needs, refl)
@@ -41,13 +48,6 @@ shared-slice-read-beyond c = search needs
 beyond-requires : tie.Need-beyond-requires Inv-loop μ-loop
 beyond-requires c κs = tt
 
-returns : tie.Need-returns Inv-loop μ-loop
-returns c =
-    let at = c .before .before .before .before in
-    let xs = at .before .before .args .xs .now in
-    let h : at .loop .i < length xs = search needs in
-    sym (at .loop .inv .1 ∙ here (at .before .before .args .limit) xs (at .loop .i) true h (sym (c .if1 .taken) ∙ c .before .beyond .ensures))
-
 add-i : tie.Need-add-i Inv-loop μ-loop
 add-i c = search needs
 
@@ -56,19 +56,17 @@ loop-less c = search needs
 
 loop-again : tie.Need-loop-again Inv-loop μ-loop
 loop-again c =
-    let at = c .before .before .before .before in
-    let xs = at .before .before .args .xs .now in
-    let h : at .loop .i < length xs = search needs in (
-      search needs,
-      at .loop .inv .1 ∙ rw (add-one (at .loop .i)) (here (at .before .before .args .limit) xs (at .loop .i) false h (sym (c .if1 .left) ∙ c .before .beyond .ensures)),
-    )
+    let at = c .before .before .before in
+    let a = at .before .before .args in
+    let h : at .loop .i < length (a .xs .now) = search needs in
+    (search needs, more (a .limit) (a .xs .now) (at .loop .i) (at .loop .some) (c .beyond .result) h (c .beyond .ensures) (at .loop .inv .1))
 
-returns-2 : tie.Need-returns-2 Inv-loop μ-loop
-returns-2 c =
+returns : tie.Need-returns Inv-loop μ-loop
+returns c =
     let at = c .before in
     let xs = at .before .before .args .xs .now in
     let e : at .loop .i ≡ length xs = omega arith in
-    sym (rw e at (at .loop .inv .1) ∙ over (at .before .before .args .limit) xs)
+    sym (rw e at (at .loop .inv .1) ∙ over (at .before .before .args .limit) xs (at .loop .some))
 
 pub some-beyond-spec : {M : Type 1} → statement M
 some-beyond-spec =
@@ -80,8 +78,7 @@ some-beyond-spec =
     mul-beyond
     shared-slice-read-beyond
     beyond-requires
-    returns
     add-i
     loop-less
     loop-again
-    returns-2)
+    returns)

@@ -1,15 +1,17 @@
 -- `beyond` meets its contract. Assumes nothing.
+use mathlib.Core.Path.{_≡_, refl}
+use mathlib.Core.Bool.{Bool, true, false, not, _&&_, _||_}
+use lib.Ieee.{neg, le}
 use Rattle.frame_rows.proofs.beyond.Statement.{statement}
 use Rattle.frame_rows.proofs.beyond.Tie as tie
 
+-- one of two tests fails
+either-fails : (a b : Bool) → (not a || not b) ≡ not (a && b)
+either-fails true b = refl
+either-fails false b = refl
+
 returns : tie.Need-returns
-returns c = rw (c .before .if1 .taken, c .if2 .taken)
-
-returns-2 : tie.Need-returns-2
-returns-2 c = rw (c .before .if1 .taken, c .if2 .left)
-
-returns-3 : tie.Need-returns-3
-returns-3 c = rw (c .if1 .left)
+returns c = either-fails (le (neg (c .args .limit)) (c .args .x)) (le (c .args .x) (c .args .limit))
 
 pub beyond-spec : {M : Type 1} → statement M
-beyond-spec = tie.close (tie.spec returns returns-2 returns-3)
+beyond-spec = tie.close (tie.spec returns)

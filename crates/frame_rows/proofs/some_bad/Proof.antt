@@ -1,19 +1,18 @@
 -- `some_bad` meets its contract. Assumes nothing.
 use borrow.Author.Needs.{needs}
-use Rattle.frame_rows.proofs.Rows.{some-found, some-none}
+use Rattle.frame_rows.proofs.Rows.{some-more}
 use Rattle.frame_rows.specs.DecodeRows.{someOf, badScale}
 use native.Mathlib.Omega.{arith}
 use Prim.Native.Nat.{_-_, _≤_}
-use mathlib.Core.Bool.{false}
-use mathlib.Core.Path.{_≡_, refl, sym, _∙_}
+use mathlib.Core.Path.{_≡_, refl}
 use Rattle.frame_rows.proofs.some_bad.Statement.{statement}
 use Rattle.frame_rows.proofs.some_bad.Tie as tie
 
 abbrev Inv-loop : tie.InvT-loop
-Inv-loop scales i₀ i = (i ≤ 7) × (someOf badScale scales i ≡ false)
+Inv-loop scales some₀ i₀ some i = (i ≤ 7) × (some ≡ someOf badScale scales i)
 
 abbrev μ-loop : tie.MeasureT-loop
-μ-loop scales i₀ i = 7 - i
+μ-loop scales some₀ i₀ some i = 7 - i
 
 loop-holds : tie.Need-loop-holds Inv-loop μ-loop
 unfolding someOf
@@ -28,11 +27,6 @@ array-read-bad-scale c = search needs
 bad-scale-requires : tie.Need-bad-scale-requires Inv-loop μ-loop
 bad-scale-requires c κs = search needs
 
-returns : tie.Need-returns Inv-loop μ-loop
-returns c =
-    let h = c .before .before .before in
-    sym (some-found badScale (h .before .args .t1) 7 (h .loop .i) (c .before .before .loop-test .taken) (sym (c .before .bad-scale .ensures) ∙ c .if1 .taken))
-
 add-i : tie.Need-add-i Inv-loop μ-loop
 add-i c = search needs
 
@@ -41,13 +35,11 @@ loop-less c = search needs
 
 loop-again : tie.Need-loop-again Inv-loop μ-loop
 loop-again c =
-    let h = c .before .before .before in
-    (omega arith, some-none badScale (h .before .args .t1) (h .loop .i) (h .loop .inv .1) (sym (c .before .bad-scale .ensures) ∙ c .if1 .left))
+    let at = c .before .before in
+    (omega arith, some-more badScale (at .before .args .t1) (at .loop .i) (at .loop .some) (c .bad-scale .result) (at .loop .inv .1) (c .bad-scale .ensures))
 
-returns-2 : tie.Need-returns-2 Inv-loop μ-loop
-returns-2 c =
-    let e : c .before .loop .i ≡ 7 = omega arith in
-    sym (rw e at (c .before .loop .inv .1))
+returns : tie.Need-returns Inv-loop μ-loop
+returns c = let e : c .before .loop .i ≡ 7 = omega arith in rw e at (c .before .loop .inv .1)
 
 pub some-bad-spec : {M : Type 1} → statement M
 some-bad-spec =
@@ -59,8 +51,7 @@ some-bad-spec =
     mul-bad-scale
     array-read-bad-scale
     bad-scale-requires
-    returns
     add-i
     loop-less
     loop-again
-    returns-2)
+    returns)
