@@ -3,6 +3,8 @@
 use decoder_c::decoder_of;
 use decoder_c::store;
 use isdb_fec::conv::ConvEncoder;
+use isdb_fec::conv::PATH_LIMIT;
+use isdb_fec::conv::TRACEBACK_LIMIT;
 use isdb_fec::conv::some_beyond;
 use short_code::good;
 use short_code::half;
@@ -42,9 +44,9 @@ fn first_beyond(pm: &[f32], n: usize) -> bool
     ensures { λ r. ⌜ r ≡ someBeyond pathLimit (take n (now (pm .entry))) ⌝ }
 {
     if pm.len() < n {
-        some_beyond(pm, 4294967296.0)
+        some_beyond(pm, PATH_LIMIT)
     } else {
-        some_beyond(&pm[0..n], 4294967296.0)
+        some_beyond(&pm[0..n], PATH_LIMIT)
     }
 }
 
@@ -55,7 +57,7 @@ fn not_states(code: Code, pm: &[f32], held: u64, traceback: u64) -> u32
     if traceback == 0 {
         return 3;
     }
-    if traceback > 1024 {
+    if traceback > TRACEBACK_LIMIT as u64 {
         return 3;
     }
     if bad(code) {

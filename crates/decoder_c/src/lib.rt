@@ -1,5 +1,7 @@
 // A decoder whose state C holds: 64 path values, how many decision words are held, and the traceback. Taken from the lent places, and handed back.
+use isdb_fec::conv::PATH_LIMIT;
 use isdb_fec::conv::Released;
+use isdb_fec::conv::TRACEBACK_LIMIT;
 use isdb_fec::conv::ViterbiDecoder;
 ghost use mathlib.Core.Path.{_≡_};
 ghost use lib.ListN.{length};
@@ -16,13 +18,13 @@ pub fn not_states(pm: &[f32], held: u64, traceback: u64) -> u32
     if traceback == 0 {
         return 3;
     }
-    if traceback > 1024 {
+    if traceback > TRACEBACK_LIMIT as u64 {
         return 3;
     }
     if held >= 4096 + traceback {
         return 4;
     }
-    if isdb_fec::conv::some_beyond(pm, 4294967296.0) {
+    if isdb_fec::conv::some_beyond(pm, PATH_LIMIT) {
         return 4;
     }
     5

@@ -9,11 +9,11 @@ use Rattle.refusal.specs.Rows.{Row}
 use Rattle.refusal.specs.declared.Answer.the-variants.{Traceback, State, Length, Sample, Space}
 use Rattle.trellis.specs.Run.{block}
 use Rattle.viterbi.specs.Calls.{releases}
-use Rattle.decoder_rows.specs.Values.{someBeyond, pathLimit, streamLimit}
+use Rattle.decoder_rows.specs.Values.{tracebackLimit, someBeyond, pathLimit, streamLimit}
 
 -- 3: "above 1,024, or 0 in a handed state"
 abbrev pub badTraceback : ℕ → Bool
-badTraceback tb = eqb tb 0 || ltb 1024 tb
+badTraceback tb = eqb tb 0 || ltb tracebackLimit tb
 
 -- 4: "held count 4,096 + traceback or more; .. path value not finite or beyond 2^32"
 abbrev pub badState : List Float → ℕ → ℕ → Bool

@@ -1,6 +1,7 @@
 -- The values that a call takes. Document 01, "Where a call is turned back". Assumes nothing.
 use mathlib.Core.Bool.{Bool, false, not, _&&_, _||_}
 use mathlib.Core.List.{List, [], _∷_}
+use Prim.Native.Nat.{ℕ}
 use lib.Ieee.{Float, binary32, neg, le, ofBits}
 
 -- from -limit to limit, both included; no comparison holds of a NaN
@@ -11,6 +12,10 @@ within limit x = le (neg limit) x && le x limit
 unfoldable pub someBeyond : Float → List Float → Bool
 someBeyond limit [] = false
 someBeyond limit (x ∷ xs) = not (within limit x) || someBeyond limit xs
+
+-- 1,024, for a traceback
+abbrev pub tracebackLimit : ℕ
+tracebackLimit = 1024
 
 -- 2^32, for path values
 abbrev pub pathLimit : Float

@@ -3,13 +3,19 @@ ghost use mathlib.Core.Path.{_≡_};
 ghost use mathlib.Core.Bool.{cond, not};
 ghost use Prim.Native.Nat.{ℕ, _+_, _<_, _≤_};
 ghost use Rattle.refusal.specs.Rows.{firstRow};
-ghost use Rattle.decoder_rows.specs.Values.{within, someBeyond};
+ghost use Rattle.decoder_rows.specs.Values.{tracebackLimit, within, someBeyond};
 ghost use Rattle.decoder_rows.specs.Rows.{handedRows, streamRows, knownRows, flushRows, stepsShort};
 use refusal::Answer;
 use viterbi::few_places;
 
 // The bits that leave at a release.
 const BLOCK: usize = 4096;
+// The greatest traceback.
+pub const TRACEBACK_LIMIT: usize = 1024;
+// The greatest path value of a handed state, 2^32.
+pub const PATH_LIMIT: f32 = 4294967296.0;
+// The greatest soft value or metric.
+pub const STREAM_LIMIT: f32 = 1048576.0;
 
 // Whether a value is not a number or beyond the limit.
 fn beyond(x: f32, limit: f32) -> bool
@@ -36,13 +42,13 @@ pub fn answer_handed(pm: &[f32], held: usize, traceback: usize) -> Answer
     if traceback == 0 {
         return Answer::Traceback;
     }
-    if traceback > 1024 {
+    if traceback > TRACEBACK_LIMIT {
         return Answer::Traceback;
     }
     if held >= BLOCK + traceback {
         return Answer::State;
     }
-    if some_beyond(pm, 4294967296.0) {
+    if some_beyond(pm, PATH_LIMIT) {
         return Answer::State;
     }
     Answer::Accepted
@@ -50,7 +56,7 @@ pub fn answer_handed(pm: &[f32], held: usize, traceback: usize) -> Answer
 
 // The answer to a call of n steps on a state that is not refused: is there space?
 pub fn answer_space(held: usize, traceback: usize, n: usize, decisions: usize, out: usize) -> Answer
-    requires { ⌜ (1 ≤ traceback) × (traceback ≤ 1024) × (held < 4096 + traceback) ⌝ }
+    requires { ⌜ (1 ≤ traceback) × (traceback ≤ tracebackLimit) × (held < 4096 + traceback) ⌝ }
     ensures { λ r. ⌜ r ≡ cond (stepsShort n held traceback decisions out) Answer.Space Answer.Accepted ⌝ }
 {
     if few_places(traceback, held, n, out) {
@@ -82,7 +88,7 @@ pub fn answer_stream(
     if values.len() % per != 0 {
         return Answer::Length;
     }
-    if some_beyond(values, 1048576.0) {
+    if some_beyond(values, STREAM_LIMIT) {
         return Answer::Sample;
     }
     answer_space(held, traceback, values.len() / per, decisions, out)

@@ -11,6 +11,7 @@ use Rattle.refusal.specs.Rows.{Row, firstRow, Either}
 pub use Rattle.refusal.specs.RowLaws.{refused, numbered, neither}
 use Rattle.refusal.specs.RowLaws.{done, passed, both-passed}
 use Rattle.refusal.specs.declared.Answer.the-variants.{Accepted, Space}
+use Rattle.decoder_rows.specs.Values.{tracebackLimit}
 use Rattle.decoder_rows.specs.RowLaws as handed
 use Rattle.isdb_fec.specs.declared.conv.ViterbiDecoder.{ViterbiDecoder}
 use Rattle.isdb_fec.specs.Rows.{releases, shortOf, stepsShort, handedRows, streamRest, streamRows, pushKnownRows, flushRows}
@@ -28,7 +29,7 @@ sound v e = handed.sound (v .pm) (v .held) (v .traceback) e
 -- an accepted call of n steps has the numbers that it needs
 pub record Enough (v : ViterbiDecoder) (n decisions out : ℕ) : Type 0 where
   pub least : 1 ≤ v .traceback
-  pub most : v .traceback ≤ 1024
+  pub most : v .traceback ≤ tracebackLimit
   pub fewer : v .held < 4096 + v .traceback
   pub fits : 4096 + v .traceback ≤ decisions
   pub room : 4096 * releases (v .traceback) (v .held) n ≤ out

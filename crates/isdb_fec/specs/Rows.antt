@@ -7,6 +7,7 @@ use lib.Ieee.{Float}
 use Rattle.refusal.specs.Rows.{Row}
 use Rattle.refusal.specs.declared.Answer.the-variants.{Traceback, State}
 pub use Rattle.viterbi.specs.Calls.{releases}
+use Rattle.decoder_rows.specs.Values.{tracebackLimit}
 use Rattle.decoder_rows.specs.Rows as handed
 use Rattle.isdb_fec.specs.declared.conv.ViterbiDecoder.{ViterbiDecoder}
 
@@ -16,7 +17,7 @@ encoderRows s = (State, ltb 63 s) ∷ []
 
 -- 3: "above 1,024", of a traceback that is given
 abbrev pub freshRows : ℕ → List Row
-freshRows tb = (Traceback, ltb 1024 tb) ∷ []
+freshRows tb = (Traceback, ltb tracebackLimit tb) ∷ []
 
 -- the tests of rows 3, 4 and 9 of a handed decoder
 abbrev pub badTraceback : ViterbiDecoder → Bool

@@ -8,6 +8,9 @@ ghost use Rattle.trellis.specs.Code.{isdb, output, moved};
 ghost use Rattle.trellis.specs.Run.{startAt, startUnknown};
 ghost use Rattle.isdb_fec.specs.Rows.{encoderRows, freshRows, streamRows, pushRows, pushMetricsRows, pushKnownRows, flushRows};
 ghost use Rattle.isdb_fec.specs.Calls.{pairSteps, fourSteps, knownSteps, steps, call, handed, Leaves, Flushes, FlushesAt, Unchanged, Either, Fresh, Zero};
+pub use decoder_rows::PATH_LIMIT;
+pub use decoder_rows::STREAM_LIMIT;
+pub use decoder_rows::TRACEBACK_LIMIT;
 pub use decoder_rows::some_beyond;
 use refusal::Answer;
 use viterbi::At;
@@ -132,7 +135,7 @@ fn fresh(traceback: usize, pm: [f32; 64]) -> Made
     ensures answers { λ r. ⌜ r .answer ≡ firstRow (freshRows traceback) ⌝ }
     ensures made { λ r. ⌜ Either (r .answer) (Fresh traceback pm (r .dec)) (Zero (r .dec)) ⌝ }
 {
-    if traceback > 1024 {
+    if traceback > TRACEBACK_LIMIT {
         return Made {
             answer: Answer::Traceback,
             dec: ViterbiDecoder {

@@ -1,5 +1,6 @@
 // Calls for C on the punctured code of ISDB-T. Rates are numbered 0 to 4: 1/2, 2/3, 3/4, 5/6, 7/8.
 use isdb_fec::conv::ConvEncoder;
+use isdb_fec::conv::TRACEBACK_LIMIT;
 use isdbt_fec::conv::CodeRate;
 ghost use mathlib.Core.Path.{_≡_};
 ghost use mathlib.Core.List.{[]};
@@ -51,7 +52,7 @@ fn unknown_with_state(state: u8) -> u32
 fn unknown_with_traceback(traceback: u64) -> u32
     ensures { λ r. ⌜ r ≡ answered (untilLength (freshRows traceback)) ⌝ }
 {
-    if traceback > 1024 {
+    if traceback > TRACEBACK_LIMIT as u64 {
         return 3;
     }
     5

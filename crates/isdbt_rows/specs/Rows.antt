@@ -8,7 +8,7 @@ use lib.Ieee.{Float}
 use Rattle.refusal.specs.Rows.{Row}
 use Rattle.refusal.specs.declared.Answer.the-variants.{Traceback, State, Length, Sample, Space}
 use Rattle.trellis.specs.Run.{block}
-use Rattle.isdb_fec.specs.Values.{someBeyond, streamLimit}
+use Rattle.isdb_fec.specs.Values.{tracebackLimit, someBeyond, streamLimit}
 use Rattle.isdbt_table.specs.declared.CodeRate.{CodeRate}
 use Rattle.isdbt_table.specs.Table.{period, sent}
 
@@ -32,6 +32,6 @@ depunctureRows rate count out = (Length, broken (sent rate) count) ∷ (Space, l
 -- the soft values xs into `out` places, with `decisions` words
 abbrev pub decodeRows : CodeRate → List Float → ℕ → ℕ → ℕ → List Row
 decodeRows rate xs tb decisions out =
-    (Traceback, ltb 1024 tb) ∷ (Length, broken (sent rate) (length xs)) ∷ (Sample, someBeyond streamLimit xs)
+    (Traceback, ltb tracebackLimit tb) ∷ (Length, broken (sent rate) (length xs)) ∷ (Sample, someBeyond streamLimit xs)
     ∷ (Space, ltb out (length xs / sent rate * period rate) || ltb decisions (block + depth tb))
     ∷ []

@@ -4,6 +4,8 @@ ghost use Prim.Native.Nat.{_*_, _<_};
 ghost use lib.Dec.{ltb};
 ghost use Rattle.refusal.specs.Rows.{firstRow};
 ghost use Rattle.isdbt_rows.specs.Rows.{depth, encodeRows, depunctureRows, decodeRows};
+use isdb_fec::conv::STREAM_LIMIT;
+use isdb_fec::conv::TRACEBACK_LIMIT;
 use isdb_fec::conv::some_beyond;
 use isdbt_table::CodeRate;
 use isdbt_table::Puncturing;
@@ -66,13 +68,13 @@ pub fn answer_decode(
     ensures { λ r. ⌜ r ≡ firstRow (decodeRows rate (now (llrs .entry)) traceback decisions space) ⌝ }
 {
     let p = Puncturing::new(rate);
-    if traceback > 1024 {
+    if traceback > TRACEBACK_LIMIT {
         return Answer::Traceback;
     }
     if llrs.len() % p.n != 0 {
         return Answer::Length;
     }
-    if some_beyond(llrs, 1048576.0) {
+    if some_beyond(llrs, STREAM_LIMIT) {
         return Answer::Sample;
     }
     if few(space, p.period, llrs.len() / p.n) {

@@ -17,7 +17,7 @@ use Rattle.best_path.specs.Hard.{mostWrong, softPairs}
 use Rattle.best_path.specs.Paths.{longest}
 use Rattle.isdb_fec.specs.declared.conv.ViterbiDecoder.{ViterbiDecoder}
 use Rattle.isdb_fec.specs.declared.conv.Released.{Released}
-use Rattle.isdb_fec.specs.Values.{someBeyond, streamLimit}
+use Rattle.isdb_fec.specs.Values.{tracebackLimit, someBeyond, streamLimit}
 use Rattle.isdb_fec.specs.Rows.{freshRows}
 use Rattle.isdb_fec.specs.Calls.{pairSteps, call, Unchanged, Either}
 use Rattle.call_ranges.specs.Finished.{Finished}
@@ -28,7 +28,7 @@ depth tb = cond (eqb tb 0) 1 tb
 
 -- what `with_state` makes: the fresh decoder, or all zeros for a traceback that is refused
 abbrev pub fresh : ℕ → ℕ → ViterbiDecoder
-fresh tb s = cond (ltb 1024 tb) (record { pm = replicate 64 (ofBits binary32 0); held = 0; traceback = 0 }) (record { pm = startAt 64 s; held = 0; traceback = depth tb })
+fresh tb s = cond (ltb tracebackLimit tb) (record { pm = replicate 64 (ofBits binary32 0); held = 0; traceback = 0 }) (record { pm = startAt 64 s; held = 0; traceback = depth tb })
 
 -- the decoder with its held words and its bits once the soft values xs have been pushed
 abbrev pub read : ℕ → ℕ → List Float → Decoder
@@ -50,7 +50,7 @@ Left tb s e xs r decisions₀ decisions out₀ out =
 -- a stretch is refused by 9 alone.
 abbrev pub Corrects : ℕ → ℕ → ℕ → List Float → Released → ℕ → ℕ → List ℕ → Type 0
 Corrects tb s e xs r decisions space out =
-    (us ps : List ℕ) → tb ≤ 1024 → length us ≤ longest → Bits us → reached isdb (s % 64) us ≡ e % 64
+    (us ps : List ℕ) → tb ≤ tracebackLimit → length us ≤ longest → Bits us → reached isdb (s % 64) us ≡ e % 64
     → Coded ps → length ps ≡ length us → differing ps (encoded isdb (s % 64) us) ≤ mostWrong → xs ≡ softPairs ps
     → (r .answer ≡ firstRow ((Space, ltb space (length us) || ltb decisions (block + depth tb)) ∷ []))
     × (r .answer ≡ Accepted → (r .count ≡ length us) × (take (length us) out ≡ us))

@@ -7,6 +7,8 @@ ghost use Rattle.isdb_fec.specs.Rows.{flushRows};
 ghost use Rattle.known_end.specs.Behind.{Behind};
 ghost use Rattle.known_end.specs.Calls.{depth, betweenRows, Left, Corrects};
 use isdb_fec::conv::Released;
+use isdb_fec::conv::STREAM_LIMIT;
+use isdb_fec::conv::TRACEBACK_LIMIT;
 use isdb_fec::conv::ViterbiDecoder;
 use isdb_fec::conv::some_beyond;
 use refusal::Answer;
@@ -25,13 +27,13 @@ fn depth_of(traceback: usize) -> usize
 fn answer_between(traceback: usize, pairs: &[f32], decisions: usize, out: usize) -> Answer
     ensures { λ r. ⌜ r ≡ firstRow (betweenRows traceback (now (pairs .entry)) decisions out) ⌝ }
 {
-    if traceback > 1024 {
+    if traceback > TRACEBACK_LIMIT {
         return Answer::Traceback;
     }
     if pairs.len() % 2 != 0 {
         return Answer::Length;
     }
-    if some_beyond(pairs, 1048576.0) {
+    if some_beyond(pairs, STREAM_LIMIT) {
         return Answer::Sample;
     }
     if out < pairs.len() / 2 {

@@ -9,6 +9,7 @@ ghost use Rattle.refusal.specs.Rows.{firstRow, Either};
 ghost use Rattle.trellis.specs.Run.{startUnknown};
 ghost use Rattle.short_code.specs.Codes.{goodCode, Fits};
 ghost use Rattle.short_best.specs.Readings.{startValues, readingRows, Finished, Refused, GreatestSum};
+use isdb_fec::conv::STREAM_LIMIT;
 use isdb_fec::conv::some_beyond;
 use refusal::Answer;
 pub use short_code::Code;
@@ -57,7 +58,7 @@ fn answer_reading(code: Code, metrics: &[f32], decisions: usize, out: usize) -> 
     if metrics.len() % 4 != 0 {
         return Answer::Length;
     }
-    if some_beyond(metrics, 1048576.0) {
+    if some_beyond(metrics, STREAM_LIMIT) {
         return Answer::Sample;
     }
     if short(metrics.len() / 4, decisions, out) {

@@ -20,6 +20,7 @@ use isdb_fec::conv::ConvEncoder;
 use isdb_fec::conv::Made;
 use isdb_fec::conv::Pushed;
 use isdb_fec::conv::Released;
+use isdb_fec::conv::TRACEBACK_LIMIT;
 use isdb_fec::conv::ViterbiDecoder;
 use refusal::Answer;
 pub use short_code::Code;
@@ -69,7 +70,7 @@ fn fresh(code: Code, traceback: usize, pm: [f32; 64]) -> Made
     ensures answers { λ r. ⌜ r .answer ≡ firstRow (freshRows code traceback) ⌝ }
     ensures made { λ r. ⌜ Either (r .answer) (Fresh traceback pm (r .dec)) (Zero (r .dec)) ⌝ }
 {
-    if traceback > 1024 {
+    if traceback > TRACEBACK_LIMIT {
         return Made {
             answer: Answer::Traceback,
             dec: ViterbiDecoder {

@@ -13,7 +13,7 @@ use Rattle.refusal.specs.RowLaws.{neither, passed, both-passed}
 use Rattle.refusal.specs.declared.Answer.the-variants as answer
 use Rattle.trellis.specs.Run.{block}
 use Rattle.isdb_fec.specs.declared.conv.ViterbiDecoder.{ViterbiDecoder}
-use Rattle.isdb_fec.specs.Values.{someBeyond, pathLimit}
+use Rattle.isdb_fec.specs.Values.{tracebackLimit, someBeyond, pathLimit}
 use Rattle.isdb_fec.specs.Rows.{releases, shortOf, stepsShort, streamRest}
 use Rattle.isdb_fec.specs.Answers.{Enough, FlushEnough}
 use Rattle.short_code.specs.declared.Code.{Code}
@@ -24,16 +24,16 @@ use Rattle.short_rows.specs.Rows.{handedRows, streamRows, knownRows, flu
 pub record Sound (c : Code) (v : ViterbiDecoder) : Type 0 where
   pub good : goodCode c ≡ true
   pub least : 1 ≤ v .traceback
-  pub most : v .traceback ≤ 1024
+  pub most : v .traceback ≤ tracebackLimit
   pub fewer : v .held < 4096 + v .traceback
 
 pub sound : (c : Code) (v : ViterbiDecoder) → answer.Accepted ≡ firstRow (handedRows c v) → Sound c v
 sound c v e =
     let p = passed (handedRows c v) tt (sym e) in
-    let t = neither (eqb (v .traceback) 0) (ltb 1024 (v .traceback)) (p answer.Traceback) in
+    let t = neither (eqb (v .traceback) 0) (ltb tracebackLimit (v .traceback)) (p answer.Traceback) in
     let s = neither (leb (block + v .traceback) (v .held)) (someBeyond pathLimit (take (statesOf c) (v .pm))) (p answer.State) in
     let n : v .traceback ≡ 0 → ⊥ = eqb-false (v .traceback) 0 (t .0) in
-    let h : v .traceback ≤ 1024 = ltb-false 1024 (v .traceback) (t .1) in
+    let h : v .traceback ≤ tracebackLimit = ltb-false tracebackLimit (v .traceback) (t .1) in
     let g : v .held < 4096 + v .traceback = leb-false (4096 + v .traceback) (v .held) (s .0) in
     record { good = not-false (goodCode c) (p answer.Code); least = omega arith; most = h; fewer = g }
 

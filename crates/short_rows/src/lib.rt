@@ -5,8 +5,12 @@ ghost use Prim.Native.Nat.{ℕ, _+_, _<_, _≤_};
 ghost use lib.ListN.{length};
 ghost use Rattle.refusal.specs.Rows.{firstRow};
 ghost use Rattle.short_code.specs.Codes.{goodCode};
+ghost use Rattle.isdb_fec.specs.Values.{tracebackLimit};
 ghost use Rattle.isdb_fec.specs.Rows.{stepsShort};
 ghost use Rattle.short_rows.specs.Rows.{encoderRows, handedRows, streamRows, knownRows, flushRows};
+use isdb_fec::conv::PATH_LIMIT;
+use isdb_fec::conv::STREAM_LIMIT;
+use isdb_fec::conv::TRACEBACK_LIMIT;
 use isdb_fec::conv::ViterbiDecoder;
 use isdb_fec::conv::some_beyond;
 use refusal::Answer;
@@ -54,7 +58,7 @@ fn answer_handed(code: Code, dec: ViterbiDecoder) -> Answer
     if traceback == 0 {
         return Answer::Traceback;
     }
-    if traceback > 1024 {
+    if traceback > TRACEBACK_LIMIT {
         return Answer::Traceback;
     }
     if bad(code) {
@@ -66,7 +70,7 @@ fn answer_handed(code: Code, dec: ViterbiDecoder) -> Answer
     let pm = dec.pm;
     let all = places(&pm);
     let n = 2 * half(code);
-    if some_beyond(&pm[0..n], 4294967296.0) {
+    if some_beyond(&pm[0..n], PATH_LIMIT) {
         return Answer::State;
     }
     Answer::Accepted
@@ -74,7 +78,7 @@ fn answer_handed(code: Code, dec: ViterbiDecoder) -> Answer
 
 // The answer to a call of n steps on a state that is not refused: is there space?
 fn answer_space(dec: ViterbiDecoder, n: usize, decisions: usize, out: usize) -> Answer
-    requires { ⌜ (1 ≤ dec .traceback) × (dec .traceback ≤ 1024) × (dec .held < 4096 + dec .traceback) ⌝ }
+    requires { ⌜ (1 ≤ dec .traceback) × (dec .traceback ≤ tracebackLimit) × (dec .held < 4096 + dec .traceback) ⌝ }
     ensures { λ r. ⌜ r ≡ cond (stepsShort n dec decisions out) Answer.Space Answer.Accepted ⌝ }
 {
     let traceback = dec.traceback;
@@ -106,7 +110,7 @@ pub fn answer_stream(
     if values.len() % per != 0 {
         return Answer::Length;
     }
-    if some_beyond(values, 1048576.0) {
+    if some_beyond(values, STREAM_LIMIT) {
         return Answer::Sample;
     }
     answer_space(dec, values.len() / per, decisions, out)
