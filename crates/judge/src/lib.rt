@@ -1,5 +1,5 @@
 // The verdict: what a reading is worth. The points of a frame outside the margins of a load, for each of the frame's 48 slots (812 symbols each). Where there are none, no other load fits.
-use isdbs_core::frame::MAIN_SYMBOLS;
+use frame_rows::points_answer;
 use isdbs_core::slots::Plan;
 use isdbs_core::slots::plan_of;
 use isdbs_core::tmcc::Table;
@@ -19,23 +19,9 @@ ghost use Rattle.trellis.specs.Lists.{laid};
 ghost use Rattle.refusal.specs.Rows.{firstRow, Either};
 ghost use Rattle.isdbs_frame.specs.Frame.{mainSymbols};
 ghost use Rattle.isdbs_runs.specs.RunsOf.{planOf, Planned};
-ghost use Rattle.isdbs_phy.specs.DecodeRows.{someBeyond, partLimit};
 ghost use Rattle.verdict.specs.Outside.{frameSlots, outsideCounts};
 ghost use Rattle.judge.specs.Rows.{lentRows, judgeRows};
 ghost use Rattle.judge.specs.Judged.{CountsLaid, judgedSaid, judgedAnswer, Worth};
-
-// Whether any of the first 38,976 parts is not finite or beyond the limit.
-fn some_beyond(xs: &[f64]) -> bool
-    requires { ⌜ mainSymbols ≤ length (now xs) ⌝ }
-    ensures { λ r. ⌜ r ≡ someBeyond partLimit (now (xs .entry)) mainSymbols ⌝ }
-{
-    for i in 0..MAIN_SYMBOLS {
-        if accepted(xs[i]) {} else {
-            return true;
-        }
-    }
-    false
-}
 
 // Rows 5, 6, 7 and 9: the load has `need` bytes, `bytes` and `counts` are the lengths that are lent.
 fn lent_answer(need: usize, bytes: usize, re: &[f64], im: &[f64], counts: usize) -> Answer
@@ -44,18 +30,10 @@ fn lent_answer(need: usize, bytes: usize, re: &[f64], im: &[f64], counts: usize)
     if bytes != need {
         return Answer::Length;
     }
-    if re.len() < MAIN_SYMBOLS {
-        return Answer::Symbols;
-    }
-    if im.len() < MAIN_SYMBOLS {
-        return Answer::Symbols;
-    }
-    if some_beyond(re) {
-        return Answer::Sample;
-    }
-    if some_beyond(im) {
-        return Answer::Sample;
-    }
+    let points = points_answer(re, im);
+    let Answer::Accepted = points else {
+        return points;
+    };
     if counts < FRAME_SLOTS {
         return Answer::Space;
     }
