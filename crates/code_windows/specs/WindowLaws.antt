@@ -1,6 +1,6 @@
 -- The windows of a number are the registers of successive steps: the states, and the outputs. Assumes nothing.
 use mathlib.Core.Path.{_≡_, refl, sym, ap, _∙_}
-use mathlib.Core.Bool.{Bool, true, false, cond}
+use mathlib.Core.Bool.{Bool}
 use mathlib.Core.List.{List}
 use Prim.Native.Nat.{ℕ, zero, suc, _+_, _-_, _*_, _/_, _%_, _^_, _<_, _≤_}
 use native.Mathlib.Nat.{add-comm, sub-zero, mod-eq-of-lt, mul-add-div-right, div-one}
@@ -8,7 +8,7 @@ use native.Mathlib.Omega.{arith}
 use lib.Bits.{bitXor, xor-shr, xor-lt}
 use lib.Dec.{T, eqb, eqb→eq}
 use lib.ListN.{getD}
-use lib.Pow.{pow-pos, pow-add, pow-mono, shr-shr, shr-le, high}
+use lib.Pow.{pow-pos, pow-add, shr-shr, shr-le, high}
 use Rattle.trellis.specs.Code.{isdb, output, tapped, label, moved, stateAt}
 use Rattle.trellis.specs.Linear.{xor-low}
 use Rattle.trellis.specs.ListLaws.{every, every-at}

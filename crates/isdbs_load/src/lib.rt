@@ -1,11 +1,11 @@
 // The bits of a frame's load, and the trellis steps that they make.
 use viterbi::encode_bit;
 ghost use mathlib.Core.Path.{_≡_};
-ghost use Prim.Native.Nat.{_%_, _<_};
+ghost use Prim.Native.Nat.{_+_, _%_, _<_, _≤_, _^_};
 ghost use lib.ListN.{getD};
 ghost use Rattle.trellis.specs.Code.{isdb, label, moved};
 ghost use Rattle.isdbs_points.specs.Layout.{loadBit};
-ghost use Rattle.isdbs_load.specs.Bits.{byteBit};
+ghost use Rattle.isdbs_load.specs.Bits.{byteBit, Digits, byteInputs, plainInputs};
 
 // Byte `at` of the load; missing bytes are 0.
 pub fn load_byte(bytes: &[u8], at: usize) -> u8
@@ -27,6 +27,25 @@ fn load_bit(bytes: &[u8], n: usize) -> u8
     ensures { λ r. ⌜ r ≡ loadBit (now (bytes .entry)) n ⌝ }
 {
     byte_bit(load_byte(bytes, n / 8), n % 8)
+}
+
+// The coded inputs of a byte of a TC8PSK run as binary digits, the first highest.
+pub fn coded_inputs(byte: u8) -> usize
+    ensures { λ r. ⌜ Digits (byteInputs byte) 4 r ⌝ }
+{
+    let first = 2 * byte_bit(byte, 1) + byte_bit(byte, 3);
+    let last = 2 * byte_bit(byte, 5) + byte_bit(byte, 7);
+    (4 * first + last) as usize
+}
+
+// n bits of the load from bit `bit` on as binary digits, the first highest.
+pub fn load_bits(bytes: &[u8], bit: usize, n: usize) -> usize
+    requires { ⌜ (n ≤ 8) × (bit + n < 2 ^ 32) ⌝ }
+    ensures { λ r. ⌜ Digits (plainInputs (now (bytes .entry)) bit n) n r ⌝ }
+{
+    let at = bit / 8;
+    let two = 256 * (load_byte(bytes, at) as usize) + (load_byte(bytes, at + 1) as usize);
+    (two >> (16 - bit % 8 - n)) % (1usize << n)
 }
 
 // 2 X + Y of a trellis step, and the state after it.

@@ -27,7 +27,8 @@ use Rattle.isdbs_points.specs.Points.{qpskOf}
 use Rattle.isdbs_points.specs.Layout.{orderOf, stepsPerPeriod, loadBit}
 use Rattle.isdbs_points.specs.Frame.{sentBit, labelAt, pointIn, pointBy}
 use Rattle.isdbs_points.specs.Pieces.{piece, pieceInputs, pieceSymbols, mapped}
-use Rattle.isdbs_pieces.specs.Encoded.{piecePoint, TableOf, qpskLabel, plainInputs, PatternOf, AtMost, Shifted, shiftOf, outputBit, IsOutput, shiftedLabel, wordBit, pairLabel, patternBit, patternLabel, PeriodEncoded, PieceEncoded}
+use Rattle.isdbs_load.specs.Bits.{plainInputs, wordBit}
+use Rattle.isdbs_pieces.specs.Encoded.{piecePoint, TableOf, qpskLabel, PatternOf, AtMost, Shifted, shiftOf, outputBit, IsOutput, shiftedLabel, pairLabel, patternBit, patternLabel, PeriodEncoded, PieceEncoded}
 use Rattle.isdbs_points.specs.LawsUpto.{upto-cong}
 use Rattle.isdbs_points.specs.LawsState.{Follow}
 use Rattle.isdbs_pieces.proofs.Windowed.{shift-output, shift-bit}

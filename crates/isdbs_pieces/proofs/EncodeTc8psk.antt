@@ -17,8 +17,8 @@ use Rattle.isdbs_points.specs.declared.Mapping.{Mapping}
 use Rattle.isdbs_points.specs.Layout.{loadBit}
 use Rattle.isdbs_points.specs.Frame.{inputIn}
 use Rattle.isdbs_points.specs.Pieces.{piece, pieceInputs, pieceLabel}
-use Rattle.isdbs_load.specs.Bits.{byteBit}
-use Rattle.isdbs_pieces.specs.Encoded.{piecePoint, psk8Label, registerAt, registerLabel, byteInputs, byteRegister}
+use Rattle.isdbs_load.specs.Bits.{byteBit, byteInputs}
+use Rattle.isdbs_pieces.specs.Encoded.{piecePoint, psk8Label, registerAt, registerLabel, byteRegister}
 use Rattle.isdbs_points.specs.LawsState.{Follow}
 use Rattle.isdbs_pieces.specs.PieceLaws.{Going, label-small, register-more, going-part, tc8psk-point}
 

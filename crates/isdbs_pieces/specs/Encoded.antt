@@ -2,7 +2,7 @@
 use mathlib.Core.Path.{_≡_}
 use mathlib.Core.Bool.{cond}
 use mathlib.Core.List.{List}
-use Prim.Native.Nat.{ℕ, _+_, _-_, _*_, _/_, _%_, _^_, _<_, _≤_}
+use Prim.Native.Nat.{ℕ, _+_, _-_, _*_, _/_, _%_, _<_, _≤_}
 use lib.Dec.{eqb, ltb}
 use lib.ListN.{length, getD}
 use lib.Ieee.{Float, nan}
@@ -18,9 +18,9 @@ use Rattle.isdbs_pieces.specs.declared.Period.{Period}
 use Rattle.isdbs_pieces.specs.declared.PointTable.{PointTable}
 use Rattle.isdbs_pieces.specs.declared.RegisterTable.{RegisterTable}
 use Rattle.isdbs_points.specs.Points.{qpskOf, psk8Of, subset}
-use Rattle.isdbs_points.specs.Layout.{orderIn, periodIn, loadBit}
+use Rattle.isdbs_points.specs.Layout.{orderIn, periodIn}
 use Rattle.isdbs_points.specs.Frame.{labelAt, pointIn, codedBit}
-use Rattle.isdbs_load.specs.Bits.{byteBit}
+use Rattle.isdbs_load.specs.Bits.{byteBit, wordBit, byteInputs, plainInputs}
 use Rattle.isdbs_points.specs.Pieces.{piece, pieceLabel, pieceState, pieceSymbols, mapped}
 
 -- the parts of its points, encoded from the state s
@@ -67,21 +67,7 @@ pub record ByRegister (m : Mapping) (t : RegisterTable) : Type 0 where
   pub re-at : (w : ℕ) → w < 256 → getD (t .re) w nan ≡ psk8Label m (registerLabel w) .re
   pub im-at : (w : ℕ) → w < 256 → getD (t .im) w nan ≡ psk8Label m (registerLabel w) .im
 
--- ---- binary digits
--- digit i of a word
-abbrev pub wordBit : ℕ → ℕ → ℕ
-wordBit word i = word / 2 ^ i % 2
-
--- the first n of the bits us as the digits of a number, the first highest
-pub record Digits (us : List ℕ) (n r : ℕ) : Type 0 where
-  pub small : r < 2 ^ n
-  pub each : (k : ℕ) → k < n → getD us k 0 ≡ wordBit r (n - 1 - k)
-
 -- ---- one byte of a TC8PSK run
--- the coded inputs of its four steps
-abbrev pub byteInputs : ℕ → List ℕ
-byteInputs byte = upto (λ i. byteBit byte (2 * i + 1)) 4
-
 -- 128 C2 + the register of its steps, encoded from the state s
 abbrev pub byteRegister : ℕ → ℕ → ℕ → ℕ
 byteRegister byte s i = 128 * byteBit byte (2 * i) + registerAt s (byteInputs byte) i
@@ -94,10 +80,6 @@ pub record ByteEncoded (byte s r : ℕ) (xs ys re₀ re im₀ im : List Float) :
   pub im-is : im ≡ laid (upto (λ i. getD ys (byteRegister byte (backward s) i) nan) 4) im₀
 
 -- ---- one period of a QPSK run
--- the inputs of n steps from a bit of the load on
-abbrev pub plainInputs : List ℕ → ℕ → ℕ → List ℕ
-plainInputs load bit n = upto (λ k. loadBit load (bit + k)) n
-
 -- mother bit a of a period by its steps' labels
 abbrev pub patternBit : (ℕ → ℕ) → ℕ → ℕ → ℕ
 patternBit at base a = codedBit a (at (base + a / 2))

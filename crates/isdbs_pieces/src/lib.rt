@@ -5,7 +5,9 @@ use isdbs_core::combination::Combination;
 use isdbs_core::combination::MaybePuncture;
 use isdbs_core::combination::Modulation;
 use isdbs_load::byte_bit;
+use isdbs_load::coded_inputs;
 use isdbs_load::encode_step;
+use isdbs_load::load_bits;
 use isdbs_load::load_byte;
 use isdbs_points::Mapping;
 use isdbs_points::mirror;
@@ -22,7 +24,8 @@ ghost use Rattle.isdbs_combination.specs.declared.Modulation.the-variants.{Qpsk
 ghost use Rattle.isdbs_combination.specs.Combinations.{modulationOf, punctureOf};
 ghost use Rattle.isdbs_points.specs.Layout.{stepsPerPeriod};
 ghost use Rattle.isdbs_points.specs.Pieces.{pieceSymbols};
-ghost use Rattle.isdbs_pieces.specs.Encoded.{PieceEncoded, Digits, byteInputs, plainInputs, ByteEncoded, TableOf, qpskLabel, psk8Label, ByRegister, PeriodEncoded, PatternOf, AtMost, shiftOf, Shifted, wordBit, pairLabel};
+ghost use Rattle.isdbs_load.specs.Bits.{wordBit};
+ghost use Rattle.isdbs_pieces.specs.Encoded.{PieceEncoded, ByteEncoded, TableOf, qpskLabel, psk8Label, ByRegister, PeriodEncoded, PatternOf, AtMost, shiftOf, Shifted, pairLabel};
 
 // The points of a modulation under a mapping, by label.
 pub struct PointTable {
@@ -127,15 +130,6 @@ fn encode_bpsk(
     state
 }
 
-// The coded inputs of a byte of a TC8PSK run as binary digits, the first highest.
-fn coded_inputs(byte: u8) -> usize
-    ensures { λ r. ⌜ Digits (byteInputs byte) 4 r ⌝ }
-{
-    let first = 2 * byte_bit(byte, 1) + byte_bit(byte, 3);
-    let last = 2 * byte_bit(byte, 5) + byte_bit(byte, 7);
-    (4 * first + last) as usize
-}
-
 // The four points of a byte of a TC8PSK run: of each, C2 uncoded, then one coded bit. The states' stages stand in the other order.
 fn put_byte(
     byte: u8,
@@ -184,16 +178,6 @@ fn encode_tc8psk(
         k += 4;
     }
     reversed(state)
-}
-
-// n bits of the load from bit `bit` on as binary digits, the first highest.
-fn load_bits(bytes: &[u8], bit: usize, n: usize) -> usize
-    requires { ⌜ (n ≤ 8) × (bit + n < 2 ^ 32) ⌝ }
-    ensures { λ r. ⌜ Digits (plainInputs (now (bytes .entry)) bit n) n r ⌝ }
-{
-    let at = bit / 8;
-    let two = 256 * (load_byte(bytes, at) as usize) + (load_byte(bytes, at + 1) as usize);
-    (two >> (16 - bit % 8 - n)) % (1usize << n)
 }
 
 // The outputs of a period's steps in one word, and the state after it, its stages in the other order.

@@ -5,7 +5,7 @@ use native.Mathlib.Nat.{mod-lt}
 use native.Mathlib.Omega.{arith}
 use lib.Dec.{lit<}
 use lib.Pow.{shl-exact}
-use Rattle.isdbs_pieces.specs.Encoded.{plainInputs}
+use Rattle.isdbs_load.specs.Bits.{plainInputs}
 use Rattle.isdbs_pieces.proofs.Windowed.{joined-small, joined-state, joined-bit}
 use borrow.Author.Needs.{needs}
 use Rattle.isdbs_pieces.proofs.encode_period.Statement.{statement}

@@ -9,7 +9,8 @@ use lib.ListN.{length, getD, length-take, length-drop}
 use Rattle.trellis.specs.Lists.{upto}
 use Rattle.code_windows.specs.Windows.{backward}
 use Rattle.code_windows.specs.WindowLaws.{backward-twice}
-use Rattle.isdbs_pieces.specs.Encoded.{plainInputs, pairLabel}
+use Rattle.isdbs_load.specs.Bits.{plainInputs}
+use Rattle.isdbs_pieces.specs.Encoded.{pairLabel}
 use Rattle.isdbs_pieces.specs.PieceLaws.{Going, going-start, tail-back}
 use Rattle.isdbs_pieces.proofs.EncodeQpsk.{Room, room, tabled, pattern-within, outputs-of, at-most, going-period, qpsk-end}
 use Rattle.isdbs_pieces.proofs.encode_qpsk.Statement.{statement}

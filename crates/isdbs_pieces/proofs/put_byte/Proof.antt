@@ -8,7 +8,8 @@ use lib.Dec.{lit<, lit≤}
 use lib.Ieee.{nan}
 use lib.ListN.{getD}
 use Rattle.code_windows.specs.Windows.{backward}
-use Rattle.isdbs_pieces.specs.Encoded.{byteInputs, byteRegister}
+use Rattle.isdbs_load.specs.Bits.{byteInputs}
+use Rattle.isdbs_pieces.specs.Encoded.{byteRegister}
 use Rattle.isdbs_pieces.specs.PieceLaws.{Put, put-none, put-one}
 use Rattle.isdbs_pieces.proofs.Windowed.{joined-register, joined-state}
 use Rattle.isdbs_pieces.proofs.put_byte.Statement.{statement}

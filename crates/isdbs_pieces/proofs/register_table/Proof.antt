@@ -3,13 +3,13 @@ use borrow.Author.Needs.{needs}
 use native.Mathlib.Omega.{arith}
 use native.Mathlib.Nat.{not-suc-le-zero}
 use mathlib.Core.Path.{_≡_, refl, _∙_, ap}
-use Prim.Native.Nat.{ℕ, _+_, _*_, _-_, _/_, _%_, _^_, _<_, _≤_}
+use Prim.Native.Nat.{ℕ, _+_, _*_, _-_, _/_, _<_, _≤_}
 use lib.Ieee.{nan}
 use lib.ListN.{length, length-set, getD}
-use Rattle.trellis.specs.Code.{isdb, label}
-use Rattle.code_windows.specs.Windows.{backward, outputsIn}
+use Rattle.code_windows.specs.Windows.{outputsIn}
 use Rattle.code_windows.specs.WindowLaws.{label-lowest}
-use Rattle.isdbs_pieces.specs.Encoded.{wordBit, registerLabel}
+use Rattle.isdbs_load.specs.Bits.{wordBit}
+use Rattle.isdbs_pieces.specs.Encoded.{registerLabel}
 use Rattle.isdbs_pieces.proofs.Written.{Written, written-more}
 use Rattle.isdbs_pieces.proofs.register_table.Statement.{statement}
 use Rattle.isdbs_pieces.proofs.register_table.Tie as tie

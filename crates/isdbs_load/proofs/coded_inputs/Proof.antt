@@ -1,8 +1,8 @@
 -- `coded_inputs` meets its contract. Assumes nothing.
-use Rattle.isdbs_pieces.proofs.Windowed.{byte-digits}
+use Rattle.isdbs_load.proofs.Digits.{byte-digits}
 use borrow.Author.Needs.{needs}
-use Rattle.isdbs_pieces.proofs.coded_inputs.Statement.{statement}
-use Rattle.isdbs_pieces.proofs.coded_inputs.Tie as tie
+use Rattle.isdbs_load.proofs.coded_inputs.Statement.{statement}
+use Rattle.isdbs_load.proofs.coded_inputs.Tie as tie
 
 byte-bit-requires : tie.Need-byte-bit-requires
 byte-bit-requires c κs = search needs

@@ -6,10 +6,10 @@ use native.Mathlib.Omega.{arith}
 use lib.Dec.{lit<}
 use lib.ListN.{getD}
 use lib.Pow.{pow-pos, shl-exact}
-use Rattle.isdbs_pieces.proofs.Windowed.{load-digits}
+use Rattle.isdbs_load.proofs.Digits.{load-digits}
 use borrow.Author.Needs.{needs}
-use Rattle.isdbs_pieces.proofs.load_bits.Statement.{statement}
-use Rattle.isdbs_pieces.proofs.load_bits.Tie as tie
+use Rattle.isdbs_load.proofs.load_bits.Statement.{statement}
+use Rattle.isdbs_load.proofs.load_bits.Tie as tie
 
 load-byte-requires : tie.Need-load-byte-requires
 load-byte-requires c κs = search needs
