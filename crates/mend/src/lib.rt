@@ -35,12 +35,11 @@ pub struct Mended {
 fn some_no_bit(bits: &[u8]) -> bool
     ensures { λ r. ⌜ r ≡ someNoBit (now (bits .entry)) ⌝ }
 {
+    let mut some = false;
     for i in 0..bits.len() {
-        if bits[i] > 1 {
-            return true;
-        }
+        some = some | (bits[i] > 1);
     }
-    false
+    some
 }
 
 // Rows 5 and 9.

@@ -1,4 +1,4 @@
--- `some_beyond` meets its contract. The invariant: what is said of the list is said of what is left of it. Assumes nothing.
+-- `some_beyond` meets its contract. The invariant: what is said of the list is said of a value seen, or of what is left. Assumes nothing.
 use mathlib.Core.Path.{_≡_, refl, sym, _∙_, ap}
 use Prim.Native.Nat.{ℕ, suc, _+_, _-_, _<_, _≤_}
 use native.Mathlib.Omega.{arith}
