@@ -108,27 +108,67 @@ fn decoder(rounds: usize) {
 #[cfg(any(encode, decode))]
 const FRAMES: [(&str, &[(u8, u8)]); 3] = [("QPSK 7/8", &[(6, 48)]), ("TC8PSK", &[(7, 48)]), ("mixed (TC8PSK 22, QPSK 7/8 8, 2/3 9, BPSK 8)", &[(7, 22), (6, 8), (3, 9), (1, 8)])];
 
+/// What is received: with noise; as it was sent; with noise, and a quarter of the points exactly 0, as where a receiver mutes.
+#[cfg(decode)]
+const CAPTURES: [(&str, fn(&[Cplx]) -> Vec<Cplx>); 3] = [
+    ("decode a frame", |clean| received(clean, 0x5eed, 0, 0.8)),
+    ("decode a clean frame", |clean| clean.to_vec()),
+    ("decode a frame with zeros", |clean| {
+        let mut draws = Draws(0x0000_2e05);
+        let mut points = received(clean, 0x5eed, 0, 0.8);
+        points.iter_mut().filter(|_| draws.below(4) == 0).for_each(|v| *v = Cplx::new(0.0, 0.0));
+        points
+    }),
+];
+
 #[cfg(decode)]
 fn decoding(rounds: usize) {
-    for (name, entries) in FRAMES {
-        let t = table(entries);
-        let bytes = load(0x10ad, valid_slots(t) * 203);
-        let (clean, _) = reference_frame(&bytes, t, 4, start(true)).unwrap();
-        let points = received(&clean, 0x5eed, 0, 0.8);
-        let (re, im): (Vec<f64>, Vec<f64>) = points.iter().map(|v| (v.re, v.im)).unzip();
-        let (info, o) = (info(t), options(4, true, 8.0));
-        let s = calls::Settings { table: t, mapping: 4, first: 1, known: 1, scales: &[8.0; 7] };
+    for (work, capture) in CAPTURES {
+        for (name, entries) in FRAMES {
+            let t = table(entries);
+            let bytes = load(0x10ad, valid_slots(t) * 203);
+            let (clean, _) = reference_frame(&bytes, t, 4, start(true)).unwrap();
+            let points = capture(&clean);
+            let (re, im): (Vec<f64>, Vec<f64>) = points.iter().map(|v| (v.re, v.im)).unzip();
+            let (info, o) = (info(t), options(4, true, 8.0));
+            let s = calls::Settings { table: t, mapping: 4, first: 1, known: 1, scales: &[8.0; 7] };
+            let mut decisions = vec![0u64; 4224];
+            let mut bits = vec![0u8; steps(t) + 16];
+            let mut out = vec![0u8; bytes.len()];
+            let mut counts = vec![0u32; valid_slots(t)];
+            let mut sum = 0;
+            let rust = || {
+                black_box(isdbs_phy::demod::decode_frame(&points, &info, true, &o));
+            };
+            let most = held_by(rust);
+            let times = beside(rounds, rust, || assert_eq!(calls::decode_frame(&re, &im, &s, &mut decisions, &mut bits, &mut out, &mut counts, &mut sum), 0));
+            row(&format!("{work}, {name}"), "step", steps(t), times, (most, 4224 * 8 + bits.len() + out.len() + 4 * counts.len()));
+        }
+    }
+}
+
+/// ISDB-T: soft values with noise at a rate of Table 3-8, to bits.
+#[cfg(isdbt)]
+fn isdbt(rounds: usize) {
+    use isdbt_core::CodeRate::*;
+    use isdbt_fec::conv::Puncturing;
+    for (name, number, rate) in [("2/3", 1, R2_3), ("3/4", 2, R3_4), ("7/8", 4, R7_8)] {
+        let p = Puncturing::new(rate);
+        let n = 65_536 / p.period * p.period;
+        let mut draws = Draws(0x15db);
+        let bits = draws.bytes(n).iter().map(|b| b & 1).collect::<Vec<u8>>();
+        let mut sent = Vec::new();
+        isdbt_fec::conv::encode_punctured(&mut isdbt_fec::conv::ConvEncoder::new(), &p, &bits, &mut sent);
+        let llrs: Vec<f32> = sent.iter().map(|&b| 8.0 * (1.0 - 2.0 * f32::from(b)) + (draws.next() >> 48) as u16 as i16 as f32 / 4096.0).collect();
         let mut decisions = vec![0u64; 4224];
-        let mut bits = vec![0u8; steps(t) + 16];
-        let mut out = vec![0u8; bytes.len()];
-        let mut counts = vec![0u32; valid_slots(t)];
-        let mut sum = 0;
+        let mut out = vec![0u8; n];
+        let mut count = 0;
         let rust = || {
-            black_box(isdbs_phy::demod::decode_frame(&points, &info, true, &o));
+            black_box(isdbt_fec::conv::decode_punctured(rate, &llrs, 128));
         };
         let most = held_by(rust);
-        let times = beside(rounds, rust, || assert_eq!(calls::decode_frame(&re, &im, &s, &mut decisions, &mut bits, &mut out, &mut counts, &mut sum), 0));
-        row(&format!("decode a frame, {name}"), "step", steps(t), times, (most, 4224 * 8 + bits.len() + out.len() + 4 * counts.len()));
+        let times = beside(rounds, rust, || assert_eq!(calls::decode_punctured(number, &llrs, 128, &mut decisions, &mut out, &mut count), 0));
+        row(&format!("decode_punctured, rate {name}"), "step", n, times, (most, 4224 * 8 + n));
     }
 }
 
@@ -217,6 +257,8 @@ fn main() {
     #[cfg(encode)]
     encoding(rounds);
     decoder(rounds);
+    #[cfg(isdbt)]
+    isdbt(rounds);
     #[cfg(peer)]
     peer::row(rounds);
 }
