@@ -102,10 +102,10 @@ module _ (start : Start) (xs : List Float) (dec₀ dec₁ out₀ out₁ : List �
   pub short : (dec : List ℕ) → length out₀ < length xs / 4 → dec₀ ≡ [] → All start xs p dec (dec₁ ++ dec) out₀ out₁
   short dec h e =
       let a : p .answer ≡ firstRow (readingRows xs (length dec) (length out₀)) = at-fresh .0 ∙ ap (λ (l : List ℕ). firstRow (pushMetricsRows (fresh start) xs (length l) (length out₀))) e ∙ short-rows start xs (length dec) (length out₀) h in
-      let turned : p .answer ≡ Accepted → ⊥ = λ x. short-refused start xs (length dec) (length out₀) h (sym a ∙ x) in
-      let u = at-fresh .1 .1 turned in
+      let not-accepted : p .answer ≡ Accepted → ⊥ = λ x. short-refused start xs (length dec) (length out₀) h (sym a ∙ x) in
+      let u = at-fresh .1 .1 not-accepted in
       all-of start xs p dec (dec₁ ++ dec) out₀ out₁ a
-      ((λ x. absurd (turned x)), (λ n. record { state = u .state; count-is = u .count-is; words = ap (λ (l : List ℕ). l ++ dec) (u .words ∙ e); bits = u .bits }))
+      ((λ x. absurd (not-accepted x)), (λ n. record { state = u .state; count-is = u .count-is; words = ap (λ (l : List ℕ). l ++ dec) (u .words ∙ e); bits = u .bits }))
 
   -- places enough
   module _ (fits-out : length xs / 4 ≤ length out₀) where
@@ -117,7 +117,7 @@ module _ (start : Start) (xs : List Float) (dec₀ dec₁ out₀ out₁ : List �
 
     -- `push_metrics` refuses
     pub refused : (p .answer ≡ Accepted → ⊥) → All start xs p dec₀ dec₁ out₀ out₁
-    refused turned = all-of start xs p dec₀ dec₁ out₀ out₁ pa ((λ x. absurd (turned x)), (λ n. pl .1 turned))
+    refused not-accepted = all-of start xs p dec₀ dec₁ out₀ out₁ pa ((λ x. absurd (not-accepted x)), (λ n. pl .1 not-accepted))
 
     -- it accepts
     module _ (yes : p .answer ≡ Accepted) (same-dec : length dec₁ ≡ length dec₀) (same-out : length out₁ ≡ length out₀) where

@@ -18,12 +18,12 @@ use Rattle.trellis.specs.Run.{Decoder, block}
 use Rattle.lead.specs.Ties.{false-of}
 use Rattle.trellis.specs.RunLaws.{after-values}
 use Rattle.lead.specs.Complement.{small}
-use Rattle.path_range.specs.Bounds.{Within, wider}
-use Rattle.path_range.specs.Values.{nothing, from-least, to-most}
-use Rattle.path_range.specs.Steps.{Soft, two, quad, soft-falls}
-use Rattle.path_range.specs.Invariant.{Bounded, bounded-within}
-use Rattle.path_range.specs.Run.{soft-call, known-call}
-use Rattle.path_range.specs.Starts.{given-bounded, unknown-bounded}
+use Rattle.path_ranges.specs.Bounds.{Within, wider}
+use Rattle.path_ranges.specs.Values.{nothing, from-least, to-most}
+use Rattle.path_ranges.specs.Steps.{Soft, two, quad, soft-falls}
+use Rattle.path_ranges.specs.Invariant.{Bounded, bounded-within}
+use Rattle.path_ranges.specs.Run.{soft-call, known-call}
+use Rattle.path_ranges.specs.Starts.{given-bounded, unknown-bounded}
 use Rattle.isdb_fec.specs.declared.conv.ViterbiDecoder.{ViterbiDecoder}
 use Rattle.isdb_fec.specs.declared.conv.Released.{Released}
 use Rattle.isdb_fec.specs.Values.{someBeyond, pathLimit, streamLimit}

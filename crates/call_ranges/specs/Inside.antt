@@ -1,4 +1,4 @@
--- The tests of a row and the bounds of crate path_range say the same. Assumes nothing.
+-- The tests of a row and the bounds of crate path_ranges say the same. Assumes nothing.
 use mathlib.Core.Path.{_≡_, refl, sym, subst}
 use mathlib.Core.Bool.{Bool, true, false, not, _||_}
 use mathlib.Core.List.{List, [], _∷_}
@@ -9,8 +9,8 @@ use lib.ListN.{getD, length}
 use lib.Ieee.{Float, nan, binary32, neg, le, fits}
 use lib.Ieee.Fits.{and-i, and-l, and-r}
 use Rattle.ieee.specs.Order.{le→value, num-between}
-use Rattle.path_range.specs.Bounds.{Within}
-use Rattle.path_range.specs.Values.{Is, is-neg, from-least, to-most}
+use Rattle.path_ranges.specs.Bounds.{Within}
+use Rattle.path_ranges.specs.Values.{Is, is-neg, from-least, to-most}
 use Rattle.isdb_fec.specs.Values.{within, someBeyond}
 
 -- ---- one value

@@ -16,9 +16,9 @@ use Rattle.ieee.specs.Rounding.{rounds-le, rounds-ge}
 use Rattle.ieee.specs.Sums.{sub-is}
 use Rattle.ieee.specs.Zero.{plain, unique, sub-plain, add-neutral}
 use Rattle.trellis.specs.Step.{top, renormalised}
-use Rattle.path_range.specs.Invariant.{Limits, Bounded, bounded-within}
+use Rattle.path_ranges.specs.Invariant.{Limits, Bounded, bounded-within}
 use Rattle.lead.specs.Maximum.{getD-renormalised}
-use Rattle.path_range.specs.Maximum.{Top, top-is, renormalised-bounded}
+use Rattle.path_ranges.specs.Maximum.{Top, top-is, renormalised-bounded}
 
 abbrev pub Normalised : List Float → Type 0
 Normalised pm = renormalised 32 pm ≡ pm

@@ -1,13 +1,13 @@
 -- The bounds of a decoder's stream values and path values, in one place. All but the stream's limit itself are multiples of 512, which is the unit of
--- crate path_range. Assumes nothing.
+-- crate path_ranges. Assumes nothing.
 use mathlib.Core.Path.{_≡_, refl}
 use Prim.Native.Nat.{ℕ, _+_, _*_, _≤_}
 use lib.Dec.{lit≤}
 use lib.Ieee.{Float, binary32, fits, ofBits}
 use Rattle.ieee.specs.Value.{hi, lo}
 use Rattle.ieee.specs.Rounding.{pow2}
-use Rattle.path_range.specs.Values.{Is}
-use Rattle.path_range.specs.Invariant.{Limits}
+use Rattle.path_ranges.specs.Values.{Is}
+use Rattle.path_ranges.specs.Invariant.{Limits}
 use Rattle.isdb_fec.specs.Values.{pathLimit, streamLimit}
 
 -- 1,048,576, "for a stream value"

@@ -20,11 +20,11 @@ use Rattle.trellis.specs.Run as run
 use Rattle.trellis.specs.Run.{startAt, startUnknown, settled}
 use Rattle.trellis.specs.RunLaws.{after-values}
 use Rattle.lead.specs.Complement.{small}
-use Rattle.path_range.specs.Steps.{Soft, soft-moves, Falls, soft-falls}
-use Rattle.path_range.specs.Invariant.{Bounded, step-bounded}
-use Rattle.path_range.specs.Known.{known-bounded}
-use Rattle.path_range.specs.Run.{values-bounded, settled-soft, known-call}
-use Rattle.path_range.specs.Starts.{given-bounded, unknown-bounded}
+use Rattle.path_ranges.specs.Steps.{Soft, soft-moves, Falls, soft-falls}
+use Rattle.path_ranges.specs.Invariant.{Bounded, step-bounded}
+use Rattle.path_ranges.specs.Known.{known-bounded}
+use Rattle.path_ranges.specs.Run.{values-bounded, settled-soft, known-call}
+use Rattle.path_ranges.specs.Starts.{given-bounded, unknown-bounded}
 use Rattle.isdb_fec.specs.declared.conv.ViterbiDecoder.{ViterbiDecoder}
 use Rattle.isdb_fec.specs.declared.conv.Released.{Released}
 use Rattle.isdb_fec.specs.Rows.{pushRows, pushMetricsRows}

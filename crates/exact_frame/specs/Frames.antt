@@ -25,7 +25,7 @@ use Rattle.isdbs_points.specs.Frame.{inputs, labelAt, sentBit, pointBy, pointIn
 use Rattle.isdbs_encode.specs.Encoding.{FrameLaid}
 use Rattle.isdbs_metrics.specs.Reading.{decodedBytes}
 use Rattle.margins.specs.Margins.{keeps, anyAccepted, holds, freeRe, freeIm, Within}
-use Rattle.margins.specs.Clean.{Clean, clean-zero, clean-minus-zero, clean-one, clean-minus-one, clean-root, clean-minus-root, turned-clean, term-clean, psk8-clean, lowEnd, highEnd, keeps-accepted, clean-within, Other}
+use Rattle.margins.specs.Clean.{Clean, clean-zero, clean-minus-zero, clean-one, clean-minus-one, clean-root, clean-minus-root, conjugated-clean, term-clean, psk8-clean, lowEnd, highEnd, keeps-accepted, clean-within, Other}
 use Rattle.isdbs_points.specs.Places.{among-all}
 use Rattle.isdbs_points.specs.LawsBits.{subset-small, load-bit-small}
 use Rattle.exact_frame.specs.Bits.{label-small}
@@ -71,7 +71,7 @@ module _ (t : Table) (m : Mapping) (load : List ℕ) (s : ℕ) where
   point-clean k =
       let p = atSymbol unused (pointIn m load at) t k in
       let c : CleanPoint p = among-all CleanPoint (λ g. g .symbol) (λ g. g .symbols) unused (pointIn m load at) (clean-zero, clean-zero) (λ g j. by-clean (modulationOf (g .combination)) g j) (segments t) k in
-      (c .0, turned-clean (m .conjugate) (p .im) (c .1))
+      (c .0, conjugated-clean (m .conjugate) (p .im) (c .1))
 
 -- ---- a frame made of the encoded one, part by part, by a function that keeps the margins
 abbrev pub Keeping : (Float → Float) → Type 0

@@ -18,7 +18,7 @@ use Rattle.isdbs_tables.specs.Tables.{TableAccepted}
 use Rattle.isdbs_runs.specs.RunsOf.{runsOf, validTotal, loadBytes, frameSteps}
 use Rattle.isdbs_points.specs.declared.Cplx.{Cplx}
 use Rattle.isdbs_points.specs.declared.Mapping.{Mapping}
-use Rattle.isdbs_points.specs.Points.{point, unused, turned}
+use Rattle.isdbs_points.specs.Points.{point, unused, conjugated}
 use Rattle.isdbs_points.specs.Layout.{Segment, segments, among, atSymbol, atStep, loadBit, In, here, there}
 use Rattle.isdbs_points.specs.Frame.{coded, inputIn, inputs, labelAt, pointBy, pointIn, pointAt, frameRe, frameIm, endState}
 use Rattle.isdbs_points.specs.LawsUpto.{upto-cong}
@@ -100,7 +100,7 @@ module _ (t : Table) (fit : TableAccepted t) (a b : List ℕ) (h : SameBits t a 
         let e : atSymbol unused (pointIn m a (labelAt s (inputs t a))) t k ≡ atSymbol unused (pointIn m b (labelAt s (inputs t b))) t k =
         among-same (λ g. g .symbol) (λ g. g .symbols) unused (pointIn m a (labelAt s (inputs t a))) (pointIn m b (labelAt s (inputs t a))) (segments t) 0 (0 + symbolSum (t .entries)) (fill-symbols (t .entries) 0 0 0 0) (same-point (labelAt s (inputs t a))) k (omega arith)
         ∙ ap (λ (us : List ℕ). atSymbol unused (pointIn m b (labelAt s us)) t k) same-inputs in
-        ap (λ (p : Cplx). point (p .re) (turned (m .conjugate) (p .im))) e
+        ap (λ (p : Cplx). point (p .re) (conjugated (m .conjugate) (p .im))) e
 
     pub same-re : frameRe t m a s ≡ frameRe t m b s
     same-re = upto-cong (λ k. pointAt t m a s k .re) (λ k. pointAt t m b s k .re) 38976 (λ k l. ap (λ (p : Cplx). p .re) (same-points k))

@@ -23,12 +23,12 @@ use Rattle.isdbs_tables.specs.Tables.{TableAccepted}
 use Rattle.isdbs_runs.specs.RunsOf.{frameSteps}
 use Rattle.isdbs_points.specs.declared.Cplx.{Cplx}
 use Rattle.isdbs_points.specs.declared.Mapping.{Mapping}
-use Rattle.isdbs_points.specs.Points.{point, unused, zero64, root64, psk8Of, subset, turned, qpskOf}
+use Rattle.isdbs_points.specs.Points.{point, unused, zero64, root64, psk8Of, subset, conjugated, qpskOf}
 use Rattle.isdbs_points.specs.Layout.{Segment, segments, orderOf, stepsPerPeriod, placeIn, loadBit, In}
 use Rattle.isdbs_points.specs.Frame.{inputs, labelAt, codedBit, sentBit, pointBy, pointIn, pointAt, startState}
 use Rattle.isdbs_metrics.specs.Reading.{Received, symbolAt, scaled, partOf, carrier, softAt, pairMetrics, correlation, metricsBy, metricsIn, metricsAt}
 use Rattle.margins.specs.Margins.{keeps, isBpsk, Within}
-use Rattle.margins.specs.Clean.{psk8-clean, turned-keeps}
+use Rattle.margins.specs.Clean.{psk8-clean, conjugated-keeps}
 use Rattle.margins.specs.Intervals.{eight}
 use Rattle.margins.specs.Speaks.{Speaks, Said, one-speaks, root-speaks}
 use Rattle.margins.specs.Pairs.{pair-favours}
@@ -51,7 +51,7 @@ module _ (t : Table) (fit : TableAccepted t) (m : Mapping) (first : Bool) (load 
 
   -- the point of symbol j of a segment
   point-at : (g : Segment) → In g (segments t) → (j : ℕ) → j < g .symbols
-      → pointAt t m load (startState first) (g .symbol + j) ≡ point (pointIn m load at g j .re) (turned (m .conjugate) (pointIn m load at g j .im))
+      → pointAt t m load (startState first) (g .symbol + j) ≡ point (pointIn m load at g j .re) (conjugated (m .conjugate) (pointIn m load at g j .im))
   unfolding pointAt
   point-at g i j l = rw (at-symbol t unused (pointIn m load at) g i j l)
 
@@ -62,7 +62,7 @@ module _ (t : Table) (fit : TableAccepted t) (m : Mapping) (first : Bool) (load 
       at (within .re-parts (g .symbol + j) (symbol-fits t fit g i j l))
 
   im-keeps : (g : Segment) → In g (segments t) → (j : ℕ) → j < g .symbols → isBpsk (modulationOf (g .combination)) ≡ false
-      → T (keeps (turned (m .conjugate) (pointIn m load at g j .im)) (getD im (g .symbol + j) nan))
+      → T (keeps (conjugated (m .conjugate) (pointIn m load at g j .im)) (getD im (g .symbol + j) nan))
   im-keeps g i j l e =
       rw (at-symbol t true (λ g j. isBpsk (modulationOf (g .combination))) g i j l, e, point-at g i j l)
       at (within .im-parts (g .symbol + j) (symbol-fits t fit g i j l))
@@ -103,8 +103,8 @@ module _ (t : Table) (fit : TableAccepted t) (m : Mapping) (first : Bool) (load 
         let reverse = m .«qpsk_p1_on_q» in
         let x : T (keeps (qpskOf reverse (sentBit at g (2 * j)) (sentBit at g (2 * j + 1)) .re) (getD re (g .symbol + j) nan)) =
         subst (λ (x : Modulation). T (keeps (pointBy x m load at g j .re) (getD re (g .symbol + j) nan))) e (re-keeps g i j J) in
-        let y : T (keeps (turned (m .conjugate) (qpskOf reverse (sentBit at g (2 * j)) (sentBit at g (2 * j + 1)) .im)) (getD im (g .symbol + j) nan)) =
-        subst (λ (x : Modulation). T (keeps (turned (m .conjugate) (pointBy x m load at g j .im)) (getD im (g .symbol + j) nan))) e (im-keeps g i j J (ap isBpsk e)) in
+        let y : T (keeps (conjugated (m .conjugate) (qpskOf reverse (sentBit at g (2 * j)) (sentBit at g (2 * j + 1)) .im)) (getD im (g .symbol + j) nan)) =
+        subst (λ (x : Modulation). T (keeps (conjugated (m .conjugate) (pointBy x m load at g j .im)) (getD im (g .symbol + j) nan))) e (im-keeps g i j J (ap isBpsk e)) in
         let k : T (keeps (term (sentBit at g n) root64) (partOf reverse z (n % 2))) =
         subst (λ (b : ℕ). T (keeps (term b root64) (partOf reverse z (n % 2)))) (of-pair (sentBit at g) n)
         (carries reverse (m .conjugate) (sentBit at g (2 * j)) (sentBit at g (2 * j + 1)) (getD re (g .symbol + j) nan) (getD im (g .symbol + j) nan)
@@ -168,8 +168,8 @@ module _ (t : Table) (fit : TableAccepted t) (m : Mapping) (first : Bool) (load 
       tc-im =
           let l = subset (m .«tc8psk_c1_is_y») (at (g .step + k)) in
           let small : 4 * c2 + l < 8 = omega (arith, load-bit-small load (g .bit + 2 * k), subset-small (m .«tc8psk_c1_is_y») (at (g .step + k)) (label-at-small (g .step + k))) in
-          turned-keeps (m .conjugate) (psk8Of (4 * c2 + l) .im) (getD im (g .symbol + k) nan) (psk8-clean (4 * c2 + l) small .1)
-          (subst (λ (x : Modulation). T (keeps (turned (m .conjugate) (pointBy x m load at g k .im)) (getD im (g .symbol + k) nan))) e (im-keeps g i k symbol-small (ap isBpsk e)))
+          conjugated-keeps (m .conjugate) (psk8Of (4 * c2 + l) .im) (getD im (g .symbol + k) nan) (psk8-clean (4 * c2 + l) small .1)
+          (subst (λ (x : Modulation). T (keeps (conjugated (m .conjugate) (pointBy x m load at g k .im)) (getD im (g .symbol + k) nan))) e (im-keeps g i k symbol-small (ap isBpsk e)))
 
       tc-at : Favour (metricsBy Tc8psk r g k) (at (g .step + k))
       unfolding metricsBy

@@ -21,12 +21,12 @@ use Rattle.trellis.specs.Step.{Tie, nexts, renormalised}
 use Rattle.trellis.specs.Run.{valuesAt, pushed}
 use Rattle.trellis.specs.RunLaws.{after-values}
 use Rattle.lead.specs.Complement.{small, complement}
-use Rattle.path_range.specs.Bounds.{Within, wider}
-use Rattle.path_range.specs.Values.{nothing, from-least, to-most}
-use Rattle.path_range.specs.Steps.{Soft, quad, Falls, quad-falls}
-use Rattle.path_range.specs.Invariant.{Bounded, bounded-within}
-use Rattle.path_range.specs.Run.{InRange, soft-call, known-call, path-within, path-within-next}
-use Rattle.path_range.specs.Starts.{level, given-bounded, unknown-bounded}
+use Rattle.path_ranges.specs.Bounds.{Within, wider}
+use Rattle.path_ranges.specs.Values.{nothing, from-least, to-most}
+use Rattle.path_ranges.specs.Steps.{Soft, quad, Falls, quad-falls}
+use Rattle.path_ranges.specs.Invariant.{Bounded, bounded-within}
+use Rattle.path_ranges.specs.Run.{InRange, soft-call, known-call, path-within, path-within-next}
+use Rattle.path_ranges.specs.Starts.{level, given-bounded, unknown-bounded}
 use Rattle.refusal.specs.RowLaws as row
 use Rattle.isdbs_tables.specs.TableLaws.{then-accepted}
 use Rattle.isdbs_combination.specs.declared.Combination.{Combination}

@@ -6,9 +6,9 @@ use lib.Ieee.{binary32, fits, low, ofBits}
 use Rattle.ieee.specs.Value.{mag, hi, lo}
 use Rattle.ieee.specs.Rounding.{pow2, pow2-add}
 use Rattle.ieee.specs.Constants.{two-to}
-use Rattle.path_range.specs.Bounds.{U}
-use Rattle.path_range.specs.Values.{Is}
-use Rattle.path_range.specs.Invariant.{Limits}
+use Rattle.path_ranges.specs.Bounds.{U}
+use Rattle.path_ranges.specs.Values.{Is}
+use Rattle.path_ranges.specs.Invariant.{Limits}
 use Rattle.isdbs_phy.specs.DecodeRows.{partLimit, scaleLimit}
 use Rattle.frame_ranges.specs.Numbers.{partPower, scalePower, softPower, softLimit, metricPower, metricLimit, stepMost, floor, ruledOut, leastPath, mostPath}
 

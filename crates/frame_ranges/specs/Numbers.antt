@@ -1,4 +1,4 @@
--- The numbers of the ranges, in one place: the limits of the rows give the rest. Units of path values are 512, as in crate path_range. Assumes nothing.
+-- The numbers of the ranges, in one place: the limits of the rows give the rest. Units of path values are 512, as in crate path_ranges. Assumes nothing.
 use Prim.Native.Nat.{ℕ, suc, _+_}
 use lib.Ieee.{Float, binary32, ofBits}
 

@@ -19,7 +19,7 @@ use Rattle.ieee.specs.Sums.{add-rounds, add-fine, sub-is}
 use Rattle.ieee.specs.Products.{mul-rounds, fine-by, rnd-zero}
 use Rattle.ieee.specs.Constants.{two-to, two-to-num}
 use Rattle.ieee.specs.ConversionLaws.{rounded-between}
-use Rattle.path_range.specs.Values.{nothing}
+use Rattle.path_ranges.specs.Values.{nothing}
 use Rattle.isdbs_soft.specs.Soft.{softOf}
 use Rattle.isdbs_metrics.specs.Reading.{absolute, pairMetrics}
 use Rattle.frame_ranges.specs.Size.{Size, powers, two-lo, size-to, size-neg, size-add, size-sub}

@@ -56,8 +56,8 @@ rounded-self f (fin true m e) t = round-neg f false (m * up e) (down e) ∙ ap n
 eqb-turn : (a b : ℕ) → T (eqb a b) → T (eqb b a)
 eqb-turn a b t = eq→eqb {a = b} {b = a} (sym (eqb→eq a b t))
 
-turned : (k : Bool) (a b : ℕ) → T (k || (eqb a b && true)) → T (k || (eqb b a && true))
-turned k a b t = elim (or-split k (eqb a b && true) t) [
+swapped : (k : Bool) (a b : ℕ) → T (k || (eqb a b && true)) → T (k || (eqb b a && true))
+swapped k a b t = elim (or-split k (eqb a b && true) t) [
   | inl l ↦ or-l k (eqb b a && true) l
   | inr q ↦ or-r k (eqb b a && true) (and-i (eqb b a) true (eqb-turn a b (and-l (eqb a b) true q)) tt)
 ]
@@ -83,10 +83,10 @@ le-neg (inf false) (fin u n d) t = tt
 le-neg (fin s m e) nan t = absurd t
 le-neg (fin s m e) (inf true) t = tt
 le-neg (fin s m e) (inf false) t = absurd t
-le-neg (fin false m e) (fin false n d) t = turned (ltb (n * up d * down e) (m * up e * down d)) (n * up d * down e) (m * up e * down d) t
+le-neg (fin false m e) (fin false n d) t = swapped (ltb (n * up d * down e) (m * up e * down d)) (n * up d * down e) (m * up e * down d) t
 le-neg (fin false m e) (fin true n d) t = sum-test (m * up e * down d) (n * up d * down e)
 le-neg (fin true m e) (fin false n d) t = nothing (m * up e * down d) (n * up d * down e) t
-le-neg (fin true m e) (fin true n d) t = turned (ltb (m * up e * down d) (n * up d * down e)) (n * up d * down e) (m * up e * down d) t
+le-neg (fin true m e) (fin true n d) t = swapped (ltb (m * up e * down d) (n * up d * down e)) (n * up d * down e) (m * up e * down d) t
 
 -- not negative, and no NaN
 abbrev plus : Float → Bool
@@ -193,7 +193,7 @@ rounded-mono f (fin true m e) (fin true n d) t =
     (subst (λ (z : Float). T (le (neg (round f false (m * up e) (down e))) z)) (sym (round-neg f false (n * up d) (down d)))
     (le-neg (round f false (m * up e) (down e)) (round f false (n * up d) (down d))
     (round-mono f (n * up d) (down d) (m * up e) (down e) (down-pos d) (down-pos e)
-    (at-most (n * up d * down e) (m * up e * down d) (turned (ltb (n * up d * down e) (m * up e * down d)) (m * up e * down d) (n * up d * down e) t)))))
+    (at-most (n * up d * down e) (m * up e * down d) (swapped (ltb (n * up d * down e) (m * up e * down d)) (m * up e * down d) (n * up d * down e) t)))))
 
 -- ---- between two values that the format holds
 pub rounded-between : (f : Format) (c x d : Float) → Num f c → Num f d → T (le c x) → T (le x d) → Between f c (rounded f x) d

@@ -156,12 +156,12 @@ module _ (f : Format) (a b c A B : ℕ) (C : 0 < c) (p : a * 2 ^ low f ≡ A * c
   unfolding sum
   fine-ft t = two-way (ltb a b) true false (λ (t : T (ltb a b)). y .lt-to (ltb→lt a b t)) (λ (t : T (not (ltb a b))). y .ge-to (nltb→le a b t)) t
 
-  turned : Fine f (A + 0) (0 + B) → Fine f (0 + B) (A + 0)
-  turned g = record { above = g .below; below = g .above }
+  swapped : Fine f (A + 0) (0 + B) → Fine f (0 + B) (A + 0)
+  swapped g = record { above = g .below; below = g .above }
 
   fine-tf : T (finite (sum f true a false b c)) → Fine f (0 + B) (A + 0)
   unfolding sum
-  fine-tf t = turned (two-way (ltb a b) false (ltb b a) (λ (t : T (ltb a b)). y .lt-to (ltb→lt a b t)) (λ (t : T (not (ltb a b))). y .ge-to (nltb→le a b t)) t)
+  fine-tf t = swapped (two-way (ltb a b) false (ltb b a) (λ (t : T (ltb a b)). y .lt-to (ltb→lt a b t)) (λ (t : T (not (ltb a b))). y .ge-to (nltb→le a b t)) t)
 
 pub add-fine : (f : Format) (x y : Float) → Num f x → Num f y → T (finite (add f x y)) → Fine f (hi f x + hi f y) (lo f x + lo f y)
 unfolding add hi lo

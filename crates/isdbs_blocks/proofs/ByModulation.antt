@@ -19,7 +19,7 @@ use Rattle.isdbs_combination.specs.declared.Modulation.the-variants.{Bpsk, Qpsk
 use Rattle.isdbs_combination.specs.Combinations.{modulationOf}
 use Rattle.isdbs_points.specs.declared.Mapping.{Mapping}
 use Rattle.isdbs_soft.specs.Soft.{softOf}
-use Rattle.isdbs_points.specs.Points.{point, turned}
+use Rattle.isdbs_points.specs.Points.{point, conjugated}
 use Rattle.isdbs_points.specs.Layout.{orderOf, stepsPerPeriod, placeIn, sentOrder}
 use Rattle.isdbs_points.specs.LawsUpto.{upto-cong}
 use Rattle.isdbs_points.specs.Pieces.{piece}
@@ -61,7 +61,7 @@ carrier-qpsk : (c : Combination) (re im : List Float) (m : Mapping) (scale : Flo
     → carrier (modulationOf c) (received re im m scale) (piece c 0) i ≡ qpskPart re im m i
 carrier-qpsk c re im m scale i h =
     ap (λ (o : Modulation). carrier o (received re im m scale) (piece c 0) i) h
-    ∙ ap (λ (x : ℕ). partOf (m .«qpsk_p1_on_q») (point (getD re x nan) (turned (m .conjugate) (getD im x nan))) (i % 2)) (zero-add (i / 2))
+    ∙ ap (λ (x : ℕ). partOf (m .«qpsk_p1_on_q») (point (getD re x nan) (conjugated (m .conjugate) (getD im x nan))) (i % 2)) (zero-add (i / 2))
 
 soft-qpsk : (c : Combination) (re im : List Float) (m : Mapping) (scale : Float) (k b : ℕ) → modulationOf c ≡ Qpsk
     → softAt (received re im m scale) (piece c 0) k b
@@ -273,7 +273,7 @@ module _ (c : Combination) (re im : List Float) (m : Mapping) (scale : Float) (k
 
 -- ---- TC8PSK
 tc8psk-metrics : (c : Combination) (re im : List Float) (m : Mapping) (scale : Float) (k : ℕ) → modulationOf c ≡ Tc8psk
-    → pieceMetrics c re im m scale k ≡ subsetMetrics (received re im m scale) (piece c 0) (point (getD re k nan) (turned (m .conjugate) (getD im k nan)))
+    → pieceMetrics c re im m scale k ≡ subsetMetrics (received re im m scale) (piece c 0) (point (getD re k nan) (conjugated (m .conjugate) (getD im k nan)))
 unfolding metricsBy
 tc8psk-metrics c re im m scale k h = rw (h, zero-add k)
 

@@ -14,7 +14,7 @@ use Rattle.trellis.specs.Step.{Step, four}
 use Rattle.viterbi.specs.Calls.{fourSteps}
 use Rattle.isdbs_points.specs.LawsUpto.{upto-cong, laid-upto, length-laid-upto}
 use Rattle.isdbs_points.specs.declared.Mapping.{Mapping}
-use Rattle.isdbs_points.specs.Points.{turned}
+use Rattle.isdbs_points.specs.Points.{conjugated}
 use Rattle.isdbs_soft.specs.Soft.{softOf}
 use Rattle.isdbs_metrics.specs.Steps.{qpskPart}
 use Rattle.isdbs_pack.proofs.FrameRuns.{tail-is}
@@ -116,10 +116,10 @@ swapped (suc (suc r)) x y h = absurd (omega arith)
 
 module _ (re im : List Float) (m : Mapping) (from n : ℕ) (w : List Float) where
   abbrev real : ℕ → Float
-  real k = turned false (getD re (from + k) nan)
+  real k = conjugated false (getD re (from + k) nan)
 
   abbrev imaginary : ℕ → Float
-  imaginary k = turned (m .conjugate) (getD im (from + k) nan)
+  imaginary k = conjugated (m .conjugate) (getD im (from + k) nan)
 
   half : (i : ℕ) → (2 * from + i) / 2 ≡ from + i / 2
   half i = omega arith

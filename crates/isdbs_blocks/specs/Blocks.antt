@@ -11,7 +11,7 @@ use Rattle.trellis.specs.Step.{Step, pair, four, known}
 use Rattle.viterbi.specs.Calls.{fourSteps}
 use Rattle.isdbs_combination.specs.declared.Combination.{Combination}
 use Rattle.isdbs_points.specs.declared.Mapping.{Mapping}
-use Rattle.isdbs_points.specs.Points.{point, turned, psk8Of, subset}
+use Rattle.isdbs_points.specs.Points.{point, conjugated, psk8Of, subset}
 use Rattle.isdbs_points.specs.Layout.{orderOf, stepsPerPeriod, placeIn}
 use Rattle.isdbs_points.specs.Pieces.{piece}
 use Rattle.isdbs_metrics.specs.Reading.{softAt, correlation}
@@ -60,4 +60,4 @@ spreadSoft c softs j =
 
 -- what a TC8PSK symbol k gives with the four points of C2 = 0, in the order of the labels 2 X + Y
 abbrev pub subsetParts : List Float → List Float → Mapping → ℕ → List Float
-subsetParts re im m k = upto (λ l. correlation (point (getD re k nan) (turned (m .conjugate) (getD im k nan))) (psk8Of (subset (m .«tc8psk_c1_is_y») l))) 4
+subsetParts re im m k = upto (λ l. correlation (point (getD re k nan) (conjugated (m .conjugate) (getD im k nan))) (psk8Of (subset (m .«tc8psk_c1_is_y») l))) 4

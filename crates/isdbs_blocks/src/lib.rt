@@ -22,7 +22,7 @@ ghost use Rattle.viterbi.specs.Calls.{fourSteps};
 ghost use Rattle.isdbs_combination.specs.Combinations.{modulationOf};
 ghost use Rattle.isdbs_combination.specs.declared.Modulation.the-variants.{Bpsk, Qpsk, Tc8psk};
 ghost use Rattle.isdbs_soft.specs.Soft.{softOf};
-ghost use Rattle.isdbs_points.specs.Points.{turned, psk8Of, subset};
+ghost use Rattle.isdbs_points.specs.Points.{conjugated, psk8Of, subset};
 ghost use Rattle.isdbs_points.specs.Layout.{stepsPerPeriod};
 ghost use Rattle.isdbs_metrics.specs.Reading.{pairMetrics};
 ghost use Rattle.isdbs_metrics.specs.Steps.{LayoutOf, Covers, qpskPart};
@@ -40,7 +40,7 @@ fn by_turns(
     parts: &mut [f64],
 )
     requires { ⌜ (from + n ≤ length (now a)) × (from + n ≤ length (now b)) × (2 * n ≤ length (now parts)) ⌝ }
-    ensures { λ _. ⌜ now (parts .exit) ≡ laid (upto (turns (λ k. turned «turn_a» (getD (now (a .entry)) (from + k) nan)) (λ k. turned «turn_b» (getD (now (b .entry)) (from + k) nan))) (2 * n)) (now (parts .entry)) ⌝ }
+    ensures { λ _. ⌜ now (parts .exit) ≡ laid (upto (turns (λ k. conjugated «turn_a» (getD (now (a .entry)) (from + k) nan)) (λ k. conjugated «turn_b» (getD (now (b .entry)) (from + k) nan))) (2 * n)) (now (parts .entry)) ⌝ }
 {
     for i in 0..n {
         parts[2 * i] = mirror(turn_a, a[from + i]);

@@ -23,7 +23,7 @@ use Rattle.isdbs_runs.specs.PlanLaws.{table-laid}
 use Rattle.isdbs_points.specs.declared.Cplx.{Cplx}
 use Rattle.isdbs_points.specs.declared.Mapping.{Mapping}
 use Rattle.isdbs_encode.specs.declared.RunsEncoded.{RunsEncoded}
-use Rattle.isdbs_points.specs.Points.{zero64, unused, turned}
+use Rattle.isdbs_points.specs.Points.{zero64, unused, conjugated}
 use Rattle.isdbs_points.specs.Layout.{Segment, segmentsFrom}
 use Rattle.isdbs_points.specs.Frame.{inputs, labelAt, pointIn, pointAt, endState}
 use Rattle.isdbs_points.specs.LawsUpto.{laid-part, length-laid-upto}
@@ -64,7 +64,7 @@ module _ (t : Table) (m : Mapping) (load : List ℕ) (s : ℕ) (tl : Tiled (runs
   abbrev rs : List Run
   rs = runsOf t
 
-  past : (k : ℕ) → symbolsOf rs ≤ k → pointAt t m load s k ≡ record { re = zero64; im = turned (m .conjugate) zero64 }
+  past : (k : ℕ) → symbolsOf rs ≤ k → pointAt t m load s k ≡ record { re = zero64; im = conjugated (m .conjugate) zero64 }
   unfolding pointAt inputs
   past k h =
       rw (among-past (λ g. g .symbol) (λ g. g .symbols) unused (pointIn m load (labelAt s (inputsOf rs load))) (segmentsFrom rs 0 0) 0 (symbolsOf rs) (tl .fill) k h)
@@ -86,7 +86,7 @@ module _ (t : Table) (m : Mapping) (load : List ℕ) (s : ℕ) (tl : Tiled (runs
     -- the points of the runs, then the unused ones
     pub frame-laid : {p q : List Float}
         → p ≡ laid (upto (λ i. zero64) (38976 - r .end)) (take (length re - r .end) (drop (r .end) re))
-        → q ≡ laid (upto (λ i. turned (m .conjugate) zero64) (38976 - r .end)) (take (length im - r .end) (drop (r .end) im))
+        → q ≡ laid (upto (λ i. conjugated (m .conjugate) zero64) (38976 - r .end)) (take (length im - r .end) (drop (r .end) im))
         → FrameLaid t m load s re₀ (take (r .end) re ++ (p ++ drop (length re - r .end) (drop (r .end) re))) im₀ (take (r .end) im ++ (q ++ drop (length im - r .end) (drop (r .end) im)))
     unfolding pointAt pointOf inputs
     frame-laid ep eq =
@@ -97,6 +97,6 @@ module _ (t : Table) (m : Mapping) (load : List ℕ) (s : ℕ) (tl : Tiled (runs
         record {
           re-is = tail-back (r .end) re (upto (λ i. zero64) (38976 - r .end)) lr ep
               ∙ rw (w .end-is, w .re-is) (laid-part (λ k. pointAt t m load s k .re) (λ i. zero64) (symbolsOf rs) n re₀ (λ i l. sym (ap (λ (z : Cplx). z .re) (past (symbolsOf rs + i) (omega arith)))) ∙ rw sum);
-          im-is = tail-back (r .end) im (upto (λ i. turned (m .conjugate) zero64) (38976 - r .end)) li eq
-              ∙ rw (w .end-is, w .im-is) (laid-part (λ k. pointAt t m load s k .im) (λ i. turned (m .conjugate) zero64) (symbolsOf rs) n im₀ (λ i l. sym (ap (λ (z : Cplx). z .im) (past (symbolsOf rs + i) (omega arith)))) ∙ rw sum);
+          im-is = tail-back (r .end) im (upto (λ i. conjugated (m .conjugate) zero64) (38976 - r .end)) li eq
+              ∙ rw (w .end-is, w .im-is) (laid-part (λ k. pointAt t m load s k .im) (λ i. conjugated (m .conjugate) zero64) (symbolsOf rs) n im₀ (λ i l. sym (ap (λ (z : Cplx). z .im) (past (symbolsOf rs + i) (omega arith)))) ∙ rw sum);
         }

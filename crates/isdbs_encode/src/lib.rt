@@ -13,14 +13,14 @@ ghost use lib.ListN.{length, take};
 ghost use Rattle.trellis.specs.Lists.{upto, laid};
 ghost use Rattle.isdbs_frame.specs.Frame.{mainSymbols};
 ghost use Rattle.isdbs_tables.specs.Tables.{TableAccepted};
-ghost use Rattle.isdbs_points.specs.Points.{zero64, turned};
+ghost use Rattle.isdbs_points.specs.Points.{zero64, conjugated};
 ghost use Rattle.isdbs_points.specs.Frame.{endState};
 ghost use Rattle.isdbs_encode.specs.Encoding.{FrameLaid, Tiled, RunsMade};
 
 // n unused points.
 fn put_unused(n: usize, m: Mapping, re: &mut [f64], im: &mut [f64])
     requires { ⌜ (n ≤ length (now re)) × (n ≤ length (now im)) ⌝ }
-    ensures { λ _. ⌜ (now (re .exit) ≡ laid (upto (λ i. zero64) n) (now (re .entry))) × (now (im .exit) ≡ laid (upto (λ i. turned (m .conjugate) zero64) n) (now (im .entry))) ⌝ }
+    ensures { λ _. ⌜ (now (re .exit) ≡ laid (upto (λ i. zero64) n) (now (re .entry))) × (now (im .exit) ≡ laid (upto (λ i. conjugated (m .conjugate) zero64) n) (now (im .entry))) ⌝ }
 {
     let y = mirror(m.conjugate, 0.0);
     let mut i: usize = 0;

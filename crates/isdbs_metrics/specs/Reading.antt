@@ -18,7 +18,7 @@ use Rattle.isdbs_runs.specs.RunsOf.{frameSteps, loadBytes}
 use Rattle.isdbs_points.specs.declared.Cplx.{Cplx}
 use Rattle.isdbs_points.specs.declared.Mapping.{Mapping}
 use Rattle.isdbs_soft.specs.Soft.{softOf}
-use Rattle.isdbs_points.specs.Points.{point, zero64, psk8Of, subset, turned}
+use Rattle.isdbs_points.specs.Points.{point, zero64, psk8Of, subset, conjugated}
 use Rattle.isdbs_points.specs.Layout.{Segment, orderOf, stepsPerPeriod, placeIn, atStep, atBit, byteOf, wordBit}
 use Rattle.isdbs_points.specs.Frame.{labelAt, startState}
 
@@ -31,7 +31,7 @@ pub record Received : Type 0 where
 
 -- symbol k as it is read: "`conjugate` negates every imaginary part"
 abbrev pub symbolAt : Received → ℕ → Cplx
-symbolAt r k = point (getD (r .re) k nan) (turned (r .mapping .conjugate) (getD (r .im) k nan))
+symbolAt r k = point (getD (r .re) k nan) (conjugated (r .mapping .conjugate) (getD (r .im) k nan))
 
 -- "Soft values l are `soft(part)` × scale in f32"
 abbrev pub scaled : Received → Segment → Float → Float

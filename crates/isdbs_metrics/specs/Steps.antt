@@ -11,7 +11,7 @@ use Rattle.isdbs_combination.specs.declared.Modulation.the-variants.{Bpsk, Qpsk
 use Rattle.isdbs_combination.specs.Combinations.{modulationOf}
 use Rattle.isdbs_points.specs.declared.Mapping.{Mapping}
 use Rattle.isdbs_metrics.specs.declared.PeriodLayout.{PeriodLayout}
-use Rattle.isdbs_points.specs.Points.{point, turned}
+use Rattle.isdbs_points.specs.Points.{point, conjugated}
 use Rattle.isdbs_points.specs.Layout.{orderOf, stepsPerPeriod, placeIn}
 use Rattle.isdbs_points.specs.Pieces.{piece}
 use Rattle.isdbs_points.specs.Frame.{labelAt}
@@ -24,7 +24,7 @@ received re im m scale = record { re = re; im = im; mapping = m; scale = λ c. s
 -- the part of a QPSK run's points that carries the coded bit sent i-th
 abbrev pub qpskPart : List Float → List Float → Mapping → ℕ → Float
 qpskPart re im m i =
-    partOf (m .«qpsk_p1_on_q») (point (getD re (i / 2) nan) (turned (m .conjugate) (getD im (i / 2) nan))) (i % 2)
+    partOf (m .«qpsk_p1_on_q») (point (getD re (i / 2) nan) (conjugated (m .conjugate) (getD im (i / 2) nan))) (i % 2)
 
 -- the modulation, the steps and the sent mother bits of a period, and the place of each mother bit among those sent
 pub record LayoutOf (r : PeriodLayout) : Type 0 where

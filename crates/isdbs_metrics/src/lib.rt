@@ -7,7 +7,7 @@ ghost use mathlib.Core.Path.{_≡_};
 ghost use Prim.Native.Nat.{_<_};
 ghost use lib.ListN.{length, getD};
 ghost use lib.Ieee.{nan};
-ghost use Rattle.isdbs_points.specs.Points.{point, turned};
+ghost use Rattle.isdbs_points.specs.Points.{point, conjugated};
 ghost use Rattle.isdbs_metrics.specs.Reading.{correlation};
 ghost use Rattle.isdbs_metrics.specs.Steps.{LayoutOf};
 
@@ -86,7 +86,7 @@ pub fn correlation(v: Cplx, p: Cplx) -> f64
 // The point of symbol k as it is read.
 pub fn symbol(re: &[f64], im: &[f64], conjugate: bool, k: usize) -> Cplx
     requires { ⌜ (k < length (now re)) × (k < length (now im)) ⌝ }
-    ensures { λ r. ⌜ r ≡ point (getD (now (re .entry)) k nan) (turned conjugate (getD (now (im .entry)) k nan)) ⌝ }
+    ensures { λ r. ⌜ r ≡ point (getD (now (re .entry)) k nan) (conjugated conjugate (getD (now (im .entry)) k nan)) ⌝ }
 {
     Cplx {
         re: re[k],

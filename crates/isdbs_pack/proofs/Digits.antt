@@ -15,7 +15,7 @@ use Rattle.trellis.specs.Lists.{bit}
 use Rattle.trellis.specs.Code.{isdb, label, output, moved, stateAt}
 use Rattle.isdbs_combination.specs.declared.Combination.the-variants.{«Tc8psk2_3»}
 use Rattle.isdbs_points.specs.declared.Mapping.{Mapping}
-use Rattle.isdbs_points.specs.Points.{point, turned, psk8Of, subset, zero64}
+use Rattle.isdbs_points.specs.Points.{point, conjugated, psk8Of, subset, zero64}
 use Rattle.isdbs_points.specs.Frame.{labelAt}
 use Rattle.isdbs_metrics.specs.Reading.{correlation, bitBy}
 use Rattle.isdbs_points.specs.Layout.{byteOf}
@@ -50,7 +50,7 @@ digits-two f i =
 -- ---- TC8PSK: C2, then the decoded bit
 module _ (re im : List Float) (m : Mapping) (s : ℕ) (us : List ℕ) (i : ℕ) where
   pub even-bit : pieceBit «Tc8psk2_3» re im m s us (2 * i)
-      ≡ bit (lt (correlation (point (getD re i nan) (turned (m .conjugate) (getD im i nan))) (psk8Of (subset (m .«tc8psk_c1_is_y») (labelAt s us i)))) zero64)
+      ≡ bit (lt (correlation (point (getD re i nan) (conjugated (m .conjugate) (getD im i nan))) (psk8Of (subset (m .«tc8psk_c1_is_y») (labelAt s us i)))) zero64)
   unfolding bitBy
   even-bit =
       let e : 2 * i % 2 ≡ 0 = omega arith in
@@ -81,7 +81,7 @@ piece-small re im m s us n h j l = go (j % 2) refl
     go zero e =
         let q : j ≡ 2 * (j / 2) = omega arith in
         subst (λ (y : ℕ). pieceBit «Tc8psk2_3» re im m s us y < 2) (sym q)
-        (rw (even-bit re im m s us (j / 2)) (bit-small (lt (correlation (point (getD re (j / 2) nan) (turned (m .conjugate) (getD im (j / 2) nan))) (psk8Of (subset (m .«tc8psk_c1_is_y») (labelAt s us (j / 2))))) zero64)))
+        (rw (even-bit re im m s us (j / 2)) (bit-small (lt (correlation (point (getD re (j / 2) nan) (conjugated (m .conjugate) (getD im (j / 2) nan))) (psk8Of (subset (m .«tc8psk_c1_is_y») (labelAt s us (j / 2))))) zero64)))
     go (suc zero) e =
         let q : j ≡ 2 * (j / 2) + 1 = omega arith in
         subst (λ (y : ℕ). pieceBit «Tc8psk2_3» re im m s us y < 2) (sym q) (rw (odd-bit re im m s us (j / 2)) (h (j / 2) (omega arith)))
@@ -124,7 +124,7 @@ module _ (re im : List Float) (m : Mapping) (s : ℕ) (us : List ℕ) where
 
   pub taken-next : (byte state i x y z c2 : ℕ) → Taken re im m s us byte state i → i < 4
       → (x ≡ output isdb 0o171 (getD us i 0 % 2) state) × (y ≡ output isdb 0o133 (getD us i 0 % 2) state) × (z ≡ moved 32 (getD us i 0 % 2) state)
-      → c2 ≡ bit (lt (correlation (point (getD re i nan) (turned (m .conjugate) (getD im i nan))) (psk8Of (subset (m .«tc8psk_c1_is_y») (2 * x + y)))) zero64)
+      → c2 ≡ bit (lt (correlation (point (getD re i nan) (conjugated (m .conjugate) (getD im i nan))) (psk8Of (subset (m .«tc8psk_c1_is_y») (2 * x + y)))) zero64)
       → (2 * (2 * byte + c2) + getD us i 0 < 256) × Taken re im m s us (2 * (2 * byte + c2) + getD us i 0) z (i + 1)
   unfolding stateAt
   taken-next byte state i x y z c2 t h en ec =
@@ -137,7 +137,7 @@ module _ (re im : List Float) (m : Mapping) (s : ℕ) (us : List ℕ) where
       let lab = label-is x y (u % 2) state (en .0) (en .1) ∙ ap (λ (a : ℕ). label isdb a state) v in
       let z-is = en .2 in
       let hs = t .small in
-      let c2-small : c2 < 2 = rw ec (bit-small (lt (correlation (point (getD re i nan) (turned (m .conjugate) (getD im i nan))) (psk8Of (subset (m .«tc8psk_c1_is_y») (2 * x + y)))) zero64)) in (
+      let c2-small : c2 < 2 = rw ec (bit-small (lt (correlation (point (getD re i nan) (conjugated (m .conjugate) (getD im i nan))) (psk8Of (subset (m .«tc8psk_c1_is_y») (2 * x + y)))) zero64)) in (
         omega arith,
         record {
           done = omega arith;

@@ -19,7 +19,7 @@ ghost use Rattle.isdbs_combination.specs.declared.Combination.{Combination};
 ghost use Rattle.isdbs_combination.specs.declared.Combination.the-variants.{«Tc8psk2_3»};
 ghost use Rattle.isdbs_frame.specs.Frame.{mainSymbols};
 ghost use Rattle.isdbs_runs.specs.RunsOf.{frameSteps, loadBytes, Planned};
-ghost use Rattle.isdbs_points.specs.Points.{zero64, point, turned, psk8Of, subset};
+ghost use Rattle.isdbs_points.specs.Points.{zero64, point, conjugated, psk8Of, subset};
 ghost use Rattle.isdbs_points.specs.Layout.{byteOf};
 ghost use Rattle.isdbs_metrics.specs.Reading.{correlation};
 ghost use Rattle.isdbs_metrics.specs.Steps.{Bits, pieceBit, stepsOfBytes, PackRoom};
@@ -49,7 +49,7 @@ fn plain_byte(bits: &[u8], start: u8) -> Packed
 // C2 of symbol k: on which side of 0 it lies along the point of C2 = 0 whose subset 2 X + Y names.
 fn uncoded_bit(re: &[f64], im: &[f64], m: Mapping, label: u8, k: usize) -> u8
     requires { ⌜ (label < 4) × (k < length (now re)) × (k < length (now im)) ⌝ }
-    ensures { λ r. ⌜ r ≡ bit (lt (correlation (point (getD (now (re .entry)) k nan) (turned (m .conjugate) (getD (now (im .entry)) k nan))) (psk8Of (subset (m .«tc8psk_c1_is_y») label))) zero64) ⌝ }
+    ensures { λ r. ⌜ r ≡ bit (lt (correlation (point (getD (now (re .entry)) k nan) (conjugated (m .conjugate) (getD (now (im .entry)) k nan))) (psk8Of (subset (m .«tc8psk_c1_is_y») label))) zero64) ⌝ }
 {
     let v = symbol(re, im, m.conjugate, k);
     let p = psk8_point(subset_of(m.tc8psk_c1_is_y, label));

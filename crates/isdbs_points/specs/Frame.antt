@@ -15,7 +15,7 @@ use Rattle.isdbs_combination.specs.Combinations.{modulationOf}
 use Rattle.isdbs_runs.specs.RunsOf.{frameSteps}
 use Rattle.isdbs_points.specs.declared.Cplx.{Cplx}
 use Rattle.isdbs_points.specs.declared.Mapping.{Mapping}
-use Rattle.isdbs_points.specs.Points.{point, unused, bpskOf, qpskOf, psk8Of, subset, turned}
+use Rattle.isdbs_points.specs.Points.{point, unused, bpskOf, qpskOf, psk8Of, subset, conjugated}
 use Rattle.isdbs_points.specs.Layout.{Segment, orderOf, stepsPerPeriod, atSymbol, atStep, loadBit, wordBit}
 
 -- the load's bit that enters the code at step k of a segment: "TC8PSK takes C2 uncoded, then one coded bit"
@@ -61,7 +61,7 @@ pointIn m load at g j = pointBy (modulationOf (g .combination)) m load at g j
 unfoldable pub pointAt : Table → Mapping → List ℕ → ℕ → ℕ → Cplx
 pointAt t m load s k =
     let p = atSymbol unused (pointIn m load (labelAt s (inputs t load))) t k in
-    point (p .re) (turned (m .conjugate) (p .im))
+    point (p .re) (conjugated (m .conjugate) (p .im))
 
 -- the real and the imaginary parts of its 38,976 points
 abbrev pub frameRe : Table → Mapping → List ℕ → ℕ → List Float

@@ -11,7 +11,7 @@ use Rattle.isdbs_combination.specs.declared.Modulation.the-variants.{Bpsk, Qpsk
 use Rattle.isdbs_combination.specs.Combinations.{modulationOf}
 use Rattle.isdbs_points.specs.declared.Cplx.{Cplx}
 use Rattle.isdbs_points.specs.declared.Mapping.{Mapping}
-use Rattle.isdbs_points.specs.Points.{point, turned}
+use Rattle.isdbs_points.specs.Points.{point, conjugated}
 use Rattle.isdbs_points.specs.Layout.{Segment, orderOf, stepsPerPeriod}
 use Rattle.isdbs_points.specs.Frame.{inputIn, labelAt}
 
@@ -42,4 +42,4 @@ pieceSymbols c n = symbolsBy (modulationOf c) c n
 
 -- a point as the mapping leaves it: "`conjugate` negates every imaginary part"
 abbrev pub mapped : Mapping → Cplx → Cplx
-mapped m p = point (p .re) (turned (m .conjugate) (p .im))
+mapped m p = point (p .re) (conjugated (m .conjugate) (p .im))

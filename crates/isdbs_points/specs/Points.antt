@@ -53,5 +53,5 @@ abbrev pub subset : Bool → ℕ → ℕ
 subset c1IsY l = cond c1IsY (2 * (l % 2) + l / 2) l
 
 -- "`conjugate` negates every imaginary part"
-abbrev pub turned : Bool → Float → Float
-turned conjugate y = cond conjugate (neg y) y
+abbrev pub conjugated : Bool → Float → Float
+conjugated conjugate y = cond conjugate (neg y) y

@@ -7,7 +7,7 @@ ghost use mathlib.Core.Path.{_≡_};
 ghost use mathlib.Core.Bool.{true, false};
 ghost use Prim.Native.Nat.{_%_, _<_};
 ghost use Rattle.trellis.specs.Step.{term};
-ghost use Rattle.isdbs_points.specs.Points.{psk8Of, qpskOf, subset, turned};
+ghost use Rattle.isdbs_points.specs.Points.{psk8Of, qpskOf, subset, conjugated};
 ghost use Rattle.isdbs_points.specs.Layout.{wordBit};
 ghost use Rattle.isdbs_points.specs.Frame.{stateAfter, startState};
 
@@ -102,7 +102,7 @@ pub fn qpsk_mapped(p1_on_q: bool, p1: u8, p0: u8) -> Cplx
 
 // The imaginary part, negated where the mapping says so.
 pub fn mirror(conjugate: bool, y: f64) -> f64
-    ensures { λ r. ⌜ r ≡ turned conjugate y ⌝ }
+    ensures { λ r. ⌜ r ≡ conjugated conjugate y ⌝ }
 {
     if conjugate { -y } else { y }
 }

@@ -10,7 +10,6 @@ pub use isdbs_judge::SLOT_SYMBOLS;
 use isdbs_judge::count_outside;
 pub use isdbs_points::Mapping;
 use isdbs_points::start_state;
-use margin_test::accepted;
 use refusal::Answer;
 ghost use mathlib.Core.Path.{_≡_};
 ghost use Prim.Native.Nat.{_≤_};

@@ -27,7 +27,7 @@ fn between(a: f64, b: f64, x: f64) -> bool
 }
 
 // Finite and within the limit of a part.
-pub fn accepted(x: f64) -> bool
+fn accepted(x: f64) -> bool
     ensures { λ r. ⌜ r ≡ anyAccepted x ⌝ }
 {
     between(-PART_LIMIT, PART_LIMIT, x)

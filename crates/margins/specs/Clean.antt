@@ -1,4 +1,4 @@
--- The clean parts of points, and laws of their margins: a margin mirrors with its clean part (`turned-keeps`), holds the clean part itself (`clean-within`),
+-- The clean parts of points, and laws of their margins: a margin mirrors with its clean part (`conjugated-keeps`), holds the clean part itself (`clean-within`),
 -- and lies within what every part may be (`keeps-accepted`). Assumes nothing.
 use mathlib.Core.Path.{_≡_, refl, subst}
 use mathlib.Core.Bool.{Bool, true, false, not, cond}
@@ -10,7 +10,7 @@ use lib.Ieee.Fits.{and-l, and-r, and-i}
 use lib.Ieee.Scale.{finite}
 use Rattle.ieee.specs.ConversionLaws.{le-neg}
 use Rattle.trellis.specs.Step.{term}
-use Rattle.isdbs_points.specs.Points.{zero64, one64, root64, psk8Of, turned}
+use Rattle.isdbs_points.specs.Points.{zero64, one64, root64, psk8Of, conjugated}
 use Rattle.margin_ends.specs.Ends.{near0, low1, high1, lowRoot, highRoot}
 use Rattle.isdbs_phy.specs.DecodeRows.{partLimit}
 use Rattle.margins.specs.Margins.{keeps, between, anyAccepted}
@@ -39,8 +39,8 @@ turn-clean : (s : Bool) (y : Float) → Clean y → Clean (cond s (neg y) y)
 turn-clean true y c = clean-neg y c
 turn-clean false y c = c
 
-pub turned-clean : (w : Bool) (y : Float) → Clean y → Clean (turned w y)
-turned-clean w y c = turn-clean w y c
+pub conjugated-clean : (w : Bool) (y : Float) → Clean y → Clean (conjugated w y)
+conjugated-clean w y c = turn-clean w y c
 
 pub term-clean : (b : ℕ) (y : Float) → Clean y → Clean (term b y)
 term-clean b y c = turn-clean (eqb b 1) y c
@@ -124,9 +124,9 @@ mirrored y x clean-minus-one t = mirror low1 high1 x t
 mirrored y x clean-root t = mirror (neg highRoot) (neg lowRoot) x t
 mirrored y x clean-minus-root t = mirror lowRoot highRoot x t
 
-pub turned-keeps : (w : Bool) (y x : Float) → Clean y → T (keeps (turned w y) x) → T (keeps y (turned w x))
-turned-keeps true y x c t = mirrored y x c t
-turned-keeps false y x c t = t
+pub conjugated-keeps : (w : Bool) (y x : Float) → Clean y → T (keeps (conjugated w y) x) → T (keeps y (conjugated w x))
+conjugated-keeps true y x c t = mirrored y x c t
+conjugated-keeps false y x c t = t
 
 -- ---- a margin is not empty
 pub clean-within : (y : Float) → Clean y → T (keeps y y)

@@ -12,7 +12,7 @@ use Rattle.isdbs_tables.specs.declared.Table.{Table}
 use Rattle.isdbs_combination.specs.Combinations.{modulationOf}
 use Rattle.isdbs_points.specs.declared.Cplx.{Cplx}
 use Rattle.isdbs_points.specs.declared.Mapping.{Mapping}
-use Rattle.isdbs_points.specs.Points.{one64, root64, unused, qpskOf, psk8Of, subset, turned}
+use Rattle.isdbs_points.specs.Points.{one64, root64, unused, qpskOf, psk8Of, subset, conjugated}
 use Rattle.isdbs_points.specs.Layout.{Segment, segments, atSymbol, loadBit}
 use Rattle.isdbs_points.specs.Frame.{inputs, labelAt, sentBit, pointBy, pointIn, pointAt}
 use Rattle.isdbs_points.specs.Places.{among-all}
@@ -60,9 +60,9 @@ psk8-number (suc (suc (suc (suc (suc (suc zero)))))) = ((refl, refl), (refl, ref
 psk8-number (suc (suc (suc (suc (suc (suc (suc zero))))))) = ((refl, refl), (refl, refl))
 psk8-number (suc (suc (suc (suc (suc (suc (suc (suc l)))))))) = ((refl, refl), (refl, refl))
 
-turned-number : (conjugate : Bool) (y : Float) → Number y → ne (turned conjugate y) (turned conjugate y) ≡ false
-turned-number true y h = h .1
-turned-number false y h = h .0
+conjugated-number : (conjugate : Bool) (y : Float) → Number y → ne (conjugated conjugate y) (conjugated conjugate y) ≡ false
+conjugated-number true y h = h .1
+conjugated-number false y h = h .0
 
 module _ (t : Table) (m : Mapping) (load : List ℕ) (s : ℕ) where
   abbrev at : ℕ → ℕ
@@ -79,4 +79,4 @@ module _ (t : Table) (m : Mapping) (load : List ℕ) (s : ℕ) where
   point-number k =
       let p = atSymbol unused (pointIn m load at) t k in
       let n : NumberPoint p = among-all NumberPoint (λ g. g .symbol) (λ g. g .symbols) unused (pointIn m load at) zero-number (λ g j. by-number (modulationOf (g .combination)) g j) (segments t) k in
-      (n .0 .0, turned-number (m .conjugate) (p .im) (n .1))
+      (n .0 .0, conjugated-number (m .conjugate) (p .im) (n .1))

@@ -23,34 +23,34 @@ use Rattle.strain_window.specs.History as history
 use Rattle.strain_window.specs.History.{Starts, Run, lastOf, Afresh}
 
 -- ---- a list read from a place on, and then from the front
-abbrev turned : ℕ → List ℕ → List ℕ
-turned n l = drop n l ++ take n l
+abbrev rotated : ℕ → List ℕ → List ℕ
+rotated n l = drop n l ++ take n l
 
-turned-zero : (l : List ℕ) → turned 0 l ≡ l
-turned-zero l = append-nil l
+rotated-zero : (l : List ℕ) → rotated 0 l ≡ l
+rotated-zero l = append-nil l
 
-turned-whole : (n : ℕ) (l : List ℕ) → n ≡ length l → turned n l ≡ l
-turned-whole n l e = rw (e, drop-length l, take-length l) refl
+rotated-whole : (n : ℕ) (l : List ℕ) → n ≡ length l → rotated n l ≡ l
+rotated-whole n l e = rw (e, drop-length l, take-length l) refl
 
-total-turned : (n : ℕ) (l : List ℕ) → totalOf (turned n l) ≡ totalOf l
-total-turned n l =
+total-rotated : (n : ℕ) (l : List ℕ) → totalOf (rotated n l) ≡ totalOf l
+total-rotated n l =
     total-append (drop n l) (take n l) ∙ add-comm (totalOf (drop n l)) (totalOf (take n l)) ∙ sym (total-append (take n l) (drop n l)) ∙ ap totalOf (take-append-drop n l)
 
-greatest-turned : (n : ℕ) (l : List ℕ) → greatestOf (turned n l) ≡ greatestOf l
-greatest-turned n l =
+greatest-rotated : (n : ℕ) (l : List ℕ) → greatestOf (rotated n l) ≡ greatestOf l
+greatest-rotated n l =
     greatest-append (drop n l) (take n l) ∙ max-comm (greatestOf (drop n l)) (greatestOf (take n l)) ∙ sym (greatest-append (take n l) (drop n l))
     ∙ ap greatestOf (take-append-drop n l)
 
 -- one place set, and read from the place behind it on: the old one is gone and the new one is last
-turned-set : (n x : ℕ) (l : List ℕ) → n < length l → turned (suc n) (set l n x) ≡ drop 1 (turned n l) ++ (x ∷ [])
-turned-set n x l h =
+rotated-set : (n x : ℕ) (l : List ℕ) → n < length l → rotated (suc n) (set l n x) ≡ drop 1 (rotated n l) ++ (x ∷ [])
+rotated-set n x l h =
     rw (drop-set-lt (suc n) l n x (omega arith), take-suc-set l n x h, drop-cons l n 0 h) (sym (append-assoc (drop (suc n) l) (take n l) (x ∷ [])))
 
 -- the place after the last is the front
-turned-mod : (n w : ℕ) (l : List ℕ) → 1 ≤ w → n ≤ w → (n ≡ w → length l ≡ w) → turned (n % w) l ≡ turned n l
-turned-mod n w l one h whole =
+rotated-mod : (n w : ℕ) (l : List ℕ) → 1 ≤ w → n ≤ w → (n ≡ w → length l ≡ w) → rotated (n % w) l ≡ rotated n l
+rotated-mod n w l one h whole =
     ⊎-elim
-    (λ e. let z : n % w ≡ 0 = rw e (mod-self w) in rw z (turned-zero l ∙ sym (turned-whole n l (e ∙ sym (whole e)))))
+    (λ e. let z : n % w ≡ 0 = rw e (mod-self w) in rw z (rotated-zero l ∙ sym (rotated-whole n l (e ∙ sym (whole e)))))
     (λ g. rw (mod-eq-of-lt {n = n} {m = w} g) refl)
     (eq-or-lt-of-le h)
 
@@ -69,7 +69,7 @@ pub record Held (w : ℕ) (v : WindowState) (kept h : List ℕ) : Type 0 where
   pub window-is : v .window ≡ w
   pub fill-is : v .fill ≡ min w (length h)
   pub next-is : v .next ≡ length h % w
-  pub order : lastOf w h ≡ turned (v .next) (keptSums v kept)
+  pub order : lastOf w h ≡ rotated (v .next) (keptSums v kept)
 
 -- an accepted push was allowed
 pub call-allowed : {v : WindowState} {clear : Bool} {sum : ℕ} {lent kept : List ℕ} {r : Pushed} → Called v clear sum lent r kept → r .answer ≡ Accepted → Allowed v sum lent
@@ -96,7 +96,7 @@ begins w clear v sum lent e st ok =
       window-is = e;
       fill-is = a .0 ∙ omega arith;
       next-is = n;
-      order = rw (a .2, n) (last-all w (sum ∷ []) (omega arith) ∙ sym (turned-mod 1 w (sum ∷ []) (omega arith) (omega arith) (λ f. f) ∙ turned-whole 1 (sum ∷ []) refl));
+      order = rw (a .2, n) (last-all w (sum ∷ []) (omega arith) ∙ sym (rotated-mod 1 w (sum ∷ []) (omega arith) (omega arith) (λ f. f) ∙ rotated-whole 1 (sum ∷ []) refl));
     }
 
 -- a later push that does not clear
@@ -110,13 +110,13 @@ module _ (w : ℕ) (v : WindowState) (sum : ℕ) (left lent h : List ℕ) (i : H
   longer : length (h ++ (sum ∷ [])) ≡ length h + 1
   longer = length-append h (sum ∷ [])
 
-  sums : lastOf w h ≡ turned (v .next) (keptSums v lent)
+  sums : lastOf w h ≡ rotated (v .next) (keptSums v lent)
   sums = rw same (i .order)
 
   next-after : (v .next + 1) % v .window ≡ (v .next + 1) % w
   next-after = rw (i .window-is) refl
 
-  full : v .fill ≡ v .window → lastOf w (h ++ (sum ∷ [])) ≡ turned ((v .next + 1) % v .window) (nextSums false v sum lent)
+  full : v .fill ≡ v .window → lastOf w (h ++ (sum ∷ [])) ≡ rotated ((v .next + 1) % v .window) (nextSums false v sum lent)
   full e =
       let f = i .fill-is in
       let n = i .window-is in
@@ -124,10 +124,10 @@ module _ (w : ℕ) (v : WindowState) (sum : ℕ) (left lent h : List ℕ) (i : H
       let k = kept-length in
       let l : length (set (keptSums v lent) (v .next) sum) ≡ w = length-set (keptSums v lent) (v .next) sum ∙ omega arith in
       rw (after-full v sum lent (ok .state-sound) (ok .room) e, next-after)
-      (last-more w sum h one (omega arith) ∙ ap (λ (l : List ℕ). drop 1 l ++ (sum ∷ [])) sums ∙ sym (turned-set (v .next) sum (keptSums v lent) (omega arith))
-      ∙ sym (turned-mod (v .next + 1) w (set (keptSums v lent) (v .next) sum) one (omega arith) (λ g. l) ∙ rw (add-one (v .next)) refl))
+      (last-more w sum h one (omega arith) ∙ ap (λ (l : List ℕ). drop 1 l ++ (sum ∷ [])) sums ∙ sym (rotated-set (v .next) sum (keptSums v lent) (omega arith))
+      ∙ sym (rotated-mod (v .next + 1) w (set (keptSums v lent) (v .next) sum) one (omega arith) (λ g. l) ∙ rw (add-one (v .next)) refl))
 
-  growing : v .fill < v .window → lastOf w (h ++ (sum ∷ [])) ≡ turned ((v .next + 1) % v .window) (nextSums false v sum lent)
+  growing : v .fill < v .window → lastOf w (h ++ (sum ∷ [])) ≡ rotated ((v .next + 1) % v .window) (nextSums false v sum lent)
   growing g =
       let f = i .fill-is in
       let n = i .window-is in
@@ -135,10 +135,10 @@ module _ (w : ℕ) (v : WindowState) (sum : ℕ) (left lent h : List ℕ) (i : H
       let q = ok .state-sound .level g in
       let m = longer in
       let l : length (keptSums v lent ++ (sum ∷ [])) ≡ v .next + 1 = length-append (keptSums v lent) (sum ∷ []) ∙ omega arith in
-      let all : h ≡ keptSums v lent = sym (last-all w h (omega arith)) ∙ sums ∙ turned-whole (v .next) (keptSums v lent) (omega arith) in
+      let all : h ≡ keptSums v lent = sym (last-all w h (omega arith)) ∙ sums ∙ rotated-whole (v .next) (keptSums v lent) (omega arith) in
       rw (after-room v sum lent (ok .state-sound) (ok .room) g, next-after)
       (last-all w (h ++ (sum ∷ [])) (omega arith) ∙ ap (λ (l : List ℕ). l ++ (sum ∷ [])) all
-      ∙ sym (turned-mod (v .next + 1) w (keptSums v lent ++ (sum ∷ [])) one (omega arith) (λ z. l ∙ z) ∙ turned-whole (v .next + 1) (keptSums v lent ++ (sum ∷ [])) (sym l)))
+      ∙ sym (rotated-mod (v .next + 1) w (keptSums v lent ++ (sum ∷ [])) one (omega arith) (λ z. l ∙ z) ∙ rotated-whole (v .next + 1) (keptSums v lent ++ (sum ∷ [])) (sym l)))
 
   goes-on : Held w (moved false v) (set lent (v .next) sum) (h ++ (sum ∷ []))
   goes-on =
@@ -172,8 +172,8 @@ held {w} (history.refused n memory run same c not) =
 told : {w : ℕ} {v : WindowState} {clear : Bool} {sum : ℕ} {lent kept h : List ℕ} {r : Pushed} → Held w (r .state) kept h → Pushes v clear sum r lent kept → Afresh w h r
 told {w} {v} {clear} {sum} {lent} {kept} {h} {r} i p =
     record {
-      total-is = p .total-is ∙ rw (i .order, total-turned (r .state .next) (keptSums (r .state) kept), p .state-is) refl;
-      greatest-is = p .greatest-is ∙ rw (i .order, greatest-turned (r .state .next) (keptSums (r .state) kept), p .state-is) refl;
+      total-is = p .total-is ∙ rw (i .order, total-rotated (r .state .next) (keptSums (r .state) kept), p .state-is) refl;
+      greatest-is = p .greatest-is ∙ rw (i .order, greatest-rotated (r .state .next) (keptSums (r .state) kept), p .state-is) refl;
       window-is = i .window-is;
       fill-is = i .fill-is;
       next-is = i .next-is;

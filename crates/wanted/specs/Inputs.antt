@@ -24,7 +24,7 @@ use Rattle.isdbs_tables.specs.Tables.{TableAccepted}
 use Rattle.isdbs_runs.specs.RunsOf.{frameSteps}
 use Rattle.isdbs_points.specs.declared.Cplx.{Cplx}
 use Rattle.isdbs_points.specs.declared.Mapping.{Mapping}
-use Rattle.isdbs_points.specs.Points.{point, unused, subset, turned}
+use Rattle.isdbs_points.specs.Points.{point, unused, subset, conjugated}
 use Rattle.isdbs_points.specs.Layout.{Segment, segments, orderOf, stepsPerPeriod, placeIn, atStep, loadBit, In}
 use Rattle.isdbs_points.specs.Frame.{inputs, labelAt, codedBit, sentBit, pointBy, pointIn, pointAt, startState}
 use Rattle.isdbs_points.specs.Sizes.{table-whole, symbol-fits, at-symbol, at-step, find-step}
@@ -86,14 +86,14 @@ module _ (t : Table) (ok : TableAccepted t) (m : Mapping) (first : Bool) (re im 
     c = g .combination
 
     -- symbol j of a segment as it is read
-    shown-at : (j : ℕ) → j < g .symbols → z (g .symbol + j) ≡ point (pointIn m load at g j .re) (turned (m .conjugate) (turned (m .conjugate) (pointIn m load at g j .im)))
+    shown-at : (j : ℕ) → j < g .symbols → z (g .symbol + j) ≡ point (pointIn m load at g j .re) (conjugated (m .conjugate) (conjugated (m .conjugate) (pointIn m load at g j .im)))
     unfolding pointAt
     shown-at j l =
         let f = symbol-fits t ok g i j l in
         rw (re-at t m first re im load e (g .symbol + j) f, im-at t m first re im load e (g .symbol + j) f, at-symbol t unused (pointIn m load at) g i j l)
 
-    shown-by : (md : Modulation) → modulationOf c ≡ md → (j : ℕ) → j < g .symbols → z (g .symbol + j) ≡ point (pointBy md m load at g j .re) (turned (m .conjugate) (turned (m .conjugate) (pointBy md m load at g j .im)))
-    shown-by md q j l = subst (λ (x : Modulation). z (g .symbol + j) ≡ point (pointBy x m load at g j .re) (turned (m .conjugate) (turned (m .conjugate) (pointBy x m load at g j .im)))) q (shown-at j l)
+    shown-by : (md : Modulation) → modulationOf c ≡ md → (j : ℕ) → j < g .symbols → z (g .symbol + j) ≡ point (pointBy md m load at g j .re) (conjugated (m .conjugate) (conjugated (m .conjugate) (pointBy md m load at g j .im)))
+    shown-by md q j l = subst (λ (x : Modulation). z (g .symbol + j) ≡ point (pointBy x m load at g j .re) (conjugated (m .conjugate) (conjugated (m .conjugate) (pointBy x m load at g j .im)))) q (shown-at j l)
 
     -- ---- BPSK and QPSK
     label-small : (k : ℕ) → at k < 4

@@ -16,7 +16,7 @@ use Rattle.isdbs_combination.specs.Combinations.{modulationOf}
 use Rattle.isdbs_runs.specs.RunsOf.{loadBytes}
 use Rattle.isdbs_points.specs.declared.Cplx.{Cplx}
 use Rattle.isdbs_points.specs.declared.Mapping.{Mapping}
-use Rattle.isdbs_points.specs.Points.{point, zero64, subset, turned}
+use Rattle.isdbs_points.specs.Points.{point, zero64, subset, conjugated}
 use Rattle.isdbs_points.specs.Layout.{Segment, orderOf, placeIn, atStep, atBit, byteOf}
 use Rattle.isdbs_points.specs.Frame.{codedBit, startState}
 use Rattle.isdbs_points.specs.Order.{mother, number}
@@ -24,7 +24,7 @@ use Rattle.isdbs_metrics.specs.Reading.{partOf}
 
 -- point k of the lent parts, its conjugation undone
 abbrev pub shown : Mapping → List Float → List Float → ℕ → Cplx
-shown m re im k = point (getD re k nan) (turned (m .conjugate) (getD im k nan))
+shown m re im k = point (getD re k nan) (conjugated (m .conjugate) (getD im k nan))
 
 -- ---- the bits of a point
 -- the bit of a BPSK or QPSK part: 1 below 0

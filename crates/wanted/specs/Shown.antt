@@ -10,7 +10,7 @@ use Rattle.trellis.specs.Code.{Code, isdb, stage, output, label}
 use Rattle.trellis.specs.Step.{term}
 use Rattle.trellis.specs.ListLaws.{every, every-at}
 use Rattle.isdbs_points.specs.declared.Cplx.{Cplx}
-use Rattle.isdbs_points.specs.Points.{point, zero64, one64, root64, psk8Of, qpskOf, turned}
+use Rattle.isdbs_points.specs.Points.{point, zero64, one64, root64, psk8Of, qpskOf, conjugated}
 use Rattle.isdbs_points.specs.Frame.{codedBit}
 use Rattle.isdbs_metrics.specs.Reading.{partOf}
 use Rattle.wanted.specs.ReadOff.{hard, bySign, psk8Label}
@@ -53,34 +53,34 @@ hard-root zero h = refl
 hard-root (suc zero) h = refl
 hard-root (suc (suc b)) h = absurd (omega arith)
 
-hard-turned : (w : Bool) (b : ℕ) → b < 2 → hard (turned w (turned w (term b root64))) ≡ b
+hard-conjugated : (w : Bool) (b : ℕ) → b < 2 → hard (conjugated w (conjugated w (term b root64))) ≡ b
 unfolding lt neg ofBits
-hard-turned false b h = hard-root b h
-hard-turned true zero h = refl
-hard-turned true (suc zero) h = refl
-hard-turned true (suc (suc b)) h = absurd (omega arith)
+hard-conjugated false b h = hard-root b h
+hard-conjugated true zero h = refl
+hard-conjugated true (suc zero) h = refl
+hard-conjugated true (suc (suc b)) h = absurd (omega arith)
 
 pub hard-part : (reverse w : Bool) (p1 p0 : ℕ) → p1 < 2 → p0 < 2 → (h : ℕ) → h < 2
-    → hard (partOf reverse (point (qpskOf reverse p1 p0 .re) (turned w (turned w (qpskOf reverse p1 p0 .im)))) h) ≡ cond (eqb h 0) p1 p0
-hard-part true w p1 p0 a b zero h = hard-turned w p1 a
+    → hard (partOf reverse (point (qpskOf reverse p1 p0 .re) (conjugated w (conjugated w (qpskOf reverse p1 p0 .im)))) h) ≡ cond (eqb h 0) p1 p0
+hard-part true w p1 p0 a b zero h = hard-conjugated w p1 a
 hard-part true w p1 p0 a b (suc zero) h = hard-root p0 b
 hard-part true w p1 p0 a b (suc (suc n)) h = absurd (omega arith)
 hard-part false w p1 p0 a b zero h = hard-root p1 a
-hard-part false w p1 p0 a b (suc zero) h = hard-turned w p0 b
+hard-part false w p1 p0 a b (suc zero) h = hard-conjugated w p0 b
 hard-part false w p1 p0 a b (suc (suc n)) h = absurd (omega arith)
 
 -- ---- an 8PSK point gives back its label
 label-test : Bool → ℕ → Bool
-label-test w l = eqb (psk8Label (point (psk8Of l .re) (turned w (turned w (psk8Of l .im))))) l
+label-test w l = eqb (psk8Label (point (psk8Of l .re) (conjugated w (conjugated w (psk8Of l .im))))) l
 
 label-passes : (w : Bool) → T (every (label-test w) 8)
 unfolding every label-test psk8Label lt neg ofBits
 label-passes true = tt
 label-passes false = tt
 
-pub label-back : (w : Bool) (l : ℕ) → l < 8 → psk8Label (point (psk8Of l .re) (turned w (turned w (psk8Of l .im)))) ≡ l
+pub label-back : (w : Bool) (l : ℕ) → l < 8 → psk8Label (point (psk8Of l .re) (conjugated w (conjugated w (psk8Of l .im)))) ≡ l
 unfolding label-test
-label-back w l h = eqb→eq (psk8Label (point (psk8Of l .re) (turned w (turned w (psk8Of l .im))))) l (every-at (label-test w) 8 (label-passes w) l h)
+label-back w l h = eqb→eq (psk8Label (point (psk8Of l .re) (conjugated w (conjugated w (psk8Of l .im))))) l (every-at (label-test w) 8 (label-passes w) l h)
 
 -- whatever the point is, its label has three bits
 sign-small : (a b c : ℕ) (x : Float) → a < 8 → b < 8 → c < 8 → bySign a b c x < 8

@@ -7,14 +7,14 @@ use native.Mathlib.Omega.{arith}
 use lib.ListN.{length, getD, set, length-set}
 use lib.Ieee.{Float, nan}
 use Rattle.trellis.specs.Lists.{upto, laid}
-use Rattle.isdbs_points.specs.Points.{turned}
+use Rattle.isdbs_points.specs.Points.{conjugated}
 use Rattle.isdbs_blocks.specs.Blocks.{turns}
 use Rattle.isdbs_blocks.proofs.Laws.{put-two, length-two, turns-first, turns-second}
 use Rattle.isdbs_blocks.proofs.by_turns.Statement.{statement}
 use Rattle.isdbs_blocks.proofs.by_turns.Tie as tie
 
 abbrev Inv-loop : tie.InvT-loop
-Inv-loop a turn-a b turn-b from n parts₀ i₀ parts i = (i ≤ n) × (length parts ≡ length parts₀) × (parts ≡ laid (upto (turns (λ k. turned turn-a (getD a (from + k) nan)) (λ k. turned turn-b (getD b (from + k) nan))) (2 * i)) parts₀)
+Inv-loop a turn-a b turn-b from n parts₀ i₀ parts i = (i ≤ n) × (length parts ≡ length parts₀) × (parts ≡ laid (upto (turns (λ k. conjugated turn-a (getD a (from + k) nan)) (λ k. conjugated turn-b (getD b (from + k) nan))) (2 * i)) parts₀)
 
 abbrev μ-loop : tie.MeasureT-loop
 μ-loop a turn-a b turn-b from n parts₀ i₀ parts i = n - i
@@ -81,8 +81,8 @@ loop-again c =
     let h = at .inv in
     let room = st .pre .2 in
     let inside = c .before .before .before .before .loop-test .taken in
-    let f : ℕ → Float = λ k. turned (st .args .turn-a) (getD (st .args .a .now) (st .args .from + k) nan) in
-    let g : ℕ → Float = λ k. turned (st .args .turn-b) (getD (st .args .b .now) (st .args .from + k) nan) in (
+    let f : ℕ → Float = λ k. conjugated (st .args .turn-a) (getD (st .args .a .now) (st .args .from + k) nan) in
+    let g : ℕ → Float = λ k. conjugated (st .args .turn-b) (getD (st .args .b .now) (st .args .from + k) nan) in (
       omega arith,
       length-two (at .parts) (2 * at .i) (2 * at .i + 1) _ _ ∙ h .1,
       put-two (turns f g) (at .i) _ _ (at .parts) (st .args .parts .now) (omega arith) (h .2) (c .before .before .mirror .ensures ∙ sym (turns-first f g (at .i))) (c .mirror2 .ensures ∙ sym (turns-second f g (at .i))),

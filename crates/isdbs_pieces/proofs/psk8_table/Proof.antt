@@ -7,7 +7,7 @@ use Prim.Native.Nat.{_+_, _*_, _-_, _/_, _%_, _≤_}
 use lib.Ieee.{nan}
 use lib.ListN.{length, length-set}
 use Rattle.isdbs_points.specs.declared.Cplx.{Cplx}
-use Rattle.isdbs_points.specs.Points.{psk8Of, subset, turned}
+use Rattle.isdbs_points.specs.Points.{psk8Of, subset, conjugated}
 use Rattle.isdbs_pieces.specs.Encoded.{psk8Label}
 use Rattle.isdbs_pieces.proofs.Written.{Written, written-more}
 use Rattle.isdbs_pieces.proofs.psk8_table.Statement.{statement}
@@ -76,7 +76,7 @@ loop-again c =
       length-set (c .before .before .before .before .loop .re) l re ∙ inv .1,
       length-set (c .before .before .before .before .loop .im) l im ∙ inv .2,
       written-more nan (λ i. psk8Label m i .re) l (c .before .before .before .before .loop .re) re (omega arith) (inv .3) (ap (λ (z : Cplx). z .re) p),
-      written-more nan (λ i. psk8Label m i .im) l (c .before .before .before .before .loop .im) im (omega arith) (inv .4) (c .mirror .ensures ∙ ap (λ (z : Cplx). turned (m .conjugate) (z .im)) p),
+      written-more nan (λ i. psk8Label m i .im) l (c .before .before .before .before .loop .im) im (omega arith) (inv .4) (c .mirror .ensures ∙ ap (λ (z : Cplx). conjugated (m .conjugate) (z .im)) p),
     )
 
 returns : tie.Need-returns Inv-loop μ-loop

@@ -7,7 +7,7 @@ use Prim.Native.Nat.{_-_, _/_, _%_, _≤_}
 use lib.Ieee.{nan}
 use lib.ListN.{length, length-set}
 use Rattle.isdbs_points.specs.declared.Cplx.{Cplx}
-use Rattle.isdbs_points.specs.Points.{qpskOf, turned}
+use Rattle.isdbs_points.specs.Points.{qpskOf, conjugated}
 use Rattle.isdbs_pieces.specs.Encoded.{qpskLabel}
 use Rattle.isdbs_pieces.proofs.Written.{Written, written-more}
 use Rattle.isdbs_pieces.proofs.qpsk_table.Statement.{statement}
@@ -66,7 +66,7 @@ loop-again c =
       length-set (c .before .before .before .loop .re) l re ∙ inv .1,
       length-set (c .before .before .before .loop .im) l im ∙ inv .2,
       written-more nan (λ i. qpskLabel m i .re) l (c .before .before .before .loop .re) re (omega arith) (inv .3) (ap (λ (z : Cplx). z .re) p),
-      written-more nan (λ i. qpskLabel m i .im) l (c .before .before .before .loop .im) im (omega arith) (inv .4) (c .mirror .ensures ∙ ap (λ (z : Cplx). turned (m .conjugate) (z .im)) p),
+      written-more nan (λ i. qpskLabel m i .im) l (c .before .before .before .loop .im) im (omega arith) (inv .4) (c .mirror .ensures ∙ ap (λ (z : Cplx). conjugated (m .conjugate) (z .im)) p),
     )
 
 returns : tie.Need-returns Inv-loop μ-loop

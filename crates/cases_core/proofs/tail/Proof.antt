@@ -1,0 +1,62 @@
+-- `tail` is safe and ends. Assumes nothing.
+use Prim.Native.Nat.{_-_, _≤_}
+use borrow.Author.Needs.{needs}
+use Rattle.cases_core.proofs.tail.Statement.{statement}
+use Rattle.cases_core.proofs.tail.Tie as tie
+
+abbrev Inv-loop : tie.InvT-loop
+Inv-loop name t bits i₀ t5 i = i ≤ 20
+
+abbrev μ-loop : tie.MeasureT-loop
+μ-loop name t bits i₀ t5 i = 20 - i
+
+text-requires : tie.Need-text-requires Inv-loop μ-loop
+text-requires c κs = search needs
+
+tail-bits-requires : tie.Need-tail-bits-requires Inv-loop μ-loop
+tail-bits-requires c κs = search needs
+
+loop-holds : tie.Need-loop-holds Inv-loop μ-loop
+loop-holds c = search needs
+
+array-read-byte : tie.Need-array-read-byte Inv-loop μ-loop
+array-read-byte c = search needs
+
+byte-requires : tie.Need-byte-requires Inv-loop μ-loop
+byte-requires c κs = search needs
+
+add-i : tie.Need-add-i Inv-loop μ-loop
+add-i c = search needs
+
+loop-less : tie.Need-loop-less Inv-loop μ-loop
+loop-less c = search needs
+
+loop-again : tie.Need-loop-again Inv-loop μ-loop
+loop-again c = search needs
+
+slice-aggregate-text : tie.Need-slice-aggregate-text Inv-loop μ-loop
+slice-aggregate-text c = search needs
+
+text-requires-2 : tie.Need-text-requires-2 Inv-loop μ-loop
+text-requires-2 c κs = search needs
+
+returns : tie.Need-returns Inv-loop μ-loop
+returns c = search needs
+
+pub tail-spec : {M : Type 1} → statement M
+tail-spec =
+    tie.close
+    (tie.spec
+    Inv-loop
+    μ-loop
+    text-requires
+    tail-bits-requires
+    loop-holds
+    array-read-byte
+    byte-requires
+    add-i
+    loop-less
+    loop-again
+    slice-aggregate-text
+    text-requires-2
+    returns)

@@ -1,0 +1,267 @@
+// A full frame whose point p holds p in its real part and -p in its imaginary part, taken apart and laid again. Place 0 has -0.0 and place 395 NaN. The slices of the frame are
+// ten points longer than it. A line for each place that the request names, for the frame laid again, and for each short slice.
+use cases_lib::one;
+use cases_lib::row;
+use cases_lib::show;
+use full_frame::lay;
+use full_frame::take_apart;
+ghost use Prim.Native.Nat.{_≤_};
+ghost use lib.ListN.{length};
+
+fn nan() -> f64 {
+    0.0 / 0.0
+}
+
+// Point p of the frame holds p and -p.
+fn fill(re: &mut [f64; 39946], im: &mut [f64; 39946]) {
+    let mut x = 0.0;
+    for p in 0..39946usize {
+        re[p] = x;
+        im[p] = -x;
+        x = x + 1.0;
+    }
+    re[395] = nan();
+    im[395] = nan();
+}
+
+// Whether two values are the same, the sign of a zero too; of a NaN, that both are one.
+fn same(a: f64, b: f64) -> usize
+    ensures { λ r. ⌜ r ≤ 1 ⌝ }
+{
+    if a == b {
+        if 1.0 / a == 1.0 / b {
+            return 1;
+        }
+        return 0;
+    }
+    if a == a {
+        return 0;
+    }
+    if b == b {
+        return 0;
+    }
+    1
+}
+
+// How many of the 39,946 places are the same.
+fn alike(a: &[f64; 39946], b: &[f64; 39946]) -> usize {
+    let mut n: usize = 0;
+    for p in 0..39946usize {
+        n = n + same(a[p], b[p]);
+    }
+    n
+}
+
+// Whether a point is that of a place.
+fn at(re: f64, im: f64, p: f64) -> usize {
+    one(same(re, p) + same(im, -p) == 2)
+}
+
+// The answer of taking a frame apart, and the points that the request names.
+fn show_apart(
+    answer: usize,
+    hr: &[f64; 192],
+    hi: &[f64; 192],
+    mr: &[f64; 38976],
+    mi: &[f64; 38976],
+    br: &[f64; 768],
+    bi: &[f64; 768],
+) {
+    let found = [
+        answer,
+        at(hr[0], hi[0], 0.0),
+        at(hr[191], hi[191], 191.0),
+        at(mr[0], mi[0], 192.0),
+        at(mr[202], mi[202], 394.0),
+        at(br[0], bi[0], nan()),
+        at(br[1], bi[1], 396.0),
+        at(br[2], bi[2], 397.0),
+        at(br[3], bi[3], 398.0),
+        at(mr[203], mi[203], 399.0),
+        at(mr[38975], mi[38975], 39931.0),
+        at(br[767], bi[767], 39935.0),
+    ];
+    show(
+        b"take apart: #\nheader 0 (0 and -0.0) @ its place\nheader 191 @ its place\nmain 0 @ its place\nmain 202 @ its place\nburst 0, symbol 0 (NaN) @ its place\nburst 0, symbol 1 @ its place\nburst 0, symbol 2 @ its place\nburst 0, symbol 3 @ its place\nmain 203 @ its place\nmain 38,975 @ its place\nburst 191, symbol 3 @ its place\n",
+        &found,
+    );
+}
+
+fn show_laid(answer: usize, real: usize, imaginary: usize) {
+    let found = [answer, real, imaginary];
+    show(
+        b"lay: #\nplaces alike, real #, imaginary # of 39,946, of which 10 lie past the frame\n",
+        &found,
+    );
+}
+
+// The answer of laying from the first `h` points of a header, `g` of its imaginary parts, `k` of a main signal's and `q` of the bursts into the first `o` places of an output.
+fn lay_parts(
+    hr: &[f64],
+    hi: &[f64],
+    mr: &[f64],
+    mi: &[f64],
+    br: &[f64],
+    bi: &[f64],
+    re: &mut [f64],
+    im: &mut [f64],
+    h: usize,
+    g: usize,
+    k: usize,
+    q: usize,
+    o: usize,
+) -> usize
+    requires { ⌜ (h ≤ length (now hr)) × (g ≤ length (now hi)) × (k ≤ length (now mi)) × (q ≤ length (now br)) × (o ≤ length (now im)) ⌝ }
+{
+    row(lay(
+        &hr[0..h],
+        &hi[0..g],
+        mr,
+        &mi[0..k],
+        &br[0..q],
+        bi,
+        re,
+        &mut im[0..o],
+    ))
+}
+
+// The answer of laying. Of the cases from 0 on: a header of 191 and an output of 39,935; an imaginary header of 191; a main signal of 38,975; bursts of 767; an output of 39,935; one of 39,936; one of 39,946.
+fn lay_case(
+    case: usize,
+    hr: &[f64; 192],
+    hi: &[f64; 192],
+    mr: &[f64; 38976],
+    mi: &[f64; 38976],
+    br: &[f64; 768],
+    bi: &[f64; 768],
+    re: &mut [f64; 39946],
+    im: &mut [f64; 39946],
+) -> usize {
+    let h = 192 - one(case == 0);
+    let g = 192 - one(case == 1);
+    let k = 38976 - one(case == 2);
+    let q = 768 - one(case == 3);
+    let o = 39936 + one(case == 6) * 10 - one((case == 0) | (case == 4));
+    lay_parts(hr, hi, mr, mi, br, bi, re, im, h, g, k, q, o)
+}
+
+fn show_lay(found: [usize; 6]) {
+    show(
+        b"header of 191, output of 39,935: #\nimaginary header of 191: #\nmain of 38,975: #\nbursts of 767: #\noutput of 39,935: #\noutput of 39,936: #\n",
+        &found,
+    );
+}
+
+fn refused_lay(
+    hs: &[f64; 192],
+    ms: &[f64; 38976],
+    bs: &[f64; 768],
+    re: &mut [f64; 39946],
+    im: &mut [f64; 39946],
+) {
+    let mut found = [99usize; 6];
+    for case in 0..6usize {
+        let n = lay_case(case, hs, hs, ms, ms, bs, bs, re, im);
+        found[case] = n;
+    }
+    show_lay(found);
+}
+
+// The answer of taking the first `o` places of a frame apart, into the first `h` places of a header output.
+fn take_parts(
+    re: &[f64],
+    im: &[f64],
+    hr: &mut [f64],
+    hi: &mut [f64],
+    mr: &mut [f64],
+    mi: &mut [f64],
+    br: &mut [f64],
+    bi: &mut [f64],
+    o: usize,
+    h: usize,
+) -> usize
+    requires { ⌜ (o ≤ length (now im)) × (h ≤ length (now hr)) ⌝ }
+{
+    row(take_apart(re, &im[0..o], &mut hr[0..h], hi, mr, mi, br, bi))
+}
+
+// The answer of taking a frame apart. Of the cases from 0 on: a frame of 39,935 and a header output of 191; a header output of 191; a frame of 39,936; one of 39,946.
+fn take_case(
+    case: usize,
+    re: &[f64; 39946],
+    im: &[f64; 39946],
+    hr: &mut [f64; 192],
+    hi: &mut [f64; 192],
+    mr: &mut [f64; 38976],
+    mi: &mut [f64; 38976],
+    br: &mut [f64; 768],
+    bi: &mut [f64; 768],
+) -> usize {
+    let o = 39936 + one(case == 3) * 10 - one(case == 0);
+    let h = 192 - one(case < 2);
+    take_parts(re, im, hr, hi, mr, mi, br, bi, o, h)
+}
+
+fn show_take(found: [usize; 3]) {
+    show(
+        b"frame of 39,935, header output of 191: #\nheader output of 191: #\nframe of 39,936: #\n",
+        &found,
+    );
+}
+
+fn refused_take(
+    re: &[f64; 39946],
+    im: &[f64; 39946],
+    hr: &mut [f64; 192],
+    hi: &mut [f64; 192],
+    mr: &mut [f64; 38976],
+    mi: &mut [f64; 38976],
+    br: &mut [f64; 768],
+    bi: &mut [f64; 768],
+) {
+    let mut found = [99usize; 3];
+    for case in 0..3usize {
+        let n = take_case(case, re, im, hr, hi, mr, mi, br, bi);
+        found[case] = n;
+    }
+    show_take(found);
+}
+
+fn main() {
+    let mut re = [0.0f64; 39946];
+    let mut im = [0.0f64; 39946];
+    let mut out_re = [-5.0f64; 39946];
+    let mut out_im = [5.0f64; 39946];
+    let mut hr = [7.0f64; 192];
+    let mut hi = [7.0f64; 192];
+    let mut mr = [7.0f64; 38976];
+    let mut mi = [7.0f64; 38976];
+    let mut br = [7.0f64; 768];
+    let mut bi = [7.0f64; 768];
+    fill(&mut re, &mut im);
+    let taken = take_case(
+        3,
+        &re,
+        &im,
+        &mut hr,
+        &mut hi,
+        &mut mr,
+        &mut mi,
+        &mut br,
+        &mut bi,
+    );
+    show_apart(taken, &hr, &hi, &mr, &mi, &br, &bi);
+    let laid = lay_case(6, &hr, &hi, &mr, &mi, &br, &bi, &mut out_re, &mut out_im);
+    show_laid(laid, alike(&re, &out_re), alike(&im, &out_im));
+    refused_take(
+        &re,
+        &im,
+        &mut hr,
+        &mut hi,
+        &mut mr,
+        &mut mi,
+        &mut br,
+        &mut bi,
+    );
+    refused_lay(&hr, &mr, &br, &mut re, &mut im);
+}

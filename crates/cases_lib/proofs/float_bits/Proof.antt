@@ -1,0 +1,17 @@
+-- `float_bits` meets its contract. Assumes nothing.
+use borrow.Author.Needs.{needs}
+use Rattle.ieee.specs.Bits.{number}
+use Rattle.cases_lib.proofs.float_bits.Statement.{statement}
+use Rattle.cases_lib.proofs.float_bits.Tie as tie
+
+returns : tie.Need-returns
+returns c = search needs
+
+float-to-bits-result : tie.Need-float-to-bits-result
+float-to-bits-result c = number (c .before .args .x) (c .if1 .left)
+
+returns-2 : tie.Need-returns-2
+returns-2 c = search needs
+
+pub float-bits-spec : {M : Type 1} → statement M
+float-bits-spec = tie.close (tie.spec returns float-to-bits-result returns-2)

@@ -1,0 +1,126 @@
+-- `receive` is safe and ends. Assumes nothing.
+use Prim.Native.Nat.{_-_, _≤_, _+_}
+use borrow.Author.Needs.{needs}
+use Rattle.cases_margins.proofs.receive.Statement.{statement}
+use Rattle.cases_margins.proofs.receive.Tie as tie
+
+abbrev Inv-loop : tie.InvT-loop
+Inv-loop re₀ im₀ bpsk seed x₀ k₀ n₀ re im x k n = (n ≤ k + k) × (k ≤ 38976)
+
+abbrev μ-loop : tie.MeasureT-loop
+μ-loop re₀ im₀ bpsk seed x₀ k₀ n₀ re im x k n = 38976 - k
+
+loop-holds : tie.Need-loop-holds Inv-loop μ-loop
+loop-holds c = search needs
+
+mul-is-outside : tie.Need-mul-is-outside Inv-loop μ-loop
+mul-is-outside c = search needs
+
+element-copy-out-is-outside : tie.Need-element-copy-out-is-outside Inv-loop μ-loop
+element-copy-out-is-outside c = search needs
+
+mul-is-outside-2 : tie.Need-mul-is-outside-2 Inv-loop μ-loop
+mul-is-outside-2 c = search needs
+
+element-copy-out-is-outside-2 : tie.Need-element-copy-out-is-outside-2 Inv-loop μ-loop
+element-copy-out-is-outside-2 c = search needs
+
+is-outside-requires : tie.Need-is-outside-requires Inv-loop μ-loop
+is-outside-requires c κs = search needs
+
+is-free-requires : tie.Need-is-free-requires Inv-loop μ-loop
+is-free-requires c κs = search needs
+
+step-requires : tie.Need-step-requires Inv-loop μ-loop
+step-requires c κs = search needs
+
+mul-part : tie.Need-mul-part Inv-loop μ-loop
+mul-part c = search needs
+
+element-copy-out-part : tie.Need-element-copy-out-part Inv-loop μ-loop
+element-copy-out-part c = search needs
+
+part-requires : tie.Need-part-requires Inv-loop μ-loop
+part-requires c κs = search needs
+
+mul-re : tie.Need-mul-re Inv-loop μ-loop
+mul-re c = search needs
+
+element-write-re : tie.Need-element-write-re Inv-loop μ-loop
+element-write-re c = search needs
+
+step-requires-2 : tie.Need-step-requires-2 Inv-loop μ-loop
+step-requires-2 c κs = search needs
+
+mul-part-2 : tie.Need-mul-part-2 Inv-loop μ-loop
+mul-part-2 c = search needs
+
+element-copy-out-part-2 : tie.Need-element-copy-out-part-2 Inv-loop μ-loop
+element-copy-out-part-2 c = search needs
+
+part-requires-2 : tie.Need-part-requires-2 Inv-loop μ-loop
+part-requires-2 c κs = search needs
+
+mul-im : tie.Need-mul-im Inv-loop μ-loop
+mul-im c = search needs
+
+element-write-im : tie.Need-element-write-im Inv-loop μ-loop
+element-write-im c = search needs
+
+one-requires : tie.Need-one-requires Inv-loop μ-loop
+one-requires c κs = search needs
+
+one-requires-2 : tie.Need-one-requires-2 Inv-loop μ-loop
+one-requires-2 c κs = search needs
+
+add-n : tie.Need-add-n Inv-loop μ-loop
+add-n c = search needs
+
+add-n-2 : tie.Need-add-n-2 Inv-loop μ-loop
+add-n-2 c = search needs
+
+add-k : tie.Need-add-k Inv-loop μ-loop
+add-k c = search needs
+
+loop-less : tie.Need-loop-less Inv-loop μ-loop
+loop-less c = search needs
+
+loop-again : tie.Need-loop-again Inv-loop μ-loop
+loop-again c = search needs
+
+returns : tie.Need-returns Inv-loop μ-loop
+returns c = search needs
+
+pub receive-spec : {M : Type 1} → statement M
+receive-spec =
+    tie.close
+    (tie.spec
+    Inv-loop
+    μ-loop
+    loop-holds
+    mul-is-outside
+    element-copy-out-is-outside
+    mul-is-outside-2
+    element-copy-out-is-outside-2
+    is-outside-requires
+    is-free-requires
+    step-requires
+    mul-part
+    element-copy-out-part
+    part-requires
+    mul-re
+    element-write-re
+    step-requires-2
+    mul-part-2
+    element-copy-out-part-2
+    part-requires-2
+    mul-im
+    element-write-im
+    one-requires
+    one-requires-2
+    add-n
+    add-n-2
+    add-k
+    loop-less
+    loop-again
+    returns)
