@@ -1,5 +1,5 @@
 -- Slices filled from the front, one, two or four values at a time. Assumes nothing.
-use mathlib.Core.Path.{_≡_, refl, sym, _∙_, ap}
+use mathlib.Core.Path.{_≡_, refl, _∙_, ap}
 use mathlib.Core.Bool.{true, false, cond}
 use mathlib.Core.List.{List, [], _∷_}
 use Prim.Native.Nat.{ℕ, zero, suc, _+_, _-_, _*_, _/_, _%_, _<_, _≤_}
@@ -18,7 +18,7 @@ use Rattle.isdbs_points.specs.Points.{conjugated}
 use Rattle.isdbs_soft.specs.Soft.{softOf}
 use Rattle.isdbs_metrics.specs.Steps.{qpskPart}
 use Rattle.isdbs_pack.proofs.FrameRuns.{tail-is}
-use Rattle.isdbs_blocks.specs.Blocks.{turns, fours, BlockMade}
+use Rattle.isdbs_blocks.specs.Blocks.{turns, fours}
 
 module _ {A : Type 0} where
   pub laid-at : (d : A) (f : ℕ → A) (n : ℕ) (l : List A) (i : ℕ) → i < n → getD (laid (upto f n) l) i d ≡ f i

@@ -3,10 +3,6 @@ use borrow.Author.Needs.{needs}
 use mathlib.Core.Path.{_∙_}
 use Prim.Native.Nat.{_*_}
 use Rattle.isdbs_blocks.proofs.Laws.{soft-tail}
-use borrow.Author.Needs.{needs}
-use mathlib.Core.Path.{_∙_}
-use Prim.Native.Nat.{_*_}
-use Rattle.isdbs_blocks.proofs.Laws.{soft-tail}
 use Rattle.isdbs_blocks.proofs.bpsk_softs.Statement.{statement}
 use Rattle.isdbs_blocks.proofs.bpsk_softs.Tie as tie
 

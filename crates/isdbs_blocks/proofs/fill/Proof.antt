@@ -1,10 +1,8 @@
 -- `fill` meets its contract. Assumes nothing.
 use borrow.Author.Needs.{needs}
-use mathlib.Core.Path.{_≡_, refl, sym, _∙_, ap}
-use mathlib.Core.List.{List}
-use Prim.Native.Nat.{ℕ, _+_, _*_, _/_, _≤_}
+use mathlib.Core.Path.{sym, _∙_}
 use native.Mathlib.Omega.{arith}
-use lib.ListN.{length, getD}
+use lib.ListN.{length}
 use Rattle.isdbs_blocks.proofs.Laws.{laid-long}
 use Rattle.isdbs_blocks.proofs.ByModulation.{steps-few, bpsk-room, bpsk-made, qpsk-made, tc8psk-room, tc8psk-few, tc8psk-made}
 use Rattle.isdbs_blocks.proofs.fill.Statement.{statement}

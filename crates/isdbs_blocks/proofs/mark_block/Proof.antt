@@ -1,11 +1,9 @@
 -- `mark_block` meets its contract. Assumes nothing.
 use borrow.Author.Needs.{needs}
-use mathlib.Core.Path.{_≡_, refl, sym, _∙_, ap}
-use mathlib.Core.List.{List}
-use Prim.Native.Nat.{ℕ, _+_, _-_, _*_, _<_, _≤_}
+use mathlib.Core.Path.{_≡_, refl, _∙_}
+use Prim.Native.Nat.{ℕ, _-_, _≤_}
 use native.Mathlib.Omega.{arith}
-use lib.ListN.{length, getD, set, length-set}
-use lib.Ieee.{Float, nan}
+use lib.ListN.{length, set, length-set}
 use Rattle.trellis.specs.Lists.{upto, laid}
 use Rattle.viterbi.specs.Calls.{fourSteps}
 use Rattle.strain.specs.Marks.{markOf}

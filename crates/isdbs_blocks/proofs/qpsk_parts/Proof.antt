@@ -1,20 +1,8 @@
 -- `qpsk_parts` meets its contract. Assumes nothing.
 use borrow.Author.Needs.{needs}
-use mathlib.Core.Path.{_≡_, refl, sym, _∙_, ap}
-use mathlib.Core.List.{List}
-use Prim.Native.Nat.{ℕ, _+_, _-_, _*_, _<_, _≤_}
-use native.Mathlib.Omega.{arith}
-use lib.ListN.{length, getD, set, length-set}
-use lib.Ieee.{Float, nan}
-use Rattle.trellis.specs.Lists.{upto, laid}
-use borrow.Author.Needs.{needs}
-use mathlib.Core.Path.{_≡_, refl, sym, _∙_, ap}
-use mathlib.Core.List.{List}
-use Prim.Native.Nat.{ℕ, _+_, _-_, _*_, _<_, _≤_}
-use native.Mathlib.Omega.{arith}
-use lib.ListN.{length, getD, set, length-set}
-use lib.Ieee.{Float, nan}
-use Rattle.trellis.specs.Lists.{upto, laid}
+use mathlib.Core.Path.{_∙_}
+use Prim.Native.Nat.{_-_}
+use lib.ListN.{length}
 use Rattle.isdbs_blocks.proofs.Laws.{real-first, imaginary-first}
 use Rattle.isdbs_blocks.proofs.qpsk_parts.Statement.{statement}
 use Rattle.isdbs_blocks.proofs.qpsk_parts.Tie as tie

@@ -1,14 +1,9 @@
 -- `qpsk_softs` meets its contract. Assumes nothing.
 use borrow.Author.Needs.{needs}
-use mathlib.Core.Path.{_≡_, refl, sym, _∙_, ap}
-use mathlib.Core.List.{List}
-use Prim.Native.Nat.{ℕ, _+_, _*_, _/_, _≤_}
+use mathlib.Core.Path.{_∙_}
 use native.Mathlib.Omega.{arith}
-use lib.ListN.{length, getD}
-use lib.Ieee.{Float, nan, mul, binary32}
-use Rattle.isdbs_soft.specs.Soft.{softOf}
-use Rattle.isdbs_points.specs.Layout.{orderOf, stepsPerPeriod}
-use Rattle.isdbs_metrics.specs.Steps.{qpskPart}
+use lib.ListN.{length}
+use lib.Ieee.{mul}
 use Rattle.isdbs_blocks.proofs.Laws.{laid-long}
 use Rattle.isdbs_blocks.proofs.ByModulation.{sizes, block-sizes, qpsk-spread}
 use Rattle.isdbs_blocks.proofs.qpsk_softs.Statement.{statement}

@@ -1,8 +1,6 @@
 -- `sent` meets its contract. Assumes nothing.
 use borrow.Author.Tests.{lt-ltb, le-ltb}
 use borrow.Author.Needs.{needs}
-use borrow.Author.Tests.{lt-ltb, le-ltb}
-use borrow.Author.Needs.{needs}
 use Rattle.isdbs_blocks.proofs.sent.Statement.{statement}
 use Rattle.isdbs_blocks.proofs.sent.Tie as tie
 

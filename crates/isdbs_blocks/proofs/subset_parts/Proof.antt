@@ -2,10 +2,10 @@
 use borrow.Author.Needs.{needs}
 use mathlib.Core.Path.{_≡_, refl, sym, _∙_, ap}
 use mathlib.Core.List.{List}
-use Prim.Native.Nat.{ℕ, _+_, _-_, _*_, _<_, _≤_}
+use Prim.Native.Nat.{ℕ, _+_, _-_, _*_, _≤_}
 use native.Mathlib.Omega.{arith}
-use lib.ListN.{length, getD, set, length-set}
-use lib.Ieee.{Float, nan}
+use lib.ListN.{length, set}
+use lib.Ieee.{Float}
 use Rattle.trellis.specs.Lists.{upto, laid}
 use Rattle.isdbs_blocks.specs.Blocks.{fours, subsetParts}
 use Rattle.isdbs_blocks.proofs.Laws.{put-four, length-four, fours-0, fours-1, fours-2, fours-3}

@@ -2,14 +2,13 @@
 use borrow.Author.Needs.{needs}
 use mathlib.Core.Path.{_≡_, refl, _∙_, ap}
 use mathlib.Core.List.{List, _++_}
-use Prim.Native.Nat.{ℕ, _+_, _-_, _*_, _<_, _≤_}
+use Prim.Native.Nat.{ℕ, _+_, _-_, _<_, _≤_}
 use native.Mathlib.Omega.{arith}
 use lib.Dec.{lit≤}
 use lib.ListN.{length, take, drop, length-take, length-drop}
 use Rattle.trellis.specs.Lists.{upto, laid}
 use Rattle.viterbi.specs.Count.{releases-le}
 use Rattle.isdbs_points.specs.LawsUpto.{laid-part, length-laid-upto}
-use Rattle.isdbs_points.specs.Layout.{stepsPerPeriod}
 use Rattle.isdbs_pack.proofs.FrameBytes.{written-tail}
 use Rattle.isdbs_blocks.specs.Blocks.{runSteps, runMark, Periods}
 use Rattle.isdbs_blocks.proofs.Periods.{short}
