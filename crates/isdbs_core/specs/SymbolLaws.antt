@@ -25,7 +25,7 @@ use Rattle.isdbs_tables.specs.declared.Table.{Table}
 use Rattle.isdbs_tables.specs.Tables.{tableAnswer, marked}
 use Rattle.isdbs_runs.specs.RunsOf.{noRun, runsOf}
 use Rattle.isdbs_runs.specs.RunLaws.{Whole}
-use Rattle.isdbs_core.specs.Symbols.{pairHolds, firstPair, symbolOfBit, markedBefore, hasSlot, runByte, byteIn, slotByteSymbol}
+use Rattle.isdbs_core.specs.Symbols.{pairHolds, firstPair, symbolOfBit, markedBefore, hasSlot, runByte, byteIn, slotByteSymbol, slotByteSaid}
 use Rattle.isdbs_core.specs.Answers.{byteSaid}
 
 step-le : (b : Bool) (n k : ℕ) → n ≤ k → cond b 0 (suc n) ≤ suc k
@@ -216,5 +216,5 @@ said-by : (b : Bool) (x : SlotByte) (a : Answer) → byteSaid (cond b x (Refused
 said-by true x a = refl
 said-by false x a = refl
 
-pub byte-said : (t : Table) (slot byte : ℕ) → byteSaid (slotByteSymbol t slot byte) ≡ cond {A = Said} (accepted (tableAnswer t)) (byteSaid (byteIn (runsOf t) slot byte)) (numberOf (tableAnswer t), [])
+pub byte-said : (t : Table) (slot byte : ℕ) → byteSaid (slotByteSymbol t slot byte) ≡ slotByteSaid t slot byte
 byte-said t slot byte = said-by (accepted (tableAnswer t)) (byteIn (runsOf t) slot byte) (tableAnswer t)

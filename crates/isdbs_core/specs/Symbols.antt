@@ -5,7 +5,7 @@ use Prim.Native.Nat.{ℕ, zero, suc, _+_, _-_, _*_, _/_, _%_}
 use lib.Dec.{leb, ltb, eqb}
 use lib.ListN.{length}
 use Rattle.refusal.specs.declared.Answer.the-variants.{Position}
-use Rattle.refusal.specs.Rows.{accepted, Row, firstRow, Said, says}
+use Rattle.refusal.specs.Rows.{accepted, Row, firstRow, Said, says, numberOf}
 use Rattle.isdbs_combination.specs.declared.Combination.{Combination}
 use Rattle.isdbs_combination.specs.declared.MaybePuncture.{MaybePuncture}
 use Rattle.isdbs_combination.specs.declared.MaybePuncture.the-variants.{Some, None}
@@ -15,6 +15,7 @@ use Rattle.isdbs_tables.specs.declared.Table.{Table}
 use Rattle.isdbs_runs.specs.declared.Run.{Run}
 use Rattle.isdbs_core.specs.declared.slots.SlotByte.{SlotByte}
 use Rattle.isdbs_core.specs.declared.slots.SlotByte.the-variants.{At, Nothing, Refused}
+use Rattle.isdbs_core.specs.Answers.{byteSaid}
 use Rattle.isdbs_frame.specs.Frame.{slotBytes, main, placeOf}
 use Rattle.isdbs_combination.specs.Combinations.{efficiencyOf, punctureOf, pairsOf, periodOf}
 use Rattle.isdbs_tables.specs.Tables.{tableAnswer, marked}
@@ -69,3 +70,7 @@ byteIn (r ∷ rs) slot byte =
 -- the answer of a byte of a slot: the rows of the table, and where none holds the place or nothing
 abbrev pub slotByteSymbol : Table → ℕ → ℕ → SlotByte
 slotByteSymbol t slot byte = cond (accepted (tableAnswer t)) (byteIn (runsOf t) slot byte) (Refused (tableAnswer t))
+
+-- its number and values: 0 and the place, 0 and none, or the table's row and none
+abbrev pub slotByteSaid : Table → ℕ → ℕ → Said
+slotByteSaid t slot byte = cond {A = Said} (accepted (tableAnswer t)) (byteSaid (byteIn (runsOf t) slot byte)) (numberOf (tableAnswer t), [])

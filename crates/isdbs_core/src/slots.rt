@@ -24,7 +24,8 @@ ghost use Rattle.isdbs_combination.specs.Combinations.{pairsOf};
 ghost use Rattle.isdbs_runs.specs.RunsOf.{RunFits};
 ghost use Rattle.isdbs_runs.specs.RunLaws.{Whole};
 ghost use Rattle.isdbs_combination.specs.Lists.{Each};
-ghost use Rattle.isdbs_core.specs.Symbols.{pairHolds, firstPair, hasSlot, symbolOfBit, bitSymbol, markedBefore, runByte, byteIn, slotByteSymbol};
+ghost use Rattle.isdbs_core.specs.Symbols.{pairHolds, firstPair, hasSlot, symbolOfBit, bitSymbol, markedBefore, runByte, byteIn, slotByteSymbol, slotByteSaid};
+ghost use Rattle.isdbs_core.specs.Answers.{byteSaid};
 
 // Information bits of a slot on air: 203 bytes.
 pub const SLOT_BITS: usize = 1_624;
@@ -144,7 +145,8 @@ fn byte_in(runs: [Run; 4], slot: usize, byte: usize) -> SlotByte
 
 // Symbol within the frame at which byte `byte` of slot `slot` starts.
 pub fn slot_byte_symbol(t: Table, slot: usize, byte: usize) -> SlotByte
-    ensures { λ r. ⌜ r ≡ slotByteSymbol t slot byte ⌝ }
+    ensures is { λ r. ⌜ r ≡ slotByteSymbol t slot byte ⌝ }
+    ensures said { λ r. ⌜ byteSaid r ≡ slotByteSaid t slot byte ⌝ }
 {
     let all = runs(t);
     let answer = all.answer;

@@ -2,16 +2,24 @@
 use Rattle.refusal.specs.RowLaws.{accepts, refuses}
 use Rattle.isdbs_runs.specs.PlanLaws.{runs-answer, runs-are, runs-in, runs-units}
 use Rattle.isdbs_runs.specs.RunsOf.{runsOf}
-use Rattle.isdbs_core.specs.SymbolLaws.{byte-padded}
-use Rattle.isdbs_core.specs.Symbols.{byteIn}
+use Rattle.isdbs_core.specs.SymbolLaws.{byte-padded, byte-said}
+use Rattle.isdbs_core.specs.Symbols.{byteIn, slotByteSymbol, slotByteSaid}
+use Rattle.isdbs_core.specs.Answers.{byteSaid}
+use Rattle.isdbs_core.specs.declared.slots.SlotByte.{SlotByte}
+use Rattle.isdbs_tables.specs.declared.Table.{Table}
+use Prim.Native.Nat.{ℕ}
 use Rattle.isdbs_tables.specs.Tables.{tableAnswer}
 use Rattle.isdbs_runs.specs.declared.Run.{Run}
 use mathlib.Core.List.{List}
 use borrow.Author.Tests.{le-ltb}
 use Rattle.isdbs_core.proofs.Bytes.{byte-none}
-use mathlib.Core.Path.{sym, _∙_, ap}
+use mathlib.Core.Path.{_≡_, sym, _∙_, ap}
 use Rattle.isdbs_core.proofs.slots.slot_byte_symbol.Statement.{statement}
 use Rattle.isdbs_core.proofs.slots.slot_byte_symbol.Tie as tie
+
+-- both clauses from the first
+with-said : (t : Table) (slot byte : ℕ) (r : SlotByte) → r ≡ slotByteSymbol t slot byte → (r ≡ slotByteSymbol t slot byte) × (byteSaid r ≡ slotByteSaid t slot byte)
+with-said t slot byte r e = (e, ap byteSaid e ∙ byte-said t slot byte)
 
 runs-requires : tie.Need-runs-requires
 runs-requires c κs = tt
@@ -26,7 +34,7 @@ returns c =
     let r = st .runs .result in
     let e = st .runs .ensures in
     let no = refuses (r .answer) (tableAnswer t) _ (runs-answer t r e) (c .before .number .ensures) (c .if1 .taken) in
-    rw (runs-answer t r e, no)
+    with-said t (st .before .args .slot) (st .before .args .byte) _ (rw (runs-answer t r e, no))
 
 returns-2 : tie.Need-returns-2
 returns-2 c =
@@ -36,7 +44,7 @@ returns-2 c =
     let e = st .runs .ensures in
     let ok = accepts (r .answer) (tableAnswer t) _ (runs-answer t r e) (c .before .before .number .ensures) (c .before .if1 .left) in
     let byte = st .before .args .byte in
-    sym (byte-none (runsOf t) (st .before .args .slot) byte (le-ltb byte 203 (c .if2 .taken))) ∙ rw ok
+    with-said t (st .before .args .slot) byte _ (sym (byte-none (runsOf t) (st .before .args .slot) byte (le-ltb byte 203 (c .if2 .taken))) ∙ rw ok)
 
 byte-in-requires : tie.Need-byte-in-requires
 byte-in-requires c κs =
@@ -56,7 +64,7 @@ returns-3 c =
     let ok = accepts (r .answer) (tableAnswer t) _ (runs-answer t r e) (c .before .before .before .before .number .ensures) (c .before .before .before .if1 .left) in
     let slot = st .before .args .slot in
     let byte = st .before .args .byte in
-    c .byte-in .ensures ∙ ap (λ (l : List Run). byteIn l slot byte) (runs-are t r e ok) ∙ byte-padded 4 (runsOf t) slot byte ∙ rw ok
+    with-said t slot byte _ (c .byte-in .ensures ∙ ap (λ (l : List Run). byteIn l slot byte) (runs-are t r e ok) ∙ byte-padded 4 (runsOf t) slot byte ∙ rw ok)
 
 pub slot-byte-symbol-spec : {M : Type 1} → statement M
 slot-byte-symbol-spec =
