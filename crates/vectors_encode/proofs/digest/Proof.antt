@@ -13,26 +13,26 @@ abbrev μ-loop : tie.MeasureT-loop
 loop-holds : tie.Need-loop-holds Inv-loop μ-loop
 loop-holds c = search needs
 
-mul-pattern-of : tie.Need-mul-pattern-of Inv-loop μ-loop
-mul-pattern-of c = search needs
+mul-double-bits : tie.Need-mul-double-bits Inv-loop μ-loop
+mul-double-bits c = search needs
 
-element-copy-out-pattern-of : tie.Need-element-copy-out-pattern-of Inv-loop μ-loop
-element-copy-out-pattern-of c = search needs
+element-copy-out-double-bits : tie.Need-element-copy-out-double-bits Inv-loop μ-loop
+element-copy-out-double-bits c = search needs
 
-pattern-of-requires : tie.Need-pattern-of-requires Inv-loop μ-loop
-pattern-of-requires c κs = search needs
+double-bits-requires : tie.Need-double-bits-requires Inv-loop μ-loop
+double-bits-requires c κs = search needs
 
 step-requires : tie.Need-step-requires Inv-loop μ-loop
 step-requires c κs = search needs
 
-mul-pattern-of-2 : tie.Need-mul-pattern-of-2 Inv-loop μ-loop
-mul-pattern-of-2 c = search needs
+mul-double-bits-2 : tie.Need-mul-double-bits-2 Inv-loop μ-loop
+mul-double-bits-2 c = search needs
 
-element-copy-out-pattern-of-2 : tie.Need-element-copy-out-pattern-of-2 Inv-loop μ-loop
-element-copy-out-pattern-of-2 c = search needs
+element-copy-out-double-bits-2 : tie.Need-element-copy-out-double-bits-2 Inv-loop μ-loop
+element-copy-out-double-bits-2 c = search needs
 
-pattern-of-requires-2 : tie.Need-pattern-of-requires-2 Inv-loop μ-loop
-pattern-of-requires-2 c κs = search needs
+double-bits-requires-2 : tie.Need-double-bits-requires-2 Inv-loop μ-loop
+double-bits-requires-2 c κs = search needs
 
 step-requires-2 : tie.Need-step-requires-2 Inv-loop μ-loop
 step-requires-2 c κs = search needs
@@ -56,13 +56,13 @@ digest-spec =
     Inv-loop
     μ-loop
     loop-holds
-    mul-pattern-of
-    element-copy-out-pattern-of
-    pattern-of-requires
+    mul-double-bits
+    element-copy-out-double-bits
+    double-bits-requires
     step-requires
-    mul-pattern-of-2
-    element-copy-out-pattern-of-2
-    pattern-of-requires-2
+    mul-double-bits-2
+    element-copy-out-double-bits-2
+    double-bits-requires-2
     step-requires-2
     add-k
     loop-less
