@@ -1,22 +1,23 @@
 -- `agreeing` meets its contract. Assumes nothing.
-use Prim.Native.Nat.{_-_, _≤_}
-use mathlib.Core.Logic.{⊎-elim}
-use native.Mathlib.Omega.{arith}
 use borrow.Author.Needs.{needs}
+use Prim.Native.Nat.{_-_, _≤_}
 use Rattle.vectors_decode.proofs.agreeing.Statement.{statement}
 use Rattle.vectors_decode.proofs.agreeing.Tie as tie
 
 abbrev Inv-loop : tie.InvT-loop
-Inv-loop file re₀ im₀ decisions₀ bits₀ bytes₀ agree₀ i₀ re im decisions bits bytes agree i = (agree ≤ i) × (i ≤ 286)
+Inv-loop file agree₀ i₀ agree i = (agree ≤ i) × (i ≤ 286)
 
 abbrev μ-loop : tie.MeasureT-loop
-μ-loop file re₀ im₀ decisions₀ bits₀ bytes₀ agree₀ i₀ re im decisions bits bytes agree i = 286 - i
+μ-loop file agree₀ i₀ agree i = 286 - i
 
 loop-holds : tie.Need-loop-holds Inv-loop μ-loop
 loop-holds c = search needs
 
 passes-requires : tie.Need-passes-requires Inv-loop μ-loop
 passes-requires c κs = search needs
+
+one-requires : tie.Need-one-requires Inv-loop μ-loop
+one-requires c κs = search needs
 
 add-agree : tie.Need-add-agree Inv-loop μ-loop
 add-agree c = search needs
@@ -28,7 +29,7 @@ loop-less : tie.Need-loop-less Inv-loop μ-loop
 loop-less c = search needs
 
 loop-again : tie.Need-loop-again Inv-loop μ-loop
-loop-again c = ⊎-elim (λ w. rw (w .1) (omega arith, omega arith)) (λ w. rw (w .1) (omega arith, omega arith)) (c .if1 .came)
+loop-again c = search needs
 
 returns : tie.Need-returns Inv-loop μ-loop
 returns c = search needs
@@ -41,6 +42,7 @@ agreeing-spec =
     μ-loop
     loop-holds
     passes-requires
+    one-requires
     add-agree
     add-i
     loop-less
