@@ -1,6 +1,6 @@
 -- `fill` is safe and ends. Assumes nothing.
-use borrow.Author.Needs.{needs}
 use Prim.Native.Nat.{_-_, _≤_}
+use borrow.Author.Needs.{needs}
 use Rattle.cases_strain.proofs.fill.Statement.{statement}
 use Rattle.cases_strain.proofs.fill.Tie as tie
 
