@@ -1,34 +1,16 @@
 // Stretches with a known end: one step with both bits wrong; the ten places of the least-weight difference, of which four may be wrong and five not; ends above 63; nothing held.
+use cases_lib::bytes_of;
+use cases_lib::row;
+use cases_lib::show;
+use cases_lib::show_bits;
+use cases_lib::small;
+use cases_lib::text;
+use cases_lib::wide;
 use isdb_fec::conv::ViterbiDecoder;
 
 // The coded bits, X of step t at 2t and Y at 2t + 1, in which the inputs 1000000 differ from 0000000, as powers of 2: 0, 1, 2, 4, 5, 6, 7, 11, 12, 13. All
 // of them are 0x38f7.
 const PLACES: [u32; 10] = [1, 2, 4, 16, 32, 64, 128, 2048, 4096, 8192];
-
-fn put(byte: u8) {
-    let one = [byte];
-    io::write_all(1, &one);
-}
-
-// A number below 1,000.
-fn put_number(x: u32) {
-    let n = x % 1000;
-    put(b'0' + (n / 100) as u8);
-    put(b'0' + (n / 10 % 10) as u8);
-    put(b'0' + (n % 10) as u8);
-}
-
-fn put_count(n: usize) {
-    put_number((n % 1000) as u32);
-}
-
-fn put_bit(b: bool) {
-    if b {
-        put(b'1');
-    } else {
-        put(b'0');
-    }
-}
 
 // The soft values of seven steps: -1 where a bit of `received` is 1.
 fn soft_pairs(received: u32) -> [f32; 14] {
@@ -44,20 +26,21 @@ fn soft_pairs(received: u32) -> [f32; 14] {
 }
 
 // The number of the answer; seven bits are read.
-fn read(received: u32, start: u8, end: u8, decisions: &mut [u64; 5120], out: &mut [u8; 7]) -> u32 {
+fn read(
+    received: u32,
+    start: u8,
+    end: u8,
+    decisions: &mut [u64; 5120],
+    out: &mut [u8; 7],
+) -> usize {
     let xs = soft_pairs(received);
     let r = known_end::read_between(1024, start, end, &xs, decisions, out);
     let answer = r.answer;
-    refusal::number(answer)
+    row(answer)
 }
 
-fn rest_zero(out: &[u8; 7]) -> bool {
-    for k in 1..7 {
-        if out[k] != 0 {
-            return false;
-        }
-    }
-    true
+fn are_zero(out: &[u8; 7]) -> bool {
+    bytes_of(out, 0, 7, 0) == 7
 }
 
 struct Errors {
@@ -85,7 +68,7 @@ fn chosen(c: u32) -> Errors {
 fn mended(wrong: u32, decisions: &mut [u64; 5120]) -> bool {
     let mut out = [9u8; 7];
     let answer = read(wrong, 0, 0, decisions, &mut out);
-    answer == 0 && out[0] == 0 && rest_zero(&out)
+    (answer == 0) & are_zero(&out)
 }
 
 // How many choices of so many of the ten places there are, and of how many of them the sent inputs are read.
@@ -102,12 +85,8 @@ fn survey(wanted: u32) {
             }
         }
     }
-    put_number(wanted);
-    io::write_all(1, b" wrong bits: choices ");
-    put_number(choices);
-    io::write_all(1, b" right ");
-    put_number(right);
-    put(b'\n');
+    let found = [wide(wanted), wide(choices), wide(right)];
+    show(b"% wrong bits: choices % right %\n", &found);
 }
 
 // The input 1 from state 0 with both bits wrong: what is read from the best state, and from the true end.
@@ -118,27 +97,30 @@ fn one_step() {
     let dec = made.dec;
     let pair = [1.0f32, 1.0f32];
     let pushed = dec.push(&pair, &mut decisions, &mut out);
-    let held = pushed.dec;
-    let best = held.flush(&mut decisions, &mut out);
-    io::write_all(1, b"one step: flush ");
-    put_count(best.count);
-    put(b' ');
-    put_bit(out[0] == 1);
+    let best = pushed.dec.flush(&mut decisions, &mut out);
+    let first = small(out[0]);
     let again = dec.push(&pair, &mut decisions, &mut out);
-    let known = again.dec;
-    let end = known.flush_at(32, &mut decisions, &mut out);
-    io::write_all(1, b", flush_at 32 ");
-    put_count(end.count);
-    put(b' ');
-    put_bit(out[0] == 1);
-    let empty = end.dec;
-    let none = empty.flush_at(5, &mut decisions, &mut out);
+    let end = again.dec.flush_at(32, &mut decisions, &mut out);
+    let second = small(out[0]);
+    let none = end.dec.flush_at(5, &mut decisions, &mut out);
     let answer = none.answer;
-    io::write_all(1, b", nothing held: answer ");
-    put_number(refusal::number(answer));
-    io::write_all(1, b" bits ");
-    put_count(none.count);
-    put(b'\n');
+    let found = [
+        best.count,
+        first,
+        end.count,
+        second,
+        row(answer),
+        none.count,
+    ];
+    show(
+        b"one step: flush % #, flush_at 32 % #, nothing held: answer % bits %\n",
+        &found,
+    );
+}
+
+fn show_out(out: &[u8; 7]) {
+    show_bits(out);
+    text(b"\n");
 }
 
 // The reading of a stretch that is far from every path, between the states.
@@ -146,17 +128,9 @@ fn line(start: u8, end: u8) {
     let mut decisions = [7u64; 5120];
     let mut out = [9u8; 7];
     let answer = read(0x1234, start, end, &mut decisions, &mut out);
-    io::write_all(1, b"from ");
-    put_number(start as u32);
-    io::write_all(1, b" to ");
-    put_number(end as u32);
-    io::write_all(1, b": answer ");
-    put_number(answer);
-    io::write_all(1, b" bits ");
-    for k in 0..7 {
-        put_bit(out[k] == 1);
-    }
-    put(b'\n');
+    let found = [small(start), small(end), answer];
+    show(b"from % to %: answer % bits ", &found);
+    show_out(&out);
 }
 
 fn main() {

@@ -1,15 +1,14 @@
 -- `survey` is safe and ends. Assumes nothing.
-use Prim.Native.Nat.{_-_, _≤_, _<_}
-use native.Mathlib.Omega.{arith}
+use Prim.Native.Nat.{_-_, _≤_}
 use borrow.Author.Needs.{needs}
 use Rattle.cases_known_end.proofs.survey.Statement.{statement}
 use Rattle.cases_known_end.proofs.survey.Tie as tie
 
 abbrev Inv-loop : tie.InvT-loop
-Inv-loop wanted decisions₀ choices₀ right₀ c₀ t7 t8 decisions choices right c = c ≤ 1024
+Inv-loop wanted decisions₀ choices₀ right₀ c₀ t8 decisions choices right c = c ≤ 1024
 
 abbrev μ-loop : tie.MeasureT-loop
-μ-loop wanted decisions₀ choices₀ right₀ c₀ t7 t8 decisions choices right c = 1024 - c
+μ-loop wanted decisions₀ choices₀ right₀ c₀ t8 decisions choices right c = 1024 - c
 
 loop-holds : tie.Need-loop-holds Inv-loop μ-loop
 loop-holds c = search needs
@@ -35,29 +34,23 @@ loop-less c = search needs
 loop-again : tie.Need-loop-again Inv-loop μ-loop
 loop-again c = search needs
 
-put-number-requires : tie.Need-put-number-requires Inv-loop μ-loop
-put-number-requires c κs = search needs
+wide-requires : tie.Need-wide-requires Inv-loop μ-loop
+wide-requires c κs = search needs
 
-slice-aggregate-write-all : tie.Need-slice-aggregate-write-all Inv-loop μ-loop
-slice-aggregate-write-all c = search needs
+wide-requires-2 : tie.Need-wide-requires-2 Inv-loop μ-loop
+wide-requires-2 c κs = search needs
 
-write-all-requires : tie.Need-write-all-requires Inv-loop μ-loop
-write-all-requires c κs = search needs
+wide-requires-3 : tie.Need-wide-requires-3 Inv-loop μ-loop
+wide-requires-3 c κs = search needs
 
-put-number-requires-2 : tie.Need-put-number-requires-2 Inv-loop μ-loop
-put-number-requires-2 c κs = search needs
+slice-aggregate-show : tie.Need-slice-aggregate-show Inv-loop μ-loop
+slice-aggregate-show c = search needs
 
-slice-aggregate-write-all-2 : tie.Need-slice-aggregate-write-all-2 Inv-loop μ-loop
-slice-aggregate-write-all-2 c = search needs
+slice-aggregate-show-2 : tie.Need-slice-aggregate-show-2 Inv-loop μ-loop
+slice-aggregate-show-2 c = search needs
 
-write-all-requires-2 : tie.Need-write-all-requires-2 Inv-loop μ-loop
-write-all-requires-2 c κs = search needs
-
-put-number-requires-3 : tie.Need-put-number-requires-3 Inv-loop μ-loop
-put-number-requires-3 c κs = search needs
-
-put-requires : tie.Need-put-requires Inv-loop μ-loop
-put-requires c κs = search needs
+show-requires : tie.Need-show-requires Inv-loop μ-loop
+show-requires c κs = search needs
 
 returns : tie.Need-returns Inv-loop μ-loop
 returns c = search needs
@@ -76,12 +69,10 @@ survey-spec =
     add-c
     loop-less
     loop-again
-    put-number-requires
-    slice-aggregate-write-all
-    write-all-requires
-    put-number-requires-2
-    slice-aggregate-write-all-2
-    write-all-requires-2
-    put-number-requires-3
-    put-requires
+    wide-requires
+    wide-requires-2
+    wide-requires-3
+    slice-aggregate-show
+    slice-aggregate-show-2
+    show-requires
     returns)
