@@ -2,16 +2,23 @@
 // line: the call (e: encode_punctured twice, the encoder carried on; p: depuncture; v: decode_punctured), the rate's row in Table 3-8, the
 // traceback, the periods, and a digest of the output, all in hexadecimal. Lines that differ are shown, then how many agree and differ.
 ghost use Prim.Native.Nat.{_≤_, _<_};
+use cases_lib::float_bits;
+use cases_lib::float_of;
+use cases_lib::number;
+use cases_lib::one;
+use cases_lib::show;
+use cases_lib::small;
+use cases_lib::text;
+use cases_lib::wide;
 use isdb_fec::conv::ConvEncoder;
 use isdbt_fec::conv::CodeRate;
 use isdbt_fec::conv::Puncturing;
 use isdbt_fec::conv::decode_punctured;
 use isdbt_fec::conv::depuncture;
 use isdbt_fec::conv::encode_punctured;
-use libc::STDOUT_FILENO;
 use refusal::Answer;
 
-const LINES: u32 = 220;
+const LINES: usize = 220;
 
 // The generator of the streams.
 fn draw(seed: u64) -> u64
@@ -21,23 +28,8 @@ fn draw(seed: u64) -> u64
 }
 
 // The digest with one number more.
-fn digested(digest: u64, value: u64) -> u64 {
-    (digest % 4294967291 * 1000003 + value % 4294967296 + 1) % 4294967291
-}
-
-fn float_of(bits: u32) -> f32 {
-    if bits % 0x8000_0000 <= 0x7f80_0000 {
-        f32::from_bits(bits)
-    } else {
-        0.0
-    }
-}
-
-fn pattern_of(x: f32) -> u32 {
-    if x != x {
-        return 0x7fc0_0000;
-    }
-    f32::to_bits(x)
+fn digested(digest: u64, value: usize) -> u64 {
+    (digest % 4294967291 * 1000003 + value as u64 % 4294967296 + 1) % 4294967291
 }
 
 // A soft value from two numbers: from 2^-8 to 2^8, of either sign.
@@ -64,16 +56,10 @@ fn fill_values(out: &mut [f32], seed: u64) {
     }
 }
 
-fn wide(byte: u8) -> u64
-    ensures { λ r. ⌜ r < 256 ⌝ }
-{
-    byte as u64
-}
-
 fn digest_bytes(start: u64, bytes: &[u8]) -> u64 {
     let mut digest = start;
     for i in 0..bytes.len() {
-        digest = digested(digest, wide(bytes[i]));
+        digest = digested(digest, small(bytes[i]));
     }
     digest
 }
@@ -81,7 +67,7 @@ fn digest_bytes(start: u64, bytes: &[u8]) -> u64 {
 fn digest_values(start: u64, values: &[f32]) -> u64 {
     let mut digest = start;
     for i in 0..values.len() {
-        digest = digested(digest, pattern_of(values[i]) as u64);
+        digest = digested(digest, wide(float_bits(values[i])));
     }
     digest
 }
@@ -121,7 +107,7 @@ fn encoding(enc: ConvEncoder, rate: CodeRate, digest: u64, bits: &[u8], out: &mu
     let next = r.enc;
     Sent {
         enc: next,
-        digest: digested(digest_bytes(digest, out), wide(next.state)),
+        digest: digested(digest_bytes(digest, out), small(next.state)),
     }
 }
 
@@ -200,26 +186,6 @@ fn decode_case(c: Case, values: &mut [f32], decisions: &mut [u64], out: &mut [u8
     decoded(c, &mut values[..count], decisions, &mut out[..all])
 }
 
-fn digit(byte: u8) -> u64 {
-    match byte {
-        b'0'..=b'9' => wide(byte - b'0'),
-        b'a'..=b'f' => wide(byte - b'a') + 10,
-        _ => 0,
-    }
-}
-
-// The number of the hexadecimal digits from..to, of which the last 8 count.
-fn number(line: &[u8; 24], from: usize, to: usize) -> u64
-    requires { ⌜ to ≤ 24 ⌝ }
-    ensures { λ r. ⌜ r < 4294967296 ⌝ }
-{
-    let mut value: u64 = 0;
-    for i in from..to {
-        value = value % 0x1000_0000 * 16 + digit(line[i]) % 16;
-    }
-    value
-}
-
 fn rate_of(row: u64) -> CodeRate {
     match row {
         0 => CodeRate::R1_2,
@@ -231,25 +197,25 @@ fn rate_of(row: u64) -> CodeRate {
 }
 
 fn case_of(line: &[u8; 24]) -> Case {
-    let row = number(line, 2, 3);
-    let periods = number(line, 9, 14);
+    let row = number(line, 2, 3) % 16;
+    let periods = number(line, 9, 14) % 0x10_0000;
     Case {
         call: line[0],
         rate: rate_of(row),
         seed: row * 100000 + periods,
-        traceback: number(line, 4, 8) as usize,
+        traceback: (number(line, 4, 8) % 0x1_0000) as usize,
         periods: periods as usize,
     }
 }
 
-// The lists that the calls work on.
+// The digest of a call on the lists lent.
 fn answer(
     c: Case,
-    values: &mut [f32],
-    spread: &mut [f32],
-    decisions: &mut [u64],
-    bytes: &mut [u8],
-    out: &mut [u8],
+    values: &mut [f32; 18688],
+    spread: &mut [f32; 9856],
+    decisions: &mut [u64; 5120],
+    bytes: &mut [u8; 9472],
+    out: &mut [u8; 9472],
 ) -> u64 {
     let call = c.call;
     match call {
@@ -259,58 +225,46 @@ fn answer(
     }
 }
 
+// Whether the call gives the line's digest.
+fn agrees(line: &[u8; 24]) -> bool {
+    let mut values = [0.0f32; 18688];
+    let mut spread = [0.0f32; 9856];
+    let mut decisions = [0u64; 5120];
+    let mut bytes = [0u8; 9472];
+    let mut out = [0u8; 9472];
+    let given = answer(
+        case_of(line),
+        &mut values,
+        &mut spread,
+        &mut decisions,
+        &mut bytes,
+        &mut out,
+    );
+    given == number(line, 15, 23)
+}
+
 // Whether a whole line was read and the call gives its digest; a line where it does not is shown.
-fn passes(
-    file: i32,
-    values: &mut [f32],
-    spread: &mut [f32],
-    decisions: &mut [u64],
-    bytes: &mut [u8],
-    out: &mut [u8],
-) -> bool {
+fn passes(file: i32) -> bool {
     let mut line = [0u8; 24];
     if io::read_full(file, &mut line) < 24 {
         return false;
     }
-    let wanted = number(&line, 15, 23);
-    if answer(case_of(&line), values, spread, decisions, bytes, out) == wanted {
+    if agrees(&line) {
         return true;
     }
-    io::write_all(STDOUT_FILENO, &line);
+    text(&line);
     false
 }
 
 // How many of the lines pass: none of those that are missing.
-fn agreeing(
-    file: i32,
-    values: &mut [f32],
-    spread: &mut [f32],
-    decisions: &mut [u64],
-    bytes: &mut [u8],
-    out: &mut [u8],
-) -> u32
+fn agreeing(file: i32) -> usize
     ensures { λ r. ⌜ r ≤ 220 ⌝ }
 {
-    let mut agree: u32 = 0;
+    let mut agree: usize = 0;
     for i in 0..LINES {
-        if passes(file, values, spread, decisions, bytes, out) {
-            agree = agree + 1;
-        }
+        agree += one(passes(file));
     }
     agree
-}
-
-fn all_lines(
-    file: i32,
-    values: &mut [f32; 18688],
-    spread: &mut [f32; 9856],
-    decisions: &mut [u64; 5120],
-    bytes: &mut [u8; 9472],
-    out: &mut [u8; 9472],
-) -> u32
-    ensures { λ r. ⌜ r ≤ 220 ⌝ }
-{
-    agreeing(file, values, spread, decisions, bytes, out)
 }
 
 fn main() {
@@ -320,22 +274,8 @@ fn main() {
         os::fail(path);
         return;
     }
-    let mut values = [0.0f32; 18688];
-    let mut spread = [0.0f32; 9856];
-    let mut decisions = [0u64; 5120];
-    let mut bytes = [0u8; 9472];
-    let mut out = [0u8; 9472];
-    let agree = all_lines(
-        file,
-        &mut values,
-        &mut spread,
-        &mut decisions,
-        &mut bytes,
-        &mut out,
-    );
+    let agree = agreeing(file);
     libc::close(file);
-    io::print_decimal(STDOUT_FILENO, agree as u64);
-    io::write_all(STDOUT_FILENO, b" agree\n");
-    io::print_decimal(STDOUT_FILENO, (LINES - agree) as u64);
-    io::write_all(STDOUT_FILENO, b" differ\n");
+    let found = [agree, LINES - agree];
+    show(b"# agree\n# differ\n", &found);
 }

@@ -1,4 +1,4 @@
--- `digest_values` meets its contract. Assumes nothing.
+-- `digest_values` is safe and ends. Assumes nothing.
 use Prim.Native.Nat.{_-_, _≤_}
 use borrow.Author.Needs.{needs}
 use Rattle.vectors_isdbt.proofs.digest_values.Statement.{statement}
@@ -13,17 +13,17 @@ abbrev μ-loop : tie.MeasureT-loop
 loop-holds : tie.Need-loop-holds Inv-loop μ-loop
 loop-holds c = search needs
 
-mul-pattern-of : tie.Need-mul-pattern-of Inv-loop μ-loop
-mul-pattern-of c = search needs
+mul-float-bits : tie.Need-mul-float-bits Inv-loop μ-loop
+mul-float-bits c = search needs
 
-shared-slice-read-pattern-of : tie.Need-shared-slice-read-pattern-of Inv-loop μ-loop
-shared-slice-read-pattern-of c = search needs
+shared-slice-read-float-bits : tie.Need-shared-slice-read-float-bits Inv-loop μ-loop
+shared-slice-read-float-bits c = search needs
 
-pattern-of-requires : tie.Need-pattern-of-requires Inv-loop μ-loop
-pattern-of-requires c κs = search needs
+float-bits-requires : tie.Need-float-bits-requires Inv-loop μ-loop
+float-bits-requires c κs = search needs
 
-cast-digested : tie.Need-cast-digested Inv-loop μ-loop
-cast-digested c = search needs
+wide-requires : tie.Need-wide-requires Inv-loop μ-loop
+wide-requires c κs = search needs
 
 digested-requires : tie.Need-digested-requires Inv-loop μ-loop
 digested-requires c κs = search needs
@@ -47,10 +47,10 @@ digest-values-spec =
     Inv-loop
     μ-loop
     loop-holds
-    mul-pattern-of
-    shared-slice-read-pattern-of
-    pattern-of-requires
-    cast-digested
+    mul-float-bits
+    shared-slice-read-float-bits
+    float-bits-requires
+    wide-requires
     digested-requires
     add-i
     loop-less
