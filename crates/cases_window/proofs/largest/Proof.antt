@@ -33,14 +33,14 @@ loop-again c = search needs
 push-requires-2 : tie.Need-push-requires-2 Inv-loop μ-loop
 push-requires-2 c κs = search needs
 
-show-requires : tie.Need-show-requires Inv-loop μ-loop
-show-requires c κs = search needs
+show-pushed-requires : tie.Need-show-pushed-requires Inv-loop μ-loop
+show-pushed-requires c κs = search needs
 
-slice-aggregate-write-all : tie.Need-slice-aggregate-write-all Inv-loop μ-loop
-slice-aggregate-write-all c = search needs
+slice-aggregate-text : tie.Need-slice-aggregate-text Inv-loop μ-loop
+slice-aggregate-text c = search needs
 
-write-all-requires : tie.Need-write-all-requires Inv-loop μ-loop
-write-all-requires c κs = search needs
+text-requires : tie.Need-text-requires Inv-loop μ-loop
+text-requires c κs = search needs
 
 same-length : tie.Need-same-length Inv-loop μ-loop
 same-length c = search needs
@@ -61,8 +61,8 @@ largest-spec =
     loop-less
     loop-again
     push-requires-2
-    show-requires
-    slice-aggregate-write-all
-    write-all-requires
+    show-pushed-requires
+    slice-aggregate-text
+    text-requires
     same-length
     returns)

@@ -5,25 +5,19 @@ use Rattle.cases_window.proofs.show_sums.Statement.{statement}
 use Rattle.cases_window.proofs.show_sums.Tie as tie
 
 abbrev Inv-loop : tie.InvT-loop
-Inv-loop kept i₀ t4 t5 i-end i = i ≤ i-end
+Inv-loop kept i₀ t5 t6 i-end i = i ≤ i-end
 
 abbrev μ-loop : tie.MeasureT-loop
-μ-loop kept i₀ t4 t5 i-end i = i-end - i
+μ-loop kept i₀ t5 t6 i-end i = i-end - i
 
-slice-aggregate-write-all : tie.Need-slice-aggregate-write-all Inv-loop μ-loop
-slice-aggregate-write-all c = search needs
+slice-aggregate-text : tie.Need-slice-aggregate-text Inv-loop μ-loop
+slice-aggregate-text c = search needs
 
-write-all-requires : tie.Need-write-all-requires Inv-loop μ-loop
-write-all-requires c κs = search needs
+text-requires : tie.Need-text-requires Inv-loop μ-loop
+text-requires c κs = search needs
 
 loop-holds : tie.Need-loop-holds Inv-loop μ-loop
 loop-holds c = search needs
-
-slice-aggregate-write-all-2 : tie.Need-slice-aggregate-write-all-2 Inv-loop μ-loop
-slice-aggregate-write-all-2 c = search needs
-
-write-all-requires-2 : tie.Need-write-all-requires-2 Inv-loop μ-loop
-write-all-requires-2 c κs = search needs
 
 mul-wide : tie.Need-mul-wide Inv-loop μ-loop
 mul-wide c = search needs
@@ -34,8 +28,14 @@ shared-slice-read-wide c = search needs
 wide-requires : tie.Need-wide-requires Inv-loop μ-loop
 wide-requires c κs = search needs
 
-print-decimal-requires : tie.Need-print-decimal-requires Inv-loop μ-loop
-print-decimal-requires c κs = search needs
+slice-aggregate-show : tie.Need-slice-aggregate-show Inv-loop μ-loop
+slice-aggregate-show c = search needs
+
+slice-aggregate-show-2 : tie.Need-slice-aggregate-show-2 Inv-loop μ-loop
+slice-aggregate-show-2 c = search needs
+
+show-requires : tie.Need-show-requires Inv-loop μ-loop
+show-requires c κs = search needs
 
 add-i : tie.Need-add-i Inv-loop μ-loop
 add-i c = search needs
@@ -46,11 +46,11 @@ loop-less c = search needs
 loop-again : tie.Need-loop-again Inv-loop μ-loop
 loop-again c = search needs
 
-slice-aggregate-write-all-3 : tie.Need-slice-aggregate-write-all-3 Inv-loop μ-loop
-slice-aggregate-write-all-3 c = search needs
+slice-aggregate-text-2 : tie.Need-slice-aggregate-text-2 Inv-loop μ-loop
+slice-aggregate-text-2 c = search needs
 
-write-all-requires-3 : tie.Need-write-all-requires-3 Inv-loop μ-loop
-write-all-requires-3 c κs = search needs
+text-requires-2 : tie.Need-text-requires-2 Inv-loop μ-loop
+text-requires-2 c κs = search needs
 
 returns : tie.Need-returns Inv-loop μ-loop
 returns c = search needs
@@ -61,18 +61,18 @@ show-sums-spec =
     (tie.spec
     Inv-loop
     μ-loop
-    slice-aggregate-write-all
-    write-all-requires
+    slice-aggregate-text
+    text-requires
     loop-holds
-    slice-aggregate-write-all-2
-    write-all-requires-2
     mul-wide
     shared-slice-read-wide
     wide-requires
-    print-decimal-requires
+    slice-aggregate-show
+    slice-aggregate-show-2
+    show-requires
     add-i
     loop-less
     loop-again
-    slice-aggregate-write-all-3
-    write-all-requires-3
+    slice-aggregate-text-2
+    text-requires-2
     returns)
