@@ -18,17 +18,14 @@ slice-aggregate-greatest-sum-reading c =
 greatest-sum-reading-requires : tie.Need-greatest-sum-reading-requires
 greatest-sum-reading-requires c κs = search needs
 
-number-requires : tie.Need-number-requires
-number-requires c κs = search needs
+row-requires : tie.Need-row-requires
+row-requires c κs = search needs
 
-same-requires : tie.Need-same-requires
-same-requires c κs = search needs
+has-inputs-requires : tie.Need-has-inputs-requires
+has-inputs-requires c κs = search needs
 
 returns : tie.Need-returns
 returns c = search needs
-
-returns-2 : tie.Need-returns-2
-returns-2 c = search needs
 
 pub agrees-spec : {M : Type 1} → statement M
 agrees-spec =
@@ -37,7 +34,6 @@ agrees-spec =
     mul-end
     slice-aggregate-greatest-sum-reading
     greatest-sum-reading-requires
-    number-requires
-    same-requires
-    returns
-    returns-2)
+    row-requires
+    has-inputs-requires
+    returns)

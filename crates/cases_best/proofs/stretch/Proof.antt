@@ -5,10 +5,10 @@ use Rattle.cases_best.proofs.stretch.Statement.{statement}
 use Rattle.cases_best.proofs.stretch.Tie as tie
 
 abbrev Inv-loop : tie.InvT-loop
-Inv-loop n first₀ paths₀ seed₀ t9 t10 t11 first paths seed = (seed ≤ 16) × (first ≤ 2 * seed)
+Inv-loop n first₀ paths₀ seed₀ t10 first paths seed = (seed ≤ 16) × (first ≤ 2 * seed)
 
 abbrev μ-loop : tie.MeasureT-loop
-μ-loop n first₀ paths₀ seed₀ t9 t10 t11 first paths seed = 16 - seed
+μ-loop n first₀ paths₀ seed₀ t10 first paths seed = 16 - seed
 
 loop-holds : tie.Need-loop-holds Inv-loop μ-loop
 loop-holds c = search needs
@@ -19,8 +19,8 @@ scattered-requires c κs = search needs
 mul-from : tie.Need-mul-from Inv-loop μ-loop
 mul-from c = search needs
 
-cast-t16 : tie.Need-cast-t16 Inv-loop μ-loop
-cast-t16 c = search needs
+cast-t15 : tie.Need-cast-t15 Inv-loop μ-loop
+cast-t15 c = search needs
 
 add-tried : tie.Need-add-tried Inv-loop μ-loop
 add-tried c = search needs
@@ -52,38 +52,17 @@ loop-less c = search needs
 loop-again : tie.Need-loop-again Inv-loop μ-loop
 loop-again c = search needs
 
-slice-aggregate-write-all : tie.Need-slice-aggregate-write-all Inv-loop μ-loop
-slice-aggregate-write-all c = search needs
+wide-requires : tie.Need-wide-requires Inv-loop μ-loop
+wide-requires c κs = search needs
 
-write-all-requires : tie.Need-write-all-requires Inv-loop μ-loop
-write-all-requires c κs = search needs
+slice-aggregate-show : tie.Need-slice-aggregate-show Inv-loop μ-loop
+slice-aggregate-show c = search needs
 
-cast-put-number : tie.Need-cast-put-number Inv-loop μ-loop
-cast-put-number c = search needs
+slice-aggregate-show-2 : tie.Need-slice-aggregate-show-2 Inv-loop μ-loop
+slice-aggregate-show-2 c = search needs
 
-put-number-requires : tie.Need-put-number-requires Inv-loop μ-loop
-put-number-requires c κs = search needs
-
-slice-aggregate-write-all-2 : tie.Need-slice-aggregate-write-all-2 Inv-loop μ-loop
-slice-aggregate-write-all-2 c = search needs
-
-write-all-requires-2 : tie.Need-write-all-requires-2 Inv-loop μ-loop
-write-all-requires-2 c κs = search needs
-
-put-number-requires-2 : tie.Need-put-number-requires-2 Inv-loop μ-loop
-put-number-requires-2 c κs = search needs
-
-slice-aggregate-write-all-3 : tie.Need-slice-aggregate-write-all-3 Inv-loop μ-loop
-slice-aggregate-write-all-3 c = search needs
-
-write-all-requires-3 : tie.Need-write-all-requires-3 Inv-loop μ-loop
-write-all-requires-3 c κs = search needs
-
-put-number-requires-3 : tie.Need-put-number-requires-3 Inv-loop μ-loop
-put-number-requires-3 c κs = search needs
-
-put-requires : tie.Need-put-requires Inv-loop μ-loop
-put-requires c κs = search needs
+show-requires : tie.Need-show-requires Inv-loop μ-loop
+show-requires c κs = search needs
 
 returns : tie.Need-returns Inv-loop μ-loop
 returns c = search needs
@@ -97,7 +76,7 @@ stretch-spec =
     loop-holds
     scattered-requires
     mul-from
-    cast-t16
+    cast-t15
     add-tried
     tried-requires
     tried-requires-2
@@ -108,15 +87,8 @@ stretch-spec =
     add-seed
     loop-less
     loop-again
-    slice-aggregate-write-all
-    write-all-requires
-    cast-put-number
-    put-number-requires
-    slice-aggregate-write-all-2
-    write-all-requires-2
-    put-number-requires-2
-    slice-aggregate-write-all-3
-    write-all-requires-3
-    put-number-requires-3
-    put-requires
+    wide-requires
+    slice-aggregate-show
+    slice-aggregate-show-2
+    show-requires
     returns)
