@@ -1,14 +1,14 @@
 -- `readings` is safe and ends. Assumes nothing.
-use Prim.Native.Nat.{_+_, _-_, _*_, _≤_, _<_}
+use Prim.Native.Nat.{_-_, _*_, _≤_}
 use borrow.Author.Needs.{needs}
 use Rattle.cases_short.proofs.readings.Statement.{statement}
 use Rattle.cases_short.proofs.readings.Tie as tie
 
 abbrev Inv-loop : tie.InvT-loop
-Inv-loop code half first₀ paths₀ states seed₀ t12 t13 t14 first paths seed = (seed ≤ 8) × (first ≤ 2 * seed)
+Inv-loop code half first₀ paths₀ states seed₀ t13 first paths seed = (seed ≤ 8) × (first ≤ 2 * seed)
 
 abbrev μ-loop : tie.MeasureT-loop
-μ-loop code half first₀ paths₀ states seed₀ t12 t13 t14 first paths seed = 8 - seed
+μ-loop code half first₀ paths₀ states seed₀ t13 first paths seed = 8 - seed
 
 mul-states : tie.Need-mul-states Inv-loop μ-loop
 mul-states c = search needs
@@ -16,8 +16,8 @@ mul-states c = search needs
 loop-holds : tie.Need-loop-holds Inv-loop μ-loop
 loop-holds c = search needs
 
-wide-requires : tie.Need-wide-requires Inv-loop μ-loop
-wide-requires c κs = search needs
+cast-scattered : tie.Need-cast-scattered Inv-loop μ-loop
+cast-scattered c = search needs
 
 add-scattered : tie.Need-add-scattered Inv-loop μ-loop
 add-scattered c = search needs
@@ -31,8 +31,8 @@ mul-state c = search needs
 folded-requires : tie.Need-folded-requires Inv-loop μ-loop
 folded-requires c κs = search needs
 
-cast-t21 : tie.Need-cast-t21 Inv-loop μ-loop
-cast-t21 c = search needs
+cast-t20 : tie.Need-cast-t20 Inv-loop μ-loop
+cast-t20 c = search needs
 
 add-tried : tie.Need-add-tried Inv-loop μ-loop
 add-tried c = search needs
@@ -64,38 +64,20 @@ loop-less c = search needs
 loop-again : tie.Need-loop-again Inv-loop μ-loop
 loop-again c = search needs
 
-slice-aggregate-write-all : tie.Need-slice-aggregate-write-all Inv-loop μ-loop
-slice-aggregate-write-all c = search needs
+small-requires : tie.Need-small-requires Inv-loop μ-loop
+small-requires c κs = search needs
 
-write-all-requires : tie.Need-write-all-requires Inv-loop μ-loop
-write-all-requires c κs = search needs
+wide-requires : tie.Need-wide-requires Inv-loop μ-loop
+wide-requires c κs = search needs
 
-wide-requires-2 : tie.Need-wide-requires-2 Inv-loop μ-loop
-wide-requires-2 c κs = search needs
+slice-aggregate-show : tie.Need-slice-aggregate-show Inv-loop μ-loop
+slice-aggregate-show c = search needs
 
-put-number-requires : tie.Need-put-number-requires Inv-loop μ-loop
-put-number-requires c κs = search needs
+slice-aggregate-show-2 : tie.Need-slice-aggregate-show-2 Inv-loop μ-loop
+slice-aggregate-show-2 c = search needs
 
-slice-aggregate-write-all-2 : tie.Need-slice-aggregate-write-all-2 Inv-loop μ-loop
-slice-aggregate-write-all-2 c = search needs
-
-write-all-requires-2 : tie.Need-write-all-requires-2 Inv-loop μ-loop
-write-all-requires-2 c κs = search needs
-
-put-number-requires-2 : tie.Need-put-number-requires-2 Inv-loop μ-loop
-put-number-requires-2 c κs = search needs
-
-slice-aggregate-write-all-3 : tie.Need-slice-aggregate-write-all-3 Inv-loop μ-loop
-slice-aggregate-write-all-3 c = search needs
-
-write-all-requires-3 : tie.Need-write-all-requires-3 Inv-loop μ-loop
-write-all-requires-3 c κs = search needs
-
-put-number-requires-3 : tie.Need-put-number-requires-3 Inv-loop μ-loop
-put-number-requires-3 c κs = search needs
-
-put-requires : tie.Need-put-requires Inv-loop μ-loop
-put-requires c κs = search needs
+show-requires : tie.Need-show-requires Inv-loop μ-loop
+show-requires c κs = search needs
 
 returns : tie.Need-returns Inv-loop μ-loop
 returns c = search needs
@@ -108,12 +90,12 @@ readings-spec =
     μ-loop
     mul-states
     loop-holds
-    wide-requires
+    cast-scattered
     add-scattered
     scattered-requires
     mul-state
     folded-requires
-    cast-t21
+    cast-t20
     add-tried
     tried-requires
     tried-requires-2
@@ -124,15 +106,9 @@ readings-spec =
     add-seed
     loop-less
     loop-again
-    slice-aggregate-write-all
-    write-all-requires
-    wide-requires-2
-    put-number-requires
-    slice-aggregate-write-all-2
-    write-all-requires-2
-    put-number-requires-2
-    slice-aggregate-write-all-3
-    write-all-requires-3
-    put-number-requires-3
-    put-requires
+    small-requires
+    wide-requires
+    slice-aggregate-show
+    slice-aggregate-show-2
+    show-requires
     returns)
