@@ -1,4 +1,8 @@
 // The examples of document 01 that are executed, and traps of its rules: what is written is held to the file stdout.
+use cases_lib::row;
+use cases_lib::show;
+use cases_lib::small;
+use cases_lib::text;
 use isdbs_core::combination;
 use isdbs_core::combination::Combination;
 use isdbs_core::combination::MaybeCombination;
@@ -11,45 +15,26 @@ use isdbs_core::tmcc;
 use isdbs_core::tmcc::Entry;
 use isdbs_core::tmcc::SlotMark;
 use isdbs_core::tmcc::Table;
-use libc::STDOUT_FILENO;
-
-fn text(s: &[u8]) {
-    io::write_all(STDOUT_FILENO, s);
-}
-
-fn number(n: u64) {
-    text(b" ");
-    io::print_decimal(STDOUT_FILENO, n);
-}
-
-fn wide(n: u32) -> u64 {
-    n as u64
-}
 
 fn count(n: usize) {
-    number(n as u64);
+    let found = [n];
+    show(b" #", &found);
 }
 
-fn byte(b: u8) {
-    number(b as u64);
+fn word(c: Combination) -> usize {
+    small(c.word())
 }
 
-fn row(a: refusal::Answer) {
-    number(wide(refusal::number(a)));
-}
-
-fn word(c: Combination) {
-    number(c.word() as u64);
+fn refused(a: refusal::Answer) {
+    let found = [row(a)];
+    show(b" refused #", &found);
 }
 
 // A position, or the number of the row.
 fn position(p: Position) {
     match p {
         Position::At(n) => count(n),
-        Position::Refused(a) => {
-            text(b" refused");
-            row(a);
-        }
+        Position::Refused(a) => refused(a),
     }
 }
 
@@ -57,10 +42,7 @@ fn slot_byte(p: SlotByte) {
     match p {
         SlotByte::At(n) => count(n),
         SlotByte::Nothing => text(b" nothing"),
-        SlotByte::Refused(a) => {
-            text(b" refused");
-            row(a);
-        }
+        SlotByte::Refused(a) => refused(a),
     }
 }
 
@@ -96,14 +78,16 @@ fn under() -> Table {
 
 // A run: combination's word, slots, valid slots, symbols.
 fn run(r: Run) {
-    text(b" |");
     let c = r.combination;
-    word(c);
-    count(r.slot_start);
-    count(r.slot_end);
-    count(r.valid_slots);
-    count(r.symbol_start);
-    count(r.symbol_end);
+    let found = [
+        word(c),
+        r.slot_start,
+        r.slot_end,
+        r.valid_slots,
+        r.symbol_start,
+        r.symbol_end,
+    ];
+    show(b" | # # # # # #", &found);
 }
 
 // The answer of `runs`: row, count, valid slots, and the four records.
@@ -111,9 +95,8 @@ fn runs(name: &[u8], t: Table) {
     text(name);
     let all = slots::runs(t);
     let answer = all.answer;
-    row(answer);
-    count(all.count);
-    count(all.valid_slots);
+    let found = [row(answer), all.count, all.valid_slots];
+    show(b" # # #", &found);
     let rs = all.runs;
     run(rs[0]);
     run(rs[1]);
@@ -139,15 +122,17 @@ fn load(name: &[u8], t: Table) {
     let rs = all.runs;
     let r = rs[0];
     let c = r.combination;
-    count(times(frame::SLOT_BYTES, all.valid_slots));
-    count(times(c.steps_per_slot(), r.valid_slots));
-    text(b"\n");
+    let found = [
+        times(frame::SLOT_BYTES, all.valid_slots),
+        times(c.steps_per_slot(), r.valid_slots),
+    ];
+    show(b" # #\n", &found);
 }
 
 fn mark(m: SlotMark) {
     let c = m.mark;
     match c {
-        MaybeCombination::Some(c) => word(c),
+        MaybeCombination::Some(c) => count(word(c)),
         MaybeCombination::None => text(b" -"),
     }
 }
@@ -157,7 +142,7 @@ fn marks(name: &[u8], t: Table) {
     text(name);
     let all = tmcc::slot_combinations(t);
     let answer = all.answer;
-    row(answer);
+    count(row(answer));
     let ms = all.slots;
     for s in 0..48 {
         mark(ms[s]);
@@ -216,72 +201,76 @@ fn tail(name: &[u8], t: u32) {
     text(name);
     let bits = frame::tail_bits(t);
     for i in 0..20 {
-        byte(bits[i]);
+        count(small(bits[i]));
     }
     text(b"\n");
 }
 
 // The numbers of a frame, as the paper has them.
 fn frame_numbers() {
-    text(b"frame:");
-    count(frame::SLOTS);
-    count(frame::FRAMES);
-    count(frame::SLOT_BYTES);
-    count(frame::PACKET_BYTES);
-    count(frame::MAIN_SYMBOLS);
-    count(frame::FRAME_SYMBOLS);
-    count(frame::SUPERFRAME_SYMBOLS);
-    text(b"\nheader and bursts:");
-    count(frame::HEADER_SYMBOLS);
-    count(frame::HEADER_BYTES);
-    count(frame::BURSTS);
-    count(frame::BURST_PERIOD);
-    count(frame::BURST_SYMBOLS);
-    text(b"\nTMCC:");
-    count(frame::TMCC_BYTES_PER_FRAME);
-    count(frame::E_MAX);
-    count(tmcc::CM);
-    text(b"\n");
+    let found = [
+        frame::SLOTS,
+        frame::FRAMES,
+        frame::SLOT_BYTES,
+        frame::PACKET_BYTES,
+        frame::MAIN_SYMBOLS,
+        frame::FRAME_SYMBOLS,
+        frame::SUPERFRAME_SYMBOLS,
+        frame::HEADER_SYMBOLS,
+        frame::HEADER_BYTES,
+        frame::BURSTS,
+        frame::BURST_PERIOD,
+        frame::BURST_SYMBOLS,
+        frame::TMCC_BYTES_PER_FRAME,
+        frame::E_MAX,
+        tmcc::CM,
+    ];
+    show(
+        b"frame: # # # # # # #\nheader and bursts: # # # # #\nTMCC: # # #\n",
+        &found,
+    );
 }
 
 // The words that a frame's header begins with and ends in, and where their coded tails stand.
 fn header_words() {
-    text(b"words:");
-    number(frame::W1 as u64);
-    number(frame::W2 as u64);
-    number(frame::W3 as u64);
-    text(b"\ntails:");
-    count(frame::CODED_TAIL_BITS);
-    count(frame::W1_TAIL_AT);
-    count(frame::W23_TAIL_AT);
-    text(b"\n");
+    let found = [
+        frame::W1 as usize,
+        frame::W2 as usize,
+        frame::W3 as usize,
+        frame::CODED_TAIL_BITS,
+        frame::W1_TAIL_AT,
+        frame::W23_TAIL_AT,
+    ];
+    show(b"words: # # #\ntails: # # #\n", &found);
 }
 
 // The combinations in their order, and the word and slots of an entry not in use.
 fn combinations() {
-    text(b"by efficiency:");
     let all = combination::ALL;
-    word(all[0]);
-    word(all[1]);
-    word(all[2]);
-    word(all[3]);
-    word(all[4]);
-    word(all[5]);
-    word(all[6]);
-    text(b"\nnot in use:");
     let unused = tmcc::DUMMY;
-    byte(combination::DUMMY_WORD);
-    byte(unused.word);
-    byte(unused.slots);
-    text(b"\nbits:");
-    count(slots::SLOT_BITS);
-    count(slots::LAST_BIT);
-    text(b"\n");
+    let found = [
+        word(all[0]),
+        word(all[1]),
+        word(all[2]),
+        word(all[3]),
+        word(all[4]),
+        word(all[5]),
+        word(all[6]),
+        small(combination::DUMMY_WORD),
+        small(unused.word),
+        small(unused.slots),
+        slots::SLOT_BITS,
+        slots::LAST_BIT,
+    ];
+    show(
+        b"by efficiency: # # # # # # #\nnot in use: # # #\nbits: # #\n",
+        &found,
+    );
 }
 
 fn maybe(c: MaybeCombination) {
     match c {
-        MaybeCombination::Some(c) => word(c),
+        MaybeCombination::Some(c) => count(word(c)),
         MaybeCombination::None => text(b" none"),
     }
 }
@@ -295,12 +284,13 @@ fn assigned(name: &[u8], w: u8) {
 
 // The part of slot k of a load whose byte i is i mod 251: answer, length, first and last byte.
 fn part(bytes: &[u8], t: Table, k: usize) {
-    row(slots::slot_part_answer(bytes, t, k));
+    let answer = row(slots::slot_part_answer(bytes, t, k));
     let p = slots::slot_part(bytes, t, k);
-    count(p.len());
+    let found = [answer, p.len()];
+    show(b" # #", &found);
     if 0 < p.len() {
-        byte(p[0]);
-        byte(p[p.len() - 1]);
+        let ends = [small(p[0]), small(p[p.len() - 1])];
+        show(b" # #", &ends);
     }
     text(b"\n");
 }
@@ -402,38 +392,41 @@ fn more_tables() {
 }
 
 // The row of a table.
-fn answer(t: Table) {
+fn answer(t: Table) -> usize {
     let all = slots::runs(t);
     let a = all.answer;
-    row(a);
+    row(a)
 }
 
 // Rows 10 and 11: 3:5; 8:3,3:5; 0x13:5; a part unit in the last entry; 3:3,8:3; 0x18:1; 0:1; 14:1; 1, 10 and 11 at once.
 fn refused_tables() {
-    text(b"part units:");
-    answer(one(3, 5));
-    answer(two(8, 3, 3, 5));
-    answer(one(0x13, 5));
-    answer(four(2, 2, 1));
-    text(b"\nreserved words:");
-    answer(two(3, 3, 8, 3));
-    answer(one(0x18, 1));
-    answer(one(0, 1));
-    answer(table(tmcc::DUMMY, tmcc::DUMMY, tmcc::DUMMY, entry(14, 1)));
-    text(b"\nabove 48:");
-    answer(one(6, 49));
-    answer(two(6, 7, 8, 42));
-    text(b"\n");
+    let found = [
+        answer(one(3, 5)),
+        answer(two(8, 3, 3, 5)),
+        answer(one(0x13, 5)),
+        answer(four(2, 2, 1)),
+        answer(two(3, 3, 8, 3)),
+        answer(one(0x18, 1)),
+        answer(one(0, 1)),
+        answer(table(tmcc::DUMMY, tmcc::DUMMY, tmcc::DUMMY, entry(14, 1))),
+        answer(one(6, 49)),
+        answer(two(6, 7, 8, 42)),
+    ];
+    show(
+        b"part units: # # # #\nreserved words: # # # #\nabove 48: # #\n",
+        &found,
+    );
 }
 
 // Accepted: 8:0; 15:10,2:2; 0x1f:10; 1:0.
 fn accepted_tables() {
-    text(b"accepted:");
-    answer(one(8, 0));
-    answer(two(15, 10, 2, 2));
-    answer(one(0x1f, 10));
-    answer(one(1, 0));
-    text(b"\n");
+    let found = [
+        answer(one(8, 0)),
+        answer(two(15, 10, 2, 2)),
+        answer(one(0x1f, 10)),
+        answer(one(1, 0)),
+    ];
+    show(b"accepted: # # # #\n", &found);
 }
 
 fn loads() {

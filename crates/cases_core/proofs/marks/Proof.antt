@@ -19,6 +19,9 @@ slot-combinations-requires c κs = search needs
 row-requires : tie.Need-row-requires Inv-loop μ-loop
 row-requires c κs = search needs
 
+count-requires : tie.Need-count-requires Inv-loop μ-loop
+count-requires c κs = search needs
+
 loop-holds : tie.Need-loop-holds Inv-loop μ-loop
 loop-holds c = search needs
 
@@ -58,6 +61,7 @@ marks-spec =
     text-requires
     slot-combinations-requires
     row-requires
+    count-requires
     loop-holds
     mul-mark
     array-copy-out-mark

@@ -19,11 +19,14 @@ tail-bits-requires c κs = search needs
 loop-holds : tie.Need-loop-holds Inv-loop μ-loop
 loop-holds c = search needs
 
-array-read-byte : tie.Need-array-read-byte Inv-loop μ-loop
-array-read-byte c = search needs
+array-read-small : tie.Need-array-read-small Inv-loop μ-loop
+array-read-small c = search needs
 
-byte-requires : tie.Need-byte-requires Inv-loop μ-loop
-byte-requires c κs = search needs
+small-requires : tie.Need-small-requires Inv-loop μ-loop
+small-requires c κs = search needs
+
+count-requires : tie.Need-count-requires Inv-loop μ-loop
+count-requires c κs = search needs
 
 add-i : tie.Need-add-i Inv-loop μ-loop
 add-i c = search needs
@@ -52,8 +55,9 @@ tail-spec =
     text-requires
     tail-bits-requires
     loop-holds
-    array-read-byte
-    byte-requires
+    array-read-small
+    small-requires
+    count-requires
     add-i
     loop-less
     loop-again
