@@ -2,16 +2,21 @@
 // whether the end states are. The same with the sum encoded from state 0, which is wrong for the first points, and with or in place of exclusive-or. Then each rate of ISDB-T, by the
 // bits that are sent; ISDB-S QPSK 2/3 beside ISDB-T 2/3; a code of length 3; the rows.
 ghost use Prim.Native.Nat.{_≤_};
+use cases_frames::mapping_of;
+use cases_frames::table_of;
+use cases_lib::least;
+use cases_lib::one;
+use cases_lib::row;
+use cases_lib::show;
+use cases_lib::show_bits;
+use cases_lib::small;
+use cases_lib::step;
+use cases_lib::text;
 use isdb_fec::conv::ConvEncoder;
-use isdbs_core::tmcc::DUMMY;
-use isdbs_core::tmcc::Entry;
-use isdbs_core::tmcc::Table;
-use isdbs_phy::demod::Mapping;
 use isdbs_phy::demod::encode_frame_with_state;
 use isdbt_fec::conv::CodeRate;
 use isdbt_fec::conv::Encoded;
 use isdbt_fec::conv::encode_punctured;
-use libc::STDOUT_FILENO;
 use overlay_encode::Code;
 use overlay_encode::encode_overlaid;
 use overlay_encode::overlay;
@@ -20,20 +25,6 @@ use overlay_encode::overlay;
 const FIRST: u8 = 5;
 
 const SECOND: u8 = 63;
-
-fn text(s: &[u8]) {
-    io::write_all(STDOUT_FILENO, s);
-}
-
-fn number(n: usize) {
-    io::print_decimal(STDOUT_FILENO, n as u64);
-}
-
-fn step(x: u64) -> u64 {
-    let a = x ^ (x << 13);
-    let b = a ^ (a >> 7);
-    b ^ (b << 17)
-}
 
 // Two loads, their exclusive-or, and their or.
 fn fill(
@@ -91,79 +82,74 @@ fn bits_of(word: u8, re: f64, im: f64) -> u8 {
     }
 }
 
+// The bits of each point.
+fn lay(word: u8, re: &[f64; 38976], im: &[f64; 38976], bits: &mut [u8; 38976]) {
+    for k in 0..38976usize {
+        bits[k] = bits_of(word, re[k], im[k]);
+    }
+}
+
 // The points of a load in a frame of one combination, from a state. The state after it; 255 where the call is refused.
-fn frame(
+fn encode(
     load: &[u8; 9744],
     word: u8,
     state: u8,
     re: &mut [f64; 38976],
     im: &mut [f64; 38976],
 ) -> u8 {
-    let e = Entry { word, slots: 48 };
-    let t = Table {
-        entries: [e, DUMMY, DUMMY, DUMMY],
-    };
-    let m = Mapping {
-        conjugate: false,
-        qpsk_p1_on_q: false,
-        tc8psk_c1_is_y: true,
-    };
-    let made = encode_frame_with_state(load, t, ConvEncoder { state }, m, re, im);
+    let t = table_of(0x000f_000f_000f_3000 + word as u64);
+    let made = encode_frame_with_state(load, t, ConvEncoder { state }, mapping_of(4), re, im);
     let answer = made.answer;
-    if refusal::number(answer) != 0 {
+    if row(answer) != 0 {
         return 255;
     }
-    let last = made.enc;
-    last.state
+    made.enc.state
 }
 
-// Of how many points of the third frame the bits are the exclusive-or of those of the first and the second.
-fn overlaid(
-    word: u8,
-    re: &[f64; 38976],
-    im: &[f64; 38976],
-    re2: &[f64; 38976],
-    im2: &[f64; 38976],
-    re3: &[f64; 38976],
-    im3: &[f64; 38976],
-) -> usize {
+// The same with the bits of the points alone.
+fn frame(load: &[u8; 9744], word: u8, state: u8, bits: &mut [u8; 38976]) -> u8 {
+    let mut re = [0.0f64; 38976];
+    let mut im = [0.0f64; 38976];
+    let last = encode(load, word, state, &mut re, &mut im);
+    lay(word, &re, &im, bits);
+    last
+}
+
+// How many places of the third list are the exclusive-or of those of the first and the second, as far as all reach.
+fn overlaid(a: &[u8], b: &[u8], c: &[u8]) -> usize {
+    let end = least(a.len(), least(b.len(), c.len()));
     let mut n: usize = 0;
-    for k in 0..38976usize {
-        let a = bits_of(word, re[k], im[k]);
-        let b = bits_of(word, re2[k], im2[k]);
-        if a ^ b == bits_of(word, re3[k], im3[k]) {
-            n = n % 38976 + 1;
-        }
+    for k in 0..end {
+        n += one(a[k] ^ b[k] == c[k]);
     }
     n
 }
 
-fn ends(agree: bool) {
-    if agree {
-        text(b", end states agree");
-    } else {
-        text(b", end states DIFFER");
-    }
+// Of how many points the bits are right, and whether the end state is.
+struct Laid {
+    right: usize,
+    ends: usize,
 }
 
-// A load in the place of the sum, from a state: of how many points the bits are right, and whether the end state is.
+fn points(a: &[u8; 38976], b: &[u8; 38976], c: &[u8; 38976]) -> usize {
+    overlaid(a, b, c)
+}
+
+// A load in the place of the sum, from a state.
 fn third(
-    label: &[u8],
     word: u8,
     load: &[u8; 9744],
     state: u8,
     end: u8,
-    re: &[f64; 38976],
-    im: &[f64; 38976],
-    re2: &[f64; 38976],
-    im2: &[f64; 38976],
-    re3: &mut [f64; 38976],
-    im3: &mut [f64; 38976],
-) {
-    text(label);
-    let last = frame(load, word, state, re3, im3);
-    number(overlaid(word, re, im, re2, im2, re3, im3));
-    ends(last == end);
+    a: &[u8; 38976],
+    b: &[u8; 38976],
+) -> Laid {
+    let mut c = [0u8; 38976];
+    let last = frame(load, word, state, &mut c);
+    Laid {
+        right: points(a, b, &c),
+        ends: one(last == end),
+    }
 }
 
 fn combination(
@@ -172,69 +158,32 @@ fn combination(
     second: &[u8; 9744],
     sum: &[u8; 9744],
     either: &[u8; 9744],
-    re: &mut [f64; 38976],
-    im: &mut [f64; 38976],
-    re2: &mut [f64; 38976],
-    im2: &mut [f64; 38976],
-    re3: &mut [f64; 38976],
-    im3: &mut [f64; 38976],
 ) {
-    let a = frame(first, word, FIRST, re, im);
-    let b = frame(second, word, SECOND, re2, im2);
-    let end = a ^ b;
-    text(b"ISDB-S word ");
-    number(word as usize);
-    third(b": points ", word, sum, 58, end, re, im, re2, im2, re3, im3);
-    third(
-        b"; from state 0: points ",
-        word,
-        sum,
-        0,
-        end,
-        re,
-        im,
-        re2,
-        im2,
-        re3,
-        im3,
+    let mut a = [0u8; 38976];
+    let mut b = [0u8; 38976];
+    let after = frame(first, word, FIRST, &mut a);
+    let end = after ^ frame(second, word, SECOND, &mut b);
+    let x = third(word, sum, 58, end, &a, &b);
+    let y = third(word, sum, 0, end, &a, &b);
+    let z = third(word, either, 58, end, &a, &b);
+    let found = [
+        small(word),
+        x.right,
+        x.ends,
+        y.right,
+        y.ends,
+        z.right,
+        z.ends,
+    ];
+    show(
+        b"ISDB-S word #: points #, end states &; from state 0: points #, end states &; or: points #, end states &\n",
+        &found,
     );
-    third(
-        b"; or: points ",
-        word,
-        either,
-        58,
-        end,
-        re,
-        im,
-        re2,
-        im2,
-        re3,
-        im3,
-    );
-    text(b"\n");
 }
 
 fn combinations(first: &[u8; 9744], second: &[u8; 9744], sum: &[u8; 9744], either: &[u8; 9744]) {
-    let mut re = [0.0f64; 38976];
-    let mut im = [0.0f64; 38976];
-    let mut re2 = [0.0f64; 38976];
-    let mut im2 = [0.0f64; 38976];
-    let mut re3 = [0.0f64; 38976];
-    let mut im3 = [0.0f64; 38976];
     for word in 1..8u8 {
-        combination(
-            word,
-            first,
-            second,
-            sum,
-            either,
-            &mut re,
-            &mut im,
-            &mut re2,
-            &mut im2,
-            &mut re3,
-            &mut im3,
-        );
+        combination(word, first, second, sum, either);
     }
 }
 
@@ -248,17 +197,6 @@ fn rate_of(row: usize) -> CodeRate {
         3 => CodeRate::R5_6,
         _ => CodeRate::R7_8,
     }
-}
-
-// How many of the first 420 places of the third output are the exclusive-or of those of the first and the second.
-fn alike(a: &[u8; 420], b: &[u8; 420], c: &[u8; 420]) -> usize {
-    let mut n: usize = 0;
-    for k in 0..420usize {
-        if a[k] ^ b[k] == c[k] {
-            n = n % 420 + 1;
-        }
-    }
-    n
 }
 
 // What is sent for the first 210 bytes of a load, of which only the low bits count, from a state. Places past it hold 0.
@@ -275,33 +213,46 @@ fn last(x: Encoded) -> u8 {
     enc.state
 }
 
-// A sum from a state: how many bits are sent, how many places are right; the state after them.
-fn third_sent(
-    label: &[u8],
-    row: usize,
-    sum: &[u8; 9744],
-    state: u8,
-    a: &[u8; 420],
-    b: &[u8; 420],
-) -> u8 {
+// A sum from a state: how many bits are sent, how many places are right, the state after them.
+struct SumSent {
+    count: usize,
+    right: usize,
+    last: u8,
+}
+
+fn places(a: &[u8; 420], b: &[u8; 420], c: &[u8; 420]) -> usize {
+    overlaid(a, b, c)
+}
+
+fn third_sent(row: usize, sum: &[u8; 9744], state: u8, a: &[u8; 420], b: &[u8; 420]) -> SumSent {
     let mut c = [0u8; 420];
     let z = send(sum, row, state, &mut c);
-    text(label);
-    number(z.count);
-    text(b", places that agree ");
-    number(alike(a, b, &c));
-    last(z)
+    SumSent {
+        count: z.count,
+        right: places(a, b, &c),
+        last: last(z),
+    }
 }
 
 fn rate(row: usize, first: &[u8; 9744], second: &[u8; 9744], sum: &[u8; 9744]) {
     let mut a = [0u8; 420];
     let mut b = [0u8; 420];
     let end = last(send(first, row, FIRST, &mut a)) ^ last(send(second, row, SECOND, &mut b));
-    text(b"ISDB-T row ");
-    number(row);
-    ends(third_sent(b": sent ", row, sum, 58, &a, &b) == end);
-    ends(third_sent(b"; from state 0: sent ", row, sum, 0, &a, &b) == end);
-    text(b"\n");
+    let x = third_sent(row, sum, 58, &a, &b);
+    let y = third_sent(row, sum, 0, &a, &b);
+    let found = [
+        row,
+        x.count,
+        x.right,
+        one(x.last == end),
+        y.count,
+        y.right,
+        one(y.last == end),
+    ];
+    show(
+        b"ISDB-T row #: sent #, places that agree #, end states &; from state 0: sent #, places that agree #, end states &\n",
+        &found,
+    );
 }
 
 // ---- 2/3
@@ -314,12 +265,10 @@ fn unpack(load: &[u8; 9744], bits: &mut [u8; 840]) {
 }
 
 // Of how many of the first 630 points the bits are those that ISDB-T sends.
-fn pairs(re: &[f64; 38976], im: &[f64; 38976], sent: &[u8; 1260]) -> usize {
+fn pairs(points: &[u8; 38976], sent: &[u8; 1260]) -> usize {
     let mut n: usize = 0;
     for j in 0..630usize {
-        if bit(re[j]) == sent[2 * j] && bit(im[j]) == sent[2 * j + 1] {
-            n = n % 630 + 1;
-        }
+        n += one((points[j] % 2 == sent[2 * j]) & (points[j] / 2 == sent[2 * j + 1]));
     }
     n
 }
@@ -332,51 +281,39 @@ fn send_bits(bits: &[u8; 840], sent: &mut [u8; 1260]) -> usize {
 
 // 210 periods of ISDB-S QPSK 2/3, which are 420 of ISDB-T 2/3.
 fn two_thirds(load: &[u8; 9744]) {
-    let mut re = [0.0f64; 38976];
-    let mut im = [0.0f64; 38976];
+    let mut points = [0u8; 38976];
     let mut bits = [0u8; 840];
     let mut sent = [9u8; 1260];
-    let end = frame(load, 3, FIRST, &mut re, &mut im);
+    frame(load, 3, FIRST, &mut points);
     unpack(load, &mut bits);
-    text(b"QPSK 2/3 beside ISDB-T 2/3: sent ");
-    number(send_bits(&bits, &mut sent));
-    text(b", points that agree ");
-    number(pairs(&re, &im, &sent));
-    text(b" of 630\n");
+    let n = send_bits(&bits, &mut sent);
+    let found = [n, pairs(&points, &sent)];
+    show(
+        b"QPSK 2/3 beside ISDB-T 2/3: sent #, points that agree # of 630\n",
+        &found,
+    );
 }
 
 // ---- a short code
 
-fn put(byte: u8) {
-    let one = [byte];
-    text(&one);
-}
-
-fn bit_text(b: u8) {
-    if b > 1 {
-        put(b'?');
-    } else {
-        put(b'0' + b);
-    }
-}
-
 fn line(label: &[u8], out: &[u8; 12], enc: ConvEncoder) {
     text(label);
-    for k in 0..12usize {
-        bit_text(out[k]);
-    }
-    text(b" state ");
-    number(enc.state as usize);
-    text(b"\n");
+    show_bits(out);
+    let state = [small(enc.state)];
+    show(b" state #\n", &state);
 }
 
-// Length 3 with 7 and 5 octal, from the states 1 and 3: six inputs each, of which only the low bits count.
-fn length_three() {
-    let code = Code {
-        constraint: 3,
+// A code with the generators 7 and 5 octal.
+fn code_of(constraint: u8) -> Code {
+    Code {
+        constraint,
         g1: 7,
         g2: 5,
-    };
+    }
+}
+
+// Length 3, from the states 1 and 3: six inputs each, of which only the low bits count.
+fn length_three() {
     let us = [1u8, 0, 255, 2, 1, 1];
     let vs = [0u8, 3, 1, 0, 254, 1];
     let mut ws = [9u8; 6];
@@ -384,7 +321,7 @@ fn length_three() {
     let mut y = [9u8; 12];
     let mut z = [9u8; 12];
     let e = encode_overlaid(
-        code,
+        code_of(3),
         ConvEncoder { state: 1 },
         ConvEncoder { state: 3 },
         &us,
@@ -395,25 +332,15 @@ fn length_three() {
         &mut z,
     );
     let answer = e.answer;
-    text(b"length 3: answer ");
-    number(refusal::number(answer) as usize);
-    text(b"\n");
+    let found = [row(answer)];
+    show(b"length 3: answer #\n", &found);
     line(b"first  ", &x, e.first);
     line(b"second ", &y, e.second);
     line(b"sum    ", &z, e.third);
 }
 
-fn row(n: u32) {
-    text(b" ");
-    io::print_decimal(STDOUT_FILENO, wide(n));
-}
-
-fn wide(n: u32) -> u64 {
-    n as u64
-}
-
 // The answer for generators 7 and 5 octal, from the states s and r, to strings of n and m bytes, with w places for their exclusive-or, v for the third output and 8 for the others.
-fn answer(k: u8, s: u8, r: u8, n: usize, m: usize, w: usize, v: usize)
+fn answer(k: u8, s: u8, r: u8, n: usize, m: usize, w: usize, v: usize) -> usize
     requires { ⌜ (n ≤ 4) × (m ≤ 4) × (w ≤ 4) × (v ≤ 8) ⌝ }
 {
     let us = [1u8; 4];
@@ -422,13 +349,8 @@ fn answer(k: u8, s: u8, r: u8, n: usize, m: usize, w: usize, v: usize)
     let mut out1 = [9u8; 8];
     let mut out2 = [9u8; 8];
     let mut out3 = [9u8; 8];
-    let code = Code {
-        constraint: k,
-        g1: 7,
-        g2: 5,
-    };
     let e = encode_overlaid(
-        code,
+        code_of(k),
         ConvEncoder { state: s },
         ConvEncoder { state: r },
         &us[0..n],
@@ -439,35 +361,38 @@ fn answer(k: u8, s: u8, r: u8, n: usize, m: usize, w: usize, v: usize)
         &mut out3[0..v],
     );
     let a = e.answer;
-    row(refusal::number(a));
+    row(a)
 }
 
 // The answer to the exclusive-or of strings of n and m bytes into w places.
-fn answer_alone(n: usize, m: usize, w: usize)
+fn answer_alone(n: usize, m: usize, w: usize) -> usize
     requires { ⌜ (n ≤ 4) × (m ≤ 4) × (w ≤ 4) ⌝ }
 {
     let us = [1u8; 4];
     let vs = [1u8; 4];
     let mut ws = [9u8; 4];
-    row(refusal::number(overlay(&us[0..n], &vs[0..m], &mut ws[0..w])));
+    row(overlay(&us[0..n], &vs[0..m], &mut ws[0..w]))
 }
 
 // Each row in turn, where those below it hold too.
 fn rows() {
-    text(b"rows:");
-    answer(2, 4, 4, 4, 3, 3, 7);
-    answer(4, 4, 4, 4, 3, 3, 7);
-    answer(3, 4, 0, 4, 3, 3, 7);
-    answer(3, 0, 4, 4, 3, 3, 7);
-    answer(3, 3, 3, 4, 3, 3, 7);
-    answer(3, 3, 3, 4, 4, 3, 8);
-    answer(3, 3, 3, 4, 4, 4, 7);
-    answer(3, 3, 3, 4, 4, 4, 8);
-    text(b"; of the exclusive-or alone:");
-    answer_alone(4, 3, 3);
-    answer_alone(4, 4, 3);
-    answer_alone(4, 4, 4);
-    text(b"\n");
+    let found = [
+        answer(2, 4, 4, 4, 3, 3, 7),
+        answer(4, 4, 4, 4, 3, 3, 7),
+        answer(3, 4, 0, 4, 3, 3, 7),
+        answer(3, 0, 4, 4, 3, 3, 7),
+        answer(3, 3, 3, 4, 3, 3, 7),
+        answer(3, 3, 3, 4, 4, 3, 8),
+        answer(3, 3, 3, 4, 4, 4, 7),
+        answer(3, 3, 3, 4, 4, 4, 8),
+        answer_alone(4, 3, 3),
+        answer_alone(4, 4, 3),
+        answer_alone(4, 4, 4),
+    ];
+    show(
+        b"rows: # # # # # # # #; of the exclusive-or alone: # # #\n",
+        &found,
+    );
 }
 
 fn main() {

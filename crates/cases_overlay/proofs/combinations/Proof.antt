@@ -5,10 +5,10 @@ use Rattle.cases_overlay.proofs.combinations.Statement.{statement}
 use Rattle.cases_overlay.proofs.combinations.Tie as tie
 
 abbrev Inv-loop : tie.InvT-loop
-Inv-loop first second sum either re₀ im₀ re2₀ im2₀ re3₀ im3₀ word₀ re im re2 im2 re3 im3 word = word ≤ 8
+Inv-loop first second sum either word₀ word = word ≤ 8
 
 abbrev μ-loop : tie.MeasureT-loop
-μ-loop first second sum either re₀ im₀ re2₀ im2₀ re3₀ im3₀ word₀ re im re2 im2 re3 im3 word = 8 - word
+μ-loop first second sum either word₀ word = 8 - word
 
 loop-holds : tie.Need-loop-holds Inv-loop μ-loop
 loop-holds c = search needs

@@ -1,62 +1,35 @@
--- `overlaid` meets its contract. Assumes nothing.
+-- `overlaid` is safe and ends. Assumes nothing.
 use Prim.Native.Nat.{_-_, _≤_}
 use borrow.Author.Needs.{needs}
 use Rattle.cases_overlay.proofs.overlaid.Statement.{statement}
 use Rattle.cases_overlay.proofs.overlaid.Tie as tie
 
 abbrev Inv-loop : tie.InvT-loop
-Inv-loop word re im re2 im2 re3 im3 n₀ k₀ n k = k ≤ 38976
+Inv-loop a b c end n₀ k₀ n k = (n ≤ k) × (k ≤ end)
 
 abbrev μ-loop : tie.MeasureT-loop
-μ-loop word re im re2 im2 re3 im3 n₀ k₀ n k = 38976 - k
+μ-loop a b c end n₀ k₀ n k = end - k
+
+least-requires : tie.Need-least-requires Inv-loop μ-loop
+least-requires c κs = search needs
+
+least-requires-2 : tie.Need-least-requires-2 Inv-loop μ-loop
+least-requires-2 c κs = search needs
 
 loop-holds : tie.Need-loop-holds Inv-loop μ-loop
 loop-holds c = search needs
 
-mul-bits-of : tie.Need-mul-bits-of Inv-loop μ-loop
-mul-bits-of c = search needs
+shared-slice-read-one : tie.Need-shared-slice-read-one Inv-loop μ-loop
+shared-slice-read-one c = search needs
 
-element-copy-out-bits-of : tie.Need-element-copy-out-bits-of Inv-loop μ-loop
-element-copy-out-bits-of c = search needs
+shared-slice-read-one-2 : tie.Need-shared-slice-read-one-2 Inv-loop μ-loop
+shared-slice-read-one-2 c = search needs
 
-mul-bits-of-2 : tie.Need-mul-bits-of-2 Inv-loop μ-loop
-mul-bits-of-2 c = search needs
+shared-slice-read-one-3 : tie.Need-shared-slice-read-one-3 Inv-loop μ-loop
+shared-slice-read-one-3 c = search needs
 
-element-copy-out-bits-of-2 : tie.Need-element-copy-out-bits-of-2 Inv-loop μ-loop
-element-copy-out-bits-of-2 c = search needs
-
-bits-of-requires : tie.Need-bits-of-requires Inv-loop μ-loop
-bits-of-requires c κs = search needs
-
-mul-bits-of-3 : tie.Need-mul-bits-of-3 Inv-loop μ-loop
-mul-bits-of-3 c = search needs
-
-element-copy-out-bits-of-3 : tie.Need-element-copy-out-bits-of-3 Inv-loop μ-loop
-element-copy-out-bits-of-3 c = search needs
-
-mul-bits-of-4 : tie.Need-mul-bits-of-4 Inv-loop μ-loop
-mul-bits-of-4 c = search needs
-
-element-copy-out-bits-of-4 : tie.Need-element-copy-out-bits-of-4 Inv-loop μ-loop
-element-copy-out-bits-of-4 c = search needs
-
-bits-of-requires-2 : tie.Need-bits-of-requires-2 Inv-loop μ-loop
-bits-of-requires-2 c κs = search needs
-
-mul-bits-of-5 : tie.Need-mul-bits-of-5 Inv-loop μ-loop
-mul-bits-of-5 c = search needs
-
-element-copy-out-bits-of-5 : tie.Need-element-copy-out-bits-of-5 Inv-loop μ-loop
-element-copy-out-bits-of-5 c = search needs
-
-mul-bits-of-6 : tie.Need-mul-bits-of-6 Inv-loop μ-loop
-mul-bits-of-6 c = search needs
-
-element-copy-out-bits-of-6 : tie.Need-element-copy-out-bits-of-6 Inv-loop μ-loop
-element-copy-out-bits-of-6 c = search needs
-
-bits-of-requires-3 : tie.Need-bits-of-requires-3 Inv-loop μ-loop
-bits-of-requires-3 c κs = search needs
+one-requires : tie.Need-one-requires Inv-loop μ-loop
+one-requires c κs = search needs
 
 add-n : tie.Need-add-n Inv-loop μ-loop
 add-n c = search needs
@@ -79,22 +52,13 @@ overlaid-spec =
     (tie.spec
     Inv-loop
     μ-loop
+    least-requires
+    least-requires-2
     loop-holds
-    mul-bits-of
-    element-copy-out-bits-of
-    mul-bits-of-2
-    element-copy-out-bits-of-2
-    bits-of-requires
-    mul-bits-of-3
-    element-copy-out-bits-of-3
-    mul-bits-of-4
-    element-copy-out-bits-of-4
-    bits-of-requires-2
-    mul-bits-of-5
-    element-copy-out-bits-of-5
-    mul-bits-of-6
-    element-copy-out-bits-of-6
-    bits-of-requires-3
+    shared-slice-read-one
+    shared-slice-read-one-2
+    shared-slice-read-one-3
+    one-requires
     add-n
     add-k
     loop-less

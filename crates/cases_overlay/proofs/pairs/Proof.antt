@@ -1,50 +1,41 @@
--- `pairs` meets its contract. Assumes nothing.
+-- `pairs` is safe and ends. Assumes nothing.
 use Prim.Native.Nat.{_-_, _≤_}
 use borrow.Author.Needs.{needs}
 use Rattle.cases_overlay.proofs.pairs.Statement.{statement}
 use Rattle.cases_overlay.proofs.pairs.Tie as tie
 
 abbrev Inv-loop : tie.InvT-loop
-Inv-loop re im sent n₀ j₀ n j = j ≤ 630
+Inv-loop points sent n₀ j₀ n j = (n ≤ j) × (j ≤ 630)
 
 abbrev μ-loop : tie.MeasureT-loop
-μ-loop re im sent n₀ j₀ n j = 630 - j
+μ-loop points sent n₀ j₀ n j = 630 - j
 
 loop-holds : tie.Need-loop-holds Inv-loop μ-loop
 loop-holds c = search needs
 
-mul-bit : tie.Need-mul-bit Inv-loop μ-loop
-mul-bit c = search needs
+element-copy-out-one : tie.Need-element-copy-out-one Inv-loop μ-loop
+element-copy-out-one c = search needs
 
-element-copy-out-bit : tie.Need-element-copy-out-bit Inv-loop μ-loop
-element-copy-out-bit c = search needs
+mul-one : tie.Need-mul-one Inv-loop μ-loop
+mul-one c = search needs
 
-bit-requires : tie.Need-bit-requires Inv-loop μ-loop
-bit-requires c κs = search needs
+element-copy-out-one-2 : tie.Need-element-copy-out-one-2 Inv-loop μ-loop
+element-copy-out-one-2 c = search needs
 
-mul-if1 : tie.Need-mul-if1 Inv-loop μ-loop
-mul-if1 c = search needs
+element-copy-out-one-3 : tie.Need-element-copy-out-one-3 Inv-loop μ-loop
+element-copy-out-one-3 c = search needs
 
-element-copy-out-if1 : tie.Need-element-copy-out-if1 Inv-loop μ-loop
-element-copy-out-if1 c = search needs
+mul-one-2 : tie.Need-mul-one-2 Inv-loop μ-loop
+mul-one-2 c = search needs
 
-mul-bit-2 : tie.Need-mul-bit-2 Inv-loop μ-loop
-mul-bit-2 c = search needs
+add-one : tie.Need-add-one Inv-loop μ-loop
+add-one c = search needs
 
-element-copy-out-bit-2 : tie.Need-element-copy-out-bit-2 Inv-loop μ-loop
-element-copy-out-bit-2 c = search needs
+element-copy-out-one-4 : tie.Need-element-copy-out-one-4 Inv-loop μ-loop
+element-copy-out-one-4 c = search needs
 
-bit-requires-2 : tie.Need-bit-requires-2 Inv-loop μ-loop
-bit-requires-2 c κs = search needs
-
-mul-if2 : tie.Need-mul-if2 Inv-loop μ-loop
-mul-if2 c = search needs
-
-add-if2 : tie.Need-add-if2 Inv-loop μ-loop
-add-if2 c = search needs
-
-element-copy-out-if2 : tie.Need-element-copy-out-if2 Inv-loop μ-loop
-element-copy-out-if2 c = search needs
+one-requires : tie.Need-one-requires Inv-loop μ-loop
+one-requires c κs = search needs
 
 add-n : tie.Need-add-n Inv-loop μ-loop
 add-n c = search needs
@@ -68,17 +59,14 @@ pairs-spec =
     Inv-loop
     μ-loop
     loop-holds
-    mul-bit
-    element-copy-out-bit
-    bit-requires
-    mul-if1
-    element-copy-out-if1
-    mul-bit-2
-    element-copy-out-bit-2
-    bit-requires-2
-    mul-if2
-    add-if2
-    element-copy-out-if2
+    element-copy-out-one
+    mul-one
+    element-copy-out-one-2
+    element-copy-out-one-3
+    mul-one-2
+    add-one
+    element-copy-out-one-4
+    one-requires
     add-n
     add-j
     loop-less
