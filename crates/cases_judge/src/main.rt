@@ -2,14 +2,19 @@
 // the first run with one part at an end, or one ulp beyond it; the same points negated; the last point at the limit of a part, which is free where no run has it. A point outside must be
 // counted alone and in its slot. Then each row, alone and before a later one, with no count changed. The slices are four points longer than a frame, and these are beyond the limit.
 ghost use Prim.Native.Nat.{_≤_, _<_};
-use isdbs_core::slots::runs;
-use isdbs_core::tmcc::Entry;
-use isdbs_core::tmcc::Table;
+use cases_frames::load_bytes;
+use cases_frames::mapping_of;
+use cases_frames::table_of;
+use cases_lib::draw;
+use cases_lib::least;
+use cases_lib::one;
+use cases_lib::row;
+use cases_lib::show;
+use cases_lib::step;
+use cases_lib::wide;
 use isdbs_phy::demod::encode_frame;
 use judge::FrameJudged;
-use judge::Mapping;
 use judge::judge;
-use libc::STDOUT_FILENO;
 
 // The tables. Entry i has its word at bit 16 i and its slots at bit 16 i + 8.
 const TABLES: [u64; 8] = [
@@ -23,63 +28,9 @@ const TABLES: [u64; 8] = [
     0x2c07_0402,
 ];
 
-// The lists' generator.
-fn step(x: u64) -> u64 {
-    let a = x ^ (x << 13);
-    let b = a ^ (a >> 7);
-    b ^ (b << 17)
-}
-
-// Entry i of a table.
-fn entry(table: u64, i: u32) -> Entry
-    requires { ⌜ i < 4 ⌝ }
-{
-    let at = table >> (16 * i);
-    Entry {
-        word: (at % 256) as u8,
-        slots: (at / 256 % 256) as u8,
-    }
-}
-
-fn table_of(table: u64) -> Table {
-    let a = entry(table, 0);
-    let b = entry(table, 1);
-    let c = entry(table, 2);
-    let d = entry(table, 3);
-    Table {
-        entries: [a, b, c, d],
-    }
-}
-
-fn mapping_of(bits: u64) -> Mapping {
-    Mapping {
-        conjugate: bits % 2 == 1,
-        qpsk_p1_on_q: bits / 2 % 2 == 1,
-        tc8psk_c1_is_y: bits / 4 % 2 == 1,
-    }
-}
-
 // The kind of frame k: both with each mapping.
 fn is_first(k: u64) -> bool {
     k / 8 % 2 == 1
-}
-
-// The bytes of a table's load: 203 for each valid slot.
-fn load_bytes(table: u64) -> usize
-    ensures { λ r. ⌜ r ≤ 9744 ⌝ }
-{
-    let r = runs(table_of(table));
-    let valid = r.valid_slots;
-    valid % 49 * 203
-}
-
-// Bytes of a seed.
-fn fill(bytes: &mut [u8; 9750], seed: u64) {
-    let mut x = seed;
-    for i in 0..9750usize {
-        x = step(x);
-        bytes[i] = (x / 0x100_0000_0000_0000 % 256) as u8;
-    }
 }
 
 // The first n bytes or parts, or none where there are fewer.
@@ -154,8 +105,7 @@ fn spread(re: &mut [f64; 38980], im: &mut [f64; 38980], seed: u64, noisy: bool) 
 fn place(draw: u64, table: u64) -> usize
     ensures { λ r. ⌜ r < 38976 ⌝ }
 {
-    let e = entry(table, 0);
-    let slots = e.slots as u64;
+    let slots = table / 256 % 256;
     if slots == 0 {
         return 0;
     }
@@ -171,7 +121,7 @@ fn place(draw: u64, table: u64) -> usize
 
 // What `judge` says.
 struct Told {
-    number: u32,
+    number: usize,
     sum: u32,
 }
 
@@ -182,22 +132,10 @@ fn ask(way: u64, table: u64, re: &[f64], im: &[f64], bytes: &[u8], counts: &mut 
     match r {
         FrameJudged::Judged(n) => Told { number: 0, sum: n },
         FrameJudged::Refused(a) => Told {
-            number: refusal::number(a),
+            number: row(a),
             sum: 0,
         },
     }
-}
-
-fn fewer(a: usize, b: usize) -> usize
-    ensures { λ r. ⌜ r ≤ b ⌝ }
-{
-    if a <= b { a } else { b }
-}
-
-fn one(b: bool) -> u32
-    ensures { λ r. ⌜ r ≤ 1 ⌝ }
-{
-    if b { 1 } else { 0 }
 }
 
 // The same with the first n counts.
@@ -210,7 +148,7 @@ fn ask_front(
     counts: &mut [u32],
     n: usize,
 ) -> Told {
-    let e = fewer(n, counts.len());
+    let e = least(n, counts.len());
     ask(way, table, re, im, bytes, &mut counts[0..e])
 }
 
@@ -234,20 +172,13 @@ struct Wanted {
 fn is_right(told: Told, w: Wanted, counts: &[u32; 50]) -> bool
     requires { ⌜ w .slot < 48 ⌝ }
 {
-    if told.number != 0 {
-        return false;
-    }
-    if told.sum != total(counts) {
-        return false;
-    }
-    if counts[48] != 7 || counts[49] != 7 {
-        return false;
-    }
-    if w.noisy {
-        return told.sum > 100;
-    }
     let slot = w.slot;
-    told.sum == w.outside && counts[slot] == w.outside
+    let placed = (told.sum == w.outside) & (counts[slot] == w.outside);
+    (told.number == 0)
+        & (told.sum == total(counts))
+        & (counts[48] == 7)
+        & (counts[49] == 7)
+        & (if w.noisy { told.sum > 100 } else { placed })
 }
 
 // Point k with its real (how below 4) or its imaginary part changed, or both negated (8).
@@ -328,9 +259,8 @@ fn prepare(re: &mut [f64; 38980], im: &mut [f64; 38980], table: u64, i: u64, see
     let how = (i - 4) % 9;
     let end = end_of(re[k], im[k], how);
     change(re, im, k, how);
-    let e = entry(table, 0);
     Wanted {
-        outside: leaves(how, e.word % 16 == 1),
+        outside: leaves(how, table % 16 == 1),
         slot: k / 812,
         noisy: false,
         end,
@@ -367,14 +297,14 @@ fn one_case(
     let w = prepare(re, im, table, i, step(step(k * 64 + i + 0x9e37_79b9)));
     let told = ask_front(k, table, re, im, front(load, n), &mut counts, 50);
     Case {
-        right: refusal::number(made) == 0 && is_right(told, w, &counts),
+        right: (row(made) == 0) & is_right(told, w, &counts),
         end: w.end,
     }
 }
 
 // How many cases are right, and the ends that were met.
 struct Cases {
-    right: u32,
+    right: usize,
     ends: u32,
 }
 
@@ -389,7 +319,7 @@ fn one_frame(
     requires { ⌜ k < 32 ⌝ }
     ensures { λ r. ⌜ r .right ≤ 22 ⌝ }
 {
-    let mut right: u32 = 0;
+    let mut right: usize = 0;
     let mut ends: u32 = 0;
     for i in 0..22u64 {
         let c = one_case(k, table, i, re, im, load);
@@ -402,7 +332,7 @@ fn one_frame(
 // The 32 frames.
 fn frames(re: &mut [f64; 38980], im: &mut [f64; 38980], load: &[u8; 9750]) -> Cases {
     let tables = TABLES;
-    let mut right: u32 = 0;
+    let mut right: usize = 0;
     let mut ends: u32 = 0;
     for k in 0..32usize {
         let c = one_frame(k as u64, tables[(k + 3 * (k / 8)) % 8], re, im, load);
@@ -474,41 +404,31 @@ fn one_row(i: usize, re: &[f64; 38980], im: &mut [f64; 38980], load: &[u8; 9750]
         l[i][3],
     );
     let kept = total(&counts) == 336;
-    told.number as usize == l[i][4] && kept == (l[i][4] != 0)
+    (told.number == l[i][4]) & (kept == (l[i][4] != 0))
 }
 
 // How many of the 17 are.
-fn rows(re: &[f64; 38980], im: &mut [f64; 38980], load: &[u8; 9750]) -> u32 {
-    let mut right: u32 = 0;
+fn rows(re: &[f64; 38980], im: &mut [f64; 38980], load: &[u8; 9750]) -> usize {
+    let mut right: usize = 0;
     for i in 0..17usize {
         right = right + one(one_row(i, re, im, load));
     }
     right
 }
 
-fn show(right: u32, of: u64, what: &[u8]) {
-    io::print_decimal(STDOUT_FILENO, right as u64);
-    io::write_all(STDOUT_FILENO, b" of ");
-    io::print_decimal(STDOUT_FILENO, of);
-    io::write_all(STDOUT_FILENO, what);
-}
-
-fn run(re: &mut [f64; 38980], im: &mut [f64; 38980], load: &mut [u8; 9750]) {
-    fill(load, 0x9e37_79b9_7f4a_7c15);
-    let c = frames(re, im, load);
-    show(c.right, 704, b" cases of 32 frames are judged right\n");
+fn run(re: &mut [f64; 38980], im: &mut [f64; 38980]) {
+    let mut load = [0u8; 9750];
+    draw(&mut load, 9750, 0x9e37_79b9_7f4a_7c15);
+    let c = frames(re, im, &load);
+    let found = [c.right, wide(u32::count_ones(c.ends)), rows(re, im, &load)];
     show(
-        u32::count_ones(c.ends),
-        20,
-        b" ends of margins and ulps beyond them were met\n",
+        b"# of 704 cases of 32 frames are judged right\n# of 20 ends of margins and ulps beyond them were met\n# of 17 rows are answered right\n",
+        &found,
     );
-    let r = rows(re, im, load);
-    show(r, 17, b" rows are answered right\n");
 }
 
 fn main() {
     let mut re = [100000.0f64; 38980];
     let mut im = [100000.0f64; 38980];
-    let mut load = [0u8; 9750];
-    run(&mut re, &mut im, &mut load);
+    run(&mut re, &mut im);
 }
