@@ -15,7 +15,7 @@ use Rattle.trellis.specs.Lists.{bit, packed}
 use Rattle.trellis.specs.Step as trellis
 use Rattle.trellis.specs.Step.{Step}
 use Rattle.trellis.specs.Isdb.{rule, cand, wins, next, nexts, word}
-use Rattle.acs.specs.Written.{written-whole, lt-or-ge}
+use Rattle.trellis.specs.WrittenLaws.{written-whole, lt-or-ge}
 use Rattle.acs.specs.Packed.{packed-more, packed-both}
 use Rattle.acs.specs.Half.{Half}
 

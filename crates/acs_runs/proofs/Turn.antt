@@ -12,7 +12,7 @@ use Rattle.trellis.specs.ListLaws.{length-upto}
 use Rattle.trellis.specs.Step.{Step}
 use Rattle.trellis.specs.Isdb
 use Rattle.trellis.specs.Isdb.{nexts, word}
-use Rattle.acs.specs.Written.{Written, Kept, written-none, written-more, kept-more, laid-whole}
+use Rattle.trellis.specs.WrittenLaws.{Written, Kept, written-none, written-more, kept-more, laid-whole}
 use Rattle.acs_runs.specs.Runs.{valuesAfter, wordAfter, runValues, runWords}
 
 pub record Ran (xs : ℕ → Step) (pm : List Float) (words₀ : List ℕ) (k : ℕ) (values : List Float) (words : List ℕ) : Type 0 where

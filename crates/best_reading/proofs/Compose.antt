@@ -23,7 +23,7 @@ use Rattle.isdb_fec.specs.declared.conv.Released.{Released}
 use Rattle.isdb_fec.specs.Rows.{pushMetricsRows, flushRows}
 use Rattle.isdb_fec.specs.Calls.{fourSteps, call, flush, handed, bestState, Fresh, Zero, Leaves, Flushes, Unchanged, Either}
 use Rattle.refusal.specs.RowLaws.{decided, passed}
-use Rattle.viterbi.specs.Laid.{take-laid, laid-after}
+use Rattle.trellis.specs.LaidLaws.{take-laid, laid-after}
 use Rattle.best_reading.specs.declared.Start.{Start}
 use Rattle.call_ranges.specs.Finished.{Finished}
 use Rattle.best_reading.specs.Calls.{startValues, StartsIn, fresh, read, stateOf, readingRows, Flushed, Left, GreatestSum}

@@ -14,10 +14,10 @@ ghost use mathlib.Core.Bool.{not};
 ghost use Prim.Native.Nat.{ℕ, _/_};
 ghost use lib.ListN.{length, take};
 ghost use Rattle.trellis.specs.Lists.{laid};
-ghost use Rattle.trellis.specs.Encoded.{reached};
+ghost use Rattle.trellis.specs.Encoded.{codedBits, endState};
 ghost use Rattle.viterbi.specs.Calls.{pairSteps, fourSteps, knownSteps};
 ghost use Rattle.short_code.specs.Codes.{codeOf, goodCode};
-ghost use Rattle.short_fec.specs.Calls.{lowBits, codedBits, steps, call, handed, bestOf, endOf};
+ghost use Rattle.short_fec.specs.Calls.{steps, call, handed, bestOf, endOf};
 ghost use Rattle.short_fec.specs.Rows.{encodeRows, handedRows, streamRows, knownRows, flushRows};
 ghost use Rattle.isdb_fec.specs.Values.{someBeyond, pathLimit};
 ghost use Rattle.answers_c.specs.Answers.{answered, left};
@@ -83,8 +83,8 @@ pub extern "C" fn isdb_code_encode(
     out: &mut [u8],
 ) -> u32
     ensures answers { λ r. ⌜ r ≡ answered (encodeRows (codeFrom constraint g1 g2) (now (state .entry)) (length (now (bits .entry))) (length (now (out .entry)))) ⌝ }
-    ensures state { λ r. ⌜ now (state .exit) ≡ left r (reached (codeOf (codeFrom constraint g1 g2)) (now (state .entry)) (lowBits (now (bits .entry)))) (now (state .entry)) ⌝ }
-    ensures coded { λ r. ⌜ now (out .exit) ≡ left r (laid (codedBits (codeFrom constraint g1 g2) (now (state .entry)) (now (bits .entry))) (now (out .entry))) (now (out .entry)) ⌝ }
+    ensures state { λ r. ⌜ now (state .exit) ≡ left r (endState (codeOf (codeFrom constraint g1 g2)) (now (state .entry)) (now (bits .entry))) (now (state .entry)) ⌝ }
+    ensures coded { λ r. ⌜ now (out .exit) ≡ left r (laid (codedBits (codeOf (codeFrom constraint g1 g2)) (now (state .entry)) (now (bits .entry))) (now (out .entry))) (now (out .entry)) ⌝ }
 {
     let code = code_from(constraint, g1, g2);
     let enc = ConvEncoder { state: *state };

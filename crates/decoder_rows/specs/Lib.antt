@@ -1,4 +1,3 @@
 pub mod Rows
 pub mod RowLaws
-pub mod Told
 pub mod Values

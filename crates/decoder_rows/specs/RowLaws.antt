@@ -10,8 +10,8 @@ use lib.Ieee.{Float}
 use Rattle.refusal.specs.Rows.{firstRow}
 use Rattle.refusal.specs.RowLaws.{neither, passed}
 use Rattle.refusal.specs.declared.Answer.the-variants.{Accepted, Traceback, State}
-use Rattle.trellis.specs.Run.{block}
-use Rattle.decoder_rows.specs.Values.{tracebackLimit, someBeyond, pathLimit}
+use Rattle.trellis.specs.Run.{block, tracebackLimit}
+use Rattle.decoder_rows.specs.Values.{someBeyond, pathLimit}
 use Rattle.decoder_rows.specs.Rows.{handedRows}
 
 pub record Sound (pm : List Float) (held tb : ℕ) : Type 0 where

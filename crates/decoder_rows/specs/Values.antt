@@ -13,10 +13,6 @@ unfoldable pub someBeyond : Float → List Float → Bool
 someBeyond limit [] = false
 someBeyond limit (x ∷ xs) = not (within limit x) || someBeyond limit xs
 
--- 1,024, for a traceback
-abbrev pub tracebackLimit : ℕ
-tracebackLimit = 1024
-
 -- 2^32, for path values
 abbrev pub pathLimit : Float
 pathLimit = ofBits binary32 0x4f80_0000

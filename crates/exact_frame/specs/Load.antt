@@ -21,7 +21,7 @@ use Rattle.isdbs_points.specs.declared.Mapping.{Mapping}
 use Rattle.isdbs_points.specs.Points.{point, unused, conjugated}
 use Rattle.isdbs_points.specs.Layout.{Segment, segments, among, atSymbol, atStep, loadBit, In, here, there}
 use Rattle.isdbs_points.specs.Frame.{coded, inputIn, inputs, labelAt, pointBy, pointIn, pointAt, frameRe, frameIm, endState}
-use Rattle.isdbs_points.specs.LawsUpto.{upto-cong}
+use Rattle.trellis.specs.LaidLaws.{upto-cong}
 use Rattle.isdbs_points.specs.Places.{Fill, fill-member}
 use Rattle.isdbs_points.specs.Sizes.{symbolSum, fill-steps, fill-bits, fill-symbols, table-whole}
 

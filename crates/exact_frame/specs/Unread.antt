@@ -23,7 +23,7 @@ use Rattle.isdbs_points.specs.Points.{zero64}
 use Rattle.isdbs_points.specs.Layout.{Segment, segments, orderOf, placeIn, atBit, byteOf, In}
 use Rattle.isdbs_points.specs.Frame.{labelAt, startState}
 use Rattle.isdbs_metrics.specs.Reading.{Received, symbolAt, scaled, partOf, carrier, softAt, correlation, subsetPoint, subsetMetrics, metricsBy, metricsIn, metricsAt, startValues, decodedBits, bitBy, bitIn, bytesFrom, decodedBytes}
-use Rattle.isdbs_points.specs.LawsUpto.{upto-cong}
+use Rattle.trellis.specs.LaidLaws.{upto-cong}
 use Rattle.isdbs_points.specs.Sizes.{table-whole, symbol-fits, at-step, at-bit, find-step, find-bit}
 use Rattle.isdbs_points.specs.Order.{Sends, Pairs, Kind, one, two, three, kind, mother, number}
 

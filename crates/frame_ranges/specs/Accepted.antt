@@ -18,7 +18,7 @@ use Rattle.ieee.specs.Order.{le→value, lt→value, not-lt→value, value→le
 use Rattle.ieee.specs.Constants.{two-to, two-to-num}
 use Rattle.trellis.specs.Code.{isdb, label}
 use Rattle.trellis.specs.Step.{Tie, nexts, renormalised}
-use Rattle.trellis.specs.Run.{valuesAt, pushed}
+use Rattle.trellis.specs.Run.{valuesAt, pushed, freshFrom}
 use Rattle.trellis.specs.RunLaws.{after-values}
 use Rattle.lead.specs.Complement.{small, complement}
 use Rattle.path_ranges.specs.Bounds.{Within, wider}
@@ -41,7 +41,7 @@ use Rattle.isdbs_points.specs.Frame.{startState}
 use Rattle.isdbs_metrics.specs.Reading.{Received, metricsAt, startValues}
 use Rattle.isdbs_decode.specs.Scales.{scaleOf, receivedBy}
 use Rattle.isdbs_decode.specs.ScaleLaws.{word-in}
-use Rattle.isdbs_decode.specs.Runs.{frameMetrics, freshFrom, knownBits}
+use Rattle.isdbs_decode.specs.Runs.{frameMetrics, knownBits}
 use Rattle.frame_ranges.specs.Numbers.{partPower, scalePower, metricPower, softLimit, metricLimit, stepMost, floor, ruledOut, leastPath, mostPath}
 use Rattle.frame_ranges.specs.NumberLaws.{part-limit, scale-limit, soft-limit, metric-limit, step-most, path-limits, known-limits, known-deep, under-ruled, least-path, most-path}
 use Rattle.frame_ranges.specs.Size.{Size, two-lo, between-size, size-from, size-to}
@@ -68,10 +68,6 @@ part-size x f t =
     let m = num-between (num-neg n) n f a b in
     between-size (record { num = m; from = le→value binary64 (neg (two-to partPower)) x (num-neg n) m a; to = le→value binary64 x (two-to partPower) m n b })
 
-neither : (a b : Bool) → (a || b) ≡ false → (a ≡ false) × (b ≡ false)
-neither false b e = (refl, e)
-neither true b e = absurd (subst T e tt)
-
 not-false : (b : Bool) → not b ≡ false → T b
 not-false true e = tt
 not-false false e = absurd (subst T e tt)
@@ -80,7 +76,7 @@ none-of : (bad : Float → Bool) (xs : List Float) (n : ℕ) → someOf bad xs n
 unfolding someOf
 none-of bad xs zero e k h = absurd (not-suc-le-zero h)
 none-of bad xs (suc n) e k h =
-    let p = neither (someOf bad xs n) (bad (getD xs n nan)) e in
+    let p = row.neither (someOf bad xs n) (bad (getD xs n nan)) e in
     below-more (λ j. bad (getD xs j nan) ≡ false) n (none-of bad xs n (p .0)) (p .1) k (omega arith)
 
 parts-in : (xs : List Float) (n : ℕ) → someBeyond partLimit xs n ≡ false → (k : ℕ) → k < n → T (within partLimit (getD xs k nan))
@@ -96,7 +92,7 @@ scale-num (fin b m e) f h k = record { fin-x = tt; fits-x = f }
 
 scale-size : (s : Float) → T (fits binary32 s) → badScale s ≡ false → Size binary32 scalePower s × Up binary32 s
 scale-size s f e =
-    let p = neither (not (lt (ofBits binary32 0) s)) (lt scaleLimit s) e in
+    let p = row.neither (not (lt (ofBits binary32 0) s)) (lt scaleLimit s) e in
     let a = not-false (lt (ofBits binary32 0) s) (p .0) in
     let m = scale-num s f a (p .1) in
     let n = two-to-num binary32 scalePower (lit≤ tt) in
@@ -128,7 +124,7 @@ module _ (t : Table) (re im scales : List Float) (decisions bits bytes counts : 
       let rest : List Row = pointRows re im ++ lastRows t (someBad scales) decisions bits bytes counts in
       let b = then-accepted t rest (sym e) in
       let p = row.passed rest tt (b .1) in
-      let q = neither (someBeyond partLimit re 38976) (someBeyond partLimit im 38976) (p Sample) in
+      let q = row.neither (someBeyond partLimit re 38976) (someBeyond partLimit im 38976) (p Sample) in
       record { fit = b .0; re-fine = q .0; im-fine = q .1; scales-fine = p Scale }
 
 -- ---- the path values of sized steps

@@ -12,7 +12,7 @@ use Rattle.refusal.specs.declared.Answer.the-variants.{Accepted}
 use Rattle.trellis.specs.Code.{isdb, label}
 use Rattle.trellis.specs.Isdb.{rule}
 use Rattle.trellis.specs.Step.{Tie, nexts}
-use Rattle.trellis.specs.Run.{Decoder, after, pushed}
+use Rattle.trellis.specs.Run.{Decoder, after, pushed, freshFrom}
 use Rattle.isdbs_combination.specs.declared.Modulation.the-variants.{Tc8psk}
 use Rattle.isdbs_tables.specs.declared.Table.{Table}
 use Rattle.isdbs_combination.specs.Combinations.{modulationOf}
@@ -22,7 +22,7 @@ use Rattle.isdbs_phy.specs.DecodeRows.{within, decodeRows}
 use Rattle.isdbs_points.specs.Layout.{Segment, segments, In}
 use Rattle.isdbs_metrics.specs.Reading.{Received, softAt, metricsAt, startValues}
 use Rattle.isdbs_decode.specs.Scales.{receivedBy}
-use Rattle.isdbs_decode.specs.Runs.{frameMetrics, freshFrom, knownBits}
+use Rattle.isdbs_decode.specs.Runs.{frameMetrics, knownBits}
 use Rattle.frame_ranges.specs.Numbers.{softLimit, metricLimit, leastPath, mostPath}
 
 -- each soft value of BPSK and QPSK, times its scale

@@ -7,7 +7,7 @@ use lib.Seq.{ext-getD, length-take-le, getD-take}
 use lib.Ieee.{Float, nan}
 use Rattle.trellis.specs.Lists.{upto, laid}
 use Rattle.trellis.specs.ListLaws.{length-upto, getD-upto}
-use Rattle.isdbs_points.specs.LawsUpto.{upto-cong}
+use Rattle.trellis.specs.LaidLaws.{upto-cong}
 use Rattle.full_frame.specs.declared.Input.{Input}
 use Rattle.full_frame.specs.Places.{Source, from, pointsOf, InInput, sourceAt, placeIn, pointIn, fullPart, taken}
 use Rattle.full_frame.specs.PlaceLaws.{place-in, source-in, source-place, place-source}

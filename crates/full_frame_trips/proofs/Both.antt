@@ -11,7 +11,7 @@ use Rattle.refusal.specs.declared.Answer.the-variants.{Accepted, Symbols, Space
 use Rattle.refusal.specs.Rows.{numberOf, firstRow}
 use Rattle.trellis.specs.Lists.{laid}
 use Rattle.refusal.specs.RowLaws.{neither}
-use Rattle.isdbs_points.specs.LawsUpto.{length-laid-upto}
+use Rattle.trellis.specs.LaidLaws.{length-laid-upto}
 use Rattle.full_frame.specs.declared.Input.{Input}
 use Rattle.full_frame.specs.declared.Input.the-variants.{Header, Main, Burst}
 use Rattle.full_frame.specs.Places.{from, pointsOf, sourceAt, placeIn, inputs, pointIn, fullPart, taken}

@@ -11,7 +11,7 @@ use Rattle.refusal.specs.Rows.{Row, firstRow, Either}
 pub use Rattle.refusal.specs.RowLaws.{refused, numbered, neither}
 use Rattle.refusal.specs.RowLaws.{done, passed, both-passed}
 use Rattle.refusal.specs.declared.Answer.the-variants.{Accepted, Space}
-use Rattle.decoder_rows.specs.Values.{tracebackLimit}
+use Rattle.trellis.specs.Run.{tracebackLimit}
 use Rattle.decoder_rows.specs.RowLaws as handed
 use Rattle.isdb_fec.specs.declared.conv.ViterbiDecoder.{ViterbiDecoder}
 use Rattle.isdb_fec.specs.Rows.{releases, shortOf, stepsShort, handedRows, streamRest, streamRows, pushKnownRows, flushRows}

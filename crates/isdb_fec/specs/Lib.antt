@@ -5,4 +5,3 @@ pub mod Answers
 pub mod Whole
 pub mod TwoCalls
 pub mod OneCall
-pub mod Told

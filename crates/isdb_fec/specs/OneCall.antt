@@ -19,7 +19,7 @@ use Rattle.isdb_fec.specs.declared.conv.Released.{Released}
 use Rattle.isdb_fec.specs.Values.{within, someBeyond, streamLimit}
 use Rattle.isdb_fec.specs.Rows.{releases, stepsShort, handedRows, streamRest, streamRows, pushRows, pushMetricsRows, pushKnownRows}
 use Rattle.isdb_fec.specs.Calls.{pairSteps, fourSteps, handed, Leaves}
-use Rattle.viterbi.specs.Laid.{length-laid}
+use Rattle.trellis.specs.LaidLaws.{length-laid}
 use Rattle.isdb_fec.specs.Answers.{neither, Enough, stream-enough, known-enough}
 use Rattle.viterbi.specs.Count.{Counted, releases-is}
 use Rattle.isdb_fec.specs.Whole.{taken, few}

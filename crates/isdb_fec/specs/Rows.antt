@@ -7,7 +7,7 @@ use lib.Ieee.{Float}
 use Rattle.refusal.specs.Rows.{Row}
 use Rattle.refusal.specs.declared.Answer.the-variants.{Traceback, State}
 pub use Rattle.viterbi.specs.Calls.{releases}
-use Rattle.decoder_rows.specs.Values.{tracebackLimit}
+use Rattle.trellis.specs.Run.{tracebackLimit}
 use Rattle.decoder_rows.specs.Rows as handed
 use Rattle.isdb_fec.specs.declared.conv.ViterbiDecoder.{ViterbiDecoder}
 

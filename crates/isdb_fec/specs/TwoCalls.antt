@@ -17,7 +17,7 @@ use Rattle.isdb_fec.specs.declared.conv.ViterbiDecoder.{ViterbiDecoder}
 use Rattle.isdb_fec.specs.declared.conv.Released.{Released}
 use Rattle.isdb_fec.specs.Rows.{pushRows, pushMetricsRows, pushKnownRows}
 use Rattle.isdb_fec.specs.Calls.{pairSteps, fourSteps, knownSteps, steps, call, handed, Leaves}
-use Rattle.viterbi.specs.Laid.{laid-after}
+use Rattle.trellis.specs.LaidLaws.{laid-after}
 use Rattle.isdb_fec.specs.Answers.{Enough, stream-enough, known-enough}
 use Rattle.viterbi.specs.Count.{Counted, counted}
 use Rattle.viterbi.specs.Holding.{bare, holding-is, over-kept, over-released}

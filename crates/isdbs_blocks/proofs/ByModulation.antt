@@ -21,7 +21,7 @@ use Rattle.isdbs_points.specs.declared.Mapping.{Mapping}
 use Rattle.isdbs_soft.specs.Soft.{softOf}
 use Rattle.isdbs_points.specs.Points.{point, conjugated}
 use Rattle.isdbs_points.specs.Layout.{orderOf, stepsPerPeriod, placeIn, sentOrder}
-use Rattle.isdbs_points.specs.LawsUpto.{upto-cong}
+use Rattle.trellis.specs.LaidLaws.{upto-cong, laid-at}
 use Rattle.isdbs_points.specs.Pieces.{piece}
 use Rattle.isdbs_metrics.specs.Reading.{partOf, carrier, pairMetrics, metricsBy, softAt, absolute, subsetMetrics}
 use Rattle.isdbs_metrics.specs.declared.PeriodLayout.{PeriodLayout}
@@ -29,7 +29,7 @@ use Rattle.isdbs_metrics.specs.Steps.{received, qpskPart, pieceMetrics, Covers,
 use Rattle.strain.specs.Marks.{markOf}
 use Rattle.isdbs_blocks.specs.Blocks.{Periods, fours, runSteps, runMark, fourIn, BlockMade, stepSoft, spreadSoft, subsetParts}
 use Rattle.isdbs_blocks.proofs.Periods.{short}
-use Rattle.isdbs_blocks.proofs.Laws.{laid-at, fours-steps, fours-0, fours-1, fours-2, fours-3}
+use Rattle.isdbs_blocks.proofs.Laws.{fours-steps, fours-0, fours-1, fours-2, fours-3}
 
 never : {A : Type 0} → _≡_ {A = ℕ} 0 1 → A
 never h = absurd (omega arith)

@@ -12,7 +12,7 @@ use Rattle.trellis.specs.Lists.{upto, laid}
 use Rattle.trellis.specs.ListLaws.{length-upto, getD-upto}
 use Rattle.trellis.specs.Step.{Step, four}
 use Rattle.viterbi.specs.Calls.{fourSteps}
-use Rattle.isdbs_points.specs.LawsUpto.{upto-cong, laid-upto, length-laid-upto}
+use Rattle.trellis.specs.LaidLaws.{upto-cong, laid-upto, length-laid-upto, laid-at}
 use Rattle.isdbs_points.specs.declared.Mapping.{Mapping}
 use Rattle.isdbs_points.specs.Points.{conjugated}
 use Rattle.isdbs_soft.specs.Soft.{softOf}
@@ -21,9 +21,6 @@ use Rattle.isdbs_pack.proofs.FrameRuns.{tail-is}
 use Rattle.isdbs_blocks.specs.Blocks.{turns, fours}
 
 module _ {A : Type 0} where
-  pub laid-at : (d : A) (f : ℕ → A) (n : ℕ) (l : List A) (i : ℕ) → i < n → getD (laid (upto f n) l) i d ≡ f i
-  laid-at d f n l i h = List·getD-append (upto f n) (drop (length (upto f n)) l) d i (rw (length-upto f n) h) ∙ getD-upto f d n i h
-
   pub put-one : (f : ℕ → A) (k : ℕ) (v : A) (l w : List A) → k < length w → l ≡ laid (upto f k) w → v ≡ f k → set l k v ≡ laid (upto f (k + 1)) w
   put-one f k v l w h e q = ap (λ (z : List A). set z k v) e ∙ laid-upto f k w v h q
 

@@ -20,7 +20,7 @@ use Rattle.isdbs_combination.specs.declared.Ratio.{Ratio}
 use Rattle.isdbs_combination.specs.declared.SlotUnit.{SlotUnit}
 use Rattle.isdbs_combination.specs.declared.BitPair.{BitPair}
 use Rattle.isdbs_combination.specs.declared.BitPairs.{BitPairs}
-use Rattle.isdbs_combination.specs.Lists.{padded}
+use Rattle.trellis.specs.Lists.{padded}
 
 -- "words 1 to 7 are BPSK 1/2, QPSK 1/2, 2/3, 3/4, 5/6, 7/8, TC8PSK 2/3"; no other word has a combination
 abbrev pub words : List MaybeCombination
@@ -52,56 +52,73 @@ assignedOf (Assigned c) = Some c
 assignedOf Dummy = None
 assignedOf (Reserved w) = None
 
-abbrev pub wordOf : Combination → ℕ
-wordOf «Bpsk1_2» = 1
-wordOf «Qpsk1_2» = 2
-wordOf «Qpsk2_3» = 3
-wordOf «Qpsk3_4» = 4
-wordOf «Qpsk5_6» = 5
-wordOf «Qpsk7_8» = 6
-wordOf «Tc8psk2_3» = 7
+-- ---- the figures of a combination
+abbrev ratio : ℕ → ℕ → Ratio
+ratio n d = record { num = n; den = d }
 
+abbrev unit : ℕ → ℕ → SlotUnit
+unit n v = record { slots = n; valid = v }
+
+-- the bits of a valid slot; the symbols of a slot
+abbrev pub slotBits : ℕ
+slotBits = 1624
+
+abbrev pub slotSymbols : ℕ
+slotSymbols = 812
+
+-- its word and modulation; the code's rate; information bits per symbol (the rate times the coded bits of a symbol; TC8PSK carries two); "(slots, valid slots) per
+-- unit"; trellis steps of a valid slot (one for each of its bits; TC8PSK takes two bits a step, one of them uncoded); the punctured code, if it has one
+pub record Figures : Type 0 where
+  pub word : ℕ
+  pub modulation : Modulation
+  pub rate : Ratio
+  pub efficiency : Ratio
+  pub slotUnit : SlotUnit
+  pub steps : ℕ
+  pub punctured : MaybePuncture
+
+-- "words 1 to 7 are BPSK 1/2, QPSK 1/2, 2/3, 3/4, 5/6, 7/8, TC8PSK 2/3; (slots, valid slots) per unit (4,1) (2,1) (3,2) (4,3) (6,5) (8,7) (1,1)"
+abbrev pub figures : Combination → Figures
+figures «Bpsk1_2» = record { word = 1; modulation = Bpsk; rate = ratio 1 2; efficiency = ratio 1 2; slotUnit = unit 4 1; steps = slotBits; punctured = puncture.None }
+figures «Qpsk1_2» = record { word = 2; modulation = Qpsk; rate = ratio 1 2; efficiency = ratio 2 2; slotUnit = unit 2 1; steps = slotBits; punctured = puncture.None }
+figures «Qpsk2_3» = record { word = 3; modulation = Qpsk; rate = ratio 2 3; efficiency = ratio 4 3; slotUnit = unit 3 2; steps = slotBits; punctured = puncture.Some «R2_3» }
+figures «Qpsk3_4» = record { word = 4; modulation = Qpsk; rate = ratio 3 4; efficiency = ratio 6 4; slotUnit = unit 4 3; steps = slotBits; punctured = puncture.Some «R3_4» }
+figures «Qpsk5_6» = record { word = 5; modulation = Qpsk; rate = ratio 5 6; efficiency = ratio 10 6; slotUnit = unit 6 5; steps = slotBits; punctured = puncture.Some «R5_6» }
+figures «Qpsk7_8» = record { word = 6; modulation = Qpsk; rate = ratio 7 8; efficiency = ratio 14 8; slotUnit = unit 8 7; steps = slotBits; punctured = puncture.Some «R7_8» }
+figures «Tc8psk2_3» = record { word = 7; modulation = Tc8psk; rate = ratio 2 3; efficiency = ratio 2 1; slotUnit = unit 1 1; steps = 812; punctured = puncture.None }
+
+abbrev pub wordOf : Combination → ℕ
+wordOf c = figures c .word
+
+abbrev pub modulationOf : Combination → Modulation
+modulationOf c = figures c .modulation
+
+abbrev pub rateOf : Combination → Ratio
+rateOf c = figures c .rate
+
+abbrev pub efficiencyOf : Combination → Ratio
+efficiencyOf c = figures c .efficiency
+
+abbrev pub unitOf : Combination → SlotUnit
+unitOf c = figures c .slotUnit
+
+abbrev pub slotSteps : Combination → ℕ
+slotSteps c = figures c .steps
+
+abbrev pub punctureOf : Combination → MaybePuncture
+punctureOf c = figures c .punctured
+
+-- the word that a meaning has
 abbrev pub codeOf : CombinationWord → ℕ
 codeOf (Assigned c) = wordOf c
 codeOf Dummy = 15
 codeOf (Reserved w) = w
-
-abbrev pub modulationOf : Combination → Modulation
-modulationOf «Bpsk1_2» = Bpsk
-modulationOf «Qpsk1_2» = Qpsk
-modulationOf «Qpsk2_3» = Qpsk
-modulationOf «Qpsk3_4» = Qpsk
-modulationOf «Qpsk5_6» = Qpsk
-modulationOf «Qpsk7_8» = Qpsk
-modulationOf «Tc8psk2_3» = Tc8psk
 
 -- coded bits of a symbol
 abbrev pub symbolBits : Modulation → ℕ
 symbolBits Bpsk = 1
 symbolBits Qpsk = 2
 symbolBits Tc8psk = 3
-
-abbrev ratio : ℕ → ℕ → Ratio
-ratio n d = record { num = n; den = d }
-
-abbrev pub rateOf : Combination → Ratio
-rateOf «Bpsk1_2» = ratio 1 2
-rateOf «Qpsk1_2» = ratio 1 2
-rateOf «Qpsk2_3» = ratio 2 3
-rateOf «Qpsk3_4» = ratio 3 4
-rateOf «Qpsk5_6» = ratio 5 6
-rateOf «Qpsk7_8» = ratio 7 8
-rateOf «Tc8psk2_3» = ratio 2 3
-
--- information bits per symbol: the rate times the coded bits of a symbol; TC8PSK carries two
-abbrev pub efficiencyOf : Combination → Ratio
-efficiencyOf «Bpsk1_2» = ratio 1 2
-efficiencyOf «Qpsk1_2» = ratio 2 2
-efficiencyOf «Qpsk2_3» = ratio 4 3
-efficiencyOf «Qpsk3_4» = ratio 6 4
-efficiencyOf «Qpsk5_6» = ratio 10 6
-efficiencyOf «Qpsk7_8» = ratio 14 8
-efficiencyOf «Tc8psk2_3» = ratio 2 1
 
 -- the combinations from the most to the least efficient
 abbrev pub byEfficiency : List Combination
@@ -115,38 +132,6 @@ above r (c ∷ cs) = cond (ltb (r .num * efficiencyOf c .den) (efficiencyOf c .n
 -- the rank of a combination: how many are more efficient
 abbrev pub rankOf : Combination → ℕ
 rankOf c = above (efficiencyOf c) byEfficiency
-
-abbrev unit : ℕ → ℕ → SlotUnit
-unit n v = record { slots = n; valid = v }
-
--- "(slots, valid slots) per unit (4,1) (2,1) (3,2) (4,3) (6,5) (8,7) (1,1)"
-abbrev pub unitOf : Combination → SlotUnit
-unitOf «Bpsk1_2» = unit 4 1
-unitOf «Qpsk1_2» = unit 2 1
-unitOf «Qpsk2_3» = unit 3 2
-unitOf «Qpsk3_4» = unit 4 3
-unitOf «Qpsk5_6» = unit 6 5
-unitOf «Qpsk7_8» = unit 8 7
-unitOf «Tc8psk2_3» = unit 1 1
-
--- trellis steps of a valid slot: one for each of its 1,624 bits; TC8PSK takes two bits a step, one of them uncoded
-abbrev pub slotSteps : Combination → ℕ
-slotSteps «Bpsk1_2» = 1624
-slotSteps «Qpsk1_2» = 1624
-slotSteps «Qpsk2_3» = 1624
-slotSteps «Qpsk3_4» = 1624
-slotSteps «Qpsk5_6» = 1624
-slotSteps «Qpsk7_8» = 1624
-slotSteps «Tc8psk2_3» = 812
-
-abbrev pub punctureOf : Combination → MaybePuncture
-punctureOf «Bpsk1_2» = puncture.None
-punctureOf «Qpsk1_2» = puncture.None
-punctureOf «Qpsk2_3» = puncture.Some «R2_3»
-punctureOf «Qpsk3_4» = puncture.Some «R3_4»
-punctureOf «Qpsk5_6» = puncture.Some «R5_6»
-punctureOf «Qpsk7_8» = puncture.Some «R7_8»
-punctureOf «Tc8psk2_3» = puncture.None
 
 -- mother bits by number: outputs X_i and Y_i of input i of a period, from 1
 abbrev pub X : ℕ → ℕ

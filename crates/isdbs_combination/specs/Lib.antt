@@ -1,4 +1,2 @@
-pub mod Lists
-pub mod ListLaws
 pub mod Combinations
 pub mod CombinationLaws

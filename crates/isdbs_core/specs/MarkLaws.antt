@@ -12,7 +12,7 @@ use Rattle.isdbs_tables.specs.declared.Entry.{Entry}
 use Rattle.isdbs_tables.specs.declared.Table as declared
 use Rattle.isdbs_tables.specs.declared.SlotMark.{SlotMark}
 use Rattle.isdbs_runs.specs.declared.Run.{Run}
-use Rattle.isdbs_combination.specs.Lists.{table}
+use Rattle.trellis.specs.Lists.{upto}
 use Rattle.isdbs_tables.specs.Tables.{entryCombination, slotSum, partOf, TableAccepted, marked, markIn, markAt, mark, marksOf}
 use Rattle.isdbs_runs.specs.RunsOf.{entryRuns, entrySymbols, runsFrom, validIn, validTotal}
 use Rattle.isdbs_tables.specs.TableLaws.{WholeUnits}
@@ -40,10 +40,10 @@ unfolding marksIn
 marks-more [] m = omega arith
 marks-more (x ∷ ms) m = let e = marks-more ms m in omega arith
 
-marks-table : (f : ℕ → MaybeCombination) (n : ℕ) → marksIn (table (λ s. mark (f s)) n) ≡ count f n
-unfolding marksIn count table
+marks-table : (f : ℕ → MaybeCombination) (n : ℕ) → marksIn (upto (λ s. mark (f s)) n) ≡ count f n
+unfolding marksIn count upto
 marks-table f zero = refl
-marks-table f (suc n) = let e = marks-table f n in let m = marks-more (table (λ s. mark (f s)) n) (mark (f n)) in omega arith
+marks-table f (suc n) = let e = marks-table f n in let m = marks-more (upto (λ s. mark (f s)) n) (mark (f n)) in omega arith
 
 count-alike : (f g : ℕ → MaybeCombination) (n : ℕ) → ((k : ℕ) → k < n → f k ≡ g k) → count f n ≡ count g n
 unfolding count

@@ -19,7 +19,7 @@ use Rattle.isdbs_combination.specs.declared.BitPair.{BitPair}
 use Rattle.isdbs_runs.specs.declared.Run.{Run}
 use Rattle.isdbs_core.specs.declared.slots.SlotByte.{SlotByte}
 use Rattle.isdbs_core.specs.declared.slots.SlotByte.the-variants.{Nothing, Refused}
-use Rattle.isdbs_combination.specs.Lists.{padded}
+use Rattle.trellis.specs.Lists.{padded}
 use Rattle.isdbs_combination.specs.Combinations.{pairsOf, periodOf, unitOf}
 use Rattle.isdbs_tables.specs.declared.Table.{Table}
 use Rattle.isdbs_tables.specs.Tables.{tableAnswer, marked}

@@ -23,7 +23,7 @@ ghost use Rattle.isdbs_frame.specs.Answers.{positionSaid};
 ghost use Rattle.isdbs_combination.specs.Combinations.{pairsOf};
 ghost use Rattle.isdbs_runs.specs.RunsOf.{RunFits};
 ghost use Rattle.isdbs_runs.specs.RunLaws.{Whole};
-ghost use Rattle.isdbs_combination.specs.Lists.{Each};
+ghost use Rattle.trellis.specs.Lists.{Each};
 ghost use Rattle.isdbs_core.specs.Symbols.{pairHolds, firstPair, hasSlot, symbolOfBit, bitSymbol, markedBefore, runByte, byteIn, slotByteSymbol, slotByteSaid};
 ghost use Rattle.isdbs_core.specs.Answers.{byteSaid};
 

@@ -11,7 +11,7 @@ use Rattle.isdbs_runs.specs.declared.Run.{Run}
 use Rattle.isdbs_tables.specs.declared.Table.{Table}
 use Rattle.isdbs_runs.specs.RunsOf.{stepsOf, stepsIn, frameSteps, noRun}
 use Rattle.isdbs_points.specs.declared.Mapping.{Mapping}
-use Rattle.isdbs_points.specs.LawsUpto.{laid-part, length-laid-upto}
+use Rattle.trellis.specs.LaidLaws.{laid-part, length-laid-upto}
 use Rattle.isdbs_metrics.specs.Reading.{Received, metricsAt}
 use Rattle.isdbs_pack.proofs.FrameBytes.{written-tail}
 use Rattle.isdbs_pack.proofs.FrameRuns.{RunAt, Listed, run-last}

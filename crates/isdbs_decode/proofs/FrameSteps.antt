@@ -6,7 +6,7 @@ use native.Mathlib.Omega.{arith}
 use lib.ListN.{length, getD, take, drop}
 use lib.Ieee.{Float}
 use Rattle.trellis.specs.Step.{Step, four}
-use Rattle.trellis.specs.Run.{after}
+use Rattle.trellis.specs.Run.{after, freshFrom}
 use Rattle.viterbi.specs.declared.At.{At}
 use Rattle.viterbi.specs.Calls.{steps, Holds}
 use Rattle.viterbi.specs.Holding.{holds-start}
@@ -23,7 +23,7 @@ use Rattle.isdbs_metrics.specs.Reading.{Received, metricsIn, metricsAt}
 use Rattle.isdbs_metrics.specs.Steps.{pieceMetrics}
 use Rattle.isdbs_blocks.specs.Blocks.{runSteps, Periods}
 use Rattle.isdbs_read.specs.Carried.{Carried}
-use Rattle.isdbs_decode.specs.Runs.{RunsRead, freshFrom}
+use Rattle.isdbs_decode.specs.Runs.{RunsRead}
 use Rattle.isdbs_decode.specs.Scales.{scaleOf, receivedBy}
 use Rattle.isdbs_pack.proofs.Among.{stepsTo, validTo, among-step}
 use Rattle.isdbs_pack.proofs.Parts.{metrics-part}

@@ -14,14 +14,14 @@ use Rattle.trellis.specs.Lists.{upto}
 use Rattle.trellis.specs.Step as step
 use Rattle.trellis.specs.Step.{Step, takes, kept, back, input, traced}
 use Rattle.trellis.specs.Run as run
-use Rattle.trellis.specs.Run.{Decoder, block, stepped, after}
+use Rattle.trellis.specs.Run.{Decoder, block, stepped, after, freshFrom}
 use Rattle.viterbi.specs.Calls.{nexts, word, settle, steps}
 use Rattle.viterbi.specs.Count.{counted}
 use Rattle.viterbi.specs.Traced.{length-traced}
 use Rattle.isdbs_tables.specs.declared.Table.{Table}
 use Rattle.isdbs_runs.specs.RunsOf.{frameSteps}
 use Rattle.isdbs_metrics.specs.Reading.{Received, startValues, decodedBits}
-use Rattle.isdbs_decode.specs.Runs.{frameMetrics, freshFrom, knownBits, endedBits, bitsFrom}
+use Rattle.isdbs_decode.specs.Runs.{frameMetrics, knownBits, endedBits, bitsFrom}
 
 -- each of a list is 0 or 1
 abbrev pub Binary : List ℕ → Type 0

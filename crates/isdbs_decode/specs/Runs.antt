@@ -8,7 +8,7 @@ use lib.Ieee.{Float}
 use Rattle.trellis.specs.Isdb.{closed}
 use Rattle.trellis.specs.Lists.{laid}
 use Rattle.trellis.specs.Step.{Step, four, known}
-use Rattle.trellis.specs.Run.{Decoder}
+use Rattle.trellis.specs.Run.{Decoder, freshFrom}
 use Rattle.viterbi.specs.declared.At.{At}
 use Rattle.viterbi.specs.Calls.{steps, flush, Holds}
 use Rattle.isdbs_tables.specs.declared.Table.{Table}
@@ -20,12 +20,9 @@ use Rattle.isdbs_metrics.specs.Reading.{Received, frameTraceback, frameWords, m
 abbrev pub knownBits : ℕ → Step
 knownBits k = known (wordBit 0x1b95 k)
 
--- the steps of a frame, and its decoder before them
+-- the steps of a frame
 abbrev pub frameMetrics : Table → Received → ℕ → Step
 frameMetrics t r k = four (metricsAt t r k)
-
-abbrev pub freshFrom : List Float → Decoder
-freshFrom pm = record { values = pm; words = []; bits = [] }
 
 -- all runs of a frame
 pub record RunsRead (t : Table) (rx : Received) (pm : List Float) (dec out : List ℕ) (r : At) (pm′ : List Float) (dec′ out′ : List ℕ) : Type 0 where

@@ -10,7 +10,7 @@ use lib.ListN.{length, getD, take, drop}
 use lib.Seq.{getD-take}
 use Rattle.trellis.specs.Lists.{upto, laid}
 use Rattle.trellis.specs.Code.{stateAt}
-use Rattle.viterbi.specs.Upto.{getD-upto}
+use Rattle.trellis.specs.ListLaws.{getD-upto}
 use Rattle.isdbs_combination.specs.declared.Combination.{Combination}
 use Rattle.isdbs_combination.specs.declared.Combination.the-variants.{«Bpsk1_2», «Qpsk1_2», «Qpsk2_3», «Qpsk3_4», «Qpsk5_6», «Qpsk7_8», «Tc8psk2_3»}
 use Rattle.isdbs_combination.specs.declared.Modulation.{Modulation}
@@ -18,12 +18,12 @@ use Rattle.isdbs_combination.specs.declared.Modulation.the-variants.{Bpsk, Qpsk
 use Rattle.isdbs_combination.specs.declared.MaybePuncture.{MaybePuncture}
 use Rattle.isdbs_combination.specs.declared.MaybePuncture.the-variants.{Some, None}
 use Rattle.isdbs_runs.specs.declared.Run.{Run}
-use Rattle.isdbs_combination.specs.Combinations.{modulationOf, punctureOf, unitOf, slotSteps}
+use Rattle.isdbs_combination.specs.Combinations.{modulationOf, punctureOf, unitOf, slotSteps, periodSteps}
 use Rattle.isdbs_runs.specs.RunsOf.{stepsIn, stepsOf, noRun}
 use Rattle.isdbs_points.specs.declared.Cplx.{Cplx}
 use Rattle.isdbs_points.specs.declared.Mapping.{Mapping}
 use Rattle.isdbs_points.specs.Points.{unused, bpskOf, qpskOf, psk8Of, subset}
-use Rattle.isdbs_points.specs.Layout.{Segment, segmentOf, segmentsFrom, among, sentOrder, orderOf, stepsPerPeriod, orderIn, periodIn, loadBit, In}
+use Rattle.isdbs_points.specs.Layout.{Segment, segmentOf, segmentsFrom, among, sentOrder, orderOf, stepsPerPeriod, orderIn, loadBit, In}
 use Rattle.isdbs_points.specs.Frame.{inputIn, codedBit, sentBit, labelAt, pointIn, pointBy}
 use Rattle.isdbs_points.specs.Pieces.{piece, pieceInputs, pieceLabel, pieceState, pieceSymbols, mapped}
 use Rattle.isdbs_pieces.specs.Encoded.{piecePoint, pieceRe, pieceIm, PieceEncoded}
@@ -35,7 +35,7 @@ use Rattle.isdbs_pieces.specs.PieceLaws.{Put, put-part, Going, tail-back}
 use Rattle.isdbs_pieces.specs.PatternLaws.{pattern-some, pattern-none}
 
 -- ---- the coded bits that a run sends are of its steps
-within-period : (p : MaybePuncture) (k : ℕ) → getD (orderIn p) k 0 / 2 < periodIn p
+within-period : (p : MaybePuncture) (k : ℕ) → getD (orderIn p) k 0 / 2 < periodSteps p
 within-period (Some p) k = rw (← pattern-some p .period-is) (pattern-some p .within k)
 within-period None k = pattern-none .within k
 

@@ -8,14 +8,13 @@ use native.Mathlib.Omega.{arith}
 use lib.Ieee.{Float}
 use lib.ListN.{length, getD, take, drop, replicate, length-append}
 use lib.Seq.{take-append-seam}
-use Rattle.trellis.specs.Lists.{upto, laid}
+use Rattle.trellis.specs.Lists.{upto, laid, Each, padded}
 use Rattle.isdbs_combination.specs.declared.MaybeCombination.{MaybeCombination}
 use Rattle.isdbs_combination.specs.declared.MaybeCombination.the-variants.{Some, None}
 use Rattle.isdbs_runs.specs.declared.Run.{Run}
 use Rattle.isdbs_runs.specs.declared.Plan.{Plan}
 use Rattle.isdbs_tables.specs.declared.Entry.{Entry}
 use Rattle.isdbs_tables.specs.declared.Table.{Table}
-use Rattle.isdbs_combination.specs.Lists.{Each, padded}
 use Rattle.isdbs_tables.specs.Tables.{TableAccepted, entryCombination}
 use Rattle.isdbs_runs.specs.RunsOf.{runsOf, planOf, noRun, RunFits}
 use Rattle.isdbs_tables.specs.TableLaws.{sum-fits}
@@ -26,7 +25,7 @@ use Rattle.isdbs_encode.specs.declared.RunsEncoded.{RunsEncoded}
 use Rattle.isdbs_points.specs.Points.{zero64, unused, conjugated}
 use Rattle.isdbs_points.specs.Layout.{Segment, segmentsFrom}
 use Rattle.isdbs_points.specs.Frame.{inputs, labelAt, pointIn, pointAt, endState}
-use Rattle.isdbs_points.specs.LawsUpto.{laid-part, length-laid-upto}
+use Rattle.trellis.specs.LaidLaws.{laid-part, length-laid-upto}
 use Rattle.isdbs_points.specs.Places.{Fill, before, fill-last, among-past}
 use Rattle.isdbs_points.specs.Sizes.{symbolSum, fill-symbols, symbol-sum-few, table-whole}
 use Rattle.isdbs_encode.specs.Encoding.{symbolsOf, inputsOf, pointOf, Tiled, RunsMade, FrameLaid}

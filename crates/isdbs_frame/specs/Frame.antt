@@ -5,11 +5,34 @@ use Prim.Native.Nat.{ℕ, _+_, _-_, _*_, _/_, _%_, _^_}
 use lib.Dec.{leb, ltb}
 use Rattle.refusal.specs.declared.Answer.the-variants.{Position}
 use Rattle.refusal.specs.Rows.{Row, firstRow, Said, says}
-use Rattle.isdbs_combination.specs.Lists.{table}
+use Rattle.trellis.specs.Lists.{upto}
 
--- the main-signal symbols of a frame, and the bytes of a slot on air
+-- a header; 192 stretches of 203 main-signal symbols, each with a burst of 4 symbols behind it
+abbrev pub headerSymbols : ℕ
+headerSymbols = 192
+
+abbrev pub bursts : ℕ
+bursts = 192
+
+abbrev pub stretchSymbols : ℕ
+stretchSymbols = 203
+
+abbrev pub burstSymbols : ℕ
+burstSymbols = 4
+
+-- the symbols from one burst to the next, and those of a whole frame
+abbrev pub burstPeriod : ℕ
+burstPeriod = stretchSymbols + burstSymbols
+
+abbrev pub frameSymbols : ℕ
+frameSymbols = headerSymbols + bursts * burstPeriod
+
+-- the main-signal symbols of a frame, its slots, and the bytes of a slot on air
 abbrev pub mainSymbols : ℕ
 mainSymbols = 38976
+
+abbrev pub frameSlots : ℕ
+frameSlots = 48
 
 abbrev pub slotBytes : ℕ
 slotBytes = 203
@@ -23,16 +46,16 @@ pub data Symbol : Type 0 where
 -- the place of a symbol in the frame: each burst stands after 203 main-signal symbols, so that 207 symbols lie from one burst to the next
 abbrev pub placeOf : Symbol → ℕ
 placeOf (header i) = i
-placeOf (main k) = 192 + k / 203 * 207 + k % 203
-placeOf (burst b j) = 192 + b * 207 + 203 + j
+placeOf (main k) = headerSymbols + k / stretchSymbols * burstPeriod + k % stretchSymbols
+placeOf (burst b j) = headerSymbols + b * burstPeriod + stretchSymbols + j
 
 -- what stands at place q of the 207 from burst to burst
 abbrev pub inPeriod : ℕ → ℕ → Symbol
-inPeriod b q = cond (ltb q 203) (main (203 * b + q)) (burst b (q - 203))
+inPeriod b q = cond (ltb q stretchSymbols) (main (stretchSymbols * b + q)) (burst b (q - stretchSymbols))
 
 -- what stands at a place of the frame
 abbrev pub symbolAt : ℕ → Symbol
-symbolAt p = cond (ltb p 192) (header p) (inPeriod ((p - 192) / 207) ((p - 192) % 207))
+symbolAt p = cond (ltb p headerSymbols) (header p) (inPeriod ((p - headerSymbols) / burstPeriod) ((p - headerSymbols) % burstPeriod))
 
 -- refusal 2: "main symbol 38,976 or more"
 abbrev pub mainRows : ℕ → List Row
@@ -40,7 +63,7 @@ mainRows k = (Position, leb mainSymbols k) ∷ []
 
 -- refusal 2: "burst 192 or its symbol 4 or more"
 abbrev pub burstRows : ℕ → ℕ → List Row
-burstRows b j = (Position, leb 192 b || leb 4 j) ∷ []
+burstRows b j = (Position, leb bursts b || leb burstSymbols j) ∷ []
 
 abbrev pub mainSymbolPosition : ℕ → Said
 mainSymbolPosition k = says (firstRow (mainRows k)) (placeOf (main k) ∷ [])
@@ -49,5 +72,5 @@ abbrev pub burstSymbolPosition : ℕ → ℕ → Said
 burstSymbolPosition b j = says (firstRow (burstRows b j)) (placeOf (burst b j) ∷ [])
 
 -- "the low 20 bits, high bit first": the low n bits of v
-abbrev pub lowBits : ℕ → ℕ → List ℕ
-lowBits n v = table (λ i. v / 2 ^ (n - 1 - i) % 2) n
+abbrev pub highFirst : ℕ → ℕ → List ℕ
+highFirst n v = upto (λ i. v / 2 ^ (n - 1 - i) % 2) n

@@ -8,7 +8,7 @@ use refusal::Answer;
 ghost use mathlib.Core.Path.{_≡_};
 ghost use Prim.Native.Nat.{_<_};
 ghost use Rattle.isdbs_frame.specs.Answers.{positionSaid};
-ghost use Rattle.isdbs_frame.specs.Frame.{mainSymbols, main, placeOf, mainSymbolPosition, burstSymbolPosition, lowBits};
+ghost use Rattle.isdbs_frame.specs.Frame.{mainSymbols, main, placeOf, mainSymbolPosition, burstSymbolPosition, highFirst};
 
 // Slots per frame, N (Table 3 item 1).
 pub const SLOTS: usize = 48;
@@ -100,7 +100,7 @@ pub fn burst_symbol_position(b: usize, j: usize) -> Position
 
 // The low 20 bits of tail, high bit first, one in each byte.
 pub fn tail_bits(tail: u32) -> [u8; 20]
-    ensures { λ r. ⌜ r ≡ lowBits 20 tail ⌝ }
+    ensures { λ r. ⌜ r ≡ highFirst 20 tail ⌝ }
 {
     let mut out = [0u8; 20];
     for i in 0..20 {

@@ -11,7 +11,7 @@ use Rattle.isdbs_runs.specs.declared.Run.{Run}
 use Rattle.isdbs_pack.proofs.Digits.{bool-bit}
 use Rattle.strain.specs.Counts.{summed, counted}
 use Rattle.strain.specs.CountsLaws.{counted-few}
-use Rattle.verdict.specs.Outside.{slotSymbols}
+use Rattle.isdbs_combination.specs.Combinations.{slotSymbols}
 use Rattle.isdbs_judge.specs.Given.{outsideGiven, slotGiven}
 
 pub bool-few : (b : Bool) → boolByte b ≤ 1

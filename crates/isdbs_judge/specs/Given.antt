@@ -6,10 +6,9 @@ use lib.Dec.{ltb}
 use lib.ListN.{getD}
 use lib.Ieee.{Float, nan}
 use Rattle.isdbs_runs.specs.declared.Run.{Run}
-use Rattle.isdbs_combination.specs.Combinations.{modulationOf}
+use Rattle.isdbs_combination.specs.Combinations.{modulationOf, slotSymbols}
 use Rattle.margins.specs.Margins.{holds, isBpsk}
 use Rattle.strain.specs.Counts.{counted}
-use Rattle.verdict.specs.Outside.{slotSymbols}
 
 -- what f says of the first run that ends past symbol k; `none` past all runs
 unfoldable pub runAt : {A : Type 0} → A → (Run → A) → List Run → ℕ → A

@@ -7,26 +7,25 @@ use native.Mathlib.Omega.{arith}
 use lib.ListN.{getD, length, replicate}
 use lib.Ieee.{Float, nan}
 use borrow.Author.Tests.{le-ltb}
-use Rattle.trellis.specs.Lists.{bit, upto}
+use Rattle.trellis.specs.Lists.{bit, upto, padded}
 use Rattle.isdbs_combination.specs.declared.Combination.{Combination}
 use Rattle.isdbs_combination.specs.declared.MaybeCombination.{MaybeCombination}
 use Rattle.isdbs_combination.specs.declared.MaybeCombination.the-variants.{Some, None}
 use Rattle.isdbs_runs.specs.declared.Run.{Run}
 use Rattle.isdbs_tables.specs.declared.Entry.{Entry}
 use Rattle.isdbs_tables.specs.declared.Table.{Table}
-use Rattle.isdbs_frame.specs.Frame.{mainSymbols}
-use Rattle.isdbs_combination.specs.Lists.{padded}
+use Rattle.isdbs_frame.specs.Frame.{mainSymbols, frameSlots}
 use Rattle.isdbs_tables.specs.Tables.{entryCombination}
-use Rattle.isdbs_combination.specs.Combinations.{modulationOf}
+use Rattle.isdbs_combination.specs.Combinations.{modulationOf, slotSymbols}
 use Rattle.isdbs_runs.specs.RunsOf.{runOf, entryRuns, entrySymbols, runsFrom, runsOf, stepsOf, noRun}
 use Rattle.isdbs_points.specs.declared.Mapping.{Mapping}
 use Rattle.isdbs_points.specs.Layout.{segmentsFrom, among, atSymbol}
-use Rattle.isdbs_points.specs.LawsUpto.{upto-cong}
+use Rattle.trellis.specs.LaidLaws.{upto-cong}
 use Rattle.isdbs_points.specs.Frame.{pointAt, startState}
 use Rattle.margins.specs.Margins.{isBpsk}
 use Rattle.strain.specs.Counts.{summed}
 use Rattle.strain.specs.CountsLaws.{summed-same}
-use Rattle.verdict.specs.Outside.{frameSlots, slotSymbols, outside, outsideOf, outsideCounts, outsideSum}
+use Rattle.verdict.specs.Outside.{outside, outsideOf, outsideCounts, outsideSum}
 use Rattle.isdbs_judge.specs.Given.{runAt, outsideGiven, slotGiven}
 
 -- ---- the run of a symbol: among a table's runs, and among those and the empty ones past them

@@ -8,9 +8,8 @@ ghost use mathlib.Core.Path.{_≡_};
 ghost use Prim.Native.Nat.{_<_, _≤_};
 ghost use lib.ListN.{length};
 ghost use Rattle.trellis.specs.Lists.{upto, laid};
-ghost use Rattle.isdbs_frame.specs.Frame.{mainSymbols};
+ghost use Rattle.isdbs_frame.specs.Frame.{mainSymbols, frameSlots};
 ghost use Rattle.strain.specs.Counts.{summed};
-ghost use Rattle.verdict.specs.Outside.{frameSlots};
 ghost use Rattle.isdbs_judge.specs.Given.{reFree, imFree, outsideGiven, slotGiven};
 
 // The slots of a frame's main signal, and the symbols of each.

@@ -12,7 +12,7 @@ use lib.ListN.{getD}
 use lib.Pow.{pow-pos, shr-shr, field, mod-mod-pow}
 use Rattle.trellis.specs.Lists.{upto}
 use Rattle.code_windows.specs.WindowLaws.{digit-low, digit-high}
-use Rattle.viterbi.specs.Upto.{getD-upto}
+use Rattle.trellis.specs.ListLaws.{getD-upto}
 use Rattle.isdbs_points.specs.Layout.{loadBit}
 use Rattle.isdbs_load.specs.Bits.{byteBit, wordBit, Digits, byteInputs, plainInputs}
 

@@ -20,7 +20,7 @@ use Rattle.isdbs_points.specs.declared.Mapping.{Mapping}
 use Rattle.isdbs_points.specs.Layout.{byteOf, segmentsFrom, among}
 use Rattle.isdbs_points.specs.Frame.{labelAt}
 use Rattle.isdbs_metrics.specs.Reading.{Received, bitIn}
-use Rattle.isdbs_points.specs.LawsUpto.{laid-part, length-laid-upto}
+use Rattle.trellis.specs.LaidLaws.{laid-part, length-laid-upto}
 use Rattle.isdbs_points.specs.LawsState.{label-shift}
 use Rattle.isdbs_metrics.specs.Steps.{pieceBit, Covers, Bits, PackRoom, stepsOfBytes}
 use Rattle.isdbs_pack.specs.Bytes.{receivedWith}

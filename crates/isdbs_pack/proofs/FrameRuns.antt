@@ -12,7 +12,7 @@ use Rattle.isdbs_combination.specs.declared.Combination.the-variants.{«Bpsk1_2
 use Rattle.isdbs_runs.specs.declared.Run.{Run}
 use Rattle.isdbs_runs.specs.declared.Plan.{Plan}
 use Rattle.isdbs_tables.specs.declared.Table.{Table}
-use Rattle.isdbs_combination.specs.Lists.{padded, Each}
+use Rattle.trellis.specs.Lists.{padded, Each}
 use Rattle.isdbs_combination.specs.Combinations.{modulationOf, punctureOf, periodSteps, periodSymbols, slotSteps}
 use Rattle.isdbs_runs.specs.PlanLaws.{table-laid}
 use Rattle.isdbs_runs.specs.RunsOf.{runsOf, Planned, stepsOf, stepsIn, frameSteps, validIn, validTotal, noRun, RunFits}

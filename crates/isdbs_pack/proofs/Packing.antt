@@ -20,7 +20,7 @@ use Rattle.isdbs_points.specs.Layout.{byteOf, segmentOf}
 use Rattle.isdbs_points.specs.Pieces.{piece}
 use Rattle.isdbs_points.specs.Frame.{labelAt}
 use Rattle.isdbs_metrics.specs.Reading.{bitBy, bitIn}
-use Rattle.isdbs_points.specs.LawsUpto.{laid-upto, upto-cong}
+use Rattle.trellis.specs.LaidLaws.{laid-upto, upto-cong}
 use Rattle.isdbs_points.specs.LawsState.{state-shift, label-shift}
 use Rattle.isdbs_metrics.specs.Steps.{received, pieceBit}
 use Rattle.isdbs_pack.proofs.Digits.{byte-cong}

@@ -13,7 +13,6 @@ use Rattle.trellis.specs.Lists.{upto, laid}
 use Rattle.trellis.specs.Code.{stateAt}
 use Rattle.code_windows.specs.Windows.{backward}
 use Rattle.code_windows.specs.WindowLaws.{backward-small}
-use Rattle.viterbi.specs.Upto.{getD-upto}
 use Rattle.isdbs_combination.specs.declared.Combination.{Combination}
 use Rattle.isdbs_combination.specs.declared.Combination.the-variants.{«Bpsk1_2», «Qpsk1_2», «Qpsk2_3», «Qpsk3_4», «Qpsk5_6», «Qpsk7_8», «Tc8psk2_3»}
 use Rattle.isdbs_combination.specs.declared.Modulation.the-variants.{Qpsk}
@@ -29,7 +28,8 @@ use Rattle.isdbs_points.specs.Frame.{sentBit, labelAt, pointIn, pointBy}
 use Rattle.isdbs_points.specs.Pieces.{piece, pieceInputs, pieceSymbols, mapped}
 use Rattle.isdbs_load.specs.Bits.{plainInputs, wordBit}
 use Rattle.isdbs_pieces.specs.Encoded.{piecePoint, TableOf, qpskLabel, PatternOf, AtMost, Shifted, shiftOf, outputBit, IsOutput, shiftedLabel, pairLabel, patternBit, patternLabel, PeriodEncoded, PieceEncoded}
-use Rattle.isdbs_points.specs.LawsUpto.{upto-cong}
+use Rattle.trellis.specs.LaidLaws.{upto-cong}
+use Rattle.trellis.specs.ListLaws.{getD-upto}
 use Rattle.isdbs_points.specs.LawsState.{Follow}
 use Rattle.isdbs_pieces.proofs.Windowed.{shift-output, shift-bit}
 use Rattle.isdbs_pieces.specs.PieceLaws.{Going, label-small, label-more, going-part}

@@ -11,7 +11,7 @@ use Rattle.trellis.specs.Lists.{upto, laid}
 use Rattle.trellis.specs.Code.{stateAt}
 use Rattle.code_windows.specs.Windows.{backward}
 use Rattle.code_windows.specs.WindowLaws.{backward-small, backward-twice}
-use Rattle.viterbi.specs.Upto.{getD-upto}
+use Rattle.trellis.specs.ListLaws.{getD-upto}
 use Rattle.isdbs_combination.specs.declared.Combination.the-variants.{«Tc8psk2_3»}
 use Rattle.isdbs_points.specs.declared.Mapping.{Mapping}
 use Rattle.isdbs_points.specs.Layout.{loadBit}

@@ -18,7 +18,8 @@ use Rattle.isdbs_pieces.specs.declared.Period.{Period}
 use Rattle.isdbs_pieces.specs.declared.PointTable.{PointTable}
 use Rattle.isdbs_pieces.specs.declared.RegisterTable.{RegisterTable}
 use Rattle.isdbs_points.specs.Points.{qpskOf, psk8Of, subset}
-use Rattle.isdbs_points.specs.Layout.{orderIn, periodIn}
+use Rattle.isdbs_points.specs.Layout.{orderIn}
+use Rattle.isdbs_combination.specs.Combinations.{periodSteps}
 use Rattle.isdbs_points.specs.Frame.{labelAt, pointIn, codedBit}
 use Rattle.isdbs_load.specs.Bits.{byteBit, wordBit, byteInputs, plainInputs}
 use Rattle.isdbs_points.specs.Pieces.{piece, pieceLabel, pieceState, pieceSymbols, mapped}
@@ -109,7 +110,7 @@ pub record PeriodEncoded (load : List ℕ) (bit n s : ℕ) (r : Period) : Type 0
 
 -- a pattern in the code's form: its steps, and its mother bits in pairs
 pub record PatternOf (p : MaybePuncture) (r : Pattern) : Type 0 where
-  pub period-is : r .period ≡ periodIn p
+  pub period-is : r .period ≡ periodSteps p
   pub count-is : length (orderIn p) ≡ 2 * r .count
   pub short : r .period ≤ 8
   pub some : 0 < r .period

@@ -11,7 +11,6 @@ use lib.Seq.{take-all}
 use Rattle.trellis.specs.Lists.{upto, laid}
 use Rattle.trellis.specs.Code.{isdb, label, moved, stateAt}
 use Rattle.trellis.specs.Step.{term}
-use Rattle.viterbi.specs.Upto.{getD-upto}
 use Rattle.isdbs_combination.specs.declared.Combination.{Combination}
 use Rattle.isdbs_combination.specs.declared.Combination.the-variants.{«Bpsk1_2», «Qpsk1_2», «Qpsk2_3», «Qpsk3_4», «Qpsk5_6», «Qpsk7_8», «Tc8psk2_3»}
 use Rattle.isdbs_combination.specs.declared.Modulation.the-variants.{Bpsk, Tc8psk}
@@ -24,7 +23,8 @@ use Rattle.isdbs_points.specs.Pieces.{piece, pieceInputs, pieceLabel, pieceSymb
 use Rattle.isdbs_load.specs.BitLaws.{output-small}
 use Rattle.isdbs_pieces.specs.Encoded.{piecePoint, PieceEncoded, registerAt}
 use Rattle.isdbs_points.specs.LawsState.{Follow, state-shift, label-shift}
-use Rattle.isdbs_points.specs.LawsUpto.{upto-cong, laid-upto, laid-part, length-laid-upto}
+use Rattle.trellis.specs.LaidLaws.{upto-cong, laid-upto, laid-part, length-laid-upto}
+use Rattle.trellis.specs.ListLaws.{getD-upto}
 
 -- a part from a on, written at its front and put back
 pub tail-back : {A : Type 0} (a : ℕ) (l f : List A) {p : List A} → a ≤ length l → p ≡ laid f (take (length l - a) (drop a l))

@@ -11,7 +11,7 @@ use Rattle.isdbs_combination.specs.declared.MaybePuncture.the-variants.{Some, N
 use Rattle.isdbs_combination.specs.declared.BitPair.{BitPair}
 use Rattle.isdbs_runs.specs.declared.Run.{Run}
 use Rattle.isdbs_tables.specs.declared.Table.{Table}
-use Rattle.isdbs_combination.specs.Combinations.{punctureOf, pairsOf, periodOf}
+use Rattle.isdbs_combination.specs.Combinations.{punctureOf, pairsOf, periodSteps}
 use Rattle.isdbs_runs.specs.RunsOf.{runsOf, stepsOf}
 
 -- ---- the code of a combination
@@ -28,12 +28,8 @@ abbrev pub orderOf : Combination → List ℕ
 orderOf c = orderIn (punctureOf c)
 
 -- the steps of one period
-abbrev pub periodIn : MaybePuncture → ℕ
-periodIn (Some p) = periodOf p
-periodIn None = 1
-
 abbrev pub stepsPerPeriod : Combination → ℕ
-stepsPerPeriod c = periodIn (punctureOf c)
+stepsPerPeriod c = periodSteps (punctureOf c)
 
 -- where a list has the number a first; its length where it has not
 unfoldable pub placeIn : ℕ → List ℕ → ℕ

@@ -2,7 +2,6 @@ pub mod Frame
 pub mod LawsBits
 pub mod LawsInputs
 pub mod LawsState
-pub mod LawsUpto
 pub mod Layout
 pub mod Order
 pub mod Pieces

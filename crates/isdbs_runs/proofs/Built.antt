@@ -11,8 +11,8 @@ use Rattle.isdbs_tables.specs.declared.Entry.{Entry}
 use Rattle.isdbs_tables.specs.declared.Table.{Table}
 use Rattle.isdbs_runs.specs.declared.Run.{Run}
 use Rattle.isdbs_runs.specs.declared.Plan.{Plan}
-use Rattle.isdbs_combination.specs.Lists.{padded}
-use Rattle.isdbs_combination.specs.ListLaws.{padded-more}
+use Rattle.trellis.specs.ListLaws.{padded-more}
+use Rattle.trellis.specs.Lists.{padded}
 use Rattle.isdbs_tables.specs.Tables.{entryCombination}
 use Rattle.isdbs_runs.specs.RunsOf.{entryRuns, entrySymbols, runOf, runsFrom, symbolsIn, validIn, stepsIn, stepsOf, noRun, planOf}
 use Rattle.isdbs_runs.specs.RunLaws.{valid-append, steps-append}

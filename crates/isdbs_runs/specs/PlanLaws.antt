@@ -7,7 +7,7 @@ use Rattle.refusal.specs.RowLaws.{accepted-is}
 use Rattle.isdbs_combination.specs.declared.Combination.the-variants.{«Bpsk1_2»}
 use Rattle.isdbs_tables.specs.declared.Table.{Table}
 use Rattle.isdbs_runs.specs.declared.FrameRuns.{FrameRuns}
-use Rattle.isdbs_combination.specs.Lists.{Each, padded}
+use Rattle.trellis.specs.Lists.{Each, padded}
 use Rattle.isdbs_tables.specs.Tables.{tableAnswer, TableAccepted}
 use Rattle.isdbs_runs.specs.RunsOf.{runsOf, validTotal, noRun, fourRuns, RunFits}
 use Rattle.isdbs_runs.specs.RunLaws.{Whole, run-whole, each-padded, Laid, laid}

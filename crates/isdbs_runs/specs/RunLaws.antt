@@ -15,7 +15,7 @@ use Rattle.isdbs_combination.specs.declared.MaybeCombination.the-variants.{Some
 use Rattle.isdbs_tables.specs.declared.Entry.{Entry}
 use Rattle.isdbs_tables.specs.declared.Table.{Table}
 use Rattle.isdbs_runs.specs.declared.Run.{Run}
-use Rattle.isdbs_combination.specs.Lists.{Each, padded}
+use Rattle.trellis.specs.Lists.{Each, padded}
 use Rattle.isdbs_combination.specs.Combinations.{unitOf, slotSteps, punctureOf, modulationOf, periodSteps, periodSymbols, stepBits}
 use Rattle.isdbs_tables.specs.Tables.{entryCombination, slotSum, partOf, partUnit}
 use Rattle.isdbs_tables.specs.TableLaws.{WholeUnits}

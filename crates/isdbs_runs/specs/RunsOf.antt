@@ -15,7 +15,7 @@ use Rattle.isdbs_tables.specs.declared.Table.{Table}
 use Rattle.isdbs_runs.specs.declared.Run.{Run}
 use Rattle.isdbs_runs.specs.declared.FrameRuns.{FrameRuns}
 use Rattle.isdbs_runs.specs.declared.Plan.{Plan}
-use Rattle.isdbs_combination.specs.Lists.{padded}
+use Rattle.trellis.specs.Lists.{padded}
 use Rattle.isdbs_frame.specs.Frame.{mainSymbols, slotBytes}
 use Rattle.isdbs_combination.specs.Combinations.{unitOf, slotSteps}
 use Rattle.isdbs_tables.specs.Tables.{entryCombination, tableAnswer, TableAccepted}

@@ -19,7 +19,7 @@ use Rattle.isdbs_tables.specs.declared.Table.{Table}
 use Rattle.isdbs_combination.specs.Combinations.{slotSteps}
 use Rattle.isdbs_runs.specs.RunsOf.{stepsOf, stepsIn, validIn, validTotal, frameSteps, noRun}
 use Rattle.isdbs_points.specs.Layout.{Segment, segmentOf, segmentsFrom, among}
-use Rattle.isdbs_points.specs.LawsUpto.{laid-part, length-laid-upto}
+use Rattle.trellis.specs.LaidLaws.{laid-part, length-laid-upto}
 use Rattle.isdbs_points.specs.LawsState.{label-shift}
 use Rattle.isdbs_metrics.specs.Steps.{Bits}
 use Rattle.isdbs_pack.proofs.Among.{stepsTo, validTo}

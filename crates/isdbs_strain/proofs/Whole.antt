@@ -12,7 +12,7 @@ use Rattle.isdbs_tables.specs.declared.Table.{Table}
 use Rattle.isdbs_tables.specs.Tables.{TableAccepted}
 use Rattle.isdbs_runs.specs.RunsOf.{frameSteps, validTotal, Planned}
 use Rattle.isdbs_points.specs.Frame.{startState}
-use Rattle.isdbs_points.specs.LawsUpto.{upto-cong}
+use Rattle.trellis.specs.LaidLaws.{upto-cong}
 use Rattle.isdbs_metrics.specs.Reading.{Received, decodedBits}
 use Rattle.isdbs_decode.specs.LawsDecoded.{decoded-count, decoded-from}
 use Rattle.isdbs_pack.proofs.FrameRuns.{front-is}

@@ -11,7 +11,8 @@ use Rattle.isdbs_tables.specs.declared.Table.{Table}
 use Rattle.isdbs_runs.specs.RunsOf.{frameSteps, validTotal}
 use Rattle.isdbs_points.specs.Frame.{startState}
 use Rattle.isdbs_metrics.specs.Reading.{Received, frameTraceback, startValues}
-use Rattle.isdbs_decode.specs.Runs.{frameMetrics, freshFrom, knownBits}
+use Rattle.isdbs_decode.specs.Runs.{frameMetrics, knownBits}
+use Rattle.trellis.specs.Run.{freshFrom}
 use Rattle.strain.specs.Counts.{summed}
 use Rattle.strain.specs.Slots.{bySlot}
 use Rattle.strain.specs.Marks.{frameMark, marked}

@@ -11,7 +11,7 @@ use Rattle.refusal.specs.Rows.{Row, firstRow}
 use Rattle.refusal.specs.RowLaws.{refusing, passed, refused-above, passed-above, both-passed}
 use Rattle.isdbs_tables.specs.declared.Entry.{Entry}
 use Rattle.isdbs_tables.specs.declared.Table.{Table}
-use Rattle.isdbs_combination.specs.Lists.{Each}
+use Rattle.trellis.specs.Lists.{Each}
 use Rattle.isdbs_tables.specs.Tables.{slotSum, partUnit, reservedWord, some, tableRows, tableAnswer, TableAccepted}
 
 -- each entry is whole units

@@ -17,7 +17,7 @@ use Rattle.isdbs_tables.specs.declared.Entry.{Entry}
 use Rattle.isdbs_tables.specs.declared.Table.{Table}
 use Rattle.isdbs_tables.specs.declared.SlotMark.{SlotMark}
 use Rattle.isdbs_tables.specs.declared.SlotMarks.{SlotMarks}
-use Rattle.isdbs_combination.specs.Lists.{table}
+use Rattle.trellis.specs.Lists.{upto}
 use Rattle.isdbs_combination.specs.Combinations.{combinationOf, wordMeans, unitOf}
 
 -- "`CombinationEntry::combination` means the assigned combination of the word, or none"
@@ -83,7 +83,7 @@ mark m = record { mark = m }
 
 -- the marks of the 48 slots
 abbrev pub marksOf : Table → List SlotMark
-marksOf t = table (λ s. mark (markAt (t .entries) s)) 48
+marksOf t = upto (λ s. mark (markAt (t .entries) s)) 48
 
 -- the answer of `slot_combinations`; refused: none marked
 abbrev pub slotMarks : Table → SlotMarks

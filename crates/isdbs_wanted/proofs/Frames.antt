@@ -25,7 +25,7 @@ use Rattle.isdbs_runs.specs.RunsOf.{runsOf, stepsOf, stepsIn, validIn, loadByte
 use Rattle.isdbs_points.specs.declared.Cplx.{Cplx}
 use Rattle.isdbs_points.specs.declared.Mapping.{Mapping}
 use Rattle.isdbs_points.specs.Layout.{Segment, segmentOf, byteOf}
-use Rattle.isdbs_points.specs.LawsUpto.{laid-part, length-laid-upto}
+use Rattle.trellis.specs.LaidLaws.{laid-part, length-laid-upto}
 use Rattle.isdbs_pack.proofs.Among.{stepsTo, validTo, steps-more, valid-more, among-step, among-bit}
 use Rattle.isdbs_pack.proofs.Digits.{byte-cong}
 use Rattle.isdbs_pack.proofs.FrameBytes.{written-tail}

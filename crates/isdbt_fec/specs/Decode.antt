@@ -18,8 +18,8 @@ use Rattle.isdb_fec.specs.declared.conv.ViterbiDecoder.{ViterbiDecoder}
 use Rattle.isdb_fec.specs.Calls as fec
 use Rattle.isdb_fec.specs.Calls.{Holds, holding, bestState, traced}
 use Rattle.isdb_fec.specs.Answers.{Enough}
-use Rattle.viterbi.specs.Upto.{getD-upto}
-use Rattle.viterbi.specs.Laid.{laid-laid, laid-after}
+use Rattle.trellis.specs.LaidLaws.{laid-laid, laid-after}
+use Rattle.trellis.specs.ListLaws.{getD-upto}
 use Rattle.viterbi.specs.Count.{releases-is, counted}
 use Rattle.viterbi.specs.Holding.{cleared, holding-is}
 use Rattle.isdbt_table.specs.declared.CodeRate.{CodeRate}

@@ -15,7 +15,7 @@ use Rattle.isdbt_table.specs.declared.CodeRate.the-variants.{R1_2, R2_3, R3_4, 
 use Rattle.isdbt_table.specs.declared.Puncturing.{Puncturing}
 use Rattle.isdbt_table.specs.Table.{period, sent, compiled}
 use Rattle.isdbt_table.specs.Puncture.{inputs, mother, place, punctured}
-use Rattle.isdbt_table.specs.Upto.{upto-same}
+use Rattle.trellis.specs.LaidLaws.{upto-cong}
 use Rattle.isdbt_table.specs.Numbers.{numbers}
 use Rattle.isdbt_table.specs.Sizes.{sizes, order-at, order-below, place-in}
 
@@ -145,7 +145,7 @@ module _ (rate : CodeRate) (p : Puncturing) (e : p ≡ compiled rate) (s : ℕ) 
       let z = numbers rate p e in
       let count : length bits / p .period * p .n ≡ length bits / period rate * sent rate = rw (z .n-is, z .period-is) refl in
       ap (λ (k : ℕ). upto (λ j. mother s (inputs bits) (placeBy (p .period) (p .n) (p .order) j)) k) count
-      ∙ upto-same (λ j. mother s (inputs bits) (placeBy (p .period) (p .n) (p .order) j)) (λ j. mother s (inputs bits) (place rate j)) (length bits / period rate * sent rate)
+      ∙ upto-cong (λ j. mother s (inputs bits) (placeBy (p .period) (p .n) (p .order) j)) (λ j. mother s (inputs bits) (place rate j)) (length bits / period rate * sent rate)
       (λ j h. ap (λ (k : ℕ). mother s (inputs bits) k) (place-is j))
 
 -- the period b lies inside, with its bits and with what is sent for them

@@ -9,13 +9,13 @@ use lib.ListN.{length, getD}
 use lib.Ieee.{Float, nan, binary32, ofBits}
 use borrow.Author.Tests.{eqb-true}
 use Rattle.trellis.specs.Lists.{upto}
-use Rattle.viterbi.specs.Upto.{length-upto, getD-upto}
 use Rattle.isdbt_table.specs.declared.CodeRate.{CodeRate}
 use Rattle.isdbt_table.specs.declared.CodeRate.the-variants.{R1_2, R2_3, R3_4, R5_6, R7_8}
 use Rattle.isdbt_table.specs.Table.{period, sent, order}
 use Rattle.isdbt_table.specs.Puncture.{place, spread, softAt, depunctured, kept}
 use Rattle.viterbi.specs.Each.{all, each}
-use Rattle.isdbt_table.specs.Upto.{upto-same}
+use Rattle.trellis.specs.LaidLaws.{upto-cong}
+use Rattle.trellis.specs.ListLaws.{length-upto, getD-upto}
 use Rattle.isdbt_table.specs.Sizes.{place-in}
 
 -- whether k is one of ps
@@ -132,4 +132,4 @@ module _ (rate : CodeRate) (f : ℕ → Float) (b : ℕ) where
   depunctured-kept =
       let n : length sentValues / sent rate ≡ b = ap (λ (m : ℕ). m / sent rate) (length-upto (λ j. f (place rate j)) (b * sent rate)) ∙ whole rate b in
       ap (λ (m : ℕ). upto (softAt rate sentValues) (m * (2 * period rate))) n
-      ∙ upto-same (softAt rate sentValues) (λ k. cond (kept rate k) (f k) (ofBits binary32 0)) (b * (2 * period rate)) value-at
+      ∙ upto-cong (softAt rate sentValues) (λ k. cond (kept rate k) (f k) (ofBits binary32 0)) (b * (2 * period rate)) value-at

@@ -7,8 +7,8 @@ use lib.ListN.{length}
 use lib.Ieee.{Float}
 use Rattle.refusal.specs.Rows.{Row}
 use Rattle.refusal.specs.declared.Answer.the-variants.{Traceback, State, Length, Sample, Space}
-use Rattle.trellis.specs.Run.{block}
-use Rattle.isdb_fec.specs.Values.{tracebackLimit, someBeyond, streamLimit}
+use Rattle.trellis.specs.Run.{block, tracebackLimit}
+use Rattle.isdb_fec.specs.Values.{someBeyond, streamLimit}
 use Rattle.isdbt_table.specs.declared.CodeRate.{CodeRate}
 use Rattle.isdbt_table.specs.Table.{period, sent}
 

@@ -5,9 +5,8 @@ use Prim.Native.Nat.{ℕ, _+_, _<_, _≤_}
 use native.Mathlib.Omega.{arith}
 use lib.ListN.{length, set, take, drop, length-set}
 use Rattle.trellis.specs.Lists.{upto, laid}
-use Rattle.viterbi.specs.Laid.{length-laid}
-use Rattle.viterbi.specs.Upto.{length-upto}
-use Rattle.isdbt_table.specs.Upto.{upto-next, upto-after}
+use Rattle.trellis.specs.ListLaws.{length-upto}
+use Rattle.trellis.specs.LaidLaws.{length-laid, laid-upto, laid-part}
 
 pub record Written {A : Type 0} (f : ℕ → A) (k : ℕ) (out₀ out : List A) : Type 0 where
   pub long : length out ≡ length out₀
@@ -23,7 +22,7 @@ module _ {A : Type 0} (f : ℕ → A) where
   written-next k out₀ out v w h e =
       record {
         long = length-set out k v ∙ w .long;
-        front = ap (λ (l : List A). set l k v) (w .front) ∙ upto-next f k out₀ v h e;
+        front = ap (λ (l : List A). set l k v) (w .front) ∙ laid-upto f k out₀ v h e;
       }
 
   -- n values more
@@ -31,6 +30,6 @@ module _ {A : Type 0} (f : ℕ → A) where
       → new ≡ take k out ++ laid (upto g n) (drop k out) → Written f (k + n) out₀ new
   written-more g k n out₀ out new w h same e =
       let whole : new ≡ laid (upto f (k + n)) out₀ =
-      e ∙ ap (λ (l : List A). take k l ++ laid (upto g n) (drop k l)) (w .front) ∙ upto-after f g k n out₀ same in
+      e ∙ ap (λ (l : List A). take k l ++ laid (upto g n) (drop k l)) (w .front) ∙ laid-part f g k n out₀ same in
       let l : length (upto f (k + n)) ≡ k + n = length-upto f (k + n) in
       record { long = ap length whole ∙ length-laid (upto f (k + n)) out₀ (omega arith); front = whole }

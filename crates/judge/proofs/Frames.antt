@@ -6,19 +6,17 @@ use Prim.Native.Nat.{ℕ, _-_, _<_}
 use native.Mathlib.Omega.{arith}
 use lib.ListN.{length, getD, replicate, length-append, length-replicate}
 use lib.Ieee.{Float, nan}
-use Rattle.trellis.specs.Lists.{upto, laid}
+use Rattle.trellis.specs.Lists.{upto, laid, padded}
 use Rattle.isdbs_runs.specs.declared.Plan.{Plan}
 use Rattle.isdbs_runs.specs.declared.Run.{Run}
 use Rattle.isdbs_tables.specs.declared.Table.{Table}
-use Rattle.isdbs_frame.specs.Frame.{mainSymbols}
-use Rattle.isdbs_combination.specs.Lists.{padded}
+use Rattle.isdbs_frame.specs.Frame.{mainSymbols, frameSlots}
 use Rattle.isdbs_runs.specs.RunsOf.{Planned, runsOf, noRun}
 use Rattle.isdbs_points.specs.declared.Mapping.{Mapping}
 use Rattle.isdbs_points.specs.Frame.{pointAt, startState}
 use Rattle.isdbs_encode.specs.Encoding.{FrameLaid}
-use Rattle.wanted_load.specs.Search.{laid-at}
+use Rattle.trellis.specs.LaidLaws.{laid-at}
 use Rattle.strain.specs.Counts.{summed}
-use Rattle.verdict.specs.Outside.{frameSlots}
 use Rattle.isdbs_judge.specs.Given.{slotGiven}
 use Rattle.isdbs_judge.specs.GivenLaws.{counts-are, sum-is}
 use Rattle.judge.specs.Judged.{CountsLaid}

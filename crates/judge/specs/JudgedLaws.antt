@@ -14,13 +14,13 @@ use Rattle.refusal.specs.Rows.{firstRow}
 use Rattle.refusal.specs.RowLaws as row
 use Rattle.refusal.specs.RowLaws.{neither}
 use Rattle.isdbs_tables.specs.declared.Table.{Table}
-use Rattle.isdbs_frame.specs.Frame.{mainSymbols}
+use Rattle.isdbs_frame.specs.Frame.{mainSymbols, frameSlots}
 use Rattle.isdbs_tables.specs.Tables.{TableAccepted}
 use Rattle.isdbs_tables.specs.TableLaws.{then-accepted}
 use Rattle.isdbs_runs.specs.RunsOf.{loadBytes}
 use Rattle.isdbs_points.specs.declared.Mapping.{Mapping}
 use Rattle.isdbs_points.specs.Layout.{FullLoad}
-use Rattle.verdict.specs.Outside.{frameSlots, outsideSum}
+use Rattle.verdict.specs.Outside.{outsideSum}
 use Rattle.verdict.specs.OutsideLaws.{sum-zero-within, within-sum-zero}
 use Rattle.verdict.specs.CertainLaws.{certain}
 use Rattle.judge.specs.Rows.{lentRows, judgeRows}

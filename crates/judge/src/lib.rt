@@ -16,9 +16,9 @@ ghost use Prim.Native.Nat.{_≤_};
 ghost use lib.ListN.{length};
 ghost use Rattle.trellis.specs.Lists.{laid};
 ghost use Rattle.refusal.specs.Rows.{firstRow, Either};
-ghost use Rattle.isdbs_frame.specs.Frame.{mainSymbols};
+ghost use Rattle.isdbs_frame.specs.Frame.{mainSymbols, frameSlots};
 ghost use Rattle.isdbs_runs.specs.RunsOf.{planOf, Planned};
-ghost use Rattle.verdict.specs.Outside.{frameSlots, outsideCounts};
+ghost use Rattle.verdict.specs.Outside.{outsideCounts};
 ghost use Rattle.judge.specs.Rows.{lentRows, judgeRows};
 ghost use Rattle.judge.specs.Judged.{CountsLaid, judgedSaid, judgedAnswer, Worth};
 

@@ -17,11 +17,11 @@ use Rattle.refusal.specs.RowLaws.{none-accepted, refused, decided}
 use Rattle.trellis.specs.Isdb
 use Rattle.trellis.specs.Isdb.{flushAt}
 use Rattle.trellis.specs.Lists.{laid}
-use Rattle.trellis.specs.Run.{Decoder, block, startAt}
+use Rattle.trellis.specs.Run.{Decoder, block, startAt, depth}
 use Rattle.best_path.specs.Corrected.{length-soft, soft-at, known-end}
 use Rattle.viterbi.specs.Count.{Counted, releases-le}
 use Rattle.viterbi.specs.Holding.{bare, holding-is}
-use Rattle.viterbi.specs.Laid.{take-laid, laid-after}
+use Rattle.trellis.specs.LaidLaws.{take-laid, laid-after}
 use Rattle.viterbi.specs.Parts.{tail-whole, written-tail}
 use Rattle.viterbi.specs.Traced.{length-traced}
 use Rattle.isdb_fec.specs.declared.conv.ViterbiDecoder.{ViterbiDecoder}
@@ -35,7 +35,7 @@ use Rattle.call_ranges.specs.Reached.{Reached, Floats, with-state}
 use Rattle.call_ranges.specs.Handed.{push-hands}
 use Rattle.call_ranges.specs.Answers.{stream-answer, flush-answer}
 use Rattle.call_ranges.specs.Finished.{Finished}
-use Rattle.known_end.specs.Calls.{depth, read, betweenRows, Left, Corrects}
+use Rattle.known_end.specs.Calls.{read, betweenRows, Left, Corrects}
 use Rattle.known_end.specs.Behind.{Behind}
 use Rattle.known_end.proofs.Rows.{depth-small, started, Passed, passed, fresh-passes, fresh-is, started-is, soft-rows}
 

@@ -13,14 +13,14 @@ use Rattle.refusal.specs.RowLaws as row
 use Rattle.refusal.specs.RowLaws.{neither, numbered}
 use Rattle.refusal.specs.declared.Answer.{Answer}
 use Rattle.refusal.specs.declared.Answer.the-variants.{Accepted, Traceback, Length, Sample, Space}
-use Rattle.trellis.specs.Run.{block, startAt}
+use Rattle.trellis.specs.Run.{block, startAt, depth}
 use Rattle.best_path.specs.Hard.{softPairs}
 use Rattle.best_path.specs.Corrected.{length-soft}
 use Rattle.isdb_fec.specs.declared.conv.ViterbiDecoder.{ViterbiDecoder}
 use Rattle.isdb_fec.specs.Values.{within, someBeyond, streamLimit}
 use Rattle.isdb_fec.specs.Rows.{freshRows}
 use Rattle.isdb_fec.specs.Calls.{Fresh, Zero, Either}
-use Rattle.known_end.specs.Calls.{depth, fresh, betweenRows}
+use Rattle.known_end.specs.Calls.{fresh, betweenRows}
 
 pub depth-small : (tb : ℕ) → tb ≤ 1024 → (1 ≤ depth tb) × (depth tb ≤ 1024)
 depth-small tb h = go (eqb tb 0) refl

@@ -11,20 +11,16 @@ use Rattle.refusal.specs.declared.Answer.the-variants.{Accepted, Length, Sample
 use Rattle.trellis.specs.Code.{isdb}
 use Rattle.trellis.specs.Encoded.{encoded, reached}
 use Rattle.trellis.specs.Isdb.{flushAt}
-use Rattle.trellis.specs.Run.{Decoder, block, startAt}
+use Rattle.trellis.specs.Run.{Decoder, block, depth, freshFrom, startAt, tracebackLimit}
 use Rattle.trellis.specs.Stretch.{differing, Bits, Coded}
 use Rattle.best_path.specs.Hard.{mostWrong, softPairs}
 use Rattle.best_path.specs.Paths.{longest}
 use Rattle.isdb_fec.specs.declared.conv.ViterbiDecoder.{ViterbiDecoder}
 use Rattle.isdb_fec.specs.declared.conv.Released.{Released}
-use Rattle.isdb_fec.specs.Values.{tracebackLimit, someBeyond, streamLimit}
+use Rattle.isdb_fec.specs.Values.{someBeyond, streamLimit}
 use Rattle.isdb_fec.specs.Rows.{freshRows}
 use Rattle.isdb_fec.specs.Calls.{pairSteps, call, Unchanged, Either}
 use Rattle.call_ranges.specs.Finished.{Finished}
-
--- "Traceback 0 acts as 1"
-abbrev pub depth : ℕ → ℕ
-depth tb = cond (eqb tb 0) 1 tb
 
 -- what `with_state` makes: the fresh decoder, or all zeros for a traceback that is refused
 abbrev pub fresh : ℕ → ℕ → ViterbiDecoder
@@ -32,7 +28,7 @@ fresh tb s = cond (ltb tracebackLimit tb) (record { pm = replicate 64 (ofBits bi
 
 -- the decoder with its held words and its bits once the soft values xs have been pushed
 abbrev pub read : ℕ → ℕ → List Float → Decoder
-read tb s xs = call (depth tb) (pairSteps xs) (record { values = startAt 64 s; words = []; bits = [] }) (length xs / 2)
+read tb s xs = call (depth tb) (pairSteps xs) (freshFrom (startAt 64 s)) (length xs / 2)
 
 -- the rows of a reading that is lent `decisions` words and `out` places: 3; 5 "soft values not in twos"; 7 "not finite; beyond .. 1,048,576 for a stream value";
 -- 9, a place for each bit, and "decisions always need 4,096 + traceback"

@@ -7,16 +7,13 @@ use native.Mathlib.Omega.{arith}
 use borrow.Author.Tests.{lt-ltb, le-ltb}
 use lib.Dec.{eqb, ltb}
 use lib.ListN.{length, take, replicate, length-replicate}
-use types.Run.{OneOf}
-use denote.Enum.Declared.{tagOf}
 use Rattle.refusal.specs.Rows.{numberOf, firstRow, Row}
-use Rattle.refusal.specs.RowLaws.{refusals, told-by, numbered, refused, refused-by, passed-by}
+use Rattle.refusal.specs.RowLaws.{numbered, refused, refused-by, passed-by}
 use Rattle.refusal.specs.declared.Answer.{Answer}
-use Rattle.refusal.proofs.Answer as answer
 use Rattle.refusal.specs.declared.Answer.the-variants.{Accepted, Length, Space, Unmendable}
 use Rattle.trellis.specs.Lists.{upto, laid}
 use Rattle.trellis.specs.ListLaws.{length-upto}
-use Rattle.viterbi.specs.Laid.{laid-laid, take-laid}
+use Rattle.trellis.specs.LaidLaws.{laid-laid, take-laid}
 use Rattle.mend_distance.specs.Stretches.{mostChanged, unlike, sentFrom}
 use Rattle.mend_distance.specs.StretchLaws.{length-sent}
 use Rattle.mend_distance.specs.Distances.{least, unmendable}
@@ -26,10 +23,6 @@ use Rattle.mend.specs.Rows.{someNoBit, mostBits, places, words, lentRows
 use Rattle.mend.specs.Allowed.{allowed}
 use Rattle.mend.specs.Tail.{Writes}
 use Rattle.mend.specs.Calls.{Mends, Unchanged, Called}
-
--- what a `let Answer::Accepted = .. else` tells where it leaves
-pub told : (a : Answer) → OneOf refusals (tagOf answer.the-type a) → a ≡ Accepted → ⊥
-told = told-by (tagOf answer.the-type) refl
 
 -- ---- what was written, as the places of the output
 pub front-is : (s e : ℕ) (bits out₀ out : List ℕ) (w : Writes s e bits out₀ out) → take (length bits) out ≡ sentFrom s (w .inputs)

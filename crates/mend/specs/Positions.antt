@@ -10,7 +10,7 @@ use lib.ListN.{length, getD, take, drop, set, length-append}
 use native.Mathlib.Numerals.{add-one}
 use lib.Seq.{take-suc, drop-cons, length-take-le, take-length}
 use Rattle.trellis.specs.Lists.{laid}
-use Rattle.viterbi.specs.Laid.{laid-more, length-laid}
+use Rattle.trellis.specs.LaidLaws.{laid-more, length-laid}
 use Rattle.mend_distance.specs.Stretches.{unlike, changed}
 use Rattle.mend_distance.specs.StretchLaws.{length-changed, changed-more, unlike-split}
 

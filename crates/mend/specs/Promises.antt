@@ -17,7 +17,7 @@ use Rattle.trellis.specs.Code.{isdb}
 use Rattle.trellis.specs.Encoded.{reached}
 use Rattle.trellis.specs.Stretch.{Bits}
 use Rattle.trellis.specs.Lists.{laid}
-use Rattle.viterbi.specs.Laid.{take-laid}
+use Rattle.trellis.specs.LaidLaws.{take-laid}
 use Rattle.mend_distance.specs.Stretches.{mostChanged, sentFrom, unlike, changed, Within}
 use Rattle.mend_distance.specs.StretchLaws.{unique, unlike-self, length-changed, length-sent, bits-sent}
 use Rattle.mend.specs.declared.Mended.{Mended}

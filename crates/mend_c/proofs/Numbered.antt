@@ -4,31 +4,11 @@ use mathlib.Core.List.{List}
 use Prim.Native.Nat.{ℕ}
 use native.Mathlib.Omega.{arith}
 use Rattle.refusal.specs.Rows.{numberOf}
-use Rattle.refusal.specs.RowLaws.{zero-accepted}
-use Rattle.refusal.specs.declared.Answer.{Answer}
-use Rattle.refusal.specs.declared.Answer.the-variants.{Accepted, Table, Position, Traceback, State, Length, Symbols, Sample, Scale, Space, PartUnit, ReservedWord, Window, Code, NoLoad, Unmendable}
+use Rattle.refusal.specs.RowLaws.{zero-accepted, same-number}
+use Rattle.refusal.specs.declared.Answer.the-variants.{Unmendable}
 use Rattle.mend.specs.declared.Mended.{Mended}
 use Rattle.mend.specs.Calls.{Called}
 use Rattle.mend_c.specs.Calls.{Left}
-
--- only one answer has the number 15
-unmendable-is : (a : Answer) → numberOf a ≡ 15 → a ≡ Unmendable
-unmendable-is Accepted e = absurd (omega arith)
-unmendable-is Table e = absurd (omega arith)
-unmendable-is Position e = absurd (omega arith)
-unmendable-is Traceback e = absurd (omega arith)
-unmendable-is State e = absurd (omega arith)
-unmendable-is Length e = absurd (omega arith)
-unmendable-is Symbols e = absurd (omega arith)
-unmendable-is Sample e = absurd (omega arith)
-unmendable-is Scale e = absurd (omega arith)
-unmendable-is Space e = absurd (omega arith)
-unmendable-is PartUnit e = absurd (omega arith)
-unmendable-is ReservedWord e = absurd (omega arith)
-unmendable-is Window e = absurd (omega arith)
-unmendable-is Code e = absurd (omega arith)
-unmendable-is NoLoad e = absurd (omega arith)
-unmendable-is Unmendable e = refl
 
 module _ (s e : ℕ) (bits : List ℕ) (r : Mended) (decisions₀ decisions out₀ out list₀ list : List ℕ) (call : Called s e bits r decisions₀ decisions out₀ out list₀ list) (n : ℕ) (is : n ≡ numberOf (r .answer)) where
   pub left-refused : (count : ℕ) → (n ≡ 0 → ⊥) → Left s e bits n count count decisions₀ decisions out₀ out list₀ list
@@ -37,7 +17,7 @@ module _ (s e : ℕ) (bits : List ℕ) (r : Mended) (decisions₀ decisions out�
       record {
         mends = λ z. absurd (h z);
         keeps = λ z. (refl, k .decisions-is, k .out-is, k .list-is);
-        none = λ z. call .none (unmendable-is (r .answer) (sym is ∙ z));
+        none = λ z. call .none (same-number (r .answer) Unmendable (sym is ∙ z));
       }
 
   pub left-accepted : (count₀ : ℕ) → n ≡ 0 → Left s e bits 0 count₀ (r .count) decisions₀ decisions out₀ out list₀ list

@@ -7,7 +7,7 @@ use native.Mathlib.Numerals.{add-one}
 use lib.ListN.{length, set}
 use Rattle.trellis.specs.Lists.{upto, laid}
 use Rattle.trellis.specs.ListLaws.{length-upto}
-use Rattle.viterbi.specs.Laid.{laid-more, length-laid}
+use Rattle.trellis.specs.LaidLaws.{laid-more, length-laid}
 use Rattle.mend_distance.specs.Distances.{pairAt, nexts, word, begun, nearest, Capped, wordAt}
 use Rattle.mend_distance.specs.DistanceLaws.{capped}
 

@@ -14,7 +14,7 @@ use Rattle.trellis.specs.Lists.{bit}
 use Rattle.trellis.specs.ListLaws.{length-upto, getD-upto}
 use Rattle.trellis.specs.Stretch.{apart, Bits}
 use Rattle.trellis.specs.Distance.{wrong, labelsOf, bits-at}
-use Rattle.acs.specs.Written.{lt-or-ge}
+use Rattle.trellis.specs.WrittenLaws.{lt-or-ge}
 use Rattle.mend_distance.specs.Stretches.{mostChanged, Within}
 use Rattle.mend_distance.specs.StretchLaws.{by-labels}
 use Rattle.mend_distance.specs.Distances.{pairAt, far, through, next, nexts, odd, begun, nearest, Capped, least, unmendable}

@@ -8,12 +8,12 @@ use native.Mathlib.Omega.{arith}
 use lib.Dec.{T, eqb, eqb-refl}
 use lib.ListN.{length, getD, take, drop}
 use Rattle.trellis.specs.Code.{isdb, output, label, moved}
-use Rattle.trellis.specs.Encoded.{encoded}
+use Rattle.trellis.specs.Encoded.{encoded, bitsOf}
 use Rattle.trellis.specs.EncodedLaws.{length-encoded, encoded-at}
 use Rattle.trellis.specs.RunLaws.{label-under}
 use Rattle.trellis.specs.Stretch.{apart, differing, Bits}
 use Rattle.trellis.specs.Distance.{same-or-ten, wrong, first-out, by-place, wrong-same, triangle, labelsOf}
-use Rattle.mend_distance.specs.Stretches.{codedBits, unlike, changed, sentFrom, Within}
+use Rattle.mend_distance.specs.Stretches.{unlike, changed, sentFrom, Within}
 use Rattle.mend_distance.specs.Distances.{pairAt}
 
 -- ---- the two bits of a branch
@@ -77,7 +77,7 @@ by-labels s us bits hb e =
     by-pairs us s bits hb e
     ∙ wrong-same (λ k. getD (encoded isdb s us) k 0) (pairAt bits) (labelsOf s us) (pairAt bits) (length us) (λ k h. encoded-at isdb s us k h) (λ k h. refl)
 
-pub length-coded : (ls : List ℕ) → length (codedBits ls) ≡ 2 * length ls
+pub length-coded : (ls : List ℕ) → length (bitsOf ls) ≡ 2 * length ls
 length-coded [] = refl
 length-coded (l ∷ ls) = let i = length-coded ls in omega arith
 
@@ -96,7 +96,7 @@ unique s e bits us vs hs hb p q =
     let x = encoded isdb s us in
     let y = encoded isdb s vs in
     let a = by-pairs us s bits hb (p .count) in
-    let b = subst (λ (i : ℕ). unlike (codedBits y) bits ≡ wrong (λ k. getD y k 0) (pairAt bits) i) (sym n) (by-pairs vs s bits hb (q .count)) in
+    let b = subst (λ (i : ℕ). unlike (bitsOf y) bits ≡ wrong (λ k. getD y k 0) (pairAt bits) i) (sym n) (by-pairs vs s bits hb (q .count)) in
     let lx : length x ≡ length us = length-encoded isdb s us in
     let ly : length y ≡ length vs = length-encoded isdb s vs in
     let d : differing x y ≡ wrong (λ k. getD x k 0) (λ k. getD y k 0) (length us) =

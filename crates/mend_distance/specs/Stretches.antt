@@ -6,17 +6,12 @@ use Prim.Native.Nat.{ℕ, _+_, _*_, _/_, _%_, _≤_}
 use lib.Dec.{eqb}
 use lib.ListN.{length}
 use Rattle.trellis.specs.Code.{isdb}
-use Rattle.trellis.specs.Encoded.{encoded, reached}
+use Rattle.trellis.specs.Encoded.{encoded, reached, bitsOf}
 use Rattle.trellis.specs.Stretch.{Bits}
 
 -- "differs in at most four bits"
 abbrev pub mostChanged : ℕ
 mostChanged = 4
-
--- the bits of coded pairs 2 X + Y: X, then Y, of each step
-abbrev pub codedBits : List ℕ → List ℕ
-codedBits [] = []
-codedBits (l ∷ ls) = l / 2 ∷ l % 2 ∷ codedBits ls
 
 -- the places in which two stretches of bits differ, counted
 abbrev pub unlike : List ℕ → List ℕ → ℕ
@@ -32,7 +27,7 @@ changed i (x ∷ xs) (y ∷ ys) = cond (eqb x y) [] (i ∷ []) ++ changed (i + 1
 
 -- the bits that the inputs us send from the state s
 abbrev pub sentFrom : ℕ → List ℕ → List ℕ
-sentFrom s us = codedBits (encoded isdb s us)
+sentFrom s us = bitsOf (encoded isdb s us)
 
 -- "the coded stretch that differs in at most four bits", between the states s and e: that of the inputs us
 pub record Within (s e : ℕ) (bits us : List ℕ) : Type 0 where

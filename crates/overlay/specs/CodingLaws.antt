@@ -8,16 +8,15 @@ use lib.Bits.{bitXor, xor-block, xor-lt}
 use lib.ListN.{length}
 use Rattle.trellis.specs.Code as trellis
 use Rattle.trellis.specs.Code.{half, output, label, moved}
-use Rattle.trellis.specs.Encoded.{encoded, reached}
+use Rattle.trellis.specs.Encoded.{encoded, reached, lowBits, bitsOf, codedBits}
 use Rattle.trellis.specs.Linear.{xor-low, xor-bit, output-xor, moved-xor}
 use Rattle.short_code.specs.declared.Code.{Code}
 use Rattle.short_code.specs.Codes.{codeOf, halfOf, statesOf, goodCode}
 use Rattle.short_code.specs.CodeLaws.{states-are, good-length}
-use Rattle.short_fec.specs.Calls.{lowBits, parts}
 use Rattle.short_encode.specs.Encoding.{length-coded}
 use Rattle.overlay.specs.Overlaid.{overlaid, chosen}
 use Rattle.overlay.specs.OverlaidLaws.{chosen-overlaid, parts-overlaid}
-use Rattle.overlay.specs.Coding.{outputsOf, Overlays}
+use Rattle.overlay.specs.Coding.{Overlays}
 
 -- ---- one input
 below-two : (c : trellis.Code) (g u s : ℕ) → output c g u s < 2
@@ -102,19 +101,19 @@ reached-overlaid c (u ∷ us) (v ∷ vs) s r e hs hr =
 pub overlays : (c : trellis.Code) (us vs : List ℕ) (s r : ℕ) → length us ≡ length vs → s < 2 * half c → r < 2 * half c → Overlays c us vs s r
 overlays c us vs s r e hs hr =
     record {
-      outputs = ap parts (encoded-overlaid c us vs s r hs hr) ∙ parts-overlaid (encoded c s (lowBits us)) (encoded c r (lowBits vs));
+      outputs = ap bitsOf (encoded-overlaid c us vs s r hs hr) ∙ parts-overlaid (encoded c s (lowBits us)) (encoded c r (lowBits vs));
       end = reached-overlaid c us vs s r e hs hr;
     }
 
-pub length-outputs : (c : trellis.Code) (s : ℕ) (us : List ℕ) → length (outputsOf c s us) ≡ 2 * length us
+pub length-outputs : (c : trellis.Code) (s : ℕ) (us : List ℕ) → length (codedBits c s us) ≡ 2 * length us
 length-outputs c s us = length-coded (record { constraint = c .constraint; g1 = c .g1; g2 = c .g2 }) s us
 
 -- and of any choice of the coded bits, in any order: what a puncturing keeps
 pub overlays-chosen : (c : trellis.Code) (us vs : List ℕ) (s r : ℕ) → length us ≡ length vs → s < 2 * half c → r < 2 * half c → (ps : List ℕ)
-    → chosen ps (outputsOf c (bitXor s r) (overlaid us vs)) ≡ overlaid (chosen ps (outputsOf c s us)) (chosen ps (outputsOf c r vs))
+    → chosen ps (codedBits c (bitXor s r) (overlaid us vs)) ≡ overlaid (chosen ps (codedBits c s us)) (chosen ps (codedBits c r vs))
 overlays-chosen c us vs s r e hs hr ps =
-    let n : length (outputsOf c s us) ≡ length (outputsOf c r vs) = length-outputs c s us ∙ ap (λ (i : ℕ). 2 * i) e ∙ sym (length-outputs c r vs) in
-    ap (chosen ps) (overlays c us vs s r e hs hr .outputs) ∙ chosen-overlaid ps (outputsOf c s us) (outputsOf c r vs) n
+    let n : length (codedBits c s us) ≡ length (codedBits c r vs) = length-outputs c s us ∙ ap (λ (i : ℕ). 2 * i) e ∙ sym (length-outputs c r vs) in
+    ap (chosen ps) (overlays c us vs s r e hs hr .outputs) ∙ chosen-overlaid ps (codedBits c s us) (codedBits c r vs) n
 
 -- "State it over every code of P7": its states are those below 2^(length-1)
 module _ (c : Code) (good : goodCode c ≡ true) (us vs : List ℕ) (s r : ℕ) (e : length us ≡ length vs) (hs : s < statesOf c) (hr : r < statesOf c) where
@@ -129,5 +128,5 @@ module _ (c : Code) (good : goodCode c ≡ true) (us vs : List ℕ) (s r : ℕ) 
   code-overlays = overlays (codeOf c) us vs s r e (rw all-states hs) (rw all-states hr)
 
   pub code-chosen : (ps : List ℕ)
-      → chosen ps (outputsOf (codeOf c) (bitXor s r) (overlaid us vs)) ≡ overlaid (chosen ps (outputsOf (codeOf c) s us)) (chosen ps (outputsOf (codeOf c) r vs))
+      → chosen ps (codedBits (codeOf c) (bitXor s r) (overlaid us vs)) ≡ overlaid (chosen ps (codedBits (codeOf c) s us)) (chosen ps (codedBits (codeOf c) r vs))
   code-chosen = overlays-chosen (codeOf c) us vs s r e (rw all-states hs) (rw all-states hr)

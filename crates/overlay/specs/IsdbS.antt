@@ -16,10 +16,9 @@ use Rattle.isdbs_combination.specs.declared.Combination.the-variants.{«Bpsk1_2
 use Rattle.isdbs_points.specs.Layout.{sentOrder, orderOf, stepsPerPeriod}
 use Rattle.isdbs_points.specs.Frame.{labelAt, codedBit, sentBit}
 use Rattle.isdbs_points.specs.Pieces.{piece}
-use Rattle.short_fec.specs.Calls.{lowBits}
 use Rattle.overlay.specs.Overlaid.{overlaid, chosen}
 use Rattle.overlay.specs.OverlaidLaws.{length-overlaid}
-use Rattle.overlay.specs.Coding.{outputsOf}
+use Rattle.trellis.specs.Encoded.{lowBits, codedBits}
 use Rattle.overlay.specs.CodingLaws.{overlays-chosen}
 use Rattle.overlay.specs.Kept.{kept-is}
 
@@ -87,7 +86,7 @@ sent-is c f i =
     (ap (λ (k : ℕ). cond (eqb ((2 * q + a) % 2) 0) (f k / 2) (f k % 2)) x
     ∙ ap (λ (k : ℕ). cond (eqb k 0) (f (0 + (q + a / 2)) / 2) (f (0 + (q + a / 2)) % 2)) y)
 
-pub kept-chosen : (c : Combination) (s : ℕ) (us : List ℕ) → keptBits c s us ≡ chosen (keptPlaces c (length us)) (outputsOf isdb s us)
+pub kept-chosen : (c : Combination) (s : ℕ) (us : List ℕ) → keptBits c s us ≡ chosen (keptPlaces c (length us)) (codedBits isdb s us)
 unfolding keptBits
 kept-chosen c s us =
     kept-is s us (sentBit (labelAt s (lowBits us)) (piece c 0)) (keptPlace c) (keptCount c (length us))
@@ -99,9 +98,9 @@ pub kept-overlaid : (us vs : List ℕ) → length us ≡ length vs → (s r : �
 kept-overlaid us vs e s r hs hr c =
     let ps = keptPlaces c (length us) in
     kept-chosen c (bitXor s r) (overlaid us vs)
-    ∙ ap (λ (n : ℕ). chosen (keptPlaces c n) (outputsOf isdb (bitXor s r) (overlaid us vs))) (length-overlaid us vs e)
+    ∙ ap (λ (n : ℕ). chosen (keptPlaces c n) (codedBits isdb (bitXor s r) (overlaid us vs))) (length-overlaid us vs e)
     ∙ overlays-chosen isdb us vs s r e hs hr ps
     ∙ sym
     (ap (λ (l : List ℕ). overlaid l (keptBits c r vs)) (kept-chosen c s us)
-    ∙ ap (λ (l : List ℕ). overlaid (chosen ps (outputsOf isdb s us)) l) (kept-chosen c r vs)
-    ∙ ap (λ (n : ℕ). overlaid (chosen ps (outputsOf isdb s us)) (chosen (keptPlaces c n) (outputsOf isdb r vs))) (sym e))
+    ∙ ap (λ (l : List ℕ). overlaid (chosen ps (codedBits isdb s us)) l) (kept-chosen c r vs)
+    ∙ ap (λ (n : ℕ). overlaid (chosen ps (codedBits isdb s us)) (chosen (keptPlaces c n) (codedBits isdb r vs))) (sym e))

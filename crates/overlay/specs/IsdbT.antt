@@ -19,7 +19,7 @@ use Rattle.isdbt_table.specs.Puncture.{inputs, mother, place, punctured}
 use Rattle.isdbt_table.specs.Sizes.{order-below}
 use Rattle.overlay.specs.Overlaid.{overlaid, chosen}
 use Rattle.overlay.specs.OverlaidLaws.{length-overlaid}
-use Rattle.overlay.specs.Coding.{outputsOf, lastState}
+use Rattle.trellis.specs.Encoded.{codedBits, endState}
 use Rattle.overlay.specs.CodingLaws.{overlays, overlays-chosen}
 use Rattle.overlay.specs.Kept.{kept-is}
 
@@ -51,7 +51,7 @@ turn R7_8 j = omega arith
 abbrev pub sentPlaces : CodeRate → ℕ → List ℕ
 sentPlaces rate n = upto (place rate) (n / period rate * sent rate)
 
-pub punctured-chosen : (rate : CodeRate) (s : ℕ) (us : List ℕ) → punctured rate s us ≡ chosen (sentPlaces rate (length us)) (outputsOf isdb s us)
+pub punctured-chosen : (rate : CodeRate) (s : ℕ) (us : List ℕ) → punctured rate s us ≡ chosen (sentPlaces rate (length us)) (codedBits isdb s us)
 unfolding punctured
 punctured-chosen rate s us =
     kept-is s us (λ j. mother s (inputs us) (place rate j)) (place rate) (length us / period rate * sent rate)
@@ -63,12 +63,12 @@ module _ (us vs : List ℕ) (e : length us ≡ length vs) (s r : ℕ) (hs : s < 
   punctured-overlaid rate =
       let ps = sentPlaces rate (length us) in
       punctured-chosen rate (bitXor s r) (overlaid us vs)
-      ∙ ap (λ (n : ℕ). chosen (sentPlaces rate n) (outputsOf isdb (bitXor s r) (overlaid us vs))) (length-overlaid us vs e)
+      ∙ ap (λ (n : ℕ). chosen (sentPlaces rate n) (codedBits isdb (bitXor s r) (overlaid us vs))) (length-overlaid us vs e)
       ∙ overlays-chosen isdb us vs s r e hs hr ps
       ∙ sym
       (ap (λ (l : List ℕ). overlaid l (punctured rate r vs)) (punctured-chosen rate s us)
-      ∙ ap (λ (l : List ℕ). overlaid (chosen ps (outputsOf isdb s us)) l) (punctured-chosen rate r vs)
-      ∙ ap (λ (n : ℕ). overlaid (chosen ps (outputsOf isdb s us)) (chosen (sentPlaces rate n) (outputsOf isdb r vs))) (sym e))
+      ∙ ap (λ (l : List ℕ). overlaid (chosen ps (codedBits isdb s us)) l) (punctured-chosen rate r vs)
+      ∙ ap (λ (n : ℕ). overlaid (chosen ps (codedBits isdb s us)) (chosen (sentPlaces rate n) (codedBits isdb r vs))) (sym e))
 
   last-is : (t : ℕ) (ws : List ℕ) → stateAt 32 t (inputs ws) (length ws) ≡ stateAt 32 t (inputs ws) (length (inputs ws))
   last-is t ws = ap (λ (n : ℕ). stateAt 32 t (inputs ws) n) (sym (length-map ws (λ b. b % 2)))
@@ -77,5 +77,5 @@ module _ (us vs : List ℕ) (e : length us ≡ length vs) (s r : ℕ) (hs : s < 
   pub state-overlaid : stateAt 32 (bitXor s r) (inputs (overlaid us vs)) (length (overlaid us vs)) ≡ bitXor (stateAt 32 s (inputs us) (length us)) (stateAt 32 r (inputs vs) (length vs))
   state-overlaid =
       last-is (bitXor s r) (overlaid us vs) ∙ sym (reached-is isdb (bitXor s r) (inputs (overlaid us vs))) ∙ overlays isdb us vs s r e hs hr .end
-      ∙ ap (λ (x : ℕ). bitXor x (lastState isdb r vs)) (reached-is isdb s (inputs us) ∙ sym (last-is s us))
+      ∙ ap (λ (x : ℕ). bitXor x (endState isdb r vs)) (reached-is isdb s (inputs us) ∙ sym (last-is s us))
       ∙ ap (λ (x : ℕ). bitXor (stateAt 32 s (inputs us) (length us)) x) (reached-is isdb r (inputs vs) ∙ sym (last-is r vs))

@@ -8,20 +8,17 @@ use lib.Dec.{eqb}
 use lib.ListN.{length, getD, length-map}
 use Rattle.trellis.specs.Lists.{upto}
 use Rattle.trellis.specs.Code.{isdb}
-use Rattle.trellis.specs.Encoded.{encoded}
+use Rattle.trellis.specs.Encoded.{encoded, lowBits, bitsOf, codedBits}
 use Rattle.trellis.specs.EncodedLaws.{encoded-at}
 use Rattle.isdbs_points.specs.Frame.{labelAt, codedBit}
-use Rattle.isdbs_points.specs.LawsUpto.{upto-cong}
-use Rattle.short_fec.specs.Calls.{lowBits, parts}
+use Rattle.trellis.specs.LaidLaws.{upto-cong}
 use Rattle.overlay.specs.Overlaid.{chosen}
-use Rattle.overlay.specs.Coding.{outputsOf}
 
 zero-bit : (w : Bool) → cond w (0 / 2) (0 % 2) ≡ 0
 zero-bit true = refl
 zero-bit false = refl
 
-part-at : (ls : List ℕ) (k : ℕ) → getD (parts ls) k 0 ≡ codedBit k (getD ls (k / 2) 0)
-unfolding parts
+part-at : (ls : List ℕ) (k : ℕ) → getD (bitsOf ls) k 0 ≡ codedBit k (getD ls (k / 2) 0)
 part-at [] k = sym (zero-bit (eqb (k % 2) 0))
 part-at (l ∷ ls) zero = refl
 part-at (l ∷ ls) (suc zero) = refl
@@ -33,7 +30,7 @@ part-at (l ∷ ls) (suc (suc k)) =
     (ap (λ (i : ℕ). cond (eqb (suc (suc k) % 2) 0) (getD (l ∷ ls) i 0 / 2) (getD (l ∷ ls) i 0 % 2)) a
     ∙ ap (λ (i : ℕ). cond (eqb i 0) (getD ls (k / 2) 0 / 2) (getD ls (k / 2) 0 % 2)) b)
 
-output-at : (s : ℕ) (us : List ℕ) (k : ℕ) → k < 2 * length us → codedBit k (labelAt s (lowBits us) (k / 2)) ≡ getD (outputsOf isdb s us) k 0
+output-at : (s : ℕ) (us : List ℕ) (k : ℕ) → k < 2 * length us → codedBit k (labelAt s (lowBits us) (k / 2)) ≡ getD (codedBits isdb s us) k 0
 output-at s us k h =
     let n : length (lowBits us) ≡ length us = length-map us (λ u. u % 2) in
     sym (part-at (encoded isdb s (lowBits us)) k ∙ ap (λ (l : ℕ). codedBit k l) (encoded-at isdb s (lowBits us) (k / 2) (omega arith)))
@@ -46,7 +43,7 @@ chosen-upto xs f (suc n) = map-append (λ p. getD xs p 0) (upto f n) (f n ∷ []
 -- n bits of which each is the output at its place
 pub kept-is : (s : ℕ) (us : List ℕ) (f place : ℕ → ℕ) (n : ℕ)
     → ((j : ℕ) → j < n → (place j < 2 * length us) × (f j ≡ codedBit (place j) (labelAt s (lowBits us) (place j / 2))))
-    → upto f n ≡ chosen (upto place n) (outputsOf isdb s us)
+    → upto f n ≡ chosen (upto place n) (codedBits isdb s us)
 kept-is s us f place n h =
-    upto-cong f (λ j. getD (outputsOf isdb s us) (place j) 0) n (λ j l. h j l .1 ∙ output-at s us (place j) (h j l .0))
-    ∙ sym (chosen-upto (outputsOf isdb s us) place n)
+    upto-cong f (λ j. getD (codedBits isdb s us) (place j) 0) n (λ j l. h j l .1 ∙ output-at s us (place j) (h j l .0))
+    ∙ sym (chosen-upto (codedBits isdb s us) place n)

@@ -5,7 +5,7 @@ use Prim.Native.Nat.{ℕ, zero, suc, _/_, _%_, _^_}
 use native.Mathlib.Omega.{arith}
 use lib.Bits.{bitXor, xor-self, xor-shr, xor-mod}
 use lib.ListN.{length, getD}
-use Rattle.short_fec.specs.Calls.{parts}
+use Rattle.trellis.specs.Encoded.{bitsOf}
 use Rattle.overlay.specs.Overlaid.{overlaid, chosen}
 
 -- ---- laws
@@ -29,13 +29,12 @@ chosen-overlaid (p ∷ ps) xs ys e =
     ∙ ap (λ (l : List ℕ). bitXor (getD xs p 0) (getD ys p 0) ∷ l) (chosen-overlaid ps xs ys e)
 
 -- X and Y of pairs 2 X + Y
-pub parts-overlaid : (xs ys : List ℕ) → parts (overlaid xs ys) ≡ overlaid (parts xs) (parts ys)
-unfolding parts
+pub parts-overlaid : (xs ys : List ℕ) → bitsOf (overlaid xs ys) ≡ overlaid (bitsOf xs) (bitsOf ys)
 parts-overlaid [] ys = refl
 parts-overlaid (x ∷ xs) [] = refl
 parts-overlaid (x ∷ xs) (y ∷ ys) =
     let a : bitXor x y / 2 ^ 1 ≡ bitXor (x / 2 ^ 1) (y / 2 ^ 1) = xor-shr x y 1 in
     let b : bitXor x y % 2 ^ 1 ≡ bitXor (x % 2 ^ 1) (y % 2 ^ 1) = xor-mod x y 1 in
-    ap (λ (i : ℕ). i ∷ bitXor x y % 2 ∷ parts (overlaid xs ys)) a
-    ∙ ap (λ (i : ℕ). bitXor (x / 2) (y / 2) ∷ i ∷ parts (overlaid xs ys)) b
+    ap (λ (i : ℕ). i ∷ bitXor x y % 2 ∷ bitsOf (overlaid xs ys)) a
+    ∙ ap (λ (i : ℕ). bitXor (x / 2) (y / 2) ∷ i ∷ bitsOf (overlaid xs ys)) b
     ∙ ap (λ (l : List ℕ). bitXor (x / 2) (y / 2) ∷ bitXor (x % 2) (y % 2) ∷ l) (parts-overlaid xs ys)

@@ -8,12 +8,12 @@ use Rattle.trellis.specs.Lists.{upto}
 use Rattle.trellis.specs.Code.{isdb}
 use Rattle.isdbs_combination.specs.declared.Combination.the-variants.{«Qpsk2_3»}
 use Rattle.isdbs_points.specs.Layout.{sentOrder, orderOf, stepsPerPeriod}
-use Rattle.isdbs_points.specs.LawsUpto.{upto-cong}
+use Rattle.trellis.specs.LaidLaws.{upto-cong}
 use Rattle.isdbt_table.specs.declared.CodeRate.the-variants.{R2_3}
 use Rattle.isdbt_table.specs.Table.{order, period}
 use Rattle.isdbt_table.specs.Puncture.{place, punctured}
 use Rattle.overlay.specs.Overlaid.{chosen}
-use Rattle.overlay.specs.Coding.{outputsOf}
+use Rattle.trellis.specs.Encoded.{codedBits}
 use Rattle.overlay.specs.IsdbT.{sentPlaces, punctured-chosen}
 use Rattle.overlay.specs.IsdbS.{keptBits, keptPlace, keptPlaces, kept-chosen}
 
@@ -52,6 +52,6 @@ unfolding sentOrder
 kept-same n s us e =
     let a : length us / 4 * 6 ≡ length us / 2 * 3 = omega arith in
     kept-chosen «Qpsk2_3» s us
-    ∙ ap (λ (i : ℕ). chosen (upto (keptPlace «Qpsk2_3») i) (outputsOf isdb s us)) a
-    ∙ ap (λ (ps : List ℕ). chosen ps (outputsOf isdb s us)) (upto-cong (keptPlace «Qpsk2_3») (place R2_3) (length us / 2 * 3) (λ j h. same-place j))
+    ∙ ap (λ (i : ℕ). chosen (upto (keptPlace «Qpsk2_3») i) (codedBits isdb s us)) a
+    ∙ ap (λ (ps : List ℕ). chosen ps (codedBits isdb s us)) (upto-cong (keptPlace «Qpsk2_3») (place R2_3) (length us / 2 * 3) (λ j h. same-place j))
     ∙ sym (punctured-chosen R2_3 s us)

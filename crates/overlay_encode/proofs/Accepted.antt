@@ -12,16 +12,14 @@ use Rattle.refusal.specs.Rows.{firstRow, Either}
 use Rattle.refusal.specs.RowLaws.{neither, passed, none-accepted}
 use Rattle.refusal.specs.declared.Answer.the-variants as answer
 use Rattle.trellis.specs.Lists.{laid}
-use Rattle.trellis.specs.Encoded.{reached}
-use Rattle.viterbi.specs.Laid.{take-laid}
+use Rattle.trellis.specs.Encoded.{codedBits, endState}
+use Rattle.trellis.specs.LaidLaws.{take-laid}
 use Rattle.short_code.specs.declared.Code.{Code}
 use Rattle.short_code.specs.Codes.{codeOf, goodCode, statesOf}
 use Rattle.short_fec.specs.Rows.{encodeRows}
-use Rattle.short_fec.specs.Calls.{lowBits, codedBits}
 use Rattle.short_encode.specs.declared.Encoded.{Encoded}
 use Rattle.overlay.specs.Overlaid.{overlaid}
 use Rattle.overlay.specs.OverlaidLaws.{length-overlaid}
-use Rattle.overlay.specs.Coding.{outputsOf, lastState}
 use Rattle.overlay.specs.CodingLaws.{length-outputs, state-sum, code-overlays}
 use Rattle.overlay_encode.specs.declared.Encodings.{Encodings}
 use Rattle.overlay_encode.specs.Rows.{shortOutputs, overlayRows}
@@ -81,10 +79,10 @@ module _ (c : Code) (s r : ℕ) (us vs : List ℕ) where
   abbrev pub Said : ℕ → List ℕ → Encoded → List ℕ → List ℕ → Type 0
   Said t ts e out₀ out =
       (e .answer ≡ firstRow (encodeRows c t (length ts) (length out₀)))
-      × (Either (e .answer) (e .enc .state ≡ reached (codeOf c) t (lowBits ts)) (e .enc .state ≡ t) × Either (e .answer) (out ≡ laid (codedBits c t ts) out₀) (out ≡ out₀))
+      × (Either (e .answer) (e .enc .state ≡ endState (codeOf c) t ts) (e .enc .state ≡ t) × Either (e .answer) (out ≡ laid (codedBits (codeOf c) t ts) out₀) (out ≡ out₀))
 
   made : (t : ℕ) (ts : List ℕ) (e : Encoded) (out₀ out : List ℕ) → goodCode c ≡ true → t < statesOf c → 2 * length ts ≤ length out₀ → Said t ts e out₀ out
-      → (e .enc .state ≡ lastState (codeOf c) t ts) × (out ≡ laid (outputsOf (codeOf c) t ts) out₀)
+      → (e .enc .state ≡ endState (codeOf c) t ts) × (out ≡ laid (codedBits (codeOf c) t ts) out₀)
   made t ts e out₀ out g h room said =
       let rows = encodeRows c t (length ts) (length out₀) in
       let yes = said .0 ∙ none-accepted rows (ap not g, (lt-leb (statesOf c) t h, (le-ltb (length out₀) (2 * length ts) room, tt))) in
@@ -108,9 +106,9 @@ module _ (c : Code) (s r : ℕ) (us vs : List ℕ) where
   pub overlaps : (e : Encodings) (before after : Lent) → goodCode c ≡ true → s < statesOf c → r < statesOf c → length us ≡ length vs → Encodes c s r us vs e before after → Overlays (length us) e after
   overlaps e before after g hs hr n done =
       let law = code-overlays c g us vs s r n hs hr in
-      let x = outputsOf (codeOf c) s us in
-      let y = outputsOf (codeOf c) r vs in
-      let z = outputsOf (codeOf c) (bitXor s r) (overlaid us vs) in
+      let x = codedBits (codeOf c) s us in
+      let y = codedBits (codeOf c) r vs in
+      let z = codedBits (codeOf c) (bitXor s r) (overlaid us vs) in
       let m = length-overlaid us vs n in
       let lx : length x ≡ 2 * length us = length-outputs (codeOf c) s us in
       let ly : length y ≡ 2 * length us = length-outputs (codeOf c) r vs ∙ ap (λ (k : ℕ). 2 * k) (sym n) in
@@ -120,5 +118,5 @@ module _ (c : Code) (s r : ℕ) (us vs : List ℕ) where
       let tz : take (2 * length us) (after .third) ≡ z = ap (λ (l : List ℕ). take (2 * length us) l) (done .third-are) ∙ front z (before .third) (2 * length us) lz in
       record {
         outputs = tz ∙ law .outputs ∙ sym (ap (λ (l : List ℕ). overlaid l (take (2 * length us) (after .second))) tx ∙ ap (λ (l : List ℕ). overlaid x l) ty);
-        end = done .third-end ∙ law .end ∙ sym (ap (λ (k : ℕ). bitXor k (e .second .state)) (done .first-end) ∙ ap (λ (k : ℕ). bitXor (lastState (codeOf c) s us) k) (done .second-end));
+        end = done .third-end ∙ law .end ∙ sym (ap (λ (k : ℕ). bitXor k (e .second .state)) (done .first-end) ∙ ap (λ (k : ℕ). bitXor (endState (codeOf c) s us) k) (done .second-end));
       }

@@ -7,7 +7,7 @@ use Prim.Native.Nat.{ℕ, _<_}
 use native.Mathlib.Omega.{arith}
 use borrow.Author.Tests.{eqb-true, eqb-false, eq-eqb, ne-eqb}
 use lib.Dec.{T, eqb}
-use lib.ListN.{length}
+use lib.ListN.{length, getD}
 use types.Run.{OneOf, miss}
 use Rattle.refusal.specs.declared.Answer.{Answer}
 use Rattle.refusal.specs.declared.Answer.the-variants.{Accepted, Table, Position, Traceback, State, Length, Symbols, Sample, Scale, Space, PartUnit, ReservedWord, Window, Code, NoLoad, Unmendable}
@@ -15,24 +15,35 @@ use Rattle.refusal.specs.Rows.{numberOf, accepted, Row, firstRow, Either
 
 -- ---- answers
 
+-- the answers by their numbers
+abbrev answers : List Answer
+answers = Accepted ∷ Table ∷ Position ∷ Traceback ∷ State ∷ Length ∷ Symbols ∷ Sample ∷ Scale ∷ Space ∷ PartUnit ∷ ReservedWord ∷ Code ∷ NoLoad ∷ Window ∷ Unmendable ∷ []
+
+by-number : (a : Answer) → getD answers (numberOf a) Accepted ≡ a
+by-number Accepted = refl
+by-number Table = refl
+by-number Position = refl
+by-number Traceback = refl
+by-number State = refl
+by-number Length = refl
+by-number Symbols = refl
+by-number Sample = refl
+by-number Scale = refl
+by-number Space = refl
+by-number PartUnit = refl
+by-number ReservedWord = refl
+by-number Window = refl
+by-number Code = refl
+by-number NoLoad = refl
+by-number Unmendable = refl
+
+-- answers of one number are the same
+pub same-number : (a b : Answer) → numberOf a ≡ numberOf b → a ≡ b
+same-number a b e = sym (by-number a) ∙ ap (λ (n : ℕ). getD answers n Accepted) e ∙ by-number b
+
 -- only accepted has the number 0
 pub zero-accepted : (a : Answer) → numberOf a ≡ 0 → a ≡ Accepted
-zero-accepted Accepted e = refl
-zero-accepted Table e = absurd (omega arith)
-zero-accepted Position e = absurd (omega arith)
-zero-accepted Traceback e = absurd (omega arith)
-zero-accepted State e = absurd (omega arith)
-zero-accepted Length e = absurd (omega arith)
-zero-accepted Symbols e = absurd (omega arith)
-zero-accepted Sample e = absurd (omega arith)
-zero-accepted Scale e = absurd (omega arith)
-zero-accepted Space e = absurd (omega arith)
-zero-accepted PartUnit e = absurd (omega arith)
-zero-accepted ReservedWord e = absurd (omega arith)
-zero-accepted Window e = absurd (omega arith)
-zero-accepted Code e = absurd (omega arith)
-zero-accepted NoLoad e = absurd (omega arith)
-zero-accepted Unmendable e = absurd (omega arith)
+zero-accepted a e = same-number a Accepted e
 
 -- an answer with a row's number is a refusal
 pub numbered : (a : Answer) → 0 < numberOf a → a ≡ Accepted → ⊥

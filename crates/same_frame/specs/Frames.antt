@@ -3,10 +3,9 @@ use mathlib.Core.Path.{_≡_, refl, sym, _∙_, ap, subst}
 use mathlib.Core.Bool.{Bool, true, false, true≢false}
 use mathlib.Core.List.{List}
 use Prim.Native.Nat.{ℕ, _<_, _≤_}
-use lib.ListN.{getD, length, drop, List·getD-append}
+use lib.ListN.{getD, length}
 use lib.Ieee.{Float, nan, ne}
-use Rattle.trellis.specs.Lists.{upto, laid}
-use Rattle.trellis.specs.ListLaws.{length-upto, getD-upto}
+use Rattle.trellis.specs.LaidLaws.{laid-at}
 use Rattle.isdbs_tables.specs.declared.Table.{Table}
 use Rattle.isdbs_frame.specs.Frame.{mainSymbols}
 use Rattle.isdbs_points.specs.declared.Mapping.{Mapping}
@@ -16,10 +15,6 @@ use Rattle.wanted.specs.Inputs.{re-at, im-at}
 use Rattle.wanted.specs.Only.{encodes-parts}
 use Rattle.same_frame.specs.Numbers.{point-number}
 use Rattle.same_frame.specs.Alike.{SameParts, Matches}
-
--- what stands in the front of a list that is written over
-pub laid-at : {A : Type 0} (d : A) (f : ℕ → A) (n : ℕ) (w : List A) (k : ℕ) → k < n → getD (laid (upto f n) w) k d ≡ f k
-laid-at d f n w k h = List·getD-append (upto f n) (drop (length (upto f n)) w) d k (rw (length-upto f n) h) ∙ getD-upto f d n k h
 
 -- ---- the frame of a load, and the lent parts compared with it
 module _ (t : Table) (m : Mapping) (first : Bool) (re im : List Float) (load : List ℕ) (xs₀ xs ys₀ ys : List Float) (made : FrameLaid t m load (startState first) xs₀ xs ys₀ ys) where

@@ -19,7 +19,7 @@ use Rattle.trellis.specs.Isdb.{rule}
 use Rattle.trellis.specs.Lists.{laid}
 use Rattle.trellis.specs.Step.{four}
 use Rattle.trellis.specs.Run.{block, startAt, startUnknown}
-use Rattle.viterbi.specs.Laid.{take-laid}
+use Rattle.trellis.specs.LaidLaws.{take-laid}
 use Rattle.best_path.specs.Paths.{longest, bound, Integer, Quadruples, Reading, This, Any}
 use Rattle.best_path.specs.Exact.{Whole, le-from}
 use Rattle.best_path.specs.Calls as best-path

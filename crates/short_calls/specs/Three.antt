@@ -27,7 +27,7 @@ use Rattle.trellis.specs.Step.{Step, four, renormalised, traced, best}
 use Rattle.trellis.specs.Run.{Decoder, block, startAt, startUnknown, valuesAt, after, decisionsAfter}
 use Rattle.viterbi.specs.Calls.{fourSteps, releases}
 use Rattle.viterbi.specs.Count.{counted, releases-is}
-use Rattle.viterbi.specs.Laid.{take-laid, length-laid}
+use Rattle.trellis.specs.LaidLaws.{take-laid, length-laid}
 use Rattle.best_path.specs.Paths.{longest, bound, Quadruples, Reading}
 use Rattle.best_path.specs.Viterbi.{Z, value}
 use Rattle.best_path.specs.Exact.{Whole, le-from}

@@ -7,11 +7,10 @@ use native.Mathlib.Nat.{not-suc-le-zero}
 use lib.ListN.{length, getD, length-map}
 use Rattle.trellis.specs.Code as trellis
 use Rattle.trellis.specs.Code.{output, stateAt}
-use Rattle.trellis.specs.Encoded.{encoded}
+use Rattle.trellis.specs.Encoded.{encoded, lowBits, bitsOf, codedBits}
 use Rattle.trellis.specs.EncodedLaws.{length-encoded, encoded-at}
 use Rattle.short_code.specs.declared.Code.{Code}
 use Rattle.short_code.specs.Codes.{codeOf, halfOf}
-use Rattle.short_fec.specs.Calls.{lowBits, parts, codedBits}
 
 -- the low bit of a byte, past the end too
 pub low-at : (us : List ℕ) (k : ℕ) → getD (lowBits us) k 0 ≡ getD us k 0 % 2
@@ -22,26 +21,23 @@ low-at (u ∷ us) (suc k) = low-at us k
 pub length-low : (us : List ℕ) → length (lowBits us) ≡ length us
 length-low us = length-map us (λ u. u % 2)
 
--- ---- the parts of pairs
-length-parts : (ls : List ℕ) → length (parts ls) ≡ 2 * length ls
-unfolding parts
+-- ---- the bitsOf of pairs
+length-parts : (ls : List ℕ) → length (bitsOf ls) ≡ 2 * length ls
 length-parts [] = refl
 length-parts (l ∷ ls) = let e = length-parts ls in omega arith
 
-x-at : (ls : List ℕ) (k : ℕ) → k < length ls → getD (parts ls) (2 * k) 0 ≡ getD ls k 0 / 2
-unfolding parts
+x-at : (ls : List ℕ) (k : ℕ) → k < length ls → getD (bitsOf ls) (2 * k) 0 ≡ getD ls k 0 / 2
 x-at [] k h = absurd (not-suc-le-zero h)
 x-at (l ∷ ls) zero h = refl
 x-at (l ∷ ls) (suc k) h = let e : 2 * suc k ≡ suc (suc (2 * k)) = omega arith in rw e (x-at ls k (omega arith))
 
-y-at : (ls : List ℕ) (k : ℕ) → k < length ls → getD (parts ls) (2 * k + 1) 0 ≡ getD ls k 0 % 2
-unfolding parts
+y-at : (ls : List ℕ) (k : ℕ) → k < length ls → getD (bitsOf ls) (2 * k + 1) 0 ≡ getD ls k 0 % 2
 y-at [] k h = absurd (not-suc-le-zero h)
 y-at (l ∷ ls) zero h = refl
 y-at (l ∷ ls) (suc k) h = let e : 2 * suc k + 1 ≡ suc (suc (2 * k + 1)) = omega arith in rw e (y-at ls k (omega arith))
 
 -- ---- the coded bits
-pub length-coded : (c : Code) (s : ℕ) (us : List ℕ) → length (codedBits c s us) ≡ 2 * length us
+pub length-coded : (c : Code) (s : ℕ) (us : List ℕ) → length (codedBits (codeOf c) s us) ≡ 2 * length us
 length-coded c s us = length-parts (encoded (codeOf c) s (lowBits us)) ∙ ap (λ (n : ℕ). 2 * n) (length-encoded (codeOf c) s (lowBits us) ∙ length-low us)
 
 -- the state before input k
@@ -62,10 +58,10 @@ module _ (c : Code) (s : ℕ) (us : List ℕ) (k : ℕ) (h : k < length us) wher
   inside : k < length (encoded (codeOf c) s (lowBits us))
   inside = rw (length-encoded (codeOf c) s (lowBits us) ∙ length-low us) h
 
-  pub coded-x : getD (codedBits c s us) (2 * k) 0 ≡ output (codeOf c) (c .g1) u (stateBefore c s us k)
+  pub coded-x : getD (codedBits (codeOf c) s us) (2 * k) 0 ≡ output (codeOf c) (c .g1) u (stateBefore c s us k)
   unfolding trellis.label
   coded-x = x-at (encoded (codeOf c) s (lowBits us)) k inside ∙ ap (λ (l : ℕ). l / 2) pair-at ∙ (let y = output-bit (c .g2) in omega arith)
 
-  pub coded-y : getD (codedBits c s us) (2 * k + 1) 0 ≡ output (codeOf c) (c .g2) u (stateBefore c s us k)
+  pub coded-y : getD (codedBits (codeOf c) s us) (2 * k + 1) 0 ≡ output (codeOf c) (c .g2) u (stateBefore c s us k)
   unfolding trellis.label
   coded-y = y-at (encoded (codeOf c) s (lowBits us)) k inside ∙ ap (λ (l : ℕ). l % 2) pair-at ∙ (let y = output-bit (c .g2) in omega arith)

@@ -15,7 +15,7 @@ use Rattle.refusal.specs.RowLaws.{decided}
 use Rattle.trellis.specs.Lists.{upto, laid}
 use Rattle.trellis.specs.ListLaws.{length-upto, getD-upto}
 use Rattle.trellis.specs.Code.{isdb, output, stateAt}
-use Rattle.trellis.specs.Encoded.{reached}
+use Rattle.trellis.specs.Encoded.{lowBits, codedBits, endState}
 use Rattle.trellis.specs.EncodedLaws.{reached-is}
 use Rattle.isdbt_table.specs.declared.CodeRate.the-variants.{R1_2}
 use Rattle.isdbt_fec.specs.declared.conv.Encoded as isdbt
@@ -24,7 +24,6 @@ use Rattle.isdbt_rows.specs.Rows as isdbt-rows
 use Rattle.isdbt_fec.specs.Calls.{Encodes, Unencoded}
 use Rattle.short_code.specs.Codes.{codeOf}
 use Rattle.short_fec.specs.Rows as short-rows
-use Rattle.short_fec.specs.Calls.{lowBits, codedBits}
 use Rattle.short_encode.specs.declared.Encoded as short
 use Rattle.short_encode.specs.Encoding.{low-at, length-low, length-coded, coded-x, coded-y}
 use Rattle.short_same.specs.IsdbCode.{isdbCode}
@@ -47,21 +46,21 @@ place-is j = let e = either-bit (j % 2) (omega arith) in omega arith
 
 module _ (s : ℕ) (us : List ℕ) where
   -- mother bit i is X of input i / 2 where i is even, Y where it is odd
-  mother-is : (i r : ℕ) → i % 2 ≡ r → i < 2 * length us → mother s (inputs us) i ≡ getD (codedBits isdbCode s us) i 0
+  mother-is : (i r : ℕ) → i % 2 ≡ r → i < 2 * length us → mother s (inputs us) i ≡ getD (codedBits (codeOf isdbCode) s us) i 0
   unfolding mother
   mother-is i zero e h =
       let k : 2 * (i / 2) ≡ i = omega arith in
       ap (λ (m : ℕ). output isdb (cond (eqb m 0) 0o171 0o133) (getD (inputs us) (i / 2) 0) (stateAt 32 s (inputs us) (i / 2))) e
       ∙ ap (λ (u : ℕ). output isdb 0o171 u (stateAt 32 s (inputs us) (i / 2))) (low-at us (i / 2))
-      ∙ sym (coded-x isdbCode s us (i / 2) (omega arith)) ∙ ap (λ (m : ℕ). getD (codedBits isdbCode s us) m 0) k
+      ∙ sym (coded-x isdbCode s us (i / 2) (omega arith)) ∙ ap (λ (m : ℕ). getD (codedBits (codeOf isdbCode) s us) m 0) k
   mother-is i (suc zero) e h =
       let k : 2 * (i / 2) + 1 ≡ i = omega arith in
       ap (λ (m : ℕ). output isdb (cond (eqb m 0) 0o171 0o133) (getD (inputs us) (i / 2) 0) (stateAt 32 s (inputs us) (i / 2))) e
       ∙ ap (λ (u : ℕ). output isdb 0o133 u (stateAt 32 s (inputs us) (i / 2))) (low-at us (i / 2))
-      ∙ sym (coded-y isdbCode s us (i / 2) (omega arith)) ∙ ap (λ (m : ℕ). getD (codedBits isdbCode s us) m 0) k
+      ∙ sym (coded-y isdbCode s us (i / 2) (omega arith)) ∙ ap (λ (m : ℕ). getD (codedBits (codeOf isdbCode) s us) m 0) k
   mother-is i (suc (suc r)) e h = absurd (omega arith)
 
-  pub coded-punctured : codedBits isdbCode s us ≡ punctured R1_2 s us
+  pub coded-punctured : codedBits (codeOf isdbCode) s us ≡ punctured R1_2 s us
   unfolding punctured
   coded-punctured =
       let f : ℕ → ℕ = λ j. mother s (inputs us) (place R1_2 j) in
@@ -69,19 +68,19 @@ module _ (s : ℕ) (us : List ℕ) where
       let l = length-coded isdbCode s us in
       sym
       (ap (upto f) n
-      ∙ ext-getD 0 (upto f (2 * length us)) (codedBits isdbCode s us) (length-upto f (2 * length us) ∙ sym l)
+      ∙ ext-getD 0 (upto f (2 * length us)) (codedBits (codeOf isdbCode) s us) (length-upto f (2 * length us) ∙ sym l)
       (λ i h.
       let b : i < 2 * length us = rw (length-upto f (2 * length us)) at h in
       getD-upto f 0 (2 * length us) i b ∙ ap (mother s (inputs us)) (place-is i) ∙ mother-is i (i % 2) refl b))
 
-  pub last-state : reached (codeOf isdbCode) s (lowBits us) ≡ stateAt 32 s (inputs us) (length us)
+  pub last-state : endState (codeOf isdbCode) s us ≡ stateAt 32 s (inputs us) (length us)
   last-state = reached-is (codeOf isdbCode) s (lowBits us) ∙ ap (stateAt 32 s (inputs us)) (length-low us)
 
 -- ---- the contracts of the two calls, of the state s and the input bytes us
 pub encode-agrees : (s : ℕ) (us out₀ out out′ : List ℕ) (r : short.Encoded) (r′ : isdbt.Encoded)
     → r .answer ≡ firstRow (short-rows.encodeRows isdbCode s (length us) (length out₀))
-    → Either (r .answer) (r .enc .state ≡ reached (codeOf isdbCode) s (lowBits us)) (r .enc .state ≡ s)
-    → Either (r .answer) (out ≡ laid (codedBits isdbCode s us) out₀) (out ≡ out₀)
+    → Either (r .answer) (r .enc .state ≡ endState (codeOf isdbCode) s us) (r .enc .state ≡ s)
+    → Either (r .answer) (out ≡ laid (codedBits (codeOf isdbCode) s us) out₀) (out ≡ out₀)
     → r′ .answer ≡ firstRow (isdbt-rows.encodeRows R1_2 s (length us) (length out₀))
     → Either (r′ .answer) (Encodes R1_2 s us r′ out₀ out′) (Unencoded s r′ out₀ out′)
     → (r .answer ≡ r′ .answer) × (r .enc .state ≡ r′ .enc .state) × (out ≡ out′)

@@ -10,7 +10,7 @@ use lib.ListN.{length, take, drop, replicate, length-replicate, getD-replicate, 
 use lib.Seq.{length-take-le, getD-take}
 use lib.Ieee.{Float, nan, binary32, ofBits}
 use Rattle.trellis.specs.ListLaws.{length-upto}
-use Rattle.acs.specs.Written.{written-whole}
+use Rattle.trellis.specs.WrittenLaws.{written-whole}
 use borrow.Rule.Slice.PartMut.{midOf, putMid}
 use Rattle.refusal.specs.declared.Answer.the-variants.{Accepted}
 use Rattle.trellis.specs.Lists.{laid}

@@ -1,12 +1,11 @@
 -- What each call leaves: the decoder of crate trellis at a code's half, labels and ISDB's rule for equals, on the path values of the code's states. "Path
 -- values past the last state are 0 in a fresh state, unread and kept". Assumes nothing.
-use mathlib.Core.List.{List, [], _∷_, map}
-use Prim.Native.Nat.{ℕ, _+_, _-_, _*_, _/_, _%_}
+use mathlib.Core.List.{List}
+use Prim.Native.Nat.{ℕ, _-_, _%_}
 use lib.ListN.{take, replicate}
 use lib.Ieee.{Float, binary32, ofBits}
 use Rattle.trellis.specs.Lists.{laid}
 use Rattle.trellis.specs.Step.{Step, traced, best}
-use Rattle.trellis.specs.Encoded.{encoded}
 use Rattle.trellis.specs.Run.{Decoder, after, pushed, startAt, startUnknown}
 use Rattle.trellis.specs.Isdb.{rule}
 use Rattle.viterbi.specs.Calls.{holding}
@@ -14,20 +13,7 @@ use Rattle.isdb_fec.specs.declared.conv.ViterbiDecoder.{ViterbiDecoder}
 use Rattle.isdb_fec.specs.declared.conv.Released.{Released}
 use Rattle.isdb_fec.specs.Calls as isdb
 use Rattle.short_code.specs.declared.Code.{Code}
-use Rattle.short_code.specs.Codes.{codeOf, labels, halfOf, statesOf}
-
--- ---- the encoder
--- "Only the low bit of an input or known bit's byte counts"
-abbrev pub lowBits : List ℕ → List ℕ
-lowBits us = map (λ u. u % 2) us
-
--- X, then Y, of each pair 2 X + Y
-unfoldable pub parts : List ℕ → List ℕ
-parts [] = []
-parts (l ∷ ls) = l / 2 ∷ l % 2 ∷ parts ls
-
-abbrev pub codedBits : Code → ℕ → List ℕ → List ℕ
-codedBits c s us = parts (encoded (codeOf c) s (lowBits us))
+use Rattle.short_code.specs.Codes.{labels, halfOf, statesOf}
 
 -- ---- the decoder
 abbrev zeros : List Float

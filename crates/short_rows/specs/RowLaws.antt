@@ -11,9 +11,9 @@ use lib.Ieee.{Float}
 use Rattle.refusal.specs.Rows.{Row, firstRow}
 use Rattle.refusal.specs.RowLaws.{neither, passed, both-passed}
 use Rattle.refusal.specs.declared.Answer.the-variants as answer
-use Rattle.trellis.specs.Run.{block}
+use Rattle.trellis.specs.Run.{block, tracebackLimit}
 use Rattle.isdb_fec.specs.declared.conv.ViterbiDecoder.{ViterbiDecoder}
-use Rattle.isdb_fec.specs.Values.{tracebackLimit, someBeyond, pathLimit}
+use Rattle.isdb_fec.specs.Values.{someBeyond, pathLimit}
 use Rattle.isdb_fec.specs.Rows.{releases, shortOf, stepsShort, streamRest}
 use Rattle.isdb_fec.specs.Answers.{Enough, FlushEnough}
 use Rattle.short_code.specs.declared.Code.{Code}

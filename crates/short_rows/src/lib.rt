@@ -5,7 +5,7 @@ ghost use Prim.Native.Nat.{ℕ, _+_, _<_, _≤_};
 ghost use lib.ListN.{length};
 ghost use Rattle.refusal.specs.Rows.{firstRow};
 ghost use Rattle.short_code.specs.Codes.{goodCode};
-ghost use Rattle.isdb_fec.specs.Values.{tracebackLimit};
+ghost use Rattle.trellis.specs.Run.{tracebackLimit};
 ghost use Rattle.isdb_fec.specs.Rows.{stepsShort};
 ghost use Rattle.short_rows.specs.Rows.{encoderRows, handedRows, streamRows, knownRows, flushRows};
 use isdb_fec::conv::PATH_LIMIT;

@@ -10,7 +10,7 @@ ghost use Rattle.trellis.specs.Step as trellis;
 ghost use Rattle.trellis.specs.Step.{takes, cand, next, nexts, word, top, renormalised, ruled};
 ghost use Rattle.trellis.specs.Run.{settled, startAt};
 ghost use Rattle.trellis.specs.Isdb.{rule};
-ghost use Rattle.acs.specs.Written.{Written};
+ghost use Rattle.trellis.specs.WrittenLaws.{Written};
 ghost use Rattle.viterbi.specs.Calls.{stepOf};
 ghost use Rattle.short_code.specs.Codes.{labels, Fits, Settled};
 pub use path_choice::best_state;

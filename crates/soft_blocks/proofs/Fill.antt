@@ -9,8 +9,7 @@ use lib.Seq.{getD-append-add, getD-drop}
 use lib.Ieee.{Float, nan, binary32, mul}
 use Rattle.trellis.specs.Lists.{upto, laid}
 use Rattle.trellis.specs.ListLaws.{length-upto, getD-upto}
-use Rattle.viterbi.specs.Laid.{laid-laid}
-use Rattle.isdbs_points.specs.LawsUpto.{laid-upto, length-laid-upto, upto-cong}
+use Rattle.trellis.specs.LaidLaws.{laid-laid, laid-upto, length-laid-upto, upto-cong}
 
 module _ (f : ℕ → Float) (w : List Float) where
   pub filled-none : w ≡ laid (upto f 0) w

@@ -21,8 +21,8 @@ use Rattle.isdbs_frame.specs.Answers.{positionSaid}
 use Rattle.isdbs_tables.specs.declared.SlotMark.{SlotMark}
 use Rattle.isdbs_tables.specs.declared.SlotMarks.{SlotMarks}
 use Rattle.isdbs_runs.specs.declared.FrameRuns.{FrameRuns}
-use Rattle.isdbs_combination.specs.Lists.{padded}
-use Rattle.isdbs_combination.specs.ListLaws.{table-at, padded-at}
+use Rattle.trellis.specs.ListLaws.{getD-upto, padded-at}
+use Rattle.trellis.specs.Lists.{padded}
 use Rattle.isdbs_runs.specs.RunsOf.{runsOf, noRun, fourRuns}
 use Rattle.isdbs_runs.specs.RunLaws.{each-at}
 use Rattle.isdbs_tables.specs.Tables.{slotSum, tableAnswer, TableAccepted, slotMarks, mark, markAt}
@@ -77,7 +77,7 @@ module _ (t : ℕ) (x : Table) (m : SlotMarks) (n : ℕ) (ex : x ≡ tableOf t) 
   marks-number = en ∙ ap (λ (y : SlotMarks). numberOf (y .answer)) whole
 
   pub marks-at : n ≡ 0 → (s : ℕ) (d : SlotMark) → s < 48 → getD (m .slots) s d ≡ mark (markAt (tableOf t .entries) s)
-  marks-at z s d h = rw (whole, eq-eqb (numberOf (tableAnswer (tableOf t))) 0 (sym marks-number ∙ z)) (table-at (λ k. mark (markAt (tableOf t .entries) k)) 48 s d h)
+  marks-at z s d h = rw (whole, eq-eqb (numberOf (tableAnswer (tableOf t))) 0 (sym marks-number ∙ z)) (getD-upto (λ k. mark (markAt (tableOf t .entries) k)) d 48 s h)
 
 -- ---- the runs of an accepted table
 

@@ -5,8 +5,8 @@ use Prim.Native.Nat.{ℕ, _+_, _<_}
 use native.Mathlib.Numerals.{add-one}
 use lib.ListN.{length, set}
 use Rattle.trellis.specs.Lists.{laid, upto}
-use Rattle.viterbi.specs.Laid.{laid-more}
-use Rattle.viterbi.specs.Upto.{length-upto}
+use Rattle.trellis.specs.ListLaws.{length-upto}
+use Rattle.trellis.specs.LaidLaws.{laid-more}
 
 module _ {A : Type 0} where
   -- one more value of f at the end of the front

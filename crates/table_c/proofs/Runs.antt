@@ -11,7 +11,7 @@ use Rattle.isdbs_combination.specs.declared.MaybeCombination.{MaybeCombination}
 use Rattle.isdbs_combination.specs.declared.MaybeCombination.the-variants.{Some, None}
 use Rattle.isdbs_tables.specs.declared.Entry.{Entry}
 use Rattle.isdbs_runs.specs.declared.Run.{Run}
-use Rattle.isdbs_combination.specs.Lists.{Each}
+use Rattle.trellis.specs.Lists.{Each}
 use Rattle.isdbs_combination.specs.Combinations.{wordOf}
 use Rattle.isdbs_tables.specs.Tables.{slotSum, entryCombination}
 use Rattle.isdbs_runs.specs.RunsOf.{runOf, runsFrom, entryRuns, entrySymbols}

@@ -9,12 +9,19 @@ use Rattle.trellis.specs.Step.{Step, Tie, upper}
 use Rattle.trellis.specs.Run as run
 use Rattle.trellis.specs.Run.{Decoder}
 
--- half of its 64 states, and 2 X + Y of each branch
+-- its 64 states, half of them, and 2 X + Y of each branch
+abbrev pub states : ℕ
+states = 64
+
 abbrev pub half : ℕ
 half = 32
 
 abbrev pub labels : ℕ → ℕ → ℕ
 labels = label isdb
+
+-- the traceback that a call of demand 2 takes
+abbrev pub defaultTraceback : ℕ
+defaultTraceback = 128
 
 -- document 02, P12: on equality the odd predecessor is taken, and the highest best state is traced
 abbrev pub rule : Tie

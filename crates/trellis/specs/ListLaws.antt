@@ -1,17 +1,18 @@
--- Laws of the first n values of a function, of a test that is computed at each number, and of the number whose bits are a test's. Assumes nothing.
+-- Laws of the first n values of a function, of a test that is computed at each number, of the number whose bits are a test's, and of padded lists. Assumes nothing.
 use mathlib.Core.Path.{_≡_, refl, sym, _∙_, ap}
-use mathlib.Core.Bool.{Bool, true, false, _&&_}
-use mathlib.Core.List.{[], _∷_, _++_}
+use mathlib.Core.Bool.{Bool, true, false, cond, _&&_}
+use mathlib.Core.List.{List, [], _∷_, _++_, append-assoc}
 use Prim.Native.Nat.{ℕ, zero, suc, _+_, _-_, _*_, _/_, _%_, _^_, _≤_, _<_}
 use native.Mathlib.Omega.{arith}
 use native.Mathlib.Nat.{not-suc-le-zero, add-mul-div-right, add-mul-mod-self-right, mul-assoc, mul-le-mul-right, div-eq-of-lt, zero-add, pow-suc}
-use lib.Dec.{T}
+use lib.Dec.{T, eqb}
 use lib.Ieee.Fits.{and-l, and-r}
 use lib.Pow.{pow-add, pow-pos}
-use lib.ListN.{length, getD, length-append, List·getD-append}
-use lib.Seq.{getD-at}
+use lib.ListN.{length, getD, set, replicate, length-append, length-set, length-replicate, getD-replicate, List·getD-append}
+use lib.Seq.{getD-at, ext-getD, getD-set-same, getD-set-other, set-append-seam}
 use borrow.Author.Count.{below-more}
-use Rattle.trellis.specs.Lists.{upto, bit, packed}
+use borrow.Author.Tests.{eqb-true, eqb-false}
+use Rattle.trellis.specs.Lists.{upto, bit, packed, padded}
 
 pub length-upto : {A : Type 0} (f : ℕ → A) (n : ℕ) → length (upto f n) ≡ n
 unfolding upto
@@ -74,3 +75,33 @@ packed-bit f (suc n) k h =
     (λ i hi. low (packed f n) (bit (f n)) n i hi ∙ packed-bit f n i hi)
     (packed-top f n)
     k (omega arith)
+
+-- ---- one value at one place, and padded lists
+module _ {A : Type 0} where
+  one-place : (n m k : ℕ) (v z : A) (t : Bool) → m < n → k < n → eqb k m ≡ t → getD (set (replicate n v) m z) k v ≡ cond t z v
+  one-place n m k v z true h g e =
+      rw (eqb-true k m e) (getD-set-same (replicate n v) m z v (rw (length-replicate n v) h))
+  one-place n m k v z false h g e =
+      getD-set-other (replicate n v) m k z v (eqb-false k m e) ∙ getD-replicate n k v v g
+
+  -- one value everywhere but at one place
+  pub set-replicate : (n m : ℕ) (v z : A) → m < n → set (replicate n v) m z ≡ upto (λ k. cond (eqb k m) z v) n
+  set-replicate n m v z h =
+      let f : ℕ → A = λ k. cond (eqb k m) z v in
+      let e : length (set (replicate n v) m z) ≡ n = length-set (replicate n v) m z ∙ length-replicate n v in
+      ext-getD v (set (replicate n v) m z) (upto f n) (e ∙ sym (length-upto f n))
+      (λ k g. one-place n m k v z (eqb k m) h (rw e at g) refl ∙ sym (getD-upto f v n k (rw e at g)))
+
+  -- the front of a padded list is the list
+  pub padded-at : (n : ℕ) (d : A) (l : List A) (i : ℕ) → i < length l → getD (padded n d l) i d ≡ getD l i d
+  padded-at n d l i h = List·getD-append l (replicate (n - length l) d) d i h
+
+  set-front : (l : List A) (d x : A) (m k : ℕ) → m ≡ suc k → set (l ++ replicate m d) (length l) x ≡ l ++ (x ∷ replicate k d)
+  set-front l d x m k e = rw e (set-append-seam l d (replicate k d) x)
+
+  -- one more at the front of the filler
+  pub padded-more : (n : ℕ) (d x : A) (l : List A) → length l < n → set (padded n d l) (length l) x ≡ padded n d (l ++ (x ∷ []))
+  padded-more n d x l h =
+      let e : n - length (l ++ (x ∷ [])) ≡ n - length l - 1 = simp length-append (omega arith) in
+      set-front l d x (n - length l) (n - length l - 1) (omega arith)
+      ∙ rw e (sym (append-assoc l (x ∷ []) (replicate (n - length l - 1) d)))

@@ -1,8 +1,8 @@
 -- Lists and numbers made from a function of the index. Assumes nothing.
 use mathlib.Core.Bool.{Bool, true, false}
 use mathlib.Core.List.{List, [], _∷_, _++_}
-use Prim.Native.Nat.{ℕ, zero, suc, _+_, _*_, _^_}
-use lib.ListN.{length, drop}
+use Prim.Native.Nat.{ℕ, zero, suc, _+_, _-_, _*_, _^_}
+use lib.ListN.{length, drop, replicate}
 
 -- the first n values of f
 unfoldable pub upto : {A : Type 0} → (ℕ → A) → ℕ → List A
@@ -21,3 +21,12 @@ packed f (suc n) = packed f n + bit (f n) * 2 ^ n
 -- `front` written over the beginning of `whole`, and the rest as it was
 abbrev pub laid : {A : Type 0} → List A → List A → List A
 laid front whole = front ++ drop (length front) whole
+
+-- a list as the front of n elements, the rest being the filler d
+abbrev pub padded : {A : Type 0} → ℕ → A → List A → List A
+padded n d l = l ++ replicate (n - length l) d
+
+-- P holds of each
+abbrev pub Each : {A : Type 0} → (A → Type 0) → List A → Type 0
+Each P [] = Unit
+Each P (x ∷ xs) = P x × Each P xs

@@ -22,9 +22,20 @@ startAt n s = upto (λ k. cond (eqb k (s % n)) (ofBits binary32 0) (ofBits binar
 unfoldable pub startUnknown : ℕ → List Float
 startUnknown n = upto (λ k. ofBits binary32 0) n
 
+-- a decoder with these path values that holds no word
+abbrev pub freshFrom : List Float → Decoder
+freshFrom pm = record { values = pm; words = []; bits = [] }
+
 -- "4,096 bits leave"
 abbrev pub block : ℕ
 block = 4096
+
+-- 1,024, for a traceback; "Traceback 0 acts as 1"
+abbrev pub tracebackLimit : ℕ
+tracebackLimit = 1024
+
+abbrev pub depth : ℕ → ℕ
+depth tb = cond (eqb tb 0) 1 tb
 
 module _ (half : ℕ) (out : ℕ → ℕ → ℕ) (t : Tie) where
   -- the path values once the step of index i in its call has added: "The maximum is subtracted after each 64th step of a call"; of a

@@ -6,19 +6,15 @@ use Prim.Native.Nat.{ℕ, _+_, _*_}
 use lib.ListN.{getD}
 use lib.Ieee.{Float, nan}
 use Rattle.trellis.specs.Lists.{upto}
+use Rattle.isdbs_combination.specs.Combinations.{slotSymbols}
+use Rattle.isdbs_frame.specs.Frame.{frameSlots}
 use Rattle.isdbs_tables.specs.declared.Table.{Table}
 use Rattle.isdbs_points.specs.declared.Mapping.{Mapping}
 use Rattle.isdbs_points.specs.Frame.{pointAt, startState}
 use Rattle.margins.specs.Margins.{holds, freeRe, freeIm}
 use Rattle.strain.specs.Counts.{summed, counted}
 
--- slot j of the frame has the symbols 812 j to 812 j + 811 of the main signal, whatever the table has there
-abbrev pub frameSlots : ℕ
-frameSlots = 48
-
-abbrev pub slotSymbols : ℕ
-slotSymbols = 812
-
+-- Slot j of the frame has the symbols 812 j to 812 j + 811 of the main signal, whatever the table has there.
 module _ (re im : List Float) (load : List ℕ) (t : Table) (m : Mapping) (first : Bool) where
   -- a part of point k keeps the margin of the same part of the load's frame, as `Within` asks
   abbrev pub reHolds : ℕ → Bool

@@ -18,7 +18,7 @@ use Rattle.trellis.specs.Isdb.{bestState, traced, released}
 use Rattle.acs_runs.specs.Runs.{runValues, runWords}
 use Rattle.viterbi.specs.declared.At.{At}
 use Rattle.viterbi.specs.Calls.{Holds, Ended, blockEnd}
-use Rattle.viterbi.specs.Laid.{laid-after}
+use Rattle.trellis.specs.LaidLaws.{laid-after}
 use Rattle.viterbi.specs.Traced.{length-traced}
 use Rattle.viterbi.specs.Holding.{holding-is, over-full}
 use Rattle.viterbi.specs.Blocks.{ran, length-ran}

@@ -18,7 +18,7 @@ use Rattle.acs_runs.specs.Runs.{wordAfter, runValues, runWords, pairSteps, four
 use Rattle.viterbi.specs.declared.At.{At}
 use Rattle.viterbi.specs.Calls.{releases, stepsFrom, Carried, Ended, Holds, blockEnd}
 use Rattle.viterbi.specs.Count.{releases-is}
-use Rattle.viterbi.specs.Laid.{length-laid}
+use Rattle.trellis.specs.LaidLaws.{length-laid}
 use Rattle.viterbi.specs.Blocks.{Soft, ran, block-is, from-more}
 use Rattle.viterbi.proofs.Ends.{holds-ran}
 

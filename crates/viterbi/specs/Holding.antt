@@ -15,7 +15,7 @@ use Rattle.trellis.specs.Step.{Step, Tie, nexts, word, best, renormalised, trac
 use Rattle.trellis.specs.Run.{Decoder, block, settled, stepped, after, pushed, flushed, decisionsAfter}
 use Rattle.viterbi.specs.declared.At.{At}
 use Rattle.viterbi.specs.Calls.{releases, holding, Holds, Stepped, Room}
-use Rattle.viterbi.specs.Laid.{laid-laid, take-laid, length-laid, laid-after}
+use Rattle.trellis.specs.LaidLaws.{laid-laid, take-laid, length-laid, laid-after}
 use Rattle.viterbi.specs.Traced.{length-traced}
 use Rattle.viterbi.specs.Steps.{grown, unreleased, releasing}
 use Rattle.viterbi.specs.Count.{counted, room, releases-is}

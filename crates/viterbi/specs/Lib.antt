@@ -1,5 +1,3 @@
-pub mod Laid
-pub mod Upto
 pub mod Each
 pub mod Parts
 pub mod Calls

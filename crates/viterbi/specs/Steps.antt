@@ -14,7 +14,7 @@ use Rattle.trellis.specs.Lists.{laid}
 use Rattle.trellis.specs.Step.{Step, Tie, nexts, word, best, traced}
 use Rattle.trellis.specs.Run.{Decoder, block, settled, stepped, released}
 use Rattle.viterbi.specs.Calls.{holding, Stepped}
-use Rattle.viterbi.specs.Laid.{laid-more}
+use Rattle.trellis.specs.LaidLaws.{laid-more}
 use Rattle.viterbi.specs.Traced.{length-traced}
 
 module _ (half : ℕ) (label : ℕ → ℕ → ℕ) (rule : Tie) where

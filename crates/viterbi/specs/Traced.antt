@@ -6,7 +6,7 @@ use native.Mathlib.Omega.{arith}
 use lib.ListN.{length, take}
 use lib.Seq.{take-all}
 use Rattle.trellis.specs.Step.{input, traced}
-use Rattle.viterbi.specs.Upto.{length-upto}
+use Rattle.trellis.specs.ListLaws.{length-upto}
 
 module _ (half : ℕ) where
   -- as many bits as words

@@ -27,7 +27,7 @@ use Rattle.isdbs_points.specs.Sizes.{table-whole, step-fits, at-bit, find-bit}
 use Rattle.isdbs_points.specs.Order.{Pairs, Kind, one, two, three, kind}
 use Rattle.isdbs_points.specs.LawsBits.{of-pair, bytes-are, bytes-full}
 use Rattle.isdbs_points.specs.LawsInputs.{input-at}
-use Rattle.isdbs_points.specs.LawsUpto.{front-upto}
+use Rattle.trellis.specs.LaidLaws.{front-upto}
 use Rattle.wanted.specs.ReadOff.{shown, psk8Label, which, bitBy, inputFrom, readState, readInput, readBy, readBit, readOff}
 use Rattle.wanted.specs.Wanted.{Encodes, Wants, Unwanted}
 use Rattle.wanted.specs.Shown.{label-small}

@@ -10,7 +10,6 @@ use Rattle.isdbs_tables.specs.Tables.{TableAccepted}
 use Rattle.isdbs_points.specs.declared.Mapping.{Mapping}
 use Rattle.wanted.specs.ReadOff.{readOff}
 use Rattle.wanted.specs.Only.{read-wanted, unwanted}
-pub use Rattle.same_frame.specs.Frames.{laid-at}
 use Rattle.same_frame.specs.Alike.{Matches}
 use Rattle.wanted_load.specs.Found.{Searched}
 

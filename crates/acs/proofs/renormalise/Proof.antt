@@ -9,7 +9,7 @@ use lib.Seq.{ext-getD}
 use lib.Ieee.{Float, nan, binary32, sub, add}
 use borrow.Author.Needs.{needs}
 use Rattle.trellis.specs.Step.{renormalised}
-use Rattle.acs.specs.Written.{Written, Kept, written-none, written-more, kept-more}
+use Rattle.trellis.specs.WrittenLaws.{Written, Kept, written-none, written-more, kept-more}
 use Rattle.acs.proofs.renormalise.Statement.{statement}
 use Rattle.acs.proofs.renormalise.Tie as tie
 

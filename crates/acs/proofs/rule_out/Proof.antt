@@ -11,7 +11,7 @@ use lib.Ieee.{Float, nan, binary32, neg, ofBits}
 use borrow.Author.Needs.{needs}
 use borrow.Author.Tests.{eq-eqb, ne-eqb}
 use Rattle.trellis.specs.Step.{ruled}
-use Rattle.acs.specs.Written.{Written, Kept, written-none, written-more, written-skip, kept-more, kept-skip, written-whole}
+use Rattle.trellis.specs.WrittenLaws.{Written, Kept, written-none, written-more, written-skip, kept-more, kept-skip, written-whole}
 use Rattle.acs.proofs.rule_out.Statement.{statement}
 use Rattle.acs.proofs.rule_out.Tie as tie
 

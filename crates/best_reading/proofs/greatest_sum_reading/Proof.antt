@@ -2,7 +2,7 @@
 use mathlib.Core.Path.{refl}
 use mathlib.Core.List.{[]}
 use borrow.Author.Needs.{needs}
-use Rattle.isdb_fec.specs.Told.{told}
+use Rattle.refusal.proofs.Told.{told}
 use Rattle.best_reading.proofs.Compose.{short, refused, accepted, count-fits}
 use Rattle.best_reading.proofs.greatest_sum_reading.Statement.{statement}
 use Rattle.best_reading.proofs.greatest_sum_reading.Tie as tie

@@ -1,6 +1,6 @@
 -- `decoder_of` meets its contract: the first s values are copied. Assumes nothing.
 use borrow.Author.Count.{below-none}
-use Rattle.isdbs_combination.specs.ListLaws.{Written, written-more}
+use Rattle.trellis.specs.WrittenLaws.{Written, written-more}
 use mathlib.Core.Path.{_≡_, refl, _∙_}
 use mathlib.Core.List.{List, _∷_, _++_}
 use Prim.Native.Nat.{ℕ, _+_, _-_, _*_, _/_, _%_, _<_, _≤_}
@@ -16,7 +16,7 @@ abbrev at : List Float → ℕ → Float
 at l k = getD l k nan
 
 abbrev Inv-loop : tie.InvT-loop
-Inv-loop pm held traceback values₀ s₀ values s = (s ≤ 64) × (length values ≡ 64) × Written (at pm) nan s values
+Inv-loop pm held traceback values₀ s₀ values s = (s ≤ 64) × (length values ≡ 64) × Written nan (at pm) s values
 
 abbrev μ-loop : tie.MeasureT-loop
 μ-loop pm held traceback values₀ s₀ values s = 64 - s
@@ -46,7 +46,7 @@ loop-again : tie.Need-loop-again Inv-loop μ-loop
 loop-again c =
     let h = c .before .before in
     let pm = h .before .args .pm .now in
-    (omega arith, simp length-set (h .loop .inv .1), written-more (at pm) nan (h .loop .s) (h .loop .values) _ (omega arith) (h .loop .inv .2) refl)
+    (omega arith, simp length-set (h .loop .inv .1), written-more nan (at pm) (h .loop .s) (h .loop .values) _ (omega arith) (h .loop .inv .2) refl)
 
 returns : tie.Need-returns Inv-loop μ-loop
 returns c =

@@ -7,7 +7,7 @@ use borrow.Author.Needs.{needs}
 use borrow.Author.Count.{below-none}
 use lib.ListN.{length, getD, length-set}
 use lib.Ieee.{Float, nan}
-use Rattle.isdbs_combination.specs.ListLaws.{Written, written-more}
+use Rattle.trellis.specs.WrittenLaws.{Written, written-more}
 use Rattle.answers_c.specs.AnswerLaws.{copied}
 use Rattle.decoder_c.proofs.put_values.Statement.{statement}
 use Rattle.decoder_c.proofs.put_values.Tie as tie
@@ -16,7 +16,7 @@ abbrev at : List Float → ℕ → Float
 at l k = getD l k nan
 
 abbrev Inv-loop : tie.InvT-loop
-Inv-loop values pm₀ n s₀ pm s = (s ≤ n) × (length pm ≡ 64) × Written (at values) nan s pm
+Inv-loop values pm₀ n s₀ pm s = (s ≤ n) × (length pm ≡ 64) × Written nan (at values) s pm
 
 abbrev μ-loop : tie.MeasureT-loop
 μ-loop values pm₀ n s₀ pm s = n - s
@@ -50,7 +50,7 @@ loop-again c =
     let h = c .before .before in
     let st = h .before .before .before in
     let e = h .before .states .ensures in
-    (omega arith, simp length-set (h .loop .inv .1), written-more (at (st .args .values .now)) nan (h .loop .s) (h .loop .pm) _ (omega arith) (h .loop .inv .2) refl)
+    (omega arith, simp length-set (h .loop .inv .1), written-more nan (at (st .args .values .now)) (h .loop .s) (h .loop .pm) _ (omega arith) (h .loop .inv .2) refl)
 
 same-length : tie.Need-same-length Inv-loop μ-loop
 same-length c = c .before .loop .inv .1 ∙ sym (c .before .before .before .before .pre)

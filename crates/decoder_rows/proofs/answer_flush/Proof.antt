@@ -9,7 +9,7 @@ use Rattle.decoder_rows.specs.Rows.{handedRows, shortOf}
 use Rattle.refusal.specs.declared.Answer.the-variants.{Space}
 use Rattle.refusal.specs.RowLaws.{refused-by, passed-by}
 use Rattle.decoder_rows.specs.RowLaws.{sound}
-use Rattle.decoder_rows.specs.Told.{told}
+use Rattle.refusal.proofs.Told.{told}
 use borrow.Author.Needs.{needs}
 use Rattle.decoder_rows.proofs.answer_flush.Statement.{statement}
 use Rattle.decoder_rows.proofs.answer_flush.Tie as tie

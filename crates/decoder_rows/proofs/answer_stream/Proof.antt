@@ -8,7 +8,7 @@ use borrow.Author.Tests.{lt-ltb, le-ltb, le-leb, lt-leb, eq-eqb, ne-eqb}
 use Rattle.decoder_rows.specs.Rows.{handedRows, streamRest}
 use Rattle.refusal.specs.RowLaws.{refused-by, passed-by}
 use Rattle.decoder_rows.specs.RowLaws.{sound}
-use Rattle.decoder_rows.specs.Told.{told}
+use Rattle.refusal.proofs.Told.{told}
 use borrow.Author.Needs.{needs}
 use Rattle.decoder_rows.proofs.answer_stream.Statement.{statement}
 use Rattle.decoder_rows.proofs.answer_stream.Tie as tie

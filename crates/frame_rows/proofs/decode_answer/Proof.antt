@@ -1,6 +1,6 @@
 -- `decode_answer` meets its contract. Assumes nothing.
 use mathlib.Core.Path.{sym, _∙_}
-use Rattle.isdb_fec.specs.Told.{told}
+use Rattle.refusal.proofs.Told.{told}
 use Rattle.frame_rows.proofs.Rows.{by-table, by-points, by-last}
 use Rattle.frame_rows.specs.DecodeRows.{someBad}
 use borrow.Author.Needs.{needs}

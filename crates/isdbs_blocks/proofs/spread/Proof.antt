@@ -11,7 +11,7 @@ use lib.ListN.{length, getD, take, drop, length-take, length-drop}
 use lib.Ieee.{Float, nan, binary32, ofBits}
 use Rattle.trellis.specs.Lists.{upto, laid}
 use Rattle.isdbs_points.specs.Layout.{orderOf, stepsPerPeriod}
-use Rattle.isdbs_points.specs.LawsUpto.{laid-part, length-laid-upto}
+use Rattle.trellis.specs.LaidLaws.{laid-part, length-laid-upto}
 use Rattle.isdbs_pack.proofs.FrameBytes.{written-tail}
 use Rattle.isdbs_blocks.specs.Blocks.{spreadSoft}
 use Rattle.isdbs_blocks.proofs.Periods.{one-more, spread-at}

@@ -1,6 +1,6 @@
 -- `tail_bits` meets its contract: the bytes below i are the bits from the highest down. Assumes nothing.
 use Prim.Native.Nat.{ℕ, _-_, _/_, _%_, _^_, _≤_}
-use Rattle.isdbs_combination.specs.ListLaws.{Written, written-none, written-more, written-all}
+use Rattle.trellis.specs.WrittenLaws.{Written, written-none, written-more, written-whole}
 use borrow.Author.Needs.{needs}
 use lib.ListN.{length, length-set, replicate}
 use mathlib.Core.Path.{_≡_, refl}
@@ -13,13 +13,13 @@ abbrev bit : ℕ → ℕ → ℕ
 bit tail i = tail / 2 ^ (19 - i) % 2
 
 abbrev Inv-loop : tie.InvT-loop
-Inv-loop tail out₀ i₀ out i = (i ≤ 20) × (length out ≡ 20) × Written (bit tail) 0 i out
+Inv-loop tail out₀ i₀ out i = (i ≤ 20) × (length out ≡ 20) × Written 0 (bit tail) i out
 
 abbrev μ-loop : tie.MeasureT-loop
 μ-loop tail out₀ i₀ out i = 20 - i
 
 loop-holds : tie.Need-loop-holds Inv-loop μ-loop
-loop-holds c = (omega arith, refl, written-none (bit (c .args .tail)) 0 (replicate 20 0))
+loop-holds c = (omega arith, refl, written-none 0 (bit (c .args .tail)) (replicate 20 0))
 
 sub-out : tie.Need-sub-out Inv-loop μ-loop
 sub-out c = search needs
@@ -48,14 +48,14 @@ loop-again c =
     let inv = at .loop .inv in (
       omega arith,
       simp length-set (inv .1),
-      written-more (bit (at .before .args .tail)) 0 (at .loop .i) (at .loop .out) _ (omega arith) (inv .2) refl,
+      written-more 0 (bit (at .before .args .tail)) (at .loop .i) (at .loop .out) _ (omega arith) (inv .2) refl,
     )
 
 returns : tie.Need-returns Inv-loop μ-loop
 returns c =
     let at = c .before in
     let e : at .loop .i ≡ 20 = omega arith in
-    written-all (bit (at .before .args .tail)) 0 20 (at .loop .out) (at .loop .inv .1) (rw e at (at .loop .inv .2))
+    written-whole 0 (bit (at .before .args .tail)) 20 (at .loop .out) (at .loop .inv .1) (rw e at (at .loop .inv .2))
 
 pub tail-bits-spec : {M : Type 1} → statement M
 tail-bits-spec =

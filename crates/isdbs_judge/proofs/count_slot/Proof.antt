@@ -4,7 +4,7 @@ use Prim.Native.Nat.{_+_, _-_, _*_, _≤_}
 use native.Mathlib.Omega.{arith}
 use borrow.Author.Needs.{needs}
 use Rattle.strain.specs.Counts.{summed, counted}
-use Rattle.verdict.specs.Outside.{slotSymbols}
+use Rattle.isdbs_combination.specs.Combinations.{slotSymbols}
 use Rattle.isdbs_judge.specs.Given.{outsideGiven}
 use Rattle.isdbs_judge.proofs.Counting.{bool-few, counted-more}
 use Rattle.isdbs_judge.proofs.count_slot.Statement.{statement}

@@ -3,7 +3,7 @@ use Prim.Native.Nat.{_^_}
 use native.Mathlib.Nat.{mod-lt, mod-mod}
 use native.Mathlib.Numerals.{add-one}
 use lib.Dec.{lit<}
-use Rattle.viterbi.specs.Upto.{getD-upto}
+use Rattle.trellis.specs.ListLaws.{getD-upto}
 use Rattle.trellis.specs.Code.{moved}
 use Rattle.isdbs_points.specs.Frame.{stateAfter}
 use borrow.Author.Needs.{needs}

@@ -8,7 +8,7 @@ use lib.Dec.{lit≤}
 use lib.ListN.{length, take, drop, length-take, length-drop}
 use Rattle.trellis.specs.Lists.{upto, laid}
 use Rattle.viterbi.specs.Count.{releases-le}
-use Rattle.isdbs_points.specs.LawsUpto.{laid-part, length-laid-upto}
+use Rattle.trellis.specs.LaidLaws.{laid-part, length-laid-upto}
 use Rattle.isdbs_pack.proofs.FrameBytes.{written-tail}
 use Rattle.isdbs_blocks.specs.Blocks.{runSteps, runMark, Periods}
 use Rattle.isdbs_blocks.proofs.Periods.{short}

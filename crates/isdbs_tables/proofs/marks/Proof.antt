@@ -1,6 +1,6 @@
 -- `marks` meets its contract: the slots below s are marked. Assumes nothing.
 use Prim.Native.Nat.{ℕ, _-_, _≤_, _<_}
-use Rattle.isdbs_combination.specs.ListLaws.{Written, written-none, written-more, written-all}
+use Rattle.trellis.specs.WrittenLaws.{Written, written-none, written-more, written-whole}
 use Rattle.isdbs_tables.specs.Tables.{markAt, mark}
 use Rattle.isdbs_combination.specs.declared.MaybeCombination.the-variants.{None}
 use Rattle.isdbs_tables.specs.declared.SlotMark.{SlotMark}
@@ -16,7 +16,7 @@ abbrev marks : Table → ℕ → SlotMark
 marks t s = mark (markAt (t .entries) s)
 
 abbrev Inv-loop : tie.InvT-loop
-Inv-loop t slots₀ s₀ slots s = (s ≤ 48) × (length slots ≡ 48) × Written (marks t) (mark None) s slots
+Inv-loop t slots₀ s₀ slots s = (s ≤ 48) × (length slots ≡ 48) × Written (mark None) (marks t) s slots
 
 abbrev μ-loop : tie.MeasureT-loop
 μ-loop t slots₀ s₀ slots s = 48 - s
@@ -25,7 +25,7 @@ no-marks-requires : tie.Need-no-marks-requires Inv-loop μ-loop
 no-marks-requires c κs = tt
 
 loop-holds : tie.Need-loop-holds Inv-loop μ-loop
-loop-holds c = (omega arith, rw (c .no-marks .ensures), written-none (marks (c .before .args .t)) (mark None) (c .no-marks .result))
+loop-holds c = (omega arith, rw (c .no-marks .ensures), written-none (mark None) (marks (c .before .args .t)) (c .no-marks .result))
 
 mark-at-requires : tie.Need-mark-at-requires Inv-loop μ-loop
 mark-at-requires c κs = tt
@@ -48,7 +48,7 @@ loop-again c =
     let t = at .before .before .args .t in (
       omega arith,
       simp length-set (at .loop .inv .1),
-      written-more (marks t) (mark None) (at .loop .s) (at .loop .slots) _ (omega arith) (at .loop .inv .2) (ap mark (c .mark-at .ensures)),
+      written-more (mark None) (marks t) (at .loop .s) (at .loop .slots) _ (omega arith) (at .loop .inv .2) (ap mark (c .mark-at .ensures)),
     )
 
 returns : tie.Need-returns Inv-loop μ-loop
@@ -56,7 +56,7 @@ returns c =
     let at = c .before in
     let t = at .before .before .args .t in
     let e : at .loop .s ≡ 48 = omega arith in
-    written-all (marks t) (mark None) 48 (at .loop .slots) (at .loop .inv .1) (rw e at (at .loop .inv .2))
+    written-whole (mark None) (marks t) 48 (at .loop .slots) (at .loop .inv .1) (rw e at (at .loop .inv .2))
 
 pub marks-spec : {M : Type 1} → statement M
 marks-spec =

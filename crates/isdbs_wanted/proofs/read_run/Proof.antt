@@ -6,7 +6,7 @@ use lib.ListN.{length}
 use borrow.Author.Needs.{needs}
 use Rattle.trellis.specs.Lists.{upto, laid}
 use Rattle.isdbs_combination.specs.declared.Combination.{Combination}
-use Rattle.isdbs_points.specs.LawsUpto.{length-laid-upto}
+use Rattle.trellis.specs.LaidLaws.{length-laid-upto}
 use Rattle.isdbs_pack.proofs.Packing.{byte-more}
 use Rattle.wanted.specs.ReadOff.{shown}
 use Rattle.isdbs_wanted.specs.Pieces.{runAt, stepOf, InFrame, runState, runByte}

@@ -4,7 +4,7 @@ use native.Mathlib.Omega.{arith}
 use lib.ListN.{length}
 use borrow.Author.Needs.{needs}
 use Rattle.refusal.specs.Rows.{firstRow}
-use Rattle.isdb_fec.specs.Told.{told}
+use Rattle.refusal.proofs.Told.{told}
 use Rattle.isdbs_runs.specs.declared.Plan.{Plan}
 use Rattle.isdbs_tables.specs.declared.Table.{Table}
 use Rattle.wanted_load.proofs.Rows.{plan-is}

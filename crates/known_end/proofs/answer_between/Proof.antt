@@ -5,7 +5,7 @@ use native.Mathlib.Omega.{arith}
 use borrow.Author.Needs.{needs}
 use borrow.Author.Tests.{lt-ltb, le-ltb, eq-eqb, ne-eqb}
 use lib.ListN.{length}
-use Rattle.known_end.specs.Calls.{depth}
+use Rattle.trellis.specs.Run.{depth}
 use Rattle.known_end.proofs.Rows.{depth-small}
 use Rattle.known_end.proofs.answer_between.Statement.{statement}
 use Rattle.known_end.proofs.answer_between.Tie as tie

@@ -1,7 +1,7 @@
 -- `known_end::read_between` meets its contract. Assumes nothing.
 use mathlib.Core.Path.{_≡_, sym, _∙_}
 use borrow.Author.Needs.{needs}
-use Rattle.isdb_fec.specs.Told.{told}
+use Rattle.refusal.proofs.Told.{told}
 use Rattle.known_end.proofs.Compose.{turned-back, fits-out, accepted}
 use Rattle.known_end.proofs.read_between.Statement.{statement}
 use Rattle.known_end.proofs.read_between.Tie as tie

@@ -2,7 +2,8 @@
 use mathlib.Core.Path.{sym, _∙_}
 use lib.ListN.{length}
 use Rattle.mend.specs.Allowed.{allowed}
-use Rattle.mend.proofs.Outcome.{told, turned-back, unmended, mended}
+use Rattle.mend.proofs.Outcome.{turned-back, unmended, mended}
+use Rattle.refusal.proofs.Told.{told}
 use borrow.Author.Needs.{needs}
 use Rattle.mend.proofs.mend.Statement.{statement}
 use Rattle.mend.proofs.mend.Tie as tie

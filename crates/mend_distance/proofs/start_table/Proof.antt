@@ -1,6 +1,6 @@
 -- `mend_distance::start_table` meets its contract. Assumes nothing.
 use Prim.Native.Nat.{_%_}
-use Rattle.viterbi.specs.Upto.{set-replicate}
+use Rattle.trellis.specs.ListLaws.{set-replicate}
 use Rattle.mend_distance.specs.Distances.{begun}
 use borrow.Author.Needs.{needs}
 use Rattle.mend_distance.proofs.start_table.Statement.{statement}

@@ -5,7 +5,7 @@ use native.Mathlib.Omega.{arith}
 use lib.ListN.{length}
 use borrow.Author.Needs.{needs}
 use Rattle.refusal.specs.RowLaws.{refused}
-use Rattle.isdb_fec.specs.Told.{told}
+use Rattle.refusal.proofs.Told.{told}
 use Rattle.overlay_encode.specs.Calls.{lent}
 use Rattle.overlay_encode.proofs.Accepted.{enough, asks, overlaps}
 use Rattle.overlay_encode.proofs.encode_overlaid.Statement.{statement}

@@ -9,7 +9,7 @@ use lib.Bits.{bitXor}
 use lib.ListN.{length, getD, take, set, length-set}
 use lib.Seq.{take-all}
 use Rattle.trellis.specs.Lists.{laid}
-use Rattle.viterbi.specs.Laid.{laid-next}
+use Rattle.trellis.specs.LaidLaws.{laid-next}
 use Rattle.overlay.specs.Overlaid.{overlaid}
 use Rattle.overlay.specs.OverlaidLaws.{length-overlaid, overlaid-at}
 use Rattle.overlay_encode.proofs.lay_overlaid.Statement.{statement}

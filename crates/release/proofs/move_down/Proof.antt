@@ -8,7 +8,7 @@ use native.Mathlib.Numerals.{add-one}
 use lib.ListN.{length, getD, take, drop, set, length-append, length-take, length-drop, length-set}
 use lib.Seq.{length-take-le, getD-drop, getD-append-add}
 use Rattle.trellis.specs.Lists.{laid}
-use Rattle.release.specs.Laid.{laid-next}
+use Rattle.trellis.specs.LaidLaws.{laid-next}
 use Rattle.release.proofs.move_down.Statement.{statement}
 use Rattle.release.proofs.move_down.Tie as tie
 

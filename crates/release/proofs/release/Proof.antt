@@ -9,7 +9,7 @@ use lib.Seq.{length-take-le}
 use borrow.Rule.Slice.PartMut.{midOf, putMid}
 use Rattle.trellis.specs.Lists.{laid}
 use Rattle.trellis.specs.Isdb.{traced}
-use Rattle.release.specs.Laid.{laid-after, laid-freed, length-laid}
+use Rattle.trellis.specs.LaidLaws.{laid-after, laid-freed, length-laid}
 use Rattle.release.specs.Parts.{written-tail}
 use borrow.Author.Needs.{needs}
 use Rattle.release.proofs.release.Statement.{statement}

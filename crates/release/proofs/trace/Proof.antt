@@ -12,7 +12,7 @@ use borrow.Author.Needs.{needs}
 use Rattle.trellis.specs.Lists.{upto}
 use Rattle.trellis.specs.Step as trellis
 use Rattle.trellis.specs.Step.{back, input}
-use Rattle.acs.specs.Written.{Between, Kept, between-more, kept-set, laid-whole}
+use Rattle.trellis.specs.WrittenLaws.{Between, Kept, between-more, kept-set, laid-whole}
 use Rattle.release.proofs.trace.Statement.{statement}
 use Rattle.release.proofs.trace.Tie as tie
 

@@ -14,7 +14,7 @@ use Rattle.refusal.specs.Rows.{firstRow, Either}
 use Rattle.refusal.specs.declared.Answer.{Answer}
 use Rattle.refusal.specs.RowLaws.{done, refused, passed, neither}
 use Rattle.refusal.specs.declared.Answer.the-variants as answer
-use Rattle.isdb_fec.specs.Told.{told}
+use Rattle.refusal.proofs.Told.{told}
 use Rattle.short_code.specs.declared.Code.{Code}
 use Rattle.short_code.specs.Codes.{goodCode}
 use Rattle.short_code.specs.CodeLaws.{good-length}

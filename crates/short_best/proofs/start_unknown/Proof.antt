@@ -5,7 +5,7 @@ use native.Mathlib.Omega.{arith}
 use lib.ListN.{length, length-set}
 use lib.Ieee.{Float, nan, binary32, ofBits}
 use Rattle.trellis.specs.Run.{startUnknown}
-use Rattle.acs.specs.Written.{Written, written-none, written-more, written-whole}
+use Rattle.trellis.specs.WrittenLaws.{Written, written-none, written-more, written-whole}
 use Rattle.short_best.proofs.start_unknown.Statement.{statement}
 use Rattle.short_best.proofs.start_unknown.Tie as tie
 

@@ -10,7 +10,7 @@ use borrow.Author.Needs.{needs}
 use Rattle.refusal.specs.Rows.{firstRow}
 use Rattle.refusal.specs.RowLaws.{done, refused, passed}
 use Rattle.refusal.specs.declared.Answer.the-variants as answer
-use Rattle.isdb_fec.specs.Told.{told}
+use Rattle.refusal.proofs.Told.{told}
 use Rattle.short_code.specs.declared.Code.{Code}
 use Rattle.short_code.specs.Codes.{goodCode, statesOf}
 use Rattle.short_code.specs.CodeLaws.{states-are, good-length}

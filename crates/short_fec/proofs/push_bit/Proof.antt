@@ -5,7 +5,7 @@ use Prim.Native.Nat.{ℕ, suc, _+_, _-_, _*_, _/_, _%_, _^_, _<_, _≤_}
 use Rattle.short_code.specs.Codes.{labels, halfOf, statesOf}
 use Rattle.short_code.specs.CodeLaws.{states-are, good-length}
 use Rattle.refusal.specs.RowLaws.{done, refused, passed}
-use Rattle.isdb_fec.specs.Told.{told}
+use Rattle.refusal.proofs.Told.{told}
 use Rattle.refusal.specs.declared.Answer.the-variants as answer
 use borrow.Author.Tests.{leb-false, not-false}
 use lib.Dec.{leb}

@@ -9,7 +9,7 @@ use Rattle.isdb_fec.specs.Rows.{streamRest}
 use Rattle.short_rows.specs.Rows.{handedRows}
 use Rattle.refusal.specs.RowLaws.{refused-by, passed-by}
 use Rattle.short_rows.specs.RowLaws.{sound}
-use Rattle.isdb_fec.specs.Told.{told}
+use Rattle.refusal.proofs.Told.{told}
 use borrow.Author.Needs.{needs}
 use Rattle.short_rows.proofs.answer_stream.Statement.{statement}
 use Rattle.short_rows.proofs.answer_stream.Tie as tie

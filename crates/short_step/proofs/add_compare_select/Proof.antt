@@ -9,7 +9,7 @@ use Rattle.trellis.specs.Lists.{upto}
 use Rattle.trellis.specs.ListLaws.{length-upto, getD-upto}
 use Rattle.trellis.specs.Step.{next, nexts}
 use Rattle.trellis.specs.Isdb.{rule}
-use Rattle.acs.specs.Written.{Written, written-whole}
+use Rattle.trellis.specs.WrittenLaws.{Written, written-whole}
 use Rattle.viterbi.specs.Calls.{stepOf}
 use Rattle.short_code.specs.Codes.{labels}
 use borrow.Author.Needs.{needs}

@@ -6,7 +6,7 @@ use native.Mathlib.Omega.{arith}
 use lib.ListN.{length, getD, length-set}
 use lib.Ieee.{Float, nan, binary32, lt, neg, add, sub, ofBits}
 use borrow.Author.Needs.{needs}
-use Rattle.acs.specs.Written.{Written, Kept, written-none, written-more, written-skip, kept-more, kept-skip, written-whole}
+use Rattle.trellis.specs.WrittenLaws.{Written, Kept, written-none, written-more, written-skip, kept-more, kept-skip, written-whole}
 use Rattle.short_step.proofs.copy.Statement.{statement}
 use Rattle.short_step.proofs.copy.Tie as tie
 

@@ -8,7 +8,7 @@ use lib.Seq.{ext-getD}
 use lib.Ieee.{Float, nan, binary32, lt, neg, add, sub, ofBits}
 use borrow.Author.Needs.{needs}
 use Rattle.trellis.specs.Step.{renormalised, top}
-use Rattle.acs.specs.Written.{Written, Kept, written-none, written-more, kept-more}
+use Rattle.trellis.specs.WrittenLaws.{Written, Kept, written-none, written-more, kept-more}
 use Rattle.short_step.proofs.renormalise.Statement.{statement}
 use Rattle.short_step.proofs.renormalise.Tie as tie
 

@@ -14,7 +14,7 @@ use Rattle.trellis.specs.Isdb.{rule}
 use Rattle.acs.specs.Packed.{packed-more}
 use Rattle.viterbi.specs.Calls.{stepOf}
 use Rattle.short_code.specs.Codes.{labels}
-use Rattle.acs.specs.Written.{Written, Kept, written-none, written-more, written-skip, kept-more, kept-skip, written-whole}
+use Rattle.trellis.specs.WrittenLaws.{Written, Kept, written-none, written-more, written-skip, kept-more, kept-skip, written-whole}
 use Rattle.short_step.proofs.select.Statement.{statement}
 use Rattle.short_step.proofs.select.Tie as tie
 

@@ -9,7 +9,7 @@ use lib.ListN.{length, getD, length-set}
 use lib.Ieee.{Float, nan, binary32, lt, neg, add, sub, ofBits}
 use borrow.Author.Needs.{needs}
 use Rattle.trellis.specs.Run.{startAt}
-use Rattle.acs.specs.Written.{Written, Kept, written-none, written-more, written-skip, kept-more, kept-skip, written-whole}
+use Rattle.trellis.specs.WrittenLaws.{Written, Kept, written-none, written-more, written-skip, kept-more, kept-skip, written-whole}
 use Rattle.short_step.proofs.start_at.Statement.{statement}
 use Rattle.short_step.proofs.start_at.Tie as tie
 

@@ -9,7 +9,7 @@ use lib.Seq.{length-take-le}
 use borrow.Rule.Slice.PartMut.{midOf, putMid}
 use Rattle.trellis.specs.Lists.{laid}
 use Rattle.trellis.specs.Step.{traced}
-use Rattle.viterbi.specs.Laid.{laid-after, laid-freed, length-laid}
+use Rattle.trellis.specs.LaidLaws.{laid-after, laid-freed, length-laid}
 use Rattle.viterbi.specs.Parts.{written-tail}
 use borrow.Author.Needs.{needs}
 use Rattle.short_viterbi.proofs.release.Statement.{statement}

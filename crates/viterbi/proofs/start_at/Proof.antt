@@ -5,7 +5,7 @@ use native.Mathlib.Omega.{arith}
 use borrow.Author.Needs.{needs}
 use lib.Ieee.{Float, binary32, neg, ofBits}
 use Rattle.trellis.specs.Run.{startAt}
-use Rattle.viterbi.specs.Upto.{set-replicate}
+use Rattle.trellis.specs.ListLaws.{set-replicate}
 use borrow.Author.Needs.{needs}
 use Rattle.viterbi.proofs.start_at.Statement.{statement}
 use Rattle.viterbi.proofs.start_at.Tie as tie

@@ -7,7 +7,7 @@ use lib.ListN.{length, getD, set}
 use lib.Seq.{take-length}
 use borrow.Author.Needs.{needs}
 use Rattle.trellis.specs.Lists.{upto, laid}
-use Rattle.isdbs_points.specs.LawsUpto.{laid-upto, front-upto}
+use Rattle.trellis.specs.LaidLaws.{laid-upto, front-upto}
 use Rattle.wanted_load.proofs.put.Statement.{statement}
 use Rattle.wanted_load.proofs.put.Tie as tie
 

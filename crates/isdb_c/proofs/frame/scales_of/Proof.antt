@@ -1,6 +1,6 @@
 -- `scales_of` meets its contract: the first i values are copied. Assumes nothing.
 use borrow.Author.Count.{below-none}
-use Rattle.isdbs_combination.specs.ListLaws.{Written, written-more}
+use Rattle.trellis.specs.WrittenLaws.{Written, written-more}
 use mathlib.Core.Path.{_≡_, refl, _∙_}
 use mathlib.Core.List.{List, _∷_, _++_}
 use Prim.Native.Nat.{ℕ, _+_, _-_, _*_, _/_, _%_, _<_, _≤_}
@@ -16,7 +16,7 @@ abbrev at : List Float → ℕ → Float
 at l k = getD l k nan
 
 abbrev Inv-loop : tie.InvT-loop
-Inv-loop scales all₀ i₀ all i = (i ≤ 7) × (length all ≡ 7) × Written (at scales) nan i all
+Inv-loop scales all₀ i₀ all i = (i ≤ 7) × (length all ≡ 7) × Written nan (at scales) i all
 
 abbrev μ-loop : tie.MeasureT-loop
 μ-loop scales all₀ i₀ all i = 7 - i
@@ -46,7 +46,7 @@ loop-again : tie.Need-loop-again Inv-loop μ-loop
 loop-again c =
     let h = c .before .before in
     let from = h .before .args .scales .now in
-    (omega arith, simp length-set (h .loop .inv .1), written-more (at from) nan (h .loop .i) (h .loop .all) _ (omega arith) (h .loop .inv .2) refl)
+    (omega arith, simp length-set (h .loop .inv .1), written-more nan (at from) (h .loop .i) (h .loop .all) _ (omega arith) (h .loop .inv .2) refl)
 
 returns : tie.Need-returns Inv-loop μ-loop
 returns c =

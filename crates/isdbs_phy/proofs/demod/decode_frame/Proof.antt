@@ -1,5 +1,5 @@
 -- `demod::decode_frame` meets its contract. Assumes nothing.
-use Rattle.isdb_fec.specs.Told.{told}
+use Rattle.refusal.proofs.Told.{told}
 use Rattle.isdbs_phy.proofs.Rows.{passed, refused-answer}
 use Rattle.isdbs_phy.specs.DecodeRows.{someBad, decodeRows, frameAnswer}
 use Rattle.isdbs_runs.specs.declared.Plan.{Plan}

@@ -7,7 +7,7 @@ use native.Mathlib.Omega.{arith}
 use borrow.Author.Needs.{needs}
 use lib.ListN.{length}
 use Rattle.isdbt_table.specs.Numbers.{numbers}
-use Rattle.isdbt_table.specs.Upto.{upto-same}
+use Rattle.trellis.specs.LaidLaws.{upto-cong}
 use Rattle.isdbt_steps.specs.Soft.{softBy}
 use Rattle.isdbt_fec.specs.Decode.{soft-is}
 use Rattle.trellis.specs.Lists.{laid}
@@ -83,7 +83,7 @@ returns c =
     let e = c .before .before .before .new .ensures in
     let count = mother-bits (a .rate) _ (length (a .llrs .now)) e in
     let end : c .before .loop .k ≡ length (a .llrs .now) / sent (a .rate) * (2 * period (a .rate)) = omega arith in
-    (count, rw end at (c .before .loop .inv .3 .front) ∙ ap (λ (l : List Float). laid l (a .out .now)) (upto-same _ _ _ (λ k h. soft-is (a .rate) _ _ k e)))
+    (count, rw end at (c .before .loop .inv .3 .front) ∙ ap (λ (l : List Float). laid l (a .out .now)) (upto-cong _ _ _ (λ k h. soft-is (a .rate) _ _ k e)))
 
 pub depuncture-periods-spec : {M : Type 1} → statement M
 depuncture-periods-spec =

@@ -6,7 +6,7 @@ use lib.ListN.{length}
 use Rattle.isdbt_table.specs.Numbers.{numbers}
 use Rattle.isdbt_rows.specs.RowLaws.{encode-enough}
 use Rattle.isdb_fec.specs.Answers.{accepted, refused}
-use Rattle.isdb_fec.specs.Told.{told}
+use Rattle.refusal.proofs.Told.{told}
 use Rattle.isdbt_fec.proofs.Turns.{sent-count}
 use Rattle.isdbt_fec.proofs.conv.encode_punctured.Statement.{statement}
 use Rattle.isdbt_fec.proofs.conv.encode_punctured.Tie as tie

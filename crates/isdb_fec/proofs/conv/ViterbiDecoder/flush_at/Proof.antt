@@ -6,7 +6,7 @@ use borrow.Author.Needs.{needs}
 use lib.ListN.{length}
 use Rattle.isdb_fec.specs.Answers.{accepted, flush-enough}
 use Rattle.isdb_fec.specs.Whole.{as-given}
-use Rattle.isdb_fec.specs.Told.{told}
+use Rattle.refusal.proofs.Told.{told}
 use Rattle.isdb_fec.proofs.conv.ViterbiDecoder.flush_at.Statement.{statement}
 use Rattle.isdb_fec.proofs.conv.ViterbiDecoder.flush_at.Tie as tie
 
