@@ -11,7 +11,7 @@ use Rattle.isdbs_tables.specs.declared.Table.{Table}
 use Rattle.isdbs_tables.specs.Tables.{tableRows}
 use Rattle.isdbs_frame.specs.Frame.{mainSymbols}
 use Rattle.isdbs_runs.specs.RunsOf.{validTotal, frameSteps, loadBytes}
-use Rattle.isdbs_metrics.specs.Reading.{frameWords}
+use Rattle.trellis.specs.Isdb.{frameWords}
 
 -- from -limit to limit, both included; no comparison holds of a NaN
 abbrev pub within : Float → Float → Bool

@@ -2,7 +2,7 @@
 // note 3) and their punctured codes (BO.1408-1, Table 2; annexed table 49, note 4).
 ghost use mathlib.Core.Path.{_≡_};
 ghost use Prim.Native.Nat.{_*_};
-ghost use Rattle.isdbs_combination.specs.Combinations.{combinationOf, wordMeans, assignedOf, wordOf, codeOf, modulationOf, symbolBits, rateOf, efficiencyOf, rankOf, unitOf, slotSteps, punctureOf, pairsFrom, fourPairs, periodOf};
+ghost use Rattle.isdbs_combination.specs.Combinations.{combinationOf, wordMeans, assignedOf, wordOf, codeOf, modulationOf, symbolBits, rateOf, efficiencyOf, rankOf, unitOf, slotSteps, slotSymbols, punctureOf, pairsFrom, fourPairs, periodOf};
 
 // A modulation-code combination of the main signal.
 pub enum Combination {
@@ -32,6 +32,11 @@ pub enum Modulation {
     Qpsk,
     Tc8psk,
 }
+
+// Information bits of a slot on air, and its symbols (BO.1408-1, section 3: 203 bytes; 48 slots to the 38,976 main-signal symbols of a frame).
+pub const SLOT_BITS: usize = 1_624;
+
+pub const SLOT_SYMBOLS: usize = 812;
 
 // The word of unused entries (Table 1: 1111; BO.1408-1, section 6.1.2).
 pub const DUMMY_WORD: u8 = 15;
@@ -244,7 +249,7 @@ impl Combination {
 
     // Symbols of a slot unit.
     pub fn symbols_per_unit(self) -> usize
-        ensures { λ r. ⌜ r ≡ unitOf self .slots * 812 ⌝ }
+        ensures { λ r. ⌜ r ≡ unitOf self .slots * slotSymbols ⌝ }
     {
         match self {
             Combination::Bpsk1_2 => 3_248,
@@ -262,12 +267,12 @@ impl Combination {
         ensures { λ r. ⌜ r ≡ slotSteps self ⌝ }
     {
         match self {
-            Combination::Bpsk1_2 => 1_624,
-            Combination::Qpsk1_2 => 1_624,
-            Combination::Qpsk2_3 => 1_624,
-            Combination::Qpsk3_4 => 1_624,
-            Combination::Qpsk5_6 => 1_624,
-            Combination::Qpsk7_8 => 1_624,
+            Combination::Bpsk1_2 => SLOT_BITS,
+            Combination::Qpsk1_2 => SLOT_BITS,
+            Combination::Qpsk2_3 => SLOT_BITS,
+            Combination::Qpsk3_4 => SLOT_BITS,
+            Combination::Qpsk5_6 => SLOT_BITS,
+            Combination::Qpsk7_8 => SLOT_BITS,
             Combination::Tc8psk2_3 => 812,
         }
     }

@@ -3,6 +3,7 @@ use isdbs_combination::BitPair;
 use isdbs_combination::Combination;
 use isdbs_combination::MaybePuncture;
 use isdbs_combination::Puncture;
+pub use isdbs_combination::SLOT_BITS;
 use isdbs_frame::Position;
 use isdbs_frame::SLOT_BYTES;
 use isdbs_frame::main_place;
@@ -26,9 +27,6 @@ ghost use Rattle.isdbs_runs.specs.RunLaws.{Whole};
 ghost use Rattle.trellis.specs.Lists.{Each};
 ghost use Rattle.isdbs_core.specs.Symbols.{pairHolds, firstPair, hasSlot, symbolOfBit, bitSymbol, markedBefore, runByte, byteIn, slotByteSymbol, slotByteSaid};
 ghost use Rattle.isdbs_core.specs.Answers.{byteSaid};
-
-// Information bits of a slot on air: 203 bytes.
-pub const SLOT_BITS: usize = 1_624;
 
 // The last information bit that has a position.
 pub const LAST_BIT: usize = 1_000_000;

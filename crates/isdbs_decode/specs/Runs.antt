@@ -5,7 +5,7 @@ use mathlib.Core.List.{List, []}
 use Prim.Native.Nat.{ℕ, _+_, _<_, _≤_}
 use lib.ListN.{length, replicate}
 use lib.Ieee.{Float}
-use Rattle.trellis.specs.Isdb.{closed}
+use Rattle.trellis.specs.Isdb.{closed, frameTraceback, frameWords}
 use Rattle.trellis.specs.Lists.{laid}
 use Rattle.trellis.specs.Step.{Step, four, known}
 use Rattle.trellis.specs.Run.{Decoder, freshFrom}
@@ -14,7 +14,7 @@ use Rattle.viterbi.specs.Calls.{steps, flush, Holds}
 use Rattle.isdbs_tables.specs.declared.Table.{Table}
 use Rattle.isdbs_runs.specs.RunsOf.{frameSteps}
 use Rattle.isdbs_points.specs.Layout.{wordBit}
-use Rattle.isdbs_metrics.specs.Reading.{Received, frameTraceback, frameWords, metricsAt, decodedBits, decodedBytes}
+use Rattle.isdbs_metrics.specs.Reading.{Received, metricsAt, decodedBits, decodedBytes}
 
 -- the known bits that follow a frame
 abbrev pub knownBits : ℕ → Step

@@ -26,7 +26,7 @@ ghost use Rattle.trellis.specs.Run.{startAt, startUnknown};
 ghost use Rattle.isdbs_combination.specs.Combinations.{wordOf};
 ghost use Rattle.isdbs_frame.specs.Frame.{mainSymbols};
 ghost use Rattle.isdbs_runs.specs.RunsOf.{frameSteps, loadBytes, Planned};
-ghost use Rattle.isdbs_metrics.specs.Reading.{frameWords};
+ghost use Rattle.trellis.specs.Isdb.{frameWords};
 ghost use Rattle.strain.specs.Marks.{frameMark};
 ghost use Rattle.isdbs_decode.specs.Scales.{receivedBy};
 ghost use Rattle.isdbs_decode.specs.Runs.{RunsRead, Ended, bitsFrom, FrameRead};

@@ -14,18 +14,18 @@ headerSymbols = 192
 abbrev pub bursts : ℕ
 bursts = 192
 
-abbrev pub stretchSymbols : ℕ
-stretchSymbols = 203
+abbrev pub burstPeriod : ℕ
+burstPeriod = 203
 
 abbrev pub burstSymbols : ℕ
 burstSymbols = 4
 
 -- the symbols from one burst to the next, and those of a whole frame
-abbrev pub burstPeriod : ℕ
-burstPeriod = stretchSymbols + burstSymbols
+abbrev pub burstSpacing : ℕ
+burstSpacing = burstPeriod + burstSymbols
 
 abbrev pub frameSymbols : ℕ
-frameSymbols = headerSymbols + bursts * burstPeriod
+frameSymbols = headerSymbols + bursts * burstSpacing
 
 -- the main-signal symbols of a frame, its slots, and the bytes of a slot on air
 abbrev pub mainSymbols : ℕ
@@ -46,16 +46,16 @@ pub data Symbol : Type 0 where
 -- the place of a symbol in the frame: each burst stands after 203 main-signal symbols, so that 207 symbols lie from one burst to the next
 abbrev pub placeOf : Symbol → ℕ
 placeOf (header i) = i
-placeOf (main k) = headerSymbols + k / stretchSymbols * burstPeriod + k % stretchSymbols
-placeOf (burst b j) = headerSymbols + b * burstPeriod + stretchSymbols + j
+placeOf (main k) = headerSymbols + k / burstPeriod * burstSpacing + k % burstPeriod
+placeOf (burst b j) = headerSymbols + b * burstSpacing + burstPeriod + j
 
 -- what stands at place q of the 207 from burst to burst
 abbrev pub inPeriod : ℕ → ℕ → Symbol
-inPeriod b q = cond (ltb q stretchSymbols) (main (stretchSymbols * b + q)) (burst b (q - stretchSymbols))
+inPeriod b q = cond (ltb q burstPeriod) (main (burstPeriod * b + q)) (burst b (q - burstPeriod))
 
 -- what stands at a place of the frame
 abbrev pub symbolAt : ℕ → Symbol
-symbolAt p = cond (ltb p headerSymbols) (header p) (inPeriod ((p - headerSymbols) / burstPeriod) ((p - headerSymbols) % burstPeriod))
+symbolAt p = cond (ltb p headerSymbols) (header p) (inPeriod ((p - headerSymbols) / burstSpacing) ((p - headerSymbols) % burstSpacing))
 
 -- refusal 2: "main symbol 38,976 or more"
 abbrev pub mainRows : ℕ → List Row

@@ -8,7 +8,7 @@ use lib.Ieee.{Float, nan, inf, fin, binary32, binary64, neg, add, sub, mul, lt, 
 use Rattle.trellis.specs.Isdb.{call, steps, flush}
 use Rattle.trellis.specs.Lists.{upto, bit}
 use Rattle.trellis.specs.Step.{four, known}
-use Rattle.trellis.specs.Run.{Decoder, block, startAt, startUnknown}
+use Rattle.trellis.specs.Run.{Decoder, startAt, startUnknown}
 use Rattle.isdbs_combination.specs.declared.Combination.{Combination}
 use Rattle.isdbs_combination.specs.declared.Modulation.{Modulation}
 use Rattle.isdbs_combination.specs.declared.Modulation.the-variants.{Bpsk, Qpsk, Tc8psk}
@@ -93,13 +93,6 @@ metricsAt t r = atStep [] (metricsIn r) t
 -- "Unknown start sets all 64 path values to 0"
 abbrev pub startValues : Bool → Bool → List Float
 startValues knownStart first = cond knownStart (startAt 64 (startState first)) (startUnknown 64)
-
--- the traceback of a frame, and the decision words that it needs: "4,096 + traceback"
-abbrev pub frameTraceback : ℕ
-frameTraceback = 128
-
-abbrev pub frameWords : ℕ
-frameWords = block + frameTraceback
 
 -- "all in one `push_metrics` with traceback 128; then the 16 bits of W1, high bit first, as known bits; then a flush"
 unfoldable pub decodedBits : Table → Received → Bool → Bool → List ℕ

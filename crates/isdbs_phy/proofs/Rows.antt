@@ -18,7 +18,7 @@ use Rattle.isdbs_tables.specs.Tables.{TableAccepted}
 use Rattle.isdbs_tables.specs.TableLaws.{then-accepted}
 use Rattle.isdbs_frame.specs.Frame.{mainSymbols}
 use Rattle.isdbs_runs.specs.RunsOf.{validTotal, frameSteps, loadBytes}
-use Rattle.isdbs_metrics.specs.Reading.{frameWords}
+use Rattle.trellis.specs.Isdb.{frameWords}
 use Rattle.isdbs_phy.specs.DecodeRows.{pointRows, lastRows, frameRows, frameSaid, frameAnswer}
 
 -- what an accepted call may rest on

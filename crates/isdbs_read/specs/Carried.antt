@@ -7,7 +7,7 @@ use Rattle.trellis.specs.Step.{Step}
 use Rattle.trellis.specs.Run.{Decoder}
 use Rattle.viterbi.specs.declared.At.{At}
 use Rattle.viterbi.specs.Calls.{steps, Holds}
-use Rattle.isdbs_metrics.specs.Reading.{frameTraceback, frameWords}
+use Rattle.trellis.specs.Isdb.{frameTraceback, frameWords}
 
 -- n steps ys of a call, the first of which is its step i0. Whatever the call's other steps are: the decoder that the values and slices held goes
 -- n steps on.

@@ -11,7 +11,7 @@ ghost use mathlib.Core.Logic.{_⊎_};
 ghost use Prim.Native.Nat.{_+_, _*_, _<_, _≤_, _^_};
 ghost use lib.ListN.{length};
 ghost use Rattle.trellis.specs.Lists.{upto, laid};
-ghost use Rattle.isdbs_metrics.specs.Reading.{frameWords};
+ghost use Rattle.trellis.specs.Isdb.{frameWords};
 ghost use Rattle.isdbs_metrics.specs.Steps.{LayoutOf, Covers};
 ghost use Rattle.isdbs_blocks.specs.Blocks.{runSteps, runMark, Periods};
 ghost use Rattle.isdbs_read.specs.Carried.{Carried};

@@ -10,7 +10,8 @@ use Rattle.viterbi.specs.Calls.{steps, call, flush}
 use Rattle.isdbs_tables.specs.declared.Table.{Table}
 use Rattle.isdbs_runs.specs.RunsOf.{frameSteps, validTotal}
 use Rattle.isdbs_points.specs.Frame.{startState}
-use Rattle.isdbs_metrics.specs.Reading.{Received, frameTraceback, startValues}
+use Rattle.isdbs_metrics.specs.Reading.{Received, startValues}
+use Rattle.trellis.specs.Isdb.{frameTraceback}
 use Rattle.isdbs_decode.specs.Runs.{frameMetrics, knownBits}
 use Rattle.trellis.specs.Run.{freshFrom}
 use Rattle.strain.specs.Counts.{summed}

@@ -9,7 +9,7 @@ ghost use lib.ListN.{length};
 ghost use Rattle.trellis.specs.Lists.{upto, laid};
 ghost use Rattle.isdbs_frame.specs.Frame.{mainSymbols};
 ghost use Rattle.isdbs_runs.specs.RunsOf.{validTotal, frameSteps, loadBytes, Planned};
-ghost use Rattle.isdbs_metrics.specs.Reading.{frameWords};
+ghost use Rattle.trellis.specs.Isdb.{frameWords};
 ghost use Rattle.isdbs_metrics.specs.Steps.{Bits};
 ghost use Rattle.isdbs_decode.specs.Scales.{receivedBy};
 ghost use Rattle.isdbs_decode.specs.Runs.{FrameRead};

@@ -1,7 +1,7 @@
 -- The trellis of ISDB and the rule for equals, named once: the decoder of Step and Run at them. Assumes nothing.
 use mathlib.Core.Bool.{Bool}
 use mathlib.Core.List.{List}
-use Prim.Native.Nat.{ℕ}
+use Prim.Native.Nat.{ℕ, _+_}
 use lib.Ieee.{Float}
 use Rattle.trellis.specs.Code.{isdb, label}
 use Rattle.trellis.specs.Step as step
@@ -19,9 +19,12 @@ half = 32
 abbrev pub labels : ℕ → ℕ → ℕ
 labels = label isdb
 
--- the traceback that a call of demand 2 takes
-abbrev pub defaultTraceback : ℕ
-defaultTraceback = 128
+-- "traceback 128": of a frame's reading and of the calls of demand 2; the decision words that it needs, "4,096 + traceback"
+abbrev pub frameTraceback : ℕ
+frameTraceback = 128
+
+abbrev pub frameWords : ℕ
+frameWords = run.block + frameTraceback
 
 -- document 02, P12: on equality the odd predecessor is taken, and the highest best state is traced
 abbrev pub rule : Tie
