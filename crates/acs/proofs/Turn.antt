@@ -16,7 +16,7 @@ use Rattle.trellis.specs.Step as trellis
 use Rattle.trellis.specs.Step.{Step}
 use Rattle.trellis.specs.Isdb.{rule, cand, wins, next, nexts, word}
 use Rattle.trellis.specs.WrittenLaws.{written-whole, lt-or-ge}
-use Rattle.acs.specs.Packed.{packed-more, packed-both}
+use Rattle.acs.specs.PackedLaws.{packed-more, packed-both}
 use Rattle.acs.specs.Half.{Half}
 
 module _ (pm : List Float) (x : Step) where

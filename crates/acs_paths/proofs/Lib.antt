@@ -1,4 +1,1 @@
-pub mod Table
-pub mod SignTables
-pub mod BranchTable
 pub mod Paths

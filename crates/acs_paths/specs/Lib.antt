@@ -1,2 +1,5 @@
 pub mod Signs
 pub mod Branches
+pub mod BranchLaws
+pub mod SignLaws
+pub mod TableLaws

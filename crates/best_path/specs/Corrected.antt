@@ -22,7 +22,7 @@ use Rattle.trellis.specs.RunLaws.{label-under}
 use Rattle.trellis.specs.Step.{Step, Tie, traced}
 use Rattle.trellis.specs.Run.{Decoder, startAt, closed, pushed, flushedAt}
 use Rattle.trellis.specs.Stretch.{apart, differing, Bits, Coded}
-use Rattle.trellis.specs.Distance.{same-or-ten, wrong, wrong-same, wrong-turned, triangle, labelsOf, against, bits-at, bits-of, coded-at}
+use Rattle.trellis.specs.DistanceLaws.{same-or-ten, wrong, wrong-same, wrong-turned, triangle, labelsOf, against, bits-at, bits-of, coded-at}
 use Rattle.best_path.specs.Hard.{mostWrong, soft, softPairs, hard}
 use Rattle.best_path.specs.Paths.{longest, Path, sumℤ, Best, This, Integer}
 use Rattle.best_path.specs.Viterbi.{sum}

@@ -27,7 +27,7 @@ use borrow.Author.Tests.{ltb-false}
 use Rattle.isdb_fec.specs.Values.{within, someBeyond, streamLimit}
 use Rattle.isdb_fec.specs.Rows.{badState, pushMetricsRows, flushRows, stepsShort, releases}
 use Rattle.isdb_fec.specs.Calls.{fourSteps, flush}
-use Rattle.viterbi.specs.Count.{counted, releases-le}
+use Rattle.viterbi.specs.CountLaws.{counted, releases-le}
 use Rattle.call_ranges.specs.Inside.{none-beyond}
 use Rattle.call_ranges.specs.Reached.{Reached, with-state, unknown-state}
 use Rattle.call_ranges.specs.Closed.{Fit, soft-fit, four-soft, values-inside, reached-fit, state-fit}

@@ -29,7 +29,7 @@ use Rattle.isdb_fec.specs.declared.conv.Released.{Released}
 use Rattle.isdb_fec.specs.Values.{someBeyond, pathLimit, streamLimit}
 use Rattle.isdb_fec.specs.Rows.{badTraceback, badState, freshRows, handedRows, streamRows}
 use Rattle.isdb_fec.specs.Calls.{pairSteps, fourSteps, knownSteps, call, steps, handed, Fresh, Leaves, Emits}
-use Rattle.viterbi.specs.Count.{counted}
+use Rattle.viterbi.specs.CountLaws.{counted}
 use Rattle.refusal.specs.RowLaws.{passed}
 use Rattle.call_ranges.specs.Numbers.{stepMost, streamMost, ruledOut, deepest, leastPath, pathMost, stream-limits, stream-deep, path-limit, stream-limit, least-path}
 use Rattle.call_ranges.specs.Inside.{inside-within, within-inside, none-beyond, all-inside}

@@ -18,9 +18,9 @@ use Rattle.trellis.specs.Run as run
 use Rattle.trellis.specs.Run.{Decoder, startUnknown, settled}
 use Rattle.trellis.specs.RunLaws.{after-values}
 use Rattle.isdb_fec.specs.Calls.{fourSteps, steps}
-use Rattle.viterbi.specs.Holding.{bare}
+use Rattle.viterbi.specs.HoldingLaws.{bare}
 use Rattle.viterbi.specs.Calls.{fourCall}
-use Rattle.viterbi.specs.Runs.{then}
+use Rattle.viterbi.specs.RunLaws.{then}
 
 abbrev z : Float
 z = ofBits binary32 0

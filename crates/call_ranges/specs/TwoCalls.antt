@@ -30,8 +30,8 @@ use Rattle.isdb_fec.specs.declared.conv.Released.{Released}
 use Rattle.isdb_fec.specs.Rows.{pushRows, pushMetricsRows}
 use Rattle.isdb_fec.specs.Calls.{pairSteps, fourSteps, knownSteps, steps, call, handed, Leaves}
 use Rattle.viterbi.specs.Calls.{pairCall, fourCall}
-use Rattle.isdb_fec.specs.TwoCalls as calls
-use Rattle.isdb_fec.specs.TwoCalls.{both}
+use Rattle.isdb_fec.specs.TwoCallLaws as calls
+use Rattle.isdb_fec.specs.TwoCallLaws.{both}
 use Rattle.call_ranges.specs.Numbers.{stepMost, ruledOut, stream-limits, stream-deep}
 use Rattle.call_ranges.specs.Normalised.{Normalised, normalised-start, renormalised-twice}
 use Rattle.call_ranges.specs.Reached as reached

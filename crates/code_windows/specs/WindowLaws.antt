@@ -10,7 +10,7 @@ use lib.Dec.{T, eqb, eqb→eq}
 use lib.ListN.{getD}
 use lib.Pow.{pow-pos, pow-add, shr-shr, shr-le, high}
 use Rattle.trellis.specs.Code.{isdb, output, tapped, label, moved, stateAt}
-use Rattle.trellis.specs.Linear.{xor-low}
+use Rattle.trellis.specs.LinearLaws.{xor-low}
 use Rattle.trellis.specs.ListLaws.{every, every-at}
 use Rattle.code_windows.specs.Windows.{backward, xOutputs, yOutputs, outputsIn}
 

@@ -24,10 +24,10 @@ use Rattle.isdbs_points.specs.Layout.{Segment, segments, atBit, loadBit, FullLo
 use Rattle.isdbs_points.specs.Frame.{coded, inputIn, inputs, labelAt, stateAfter, startState}
 use Rattle.isdbs_metrics.specs.Reading.{Received, metricsAt, decodedBits, uncoded, bitBy, bitIn, bytesFrom, decodedBytes}
 use Rattle.margins.specs.Margins.{Within}
-use Rattle.isdbs_points.specs.Sizes.{table-whole, few-steps, step-fits, at-bit, find-bit}
-use Rattle.isdbs_points.specs.Order.{Pairs, Kind, one, two, three, kind}
-use Rattle.isdbs_points.specs.LawsBits.{of-pair, bytes-are}
-use Rattle.isdbs_points.specs.LawsInputs.{label-alike, input-at, input-small}
+use Rattle.isdbs_points.specs.SizeLaws.{table-whole, few-steps, step-fits, at-bit, find-bit}
+use Rattle.isdbs_points.specs.OrderLaws.{Pairs, Kind, one, two, three, kind}
+use Rattle.isdbs_points.specs.BitLaws.{of-pair, bytes-are}
+use Rattle.isdbs_points.specs.InputLaws.{label-alike, input-at, input-small}
 use Rattle.exact_frame.specs.Steps.{received, step-favours, tc-bit}
 
 start-small : (first : Bool) → startState first < 64

@@ -26,8 +26,8 @@ use Rattle.isdbs_encode.specs.Encoding.{FrameLaid}
 use Rattle.isdbs_metrics.specs.Reading.{decodedBytes}
 use Rattle.margins.specs.Margins.{keeps, anyAccepted, holds, freeRe, freeIm, Within}
 use Rattle.margins.specs.Clean.{Clean, clean-zero, clean-minus-zero, clean-one, clean-minus-one, clean-root, clean-minus-root, conjugated-clean, term-clean, psk8-clean, lowEnd, highEnd, keeps-accepted, clean-within, Other}
-use Rattle.isdbs_points.specs.Places.{among-all}
-use Rattle.isdbs_points.specs.LawsBits.{subset-small, load-bit-small}
+use Rattle.isdbs_points.specs.PlaceLaws.{among-all}
+use Rattle.isdbs_points.specs.BitLaws.{subset-small, load-bit-small}
 use Rattle.exact_frame.specs.Bits.{label-small}
 use Rattle.exact_frame.specs.Steps.{received}
 use Rattle.exact_frame.specs.Exact.{decoded-load}

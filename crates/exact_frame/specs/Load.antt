@@ -22,8 +22,8 @@ use Rattle.isdbs_points.specs.Points.{point, unused, conjugated}
 use Rattle.isdbs_points.specs.Layout.{Segment, segments, among, atSymbol, atStep, loadBit, In, here, there}
 use Rattle.isdbs_points.specs.Frame.{coded, inputIn, inputs, labelAt, pointBy, pointIn, pointAt, frameRe, frameIm, endState}
 use Rattle.trellis.specs.LaidLaws.{upto-cong}
-use Rattle.isdbs_points.specs.Places.{Fill, fill-member}
-use Rattle.isdbs_points.specs.Sizes.{symbolSum, fill-steps, fill-bits, fill-symbols, table-whole}
+use Rattle.isdbs_points.specs.PlaceLaws.{Fill, fill-member}
+use Rattle.isdbs_points.specs.SizeLaws.{symbolSum, fill-steps, fill-bits, fill-symbols, table-whole}
 
 -- ---- two functions that say the same of each place of each segment
 module _ {A : Type 0} (first size : Segment → ℕ) (none : A) (f f' : Segment → ℕ → A) where

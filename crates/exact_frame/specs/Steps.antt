@@ -33,9 +33,9 @@ use Rattle.margins.specs.Intervals.{eight}
 use Rattle.margins.specs.Speaks.{Speaks, Said, one-speaks, root-speaks}
 use Rattle.margins.specs.Pairs.{pair-favours}
 use Rattle.margins.specs.Tc8psk.{tc-favours, tc-uncoded}
-use Rattle.isdbs_points.specs.Sizes.{table-whole, symbol-fits, at-symbol, at-step, find-step}
-use Rattle.isdbs_points.specs.Order.{Sends, Pairs, Kind, one, two, three, kind, Kept, mother, number, sent-at}
-use Rattle.isdbs_points.specs.LawsBits.{load-bit-small, coded-small, subset-small, of-pair}
+use Rattle.isdbs_points.specs.SizeLaws.{table-whole, symbol-fits, at-symbol, at-step, find-step}
+use Rattle.isdbs_points.specs.OrderLaws.{Sends, Pairs, Kind, one, two, three, kind, Kept, mother, number, sent-at}
+use Rattle.isdbs_points.specs.BitLaws.{load-bit-small, coded-small, subset-small, of-pair}
 use Rattle.exact_frame.specs.Bits.{label-small, carries}
 
 -- ---- a frame within the margins, as it is read at the scale 8

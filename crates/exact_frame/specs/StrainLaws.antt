@@ -22,7 +22,7 @@ use Rattle.margins.specs.Margins.{Within}
 use Rattle.strain.specs.Strain.{strainedBy, strained, strainOf, strainCounts, strainSum}
 use Rattle.strain.specs.StrainLaws.{none-above, strain-none, strain-of-none}
 use Rattle.exact_frame.specs.Bits.{label-small}
-use Rattle.isdbs_points.specs.LawsInputs.{label-alike}
+use Rattle.isdbs_points.specs.InputLaws.{label-alike}
 use Rattle.exact_frame.specs.Steps.{received, step-favours}
 use Rattle.exact_frame.specs.Exact.{sent-bits, decoded-load}
 

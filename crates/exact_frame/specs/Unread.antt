@@ -24,8 +24,8 @@ use Rattle.isdbs_points.specs.Layout.{Segment, segments, orderOf, placeIn, atBi
 use Rattle.isdbs_points.specs.Frame.{labelAt, startState}
 use Rattle.isdbs_metrics.specs.Reading.{Received, symbolAt, scaled, partOf, carrier, softAt, correlation, subsetPoint, subsetMetrics, metricsBy, metricsIn, metricsAt, startValues, decodedBits, bitBy, bitIn, bytesFrom, decodedBytes}
 use Rattle.trellis.specs.LaidLaws.{upto-cong}
-use Rattle.isdbs_points.specs.Sizes.{table-whole, symbol-fits, at-step, at-bit, find-step, find-bit}
-use Rattle.isdbs_points.specs.Order.{Sends, Pairs, Kind, one, two, three, kind, mother, number}
+use Rattle.isdbs_points.specs.SizeLaws.{table-whole, symbol-fits, at-step, at-bit, find-step, find-bit}
+use Rattle.isdbs_points.specs.OrderLaws.{Sends, Pairs, Kind, one, two, three, kind, mother, number}
 
 -- n steps of a call see its first n steps
 after-alike : (half : ℕ) (out : ℕ → ℕ → ℕ) (t : Tie) (tb : ℕ) (xs ys : ℕ → Step) (d : Decoder) (n : ℕ) → ((k : ℕ) → k < n → xs k ≡ ys k)

@@ -25,7 +25,7 @@ use Rattle.isdbs_runs.specs.RunsOf.{frameSteps}
 use Rattle.isdbs_points.specs.declared.Cplx.{Cplx}
 use Rattle.isdbs_points.specs.Points.{zero64, one64, root64, psk8Of, subset}
 use Rattle.isdbs_points.specs.Layout.{Segment, segments, sentOrder, orderOf, stepsPerPeriod, placeIn, In}
-use Rattle.isdbs_points.specs.Sizes.{table-whole, symbol-fits, at-step, find-step}
+use Rattle.isdbs_points.specs.SizeLaws.{table-whole, symbol-fits, at-step, find-step}
 use Rattle.isdbs_metrics.specs.Reading.{Received, symbolAt, scaled, partOf, carrier, softAt, pairMetrics, correlation, absolute, subsetPoint, subsetMetrics, metricsBy, metricsIn, metricsAt}
 use Rattle.frame_ranges.specs.Rising.{Up, Rises, pair-rises, product-up, absolute-up, soft-up}
 use Rattle.frame_ranges.specs.Size.{Size, size-more, size-neg, size-add, size-sub, size-mul, size-absolute, size-soft, size-zero}

@@ -1,7 +1,6 @@
 pub mod Values
 pub mod Rows
 pub mod Calls
-pub mod Answers
-pub mod Whole
-pub mod TwoCalls
-pub mod OneCall
+pub mod AnswerLaws
+pub mod WholeLaws
+pub mod TwoCallLaws

@@ -28,7 +28,7 @@ use Rattle.isdbs_metrics.specs.declared.PeriodLayout.{PeriodLayout}
 use Rattle.isdbs_metrics.specs.Steps.{received, qpskPart, pieceMetrics, Covers, LayoutOf}
 use Rattle.strain.specs.Marks.{markOf}
 use Rattle.isdbs_blocks.specs.Blocks.{Periods, fours, runSteps, runMark, fourIn, BlockMade, stepSoft, spreadSoft, subsetParts}
-use Rattle.isdbs_blocks.proofs.Periods.{short}
+use Rattle.isdbs_blocks.specs.PeriodLaws.{short}
 use Rattle.isdbs_blocks.proofs.Laws.{fours-steps, fours-0, fours-1, fours-2, fours-3}
 
 never : {A : Type 0} → _≡_ {A = ℕ} 0 1 → A

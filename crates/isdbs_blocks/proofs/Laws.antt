@@ -17,7 +17,7 @@ use Rattle.isdbs_points.specs.declared.Mapping.{Mapping}
 use Rattle.isdbs_points.specs.Points.{conjugated}
 use Rattle.isdbs_soft.specs.Soft.{softOf}
 use Rattle.isdbs_metrics.specs.Steps.{qpskPart}
-use Rattle.isdbs_pack.proofs.FrameRuns.{tail-is}
+use Rattle.isdbs_pack.specs.FrameRunLaws.{tail-is}
 use Rattle.isdbs_blocks.specs.Blocks.{turns, fours}
 
 module _ {A : Type 0} where

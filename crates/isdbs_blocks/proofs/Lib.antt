@@ -1,3 +1,2 @@
 pub mod ByModulation
 pub mod Laws
-pub mod Periods

@@ -14,8 +14,8 @@ use Rattle.trellis.specs.Step.{Step, renormalised}
 use Rattle.trellis.specs.Run.{Decoder, after}
 use Rattle.viterbi.specs.declared.At.{At}
 use Rattle.viterbi.specs.Calls.{stepOnce, steps, traced, bestState, holding, Holds, Stepped}
-use Rattle.viterbi.specs.Count.{step-counts}
-use Rattle.viterbi.specs.Holding.{holds-next, holding-is, cleared}
+use Rattle.viterbi.specs.CountLaws.{step-counts}
+use Rattle.viterbi.specs.HoldingLaws.{holds-next, holding-is, cleared}
 use Rattle.trellis.specs.LaidLaws.{laid-after, laid-laid}
 use Rattle.isdbs_read.specs.Carried.{Carried}
 use Rattle.isdbs_decode.specs.Runs.{Ended, knownBits}

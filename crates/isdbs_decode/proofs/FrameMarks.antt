@@ -13,8 +13,8 @@ use Rattle.isdbs_runs.specs.RunsOf.{stepsOf, stepsIn, frameSteps, noRun}
 use Rattle.isdbs_points.specs.declared.Mapping.{Mapping}
 use Rattle.trellis.specs.LaidLaws.{laid-part, length-laid-upto}
 use Rattle.isdbs_metrics.specs.Reading.{Received, metricsAt}
-use Rattle.isdbs_pack.proofs.FrameBytes.{written-tail}
-use Rattle.isdbs_pack.proofs.FrameRuns.{RunAt, Listed, run-last}
+use Rattle.isdbs_pack.specs.FrameByteLaws.{written-tail}
+use Rattle.isdbs_pack.specs.FrameRunLaws.{RunAt, Listed, run-last}
 use Rattle.strain.specs.Marks.{markOf, frameMark}
 use Rattle.isdbs_blocks.specs.Blocks.{runMark}
 use Rattle.isdbs_decode.specs.Scales.{scaleOf, receivedBy}

@@ -9,7 +9,7 @@ use Rattle.trellis.specs.Step.{Step, four}
 use Rattle.trellis.specs.Run.{after, freshFrom}
 use Rattle.viterbi.specs.declared.At.{At}
 use Rattle.viterbi.specs.Calls.{steps, Holds}
-use Rattle.viterbi.specs.Holding.{holds-start}
+use Rattle.viterbi.specs.HoldingLaws.{holds-start}
 use Rattle.isdbs_combination.specs.declared.Combination.{Combination}
 use Rattle.isdbs_combination.specs.declared.Combination.the-variants.{«Bpsk1_2», «Qpsk1_2», «Qpsk2_3», «Qpsk3_4», «Qpsk5_6», «Qpsk7_8», «Tc8psk2_3»}
 use Rattle.isdbs_combination.specs.Combinations.{punctureOf, periodSteps}
@@ -25,9 +25,9 @@ use Rattle.isdbs_blocks.specs.Blocks.{runSteps, Periods}
 use Rattle.isdbs_read.specs.Carried.{Carried}
 use Rattle.isdbs_decode.specs.Runs.{RunsRead}
 use Rattle.isdbs_decode.specs.Scales.{scaleOf, receivedBy}
-use Rattle.isdbs_pack.proofs.Among.{stepsTo, validTo, among-step}
-use Rattle.isdbs_pack.proofs.Parts.{metrics-part}
-use Rattle.isdbs_pack.proofs.FrameRuns.{RunList, RunAt, Listed, tail-is, run-first, run-next, run-last}
+use Rattle.isdbs_pack.specs.AmongLaws.{stepsTo, validTo, among-step}
+use Rattle.isdbs_pack.specs.PartLaws.{metrics-part}
+use Rattle.isdbs_pack.specs.FrameRunLaws.{RunList, RunAt, Listed, tail-is, run-first, run-next, run-last}
 
 -- the metrics of a list of runs, as steps
 abbrev pub listed : List Run → Received → ℕ → List Float

@@ -1,4 +1,4 @@
-pub mod LawsDecoded
+pub mod DecodedLaws
 pub mod Runs
 pub mod ScaleLaws
 pub mod Scales

@@ -27,9 +27,9 @@ use Rattle.isdbs_points.specs.Layout.{Segment, segmentOf, segmentsFrom, among, 
 use Rattle.isdbs_points.specs.Frame.{inputIn, codedBit, sentBit, labelAt, pointIn, pointBy}
 use Rattle.isdbs_points.specs.Pieces.{piece, pieceInputs, pieceLabel, pieceState, pieceSymbols, mapped}
 use Rattle.isdbs_pieces.specs.Encoded.{piecePoint, pieceRe, pieceIm, PieceEncoded}
-use Rattle.isdbs_points.specs.LawsState.{Follow, state-shift, label-shift}
-use Rattle.isdbs_points.specs.Places.{Fill, fill-member, among-at, getD-in, before, before-more, fill-first}
-use Rattle.isdbs_points.specs.Sizes.{Whole, fill-steps, fill-bits}
+use Rattle.isdbs_points.specs.StateLaws.{Follow, state-shift, label-shift}
+use Rattle.isdbs_points.specs.PlaceLaws.{Fill, fill-member, among-at, getD-in, before, before-more, fill-first}
+use Rattle.isdbs_points.specs.SizeLaws.{Whole, fill-steps, fill-bits}
 use Rattle.isdbs_encode.specs.Encoding.{symbolsOf, inputsOf, pointOf, Tiled, RunsMade}
 use Rattle.isdbs_pieces.specs.PieceLaws.{Put, put-part, Going, tail-back}
 use Rattle.isdbs_pieces.specs.PatternLaws.{pattern-some, pattern-none}

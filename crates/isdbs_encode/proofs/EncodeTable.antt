@@ -26,8 +26,8 @@ use Rattle.isdbs_points.specs.Points.{zero64, unused, conjugated}
 use Rattle.isdbs_points.specs.Layout.{Segment, segmentsFrom}
 use Rattle.isdbs_points.specs.Frame.{inputs, labelAt, pointIn, pointAt, endState}
 use Rattle.trellis.specs.LaidLaws.{laid-part, length-laid-upto}
-use Rattle.isdbs_points.specs.Places.{Fill, before, fill-last, among-past}
-use Rattle.isdbs_points.specs.Sizes.{symbolSum, fill-symbols, symbol-sum-few, table-whole}
+use Rattle.isdbs_points.specs.PlaceLaws.{Fill, before, fill-last, among-past}
+use Rattle.isdbs_points.specs.SizeLaws.{symbolSum, fill-symbols, symbol-sum-few, table-whole}
 use Rattle.isdbs_encode.specs.Encoding.{symbolsOf, inputsOf, pointOf, Tiled, RunsMade, FrameLaid}
 use Rattle.isdbs_pieces.specs.PieceLaws.{tail-back}
 

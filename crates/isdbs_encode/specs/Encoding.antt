@@ -17,8 +17,8 @@ use Rattle.isdbs_points.specs.Points.{unused}
 use Rattle.isdbs_points.specs.Layout.{Segment, segmentsFrom, among, In}
 use Rattle.isdbs_points.specs.Frame.{inputIn, labelAt, pointIn, frameRe, frameIm}
 use Rattle.isdbs_points.specs.Pieces.{mapped}
-use Rattle.isdbs_points.specs.Places.{Fill, before}
-use Rattle.isdbs_points.specs.Sizes.{Whole}
+use Rattle.isdbs_points.specs.PlaceLaws.{Fill, before}
+use Rattle.isdbs_points.specs.SizeLaws.{Whole}
 
 -- accepted: the frame lies over the beginning of the lent parts; what stands past its 38,976 points is as before
 pub record FrameLaid (t : Table) (m : Mapping) (load : List ℕ) (s : ℕ) (re₀ re im₀ im : List Float) : Type 0 where

@@ -8,7 +8,7 @@ use native.Mathlib.Omega.{arith}
 use lib.Ieee.{Float}
 use mir.Val.{boolByte}
 use Rattle.isdbs_runs.specs.declared.Run.{Run}
-use Rattle.isdbs_pack.proofs.Digits.{bool-bit}
+use Rattle.isdbs_pack.specs.DigitLaws.{bool-bit}
 use Rattle.strain.specs.Counts.{summed, counted}
 use Rattle.strain.specs.CountsLaws.{counted-few}
 use Rattle.isdbs_combination.specs.Combinations.{slotSymbols}

@@ -1,2 +1,1 @@
-pub mod ByStep
 pub mod Codes

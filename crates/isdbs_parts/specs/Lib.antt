@@ -1,2 +1,1 @@
 pub mod SlotPart
-pub mod PartLaws

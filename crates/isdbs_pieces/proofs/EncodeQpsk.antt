@@ -30,7 +30,7 @@ use Rattle.isdbs_load.specs.Bits.{plainInputs, wordBit}
 use Rattle.isdbs_pieces.specs.Encoded.{piecePoint, TableOf, qpskLabel, PatternOf, AtMost, Shifted, shiftOf, outputBit, IsOutput, shiftedLabel, pairLabel, patternBit, patternLabel, PeriodEncoded, PieceEncoded}
 use Rattle.trellis.specs.LaidLaws.{upto-cong}
 use Rattle.trellis.specs.ListLaws.{getD-upto}
-use Rattle.isdbs_points.specs.LawsState.{Follow}
+use Rattle.isdbs_points.specs.StateLaws.{Follow}
 use Rattle.isdbs_pieces.proofs.Windowed.{shift-output, shift-bit}
 use Rattle.isdbs_pieces.specs.PieceLaws.{Going, label-small, label-more, going-part}
 

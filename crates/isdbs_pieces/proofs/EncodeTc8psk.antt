@@ -19,7 +19,7 @@ use Rattle.isdbs_points.specs.Frame.{inputIn}
 use Rattle.isdbs_points.specs.Pieces.{piece, pieceInputs, pieceLabel}
 use Rattle.isdbs_load.specs.Bits.{byteBit, byteInputs}
 use Rattle.isdbs_pieces.specs.Encoded.{piecePoint, psk8Label, registerAt, registerLabel, byteRegister}
-use Rattle.isdbs_points.specs.LawsState.{Follow}
+use Rattle.isdbs_points.specs.StateLaws.{Follow}
 use Rattle.isdbs_pieces.specs.PieceLaws.{Going, label-small, register-more, going-part, tc8psk-point}
 
 -- a state of 64 stays one

@@ -22,7 +22,7 @@ use Rattle.isdbs_points.specs.Frame.{coded, inputIn, labelAt, pointBy}
 use Rattle.isdbs_points.specs.Pieces.{piece, pieceInputs, pieceLabel, pieceSymbols, mapped}
 use Rattle.isdbs_load.specs.BitLaws.{output-small}
 use Rattle.isdbs_pieces.specs.Encoded.{piecePoint, PieceEncoded, registerAt}
-use Rattle.isdbs_points.specs.LawsState.{Follow, state-shift, label-shift}
+use Rattle.isdbs_points.specs.StateLaws.{Follow, state-shift, label-shift}
 use Rattle.trellis.specs.LaidLaws.{upto-cong, laid-upto, laid-part, length-laid-upto}
 use Rattle.trellis.specs.ListLaws.{getD-upto}
 

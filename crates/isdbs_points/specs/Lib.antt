@@ -1,10 +1,10 @@
 pub mod Frame
-pub mod LawsBits
-pub mod LawsInputs
-pub mod LawsState
+pub mod BitLaws
+pub mod InputLaws
+pub mod StateLaws
 pub mod Layout
-pub mod Order
+pub mod OrderLaws
 pub mod Pieces
-pub mod Places
+pub mod PlaceLaws
 pub mod Points
-pub mod Sizes
+pub mod SizeLaws

@@ -1,2 +1,5 @@
 pub mod Narrowed
 pub mod Soft
+pub mod NarrowLaws
+pub mod ShiftLaws
+pub mod SignLaws

@@ -20,12 +20,12 @@ use Rattle.isdbs_combination.specs.Combinations.{slotSteps}
 use Rattle.isdbs_runs.specs.RunsOf.{stepsOf, stepsIn, validIn, validTotal, frameSteps, noRun}
 use Rattle.isdbs_points.specs.Layout.{Segment, segmentOf, segmentsFrom, among}
 use Rattle.trellis.specs.LaidLaws.{laid-part, length-laid-upto}
-use Rattle.isdbs_points.specs.LawsState.{label-shift}
+use Rattle.isdbs_points.specs.StateLaws.{label-shift}
 use Rattle.isdbs_metrics.specs.Steps.{Bits}
-use Rattle.isdbs_pack.proofs.Among.{stepsTo, validTo}
-use Rattle.isdbs_pack.proofs.Packing.{state-more}
-use Rattle.isdbs_pack.proofs.FrameBytes.{written-tail}
-use Rattle.isdbs_pack.proofs.FrameRuns.{RunList, RunAt, Listed, tail-is, next-valid, valid-fit, run-first, run-next}
+use Rattle.isdbs_pack.specs.AmongLaws.{stepsTo, validTo}
+use Rattle.isdbs_pack.specs.PackingLaws.{state-more}
+use Rattle.isdbs_pack.specs.FrameByteLaws.{written-tail}
+use Rattle.isdbs_pack.specs.FrameRunLaws.{RunList, RunAt, Listed, tail-is, next-valid, valid-fit, run-first, run-next}
 use Rattle.strain.specs.Counts.{summed}
 use Rattle.strain.specs.CountsLaws.{summed-same, summed-append}
 use Rattle.strain.specs.Slots.{slotOf, slotsOf, overSlot}

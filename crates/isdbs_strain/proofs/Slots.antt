@@ -9,10 +9,10 @@ use lib.ListN.{length, take, drop, set, length-drop}
 use lib.Seq.{getD-drop}
 use Rattle.trellis.specs.Lists.{upto}
 use Rattle.trellis.specs.Code.{stateAt}
-use Rattle.isdbs_points.specs.LawsState.{label-shift}
+use Rattle.isdbs_points.specs.StateLaws.{label-shift}
 use Rattle.isdbs_metrics.specs.Steps.{Bits}
-use Rattle.isdbs_pack.proofs.Packing.{state-more, byte-more}
-use Rattle.isdbs_pack.proofs.FrameRuns.{tail-is}
+use Rattle.isdbs_pack.specs.PackingLaws.{state-more, byte-more}
+use Rattle.isdbs_pack.specs.FrameRunLaws.{tail-is}
 use Rattle.strain.specs.Counts.{summed}
 use Rattle.strain.specs.CountsLaws.{summed-same, summed-parts, summed-few}
 use Rattle.strain.specs.Marks.{marked}

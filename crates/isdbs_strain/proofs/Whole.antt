@@ -14,8 +14,8 @@ use Rattle.isdbs_runs.specs.RunsOf.{frameSteps, validTotal, Planned}
 use Rattle.isdbs_points.specs.Frame.{startState}
 use Rattle.trellis.specs.LaidLaws.{upto-cong}
 use Rattle.isdbs_metrics.specs.Reading.{Received, decodedBits}
-use Rattle.isdbs_decode.specs.LawsDecoded.{decoded-count, decoded-from}
-use Rattle.isdbs_pack.proofs.FrameRuns.{front-is}
+use Rattle.isdbs_decode.specs.DecodedLaws.{decoded-count, decoded-from}
+use Rattle.isdbs_pack.specs.FrameRunLaws.{front-is}
 use Rattle.strain.specs.Counts.{summed}
 use Rattle.strain.specs.CountsLaws.{summed-same}
 use Rattle.strain.specs.SlotsLaws.{by-slot-same}

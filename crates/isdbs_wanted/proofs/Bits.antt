@@ -6,7 +6,7 @@ use native.Mathlib.Omega.{arith}
 use Rattle.isdbs_points.specs.declared.Cplx.{Cplx}
 use Rattle.isdbs_points.specs.declared.Mapping.{Mapping}
 use Rattle.isdbs_points.specs.Layout.{Segment, byteOf}
-use Rattle.isdbs_pack.proofs.Digits.{byte-cong}
+use Rattle.isdbs_pack.specs.DigitLaws.{byte-cong}
 use Rattle.isdbs_wanted.specs.Pieces.{nextBit, nextState, stateAfter, bitAfter, runState, runBit, runByte}
 
 module _ (m : Mapping) (z : ℕ → Cplx) (g : Segment) (s : ℕ) where

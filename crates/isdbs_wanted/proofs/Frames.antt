@@ -26,10 +26,10 @@ use Rattle.isdbs_points.specs.declared.Cplx.{Cplx}
 use Rattle.isdbs_points.specs.declared.Mapping.{Mapping}
 use Rattle.isdbs_points.specs.Layout.{Segment, segmentOf, byteOf}
 use Rattle.trellis.specs.LaidLaws.{laid-part, length-laid-upto}
-use Rattle.isdbs_pack.proofs.Among.{stepsTo, validTo, steps-more, valid-more, among-step, among-bit}
-use Rattle.isdbs_pack.proofs.Digits.{byte-cong}
-use Rattle.isdbs_pack.proofs.FrameBytes.{written-tail}
-use Rattle.isdbs_pack.proofs.FrameRuns.{Listed, run-covers, valid-fit, all-valid}
+use Rattle.isdbs_pack.specs.AmongLaws.{stepsTo, validTo, steps-more, valid-more, among-step, among-bit}
+use Rattle.isdbs_pack.specs.DigitLaws.{byte-cong}
+use Rattle.isdbs_pack.specs.FrameByteLaws.{written-tail}
+use Rattle.isdbs_pack.specs.FrameRunLaws.{Listed, run-covers, valid-fit, all-valid}
 use Rattle.wanted.specs.ReadOff.{shown, psk8Label, inputFrom, readState, readInput, readBy, readBit}
 use Rattle.isdbs_wanted.specs.Pieces.{runAt, stepBy, stepOf, InFrame, BytesIn, bitFrom, stateFrom, nextBit, nextState, runState, runBit, runByte, frameByte}
 

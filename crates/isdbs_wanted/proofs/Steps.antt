@@ -17,10 +17,10 @@ use Rattle.isdbs_points.specs.declared.Cplx.{Cplx}
 use Rattle.isdbs_points.specs.declared.Mapping.{Mapping}
 use Rattle.isdbs_points.specs.Layout.{Segment, sentOrder, orderOf, stepsPerPeriod, placeIn}
 use Rattle.isdbs_points.specs.Frame.{codedBit}
-use Rattle.isdbs_points.specs.Order.{number, step-kept}
+use Rattle.isdbs_points.specs.OrderLaws.{number, step-kept}
 use Rattle.isdbs_metrics.specs.declared.PeriodLayout.{PeriodLayout}
 use Rattle.isdbs_metrics.specs.Steps.{LayoutOf}
-use Rattle.isdbs_metrics.proofs.ByStep.{place-small, period-small, base-small, tc8psk-reach}
+use Rattle.isdbs_metrics.specs.StepLaws.{place-small, period-small, base-small, tc8psk-reach}
 use Rattle.wanted.specs.ReadOff.{psk8Label, which, bitAs, bitBy, inputFrom}
 use Rattle.wanted.specs.Shown.{label-small}
 use Rattle.wanted.specs.Inputs.{which-small, which-sent}

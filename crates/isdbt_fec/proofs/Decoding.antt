@@ -13,17 +13,17 @@ use Rattle.trellis.specs.Run.{startAt}
 use Rattle.viterbi.specs.declared.At.{At}
 use Rattle.isdb_fec.specs.Calls as fec
 use Rattle.isdb_fec.specs.Calls.{Holds, holding, bestState, traced}
-use Rattle.isdb_fec.specs.Answers.{Enough}
+use Rattle.isdb_fec.specs.AnswerLaws.{Enough}
 use Rattle.viterbi.specs.Calls.{releases, Carried}
-use Rattle.viterbi.specs.Count.{counted, releases-le}
-use Rattle.viterbi.specs.Blocks.{from-steps}
-use Rattle.isdb_fec.specs.Whole.{begins, lengths}
+use Rattle.viterbi.specs.CountLaws.{counted, releases-le}
+use Rattle.viterbi.specs.BlockLaws.{from-steps}
+use Rattle.isdb_fec.specs.WholeLaws.{begins, lengths}
 use Rattle.isdbt_table.specs.declared.CodeRate.{CodeRate}
 use Rattle.isdbt_table.specs.declared.Puncturing.{Puncturing}
 use Rattle.isdbt_table.specs.Table.{period, sent, compiled}
 use Rattle.isdbt_fec.specs.Calls.{decodedBits}
 use Rattle.isdbt_steps.specs.Soft.{stepsBy}
-use Rattle.isdbt_fec.specs.Decode.{begun, room-for, all-bits, bits-out, words-out}
+use Rattle.isdbt_fec.proofs.Decode.{begun, room-for, all-bits, bits-out, words-out}
 use Rattle.isdbt_fec.proofs.Turns.{bit-count}
 
 -- after i of the n steps xs, from the path values pm₀ and no held word

@@ -1,3 +1,4 @@
 pub mod Turns
 pub mod Periods
 pub mod Decoding
+pub mod Decode

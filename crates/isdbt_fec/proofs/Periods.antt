@@ -6,17 +6,17 @@ use native.Mathlib.Omega.{arith}
 use borrow.Rule.Slice.PartMut.{midOf, putMid}
 use lib.ListN.{length, getD, take, drop, length-drop}
 use lib.Seq.{length-take-le}
-use Rattle.viterbi.specs.Parts.{tail-whole, written-tail}
+use Rattle.viterbi.specs.PartLaws.{tail-whole, written-tail}
 use Rattle.trellis.specs.Lists.{upto, laid}
 use Rattle.trellis.specs.Code.{stateAt}
 use Rattle.isdbt_table.specs.declared.CodeRate.{CodeRate}
 use Rattle.isdbt_table.specs.declared.Puncturing.{Puncturing}
 use Rattle.isdbt_table.specs.Table.{period, sent, compiled}
 use Rattle.isdbt_table.specs.Puncture.{inputs, mother, punctured}
-use Rattle.isdbt_table.specs.Numbers.{numbers}
-use Rattle.isdbt_table.specs.Sizes.{Sizes}
-use Rattle.isdbt_fec.specs.Encode.{placeBy, state-below, bit-below, next-bits, block-inside, one-more, part-length, next-state, whole-bits, whole-sent}
-use Rattle.isdbt_table.specs.Written.{Written, written-none, written-more}
+use Rattle.isdbt_table.specs.NumberLaws.{numbers}
+use Rattle.isdbt_table.specs.SizeLaws.{Sizes}
+use Rattle.isdbt_fec.specs.EncodeLaws.{placeBy, state-below, bit-below, next-bits, block-inside, one-more, part-length, next-state, whole-bits, whole-sent}
+use Rattle.isdbt_table.specs.WrittenLaws.{Written, written-none, written-more}
 
 -- the period b of `count` bits lies inside, and so do its sent bits in `space` places
 pub record Inside (count space period n b : ℕ) : Type 0 where

@@ -8,8 +8,8 @@ use lib.ListN.{length}
 use Rattle.isdbt_table.specs.declared.CodeRate.{CodeRate}
 use Rattle.isdbt_table.specs.declared.Puncturing.{Puncturing}
 use Rattle.isdbt_table.specs.Table.{period, sent, compiled}
-use Rattle.isdbt_table.specs.Numbers.{numbers}
-use Rattle.isdbt_table.specs.Sizes.{values-there}
+use Rattle.isdbt_table.specs.NumberLaws.{numbers}
+use Rattle.isdbt_table.specs.SizeLaws.{values-there}
 
 -- how many bits, mother bits and sent bits whole periods give
 module _ (rate : CodeRate) (p : Puncturing) (count : ℕ) (e : p ≡ compiled rate) where

@@ -1,4 +1,3 @@
 pub mod Calls
-pub mod Kept
-pub mod Encode
-pub mod Decode
+pub mod KeptLaws
+pub mod EncodeLaws

@@ -9,7 +9,7 @@ use Rattle.trellis.specs.Lists.{upto}
 use Rattle.trellis.specs.ListLaws.{length-upto, getD-upto}
 use Rattle.trellis.specs.Step.{pair}
 use Rattle.viterbi.specs.Calls.{pairSteps}
-use Rattle.isdbt_table.specs.Written.{Written}
+use Rattle.isdbt_table.specs.WrittenLaws.{Written}
 use Rattle.isdbt_steps.specs.Soft.{softBy, stepsBy}
 
 pair-same : {x y x′ y′ : Float} → x ≡ x′ → y ≡ y′ → pair x y ≡ pair x′ y′

@@ -1,2 +1,1 @@
 pub mod Soft
-pub mod Spread

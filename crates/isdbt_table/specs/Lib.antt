@@ -1,7 +1,6 @@
 pub mod Table
 pub mod TableLaws
 pub mod Puncture
-pub mod Compiled
-pub mod Sizes
-pub mod Numbers
-pub mod Written
+pub mod SizeLaws
+pub mod NumberLaws
+pub mod WrittenLaws

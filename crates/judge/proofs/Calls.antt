@@ -18,7 +18,7 @@ use Rattle.judge.specs.declared.FrameJudged.{FrameJudged}
 use Rattle.judge.specs.declared.FrameJudged.the-variants.{Judged, Refused}
 use Rattle.judge.specs.Rows.{judgeRows}
 use Rattle.judge.specs.Judged.{judgedSaid, judgedAnswer, CountsLaid, Worth}
-use Rattle.judge.specs.JudgedLaws.{passed, refused-worth, judged-worth}
+use Rattle.judge.proofs.JudgedLaws.{passed, refused-worth, judged-worth}
 
 module _ (re im : List Float) (load : List ℕ) (t : Table) (m : Mapping) (first : Bool) (counts₀ : List ℕ) where
   abbrev answer : Answer

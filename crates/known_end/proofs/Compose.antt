@@ -19,18 +19,18 @@ use Rattle.trellis.specs.Isdb.{flushAt}
 use Rattle.trellis.specs.Lists.{laid}
 use Rattle.trellis.specs.Run.{Decoder, block, startAt, depth}
 use Rattle.best_path.specs.Corrected.{length-soft, soft-at, known-end}
-use Rattle.viterbi.specs.Count.{Counted, releases-le}
-use Rattle.viterbi.specs.Holding.{bare, holding-is}
+use Rattle.viterbi.specs.CountLaws.{Counted, releases-le}
+use Rattle.viterbi.specs.HoldingLaws.{bare, holding-is}
 use Rattle.trellis.specs.LaidLaws.{take-laid, laid-after}
-use Rattle.viterbi.specs.Parts.{tail-whole, written-tail}
-use Rattle.viterbi.specs.Traced.{length-traced}
+use Rattle.viterbi.specs.PartLaws.{tail-whole, written-tail}
+use Rattle.viterbi.specs.TracedLaws.{length-traced}
 use Rattle.isdb_fec.specs.declared.conv.ViterbiDecoder.{ViterbiDecoder}
 use Rattle.isdb_fec.specs.declared.conv.Made.{Made}
 use Rattle.isdb_fec.specs.declared.conv.Released.{Released}
 use Rattle.isdb_fec.specs.Rows.{freshRows, releases, streamRest, pushRows, flushRows}
 use Rattle.isdb_fec.specs.Calls.{pairSteps, call, handed, Fresh, Zero, Leaves, FlushesAt, Unchanged, Either}
-use Rattle.isdb_fec.specs.Answers.{flush-enough}
-use Rattle.isdb_fec.specs.TwoCalls.{soft-call}
+use Rattle.isdb_fec.specs.AnswerLaws.{flush-enough}
+use Rattle.isdb_fec.specs.TwoCallLaws.{soft-call}
 use Rattle.call_ranges.specs.Reached.{Reached, Floats, with-state}
 use Rattle.call_ranges.specs.Handed.{push-hands}
 use Rattle.call_ranges.specs.Answers.{stream-answer, flush-answer}

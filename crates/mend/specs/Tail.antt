@@ -11,7 +11,7 @@ use Rattle.trellis.specs.Lists.{bit, upto, laid}
 use Rattle.trellis.specs.ListLaws.{packed-bit, length-upto, getD-upto}
 use Rattle.trellis.specs.RunLaws.{label-under}
 use Rattle.trellis.specs.Stretch.{apart, Bits}
-use Rattle.trellis.specs.Distance.{bits-at}
+use Rattle.trellis.specs.DistanceLaws.{bits-at}
 use Rattle.trellis.specs.LaidLaws.{length-laid}
 use Rattle.mend_distance.specs.Stretches.{mostChanged, unlike, sentFrom, Within}
 use Rattle.mend_distance.specs.StretchLaws.{label-x, label-y, pair-apart, length-sent}

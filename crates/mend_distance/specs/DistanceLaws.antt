@@ -13,7 +13,7 @@ use Rattle.trellis.specs.EncodedLaws.{reached-is}
 use Rattle.trellis.specs.Lists.{bit}
 use Rattle.trellis.specs.ListLaws.{length-upto, getD-upto}
 use Rattle.trellis.specs.Stretch.{apart, Bits}
-use Rattle.trellis.specs.Distance.{wrong, labelsOf, bits-at}
+use Rattle.trellis.specs.DistanceLaws.{wrong, labelsOf, bits-at}
 use Rattle.trellis.specs.WrittenLaws.{lt-or-ge}
 use Rattle.mend_distance.specs.Stretches.{mostChanged, Within}
 use Rattle.mend_distance.specs.StretchLaws.{by-labels}

@@ -9,11 +9,11 @@ use lib.ListN.{length}
 use Rattle.trellis.specs.Code as trellis
 use Rattle.trellis.specs.Code.{half, output, label, moved}
 use Rattle.trellis.specs.Encoded.{encoded, reached, lowBits, bitsOf, codedBits}
-use Rattle.trellis.specs.Linear.{xor-low, xor-bit, output-xor, moved-xor}
+use Rattle.trellis.specs.LinearLaws.{xor-low, xor-bit, output-xor, moved-xor}
 use Rattle.short_code.specs.declared.Code.{Code}
 use Rattle.short_code.specs.Codes.{codeOf, halfOf, statesOf, goodCode}
 use Rattle.short_code.specs.CodeLaws.{states-are, good-length}
-use Rattle.short_encode.specs.Encoding.{length-coded}
+use Rattle.short_encode.specs.EncodingLaws.{length-coded}
 use Rattle.overlay.specs.Overlaid.{overlaid, chosen}
 use Rattle.overlay.specs.OverlaidLaws.{chosen-overlaid, parts-overlaid}
 use Rattle.overlay.specs.Coding.{Overlays}

@@ -9,7 +9,7 @@ use lib.Dec.{T, eqb, ltb, ltb→lt, nltb→le}
 use lib.ListN.{length, getD, List·getD-eq-default}
 use Rattle.trellis.specs.Lists.{upto}
 use Rattle.trellis.specs.ListLaws.{length-upto, getD-upto}
-use Rattle.trellis.specs.Linear.{xor-bit}
+use Rattle.trellis.specs.LinearLaws.{xor-bit}
 use Rattle.trellis.specs.Code.{isdb, stateAt}
 use Rattle.isdbs_tables.specs.declared.Table.{Table}
 use Rattle.isdbs_runs.specs.RunsOf.{frameSteps}

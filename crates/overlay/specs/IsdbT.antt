@@ -16,7 +16,7 @@ use Rattle.isdbt_table.specs.declared.CodeRate.{CodeRate}
 use Rattle.isdbt_table.specs.declared.CodeRate.the-variants.{R1_2, R2_3, R3_4, R5_6, R7_8}
 use Rattle.isdbt_table.specs.Table.{order, period, sent}
 use Rattle.isdbt_table.specs.Puncture.{inputs, mother, place, punctured}
-use Rattle.isdbt_table.specs.Sizes.{order-below}
+use Rattle.isdbt_table.specs.SizeLaws.{order-below}
 use Rattle.overlay.specs.Overlaid.{overlaid, chosen}
 use Rattle.overlay.specs.OverlaidLaws.{length-overlaid}
 use Rattle.trellis.specs.Encoded.{codedBits, endState}

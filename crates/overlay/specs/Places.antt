@@ -6,7 +6,7 @@ use native.Mathlib.Omega.{arith}
 use lib.Bits.{bitXor}
 use lib.ListN.{getD}
 use Rattle.trellis.specs.Code.{Code, half, label, moved, stateAt}
-use Rattle.trellis.specs.Linear.{moved-xor}
+use Rattle.trellis.specs.LinearLaws.{moved-xor}
 use Rattle.overlay.specs.CodingLaws.{label-xor, moved-under}
 
 -- ws holds the sums modulo 2 of the bits us and vs

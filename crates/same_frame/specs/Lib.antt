@@ -1,4 +1,2 @@
 pub mod Alike
-pub mod Numbers
-pub mod Compare
-pub mod Frames
+pub mod NumberLaws

@@ -11,8 +11,8 @@ use Rattle.trellis.specs.Lists.{laid}
 use Rattle.trellis.specs.Step.{best, traced, renormalised}
 use Rattle.trellis.specs.Run.{Decoder, after, pushed, flushed, decisionsAfter}
 use Rattle.viterbi.specs.Calls.{fourSteps, releases, Holds}
-use Rattle.viterbi.specs.Count.{counted}
-use Rattle.viterbi.specs.Holding.{holds-closed, holds-flushed}
+use Rattle.viterbi.specs.CountLaws.{counted}
+use Rattle.viterbi.specs.HoldingLaws.{holds-closed, holds-flushed}
 use Rattle.short_code.specs.declared.Code.{Code}
 use Rattle.short_code.specs.Codes.{labels, halfOf, statesOf, Fits}
 use Rattle.short_code.specs.CodeLaws.{states-are}

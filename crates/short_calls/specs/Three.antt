@@ -26,7 +26,7 @@ use Rattle.trellis.specs.RunLaws.{label-under, after-values}
 use Rattle.trellis.specs.Step.{Step, four, renormalised, traced, best}
 use Rattle.trellis.specs.Run.{Decoder, block, startAt, startUnknown, valuesAt, after, decisionsAfter}
 use Rattle.viterbi.specs.Calls.{fourSteps, releases}
-use Rattle.viterbi.specs.Count.{counted, releases-is}
+use Rattle.viterbi.specs.CountLaws.{counted, releases-is}
 use Rattle.trellis.specs.LaidLaws.{take-laid, length-laid}
 use Rattle.best_path.specs.Paths.{longest, bound, Quadruples, Reading}
 use Rattle.best_path.specs.Viterbi.{Z, value}
@@ -50,8 +50,8 @@ use Rattle.short_fec.specs.Calls.{call, handed, bestOf, Leaves, Flushes}
 use Rattle.short_best.specs.declared.Start.{Start}
 use Rattle.short_best.specs.declared.Start.the-variants.{Given, Unknown}
 use Rattle.short_best.specs.Readings.{startValues, StartsIn, read, readBits, readingRows, quadruple}
-use Rattle.short_same.specs.Same.{after-length}
-use Rattle.short_best.specs.Best.{accepts, reads}
+use Rattle.short_same.specs.SameLaws.{after-length}
+use Rattle.short_best.specs.BestLaws.{accepts, reads}
 
 -- ---- path values that are whole numbers within 2,131,072 are within row 4's limit
 path-limit : Whole pathLimit 4294967296 0

@@ -1,3 +1,3 @@
 pub mod Codes
 pub mod CodeLaws
-pub mod Register
+pub mod RegisterLaws

@@ -1,1 +1,1 @@
-pub mod Encoding
+pub mod EncodingLaws

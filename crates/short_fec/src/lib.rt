@@ -13,7 +13,7 @@ ghost use Rattle.viterbi.specs.Calls.{pairSteps, fourSteps, knownSteps, release
 ghost use Rattle.short_code.specs.Codes.{codeOf, labels, halfOf, statesOf, goodCode, Fits};
 ghost use Rattle.short_viterbi.specs.Soft.{softSteps};
 ghost use Rattle.isdb_fec.specs.Calls.{Fresh, Zero, Unchanged};
-ghost use Rattle.isdb_fec.specs.Answers.{Enough};
+ghost use Rattle.isdb_fec.specs.AnswerLaws.{Enough};
 ghost use Rattle.short_fec.specs.Rows.{encoderRows, freshRows, streamRows, knownRows, flushRows};
 ghost use Rattle.short_fec.specs.Calls.{startValues, unknownValues, call, steps, handed, bestOf, endOf, Leaves, Flushes};
 use isdb_fec::conv::ConvEncoder;

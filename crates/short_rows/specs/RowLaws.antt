@@ -15,7 +15,7 @@ use Rattle.trellis.specs.Run.{block, tracebackLimit}
 use Rattle.isdb_fec.specs.declared.conv.ViterbiDecoder.{ViterbiDecoder}
 use Rattle.isdb_fec.specs.Values.{someBeyond, pathLimit}
 use Rattle.isdb_fec.specs.Rows.{releases, shortOf, stepsShort, streamRest}
-use Rattle.isdb_fec.specs.Answers.{Enough, FlushEnough}
+use Rattle.isdb_fec.specs.AnswerLaws.{Enough, FlushEnough}
 use Rattle.short_code.specs.declared.Code.{Code}
 use Rattle.short_code.specs.Codes.{goodCode, statesOf}
 use Rattle.short_rows.specs.Rows.{handedRows, streamRows, knownRows, flushRows}

@@ -1,2 +1,2 @@
 pub mod IsdbCode
-pub mod Same
+pub mod SameLaws

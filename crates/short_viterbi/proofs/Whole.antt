@@ -12,7 +12,7 @@ use Rattle.trellis.specs.Run.{stepped, after}
 use Rattle.trellis.specs.Isdb.{rule}
 use Rattle.viterbi.specs.declared.At.{At}
 use Rattle.viterbi.specs.Calls.{releases, holding, Holds, Stepped, Room}
-use Rattle.viterbi.specs.Holding.{holds-start, steps-lengths, steps-ready, steps-next}
+use Rattle.viterbi.specs.HoldingLaws.{holds-start, steps-lengths, steps-ready, steps-next}
 
 -- the values of step i are there
 pub inside : (per i n l : ℕ) → (per ≡ 2) ⊎ (per ≡ 4) → i < n → per * n ≤ l → per * i + per ≤ l

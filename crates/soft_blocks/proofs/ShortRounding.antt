@@ -12,9 +12,9 @@ use lib.Ieee.Nearest.{closest}
 use Rattle.ieee.specs.Conversion.{rounded}
 use Rattle.isdbs_soft.specs.Narrowed.{Narrowed}
 use Rattle.isdbs_soft.specs.Soft.{softOf}
-use Rattle.isdbs_soft.proofs.Shift.{closest-up, closest-down}
-use Rattle.isdbs_soft.proofs.Narrow.{tiny, normal}
-use Rattle.isdbs_soft.proofs.Sign.{pattern-ok}
+use Rattle.isdbs_soft.specs.ShiftLaws.{closest-up, closest-down}
+use Rattle.isdbs_soft.specs.NarrowLaws.{tiny, normal}
+use Rattle.isdbs_soft.specs.SignLaws.{pattern-ok}
 use Rattle.isdbs_metrics.specs.Reading.{absolute}
 use Rattle.soft_blocks.specs.Range.{Between}
 use Rattle.soft_blocks.proofs.Bits.{unsigned-is}

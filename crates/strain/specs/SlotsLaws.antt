@@ -10,9 +10,9 @@ use Rattle.isdbs_tables.specs.declared.Table.{Table}
 use Rattle.isdbs_combination.specs.Combinations.{unitOf, slotSteps}
 use Rattle.isdbs_runs.specs.RunsOf.{runsOf, validIn, validTotal, stepsOf, stepsIn, frameSteps}
 use Rattle.isdbs_points.specs.Layout.{Segment, segmentOf, segmentsFrom, segments, among, In}
-use Rattle.isdbs_points.specs.Places.{Fill, Found, among-at, find}
+use Rattle.isdbs_points.specs.PlaceLaws.{Fill, Found, among-at, find}
 use Rattle.isdbs_tables.specs.Tables.{TableAccepted}
-use Rattle.isdbs_points.specs.Sizes.{table-whole, step-fits}
+use Rattle.isdbs_points.specs.SizeLaws.{table-whole, step-fits}
 use Rattle.strain.specs.Counts.{summed}
 use Rattle.strain.specs.CountsLaws.{summed-same, summed-append, summed-parts}
 use Rattle.strain.specs.Slots.{slotOf, slotsOf, atSlot, overSlot, bySlot}

@@ -10,7 +10,7 @@ use Rattle.trellis.specs.Lists.{bit}
 use Rattle.isdbs_tables.specs.declared.Table.{Table}
 use Rattle.isdbs_tables.specs.Tables.{TableAccepted}
 use Rattle.isdbs_runs.specs.RunsOf.{validTotal, frameSteps}
-use Rattle.isdbs_points.specs.Sizes.{few-steps}
+use Rattle.isdbs_points.specs.SizeLaws.{few-steps}
 use Rattle.isdbs_metrics.specs.Reading.{Received}
 use Rattle.strain.specs.Counts.{counted}
 use Rattle.strain.specs.CountsLaws.{counted-few, counted-none, zero-summed}

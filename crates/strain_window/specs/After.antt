@@ -13,7 +13,7 @@ use Rattle.refusal.specs.RowLaws.{neither}
 use Rattle.strain_window.specs.declared.WindowState.{WindowState}
 use Rattle.strain_window.specs.Rows.{mostSum, someAbove, badState, keptSums, outside}
 use Rattle.strain_window.specs.Calls.{placeOf, fillAfter, moved}
-use Rattle.strain_window.specs.Laws.{Sound, sound}
+use Rattle.strain_window.specs.WindowLaws.{Sound, sound}
 
 -- what row 14 and row 9 leave of an accepted push
 pub record Allowed (v : WindowState) (sum : ℕ) (kept : List ℕ) : Type 0 where

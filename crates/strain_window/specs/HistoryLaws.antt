@@ -17,7 +17,7 @@ use Rattle.strain_window.specs.declared.WindowState.{WindowState}
 use Rattle.strain_window.specs.declared.Pushed.{Pushed}
 use Rattle.strain_window.specs.Rows.{keptSums, pushRows}
 use Rattle.strain_window.specs.Calls.{totalOf, greatestOf, placeOf, fillAfter, moved, Pushes, Called}
-use Rattle.strain_window.specs.Laws.{Sound, total-append, greatest-append}
+use Rattle.strain_window.specs.WindowLaws.{Sound, total-append, greatest-append}
 use Rattle.strain_window.specs.After.{Allowed, allowed, nextSums, after-clear, after-room, after-full}
 use Rattle.strain_window.specs.History as history
 use Rattle.strain_window.specs.History.{Starts, Run, lastOf, Afresh}

@@ -12,5 +12,5 @@ pub mod EncodedLaws
 pub mod RunLaws
 pub mod Isdb
 pub mod Stretch
-pub mod Linear
-pub mod Distance
+pub mod LinearLaws
+pub mod DistanceLaws

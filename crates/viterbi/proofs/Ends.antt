@@ -19,9 +19,9 @@ use Rattle.acs_runs.specs.Runs.{runValues, runWords}
 use Rattle.viterbi.specs.declared.At.{At}
 use Rattle.viterbi.specs.Calls.{Holds, Ended, blockEnd}
 use Rattle.trellis.specs.LaidLaws.{laid-after}
-use Rattle.viterbi.specs.Traced.{length-traced}
-use Rattle.viterbi.specs.Holding.{holding-is, over-full}
-use Rattle.viterbi.specs.Blocks.{ran, length-ran}
+use Rattle.viterbi.specs.TracedLaws.{length-traced}
+use Rattle.viterbi.specs.HoldingLaws.{holding-is, over-full}
+use Rattle.viterbi.specs.BlockLaws.{ran, length-ran}
 
 module _ (tb : ℕ) (dec₀ out₀ : List ℕ) (d : Decoder) (pm : List Float) (held count : ℕ) (dec out : List ℕ) (h : Holds tb dec₀ out₀ d pm held count dec out) where
   -- the words of n steps are laid after those that are held

@@ -17,9 +17,9 @@ use Rattle.trellis.specs.Run.{Decoder}
 use Rattle.acs_runs.specs.Runs.{wordAfter, runValues, runWords, pairSteps, fourSteps}
 use Rattle.viterbi.specs.declared.At.{At}
 use Rattle.viterbi.specs.Calls.{releases, stepsFrom, Carried, Ended, Holds, blockEnd}
-use Rattle.viterbi.specs.Count.{releases-is}
+use Rattle.viterbi.specs.CountLaws.{releases-is}
 use Rattle.trellis.specs.LaidLaws.{length-laid}
-use Rattle.viterbi.specs.Blocks.{Soft, ran, block-is, from-more}
+use Rattle.viterbi.specs.BlockLaws.{Soft, ran, block-is, from-more}
 use Rattle.viterbi.proofs.Ends.{holds-ran}
 
 -- ---- the steps of a lent part

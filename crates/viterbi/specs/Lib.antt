@@ -1,9 +1,9 @@
-pub mod Each
-pub mod Parts
+pub mod EachLaws
+pub mod PartLaws
 pub mod Calls
-pub mod Traced
-pub mod Steps
-pub mod Count
-pub mod Holding
-pub mod Runs
-pub mod Blocks
+pub mod TracedLaws
+pub mod StepLaws
+pub mod CountLaws
+pub mod HoldingLaws
+pub mod RunLaws
+pub mod BlockLaws

@@ -27,10 +27,10 @@ use Rattle.isdbs_points.specs.declared.Mapping.{Mapping}
 use Rattle.isdbs_points.specs.Points.{point, unused, subset, conjugated}
 use Rattle.isdbs_points.specs.Layout.{Segment, segments, orderOf, stepsPerPeriod, placeIn, atStep, loadBit, In}
 use Rattle.isdbs_points.specs.Frame.{inputs, labelAt, codedBit, sentBit, pointBy, pointIn, pointAt, startState}
-use Rattle.isdbs_points.specs.Sizes.{table-whole, symbol-fits, at-symbol, at-step, find-step}
-use Rattle.isdbs_points.specs.Order.{Sends, Pairs, Kind, one, two, three, kind, Kept, mother, number, sent-at}
-use Rattle.isdbs_points.specs.LawsBits.{load-bit-small, coded-small, subset-small, subset-back, of-pair}
-use Rattle.isdbs_points.specs.LawsInputs.{input-small}
+use Rattle.isdbs_points.specs.SizeLaws.{table-whole, symbol-fits, at-symbol, at-step, find-step}
+use Rattle.isdbs_points.specs.OrderLaws.{Sends, Pairs, Kind, one, two, three, kind, Kept, mother, number, sent-at}
+use Rattle.isdbs_points.specs.BitLaws.{load-bit-small, coded-small, subset-small, subset-back, of-pair}
+use Rattle.isdbs_points.specs.InputLaws.{input-small}
 use Rattle.isdbs_metrics.specs.Reading.{partOf}
 use Rattle.wanted.specs.ReadOff.{shown, hard, psk8Label, which, bitAs, bitBy, inputFrom, readState, readInput}
 use Rattle.wanted.specs.Shown.{coded-input, hard-one, hard-part, label-back}

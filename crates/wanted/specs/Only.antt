@@ -22,11 +22,11 @@ use Rattle.isdbs_points.specs.declared.Cplx.{Cplx}
 use Rattle.isdbs_points.specs.declared.Mapping.{Mapping}
 use Rattle.isdbs_points.specs.Layout.{Segment, segments, among, loadBit, FullLoad, In}
 use Rattle.isdbs_points.specs.Frame.{coded, codedBit, inputIn, pointAt, startState}
-use Rattle.isdbs_points.specs.Places.{among-all}
-use Rattle.isdbs_points.specs.Sizes.{table-whole, step-fits, at-bit, find-bit}
-use Rattle.isdbs_points.specs.Order.{Pairs, Kind, one, two, three, kind}
-use Rattle.isdbs_points.specs.LawsBits.{of-pair, bytes-are, bytes-full}
-use Rattle.isdbs_points.specs.LawsInputs.{input-at}
+use Rattle.isdbs_points.specs.PlaceLaws.{among-all}
+use Rattle.isdbs_points.specs.SizeLaws.{table-whole, step-fits, at-bit, find-bit}
+use Rattle.isdbs_points.specs.OrderLaws.{Pairs, Kind, one, two, three, kind}
+use Rattle.isdbs_points.specs.BitLaws.{of-pair, bytes-are, bytes-full}
+use Rattle.isdbs_points.specs.InputLaws.{input-at}
 use Rattle.trellis.specs.LaidLaws.{front-upto}
 use Rattle.wanted.specs.ReadOff.{shown, psk8Label, which, bitBy, inputFrom, readState, readInput, readBy, readBit, readOff}
 use Rattle.wanted.specs.Wanted.{Encodes, Wants, Unwanted}

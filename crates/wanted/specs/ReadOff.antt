@@ -19,7 +19,7 @@ use Rattle.isdbs_points.specs.declared.Mapping.{Mapping}
 use Rattle.isdbs_points.specs.Points.{point, zero64, subset, conjugated}
 use Rattle.isdbs_points.specs.Layout.{Segment, orderOf, placeIn, atStep, atBit, byteOf}
 use Rattle.isdbs_points.specs.Frame.{codedBit, startState}
-use Rattle.isdbs_points.specs.Order.{mother, number}
+use Rattle.isdbs_points.specs.OrderLaws.{mother, number}
 use Rattle.isdbs_metrics.specs.Reading.{partOf}
 
 -- point k of the lent parts, its conjugation undone

@@ -1,2 +1,3 @@
-pub mod Rows
 pub mod Loads
+pub mod Answers
+pub mod Search

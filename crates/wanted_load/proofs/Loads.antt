@@ -11,7 +11,7 @@ use Rattle.isdbs_tables.specs.declared.Table.{Table}
 use Rattle.isdbs_runs.specs.RunsOf.{loadBytes}
 use Rattle.isdbs_points.specs.declared.Mapping.{Mapping}
 use Rattle.isdbs_points.specs.Frame.{startState}
-use Rattle.isdbs_pack.proofs.FrameRuns.{front-is}
+use Rattle.isdbs_pack.specs.FrameRunLaws.{front-is}
 use Rattle.wanted.specs.ReadOff.{readOff}
 use Rattle.wanted.specs.Only.{read-off-full}
 use Rattle.isdbs_wanted.specs.Pieces.{frameByte}

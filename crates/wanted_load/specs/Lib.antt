@@ -1,4 +1,3 @@
 pub mod Rows
 pub mod Found
-pub mod Search
-pub mod Answers
+pub mod RowLaws

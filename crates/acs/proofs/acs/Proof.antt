@@ -2,7 +2,7 @@
 use mathlib.Core.Path.{_≡_, _∙_}
 use native.Mathlib.Omega.{arith}
 use borrow.Author.Needs.{needs}
-use Rattle.acs_paths.proofs.SignTables.{SX, SY, sx-signs, sy-signs}
+use Rattle.acs_paths.specs.SignLaws.{SX, SY, sx-signs, sy-signs}
 use Rattle.acs.proofs.Turn.{new-values, new-word}
 use Rattle.acs.proofs.acs.Statement.{statement}
 use Rattle.acs.proofs.acs.Tie as tie

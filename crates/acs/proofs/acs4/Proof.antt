@@ -3,7 +3,7 @@ use mathlib.Core.Path.{_≡_, _∙_}
 use native.Mathlib.Omega.{arith}
 use borrow.Author.Needs.{needs}
 use Rattle.trellis.specs.Code.{label, output, tapped}
-use Rattle.acs_paths.proofs.BranchTable.{branch-numbers}
+use Rattle.acs_paths.specs.BranchLaws.{branch-numbers}
 use Rattle.acs.proofs.Turn.{new-values, new-word}
 use Rattle.acs.proofs.acs4.Statement.{statement}
 use Rattle.acs.proofs.acs4.Tie as tie

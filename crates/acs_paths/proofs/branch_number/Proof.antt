@@ -4,7 +4,7 @@ use Prim.Native.Nat.{_+_, _*_, _/_, _%_}
 use native.Mathlib.Omega.{arith}
 use borrow.Author.Needs.{needs}
 use Rattle.trellis.specs.Code.{label, output, tapped}
-use Rattle.acs_paths.proofs.BranchTable.{branch-numbers}
+use Rattle.acs_paths.specs.BranchLaws.{branch-numbers}
 use Rattle.acs_paths.proofs.branch_number.Statement.{statement}
 use Rattle.acs_paths.proofs.branch_number.Tie as tie
 

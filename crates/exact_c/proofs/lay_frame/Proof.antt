@@ -3,7 +3,7 @@ use borrow.Author.Needs.{needs}
 use denote.Ref.{now}
 use Rattle.table_c.specs.Forms.{tableOf}
 use Rattle.isdb_c.specs.Mappings.{mappingOf}
-use Rattle.exact_c.specs.CallLaws.{lays}
+use Rattle.exact_c.proofs.CallLaws.{lays}
 use Rattle.exact_c.proofs.lay_frame.Statement.{statement}
 use Rattle.exact_c.proofs.lay_frame.Tie as tie
 

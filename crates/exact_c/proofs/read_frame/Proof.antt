@@ -9,7 +9,7 @@ use Rattle.exact_frame.specs.Call.{eights}
 use Rattle.isdb_c.specs.LengthLaws.{seven-rows}
 use Rattle.table_c.specs.Forms.{tableOf}
 use Rattle.isdb_c.specs.Mappings.{mappingOf, isSet}
-use Rattle.exact_c.specs.CallLaws.{reads-back}
+use Rattle.exact_c.proofs.CallLaws.{reads-back}
 use Rattle.exact_c.proofs.read_frame.Statement.{statement}
 use Rattle.exact_c.proofs.read_frame.Tie as tie
 

@@ -12,9 +12,9 @@ use lib.Ieee.{Float, nan, binary32, ofBits}
 use Rattle.trellis.specs.Lists.{upto, laid}
 use Rattle.isdbs_points.specs.Layout.{orderOf, stepsPerPeriod}
 use Rattle.trellis.specs.LaidLaws.{laid-part, length-laid-upto}
-use Rattle.isdbs_pack.proofs.FrameBytes.{written-tail}
+use Rattle.isdbs_pack.specs.FrameByteLaws.{written-tail}
 use Rattle.isdbs_blocks.specs.Blocks.{spreadSoft}
-use Rattle.isdbs_blocks.proofs.Periods.{one-more, spread-at}
+use Rattle.isdbs_blocks.specs.PeriodLaws.{one-more, spread-at}
 use Rattle.isdbs_blocks.proofs.spread.Statement.{statement}
 use Rattle.isdbs_blocks.proofs.spread.Tie as tie
 

@@ -1,6 +1,6 @@
 -- `decode` meets its contract. Assumes nothing.
-use Rattle.isdbs_pack.proofs.FrameRuns.{front-is}
-use Rattle.isdbs_decode.specs.LawsDecoded.{from-count, from-binary, binary-at, decoded-from}
+use Rattle.isdbs_pack.specs.FrameRunLaws.{front-is}
+use Rattle.isdbs_decode.specs.DecodedLaws.{from-count, from-binary, binary-at, decoded-from}
 use Rattle.isdbs_decode.specs.Runs.{bitsFrom}
 use Rattle.isdbs_decode.specs.Scales.{scaleOf, receivedBy}
 use Rattle.isdbs_metrics.specs.Reading.{startValues, bytesFrom, decodedBits}

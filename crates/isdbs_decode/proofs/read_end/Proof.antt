@@ -1,5 +1,5 @@
 -- `read_end` meets its contract. Assumes nothing.
-use Rattle.isdbs_read.proofs.Blocks.{read-start}
+use Rattle.isdbs_read.specs.BlockLaws.{read-start}
 use Rattle.isdbs_decode.proofs.Carried.{read-next, ended}
 use Rattle.trellis.specs.Step.{known}
 use native.Mathlib.Nat.{zero-add}

@@ -1,6 +1,6 @@
 -- `read_runs` meets its contract. Assumes nothing.
 use borrow.Author.Needs.{needs}
-use Rattle.isdbs_pack.proofs.FrameRuns.{listed-runs, steps-by, part-covers, tail-is}
+use Rattle.isdbs_pack.specs.FrameRunLaws.{listed-runs, steps-by, part-covers, tail-is}
 use Rattle.isdbs_decode.proofs.FrameSteps.{run-periods, Read, read-first, read-next, read-last}
 use Rattle.isdbs_decode.proofs.FrameMarks.{Marked, marked-first, marked-next, marked-last}
 use Rattle.isdbs_runs.specs.RunsOf.{noRun}

@@ -1,8 +1,8 @@
 -- `encode_runs` meets its contract. Assumes nothing.
 use lib.ListN.{length-take, length-drop}
 use Rattle.isdbs_runs.specs.RunsOf.{stepsIn}
-use Rattle.isdbs_points.specs.Places.{before-zero, fill-last}
-use Rattle.isdbs_points.specs.Sizes.{fill-steps}
+use Rattle.isdbs_points.specs.PlaceLaws.{before-zero, fill-last}
+use Rattle.isdbs_points.specs.SizeLaws.{fill-steps}
 use Rattle.isdbs_encode.proofs.EncodeFrame.{length-segments, run-in, run-more, runs-end, slot-steps-four}
 use borrow.Author.Needs.{needs}
 use mathlib.Core.Path.{_≡_, refl, sym, _∙_, ap}
@@ -11,7 +11,7 @@ use native.Mathlib.Omega.{arith}
 use lib.ListN.{length, getD, take, drop}
 use Rattle.isdbs_runs.specs.RunsOf.{noRun}
 use Rattle.isdbs_points.specs.Layout.{segmentsFrom}
-use Rattle.isdbs_points.specs.Places.{before}
+use Rattle.isdbs_points.specs.PlaceLaws.{before}
 use Rattle.isdbs_encode.specs.Encoding.{inputsOf, pointOf}
 use Rattle.isdbs_pieces.specs.PieceLaws.{Going, going-start}
 use Rattle.isdbs_encode.proofs.encode_runs.Statement.{statement}

@@ -5,7 +5,7 @@ use native.Mathlib.Omega.{arith}
 use lib.ListN.{length}
 use borrow.Author.Needs.{needs}
 use Rattle.trellis.specs.Lists.{upto, laid}
-use Rattle.isdbs_pack.proofs.Packing.{byte-more}
+use Rattle.isdbs_pack.specs.PackingLaws.{byte-more}
 use Rattle.strain.specs.Counts.{summed}
 use Rattle.isdbs_judge.specs.Given.{slotGiven}
 use Rattle.isdbs_judge.proofs.Counting.{summed-more, slot-few}

@@ -1,6 +1,6 @@
 -- `plain_byte` meets its contract. Assumes nothing.
 use borrow.Author.Needs.{needs}
-use Rattle.isdbs_pack.proofs.Digits.{digits-seven, byte-digits}
+use Rattle.isdbs_pack.specs.DigitLaws.{digits-seven, byte-digits}
 use Rattle.isdbs_metrics.specs.Steps.{digits}
 use Rattle.trellis.specs.Code.{stateAt}
 use lib.ListN.{getD}

@@ -1,6 +1,6 @@
 -- `tc8psk_byte` meets its contract. Assumes nothing.
 use borrow.Author.Needs.{needs}
-use Rattle.isdbs_pack.proofs.Digits.{outputs-small, Taken, taken-first, taken-next, taken-all}
+use Rattle.isdbs_pack.specs.DigitLaws.{outputs-small, Taken, taken-first, taken-next, taken-all}
 use native.Mathlib.Omega.{arith}
 use Prim.Native.Nat.{_-_}
 use Rattle.isdbs_pack.proofs.tc8psk_byte.Statement.{statement}

@@ -1,7 +1,7 @@
 -- `uncoded_bit` meets its contract. Assumes nothing.
 use lib.Ieee.{lt, ofBits, binary64}
 use mathlib.Core.Path.{_≡_, _∙_}
-use Rattle.isdbs_pack.proofs.Digits.{bool-bit}
+use Rattle.isdbs_pack.specs.DigitLaws.{bool-bit}
 use native.Mathlib.Omega.{arith}
 use Prim.Native.Nat.{_%_}
 use borrow.Author.Needs.{needs}

@@ -1,7 +1,7 @@
 -- `write_bytes` meets its contract. Assumes nothing.
 use borrow.Author.Needs.{needs}
-use Rattle.isdbs_pack.proofs.FrameBytes.{Written, written-first, written-room, written-next}
-use Rattle.isdbs_pack.proofs.FrameRuns.{listed-runs, steps-by, tail-is, all-valid}
+use Rattle.isdbs_pack.specs.FrameByteLaws.{Written, written-first, written-room, written-next}
+use Rattle.isdbs_pack.specs.FrameRunLaws.{listed-runs, steps-by, tail-is, all-valid}
 use Rattle.isdbs_runs.specs.RunsOf.{noRun}
 use lib.ListN.{getD, length-drop}
 use native.Mathlib.Omega.{arith}

@@ -2,7 +2,7 @@
 use Prim.Native.Nat.{ℕ, _+_, _-_, _*_}
 use lib.ListN.{take, drop}
 use Rattle.refusal.specs.RowLaws.{accepts, refuses}
-use Rattle.isdbs_parts.specs.PartLaws.{part-whole, part-is}
+use Rattle.isdbs_parts.proofs.PartLaws.{part-whole, part-is}
 use Rattle.isdbs_parts.specs.SlotPart.{slotPartAnswer}
 use borrow.Author.Needs.{needs}
 use mathlib.Core.Path.{_≡_, refl, sym, _∙_, ap}

@@ -2,7 +2,7 @@
 use Rattle.refusal.specs.RowLaws.{accepts, refuses}
 use Rattle.isdbs_runs.specs.PlanLaws.{runs-answer, valid-are}
 use Rattle.refusal.specs.RowLaws.{accepted-is}
-use Rattle.isdbs_parts.specs.PartLaws.{by-table, by-position, by-length, by-none}
+use Rattle.isdbs_parts.proofs.PartLaws.{by-table, by-position, by-length, by-none}
 use Rattle.isdbs_runs.specs.PlanLaws.{table-laid}
 use Rattle.isdbs_tables.specs.Tables.{tableAnswer}
 use mathlib.Core.Path.{_≡_, refl, sym, _∙_, ap}

@@ -7,13 +7,13 @@ use native.Mathlib.Omega.{arith}
 use lib.Dec.{lit≤}
 use lib.ListN.{length, take, drop, length-take, length-drop}
 use Rattle.trellis.specs.Lists.{upto, laid}
-use Rattle.viterbi.specs.Count.{releases-le}
+use Rattle.viterbi.specs.CountLaws.{releases-le}
 use Rattle.trellis.specs.LaidLaws.{laid-part, length-laid-upto}
-use Rattle.isdbs_pack.proofs.FrameBytes.{written-tail}
+use Rattle.isdbs_pack.specs.FrameByteLaws.{written-tail}
 use Rattle.isdbs_blocks.specs.Blocks.{runSteps, runMark, Periods}
-use Rattle.isdbs_blocks.proofs.Periods.{short}
+use Rattle.isdbs_blocks.specs.PeriodLaws.{short}
 use Rattle.isdbs_read.specs.Carried.{Carried}
-use Rattle.isdbs_read.proofs.Blocks.{block-periods, more-periods, no-periods, read-start, read-block}
+use Rattle.isdbs_read.specs.BlockLaws.{block-periods, more-periods, no-periods, read-start, read-block}
 use Rattle.isdbs_read.proofs.read_blocks.Statement.{statement}
 use Rattle.isdbs_read.proofs.read_blocks.Tie as tie
 

@@ -2,7 +2,7 @@
 use borrow.Author.Needs.{needs}
 use Rattle.isdbs_soft.proofs.narrowed.Statement.{statement}
 use Rattle.isdbs_soft.proofs.narrowed.Tie as tie
-use Rattle.isdbs_soft.proofs.Narrow.{normal, great}
+use Rattle.isdbs_soft.specs.NarrowLaws.{normal, great}
 
 subnormal-requires : tie.Need-subnormal-requires
 subnormal-requires c κs = search needs

@@ -4,7 +4,7 @@ use Rattle.isdbs_soft.proofs.round_shift.Statement.{statement}
 use Rattle.isdbs_soft.proofs.round_shift.Tie as tie
 use Prim.Native.Nat.{_*_, _%_, _^_}
 use native.Mathlib.Omega.{arith}
-use Rattle.isdbs_soft.proofs.Shift.{closest-up, closest-down, unit-is, unit-pos, rest-lt, kept-le}
+use Rattle.isdbs_soft.specs.ShiftLaws.{closest-up, closest-down, unit-is, unit-pos, rest-lt, kept-le}
 
 shl-unit : tie.Need-shl-unit
 shl-unit c = search needs

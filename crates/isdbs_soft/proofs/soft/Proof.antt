@@ -9,7 +9,7 @@ use lib.Ieee.{Float, binary32, binary64, div, ofBits, toBits}
 use lib.Ieee.Compare.{differs-from-itself}
 use Rattle.ieee.specs.Bits.{number}
 use Rattle.ieee.specs.Conversion.{rounded}
-use Rattle.isdbs_soft.proofs.Sign.{at-most-inf, pattern-ok, sign-lt, whole}
+use Rattle.isdbs_soft.specs.SignLaws.{at-most-inf, pattern-ok, sign-lt, whole}
 
 returns : tie.Need-returns
 unfolding div ofBits rounded

@@ -3,7 +3,7 @@ use borrow.Author.Needs.{needs}
 use Rattle.isdbs_soft.proofs.subnormal.Statement.{statement}
 use Rattle.isdbs_soft.proofs.subnormal.Tie as tie
 use native.Mathlib.Omega.{arith}
-use Rattle.isdbs_soft.proofs.Narrow.{tiny, subnormal}
+use Rattle.isdbs_soft.specs.NarrowLaws.{tiny, subnormal}
 
 returns : tie.Need-returns
 returns c = tiny (c .before .args .bits) (search needs)

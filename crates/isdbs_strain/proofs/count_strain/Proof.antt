@@ -5,7 +5,7 @@ use Prim.Native.Nat.{_-_}
 use mathlib.Core.Path.{_≡_, _∙_}
 use lib.ListN.{getD, length-drop}
 use Rattle.isdbs_runs.specs.RunsOf.{noRun}
-use Rattle.isdbs_pack.proofs.FrameRuns.{listed-runs, steps-by, tail-is, all-valid}
+use Rattle.isdbs_pack.specs.FrameRunLaws.{listed-runs, steps-by, tail-is, all-valid}
 use Rattle.strain.specs.Slots.{bySlot}
 use Rattle.isdbs_strain.proofs.Frames.{slot-steps-few, Done, done-first, done-room, done-small, done-next}
 use Rattle.isdbs_strain.proofs.count_strain.Statement.{statement}

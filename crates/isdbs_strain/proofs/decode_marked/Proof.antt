@@ -1,10 +1,10 @@
 -- `decode_marked` meets its contract. Assumes nothing.
 use mathlib.Core.Path.{_∙_}
 use native.Mathlib.Omega.{arith}
-use Rattle.isdbs_points.specs.Sizes.{few-steps}
+use Rattle.isdbs_points.specs.SizeLaws.{few-steps}
 use Rattle.isdbs_metrics.specs.Reading.{decodedBits}
 use Rattle.isdbs_decode.specs.Scales.{receivedBy}
-use Rattle.isdbs_decode.specs.LawsDecoded.{decoded-count, decoded-binary, binary-at}
+use Rattle.isdbs_decode.specs.DecodedLaws.{decoded-count, decoded-binary, binary-at}
 use Rattle.isdbs_strain.proofs.Whole.{steps-are, front, final-is, marks-are}
 use borrow.Author.Needs.{needs}
 use Rattle.isdbs_strain.proofs.decode_marked.Statement.{statement}

@@ -5,7 +5,7 @@ use Prim.Native.Nat.{ℕ, _/_, _%_}
 use lib.Dec.{T, eqb, eqb→eq}
 use lib.ListN.{getD}
 use Rattle.trellis.specs.Code.{isdb, tapped, output, label}
-use Rattle.acs_paths.proofs.Table.{all, at}
+use Rattle.acs_paths.specs.TableLaws.{all, at}
 use Rattle.isdbs_strain.specs.Pieces.{Labels}
 use Rattle.isdbs_strain.proofs.labels.Statement.{statement}
 use Rattle.isdbs_strain.proofs.labels.Tie as tie

@@ -6,7 +6,7 @@ use native.Mathlib.Omega.{arith}
 use borrow.Author.Needs.{needs}
 use Rattle.isdbs_combination.specs.Combinations.{modulationOf}
 use Rattle.isdbs_metrics.specs.Steps.{digits}
-use Rattle.isdbs_pack.proofs.Digits.{digits-seven, byte-digits}
+use Rattle.isdbs_pack.specs.DigitLaws.{digits-seven, byte-digits}
 use Rattle.wanted.specs.ReadOff.{shown}
 use Rattle.isdbs_wanted.specs.Pieces.{runAt, nextBit, nextState, stateAfter, bitAfter}
 use Rattle.isdbs_wanted.proofs.Steps.{bit-small}

@@ -6,7 +6,7 @@ use native.Mathlib.Omega.{arith}
 use lib.Dec.{lit<}
 use borrow.Author.Needs.{needs}
 use Rattle.isdbs_points.specs.Frame.{codedBit}
-use Rattle.isdbs_pack.proofs.Digits.{outputs-small}
+use Rattle.isdbs_pack.specs.DigitLaws.{outputs-small}
 use Rattle.wanted.specs.ReadOff.{shown}
 use Rattle.isdbs_wanted.proofs.Steps.{which-is, some-period, pair-small, index-small, base-fits, number-fits, reads-in, input-is, under-fits, eight-fits, label-is}
 use Rattle.isdbs_wanted.proofs.read_input.Statement.{statement}

@@ -4,7 +4,7 @@ use Prim.Native.Nat.{ℕ, _-_, _*_}
 use native.Mathlib.Omega.{arith}
 use lib.ListN.{length-drop}
 use borrow.Author.Needs.{needs}
-use Rattle.isdbs_pack.proofs.FrameRuns.{listed-runs, tail-is}
+use Rattle.isdbs_pack.specs.FrameRunLaws.{listed-runs, tail-is}
 use Rattle.isdbs_wanted.proofs.Frames.{LoadRead, load-first, load-room, load-next, load-last}
 use Rattle.isdbs_wanted.proofs.read_load.Statement.{statement}
 use Rattle.isdbs_wanted.proofs.read_load.Tie as tie

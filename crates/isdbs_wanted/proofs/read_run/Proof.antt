@@ -7,7 +7,7 @@ use borrow.Author.Needs.{needs}
 use Rattle.trellis.specs.Lists.{upto, laid}
 use Rattle.isdbs_combination.specs.declared.Combination.{Combination}
 use Rattle.trellis.specs.LaidLaws.{length-laid-upto}
-use Rattle.isdbs_pack.proofs.Packing.{byte-more}
+use Rattle.isdbs_pack.specs.PackingLaws.{byte-more}
 use Rattle.wanted.specs.ReadOff.{shown}
 use Rattle.isdbs_wanted.specs.Pieces.{runAt, stepOf, InFrame, runState, runByte}
 use Rattle.isdbs_wanted.proofs.Bits.{byte-on, state-next}

@@ -7,7 +7,7 @@ use borrow.Author.Tests.{lt-ltb, le-ltb, eq-eqb, ne-eqb}
 use Prim.Native.Nat.{_+_}
 use Rattle.isdbt_rows.specs.Rows.{depth}
 use Rattle.isdbt_rows.specs.RowLaws.{depth-range}
-use Rattle.isdbt_table.specs.Numbers.{numbers}
+use Rattle.isdbt_table.specs.NumberLaws.{numbers}
 use Rattle.isdbt_rows.proofs.Refusals.{decode-answer}
 use Rattle.isdbt_rows.proofs.answer_decode.Statement.{statement}
 use Rattle.isdbt_rows.proofs.answer_decode.Tie as tie

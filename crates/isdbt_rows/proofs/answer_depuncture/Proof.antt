@@ -4,7 +4,7 @@ use mathlib.Core.Bool.{true, false}
 use native.Mathlib.Omega.{arith}
 use borrow.Author.Needs.{needs}
 use borrow.Author.Tests.{eq-eqb, ne-eqb}
-use Rattle.isdbt_table.specs.Numbers.{numbers}
+use Rattle.isdbt_table.specs.NumberLaws.{numbers}
 use Rattle.isdbt_rows.proofs.Refusals.{depuncture-answer}
 use Rattle.isdbt_rows.proofs.answer_depuncture.Statement.{statement}
 use Rattle.isdbt_rows.proofs.answer_depuncture.Tie as tie

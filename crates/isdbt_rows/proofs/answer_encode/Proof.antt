@@ -4,7 +4,7 @@ use mathlib.Core.Bool.{true, false}
 use native.Mathlib.Omega.{arith}
 use borrow.Author.Needs.{needs}
 use borrow.Author.Tests.{lt-ltb, le-ltb, eq-eqb, ne-eqb}
-use Rattle.isdbt_table.specs.Numbers.{numbers}
+use Rattle.isdbt_table.specs.NumberLaws.{numbers}
 use Rattle.isdbt_rows.proofs.Refusals.{encode-answer}
 use Rattle.isdbt_rows.proofs.answer_encode.Statement.{statement}
 use Rattle.isdbt_rows.proofs.answer_encode.Tie as tie

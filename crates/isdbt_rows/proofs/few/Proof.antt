@@ -3,7 +3,7 @@ use mathlib.Core.Path.{refl}
 use Prim.Native.Nat.{_*_}
 use borrow.Author.Needs.{needs}
 use lib.Dec.{ltb}
-use Rattle.isdbt_table.specs.Numbers.{few-places}
+use Rattle.isdbt_table.specs.NumberLaws.{few-places}
 use Rattle.isdbt_rows.proofs.few.Statement.{statement}
 use Rattle.isdbt_rows.proofs.few.Tie as tie
 

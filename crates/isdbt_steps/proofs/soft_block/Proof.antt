@@ -5,7 +5,7 @@ use native.Mathlib.Omega.{arith}
 use borrow.Author.Needs.{needs}
 use lib.ListN.{length}
 use Rattle.isdbt_steps.specs.Soft.{softBy, stepsBy}
-use Rattle.isdbt_table.specs.Written.{Written, written-none, written-next}
+use Rattle.isdbt_table.specs.WrittenLaws.{Written, written-none, written-next}
 use Rattle.isdbt_steps.proofs.Blocks.{block-steps}
 use Rattle.isdbt_steps.proofs.soft_block.Statement.{statement}
 use Rattle.isdbt_steps.proofs.soft_block.Tie as tie

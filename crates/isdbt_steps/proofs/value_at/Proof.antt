@@ -4,7 +4,7 @@ use Prim.Native.Nat.{ℕ, _+_, _-_, _≤_}
 use native.Mathlib.Omega.{arith}
 use borrow.Author.Needs.{needs}
 use lib.ListN.{take, drop}
-use Rattle.isdbt_steps.specs.Spread.{spread-hit, spread-miss, spread-end}
+use Rattle.isdbt_steps.proofs.Spread.{spread-hit, spread-miss, spread-end}
 use Rattle.isdbt_table.specs.Table.{order}
 use Rattle.isdbt_table.specs.Puncture.{place, spread}
 use Rattle.isdbt_steps.proofs.value_at.Statement.{statement}

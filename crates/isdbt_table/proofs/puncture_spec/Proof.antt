@@ -1,6 +1,6 @@
 -- `puncture_spec` meets its contract. Assumes nothing.
 use borrow.Author.Needs.{needs}
-use Rattle.isdbt_table.specs.Compiled.{row-at}
+use Rattle.isdbt_table.proofs.Compiled.{row-at}
 use Rattle.isdbt_table.proofs.puncture_spec.Statement.{statement}
 use Rattle.isdbt_table.proofs.puncture_spec.Tie as tie
 

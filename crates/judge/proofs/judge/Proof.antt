@@ -7,9 +7,9 @@ use Rattle.refusal.specs.Rows.{firstRow}
 use Rattle.refusal.proofs.Told.{told}
 use Rattle.isdbs_runs.specs.declared.Plan.{Plan}
 use Rattle.isdbs_tables.specs.declared.Table.{Table}
-use Rattle.wanted_load.proofs.Rows.{plan-is}
+use Rattle.wanted_load.specs.RowLaws.{plan-is}
 use Rattle.judge.specs.Rows.{judgeRows}
-use Rattle.judge.specs.JudgedLaws.{passed}
+use Rattle.judge.proofs.JudgedLaws.{passed}
 use Rattle.judge.proofs.Calls.{refused, done}
 use Rattle.judge.proofs.judge.Statement.{statement}
 use Rattle.judge.proofs.judge.Tie as tie

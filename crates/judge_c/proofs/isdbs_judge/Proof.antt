@@ -2,7 +2,7 @@
 use borrow.Author.Needs.{needs}
 use Rattle.table_c.specs.Forms.{tableOf}
 use Rattle.isdb_c.specs.Mappings.{mappingOf, isSet}
-use Rattle.judge_c.specs.CallLaws.{judged-c}
+use Rattle.judge_c.proofs.CallLaws.{judged-c}
 use Rattle.judge_c.proofs.isdbs_judge.Statement.{statement}
 use Rattle.judge_c.proofs.isdbs_judge.Tie as tie
 

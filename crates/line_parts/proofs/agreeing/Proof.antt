@@ -6,7 +6,7 @@ use borrow.Author.Needs.{needs}
 use Prim.Native.Nat.{_+_, _-_, _≤_, _<_}
 use lib.ListN.{length, drop, drop-of-length-le}
 use Rattle.line_parts.specs.Agreement.{agreement}
-use Rattle.line_parts.specs.Laws.{agreement-none, agreement-next}
+use Rattle.line_parts.proofs.Laws.{agreement-none, agreement-next}
 use Rattle.line_parts.proofs.agreeing.Statement.{statement}
 use Rattle.line_parts.proofs.agreeing.Tie as tie
 

@@ -7,7 +7,7 @@ use borrow.Author.Needs.{needs}
 use Prim.Native.Nat.{_+_, _-_, _≤_, _<_}
 use lib.ListN.{length, drop, drop-of-length-le}
 use Rattle.line_parts.specs.Parts.{until}
-use Rattle.line_parts.specs.Laws.{until-next}
+use Rattle.line_parts.proofs.Laws.{until-next}
 use Rattle.line_parts.proofs.end_of.Statement.{statement}
 use Rattle.line_parts.proofs.end_of.Tie as tie
 

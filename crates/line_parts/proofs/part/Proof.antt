@@ -1,5 +1,5 @@
 -- `part` meets its contract. Assumes nothing.
-use Rattle.line_parts.specs.Laws.{until-front}
+use Rattle.line_parts.proofs.Laws.{until-front}
 use borrow.Author.Needs.{needs}
 use Rattle.line_parts.proofs.part.Statement.{statement}
 use Rattle.line_parts.proofs.part.Tie as tie

@@ -6,7 +6,7 @@ use borrow.Author.Needs.{needs}
 use Prim.Native.Nat.{_+_, _-_, _≤_, _<_}
 use lib.ListN.{length, drop, drop-of-length-le}
 use Rattle.line_parts.specs.Parts.{stops}
-use Rattle.line_parts.specs.Laws.{stops-next}
+use Rattle.line_parts.proofs.Laws.{stops-next}
 use Rattle.line_parts.proofs.parts.Statement.{statement}
 use Rattle.line_parts.proofs.parts.Tie as tie
 

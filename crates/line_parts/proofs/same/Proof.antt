@@ -7,7 +7,7 @@ use borrow.Author.Needs.{needs}
 use Prim.Native.Nat.{_-_, _≤_, _<_}
 use lib.ListN.{length, drop, drop-of-length-le}
 use Rattle.line_parts.specs.Parts.{equal}
-use Rattle.line_parts.specs.Laws.{equal-next, equal-not}
+use Rattle.line_parts.proofs.Laws.{equal-next, equal-not}
 use Rattle.line_parts.proofs.same.Statement.{statement}
 use Rattle.line_parts.proofs.same.Tie as tie
 

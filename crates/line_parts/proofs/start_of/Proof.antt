@@ -8,7 +8,7 @@ use Prim.Native.Nat.{_+_, _-_, _≤_, _<_}
 use native.Mathlib.Nat.{sub-zero}
 use lib.ListN.{length, drop, drop-of-length-le}
 use Rattle.line_parts.specs.Parts.{after}
-use Rattle.line_parts.specs.Laws.{after-none, after-more}
+use Rattle.line_parts.proofs.Laws.{after-none, after-more}
 use Rattle.line_parts.proofs.start_of.Statement.{statement}
 use Rattle.line_parts.proofs.start_of.Tie as tie
 

@@ -6,7 +6,7 @@ use native.Mathlib.Omega.{arith}
 use borrow.Author.Needs.{needs}
 use lib.ListN.{length}
 use Rattle.trellis.specs.Lists.{laid}
-use Rattle.mend.specs.Positions.{passed, passed-whole, passed-room, filled-long, filled-more, filled-same}
+use Rattle.mend.proofs.Positions.{passed, passed-whole, passed-room, filled-long, filled-more, filled-same}
 use Rattle.mend.proofs.list_changes.Statement.{statement}
 use Rattle.mend.proofs.list_changes.Tie as tie
 

@@ -4,7 +4,7 @@ use Prim.Native.Nat.{_+_, _-_, _*_, _/_, _%_, _≤_, _<_}
 use native.Mathlib.Omega.{arith}
 use borrow.Author.Needs.{needs}
 use lib.ListN.{length}
-use Rattle.trellis.specs.Distance.{bits-at}
+use Rattle.trellis.specs.DistanceLaws.{bits-at}
 use Rattle.trellis.specs.Lists.{upto, laid}
 use Rattle.mend_distance.specs.Distances.{pairAt, nearest, wordAt}
 use Rattle.mend_distance.proofs.Passes.{table-none, table-more, table-capped, words-none, words-more, words-long, word-is}

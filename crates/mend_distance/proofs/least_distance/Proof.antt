@@ -5,7 +5,7 @@ use Prim.Native.Nat.{ℕ, _+_, _-_, _*_, _/_, _%_, _≤_}
 use native.Mathlib.Omega.{arith}
 use borrow.Author.Needs.{needs}
 use lib.ListN.{length, getD}
-use Rattle.trellis.specs.Distance.{bits-at}
+use Rattle.trellis.specs.DistanceLaws.{bits-at}
 use Rattle.mend_distance.specs.Distances.{pairAt, nearest}
 use Rattle.mend_distance.proofs.Passes.{table-none, table-more, table-capped}
 use Rattle.mend_distance.proofs.least_distance.Statement.{statement}

@@ -10,7 +10,7 @@ use borrow.Rule.Slice.PartMut.{midOf, putMid}
 use Rattle.trellis.specs.Lists.{laid}
 use Rattle.trellis.specs.Isdb.{traced}
 use Rattle.trellis.specs.LaidLaws.{laid-after, laid-freed, length-laid}
-use Rattle.release.specs.Parts.{written-tail}
+use Rattle.release.specs.PartLaws.{written-tail}
 use borrow.Author.Needs.{needs}
 use Rattle.release.proofs.release.Statement.{statement}
 use Rattle.release.proofs.release.Tie as tie

@@ -1,5 +1,5 @@
 -- `matches` meets its contract. Assumes nothing.
-use Rattle.same_frame.specs.Frames.{both-compared, first-differs}
+use Rattle.same_frame.proofs.Frames.{both-compared, first-differs}
 use Rattle.isdbs_encode.specs.Encoding.{FrameLaid}
 use Rattle.isdbs_points.specs.Frame.{startState}
 use Prim.Native.Nat.{ℕ}

@@ -5,7 +5,7 @@ use lib.Dec.{T}
 use lib.Ieee.{isNan}
 use borrow.Author.Needs.{needs}
 use Rattle.ieee.specs.Bits.{number}
-use Rattle.same_frame.specs.Compare.{same-nan, same-nan-2, same-bits, same-unequal}
+use Rattle.same_frame.proofs.Compare.{same-nan, same-nan-2, same-bits, same-unequal}
 use Rattle.same_frame.proofs.same_bits.Statement.{statement}
 use Rattle.same_frame.proofs.same_bits.Tie as tie
 

@@ -1,6 +1,6 @@
 -- `same_parts` meets its contract. Assumes nothing.
 use borrow.Author.Needs.{needs}
-use Rattle.same_frame.specs.Compare.{parts-differ, parts-same, parts-more}
+use Rattle.same_frame.proofs.Compare.{parts-differ, parts-same, parts-more}
 use Rattle.same_frame.specs.Alike.{Same}
 use lib.ListN.{getD}
 use lib.Ieee.{nan}

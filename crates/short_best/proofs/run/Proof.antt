@@ -6,7 +6,7 @@ use native.Mathlib.Omega.{arith}
 use lib.Dec.{lit≤}
 use lib.ListN.{length}
 use borrow.Author.Needs.{needs}
-use Rattle.viterbi.specs.Count.{releases-le}
+use Rattle.viterbi.specs.CountLaws.{releases-le}
 use Rattle.short_best.specs.Readings.{startValues}
 use Rattle.short_best.proofs.Steps.{all-counted, finished}
 use Rattle.short_best.proofs.run.Statement.{statement}

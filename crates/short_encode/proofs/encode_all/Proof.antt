@@ -5,7 +5,7 @@ use native.Mathlib.Omega.{arith}
 use borrow.Author.Needs.{needs}
 use lib.ListN.{length, set, length-set}
 use Rattle.trellis.specs.Code.{stateAt}
-use Rattle.short_encode.specs.Encoding.{stateBefore}
+use Rattle.short_encode.specs.EncodingLaws.{stateBefore}
 use Rattle.short_encode.proofs.Turn.{written, turn, whole, state-next, state-last}
 use Rattle.short_encode.proofs.encode_all.Statement.{statement}
 use Rattle.short_encode.proofs.encode_all.Tie as tie

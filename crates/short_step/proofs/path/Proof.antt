@@ -3,7 +3,7 @@ use mathlib.Core.Path.{_≡_, refl, sym, _∙_, ap}
 use native.Mathlib.Omega.{arith}
 use Prim.Native.Nat.{ℕ, suc, _+_, _-_, _*_, _/_, _%_, _^_, _<_, _≤_}
 use Rattle.trellis.specs.Step as trellis
-use Rattle.short_code.specs.Register.{two-halves}
+use Rattle.short_code.specs.RegisterLaws.{two-halves}
 use borrow.Author.Needs.{needs}
 use Rattle.short_step.proofs.path.Statement.{statement}
 use Rattle.short_step.proofs.path.Tie as tie

@@ -11,7 +11,7 @@ use lib.Bits.{bitOr}
 use Rattle.trellis.specs.Lists.{bit, packed}
 use Rattle.trellis.specs.Step.{Step, takes, cand, wins, next, word}
 use Rattle.trellis.specs.Isdb.{rule}
-use Rattle.acs.specs.Packed.{packed-more}
+use Rattle.acs.specs.PackedLaws.{packed-more}
 use Rattle.viterbi.specs.Calls.{stepOf}
 use Rattle.short_code.specs.Codes.{labels}
 use Rattle.trellis.specs.WrittenLaws.{Written, Kept, written-none, written-more, written-skip, kept-more, kept-skip, written-whole}

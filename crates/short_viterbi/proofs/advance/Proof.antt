@@ -8,8 +8,8 @@ use lib.ListN.{length, take, drop, set, replicate, length-set, length-drop}
 use Rattle.trellis.specs.Step.{best, traced}
 use Rattle.trellis.specs.Isdb.{rule}
 use Rattle.viterbi.specs.Calls.{stepOf}
-use Rattle.viterbi.specs.Steps.{kept-step, released-step}
-use Rattle.viterbi.specs.Parts.{tail-whole, written-tail}
+use Rattle.viterbi.specs.StepLaws.{kept-step, released-step}
+use Rattle.viterbi.specs.PartLaws.{tail-whole, written-tail}
 use Rattle.short_code.specs.Codes.{labels}
 use Rattle.short_viterbi.proofs.advance.Statement.{statement}
 use Rattle.short_viterbi.proofs.advance.Tie as tie

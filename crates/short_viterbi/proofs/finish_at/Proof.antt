@@ -9,8 +9,8 @@ use lib.Seq.{length-take-le}
 use borrow.Rule.Slice.PartMut.{midOf, putMid}
 use Rattle.trellis.specs.Lists.{laid}
 use Rattle.trellis.specs.Step.{traced}
-use Rattle.viterbi.specs.Traced.{all-traced}
-use Rattle.viterbi.specs.Parts.{written-tail}
+use Rattle.viterbi.specs.TracedLaws.{all-traced}
+use Rattle.viterbi.specs.PartLaws.{written-tail}
 use borrow.Author.Needs.{needs}
 use Rattle.short_viterbi.proofs.finish_at.Statement.{statement}
 use Rattle.short_viterbi.proofs.finish_at.Tie as tie

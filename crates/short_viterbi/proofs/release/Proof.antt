@@ -10,7 +10,7 @@ use borrow.Rule.Slice.PartMut.{midOf, putMid}
 use Rattle.trellis.specs.Lists.{laid}
 use Rattle.trellis.specs.Step.{traced}
 use Rattle.trellis.specs.LaidLaws.{laid-after, laid-freed, length-laid}
-use Rattle.viterbi.specs.Parts.{written-tail}
+use Rattle.viterbi.specs.PartLaws.{written-tail}
 use borrow.Author.Needs.{needs}
 use Rattle.short_viterbi.proofs.release.Statement.{statement}
 use Rattle.short_viterbi.proofs.release.Tie as tie

@@ -1,5 +1,5 @@
 -- `short_viterbi::trace` meets its contract. Assumes nothing.
-use Rattle.short_code.specs.Register.{two-halves}
+use Rattle.short_code.specs.RegisterLaws.{two-halves}
 use mathlib.Core.Path.{_≡_, refl, sym, _∙_, ap}
 use mathlib.Core.Logic.{⊎-elim}
 use mathlib.Core.List.{List}

@@ -6,7 +6,7 @@ use borrow.Author.Needs.{needs}
 use lib.Dec.{T}
 use lib.Ieee.{binary64, toBits}
 use Rattle.isdbs_soft.specs.Soft.{softOf}
-use Rattle.isdbs_soft.proofs.Sign.{pattern-ok, sign-lt, whole}
+use Rattle.isdbs_soft.specs.SignLaws.{pattern-ok, sign-lt, whole}
 use Rattle.soft_blocks.proofs.near_signed.Statement.{statement}
 use Rattle.soft_blocks.proofs.near_signed.Tie as tie
 

@@ -7,8 +7,8 @@ use mathlib.Core.List.{List, [], _∷_, _++_}
 use lib.ListN.{length, take, drop, set, replicate, length-set, length-drop}
 use Rattle.trellis.specs.Isdb
 use Rattle.viterbi.specs.Calls.{stepOf, traced, bestState}
-use Rattle.viterbi.specs.Steps.{kept-step, released-step}
-use Rattle.viterbi.specs.Parts.{tail-whole, written-tail}
+use Rattle.viterbi.specs.StepLaws.{kept-step, released-step}
+use Rattle.viterbi.specs.PartLaws.{tail-whole, written-tail}
 use borrow.Author.Needs.{needs}
 use Rattle.viterbi.proofs.advance.Statement.{statement}
 use Rattle.viterbi.proofs.advance.Tie as tie

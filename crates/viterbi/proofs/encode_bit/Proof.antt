@@ -7,7 +7,7 @@ use lib.Bits.{bitXor}
 use lib.Dec.{T, eqb, eqb→eq}
 use borrow.Author.Needs.{needs}
 use Rattle.trellis.specs.Code.{isdb, output, tapped}
-use Rattle.viterbi.specs.Each.{all, each}
+use Rattle.viterbi.specs.EachLaws.{all, each}
 use Rattle.viterbi.proofs.encode_bit.Statement.{statement}
 use Rattle.viterbi.proofs.encode_bit.Tie as tie
 

@@ -5,7 +5,7 @@ use native.Mathlib.Omega.{arith}
 use mathlib.Core.List.{List, _++_}
 use lib.ListN.{length, take, drop, length-drop}
 use Rattle.viterbi.specs.Calls.{traced, bestState}
-use Rattle.viterbi.specs.Parts.{tail-whole, written-tail}
+use Rattle.viterbi.specs.PartLaws.{tail-whole, written-tail}
 use Rattle.viterbi.proofs.Ends.{kept-end, let-go-end}
 use borrow.Author.Needs.{needs}
 use Rattle.viterbi.proofs.end_block.Statement.{statement}

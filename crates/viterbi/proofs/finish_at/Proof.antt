@@ -10,8 +10,8 @@ use borrow.Rule.Slice.PartMut.{midOf, putMid}
 use Rattle.trellis.specs.Lists.{laid}
 use Rattle.trellis.specs.Isdb
 use Rattle.viterbi.specs.Calls.{traced}
-use Rattle.viterbi.specs.Traced.{all-traced}
-use Rattle.viterbi.specs.Parts.{written-tail}
+use Rattle.viterbi.specs.TracedLaws.{all-traced}
+use Rattle.viterbi.specs.PartLaws.{written-tail}
 use borrow.Author.Needs.{needs}
 use Rattle.viterbi.proofs.finish_at.Statement.{statement}
 use Rattle.viterbi.proofs.finish_at.Tie as tie

@@ -6,7 +6,7 @@ use lib.Bits.{bitXor}
 use lib.Dec.{T, eqb, eqb→eq}
 use borrow.Author.Needs.{needs}
 use Rattle.trellis.specs.Parity.{ones}
-use Rattle.viterbi.specs.Each.{all, each}
+use Rattle.viterbi.specs.EachLaws.{all, each}
 use Rattle.viterbi.proofs.parity.Statement.{statement}
 use Rattle.viterbi.proofs.parity.Tie as tie
 

@@ -2,7 +2,7 @@
 use borrow.Author.Needs.{needs}
 use Rattle.table_c.specs.Forms.{tableOf}
 use Rattle.isdb_c.specs.Mappings.{mappingOf, isSet}
-use Rattle.wanted_c.specs.CallLaws.{answered-c, left-c}
+use Rattle.wanted_c.proofs.CallLaws.{answered-c, left-c}
 use Rattle.wanted_c.proofs.isdbs_wanted_load.Statement.{statement}
 use Rattle.wanted_c.proofs.isdbs_wanted_load.Tie as tie
 

@@ -4,7 +4,7 @@ use native.Mathlib.Omega.{arith}
 use borrow.Author.Needs.{needs}
 use Rattle.isdbs_runs.specs.declared.Plan.{Plan}
 use Rattle.wanted.specs.Only.{read-off-full}
-use Rattle.wanted_load.specs.Search.{searched}
+use Rattle.wanted_load.proofs.Search.{searched}
 use Rattle.wanted_load.proofs.Loads.{read-is}
 use Rattle.wanted_load.proofs.search_load.Statement.{statement}
 use Rattle.wanted_load.proofs.search_load.Tie as tie

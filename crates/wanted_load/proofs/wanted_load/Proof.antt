@@ -12,8 +12,8 @@ use Rattle.isdbs_tables.specs.declared.Table.{Table}
 use Rattle.wanted_load.specs.declared.LoadFound.the-variants.{Load, Refused}
 use Rattle.wanted_load.specs.Rows.{earlierRows}
 use Rattle.wanted_load.specs.Found.{Outcome, found, none, Turned}
-use Rattle.wanted_load.specs.Answers.{by-rows}
-use Rattle.wanted_load.proofs.Rows.{passed, plan-is}
+use Rattle.wanted_load.proofs.Answers.{by-rows}
+use Rattle.wanted_load.specs.RowLaws.{passed, plan-is}
 use Rattle.wanted_load.proofs.wanted_load.Statement.{statement}
 use Rattle.wanted_load.proofs.wanted_load.Tie as tie
 

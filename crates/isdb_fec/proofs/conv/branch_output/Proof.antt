@@ -10,8 +10,8 @@ use borrow.Author.Tests.{lt-ltb, le-ltb}
 use Rattle.refusal.specs.declared.Answer.the-variants.{State}
 use Rattle.trellis.specs.Code.{isdb, output, tapped}
 use Rattle.trellis.specs.Parity.{ones}
-use Rattle.viterbi.specs.Each.{all, each}
-use Rattle.isdb_fec.specs.Answers.{accepted, refused, numbered}
+use Rattle.viterbi.specs.EachLaws.{all, each}
+use Rattle.isdb_fec.specs.AnswerLaws.{accepted, refused, numbered}
 use Rattle.isdb_fec.proofs.conv.branch_output.Statement.{statement}
 use Rattle.isdb_fec.proofs.conv.branch_output.Tie as tie
 

@@ -5,7 +5,7 @@ use native.Mathlib.Omega.{arith}
 use borrow.Author.Needs.{needs}
 use borrow.Author.Tests.{lt-ltb, le-ltb, eq-eqb, ne-eqb}
 use Rattle.refusal.specs.declared.Answer.the-variants.{Traceback}
-use Rattle.isdb_fec.specs.Answers.{accepted, refused, numbered}
+use Rattle.isdb_fec.specs.AnswerLaws.{accepted, refused, numbered}
 use Rattle.isdb_fec.proofs.conv.fresh.Statement.{statement}
 use Rattle.isdb_fec.proofs.conv.fresh.Tie as tie
 

@@ -8,7 +8,7 @@ use Rattle.isdbs_runs.specs.RunsOf.{planOf}
 use Rattle.refusal.specs.Rows.{firstRow}
 use Rattle.isdbs_decode.specs.Scales.{receivedBy}
 use Rattle.strain.specs.Strain.{strainSum}
-use Rattle.isdb_fec.specs.Answers.{refused}
+use Rattle.isdb_fec.specs.AnswerLaws.{refused}
 use Rattle.refusal.specs.declared.Answer.{Answer}
 use borrow.Author.Tests.{lt-ltb, le-ltb, ltb-false}
 use lib.ListN.{length}

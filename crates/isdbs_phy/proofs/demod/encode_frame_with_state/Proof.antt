@@ -7,7 +7,7 @@ use borrow.Author.Tests.{ltb-false}
 use lib.ListN.{length}
 use Rattle.refusal.specs.declared.Answer.the-variants.{Accepted}
 use Rattle.refusal.specs.Rows.{numberOf}
-use Rattle.isdb_fec.specs.Answers.{refused}
+use Rattle.isdb_fec.specs.AnswerLaws.{refused}
 use Rattle.refusal.specs.RowLaws.{zero-accepted}
 use Rattle.isdbs_phy.proofs.EncodeAnswers.{rows-pass}
 use borrow.Author.Needs.{needs}

@@ -4,9 +4,9 @@ use Prim.Native.Nat.{ℕ, _+_, _-_, _*_, _/_, _<_, _≤_}
 use native.Mathlib.Omega.{arith}
 use borrow.Author.Needs.{needs}
 use lib.ListN.{length}
-use Rattle.isdbt_table.specs.Numbers.{numbers}
+use Rattle.isdbt_table.specs.NumberLaws.{numbers}
 use Rattle.isdbt_steps.specs.Soft.{stepsBy}
-use Rattle.isdbt_fec.specs.Decode.{count-most}
+use Rattle.isdbt_fec.proofs.Decode.{count-most}
 use Rattle.isdbt_fec.proofs.Turns.{Readable, bit-count, bits-twice, readable}
 use Rattle.isdbt_fec.proofs.Decoding.{Decoding, decoding-none, decoding-ready, decoding-block, decoded}
 use Rattle.isdbt_fec.proofs.conv.decode_periods.Statement.{statement}

@@ -3,7 +3,7 @@ use mathlib.Core.Path.{refl, sym, _∙_}
 use borrow.Author.Needs.{needs}
 use lib.ListN.{length}
 use Rattle.isdbt_rows.specs.RowLaws.{depuncture-enough}
-use Rattle.isdb_fec.specs.Answers.{accepted, refused}
+use Rattle.isdb_fec.specs.AnswerLaws.{accepted, refused}
 use Rattle.refusal.proofs.Told.{told}
 use Rattle.isdbt_fec.proofs.conv.depuncture.Statement.{statement}
 use Rattle.isdbt_fec.proofs.conv.depuncture.Tie as tie

@@ -6,15 +6,15 @@ use Prim.Native.Nat.{_-_, _*_, _/_, _≤_}
 use native.Mathlib.Omega.{arith}
 use borrow.Author.Needs.{needs}
 use lib.ListN.{length}
-use Rattle.isdbt_table.specs.Numbers.{numbers}
+use Rattle.isdbt_table.specs.NumberLaws.{numbers}
 use Rattle.trellis.specs.LaidLaws.{upto-cong}
 use Rattle.isdbt_steps.specs.Soft.{softBy}
-use Rattle.isdbt_fec.specs.Decode.{soft-is}
+use Rattle.isdbt_fec.proofs.Decode.{soft-is}
 use Rattle.trellis.specs.Lists.{laid}
 use Rattle.isdbt_table.specs.Table.{period, sent}
 use Rattle.isdbt_table.specs.Puncture.{depunctured}
 use Rattle.isdbt_fec.proofs.Turns.{Readable, readable, mother-bits}
-use Rattle.isdbt_table.specs.Written.{Written, written-none, written-next}
+use Rattle.isdbt_table.specs.WrittenLaws.{Written, written-none, written-next}
 use Rattle.isdbt_fec.proofs.conv.depuncture_periods.Statement.{statement}
 use Rattle.isdbt_fec.proofs.conv.depuncture_periods.Tie as tie
 

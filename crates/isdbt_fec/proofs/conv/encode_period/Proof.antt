@@ -7,7 +7,7 @@ use borrow.Author.Needs.{needs}
 use lib.ListN.{length, getD, set, length-set}
 use Rattle.trellis.specs.Code.{stateAt}
 use Rattle.isdbt_table.specs.Puncture.{inputs, mother}
-use Rattle.isdbt_fec.specs.Encode.{input-at, state-next, state-below, mother-x, mother-y, written-pair}
+use Rattle.isdbt_fec.specs.EncodeLaws.{input-at, state-next, state-below, mother-x, mother-y, written-pair}
 use Rattle.isdbt_fec.proofs.conv.encode_period.Statement.{statement}
 use Rattle.isdbt_fec.proofs.conv.encode_period.Tie as tie
 

@@ -4,7 +4,7 @@ use Prim.Native.Nat.{_-_, _*_, _/_, _≤_}
 use native.Mathlib.Omega.{arith}
 use borrow.Author.Needs.{needs}
 use lib.ListN.{length}
-use Rattle.isdbt_table.specs.Numbers.{numbers}
+use Rattle.isdbt_table.specs.NumberLaws.{numbers}
 use Rattle.isdbt_fec.proofs.Periods.{Sendable, Coded, sendable, coded-none, coded-below, part-long, tail-long, coded-next, coded-all}
 use Rattle.isdbt_fec.proofs.conv.encode_periods.Statement.{statement}
 use Rattle.isdbt_fec.proofs.conv.encode_periods.Tie as tie

@@ -3,9 +3,9 @@ use mathlib.Core.Path.{refl, sym, _∙_}
 use native.Mathlib.Omega.{arith}
 use borrow.Author.Needs.{needs}
 use lib.ListN.{length}
-use Rattle.isdbt_table.specs.Numbers.{numbers}
+use Rattle.isdbt_table.specs.NumberLaws.{numbers}
 use Rattle.isdbt_rows.specs.RowLaws.{encode-enough}
-use Rattle.isdb_fec.specs.Answers.{accepted, refused}
+use Rattle.isdb_fec.specs.AnswerLaws.{accepted, refused}
 use Rattle.refusal.proofs.Told.{told}
 use Rattle.isdbt_fec.proofs.Turns.{sent-count}
 use Rattle.isdbt_fec.proofs.conv.encode_punctured.Statement.{statement}

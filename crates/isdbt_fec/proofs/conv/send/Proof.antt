@@ -4,7 +4,7 @@ use Prim.Native.Nat.{_-_, _≤_}
 use native.Mathlib.Omega.{arith}
 use borrow.Author.Needs.{needs}
 use lib.ListN.{getD}
-use Rattle.isdbt_table.specs.Written.{Written, written-none, written-next}
+use Rattle.isdbt_table.specs.WrittenLaws.{Written, written-none, written-next}
 use Rattle.isdbt_fec.proofs.conv.send.Statement.{statement}
 use Rattle.isdbt_fec.proofs.conv.send.Tie as tie
 

@@ -4,9 +4,9 @@ use Prim.Native.Nat.{_-_, _≤_}
 use native.Mathlib.Omega.{arith}
 use borrow.Author.Needs.{needs}
 use lib.ListN.{replicate}
-use Rattle.isdbt_table.specs.Compiled.{bitOf, compiles, in-range}
+use Rattle.isdbt_table.proofs.Compiled.{bitOf, compiles, in-range}
 use Rattle.trellis.specs.Lists.{upto, laid}
-use Rattle.isdbt_table.specs.Written.{Written, written-none, written-next}
+use Rattle.isdbt_table.specs.WrittenLaws.{Written, written-none, written-next}
 use Rattle.isdbt_table.proofs.Puncturing.new.Statement.{statement}
 use Rattle.isdbt_table.proofs.Puncturing.new.Tie as tie
 

@@ -4,7 +4,7 @@ use Prim.Native.Nat.{ℕ, suc, _+_, _-_, _*_, _/_, _%_, _<_, _≤_}
 use native.Mathlib.Omega.{arith}
 use borrow.Author.Needs.{needs}
 use Rattle.refusal.specs.declared.Answer.the-variants.{State}
-use Rattle.isdb_fec.specs.Answers.{accepted, refused, numbered}
+use Rattle.isdb_fec.specs.AnswerLaws.{accepted, refused, numbered}
 use borrow.Author.Tests.{lt-ltb, le-ltb}
 use borrow.Author.Needs.{needs}
 use Rattle.isdb_fec.proofs.conv.ConvEncoder.push.Statement.{statement}

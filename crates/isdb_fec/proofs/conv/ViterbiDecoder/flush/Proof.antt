@@ -4,8 +4,8 @@ use Prim.Native.Nat.{ℕ, suc, _+_, _-_, _*_, _/_, _%_, _<_, _≤_}
 use native.Mathlib.Omega.{arith}
 use borrow.Author.Needs.{needs}
 use lib.ListN.{length}
-use Rattle.isdb_fec.specs.Answers.{accepted, flush-enough}
-use Rattle.isdb_fec.specs.Whole.{as-given}
+use Rattle.isdb_fec.specs.AnswerLaws.{accepted, flush-enough}
+use Rattle.isdb_fec.specs.WholeLaws.{as-given}
 use Rattle.refusal.proofs.Told.{told}
 use borrow.Author.Needs.{needs}
 use Rattle.isdb_fec.proofs.conv.ViterbiDecoder.flush.Statement.{statement}

@@ -5,8 +5,8 @@ use native.Mathlib.Omega.{arith}
 use borrow.Author.Needs.{needs}
 use lib.ListN.{length}
 use Rattle.isdb_fec.specs.Calls.{steps, holding, Holds, knownSteps}
-use Rattle.isdb_fec.specs.Answers.{accepted, known-enough}
-use Rattle.isdb_fec.specs.Whole.{begins, lengths, ready, goes-on, ends, as-given}
+use Rattle.isdb_fec.specs.AnswerLaws.{accepted, known-enough}
+use Rattle.isdb_fec.specs.WholeLaws.{begins, lengths, ready, goes-on, ends, as-given}
 use Rattle.refusal.proofs.Told.{told}
 use Rattle.isdb_fec.proofs.conv.ViterbiDecoder.push_known.Statement.{statement}
 use Rattle.isdb_fec.proofs.conv.ViterbiDecoder.push_known.Tie as tie

@@ -1,0 +1,34 @@
+-- A table holds the branch numbers where the test of its 128 entries passes, which antt computes. Assumes nothing.
+use mathlib.Core.Bool.{Bool}
+use mathlib.Core.List.{List, []}
+use Prim.Native.Nat.{ℕ, _+_, _*_}
+use lib.Dec.{T, eqb, eqb→eq}
+use lib.ListN.{getD}
+use Rattle.trellis.specs.Code.{isdb, label}
+use Rattle.acs_paths.specs.Branches.{BranchNumbers}
+use Rattle.acs_paths.specs.TableLaws.{all, at}
+
+-- the test of an entry, of a row, of a pair of rows, of the table
+abbrev entry : ℕ → ℕ → ℕ → ℕ → Bool
+entry u b j n = eqb n (label isdb u (2 * j + b))
+
+abbrev row : ℕ → ℕ → List ℕ → Bool
+row u b ns = all 32 (entry u b) ns
+
+abbrev pair : ℕ → List (List ℕ) → Bool
+pair u nss = all 2 (row u) nss
+
+abbrev pub passes : List (List (List ℕ)) → Bool
+passes t = all 2 pair t
+
+pub branch-numbers : (t : List (List (List ℕ))) → T (passes t) → BranchNumbers t
+branch-numbers t p = record {
+  number =
+      λ u b j hu hb hj.
+      eqb→eq (getD (getD (getD t u []) b []) j 0) (label isdb u (2 * j + b))
+      (at 32 (entry u b) 0 (getD (getD t u []) b [])
+      (at 2 (row u) [] (getD t u [])
+      (at 2 pair [] t p u hu)
+      b hb)
+      j hj);
+}

@@ -1,0 +1,138 @@
+-- The decoded bits of a frame: one for each step and the 16 known ones, each 0 or 1, whatever is received. Assumes nothing.
+use mathlib.Core.Path.{_≡_, refl, _∙_}
+use mathlib.Core.Bool.{Bool, true, false, cond}
+use mathlib.Core.List.{List, [], _∷_, _++_}
+use Prim.Native.Nat.{ℕ, zero, suc, _+_, _-_, _/_, _%_, _^_, _<_, _≤_}
+use native.Mathlib.Omega.{arith}
+use native.Mathlib.Nat.{not-suc-le-zero, le-of-suc-le-suc, mod-lt}
+use lib.Dec.{leb, lit<, lit≤}
+use lib.ListN.{length, getD, take, drop, length-append}
+use lib.Ieee.{Float, nan}
+use Rattle.trellis.specs.Isdb
+use Rattle.trellis.specs.Isdb.{closed, released, best}
+use Rattle.trellis.specs.Lists.{upto}
+use Rattle.trellis.specs.Step as step
+use Rattle.trellis.specs.Step.{Step, takes, kept, back, input, traced}
+use Rattle.trellis.specs.Run as run
+use Rattle.trellis.specs.Run.{Decoder, block, stepped, after, freshFrom}
+use Rattle.viterbi.specs.Calls.{nexts, word, settle, steps}
+use Rattle.viterbi.specs.CountLaws.{counted}
+use Rattle.viterbi.specs.TracedLaws.{length-traced}
+use Rattle.isdbs_tables.specs.declared.Table.{Table}
+use Rattle.isdbs_runs.specs.RunsOf.{frameSteps}
+use Rattle.isdbs_metrics.specs.Reading.{Received, startValues, decodedBits}
+use Rattle.isdbs_decode.specs.Runs.{frameMetrics, knownBits, endedBits, bitsFrom}
+
+-- each of a list is 0 or 1
+abbrev pub Binary : List ℕ → Type 0
+Binary [] = Unit
+Binary (b ∷ bs) = (b < 2) × Binary bs
+
+binary-append : (a b : List ℕ) → Binary a → Binary b → Binary (a ++ b)
+binary-append [] b p q = q
+binary-append (x ∷ a) b p q = (p .0, binary-append a b (p .1) q)
+
+binary-take : (n : ℕ) (a : List ℕ) → Binary a → Binary (take n a)
+binary-take zero a p = tt
+binary-take (suc n) [] p = tt
+binary-take (suc n) (x ∷ a) p = (p .0, binary-take n a (p .1))
+
+binary-upto : (f : ℕ → ℕ) (n : ℕ) → ((i : ℕ) → f i < 2) → Binary (upto f n)
+unfolding upto
+binary-upto f zero h = tt
+binary-upto f (suc n) h = binary-append (upto f n) (f n ∷ []) (binary-upto f n h) (h n, tt)
+
+pub binary-at : (bs : List ℕ) → Binary bs → (i : ℕ) → i < length bs → getD bs i 0 < 2
+binary-at [] p i h = absurd (not-suc-le-zero h)
+binary-at (b ∷ bs) p zero h = p .0
+binary-at (b ∷ bs) p (suc i) h = binary-at bs (p .1) i (le-of-suc-le-suc h)
+
+-- a traced path keeps to the 64 states
+kept-small : (w s : ℕ) → kept 32 w s < 64
+unfolding kept
+kept-small w s =
+    let b : w / 2 ^ s % 2 < 2 = mod-lt (w / 2 ^ s) (lit< tt) in
+    omega arith
+
+back-small : (ws : List ℕ) (n s d : ℕ) → s < 64 → back 32 ws n s d < 64
+unfolding back
+back-small ws n s zero h = h
+back-small ws n s (suc d) h = kept-small (getD ws (n - suc d) 0) (back 32 ws n s d)
+
+chosen : (t : Bool) (n b : ℕ) → b ≤ n → cond t (suc n) b ≤ suc n
+chosen true n b h = omega arith
+chosen false n b h = omega arith
+
+best-small : (pm : List Float) (n : ℕ) → best pm n ≤ n
+unfolding step.best
+best-small pm zero = omega arith
+best-small pm (suc n) = chosen (takes Isdb.rule (getD pm (best pm n) nan) (getD pm (suc n) nan)) n (best pm n) (best-small pm n)
+
+traced-binary : (ws : List ℕ) (s : ℕ) → s < 64 → Binary (traced 32 ws s)
+unfolding traced input
+traced-binary ws s h =
+    binary-upto (λ k. back 32 ws (length ws) s (length ws - (k + 1)) / 32) (length ws)
+    (λ i. let b = back-small ws (length ws) s (length ws - (i + 1)) h in omega arith)
+
+best-traced : (ws : List ℕ) (pm : List Float) → Binary (traced 32 ws (best pm 63))
+best-traced ws pm = let b = best-small pm 63 in traced-binary ws (best pm 63) (omega arith)
+
+either : (t : Bool) (a b : Decoder) → Binary (a .bits) → Binary (b .bits) → Binary (cond t a b .bits)
+either true a b p q = p
+either false a b p q = q
+
+released-binary : (d : Decoder) → Binary (d .bits) → Binary (released 128 d .bits)
+unfolding run.released
+released-binary d p =
+    either (leb (block + 128) (length (d .words)))
+    (record { values = d .values; words = drop block (d .words); bits = d .bits ++ take block (traced 32 (d .words) (best (d .values) 63)) })
+    d
+    (binary-append (d .bits) (take block (traced 32 (d .words) (best (d .values) 63))) p (binary-take block (traced 32 (d .words) (best (d .values) 63)) (best-traced (d .words) (d .values))))
+    p
+
+after-binary : (xs : ℕ → Step) (d : Decoder) (n : ℕ) → Binary (d .bits) → Binary (steps 128 xs d n .bits)
+unfolding after stepped
+after-binary xs d zero p = p
+after-binary xs d (suc n) p =
+    let b = steps 128 xs d n in
+    released-binary
+    (record { values = settle n (xs n) (nexts (b .values) (xs n)); words = b .words ++ (word (b .values) (xs n) ∷ []); bits = b .bits })
+    (after-binary xs d n p)
+
+-- the first steps, the known bits, the flush
+ended-binary : (d : Decoder) → Binary (d .bits) → Binary (endedBits d)
+ended-binary d p =
+    let e = steps 128 knownBits (closed d) 16 in
+    binary-append (e .bits) (traced 32 (e .words) (best (e .values) 63)) (after-binary knownBits (closed d) 16 p) (best-traced (e .words) (e .values))
+
+module _ (t : Table) (r : Received) (pm : List Float) where
+  abbrev read : Decoder
+  read = steps 128 (frameMetrics t r) (freshFrom pm) (frameSteps t)
+
+  pub from-binary : Binary (bitsFrom t r pm)
+  from-binary = ended-binary read (after-binary (frameMetrics t r) (freshFrom pm) (frameSteps t) tt)
+
+  pub from-count : length (bitsFrom t r pm) ≡ frameSteps t + 16
+  from-count =
+      let d = closed read in
+      let e = steps 128 knownBits d 16 in
+      let a = counted Isdb.half Isdb.labels Isdb.rule 128 (frameMetrics t r) (freshFrom pm) (lit≤ tt) (lit≤ tt) (lit< tt) (frameSteps t) in
+      let b = counted Isdb.half Isdb.labels Isdb.rule 128 knownBits d (lit≤ tt) (lit≤ tt) (a .few) 16 in
+      let aw = a .words-left in
+      let ab = a .bits-out in
+      let bw = b .words-left in
+      let bb = b .bits-out in
+      let lt = length-traced Isdb.half (e .words) (best (e .values) 63) in
+      length-append (e .bits) (traced 32 (e .words) (best (e .values) 63)) ∙ omega arith
+
+module _ (t : Table) (r : Received) (knownStart first : Bool) where
+  pub decoded-from : decodedBits t r knownStart first ≡ bitsFrom t r (startValues knownStart first)
+  unfolding decodedBits
+  decoded-from = refl
+
+  -- "the bit buffer begins with steps + 16 decoded bits, one per byte"
+  pub decoded-count : length (decodedBits t r knownStart first) ≡ frameSteps t + 16
+  decoded-count = rw decoded-from (from-count t r (startValues knownStart first))
+
+  pub decoded-binary : Binary (decodedBits t r knownStart first)
+  decoded-binary = rw decoded-from (from-binary t r (startValues knownStart first))
