@@ -18,10 +18,8 @@ use acs_paths::pair_path;
 use path_choice::beats;
 use path_choice::greater;
 use path_choice::larger;
-
-const STATES: usize = 64;
-
-const HALF: usize = 32;
+use trellis::HALF;
+use trellis::STATES;
 
 // The number of states, which the type of the path values fixes.
 fn states(pm: &[f32; 64]) -> usize

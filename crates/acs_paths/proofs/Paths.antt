@@ -7,10 +7,10 @@ use native.Mathlib.Omega.{arith}
 use lib.Dec.{eqb}
 use lib.ListN.{getD}
 use lib.Ieee.{Float, nan, binary32, add, neg, lt, ofBits}
-use Rattle.trellis.specs.Code.{isdb, label}
 use Rattle.trellis.specs.Step as trellis
 use Rattle.trellis.specs.Step.{pair, four}
 use Rattle.trellis.specs.Isdb.{cand}
+use Rattle.trellis.specs.Isdb
 
 abbrev zeroF : Float
 zeroF = ofBits binary32 0
@@ -24,14 +24,14 @@ module _ (pm : List Float) (u b j : ℕ) (h : j < 32) where
   at-u = omega arith
 
   -- by the signs x and y of its branch
-  pub pair-cand : (x y : Float) → lt x zeroF ≡ eqb (label isdb u (2 * j + b) / 2) 1 → lt y zeroF ≡ eqb (label isdb u (2 * j + b) % 2) 1
+  pub pair-cand : (x y : Float) → lt x zeroF ≡ eqb (Isdb.labels u (2 * j + b) / 2) 1 → lt y zeroF ≡ eqb (Isdb.labels u (2 * j + b) % 2) 1
       → (lx ly p q : Float) → p ≡ cond (lt x zeroF) (neg lx) lx → q ≡ cond (lt y zeroF) (neg ly) ly
       → add binary32 (add binary32 (getD pm (2 * j + b) nan) p) q ≡ cand pm (pair lx ly) (32 * u + j) b
   unfolding trellis.cand trellis.branch
   pair-cand x y is-x is-y lx ly p q is-p is-q = rw (is-p, is-q, at-j, at-u, is-x, is-y)
 
   -- by the number n of its branch
-  pub four-cand : (m : List Float) (n : ℕ) (p : Float) → n ≡ label isdb u (2 * j + b) → p ≡ getD m n nan
+  pub four-cand : (m : List Float) (n : ℕ) (p : Float) → n ≡ Isdb.labels u (2 * j + b) → p ≡ getD m n nan
       → add binary32 (getD pm (2 * j + b) nan) p ≡ cand pm (four m) (32 * u + j) b
   unfolding trellis.cand trellis.branch
   four-cand m n p is-n is-p = rw (is-p, is-n, at-j, at-u)

@@ -4,13 +4,13 @@ use mathlib.Core.List.{List, []}
 use Prim.Native.Nat.{ℕ, _+_, _*_}
 use lib.Dec.{T, eqb, eqb→eq}
 use lib.ListN.{getD}
-use Rattle.trellis.specs.Code.{isdb, label}
 use Rattle.acs_paths.specs.Branches.{BranchNumbers}
 use Rattle.acs_paths.specs.TableLaws.{all, at}
+use Rattle.trellis.specs.Isdb
 
 -- the test of an entry, of a row, of a pair of rows, of the table
 abbrev entry : ℕ → ℕ → ℕ → ℕ → Bool
-entry u b j n = eqb n (label isdb u (2 * j + b))
+entry u b j n = eqb n (Isdb.labels u (2 * j + b))
 
 abbrev row : ℕ → ℕ → List ℕ → Bool
 row u b ns = all 32 (entry u b) ns
@@ -25,7 +25,7 @@ pub branch-numbers : (t : List (List (List ℕ))) → T (passes t) → BranchNum
 branch-numbers t p = record {
   number =
       λ u b j hu hb hj.
-      eqb→eq (getD (getD (getD t u []) b []) j 0) (label isdb u (2 * j + b))
+      eqb→eq (getD (getD (getD t u []) b []) j 0) (Isdb.labels u (2 * j + b))
       (at 32 (entry u b) 0 (getD (getD t u []) b [])
       (at 2 (row u) [] (getD t u [])
       (at 2 pair [] t p u hu)

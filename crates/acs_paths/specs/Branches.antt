@@ -4,7 +4,7 @@ use mathlib.Core.Path.{_≡_}
 use mathlib.Core.List.{List, []}
 use Prim.Native.Nat.{ℕ, _+_, _*_, _<_}
 use lib.ListN.{getD}
-use Rattle.trellis.specs.Code.{isdb, label}
+use Rattle.trellis.specs.Isdb
 
 pub record BranchNumbers (t : List (List (List ℕ))) : Type 0 where
-  pub number : (u b j : ℕ) → u < 2 → b < 2 → j < 32 → getD (getD (getD t u []) b []) j 0 ≡ label isdb u (2 * j + b)
+  pub number : (u b j : ℕ) → u < 2 → b < 2 → j < 32 → getD (getD (getD t u []) b []) j 0 ≡ Isdb.labels u (2 * j + b)

@@ -7,9 +7,10 @@ use Prim.Native.Nat.{ℕ, _+_, _*_, _/_, _%_, _<_}
 use lib.Dec.{T, eqb}
 use lib.ListN.{getD}
 use lib.Ieee.{Float, nan, binary32, lt, ofBits}
-use Rattle.trellis.specs.Code.{isdb, label, output, tapped}
+use Rattle.trellis.specs.Code.{label, output, tapped}
 use Rattle.acs_paths.specs.Signs.{XSigns, YSigns}
 use Rattle.acs_paths.specs.TableLaws.{all, at}
+use Rattle.trellis.specs.Isdb
 
 abbrev same : Bool → Bool → Bool
 same true b = b
@@ -25,7 +26,7 @@ same-eq false false t = refl
 -- the test of an entry, of a row, of a pair of rows; g is the coded bit of a label
 module _ (g : ℕ → ℕ) where
   abbrev entry : ℕ → ℕ → ℕ → Float → Bool
-  entry u b j x = same (lt x (ofBits binary32 0)) (eqb (g (label isdb u (2 * j + b))) 1)
+  entry u b j x = same (lt x (ofBits binary32 0)) (eqb (g (Isdb.labels u (2 * j + b))) 1)
 
   abbrev row : ℕ → ℕ → List Float → Bool
   row u b xs = all 32 (entry u b) xs
@@ -34,7 +35,7 @@ module _ (g : ℕ → ℕ) where
   pair u xss = all 2 (row u) xss
 
   rule : (t : List (List (List Float))) → T (all 2 pair t) → (u b j : ℕ) → u < 2 → b < 2 → j < 32
-      → lt (getD (getD (getD t u []) b []) j nan) (ofBits binary32 0) ≡ eqb (g (label isdb u (2 * j + b))) 1
+      → lt (getD (getD (getD t u []) b []) j nan) (ofBits binary32 0) ≡ eqb (g (Isdb.labels u (2 * j + b))) 1
   rule t passes u b j hu hb hj =
       same-eq _ _
       (at 32 (entry u b) nan (getD (getD t u []) b [])

@@ -4,11 +4,11 @@ ghost use mathlib.Core.Bool.{cond};
 ghost use Prim.Native.Nat.{_+_, _*_, _%_, _<_};
 ghost use lib.ListN.{getD};
 ghost use lib.Ieee.{lt, neg, nan, binary32, ofBits};
-ghost use Rattle.trellis.specs.Code.{isdb, label};
 ghost use Rattle.trellis.specs.Step.{pair, four};
 ghost use Rattle.trellis.specs.Isdb.{cand};
 ghost use Rattle.acs_paths.specs.Signs.{XSigns, YSigns};
 ghost use Rattle.acs_paths.specs.Branches.{BranchNumbers};
+ghost use Rattle.trellis.specs.Isdb;
 
 mod branches;
 mod signs;
@@ -46,14 +46,14 @@ pub fn pair_path(
 // The number 2X + Y of the branch from the state 2j + b on the input u.
 fn number(t: &Numbers, u: usize, b: usize, j: usize) -> u8
     requires { ⌜ (u < 2) × (b < 2) × (j < 32) × BranchNumbers (now t) ⌝ }
-    ensures { λ r. ⌜ r ≡ label isdb u (2 * j + b) ⌝ }
+    ensures { λ r. ⌜ r ≡ Isdb.labels u (2 * j + b) ⌝ }
 {
     t[u][b][j]
 }
 
 // The number 2X + Y of the branch from the state s (mod 64) on the low bit of u, as the step of four metrics reads it.
 pub fn branch_number(u: u8, s: u8) -> u8
-    ensures { λ r. ⌜ r ≡ label isdb (u % 2) (s % 64) ⌝ }
+    ensures { λ r. ⌜ r ≡ Isdb.labels (u % 2) (s % 64) ⌝ }
 {
     let t = BRANCH;
     let input = (u % 2) as usize;

@@ -9,7 +9,7 @@ use lib.Dec.{T, lit≤, lit<}
 use lib.ListN.{getD}
 use lib.Ieee.{Float, nan, binary32, add, sub, lt, le, eq, fits, ofInt, ofBits}
 use Rattle.trellis.specs.Lists.{upto, packed}
-use Rattle.trellis.specs.Code.{isdb, output, tapped, label, stateAt}
+use Rattle.trellis.specs.Code.{output, tapped, label, stateAt}
 use Rattle.trellis.specs.Isdb
 use Rattle.trellis.specs.Step.{four, Tie, lower, upper, branch, cand, wins, next, nexts, word, top, best, renormalised, kept, back, input, traced}
 use Rattle.trellis.specs.Run.{startAt, settled, released, stepped, after}
@@ -45,11 +45,11 @@ pub states-B : upto (stateAt 32 0 inputs-B) 8 ≡ 0 ∷ 32 ∷ 16 ∷ 8 ∷ 4 �
 unfolding upto stateAt
 states-B = refl
 
-pub labels-B : upto (labelAt 32 (label isdb) 0 inputs-B) 7 ≡ 3 ∷ 2 ∷ 3 ∷ 3 ∷ 0 ∷ 1 ∷ 3 ∷ []
+pub labels-B : upto (labelAt Isdb.half Isdb.labels 0 inputs-B) 7 ≡ 3 ∷ 2 ∷ 3 ∷ 3 ∷ 0 ∷ 1 ∷ 3 ∷ []
 unfolding upto stateAt label output tapped
 labels-B = refl
 
-pub sum-B : sumℤ 32 (label isdb) (λ k c. pos c) 0 inputs-B 7 ≡ pos 15
+pub sum-B : sumℤ Isdb.half Isdb.labels (λ k c. pos c) 0 inputs-B 7 ≡ pos 15
 unfolding sumℤ stateAt label output tapped
 sum-B = refl
 
@@ -83,13 +83,13 @@ one-path u h = record { walk = record { start = lit< tt; bits = λ k l. go k l }
     go zero l = h
     go (suc k) l = absurd (omega arith)
 
-pub two-paths : Path 32 1 0 (0 ∷ []) × Path 32 1 0 (1 ∷ []) × (sumℤ 32 (label isdb) (λ k c. pos 0) 0 (0 ∷ []) 1 ≡ pos 0) × (sumℤ 32 (label isdb) (λ k c. pos 0) 0 (1 ∷ []) 1 ≡ pos 0)
+pub two-paths : Path 32 1 0 (0 ∷ []) × Path 32 1 0 (1 ∷ []) × (sumℤ Isdb.half Isdb.labels (λ k c. pos 0) 0 (0 ∷ []) 1 ≡ pos 0) × (sumℤ Isdb.half Isdb.labels (λ k c. pos 0) 0 (1 ∷ []) 1 ≡ pos 0)
 unfolding sumℤ
 two-paths = (one-path 0 (lit< tt), one-path 1 (lit< tt), refl, refl)
 
 -- the decoder reads 0, under the other rule 1
 abbrev pub readZeros : Tie → List ℕ
-readZeros t = readBits 32 (label isdb) t 128 (λ k. four (zeros k)) (startAt 64 0) 1
+readZeros t = readBits Isdb.half Isdb.labels t 128 (λ k. four (zeros k)) (startAt 64 0) 1
 
 pub zeros-lower : readZeros lower ≡ 0 ∷ []
 unfolding startAt settled released stepped after upto packed label output tapped branch cand wins next nexts word top best renormalised kept back input traced ofBits add sub lt

@@ -20,6 +20,7 @@ use Rattle.isdb_fec.specs.Calls.{fourSteps, call, flush, Flushes, Unchanged, Ei
 use Rattle.call_ranges.specs.Finished.{Finished}
 use Rattle.best_reading.specs.declared.Start.{Start}
 use Rattle.best_reading.specs.declared.Start.the-variants.{Given, Unknown}
+use Rattle.trellis.specs.Isdb.{frameTraceback}
 
 -- the path values of the fresh decoder, and the states in which a path may start
 abbrev pub startValues : Start → List Float
@@ -32,20 +33,20 @@ StartsIn Unknown z = Unit {0}
 
 -- the fresh decoder, and the decoder with its held words and its bits once the metrics xs have been pushed
 abbrev pub fresh : Start → ViterbiDecoder
-fresh start = record { pm = startValues start; held = 0; traceback = 128 }
+fresh start = record { pm = startValues start; held = 0; traceback = frameTraceback }
 
 abbrev pub read : Start → List Float → Decoder
-read start xs = call 128 (fourSteps xs) (record { values = startValues start; words = []; bits = [] }) (length xs / 4)
+read start xs = call frameTraceback (fourSteps xs) (record { values = startValues start; words = []; bits = [] }) (length xs / 4)
 
 -- the rows of a reading that is lent `decisions` words and `out` places: 5 "metrics not in fours"; 7 "not finite; beyond .. 1,048,576 for a
 -- stream value"; 9, a place for each bit, and "decisions always need 4,096 + traceback"
 abbrev pub readingRows : List Float → ℕ → ℕ → List Row
 readingRows xs decisions out =
-    (Length, not (eqb (length xs % 4) 0)) ∷ (Sample, someBeyond streamLimit xs) ∷ (Space, ltb out (length xs / 4) || ltb decisions (block + 128)) ∷ []
+    (Length, not (eqb (length xs % 4) 0)) ∷ (Sample, someBeyond streamLimit xs) ∷ (Space, ltb out (length xs / 4) || ltb decisions (block + frameTraceback)) ∷ []
 
 -- the state of a decoder of traceback 128 whose words are held in the lent decisions
 abbrev pub stateOf : Decoder → ViterbiDecoder
-stateOf d = record { pm = d .values; held = length (d .words); traceback = 128 }
+stateOf d = record { pm = d .values; held = length (d .words); traceback = frameTraceback }
 
 -- the flush of what a call left, behind the bits that it put out: the answer is the flush's own
 pub record Flushed (before after : Released) (decisions₀ decisions out₀ out : List ℕ) : Type 0 where
@@ -59,7 +60,7 @@ pub record Flushed (before after : Released) (decisions₀ decisions out₀ out 
 -- accepted, all bits are put out, one for each quadruple; refused, the fresh decoder and the lent memory are as they were
 abbrev pub Left : Start → List Float → Released → List ℕ → List ℕ → List ℕ → List ℕ → Type 0
 Left start xs r decisions₀ decisions out₀ out =
-    Either (r .answer) (Finished 128 (flush (read start xs) .bits) (read start xs) r decisions₀ decisions out₀ out) (Unchanged (fresh start) r decisions₀ decisions out₀ out)
+    Either (r .answer) (Finished frameTraceback (flush (read start xs) .bits) (read start xs) r decisions₀ decisions out₀ out) (Unchanged (fresh start) r decisions₀ decisions out₀ out)
 
 -- quadruple k of a flat list
 abbrev pub quadruple : List Float → ℕ → List Float
@@ -70,5 +71,5 @@ quadruple xs k = getD xs (4 * k) nan ∷ getD xs (4 * k + 1) nan ∷ getD xs (4 
 -- (`Reading.best`); any path from there with the greatest sum and none of that sum before it is the one returned (`Reading.only`)
 abbrev pub GreatestSum : Start → List Float → Released → ℕ → ℕ → List ℕ → Type 0
 GreatestSum start xs r decisions space out =
-    (n : ℕ) (m : ℕ → ℕ → ℤ) → length xs ≡ 4 * n → n ≤ longest → Quadruples (quadruple xs) m n → block + 128 ≤ decisions → n ≤ space
+    (n : ℕ) (m : ℕ → ℕ → ℤ) → length xs ≡ 4 * n → n ≤ longest → Quadruples (quadruple xs) m n → block + frameTraceback ≤ decisions → n ≤ space
     → (r .answer ≡ Accepted) × (r .count ≡ n) × Reading Isdb.half Isdb.labels Isdb.rule (StartsIn start) m n (take n out)

@@ -14,7 +14,7 @@ use Rattle.refusal.specs.Rows.{firstRow}
 use Rattle.refusal.specs.declared.Answer.the-variants.{Accepted, Traceback, Sample}
 use Rattle.trellis.specs.Isdb
 use Rattle.trellis.specs.Step.{Step}
-use Rattle.trellis.specs.Run.{Decoder, block}
+use Rattle.trellis.specs.Run.{Decoder, block, tracebackLimit}
 use Rattle.lead.specs.Ties.{false-of}
 use Rattle.trellis.specs.RunLaws.{after-values}
 use Rattle.lead.specs.Complement.{small}
@@ -39,18 +39,18 @@ use Rattle.call_ranges.specs.Reached.{Reached, Floats, with-state, unkno
 -- what holds of every such state
 pub record Fit (v : ViterbiDecoder) : Type 0 where
   pub least : 1 ≤ v .traceback
-  pub most : v .traceback ≤ 1024
-  pub fewer : v .held < 4096 + v .traceback
+  pub most : v .traceback ≤ tracebackLimit
+  pub fewer : v .held < block + v .traceback
   pub values : Bounded stepMost ruledOut 0 0 (v .pm)
 
 -- ---- the fresh start
-traceback-is : (b : Bool) (tb : ℕ) → (T b → tb ≡ 0) → (tb ≡ 0 → T b) → tb ≤ 1024 → (1 ≤ cond b 1 tb) × (cond b 1 tb ≤ 1024)
+traceback-is : (b : Bool) (tb : ℕ) → (T b → tb ≡ 0) → (tb ≡ 0 → T b) → tb ≤ tracebackLimit → (1 ≤ cond b 1 tb) × (cond b 1 tb ≤ tracebackLimit)
 traceback-is true tb f g h = (lit≤ tt, lit≤ tt)
 traceback-is false tb f g h = (omega (arith, g), h)
 
-fresh-traceback : (tb : ℕ) → Accepted ≡ firstRow (freshRows tb) → (1 ≤ cond (eqb tb 0) 1 tb) × (cond (eqb tb 0) 1 tb ≤ 1024)
+fresh-traceback : (tb : ℕ) → Accepted ≡ firstRow (freshRows tb) → (1 ≤ cond (eqb tb 0) 1 tb) × (cond (eqb tb 0) 1 tb ≤ tracebackLimit)
 fresh-traceback tb e =
-    traceback-is (eqb tb 0) tb (eqb→eq tb 0) (λ z. rw z tt) (ltb-false 1024 tb (passed (freshRows tb) tt (sym e) Traceback))
+    traceback-is (eqb tb 0) tb (eqb→eq tb 0) (λ z. rw z tt) (ltb-false tracebackLimit tb (passed (freshRows tb) tt (sym e) Traceback))
 
 fresh-fit : {tb : ℕ} {pm : List Float} {v : ViterbiDecoder} → Accepted ≡ firstRow (freshRows tb) → Bounded stepMost ruledOut 0 0 pm → Fresh tb pm v → Fit v
 fresh-fit {tb} {pm} {v} e b f =
@@ -60,14 +60,14 @@ fresh-fit {tb} {pm} {v} e b f =
     record { least = omega arith; most = omega arith; fewer = omega arith; values = rw (f .values) b }
 
 -- ---- a call of steps
-fewer-words : {v : ViterbiDecoder} → Fit v → (decisions₀ : List ℕ) → length (take (v .held) decisions₀) < 4096 + v .traceback
+fewer-words : {v : ViterbiDecoder} → Fit v → (decisions₀ : List ℕ) → length (take (v .held) decisions₀) < block + v .traceback
 fewer-words {v} i decisions₀ =
     let f = i .fewer in
     let e = length-take (v .held) decisions₀ in
     let m = min-le-left (v .held) (length decisions₀) in
     omega arith
 
-held-fit : {v : ViterbiDecoder} → Fit v → (decisions₀ : List ℕ) (xs : ℕ → Step) (n : ℕ) → length (steps (v .traceback) xs (handed v decisions₀) n .words) < 4096 + v .traceback
+held-fit : {v : ViterbiDecoder} → Fit v → (decisions₀ : List ℕ) (xs : ℕ → Step) (n : ℕ) → length (steps (v .traceback) xs (handed v decisions₀) n .words) < block + v .traceback
 held-fit {v} i decisions₀ xs n = counted Isdb.half Isdb.labels Isdb.rule (v .traceback) xs (handed v decisions₀) (i .least) (i .most) (fewer-words i decisions₀) n .few
 
 -- the state of a decoder d as a call hands it on
@@ -156,7 +156,7 @@ pub traceback-fit : {v : ViterbiDecoder} → Fit v → badTraceback v ≡ false
 traceback-fit {v} i =
     let a = i .least in
     let m = i .most in
-    rw (false-of (eqb (v .traceback) 0) (λ t. let e = eqb→eq (v .traceback) 0 t in omega arith), false-of (ltb 1024 (v .traceback)) (λ t. let l = ltb→lt 1024 (v .traceback) t in omega arith))
+    rw (false-of (eqb (v .traceback) 0) (λ t. let e = eqb→eq (v .traceback) 0 t in omega arith), false-of (ltb tracebackLimit (v .traceback)) (λ t. let l = ltb→lt tracebackLimit (v .traceback) t in omega arith))
 
 pub state-fit : {v : ViterbiDecoder} → Fit v → badState v ≡ false
 state-fit {v} i =

@@ -16,6 +16,7 @@ use Rattle.isdb_fec.specs.declared.conv.Released.{Released}
 use Rattle.isdb_fec.specs.Rows.{freshRows, pushRows, pushMetricsRows, pushKnownRows, flushRows}
 use Rattle.isdb_fec.specs.Calls.{pairSteps, fourSteps, knownSteps, call, steps, handed, Fresh, Zero, Leaves, Flushes, FlushesAt, Unchanged, Either}
 use Rattle.call_ranges.specs.Reached.{Reached, Floats, fresh, with-state, unknown-state, push, push-metrics, push-known, flush, flush-at}
+use Rattle.trellis.specs.Isdb.{frameTraceback}
 
 -- ---- a fresh start that is accepted
 pub made-given : {r : Made} (traceback state : ℕ) → r .answer ≡ firstRow (freshRows traceback) → Either (r .answer) (Fresh traceback (startAt 64 state) (r .dec)) (Zero (r .dec)) → r .answer ≡ Accepted → Reached (r .dec)
@@ -25,9 +26,9 @@ pub made-unknown : {r : Made} (traceback : ℕ) → r .answer ≡ firstRow (fres
 made-unknown traceback a e y = unknown-state traceback (sym y ∙ a) (e .0 y)
 
 pub fresh-reached : (state : ℕ) → Reached (fresh state)
-fresh-reached state = with-state 128 state refl (record { values = refl; held-is = refl; traceback-is = refl })
+fresh-reached state = with-state frameTraceback state refl (record { values = refl; held-is = refl; traceback-is = refl })
 
-pub fresh-is : {r : Made} (state : ℕ) → r .answer ≡ firstRow (freshRows 128) → Either (r .answer) (Fresh 128 (startAt 64 state) (r .dec)) (Zero (r .dec)) → r .dec ≡ fresh state
+pub fresh-is : {r : Made} (state : ℕ) → r .answer ≡ firstRow (freshRows frameTraceback) → Either (r .answer) (Fresh frameTraceback (startAt 64 state) (r .dec)) (Zero (r .dec)) → r .dec ≡ fresh state
 fresh-is state a e =
     let f = e .0 a in
     let x = f .values in

@@ -13,6 +13,7 @@ use Rattle.isdb_fec.specs.declared.conv.ViterbiDecoder.{ViterbiDecoder}
 use Rattle.isdb_fec.specs.declared.conv.Released.{Released}
 use Rattle.isdb_fec.specs.Rows.{freshRows, pushRows, pushMetricsRows, pushKnownRows, flushRows}
 use Rattle.isdb_fec.specs.Calls.{pairSteps, fourSteps, knownSteps, call, steps, handed, Fresh, Leaves, Flushes, FlushesAt}
+use Rattle.trellis.specs.Isdb.{frameTraceback}
 
 -- every value of a lent f32 slice is one of the format's; the borrow checker tells it of each slice
 abbrev pub Floats : List Float → Type 0
@@ -20,7 +21,7 @@ Floats xs = (i : ℕ) → T (fits binary32 (getD xs i nan))
 
 -- the decoder of traceback 128 that `with_state` makes
 abbrev pub fresh : ℕ → ViterbiDecoder
-fresh state = record { pm = startAt 64 state; held = 0; traceback = 128 }
+fresh state = record { pm = startAt 64 state; held = 0; traceback = frameTraceback }
 
 pub data Reached : ViterbiDecoder → Type 0 where
   -- `new` is `with_state` at 0

@@ -6,6 +6,7 @@ ghost use Rattle.refusal.specs.Rows.{firstRow};
 ghost use Rattle.isdb_fec.specs.Calls.{pairSteps, call, handed, Leaves, Unchanged, Either};
 ghost use Rattle.call_ranges.specs.Reached.{fresh};
 ghost use Rattle.isdb_fec.specs.Rows.{streamRest};
+ghost use Rattle.trellis.specs.Isdb.{frameTraceback};
 use isdb_fec::conv::Released;
 use isdb_fec::conv::ViterbiDecoder;
 
@@ -13,7 +14,7 @@ use isdb_fec::conv::ViterbiDecoder;
 pub fn push_fresh(state: u8, pairs: &[f32], decisions: &mut [u64], out: &mut [u8]) -> Released
     ensures answers { λ r. ⌜ r .answer ≡ firstRow (streamRest 2 (fresh state) (now (pairs .entry)) (length (now (decisions .entry))) (length (now (out .entry)))) ⌝ }
     ensures leaves { λ r. ⌜ Either (r .answer)
-        (Leaves 128 (call 128 (pairSteps (now (pairs .entry))) (handed (fresh state) (now (decisions .entry))) (length (now (pairs .entry)) / 2)) r (now (decisions .entry)) (now (decisions .exit)) (now (out .entry)) (now (out .exit)))
+        (Leaves frameTraceback (call frameTraceback (pairSteps (now (pairs .entry))) (handed (fresh state) (now (decisions .entry))) (length (now (pairs .entry)) / 2)) r (now (decisions .entry)) (now (decisions .exit)) (now (out .entry)) (now (out .exit)))
         (Unchanged (fresh state) r (now (decisions .entry)) (now (decisions .exit)) (now (out .entry)) (now (out .exit))) ⌝ }
 {
     let made = ViterbiDecoder::with_state(128, state);

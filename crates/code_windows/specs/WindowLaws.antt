@@ -13,6 +13,7 @@ use Rattle.trellis.specs.Code.{isdb, output, tapped, label, moved, stateAt}
 use Rattle.trellis.specs.LinearLaws.{xor-low}
 use Rattle.trellis.specs.ListLaws.{every, every-at}
 use Rattle.code_windows.specs.Windows.{backward, xOutputs, yOutputs, outputsIn}
+use Rattle.trellis.specs.Isdb
 
 -- ---- digits
 -- digits below the i-th do not see what is added at the i-th
@@ -169,7 +170,7 @@ module _ (z j : ℕ) (small : z < 16384) (few : j < 8) where
       ∙ sym (y-window w)
 
 -- 2 X + Y of the window at the lowest digit
-pub label-lowest : (w : ℕ) → w < 16384 → label isdb (w % 2) (backward (w / 2 % 64)) ≡ 2 * (outputsIn w / 2 ^ 16 % 2) + outputsIn w / 2 ^ 0 % 2
+pub label-lowest : (w : ℕ) → w < 16384 → Isdb.labels (w % 2) (backward (w / 2 % 64)) ≡ 2 * (outputsIn w / 2 ^ 16 % 2) + outputsIn w / 2 ^ 0 % 2
 unfolding label
 label-lowest w small = rw (rw (div-one w) at (x-digit w 0 small (omega arith)), rw (div-one w) at (y-digit w 0 small (omega arith)))
 
@@ -194,7 +195,7 @@ module _ (z n : ℕ) (us : List ℕ) (inputs : (k : ℕ) → k < n → getD us k
 
   -- 2 X + Y of step k
   pub label-window : z < 16384 → n ≤ 8 → (k : ℕ) → k < n
-      → label isdb (getD us k 0) (stateAt 32 from us k) ≡ 2 * (outputsIn z / 2 ^ (16 + (n - 1 - k)) % 2) + outputsIn z / 2 ^ (n - 1 - k) % 2
+      → Isdb.labels (getD us k 0) (stateAt 32 from us k) ≡ 2 * (outputsIn z / 2 ^ (16 + (n - 1 - k)) % 2) + outputsIn z / 2 ^ (n - 1 - k) % 2
   unfolding label
   label-window small few k h =
       let j = n - 1 - k in

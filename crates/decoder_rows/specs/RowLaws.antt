@@ -17,7 +17,7 @@ use Rattle.decoder_rows.specs.Rows.{handedRows}
 pub record Sound (pm : List Float) (held tb : ℕ) : Type 0 where
   pub least : 1 ≤ tb
   pub most : tb ≤ tracebackLimit
-  pub fewer : held < 4096 + tb
+  pub fewer : held < block + tb
   pub finite : someBeyond pathLimit pm ≡ false
 
 pub sound : (pm : List Float) (held tb : ℕ) → Accepted ≡ firstRow (handedRows pm held tb) → Sound pm held tb
@@ -27,5 +27,5 @@ sound pm held tb e =
     let s = neither (leb (block + tb) held) (someBeyond pathLimit pm) (p State) in
     let n : tb ≡ 0 → ⊥ = eqb-false tb 0 (t .0) in
     let h : tb ≤ tracebackLimit = ltb-false tracebackLimit tb (t .1) in
-    let g : held < 4096 + tb = leb-false (4096 + tb) held (s .0) in
+    let g : held < block + tb = leb-false (block + tb) held (s .0) in
     record { least = omega arith; most = h; fewer = g; finite = s .1 }

@@ -4,15 +4,13 @@ ghost use mathlib.Core.Bool.{cond, not};
 ghost use Prim.Native.Nat.{ℕ, _+_, _<_, _≤_};
 ghost use Rattle.refusal.specs.Rows.{firstRow};
 ghost use Rattle.decoder_rows.specs.Values.{within, someBeyond};
-ghost use Rattle.trellis.specs.Run.{tracebackLimit};
+ghost use Rattle.trellis.specs.Run.{tracebackLimit, block};
 ghost use Rattle.decoder_rows.specs.Rows.{handedRows, streamRows, knownRows, flushRows, stepsShort};
 use refusal::Answer;
+use trellis::BLOCK;
+use trellis::TRACEBACK_LIMIT;
 use viterbi::few_places;
 
-// The bits that leave at a release.
-const BLOCK: usize = 4096;
-// The greatest traceback.
-pub const TRACEBACK_LIMIT: usize = 1024;
 // The greatest path value of a handed state, 2^32.
 pub const PATH_LIMIT: f32 = 4294967296.0;
 // The greatest soft value or metric.
@@ -57,7 +55,7 @@ pub fn answer_handed(pm: &[f32], held: usize, traceback: usize) -> Answer
 
 // The answer to a call of n steps on a state that is not refused: is there space?
 pub fn answer_space(held: usize, traceback: usize, n: usize, decisions: usize, out: usize) -> Answer
-    requires { ⌜ (1 ≤ traceback) × (traceback ≤ tracebackLimit) × (held < 4096 + traceback) ⌝ }
+    requires { ⌜ (1 ≤ traceback) × (traceback ≤ tracebackLimit) × (held < block + traceback) ⌝ }
     ensures { λ r. ⌜ r ≡ cond (stepsShort n held traceback decisions out) Answer.Space Answer.Accepted ⌝ }
 {
     if few_places(traceback, held, n, out) {

@@ -14,13 +14,14 @@ use Rattle.isdbs_points.specs.Frame.{startState}
 use Rattle.isdbs_phy.specs.DecodeRows.{shortSpace}
 use Rattle.isdbs_points.specs.Layout.{FullLoad}
 use Rattle.margins.specs.Margins.{freeRe, freeIm, holds, Within}
+use Rattle.isdbs_frame.specs.Frame.{mainSymbols}
 
 -- received parts that keep the margins of the parts that were laid, "whatever is lent past them"
 pub record Received (t : tmcc.Table) (laidRe laidIm re im : List Float) : Type 0 where
-  pub re-count : 38976 ≤ length re
-  pub im-count : 38976 ≤ length im
-  pub re-parts : (k : ℕ) → k < 38976 → T (holds (freeRe t k) (getD laidRe k nan) (getD re k nan))
-  pub im-parts : (k : ℕ) → k < 38976 → T (holds (freeIm t k) (getD laidIm k nan) (getD im k nan))
+  pub re-count : mainSymbols ≤ length re
+  pub im-count : mainSymbols ≤ length im
+  pub re-parts : (k : ℕ) → k < mainSymbols → T (holds (freeRe t k) (getD laidRe k nan) (getD re k nan))
+  pub im-parts : (k : ℕ) → k < mainSymbols → T (holds (freeIm t k) (getD laidIm k nan) (getD im k nan))
 
 -- the frame that an accepted call lays from the start state for `first` lies within the margins of its load, and so does every frame received within its margins
 pub record Lays (answer : ℕ) (t : tmcc.Table) (m : Mapping) (load : List ℕ) (state : ℕ) (laidRe laidIm : List Float) : Type 0 where

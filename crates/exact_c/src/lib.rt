@@ -14,6 +14,7 @@ ghost use Rattle.table_c.specs.Forms.{tableOf};
 ghost use Rattle.isdb_c.specs.Mappings.{mappingOf, isSet};
 ghost use Rattle.answers_c.specs.Answers.{answered, left};
 ghost use Rattle.exact_c.specs.Call.{Lays, ExactC};
+ghost use Rattle.trellis.specs.Isdb.{frameWords};
 
 // isdbs_encode_frame. Where it accepts, at the start state for either kind of frame, the frame lies within its load's margins, and so does every frame
 // received within the margins of what is laid.
@@ -50,7 +51,7 @@ pub fn read_frame(
     sum: &mut u32,
 ) -> u32
     ensures answers { λ r. ⌜ r ≡ answered (decodeRows (tableOf table) (now (re .entry)) (now (im .entry)) eights (length (now (decisions .entry))) (length (now (bits .entry))) (length (now (bytes .entry))) (length (now (counts .entry)))) ⌝ }
-    ensures words { λ r. ⌜ now (decisions .exit) ≡ left r (laid (replicate 4224 0) (now (decisions .entry))) (now (decisions .entry)) ⌝ }
+    ensures words { λ r. ⌜ now (decisions .exit) ≡ left r (laid (replicate frameWords 0) (now (decisions .entry))) (now (decisions .entry)) ⌝ }
     ensures decoded { λ r. ⌜ now (bits .exit) ≡ left r (laid (decodedBits (tableOf table) (receivedBy (now (re .entry)) (now (im .entry)) (mappingOf mapping) eights) true (isSet first)) (now (bits .entry))) (now (bits .entry)) ⌝ }
     ensures load { λ r. ⌜ now (bytes .exit) ≡ left r (laid (decodedBytes (tableOf table) (receivedBy (now (re .entry)) (now (im .entry)) (mappingOf mapping) eights) true (isSet first)) (now (bytes .entry))) (now (bytes .entry)) ⌝ }
     ensures strain { λ r. ⌜ now (counts .exit) ≡ left r (laid (strainCounts (tableOf table) (receivedBy (now (re .entry)) (now (im .entry)) (mappingOf mapping) eights) true (isSet first)) (now (counts .entry))) (now (counts .entry)) ⌝ }

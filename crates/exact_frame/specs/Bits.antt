@@ -4,14 +4,15 @@ use Prim.Native.Nat.{ℕ, zero, suc, _<_}
 use native.Mathlib.Omega.{arith}
 use lib.Dec.{T, eqb}
 use lib.Ieee.{Float}
-use Rattle.trellis.specs.Code.{isdb, output, label}
+use Rattle.trellis.specs.Code.{output, label}
 use Rattle.trellis.specs.Step.{term}
 use Rattle.isdbs_points.specs.Points.{point, root64, qpskOf, conjugated}
 use Rattle.isdbs_metrics.specs.Reading.{partOf}
 use Rattle.margins.specs.Margins.{keeps}
 use Rattle.margins.specs.Clean.{clean-root, term-clean, conjugated-keeps}
+use Rattle.trellis.specs.Isdb
 
-pub label-small : (u s : ℕ) → label isdb u s < 4
+pub label-small : (u s : ℕ) → Isdb.labels u s < 4
 unfolding label output
 label-small u s = omega arith
 

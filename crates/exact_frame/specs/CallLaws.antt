@@ -28,6 +28,7 @@ use Rattle.margins.specs.Margins.{anyAccepted, Within}
 use Rattle.exact_frame.specs.StrainLaws.{decoded-exactly}
 use Rattle.exact_frame.specs.Frames.{re-accepted, im-accepted}
 use Rattle.exact_frame.specs.Call.{eight, eights, ReadsBack, exactly, short}
+use Rattle.isdbs_frame.specs.Frame.{mainSymbols}
 
 none-beyond : (xs : List Float) (n : ℕ) → ((k : ℕ) → k < n → T (anyAccepted (getD xs k nan))) → someBeyond partLimit xs n ≡ false
 unfolding someOf
@@ -49,10 +50,10 @@ last-row : (t : Table) → TableAccepted t → (m : Mapping) (first : Bool) (loa
 last-row t fit m first load re im w d b y n =
     then-rows t (pointRows re im ++ lastRows t (someBad eights) d b y n) fit
     ∙ rw (
-      le-ltb (length re) 38976 (w .re-count),
-      le-ltb (length im) 38976 (w .im-count),
-      none-beyond re 38976 (re-accepted w),
-      none-beyond im 38976 (im-accepted w),
+      le-ltb (length re) mainSymbols (w .re-count),
+      le-ltb (length im) mainSymbols (w .im-count),
+      none-beyond re mainSymbols (re-accepted w),
+      none-beyond im mainSymbols (im-accepted w),
       eights-fine,
     )
 

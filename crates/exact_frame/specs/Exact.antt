@@ -11,12 +11,12 @@ use lib.ListN.{getD}
 use lib.Ieee.{Float, binary32, ofBits}
 use Rattle.trellis.specs.Lists.{upto}
 use Rattle.trellis.specs.Code.{stateAt}
-use Rattle.trellis.specs.Isdb.{rule}
+use Rattle.trellis.specs.Isdb.{rule, frameTraceback}
 use Rattle.lead.specs.Favour.{Favours}
 use Rattle.lead.specs.Frame.{decoded-sent}
 use Rattle.isdbs_combination.specs.declared.Modulation.{Modulation}
 use Rattle.isdbs_tables.specs.declared.Table.{Table}
-use Rattle.isdbs_combination.specs.Combinations.{modulationOf, unitOf, slotSteps}
+use Rattle.isdbs_combination.specs.Combinations.{modulationOf, unitOf, slotSteps, slotBits}
 use Rattle.isdbs_tables.specs.Tables.{TableAccepted}
 use Rattle.isdbs_runs.specs.RunsOf.{frameSteps, loadBytes}
 use Rattle.isdbs_points.specs.declared.Mapping.{Mapping}
@@ -48,7 +48,7 @@ module _ (t : Table) (fit : TableAccepted t) (m : Mapping) (first : Bool) (load 
 
   pub sent-bits : (i : ℕ) → i < frameSteps t → getD us i 0 ≡ getD (inputs t load) i 0
   unfolding decodedBits
-  sent-bits = decoded-sent rule 128 (startState first) (inputs t load) (metricsAt t r) (frameSteps t) (few-steps t fit) favours (wordBit 0x1b95) 16 .sent
+  sent-bits = decoded-sent rule frameTraceback (startState first) (inputs t load) (metricsAt t r) (frameSteps t) (few-steps t fit) favours (wordBit 0x1b95) 16 .sent
 
   -- ---- the bits of the bytes
   module _ (g : Segment) (i : In g (segments t)) where
@@ -62,7 +62,7 @@ module _ (t : Table) (fit : TableAccepted t) (m : Mapping) (first : Bool) (load 
     unfolding bitBy
     bit-in k K = go (kind (g .combination))
       where
-        plain : slotSteps (g .combination) ≡ 1624 → k < g .steps
+        plain : slotSteps (g .combination) ≡ slotBits → k < g .steps
         plain e = let o = table-whole t fit g i in let s : g .steps ≡ g .bits = o .steps-are ∙ ap (λ (x : ℕ). x * (o .units * unitOf (g .combination) .valid)) e ∙ sym (o .bits-are) in omega arith
 
         half : Pairs (g .combination) → k / 2 < g .steps

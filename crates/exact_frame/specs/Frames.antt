@@ -31,13 +31,14 @@ use Rattle.isdbs_points.specs.BitLaws.{subset-small, load-bit-small}
 use Rattle.exact_frame.specs.Bits.{label-small}
 use Rattle.exact_frame.specs.Steps.{received}
 use Rattle.exact_frame.specs.Exact.{decoded-load}
+use Rattle.isdbs_frame.specs.Frame.{mainSymbols}
 
 -- ---- row 7, "not finite; beyond" 65,536: no part within the margins is so
 holds-accepted : (free : Bool) (clean x : Float) → T (holds free clean x) → T (anyAccepted x)
 holds-accepted true clean x h = h
 holds-accepted false clean x h = keeps-accepted clean x h
 
-module _ {re im : List Float} {load : List ℕ} {t : Table} {m : Mapping} {first : Bool} (w : Within re im load t m first) (k : ℕ) (h : k < 38976) where
+module _ {re im : List Float} {load : List ℕ} {t : Table} {m : Mapping} {first : Bool} (w : Within re im load t m first) (k : ℕ) (h : k < mainSymbols) where
   pub re-accepted : T (anyAccepted (getD re k nan))
   re-accepted = holds-accepted (freeRe t k) (pointAt t m load (startState first) k .re) (getD re k nan) (w .re-parts k h)
 
@@ -83,14 +84,14 @@ keeping-holds f h false y c = h y c
 
 -- the parts through f, and after them what is lent
 abbrev pub shifted : (Float → Float) → (ℕ → Float) → List Float → List Float
-shifted f part more = upto (λ k. f (part k)) 38976 ++ more
+shifted f part more = upto (λ k. f (part k)) mainSymbols ++ more
 
-shifted-count : (f : Float → Float) (part : ℕ → Float) (more : List Float) → 38976 ≤ length (shifted f part more)
-shifted-count f part more = omega (arith, length-append (upto (λ k. f (part k)) 38976) more, length-upto (λ k. f (part k)) 38976)
+shifted-count : (f : Float → Float) (part : ℕ → Float) (more : List Float) → mainSymbols ≤ length (shifted f part more)
+shifted-count f part more = omega (arith, length-append (upto (λ k. f (part k)) mainSymbols) more, length-upto (λ k. f (part k)) mainSymbols)
 
-shifted-at : (f : Float → Float) (part : ℕ → Float) (more : List Float) (k : ℕ) → k < 38976 → getD (shifted f part more) k nan ≡ f (part k)
+shifted-at : (f : Float → Float) (part : ℕ → Float) (more : List Float) (k : ℕ) → k < mainSymbols → getD (shifted f part more) k nan ≡ f (part k)
 shifted-at f part more k h =
-    List·getD-append (upto (λ k. f (part k)) 38976) more nan k (rw (length-upto (λ k. f (part k)) 38976) h) ∙ getD-upto (λ k. f (part k)) nan 38976 k h
+    List·getD-append (upto (λ k. f (part k)) mainSymbols) more nan k (rw (length-upto (λ k. f (part k)) mainSymbols) h) ∙ getD-upto (λ k. f (part k)) nan mainSymbols k h
 
 module _ (t : Table) (m : Mapping) (load : List ℕ) (first : Bool) where
   abbrev pub rePart : ℕ → Float
@@ -149,10 +150,10 @@ module _ (t : Table) (m : Mapping) (load : List ℕ) (first : Bool) (xs ys : Lis
   ends-within = shifted-within t m load first lowEnd highEnd (λ y c. low-other y c .keeps-it) (λ y c. high-other y c .keeps-it) xs ys
 
   -- each of its parts is an f64 that is not the encoded frame's
-  pub re-other : (k : ℕ) → k < 38976 → Other (rePart t m load first k) (getD (shifted lowEnd (rePart t m load first) xs) k nan)
+  pub re-other : (k : ℕ) → k < mainSymbols → Other (rePart t m load first k) (getD (shifted lowEnd (rePart t m load first) xs) k nan)
   re-other k h = rw (shifted-at lowEnd (rePart t m load first) xs k h) (low-other (rePart t m load first k) (point-clean t m load (startState first) k .0))
 
-  pub im-other : (k : ℕ) → k < 38976 → Other (imPart t m load first k) (getD (shifted highEnd (imPart t m load first) ys) k nan)
+  pub im-other : (k : ℕ) → k < mainSymbols → Other (imPart t m load first k) (getD (shifted highEnd (imPart t m load first) ys) k nan)
   im-other k h = rw (shifted-at highEnd (imPart t m load first) ys k h) (high-other (imPart t m load first k) (point-clean t m load (startState first) k .1))
 
 -- ---- so the encoded frame decodes to its load

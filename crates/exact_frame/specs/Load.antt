@@ -13,7 +13,7 @@ use Rattle.isdbs_combination.specs.declared.Combination.the-variants.{«Bpsk1_2
 use Rattle.isdbs_combination.specs.declared.Modulation.{Modulation}
 use Rattle.isdbs_combination.specs.declared.Modulation.the-variants.{Bpsk, Qpsk, Tc8psk}
 use Rattle.isdbs_tables.specs.declared.Table.{Table}
-use Rattle.isdbs_combination.specs.Combinations.{modulationOf, unitOf, slotSteps}
+use Rattle.isdbs_combination.specs.Combinations.{modulationOf, unitOf, slotSteps, slotBits, slotSymbols}
 use Rattle.isdbs_tables.specs.Tables.{TableAccepted}
 use Rattle.isdbs_runs.specs.RunsOf.{runsOf, validTotal, loadBytes, frameSteps}
 use Rattle.isdbs_points.specs.declared.Cplx.{Cplx}
@@ -24,6 +24,7 @@ use Rattle.isdbs_points.specs.Frame.{coded, inputIn, inputs, labelAt, pointBy, 
 use Rattle.trellis.specs.LaidLaws.{upto-cong}
 use Rattle.isdbs_points.specs.PlaceLaws.{Fill, fill-member}
 use Rattle.isdbs_points.specs.SizeLaws.{symbolSum, fill-steps, fill-bits, fill-symbols, table-whole}
+use Rattle.isdbs_frame.specs.Frame.{mainSymbols}
 
 -- ---- two functions that say the same of each place of each segment
 module _ {A : Type 0} (first size : Segment → ℕ) (none : A) (f f' : Segment → ℕ → A) where
@@ -40,7 +41,7 @@ module _ {A : Type 0} (first size : Segment → ℕ) (none : A) (f f' : Segment 
       go false y n r = let s = n tt in let e = c .0 in r (omega arith)
 
 -- ---- the bits of the load that a segment takes are its own
-coded-few : (c : Combination) (u k : ℕ) → k < slotSteps c * (u * unitOf c .valid) → coded (modulationOf c) k < 1624 * (u * unitOf c .valid)
+coded-few : (c : Combination) (u k : ℕ) → k < slotSteps c * (u * unitOf c .valid) → coded (modulationOf c) k < slotBits * (u * unitOf c .valid)
 coded-few «Bpsk1_2» u k h = omega arith
 coded-few «Qpsk1_2» u k h = omega arith
 coded-few «Qpsk2_3» u k h = omega arith
@@ -49,7 +50,7 @@ coded-few «Qpsk5_6» u k h = omega arith
 coded-few «Qpsk7_8» u k h = omega arith
 coded-few «Tc8psk2_3» u k h = omega arith
 
-uncoded-few : (c : Combination) (u j : ℕ) → modulationOf c ≡ Tc8psk → j < u * (unitOf c .slots * 812) → 2 * j < 1624 * (u * unitOf c .valid)
+uncoded-few : (c : Combination) (u j : ℕ) → modulationOf c ≡ Tc8psk → j < u * (unitOf c .slots * slotSymbols) → 2 * j < slotBits * (u * unitOf c .valid)
 uncoded-few «Bpsk1_2» u j e h = let z : _≡_ {A = ℕ} 0 1 = cc in omega arith
 uncoded-few «Qpsk1_2» u j e h = let z : _≡_ {A = ℕ} 0 1 = cc in omega arith
 uncoded-few «Qpsk2_3» u j e h = let z : _≡_ {A = ℕ} 0 1 = cc in omega arith
@@ -64,7 +65,7 @@ SameBits t a b = (n : ℕ) → n < 8 * loadBytes t → loadBit a n ≡ loadBit b
 
 module _ (t : Table) (fit : TableAccepted t) (a b : List ℕ) (h : SameBits t a b) where
   bits-end : (g : Segment) → In g (segments t) → g .bit + g .bits ≤ 8 * loadBytes t
-  bits-end g m = omega (arith, fill-member (λ g. g .bit) (λ g. g .bits) g (segments t) 0 (0 + 1624 * validTotal t) m (fill-bits (runsOf t) 0 0) .1)
+  bits-end g m = omega (arith, fill-member (λ g. g .bit) (λ g. g .bits) g (segments t) 0 (0 + slotBits * validTotal t) m (fill-bits (runsOf t) 0 0) .1)
 
   same-input : (g : Segment) → In g (segments t) → (k : ℕ) → k < g .steps → inputIn a g k ≡ inputIn b g k
   same-input g m k l =
@@ -103,10 +104,10 @@ module _ (t : Table) (fit : TableAccepted t) (a b : List ℕ) (h : SameBits t a 
         ap (λ (p : Cplx). point (p .re) (conjugated (m .conjugate) (p .im))) e
 
     pub same-re : frameRe t m a s ≡ frameRe t m b s
-    same-re = upto-cong (λ k. pointAt t m a s k .re) (λ k. pointAt t m b s k .re) 38976 (λ k l. ap (λ (p : Cplx). p .re) (same-points k))
+    same-re = upto-cong (λ k. pointAt t m a s k .re) (λ k. pointAt t m b s k .re) mainSymbols (λ k l. ap (λ (p : Cplx). p .re) (same-points k))
 
     pub same-im : frameIm t m a s ≡ frameIm t m b s
-    same-im = upto-cong (λ k. pointAt t m a s k .im) (λ k. pointAt t m b s k .im) 38976 (λ k l. ap (λ (p : Cplx). p .im) (same-points k))
+    same-im = upto-cong (λ k. pointAt t m a s k .im) (λ k. pointAt t m b s k .im) mainSymbols (λ k l. ap (λ (p : Cplx). p .im) (same-points k))
 
 -- ---- loads whose first 203 bytes for each valid slot agree; surplus bytes are ignored
 module _ (t : Table) where

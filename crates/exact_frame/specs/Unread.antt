@@ -26,6 +26,8 @@ use Rattle.isdbs_metrics.specs.Reading.{Received, symbolAt, scaled, partOf, car
 use Rattle.trellis.specs.LaidLaws.{upto-cong}
 use Rattle.isdbs_points.specs.SizeLaws.{table-whole, symbol-fits, at-step, at-bit, find-step, find-bit}
 use Rattle.isdbs_points.specs.OrderLaws.{Sends, Pairs, Kind, one, two, three, kind, mother, number}
+use Rattle.isdbs_frame.specs.Frame.{mainSymbols}
+use Rattle.trellis.specs.Isdb.{frameTraceback}
 
 -- n steps of a call see its first n steps
 after-alike : (half : ℕ) (out : ℕ → ℕ → ℕ) (t : Tie) (tb : ℕ) (xs ys : ℕ → Step) (d : Decoder) (n : ℕ) → ((k : ℕ) → k < n → xs k ≡ ys k)
@@ -38,14 +40,14 @@ after-alike half out t tb xs ys d (suc n) h =
 -- two frames as they are lent, alike in the first 38,976 points
 module _
     (t : Table) (fit : TableAccepted t) (m : Mapping) (scale : Combination → Float) (re im re′ im′ : List Float)
-    (re-alike : (k : ℕ) → k < 38976 → getD re k nan ≡ getD re′ k nan) (im-alike : (k : ℕ) → k < 38976 → getD im k nan ≡ getD im′ k nan) where
+    (re-alike : (k : ℕ) → k < mainSymbols → getD re k nan ≡ getD re′ k nan) (im-alike : (k : ℕ) → k < mainSymbols → getD im k nan ≡ getD im′ k nan) where
   abbrev r : Received
   r = record { re = re; im = im; mapping = m; scale = scale }
 
   abbrev r′ : Received
   r′ = record { re = re′; im = im′; mapping = m; scale = scale }
 
-  symbol-alike : (k : ℕ) → k < 38976 → symbolAt r k ≡ symbolAt r′ k
+  symbol-alike : (k : ℕ) → k < mainSymbols → symbolAt r k ≡ symbolAt r′ k
   symbol-alike k l = rw (re-alike k l, im-alike k l)
 
   module _ (g : Segment) (i : In g (segments t)) where
@@ -159,7 +161,7 @@ module _
     pub bits-alike : decodedBits t r knownStart first ≡ decodedBits t r′ knownStart first
     unfolding decodedBits
     bits-alike =
-        rw (after-alike Isdb.half Isdb.labels Isdb.rule 128 (λ k. four (metricsAt t r k)) (λ k. four (metricsAt t r′ k))
+        rw (after-alike Isdb.half Isdb.labels Isdb.rule frameTraceback (λ k. four (metricsAt t r k)) (λ k. four (metricsAt t r′ k))
         (record { values = startValues knownStart first; words = []; bits = [] }) (frameSteps t) step-alike)
 
     pub bytes-alike : decodedBytes t r knownStart first ≡ decodedBytes t r′ knownStart first

@@ -16,7 +16,6 @@ use Rattle.refusal.specs.declared.Answer.the-variants.{Accepted, Sample, Scale}
 use Rattle.ieee.specs.Value.{Num, hi-neg, num-neg}
 use Rattle.ieee.specs.Order.{le→value, lt→value, not-lt→value, value→le, num-between}
 use Rattle.ieee.specs.Constants.{two-to, two-to-num}
-use Rattle.trellis.specs.Code.{isdb, label}
 use Rattle.trellis.specs.Step.{Tie, nexts, renormalised}
 use Rattle.trellis.specs.Run.{valuesAt, pushed, freshFrom}
 use Rattle.trellis.specs.RunLaws.{after-values}
@@ -48,6 +47,9 @@ use Rattle.frame_ranges.specs.Size.{Size, two-lo, between-size, size-fro
 use Rattle.frame_ranges.specs.Rising.{Up, Rises}
 use Rattle.frame_ranges.specs.Metrics.{Sized, soft-in, metric-in, metric-rises}
 use Rattle.frame_ranges.specs.Ranges.{Between, pathRange, Ranges, frameAt}
+use Rattle.isdbs_frame.specs.Frame.{mainSymbols}
+use Rattle.trellis.specs.Isdb.{frameTraceback}
+use Rattle.trellis.specs.Isdb
 
 -- ---- a value within a power of two, as a test
 size-within : {t : ℕ} {x : Float} (limit : Float) → limit ≡ two-to t → t ≤ 127 → Size binary32 t x → T (within limit x)
@@ -114,8 +116,8 @@ scales-in scales f e c =
 -- ---- what the rows of an accepted call say
 record Passed (t : Table) (re im scales : List Float) : Type 0 where
   fit : TableAccepted t
-  re-fine : someBeyond partLimit re 38976 ≡ false
-  im-fine : someBeyond partLimit im 38976 ≡ false
+  re-fine : someBeyond partLimit re mainSymbols ≡ false
+  im-fine : someBeyond partLimit im mainSymbols ≡ false
   scales-fine : someBad scales ≡ false
 
 module _ (t : Table) (re im scales : List Float) (decisions bits bytes counts : ℕ) where
@@ -124,7 +126,7 @@ module _ (t : Table) (re im scales : List Float) (decisions bits bytes counts : 
       let rest : List Row = pointRows re im ++ lastRows t (someBad scales) decisions bits bytes counts in
       let b = then-accepted t rest (sym e) in
       let p = row.passed rest tt (b .1) in
-      let q = row.neither (someBeyond partLimit re 38976) (someBeyond partLimit im 38976) (p Sample) in
+      let q = row.neither (someBeyond partLimit re mainSymbols) (someBeyond partLimit im mainSymbols) (p Sample) in
       record { fit = b .0; re-fine = q .0; im-fine = q .1; scales-fine = p Scale }
 
 -- ---- the path values of sized steps
@@ -143,15 +145,15 @@ module _ (e : Tie) (t : Table) (r : Received) (metrics : (k l : ℕ) → k < fra
     soft-step k h = quad (λ l. metric-within k l h)
 
     -- one of the two branches that leave a state has a metric that is not below 0
-    falls : (k : ℕ) → k < frameSteps t → (s : ℕ) → s < 64 → Falls stepMost 0 (label isdb) (frameMetrics t r k) s
-    falls k h s l = go (rises k (label isdb 0 s) h (small 0 s (lit< tt) l))
+    falls : (k : ℕ) → k < frameSteps t → (s : ℕ) → s < 64 → Falls stepMost 0 Isdb.labels (frameMetrics t r k) s
+    falls k h s l = go (rises k (Isdb.labels 0 s) h (small 0 s (lit< tt) l))
       where
-        at : (u : ℕ) → u < 2 → Within (getD (metricsAt t r k) (label isdb u s) nan) stepMost stepMost
-        at u g = metric-within k (label isdb u s) h (small u s g l)
+        at : (u : ℕ) → u < 2 → Within (getD (metricsAt t r k) (Isdb.labels u s) nan) stepMost stepMost
+        at u g = metric-within k (Isdb.labels u s) h (small u s g l)
 
-        go : Rises (metricsAt t r k) (label isdb 0 s) → Falls stepMost 0 (label isdb) (frameMetrics t r k) s
-        go (inl p) = quad-falls (label isdb) s 0 (lit< tt) (at 0 (lit< tt)) (omega arith)
-        go (inr p) = let c : label isdb 1 s ≡ 3 - label isdb 0 s = complement 0 s (lit< tt) l in quad-falls (label isdb) s 1 (lit< tt) (at 1 (lit< tt)) (rw c (omega arith))
+        go : Rises (metricsAt t r k) (Isdb.labels 0 s) → Falls stepMost 0 Isdb.labels (frameMetrics t r k) s
+        go (inl p) = quad-falls Isdb.labels s 0 (lit< tt) (at 0 (lit< tt)) (omega arith)
+        go (inr p) = let c : Isdb.labels 1 s ≡ 3 - Isdb.labels 0 s = complement 0 s (lit< tt) l in quad-falls Isdb.labels s 1 (lit< tt) (at 1 (lit< tt)) (rw c (omega arith))
 
     in-between : (vs : List Float) → InRange stepMost floor vs → Between leastPath mostPath vs
     in-between vs i s h =
@@ -165,26 +167,26 @@ module _ (e : Tie) (t : Table) (r : Received) (metrics : (k l : ℕ) → k < fra
         let x = getD vs s nan in
         (from-least leastPath x ruledOut 0 ruledOut least-path (lit≤ tt) w, to-most (ofBits binary32 0) x ruledOut 0 0 nothing (lit≤ tt) w)
 
-    values-are : (i : ℕ) → frameAt e t r pm i .values ≡ valuesAt 32 (label isdb) e (frameMetrics t r) pm i
-    values-are = after-values 32 (label isdb) e 128 (frameMetrics t r) (freshFrom pm)
+    values-are : (i : ℕ) → frameAt e t r pm i .values ≡ valuesAt Isdb.half Isdb.labels e (frameMetrics t r) pm i
+    values-are = after-values Isdb.half Isdb.labels e frameTraceback (frameMetrics t r) (freshFrom pm)
 
     -- the call's end, as the known bits find it
     ended : Bounded 0 ruledOut 0 0 (renormalised 32 (frameAt e t r pm (frameSteps t) .values))
-    ended = rw (values-are (frameSteps t)) (go (soft-call path-limits (label isdb) small e (frameMetrics t r) (frameSteps t) soft-step falls pm start))
+    ended = rw (values-are (frameSteps t)) (go (soft-call path-limits Isdb.labels small e (frameMetrics t r) (frameSteps t) soft-step falls pm start))
       where
         go : {vs : List Float} → Bounded stepMost floor 0 0 vs → Bounded 0 ruledOut 0 0 vs
         go {vs} i = level vs (i .count) (λ s h. wider (getD vs s nan) (floor + 12 * stepMost - 0) 0 ruledOut 0 under-ruled (lit≤ tt) (bounded-within i s h)) (i .best) (i .best-under) (i .best-above)
 
     pub paths-in : pathRange e t r pm
     paths-in = record {
-      at-step = λ i h. rw (values-are i) (in-between (valuesAt 32 (label isdb) e (frameMetrics t r) pm i) (path-within path-limits (label isdb) small e (frameMetrics t r) (frameSteps t) soft-step falls pm start i h));
+      at-step = λ i h. rw (values-are i) (in-between (valuesAt Isdb.half Isdb.labels e (frameMetrics t r) pm i) (path-within path-limits Isdb.labels small e (frameMetrics t r) (frameSteps t) soft-step falls pm start i h));
       in-step = λ i h.
           rw (values-are i)
-          (in-between (nexts 32 (label isdb) e (valuesAt 32 (label isdb) e (frameMetrics t r) pm i) (frameMetrics t r i)) (path-within-next path-limits (label isdb) small e (frameMetrics t r) (frameSteps t) soft-step falls pm start i h));
+          (in-between (nexts Isdb.half Isdb.labels e (valuesAt Isdb.half Isdb.labels e (frameMetrics t r) pm i) (frameMetrics t r i)) (path-within-next path-limits Isdb.labels small e (frameMetrics t r) (frameSteps t) soft-step falls pm start i h));
       at-known = λ j.
-          let d = pushed 32 (label isdb) e 128 (frameMetrics t r) (freshFrom pm) (frameSteps t) in
-          rw (after-values 32 (label isdb) e 128 knownBits d j)
-          (below-zero (valuesAt 32 (label isdb) e knownBits (d .values) j) (known-call known-limits (label isdb) small e known-deep (wordBit 0x1b95) (d .values) ended j));
+          let d = pushed Isdb.half Isdb.labels e frameTraceback (frameMetrics t r) (freshFrom pm) (frameSteps t) in
+          rw (after-values Isdb.half Isdb.labels e frameTraceback knownBits d j)
+          (below-zero (valuesAt Isdb.half Isdb.labels e knownBits (d .values) j) (known-call known-limits Isdb.labels small e known-deep (wordBit 0x1b95) (d .values) ended j));
     }
 
 start-bounded : (knownStart first : Bool) → Bounded stepMost floor 0 0 (startValues knownStart first)
@@ -204,8 +206,8 @@ module _ (e : Tie) (t : Table) (re im : List Float) (m : Mapping) (scales : List
 
     sized : Sized partPower scalePower r
     sized = record {
-      re-in = λ k h. part-size (getD re k nan) (re-fits k) (parts-in re 38976 (p .re-fine) k h);
-      im-in = λ k h. part-size (getD im k nan) (im-fits k) (parts-in im 38976 (p .im-fine) k h);
+      re-in = λ k h. part-size (getD re k nan) (re-fits k) (parts-in re mainSymbols (p .re-fine) k h);
+      im-in = λ k h. part-size (getD im k nan) (im-fits k) (parts-in im mainSymbols (p .im-fine) k h);
       scale-in = λ c. scales-in scales scale-fits (p .scales-fine) c .0;
       scale-up = λ c. scales-in scales scale-fits (p .scales-fine) c .1;
     }

@@ -19,7 +19,7 @@ use Rattle.isdbs_combination.specs.declared.Combination.the-variants.{«Bpsk1_2
 use Rattle.isdbs_combination.specs.declared.Modulation.{Modulation}
 use Rattle.isdbs_combination.specs.declared.Modulation.the-variants.{Bpsk, Qpsk, Tc8psk}
 use Rattle.isdbs_tables.specs.declared.Table.{Table}
-use Rattle.isdbs_combination.specs.Combinations.{modulationOf, unitOf, slotSteps}
+use Rattle.isdbs_combination.specs.Combinations.{modulationOf, unitOf, slotSteps, slotSymbols}
 use Rattle.isdbs_tables.specs.Tables.{TableAccepted}
 use Rattle.isdbs_runs.specs.RunsOf.{frameSteps}
 use Rattle.isdbs_points.specs.declared.Cplx.{Cplx}
@@ -29,11 +29,12 @@ use Rattle.isdbs_points.specs.SizeLaws.{table-whole, symbol-fits, at-step, find
 use Rattle.isdbs_metrics.specs.Reading.{Received, symbolAt, scaled, partOf, carrier, softAt, pairMetrics, correlation, absolute, subsetPoint, subsetMetrics, metricsBy, metricsIn, metricsAt}
 use Rattle.frame_ranges.specs.Rising.{Up, Rises, pair-rises, product-up, absolute-up, soft-up}
 use Rattle.frame_ranges.specs.Size.{Size, size-more, size-neg, size-add, size-sub, size-mul, size-absolute, size-soft, size-zero}
+use Rattle.isdbs_frame.specs.Frame.{mainSymbols}
 
 -- the parts of all 38,976 points are within 2 ^ p, and each scale is within 2 ^ s and not below 0
 pub record Sized (p s : ℕ) (r : Received) : Type 0 where
-  pub re-in : (k : ℕ) → k < 38976 → Size binary64 p (getD (r .re) k nan)
-  pub im-in : (k : ℕ) → k < 38976 → Size binary64 p (getD (r .im) k nan)
+  pub re-in : (k : ℕ) → k < mainSymbols → Size binary64 p (getD (r .re) k nan)
+  pub im-in : (k : ℕ) → k < mainSymbols → Size binary64 p (getD (r .im) k nan)
   pub scale-in : (c : Combination) → Size binary32 s (r .scale c)
   pub scale-up : (c : Combination) → Up binary32 (r .scale c)
 
@@ -71,7 +72,7 @@ width Qpsk = 2
 width Tc8psk = 2
 
 fits-in : (c : Combination) (u k i : ℕ) → k < slotSteps c * (u * unitOf c .valid) → i < length (orderOf c)
-    → k / stepsPerPeriod c * length (orderOf c) + i < width (modulationOf c) * (u * (unitOf c .slots * 812))
+    → k / stepsPerPeriod c * length (orderOf c) + i < width (modulationOf c) * (u * (unitOf c .slots * slotSymbols))
 unfolding sentOrder
 fits-in «Bpsk1_2» u k i h l = omega arith
 fits-in «Qpsk1_2» u k i h l = omega arith
@@ -92,7 +93,7 @@ not-three : {a b : Modulation} → a ≡ b → (b ≡ Tc8psk → ⊥) → a ≡ 
 not-three e n f = n (sym e ∙ f)
 
 -- a TC8PSK step has a symbol of its own
-alone-in : (c : Combination) (u k : ℕ) → modulationOf c ≡ Tc8psk → k < slotSteps c * (u * unitOf c .valid) → k < u * (unitOf c .slots * 812)
+alone-in : (c : Combination) (u k : ℕ) → modulationOf c ≡ Tc8psk → k < slotSteps c * (u * unitOf c .valid) → k < u * (unitOf c .slots * slotSymbols)
 alone-in «Bpsk1_2» u k e h = absurd (bpsk-not e)
 alone-in «Qpsk1_2» u k e h = absurd (qpsk-not e)
 alone-in «Qpsk2_3» u k e h = absurd (qpsk-not e)
@@ -111,13 +112,13 @@ four-of P a b c d p q r s (suc (suc (suc (suc l)))) h = absurd (omega arith)
 
 module _ (p s : ℕ) (room : p + s + 2 ≤ 127) (t : Table) (fit : TableAccepted t) (r : Received) (z : Sized p s r) where
   -- ---- a symbol
-  re-at : (k : ℕ) → k < 38976 → Size binary64 p (symbolAt r k .re)
+  re-at : (k : ℕ) → k < mainSymbols → Size binary64 p (symbolAt r k .re)
   re-at k h = z .re-in k h
 
-  im-at : (k : ℕ) → k < 38976 → Size binary64 p (symbolAt r k .im)
+  im-at : (k : ℕ) → k < mainSymbols → Size binary64 p (symbolAt r k .im)
   im-at k h = pick (Size binary64 p) (r .mapping .conjugate) (neg (getD (r .im) k nan)) (getD (r .im) k nan) (size-neg (z .im-in k h)) (z .im-in k h)
 
-  part-at : (b : Bool) (k h : ℕ) → k < 38976 → Size binary64 p (partOf b (symbolAt r k) h)
+  part-at : (b : Bool) (k h : ℕ) → k < mainSymbols → Size binary64 p (partOf b (symbolAt r k) h)
   part-at b k h l = pick (Size binary64 p) (eqb h (bit b)) (symbolAt r k .re) (symbolAt r k .im) (re-at k l) (im-at k l)
 
   -- "`soft(part)` × scale"

@@ -9,8 +9,7 @@ use lib.ListN.{getD}
 use lib.Ieee.{Float, nan, binary32, le, ofBits}
 use Rattle.refusal.specs.Rows.{firstRow}
 use Rattle.refusal.specs.declared.Answer.the-variants.{Accepted}
-use Rattle.trellis.specs.Code.{isdb, label}
-use Rattle.trellis.specs.Isdb.{rule}
+use Rattle.trellis.specs.Isdb.{rule, frameTraceback}
 use Rattle.trellis.specs.Step.{Tie, nexts}
 use Rattle.trellis.specs.Run.{Decoder, after, pushed, freshFrom}
 use Rattle.isdbs_combination.specs.declared.Modulation.the-variants.{Tc8psk}
@@ -24,6 +23,7 @@ use Rattle.isdbs_metrics.specs.Reading.{Received, softAt, metricsAt, startValue
 use Rattle.isdbs_decode.specs.Scales.{receivedBy}
 use Rattle.isdbs_decode.specs.Runs.{frameMetrics, knownBits}
 use Rattle.frame_ranges.specs.Numbers.{softLimit, metricLimit, leastPath, mostPath}
+use Rattle.trellis.specs.Isdb
 
 -- each soft value of BPSK and QPSK, times its scale
 abbrev pub softRange : Table → Received → Type 0
@@ -39,15 +39,15 @@ Between a b pm = (s : ℕ) → s < 64 → T (le a (getD pm s nan)) × T (le (get
 
 -- the decoder after i of the frame's steps, and after j known bits that follow the whole frame
 abbrev pub frameAt : Tie → Table → Received → List Float → ℕ → Decoder
-frameAt e t r pm i = after 32 (label isdb) e 128 (frameMetrics t r) (freshFrom pm) i
+frameAt e t r pm i = after Isdb.half Isdb.labels e frameTraceback (frameMetrics t r) (freshFrom pm) i
 
 abbrev pub knownAt : Tie → Table → Received → List Float → ℕ → Decoder
-knownAt e t r pm j = after 32 (label isdb) e 128 knownBits (pushed 32 (label isdb) e 128 (frameMetrics t r) (freshFrom pm) (frameSteps t)) j
+knownAt e t r pm j = after Isdb.half Isdb.labels e frameTraceback knownBits (pushed Isdb.half Isdb.labels e frameTraceback (frameMetrics t r) (freshFrom pm) (frameSteps t)) j
 
 -- the path values at every step: before the maximum is subtracted, after it, and through the known bits
 pub record pathRange (e : Tie) (t : Table) (r : Received) (pm : List Float) : Type 0 where
   pub at-step : (i : ℕ) → i ≤ frameSteps t → Between leastPath mostPath (frameAt e t r pm i .values)
-  pub in-step : (i : ℕ) → i < frameSteps t → Between leastPath mostPath (nexts 32 (label isdb) e (frameAt e t r pm i .values) (frameMetrics t r i))
+  pub in-step : (i : ℕ) → i < frameSteps t → Between leastPath mostPath (nexts Isdb.half Isdb.labels e (frameAt e t r pm i .values) (frameMetrics t r i))
   pub at-known : (j : ℕ) → Between leastPath (ofBits binary32 0) (knownAt e t r pm j .values)
 
 pub record Ranges (e : Tie) (t : Table) (r : Received) (pm : List Float) : Type 0 where

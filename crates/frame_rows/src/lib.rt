@@ -3,9 +3,9 @@ use isdbs_core::frame::MAIN_SYMBOLS;
 use isdbs_core::slots::Plan;
 use isdbs_core::tmcc::Table;
 use isdbs_core::tmcc::table_answer;
-use isdbs_decode::WORDS;
 use isdbs_points::PART_LIMIT;
 use refusal::Answer;
+use trellis::FRAME_WORDS;
 ghost use mathlib.Core.Path.{_≡_};
 ghost use mathlib.Core.Bool.{cond, not};
 ghost use Prim.Native.Nat.{_≤_};
@@ -79,7 +79,7 @@ fn space_answer(p: Plan, decisions: usize, bits: usize, bytes: usize, counts: us
     requires { ⌜ Planned p ⌝ }
     ensures { λ r. ⌜ r ≡ cond (shortSpace (p .table) decisions bits bytes counts) Answer.Space Answer.Accepted ⌝ }
 {
-    if decisions < WORDS {
+    if decisions < FRAME_WORDS {
         return Answer::Space;
     }
     if bits < p.steps + 16 {

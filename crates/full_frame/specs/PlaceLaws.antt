@@ -4,7 +4,7 @@ use mathlib.Core.Path.{_≡_, refl, sym, _∙_, ap}
 use Prim.Native.Nat.{ℕ, _+_, _*_, _/_, _%_, _<_}
 use native.Mathlib.Omega.{arith}
 use borrow.Author.Tests.{lt-leb}
-use Rattle.isdbs_frame.specs.Frame.{Symbol, header, main, burst, placeOf, mainSymbolPosition, burstSymbolPosition, symbolAt}
+use Rattle.isdbs_frame.specs.Frame.{Symbol, header, main, burst, placeOf, mainSymbolPosition, burstSymbolPosition, symbolAt, frameSymbols, mainSymbols}
 use Rattle.isdbs_frame.specs.PlaceLaws.{InFrame, place-below, holds-symbol, placed}
 use Rattle.full_frame.specs.declared.Input.the-variants.{Header, Main, Burst}
 use Rattle.full_frame.specs.Places.{Source, from, InInput, sourceOf, symbolOf, sourceAt, placeIn}
@@ -34,16 +34,16 @@ symbol-source (burst b j) h =
     rw (d, r)
 
 -- ---- places of the frame and input places
-pub place-in : (s : Source) → InInput s → placeIn s < 39936
+pub place-in : (s : Source) → InInput s → placeIn s < frameSymbols
 place-in s h = place-below (symbolOf s) (symbol-in s h)
 
-pub source-in : (p : ℕ) → p < 39936 → InInput (sourceAt p)
+pub source-in : (p : ℕ) → p < frameSymbols → InInput (sourceAt p)
 source-in p h = symbol-source-in (symbolAt p) (placed p h .known)
 
 pub source-place : (s : Source) → InInput s → sourceAt (placeIn s) ≡ s
 source-place s h = ap sourceOf (holds-symbol (symbolOf s) (symbol-in s h)) ∙ source-symbol s
 
-pub place-source : (p : ℕ) → p < 39936 → placeIn (sourceAt p) ≡ p
+pub place-source : (p : ℕ) → p < frameSymbols → placeIn (sourceAt p) ≡ p
 place-source p h = ap placeOf (symbol-source (symbolAt p) (placed p h .known)) ∙ placed p h .place
 
 -- "every place takes its point from exactly one place of the three inputs"
@@ -52,7 +52,7 @@ pub record OneSource (p : ℕ) (s : Source) : Type 0 where
   pub place : placeIn s ≡ p
   pub only : (r : Source) → InInput r → placeIn r ≡ p → r ≡ s
 
-pub one-source : (p : ℕ) → p < 39936 → OneSource p (sourceAt p)
+pub one-source : (p : ℕ) → p < frameSymbols → OneSource p (sourceAt p)
 one-source p h =
     record {
       known = source-in p h;
@@ -62,9 +62,9 @@ one-source p h =
 
 -- and every place of the three inputs is used, at exactly one place
 pub record OnePlace (s : Source) (p : ℕ) : Type 0 where
-  pub below : p < 39936
+  pub below : p < frameSymbols
   pub source : sourceAt p ≡ s
-  pub only : (q : ℕ) → q < 39936 → sourceAt q ≡ s → q ≡ p
+  pub only : (q : ℕ) → q < frameSymbols → sourceAt q ≡ s → q ≡ p
 
 pub one-place : (s : Source) → InInput s → OnePlace s (placeIn s)
 one-place s h =
@@ -80,8 +80,8 @@ pub header-position : (i : ℕ) → placeIn (from Header i) ≡ i
 header-position i = refl
 
 -- "at the places of `main_symbol_position` and `burst_symbol_position`"
-pub main-position : (k : ℕ) → k < 38976 → mainSymbolPosition k ≡ (0, placeIn (from Main k) ∷ [])
-main-position k h = simp (lt-leb 38976 k h)
+pub main-position : (k : ℕ) → k < mainSymbols → mainSymbolPosition k ≡ (0, placeIn (from Main k) ∷ [])
+main-position k h = simp (lt-leb mainSymbols k h)
 
 pub burst-position : (b j : ℕ) → b < 192 → j < 4 → burstSymbolPosition b j ≡ (0, placeIn (from Burst (4 * b + j)) ∷ [])
 burst-position b j h k =

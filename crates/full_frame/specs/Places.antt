@@ -4,15 +4,15 @@ use Prim.Native.Nat.{ℕ, _+_, _*_, _/_, _%_, _<_}
 use lib.ListN.{getD}
 use lib.Ieee.{Float, nan}
 use Rattle.trellis.specs.Lists.{upto}
-use Rattle.isdbs_frame.specs.Frame.{Symbol, header, main, burst, placeOf, symbolAt}
+use Rattle.isdbs_frame.specs.Frame.{Symbol, header, main, burst, placeOf, symbolAt, frameSymbols, mainSymbols, burstPoints, headerSymbols}
 use Rattle.full_frame.specs.declared.Input.{Input}
 use Rattle.full_frame.specs.declared.Input.the-variants.{Header, Main, Burst}
 
 -- "192 header points ..., 38,976 main points and 192 bursts of 4"
 abbrev pub pointsOf : Input → ℕ
-pointsOf Header = 192
-pointsOf Main = 38976
-pointsOf Burst = 768
+pointsOf Header = headerSymbols
+pointsOf Main = mainSymbols
+pointsOf Burst = burstPoints
 
 -- a place of one of the three inputs
 pub data Source : Type 0 where
@@ -55,7 +55,7 @@ pointIn ins (from a i) = getD (ins a) i nan
 
 -- the frame laid from three inputs
 abbrev pub fullPart : (Input → List Float) → List Float
-fullPart ins = upto (λ p. pointIn ins (sourceAt p)) 39936
+fullPart ins = upto (λ p. pointIn ins (sourceAt p)) frameSymbols
 
 -- "It also takes a full frame apart": what it holds for an input
 abbrev pub taken : Input → List Float → List Float

@@ -11,6 +11,7 @@ use Rattle.trellis.specs.LaidLaws.{upto-cong}
 use Rattle.full_frame.specs.declared.Input.{Input}
 use Rattle.full_frame.specs.Places.{Source, from, pointsOf, InInput, sourceAt, placeIn, pointIn, fullPart, taken}
 use Rattle.full_frame.specs.PlaceLaws.{place-in, source-in, source-place, place-source}
+use Rattle.isdbs_frame.specs.Frame.{frameSymbols}
 
 -- ---- the first values of a list, and of a function that is written over one
 upto-taken : {A : Type 0} (d : A) (l : List A) (n : ℕ) → n ≤ length l → upto (λ i. getD l i d) n ≡ take n l
@@ -26,7 +27,7 @@ getD-laid d f n l i h = List·getD-append (upto f n) (drop (length (upto f n)) l
 module _ (ins : Input → List Float) (out : List Float) where
   laid-point : (s : Source) → InInput s → getD (laid (fullPart ins) out) (placeIn s) nan ≡ pointIn ins s
   laid-point s h =
-      getD-laid nan (λ p. pointIn ins (sourceAt p)) 39936 out (placeIn s) (place-in s h)
+      getD-laid nan (λ p. pointIn ins (sourceAt p)) frameSymbols out (placeIn s) (place-in s h)
       ∙ ap (λ (r : Source). pointIn ins r) (source-place s h)
 
   pub taken-laid : (a : Input) → pointsOf a ≤ length (ins a) → taken a (laid (fullPart ins) out) ≡ take (pointsOf a) (ins a)
@@ -41,11 +42,11 @@ module _ (full : List Float) (ins outs : Input → List Float) (t : (a : Input) 
       ap (λ (l : List Float). getD l i nan) (t a)
       ∙ getD-laid nan (λ k. getD full (placeIn (from a k)) nan) (pointsOf a) (outs a) i h
 
-  pub full-taken : 39936 ≤ length full → fullPart ins ≡ take 39936 full
+  pub full-taken : frameSymbols ≤ length full → fullPart ins ≡ take frameSymbols full
   full-taken h =
-      upto-cong (λ p. pointIn ins (sourceAt p)) (λ p. getD full p nan) 39936
+      upto-cong (λ p. pointIn ins (sourceAt p)) (λ p. getD full p nan) frameSymbols
       (λ p l. taken-point (sourceAt p) (source-in p l) ∙ ap (λ (q : ℕ). getD full q nan) (place-source p l))
-      ∙ upto-taken nan full 39936 h
+      ∙ upto-taken nan full frameSymbols h
 
 -- ---- points past an input's length are not read
 unread-point : (ins : Input → List Float) (s : Source) → InInput s → pointIn (λ a. take (pointsOf a) (ins a)) s ≡ pointIn ins s
@@ -53,10 +54,10 @@ unread-point ins (from a i) h = getD-take (pointsOf a) (ins a) i nan h
 
 pub full-unread : (ins : Input → List Float) → fullPart (λ a. take (pointsOf a) (ins a)) ≡ fullPart ins
 full-unread ins =
-    upto-cong (λ p. pointIn (λ a. take (pointsOf a) (ins a)) (sourceAt p)) (λ p. pointIn ins (sourceAt p)) 39936
+    upto-cong (λ p. pointIn (λ a. take (pointsOf a) (ins a)) (sourceAt p)) (λ p. pointIn ins (sourceAt p)) frameSymbols
     (λ p l. unread-point ins (sourceAt p) (source-in p l))
 
-pub taken-unread : (a : Input) (full : List Float) → taken a (take 39936 full) ≡ taken a full
+pub taken-unread : (a : Input) (full : List Float) → taken a (take frameSymbols full) ≡ taken a full
 taken-unread a full =
-    upto-cong (λ i. getD (take 39936 full) (placeIn (from a i)) nan) (λ i. getD full (placeIn (from a i)) nan) (pointsOf a)
-    (λ i l. getD-take 39936 full (placeIn (from a i)) nan (place-in (from a i) l))
+    upto-cong (λ i. getD (take frameSymbols full) (placeIn (from a i)) nan) (λ i. getD full (placeIn (from a i)) nan) (pointsOf a)
+    (λ i l. getD-take frameSymbols full (placeIn (from a i)) nan (place-in (from a i) l))

@@ -11,17 +11,18 @@ use Rattle.refusal.specs.Rows.{accepted, Row}
 use Rattle.trellis.specs.Lists.{laid}
 use Rattle.full_frame.specs.declared.Input.{Input}
 use Rattle.full_frame.specs.declared.Input.the-variants.{Header, Main, Burst}
+use Rattle.isdbs_frame.specs.Frame.{frameSymbols, mainSymbols, burstPoints, headerSymbols}
 
 -- "A header, main, burst .. shorter than its length": the lengths of one part of each
 unfoldable pub shortInputs : ℕ → ℕ → ℕ → Bool
-shortInputs h m b = ltb h 192 || (ltb m 38976 || ltb b 768)
+shortInputs h m b = ltb h headerSymbols || (ltb m mainSymbols || ltb b burstPoints)
 
 abbrev pub inputsShort : (Input → List Float) → Bool
 inputsShort ins = shortInputs (length (ins Header)) (length (ins Main)) (length (ins Burst))
 
 -- ".. or full-frame": the lengths of its two parts
 unfoldable pub shortFrame : ℕ → ℕ → Bool
-shortFrame re im = ltb re 39936 || ltb im 39936
+shortFrame re im = ltb re frameSymbols || ltb im frameSymbols
 
 -- laying: a short input "falls under 6, a short output under 9"; `res` and `ims` are the two parts of the inputs
 abbrev pub layRows : (Input → List Float) → (Input → List Float) → List Float → List Float → List Row

@@ -1,6 +1,7 @@
 // The full frame of 39,936 symbols: laid from header, main signal and bursts, and taken apart again. Points are only copied.
 use isdbs_core::frame::BURST_PERIOD;
 use isdbs_core::frame::BURST_SYMBOLS;
+use isdbs_core::frame::BURSTS;
 use isdbs_core::frame::FRAME_SYMBOLS;
 use isdbs_core::frame::HEADER_SYMBOLS;
 use isdbs_core::frame::MAIN_SYMBOLS;
@@ -12,11 +13,12 @@ ghost use Rattle.refusal.specs.Rows.{firstRow};
 ghost use Rattle.trellis.specs.Lists.{laid};
 ghost use Rattle.full_frame.specs.Places.{from, pointsOf, sourceAt, placeIn, inputs, pointIn, fullPart, taken};
 ghost use Rattle.full_frame.specs.Rows.{shortInputs, shortFrame, layRows, takeRows, leaves};
+ghost use Rattle.isdbs_frame.specs.Frame.{frameSymbols, mainSymbols, burstPoints, headerSymbols};
 
 // Symbols from one burst to the next.
-const PERIOD: usize = 207;
+const PERIOD: usize = BURST_PERIOD + BURST_SYMBOLS;
 // Points of the burst input: 192 bursts of 4.
-const BURST_POINTS: usize = 768;
+const BURST_POINTS: usize = BURSTS * BURST_SYMBOLS;
 
 // The three inputs of a frame.
 pub enum Input {
@@ -29,7 +31,7 @@ pub enum Input {
 
 // The point of place p of the frame.
 fn point_at(header: &[f64], signal: &[f64], bursts: &[f64], p: usize) -> f64
-    requires { ⌜ (p < 39936) × (192 ≤ length (now header)) × (38976 ≤ length (now signal)) × (768 ≤ length (now bursts)) ⌝ }
+    requires { ⌜ (p < frameSymbols) × (headerSymbols ≤ length (now header)) × (mainSymbols ≤ length (now signal)) × (burstPoints ≤ length (now bursts)) ⌝ }
     ensures { λ r. ⌜ r ≡ pointIn (inputs (now (header .entry)) (now (signal .entry)) (now (bursts .entry))) (sourceAt p) ⌝ }
 {
     if p < HEADER_SYMBOLS {
@@ -45,7 +47,7 @@ fn point_at(header: &[f64], signal: &[f64], bursts: &[f64], p: usize) -> f64
 
 // One part of a frame from that part of the three inputs.
 fn lay_part(header: &[f64], signal: &[f64], bursts: &[f64], out: &mut [f64])
-    requires { ⌜ (192 ≤ length (now header)) × (38976 ≤ length (now signal)) × (768 ≤ length (now bursts)) × (39936 ≤ length (now out)) ⌝ }
+    requires { ⌜ (headerSymbols ≤ length (now header)) × (mainSymbols ≤ length (now signal)) × (burstPoints ≤ length (now bursts)) × (frameSymbols ≤ length (now out)) ⌝ }
     ensures { λ _. ⌜ now (out .exit) ≡ laid (fullPart (inputs (now (header .entry)) (now (signal .entry)) (now (bursts .entry)))) (now (out .entry)) ⌝ }
 {
     let mut p: usize = 0;
@@ -69,7 +71,7 @@ fn points(input: Input) -> usize
 // The place in the frame of point i of an input.
 fn place(input: Input, i: usize) -> usize
     requires { ⌜ i < pointsOf input ⌝ }
-    ensures { λ r. ⌜ (r ≡ placeIn (from input i)) × (r < 39936) ⌝ }
+    ensures { λ r. ⌜ (r ≡ placeIn (from input i)) × (r < frameSymbols) ⌝ }
 {
     match input {
         Input::Header => i,
@@ -83,7 +85,7 @@ fn place(input: Input, i: usize) -> usize
 
 // The points that one part of a frame holds for an input.
 fn take_input(input: Input, full: &[f64], out: &mut [f64])
-    requires { ⌜ (39936 ≤ length (now full)) × (pointsOf input ≤ length (now out)) ⌝ }
+    requires { ⌜ (frameSymbols ≤ length (now full)) × (pointsOf input ≤ length (now out)) ⌝ }
     ensures { λ _. ⌜ now (out .exit) ≡ laid (taken input (now (full .entry))) (now (out .entry)) ⌝ }
 {
     let n = points(input);
@@ -97,7 +99,7 @@ fn take_input(input: Input, full: &[f64], out: &mut [f64])
 
 // One part of a frame into that part of the three inputs.
 fn take_part(full: &[f64], header: &mut [f64], signal: &mut [f64], bursts: &mut [f64])
-    requires { ⌜ (39936 ≤ length (now full)) × (192 ≤ length (now header)) × (38976 ≤ length (now signal)) × (768 ≤ length (now bursts)) ⌝ }
+    requires { ⌜ (frameSymbols ≤ length (now full)) × (headerSymbols ≤ length (now header)) × (mainSymbols ≤ length (now signal)) × (burstPoints ≤ length (now bursts)) ⌝ }
     ensures { λ _. ⌜ (now (header .exit) ≡ laid (taken Input.Header (now (full .entry))) (now (header .entry))) × (now (signal .exit) ≡ laid (taken Input.Main (now (full .entry))) (now (signal .entry))) × (now (bursts .exit) ≡ laid (taken Input.Burst (now (full .entry))) (now (bursts .entry))) ⌝ }
 {
     take_input(Input::Header, full, header);

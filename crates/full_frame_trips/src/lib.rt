@@ -13,6 +13,7 @@ ghost use Rattle.full_frame.specs.declared.Input.the-variants.{Header, Main, Bu
 ghost use Rattle.full_frame.specs.Places.{inputs, fullPart, taken};
 ghost use Rattle.full_frame.specs.Rows.{shortInputs, leaves};
 ghost use Rattle.full_frame_trips.specs.Rows.{layTakeRows, takeLayRows};
+ghost use Rattle.isdbs_frame.specs.Frame.{frameSymbols, mainSymbols, burstPoints, headerSymbols};
 
 // Whether either part of header, main signal or bursts is short.
 fn short_parts(
@@ -67,12 +68,12 @@ pub fn lay_then_take(
     ensures answers { λ r. ⌜ r ≡ firstRow (layTakeRows (inputs (now («header_re» .entry)) (now («main_re» .entry)) (now («burst_re» .entry))) (inputs (now («header_im» .entry)) (now («main_im» .entry)) (now («burst_im» .entry))) (now (re .entry)) (now (im .entry)) (inputs (now («out_header_re» .entry)) (now («out_main_re» .entry)) (now («out_burst_re» .entry))) (inputs (now («out_header_im» .entry)) (now («out_main_im» .entry)) (now («out_burst_im» .entry)))) ⌝ }
     ensures real { λ r. ⌜ now (re .exit) ≡ leaves r (fullPart (inputs (now («header_re» .entry)) (now («main_re» .entry)) (now («burst_re» .entry)))) (now (re .entry)) ⌝ }
     ensures imaginary { λ r. ⌜ now (im .exit) ≡ leaves r (fullPart (inputs (now («header_im» .entry)) (now («main_im» .entry)) (now («burst_im» .entry)))) (now (im .entry)) ⌝ }
-    ensures header_real { λ r. ⌜ now («out_header_re» .exit) ≡ leaves r (take 192 (now («header_re» .entry))) (now («out_header_re» .entry)) ⌝ }
-    ensures header_imaginary { λ r. ⌜ now («out_header_im» .exit) ≡ leaves r (take 192 (now («header_im» .entry))) (now («out_header_im» .entry)) ⌝ }
-    ensures main_real { λ r. ⌜ now («out_main_re» .exit) ≡ leaves r (take 38976 (now («main_re» .entry))) (now («out_main_re» .entry)) ⌝ }
-    ensures main_imaginary { λ r. ⌜ now («out_main_im» .exit) ≡ leaves r (take 38976 (now («main_im» .entry))) (now («out_main_im» .entry)) ⌝ }
-    ensures burst_real { λ r. ⌜ now («out_burst_re» .exit) ≡ leaves r (take 768 (now («burst_re» .entry))) (now («out_burst_re» .entry)) ⌝ }
-    ensures burst_imaginary { λ r. ⌜ now («out_burst_im» .exit) ≡ leaves r (take 768 (now («burst_im» .entry))) (now («out_burst_im» .entry)) ⌝ }
+    ensures header_real { λ r. ⌜ now («out_header_re» .exit) ≡ leaves r (take headerSymbols (now («header_re» .entry))) (now («out_header_re» .entry)) ⌝ }
+    ensures header_imaginary { λ r. ⌜ now («out_header_im» .exit) ≡ leaves r (take headerSymbols (now («header_im» .entry))) (now («out_header_im» .entry)) ⌝ }
+    ensures main_real { λ r. ⌜ now («out_main_re» .exit) ≡ leaves r (take mainSymbols (now («main_re» .entry))) (now («out_main_re» .entry)) ⌝ }
+    ensures main_imaginary { λ r. ⌜ now («out_main_im» .exit) ≡ leaves r (take mainSymbols (now («main_im» .entry))) (now («out_main_im» .entry)) ⌝ }
+    ensures burst_real { λ r. ⌜ now («out_burst_re» .exit) ≡ leaves r (take burstPoints (now («burst_re» .entry))) (now («out_burst_re» .entry)) ⌝ }
+    ensures burst_imaginary { λ r. ⌜ now («out_burst_im» .exit) ≡ leaves r (take burstPoints (now («burst_im» .entry))) (now («out_burst_im» .entry)) ⌝ }
 {
     let inputs = short_parts(
         header_re.len(),
@@ -130,8 +131,8 @@ pub fn take_then_lay(
     out_im: &mut [f64],
 ) -> Answer
     ensures answers { λ r. ⌜ r ≡ firstRow (takeLayRows (now (re .entry)) (now (im .entry)) (inputs (now («header_re» .entry)) (now («main_re» .entry)) (now («burst_re» .entry))) (inputs (now («header_im» .entry)) (now («main_im» .entry)) (now («burst_im» .entry))) (now («out_re» .entry)) (now («out_im» .entry))) ⌝ }
-    ensures real { λ r. ⌜ now («out_re» .exit) ≡ leaves r (take 39936 (now (re .entry))) (now («out_re» .entry)) ⌝ }
-    ensures imaginary { λ r. ⌜ now («out_im» .exit) ≡ leaves r (take 39936 (now (im .entry))) (now («out_im» .entry)) ⌝ }
+    ensures real { λ r. ⌜ now («out_re» .exit) ≡ leaves r (take frameSymbols (now (re .entry))) (now («out_re» .entry)) ⌝ }
+    ensures imaginary { λ r. ⌜ now («out_im» .exit) ≡ leaves r (take frameSymbols (now (im .entry))) (now («out_im» .entry)) ⌝ }
     ensures header_real { λ r. ⌜ now («header_re» .exit) ≡ leaves r (taken Header (now (re .entry))) (now («header_re» .entry)) ⌝ }
     ensures header_imaginary { λ r. ⌜ now («header_im» .exit) ≡ leaves r (taken Header (now (im .entry))) (now («header_im» .entry)) ⌝ }
     ensures main_real { λ r. ⌜ now («main_re» .exit) ≡ leaves r (taken Main (now (re .entry))) (now («main_re» .entry)) ⌝ }

@@ -11,7 +11,7 @@ use Rattle.refusal.specs.Rows.{Row, firstRow, Either}
 pub use Rattle.refusal.specs.RowLaws.{refused, numbered, neither}
 use Rattle.refusal.specs.RowLaws.{done, passed, both-passed}
 use Rattle.refusal.specs.declared.Answer.the-variants.{Accepted, Space}
-use Rattle.trellis.specs.Run.{tracebackLimit}
+use Rattle.trellis.specs.Run.{tracebackLimit, block}
 use Rattle.decoder_rows.specs.RowLaws as handed
 use Rattle.isdb_fec.specs.declared.conv.ViterbiDecoder.{ViterbiDecoder}
 use Rattle.isdb_fec.specs.Rows.{releases, shortOf, stepsShort, handedRows, streamRest, streamRows, pushKnownRows, flushRows}
@@ -30,20 +30,20 @@ sound v e = handed.sound (v .pm) (v .held) (v .traceback) e
 pub record Enough (v : ViterbiDecoder) (n decisions out : ℕ) : Type 0 where
   pub least : 1 ≤ v .traceback
   pub most : v .traceback ≤ tracebackLimit
-  pub fewer : v .held < 4096 + v .traceback
-  pub fits : 4096 + v .traceback ≤ decisions
-  pub room : 4096 * releases (v .traceback) (v .held) n ≤ out
+  pub fewer : v .held < block + v .traceback
+  pub fits : block + v .traceback ≤ decisions
+  pub room : block * releases (v .traceback) (v .held) n ≤ out
 
 enough : (v : ViterbiDecoder) (n decisions out : ℕ) → firstRow (handedRows v) ≡ Accepted → stepsShort n v decisions out ≡ false → Enough v n decisions out
 enough v n decisions out a e =
     let h = sound v (sym a) in
-    let p = neither (ltb out (4096 * releases (v .traceback) (v .held) n)) (ltb decisions (4096 + v .traceback)) e in
+    let p = neither (ltb out (block * releases (v .traceback) (v .held) n)) (ltb decisions (block + v .traceback)) e in
     record {
       least = h .least;
       most = h .most;
       fewer = h .fewer;
-      fits = ltb-false decisions (4096 + v .traceback) (p .1);
-      room = ltb-false out (4096 * releases (v .traceback) (v .held) n) (p .0);
+      fits = ltb-false decisions (block + v .traceback) (p .1);
+      room = ltb-false out (block * releases (v .traceback) (v .held) n) (p .0);
     }
 
 pub stream-enough : (per : ℕ) (v : ViterbiDecoder) (xs : List Float) (decisions out : ℕ) → Accepted ≡ firstRow (streamRows per v xs decisions out) → Enough v (length xs / per) decisions out
@@ -60,14 +60,14 @@ known-enough v n decisions out e =
 
 -- and an accepted flush
 pub record FlushEnough (v : ViterbiDecoder) (decisions out : ℕ) : Type 0 where
-  pub fewer : v .held < 4096 + v .traceback
-  pub fits : 4096 + v .traceback ≤ decisions
+  pub fewer : v .held < block + v .traceback
+  pub fits : block + v .traceback ≤ decisions
   pub room : v .held ≤ out
 
 pub flush-enough : (v : ViterbiDecoder) (decisions out : ℕ) → Accepted ≡ firstRow (flushRows v decisions out) → FlushEnough v decisions out
 flush-enough v decisions out e =
     let below : List Row = (Space, shortOf (v .held) v decisions out) ∷ [] in
     let r = both-passed (handedRows v) below tt (sym e) in
-    let p = neither (ltb out (v .held)) (ltb decisions (4096 + v .traceback)) (passed below tt (r .1) Space) in
+    let p = neither (ltb out (v .held)) (ltb decisions (block + v .traceback)) (passed below tt (r .1) Space) in
     let h = sound v (sym (r .0)) in
-    record { fewer = h .fewer; fits = ltb-false decisions (4096 + v .traceback) (p .1); room = ltb-false out (v .held) (p .0) }
+    record { fewer = h .fewer; fits = ltb-false decisions (block + v .traceback) (p .1); room = ltb-false out (v .held) (p .0) }

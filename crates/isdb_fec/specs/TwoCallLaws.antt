@@ -12,7 +12,7 @@ use Rattle.trellis.specs.Isdb
 use Rattle.trellis.specs.Lists.{laid}
 use Rattle.trellis.specs.Step as trellis
 use Rattle.trellis.specs.Step.{renormalised}
-use Rattle.trellis.specs.Run.{Decoder, decisionsAfter}
+use Rattle.trellis.specs.Run.{Decoder, decisionsAfter, block, tracebackLimit}
 use Rattle.isdb_fec.specs.declared.conv.ViterbiDecoder.{ViterbiDecoder}
 use Rattle.isdb_fec.specs.declared.conv.Released.{Released}
 use Rattle.isdb_fec.specs.Rows.{pushRows, pushMetricsRows, pushKnownRows}
@@ -30,7 +30,7 @@ abbrev pub both : Released → Released → Released
 both first second = record { answer = second .answer; dec = second .dec; count = first .count + second .count }
 
 -- ---- the lent decisions after two calls
-decisions-then : (tb : ℕ) (ws bs more new dec : List ℕ) → length ws < 4096 + tb → (length new ≡ 0 → length ws ≤ length more)
+decisions-then : (tb : ℕ) (ws bs more new dec : List ℕ) → length ws < block + tb → (length new ≡ 0 → length ws ≤ length more)
     → decisionsAfter tb more new (decisionsAfter tb ws bs dec) ≡ decisionsAfter tb more (bs ++ new) dec
 decisions-then tb ws bs more [] dec h g =
     over-kept tb ws more bs dec (g refl) ∙ ap (λ (y : List ℕ). decisionsAfter tb more y dec) (sym (append-nil bs))
@@ -43,7 +43,7 @@ module _ {tb : ℕ} {first : Decoder} {r₁ : Released} {dec₀ dec₁ out₀ ou
       holding-is tb first dec₀ out₀ (r₁ .dec .pm) (r₁ .dec .held) (r₁ .count) dec₁ out₁
       (record { values = l .values; held-is = l .held-is; count-is = l .count-is; words = l .words; bits = l .bits })
 
-  leaves-then : {r₂ : Released} {dec₂ out₂ : List ℕ} (second : Decoder) (m : ℕ) → length (first .words) < 4096 + tb → Counted tb (length (first .words)) 0 m second
+  leaves-then : {r₂ : Released} {dec₂ out₂ : List ℕ} (second : Decoder) (m : ℕ) → length (first .words) < block + tb → Counted tb (length (first .words)) 0 m second
       → Leaves tb second r₂ dec₁ dec₂ (drop (r₁ .count) out₁) out₂
       → Leaves tb (then first second) (both r₁ r₂) dec₀ dec₂ out₀ (take (r₁ .count) out₁ ++ out₂)
   leaves-then {r₂} second m h c k =
@@ -67,7 +67,7 @@ module _ {tb : ℕ} {first : Decoder} {r₁ : Released} {dec₀ dec₁ out₀ ou
 -- ---- any two calls, the first of them accepted
 -- a call of n steps holds as many words and puts out as many bits as n steps do
 abbrev pub CallOf : ℕ → (ℕ → Decoder → Decoder) → Type 0
-CallOf n c = (tb : ℕ) (d : Decoder) → 1 ≤ tb → tb ≤ 1024 → length (d .words) < 4096 + tb → Counted tb (length (d .words)) (length (d .bits)) n (c tb d)
+CallOf n c = (tb : ℕ) (d : Decoder) → 1 ≤ tb → tb ≤ tracebackLimit → length (d .words) < block + tb → Counted tb (length (d .words)) (length (d .bits)) n (c tb d)
 
 pub known-call : (bits : List ℕ) → CallOf (length bits) (λ tb. knownCall tb bits)
 known-call bits tb d least most h = counted Isdb.half Isdb.labels Isdb.rule tb (knownSteps bits) d least most h (length bits)

@@ -12,7 +12,7 @@ use Rattle.refusal.specs.declared.Answer.the-variants.{Accepted}
 use Rattle.trellis.specs.Isdb
 use Rattle.trellis.specs.Step as trellis
 use Rattle.trellis.specs.Step.{renormalised}
-use Rattle.trellis.specs.Run.{after}
+use Rattle.trellis.specs.Run.{after, block, tracebackLimit}
 use Rattle.viterbi.specs.declared.At.{At}
 use Rattle.isdb_fec.specs.declared.conv.ViterbiDecoder.{ViterbiDecoder}
 use Rattle.isdb_fec.specs.Rows.{releases}
@@ -26,11 +26,11 @@ use Rattle.viterbi.specs.HoldingLaws.{holds-start, steps-lengths, steps-ready, 
 pub taken : {v : ViterbiDecoder} {n space : ℕ} (dec₀ : List ℕ) → Enough v n (length dec₀) space → length (take (v .held) dec₀) ≡ v .held
 taken {v} dec₀ e = let f = e .fewer in let g = e .fits in length-take-le (v .held) dec₀ (omega arith)
 
-pub few : {v : ViterbiDecoder} {n space : ℕ} (dec₀ : List ℕ) → Enough v n (length dec₀) space → length (handed v dec₀ .words) < 4096 + v .traceback
+pub few : {v : ViterbiDecoder} {n space : ℕ} (dec₀ : List ℕ) → Enough v n (length dec₀) space → length (handed v dec₀ .words) < block + v .traceback
 few dec₀ e = rw (taken dec₀ e) (e .fewer)
 
 module _ (v : ViterbiDecoder) (xs : ℕ → trellis.Step) (n : ℕ) (dec₀ out₀ : List ℕ) (e : Enough v n (length dec₀) (length out₀)) where
-  space : length (handed v dec₀ .bits) + 4096 * releases (v .traceback) (length (handed v dec₀ .words)) n ≤ length out₀
+  space : length (handed v dec₀ .bits) + block * releases (v .traceback) (length (handed v dec₀ .words)) n ≤ length out₀
   space = rw (taken dec₀ e) (let r = e .room in omega arith)
 
   pub begins : Holds (v .traceback) dec₀ out₀ (steps (v .traceback) xs (handed v dec₀) 0) (v .pm) (v .held) 0 dec₀ out₀
@@ -41,7 +41,7 @@ module _ (v : ViterbiDecoder) (xs : ℕ → trellis.Step) (n : ℕ) (dec₀ out�
     pub lengths : i ≤ n → (length dec ≡ length dec₀) × (length out ≡ length out₀)
     lengths = steps-lengths Isdb.half Isdb.labels Isdb.rule (v .traceback) xs (handed v dec₀) dec₀ out₀ n (e .least) (e .most) (few dec₀ e) (e .fits) space pm (at .held) (at .count) dec out i h
 
-    pub ready : i < n → (1 ≤ v .traceback) × (v .traceback ≤ 1024) × (at .held < 4096 + v .traceback) × (4096 + v .traceback ≤ length dec) × (at .count ≤ length out) × Room (v .traceback) (at .held) (at .count) (length out)
+    pub ready : i < n → (1 ≤ v .traceback) × (v .traceback ≤ tracebackLimit) × (at .held < block + v .traceback) × (block + v .traceback ≤ length dec) × (at .count ≤ length out) × Room (v .traceback) (at .held) (at .count) (length out)
     ready = steps-ready Isdb.half Isdb.labels Isdb.rule (v .traceback) xs (handed v dec₀) dec₀ out₀ n (e .least) (e .most) (few dec₀ e) (e .fits) space pm (at .held) (at .count) dec out i h
 
     pub goes-on : (r : At) (pm′ : List Float) (dec′ out′ : List ℕ) → Stepped (v .traceback) (stepOnce (v .traceback) i (xs i) (holding pm (at .held) dec)) (at .count) r pm′ dec dec′ out out′

@@ -10,9 +10,9 @@ ghost use Rattle.isdb_fec.specs.Rows.{encoderRows, freshRows, streamRows
 ghost use Rattle.isdb_fec.specs.Calls.{pairSteps, fourSteps, knownSteps, steps, call, handed, Leaves, Flushes, FlushesAt, Unchanged, Either, Fresh, Zero};
 pub use decoder_rows::PATH_LIMIT;
 pub use decoder_rows::STREAM_LIMIT;
-pub use decoder_rows::TRACEBACK_LIMIT;
 pub use decoder_rows::some_beyond;
 use refusal::Answer;
+pub use trellis::TRACEBACK_LIMIT;
 use viterbi::At;
 use viterbi::Step;
 use viterbi::advance;

@@ -59,7 +59,10 @@ ratio n d = record { num = n; den = d }
 abbrev unit : ℕ → ℕ → SlotUnit
 unit n v = record { slots = n; valid = v }
 
--- the bits of a valid slot; the symbols of a slot
+-- the slots of a frame; the bits of a valid slot; the symbols of a slot
+abbrev pub frameSlots : ℕ
+frameSlots = 48
+
 abbrev pub slotBits : ℕ
 slotBits = 1624
 

@@ -20,6 +20,7 @@ use Rattle.isdbs_runs.specs.RunLaws.{no-part}
 use Rattle.isdbs_tables.specs.TableLaws.{sum-fits, units-whole}
 use Rattle.isdbs_core.specs.Symbols.{markedBefore}
 use Rattle.isdbs_core.specs.SymbolLaws.{marked-whole}
+use Rattle.isdbs_combination.specs.Combinations.{frameSlots}
 
 abbrev pub one : MaybeCombination → ℕ
 one (Some c) = 1
@@ -93,4 +94,4 @@ entries-marked (e ∷ es) m slot symbol h w =
 
 -- `slot_combinations` marks as many slots of an accepted table as `runs` counts valid ones
 pub marks-counted : (t : declared.Table) → TableAccepted t → marksIn (marksOf t) ≡ validTotal t
-marks-counted t a = marks-table (markAt (t .entries)) 48 ∙ entries-marked (t .entries) 48 0 0 (sum-fits t a) (units-whole t a)
+marks-counted t a = marks-table (markAt (t .entries)) frameSlots ∙ entries-marked (t .entries) frameSlots 0 0 (sum-fits t a) (units-whole t a)

@@ -20,13 +20,14 @@ use Rattle.isdbs_runs.specs.declared.Run.{Run}
 use Rattle.isdbs_core.specs.declared.slots.SlotByte.{SlotByte}
 use Rattle.isdbs_core.specs.declared.slots.SlotByte.the-variants.{Nothing, Refused}
 use Rattle.trellis.specs.Lists.{padded}
-use Rattle.isdbs_combination.specs.Combinations.{pairsOf, periodOf, unitOf}
+use Rattle.isdbs_combination.specs.Combinations.{pairsOf, periodOf, unitOf, slotBits, slotSymbols}
 use Rattle.isdbs_tables.specs.declared.Table.{Table}
 use Rattle.isdbs_tables.specs.Tables.{tableAnswer, marked}
 use Rattle.isdbs_runs.specs.RunsOf.{noRun, runsOf}
 use Rattle.isdbs_runs.specs.RunLaws.{Whole}
 use Rattle.isdbs_core.specs.Symbols.{pairHolds, firstPair, symbolOfBit, markedBefore, hasSlot, runByte, byteIn, slotByteSymbol, slotByteSaid}
 use Rattle.isdbs_core.specs.Answers.{byteSaid}
+use Rattle.isdbs_frame.specs.Frame.{slotBytes}
 
 step-le : (b : Bool) (n k : ℕ) → n ≤ k → cond b 0 (suc n) ≤ suc k
 step-le true n k h = omega arith
@@ -81,7 +82,7 @@ pair-found «R7_8» (suc (suc (suc (suc (suc (suc zero)))))) h = lit< tt
 pair-found «R7_8» (suc (suc (suc (suc (suc (suc (suc i))))))) h = absurd (omega arith)
 
 -- the bits of q units' valid slots lie in the symbols of q units
-pub symbol-below : (c : Combination) (q b : ℕ) → b < q * unitOf c .valid * 1624 → symbolOfBit c b < q * (unitOf c .slots * 812)
+pub symbol-below : (c : Combination) (q b : ℕ) → b < q * unitOf c .valid * slotBits → symbolOfBit c b < q * (unitOf c .slots * slotSymbols)
 symbol-below «Bpsk1_2» q b h = omega arith
 symbol-below «Qpsk1_2» q b h = omega arith
 symbol-below «Qpsk2_3» q b h = let f = pair-found «R2_3» (b % 4) (omega arith) in omega arith
@@ -170,18 +171,18 @@ unit-below «Tc8psk2_3» k q h l = omega arith
 pub marked-below : (c : Combination) (k q : ℕ) → k < q * unitOf c .slots → marked c k ≡ true → markedBefore c k < q * unitOf c .valid
 marked-below c k q h e = rw (marked-count c k, e) (unit-below c k q h (ltb-true (k % unitOf c .slots) (unitOf c .valid) e))
 
-bit-below : (x m byte : ℕ) → m < x → byte < 203 → m * 1624 + 8 * byte < x * 1624
+bit-below : (x m byte : ℕ) → m < x → byte < slotBytes → m * slotBits + 8 * byte < x * slotBits
 bit-below x m byte h l = omega arith
 
 -- a byte of a marked slot of a run lies in the run's symbols
-pub byte-inside : (r : Run) (k byte : ℕ) → Whole r → r .«slot_start» + k < r .«slot_end» → marked (r .combination) k ≡ true → byte < 203
-    → r .«symbol_start» + symbolOfBit (r .combination) (markedBefore (r .combination) k * 1624 + 8 * byte) < r .«symbol_end»
+pub byte-inside : (r : Run) (k byte : ℕ) → Whole r → r .«slot_start» + k < r .«slot_end» → marked (r .combination) k ≡ true → byte < slotBytes
+    → r .«symbol_start» + symbolOfBit (r .combination) (markedBefore (r .combination) k * slotBits + 8 * byte) < r .«symbol_end»
 byte-inside r k byte w h e l =
     let c = r .combination in
     let q = w .units in
     let n : k < q * unitOf c .slots = omega (arith, w .slots) in
     let b = bit-below (q * unitOf c .valid) (markedBefore c k) byte (marked-below c k q n e) l in
-    let s = symbol-below c q (markedBefore c k * 1624 + 8 * byte) b in
+    let s = symbol-below c q (markedBefore c k * slotBits + 8 * byte) b in
     omega (arith, w .symbols)
 
 -- the slots of runs by index

@@ -17,7 +17,7 @@ use Rattle.isdbs_core.specs.declared.slots.SlotByte.{SlotByte}
 use Rattle.isdbs_core.specs.declared.slots.SlotByte.the-variants.{At, Nothing, Refused}
 use Rattle.isdbs_core.specs.Answers.{byteSaid}
 use Rattle.isdbs_frame.specs.Frame.{slotBytes, main, placeOf}
-use Rattle.isdbs_combination.specs.Combinations.{efficiencyOf, punctureOf, pairsOf, periodOf}
+use Rattle.isdbs_combination.specs.Combinations.{efficiencyOf, punctureOf, pairsOf, periodOf, slotBits}
 use Rattle.isdbs_tables.specs.Tables.{tableAnswer, marked}
 use Rattle.isdbs_runs.specs.RunsOf.{runsOf}
 
@@ -40,8 +40,11 @@ abbrev pub symbolOfBit : Combination → ℕ → ℕ
 symbolOfBit c b = symbolBy (punctureOf c) (efficiencyOf c) b
 
 -- refusal 2: "bit above 1,000,000"
+abbrev pub lastBit : ℕ
+lastBit = 1000000
+
 abbrev pub bitRows : ℕ → List Row
-bitRows b = (Position, ltb 1000000 b) ∷ []
+bitRows b = (Position, ltb lastBit b) ∷ []
 
 abbrev pub bitSymbol : Combination → ℕ → Said
 bitSymbol c b = says (firstRow (bitRows b)) (symbolOfBit c b ∷ [])
@@ -55,7 +58,7 @@ markedBefore c (suc k) = cond (marked c k) (suc (markedBefore c k)) (markedBefor
 abbrev pub runByte : Run → ℕ → ℕ → SlotByte
 runByte r k byte =
     cond (marked (r .combination) k && ltb byte slotBytes)
-    (At (placeOf (main (r .«symbol_start» + symbolOfBit (r .combination) (markedBefore (r .combination) k * 1624 + 8 * byte)))))
+    (At (placeOf (main (r .«symbol_start» + symbolOfBit (r .combination) (markedBefore (r .combination) k * slotBits + 8 * byte)))))
     Nothing
 
 abbrev pub hasSlot : Run → ℕ → Bool

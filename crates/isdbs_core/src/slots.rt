@@ -25,8 +25,9 @@ ghost use Rattle.isdbs_combination.specs.Combinations.{pairsOf};
 ghost use Rattle.isdbs_runs.specs.RunsOf.{RunFits};
 ghost use Rattle.isdbs_runs.specs.RunLaws.{Whole};
 ghost use Rattle.trellis.specs.Lists.{Each};
-ghost use Rattle.isdbs_core.specs.Symbols.{pairHolds, firstPair, hasSlot, symbolOfBit, bitSymbol, markedBefore, runByte, byteIn, slotByteSymbol, slotByteSaid};
+ghost use Rattle.isdbs_core.specs.Symbols.{pairHolds, firstPair, lastBit, hasSlot, symbolOfBit, bitSymbol, markedBefore, runByte, byteIn, slotByteSymbol, slotByteSaid};
 ghost use Rattle.isdbs_core.specs.Answers.{byteSaid};
+ghost use Rattle.isdbs_frame.specs.Frame.{slotBytes};
 
 // The last information bit that has a position.
 pub const LAST_BIT: usize = 1_000_000;
@@ -60,7 +61,7 @@ fn first_pair(p: Puncture, i: usize) -> usize
 
 // As bit_symbol, for a bit that has a position.
 fn symbol_of_bit(c: Combination, b: usize) -> usize
-    requires { ⌜ b ≤ 1000000 ⌝ }
+    requires { ⌜ b ≤ lastBit ⌝ }
     ensures { λ r. ⌜ r ≡ symbolOfBit c b ⌝ }
 {
     match c.puncturing() {
@@ -109,7 +110,7 @@ fn marked_before(c: Combination, k: usize) -> usize
 
 // Byte of slot k of a run.
 fn run_byte(r: Run, k: usize, byte: usize) -> SlotByte
-    requires { ⌜ (r .«slot_start» + k < r .«slot_end») × RunFits r × Whole r × (byte < 203) ⌝ }
+    requires { ⌜ (r .«slot_start» + k < r .«slot_end») × RunFits r × Whole r × (byte < slotBytes) ⌝ }
     ensures { λ a. ⌜ a ≡ runByte r k byte ⌝ }
 {
     let c = r.combination;
@@ -129,7 +130,7 @@ fn has_slot(r: Run, slot: usize) -> bool
 
 // Byte of a slot, in the run that has the slot.
 fn byte_in(runs: [Run; 4], slot: usize, byte: usize) -> SlotByte
-    requires { ⌜ Each RunFits runs × Each Whole runs × (byte < 203) ⌝ }
+    requires { ⌜ Each RunFits runs × Each Whole runs × (byte < slotBytes) ⌝ }
     ensures { λ a. ⌜ a ≡ byteIn runs slot byte ⌝ }
 {
     for i in 0..4 {

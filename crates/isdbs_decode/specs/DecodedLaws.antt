@@ -9,7 +9,7 @@ use lib.Dec.{leb, lit<, lit≤}
 use lib.ListN.{length, getD, take, drop, length-append}
 use lib.Ieee.{Float, nan}
 use Rattle.trellis.specs.Isdb
-use Rattle.trellis.specs.Isdb.{closed, released, best}
+use Rattle.trellis.specs.Isdb.{closed, released, best, frameTraceback}
 use Rattle.trellis.specs.Lists.{upto}
 use Rattle.trellis.specs.Step as step
 use Rattle.trellis.specs.Step.{Step, takes, kept, back, input, traced}
@@ -81,20 +81,20 @@ either : (t : Bool) (a b : Decoder) → Binary (a .bits) → Binary (b .bits) �
 either true a b p q = p
 either false a b p q = q
 
-released-binary : (d : Decoder) → Binary (d .bits) → Binary (released 128 d .bits)
+released-binary : (d : Decoder) → Binary (d .bits) → Binary (released frameTraceback d .bits)
 unfolding run.released
 released-binary d p =
-    either (leb (block + 128) (length (d .words)))
+    either (leb (block + frameTraceback) (length (d .words)))
     (record { values = d .values; words = drop block (d .words); bits = d .bits ++ take block (traced 32 (d .words) (best (d .values) 63)) })
     d
     (binary-append (d .bits) (take block (traced 32 (d .words) (best (d .values) 63))) p (binary-take block (traced 32 (d .words) (best (d .values) 63)) (best-traced (d .words) (d .values))))
     p
 
-after-binary : (xs : ℕ → Step) (d : Decoder) (n : ℕ) → Binary (d .bits) → Binary (steps 128 xs d n .bits)
+after-binary : (xs : ℕ → Step) (d : Decoder) (n : ℕ) → Binary (d .bits) → Binary (steps frameTraceback xs d n .bits)
 unfolding after stepped
 after-binary xs d zero p = p
 after-binary xs d (suc n) p =
-    let b = steps 128 xs d n in
+    let b = steps frameTraceback xs d n in
     released-binary
     (record { values = settle n (xs n) (nexts (b .values) (xs n)); words = b .words ++ (word (b .values) (xs n) ∷ []); bits = b .bits })
     (after-binary xs d n p)
@@ -102,12 +102,12 @@ after-binary xs d (suc n) p =
 -- the first steps, the known bits, the flush
 ended-binary : (d : Decoder) → Binary (d .bits) → Binary (endedBits d)
 ended-binary d p =
-    let e = steps 128 knownBits (closed d) 16 in
+    let e = steps frameTraceback knownBits (closed d) 16 in
     binary-append (e .bits) (traced 32 (e .words) (best (e .values) 63)) (after-binary knownBits (closed d) 16 p) (best-traced (e .words) (e .values))
 
 module _ (t : Table) (r : Received) (pm : List Float) where
   abbrev read : Decoder
-  read = steps 128 (frameMetrics t r) (freshFrom pm) (frameSteps t)
+  read = steps frameTraceback (frameMetrics t r) (freshFrom pm) (frameSteps t)
 
   pub from-binary : Binary (bitsFrom t r pm)
   from-binary = ended-binary read (after-binary (frameMetrics t r) (freshFrom pm) (frameSteps t) tt)
@@ -115,9 +115,9 @@ module _ (t : Table) (r : Received) (pm : List Float) where
   pub from-count : length (bitsFrom t r pm) ≡ frameSteps t + 16
   from-count =
       let d = closed read in
-      let e = steps 128 knownBits d 16 in
-      let a = counted Isdb.half Isdb.labels Isdb.rule 128 (frameMetrics t r) (freshFrom pm) (lit≤ tt) (lit≤ tt) (lit< tt) (frameSteps t) in
-      let b = counted Isdb.half Isdb.labels Isdb.rule 128 knownBits d (lit≤ tt) (lit≤ tt) (a .few) 16 in
+      let e = steps frameTraceback knownBits d 16 in
+      let a = counted Isdb.half Isdb.labels Isdb.rule frameTraceback (frameMetrics t r) (freshFrom pm) (lit≤ tt) (lit≤ tt) (lit< tt) (frameSteps t) in
+      let b = counted Isdb.half Isdb.labels Isdb.rule frameTraceback knownBits d (lit≤ tt) (lit≤ tt) (a .few) 16 in
       let aw = a .words-left in
       let ab = a .bits-out in
       let bw = b .words-left in

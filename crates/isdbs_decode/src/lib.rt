@@ -6,8 +6,9 @@ use isdbs_pack::write_bytes;
 use isdbs_points::Mapping;
 use isdbs_points::start_state;
 use isdbs_points::word_bit;
-use isdbs_read::TRACEBACK;
 use isdbs_read::read_run;
+use trellis::FRAME_TRACEBACK;
+use trellis::FRAME_WORDS;
 use viterbi::At;
 use viterbi::Step;
 use viterbi::advance;
@@ -53,9 +54,6 @@ impl DemodOptions {
         }
     }
 }
-
-// The decision words that a frame needs: 4,096 and its traceback.
-pub const WORDS: usize = 4_096 + TRACEBACK;
 
 // The place of a combination's scale.
 fn scale_place(c: Combination) -> usize
@@ -120,10 +118,10 @@ fn read_end(pm: &mut [f32; 64], at: At, decisions: &mut [u64], bits: &mut [u8])
     let mut now_at = at;
     for i in 0..16 {
         let x = Step::Known(word_bit(W1, i));
-        now_at = advance(pm, now_at, TRACEBACK, i, x, decisions, bits);
+        now_at = advance(pm, now_at, FRAME_TRACEBACK, i, x, decisions, bits);
     }
     finish(pm, now_at, decisions, bits);
-    clear(decisions, WORDS);
+    clear(decisions, FRAME_WORDS);
 }
 
 // The decoded bits of a frame: one for each step, then the 16 of W1. The path values start as `start`.

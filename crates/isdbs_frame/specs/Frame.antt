@@ -20,6 +20,10 @@ burstPeriod = 203
 abbrev pub burstSymbols : ℕ
 burstSymbols = 4
 
+-- the symbols of all bursts
+abbrev pub burstPoints : ℕ
+burstPoints = bursts * burstSymbols
+
 -- the symbols from one burst to the next, and those of a whole frame
 abbrev pub burstSpacing : ℕ
 burstSpacing = burstPeriod + burstSymbols
@@ -27,12 +31,9 @@ burstSpacing = burstPeriod + burstSymbols
 abbrev pub frameSymbols : ℕ
 frameSymbols = headerSymbols + bursts * burstSpacing
 
--- the main-signal symbols of a frame, its slots, and the bytes of a slot on air
+-- the main-signal symbols of a frame, and the bytes of a slot on air
 abbrev pub mainSymbols : ℕ
 mainSymbols = 38976
-
-abbrev pub frameSlots : ℕ
-frameSlots = 48
 
 abbrev pub slotBytes : ℕ
 slotBytes = 203

@@ -4,6 +4,7 @@
 //     frame (39,936 symbols)
 //       header, 192 BPSK symbols
 //       192 x ( 203 main-signal symbols | 4 burst symbols )
+use isdbs_combination::FRAME_SLOTS;
 use refusal::Answer;
 ghost use mathlib.Core.Path.{_≡_};
 ghost use Prim.Native.Nat.{_<_};
@@ -11,7 +12,7 @@ ghost use Rattle.isdbs_frame.specs.Answers.{positionSaid};
 ghost use Rattle.isdbs_frame.specs.Frame.{mainSymbols, main, placeOf, mainSymbolPosition, burstSymbolPosition, highFirst};
 
 // Slots per frame, N (Table 3 item 1).
-pub const SLOTS: usize = 48;
+pub const SLOTS: usize = FRAME_SLOTS;
 // Frames per superframe, M (item 2).
 pub const FRAMES: usize = 8;
 // Bytes per slot on air, B (item 3: the MPEG sync byte is not sent).

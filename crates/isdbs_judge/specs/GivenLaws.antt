@@ -14,9 +14,9 @@ use Rattle.isdbs_combination.specs.declared.MaybeCombination.the-variants.{Some
 use Rattle.isdbs_runs.specs.declared.Run.{Run}
 use Rattle.isdbs_tables.specs.declared.Entry.{Entry}
 use Rattle.isdbs_tables.specs.declared.Table.{Table}
-use Rattle.isdbs_frame.specs.Frame.{mainSymbols, frameSlots}
+use Rattle.isdbs_frame.specs.Frame.{mainSymbols}
 use Rattle.isdbs_tables.specs.Tables.{entryCombination}
-use Rattle.isdbs_combination.specs.Combinations.{modulationOf, slotSymbols}
+use Rattle.isdbs_combination.specs.Combinations.{modulationOf, slotSymbols, frameSlots, slotBits}
 use Rattle.isdbs_runs.specs.RunsOf.{runOf, entryRuns, entrySymbols, runsFrom, runsOf, stepsOf, noRun}
 use Rattle.isdbs_points.specs.declared.Mapping.{Mapping}
 use Rattle.isdbs_points.specs.Layout.{segmentsFrom, among, atSymbol}
@@ -50,9 +50,9 @@ module _ {A : Type 0} (none : A) (f : Combination → A) (k : ℕ) where
       → inSegments (entryRuns c n slot symbol ++ rs) s b ≡ inRuns (entryRuns c n slot symbol ++ rs)
   unfolding runAt among segmentsFrom
   entry-run (Some c) n slot symbol rs h s b =
-      let e : symbol + (symbol + n * 812 - symbol) ≡ symbol + n * 812 = omega arith in
+      let e : symbol + (symbol + n * slotSymbols - symbol) ≡ symbol + n * slotSymbols = omega arith in
       let r = runOf c n slot symbol in
-      rw (e, h (s + stepsOf r) (b + 1624 * r .«valid_slots»))
+      rw (e, h (s + stepsOf r) (b + slotBits * r .«valid_slots»))
   entry-run None n slot symbol rs h s b = h s b
 
   run-of : (es : List Entry) (slot symbol s b : ℕ) → inSegments (runsFrom es slot symbol) s b ≡ inRuns (runsFrom es slot symbol)

@@ -1,4 +1,6 @@
 // The points of a received frame outside the margins of the frame that a load encodes to, counted by slot. No row is checked here.
+pub use isdbs_combination::FRAME_SLOTS;
+pub use isdbs_combination::SLOT_SYMBOLS;
 use isdbs_core::slots::Plan;
 use isdbs_core::slots::Run;
 use margin_test::both;
@@ -8,14 +10,10 @@ ghost use mathlib.Core.Path.{_≡_};
 ghost use Prim.Native.Nat.{_<_, _≤_};
 ghost use lib.ListN.{length};
 ghost use Rattle.trellis.specs.Lists.{upto, laid};
-ghost use Rattle.isdbs_frame.specs.Frame.{mainSymbols, frameSlots};
+ghost use Rattle.isdbs_frame.specs.Frame.{mainSymbols};
+ghost use Rattle.isdbs_combination.specs.Combinations.{frameSlots};
 ghost use Rattle.strain.specs.Counts.{summed};
 ghost use Rattle.isdbs_judge.specs.Given.{reFree, imFree, outsideGiven, slotGiven};
-
-// The slots of a frame's main signal, and the symbols of each.
-pub const FRAME_SLOTS: usize = 48;
-
-pub const SLOT_SYMBOLS: usize = 812;
 
 // Which parts of a point are free.
 pub struct Free {

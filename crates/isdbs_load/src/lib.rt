@@ -3,9 +3,10 @@ use viterbi::encode_bit;
 ghost use mathlib.Core.Path.{_≡_};
 ghost use Prim.Native.Nat.{_+_, _%_, _<_, _≤_, _^_};
 ghost use lib.ListN.{getD};
-ghost use Rattle.trellis.specs.Code.{isdb, label, moved};
+ghost use Rattle.trellis.specs.Code.{label, moved};
 ghost use Rattle.isdbs_points.specs.Layout.{loadBit};
 ghost use Rattle.isdbs_load.specs.Bits.{byteBit, Digits, byteInputs, plainInputs};
+ghost use Rattle.trellis.specs.Isdb;
 
 // Byte `at` of the load; missing bytes are 0.
 pub fn load_byte(bytes: &[u8], at: usize) -> u8
@@ -57,7 +58,7 @@ pub struct Sent {
 // The trellis step of an input, of which the low bit counts.
 pub fn encode_input(u: u8, state: u8) -> Sent
     requires { ⌜ state < 64 ⌝ }
-    ensures { λ r. ⌜ (r .label ≡ label isdb (u % 2) state) × (r .state ≡ moved 32 (u % 2) state) × (r .state < 64) × (r .label < 4) ⌝ }
+    ensures { λ r. ⌜ (r .label ≡ Isdb.labels (u % 2) state) × (r .state ≡ moved 32 (u % 2) state) × (r .state < 64) × (r .label < 4) ⌝ }
 {
     let c = encode_bit(state, u);
     let label = 2 * c.x + c.y;
@@ -70,7 +71,7 @@ pub fn encode_input(u: u8, state: u8) -> Sent
 // The trellis step that bit n of the load makes.
 pub fn encode_step(bytes: &[u8], n: usize, state: u8) -> Sent
     requires { ⌜ state < 64 ⌝ }
-    ensures { λ r. ⌜ (r .label ≡ label isdb (loadBit (now (bytes .entry)) n) state) × (r .state ≡ moved 32 (loadBit (now (bytes .entry)) n) state) × (r .state < 64) × (r .label < 4) ⌝ }
+    ensures { λ r. ⌜ (r .label ≡ Isdb.labels (loadBit (now (bytes .entry)) n) state) × (r .state ≡ moved 32 (loadBit (now (bytes .entry)) n) state) × (r .state < 64) × (r .label < 4) ⌝ }
 {
     encode_input(load_bit(bytes, n), state)
 }

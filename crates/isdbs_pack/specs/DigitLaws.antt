@@ -20,6 +20,7 @@ use Rattle.isdbs_points.specs.Frame.{labelAt}
 use Rattle.isdbs_metrics.specs.Reading.{correlation, bitBy}
 use Rattle.isdbs_points.specs.Layout.{byteOf}
 use Rattle.isdbs_metrics.specs.Steps.{digits, pieceBit, Bits}
+use Rattle.trellis.specs.Isdb
 
 pub digits-small : (f : ℕ → ℕ) (n : ℕ) → ((i : ℕ) → i < n → f i < 2) → digits f n < 2 ^ n
 unfolding digits
@@ -102,7 +103,7 @@ out-small : (g u s : ℕ) → output isdb g u s < 2
 unfolding output
 out-small g u s = mod-lt _ (lit< tt)
 
-label-is : (x y u s : ℕ) → x ≡ output isdb 0o171 u s → y ≡ output isdb 0o133 u s → 2 * x + y ≡ label isdb u s
+label-is : (x y u s : ℕ) → x ≡ output isdb 0o171 u s → y ≡ output isdb 0o133 u s → 2 * x + y ≡ Isdb.labels u s
 unfolding label
 label-is x y u s p q = rw (p, q)
 
@@ -134,7 +135,7 @@ module _ (re im : List Float) (m : Mapping) (s : ℕ) (us : List ℕ) where
       let f = pieceBit «Tc8psk2_3» re im m s us in
       let d = digits-six f (2 * i) (omega arith) (λ j l. piece-small re im m s us 4 (t .bits) j (omega arith)) in
       let ed = t .byte-is in
-      let lab = label-is x y (u % 2) state (en .0) (en .1) ∙ ap (λ (a : ℕ). label isdb a state) v in
+      let lab = label-is x y (u % 2) state (en .0) (en .1) ∙ ap (λ (a : ℕ). Isdb.labels a state) v in
       let z-is = en .2 in
       let hs = t .small in
       let c2-small : c2 < 2 = rw ec (bit-small (lt (correlation (point (getD re i nan) (conjugated (m .conjugate) (getD im i nan))) (psk8Of (subset (m .«tc8psk_c1_is_y») (2 * x + y)))) zero64)) in (

@@ -14,7 +14,7 @@ use Rattle.isdbs_combination.specs.declared.Combination.{Combination}
 use Rattle.isdbs_combination.specs.declared.Combination.the-variants.{«Bpsk1_2», «Qpsk1_2», «Qpsk2_3», «Qpsk3_4», «Qpsk5_6», «Qpsk7_8», «Tc8psk2_3»}
 use Rattle.isdbs_runs.specs.declared.Run.{Run}
 use Rattle.isdbs_tables.specs.declared.Table.{Table}
-use Rattle.isdbs_combination.specs.Combinations.{slotSteps}
+use Rattle.isdbs_combination.specs.Combinations.{slotSteps, slotBits, slotSymbols}
 use Rattle.isdbs_runs.specs.RunsOf.{stepsOf, stepsIn, validIn, frameSteps, loadBytes, noRun}
 use Rattle.isdbs_points.specs.declared.Mapping.{Mapping}
 use Rattle.isdbs_points.specs.Layout.{byteOf, segmentsFrom, among}
@@ -29,6 +29,7 @@ use Rattle.isdbs_pack.specs.AmongLaws.{stepsTo, validTo, among-bit}
 use Rattle.isdbs_pack.specs.PartLaws.{bit-part}
 use Rattle.isdbs_pack.specs.PackingLaws.{state-more}
 use Rattle.isdbs_pack.specs.FrameRunLaws.{RunList, RunAt, Listed, tail-is, part-covers, next-valid, valid-fit, run-first, run-next}
+use Rattle.isdbs_frame.specs.Frame.{mainSymbols, slotBytes}
 
 -- byte j of a list of runs
 abbrev pub listByte : List Run → Received → ℕ → List ℕ → ℕ → ℕ
@@ -41,7 +42,7 @@ written-tail {A} a l p f h e =
     ap (λ (x : List A). take a l ++ (p ++ x)) none ∙ ap (λ (x : List A). take a l ++ x) (append-nil p ∙ e ∙ ap (λ (x : List A). laid f x) (tail-is a l))
 
 -- the steps that a run's bytes take
-pub bytes-steps : (c : Combination) (v : ℕ) → stepsOfBytes c (203 * v) ≡ slotSteps c * v
+pub bytes-steps : (c : Combination) (v : ℕ) → stepsOfBytes c (slotBytes * v) ≡ slotSteps c * v
 bytes-steps «Bpsk1_2» v = omega arith
 bytes-steps «Qpsk1_2» v = omega arith
 bytes-steps «Qpsk2_3» v = omega arith
@@ -55,7 +56,7 @@ all-below zero len h = omega arith
 all-below (suc n) len h = let l = h n (omega arith) in omega arith
 
 pub pack-room : (c : Combination) (v re im len : ℕ) (us : List ℕ) → Covers c (slotSteps c * v) re → Covers c (slotSteps c * v) im → slotSteps c * v ≤ len → Bits us (slotSteps c * v)
-    → PackRoom c (203 * v) re im len us
+    → PackRoom c (slotBytes * v) re im len us
 pack-room «Bpsk1_2» v re im len us p q l b = (omega arith, λ i h. b i (omega arith))
 pack-room «Qpsk1_2» v re im len us p q l b = (omega arith, λ i h. b i (omega arith))
 pack-room «Qpsk2_3» v re im len us p q l b = (omega arith, λ i h. b i (omega arith))
@@ -63,8 +64,8 @@ pack-room «Qpsk3_4» v re im len us p q l b = (omega arith, λ i h. b i (omega 
 pack-room «Qpsk5_6» v re im len us p q l b = (omega arith, λ i h. b i (omega arith))
 pack-room «Qpsk7_8» v re im len us p q l b = (omega arith, λ i h. b i (omega arith))
 pack-room «Tc8psk2_3» v re im len us p q l b =
-    let x = all-below (812 * v) re p in
-    let y = all-below (812 * v) im q in
+    let x = all-below (slotSymbols * v) re p in
+    let y = all-below (slotSymbols * v) im q in
     (omega arith, omega arith, omega arith, λ i h. b i (omega arith))
 
 -- byte j of run i by itself, from the state x before it
@@ -81,8 +82,8 @@ module _ (count : ℕ) (list : List Run) (l : RunList count list) (i : ℕ) (h :
   rs = take count list
 
   -- what a run's packing asks
-  pub run-room : 38976 ≤ length re → 38976 ≤ length im → step + stepsOf r ≤ length us → Bits us (step + stepsOf r)
-      → PackRoom (r .combination) (203 * r .«valid_slots») (length (take (length re - r .«symbol_start») (drop (r .«symbol_start») re))) (length (take (length im - r .«symbol_start») (drop (r .«symbol_start») im)))
+  pub run-room : mainSymbols ≤ length re → mainSymbols ≤ length im → step + stepsOf r ≤ length us → Bits us (step + stepsOf r)
+      → PackRoom (r .combination) (slotBytes * r .«valid_slots») (length (take (length re - r .«symbol_start») (drop (r .«symbol_start») re))) (length (take (length im - r .«symbol_start») (drop (r .«symbol_start») im)))
       (length (take (length us - step) (drop step us))) (take (length us - step) (drop step us))
   run-room gr gi gu b =
       let d = length-drop step us in
@@ -91,13 +92,13 @@ module _ (count : ℕ) (list : List Run) (l : RunList count list) (i : ℕ) (h :
       (λ k g. rw (getD-drop step us k 0) (b (step + k) (omega arith))))
 
   -- the state after a run
-  run-state : (x y : ℕ) → x ≡ stateAt 32 s us step → y ≡ stateAt 32 x (take (length us - step) (drop step us)) (stepsOfBytes (r .combination) (203 * r .«valid_slots»))
+  run-state : (x y : ℕ) → x ≡ stateAt 32 s us step → y ≡ stateAt 32 x (take (length us - step) (drop step us)) (stepsOfBytes (r .combination) (slotBytes * r .«valid_slots»))
       → y ≡ stateAt 32 s us (step + stepsOf r)
   run-state x y ex ey =
       state-more s us step (stepsOf r) (step + stepsOf r) x y refl ex (rw (tail-is step us, bytes-steps (r .combination) (r .«valid_slots»)) at ey)
 
   -- its bytes are the frame's
-  run-byte : (scales : Combination → Float) (done x : ℕ) → step ≡ stepsTo rs i → done ≡ 203 * validTo rs i → x ≡ stateAt 32 s us step → (j : ℕ) → j < 203 * r .«valid_slots»
+  run-byte : (scales : Combination → Float) (done x : ℕ) → step ≡ stepsTo rs i → done ≡ slotBytes * validTo rs i → x ≡ stateAt 32 s us step → (j : ℕ) → j < slotBytes * r .«valid_slots»
       → runByte list i re im m us step x j ≡ listByte rs (receivedWith re im m scales) s us (done + j)
   run-byte scales done x es ed ex j g =
       rw (tail-is (r .«symbol_start») re, tail-is (r .«symbol_start») im, tail-is step us)
@@ -112,7 +113,7 @@ module _ (count : ℕ) (list : List Run) (l : RunList count list) (i : ℕ) (h :
           let e1 : getD rs i noRun ≡ r = sym (l .at i) in
           let a = among-bit 0 (bitIn (receivedWith re im m scales) (labelAt s us) us) rs 0 0 i (8 * j + k) (8 * (done + j) + k) n (rw e1 (omega arith)) (omega arith) in
           let z : step ≡ 0 + stepsTo rs i = es ∙ sym (zero-add (stepsTo rs i)) in
-          bit-part re im m scales r step (0 + 1624 * validTo rs i) x (labelAt s us) us (8 * j + k)
+          bit-part re im m scales r step (0 + slotBits * validTo rs i) x (labelAt s us) us (8 * j + k)
           (λ o. ap (λ (y : ℕ). labelAt y (drop step us) ((8 * j + k) / 2)) ex
           ∙ sym (label-shift s us step (drop step us) ((8 * j + k) / 2 + 1) (λ a g. sym (getD-drop step us a 0)) ((8 * j + k) / 2) (omega arith)))
           ∙ sym (rw (e1, ← z) at a)
@@ -120,20 +121,20 @@ module _ (count : ℕ) (list : List Run) (l : RunList count list) (i : ℕ) (h :
 -- the bytes of the first i runs are written, and run i has room
 pub record Written (m : Mapping) (s : ℕ) (re im : List Float) (us bytes₀ : List ℕ) (count : ℕ) (list : List Run) (bytes : List ℕ) (state step done i : ℕ) : Type 0 where
   pub run : RunAt count list i step
-  pub re-fits : 38976 ≤ length re
-  pub im-fits : 38976 ≤ length im
+  pub re-fits : mainSymbols ≤ length re
+  pub im-fits : mainSymbols ≤ length im
   pub bits-fit : stepsIn (take count list) ≤ length us
   pub bits : Bits us (stepsIn (take count list))
-  pub load-fits : 203 * validIn (take count list) ≤ length bytes₀
+  pub load-fits : slotBytes * validIn (take count list) ≤ length bytes₀
   pub same : length bytes ≡ length bytes₀
-  pub bytes-fit : done + 203 * getD list i noRun .«valid_slots» ≤ 203 * validIn (take count list)
-  pub done-is : done ≡ 203 * validTo (take count list) i
+  pub bytes-fit : done + slotBytes * getD list i noRun .«valid_slots» ≤ slotBytes * validIn (take count list)
+  pub done-is : done ≡ slotBytes * validTo (take count list) i
   pub small : state < 64
   pub state-is : state ≡ stateAt 32 s us step
   pub bytes-are : (scales : Combination → Float) → bytes ≡ laid (upto (listByte (take count list) (receivedWith re im m scales) s us) done) bytes₀
 
 module _ {m : Mapping} {s : ℕ} {re im : List Float} {us bytes₀ : List ℕ} {count : ℕ} {list : List Run} where
-  pub written-first : {t : Table} → Listed t count list → s < 64 → 38976 ≤ length re → 38976 ≤ length im → frameSteps t ≤ length us → Bits us (frameSteps t) → loadBytes t ≤ length bytes₀
+  pub written-first : {t : Table} → Listed t count list → s < 64 → mainSymbols ≤ length re → mainSymbols ≤ length im → frameSteps t ≤ length us → Bits us (frameSteps t) → loadBytes t ≤ length bytes₀
       → Written m s re im us bytes₀ count list bytes₀ s 0 0 0
   unfolding stepsIn validIn stateAt upto
   written-first l small gr gi gu b gb =
@@ -155,7 +156,7 @@ module _ {m : Mapping} {s : ℕ} {re im : List Float} {us bytes₀ : List ℕ} {
 
   -- what packing run i asks
   pub written-room : {bytes : List ℕ} {state step done i : ℕ} → Written m s re im us bytes₀ count list bytes state step done i → i < count
-      → PackRoom (getD list i noRun .combination) (203 * getD list i noRun .«valid_slots») (length (take (length re - getD list i noRun .«symbol_start») (drop (getD list i noRun .«symbol_start») re)))
+      → PackRoom (getD list i noRun .combination) (slotBytes * getD list i noRun .«valid_slots») (length (take (length re - getD list i noRun .«symbol_start») (drop (getD list i noRun .«symbol_start») re)))
       (length (take (length im - getD list i noRun .«symbol_start») (drop (getD list i noRun .«symbol_start») im))) (length (take (length us - step) (drop step us))) (take (length us - step) (drop step us))
   written-room {step = step} {i = i} w h =
       let f = w .run .steps-fit in
@@ -163,9 +164,9 @@ module _ {m : Mapping} {s : ℕ} {re im : List Float} {us bytes₀ : List ℕ} {
       run-room count list (w .run .runs) i h re im m s us step (w .re-fits) (w .im-fits) (omega arith) (λ k q. w .bits k (omega arith))
 
   pub written-next : {bytes p : List ℕ} {state step done i n x : ℕ} → Written m s re im us bytes₀ count list bytes state step done i → i < count → n ≡ stepsOf (getD list i noRun)
-      → x < 64 → x ≡ stateAt 32 state (take (length us - step) (drop step us)) (stepsOfBytes (getD list i noRun .combination) (203 * getD list i noRun .«valid_slots»))
-      → p ≡ laid (upto (runByte list i re im m us step state) (203 * getD list i noRun .«valid_slots»)) (midOf done (length bytes - done) bytes)
-      → Written m s re im us bytes₀ count list (putMid done (length bytes - done) bytes p) x (step + n) (done + 203 * getD list i noRun .«valid_slots») (i + 1)
+      → x < 64 → x ≡ stateAt 32 state (take (length us - step) (drop step us)) (stepsOfBytes (getD list i noRun .combination) (slotBytes * getD list i noRun .«valid_slots»))
+      → p ≡ laid (upto (runByte list i re im m us step state) (slotBytes * getD list i noRun .«valid_slots»)) (midOf done (length bytes - done) bytes)
+      → Written m s re im us bytes₀ count list (putMid done (length bytes - done) bytes p) x (step + n) (done + slotBytes * getD list i noRun .«valid_slots») (i + 1)
   written-next {bytes} {p} {state} {step} {done} {i} {n} {x} w h en small ex ep =
       let r = getD list i noRun in
       let l = w .run .runs in
@@ -175,11 +176,11 @@ module _ {m : Mapping} {s : ℕ} {re im : List Float} {us bytes₀ : List ℕ} {
       let f = w .bytes-fit in
       let lf = w .load-fits in
       let ew = w .same in
-      let all : (scales : Combination → Float) → putMid done (length bytes - done) bytes p ≡ laid (upto (listByte (take count list) (receivedWith re im m scales) s us) (done + 203 * r .«valid_slots»)) bytes₀ =
+      let all : (scales : Combination → Float) → putMid done (length bytes - done) bytes p ≡ laid (upto (listByte (take count list) (receivedWith re im m scales) s us) (done + slotBytes * r .«valid_slots»)) bytes₀ =
       λ scales.
-      written-tail done bytes p (upto (runByte list i re im m us step state) (203 * r .«valid_slots»)) (omega arith) ep
-      ∙ ap (λ (z : List ℕ). take done z ++ laid (upto (runByte list i re im m us step state) (203 * r .«valid_slots»)) (drop done z)) (w .bytes-are scales)
-      ∙ laid-part (listByte (take count list) (receivedWith re im m scales) s us) (runByte list i re im m us step state) done (203 * r .«valid_slots») bytes₀
+      written-tail done bytes p (upto (runByte list i re im m us step state) (slotBytes * r .«valid_slots»)) (omega arith) ep
+      ∙ ap (λ (z : List ℕ). take done z ++ laid (upto (runByte list i re im m us step state) (slotBytes * r .«valid_slots»)) (drop done z)) (w .bytes-are scales)
+      ∙ laid-part (listByte (take count list) (receivedWith re im m scales) s us) (runByte list i re im m us step state) done (slotBytes * r .«valid_slots») bytes₀
       (run-byte count list l i h re im m s us step scales done state (w .run .step-is) d (w .state-is)) in
       record {
         run = run-next (w .run) h en;
@@ -188,7 +189,7 @@ module _ {m : Mapping} {s : ℕ} {re im : List Float} {us bytes₀ : List ℕ} {
         bits-fit = w .bits-fit;
         bits = w .bits;
         load-fits = lf;
-        same = ap length (all (λ c. nan)) ∙ length-laid-upto (listByte (take count list) (receivedWith re im m (λ c. nan)) s us) (done + 203 * r .«valid_slots») bytes₀ (omega arith);
+        same = ap length (all (λ c. nan)) ∙ length-laid-upto (listByte (take count list) (receivedWith re im m (λ c. nan)) s us) (done + slotBytes * r .«valid_slots») bytes₀ (omega arith);
         bytes-fit = omega arith;
         done-is = omega arith;
         small = small;

@@ -20,11 +20,13 @@ use Rattle.isdbs_runs.specs.RunLaws.{Whole, run-whole}
 use Rattle.isdbs_points.specs.Layout.{sentOrder}
 use Rattle.isdbs_metrics.specs.Steps.{Covers}
 use Rattle.isdbs_pack.specs.AmongLaws.{stepsTo, validTo, steps-more, valid-more, steps-within, valid-within}
+use Rattle.isdbs_frame.specs.Frame.{mainSymbols}
+use Rattle.trellis.specs.Isdb.{longestFrame}
 
 -- the first `count` of a list are runs within a frame, and past them stands the empty run
 pub record RunList (count : ℕ) (list : List Run) : Type 0 where
   pub few : count ≤ 4
-  pub steps : stepsIn (take count list) ≤ 68208
+  pub steps : stepsIn (take count list) ≤ longestFrame
   pub valid : validIn (take count list) ≤ 48
   pub counted : length (take count list) ≡ count
   pub at : (i : ℕ) → getD list i noRun ≡ getD (take count list) i noRun
@@ -119,7 +121,7 @@ module _ (count : ℕ) (list : List Run) (l : RunList count list) (i : ℕ) wher
   valid-fit = rw (← next-valid) (valid-within rs (i + 1))
 
   -- the parts from the run's first symbol on are enough
-  pub part-covers : (xs : List Float) (n : ℕ) → 38976 ≤ length xs → n ≡ stepsOf run → Covers (run .combination) n (length (take (length xs - run .«symbol_start») (drop (run .«symbol_start») xs)))
+  pub part-covers : (xs : List Float) (n : ℕ) → mainSymbols ≤ length xs → n ≡ stepsOf run → Covers (run .combination) n (length (take (length xs - run .«symbol_start») (drop (run .«symbol_start») xs)))
   part-covers xs n g e =
       let f = l .fits i in
       let fe = f .ends in
@@ -130,7 +132,7 @@ module _ (count : ℕ) (list : List Run) (l : RunList count list) (i : ℕ) wher
 pub record RunAt (count : ℕ) (list : List Run) (i step : ℕ) : Type 0 where
   pub runs : RunList count list
   pub done : i ≤ count
-  pub starts : getD list i noRun .«symbol_start» ≤ 38976
+  pub starts : getD list i noRun .«symbol_start» ≤ mainSymbols
   pub steps-fit : step + stepsOf (getD list i noRun) ≤ stepsIn (take count list)
   pub step-is : step ≡ stepsTo (take count list) i
 

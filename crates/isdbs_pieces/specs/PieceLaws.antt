@@ -9,7 +9,7 @@ use lib.Ieee.{Float, nan, neg}
 use lib.ListN.{length, getD, take, drop, set, length-set, length-drop, drop-of-length-le}
 use lib.Seq.{take-all}
 use Rattle.trellis.specs.Lists.{upto, laid}
-use Rattle.trellis.specs.Code.{isdb, label, moved, stateAt}
+use Rattle.trellis.specs.Code.{label, moved, stateAt}
 use Rattle.trellis.specs.Step.{term}
 use Rattle.isdbs_combination.specs.declared.Combination.{Combination}
 use Rattle.isdbs_combination.specs.declared.Combination.the-variants.{«Bpsk1_2», «Qpsk1_2», «Qpsk2_3», «Qpsk3_4», «Qpsk5_6», «Qpsk7_8», «Tc8psk2_3»}
@@ -25,6 +25,7 @@ use Rattle.isdbs_pieces.specs.Encoded.{piecePoint, PieceEncoded, registe
 use Rattle.isdbs_points.specs.StateLaws.{Follow, state-shift, label-shift}
 use Rattle.trellis.specs.LaidLaws.{upto-cong, laid-upto, laid-part, length-laid-upto}
 use Rattle.trellis.specs.ListLaws.{getD-upto}
+use Rattle.trellis.specs.Isdb
 
 -- a part from a on, written at its front and put back
 pub tail-back : {A : Type 0} (a : ℕ) (l f : List A) {p : List A} → a ≤ length l → p ≡ laid f (take (length l - a) (drop a l))
@@ -146,7 +147,7 @@ module _ (c : Combination) (load : List ℕ) (bit n s k : ℕ) (h : k < n) where
   pub piece-input : getD (pieceInputs c load bit n) k 0 ≡ at-k
   piece-input = getD-upto (inputIn load (piece c bit)) 0 n k h
 
-  pub piece-label : (l state : ℕ) → state ≡ stateAt 32 s (pieceInputs c load bit n) k → l ≡ label isdb at-k state → l ≡ pieceLabel c load bit n s k
+  pub piece-label : (l state : ℕ) → state ≡ stateAt 32 s (pieceInputs c load bit n) k → l ≡ Isdb.labels at-k state → l ≡ pieceLabel c load bit n s k
   piece-label l state e d = rw (piece-input, ← e) d
 
 pub label-small : (s : ℕ) (us : List ℕ) (k : ℕ) → labelAt s us k < 4

@@ -6,7 +6,7 @@ use lib.ListN.{getD, length}
 use lib.Dec.{eqb}
 use lib.Ieee.{Float}
 use Rattle.trellis.specs.Lists.{upto}
-use Rattle.trellis.specs.Code.{isdb, label, stateAt}
+use Rattle.trellis.specs.Code.{stateAt}
 use Rattle.isdbs_combination.specs.declared.Modulation.{Modulation}
 use Rattle.isdbs_combination.specs.declared.Modulation.the-variants.{Bpsk, Qpsk, Tc8psk}
 use Rattle.isdbs_tables.specs.declared.Table.{Table}
@@ -17,6 +17,7 @@ use Rattle.isdbs_points.specs.declared.Cplx.{Cplx}
 use Rattle.isdbs_points.specs.declared.Mapping.{Mapping}
 use Rattle.isdbs_points.specs.Points.{point, unused, bpskOf, qpskOf, psk8Of, subset, conjugated}
 use Rattle.isdbs_points.specs.Layout.{Segment, orderOf, stepsPerPeriod, atSymbol, atStep, loadBit, wordBit}
+use Rattle.trellis.specs.Isdb
 
 -- the load's bit that enters the code at step k of a segment: "TC8PSK takes C2 uncoded, then one coded bit"
 abbrev pub coded : Modulation → ℕ → ℕ
@@ -33,7 +34,7 @@ inputs t load = upto (atStep 0 (inputIn load) t) (frameSteps t)
 
 -- 2 X + Y at each step of encoding the inputs us from the state s
 abbrev pub labelAt : ℕ → List ℕ → ℕ → ℕ
-labelAt s us k = label isdb (getD us k 0) (stateAt 32 s us k)
+labelAt s us k = Isdb.labels (getD us k 0) (stateAt 32 s us k)
 
 -- a coded bit by its mother bit's number: X at even ones, Y at odd ones
 abbrev pub codedBit : ℕ → ℕ → ℕ

@@ -11,7 +11,7 @@ use Rattle.isdbs_combination.specs.declared.MaybePuncture.the-variants.{Some, N
 use Rattle.isdbs_combination.specs.declared.BitPair.{BitPair}
 use Rattle.isdbs_runs.specs.declared.Run.{Run}
 use Rattle.isdbs_tables.specs.declared.Table.{Table}
-use Rattle.isdbs_combination.specs.Combinations.{punctureOf, pairsOf, periodSteps}
+use Rattle.isdbs_combination.specs.Combinations.{punctureOf, pairsOf, periodSteps, slotBits}
 use Rattle.isdbs_runs.specs.RunsOf.{runsOf, stepsOf}
 
 -- ---- the code of a combination
@@ -62,12 +62,12 @@ segmentOf r step bit =
       step = step;
       steps = stepsOf r;
       bit = bit;
-      bits = 1624 * r .«valid_slots»;
+      bits = slotBits * r .«valid_slots»;
     }
 
 unfoldable pub segmentsFrom : List Run → ℕ → ℕ → List Segment
 segmentsFrom [] step bit = []
-segmentsFrom (r ∷ rs) step bit = segmentOf r step bit ∷ segmentsFrom rs (step + stepsOf r) (bit + 1624 * r .«valid_slots»)
+segmentsFrom (r ∷ rs) step bit = segmentOf r step bit ∷ segmentsFrom rs (step + stepsOf r) (bit + slotBits * r .«valid_slots»)
 
 abbrev pub segments : Table → List Segment
 segments t = segmentsFrom (runsOf t) 0 0

@@ -14,7 +14,7 @@ use Rattle.isdbs_tables.specs.declared.Entry.{Entry}
 use Rattle.isdbs_tables.specs.declared.Table.{Table}
 use Rattle.isdbs_runs.specs.declared.Run.{Run}
 use Rattle.isdbs_frame.specs.Frame.{mainSymbols}
-use Rattle.isdbs_combination.specs.Combinations.{unitOf, slotSteps}
+use Rattle.isdbs_combination.specs.Combinations.{unitOf, slotSteps, slotBits, slotSymbols}
 use Rattle.isdbs_tables.specs.Tables.{slotSum, entryCombination, partOf, TableAccepted}
 use Rattle.isdbs_tables.specs.TableLaws.{sum-fits, units-whole}
 use Rattle.isdbs_tables.specs.TableLaws.{WholeUnits}
@@ -22,19 +22,20 @@ use Rattle.isdbs_runs.specs.RunLaws.{entry-units}
 use Rattle.isdbs_runs.specs.RunsOf.{unitsIn, symbolsIn, runOf, entryRuns, entrySymbols, runsFrom, runsOf, validIn, validTotal, loadBytes, stepsOf, stepsIn, frameSteps}
 use Rattle.isdbs_points.specs.Layout.{Segment, segmentOf, segmentsFrom, segments, atSymbol, atStep, atBit, In, here, there}
 use Rattle.isdbs_points.specs.PlaceLaws.{Fill, Found, fill-member, among-at, find}
+use Rattle.trellis.specs.Isdb.{longestFrame}
 
 -- ---- steps and bits
 pub fill-steps : (rs : List Run) (s b : ℕ) → Fill (λ g. g .step) (λ g. g .steps) (segmentsFrom rs s b) s (s + stepsIn rs)
 unfolding Fill segmentsFrom stepsIn
 fill-steps [] s b = omega arith
-fill-steps (r ∷ rs) s b = (refl, rw (← add-assoc s (stepsOf r) (stepsIn rs)) (fill-steps rs (s + stepsOf r) (b + 1624 * r .«valid_slots»)))
+fill-steps (r ∷ rs) s b = (refl, rw (← add-assoc s (stepsOf r) (stepsIn rs)) (fill-steps rs (s + stepsOf r) (b + slotBits * r .«valid_slots»)))
 
-pub fill-bits : (rs : List Run) (s b : ℕ) → Fill (λ g. g .bit) (λ g. g .bits) (segmentsFrom rs s b) b (b + 1624 * validIn rs)
+pub fill-bits : (rs : List Run) (s b : ℕ) → Fill (λ g. g .bit) (λ g. g .bits) (segmentsFrom rs s b) b (b + slotBits * validIn rs)
 unfolding Fill segmentsFrom validIn
 fill-bits [] s b = omega arith
 fill-bits (r ∷ rs) s b =
-    let e : b + 1624 * (r .«valid_slots» + validIn rs) ≡ b + 1624 * r .«valid_slots» + 1624 * validIn rs = omega arith in
-    (refl, rw e (fill-bits rs (s + stepsOf r) (b + 1624 * r .«valid_slots»)))
+    let e : b + slotBits * (r .«valid_slots» + validIn rs) ≡ b + slotBits * r .«valid_slots» + slotBits * validIn rs = omega arith in
+    (refl, rw e (fill-bits rs (s + stepsOf r) (b + slotBits * r .«valid_slots»)))
 
 -- ---- symbols
 unfoldable pub symbolSum : List Entry → ℕ
@@ -50,7 +51,7 @@ unfolding Fill segmentsFrom
 entry-symbols (Some c) n slot symbol end rs s b h =
     let r = runOf c n slot symbol in
     let e : symbol + (symbol + symbolsIn n - symbol) ≡ symbol + symbolsIn n = omega arith in
-    (refl, rw e (h (s + stepsOf r) (b + 1624 * r .«valid_slots»)))
+    (refl, rw e (h (s + stepsOf r) (b + slotBits * r .«valid_slots»)))
 entry-symbols None n slot symbol end rs s b h = rw (add-zero symbol) at (h s b)
 
 pub fill-symbols : (es : List Entry) (slot symbol s b : ℕ) → FillSymbols (segmentsFrom (runsFrom es slot symbol) s b) symbol (symbol + symbolSum es)
@@ -72,11 +73,11 @@ steps-few «Qpsk5_6» n = omega arith
 steps-few «Qpsk7_8» n = omega arith
 steps-few «Tc8psk2_3» n = omega arith
 
-entry-symbols-few : (c : MaybeCombination) (n : ℕ) → entrySymbols c n ≤ 812 * n
+entry-symbols-few : (c : MaybeCombination) (n : ℕ) → entrySymbols c n ≤ slotSymbols * n
 entry-symbols-few (Some c) n = omega arith
 entry-symbols-few None n = omega arith
 
-pub symbol-sum-few : (es : List Entry) → symbolSum es ≤ 812 * slotSum es
+pub symbol-sum-few : (es : List Entry) → symbolSum es ≤ slotSymbols * slotSum es
 unfolding symbolSum slotSum
 symbol-sum-few [] = omega arith
 symbol-sum-few (e ∷ es) = omega (arith, entry-symbols-few (entryCombination e) (e .slots), symbol-sum-few es)
@@ -96,9 +97,9 @@ step-sum-few (e ∷ es) slot symbol =
 -- ---- each segment of an accepted table has whole units
 pub record Whole (g : Segment) : Type 0 where
   pub units : ℕ
-  pub symbols-are : g .symbols ≡ units * (unitOf (g .combination) .slots * 812)
+  pub symbols-are : g .symbols ≡ units * (unitOf (g .combination) .slots * slotSymbols)
   pub steps-are : g .steps ≡ slotSteps (g .combination) * (units * unitOf (g .combination) .valid)
-  pub bits-are : g .bits ≡ 1624 * (units * unitOf (g .combination) .valid)
+  pub bits-are : g .bits ≡ slotBits * (units * unitOf (g .combination) .valid)
 
 of-cons : (P : Segment → Type 0) {g h : Segment} {gs : List Segment} → P h → (In g gs → P g) → In g (h ∷ gs) → P g
 of-cons P p q here = p
@@ -111,7 +112,7 @@ entry-whole (Some c) n slot symbol rs s b g p h m =
     let r = runOf c n slot symbol in
     let w = entry-units c n p in
     let whole : Whole (segmentOf r s b) = record { units = unitsIn c n; symbols-are = omega arith; steps-are = refl; bits-are = refl } in
-    of-cons Whole whole (h (s + stepsOf r) (b + 1624 * r .«valid_slots»)) m
+    of-cons Whole whole (h (s + stepsOf r) (b + slotBits * r .«valid_slots»)) m
 entry-whole None n slot symbol rs s b g p h m = h s b m
 
 from-whole : (es : List Entry) (slot symbol s b : ℕ) (g : Segment) → WholeUnits es → In g (segmentsFrom (runsFrom es slot symbol) s b) → Whole g
@@ -126,7 +127,7 @@ module _ (t : Table) where
   table-steps = rw (zero-add (frameSteps t)) at (fill-steps (runsOf t) 0 0)
 
   table-bits : Fill (λ g. g .bit) (λ g. g .bits) (segments t) 0 (8 * loadBytes t)
-  table-bits = let e : 8 * loadBytes t ≡ 0 + 1624 * validTotal t = omega arith in rw e (fill-bits (runsOf t) 0 0)
+  table-bits = let e : 8 * loadBytes t ≡ 0 + slotBits * validTotal t = omega arith in rw e (fill-bits (runsOf t) 0 0)
 
   table-symbols : FillSymbols (segments t) 0 (symbolSum (t .entries))
   table-symbols = rw (zero-add (symbolSum (t .entries))) at (fill-symbols (t .entries) 0 0 0 0)
@@ -135,7 +136,7 @@ module _ (t : Table) where
   table-whole a g = from-whole (t .entries) 0 0 0 0 g (units-whole t a)
 
   -- an accepted table has 68,208 steps at most, and its symbols lie in the frame
-  pub few-steps : TableAccepted t → frameSteps t ≤ 68208
+  pub few-steps : TableAccepted t → frameSteps t ≤ longestFrame
   few-steps a = omega (arith, sum-fits t a, step-sum-few (t .entries) 0 0)
 
   pub symbol-fits : TableAccepted t → (g : Segment) → In g (segments t) → (j : ℕ) → j < g .symbols → g .symbol + j < mainSymbols

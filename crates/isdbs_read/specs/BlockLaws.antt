@@ -16,6 +16,7 @@ use Rattle.isdbs_combination.specs.declared.Combination.the-variants.{«Bpsk1_2
 use Rattle.isdbs_points.specs.Layout.{stepsPerPeriod}
 use Rattle.isdbs_blocks.specs.Blocks.{Periods, BlockMade}
 use Rattle.isdbs_read.specs.Carried.{Carried}
+use Rattle.trellis.specs.Isdb.{frameTraceback, frameWords}
 
 -- ---- whole periods
 left-periods : (c : Combination) (n k : ℕ) → Periods c n → Periods c k → k ≤ n → Periods c (n - k)
@@ -58,12 +59,12 @@ no-periods «Qpsk7_8» = refl
 no-periods «Tc8psk2_3» = refl
 
 -- ---- the decoder
-pub read-start : (ys : ℕ → Step) (i0 : ℕ) (pm₀ : List Float) (at : At) (dec₀ out₀ : List ℕ) → at .held < 4224 → Carried ys i0 0 pm₀ at dec₀ out₀ at pm₀ dec₀ out₀
+pub read-start : (ys : ℕ → Step) (i0 : ℕ) (pm₀ : List Float) (at : At) (dec₀ out₀ : List ℕ) → at .held < frameWords → Carried ys i0 0 pm₀ at dec₀ out₀ at pm₀ dec₀ out₀
 read-start ys i0 pm₀ at dec₀ out₀ h = record { few = h; sum = omega arith; carries = λ xs d dec out e z. rw (add-zero i0) z }
 
 pub read-block : (ys : ℕ → Step) (i0 : ℕ) (pm₀ : List Float) (at : At) (dec₀ out₀ : List ℕ) (k len : ℕ) (r r′ : At) (pm pm′ : List Float) (dec dec′ out out′ : List ℕ) (block : List Float)
     → Carried ys i0 k pm₀ at dec₀ out₀ r pm dec out → BlockMade ys k len block
-    → viterbi.Carried 128 (fourSteps block) (i0 + k) len pm r dec out r′ pm′ dec′ out′
+    → viterbi.Carried frameTraceback (fourSteps block) (i0 + k) len pm r dec out r′ pm′ dec′ out′
     → Carried ys i0 (k + len) pm₀ at dec₀ out₀ r′ pm′ dec′ out′
 read-block ys i0 pm₀ at dec₀ out₀ k len r r′ pm pm′ dec dec′ out out′ block z b v =
     let u = z .sum in
@@ -77,5 +78,5 @@ read-block ys i0 pm₀ at dec₀ out₀ k len r r′ pm pm′ dec dec′ out out
           let same : (j : ℕ) → j < len → xs (i0 + k + j) ≡ fourSteps block j = λ j g.
           ap xs (add-assoc i0 k j) ∙ e (k + j) (omega arith) ∙ sym (b .made j g) in
           let to : i0 + (k + len) ≡ i0 + k + len = sym (add-assoc i0 k len) in
-          rw (to, from-steps 128 xs (fourSteps block) d (i0 + k) len same) (v .carries (steps 128 xs d (i0 + k)) dec₁ out₁ before);
+          rw (to, from-steps frameTraceback xs (fourSteps block) d (i0 + k) len same) (v .carries (steps frameTraceback xs d (i0 + k)) dec₁ out₁ before);
     }

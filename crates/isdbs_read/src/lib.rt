@@ -4,6 +4,7 @@ use isdbs_core::combination::Combination;
 use isdbs_metrics::PeriodLayout;
 use isdbs_metrics::layout_of;
 use isdbs_points::Mapping;
+use trellis::FRAME_TRACEBACK;
 use viterbi::At;
 use viterbi::run_fours;
 ghost use mathlib.Core.Path.{_≡_};
@@ -15,9 +16,6 @@ ghost use Rattle.trellis.specs.Isdb.{frameWords};
 ghost use Rattle.isdbs_metrics.specs.Steps.{LayoutOf, Covers};
 ghost use Rattle.isdbs_blocks.specs.Blocks.{runSteps, runMark, Periods};
 ghost use Rattle.isdbs_read.specs.Carried.{Carried};
-
-// The traceback of a frame.
-pub const TRACEBACK: usize = 128;
 
 // How many of the steps left are taken at once.
 fn block_of(left: usize, period: usize) -> usize
@@ -72,7 +70,16 @@ fn read_blocks(
             block,
             &mut marks[k..],
         );
-        now_at = run_fours(pm, now_at, TRACEBACK, i0 + k, len, block, decisions, bits);
+        now_at = run_fours(
+            pm,
+            now_at,
+            FRAME_TRACEBACK,
+            i0 + k,
+            len,
+            block,
+            decisions,
+            bits,
+        );
         k = k + len;
     }
     now_at

@@ -16,10 +16,11 @@ use Rattle.isdbs_tables.specs.declared.Entry.{Entry}
 use Rattle.isdbs_tables.specs.declared.Table.{Table}
 use Rattle.isdbs_runs.specs.declared.Run.{Run}
 use Rattle.trellis.specs.Lists.{Each, padded}
-use Rattle.isdbs_combination.specs.Combinations.{unitOf, slotSteps, punctureOf, modulationOf, periodSteps, periodSymbols, stepBits}
+use Rattle.isdbs_combination.specs.Combinations.{unitOf, slotSteps, punctureOf, modulationOf, periodSteps, periodSymbols, stepBits, frameSlots, slotBits, slotSymbols}
 use Rattle.isdbs_tables.specs.Tables.{entryCombination, slotSum, partOf, partUnit}
 use Rattle.isdbs_tables.specs.TableLaws.{WholeUnits}
 use Rattle.isdbs_runs.specs.RunsOf.{unitsIn, symbolsIn, runOf, entryRuns, entrySymbols, runsFrom, runsOf, validIn, validTotal, stepsOf, stepsIn, frameSteps, RunFits}
+use Rattle.trellis.specs.Isdb.{longestFrame}
 
 -- ---- a run by itself
 
@@ -52,12 +53,12 @@ pub record Whole (r : Run) : Type 0 where
   pub units : ℕ
   pub slots : r .«slot_end» ≡ r .«slot_start» + units * unitOf (r .combination) .slots
   pub valid : r .«valid_slots» ≡ units * unitOf (r .combination) .valid
-  pub symbols : r .«symbol_end» ≡ r .«symbol_start» + units * (unitOf (r .combination) .slots * 812)
+  pub symbols : r .«symbol_end» ≡ r .«symbol_start» + units * (unitOf (r .combination) .slots * slotSymbols)
   pub periods : ℕ
   pub counted : periods ≡ units * unitPeriods (r .combination)
   pub steps : stepsOf r ≡ periods * periodSteps (punctureOf (r .combination))
   pub sent : r .«symbol_end» ≡ r .«symbol_start» + periods * periodSymbols (punctureOf (r .combination)) (modulationOf (r .combination))
-  pub bits : r .«valid_slots» * 1624 ≡ stepsOf r * stepBits (modulationOf (r .combination))
+  pub bits : r .«valid_slots» * slotBits ≡ stepsOf r * stepBits (modulationOf (r .combination))
 
 pub run-whole : (c : Combination) (n slot symbol : ℕ) → n % unitOf c .slots ≡ 0 → Whole (runOf c n slot symbol)
 run-whole «Bpsk1_2» n slot symbol h = record { units = n / 4; slots = omega arith; valid = refl; symbols = omega arith; periods = n / 4 * 1624; counted = refl; steps = omega arith; sent = omega arith; bits = omega arith }
@@ -117,7 +118,7 @@ pub no-part : (c : Combination) (n : ℕ) → partOf (Some c) n ≡ false → n 
 no-part c n p = eqb-true (n % unitOf c .slots) 0 (not-false (eqb (n % unitOf c .slots) 0) p)
 
 -- an entry of a combination that row 10 passes: its slots are those of its units
-pub entry-units : (c : Combination) (n : ℕ) → partOf (Some c) n ≡ false → n * 812 ≡ unitsIn c n * (unitOf c .slots * 812)
+pub entry-units : (c : Combination) (n : ℕ) → partOf (Some c) n ≡ false → n * slotSymbols ≡ unitsIn c n * (unitOf c .slots * slotSymbols)
 entry-units «Bpsk1_2» n p = let w = no-part «Bpsk1_2» n p in omega arith
 entry-units «Qpsk1_2» n p = let w = no-part «Qpsk1_2» n p in omega arith
 entry-units «Qpsk2_3» n p = let w = no-part «Qpsk2_3» n p in omega arith
@@ -139,14 +140,14 @@ runs-whole (e ∷ es) slot symbol w =
     (w .0)
     (runs-whole es (slot + e .slots) (symbol + entrySymbols (entryCombination e) (e .slots)) (w .1))
 
-run-fits : (c : Combination) (n slot symbol : ℕ) → slot + n ≤ 48 → symbol ≤ slot * 812 → RunFits (runOf c n slot symbol)
+run-fits : (c : Combination) (n slot symbol : ℕ) → slot + n ≤ frameSlots → symbol ≤ slot * slotSymbols → RunFits (runOf c n slot symbol)
 run-fits c n slot symbol h s = record { slots = h; starts = omega arith; ends = omega arith }
 
-entry-symbols : (m : MaybeCombination) (n : ℕ) → entrySymbols m n ≤ n * 812
+entry-symbols : (m : MaybeCombination) (n : ℕ) → entrySymbols m n ≤ n * slotSymbols
 entry-symbols (Some c) n = omega arith
 entry-symbols None n = omega arith
 
-pub runs-fit : (es : List Entry) (slot symbol : ℕ) → slot + slotSum es ≤ 48 → symbol ≤ slot * 812 → Each RunFits (runsFrom es slot symbol)
+pub runs-fit : (es : List Entry) (slot symbol : ℕ) → slot + slotSum es ≤ frameSlots → symbol ≤ slot * slotSymbols → Each RunFits (runsFrom es slot symbol)
 unfolding runsFrom slotSum
 runs-fit [] slot symbol h s = tt
 runs-fit (e ∷ es) slot symbol h s =
@@ -205,10 +206,10 @@ pub record Laid (t : Table) : Type 0 where
   pub order : InOrder 0 (runsOf t)
   pub whole : Each Whole (runsOf t)
   pub fit : Each RunFits (runsOf t)
-  pub valid : validTotal t ≤ 48
-  pub steps : frameSteps t ≤ 68208
+  pub valid : validTotal t ≤ frameSlots
+  pub steps : frameSteps t ≤ longestFrame
 
-pub laid : (t : Table) → slotSum (t .entries) ≤ 48 → WholeUnits (t .entries) → Laid t
+pub laid : (t : Table) → slotSum (t .entries) ≤ frameSlots → WholeUnits (t .entries) → Laid t
 laid t h w =
     let v = valid-most (t .entries) 0 0 in
     let s = steps-most (t .entries) 0 0 in

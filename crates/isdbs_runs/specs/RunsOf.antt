@@ -17,7 +17,7 @@ use Rattle.isdbs_runs.specs.declared.FrameRuns.{FrameRuns}
 use Rattle.isdbs_runs.specs.declared.Plan.{Plan}
 use Rattle.trellis.specs.Lists.{padded}
 use Rattle.isdbs_frame.specs.Frame.{mainSymbols, slotBytes}
-use Rattle.isdbs_combination.specs.Combinations.{unitOf, slotSteps}
+use Rattle.isdbs_combination.specs.Combinations.{unitOf, slotSteps, frameSlots, slotSymbols}
 use Rattle.isdbs_tables.specs.Tables.{entryCombination, tableAnswer, TableAccepted}
 
 -- "An entry of n slots has n / unit whole units"
@@ -26,7 +26,7 @@ unitsIn c n = n / unitOf c .slots
 
 -- "of unit × 812 symbols": 812 for each slot, since an accepted entry is whole units
 abbrev pub symbolsIn : ℕ → ℕ
-symbolsIn n = n * 812
+symbolsIn n = n * slotSymbols
 
 -- the run of an entry of n slots that starts at a slot and a main-signal symbol
 abbrev pub runOf : Combination → ℕ → ℕ → ℕ → Run
@@ -114,6 +114,6 @@ pub record Planned (p : Plan) : Type 0 where
 
 -- a run lies within the frame
 pub record RunFits (r : Run) : Type 0 where
-  pub slots : r .«slot_end» ≤ 48
+  pub slots : r .«slot_end» ≤ frameSlots
   pub starts : r .«symbol_start» ≤ r .«symbol_end»
   pub ends : r .«symbol_end» ≤ mainSymbols

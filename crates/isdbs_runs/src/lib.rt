@@ -1,6 +1,7 @@
 // The runs of a table: each combination's slots in the frame, and the plan of a frame (ITU-R BO.1408-1, sections 3.2 and 8).
 use isdbs_combination::Combination;
 use isdbs_combination::CombinationWord;
+use isdbs_combination::SLOT_SYMBOLS;
 use isdbs_frame::SLOT_BYTES;
 use isdbs_tables::Table;
 use isdbs_tables::table_answer;
@@ -52,7 +53,7 @@ fn run_of(c: Combination, n: usize, slot: usize, symbol: usize) -> Run
         slot_end: slot + n,
         valid_slots: units * u.valid,
         symbol_start: symbol,
-        symbol_end: symbol + n * 812,
+        symbol_end: symbol + n * SLOT_SYMBOLS,
     }
 }
 

@@ -5,7 +5,7 @@ use mathlib.Core.List.{List}
 use Prim.Native.Nat.{ℕ, _+_, _*_, _/_, _%_, _<_}
 use lib.ListN.{getD}
 use Rattle.trellis.specs.Lists.{upto, laid}
-use Rattle.trellis.specs.Code.{isdb, label, stateAt}
+use Rattle.trellis.specs.Code.{stateAt}
 use Rattle.viterbi.specs.Calls.{steps, call, flush}
 use Rattle.isdbs_tables.specs.declared.Table.{Table}
 use Rattle.isdbs_runs.specs.RunsOf.{frameSteps, validTotal}
@@ -19,10 +19,11 @@ use Rattle.strain.specs.Slots.{bySlot}
 use Rattle.strain.specs.Marks.{frameMark, marked}
 use Rattle.isdbs_strain.specs.declared.Slot.{Slot}
 use Rattle.isdbs_strain.specs.declared.RunCount.{RunCount}
+use Rattle.trellis.specs.Isdb
 
 -- a list that has 2 X + Y of the input u at the state s at 64 u + s
 pub record Labels (l : List ℕ) : Type 0 where
-  pub are : (k : ℕ) → k < 128 → getD l k 0 ≡ label isdb (k / 64) (k % 64)
+  pub are : (k : ℕ) → k < 128 → getD l k 0 ≡ Isdb.labels (k / 64) (k % 64)
 
 -- n steps are counted by their marks ms: how many are strained where the decoded bits us are encoded again from the state s, and the state after them
 pub record Counted (ms us : List ℕ) (s n : ℕ) (r : Slot) : Type 0 where

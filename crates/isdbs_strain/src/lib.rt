@@ -3,6 +3,7 @@ use isdbs_core::slots::Plan;
 use isdbs_decode::DemodOptions;
 use isdbs_decode::decode;
 use isdbs_points::start_state;
+use trellis::LONGEST_FRAME;
 ghost use mathlib.Core.Path.{_≡_};
 ghost use Prim.Native.Nat.{_+_, _*_, _<_, _≤_};
 ghost use lib.ListN.{length};
@@ -16,9 +17,7 @@ ghost use Rattle.isdbs_decode.specs.Runs.{FrameRead};
 ghost use Rattle.strain.specs.Counts.{summed};
 ghost use Rattle.strain.specs.Strain.{StrainLaid};
 ghost use Rattle.isdbs_strain.specs.Pieces.{Labels, Counted, RunCounted, frameStrain, FrameCounted};
-
-// The steps of the longest frame.
-const MARKS: usize = 68_208;
+ghost use Rattle.isdbs_combination.specs.Combinations.{frameSlots, slotBits};
 
 // 2 X + Y of the input u at the state s, at 64 u + s.
 const LABELS: [u8; 128] = [
@@ -166,7 +165,7 @@ pub struct Slot {
 
 // n steps by their marks and decoded bits.
 fn count_slot(labels: &[u8; 128], n: usize, marks: &[u8], bits: &[u8], start: usize) -> Slot
-    requires { ⌜ Labels (now labels) × (n ≤ 1624) × (n ≤ length (now marks)) × (n ≤ length (now bits)) × Bits (now bits) n × (start < 64) ⌝ }
+    requires { ⌜ Labels (now labels) × (n ≤ slotBits) × (n ≤ length (now marks)) × (n ≤ length (now bits)) × Bits (now bits) n × (start < 64) ⌝ }
     ensures { λ r. ⌜ Counted (now (marks .entry)) (now (bits .entry)) start n r ⌝ }
 {
     let mut count: u32 = 0;
@@ -196,7 +195,7 @@ fn count_run(
     start: usize,
     counts: &mut [u32],
 ) -> RunCount
-    requires { ⌜ Labels (now labels) × (w ≤ 1624) × (n ≤ 48) × (w * n ≤ length (now marks)) × (w * n ≤ length (now bits)) × Bits (now bits) (w * n) × (start < 64) × (n ≤ length (now counts)) ⌝ }
+    requires { ⌜ Labels (now labels) × (w ≤ slotBits) × (n ≤ frameSlots) × (w * n ≤ length (now marks)) × (w * n ≤ length (now bits)) × Bits (now bits) (w * n) × (start < 64) × (n ≤ length (now counts)) ⌝ }
     ensures { λ r. ⌜ RunCounted w (now (marks .entry)) (now (bits .entry)) start n r (now (counts .entry)) (now (counts .exit)) ⌝ }
 {
     let mut state = start;
@@ -256,7 +255,7 @@ fn decode_marked(
     bits: &mut [u8],
     bytes: &mut [u8],
     counts: &mut [u32],
-    marks: &mut [u8; MARKS],
+    marks: &mut [u8; LONGEST_FRAME],
 ) -> u32
     requires { ⌜ Planned p × (mainSymbols ≤ length (now re)) × (mainSymbols ≤ length (now im)) × (frameWords ≤ length (now decisions)) × (frameSteps (p .table) + 16 ≤ length (now bits)) × (loadBytes (p .table) ≤ length (now bytes)) × (validTotal (p .table) ≤ length (now counts)) ⌝ }
     ensures read { λ _. ⌜ FrameRead (p .table) (receivedBy (now (re .entry)) (now (im .entry)) (o .mapping) (o .scales)) (o .«known_start») first (now (decisions .entry)) (now (decisions .exit)) (now (bits .entry)) (now (bits .exit)) (now (bytes .entry)) (now (bytes .exit)) ⌝ }
@@ -284,7 +283,7 @@ pub fn decode_strained(
     ensures read { λ _. ⌜ FrameRead (p .table) (receivedBy (now (re .entry)) (now (im .entry)) (o .mapping) (o .scales)) (o .«known_start») first (now (decisions .entry)) (now (decisions .exit)) (now (bits .entry)) (now (bits .exit)) (now (bytes .entry)) (now (bytes .exit)) ⌝ }
     ensures strain { λ r. ⌜ StrainLaid (p .table) (receivedBy (now (re .entry)) (now (im .entry)) (o .mapping) (o .scales)) (o .«known_start») first (now (counts .entry)) (now (counts .exit)) r ⌝ }
 {
-    let mut marks = [0u8; MARKS];
+    let mut marks = [0u8; LONGEST_FRAME];
     decode_marked(
         p,
         first,

@@ -13,6 +13,7 @@ use Rattle.isdbs_tables.specs.declared.Entry.{Entry}
 use Rattle.isdbs_tables.specs.declared.Table.{Table}
 use Rattle.trellis.specs.Lists.{Each}
 use Rattle.isdbs_tables.specs.Tables.{slotSum, partUnit, reservedWord, some, tableRows, tableAnswer, TableAccepted}
+use Rattle.isdbs_combination.specs.Combinations.{frameSlots}
 
 -- each entry is whole units
 abbrev pub WholeUnits : List Entry → Type 0
@@ -34,9 +35,9 @@ module _ (t : Table) where
   table-refusing = tt
 
   -- an accepted table's slots sum to 48 at most
-  pub sum-fits : TableAccepted t → slotSum (t .entries) ≤ 48
+  pub sum-fits : TableAccepted t → slotSum (t .entries) ≤ frameSlots
   unfolding tableRows
-  sum-fits a = ltb-false 48 (slotSum (t .entries)) (passed (tableRows t) tt a answer.Table)
+  sum-fits a = ltb-false frameSlots (slotSum (t .entries)) (passed (tableRows t) tt a answer.Table)
 
   -- each of its entries with a combination is whole units
   pub units-whole : TableAccepted t → WholeUnits (t .entries)

@@ -18,7 +18,7 @@ use Rattle.isdbs_tables.specs.declared.Table.{Table}
 use Rattle.isdbs_tables.specs.declared.SlotMark.{SlotMark}
 use Rattle.isdbs_tables.specs.declared.SlotMarks.{SlotMarks}
 use Rattle.trellis.specs.Lists.{upto}
-use Rattle.isdbs_combination.specs.Combinations.{combinationOf, wordMeans, unitOf}
+use Rattle.isdbs_combination.specs.Combinations.{combinationOf, wordMeans, unitOf, frameSlots}
 
 -- "`CombinationEntry::combination` means the assigned combination of the word, or none"
 abbrev pub entryCombination : Entry → MaybeCombination
@@ -54,7 +54,7 @@ some test (e ∷ es) = test e || some test es
 -- TableLaws has what follows from them
 unfoldable pub tableRows : Table → List Row
 tableRows t =
-    (answer.Table, ltb 48 (slotSum (t .entries)))
+    (answer.Table, ltb frameSlots (slotSum (t .entries)))
     ∷ (answer.PartUnit, some partUnit (t .entries))
     ∷ (answer.ReservedWord, some reservedWord (t .entries))
     ∷ []
@@ -83,8 +83,8 @@ mark m = record { mark = m }
 
 -- the marks of the 48 slots
 abbrev pub marksOf : Table → List SlotMark
-marksOf t = upto (λ s. mark (markAt (t .entries) s)) 48
+marksOf t = upto (λ s. mark (markAt (t .entries) s)) frameSlots
 
 -- the answer of `slot_combinations`; refused: none marked
 abbrev pub slotMarks : Table → SlotMarks
-slotMarks t = record { answer = tableAnswer t; slots = cond (accepted (tableAnswer t)) (marksOf t) (replicate 48 (mark None)) }
+slotMarks t = record { answer = tableAnswer t; slots = cond (accepted (tableAnswer t)) (marksOf t) (replicate frameSlots (mark None)) }

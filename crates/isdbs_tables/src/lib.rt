@@ -1,11 +1,13 @@
 // The table record of the TMCC information (ITU-R BO.1408-1, section 6.1, Fig. 8), and the combination of each slot.
 use isdbs_combination::Combination;
 use isdbs_combination::CombinationWord;
+use isdbs_combination::FRAME_SLOTS;
 use isdbs_combination::MaybeCombination;
 use refusal::Answer;
 ghost use mathlib.Core.Path.{_≡_};
 ghost use lib.ListN.{replicate};
 ghost use Rattle.isdbs_tables.specs.Tables.{entryCombination, slotSum, partUnit, reservedWord, some, tableAnswer, marked, markIn, markAt, mark, marksOf, slotMarks};
+ghost use Rattle.isdbs_combination.specs.Combinations.{frameSlots};
 
 // Combinations that a table carries, CM (BO.1408-1, Appendix 1, Table 3 item 8).
 pub const CM: usize = 4;
@@ -98,7 +100,7 @@ fn has_reserved(t: Table) -> bool
 pub fn table_answer(t: Table) -> Answer
     ensures { λ r. ⌜ r ≡ tableAnswer t ⌝ }
 {
-    if slot_sum(t) > 48 {
+    if slot_sum(t) > FRAME_SLOTS {
         return Answer::Table;
     }
     if has_part(t) {
@@ -118,7 +120,7 @@ pub struct SlotMark {
 // The marks of a frame's slots.
 pub struct SlotMarks {
     pub answer: Answer,
-    pub slots: [SlotMark; 48],
+    pub slots: [SlotMark; FRAME_SLOTS],
 }
 
 // Whether place k of an entry is marked.
@@ -162,20 +164,20 @@ fn mark_at(t: Table, s: usize) -> MaybeCombination
 }
 
 // No slot marked.
-fn no_marks() -> [SlotMark; 48]
-    ensures { λ r. ⌜ r ≡ replicate 48 (mark MaybeCombination.None) ⌝ }
+fn no_marks() -> [SlotMark; FRAME_SLOTS]
+    ensures { λ r. ⌜ r ≡ replicate frameSlots (mark MaybeCombination.None) ⌝ }
 {
     [SlotMark {
         mark: MaybeCombination::None,
-    }; 48]
+    }; FRAME_SLOTS]
 }
 
 // The marks of the slots of any table.
-fn marks(t: Table) -> [SlotMark; 48]
+fn marks(t: Table) -> [SlotMark; FRAME_SLOTS]
     ensures { λ r. ⌜ r ≡ marksOf t ⌝ }
 {
     let mut slots = no_marks();
-    for s in 0..48 {
+    for s in 0..FRAME_SLOTS {
         let m = mark_at(t, s);
         slots[s] = SlotMark { mark: m };
     }

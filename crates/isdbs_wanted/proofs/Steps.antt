@@ -25,6 +25,7 @@ use Rattle.wanted.specs.ReadOff.{psk8Label, which, bitAs, bitBy, inputFrom}
 use Rattle.wanted.specs.Shown.{label-small}
 use Rattle.wanted.specs.Inputs.{which-small, which-sent}
 use Rattle.isdbs_wanted.specs.Pieces.{runAt, stepBy, stepOf, SentIn, InFrame, bitFrom, stateFrom}
+use Rattle.trellis.specs.Isdb
 
 -- the place of a sent bit lies in the frame where its step's points do
 in-frame : (c : Combination) (start k i : ℕ) → InFrame c start k → i < length (orderOf c) → SentIn (modulationOf c) start (k / stepsPerPeriod c * length (orderOf c) + i) k
@@ -87,7 +88,7 @@ module _ (r : PeriodLayout) (h : LayoutOf r) (start k : ℕ) where
   -- and gives the input
   pub input-is : (m : Mapping) (z : ℕ → Cplx) (s b v w : ℕ) → b ≡ which (runAt (r .combination) start) k
       → v ≡ bitAs m z (r .modulation) start (k / r .period * r .count + getD (r .places) (2 * (k % r .period) + b) 0) k b
-      → w ≡ codedBit b (label isdb 0 s) → (v + w) % 2 ≡ inputFrom m z s (runAt (r .combination) start) k
+      → w ≡ codedBit b (Isdb.labels 0 s) → (v + w) % 2 ≡ inputFrom m z s (runAt (r .combination) start) k
   input-is m z s b v w e ev ew =
       rw (ev, ew, number-is b (rw e (which-small (runAt (r .combination) start) k)), e, h .modulation)
 
@@ -98,7 +99,7 @@ pub eight-fits : (x : ℕ) → x < 14 → x * 8 < 2 ^ 64
 eight-fits x h = omega arith
 
 -- the label of the input 0
-pub label-is : {x y : ℕ} (s : ℕ) → x ≡ output isdb 0o171 0 s → y ≡ output isdb 0o133 0 s → 2 * x + y ≡ label isdb 0 s
+pub label-is : {x y : ℕ} (s : ℕ) → x ≡ output isdb 0o171 0 s → y ≡ output isdb 0o133 0 s → 2 * x + y ≡ Isdb.labels 0 s
 unfolding label
 label-is s p q = rw (p, q)
 
@@ -116,13 +117,13 @@ tc-in c start i e h =
 module _ (m : Mapping) (z : ℕ → Cplx) (s : ℕ) (g : Segment) (i : ℕ) where
   pub bit-small : (md : Modulation) → bitFrom m z md s g i < 2
   unfolding bitFrom
-  bit-small Bpsk = mod-lt (bitBy m z (modulationOf (g .combination)) g i + codedBit (which g i) (label isdb 0 s)) (lit< tt)
-  bit-small Qpsk = mod-lt (bitBy m z (modulationOf (g .combination)) g i + codedBit (which g i) (label isdb 0 s)) (lit< tt)
+  bit-small Bpsk = mod-lt (bitBy m z (modulationOf (g .combination)) g i + codedBit (which g i) (Isdb.labels 0 s)) (lit< tt)
+  bit-small Qpsk = mod-lt (bitBy m z (modulationOf (g .combination)) g i + codedBit (which g i) (Isdb.labels 0 s)) (lit< tt)
   bit-small Tc8psk = go (eqb (i % 2) 0)
     where
       go : (t : Bool) → cond t (psk8Label (z (g .symbol + i / 2)) / 4) (inputFrom m z s g (i / 2)) < 2
       go true = let l = label-small (z (g .symbol + i / 2)) in omega arith
-      go false = mod-lt (bitBy m z (modulationOf (g .combination)) g (i / 2) + codedBit (which g (i / 2)) (label isdb 0 s)) (lit< tt)
+      go false = mod-lt (bitBy m z (modulationOf (g .combination)) g (i / 2) + codedBit (which g (i / 2)) (Isdb.labels 0 s)) (lit< tt)
 
   pub even-bit : i % 2 ≡ 0 → psk8Label (z (g .symbol + i / 2)) / 4 ≡ bitFrom m z Tc8psk s g i
   unfolding bitFrom

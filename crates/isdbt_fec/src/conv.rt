@@ -11,6 +11,7 @@ ghost use Rattle.isdbt_table.specs.Table.{period, sent};
 ghost use Rattle.isdbt_table.specs.Puncture.{inputs, mother, punctured, depunctured};
 ghost use Rattle.isdbt_rows.specs.Rows.{depth, encodeRows, depunctureRows, decodeRows};
 ghost use Rattle.isdbt_fec.specs.Calls.{Encodes, Unencoded, Depunctures, Untouched, decodedBits, Decodes, Undecoded};
+ghost use Rattle.trellis.specs.Run.{tracebackLimit, block};
 use isdb_fec::conv::ConvEncoder;
 use isdbt_rows::answer_decode;
 use isdbt_rows::answer_depuncture;
@@ -179,9 +180,9 @@ fn decode_periods(
     decisions: &mut [u64],
     out: &mut [u8],
 ) -> usize
-    requires { ⌜ (1 ≤ traceback) × (traceback ≤ 1024) × (4096 + traceback ≤ length (now decisions)) × (length (now llrs) / sent rate * period rate ≤ length (now out)) ⌝ }
+    requires { ⌜ (1 ≤ traceback) × (traceback ≤ tracebackLimit) × (block + traceback ≤ length (now decisions)) × (length (now llrs) / sent rate * period rate ≤ length (now out)) ⌝ }
     ensures { λ r. ⌜ (r ≡ length (now (llrs .entry)) / sent rate * period rate)
-        × (now (decisions .exit) ≡ laid (replicate (4096 + traceback) 0) (now (decisions .entry)))
+        × (now (decisions .exit) ≡ laid (replicate (block + traceback) 0) (now (decisions .entry)))
         × (now (out .exit) ≡ laid (decodedBits rate (now (llrs .entry)) traceback) (now (out .entry))) ⌝ }
 {
     let p = Puncturing::new(rate);

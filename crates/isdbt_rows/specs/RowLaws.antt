@@ -14,6 +14,7 @@ use Rattle.refusal.specs.RowLaws.{passed, neither}
 use Rattle.isdbt_table.specs.declared.CodeRate.{CodeRate}
 use Rattle.isdbt_table.specs.Table.{period, sent}
 use Rattle.isdbt_rows.specs.Rows.{broken, depth, encodeRows, depunctureRows, decodeRows}
+use Rattle.trellis.specs.Run.{block, tracebackLimit}
 
 whole : (per count : ℕ) → broken per count ≡ false → count % per ≡ 0
 whole per count e = eqb-true (count % per) 0 (not-false (eqb (count % per) 0) e)
@@ -29,16 +30,16 @@ pub depuncture-enough : (rate : CodeRate) (count out : ℕ) → Accepted ≡ fir
 depuncture-enough rate count out e = ltb-false out (count / sent rate * (2 * period rate)) (passed (depunctureRows rate count out) tt (sym e) Space)
 
 pub decode-enough : (rate : CodeRate) (xs : List Float) (tb decisions out : ℕ) → Accepted ≡ firstRow (decodeRows rate xs tb decisions out)
-    → (tb ≤ 1024) × (4096 + depth tb ≤ decisions) × (length xs / sent rate * period rate ≤ out)
+    → (tb ≤ tracebackLimit) × (block + depth tb ≤ decisions) × (length xs / sent rate * period rate ≤ out)
 decode-enough rate xs tb decisions out e =
     let need = length xs / sent rate * period rate in
     let p = passed (decodeRows rate xs tb decisions out) tt (sym e) in
-    let q = neither (ltb out need) (ltb decisions (4096 + depth tb)) (p Space) in
-    (ltb-false 1024 tb (p Traceback), ltb-false decisions (4096 + depth tb) (q .1), ltb-false out need (q .0))
+    let q = neither (ltb out need) (ltb decisions (block + depth tb)) (p Space) in
+    (ltb-false tracebackLimit tb (p Traceback), ltb-false decisions (block + depth tb) (q .1), ltb-false out need (q .0))
 
-depth-case : (tb : ℕ) (t : Bool) → eqb tb 0 ≡ t → tb ≤ 1024 → (1 ≤ cond t 1 tb) × (cond t 1 tb ≤ 1024)
+depth-case : (tb : ℕ) (t : Bool) → eqb tb 0 ≡ t → tb ≤ tracebackLimit → (1 ≤ cond t 1 tb) × (cond t 1 tb ≤ tracebackLimit)
 depth-case tb true e h = (omega arith, omega arith)
 depth-case tb false e h = let n = eqb-false tb 0 e in (omega arith, h)
 
-pub depth-range : (tb : ℕ) → tb ≤ 1024 → (1 ≤ depth tb) × (depth tb ≤ 1024)
+pub depth-range : (tb : ℕ) → tb ≤ tracebackLimit → (1 ≤ depth tb) × (depth tb ≤ tracebackLimit)
 depth-range tb h = depth-case tb (eqb tb 0) refl h

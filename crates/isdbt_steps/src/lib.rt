@@ -8,6 +8,7 @@ ghost use Rattle.trellis.specs.Step.{renormalised};
 ghost use Rattle.isdbt_table.specs.Puncture.{spread};
 ghost use Rattle.viterbi.specs.Calls.{pairSteps, bestState, traced};
 ghost use Rattle.isdbt_steps.specs.Soft.{stepsBy};
+ghost use Rattle.trellis.specs.Run.{block, tracebackLimit};
 use viterbi::At;
 use viterbi::clear;
 use viterbi::finish;
@@ -71,9 +72,9 @@ pub fn end_call(
     decisions: &mut [u64],
     out: &mut [u8],
 ) -> usize
-    requires { ⌜ (traceback ≤ 1024) × (at .held ≤ 4096 + traceback) × (4096 + traceback ≤ length (now decisions)) × (at .count + at .held ≤ length (now out)) ⌝ }
+    requires { ⌜ (traceback ≤ tracebackLimit) × (at .held ≤ block + traceback) × (block + traceback ≤ length (now decisions)) × (at .count + at .held ≤ length (now out)) ⌝ }
     ensures { λ r. ⌜ (r ≡ at .count + at .held)
-        × (now (decisions .exit) ≡ laid (replicate (4096 + traceback) 0) (laid (replicate (at .held) 0) (now (decisions .entry))))
+        × (now (decisions .exit) ≡ laid (replicate (block + traceback) 0) (laid (replicate (at .held) 0) (now (decisions .entry))))
         × (now (out .exit) ≡ take (at .count) (now (out .entry)) ++ laid (traced (take (at .held) (now (decisions .entry))) (bestState (renormalised 32 (now (pm .entry))))) (drop (at .count) (now (out .entry)))) ⌝ }
 {
     renormalise(pm);

@@ -10,7 +10,8 @@ use Rattle.trellis.specs.Lists.{upto, laid, padded}
 use Rattle.isdbs_runs.specs.declared.Plan.{Plan}
 use Rattle.isdbs_runs.specs.declared.Run.{Run}
 use Rattle.isdbs_tables.specs.declared.Table.{Table}
-use Rattle.isdbs_frame.specs.Frame.{mainSymbols, frameSlots}
+use Rattle.isdbs_frame.specs.Frame.{mainSymbols}
+use Rattle.isdbs_combination.specs.Combinations.{frameSlots}
 use Rattle.isdbs_runs.specs.RunsOf.{Planned, runsOf, noRun}
 use Rattle.isdbs_points.specs.declared.Mapping.{Mapping}
 use Rattle.isdbs_points.specs.Frame.{pointAt, startState}

@@ -14,7 +14,8 @@ use Rattle.refusal.specs.Rows.{firstRow}
 use Rattle.refusal.specs.RowLaws as row
 use Rattle.refusal.specs.RowLaws.{neither}
 use Rattle.isdbs_tables.specs.declared.Table.{Table}
-use Rattle.isdbs_frame.specs.Frame.{mainSymbols, frameSlots}
+use Rattle.isdbs_frame.specs.Frame.{mainSymbols}
+use Rattle.isdbs_combination.specs.Combinations.{frameSlots}
 use Rattle.isdbs_tables.specs.Tables.{TableAccepted}
 use Rattle.isdbs_tables.specs.TableLaws.{then-accepted}
 use Rattle.isdbs_runs.specs.RunsOf.{loadBytes}

@@ -10,7 +10,7 @@ use Rattle.isdbs_tables.specs.declared.Table.{Table}
 use Rattle.isdbs_tables.specs.Tables.{tableRows}
 use Rattle.isdbs_runs.specs.RunsOf.{loadBytes}
 use Rattle.isdbs_phy.specs.DecodeRows.{pointRows}
-use Rattle.isdbs_frame.specs.Frame.{frameSlots}
+use Rattle.isdbs_combination.specs.Combinations.{frameSlots}
 
 -- those of what is lent: 5, of a load of `need` bytes; 6 and 7 as `decode_frame` has them; 9, for fewer counts than slots
 abbrev pub lentRows : ℕ → ℕ → List Float → List Float → ℕ → List Row

@@ -1,5 +1,6 @@
 // The verdict: what a reading is worth. The points of a frame outside the margins of a load, for each of the frame's 48 slots (812 symbols each). Where there are none, no other load fits.
 use frame_rows::points_answer;
+use isdbs_core::frame::MAIN_SYMBOLS;
 use isdbs_core::slots::Plan;
 use isdbs_core::slots::plan_of;
 use isdbs_core::tmcc::Table;
@@ -16,7 +17,8 @@ ghost use Prim.Native.Nat.{_≤_};
 ghost use lib.ListN.{length};
 ghost use Rattle.trellis.specs.Lists.{laid};
 ghost use Rattle.refusal.specs.Rows.{firstRow, Either};
-ghost use Rattle.isdbs_frame.specs.Frame.{mainSymbols, frameSlots};
+ghost use Rattle.isdbs_frame.specs.Frame.{mainSymbols};
+ghost use Rattle.isdbs_combination.specs.Combinations.{frameSlots};
 ghost use Rattle.isdbs_runs.specs.RunsOf.{planOf, Planned};
 ghost use Rattle.verdict.specs.Outside.{outsideCounts};
 ghost use Rattle.judge.specs.Rows.{lentRows, judgeRows};
@@ -79,8 +81,8 @@ fn judge_arrays(
     m: Mapping,
     first: bool,
     bytes: &[u8],
-    xs: &mut [f64; 38976],
-    ys: &mut [f64; 38976],
+    xs: &mut [f64; MAIN_SYMBOLS],
+    ys: &mut [f64; MAIN_SYMBOLS],
     counts: &mut [u32],
 ) -> u32
     requires { ⌜ Planned p × (mainSymbols ≤ length (now re)) × (mainSymbols ≤ length (now im)) × (frameSlots ≤ length (now counts)) ⌝ }
@@ -102,8 +104,8 @@ fn judge_frame(
     requires { ⌜ Planned p × (mainSymbols ≤ length (now re)) × (mainSymbols ≤ length (now im)) × (frameSlots ≤ length (now counts)) ⌝ }
     ensures { λ r. ⌜ CountsLaid (now (re .entry)) (now (im .entry)) (now (bytes .entry)) (p .table) m first (now (counts .entry)) (now (counts .exit)) r ⌝ }
 {
-    let mut xs = [0.0f64; 38976];
-    let mut ys = [0.0f64; 38976];
+    let mut xs = [0.0f64; MAIN_SYMBOLS];
+    let mut ys = [0.0f64; MAIN_SYMBOLS];
     judge_arrays(p, re, im, m, first, bytes, &mut xs, &mut ys, counts)
 }
 

@@ -13,9 +13,7 @@ use isdb_fec::conv::TRACEBACK_LIMIT;
 use isdb_fec::conv::ViterbiDecoder;
 use isdb_fec::conv::some_beyond;
 use refusal::Answer;
-
-// The bits that leave at a release.
-const BLOCK: usize = 4096;
+use trellis::BLOCK;
 
 // Traceback 0 acts as 1.
 fn depth_of(traceback: usize) -> usize

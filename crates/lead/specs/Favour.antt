@@ -8,11 +8,8 @@ use lib.IntN.{pos, negsuc}
 use lib.Ieee.{Float, nan, fin, binary32, le}
 use Rattle.ieee.specs.Value.{hi, lo, Num}
 use Rattle.ieee.specs.Rounding.{pow2}
-use Rattle.trellis.specs.Code.{isdb, label, stateAt}
-
--- "QPSK 7/8 of 48 slots: .. 68,208 steps", the longest frame
-abbrev pub longest : ℕ
-longest = 68208
+use Rattle.trellis.specs.Code.{stateAt}
+use Rattle.trellis.specs.Isdb
 
 -- by how much the metric of the sent pair exceeds that of its complement, at least
 abbrev pub margin : ℕ
@@ -45,7 +42,7 @@ pub record Favour (m : List Float) (c : ℕ) : Type 0 where
 pub record Favours (s : ℕ) (us : List ℕ) (ms : ℕ → List Float) (n : ℕ) : Type 0 where
   pub start : s < 64
   pub bits : (i : ℕ) → i < n → getD us i 0 < 2
-  pub steps : (i : ℕ) → i < n → Favour (ms i) (label isdb (getD us i 0) (stateAt 32 s us i))
+  pub steps : (i : ℕ) → i < n → Favour (ms i) (Isdb.labels (getD us i 0) (stateAt 32 s us i))
 
 -- ---- the rounding loss, in units of 2 ^ -15
 -- In a window of 64 steps, up to the subtraction of the maximum, a step loses two half units in the last place of the sent path's value: 2 while that

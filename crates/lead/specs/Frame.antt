@@ -10,16 +10,18 @@ use lib.Dec.{T, ltb, ltb→lt, lt→ltb, lit<}
 use lib.ListN.{getD, length}
 use lib.Ieee.{Float}
 use Rattle.ieee.specs.Rounding.{pow2, pow2-add}
-use Rattle.trellis.specs.Code.{isdb, label, moved, stateAt}
+use Rattle.trellis.specs.Code.{moved, stateAt}
 use Rattle.trellis.specs.Step.{four, known, Tie, best}
 use Rattle.trellis.specs.Run.{Decoder, startAt, valuesAt, after, pushed, flushed}
-use Rattle.lead.specs.Favour.{longest, Favours}
+use Rattle.lead.specs.Favour.{Favours}
+use Rattle.trellis.specs.Isdb.{longestFrame}
 use Rattle.lead.specs.Ties.{true-of, false-of}
 use Rattle.lead.specs.Step.{Leads}
 use Rattle.trellis.specs.RunLaws.{after-values}
 use Rattle.lead.specs.Traceback.{Along, after-along, flushed-counted, flushed-along}
 use Rattle.lead.specs.Sent.{moved-is, state-small, best-at, kept-at, leftover, leftover-is, ended}
 use Rattle.lead.specs.Known.{ruledOut, known-best, known-kept}
+use Rattle.trellis.specs.Isdb
 
 -- a decoder that starts at the known state s
 abbrev pub fresh : ℕ → Decoder
@@ -61,12 +63,12 @@ unfolding path stateAt
 path-sent s us N w zero h = refl
 path-sent s us N w (suc n) h = rw (both-sent us N w n h, path-sent s us N w n (omega arith))
 
-module _ (t : Tie) (tb s : ℕ) (us : List ℕ) (ms : ℕ → List Float) (N : ℕ) (few : N ≤ longest) (v : Favours s us ms N) (w : ℕ → ℕ) where
+module _ (t : Tie) (tb s : ℕ) (us : List ℕ) (ms : ℕ → List Float) (N : ℕ) (few : N ≤ longestFrame) (v : Favours s us ms N) (w : ℕ → ℕ) where
   abbrev f : ℕ → ℕ
   f = path s (both us N w)
 
   abbrev call : Decoder
-  call = pushed 32 (label isdb) t tb (λ i. four (ms i)) (fresh s) N
+  call = pushed Isdb.half Isdb.labels t tb (λ i. four (ms i)) (fresh s) N
 
   both-small : (i : ℕ) → both us N w i < 2
   both-small i = go (ltb i N) (λ b. v .bits i (ltb→lt i N b))
@@ -79,7 +81,7 @@ module _ (t : Tie) (tb s : ℕ) (us : List ℕ) (ms : ℕ → List Float) (N : �
   call-along : Along 32 f (call .bits) (call .words) N
   call-along =
       rw (zero-add N) at
-      (after-along 32 (label isdb) t tb (λ i. four (ms i)) (fresh s) f 0 (record { count = refl; given = λ i l. absurd (not-suc-le-zero l); held = λ i l. absurd (not-suc-le-zero l) }) N
+      (after-along Isdb.half Isdb.labels t tb (λ i. four (ms i)) (fresh s) f 0 (record { count = refl; given = λ i l. absurd (not-suc-le-zero l); held = λ i l. absurd (not-suc-le-zero l) }) N
       (λ i l. rw (zero-add i, path-sent s us N w (suc i) l, path-sent s us N w i (omega arith)) (kept-at t ms s us N few v i l))
       (λ i l. rw (zero-add i, path-sent s us N w (suc i) l) (best-at t ms s us N few v (suc i) l)))
 
@@ -95,40 +97,40 @@ module _ (t : Tie) (tb s : ℕ) (us : List ℕ) (ms : ℕ → List Float) (N : �
   call-leads =
       let i = ended t ms s us N few v in
       let e : pow2 155 ≡ 64 * pow2 149 = pow2-add 6 149 in
-      rw (after-values 32 (label isdb) t tb (λ i. four (ms i)) (fresh s) N, add-zero N, path-sent s us N w N (le-refl N))
+      rw (after-values Isdb.half Isdb.labels t tb (λ i. four (ms i)) (fresh s) N, add-zero N, path-sent s us N w N (le-refl N))
       record { num = i .num; floor = λ r R. let h = i .floor r R in omega arith; plus = i .plus; cap = i .cap; lead = i .lead }
 
   some : 0 < leftover t ms s us N few v
   some = let l = leftover-is t ms s us N few v in omega arith
 
-  best-of : (j : ℕ) → best t (valuesAt 32 (label isdb) t (λ k. known (w k)) (call .values) j) 63 ≡ f (N + j)
-  best-of = known-best (label isdb) t w (call .values) (λ j. f (N + j)) start-small moves (leftover t ms s us N few v) some (leftover-is t ms s us N few v .1) call-leads
+  best-of : (j : ℕ) → best t (valuesAt Isdb.half Isdb.labels t (λ k. known (w k)) (call .values) j) 63 ≡ f (N + j)
+  best-of = known-best Isdb.labels t w (call .values) (λ j. f (N + j)) start-small moves (leftover t ms s us N few v) some (leftover-is t ms s us N few v .1) call-leads
 
   abbrev calls : ℕ → Decoder
-  calls c = after 32 (label isdb) t tb (λ k. known (w k)) call c
+  calls c = after Isdb.half Isdb.labels t tb (λ k. known (w k)) call c
 
   calls-along : (c : ℕ) → Along 32 f (calls c .bits) (calls c .words) (N + c)
   calls-along c =
-      after-along 32 (label isdb) t tb (λ k. known (w k)) call f N call-along c
-      (λ j l. rw (← add-suc N j) (known-kept (label isdb) t w (call .values) (λ j. f (N + j)) start-small moves (leftover t ms s us N few v) some (leftover-is t ms s us N few v .1) call-leads j))
+      after-along Isdb.half Isdb.labels t tb (λ k. known (w k)) call f N call-along c
+      (λ j l. rw (← add-suc N j) (known-kept Isdb.labels t w (call .values) (λ j. f (N + j)) start-small moves (leftover t ms s us N few v) some (leftover-is t ms s us N few v .1) call-leads j))
       (λ j l. rw (← add-suc N j) (best-of (suc j)))
 
   calls-best : (c : ℕ) → best t (calls c .values) 63 ≡ f (N + c)
-  calls-best c = rw (after-values 32 (label isdb) t tb (λ k. known (w k)) call c) (best-of c)
+  calls-best c = rw (after-values Isdb.half Isdb.labels t tb (λ k. known (w k)) call c) (best-of c)
 
   -- ---- the flush
-  found : (c i : ℕ) → i < N + c → getD (flushed 32 (label isdb) t (calls c) .bits) i 0 ≡ both us N w i
-  found c i l = flushed-along 32 (label isdb) t f (calls c) (N + c) (calls-best c) (calls-along c) i l ∙ path-input s (both us N w) i (v .start) (λ i _. both-small i) .1
+  found : (c i : ℕ) → i < N + c → getD (flushed Isdb.half Isdb.labels t (calls c) .bits) i 0 ≡ both us N w i
+  found c i l = flushed-along Isdb.half Isdb.labels t f (calls c) (N + c) (calls-best c) (calls-along c) i l ∙ path-input s (both us N w) i (v .start) (λ i _. both-small i) .1
 
-  flushed-decoded : (c : ℕ) → Decoded us N w c (flushed 32 (label isdb) t (calls c) .bits)
+  flushed-decoded : (c : ℕ) → Decoded us N w c (flushed Isdb.half Isdb.labels t (calls c) .bits)
   flushed-decoded c = record {
-    count = flushed-counted 32 (label isdb) t (calls c) ∙ calls-along c .count;
+    count = flushed-counted Isdb.half Isdb.labels t (calls c) ∙ calls-along c .count;
     sent = λ i l. found c i (omega arith) ∙ both-sent us N w i l;
     known = λ j l. found c (N + j) (omega arith) ∙ both-known us N w j;
   }
 
 -- The theorem: a decoder that starts at the sender's state s, takes N favoured steps in one call and c known bits in another, and is flushed, has put out the
 -- N inputs, then the known bits; by either rule for equals and for every traceback length tb
-pub decoded-sent : (t : Tie) (tb s : ℕ) (us : List ℕ) (ms : ℕ → List Float) (N : ℕ) → N ≤ longest → Favours s us ms N → (w : ℕ → ℕ) (c : ℕ)
-    → Decoded us N w c (flushed 32 (label isdb) t (after 32 (label isdb) t tb (λ k. known (w k)) (pushed 32 (label isdb) t tb (λ i. four (ms i)) (fresh s) N) c) .bits)
+pub decoded-sent : (t : Tie) (tb s : ℕ) (us : List ℕ) (ms : ℕ → List Float) (N : ℕ) → N ≤ longestFrame → Favours s us ms N → (w : ℕ → ℕ) (c : ℕ)
+    → Decoded us N w c (flushed Isdb.half Isdb.labels t (after Isdb.half Isdb.labels t tb (λ k. known (w k)) (pushed Isdb.half Isdb.labels t tb (λ i. four (ms i)) (fresh s) N) c) .bits)
 decoded-sent t tb s us ms N few v w c = flushed-decoded t tb s us ms N few v w c

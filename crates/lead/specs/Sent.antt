@@ -14,10 +14,11 @@ use Rattle.ieee.specs.Value.{hi, lo, Num}
 use Rattle.ieee.specs.Order.{value→lt}
 use Rattle.ieee.specs.Rounding.{pow2, pow2-pos}
 use Rattle.trellis.specs.Lists.{upto, bit}
-use Rattle.trellis.specs.Code.{isdb, label, moved, stateAt}
+use Rattle.trellis.specs.Code.{moved, stateAt}
 use Rattle.trellis.specs.Step.{Step, four, Tie, wins, nexts, word, best, renormalised, kept, traced}
 use Rattle.trellis.specs.Run.{startAt, settled, valuesAt, wordAt}
-use Rattle.lead.specs.Favour.{longest, margin, windows, frameLoss, left, Favours}
+use Rattle.lead.specs.Favour.{margin, windows, frameLoss, left, Favours}
+use Rattle.trellis.specs.Isdb.{longestFrame}
 use Rattle.trellis.specs.ListLaws.{length-upto, getD-upto}
 use Rattle.lead.specs.Lists.{word-bit}
 use Rattle.lead.specs.Ties.{same, false-of}
@@ -25,15 +26,16 @@ use Rattle.lead.specs.Step.{Leads}
 use Rattle.lead.specs.Maximum.{Ahead, ahead-of, best-is}
 use Rattle.lead.specs.Window.{depth, At, step-at, decides-at, renormalise-at, wrap-at, start-at}
 use Rattle.lead.specs.Traceback.{traced-along}
+use Rattle.trellis.specs.Isdb
 
 -- ---- what is shown
 -- the path values after n steps of a call that starts at the state s
 abbrev pub values : Tie → (ℕ → List Float) → ℕ → ℕ → List Float
-values t ms s n = valuesAt 32 (label isdb) t (λ i. four (ms i)) (startAt 64 s) n
+values t ms s n = valuesAt Isdb.half Isdb.labels t (λ i. four (ms i)) (startAt 64 s) n
 
 -- the decision words of these steps
 abbrev pub words : Tie → (ℕ → List Float) → ℕ → ℕ → List ℕ
-words t ms s n = upto (wordAt 32 (label isdb) t (λ i. four (ms i)) (startAt 64 s)) n
+words t ms s n = upto (wordAt Isdb.half Isdb.labels t (λ i. four (ms i)) (startAt 64 s)) n
 
 -- after n steps all path values are finite, the sent state is strictly ahead of every other and so the best; the traceback from it finds the inputs
 pub record Follows (t : Tie) (ms : ℕ → List Float) (s : ℕ) (us : List ℕ) (n : ℕ) : Type 0 where
@@ -60,7 +62,7 @@ keeps out t pm x u s U S d =
     omega arith
 
 -- ---- the end of a step: the maximum is subtracted, or nothing is
-settles : (t : Tie) (pm m : List Float) (s n : ℕ) → s < 64 → n < longest → At pm s (n / 64) (n % 64 + 1) → At (settled 32 (label isdb) t n (four m) pm) s (suc n / 64) (suc n % 64)
+settles : (t : Tie) (pm m : List Float) (s n : ℕ) → s < 64 → n < longestFrame → At pm s (n / 64) (n % 64 + 1) → At (settled Isdb.half Isdb.labels t n (four m) pm) s (suc n / 64) (suc n % 64)
 unfolding settled
 settles t pm m s n S N i = go (same (n % 64) 63)
   where
@@ -84,7 +86,7 @@ state-under s us N start bits zero h = start
 state-under s us N start bits (suc n) h =
     moved-is (getD us n 0) (stateAt 32 s us n) (bits n h) (state-under s us N start bits n (omega arith)) .0
 
-module _ (t : Tie) (ms : ℕ → List Float) (s : ℕ) (us : List ℕ) (N : ℕ) (few : N ≤ longest) (v : Favours s us ms N) where
+module _ (t : Tie) (ms : ℕ → List Float) (s : ℕ) (us : List ℕ) (N : ℕ) (few : N ≤ longestFrame) (v : Favours s us ms N) where
   pub state-small : (n : ℕ) → n ≤ N → stateAt 32 s us n < 64
   state-small = state-under s us N (v .start) (v .bits)
 
@@ -93,7 +95,7 @@ module _ (t : Tie) (ms : ℕ → List Float) (s : ℕ) (us : List ℕ) (N : ℕ)
   unfolding valuesAt stateAt
   holds zero h = start-at s (v .start)
   holds (suc n) h =
-      settles t (nexts 32 (label isdb) t (values t ms s n) (four (ms n))) (ms n) (moved 32 (getD us n 0) (stateAt 32 s us n)) n (state-small (suc n) h) (omega arith)
+      settles t (nexts Isdb.half Isdb.labels t (values t ms s n) (four (ms n))) (ms n) (moved 32 (getD us n 0) (stateAt 32 s us n)) n (state-small (suc n) h) (omega arith)
       (step-at t (values t ms s n) (ms n) (stateAt 32 s us n) (getD us n 0) (n / 64) (n % 64) (state-small n (omega arith)) (v .bits n h) (omega arith) (mod-lt n (lit< tt)) (v .steps n h) (holds n (omega arith)))
 
   some-left : (n : ℕ) → n ≤ N → 0 < left (n / 64) (n % 64) * pow2 134
@@ -109,10 +111,10 @@ module _ (t : Tie) (ms : ℕ → List Float) (s : ℕ) (us : List ℕ) (N : ℕ)
   best-at n h = best-is t (values t ms s n) (stateAt 32 s us n) (state-small n h) (ahead-at n h)
 
   -- ---- the decisions along the sent path
-  pub kept-at : (n : ℕ) → n < N → kept 32 (wordAt 32 (label isdb) t (λ i. four (ms i)) (startAt 64 s) n) (stateAt 32 s us (suc n)) ≡ stateAt 32 s us n
+  pub kept-at : (n : ℕ) → n < N → kept 32 (wordAt Isdb.half Isdb.labels t (λ i. four (ms i)) (startAt 64 s) n) (stateAt 32 s us (suc n)) ≡ stateAt 32 s us n
   unfolding stateAt
   kept-at n h =
-      keeps (label isdb) t (values t ms s n) (four (ms n)) (getD us n 0) (stateAt 32 s us n) (v .bits n h) (state-small n (omega arith))
+      keeps Isdb.labels t (values t ms s n) (four (ms n)) (getD us n 0) (stateAt 32 s us n) (v .bits n h) (state-small n (omega arith))
       (decides-at t (values t ms s n) (ms n) (stateAt 32 s us n) (getD us n 0) (n / 64) (n % 64) (state-small n (omega arith)) (v .bits n h) (omega arith) (mod-lt n (lit< tt)) (v .steps n h) (holds n (omega arith)))
 
   pub input-at : (n : ℕ) → n < N → stateAt 32 s us (suc n) / 32 ≡ getD us n 0
@@ -125,11 +127,11 @@ module _ (t : Tie) (ms : ℕ → List Float) (s : ℕ) (us : List ℕ) (N : ℕ)
     ahead = λ r R k. value→lt binary32 (getD (values t ms s n) r nan) (getD (values t ms s n) (stateAt 32 s us n) nan) (ahead-at n h .num r R) (ahead-at n h .num (stateAt 32 s us n) (state-small n h)) (ahead-at n h .ahead r R k);
     first = best-at n h;
     inputs = λ i l.
-        let e : length (words t ms s n) ≡ n = length-upto (wordAt 32 (label isdb) t (λ i. four (ms i)) (startAt 64 s)) n in
+        let e : length (words t ms s n) ≡ n = length-upto (wordAt Isdb.half Isdb.labels t (λ i. four (ms i)) (startAt 64 s)) n in
         rw (best-at n h)
         (subst (λ (x : ℕ). getD (traced 32 (words t ms s n) (stateAt 32 s us x)) i 0 ≡ stateAt 32 s us (suc i) / 32) e
         (traced-along 32 (stateAt 32 s us) (words t ms s n)
-        (λ i l. rw (getD-upto (wordAt 32 (label isdb) t (λ i. four (ms i)) (startAt 64 s)) 0 n i (rw e at l)) (kept-at i (omega arith)))
+        (λ i l. rw (getD-upto (wordAt Isdb.half Isdb.labels t (λ i. four (ms i)) (startAt 64 s)) 0 n i (rw e at l)) (kept-at i (omega arith)))
         i (rw e l)) ∙ input-at i (omega arith));
   }
 

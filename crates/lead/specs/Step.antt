@@ -14,13 +14,13 @@ use Rattle.ieee.specs.Value.{hi, lo, Num}
 use Rattle.ieee.specs.Order.{Lt, le→value}
 use Rattle.ieee.specs.Rounding.{pow2, pow2-add, fine-pow2, rounds-near}
 use Rattle.ieee.specs.Sums.{add-rounds}
-use Rattle.trellis.specs.Code.{isdb, label}
 use Rattle.trellis.specs.Step.{four, Tie, branch, cand, wins, next, nexts}
 use Rattle.lead.specs.Favour.{margin, none, most, least, Favour}
 use Rattle.ieee.specs.Bounds.{rounds-cap, rounds-floor, rounds-up, rounds-below}
 use Rattle.lead.specs.Lists.{getD-nexts}
 use Rattle.lead.specs.Ties.{pick, same, wins-is, next-is}
 use Rattle.lead.specs.Complement.{small, complement}
+use Rattle.trellis.specs.Isdb
 
 -- every path value is a number of at least -B units, that of s is from 0 to M, and each other one is L below it at least
 pub record Leads (pm : List Float) (s M B L : ℕ) : Type 0 where
@@ -81,9 +81,9 @@ module _ (j q : ℕ) (Q : q ≤ 2112) (W : q * pow2 148 < 33554432 * pow2 j) (J 
 -- ---- all 64 states
 -- the path into the state k by its predecessor of low bit b, in a step of the four metrics m
 abbrev pub path : List Float → List Float → ℕ → ℕ → Float
-path pm m k b = cand 32 (label isdb) pm (four m) k b
+path pm m k b = cand Isdb.half Isdb.labels pm (four m) k b
 
-path-is : (pm m : List Float) (k b p u : ℕ) → 2 * (k % 32) + b ≡ p → k / 32 ≡ u → path pm m k b ≡ add binary32 (getD pm p nan) (getD m (label isdb u p) nan)
+path-is : (pm m : List Float) (k b p u : ℕ) → 2 * (k % 32) + b ≡ p → k / 32 ≡ u → path pm m k b ≡ add binary32 (getD pm p nan) (getD m (Isdb.labels u p) nan)
 unfolding cand branch
 path-is pm m k b p u e f = rw (e, f)
 
@@ -110,7 +110,7 @@ module _ (m : List Float) (c : ℕ) (small-c : c < 4) (v : Favour m c) where
       let n = limits in
       (omega arith, omega arith)
 
-module _ (t : Tie) (pm m : List Float) (s u : ℕ) (S : s < 64) (U : u < 2) (v : Favour m (label isdb u s))
+module _ (t : Tie) (pm m : List Float) (s u : ℕ) (S : s < 64) (U : u < 2) (v : Favour m (Isdb.labels u s))
     (j q p L L' : ℕ) (Q : q + 33 ≤ 2112) (W : (q + 33) * pow2 148 < 33554432 * pow2 j) (J : j < 136) (P : p + 17 ≤ 16777216)
     (small-L : L ≤ margin * pow2 149) (less-L : L < 33554432 * pow2 j) (loss : L ≡ L' + 2 * pow2 j) (some-L : 0 < L')
     (i : Leads pm s (q * pow2 148) (p * pow2 149) L)
@@ -119,50 +119,50 @@ module _ (t : Tie) (pm m : List Float) (s u : ℕ) (S : s < 64) (U : u < 2) (v :
     more = add-mul q 33 (pow2 148)
 
     -- the sent path
-    sent-cand : Sent (add binary32 (getD pm s nan) (getD m (label isdb u s) nan)) (H pm s + H m (label isdb u s)) (O pm s + O m (label isdb u s)) ((q + 33) * pow2 148) (pow2 j)
+    sent-cand : Sent (add binary32 (getD pm s nan) (getD m (Isdb.labels u s) nan)) (H pm s + H m (Isdb.labels u s)) (O pm s + O m (Isdb.labels u s)) ((q + 33) * pow2 148) (pow2 j)
     sent-cand =
         let l = small u s U S in
-        let r = range m (label isdb u s) l v in
+        let r = range m (Isdb.labels u s) l v in
         let e = more in
         let z = i .plus in
         let k = i .cap in
-        sent-sum j (q + 33) Q W J (getD pm s nan) (getD m (label isdb u s) nan) (i .num s S) (v .numbers (label isdb u s) l) z (r .0) (omega arith)
+        sent-sum j (q + 33) Q W J (getD pm s nan) (getD m (Isdb.labels u s) nan) (i .num s S) (v .numbers (Isdb.labels u s) l) z (r .0) (omega arith)
 
     -- what a rival's exact sum is at most
-    rival-exact : (r l : ℕ) → r < 64 → l < 4 → ((r ≡ s) × (l ≡ 3 - label isdb u s)) ⊎ (r ≡ s → ⊥) → H pm r + H m l + (O pm s + O m (label isdb u s)) + L ≤ H pm s + H m (label isdb u s) + (O pm r + O m l)
+    rival-exact : (r l : ℕ) → r < 64 → l < 4 → ((r ≡ s) × (l ≡ 3 - Isdb.labels u s)) ⊎ (r ≡ s → ⊥) → H pm r + H m l + (O pm s + O m (Isdb.labels u s)) + L ≤ H pm s + H m (Isdb.labels u s) + (O pm r + O m l)
     rival-exact r l R l4 (inl e) =
         let g = v .clear in
         rw (e .0, e .1) (omega arith)
     rival-exact r l R l4 (inr e) =
-        let g = under m (label isdb u s) (small u s U S) v l l4 in
+        let g = under m (Isdb.labels u s) (small u s U S) v l l4 in
         let h = i .lead r R e in
         omega arith
 
-    rival-cand : (r l : ℕ) → r < 64 → l < 4 → ((r ≡ s) × (l ≡ 3 - label isdb u s)) ⊎ (r ≡ s → ⊥)
-        → Rival (add binary32 (getD pm r nan) (getD m l nan)) (H pm s + H m (label isdb u s)) (O pm s + O m (label isdb u s)) ((p + 17) * pow2 149) L (pow2 j)
+    rival-cand : (r l : ℕ) → r < 64 → l < 4 → ((r ≡ s) × (l ≡ 3 - Isdb.labels u s)) ⊎ (r ≡ s → ⊥)
+        → Rival (add binary32 (getD pm r nan) (getD m l nan)) (H pm s + H m (Isdb.labels u s)) (O pm s + O m (Isdb.labels u s)) ((p + 17) * pow2 149) L (pow2 j)
     rival-cand r l R l4 o =
         let c4 = small u s U S in
-        let g = under m (label isdb u s) c4 v l l4 in
-        let w = range m (label isdb u s) c4 v in
+        let g = under m (Isdb.labels u s) c4 v l l4 in
+        let w = range m (Isdb.labels u s) c4 v in
         let e = more in
         let z = i .plus in
         let k = i .cap in
         let f = i .floor r R in
         let d : (p + 17) * pow2 149 ≡ p * pow2 149 + 17 * pow2 149 = add-mul p 17 (pow2 149) in
         let t : pow2 149 ≡ 2 * pow2 148 = pow2-add 1 148 in
-        rival-sum j (q + 33) Q W J (getD pm r nan) (getD m l nan) (H pm s + H m (label isdb u s)) (O pm s + O m (label isdb u s)) L (p + 17) (i .num r R) (v .numbers l l4) P (omega arith) (omega arith) less-L (omega arith) (rival-exact r l R l4 o)
+        rival-sum j (q + 33) Q W J (getD pm r nan) (getD m l nan) (H pm s + H m (Isdb.labels u s)) (O pm s + O m (Isdb.labels u s)) L (p + 17) (i .num r R) (v .numbers l l4) P (omega arith) (omega arith) less-L (omega arith) (rival-exact r l R l4 o)
 
     -- the path into the state k by its predecessor of low bit b, where that is not the sent branch
     rival-at : (k b : ℕ) → k < 64 → b < 2 → (2 * (k % 32) + b ≡ s → k ≡ 32 * u + s / 2 → ⊥)
-        → Rival (path pm m k b) (H pm s + H m (label isdb u s)) (O pm s + O m (label isdb u s)) ((p + 17) * pow2 149) L (pow2 j)
+        → Rival (path pm m k b) (H pm s + H m (Isdb.labels u s)) (O pm s + O m (Isdb.labels u s)) ((p + 17) * pow2 149) L (pow2 j)
     rival-at k b K B h =
         let r : ℕ = 2 * (k % 32) + b in
         let R : 2 * (k % 32) + b < 64 = omega arith in
         let X : k / 32 < 2 = omega arith in
         rw (path-is pm m k b (2 * (k % 32) + b) (k / 32) refl refl)
-        (rival-cand (2 * (k % 32) + b) (label isdb (k / 32) (2 * (k % 32) + b)) R (small (k / 32) (2 * (k % 32) + b) X R) (which (same (2 * (k % 32) + b) s)))
+        (rival-cand (2 * (k % 32) + b) (Isdb.labels (k / 32) (2 * (k % 32) + b)) R (small (k / 32) (2 * (k % 32) + b) X R) (which (same (2 * (k % 32) + b) s)))
       where
-        which : (2 * (k % 32) + b ≡ s) ⊎ (2 * (k % 32) + b ≡ s → ⊥) → ((2 * (k % 32) + b ≡ s) × (label isdb (k / 32) (2 * (k % 32) + b) ≡ 3 - label isdb u s)) ⊎ (2 * (k % 32) + b ≡ s → ⊥)
+        which : (2 * (k % 32) + b ≡ s) ⊎ (2 * (k % 32) + b ≡ s → ⊥) → ((2 * (k % 32) + b ≡ s) × (Isdb.labels (k / 32) (2 * (k % 32) + b) ≡ 3 - Isdb.labels u s)) ⊎ (2 * (k % 32) + b ≡ s → ⊥)
         which (inl e) =
             let n = h e in
             let w : k / 32 ≡ 1 - u = omega arith in
@@ -170,10 +170,10 @@ module _ (t : Tie) (pm m : List Float) (s u : ℕ) (S : s < 64) (U : u < 2) (v :
         which (inr n) = inr n
 
     -- the path into the sent next state by the sent branch, and by the other
-    sent-at : Sent (path pm m (32 * u + s / 2) (s % 2)) (H pm s + H m (label isdb u s)) (O pm s + O m (label isdb u s)) ((q + 33) * pow2 148) (pow2 j)
+    sent-at : Sent (path pm m (32 * u + s / 2) (s % 2)) (H pm s + H m (Isdb.labels u s)) (O pm s + O m (Isdb.labels u s)) ((q + 33) * pow2 148) (pow2 j)
     sent-at = rw (path-is pm m (32 * u + s / 2) (s % 2) s u (omega arith) (omega arith)) sent-cand
 
-    beside : Rival (path pm m (32 * u + s / 2) (1 - s % 2)) (H pm s + H m (label isdb u s)) (O pm s + O m (label isdb u s)) ((p + 17) * pow2 149) L (pow2 j)
+    beside : Rival (path pm m (32 * u + s / 2) (1 - s % 2)) (H pm s + H m (Isdb.labels u s)) (O pm s + O m (Isdb.labels u s)) ((p + 17) * pow2 149) L (pow2 j)
     beside = rival-at (32 * u + s / 2) (1 - s % 2) (omega arith) (omega arith) (λ e _. omega arith)
 
     -- strictly
@@ -181,35 +181,35 @@ module _ (t : Tie) (pm m : List Float) (s u : ℕ) (S : s < 64) (U : u < 2) (v :
     apart = let x = sent-at in let y = beside in omega arith
 
     -- the sent branch wins
-    pub decides : wins 32 (label isdb) t pm (four m) (32 * u + s / 2) ≡ eqb (s % 2) 1
-    decides = wins-is 32 (label isdb) t pm (four m) (32 * u + s / 2) (s % 2) (mod-lt s (lit< tt)) (sent-at .num) (beside .num) apart
+    pub decides : wins Isdb.half Isdb.labels t pm (four m) (32 * u + s / 2) ≡ eqb (s % 2) 1
+    decides = wins-is Isdb.half Isdb.labels t pm (four m) (32 * u + s / 2) (s % 2) (mod-lt s (lit< tt)) (sent-at .num) (beside .num) apart
 
-    sent-next : Sent (next 32 (label isdb) t pm (four m) (32 * u + s / 2)) (H pm s + H m (label isdb u s)) (O pm s + O m (label isdb u s)) ((q + 33) * pow2 148) (pow2 j)
-    sent-next = rw (next-is 32 (label isdb) t pm (four m) (32 * u + s / 2) (s % 2) (mod-lt s (lit< tt)) (sent-at .num) (beside .num) apart) sent-at
+    sent-next : Sent (next Isdb.half Isdb.labels t pm (four m) (32 * u + s / 2)) (H pm s + H m (Isdb.labels u s)) (O pm s + O m (Isdb.labels u s)) ((q + 33) * pow2 148) (pow2 j)
+    sent-next = rw (next-is Isdb.half Isdb.labels t pm (four m) (32 * u + s / 2) (s % 2) (mod-lt s (lit< tt)) (sent-at .num) (beside .num) apart) sent-at
 
-    rival-next : (k : ℕ) → k < 64 → (k ≡ 32 * u + s / 2 → ⊥) → Rival (next 32 (label isdb) t pm (four m) k) (H pm s + H m (label isdb u s)) (O pm s + O m (label isdb u s)) ((p + 17) * pow2 149) L (pow2 j)
+    rival-next : (k : ℕ) → k < 64 → (k ≡ 32 * u + s / 2 → ⊥) → Rival (next Isdb.half Isdb.labels t pm (four m) k) (H pm s + H m (Isdb.labels u s)) (O pm s + O m (Isdb.labels u s)) ((p + 17) * pow2 149) L (pow2 j)
     unfolding next
     rival-next k K n =
-        pick (λ z. Rival z (H pm s + H m (label isdb u s)) (O pm s + O m (label isdb u s)) ((p + 17) * pow2 149) L (pow2 j)) (wins 32 (label isdb) t pm (four m) k) (path pm m k 1) (path pm m k 0)
+        pick (λ z. Rival z (H pm s + H m (Isdb.labels u s)) (O pm s + O m (Isdb.labels u s)) ((p + 17) * pow2 149) L (pow2 j)) (wins Isdb.half Isdb.labels t pm (four m) k) (path pm m k 1) (path pm m k 0)
         (rival-at k 1 K (lit< tt) (λ _ e. n e)) (rival-at k 0 K (lit< tt) (λ _ e. n e))
 
     -- the sent next state leads
-    pub leads-next : Leads (nexts 32 (label isdb) t pm (four m)) (32 * u + s / 2) ((q + 33) * pow2 148) ((p + 17) * pow2 149) L'
+    pub leads-next : Leads (nexts Isdb.half Isdb.labels t pm (four m)) (32 * u + s / 2) ((q + 33) * pow2 148) ((p + 17) * pow2 149) L'
     leads-next = record {
-      num = λ k K. rw (getD-nexts 32 (label isdb) t pm (four m) k K) (num-at k K (same k (32 * u + s / 2)));
-      floor = λ k K. rw (getD-nexts 32 (label isdb) t pm (four m) k K) (floor-at k K (same k (32 * u + s / 2)));
-      plus = rw (getD-nexts 32 (label isdb) t pm (four m) (32 * u + s / 2) Z) (sent-next .plus);
-      cap = rw (getD-nexts 32 (label isdb) t pm (four m) (32 * u + s / 2) Z) (sent-next .cap);
-      lead = λ k K n. rw (getD-nexts 32 (label isdb) t pm (four m) k K, getD-nexts 32 (label isdb) t pm (four m) (32 * u + s / 2) Z) (let x = sent-next in let y = rival-next k K n in omega arith);
+      num = λ k K. rw (getD-nexts Isdb.half Isdb.labels t pm (four m) k K) (num-at k K (same k (32 * u + s / 2)));
+      floor = λ k K. rw (getD-nexts Isdb.half Isdb.labels t pm (four m) k K) (floor-at k K (same k (32 * u + s / 2)));
+      plus = rw (getD-nexts Isdb.half Isdb.labels t pm (four m) (32 * u + s / 2) Z) (sent-next .plus);
+      cap = rw (getD-nexts Isdb.half Isdb.labels t pm (four m) (32 * u + s / 2) Z) (sent-next .cap);
+      lead = λ k K n. rw (getD-nexts Isdb.half Isdb.labels t pm (four m) k K, getD-nexts Isdb.half Isdb.labels t pm (four m) (32 * u + s / 2) Z) (let x = sent-next in let y = rival-next k K n in omega arith);
     }
       where
         Z : 32 * u + s / 2 < 64
         Z = omega arith
 
-        num-at : (k : ℕ) → k < 64 → (k ≡ 32 * u + s / 2) ⊎ (k ≡ 32 * u + s / 2 → ⊥) → Num binary32 (next 32 (label isdb) t pm (four m) k)
+        num-at : (k : ℕ) → k < 64 → (k ≡ 32 * u + s / 2) ⊎ (k ≡ 32 * u + s / 2 → ⊥) → Num binary32 (next Isdb.half Isdb.labels t pm (four m) k)
         num-at k K (inl e) = rw e (sent-next .num)
         num-at k K (inr n) = rival-next k K n .num
 
-        floor-at : (k : ℕ) → k < 64 → (k ≡ 32 * u + s / 2) ⊎ (k ≡ 32 * u + s / 2 → ⊥) → lo binary32 (next 32 (label isdb) t pm (four m) k) ≤ hi binary32 (next 32 (label isdb) t pm (four m) k) + (p + 17) * pow2 149
+        floor-at : (k : ℕ) → k < 64 → (k ≡ 32 * u + s / 2) ⊎ (k ≡ 32 * u + s / 2 → ⊥) → lo binary32 (next Isdb.half Isdb.labels t pm (four m) k) ≤ hi binary32 (next Isdb.half Isdb.labels t pm (four m) k) + (p + 17) * pow2 149
         floor-at k K (inl e) = rw e (let x = sent-next in omega arith)
         floor-at k K (inr n) = let y = rival-next k K n in omega arith

@@ -12,7 +12,6 @@ use lib.ListN.{getD}
 use lib.Ieee.{Float, nan, binary32, fits, ofBits}
 use Rattle.ieee.specs.Value.{hi, lo, Num}
 use Rattle.ieee.specs.Rounding.{le-or-ge, pow2, pow2-add, pow2-pos}
-use Rattle.trellis.specs.Code.{isdb, label}
 use Rattle.trellis.specs.Step.{four, Tie, wins, nexts, renormalised}
 use Rattle.trellis.specs.Run.{startAt}
 use Rattle.lead.specs.Favour.{margin, windows, left, Favour}
@@ -20,6 +19,7 @@ use Rattle.trellis.specs.ListLaws.{getD-upto}
 use Rattle.lead.specs.Ties.{same, true-of, false-of}
 use Rattle.lead.specs.Step.{Leads, leads-next, decides}
 use Rattle.lead.specs.Maximum.{leads-renormalised}
+use Rattle.trellis.specs.Isdb
 
 -- after w windows and k steps, what the least path value is at least
 abbrev pub depth : ℕ → ℕ → ℕ
@@ -73,18 +73,18 @@ cost w k W K = go (le-or-ge 62 k)
         at-62 (inr n) = (134, low-cost w k W (omega arith))
 
 -- ---- one step of a window, and its end
-module _ (t : Tie) (pm m : List Float) (s u w k : ℕ) (S : s < 64) (U : u < 2) (W : w < windows) (K : k < 64) (v : Favour m (label isdb u s)) (i : At pm s w k) where
-  pub step-at : At (nexts 32 (label isdb) t pm (four m)) (32 * u + s / 2) w (k + 1)
+module _ (t : Tie) (pm m : List Float) (s u w k : ℕ) (S : s < 64) (U : u < 2) (W : w < windows) (K : k < 64) (v : Favour m (Isdb.labels u s)) (i : At pm s w k) where
+  pub step-at : At (nexts Isdb.half Isdb.labels t pm (four m)) (32 * u + s / 2) w (k + 1)
   step-at =
       let c = cost w k W K in
       let x = c .1 in
       let e : 33 * k + 33 ≡ 33 * (k + 1) = omega arith in
       let f : depth w k + 17 ≡ depth w (k + 1) = omega arith in
-      subst (λ (n : ℕ). Leads (nexts 32 (label isdb) t pm (four m)) (32 * u + s / 2) (n * pow2 148) (depth w (k + 1) * pow2 149) (left w (k + 1) * pow2 134)) e
-      (subst (λ (n : ℕ). Leads (nexts 32 (label isdb) t pm (four m)) (32 * u + s / 2) ((33 * k + 33) * pow2 148) (n * pow2 149) (left w (k + 1) * pow2 134)) f
+      subst (λ (n : ℕ). Leads (nexts Isdb.half Isdb.labels t pm (four m)) (32 * u + s / 2) (n * pow2 148) (depth w (k + 1) * pow2 149) (left w (k + 1) * pow2 134)) e
+      (subst (λ (n : ℕ). Leads (nexts Isdb.half Isdb.labels t pm (four m)) (32 * u + s / 2) ((33 * k + 33) * pow2 148) (n * pow2 149) (left w (k + 1) * pow2 134)) f
       (leads-next t pm m s u S U v (c .0) (33 * k) (depth w k) (left w k * pow2 134) (left w (k + 1) * pow2 134) (omega arith) (x .wide) (x .short) (omega arith) (x .within) (x .less) (x .loss) (x .some) i))
 
-  pub decides-at : wins 32 (label isdb) t pm (four m) (32 * u + s / 2) ≡ eqb (s % 2) 1
+  pub decides-at : wins Isdb.half Isdb.labels t pm (four m) (32 * u + s / 2) ≡ eqb (s % 2) 1
   decides-at =
       let c = cost w k W K in
       let x = c .1 in

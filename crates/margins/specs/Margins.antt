@@ -16,6 +16,7 @@ use Rattle.isdbs_phy.specs.DecodeRows.{partLimit}
 use Rattle.isdbs_points.specs.Layout.{atSymbol}
 use Rattle.isdbs_points.specs.Frame.{pointAt, startState}
 use Rattle.margin_ends.specs.Ends.{near0, low1, high1, lowRoot, highRoot}
+use Rattle.isdbs_frame.specs.Frame.{mainSymbols}
 
 -- "A margin's ends belong to it"
 abbrev pub between : Float → Float → Float → Bool
@@ -53,7 +54,7 @@ holds free clean x = cond free (anyAccepted x) (keeps clean x)
 -- every point keeps the margin of the same part in the frame that `encode_frame_with_state` makes of that load with this table and
 -- `Mapping` from the start state for `first`"
 pub record Within (re im : List Float) (load : List ℕ) (t : Table) (m : Mapping) (first : Bool) : Type 0 where
-  pub re-count : 38976 ≤ length re
-  pub im-count : 38976 ≤ length im
-  pub re-parts : (k : ℕ) → k < 38976 → T (holds (freeRe t k) (pointAt t m load (startState first) k .re) (getD re k nan))
-  pub im-parts : (k : ℕ) → k < 38976 → T (holds (freeIm t k) (pointAt t m load (startState first) k .im) (getD im k nan))
+  pub re-count : mainSymbols ≤ length re
+  pub im-count : mainSymbols ≤ length im
+  pub re-parts : (k : ℕ) → k < mainSymbols → T (holds (freeRe t k) (pointAt t m load (startState first) k .re) (getD re k nan))
+  pub im-parts : (k : ℕ) → k < mainSymbols → T (holds (freeIm t k) (pointAt t m load (startState first) k .im) (getD im k nan))

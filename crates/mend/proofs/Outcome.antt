@@ -19,7 +19,8 @@ use Rattle.mend_distance.specs.StretchLaws.{length-sent}
 use Rattle.mend_distance.specs.Distances.{least, unmendable}
 use Rattle.mend_distance.specs.DistanceLaws.{none-within}
 use Rattle.mend.specs.declared.Mended.{Mended}
-use Rattle.mend.specs.Rows.{someNoBit, mostBits, places, words, lentRows}
+use Rattle.mend.specs.Rows.{someNoBit, mostBits, places, lentRows}
+use Rattle.trellis.specs.Isdb.{frameWords}
 use Rattle.mend.specs.Allowed.{allowed}
 use Rattle.mend.specs.Tail.{Writes}
 use Rattle.mend.specs.Calls.{Mends, Unchanged, Called}
@@ -37,12 +38,12 @@ front-long s e bits out₀ out w = ap length (front-is s e bits out₀ out w) �
 pub front-near : (s e : ℕ) (bits out₀ out : List ℕ) → Writes s e bits out₀ out → unlike (take (length bits) out) bits ≤ mostChanged
 front-near s e bits out₀ out w = rw (front-is s e bits out₀ out w) (w .within .four)
 
--- the words that were kept are cleared
-pub cleared : (f : ℕ → ℕ) (n : ℕ) (ds₀ ds ds' : List ℕ) → n ≤ words → ds ≡ laid (upto f n) ds₀ → ds' ≡ laid (replicate words 0) ds → ds' ≡ laid (replicate words 0) ds₀
+-- the frameWords that were kept are cleared
+pub cleared : (f : ℕ → ℕ) (n : ℕ) (ds₀ ds ds' : List ℕ) → n ≤ frameWords → ds ≡ laid (upto f n) ds₀ → ds' ≡ laid (replicate frameWords 0) ds → ds' ≡ laid (replicate frameWords 0) ds₀
 cleared f n ds₀ ds ds' h e c =
     let l = length-upto f n in
-    let r = length-replicate {A = ℕ} words 0 in
-    c ∙ ap (laid (replicate words 0)) e ∙ laid-laid (upto f n) (replicate words 0) ds₀ (omega arith)
+    let r = length-replicate {A = ℕ} frameWords 0 in
+    c ∙ ap (laid (replicate frameWords 0)) e ∙ laid-laid (upto f n) (replicate frameWords 0) ds₀ (omega arith)
 
 -- ---- the answer
 module _ (s e : ℕ) (bits decisions₀ out₀ list₀ : List ℕ) where
@@ -66,7 +67,7 @@ module _ (s e : ℕ) (bits decisions₀ out₀ list₀ : List ℕ) where
         far = unmendable (s % 64) (e % 64) bits;
         answers = refused-by above last a q n;
         leaves = refused a n (kept a);
-        none = λ z. absurd (not-last (not (eqb (length bits % 2) 0) || ltb mostBits (length bits) || someNoBit bits) (ltb (length out₀) (length bits) || ltb (length list₀) places || ltb (length decisions₀) words) (sym q ∙ z));
+        none = λ z. absurd (not-last (not (eqb (length bits % 2) 0) || ltb mostBits (length bits) || someNoBit bits) (ltb (length out₀) (length bits) || ltb (length list₀) places || ltb (length decisions₀) frameWords) (sym q ∙ z));
       }
 
   pub unmended : firstRow above ≡ Accepted → mostChanged < least (s % 64) (e % 64) bits → Called s e bits (record { answer = Unmendable; count = 0 }) decisions₀ decisions₀ out₀ out₀ list₀ list₀

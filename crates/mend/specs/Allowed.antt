@@ -12,7 +12,8 @@ use Rattle.refusal.specs.RowLaws as row
 use Rattle.refusal.specs.RowLaws.{neither}
 use Rattle.refusal.specs.declared.Answer.the-variants.{Accepted, Length, Space}
 use Rattle.trellis.specs.Stretch.{Bits}
-use Rattle.mend.specs.Rows.{someNoBit, mostBits, places, words, lentRows}
+use Rattle.mend.specs.Rows.{someNoBit, mostBits, places, lentRows}
+use Rattle.trellis.specs.Isdb.{frameWords}
 
 pub record Allowed (bits : List ℕ) (decisions out list : ℕ) : Type 0 where
   pub are-bits : Bits bits
@@ -20,7 +21,7 @@ pub record Allowed (bits : List ℕ) (decisions out list : ℕ) : Type 0 where
   pub few : length bits ≤ mostBits
   pub out-room : length bits ≤ out
   pub list-room : places ≤ list
-  pub words-room : words ≤ decisions
+  pub words-room : frameWords ≤ decisions
 
 pub bits-only : (bits : List ℕ) → someNoBit bits ≡ false → Bits bits
 unfolding someNoBit
@@ -40,7 +41,7 @@ allowed bits decisions out list e =
     let p = row.passed (lentRows bits decisions out list) tt e in
     let a = neither (not (eqb (length bits % 2) 0) || ltb mostBits (length bits)) (someNoBit bits) (p Length) in
     let b = neither (not (eqb (length bits % 2) 0)) (ltb mostBits (length bits)) (a .0) in
-    let c = neither (ltb out (length bits) || ltb list places) (ltb decisions words) (p Space) in
+    let c = neither (ltb out (length bits) || ltb list places) (ltb decisions frameWords) (p Space) in
     let d = neither (ltb out (length bits)) (ltb list places) (c .0) in
     record {
       are-bits = bits-only bits (a .1);
@@ -48,5 +49,5 @@ allowed bits decisions out list e =
       few = ltb-false mostBits (length bits) (b .1);
       out-room = ltb-false out (length bits) (d .0);
       list-room = ltb-false list places (d .1);
-      words-room = ltb-false decisions words (c .1);
+      words-room = ltb-false decisions frameWords (c .1);
     }

@@ -9,9 +9,10 @@ use Rattle.refusal.specs.declared.Answer.the-variants.{Unmendable}
 use Rattle.trellis.specs.Lists.{laid}
 use Rattle.mend_distance.specs.Stretches.{sentFrom, changed, Within}
 use Rattle.mend.specs.declared.Mended.{Mended}
-use Rattle.mend.specs.Rows.{words, mendRows}
+use Rattle.mend.specs.Rows.{mendRows}
+use Rattle.trellis.specs.Isdb.{frameWords}
 
--- what an accepted call leaves. "return the coded stretch that differs in at most four bits, with the changed positions in rising order"; "the first 4,224 decision words are 0, and
+-- what an accepted call leaves. "return the coded stretch that differs in at most four bits, with the changed positions in rising order"; "the first 4,224 decision frameWords are 0, and
 -- list places past the changed positions are as before"
 pub record Mends (s e : ℕ) (bits : List ℕ) (r : Mended) (decisions₀ decisions out₀ out list₀ list : List ℕ) : Type 0 where
   pub inputs : List ℕ
@@ -19,7 +20,7 @@ pub record Mends (s e : ℕ) (bits : List ℕ) (r : Mended) (decisions₀ decisi
   pub out-is : out ≡ laid (sentFrom (s % 64) inputs) out₀
   pub count-is : r .count ≡ length (changed 0 (sentFrom (s % 64) inputs) bits)
   pub list-is : list ≡ laid (changed 0 (sentFrom (s % 64) inputs) bits) list₀
-  pub decisions-is : decisions ≡ laid (replicate words 0) decisions₀
+  pub decisions-is : decisions ≡ laid (replicate frameWords 0) decisions₀
 
 -- what a refused one leaves
 pub record Unchanged (r : Mended) (decisions₀ decisions out₀ out list₀ list : List ℕ) : Type 0 where

@@ -21,7 +21,8 @@ use Rattle.trellis.specs.LaidLaws.{take-laid}
 use Rattle.mend_distance.specs.Stretches.{mostChanged, sentFrom, unlike, changed, Within}
 use Rattle.mend_distance.specs.StretchLaws.{unique, unlike-self, length-changed, length-sent, bits-sent}
 use Rattle.mend.specs.declared.Mended.{Mended}
-use Rattle.mend.specs.Rows.{places, words, mostBits, lentRows}
+use Rattle.mend.specs.Rows.{mostSteps, places, mostBits, lentRows}
+use Rattle.trellis.specs.Isdb.{frameWords}
 use Rattle.mend.specs.Allowed.{allowed, no-other}
 use Rattle.mend.specs.Listed.{Rising, listed, changed-rising, changed-listed}
 use Rattle.mend.specs.Calls.{Called}
@@ -69,9 +70,9 @@ module _ (s e : ℕ) (bits : List ℕ) (r : Mended) (decisions₀ decisions out�
       (decided (call .far) Unmendable)
 
   -- "A good stretch comes back as it went in, with an empty list": such a stretch is refused by 9 alone
-  module _ (us : List ℕ) (few : length us ≤ 4096) (inputs : Bits us) (ends : reached isdb (s % 64) us ≡ e % 64) (coded : bits ≡ sentFrom (s % 64) us) where
+  module _ (us : List ℕ) (few : length us ≤ mostSteps) (inputs : Bits us) (ends : reached isdb (s % 64) us ≡ e % 64) (coded : bits ≡ sentFrom (s % 64) us) where
     abbrev pub Short : Bool
-    Short = ltb (length out₀) (length bits) || ltb (length list₀) places || ltb (length decisions₀) words
+    Short = ltb (length out₀) (length bits) || ltb (length list₀) places || ltb (length decisions₀) frameWords
 
     long : length bits ≡ 2 * length us
     long = ap length coded ∙ length-sent (s % 64) us

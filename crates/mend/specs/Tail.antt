@@ -5,7 +5,7 @@ use Prim.Native.Nat.{ℕ, suc, _+_, _*_, _/_, _%_, _^_, _≤_, _<_}
 use native.Mathlib.Omega.{arith}
 use lib.ListN.{length, getD, take, drop, set, take-append-drop, List·getD-append}
 use lib.Seq.{take-suc, drop-cons, append-snoc, set-at, length-take-le}
-use Rattle.trellis.specs.Code.{isdb, output, label, moved}
+use Rattle.trellis.specs.Code.{isdb, output, moved}
 use Rattle.trellis.specs.Encoded.{encoded, reached}
 use Rattle.trellis.specs.Lists.{bit, upto, laid}
 use Rattle.trellis.specs.ListLaws.{packed-bit, length-upto, getD-upto}
@@ -17,6 +17,7 @@ use Rattle.mend_distance.specs.Stretches.{mostChanged, unlike, sentFrom, Within
 use Rattle.mend_distance.specs.StretchLaws.{label-x, label-y, pair-apart, length-sent}
 use Rattle.mend_distance.specs.Distances.{pairAt, through, odd, word, nearest, wordAt}
 use Rattle.mend_distance.specs.DistanceLaws.{chosen, next-at, from-start}
+use Rattle.trellis.specs.Isdb
 
 pub record Tail (start e : ℕ) (bits out₀ : List ℕ) (t s : ℕ) (out : List ℕ) : Type 0 where
   pub inputs : List ℕ
@@ -81,7 +82,7 @@ module _ (start e : ℕ) (bits out₀ : List ℕ) (hb : Bits bits) (room : lengt
 
   -- how the number of a state came about
   by-word : (t s p : ℕ) → s < 64 → p ≡ 2 * (s % 32) + wordAt start bits t / 2 ^ s % 2 → getD (nearest start (pairAt bits) (suc t)) s 0 ≤ mostChanged
-      → getD (nearest start (pairAt bits) (suc t)) s 0 ≡ getD (nearest start (pairAt bits) t) p 0 + apart (label isdb (s / 32) p) (pairAt bits t)
+      → getD (nearest start (pairAt bits) (suc t)) s 0 ≡ getD (nearest start (pairAt bits) t) p 0 + apart (Isdb.labels (s / 32) p) (pairAt bits t)
   unfolding word through
   by-word t s p hs is-p h =
       let d = nearest start (pairAt bits) t in
@@ -89,7 +90,7 @@ module _ (start e : ℕ) (bits out₀ : List ℕ) (hb : Bits bits) (room : lengt
       let a = next-at start (pairAt bits) t s hs in
       let b = packed-bit (odd d l) 64 s hs in
       let q : p ≡ 2 * (s % 32) + bit (odd d l s) = is-p ∙ ap (λ (i : ℕ). 2 * (s % 32) + i) b in
-      a ∙ chosen d l s (rw a at h) ∙ ap (λ (i : ℕ). getD d i 0 + apart (label isdb (s / 32) i) l) (sym q)
+      a ∙ chosen d l s (rw a at h) ∙ ap (λ (i : ℕ). getD d i 0 + apart (Isdb.labels (s / 32) i) l) (sym q)
 
   pub tail-more : (t s p x y : ℕ) (out : List ℕ) → s < 64 → p ≡ 2 * (s % 32) + wordAt start bits t / 2 ^ s % 2 → x ≡ output isdb 0o171 (s / 32 % 2) p → y ≡ output isdb 0o133 (s / 32 % 2) p
       → Tail start e bits out₀ (suc t) s out → Tail start e bits out₀ t p (set (set out (2 * t + 1) y) (2 * t) x)
@@ -111,10 +112,10 @@ module _ (start e : ℕ) (bits out₀ : List ℕ) (hb : Bits bits) (room : lengt
       let rest = drop (2 * suc t) bits in
       let near = tl .near in
       let number = by-word t s p hs is-p (omega arith) in
-      let ap2 = pair-apart (label isdb u p) x' y' (label-under isdb u p) (bits-at bits hb (2 * t)) (bits-at bits hb (2 * t + 1)) in
-      let ux : label isdb u p / 2 ≡ x = label-x u p ∙ sym ix in
-      let uy : label isdb u p % 2 ≡ y = label-y u p ∙ sym iy in
-      let far : unlike (x ∷ y ∷ sentFrom s us) (x' ∷ y' ∷ rest) ≡ apart (label isdb u p) (pairAt bits t) + unlike (sentFrom s us) rest =
+      let ap2 = pair-apart (Isdb.labels u p) x' y' (label-under isdb u p) (bits-at bits hb (2 * t)) (bits-at bits hb (2 * t + 1)) in
+      let ux : Isdb.labels u p / 2 ≡ x = label-x u p ∙ sym ix in
+      let uy : Isdb.labels u p % 2 ≡ y = label-y u p ∙ sym iy in
+      let far : unlike (x ∷ y ∷ sentFrom s us) (x' ∷ y' ∷ rest) ≡ apart (Isdb.labels u p) (pairAt bits t) + unlike (sentFrom s us) rest =
       let a = rw (ux, uy) at ap2 in omega arith in
       let a : 2 * suc t ≡ suc (2 * t + 1) = omega arith in
       let b : 2 * t + 1 ≡ suc (2 * t) = omega arith in

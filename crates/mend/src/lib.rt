@@ -14,6 +14,7 @@ ghost use Rattle.mend.specs.Allowed.{Allowed};
 use mend_distance::keep_words;
 use mend_distance::least_distance;
 use refusal::Answer;
+use trellis::FRAME_WORDS;
 use viterbi::clear;
 use viterbi::encode_bit;
 
@@ -23,9 +24,6 @@ const MOST_BITS: usize = 8192;
 const MOST_CHANGED: u8 = 4;
 
 const PLACES: usize = 4;
-// 4,096 + a traceback of 128.
-const WORDS: usize = 4224;
-
 // What a call gives: how many positions were changed. Refused: 0.
 pub struct Mended {
     pub answer: Answer,
@@ -61,7 +59,7 @@ fn answer_lent(bits: &[u8], decisions: usize, out: usize, list: usize) -> Answer
     if list < PLACES {
         return Answer::Space;
     }
-    if decisions < WORDS {
+    if decisions < FRAME_WORDS {
         return Answer::Space;
     }
     Answer::Accepted
@@ -124,7 +122,7 @@ fn mend_near(
 {
     let n = bits.len();
     write_stretch(bits, start, end, decisions, out);
-    clear(decisions, WORDS);
+    clear(decisions, FRAME_WORDS);
     let count = list_changes(&out[..n], bits, list);
     Mended {
         answer: Answer::Accepted,

@@ -6,12 +6,13 @@ use native.Mathlib.Omega.{arith}
 use lib.Bits.{bitOr}
 use lib.Dec.{ltb}
 use lib.ListN.{length, getD, set, length-set}
-use Rattle.trellis.specs.Code.{isdb, output, label}
+use Rattle.trellis.specs.Code.{isdb, output}
 use Rattle.trellis.specs.Lists.{bit, packed}
 use Rattle.acs.specs.PackedLaws.{packed-more}
 use Rattle.trellis.specs.WrittenLaws.{Written, written-none, written-more, written-whole}
 use Rattle.mend_distance.specs.StretchLaws.{label-x, label-y}
 use Rattle.mend_distance.specs.Distances.{far, through, next, nexts, odd, word}
+use Rattle.trellis.specs.Isdb
 
 -- the bits of a way, from what the encoder sends
 pub way-is : (d : List ℕ) (k b x y sx sy : ℕ) → k < 64 → x < 2 → y < 2 → sx ≡ output isdb 0o171 (k / 32 % 2) (2 * (k % 32) + b) → sy ≡ output isdb 0o133 (k / 32 % 2) (2 * (k % 32) + b)
@@ -20,8 +21,8 @@ unfolding through
 way-is d k b x y sx sy hk hx hy is-x is-y =
     let from = 2 * (k % 32) + b in
     let u : k / 32 % 2 ≡ k / 32 = omega arith in
-    let lx : label isdb (k / 32) from / 2 ≡ sx = label-x (k / 32) from ∙ sym (rw u at is-x) in
-    let ly : label isdb (k / 32) from % 2 ≡ sy = label-y (k / 32) from ∙ sym (rw u at is-y) in
+    let lx : Isdb.labels (k / 32) from / 2 ≡ sx = label-x (k / 32) from ∙ sym (rw u at is-x) in
+    let ly : Isdb.labels (k / 32) from % 2 ≡ sy = label-y (k / 32) from ∙ sym (rw u at is-y) in
     let p : (2 * x + y) / 2 ≡ x = omega arith in
     let q : (2 * x + y) % 2 ≡ y = omega arith in
     rw (lx, ly, p, q) (omega arith)

@@ -8,7 +8,7 @@ use native.Mathlib.Omega.{arith}
 use borrow.Author.Tests.{ltb-true, ltb-false, eqb-true}
 use lib.Dec.{T, eqb, eqb-refl}
 use lib.ListN.{length, getD, List·getD-eq-default}
-use Rattle.trellis.specs.Code.{isdb, label, moved, stateAt}
+use Rattle.trellis.specs.Code.{isdb, moved, stateAt}
 use Rattle.trellis.specs.EncodedLaws.{reached-is}
 use Rattle.trellis.specs.Lists.{bit}
 use Rattle.trellis.specs.ListLaws.{length-upto, getD-upto}
@@ -18,6 +18,7 @@ use Rattle.trellis.specs.WrittenLaws.{lt-or-ge}
 use Rattle.mend_distance.specs.Stretches.{mostChanged, Within}
 use Rattle.mend_distance.specs.StretchLaws.{by-labels}
 use Rattle.mend_distance.specs.Distances.{pairAt, far, through, next, nexts, odd, begun, nearest, Capped, least, unmendable}
+use Rattle.trellis.specs.Isdb
 
 state-under : (us : List ℕ) → ((k : ℕ) → getD us k 0 < 2) → (s : ℕ) → s < 64 → (n : ℕ) → stateAt 32 s us n < 64
 unfolding stateAt
@@ -31,13 +32,13 @@ next-least d l k (suc zero) h = omega arith
 next-least d l k (suc (suc b)) h = absurd (omega arith)
 
 -- the step into the state that the input u leads to from st
-next-from : (d : List ℕ) (l u st : ℕ) → u < 2 → st < 64 → next d l (moved 32 u st) ≤ getD d st 0 + apart (label isdb u st) l
+next-from : (d : List ℕ) (l u st : ℕ) → u < 2 → st < 64 → next d l (moved 32 u st) ≤ getD d st 0 + apart (Isdb.labels u st) l
 unfolding through
 next-from d l u st hu hs =
     let k = moved 32 u st in
     let a : k / 32 ≡ u = omega arith in
     let b : 2 * (k % 32) + st % 2 ≡ st = omega arith in
-    let m : next d l k ≤ getD d (2 * (k % 32) + st % 2) 0 + apart (label isdb (k / 32) (2 * (k % 32) + st % 2)) l = next-least d l k (st % 2) (omega arith) in
+    let m : next d l k ≤ getD d (2 * (k % 32) + st % 2) 0 + apart (Isdb.labels (k / 32) (2 * (k % 32) + st % 2)) l = next-least d l k (st % 2) (omega arith) in
     rw (a, b) at m
 
 -- the predecessor that the decision takes, where the number is below 5

@@ -5,10 +5,10 @@ use mathlib.Core.List.{List}
 use Prim.Native.Nat.{ℕ, zero, suc, _+_, _*_, _/_, _%_, _≤_, min}
 use lib.Dec.{eqb, ltb}
 use lib.ListN.{length, getD}
-use Rattle.trellis.specs.Code.{isdb, label}
 use Rattle.trellis.specs.Lists.{upto, packed}
 use Rattle.trellis.specs.Stretch.{apart}
 use Rattle.mend_distance.specs.Stretches.{mostChanged}
+use Rattle.trellis.specs.Isdb
 
 -- 2 X + Y of step k of a stretch of bits
 abbrev pub pairAt : List ℕ → ℕ → ℕ
@@ -20,7 +20,7 @@ far = 5
 
 -- the way to state k by the predecessor with the low bit b. `d` has the numbers before the step, whose pair is l
 unfoldable pub through : List ℕ → ℕ → ℕ → ℕ → ℕ
-through d l k b = getD d (2 * (k % 32) + b) 0 + apart (label isdb (k / 32) (2 * (k % 32) + b)) l
+through d l k b = getD d (2 * (k % 32) + b) 0 + apart (Isdb.labels (k / 32) (2 * (k % 32) + b)) l
 
 unfoldable pub next : List ℕ → ℕ → ℕ → ℕ
 next d l k = min far (min (through d l k 0) (through d l k 1))

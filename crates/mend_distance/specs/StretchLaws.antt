@@ -15,17 +15,18 @@ use Rattle.trellis.specs.Stretch.{apart, differing, Bits}
 use Rattle.trellis.specs.DistanceLaws.{same-or-ten, wrong, first-out, by-place, wrong-same, triangle, labelsOf}
 use Rattle.mend_distance.specs.Stretches.{unlike, changed, sentFrom, Within}
 use Rattle.mend_distance.specs.Distances.{pairAt}
+use Rattle.trellis.specs.Isdb
 
 -- ---- the two bits of a branch
 pub output-small : (g u s : ℕ) → output isdb g u s < 2
 unfolding output
 output-small g u s = omega arith
 
-pub label-x : (u s : ℕ) → label isdb u s / 2 ≡ output isdb 0o171 u s
+pub label-x : (u s : ℕ) → Isdb.labels u s / 2 ≡ output isdb 0o171 u s
 unfolding label output
 label-x u s = omega arith
 
-pub label-y : (u s : ℕ) → label isdb u s % 2 ≡ output isdb 0o133 u s
+pub label-y : (u s : ℕ) → Isdb.labels u s % 2 ≡ output isdb 0o133 u s
 unfolding label output
 label-y u s = omega arith
 
@@ -62,7 +63,7 @@ by-pairs [] s bits h e = refl
 by-pairs (u ∷ us) s [] h e = absurd (omega arith)
 by-pairs (u ∷ us) s (x ∷ []) h e = absurd (omega arith)
 by-pairs (u ∷ us) s (x ∷ y ∷ bits) h e =
-    let l = label isdb u s in
+    let l = Isdb.labels u s in
     let t = moved 32 u s in
     let a = pair-apart l x y (label-under isdb u s) (h .0) (h .1 .0) in
     let i = by-pairs us t bits (h .1 .1) (omega arith) in

@@ -7,9 +7,8 @@ ghost use lib.ListN.{length};
 ghost use Rattle.trellis.specs.Lists.{bit, upto, laid};
 ghost use Rattle.trellis.specs.Stretch.{Bits};
 ghost use Rattle.mend_distance.specs.Distances.{through, nexts, word, begun, Capped, least, wordAt};
+use trellis::HALF;
 use viterbi::encode_bit;
-
-const HALF: usize = 32;
 
 // One more than the most bits that are mended.
 const FAR: u8 = 5;

@@ -22,9 +22,10 @@ use Rattle.overlay.specs.OverlaidLaws.{length-overlaid}
 use Rattle.trellis.specs.Encoded.{codedBits, endState}
 use Rattle.overlay.specs.CodingLaws.{overlays, overlays-chosen}
 use Rattle.overlay.specs.Kept.{kept-is}
+use Rattle.trellis.specs.Isdb
 
 -- mother bit k is X or Y of step k / 2
-pick : (w : Bool) (u st : ℕ) → output isdb (cond w 0o171 0o133) u st ≡ cond w (label isdb u st / 2) (label isdb u st % 2)
+pick : (w : Bool) (u st : ℕ) → output isdb (cond w 0o171 0o133) u st ≡ cond w (Isdb.labels u st / 2) (Isdb.labels u st % 2)
 unfolding label output
 pick true u st = omega arith
 pick false u st = omega arith

@@ -1,13 +1,12 @@
 // The release of decoded bits: the held decision words are traced back, those left move down, and freed words become 0.
+use trellis::BLOCK;
+use trellis::HALF;
 ghost use mathlib.Core.Path.{_≡_};
 ghost use Prim.Native.Nat.{_+_, _<_, _≤_};
 ghost use lib.ListN.{length, take, drop, replicate};
 ghost use Rattle.trellis.specs.Lists.{laid};
 ghost use Rattle.trellis.specs.Isdb.{bestState, traced};
-
-const HALF: usize = 32;
-// The bits that leave at a release.
-pub const BLOCK: usize = 4096;
+ghost use Rattle.trellis.specs.Run.{block, tracebackLimit};
 
 // Traces the first n decision words back from `state`, and writes the oldest `count` of the n bits to the front of `out`.
 pub fn trace(decisions: &[u64], n: usize, state: usize, count: usize, out: &mut [u8])
@@ -27,8 +26,8 @@ pub fn trace(decisions: &[u64], n: usize, state: usize, count: usize, out: &mut 
 
 // Moves n words down by the words of a release.
 pub fn move_down(decisions: &mut [u64], n: usize)
-    requires { ⌜ 4096 + n ≤ length (now decisions) ⌝ }
-    ensures { λ _. ⌜ now (decisions .exit) ≡ laid (take n (drop 4096 (now (decisions .entry)))) (now (decisions .entry)) ⌝ }
+    requires { ⌜ block + n ≤ length (now decisions) ⌝ }
+    ensures { λ _. ⌜ now (decisions .exit) ≡ laid (take n (drop block (now (decisions .entry)))) (now (decisions .entry)) ⌝ }
 {
     for t in 0..n {
         decisions[t] = decisions[BLOCK + t];
@@ -47,9 +46,9 @@ pub fn clear(decisions: &mut [u64], n: usize)
 
 // The release of 4,096 bits to the front of `out`, as BLOCK + traceback words are held: those left move down, and freed words become 0.
 pub fn release(pm: &[f32; 64], traceback: usize, decisions: &mut [u64], out: &mut [u8])
-    requires { ⌜ (traceback ≤ 1024) × (4096 + traceback ≤ length (now decisions)) × (4096 ≤ length (now out)) ⌝ }
-    ensures { λ _. ⌜ (now (out .exit) ≡ laid (take 4096 (traced (take (4096 + traceback) (now (decisions .entry))) (bestState (now (pm .entry))))) (now (out .entry)))
-        × (now (decisions .exit) ≡ laid (drop 4096 (take (4096 + traceback) (now (decisions .entry)))) (laid (replicate (4096 + traceback) 0) (now (decisions .entry)))) ⌝ }
+    requires { ⌜ (traceback ≤ tracebackLimit) × (block + traceback ≤ length (now decisions)) × (block ≤ length (now out)) ⌝ }
+    ensures { λ _. ⌜ (now (out .exit) ≡ laid (take block (traced (take (block + traceback) (now (decisions .entry))) (bestState (now (pm .entry))))) (now (out .entry)))
+        × (now (decisions .exit) ≡ laid (drop block (take (block + traceback) (now (decisions .entry)))) (laid (replicate (block + traceback) 0) (now (decisions .entry)))) ⌝ }
 {
     let s = acs::best_state(pm);
     trace(decisions, BLOCK + traceback, s, BLOCK, out);

@@ -15,7 +15,7 @@ use Rattle.ieee.specs.Rounding.{pow2}
 use Rattle.ieee.specs.Whole.{on-neg, hiZ, loZ}
 use Rattle.refusal.specs.Rows.{firstRow, Either}
 use Rattle.refusal.specs.declared.Answer.the-variants as answer
-use Rattle.trellis.specs.Isdb.{rule}
+use Rattle.trellis.specs.Isdb.{rule, frameTraceback}
 use Rattle.trellis.specs.Lists.{laid}
 use Rattle.trellis.specs.Step.{four}
 use Rattle.trellis.specs.Run.{block, startAt, startUnknown}
@@ -62,11 +62,11 @@ module _ (c : Code) (xs : List Float) (n : ℕ) (m : ℕ → ℕ → ℤ) (good 
       go (suc (suc (suc zero))) l e = ap (λ (j : ℕ). getD xs j nan) (sym e)
       go (suc (suc (suc (suc j)))) l e = absurd (omega arith)
 
-  pub accepts : (decisions space : ℕ) → block + 128 ≤ decisions → n ≤ space → firstRow (readingRows c xs decisions space) ≡ answer.Accepted
+  pub accepts : (decisions space : ℕ) → block + frameTraceback ≤ decisions → n ≤ space → firstRow (readingRows c xs decisions space) ≡ answer.Accepted
   accepts decisions space h k =
       let whole : eqb (length xs % 4) 0 ≡ true = eq-eqb (length xs % 4) 0 (omega arith) in
       let out : ltb space (length xs / 4) ≡ false = le-ltb space (length xs / 4) (omega arith) in
-      rw (good, whole, none-beyond streamLimit xs metric-inside, out, le-ltb decisions (block + 128) h) refl
+      rw (good, whole, none-beyond streamLimit xs metric-inside, out, le-ltb decisions (block + frameTraceback) h) refl
 
   states : 2 * halfOf c ≡ statesOf c
   states =
@@ -74,11 +74,11 @@ module _ (c : Code) (xs : List Float) (n : ℕ) (m : ℕ → ℕ → ℤ) (good 
       states-are c (halfOf c) (record { least = l .0; most = l .1; half-is = refl })
 
   abbrev bitsFrom : List Float → List ℕ
-  bitsFrom pm = best-path.readBits (halfOf c) (labels c) rule 128 (λ k. four (quadruple xs k)) pm n
+  bitsFrom pm = best-path.readBits (halfOf c) (labels c) rule frameTraceback (λ k. four (quadruple xs k)) pm n
 
   bits-are : (start : Start) → Reading (halfOf c) (labels c) rule (StartsIn c start) m n (bitsFrom (startValues (statesOf c) start))
-  bits-are (Given s) = subst (λ (k : ℕ). Reading (halfOf c) (labels c) rule (This (s % k)) m n (bitsFrom (startAt k s))) states (code-given (codeOf c) rule 128 (lit< tt) (quadruple xs) m n few quads s)
-  bits-are Unknown = subst (λ (k : ℕ). Reading (halfOf c) (labels c) rule Any m n (bitsFrom (startUnknown k))) states (code-unknown (codeOf c) rule 128 (lit< tt) (quadruple xs) m n few quads)
+  bits-are (Given s) = subst (λ (k : ℕ). Reading (halfOf c) (labels c) rule (This (s % k)) m n (bitsFrom (startAt k s))) states (code-given (codeOf c) rule frameTraceback (lit< tt) (quadruple xs) m n few quads s)
+  bits-are Unknown = subst (λ (k : ℕ). Reading (halfOf c) (labels c) rule Any m n (bitsFrom (startUnknown k))) states (code-unknown (codeOf c) rule frameTraceback (lit< tt) (quadruple xs) m n few quads)
 
   pub reads : (start : Start) → Reading (halfOf c) (labels c) rule (StartsIn c start) m n (readBits c start xs)
   reads start = let e : length xs / 4 ≡ n = omega arith in rw e (bits-are start)

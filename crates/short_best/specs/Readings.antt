@@ -10,7 +10,7 @@ use lib.ListN.{length, getD, take, replicate}
 use lib.Ieee.{Float, nan}
 use Rattle.refusal.specs.Rows.{Row}
 use Rattle.refusal.specs.declared.Answer.the-variants as answer
-use Rattle.trellis.specs.Isdb.{rule}
+use Rattle.trellis.specs.Isdb.{rule, frameTraceback}
 use Rattle.trellis.specs.Lists.{laid}
 use Rattle.trellis.specs.Run.{Decoder, block, startAt, startUnknown, decisionsAfter, flushed}
 use Rattle.viterbi.specs.Calls.{fourSteps}
@@ -34,7 +34,7 @@ StartsIn c Unknown z = Unit {0}
 
 -- the decoder with its held words and its bits once the metrics xs have been pushed; all its bits
 abbrev pub read : Code → Start → List Float → Decoder
-read c start xs = call c 128 (fourSteps xs) (record { values = startValues (statesOf c) start; words = []; bits = [] }) (length xs / 4)
+read c start xs = call c frameTraceback (fourSteps xs) (record { values = startValues (statesOf c) start; words = []; bits = [] }) (length xs / 4)
 
 abbrev pub readBits : Code → Start → List Float → List ℕ
 readBits c start xs = flushed (halfOf c) (labels c) rule (read c start xs) .bits
@@ -45,13 +45,13 @@ readingRows c xs decisions out =
     (answer.Code, not (goodCode c))
     ∷ (answer.Length, not (eqb (length xs % 4) 0))
     ∷ (answer.Sample, someBeyond streamLimit xs)
-    ∷ (answer.Space, ltb out (length xs / 4) || ltb decisions (block + 128))
+    ∷ (answer.Space, ltb out (length xs / 4) || ltb decisions (block + frameTraceback))
     ∷ []
 
 -- what an accepted reading leaves: all bits, one for each quadruple, at the front of the output, and the held words zeroed
 pub record Finished (c : Code) (start : Start) (xs : List Float) (count : ℕ) (decisions₀ decisions out₀ out : List ℕ) : Type 0 where
   pub count-is : count ≡ length xs / 4
-  pub words : decisions ≡ laid (replicate (length (read c start xs .words)) 0) (decisionsAfter 128 (read c start xs .words) (read c start xs .bits) decisions₀)
+  pub words : decisions ≡ laid (replicate (length (read c start xs .words)) 0) (decisionsAfter frameTraceback (read c start xs .words) (read c start xs .bits) decisions₀)
   pub bits : out ≡ laid (readBits c start xs) out₀
 
 pub record Refused (count : ℕ) (decisions₀ decisions out₀ out : List ℕ) : Type 0 where
@@ -68,5 +68,5 @@ quadruple xs k = getD xs (4 * k) nan ∷ getD xs (4 * k + 1) nan ∷ getD xs (4 
 -- any path from there with the greatest sum and none of that sum before it is the one returned (`Reading.only`)
 abbrev pub GreatestSum : Code → Start → List Float → Done → ℕ → ℕ → List ℕ → Type 0
 GreatestSum c start xs r decisions space out =
-    (n : ℕ) (m : ℕ → ℕ → ℤ) → goodCode c ≡ true → length xs ≡ 4 * n → n ≤ longest → Quadruples (quadruple xs) m n → block + 128 ≤ decisions → n ≤ space
+    (n : ℕ) (m : ℕ → ℕ → ℤ) → goodCode c ≡ true → length xs ≡ 4 * n → n ≤ longest → Quadruples (quadruple xs) m n → block + frameTraceback ≤ decisions → n ≤ space
     → (r .answer ≡ answer.Accepted) × (r .count ≡ n) × Reading (halfOf c) (labels c) rule (StartsIn c start) m n (take n out)

@@ -9,6 +9,7 @@ ghost use Rattle.refusal.specs.Rows.{firstRow, Either};
 ghost use Rattle.trellis.specs.Run.{startUnknown};
 ghost use Rattle.short_code.specs.Codes.{goodCode, Fits};
 ghost use Rattle.short_best.specs.Readings.{startValues, readingRows, Finished, Refused, GreatestSum};
+ghost use Rattle.trellis.specs.Isdb.{frameWords};
 use isdb_fec::conv::STREAM_LIMIT;
 use isdb_fec::conv::some_beyond;
 use refusal::Answer;
@@ -20,6 +21,7 @@ use short_step::renormalise;
 use short_step::start_at;
 use short_viterbi::finish_at;
 use short_viterbi::soft_steps;
+use trellis::FRAME_WORDS;
 use viterbi::At;
 
 pub enum Start {
@@ -43,9 +45,13 @@ fn bad(code: Code) -> bool
 
 // Whether the lent memory is too short for n bits.
 fn short(n: usize, decisions: usize, out: usize) -> bool
-    ensures { λ r. ⌜ r ≡ (ltb out n || ltb decisions 4224) ⌝ }
+    ensures { λ r. ⌜ r ≡ (ltb out n || ltb decisions frameWords) ⌝ }
 {
-    if out < n { true } else { decisions < 4224 }
+    if out < n {
+        true
+    } else {
+        decisions < FRAME_WORDS
+    }
 }
 
 // The answer to a reading.
@@ -97,7 +103,7 @@ fn run(
     decisions: &mut [u64],
     out: &mut [u8],
 ) -> usize
-    requires { ⌜ (1 ≤ h) × (h ≤ 32) × Fits code h × (length (now pm) ≡ 2 * h) × (4224 ≤ length (now decisions)) × (length (now metrics) / 4 ≤ length (now out)) ⌝ }
+    requires { ⌜ (1 ≤ h) × (h ≤ 32) × Fits code h × (length (now pm) ≡ 2 * h) × (frameWords ≤ length (now decisions)) × (length (now metrics) / 4 ≤ length (now out)) ⌝ }
     ensures { λ r. ⌜ Finished code start (now (metrics .entry)) r (now (decisions .entry)) (now (decisions .exit)) (now (out .entry)) (now (out .exit)) ⌝ }
 {
     begin(pm, start);

@@ -19,7 +19,7 @@ use Rattle.ieee.specs.Whole.{on-neg}
 use Rattle.refusal.specs.Rows.{firstRow, Either}
 use Rattle.refusal.specs.RowLaws.{passed}
 use Rattle.refusal.specs.declared.Answer.the-variants as answer
-use Rattle.trellis.specs.Isdb.{rule}
+use Rattle.trellis.specs.Isdb.{rule, frameTraceback, frameWords}
 use Rattle.trellis.specs.Lists.{laid}
 use Rattle.trellis.specs.ListLaws.{length-upto}
 use Rattle.trellis.specs.RunLaws.{label-under, after-values}
@@ -127,12 +127,12 @@ module _ (c : Code) (start : Start) (xs : List Float) (n : ℕ) (m : ℕ → ℕ
       times-step half some (labels c) (label-under (codeOf c)) rule last (value half (labels c) rule (wholeStart (2 * half) start) (λ k l. parts-of (m k l)) n) n few 1 r
 
   last-length : length last ≡ 2 * half
-  last-length = ap length (sym (after-values half (labels c) rule 128 steps begun n)) ∙ after-length half (labels c) rule 128 steps begun n long
+  last-length = ap length (sym (after-values half (labels c) rule frameTraceback steps begun n)) ∙ after-length half (labels c) rule frameTraceback steps begun n long
 
   read-values : read c start xs .values ≡ renormalised half last
   read-values =
       let e : length xs / 4 ≡ n = omega arith in
-      ap (λ (v : List Float). renormalised half v) (after-values half (labels c) rule 128 (fourSteps xs) begun (length xs / 4) ∙ ap (λ (k : ℕ). valuesAt half (labels c) rule steps (startValues (statesOf c) start) k) e)
+      ap (λ (v : List Float). renormalised half v) (after-values half (labels c) rule frameTraceback (fourSteps xs) begun (length xs / 4) ∙ ap (λ (k : ℕ). valuesAt half (labels c) rule steps (startValues (statesOf c) start) k) e)
 
   renormalised-long : length (renormalised half last) ≡ 2 * half
   renormalised-long = renormalised-length half (labels c) rule last ∙ last-length
@@ -148,10 +148,10 @@ module _ (c : Code) (start : Start) (xs : List Float) (n : ℕ) (m : ℕ → ℕ
   values = laid (startValues (statesOf c) start) (replicate 64 (ofBits binary32 0))
 
   abbrev pub fresh : ViterbiDecoder
-  fresh = record { pm = values; held = 0; traceback = 128 }
+  fresh = record { pm = values; held = 0; traceback = frameTraceback }
 
   -- it is what `with_state` and `new_unknown_state` make
-  pub made-is : (made : Made) → made .answer ≡ firstRow (short.freshRows c 128) → Either (made .answer) (Fresh 128 values (made .dec)) (Zero (made .dec)) → (made .answer ≡ answer.Accepted) × (made .dec ≡ fresh)
+  pub made-is : (made : Made) → made .answer ≡ firstRow (short.freshRows c frameTraceback) → Either (made .answer) (Fresh frameTraceback values (made .dec)) (Zero (made .dec)) → (made .answer ≡ answer.Accepted) × (made .dec ≡ fresh)
   made-is made a e =
       let yes : made .answer ≡ answer.Accepted = a ∙ rw good refl in
       let f = e .0 yes in
@@ -166,20 +166,20 @@ module _ (c : Code) (start : Start) (xs : List Float) (n : ℕ) (m : ℕ → ℕ
   handed-is : (dec₀ : List ℕ) → handed c fresh dec₀ ≡ begun
   handed-is dec₀ = let f = front in λ i. record { values = f i; words = []; bits = [] }
 
-  push-accepts : (D O : ℕ) → 4224 ≤ D → n ≤ O → firstRow (short.streamRows c 4 fresh xs D O) ≡ answer.Accepted
+  push-accepts : (D O : ℕ) → frameWords ≤ D → n ≤ O → firstRow (short.streamRows c 4 fresh xs D O) ≡ answer.Accepted
   push-accepts D O hd ho =
       let p = passed (readingRows c xs D O) tt (accepts c xs n m good count few quads D O hd ho) in
-      let r : releases 128 0 (length xs / 4) ≡ 0 = releases-is 128 0 (length xs / 4) (lit≤ tt) ∙ omega arith in
-      rw (good, front, start-inside, p answer.Length, p answer.Sample, le-ltb O (4096 * releases 128 0 (length xs / 4)) (omega arith), le-ltb D 4224 hd) refl
+      let r : releases frameTraceback 0 (length xs / 4) ≡ 0 = releases-is frameTraceback 0 (length xs / 4) (lit≤ tt) ∙ omega arith in
+      rw (good, front, start-inside, p answer.Length, p answer.Sample, le-ltb O (block * releases frameTraceback 0 (length xs / 4)) (omega arith), le-ltb D frameWords hd) refl
 
   empty : (l : List ℕ) → length l ≡ 0 → l ≡ []
   empty [] e = refl
   empty (x ∷ l) e = absurd (omega arith)
 
   -- ---- the two calls on it
-  module _ (p r : Released) (dec₀ dec₁ dec₂ out₀ out₁ out₂ : List ℕ) (hd : 4224 ≤ length dec₀) (ho : n ≤ length out₀)
+  module _ (p r : Released) (dec₀ dec₁ dec₂ out₀ out₁ out₂ : List ℕ) (hd : frameWords ≤ length dec₀) (ho : n ≤ length out₀)
       (pa : p .answer ≡ firstRow (short.streamRows c 4 fresh xs (length dec₀) (length out₀)))
-      (pl : Either (p .answer) (Leaves fresh (call c 128 (fourSteps xs) (handed c fresh dec₀) (length xs / 4)) p dec₀ dec₁ out₀ out₁) (Unchanged fresh p dec₀ dec₁ out₀ out₁))
+      (pl : Either (p .answer) (Leaves fresh (call c frameTraceback (fourSteps xs) (handed c fresh dec₀) (length xs / 4)) p dec₀ dec₁ out₀ out₁) (Unchanged fresh p dec₀ dec₁ out₀ out₁))
       (ra : r .answer ≡ firstRow (short.flushRows c (p .dec) (length dec₁) (length out₁)))
       (rl : Either (r .answer) (Flushes c (p .dec) (bestOf c (p .dec)) r dec₁ dec₂ out₁ out₂) (Unchanged (p .dec) r dec₁ dec₂ out₁ out₂)) where
     abbrev d : Decoder
@@ -189,14 +189,14 @@ module _ (c : Code) (start : Start) (xs : List Float) (n : ℕ) (m : ℕ → ℕ
     pushed = pa ∙ push-accepts (length dec₀) (length out₀) hd ho
 
     left : Leaves fresh d p dec₀ dec₁ out₀ out₁
-    left = subst (λ (x : Decoder). Leaves fresh (call c 128 (fourSteps xs) x (length xs / 4)) p dec₀ dec₁ out₀ out₁) (handed-is dec₀) (pl .0 pushed)
+    left = subst (λ (x : Decoder). Leaves fresh (call c frameTraceback (fourSteps xs) x (length xs / 4)) p dec₀ dec₁ out₀ out₁) (handed-is dec₀) (pl .0 pushed)
 
     sizes : (length (d .words) ≡ n) × (length (d .bits) ≡ 0)
     sizes =
-        let k = counted half (labels c) rule 128 (fourSteps xs) begun (lit≤ tt) (lit≤ tt) (lit< tt) (length xs / 4) in
+        let k = counted half (labels c) rule frameTraceback (fourSteps xs) begun (lit≤ tt) (lit≤ tt) (lit< tt) (length xs / 4) in
         let w = k .words-left in
         let b = k .bits-out in
-        let e : releases 128 0 (length xs / 4) ≡ 0 = releases-is 128 0 (length xs / 4) (lit≤ tt) ∙ omega arith in
+        let e : releases frameTraceback 0 (length xs / 4) ≡ 0 = releases-is frameTraceback 0 (length xs / 4) (lit≤ tt) ∙ omega arith in
         (omega arith, omega arith)
 
     none-out : d .bits ≡ []
@@ -206,7 +206,7 @@ module _ (c : Code) (start : Start) (xs : List Float) (n : ℕ) (m : ℕ → ℕ
     out-is = left .bits ∙ ap (λ (b : List ℕ). laid b out₀) none-out
 
     dec-is : dec₁ ≡ laid (d .words) dec₀
-    dec-is = left .words ∙ ap (λ (b : List ℕ). decisionsAfter 128 (d .words) b dec₀) none-out
+    dec-is = left .words ∙ ap (λ (b : List ℕ). decisionsAfter frameTraceback (d .words) b dec₀) none-out
 
     pm-is : take (statesOf c) (p .dec .pm) ≡ d .values
     pm-is = ap (λ (v : List Float). take (statesOf c) v) (left .values) ∙ ap (λ (k : ℕ). take k (laid (d .values) values)) (sym read-length) ∙ take-laid (d .values) values
@@ -218,7 +218,7 @@ module _ (c : Code) (start : Start) (xs : List Float) (n : ℕ) (m : ℕ → ℕ
         let lo : length out₁ ≡ length out₀ = ap length out-is in
         let ld : length dec₁ ≡ length dec₀ = ap length dec-is ∙ length-laid (d .words) dec₀ (omega arith) in
         ra
-        ∙ rw (left .traceback-is, good, pm-is, end-inside, h, lt-leb 4224 n (omega arith), le-ltb (length out₁) n (omega arith), le-ltb (length dec₁) 4224 (omega arith)) refl
+        ∙ rw (left .traceback-is, good, pm-is, end-inside, h, lt-leb frameWords n (omega arith), le-ltb (length out₁) n (omega arith), le-ltb (length dec₁) frameWords (omega arith)) refl
 
     done : Flushes c (p .dec) (bestOf c (p .dec)) r dec₁ dec₂ out₁ out₂
     done = rl .0 flush-accepts

@@ -7,7 +7,7 @@ ghost use Prim.Native.Nat.{ℕ, _+_, _*_, _<_, _≤_, _/_, _%_};
 ghost use lib.ListN.{length};
 ghost use Rattle.refusal.specs.Rows.{firstRow, Either};
 ghost use Rattle.trellis.specs.Code.{output, moved};
-ghost use Rattle.trellis.specs.Run.{pushed};
+ghost use Rattle.trellis.specs.Run.{pushed, block, tracebackLimit};
 ghost use Rattle.trellis.specs.Isdb.{rule};
 ghost use Rattle.viterbi.specs.Calls.{pairSteps, fourSteps, knownSteps, releases, holding, Holds};
 ghost use Rattle.short_code.specs.Codes.{codeOf, labels, halfOf, statesOf, goodCode, Fits};
@@ -143,8 +143,8 @@ fn soft_run(
     out: &mut [u8],
 ) -> At
     requires { ⌜ (1 ≤ h) × (h ≤ 32) × Fits code h × (length (now pm) ≡ 2 * h) × ((per ≡ 2) ⊎ (per ≡ 4)) × (per * n ≤ length (now values))
-        × (1 ≤ traceback) × (traceback ≤ 1024) × (at .held < 4096 + traceback) × (at .count ≡ 0) × (4096 + traceback ≤ length (now decisions))
-        × (4096 * releases traceback (at .held) n ≤ length (now out)) ⌝ }
+        × (1 ≤ traceback) × (traceback ≤ tracebackLimit) × (at .held < block + traceback) × (at .count ≡ 0) × (block + traceback ≤ length (now decisions))
+        × (block * releases traceback (at .held) n ≤ length (now out)) ⌝ }
     ensures { λ r. ⌜ Holds traceback (now (decisions .entry)) (now (out .entry)) (pushed h (labels code) rule traceback (softSteps per (now (values .entry))) (holding (now (pm .entry)) (at .held) (now (decisions .entry))) n)
         (now (pm .exit)) (r .held) (r .count) (now (decisions .exit)) (now (out .exit)) ⌝ }
 {

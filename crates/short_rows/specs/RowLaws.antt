@@ -25,7 +25,7 @@ pub record Sound (c : Code) (v : ViterbiDecoder) : Type 0 where
   pub good : goodCode c ≡ true
   pub least : 1 ≤ v .traceback
   pub most : v .traceback ≤ tracebackLimit
-  pub fewer : v .held < 4096 + v .traceback
+  pub fewer : v .held < block + v .traceback
 
 pub sound : (c : Code) (v : ViterbiDecoder) → answer.Accepted ≡ firstRow (handedRows c v) → Sound c v
 sound c v e =
@@ -34,20 +34,20 @@ sound c v e =
     let s = neither (leb (block + v .traceback) (v .held)) (someBeyond pathLimit (take (statesOf c) (v .pm))) (p answer.State) in
     let n : v .traceback ≡ 0 → ⊥ = eqb-false (v .traceback) 0 (t .0) in
     let h : v .traceback ≤ tracebackLimit = ltb-false tracebackLimit (v .traceback) (t .1) in
-    let g : v .held < 4096 + v .traceback = leb-false (4096 + v .traceback) (v .held) (s .0) in
+    let g : v .held < block + v .traceback = leb-false (block + v .traceback) (v .held) (s .0) in
     record { good = not-false (goodCode c) (p answer.Code); least = omega arith; most = h; fewer = g }
 
 enough : (c : Code) (v : ViterbiDecoder) (n decisions out : ℕ) → firstRow (handedRows c v) ≡ answer.Accepted → stepsShort n v decisions out ≡ false → (goodCode c ≡ true) × Enough v n decisions out
 enough c v n decisions out a e =
     let h = sound c v (sym a) in
-    let p = neither (ltb out (4096 * releases (v .traceback) (v .held) n)) (ltb decisions (4096 + v .traceback)) e in (
+    let p = neither (ltb out (block * releases (v .traceback) (v .held) n)) (ltb decisions (block + v .traceback)) e in (
       h .good,
       record {
         least = h .least;
         most = h .most;
         fewer = h .fewer;
-        fits = ltb-false decisions (4096 + v .traceback) (p .1);
-        room = ltb-false out (4096 * releases (v .traceback) (v .held) n) (p .0);
+        fits = ltb-false decisions (block + v .traceback) (p .1);
+        room = ltb-false out (block * releases (v .traceback) (v .held) n) (p .0);
       },
     )
 
@@ -68,6 +68,6 @@ pub flush-enough : (c : Code) (v : ViterbiDecoder) (decisions out : ℕ) → ans
 flush-enough c v decisions out e =
     let below : List Row = (answer.Space, shortOf (v .held) v decisions out) ∷ [] in
     let r = both-passed (handedRows c v) below tt (sym e) in
-    let p = neither (ltb out (v .held)) (ltb decisions (4096 + v .traceback)) (passed below tt (r .1) answer.Space) in
+    let p = neither (ltb out (v .held)) (ltb decisions (block + v .traceback)) (passed below tt (r .1) answer.Space) in
     let h = sound c v (sym (r .0)) in
-    (h .good, record { fewer = h .fewer; fits = ltb-false decisions (4096 + v .traceback) (p .1); room = ltb-false out (v .held) (p .0) })
+    (h .good, record { fewer = h .fewer; fits = ltb-false decisions (block + v .traceback) (p .1); room = ltb-false out (v .held) (p .0) })

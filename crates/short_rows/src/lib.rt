@@ -5,7 +5,7 @@ ghost use Prim.Native.Nat.{ℕ, _+_, _<_, _≤_};
 ghost use lib.ListN.{length};
 ghost use Rattle.refusal.specs.Rows.{firstRow};
 ghost use Rattle.short_code.specs.Codes.{goodCode};
-ghost use Rattle.trellis.specs.Run.{tracebackLimit};
+ghost use Rattle.trellis.specs.Run.{tracebackLimit, block};
 ghost use Rattle.isdb_fec.specs.Rows.{stepsShort};
 ghost use Rattle.short_rows.specs.Rows.{encoderRows, handedRows, streamRows, knownRows, flushRows};
 use isdb_fec::conv::PATH_LIMIT;
@@ -17,10 +17,8 @@ use refusal::Answer;
 use short_code::Code;
 use short_code::good;
 use short_code::half;
+use trellis::BLOCK;
 use viterbi::few_places;
-
-// The bits that leave at a release.
-const BLOCK: usize = 4096;
 
 // Row 12.
 pub fn bad(code: Code) -> bool
@@ -78,7 +76,7 @@ fn answer_handed(code: Code, dec: ViterbiDecoder) -> Answer
 
 // The answer to a call of n steps on a state that is not refused: is there space?
 fn answer_space(dec: ViterbiDecoder, n: usize, decisions: usize, out: usize) -> Answer
-    requires { ⌜ (1 ≤ dec .traceback) × (dec .traceback ≤ tracebackLimit) × (dec .held < 4096 + dec .traceback) ⌝ }
+    requires { ⌜ (1 ≤ dec .traceback) × (dec .traceback ≤ tracebackLimit) × (dec .held < block + dec .traceback) ⌝ }
     ensures { λ r. ⌜ r ≡ cond (stepsShort n dec decisions out) Answer.Space Answer.Accepted ⌝ }
 {
     let traceback = dec.traceback;

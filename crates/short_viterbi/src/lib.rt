@@ -7,7 +7,7 @@ ghost use Prim.Native.Nat.{ℕ, _+_, _-_, _*_, _<_, _≤_, _/_, _%_};
 ghost use lib.ListN.{length, take, drop, replicate};
 ghost use Rattle.trellis.specs.Lists.{laid};
 ghost use Rattle.trellis.specs.Step.{best, traced};
-ghost use Rattle.trellis.specs.Run.{stepped, after};
+ghost use Rattle.trellis.specs.Run.{stepped, after, block, tracebackLimit};
 ghost use Rattle.trellis.specs.Isdb.{rule};
 ghost use Rattle.viterbi.specs.Calls.{stepOf, pairSteps, fourSteps, knownSteps, releases, holding, Holds, Room, Stepped};
 ghost use Rattle.short_code.specs.Codes.{labels, Fits};
@@ -15,13 +15,11 @@ ghost use Rattle.short_viterbi.specs.Soft.{softSteps};
 use short_code::Code;
 use short_step::best_state;
 use short_step::trellis_step;
+use trellis::BLOCK;
 use viterbi::At;
 use viterbi::Step;
 use viterbi::clear;
 use viterbi::move_down;
-
-// The bits that leave at a release.
-const BLOCK: usize = 4096;
 
 // Traces the first n decision words back from `state`, and writes the oldest `count` of the n bits to the front of `out`.
 fn trace(decisions: &[u64], h: usize, n: usize, state: usize, count: usize, out: &mut [u8])
@@ -41,9 +39,9 @@ fn trace(decisions: &[u64], h: usize, n: usize, state: usize, count: usize, out:
 
 // The release of 4,096 bits to the front of `out`, as BLOCK + traceback words are held: those left move down, and freed words become 0.
 fn release(pm: &[f32], h: usize, traceback: usize, decisions: &mut [u64], out: &mut [u8])
-    requires { ⌜ (1 ≤ h) × (h ≤ 32) × (length (now pm) ≡ 2 * h) × (traceback ≤ 1024) × (4096 + traceback ≤ length (now decisions)) × (4096 ≤ length (now out)) ⌝ }
-    ensures { λ _. ⌜ (now (out .exit) ≡ laid (take 4096 (traced h (take (4096 + traceback) (now (decisions .entry))) (best rule (now (pm .entry)) (2 * h - 1)))) (now (out .entry)))
-        × (now (decisions .exit) ≡ laid (drop 4096 (take (4096 + traceback) (now (decisions .entry)))) (laid (replicate (4096 + traceback) 0) (now (decisions .entry)))) ⌝ }
+    requires { ⌜ (1 ≤ h) × (h ≤ 32) × (length (now pm) ≡ 2 * h) × (traceback ≤ tracebackLimit) × (block + traceback ≤ length (now decisions)) × (block ≤ length (now out)) ⌝ }
+    ensures { λ _. ⌜ (now (out .exit) ≡ laid (take block (traced h (take (block + traceback) (now (decisions .entry))) (best rule (now (pm .entry)) (2 * h - 1)))) (now (out .entry)))
+        × (now (decisions .exit) ≡ laid (drop block (take (block + traceback) (now (decisions .entry)))) (laid (replicate (block + traceback) 0) (now (decisions .entry)))) ⌝ }
 {
     let s = best_state(pm, h);
     trace(decisions, h, BLOCK + traceback, s, BLOCK, out);
@@ -63,7 +61,7 @@ pub fn advance(
     decisions: &mut [u64],
     out: &mut [u8],
 ) -> At
-    requires { ⌜ (1 ≤ h) × (h ≤ 32) × Fits code h × (length (now pm) ≡ 2 * h) × (1 ≤ traceback) × (traceback ≤ 1024) × (at .held < 4096 + traceback) × (4096 + traceback ≤ length (now decisions)) × (at .count ≤ length (now out)) × Room traceback (at .held) (at .count) (length (now out)) ⌝ }
+    requires { ⌜ (1 ≤ h) × (h ≤ 32) × Fits code h × (length (now pm) ≡ 2 * h) × (1 ≤ traceback) × (traceback ≤ tracebackLimit) × (at .held < block + traceback) × (block + traceback ≤ length (now decisions)) × (at .count ≤ length (now out)) × Room traceback (at .held) (at .count) (length (now out)) ⌝ }
     ensures { λ r. ⌜ Stepped traceback (stepped h (labels code) rule traceback i (stepOf x) (holding (now (pm .entry)) (at .held) (now (decisions .entry)))) (at .count) r (now (pm .exit)) (now (decisions .entry)) (now (decisions .exit)) (now (out .entry)) (now (out .exit)) ⌝ }
 {
     let held = at.held;
@@ -143,8 +141,8 @@ pub fn soft_steps(
     out: &mut [u8],
 ) -> At
     requires { ⌜ (1 ≤ h) × (h ≤ 32) × Fits code h × (length (now pm) ≡ 2 * h) × ((per ≡ 2) ⊎ (per ≡ 4)) × (per * n ≤ length (now values))
-        × (1 ≤ traceback) × (traceback ≤ 1024) × (at .held < 4096 + traceback) × (at .count ≡ 0) × (4096 + traceback ≤ length (now decisions))
-        × (4096 * releases traceback (at .held) n ≤ length (now out)) ⌝ }
+        × (1 ≤ traceback) × (traceback ≤ tracebackLimit) × (at .held < block + traceback) × (at .count ≡ 0) × (block + traceback ≤ length (now decisions))
+        × (block * releases traceback (at .held) n ≤ length (now out)) ⌝ }
     ensures { λ r. ⌜ Holds traceback (now (decisions .entry)) (now (out .entry)) (after h (labels code) rule traceback (softSteps per (now (values .entry))) (holding (now (pm .entry)) (at .held) (now (decisions .entry))) n)
         (now (pm .exit)) (r .held) (r .count) (now (decisions .exit)) (now (out .exit)) ⌝ }
 {
@@ -168,8 +166,8 @@ pub fn known_steps(
     out: &mut [u8],
 ) -> At
     requires { ⌜ (1 ≤ h) × (h ≤ 32) × Fits code h × (length (now pm) ≡ 2 * h)
-        × (1 ≤ traceback) × (traceback ≤ 1024) × (at .held < 4096 + traceback) × (at .count ≡ 0) × (4096 + traceback ≤ length (now decisions))
-        × (4096 * releases traceback (at .held) (length (now bits)) ≤ length (now out)) ⌝ }
+        × (1 ≤ traceback) × (traceback ≤ tracebackLimit) × (at .held < block + traceback) × (at .count ≡ 0) × (block + traceback ≤ length (now decisions))
+        × (block * releases traceback (at .held) (length (now bits)) ≤ length (now out)) ⌝ }
     ensures { λ r. ⌜ Holds traceback (now (decisions .entry)) (now (out .entry)) (after h (labels code) rule traceback (knownSteps (now (bits .entry))) (holding (now (pm .entry)) (at .held) (now (decisions .entry))) (length (now (bits .entry))))
         (now (pm .exit)) (r .held) (r .count) (now (decisions .exit)) (now (out .exit)) ⌝ }
 {

@@ -15,6 +15,7 @@ use Rattle.isdbs_metrics.specs.Reading.{Received, metricsAt}
 use Rattle.strain.specs.CountsLaws.{bit-few}
 use Rattle.strain.specs.Strain.{strainedBy, strainedAt}
 use Rattle.strain.specs.Marks.{markOf, frameMark, marked}
+use Rattle.trellis.specs.Isdb
 
 -- the digits of a number of four
 module _ (x y z w : ℕ) (X : x ≤ 1) (Y : y ≤ 1) (Z : z ≤ 1) (W : w ≤ 1) where
@@ -46,7 +47,7 @@ module _ (m : List Float) where
   mark-bit (suc (suc (suc zero))) l = digit-3 (at 0) (at 1) (at 2) (at 3) (few 0) (few 1) (few 2) (few 3)
   mark-bit (suc (suc (suc (suc c)))) l = absurd (omega arith)
 
-pub label-small : (u s : ℕ) → label isdb u s < 4
+pub label-small : (u s : ℕ) → Isdb.labels u s < 4
 unfolding label output
 label-small u s =
     let x : output isdb 0o171 u s < 2 = mod-lt _ (lit< tt) in

@@ -1,16 +1,16 @@
 -- The valid slots of a frame, "numbered from 0 through all runs": which segment has slot j, and which of the frame's steps are its own. Assumes nothing.
 use Prim.Native.Nat.{ℕ, _+_, _*_, _/_}
 use Rattle.isdbs_tables.specs.declared.Table.{Table}
-use Rattle.isdbs_combination.specs.Combinations.{slotSteps}
+use Rattle.isdbs_combination.specs.Combinations.{slotSteps, slotBits}
 use Rattle.isdbs_points.specs.Layout.{Segment, segments, among}
 use Rattle.strain.specs.Counts.{summed}
 
 -- the first and the number of a segment's valid slots: "A valid slot is 1,624 bits"
 abbrev pub slotOf : Segment → ℕ
-slotOf g = g .bit / 1624
+slotOf g = g .bit / slotBits
 
 abbrev pub slotsOf : Segment → ℕ
-slotsOf g = g .bits / 1624
+slotsOf g = g .bits / slotBits
 
 -- what f says of valid slot j: f of the segment that has it, and of its number there
 abbrev pub atSlot : {A : Type 0} (none : A) (f : Segment → ℕ → A) (t : Table) → ℕ → A

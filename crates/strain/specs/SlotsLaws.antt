@@ -7,7 +7,7 @@ use native.Mathlib.Omega.{arith}
 use borrow.Author.Tests.{lt-ltb, le-ltb}
 use Rattle.isdbs_runs.specs.declared.Run.{Run}
 use Rattle.isdbs_tables.specs.declared.Table.{Table}
-use Rattle.isdbs_combination.specs.Combinations.{unitOf, slotSteps}
+use Rattle.isdbs_combination.specs.Combinations.{unitOf, slotSteps, slotBits}
 use Rattle.isdbs_runs.specs.RunsOf.{runsOf, validIn, validTotal, stepsOf, stepsIn, frameSteps}
 use Rattle.isdbs_points.specs.Layout.{Segment, segmentOf, segmentsFrom, segments, among, In}
 use Rattle.isdbs_points.specs.PlaceLaws.{Fill, Found, among-at, find}
@@ -18,18 +18,18 @@ use Rattle.strain.specs.CountsLaws.{summed-same, summed-append, summed-p
 use Rattle.strain.specs.Slots.{slotOf, slotsOf, atSlot, overSlot, bySlot}
 
 -- ---- the slots lie end to end
-pub fill-slots : (rs : List Run) (s b v : ℕ) → b ≡ 1624 * v → Fill slotOf slotsOf (segmentsFrom rs s b) v (v + validIn rs)
+pub fill-slots : (rs : List Run) (s b v : ℕ) → b ≡ slotBits * v → Fill slotOf slotsOf (segmentsFrom rs s b) v (v + validIn rs)
 unfolding Fill segmentsFrom validIn
 fill-slots [] s b v e = omega arith
 fill-slots (r ∷ rs) s b v e =
     let n = r .«valid_slots» in
-    let q : 1624 * n / 1624 ≡ n = omega arith in
-    let h = fill-slots rs (s + stepsOf r) (b + 1624 * n) (v + n) (omega (arith, e)) in
+    let q : slotBits * n / slotBits ≡ n = omega arith in
+    let h = fill-slots rs (s + stepsOf r) (b + slotBits * n) (v + n) (omega (arith, e)) in
     (omega (arith, e), rw (q, ← add-assoc v n (validIn rs)) h)
 
 -- ---- the sums over the slots of some runs are the sum over their steps
 module _ (f : ℕ → ℕ) where
-  runs-sum : (rs : List Run) (s b v : ℕ) → b ≡ 1624 * v
+  runs-sum : (rs : List Run) (s b v : ℕ) → b ≡ slotBits * v
       → summed (λ j. among slotOf slotsOf 0 (overSlot f) (segmentsFrom rs s b) (v + j)) (validIn rs) ≡ summed (λ i. f (s + i)) (stepsIn rs)
   unfolding segmentsFrom among validIn stepsIn summed
   runs-sum [] s b v e = refl
@@ -37,18 +37,18 @@ module _ (f : ℕ → ℕ) where
       let n = r .«valid_slots» in
       let w = slotSteps (r .combination) in
       let g = segmentOf r s b in
-      let gs = segmentsFrom rs (s + stepsOf r) (b + 1624 * n) in
+      let gs = segmentsFrom rs (s + stepsOf r) (b + slotBits * n) in
       let at : ℕ → ℕ = λ j. among slotOf slotsOf 0 (overSlot f) (segmentsFrom (r ∷ rs) s b) (v + j) in
       let here : summed at n ≡ summed (λ i. f (s + i)) (w * n) =
       summed-same at (λ j. summed (λ i. f (s + (w * j + i))) w) n
       (λ j l.
-      let d : v + j - b / 1624 ≡ j = omega (arith, e) in
-      rw (lt-ltb (v + j) (b / 1624 + 1624 * n / 1624) (omega (arith, e)), d))
+      let d : v + j - b / slotBits ≡ j = omega (arith, e) in
+      rw (lt-ltb (v + j) (b / slotBits + slotBits * n / slotBits) (omega (arith, e)), d))
       ∙ summed-parts (λ i. f (s + i)) w n in
       let there : summed (λ j. at (n + j)) (validIn rs) ≡ summed (λ i. f (s + (w * n + i))) (stepsIn rs) =
       summed-same (λ j. at (n + j)) (λ j. among slotOf slotsOf 0 (overSlot f) gs (v + n + j)) (validIn rs)
-      (λ j l. rw (le-ltb (v + (n + j)) (b / 1624 + 1624 * n / 1624) (omega (arith, e)), add-assoc v n j))
-      ∙ runs-sum rs (s + stepsOf r) (b + 1624 * n) (v + n) (omega (arith, e))
+      (λ j l. rw (le-ltb (v + (n + j)) (b / slotBits + slotBits * n / slotBits) (omega (arith, e)), add-assoc v n j))
+      ∙ runs-sum rs (s + stepsOf r) (b + slotBits * n) (v + n) (omega (arith, e))
       ∙ summed-same (λ i. f (s + stepsOf r + i)) (λ i. f (s + (w * n + i))) (stepsIn rs) (λ i l. rw (add-assoc s (w * n) i)) in
       summed-append at n (validIn rs)
       ∙ rw (here, there) (sym (summed-append (λ i. f (s + i)) (w * n) (stepsIn rs)))
@@ -71,7 +71,7 @@ module _ (t : Table) where
       let o = table-whole t a g m in
       let w = slotSteps (g .combination) in
       let n = o .units * unitOf (g .combination) .valid in
-      let q : 1624 * n / 1624 ≡ n = omega arith in
+      let q : slotBits * n / slotBits ≡ n = omega arith in
       let l : v < n = rw (o .bits-are, q) at small in
       let f : w * v + w ≤ w * n = rw (mul-suc w v) at (mul-le-mul-left w l) in
       step-fits t g m (w * v + i) (rw (o .steps-are) (omega arith))

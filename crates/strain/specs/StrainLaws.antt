@@ -16,6 +16,7 @@ use Rattle.strain.specs.Counts.{counted}
 use Rattle.strain.specs.CountsLaws.{counted-few, counted-none, zero-summed}
 use Rattle.strain.specs.SlotsLaws.{slots-sum}
 use Rattle.strain.specs.Strain.{someAbove, strained, strainOf, strainSum}
+use Rattle.trellis.specs.Isdb.{longestFrame}
 
 module _ (t : Table) (r : Received) (knownStart first : Bool) where
   -- "The sum equals the strained steps of the whole frame"
@@ -26,7 +27,7 @@ module _ (t : Table) (r : Received) (knownStart first : Bool) where
   pub strain-few : strainSum t r knownStart first ≤ frameSteps t
   strain-few = omega (arith, strain-sum, counted-few (strained t r knownStart first) (frameSteps t))
 
-  pub strain-bound : TableAccepted t → strainSum t r knownStart first ≤ 68208
+  pub strain-bound : TableAccepted t → strainSum t r knownStart first ≤ longestFrame
   strain-bound fit = omega (arith, strain-few, few-steps t fit)
 
   -- where no step is strained, the sum and every count are 0

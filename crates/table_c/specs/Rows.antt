@@ -10,7 +10,7 @@ use Rattle.trellis.specs.Lists.{upto}
 use Rattle.isdbs_combination.specs.declared.MaybeCombination.{MaybeCombination}
 use Rattle.isdbs_combination.specs.declared.MaybeCombination.the-variants.{Some, None}
 use Rattle.isdbs_tables.specs.declared.Table.{Table}
-use Rattle.isdbs_combination.specs.Combinations.{combinationOf}
+use Rattle.isdbs_combination.specs.Combinations.{combinationOf, frameSlots}
 use Rattle.isdbs_tables.specs.Tables.{tableRows, markAt}
 use Rattle.isdbs_runs.specs.RunsOf.{runsOf}
 use Rattle.isdbs_core.specs.Symbols.{bitRows, symbolOfBit}
@@ -22,7 +22,7 @@ placesRows t need space = tableRows t ++ (Space, ltb space need) ∷ []
 
 -- the words of the 48 slots
 abbrev pub slotWords : Table → List ℕ
-slotWords t = upto (λ s. markWord (markAt (t .entries) s)) 48
+slotWords t = upto (λ s. markWord (markAt (t .entries) s)) frameSlots
 
 -- the numbers of the runs
 abbrev pub allNumbers : Table → List ℕ

@@ -10,7 +10,7 @@ ghost use mathlib.Core.Path.{_≡_};
 ghost use Prim.Native.Nat.{_*_, _<_};
 ghost use lib.ListN.{length, getD};
 ghost use Rattle.trellis.specs.Lists.{laid};
-ghost use Rattle.isdbs_combination.specs.Combinations.{combinationOf, wordOf};
+ghost use Rattle.isdbs_combination.specs.Combinations.{combinationOf, wordOf, frameSlots};
 ghost use Rattle.isdbs_runs.specs.RunsOf.{runsOf};
 ghost use Rattle.table_c.specs.Forms.{entryOf, tableOf, markWord, runNumbers};
 ghost use Rattle.answers_c.specs.Answers.{answered, left};
@@ -51,7 +51,7 @@ fn mark_word(m: MaybeCombination) -> u8
 // The words of the 48 slots.
 #[no_mangle]
 pub extern "C" fn isdbs_slot_combinations(table: u64, out: &mut [u8]) -> u32
-    ensures answers { λ r. ⌜ r ≡ answered (placesRows (tableOf table) 48 (length (now (out .entry)))) ⌝ }
+    ensures answers { λ r. ⌜ r ≡ answered (placesRows (tableOf table) frameSlots (length (now (out .entry)))) ⌝ }
     ensures leaves { λ r. ⌜ now (out .exit) ≡ left r (laid (slotWords (tableOf table)) (now (out .entry))) (now (out .entry)) ⌝ }
 {
     let marks = isdbs_core::tmcc::slot_combinations(table_of(table));

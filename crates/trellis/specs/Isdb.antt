@@ -26,6 +26,10 @@ frameTraceback = 128
 abbrev pub frameWords : ℕ
 frameWords = run.block + frameTraceback
 
+-- "QPSK 7/8 of 48 slots: .. 68,208 steps", the longest frame
+abbrev pub longestFrame : ℕ
+longestFrame = 68208
+
 -- document 02, P12: on equality the odd predecessor is taken, and the highest best state is traced
 abbrev pub rule : Tie
 rule = upper

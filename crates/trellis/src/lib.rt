@@ -15,3 +15,6 @@ pub const TRACEBACK_LIMIT: usize = 1_024;
 pub const FRAME_TRACEBACK: usize = 128;
 
 pub const FRAME_WORDS: usize = BLOCK + FRAME_TRACEBACK;
+
+// The steps of the longest frame: QPSK 7/8 of 48 slots.
+pub const LONGEST_FRAME: usize = 68_208;

@@ -6,8 +6,7 @@ use Prim.Native.Nat.{ℕ, _+_, _*_}
 use lib.ListN.{getD}
 use lib.Ieee.{Float, nan}
 use Rattle.trellis.specs.Lists.{upto}
-use Rattle.isdbs_combination.specs.Combinations.{slotSymbols}
-use Rattle.isdbs_frame.specs.Frame.{frameSlots}
+use Rattle.isdbs_combination.specs.Combinations.{slotSymbols, frameSlots}
 use Rattle.isdbs_tables.specs.declared.Table.{Table}
 use Rattle.isdbs_points.specs.declared.Mapping.{Mapping}
 use Rattle.isdbs_points.specs.Frame.{pointAt, startState}

@@ -9,13 +9,13 @@ use lib.ListN.{length}
 use lib.Ieee.{Float}
 use Rattle.trellis.specs.Lists.{bit}
 use Rattle.isdbs_tables.specs.declared.Table.{Table}
-use Rattle.isdbs_frame.specs.Frame.{mainSymbols, frameSlots}
+use Rattle.isdbs_frame.specs.Frame.{mainSymbols}
 use Rattle.isdbs_points.specs.declared.Mapping.{Mapping}
 use Rattle.margins.specs.Margins.{Within}
 use Rattle.strain.specs.Counts.{counted}
 use Rattle.strain.specs.CountsLaws.{summed-parts, zero-summed, counted-few, counted-none}
 use Rattle.verdict.specs.Outside.{reHolds, imHolds, outside, outsideOf, outsideSum}
-use Rattle.isdbs_combination.specs.Combinations.{slotSymbols}
+use Rattle.isdbs_combination.specs.Combinations.{slotSymbols, frameSlots}
 
 -- a point is inside exactly where both its parts hold
 inside-is : (a b : Bool) → not (a && b) ≡ false → T a × T b

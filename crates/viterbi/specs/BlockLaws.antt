@@ -58,7 +58,7 @@ length-ran ys d n =
 
 module _ (tb i : ℕ) (ys : ℕ → Step) (soft : Soft ys) (d : Decoder) where
   -- inside a block
-  inside : (n : ℕ) → i % 64 + n < 64 → length (d .words) + n < 4096 + tb → stepsFrom tb i ys d n ≡ ran ys d n
+  inside : (n : ℕ) → i % 64 + n < 64 → length (d .words) + n < block + tb → stepsFrom tb i ys d n ≡ ran ys d n
   unfolding stepsFrom valuesAfter upto
   inside zero h g = ap (λ (ws : List ℕ). record { values = d .values; words = ws; bits = d .bits }) (sym (append-nil (d .words)))
   inside (suc n) h g =
@@ -73,7 +73,7 @@ module _ (tb i : ℕ) (ys : ℕ → Step) (soft : Soft ys) (d : Decoder) where
       ∙ ap (λ (ws : List ℕ). record { values = nexts (before .values) (ys n); words = ws; bits = d .bits }) (append-assoc (d .words) (runWords ys (d .values) n) (word (before .values) (ys n) ∷ []))
 
   -- a block whole
-  pub block-is : (n : ℕ) → 0 < n → i % 64 + n ≤ 64 → length (d .words) + n ≤ 4096 + tb → stepsFrom tb i ys d n ≡ blockEnd tb (i + n) (ran ys d n)
+  pub block-is : (n : ℕ) → 0 < n → i % 64 + n ≤ 64 → length (d .words) + n ≤ block + tb → stepsFrom tb i ys d n ≡ blockEnd tb (i + n) (ran ys d n)
   unfolding stepsFrom stepped valuesAfter upto
   block-is zero p h g = absurd (omega arith)
   block-is (suc n) p h g =

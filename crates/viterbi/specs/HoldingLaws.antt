@@ -12,7 +12,7 @@ use lib.Ieee.{Float}
 use borrow.Author.Tests.{leb-true, leb-false, lt-ltb}
 use Rattle.trellis.specs.Lists.{laid}
 use Rattle.trellis.specs.Step.{Step, Tie, nexts, word, best, renormalised, traced}
-use Rattle.trellis.specs.Run.{Decoder, block, settled, stepped, after, pushed, flushed, decisionsAfter}
+use Rattle.trellis.specs.Run.{Decoder, block, settled, stepped, after, pushed, flushed, decisionsAfter, tracebackLimit}
 use Rattle.viterbi.specs.declared.At.{At}
 use Rattle.viterbi.specs.Calls.{releases, holding, Holds, Stepped, Room}
 use Rattle.trellis.specs.LaidLaws.{laid-laid, take-laid, length-laid, laid-after}
@@ -28,10 +28,10 @@ bare d = record { values = d .values; words = d .words; bits = [] }
 pub over-kept : (tb : ℕ) (ws more bs dec : List ℕ) → length ws ≤ length more → decisionsAfter tb more [] (decisionsAfter tb ws bs dec) ≡ decisionsAfter tb more bs dec
 over-kept tb ws more bs dec h = laid-laid ws more (cond (ltb 0 (length bs)) (laid (replicate (block + tb) 0) dec) dec) h
 
-zeroed : (tb : ℕ) (ws dec : List ℕ) (t : Bool) → length ws ≤ 4096 + tb
+zeroed : (tb : ℕ) (ws dec : List ℕ) (t : Bool) → length ws ≤ block + tb
     → laid (replicate (block + tb) 0) (laid ws (cond t (laid (replicate (block + tb) 0) dec) dec)) ≡ laid (replicate (block + tb) 0) dec
 zeroed tb ws dec t h =
-    let l : length (replicate {A = ℕ} (4096 + tb) 0) ≡ 4096 + tb = length-replicate (4096 + tb) 0 in
+    let l : length (replicate {A = ℕ} (block + tb) 0) ≡ block + tb = length-replicate (block + tb) 0 in
     laid-laid ws (replicate (block + tb) 0) (cond t (laid (replicate (block + tb) 0) dec) dec) (omega arith) ∙ both t
   where
     both : (t : Bool) → laid (replicate (block + tb) 0) (cond t (laid (replicate (block + tb) 0) dec) dec) ≡ laid (replicate (block + tb) 0) dec
@@ -39,18 +39,18 @@ zeroed tb ws dec t h =
     both false = refl
 
 -- the decisions are cleared whatever was held
-pub cleared : (tb : ℕ) (ws bs dec : List ℕ) → length ws < 4096 + tb → laid (replicate (block + tb) 0) (decisionsAfter tb ws bs dec) ≡ laid (replicate (block + tb) 0) dec
+pub cleared : (tb : ℕ) (ws bs dec : List ℕ) → length ws < block + tb → laid (replicate (block + tb) 0) (decisionsAfter tb ws bs dec) ≡ laid (replicate (block + tb) 0) dec
 cleared tb ws bs dec h = zeroed tb ws dec (ltb 0 (length bs)) (omega arith)
 
 -- as many words as there can be
-pub over-full : (tb : ℕ) (ws more bs new dec : List ℕ) → length ws ≤ 4096 + tb → 0 < length new
+pub over-full : (tb : ℕ) (ws more bs new dec : List ℕ) → length ws ≤ block + tb → 0 < length new
     → decisionsAfter tb more new (decisionsAfter tb ws bs dec) ≡ decisionsAfter tb more (bs ++ new) dec
 over-full tb ws more bs new dec h p =
     let one : ltb 0 (length new) ≡ true = lt-ltb 0 (length new) p in
     let all : ltb 0 (length (bs ++ new)) ≡ true = lt-ltb 0 (length (bs ++ new)) (rw (length-append bs new) (omega arith)) in
     rw (one, all) (ap (λ (x : List ℕ). laid more x) (zeroed tb ws dec (ltb 0 (length bs)) h))
 
-pub over-released : (tb : ℕ) (ws more bs new dec : List ℕ) → length ws < 4096 + tb → 0 < length new
+pub over-released : (tb : ℕ) (ws more bs new dec : List ℕ) → length ws < block + tb → 0 < length new
     → decisionsAfter tb more new (decisionsAfter tb ws bs dec) ≡ decisionsAfter tb more (bs ++ new) dec
 over-released tb ws more bs new dec h p = over-full tb ws more bs new dec (omega arith) p
 
@@ -77,13 +77,13 @@ holding-is tb d dec₀ out₀ pm held count dec out h =
 
 -- the lent slices keep their lengths
 pub holds-lengths : (tb : ℕ) (d : Decoder) (dec₀ out₀ : List ℕ) (pm : List Float) (held count : ℕ) (dec out : List ℕ)
-    → length (d .words) < 4096 + tb → 4096 + tb ≤ length dec₀ → length (d .bits) ≤ length out₀
+    → length (d .words) < block + tb → block + tb ≤ length dec₀ → length (d .bits) ≤ length out₀
     → Holds tb dec₀ out₀ d pm held count dec out → (length dec ≡ length dec₀) × (length out ≡ length out₀)
 holds-lengths tb d dec₀ out₀ pm held count dec out few fits room h =
     (ap length (h .words) ∙ under (ltb 0 (length (d .bits))), ap length (h .bits) ∙ length-laid (d .bits) out₀ room)
   where
-    zeros : length (replicate {A = ℕ} (4096 + tb) 0) ≡ 4096 + tb
-    zeros = length-replicate (4096 + tb) 0
+    zeros : length (replicate {A = ℕ} (block + tb) 0) ≡ block + tb
+    zeros = length-replicate (block + tb) 0
 
     base : (t : Bool) → length (cond t (laid (replicate (block + tb) 0) dec₀) dec₀) ≡ length dec₀
     base true = length-laid (replicate (block + tb) 0) dec₀ (rw zeros fits)
@@ -95,7 +95,7 @@ holds-lengths tb d dec₀ out₀ pm held count dec out few fits room h =
 module _ (half : ℕ) (label : ℕ → ℕ → ℕ) (rule : Tie) where
   module _ (tb i : ℕ) (x : Step) (d : Decoder) (dec₀ out₀ : List ℕ) where
     -- a step adds its bits to those put out before
-    after-kept : (r : At) (pm pm′ : List Float) (count : ℕ) (dec dec′ out out′ : List ℕ) → length (d .words) + 1 < 4096 + tb
+    after-kept : (r : At) (pm pm′ : List Float) (count : ℕ) (dec dec′ out out′ : List ℕ) → length (d .words) + 1 < block + tb
         → count ≡ length (d .bits)
         → dec ≡ decisionsAfter tb (d .words) (d .bits) dec₀ → out ≡ laid (d .bits) out₀
         → Stepped tb (stepped half label rule tb i x (bare d)) count r pm′ dec dec′ out out′ → Holds tb dec₀ out₀ (stepped half label rule tb i x d) pm′ (r .held) (r .count) dec′ out′
@@ -110,7 +110,7 @@ module _ (half : ℕ) (label : ℕ → ℕ → ℕ) (rule : Tie) where
           bits = s′ .bits ∙ take-append-drop count out ∙ eo;
         })
 
-    after-released : (r : At) (pm pm′ : List Float) (count : ℕ) (dec dec′ out out′ : List ℕ) → length (d .words) < 4096 + tb → 4096 + tb ≤ length (d .words) + 1
+    after-released : (r : At) (pm pm′ : List Float) (count : ℕ) (dec dec′ out out′ : List ℕ) → length (d .words) < block + tb → block + tb ≤ length (d .words) + 1
         → count ≡ length (d .bits)
         → dec ≡ decisionsAfter tb (d .words) (d .bits) dec₀ → out ≡ laid (d .bits) out₀
         → Stepped tb (stepped half label rule tb i x (bare d)) count r pm′ dec dec′ out out′ → Holds tb dec₀ out₀ (stepped half label rule tb i x d) pm′ (r .held) (r .count) dec′ out′
@@ -121,7 +121,7 @@ module _ (half : ℕ) (label : ℕ → ℕ → ℕ) (rule : Tie) where
         let new = take block (traced half ws b) in
         let l : length ws ≡ length (d .words) + 1 = length-append (d .words) (word half label rule (d .values) x ∷ []) in
         let lt : length (traced half ws b) ≡ length ws = length-traced half ws b in
-        let ln : length new ≡ 4096 = length-take-le block (traced half ws b) (omega arith) in
+        let ln : length new ≡ block = length-take-le block (traced half ws b) (omega arith) in
         rw (releasing half label rule tb i x d g) (record {
           values = s′ .values;
           held-is = s′ .held-is;
@@ -133,23 +133,23 @@ module _ (half : ℕ) (label : ℕ → ℕ → ℕ) (rule : Tie) where
 
   -- one step of a call
   pub holds-next : (tb i : ℕ) (x : Step) (d : Decoder) (dec₀ out₀ : List ℕ) (r : At) (pm pm′ : List Float) (held count : ℕ) (dec dec′ out out′ : List ℕ)
-      → length (d .words) < 4096 + tb
+      → length (d .words) < block + tb
       → Holds tb dec₀ out₀ d pm held count dec out
       → Stepped tb (stepped half label rule tb i x (holding pm held dec)) count r pm′ dec dec′ out out′
       → Holds tb dec₀ out₀ (stepped half label rule tb i x d) pm′ (r .held) (r .count) dec′ out′
   holds-next tb i x d dec₀ out₀ r pm pm′ held count dec dec′ out out′ few h s =
-      by-case (leb (4096 + tb) (length (d .words) + 1)) refl (rw (holding-is tb d dec₀ out₀ pm held count dec out h) at s)
+      by-case (leb (block + tb) (length (d .words) + 1)) refl (rw (holding-is tb d dec₀ out₀ pm held count dec out h) at s)
     where
-      by-case : (t : Bool) → leb (4096 + tb) (length (d .words) + 1) ≡ t → Stepped tb (stepped half label rule tb i x (bare d)) count r pm′ dec dec′ out out′
+      by-case : (t : Bool) → leb (block + tb) (length (d .words) + 1) ≡ t → Stepped tb (stepped half label rule tb i x (bare d)) count r pm′ dec dec′ out out′
           → Holds tb dec₀ out₀ (stepped half label rule tb i x d) pm′ (r .held) (r .count) dec′ out′
       by-case false e b =
-          after-kept tb i x d dec₀ out₀ r pm pm′ count dec dec′ out out′ (leb-false (4096 + tb) (length (d .words) + 1) e) (h .count-is) (h .words) (h .bits) b
+          after-kept tb i x d dec₀ out₀ r pm pm′ count dec dec′ out out′ (leb-false (block + tb) (length (d .words) + 1) e) (h .count-is) (h .words) (h .bits) b
       by-case true e b =
-          after-released tb i x d dec₀ out₀ r pm pm′ count dec dec′ out out′ few (leb-true (4096 + tb) (length (d .words) + 1) e) (h .count-is) (h .words) (h .bits) b
+          after-released tb i x d dec₀ out₀ r pm pm′ count dec dec′ out out′ few (leb-true (block + tb) (length (d .words) + 1) e) (h .count-is) (h .words) (h .bits) b
 
   -- The steps xs of a call, from a decoder d of few words, where there is space for all the bits of n steps
-  module _ (tb : ℕ) (xs : ℕ → Step) (d : Decoder) (dec₀ out₀ : List ℕ) (n : ℕ) (least : 1 ≤ tb) (most : tb ≤ 1024) (few : length (d .words) < 4096 + tb)
-      (fits : 4096 + tb ≤ length dec₀) (space : length (d .bits) + 4096 * releases tb (length (d .words)) n ≤ length out₀) where
+  module _ (tb : ℕ) (xs : ℕ → Step) (d : Decoder) (dec₀ out₀ : List ℕ) (n : ℕ) (least : 1 ≤ tb) (most : tb ≤ tracebackLimit) (few : length (d .words) < block + tb)
+      (fits : block + tb ≤ length dec₀) (space : length (d .bits) + block * releases tb (length (d .words)) n ≤ length out₀) where
     module _ (pm : List Float) (held count : ℕ) (dec out : List ℕ) (i : ℕ) (h : Holds tb dec₀ out₀ (after half label rule tb xs d i) pm held count dec out) where
       pub steps-lengths : i ≤ n → (length dec ≡ length dec₀) × (length out ≡ length out₀)
       steps-lengths g =
@@ -160,7 +160,7 @@ module _ (half : ℕ) (label : ℕ → ℕ → ℕ) (rule : Tie) where
           holds-lengths tb (after half label rule tb xs d i) dec₀ out₀ pm held count dec out (c .few) fits (omega arith) h
 
       -- what `advance` asks at step i
-      pub steps-ready : i < n → (1 ≤ tb) × (tb ≤ 1024) × (held < 4096 + tb) × (4096 + tb ≤ length dec) × (count ≤ length out) × Room tb held count (length out)
+      pub steps-ready : i < n → (1 ≤ tb) × (tb ≤ tracebackLimit) × (held < block + tb) × (block + tb ≤ length dec) × (count ≤ length out) × Room tb held count (length out)
       steps-ready g =
           let c = counted half label rule tb xs d least most few i in
           let b = c .bits-out in

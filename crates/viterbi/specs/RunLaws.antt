@@ -42,14 +42,14 @@ module _ (half : ℕ) (label : ℕ → ℕ → ℕ) (rule : Tie) where
   -- ---- steps
   -- a step puts its bits after those of an earlier call
   step-then : (tb i : ℕ) (x : Step) (a d : Decoder) → stepped half label rule tb i x (then a d) ≡ then a (stepped half label rule tb i x d)
-  step-then tb i x a d = by-case (leb (4096 + tb) (length (d .words) + 1)) refl
+  step-then tb i x a d = by-case (leb (block + tb) (length (d .words) + 1)) refl
     where
-      by-case : (t : Bool) → leb (4096 + tb) (length (d .words) + 1) ≡ t → stepped half label rule tb i x (then a d) ≡ then a (stepped half label rule tb i x d)
+      by-case : (t : Bool) → leb (block + tb) (length (d .words) + 1) ≡ t → stepped half label rule tb i x (then a d) ≡ then a (stepped half label rule tb i x d)
       by-case false e =
-          let g = leb-false (4096 + tb) (length (d .words) + 1) e in
+          let g = leb-false (block + tb) (length (d .words) + 1) e in
           unreleased half label rule tb i x (then a d) g ∙ ap (λ (y : Decoder). then a y) (sym (unreleased half label rule tb i x d g))
       by-case true e =
-          let g = leb-true (4096 + tb) (length (d .words) + 1) e in
+          let g = leb-true (block + tb) (length (d .words) + 1) e in
           let ws = grown half label rule (d .values) (d .words) x in
           let pm = settled half label rule i x (nexts half label rule (d .values) x) in
           releasing half label rule tb i x (then a d) g

@@ -27,7 +27,7 @@ module _ (half : ℕ) (label : ℕ → ℕ → ℕ) (rule : Tie) where
       → stepped half label rule tb i x d ≡ record { values = settled half label rule i x (nexts half label rule (d .values) x); words = grown (d .values) (d .words) x; bits = d .bits }
   unfolding stepped released
   unreleased tb i x d h =
-      rw (lt-leb (4096 + tb) (length (grown (d .values) (d .words) x)) (rw (length-append (d .words) (word half label rule (d .values) x ∷ [])) h)) refl
+      rw (lt-leb (block + tb) (length (grown (d .values) (d .words) x)) (rw (length-append (d .words) (word half label rule (d .values) x ∷ [])) h)) refl
 
   -- a step that releases
   pub releasing : (tb i : ℕ) (x : Step) (d : Decoder) → block + tb ≤ length (d .words) + 1
@@ -39,7 +39,7 @@ module _ (half : ℕ) (label : ℕ → ℕ → ℕ) (rule : Tie) where
       }
   unfolding stepped released
   releasing tb i x d h =
-      rw (le-leb (4096 + tb) (length (grown (d .values) (d .words) x)) (rw (length-append (d .words) (word half label rule (d .values) x ∷ [])) h)) refl
+      rw (le-leb (block + tb) (length (grown (d .values) (d .words) x)) (rw (length-append (d .words) (word half label rule (d .values) x ∷ [])) h)) refl
 
   module _ (tb i : ℕ) (x : Step) (pm pm′ : List Float) (held count w : ℕ) (dec out : List ℕ) (inside : held < length dec)
       (values-are : pm′ ≡ settled half label rule i x (nexts half label rule pm x)) (word-is : w ≡ word half label rule pm x) where

@@ -10,14 +10,14 @@ ghost use Rattle.trellis.specs.Lists.{laid};
 ghost use Rattle.trellis.specs.Code.{isdb, output, moved};
 ghost use Rattle.trellis.specs.Parity.{ones};
 ghost use Rattle.trellis.specs.Step.{renormalised};
-ghost use Rattle.trellis.specs.Run.{startAt, startUnknown};
+ghost use Rattle.trellis.specs.Run.{startAt, startUnknown, tracebackLimit, block};
 ghost use Rattle.viterbi.specs.Calls.{stepOf, nexts, word, bestState, traced, settle, stepOnce, holding, releases, Room, Stepped, pairSteps, fourSteps, Carried, Ended};
 pub use acs::renormalise;
-use release::BLOCK;
 pub use release::clear;
 pub use release::move_down;
 use release::release;
 use release::trace;
+use trellis::BLOCK;
 
 // The outputs X and Y for the input 0: that of the state s is bit s. Both generators tap the input, so the input 1 gives the other bit.
 const X_OUTPUTS: u64 = 0x55aa_aa55_aa55_55aa;
@@ -104,7 +104,7 @@ pub fn advance(
     decisions: &mut [u64],
     out: &mut [u8],
 ) -> At
-    requires { ⌜ (1 ≤ traceback) × (traceback ≤ 1024) × (at .held < 4096 + traceback) × (4096 + traceback ≤ length (now decisions)) × (at .count ≤ length (now out)) × Room traceback (at .held) (at .count) (length (now out)) ⌝ }
+    requires { ⌜ (1 ≤ traceback) × (traceback ≤ tracebackLimit) × (at .held < block + traceback) × (block + traceback ≤ length (now decisions)) × (at .count ≤ length (now out)) × Room traceback (at .held) (at .count) (length (now out)) ⌝ }
     ensures { λ r. ⌜ Stepped traceback (stepOnce traceback i (stepOf x) (holding (now (pm .entry)) (at .held) (now (decisions .entry)))) (at .count) r (now (pm .exit)) (now (decisions .entry)) (now (decisions .exit)) (now (out .entry)) (now (out .exit)) ⌝ }
 {
     let held = at.held;
@@ -142,7 +142,7 @@ fn end_block(
     decisions: &mut [u64],
     out: &mut [u8],
 ) -> At
-    requires { ⌜ (1 ≤ traceback) × (traceback ≤ 1024) × (at .held ≤ 4096 + traceback) × (4096 + traceback ≤ length (now decisions)) × (at .count ≤ length (now out)) × (at .held ≡ 4096 + traceback → at .count + 4096 ≤ length (now out)) ⌝ }
+    requires { ⌜ (1 ≤ traceback) × (traceback ≤ tracebackLimit) × (at .held ≤ block + traceback) × (block + traceback ≤ length (now decisions)) × (at .count ≤ length (now out)) × (at .held ≡ block + traceback → at .count + block ≤ length (now out)) ⌝ }
     ensures { λ r. ⌜ Ended traceback i (now (pm .entry)) at (now (decisions .entry)) (now (out .entry)) r (now (pm .exit)) (now (decisions .exit)) (now (out .exit)) ⌝ }
 {
     let held = at.held;
@@ -169,7 +169,7 @@ pub fn run_pairs(
     decisions: &mut [u64],
     out: &mut [u8],
 ) -> At
-    requires { ⌜ (1 ≤ traceback) × (traceback ≤ 1024) × (at .held < 4096 + traceback) × (4096 + traceback ≤ length (now decisions)) × (at .count + 4096 * releases traceback (at .held) n ≤ length (now out)) × (i + n < 2 ^ 64) × (2 * n ≤ length (now pairs)) ⌝ }
+    requires { ⌜ (1 ≤ traceback) × (traceback ≤ tracebackLimit) × (at .held < block + traceback) × (block + traceback ≤ length (now decisions)) × (at .count + block * releases traceback (at .held) n ≤ length (now out)) × (i + n < 2 ^ 64) × (2 * n ≤ length (now pairs)) ⌝ }
     ensures { λ r. ⌜ Carried traceback (pairSteps (now (pairs .entry))) i n (now (pm .entry)) at (now (decisions .entry)) (now (out .entry)) r (now (pm .exit)) (now (decisions .exit)) (now (out .exit)) ⌝ }
 {
     let mut now_at = at;
@@ -200,7 +200,7 @@ pub fn run_fours(
     decisions: &mut [u64],
     out: &mut [u8],
 ) -> At
-    requires { ⌜ (1 ≤ traceback) × (traceback ≤ 1024) × (at .held < 4096 + traceback) × (4096 + traceback ≤ length (now decisions)) × (at .count + 4096 * releases traceback (at .held) n ≤ length (now out)) × (i + n < 2 ^ 64) × (4 * n ≤ length (now metrics)) ⌝ }
+    requires { ⌜ (1 ≤ traceback) × (traceback ≤ tracebackLimit) × (at .held < block + traceback) × (block + traceback ≤ length (now decisions)) × (at .count + block * releases traceback (at .held) n ≤ length (now out)) × (i + n < 2 ^ 64) × (4 * n ≤ length (now metrics)) ⌝ }
     ensures { λ r. ⌜ Carried traceback (fourSteps (now (metrics .entry))) i n (now (pm .entry)) at (now (decisions .entry)) (now (out .entry)) r (now (pm .exit)) (now (decisions .exit)) (now (out .exit)) ⌝ }
 {
     let mut now_at = at;
@@ -222,8 +222,8 @@ pub fn run_fours(
 
 // Whether `space` places are too few for the bits that n steps release.
 pub fn few_places(traceback: usize, held: usize, n: usize, space: usize) -> bool
-    requires { ⌜ (1 ≤ traceback) × (traceback ≤ 1024) × (held < 4096 + traceback) ⌝ }
-    ensures { λ r. ⌜ r ≡ ltb space (4096 * releases traceback held n) ⌝ }
+    requires { ⌜ (1 ≤ traceback) × (traceback ≤ tracebackLimit) × (held < block + traceback) ⌝ }
+    ensures { λ r. ⌜ r ≡ ltb space (block * releases traceback held n) ⌝ }
 {
     let blocks = n / BLOCK + (n % BLOCK + held + (BLOCK - traceback)) / BLOCK;
     if blocks <= 1 {

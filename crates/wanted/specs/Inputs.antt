@@ -13,7 +13,7 @@ use lib.Seq.{getD-take}
 use lib.Ieee.{Float, nan}
 use Rattle.trellis.specs.ListLaws.{getD-upto}
 use Rattle.trellis.specs.RunLaws.{label-under}
-use Rattle.trellis.specs.Code.{isdb, label, stateAt}
+use Rattle.trellis.specs.Code.{isdb, stateAt}
 use Rattle.isdbs_combination.specs.declared.Combination.{Combination}
 use Rattle.isdbs_combination.specs.declared.Modulation.{Modulation}
 use Rattle.isdbs_combination.specs.declared.Modulation.the-variants.{Bpsk, Qpsk, Tc8psk}
@@ -35,6 +35,7 @@ use Rattle.isdbs_metrics.specs.Reading.{partOf}
 use Rattle.wanted.specs.ReadOff.{shown, hard, psk8Label, which, bitAs, bitBy, inputFrom, readState, readInput}
 use Rattle.wanted.specs.Shown.{coded-input, hard-one, hard-part, label-back}
 use Rattle.wanted.specs.Wanted.{Encodes}
+use Rattle.trellis.specs.Isdb
 
 -- ---- the coded bit that is read is sent
 pub which-small : (g : Segment) (k : ℕ) → which g k < 2
@@ -179,7 +180,7 @@ module _ (t : Table) (ok : TableAccepted t) (m : Mapping) (first : Bool) (re im 
       let step : atStep 0 (inputFrom m z (encoder n)) t (g .step + k) ≡ inputFrom m z (encoder n) g k = at-step t 0 (inputFrom m z (encoder n)) g (f .member) k (f .small) in
       let shows : bitBy m z (modulationOf (g .combination)) g k ≡ codedBit (which g k) (at n) = bit-shown g (f .member) k (f .small) ∙ ap (λ (x : ℕ). codedBit (which g k) (at x)) (sym N) in
       ap (atStep 0 (inputFrom m z (encoder n)) t) N ∙ step
-      ∙ ap (λ (x : ℕ). (x + codedBit (which g k) (label isdb 0 (encoder n))) % 2) shows
+      ∙ ap (λ (x : ℕ). (x + codedBit (which g k) (Isdb.labels 0 (encoder n))) % 2) shows
       ∙ coded-input (which g k) (getD us n 0) (encoder n) (input-small t load n l)
 
   state-is : (n : ℕ) → n ≤ frameSteps t → readState m z t (startState first) n ≡ encoder n

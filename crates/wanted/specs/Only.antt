@@ -9,12 +9,11 @@ use native.Mathlib.Omega.{arith}
 use lib.Dec.{eqb, lit<}
 use lib.ListN.{getD, length}
 use lib.Ieee.{Float, nan}
-use Rattle.trellis.specs.Code.{isdb, label}
 use Rattle.isdbs_combination.specs.declared.Modulation.{Modulation}
 use Rattle.isdbs_combination.specs.declared.Modulation.the-variants.{Bpsk, Qpsk, Tc8psk}
 use Rattle.isdbs_tables.specs.declared.Table.{Table}
 use Rattle.isdbs_frame.specs.Frame.{mainSymbols}
-use Rattle.isdbs_combination.specs.Combinations.{modulationOf, unitOf, slotSteps}
+use Rattle.isdbs_combination.specs.Combinations.{modulationOf, unitOf, slotSteps, slotBits}
 use Rattle.isdbs_tables.specs.Tables.{TableAccepted}
 use Rattle.isdbs_runs.specs.PlanLaws.{table-laid}
 use Rattle.isdbs_runs.specs.RunsOf.{loadBytes}
@@ -32,6 +31,7 @@ use Rattle.wanted.specs.ReadOff.{shown, psk8Label, which, bitBy, inputFr
 use Rattle.wanted.specs.Wanted.{Encodes, Wants, Unwanted}
 use Rattle.wanted.specs.Shown.{label-small}
 use Rattle.wanted.specs.Inputs.{input-is, tc-uncoded}
+use Rattle.trellis.specs.Isdb
 
 -- ---- what is read off is a full load, whatever the points are
 among-small : (first size : Segment → ℕ) (f : Segment → ℕ → ℕ) → ((g : Segment) (k : ℕ) → f g k < 2) → (gs : List Segment) (k : ℕ) → among first size 0 f gs k < 2
@@ -41,7 +41,7 @@ module _ (m : Mapping) (z : ℕ → Cplx) (t : Table) (s : ℕ) where
   pub read-small : (n : ℕ) → readInput m z t s n < 2
   read-small n =
       among-small (λ g. g .step) (λ g. g .steps) (inputFrom m z (readState m z t s n))
-      (λ g k. mod-lt (bitBy m z (modulationOf (g .combination)) g k + codedBit (which g k) (label isdb 0 (readState m z t s n))) (lit< tt)) (segments t) n
+      (λ g k. mod-lt (bitBy m z (modulationOf (g .combination)) g k + codedBit (which g k) (Isdb.labels 0 (readState m z t s n))) (lit< tt)) (segments t) n
 
   by-small : (md : Modulation) (g : Segment) (i : ℕ) → readBy m z t s md g i < 2
   unfolding readBy
@@ -76,7 +76,7 @@ module _ (t : Table) (ok : TableAccepted t) (m : Mapping) (first : Bool) (re im 
     unfolding readBy
     bit-in k K = go (kind (g .combination))
       where
-        plain : slotSteps (g .combination) ≡ 1624 → k < g .steps
+        plain : slotSteps (g .combination) ≡ slotBits → k < g .steps
         plain q = let o = table-whole t ok g i in let s : g .steps ≡ g .bits = o .steps-are ∙ ap (λ (x : ℕ). x * (o .units * unitOf (g .combination) .valid)) q ∙ sym (o .bits-are) in omega arith
 
         half : Pairs (g .combination) → k / 2 < g .steps

@@ -8,7 +8,7 @@ use lib.ListN.{getD, length}
 use lib.Dec.{eqb, ltb}
 use lib.Ieee.{Float, nan, lt}
 use Rattle.trellis.specs.Lists.{upto, bit}
-use Rattle.trellis.specs.Code.{isdb, label, moved}
+use Rattle.trellis.specs.Code.{moved}
 use Rattle.isdbs_combination.specs.declared.Modulation.{Modulation}
 use Rattle.isdbs_combination.specs.declared.Modulation.the-variants.{Bpsk, Qpsk, Tc8psk}
 use Rattle.isdbs_tables.specs.declared.Table.{Table}
@@ -21,6 +21,7 @@ use Rattle.isdbs_points.specs.Layout.{Segment, orderOf, placeIn, atStep, atBit,
 use Rattle.isdbs_points.specs.Frame.{codedBit, startState}
 use Rattle.isdbs_points.specs.OrderLaws.{mother, number}
 use Rattle.isdbs_metrics.specs.Reading.{partOf}
+use Rattle.trellis.specs.Isdb
 
 -- point k of the lent parts, its conjugation undone
 abbrev pub shown : Mapping → List Float → List Float → ℕ → Cplx
@@ -56,7 +57,7 @@ module _ (m : Mapping) (z : ℕ → Cplx) where
 
   -- the input of step k of a segment, from the state s
   abbrev pub inputFrom : ℕ → Segment → ℕ → ℕ
-  inputFrom s g k = (bitBy (modulationOf (g .combination)) g k + codedBit (which g k) (label isdb 0 s)) % 2
+  inputFrom s g k = (bitBy (modulationOf (g .combination)) g k + codedBit (which g k) (Isdb.labels 0 s)) % 2
 
   -- ---- the frame, from the state s
   module _ (t : Table) (s : ℕ) where

@@ -14,6 +14,7 @@ use Rattle.isdbs_points.specs.Points.{point, zero64, one64, root64, psk8Of, qps
 use Rattle.isdbs_points.specs.Frame.{codedBit}
 use Rattle.isdbs_metrics.specs.Reading.{partOf}
 use Rattle.wanted.specs.ReadOff.{hard, bySign, psk8Label}
+use Rattle.trellis.specs.Isdb
 
 -- ---- a generator that taps the input: of a code of any length, the input is the output exclusive-or the output for the input 0
 pub output-input : (c : Code) (g u s : ℕ) → stage c g 0 ≡ 1 → u < 2 → (output c g u s + output c g 0 s) % 2 ≡ u
@@ -25,18 +26,18 @@ unfolding output
 output-small c g u s = omega arith
 
 -- X and Y of a label
-x-of : (u s : ℕ) → label isdb u s / 2 ≡ output isdb (isdb .g1) u s
+x-of : (u s : ℕ) → Isdb.labels u s / 2 ≡ output isdb (isdb .g1) u s
 unfolding label
 x-of u s = omega (arith, output-small isdb (isdb .g2) u s)
 
-y-of : (u s : ℕ) → label isdb u s % 2 ≡ output isdb (isdb .g2) u s
+y-of : (u s : ℕ) → Isdb.labels u s % 2 ≡ output isdb (isdb .g2) u s
 unfolding label
 y-of u s = omega (arith, output-small isdb (isdb .g2) u s)
 
-pub coded-input : (b u s : ℕ) → u < 2 → (codedBit b (label isdb u s) + codedBit b (label isdb 0 s)) % 2 ≡ u
+pub coded-input : (b u s : ℕ) → u < 2 → (codedBit b (Isdb.labels u s) + codedBit b (Isdb.labels 0 s)) % 2 ≡ u
 coded-input b u s h = go (eqb (b % 2) 0)
   where
-    go : (t : Bool) → (cond t (label isdb u s / 2) (label isdb u s % 2) + cond t (label isdb 0 s / 2) (label isdb 0 s % 2)) % 2 ≡ u
+    go : (t : Bool) → (cond t (Isdb.labels u s / 2) (Isdb.labels u s % 2) + cond t (Isdb.labels 0 s / 2) (Isdb.labels 0 s % 2)) % 2 ≡ u
     go true = rw (x-of u s, x-of 0 s) (output-input isdb (isdb .g1) u s refl h)
     go false = rw (y-of u s, y-of 0 s) (output-input isdb (isdb .g2) u s refl h)
 

@@ -85,8 +85,8 @@ fn search_arrays(
     m: Mapping,
     first: bool,
     load: &mut [u8; 9744],
-    xs: &mut [f64; 38976],
-    ys: &mut [f64; 38976],
+    xs: &mut [f64; MAIN_SYMBOLS],
+    ys: &mut [f64; MAIN_SYMBOLS],
     bytes: &mut [u8],
 ) -> bool
     requires { ⌜ Planned p × (mainSymbols ≤ length (now re)) × (mainSymbols ≤ length (now im)) × (loadBytes (p .table) ≤ length (now bytes)) ⌝ }
@@ -101,8 +101,8 @@ fn find_load(p: Plan, re: &[f64], im: &[f64], m: Mapping, first: bool, bytes: &m
     ensures { λ r. ⌜ Searched (p .table) m first (now (re .entry)) (now (im .entry)) r (now (bytes .entry)) (now (bytes .exit)) ⌝ }
 {
     let mut load = [0u8; 9744];
-    let mut xs = [0.0f64; 38976];
-    let mut ys = [0.0f64; 38976];
+    let mut xs = [0.0f64; MAIN_SYMBOLS];
+    let mut ys = [0.0f64; MAIN_SYMBOLS];
     search_arrays(p, re, im, m, first, &mut load, &mut xs, &mut ys, bytes)
 }
 

@@ -9,7 +9,7 @@ use Rattle.refusal.specs.Rows.{Row}
 use Rattle.refusal.specs.RowLaws.{refused-by, passed-by}
 use Rattle.refusal.specs.declared.Answer.the-variants.{Space}
 use Rattle.isdbs_phy.specs.DecodeRows.{pointRows}
-use Rattle.isdbs_frame.specs.Frame.{frameSlots}
+use Rattle.isdbs_combination.specs.Combinations.{frameSlots}
 use Rattle.refusal.proofs.Told.{told}
 use Rattle.judge.proofs.lent_answer.Statement.{statement}
 use Rattle.judge.proofs.lent_answer.Tie as tie
