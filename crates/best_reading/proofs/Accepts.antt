@@ -17,7 +17,7 @@ use Rattle.refusal.specs.declared.Answer.the-variants.{Accepted, State, Length,
 use Rattle.trellis.specs.Isdb
 use Rattle.trellis.specs.Step.{four}
 use Rattle.trellis.specs.Run.{Decoder, block}
-use Rattle.best_path.specs.Paths.{longest, bound, Integer, Quadruples, Reading}
+use Rattle.best_path.specs.Paths.{longest, bound, Integer, Quadruples, Reading, quadruple}
 use Rattle.best_path.specs.Exact.{Whole, le-from}
 use Rattle.best_path.specs.Calls.{readBits, isdb-given, isdb-unknown}
 use Rattle.best_path.specs.Integers.{integer-whole, hi-most, lo-most}
@@ -25,7 +25,7 @@ use Rattle.refusal.specs.RowLaws as row
 use Rattle.refusal.specs.RowLaws.{neither}
 use borrow.Author.Tests.{ltb-false}
 use Rattle.isdb_fec.specs.Values.{within, someBeyond, streamLimit}
-use Rattle.isdb_fec.specs.Rows.{badState, pushMetricsRows, flushRows, stepsShort, releases}
+use Rattle.isdb_fec.specs.Rows.{badState, pushMetricsRows, flushRows, stepsShort, releases, readingRows}
 use Rattle.isdb_fec.specs.Calls.{fourSteps, flush}
 use Rattle.viterbi.specs.CountLaws.{counted, releases-le}
 use Rattle.call_ranges.specs.Inside.{none-beyond}
@@ -34,7 +34,7 @@ use Rattle.call_ranges.specs.Closed.{Fit, soft-fit, four-soft, values-inside, r
 use Rattle.call_ranges.specs.Answers.{stream-answer}
 use Rattle.best_reading.specs.declared.Start.{Start}
 use Rattle.best_reading.specs.declared.Start.the-variants.{Given, Unknown}
-use Rattle.best_reading.specs.Calls.{startValues, StartsIn, fresh, read, stateOf, readingRows, quadruple}
+use Rattle.best_reading.specs.Calls.{startValues, StartsIn, fresh, read, stateOf}
 
 -- ---- tests that fail
 is-false : (b : Bool) → (T b → ⊥) → b ≡ false

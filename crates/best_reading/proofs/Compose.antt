@@ -20,13 +20,13 @@ use Rattle.best_path.specs.Paths.{Reading}
 use Rattle.trellis.specs.ListLaws.{length-upto}
 use Rattle.isdb_fec.specs.declared.conv.ViterbiDecoder.{ViterbiDecoder}
 use Rattle.isdb_fec.specs.declared.conv.Released.{Released}
-use Rattle.isdb_fec.specs.Rows.{pushMetricsRows, flushRows}
+use Rattle.isdb_fec.specs.Rows.{pushMetricsRows, flushRows, readingRows}
 use Rattle.isdb_fec.specs.Calls.{fourSteps, call, flush, handed, bestState, Fresh, Zero, Leaves, Flushes, Unchanged, Either}
 use Rattle.refusal.specs.RowLaws.{decided, passed}
 use Rattle.trellis.specs.LaidLaws.{take-laid, laid-after}
 use Rattle.best_reading.specs.declared.Start.{Start}
 use Rattle.call_ranges.specs.Finished.{Finished}
-use Rattle.best_reading.specs.Calls.{startValues, StartsIn, fresh, read, stateOf, readingRows, Flushed, Left, GreatestSum}
+use Rattle.best_reading.specs.Calls.{startValues, StartsIn, fresh, read, stateOf, Flushed, Left, GreatestSum}
 use Rattle.best_reading.proofs.Accepts.{same-rows, short-rows, short-refused, flush-accepts, whole-accepts, reads}
 
 -- the fresh decoder

@@ -11,7 +11,7 @@ use Rattle.refusal.specs.Rows.{Row, firstRow}
 use Rattle.refusal.specs.declared.Answer.the-variants.{Accepted, Length, Sample, Space}
 use Rattle.trellis.specs.Isdb
 use Rattle.trellis.specs.Run.{Decoder, block, startAt, startUnknown}
-use Rattle.best_path.specs.Paths.{longest, Quadruples, Reading}
+use Rattle.best_path.specs.Paths.{longest, quadruple, Quadruples, Reading}
 use Rattle.isdb_fec.specs.declared.conv.ViterbiDecoder.{ViterbiDecoder}
 use Rattle.isdb_fec.specs.declared.conv.Released.{Released}
 use Rattle.isdb_fec.specs.Values.{someBeyond, streamLimit}
@@ -38,12 +38,6 @@ fresh start = record { pm = startValues start; held = 0; traceback = frameTraceb
 abbrev pub read : Start → List Float → Decoder
 read start xs = call frameTraceback (fourSteps xs) (record { values = startValues start; words = []; bits = [] }) (length xs / 4)
 
--- the rows of a reading that is lent `decisions` words and `out` places: 5 "metrics not in fours"; 7 "not finite; beyond .. 1,048,576 for a
--- stream value"; 9, a place for each bit, and "decisions always need 4,096 + traceback"
-abbrev pub readingRows : List Float → ℕ → ℕ → List Row
-readingRows xs decisions out =
-    (Length, not (eqb (length xs % 4) 0)) ∷ (Sample, someBeyond streamLimit xs) ∷ (Space, ltb out (length xs / 4) || ltb decisions (block + frameTraceback)) ∷ []
-
 -- the state of a decoder of traceback 128 whose words are held in the lent decisions
 abbrev pub stateOf : Decoder → ViterbiDecoder
 stateOf d = record { pm = d .values; held = length (d .words); traceback = frameTraceback }
@@ -61,10 +55,6 @@ pub record Flushed (before after : Released) (decisions₀ decisions out₀ out 
 abbrev pub Left : Start → List Float → Released → List ℕ → List ℕ → List ℕ → List ℕ → Type 0
 Left start xs r decisions₀ decisions out₀ out =
     Either (r .answer) (Finished frameTraceback (flush (read start xs) .bits) (read start xs) r decisions₀ decisions out₀ out) (Unchanged (fresh start) r decisions₀ decisions out₀ out)
-
--- quadruple k of a flat list
-abbrev pub quadruple : List Float → ℕ → List Float
-quadruple xs k = getD xs (4 * k) nan ∷ getD xs (4 * k + 1) nan ∷ getD xs (4 * k + 2) nan ∷ getD xs (4 * k + 3) nan ∷ []
 
 -- Viterbi's rule: of at most 4,096 quadruples of whole numbers within 16 of 0, with memory enough lent, the reading is accepted, has a bit for
 -- each quadruple, and its bits are the inputs of the first path of greatest sum from the given start, or from any where none is given

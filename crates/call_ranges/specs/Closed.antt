@@ -31,10 +31,10 @@ use Rattle.isdb_fec.specs.Rows.{badTraceback, badState, freshRows, handedRows, 
 use Rattle.isdb_fec.specs.Calls.{pairSteps, fourSteps, knownSteps, call, steps, handed, Fresh, Leaves, Emits}
 use Rattle.viterbi.specs.CountLaws.{counted}
 use Rattle.refusal.specs.RowLaws.{passed}
-use Rattle.call_ranges.specs.Numbers.{stepMost, streamMost, ruledOut, deepest, leastPath, pathMost, stream-limits, stream-deep, path-limit, stream-limit, least-path}
 use Rattle.call_ranges.specs.Inside.{inside-within, within-inside, none-beyond, all-inside}
 use Rattle.call_ranges.specs.Reached as reached
 use Rattle.call_ranges.specs.Reached.{Reached, Floats, with-state, unknown-state}
+use Rattle.call_ranges.specs.Numbers.{ruledOut, stepMost, streamMost, deepest, leastPath, pathMost, stream-limits, stream-deep, path-limit, stream-limit, least-path}
 
 -- what holds of every such state
 pub record Fit (v : ViterbiDecoder) : Type 0 where

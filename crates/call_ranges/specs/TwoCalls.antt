@@ -32,11 +32,11 @@ use Rattle.isdb_fec.specs.Calls.{pairSteps, fourSteps, knownSteps, steps, call,
 use Rattle.viterbi.specs.Calls.{pairCall, fourCall}
 use Rattle.isdb_fec.specs.TwoCallLaws as calls
 use Rattle.isdb_fec.specs.TwoCallLaws.{both}
-use Rattle.call_ranges.specs.Numbers.{stepMost, ruledOut, stream-limits, stream-deep}
 use Rattle.call_ranges.specs.Normalised.{Normalised, normalised-start, renormalised-twice}
 use Rattle.call_ranges.specs.Reached as reached
 use Rattle.call_ranges.specs.Reached.{Reached, Floats, with-state, unknown-state}
 use Rattle.call_ranges.specs.Closed.{Fit, reached-fit, stream-inside, pair-soft, four-soft}
+use Rattle.call_ranges.specs.Numbers.{stepMost, stream-limits, stream-deep, ruledOut}
 
 -- ---- the steps of a call
 module _ {v : ViterbiDecoder} (i : Fit v) (start : Normalised (v .pm)) (decisions₀ : List ℕ) where

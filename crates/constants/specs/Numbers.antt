@@ -18,7 +18,7 @@ use Rattle.isdbs_points.specs.Points.{zero64, one64, root64}
 use Rattle.isdbs_phy.specs.DecodeRows.{partLimit, badScale}
 use Rattle.call_ranges.specs.Numbers as calls
 use Rattle.frame_ranges.specs.Numbers as frames
-use Rattle.exact_frame.specs.Call.{eight}
+use Rattle.margin_ends.specs.Ends.{eight}
 
 -- ---- the decoder
 -- "Path values start 0 at the given state (mod 64), −1,000,000 elsewhere"

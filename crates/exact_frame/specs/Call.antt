@@ -5,7 +5,7 @@ use mathlib.Core.List.{List, [], _∷_}
 use Prim.Native.Nat.{ℕ}
 use lib.Dec.{T}
 use lib.ListN.{take, replicate}
-use lib.Ieee.{Float, binary32, ofBits}
+use lib.Ieee.{Float}
 use Rattle.refusal.specs.declared.Answer.the-variants.{Space}
 use Rattle.refusal.specs.Rows.{numberOf}
 use Rattle.isdbs_tables.specs.declared.Table.{Table}
@@ -15,11 +15,8 @@ use Rattle.isdbs_points.specs.declared.Mapping.{Mapping}
 use Rattle.isdbs_phy.specs.declared.demod.FrameDecoded.{FrameDecoded}
 use Rattle.isdbs_phy.specs.DecodeRows.{shortSpace, frameSaid}
 use Rattle.isdbs_points.specs.Layout.{FullLoad}
+use Rattle.margin_ends.specs.Ends.{eight}
 use Rattle.margins.specs.Margins.{Within}
-
--- 8.0
-abbrev pub eight : Float
-eight = ofBits binary32 0x4100_0000
 
 -- "demand 3's scale 8 means all seven at 8"
 abbrev pub eights : List Float

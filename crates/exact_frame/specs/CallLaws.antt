@@ -19,7 +19,8 @@ use Rattle.isdbs_tables.specs.TableLaws.{then-rows}
 use Rattle.isdbs_runs.specs.RunsOf.{validTotal, loadBytes}
 use Rattle.isdbs_points.specs.declared.Mapping.{Mapping}
 use Rattle.isdbs_phy.specs.declared.demod.FrameDecoded.{FrameDecoded}
-use Rattle.isdbs_phy.specs.DecodeRows.{within, someOf, someBeyond, partLimit, someBad, shortSpace, pointRows, lastRows, decodeRows, frameSaid, frameAnswer, Kept, FrameLeft}
+use Rattle.isdbs_phy.specs.DecodeRows.{someOf, partLimit, someBad, shortSpace, pointRows, lastRows, decodeRows, frameSaid, frameAnswer, Kept, FrameLeft, someOfBeyond}
+use Rattle.isdb_fec.specs.Values.{within}
 use Rattle.strain.specs.Strain.{strainSum}
 use Rattle.isdbs_decode.specs.Scales.{receivedBy}
 use Rattle.isdbs_decode.specs.ScaleLaws.{equal-scales}
@@ -27,13 +28,14 @@ use Rattle.isdbs_points.specs.Layout.{FullLoad}
 use Rattle.margins.specs.Margins.{anyAccepted, Within}
 use Rattle.exact_frame.specs.StrainLaws.{decoded-exactly}
 use Rattle.exact_frame.specs.Frames.{re-accepted, im-accepted}
-use Rattle.exact_frame.specs.Call.{eight, eights, ReadsBack, exactly, short}
+use Rattle.exact_frame.specs.Call.{eights, ReadsBack, exactly, short}
+use Rattle.margin_ends.specs.Ends.{eight}
 use Rattle.isdbs_frame.specs.Frame.{mainSymbols}
 
-none-beyond : (xs : List Float) (n : ℕ) → ((k : ℕ) → k < n → T (anyAccepted (getD xs k nan))) → someBeyond partLimit xs n ≡ false
+none-beyond : (xs : List Float) (n : ℕ) → ((k : ℕ) → k < n → T (anyAccepted (getD xs k nan))) → someOfBeyond partLimit xs n ≡ false
 unfolding someOf
 none-beyond xs zero h = refl
-none-beyond xs (suc n) h = go (someBeyond partLimit xs n) (within partLimit (getD xs n nan)) (none-beyond xs n (λ k l. h k (omega arith))) (h n (omega arith))
+none-beyond xs (suc n) h = go (someOfBeyond partLimit xs n) (within partLimit (getD xs n nan)) (none-beyond xs n (λ k l. h k (omega arith))) (h n (omega arith))
   where
     go : (a b : Bool) → a ≡ false → T b → (a || not b) ≡ false
     go true b e t = e

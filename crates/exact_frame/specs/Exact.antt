@@ -28,7 +28,9 @@ use Rattle.isdbs_points.specs.SizeLaws.{table-whole, few-steps, step-fits, at-b
 use Rattle.isdbs_points.specs.OrderLaws.{Pairs, Kind, one, two, three, kind}
 use Rattle.isdbs_points.specs.BitLaws.{of-pair, bytes-are}
 use Rattle.isdbs_points.specs.InputLaws.{label-alike, input-at, input-small}
-use Rattle.exact_frame.specs.Steps.{received, step-favours, tc-bit}
+use Rattle.exact_frame.specs.Steps.{step-favours, tc-bit}
+use Rattle.isdbs_metrics.specs.Steps.{received}
+use Rattle.margin_ends.specs.Ends.{eight}
 
 start-small : (first : Bool) → startState first < 64
 unfolding stateAfter stateAt upto
@@ -37,7 +39,7 @@ start-small false = lit< tt
 
 module _ (t : Table) (fit : TableAccepted t) (m : Mapping) (first : Bool) (load : List ℕ) (re im : List Float) (within : Within re im load t m first) where
   abbrev r : Received
-  r = received re im m
+  r = received re im m eight
 
   -- ---- the decoder's bits
   favours : Favours (startState first) (inputs t load) (metricsAt t r) (frameSteps t)

@@ -29,9 +29,10 @@ use Rattle.margins.specs.Clean.{Clean, clean-zero, clean-minus-zero, clean-one,
 use Rattle.isdbs_points.specs.PlaceLaws.{among-all}
 use Rattle.isdbs_points.specs.BitLaws.{subset-small, load-bit-small}
 use Rattle.exact_frame.specs.Bits.{label-small}
-use Rattle.exact_frame.specs.Steps.{received}
+use Rattle.isdbs_metrics.specs.Steps.{received}
 use Rattle.exact_frame.specs.Exact.{decoded-load}
 use Rattle.isdbs_frame.specs.Frame.{mainSymbols}
+use Rattle.margin_ends.specs.Ends.{eight}
 
 -- ---- row 7, "not finite; beyond" 65,536: no part within the margins is so
 holds-accepted : (free : Bool) (clean x : Float) → T (holds free clean x) → T (anyAccepted x)
@@ -158,6 +159,6 @@ module _ (t : Table) (m : Mapping) (load : List ℕ) (first : Bool) (xs ys : Lis
 
 -- ---- so the encoded frame decodes to its load
 pub encoded-decodes : (t : Table) → TableAccepted t → (m : Mapping) (first : Bool) (load : List ℕ) → FullLoad load (loadBytes t) → (xs ys : List Float)
-    → decodedBytes t (received (frameRe t m load (startState first) ++ xs) (frameIm t m load (startState first) ++ ys) m) true first ≡ load
+    → decodedBytes t (received (frameRe t m load (startState first) ++ xs) (frameIm t m load (startState first) ++ ys) m eight) true first ≡ load
 encoded-decodes t fit m first load full xs ys =
     decoded-load t fit m first load full (frameRe t m load (startState first) ++ xs) (frameIm t m load (startState first) ++ ys) (encoded-within t m load first xs ys)

@@ -29,7 +29,7 @@ use Rattle.isdbs_points.specs.Frame.{inputs, labelAt, codedBit, sentBit, pointB
 use Rattle.isdbs_metrics.specs.Reading.{Received, symbolAt, scaled, partOf, carrier, softAt, pairMetrics, correlation, metricsBy, metricsIn, metricsAt}
 use Rattle.margins.specs.Margins.{keeps, isBpsk, Within}
 use Rattle.margins.specs.Clean.{psk8-clean, conjugated-keeps}
-use Rattle.margins.specs.Intervals.{eight}
+use Rattle.margin_ends.specs.Ends.{eight}
 use Rattle.margins.specs.Speaks.{Speaks, Said, one-speaks, root-speaks}
 use Rattle.margins.specs.Pairs.{pair-favours}
 use Rattle.margins.specs.Tc8psk.{tc-favours, tc-uncoded}
@@ -39,15 +39,12 @@ use Rattle.isdbs_points.specs.BitLaws.{load-bit-small, coded-small, subset-smal
 use Rattle.exact_frame.specs.Bits.{label-small, carries}
 
 -- ---- a frame within the margins, as it is read at the scale 8
-abbrev pub received : List Float → List Float → Mapping → Received
-received re im m = record { re = re; im = im; mapping = m; scale = λ c. eight }
-
 module _ (t : Table) (fit : TableAccepted t) (m : Mapping) (first : Bool) (load : List ℕ) (re im : List Float) (within : Within re im load t m first) where
   abbrev at : ℕ → ℕ
   at = labelAt (startState first) (inputs t load)
 
   abbrev r : Received
-  r = received re im m
+  r = received re im m eight
 
   -- the point of symbol j of a segment
   point-at : (g : Segment) → In g (segments t) → (j : ℕ) → j < g .symbols

@@ -23,8 +23,10 @@ use Rattle.strain.specs.Strain.{strainedBy, strained, strainOf, strainCounts, s
 use Rattle.strain.specs.StrainLaws.{none-above, strain-none, strain-of-none}
 use Rattle.exact_frame.specs.Bits.{label-small}
 use Rattle.isdbs_points.specs.InputLaws.{label-alike}
-use Rattle.exact_frame.specs.Steps.{received, step-favours}
+use Rattle.exact_frame.specs.Steps.{step-favours}
+use Rattle.isdbs_metrics.specs.Steps.{received}
 use Rattle.exact_frame.specs.Exact.{sent-bits, decoded-load}
+use Rattle.margin_ends.specs.Ends.{eight}
 
 -- at a step that favours the pair c, none of the metrics is strictly greater than that of c
 favour-unstrained : (m : List Float) (c : ℕ) → c < 4 → Favour m c → strainedBy m c ≡ false
@@ -42,19 +44,19 @@ zeros f zero h = refl
 zeros f (suc n) h = let e : n + 1 ≡ suc n = omega arith in rw (zeros f n (λ i l. h i (omega arith)), h n (omega arith)) (replicate-append-replicate n 1 0 ∙ ap (λ (k : ℕ). replicate k 0) e)
 
 module _ (t : Table) (fit : TableAccepted t) (m : Mapping) (first : Bool) (load : List ℕ) (re im : List Float) (within : Within re im load t m first) where
-  unstrained : (k : ℕ) → k < frameSteps t → strained t (received re im m) true first k ≡ false
+  unstrained : (k : ℕ) → k < frameSteps t → strained t (received re im m eight) true first k ≡ false
   unstrained k l =
-      let us = decodedBits t (received re im m) true first in
+      let us = decodedBits t (received re im m eight) true first in
       let e : labelAt (startState first) us k ≡ labelAt (startState first) (inputs t load) k =
       label-alike (startState first) us (inputs t load) (frameSteps t) (sent-bits t fit m first load re im within) k l in
-      rw e (favour-unstrained (metricsAt t (received re im m) k) (labelAt (startState first) (inputs t load) k) (label-small (getD (inputs t load) k 0) (stateAt 32 (startState first) (inputs t load) k)) (step-favours t fit m first load re im within k l))
+      rw e (favour-unstrained (metricsAt t (received re im m eight) k) (labelAt (startState first) (inputs t load) k) (label-small (getD (inputs t load) k 0) (stateAt 32 (startState first) (inputs t load) k)) (step-favours t fit m first load re im within k l))
 
   -- every count is zero, and so is their sum
-  pub zero-counts : strainCounts t (received re im m) true first ≡ replicate (validTotal t) 0
-  zero-counts = zeros (strainOf t (received re im m) true first) (validTotal t) (strain-of-none t (received re im m) true first unstrained)
+  pub zero-counts : strainCounts t (received re im m eight) true first ≡ replicate (validTotal t) 0
+  zero-counts = zeros (strainOf t (received re im m eight) true first) (validTotal t) (strain-of-none t (received re im m eight) true first unstrained)
 
-  pub zero-sum : strainSum t (received re im m) true first ≡ 0
-  zero-sum = strain-none t (received re im m) true first unstrained
+  pub zero-sum : strainSum t (received re im m eight) true first ≡ 0
+  zero-sum = strain-none t (received re im m eight) true first unstrained
 
 -- what decoding gives of a frame r within the margins of a full load: the load, and no strain
 pub record DecodedExactly (t : Table) (r : Received) (first : Bool) (load : List ℕ) : Type 0 where

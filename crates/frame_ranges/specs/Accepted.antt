@@ -34,14 +34,14 @@ use Rattle.isdbs_combination.specs.Combinations.{wordOf}
 use Rattle.isdbs_tables.specs.Tables.{TableAccepted}
 use Rattle.isdbs_runs.specs.RunsOf.{frameSteps}
 use Rattle.isdbs_points.specs.declared.Mapping.{Mapping}
-use Rattle.isdbs_phy.specs.DecodeRows.{within, someOf, someBeyond, partLimit, scaleLimit, badScale, someBad, pointRows, lastRows, decodeRows}
+use Rattle.isdbs_phy.specs.DecodeRows.{someOf, partLimit, scaleLimit, badScale, someBad, pointRows, lastRows, decodeRows, someOfBeyond}
 use Rattle.isdbs_points.specs.Layout.{wordBit}
 use Rattle.isdbs_points.specs.Frame.{startState}
 use Rattle.isdbs_metrics.specs.Reading.{Received, metricsAt, startValues}
 use Rattle.isdbs_decode.specs.Scales.{scaleOf, receivedBy}
 use Rattle.isdbs_decode.specs.ScaleLaws.{word-in}
 use Rattle.isdbs_decode.specs.Runs.{frameMetrics, knownBits}
-use Rattle.frame_ranges.specs.Numbers.{partPower, scalePower, metricPower, softLimit, metricLimit, stepMost, floor, ruledOut, leastPath, mostPath}
+use Rattle.isdb_fec.specs.Values.{within}
 use Rattle.frame_ranges.specs.NumberLaws.{part-limit, scale-limit, soft-limit, metric-limit, step-most, path-limits, known-limits, known-deep, under-ruled, least-path, most-path}
 use Rattle.frame_ranges.specs.Size.{Size, two-lo, between-size, size-from, size-to}
 use Rattle.frame_ranges.specs.Rising.{Up, Rises}
@@ -50,6 +50,7 @@ use Rattle.frame_ranges.specs.Ranges.{Between, pathRange, Ranges, frameA
 use Rattle.isdbs_frame.specs.Frame.{mainSymbols}
 use Rattle.trellis.specs.Isdb.{frameTraceback}
 use Rattle.trellis.specs.Isdb
+use Rattle.frame_ranges.specs.Numbers.{ruledOut, partPower, scalePower, metricPower, softLimit, metricLimit, stepMost, floor, leastPath, mostPath}
 
 -- ---- a value within a power of two, as a test
 size-within : {t : ℕ} {x : Float} (limit : Float) → limit ≡ two-to t → t ≤ 127 → Size binary32 t x → T (within limit x)
@@ -81,7 +82,7 @@ none-of bad xs (suc n) e k h =
     let p = row.neither (someOf bad xs n) (bad (getD xs n nan)) e in
     below-more (λ j. bad (getD xs j nan) ≡ false) n (none-of bad xs n (p .0)) (p .1) k (omega arith)
 
-parts-in : (xs : List Float) (n : ℕ) → someBeyond partLimit xs n ≡ false → (k : ℕ) → k < n → T (within partLimit (getD xs k nan))
+parts-in : (xs : List Float) (n : ℕ) → someOfBeyond partLimit xs n ≡ false → (k : ℕ) → k < n → T (within partLimit (getD xs k nan))
 parts-in xs n e k h = not-false (within partLimit (getD xs k nan)) (none-of (λ x. not (within partLimit x)) xs n e k h)
 
 -- ---- a scale: above 0 and not above its limit
@@ -116,8 +117,8 @@ scales-in scales f e c =
 -- ---- what the rows of an accepted call say
 record Passed (t : Table) (re im scales : List Float) : Type 0 where
   fit : TableAccepted t
-  re-fine : someBeyond partLimit re mainSymbols ≡ false
-  im-fine : someBeyond partLimit im mainSymbols ≡ false
+  re-fine : someOfBeyond partLimit re mainSymbols ≡ false
+  im-fine : someOfBeyond partLimit im mainSymbols ≡ false
   scales-fine : someBad scales ≡ false
 
 module _ (t : Table) (re im scales : List Float) (decisions bits bytes counts : ℕ) where
@@ -126,7 +127,7 @@ module _ (t : Table) (re im scales : List Float) (decisions bits bytes counts : 
       let rest : List Row = pointRows re im ++ lastRows t (someBad scales) decisions bits bytes counts in
       let b = then-accepted t rest (sym e) in
       let p = row.passed rest tt (b .1) in
-      let q = row.neither (someBeyond partLimit re mainSymbols) (someBeyond partLimit im mainSymbols) (p Sample) in
+      let q = row.neither (someOfBeyond partLimit re mainSymbols) (someOfBeyond partLimit im mainSymbols) (p Sample) in
       record { fit = b .0; re-fine = q .0; im-fine = q .1; scales-fine = p Scale }
 
 -- ---- the path values of sized steps

@@ -10,7 +10,7 @@ use Rattle.path_ranges.specs.Bounds.{U}
 use Rattle.path_ranges.specs.Values.{Is}
 use Rattle.path_ranges.specs.Invariant.{Limits}
 use Rattle.isdbs_phy.specs.DecodeRows.{partLimit, scaleLimit}
-use Rattle.frame_ranges.specs.Numbers.{partPower, scalePower, softPower, softLimit, metricPower, metricLimit, stepMost, floor, ruledOut, leastPath, mostPath}
+use Rattle.frame_ranges.specs.Numbers.{ruledOut, partPower, scalePower, softPower, softLimit, metricPower, metricLimit, stepMost, floor, leastPath, mostPath}
 
 -- ---- that they belong together
 pub part-limit : partLimit ≡ two-to partPower

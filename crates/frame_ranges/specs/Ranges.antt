@@ -17,7 +17,8 @@ use Rattle.isdbs_tables.specs.declared.Table.{Table}
 use Rattle.isdbs_combination.specs.Combinations.{modulationOf}
 use Rattle.isdbs_runs.specs.RunsOf.{frameSteps}
 use Rattle.isdbs_points.specs.declared.Mapping.{Mapping}
-use Rattle.isdbs_phy.specs.DecodeRows.{within, decodeRows}
+use Rattle.isdbs_phy.specs.DecodeRows.{decodeRows}
+use Rattle.isdb_fec.specs.Values.{within}
 use Rattle.isdbs_points.specs.Layout.{Segment, segments, In}
 use Rattle.isdbs_metrics.specs.Reading.{Received, softAt, metricsAt, startValues}
 use Rattle.isdbs_decode.specs.Scales.{receivedBy}

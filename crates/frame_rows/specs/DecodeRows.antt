@@ -1,21 +1,18 @@
 -- The refusal rows of `decode_frame`. Document 01, "Where a call is turned back". Assumes nothing.
-use mathlib.Core.Bool.{Bool, false, not, _&&_, _||_}
+use mathlib.Core.Bool.{Bool, false, not, _||_}
 use mathlib.Core.List.{List, [], _∷_, _++_}
 use Prim.Native.Nat.{ℕ, zero, suc, _+_}
 use lib.Dec.{ltb}
 use lib.ListN.{length, getD}
-use lib.Ieee.{Float, nan, binary32, binary64, neg, lt, le, ofBits}
+use lib.Ieee.{Float, nan, binary32, binary64, lt, ofBits}
 use Rattle.refusal.specs.Rows.{Row}
 use Rattle.refusal.specs.declared.Answer.the-variants.{Symbols, Sample, Scale, Space}
+use Rattle.isdb_fec.specs.Values.{within}
 use Rattle.isdbs_tables.specs.declared.Table.{Table}
 use Rattle.isdbs_tables.specs.Tables.{tableRows}
 use Rattle.isdbs_frame.specs.Frame.{mainSymbols}
 use Rattle.isdbs_runs.specs.RunsOf.{validTotal, frameSteps, loadBytes}
 use Rattle.trellis.specs.Isdb.{frameWords}
-
--- from -limit to limit, both included; no comparison holds of a NaN
-abbrev pub within : Float → Float → Bool
-within limit x = le (neg limit) x && le x limit
 
 -- one of the first n values fails a test
 unfoldable pub someOf : (Float → Bool) → List Float → ℕ → Bool
@@ -23,8 +20,8 @@ someOf bad xs zero = false
 someOf bad xs (suc n) = someOf bad xs n || bad (getD xs n nan)
 
 -- one of the first n values is "not finite; beyond" the limit
-abbrev pub someBeyond : Float → List Float → ℕ → Bool
-someBeyond limit xs n = someOf (λ x. not (within limit x)) xs n
+abbrev pub someOfBeyond : Float → List Float → ℕ → Bool
+someOfBeyond limit xs n = someOf (λ x. not (within limit x)) xs n
 
 -- "The frame part limit in refusal 7 becomes 65,536 in place of 1,024" (document 02, P8)
 abbrev pub partLimit : Float
@@ -48,7 +45,7 @@ shortSpace t decisions bits bytes counts = ltb decisions frameWords || (ltb bits
 
 -- the rows of the points, then those below them, over row 8's test and the lengths of the lent outputs
 abbrev pub pointRows : List Float → List Float → List Row
-pointRows re im = (Symbols, ltb (length re) mainSymbols || ltb (length im) mainSymbols) ∷ (Sample, someBeyond partLimit re mainSymbols || someBeyond partLimit im mainSymbols) ∷ []
+pointRows re im = (Symbols, ltb (length re) mainSymbols || ltb (length im) mainSymbols) ∷ (Sample, someOfBeyond partLimit re mainSymbols || someOfBeyond partLimit im mainSymbols) ∷ []
 
 abbrev pub lastRows : Table → Bool → ℕ → ℕ → ℕ → ℕ → List Row
 lastRows t bad decisions bits bytes counts = (Scale, bad) ∷ (Space, shortSpace t decisions bits bytes counts) ∷ []

@@ -12,7 +12,8 @@ ghost use Prim.Native.Nat.{_≤_};
 ghost use lib.ListN.{length};
 ghost use Rattle.refusal.specs.Rows.{firstRow};
 ghost use Rattle.isdbs_runs.specs.RunsOf.{planOf, Planned};
-ghost use Rattle.frame_rows.specs.DecodeRows.{within, someBeyond, badScale, someBad, shortSpace, pointRows, decodeRows};
+ghost use Rattle.frame_rows.specs.DecodeRows.{badScale, someBad, shortSpace, pointRows, decodeRows, someOfBeyond};
+ghost use Rattle.isdb_fec.specs.Values.{within};
 ghost use Rattle.frame_rows.specs.EncodeRows.{encodeRows};
 
 // The greatest scale that is taken.
@@ -28,7 +29,7 @@ fn beyond(x: f64, limit: f64) -> bool
 // Whether any of the first n values is. All are looked at, so that the loop goes by vectors.
 fn some_beyond(xs: &[f64], n: usize, limit: f64) -> bool
     requires { ⌜ n ≤ length (now xs) ⌝ }
-    ensures { λ r. ⌜ r ≡ someBeyond limit (now (xs .entry)) n ⌝ }
+    ensures { λ r. ⌜ r ≡ someOfBeyond limit (now (xs .entry)) n ⌝ }
 {
     let mut some = false;
     for i in 0..n {

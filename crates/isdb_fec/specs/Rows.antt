@@ -1,13 +1,16 @@
 -- The refusal rows of each call, in document 01's order. Assumes nothing.
-use mathlib.Core.Bool.{Bool}
+use mathlib.Core.Bool.{Bool, not, _||_}
 use mathlib.Core.List.{List, [], _∷_}
-use Prim.Native.Nat.{ℕ}
-use lib.Dec.{ltb}
+use Prim.Native.Nat.{ℕ, _/_, _%_}
+use lib.Dec.{eqb, ltb}
+use lib.ListN.{length}
 use lib.Ieee.{Float}
 use Rattle.refusal.specs.Rows.{Row}
-use Rattle.refusal.specs.declared.Answer.the-variants.{Traceback, State}
+use Rattle.refusal.specs.declared.Answer.the-variants.{Traceback, State, Length, Sample, Space}
 pub use Rattle.viterbi.specs.Calls.{releases}
+use Rattle.trellis.specs.Isdb.{frameWords}
 use Rattle.trellis.specs.Run.{tracebackLimit}
+use Rattle.decoder_rows.specs.Values.{someBeyond, streamLimit}
 use Rattle.decoder_rows.specs.Rows as handed
 use Rattle.isdb_fec.specs.declared.conv.ViterbiDecoder.{ViterbiDecoder}
 
@@ -42,6 +45,12 @@ streamRest per v xs decisions out = handed.streamRest per (v .held) (v .tracebac
 
 abbrev pub streamRows : ℕ → ViterbiDecoder → List Float → ℕ → ℕ → List Row
 streamRows per v xs decisions out = handed.streamRows per (v .pm) (v .held) (v .traceback) xs decisions out
+
+-- a reading of metrics by a fresh decoder of traceback 128: 5 "metrics not in fours"; 7 "not finite; beyond .. 1,048,576 for a stream value"; 9, a place for each
+-- bit, and "decisions always need 4,096 + traceback"
+abbrev pub readingRows : List Float → ℕ → ℕ → List Row
+readingRows xs decisions out =
+    (Length, not (eqb (length xs % 4) 0)) ∷ (Sample, someBeyond streamLimit xs) ∷ (Space, ltb out (length xs / 4) || ltb decisions frameWords) ∷ []
 
 -- 5: "soft values not in twos"
 abbrev pub pushRows : ViterbiDecoder → List Float → ℕ → ℕ → List Row

@@ -33,9 +33,13 @@ pub enum Modulation {
     Tc8psk,
 }
 
-// Information bits of a slot on air, and its symbols (BO.1408-1, section 3: 203 bytes; 48 slots to the 38,976 main-signal symbols of a frame).
+// The slots of a frame (BO.1408-1, section 3).
+pub const FRAME_SLOTS: usize = 48;
+
+// Information bits of a slot on air, its 203 bytes.
 pub const SLOT_BITS: usize = 1_624;
 
+// The symbols of a slot: 48 slots make the 38,976 of a frame's main signal.
 pub const SLOT_SYMBOLS: usize = 812;
 
 // The word of unused entries (Table 1: 1111; BO.1408-1, section 6.1.2).

@@ -15,7 +15,7 @@ use Rattle.isdbs_decode.specs.Runs.{FrameRead}
 use Rattle.strain.specs.Strain.{strainCounts}
 -- the rows, which crates/frame_rows defines
 unfoldable pub use Rattle.frame_rows.specs.DecodeRows.{someOf}
-pub use Rattle.frame_rows.specs.DecodeRows.{within, someBeyond, partLimit, scaleLimit, badScale, someBad, shortSpace, pointRows, lastRows, frameRows, decodeRows, oneScaleRows}
+pub use Rattle.frame_rows.specs.DecodeRows.{someOfBeyond, partLimit, scaleLimit, badScale, someBad, shortSpace, pointRows, lastRows, frameRows, decodeRows, oneScaleRows}
 
 -- document 01's number and values for each case of its answer
 abbrev pub frameSaid : FrameDecoded → Said

@@ -19,6 +19,7 @@ use Rattle.ieee.specs.Conversion.{rounded}
 use Rattle.ieee.specs.ConversionLaws.{rounded-mono, le-neg}
 use Rattle.isdbs_soft.specs.Soft.{softOf}
 use Rattle.margins.specs.Fractions.{finite-between, le-through, mul-keeps}
+use Rattle.margin_ends.specs.Ends.{eight}
 
 pub record Inside (a b x : Float) : Type 0 where
   pub from : T (le a x)
@@ -95,8 +96,6 @@ add-inside f a b x c d y p q t p' q' t' u v h k =
     }
 
 -- ---- the soft value at scale 8
-abbrev pub eight : Float
-eight = ofBits binary32 0x4100_0000
 
 abbrev pub scaledUp : Float → Float
 scaledUp x = mul binary32 (softOf x) eight

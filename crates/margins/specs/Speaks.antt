@@ -12,10 +12,10 @@ use Rattle.trellis.specs.Step.{term}
 use Rattle.isdbs_points.specs.Points.{one64, root64}
 use Rattle.ieee.specs.Conversion.{rounded}
 use Rattle.isdbs_soft.specs.Soft.{softOf}
-use Rattle.margin_ends.specs.Ends.{low1, high1, lowRoot, highRoot}
+use Rattle.margin_ends.specs.Ends.{low1, high1, lowRoot, highRoot, eight}
 use Rattle.margins.specs.Margins.{keeps}
 use Rattle.margins.specs.Clean.{between-inside}
-use Rattle.margins.specs.Intervals.{Inside, inside-neg, eight, Scaled, scaled-inside}
+use Rattle.margins.specs.Intervals.{Inside, inside-neg, Scaled, scaled-inside}
 
 -- 5.4375 = 8 * 87/128 and 8.25 = 8 * 33/32
 abbrev pub clearly : Float

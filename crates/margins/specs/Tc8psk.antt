@@ -23,7 +23,8 @@ use Rattle.isdbs_metrics.specs.Reading.{correlation, absolute}
 use Rattle.lead.specs.Favour.{none, most, least, margin, Above, Favour}
 use Rattle.margins.specs.Margins.{keeps}
 use Rattle.margins.specs.Fractions.{le-through}
-use Rattle.margins.specs.Intervals.{Inside, inside-wide, eight, scaledUp, Scaled, scaled-inside}
+use Rattle.margins.specs.Intervals.{Inside, inside-wide, scaledUp, Scaled, scaled-inside}
+use Rattle.margin_ends.specs.Ends.{eight}
 use Rattle.margins.specs.Correlation.{corrLow, corrHigh, corr-inside, corr-num}
 use Rattle.margins.specs.Absolute.{abs-to, abs-from, abs-plus, none-num, none-hi, none-lo}
 use Rattle.margins.specs.Metrics.{Sixteenths, above-by, favour-upto}

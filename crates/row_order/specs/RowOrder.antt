@@ -6,7 +6,7 @@ use lib.Dec.{T}
 use lib.Ieee.{Float}
 use Rattle.refusal.specs.Rows.{Row, fromTop}
 use Rattle.isdb_fec.specs.declared.conv.ViterbiDecoder.{ViterbiDecoder}
-use Rattle.isdb_fec.specs.Rows.{encoderRows, freshRows, handedRows, streamRest, pushRows, pushMetricsRows, pushKnownRows, flushRows}
+use Rattle.isdb_fec.specs.Rows.{encoderRows, freshRows, handedRows, streamRest, pushRows, pushMetricsRows, pushKnownRows, flushRows, readingRows}
 use Rattle.isdbt_table.specs.declared.CodeRate.{CodeRate}
 use Rattle.isdbt_rows.specs.Rows as isdbt
 use Rattle.isdbs_tables.specs.declared.Table.{Table}
@@ -16,7 +16,6 @@ use Rattle.isdbs_tables.specs.Tables.{tableRows}
 use Rattle.isdbs_parts.specs.SlotPart.{slotPartRows}
 use Rattle.isdbs_phy.specs.EncodeRows.{encodeRows, encodeFrameRows}
 use Rattle.isdbs_phy.specs.DecodeRows.{decodeRows, oneScaleRows}
-use Rattle.best_reading.specs.Calls.{readingRows}
 use Rattle.known_end.specs.Calls.{betweenRows}
 use Rattle.short_code.specs.declared.Code.{Code}
 use Rattle.short_fec.specs.Rows as short

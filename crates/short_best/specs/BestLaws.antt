@@ -20,7 +20,7 @@ use Rattle.trellis.specs.Lists.{laid}
 use Rattle.trellis.specs.Step.{four}
 use Rattle.trellis.specs.Run.{block, startAt, startUnknown}
 use Rattle.trellis.specs.LaidLaws.{take-laid}
-use Rattle.best_path.specs.Paths.{longest, bound, Integer, Quadruples, Reading, This, Any}
+use Rattle.best_path.specs.Paths.{longest, bound, Integer, Quadruples, Reading, This, Any, quadruple}
 use Rattle.best_path.specs.Exact.{Whole, le-from}
 use Rattle.best_path.specs.Calls as best-path
 use Rattle.best_path.specs.Calls.{code-given, code-unknown}
@@ -33,7 +33,7 @@ use Rattle.short_code.specs.CodeLaws.{states-are, good-length}
 use Rattle.short_best.specs.declared.Done.{Done}
 use Rattle.short_best.specs.declared.Start.{Start}
 use Rattle.short_best.specs.declared.Start.the-variants.{Given, Unknown}
-use Rattle.short_best.specs.Readings.{startValues, StartsIn, readBits, readingRows, quadruple, Finished, Refused, GreatestSum}
+use Rattle.short_best.specs.Readings.{startValues, StartsIn, readBits, readingRows, Finished, Refused, GreatestSum}
 
 -- ---- a whole number within the bound is a stream value
 stream-limit : Whole streamLimit 1048576 0

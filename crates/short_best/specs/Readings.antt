@@ -14,8 +14,8 @@ use Rattle.trellis.specs.Isdb.{rule, frameTraceback}
 use Rattle.trellis.specs.Lists.{laid}
 use Rattle.trellis.specs.Run.{Decoder, block, startAt, startUnknown, decisionsAfter, flushed}
 use Rattle.viterbi.specs.Calls.{fourSteps}
-use Rattle.best_path.specs.Paths.{longest, Quadruples, Reading}
-use Rattle.isdb_fec.specs.Values.{someBeyond, streamLimit}
+use Rattle.best_path.specs.Paths.{longest, quadruple, Quadruples, Reading}
+use Rattle.isdb_fec.specs.Rows as reading
 use Rattle.short_code.specs.declared.Code.{Code}
 use Rattle.short_code.specs.Codes.{labels, halfOf, statesOf, goodCode}
 use Rattle.short_fec.specs.Calls.{call}
@@ -39,14 +39,9 @@ read c start xs = call c frameTraceback (fourSteps xs) (record { values = startV
 abbrev pub readBits : Code → Start → List Float → List ℕ
 readBits c start xs = flushed (halfOf c) (labels c) rule (read c start xs) .bits
 
--- 12; 5 "metrics not in fours"; 7 "not finite; beyond .. 1,048,576 for a stream value"; 9, a place for each bit, and "decisions always need 4,096 + traceback"
+-- 12, and the rows of every reading
 abbrev pub readingRows : Code → List Float → ℕ → ℕ → List Row
-readingRows c xs decisions out =
-    (answer.Code, not (goodCode c))
-    ∷ (answer.Length, not (eqb (length xs % 4) 0))
-    ∷ (answer.Sample, someBeyond streamLimit xs)
-    ∷ (answer.Space, ltb out (length xs / 4) || ltb decisions (block + frameTraceback))
-    ∷ []
+readingRows c xs decisions out = (answer.Code, not (goodCode c)) ∷ reading.readingRows xs decisions out
 
 -- what an accepted reading leaves: all bits, one for each quadruple, at the front of the output, and the held words zeroed
 pub record Finished (c : Code) (start : Start) (xs : List Float) (count : ℕ) (decisions₀ decisions out₀ out : List ℕ) : Type 0 where
@@ -58,10 +53,6 @@ pub record Refused (count : ℕ) (decisions₀ decisions out₀ out : List ℕ) 
   pub count-is : count ≡ 0
   pub words : decisions ≡ decisions₀
   pub bits : out ≡ out₀
-
--- quadruple k of a flat list
-abbrev pub quadruple : List Float → ℕ → List Float
-quadruple xs k = getD xs (4 * k) nan ∷ getD xs (4 * k + 1) nan ∷ getD xs (4 * k + 2) nan ∷ getD xs (4 * k + 3) nan ∷ []
 
 -- Viterbi's rule: of at most 4,096 quadruples of whole numbers within 16 of 0, by a good code and with memory enough lent, the reading is accepted, has a bit
 -- for each quadruple, and its bits are the inputs of the first path of greatest sum from the given start, or from any where none is given (`Reading.best`);

@@ -28,7 +28,7 @@ use Rattle.trellis.specs.Run.{Decoder, block, startAt, startUnknown, valuesAt, 
 use Rattle.viterbi.specs.Calls.{fourSteps, releases}
 use Rattle.viterbi.specs.CountLaws.{counted, releases-is}
 use Rattle.trellis.specs.LaidLaws.{take-laid, length-laid}
-use Rattle.best_path.specs.Paths.{longest, bound, Quadruples, Reading}
+use Rattle.best_path.specs.Paths.{longest, bound, Quadruples, Reading, quadruple}
 use Rattle.best_path.specs.Viterbi.{Z, value}
 use Rattle.best_path.specs.Exact.{Whole, le-from}
 use Rattle.best_path.specs.Tracks.{Tracks, times, times-step, tracks}
@@ -49,7 +49,7 @@ use Rattle.short_fec.specs.Rows as short
 use Rattle.short_fec.specs.Calls.{call, handed, bestOf, Leaves, Flushes}
 use Rattle.short_best.specs.declared.Start.{Start}
 use Rattle.short_best.specs.declared.Start.the-variants.{Given, Unknown}
-use Rattle.short_best.specs.Readings.{startValues, StartsIn, read, readBits, readingRows, quadruple}
+use Rattle.short_best.specs.Readings.{startValues, StartsIn, read, readBits, readingRows}
 use Rattle.short_same.specs.SameLaws.{after-length}
 use Rattle.short_best.specs.BestLaws.{accepts, reads}
 

@@ -12,11 +12,12 @@ use Rattle.isdbs_runs.specs.RunsOf.{loadBytes}
 use Rattle.isdbs_points.specs.declared.Mapping.{Mapping}
 use Rattle.isdbs_points.specs.Layout.{FullLoad}
 use Rattle.margins.specs.Margins.{Within}
-use Rattle.exact_frame.specs.Steps.{received}
+use Rattle.isdbs_metrics.specs.Steps.{received}
 use Rattle.exact_frame.specs.Exact.{one-load}
 use Rattle.exact_frame.specs.StrainLaws.{DecodedExactly, decoded-exactly}
 use Rattle.verdict.specs.Outside.{outsideSum}
 use Rattle.verdict.specs.OutsideLaws.{sum-zero-within}
+use Rattle.margin_ends.specs.Ends.{eight}
 
 module _
     (t : Table) (fit : TableAccepted t) (m : Mapping) (first : Bool) (load : List ℕ) (full : FullLoad load (loadBytes t)) (re im : List Float)
@@ -26,5 +27,5 @@ module _
   certain other whole w = one-load t fit m first other load whole full re im w (sum-zero-within re im load t m first R I none)
 
   -- it is what decoding reads by a known start at the scale 8, and no step of that reading is strained
-  pub certain-read : DecodedExactly t (received re im m) first load
+  pub certain-read : DecodedExactly t (received re im m eight) first load
   certain-read = decoded-exactly t fit m first load full re im (sum-zero-within re im load t m first R I none)

@@ -5,7 +5,7 @@ use lib.ListN.{length}
 use native.Mathlib.Omega.{arith}
 use Prim.Native.Nat.{ℕ, _+_, _<_, _≤_}
 use mathlib.Core.Bool.{true, false}
-use Rattle.frame_rows.specs.DecodeRows.{someBeyond, partLimit}
+use Rattle.frame_rows.specs.DecodeRows.{partLimit, someOfBeyond}
 use mathlib.Core.Path.{_≡_, refl, sym, _∙_, ap}
 use borrow.Author.Needs.{needs}
 use Rattle.frame_rows.proofs.points_answer.Statement.{statement}
@@ -23,7 +23,7 @@ some-beyond-requires c κs = search needs
 returns-3 : tie.Need-returns-3
 returns-3 c =
     let st = c .before .before .before .before .before .before in
-    let re : someBeyond partLimit (st .args .re .now) mainSymbols ≡ true = sym (c .before .some-beyond .ensures) ∙ c .if3 .taken in
+    let re : someOfBeyond partLimit (st .args .re .now) mainSymbols ≡ true = sym (c .before .some-beyond .ensures) ∙ c .if3 .taken in
     rw (le-ltb _ _ (c .before .before .before .if1 .left), le-ltb _ _ (c .before .before .if2 .left), re)
 
 some-beyond-requires-2 : tie.Need-some-beyond-requires-2
@@ -32,15 +32,15 @@ some-beyond-requires-2 c κs = search needs
 returns-4 : tie.Need-returns-4
 returns-4 c =
     let st = c .before .before .before .before .before .before .before .before in
-    let re : someBeyond partLimit (st .args .re .now) mainSymbols ≡ false = sym (c .before .before .before .some-beyond .ensures) ∙ c .before .before .if3 .left in
-    let im : someBeyond partLimit (st .args .im .now) mainSymbols ≡ true = sym (c .before .some-beyond2 .ensures) ∙ c .if4 .taken in
+    let re : someOfBeyond partLimit (st .args .re .now) mainSymbols ≡ false = sym (c .before .before .before .some-beyond .ensures) ∙ c .before .before .if3 .left in
+    let im : someOfBeyond partLimit (st .args .im .now) mainSymbols ≡ true = sym (c .before .some-beyond2 .ensures) ∙ c .if4 .taken in
     rw (le-ltb _ _ (c .before .before .before .before .before .if1 .left), le-ltb _ _ (c .before .before .before .before .if2 .left), re, im)
 
 returns-5 : tie.Need-returns-5
 returns-5 c =
     let st = c .before .before .before .before .before .before .before .before in
-    let re : someBeyond partLimit (st .args .re .now) mainSymbols ≡ false = sym (c .before .before .before .some-beyond .ensures) ∙ c .before .before .if3 .left in
-    let im : someBeyond partLimit (st .args .im .now) mainSymbols ≡ false = sym (c .before .some-beyond2 .ensures) ∙ c .if4 .left in
+    let re : someOfBeyond partLimit (st .args .re .now) mainSymbols ≡ false = sym (c .before .before .before .some-beyond .ensures) ∙ c .before .before .if3 .left in
+    let im : someOfBeyond partLimit (st .args .im .now) mainSymbols ≡ false = sym (c .before .some-beyond2 .ensures) ∙ c .if4 .left in
     rw (le-ltb _ _ (c .before .before .before .before .before .if1 .left), le-ltb _ _ (c .before .before .before .before .if2 .left), re, im)
 
 pub points-answer-spec : {M : Type 1} → statement M

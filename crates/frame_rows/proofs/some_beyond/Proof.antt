@@ -1,7 +1,8 @@
 -- `some_beyond` meets its contract. Assumes nothing.
 use borrow.Author.Needs.{needs}
 use Rattle.frame_rows.proofs.Rows.{some-more}
-use Rattle.frame_rows.specs.DecodeRows.{within, someOf, someBeyond}
+use Rattle.frame_rows.specs.DecodeRows.{someOf, someOfBeyond}
+use Rattle.isdb_fec.specs.Values.{within}
 use native.Mathlib.Omega.{arith}
 use Prim.Native.Nat.{_-_, _≤_}
 use mathlib.Core.Bool.{not}
@@ -10,7 +11,7 @@ use Rattle.frame_rows.proofs.some_beyond.Statement.{statement}
 use Rattle.frame_rows.proofs.some_beyond.Tie as tie
 
 abbrev Inv-loop : tie.InvT-loop
-Inv-loop xs n limit some₀ i₀ some i = (i ≤ n) × (some ≡ someBeyond limit xs i)
+Inv-loop xs n limit some₀ i₀ some i = (i ≤ n) × (some ≡ someOfBeyond limit xs i)
 
 abbrev μ-loop : tie.MeasureT-loop
 μ-loop xs n limit some₀ i₀ some i = n - i
