@@ -1,9 +1,11 @@
-// Bars: a count for each of up to 48 slots, on a scale of five units, 320 high. They stand on y = 400.
+// Bars: a count for each slot, on a scale of five units, 320 high. They stand on y = 400.
 use crate::form::fill;
+use bench_sheet::Sheet;
 use bench_sheet::height;
 use bench_sheet::put;
 use bench_sheet::scale_unit;
-ghost use Prim.Native.Nat.{_<_, _≤_};
+use isdbs_frame::SLOTS;
+ghost use Prim.Native.Nat.{_<_};
 
 fn wide(n: u32) -> usize {
     n as usize
@@ -14,18 +16,17 @@ fn larger(a: usize, b: usize) -> usize {
 }
 
 // The greatest of the counts.
-fn greatest(counts: &[u32; 48]) -> usize {
+fn greatest(counts: &[u32; SLOTS]) -> usize {
     let mut most: usize = 0;
-    for k in 0..48usize {
+    for k in 0..SLOTS {
         most = larger(most, wide(counts[k]));
     }
     most
 }
 
-// The lines of the scale, and what each stands for.
-fn scale(sheet: &mut [u8; 327680], at: usize, unit: usize) -> usize
-    requires { ⌜ unit ≤ 400 ⌝ }
-{
+// The lines of the scale of the greatest bar, and what each stands for.
+fn scale(sheet: &mut Sheet, at: usize, most: usize) -> usize {
+    let unit = scale_unit(most);
     let a = put(
         sheet,
         at,
@@ -40,10 +41,10 @@ fn scale(sheet: &mut [u8; 327680], at: usize, unit: usize) -> usize
 }
 
 // The bar of slot k, its count above it and its number below.
-fn bar(sheet: &mut [u8; 327680], at: usize, k: usize, n: usize, unit: usize) -> usize
-    requires { ⌜ (k < 48) × ((0 < unit) × (unit ≤ 400)) ⌝ }
+fn bar(sheet: &mut Sheet, at: usize, k: usize, n: usize, most: usize) -> usize
+    requires { ⌜ k < 48 ⌝ }
 {
-    let h = height(n, unit);
+    let h = height(n, most);
     fill(
         sheet,
         at,
@@ -53,42 +54,42 @@ fn bar(sheet: &mut [u8; 327680], at: usize, k: usize, n: usize, unit: usize) -> 
 }
 
 fn bar_at(
-    sheet: &mut [u8; 327680],
+    sheet: &mut Sheet,
     at: usize,
-    counts: &[u32; 48],
+    counts: &[u32; SLOTS],
     n: usize,
     k: usize,
-    unit: usize,
+    most: usize,
 ) -> usize
-    requires { ⌜ (k < 48) × ((0 < unit) × (unit ≤ 400)) ⌝ }
+    requires { ⌜ k < 48 ⌝ }
 {
     if k >= n {
         return at;
     }
-    bar(sheet, at, k, wide(counts[k]), unit)
+    bar(sheet, at, k, wide(counts[k]), most)
 }
 
-// The bars of the first n slots, at most 48, in a colour.
+// The bars of the first n slots, at most all, in a colour.
 pub fn bars(
-    sheet: &mut [u8; 327680],
+    sheet: &mut Sheet,
     at: usize,
-    counts: &[u32; 48],
+    counts: &[u32; SLOTS],
     n: usize,
     colour: &[u8],
 ) -> usize {
-    let unit = scale_unit(greatest(counts));
-    let a = scale(sheet, at, unit);
+    let most = greatest(counts);
+    let a = scale(sheet, at, most);
     let b = put(sheet, a, b"<g fill=\"");
     let c = put(sheet, b, colour);
     let mut place = put(sheet, c, b"\">\n");
-    for k in 0..48usize {
-        place = bar_at(sheet, place, counts, n, k, unit);
+    for k in 0..SLOTS {
+        place = bar_at(sheet, place, counts, n, k, most);
     }
     put(sheet, place, b"</g>\n")
 }
 
 // The letter of run i.
-pub fn letter(sheet: &mut [u8; 327680], at: usize, i: usize) -> usize {
+pub fn letter(sheet: &mut Sheet, at: usize, i: usize) -> usize {
     match i {
         0 => put(sheet, at, b"A"),
         1 => put(sheet, at, b"B"),
@@ -98,11 +99,11 @@ pub fn letter(sheet: &mut [u8; 327680], at: usize, i: usize) -> usize {
 }
 
 // A strip with the letter of run i below the slots from `from` up to but not including `to`.
-pub fn strip(sheet: &mut [u8; 327680], at: usize, i: usize, from: usize, to: usize) -> usize {
+pub fn strip(sheet: &mut Sheet, at: usize, i: usize, from: usize, to: usize) -> usize {
     if from >= to {
         return at;
     }
-    if to > 48 {
+    if to > SLOTS {
         return at;
     }
     let width = 32 * (to - from);

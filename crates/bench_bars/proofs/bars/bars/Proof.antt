@@ -5,16 +5,13 @@ use Rattle.bench_bars.proofs.bars.bars.Statement.{statement}
 use Rattle.bench_bars.proofs.bars.bars.Tie as tie
 
 abbrev Inv-loop : tie.InvT-loop
-Inv-loop sheet₀ at counts n colour unit a b c place₀ k₀ t14 sheet place k = k ≤ 48
+Inv-loop sheet₀ at counts n colour most a b c place₀ k₀ t14 sheet place k = k ≤ 48
 
 abbrev μ-loop : tie.MeasureT-loop
-μ-loop sheet₀ at counts n colour unit a b c place₀ k₀ t14 sheet place k = 48 - k
+μ-loop sheet₀ at counts n colour most a b c place₀ k₀ t14 sheet place k = 48 - k
 
 greatest-requires : tie.Need-greatest-requires Inv-loop μ-loop
 greatest-requires c κs = search needs
-
-scale-unit-requires : tie.Need-scale-unit-requires Inv-loop μ-loop
-scale-unit-requires c κs = search needs
 
 scale-requires : tie.Need-scale-requires Inv-loop μ-loop
 scale-requires c κs = search needs
@@ -65,7 +62,6 @@ bars-spec =
     Inv-loop
     μ-loop
     greatest-requires
-    scale-unit-requires
     scale-requires
     slice-aggregate-put
     put-requires
