@@ -1,4 +1,5 @@
 // Bars: a count for each slot, on a scale of five units, 320 high. They stand on y = 400.
+use crate::form::byte;
 use crate::form::fill;
 use bench_sheet::Sheet;
 use bench_sheet::height;
@@ -36,7 +37,7 @@ fn scale(sheet: &mut Sheet, at: usize, most: usize) -> usize {
         sheet,
         a,
         b"<g text-anchor=\"end\"><text x=\"128\" y=\"408\">$</text><text x=\"128\" y=\"344\">$</text><text x=\"128\" y=\"280\">$</text><text x=\"128\" y=\"216\">$</text><text x=\"128\" y=\"152\">$</text><text x=\"128\" y=\"88\">$</text></g>\n",
-        [0, unit, 2 * unit, 3 * unit, 4 * unit, 5 * unit],
+        &[0, unit, 2 * unit, 3 * unit, 4 * unit, 5 * unit],
     )
 }
 
@@ -49,7 +50,7 @@ fn bar(sheet: &mut Sheet, at: usize, k: usize, n: usize, most: usize) -> usize
         sheet,
         at,
         b"<g transform=\"translate(@ 0)\"><rect x=\"4\" y=\"@\" width=\"24\" height=\"@\"/><text fill=\"#000\" transform=\"translate(23 @) rotate(-90)\">$</text><text fill=\"#000\" x=\"16\" y=\"424\" text-anchor=\"middle\" font-size=\"18\">@</text></g>\n",
-        [140 + 32 * k, 400 - h, h, 392 - h, n, k],
+        &[140 + 32 * k, 400 - h, h, 392 - h, n, k],
     )
 }
 
@@ -69,33 +70,40 @@ fn bar_at(
     bar(sheet, at, k, wide(counts[k]), most)
 }
 
-// The bars of the first n slots, at most all, in a colour.
-pub fn bars(
-    sheet: &mut Sheet,
-    at: usize,
-    counts: &[u32; SLOTS],
-    n: usize,
-    colour: &[u8],
-) -> usize {
-    let most = greatest(counts);
-    let a = scale(sheet, at, most);
-    let b = put(sheet, a, b"<g fill=\"");
-    let c = put(sheet, b, colour);
-    let mut place = put(sheet, c, b"\">\n");
+// The bars of the first n slots, at most all.
+fn slot_bars(sheet: &mut Sheet, at: usize, counts: &[u32; SLOTS], n: usize, most: usize) -> usize {
+    let mut place = at;
     for k in 0..SLOTS {
         place = bar_at(sheet, place, counts, n, k, most);
     }
-    put(sheet, place, b"</g>\n")
+    place
+}
+
+// The start of a group in a colour.
+fn coloured(sheet: &mut Sheet, at: usize, colour: &[u8]) -> usize {
+    let a = put(sheet, at, b"<g fill=\"");
+    let b = put(sheet, a, colour);
+    put(sheet, b, b"\">\n")
+}
+
+// The bars of the first n slots in a colour, over their scale.
+pub fn bars(sheet: &mut Sheet, at: usize, counts: &[u32; SLOTS], n: usize, colour: &[u8]) -> usize {
+    let most = greatest(counts);
+    let a = scale(sheet, at, most);
+    let b = coloured(sheet, a, colour);
+    let c = slot_bars(sheet, b, counts, n, most);
+    put(sheet, c, b"</g>\n")
 }
 
 // The letter of run i.
 pub fn letter(sheet: &mut Sheet, at: usize, i: usize) -> usize {
-    match i {
-        0 => put(sheet, at, b"A"),
-        1 => put(sheet, at, b"B"),
-        2 => put(sheet, at, b"C"),
-        _ => put(sheet, at, b"D"),
-    }
+    let letter = match i {
+        0 => b'A',
+        1 => b'B',
+        2 => b'C',
+        _ => b'D',
+    };
+    byte(sheet, at, letter)
 }
 
 // A strip with the letter of run i below the slots from `from` up to but not including `to`.
@@ -111,7 +119,7 @@ pub fn strip(sheet: &mut Sheet, at: usize, i: usize, from: usize, to: usize) -> 
         sheet,
         at,
         b"<g transform=\"translate(@ 0)\"><rect x=\"2\" y=\"434\" width=\"@\" height=\"6\" fill=\"#888\"/><text x=\"@\" y=\"464\" text-anchor=\"middle\">",
-        [140 + 32 * from, width - 4, width / 2, 0, 0, 0],
+        &[140 + 32 * from, width - 4, width / 2],
     );
     let b = letter(sheet, a, i);
     put(sheet, b, b"</text></g>\n")
