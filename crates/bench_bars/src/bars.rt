@@ -1,9 +1,12 @@
-// Bars: a count for each of up to 48 slots, on a scale of five units, 320 high. They stand on y = 400.
+// Bars: a count for each slot, on a scale of five units, 320 high. They stand on y = 400.
+use crate::form::byte;
 use crate::form::fill;
+use bench_sheet::Sheet;
 use bench_sheet::height;
 use bench_sheet::put;
 use bench_sheet::scale_unit;
-ghost use Prim.Native.Nat.{_<_, _≤_};
+use isdbs_frame::SLOTS;
+ghost use Prim.Native.Nat.{_<_};
 
 fn wide(n: u32) -> usize {
     n as usize
@@ -14,18 +17,17 @@ fn larger(a: usize, b: usize) -> usize {
 }
 
 // The greatest of the counts.
-fn greatest(counts: &[u32; 48]) -> usize {
+fn greatest(counts: &[u32; SLOTS]) -> usize {
     let mut most: usize = 0;
-    for k in 0..48usize {
+    for k in 0..SLOTS {
         most = larger(most, wide(counts[k]));
     }
     most
 }
 
-// The lines of the scale, and what each stands for.
-fn scale(sheet: &mut [u8; 327680], at: usize, unit: usize) -> usize
-    requires { ⌜ unit ≤ 400 ⌝ }
-{
+// The lines of the scale of the greatest bar, and what each stands for.
+fn scale(sheet: &mut Sheet, at: usize, most: usize) -> usize {
+    let unit = scale_unit(most);
     let a = put(
         sheet,
         at,
@@ -35,74 +37,81 @@ fn scale(sheet: &mut [u8; 327680], at: usize, unit: usize) -> usize
         sheet,
         a,
         b"<g text-anchor=\"end\"><text x=\"128\" y=\"408\">$</text><text x=\"128\" y=\"344\">$</text><text x=\"128\" y=\"280\">$</text><text x=\"128\" y=\"216\">$</text><text x=\"128\" y=\"152\">$</text><text x=\"128\" y=\"88\">$</text></g>\n",
-        [0, unit, 2 * unit, 3 * unit, 4 * unit, 5 * unit],
+        &[0, unit, 2 * unit, 3 * unit, 4 * unit, 5 * unit],
     )
 }
 
 // The bar of slot k, its count above it and its number below.
-fn bar(sheet: &mut [u8; 327680], at: usize, k: usize, n: usize, unit: usize) -> usize
-    requires { ⌜ (k < 48) × ((0 < unit) × (unit ≤ 400)) ⌝ }
+fn bar(sheet: &mut Sheet, at: usize, k: usize, n: usize, most: usize) -> usize
+    requires { ⌜ k < 48 ⌝ }
 {
-    let h = height(n, unit);
+    let h = height(n, most);
     fill(
         sheet,
         at,
         b"<g transform=\"translate(@ 0)\"><rect x=\"4\" y=\"@\" width=\"24\" height=\"@\"/><text fill=\"#000\" transform=\"translate(23 @) rotate(-90)\">$</text><text fill=\"#000\" x=\"16\" y=\"424\" text-anchor=\"middle\" font-size=\"18\">@</text></g>\n",
-        [140 + 32 * k, 400 - h, h, 392 - h, n, k],
+        &[140 + 32 * k, 400 - h, h, 392 - h, n, k],
     )
 }
 
 fn bar_at(
-    sheet: &mut [u8; 327680],
+    sheet: &mut Sheet,
     at: usize,
-    counts: &[u32; 48],
+    counts: &[u32; SLOTS],
     n: usize,
     k: usize,
-    unit: usize,
+    most: usize,
 ) -> usize
-    requires { ⌜ (k < 48) × ((0 < unit) × (unit ≤ 400)) ⌝ }
+    requires { ⌜ k < 48 ⌝ }
 {
     if k >= n {
         return at;
     }
-    bar(sheet, at, k, wide(counts[k]), unit)
+    bar(sheet, at, k, wide(counts[k]), most)
 }
 
-// The bars of the first n slots, at most 48, in a colour.
-pub fn bars(
-    sheet: &mut [u8; 327680],
-    at: usize,
-    counts: &[u32; 48],
-    n: usize,
-    colour: &[u8],
-) -> usize {
-    let unit = scale_unit(greatest(counts));
-    let a = scale(sheet, at, unit);
-    let b = put(sheet, a, b"<g fill=\"");
-    let c = put(sheet, b, colour);
-    let mut place = put(sheet, c, b"\">\n");
-    for k in 0..48usize {
-        place = bar_at(sheet, place, counts, n, k, unit);
+// The bars of the first n slots, at most all.
+fn slot_bars(sheet: &mut Sheet, at: usize, counts: &[u32; SLOTS], n: usize, most: usize) -> usize {
+    let mut place = at;
+    for k in 0..SLOTS {
+        place = bar_at(sheet, place, counts, n, k, most);
     }
-    put(sheet, place, b"</g>\n")
+    place
+}
+
+// The start of a group in a colour.
+fn coloured(sheet: &mut Sheet, at: usize, colour: &[u8]) -> usize {
+    let a = put(sheet, at, b"<g fill=\"");
+    let b = put(sheet, a, colour);
+    put(sheet, b, b"\">\n")
+}
+
+// The bars of the first n slots in a colour, over their scale.
+pub fn bars(sheet: &mut Sheet, at: usize, counts: &[u32; SLOTS], n: usize, colour: &[u8]) -> usize {
+    let most = greatest(counts);
+    let a = scale(sheet, at, most);
+    let b = coloured(sheet, a, colour);
+    let c = slot_bars(sheet, b, counts, n, most);
+    put(sheet, c, b"</g>\n")
 }
 
 // The letter of run i.
-pub fn letter(sheet: &mut [u8; 327680], at: usize, i: usize) -> usize {
-    match i {
-        0 => put(sheet, at, b"A"),
-        1 => put(sheet, at, b"B"),
-        2 => put(sheet, at, b"C"),
-        _ => put(sheet, at, b"D"),
-    }
+pub fn letter(sheet: &mut Sheet, at: usize, i: usize) -> usize {
+    let letter = match i {
+        0 => b'A',
+        1 => b'B',
+        2 => b'C',
+        _ => b'D',
+    };
+    byte(sheet, at, letter)
 }
 
 // A strip with the letter of run i below the slots from `from` up to but not including `to`.
-pub fn strip(sheet: &mut [u8; 327680], at: usize, i: usize, from: usize, to: usize) -> usize {
+pub fn strip(sheet: &mut Sheet, at: usize, i: usize, from: usize, to: usize) -> usize {
     if from >= to {
         return at;
     }
-    if to > 48 {
+    if to > SLOTS {
         return at;
     }
     let width = 32 * (to - from);
@@ -110,7 +119,7 @@ pub fn strip(sheet: &mut [u8; 327680], at: usize, i: usize, from: usize, to: usi
         sheet,
         at,
         b"<g transform=\"translate(@ 0)\"><rect x=\"2\" y=\"434\" width=\"@\" height=\"6\" fill=\"#888\"/><text x=\"@\" y=\"464\" text-anchor=\"middle\">",
-        [140 + 32 * from, width - 4, width / 2, 0, 0, 0],
+        &[140 + 32 * from, width - 4, width / 2],
     );
     let b = letter(sheet, a, i);
     put(sheet, b, b"</text></g>\n")

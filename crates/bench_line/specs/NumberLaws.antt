@@ -1,6 +1,6 @@
 -- Laws of written numbers. Assumes nothing.
 use mathlib.Core.Path.{_≡_, refl, subst, sym, ap, _∙_}
-use mathlib.Core.Bool.{Bool, true, false, cond}
+use mathlib.Core.Bool.{Bool, true, false, cond, _&&_}
 use mathlib.Core.List.{List, [], _∷_}
 use Prim.Native.Nat.{ℕ, zero, suc, _+_, _*_, _<_, _≤_}
 use native.Mathlib.Numerals.{add-one}
@@ -16,7 +16,6 @@ use lib.Ieee.Exact.{HasValue}
 use lib.Ieee.Back.{round-whole}
 use lib.Ieee.Scale.{round-same}
 use lib.Ieee.Fits.{down-pos}
-use Rattle.isdbs_combination.specs.Lists.{both}
 use Rattle.bench_line.specs.declared.words.Number.{Number}
 use Rattle.bench_line.specs.declared.words.Number.the-variants as number
 use Rattle.bench_line.specs.Numbers.{digitOf, numberFrom, digitsOf}
@@ -67,7 +66,7 @@ number-below v j k (b ∷ s) h l = go (leb (digitOf b) 9) refl (λ d. number-bel
 
 pub digits-below : (k : ℕ) (s : List ℕ) → length s ≤ k → Below (most k) (digitsOf s)
 unfolding digitsOf most
-digits-below k s h = go (both (leb (length s) 7) (ltb 0 (length s)))
+digits-below k s h = go (leb (length s) 7 && ltb 0 (length s))
   where
     go : (t : Bool) → Below (most k) (cond t (numberFrom 0 s) number.Not)
     go true = number-below 0 0 k s (lit< tt) (omega arith)

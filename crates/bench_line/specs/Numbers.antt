@@ -1,11 +1,10 @@
 -- Numbers as they are written: decimal digits, the high one first, and a scale with a point. Bytes are ASCII codes. Assumes nothing.
-use mathlib.Core.Bool.{Bool, true, false, cond}
+use mathlib.Core.Bool.{Bool, true, false, cond, _&&_}
 use mathlib.Core.List.{List, [], _∷_}
 use Prim.Native.Nat.{ℕ, _+_, _-_, _*_, _^_}
 use lib.Dec.{eqb, ltb, leb}
 use lib.ListN.{length}
 use lib.Ieee.{Float, binary32, round}
-use Rattle.isdbs_combination.specs.Lists.{both}
 use Rattle.bench_line.specs.declared.words.Number.{Number}
 use Rattle.bench_line.specs.declared.words.Number.the-variants as number
 use Rattle.bench_line.specs.declared.words.MaybeScale.{MaybeScale}
@@ -14,7 +13,7 @@ use Rattle.line_parts.specs.Parts.{partOf, partsOf}
 
 -- the digits '0' to '9' are 48 to 57; 10 for any other byte
 unfoldable pub digitOf : ℕ → ℕ
-digitOf b = cond (both (leb 48 b) (leb b 57)) (b - 48) 10
+digitOf b = cond (leb 48 b && leb b 57) (b - 48) 10
 
 -- v, and then the digits
 unfoldable pub numberFrom : ℕ → List ℕ → Number
@@ -23,7 +22,7 @@ numberFrom v (b ∷ s) = cond (leb (digitOf b) 9) (numberFrom (v * 10 + digitOf 
 
 -- one to seven digits
 unfoldable pub digitsOf : List ℕ → Number
-digitsOf s = cond (both (leb (length s) 7) (ltb 0 (length s))) (numberFrom 0 s) number.Not
+digitsOf s = cond (leb (length s) 7 && ltb 0 (length s)) (numberFrom 0 s) number.Not
 
 -- t thousandths, as the nearest f32
 unfoldable pub scaleIs : ℕ → MaybeScale
@@ -39,7 +38,7 @@ scaleFrom false (number.Is w) (number.Is f) n = scaleIs (w * 1000 + f * 10 ^ (3 
 -- "a number as 8 or 0.5, up to three digits before and after the point": parts at the point '.', which is 46
 abbrev pub scaleWith : ℕ → List ℕ → List ℕ → MaybeScale
 scaleWith n a b =
-    cond (both (leb n 2) (both (leb (length a) 3) (leb (length b) 3)))
+    cond (leb n 2 && (leb (length a) 3 && leb (length b) 3))
     (scaleFrom (eqb n 1) (digitsOf a) (digitsOf b) (length b))
     scale.Not
 

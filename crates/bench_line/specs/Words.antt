@@ -1,10 +1,9 @@
 -- TABLE, MAPPING and a file's name, as docs/BENCH.md describes them. Bytes are ASCII codes: ',' is 44, ':' 58, '0' 48 and '1' 49. Assumes nothing.
-use mathlib.Core.Bool.{Bool, true, false, cond}
+use mathlib.Core.Bool.{Bool, true, false, cond, _||_}
 use mathlib.Core.List.{List, [], _∷_}
 use Prim.Native.Nat.{ℕ, _-_}
 use lib.Dec.{eqb, ltb, leb}
 use lib.ListN.{length, getD, drop}
-use Rattle.isdbs_combination.specs.Lists.{both, either}
 use Rattle.isdbs_tables.specs.declared.Entry.{Entry}
 use Rattle.bench_line.specs.declared.words.Number.{Number}
 use Rattle.bench_line.specs.declared.words.Number.the-variants as number
@@ -52,7 +51,7 @@ unfoldable pub tableOf : List ℕ → MaybeTable
 tableOf s = cond (leb (partsOf 44 s) 4) (tableFrom (entryAt s 0) (entryAt s 1) (entryAt s 2) (entryAt s 3)) noTable
 
 unfoldable pub isFlag : ℕ → Bool
-isFlag b = either (eqb b 48) (eqb b 49)
+isFlag b = eqb b 48 || eqb b 49
 
 abbrev pub mappingFrom : ℕ → ℕ → ℕ → MaybeMapping
 mappingFrom a b c =

@@ -1,3 +1,4 @@
-// A command's line: its words and what they mean, and how many bytes of two slices agree.
+// A command's line: its words and what they mean, the space that commands lend, and how many bytes of two slices agree.
 pub mod agreement;
+pub mod space;
 pub mod words;

@@ -5,11 +5,22 @@ ghost use lib.ListN.{length};
 ghost use Rattle.bench_sheet.specs.Sheet.{Put, PutNumber};
 ghost use Rattle.bench_sheet.specs.Places.{binAt, binOf, heightOf, unitFor};
 
+// The bytes of a sheet.
+pub const SHEET_BYTES: usize = 327_680;
+
+pub type Sheet = [u8; SHEET_BYTES];
+
 // The place of a sheet on which something did not fit.
-pub const OVER: usize = 327_681;
+pub const OVER: usize = SHEET_BYTES + 1;
+
+// The bins of a part of a point.
+pub const BINS: usize = 192;
+
+// A count for each square of two bins.
+pub type Squares = [u32; BINS * BINS];
 
 // The bytes of a sheet, which its type fixes.
-fn size(sheet: &[u8; 327680]) -> usize
+fn size(sheet: &Sheet) -> usize
     ensures { λ r. ⌜ (r ≡ 327680) × (length (now (sheet .entry)) ≡ 327680) ⌝ }
 {
     let bytes: &[u8] = sheet;
@@ -17,7 +28,7 @@ fn size(sheet: &[u8; 327680]) -> usize
 }
 
 // Puts s at a place of the sheet, whole or not at all, and answers the place after it.
-pub fn put(sheet: &mut [u8; 327680], at: usize, s: &[u8]) -> usize
+pub fn put(sheet: &mut Sheet, at: usize, s: &[u8]) -> usize
     ensures { λ r. ⌜ Put at (now (s .entry)) (now (sheet .entry)) (now (sheet .exit)) r ⌝ }
 {
     let n = size(sheet);
@@ -36,7 +47,7 @@ pub fn put(sheet: &mut [u8; 327680], at: usize, s: &[u8]) -> usize
 }
 
 // Puts the decimal digits of n.
-pub fn number(sheet: &mut [u8; 327680], at: usize, n: u64) -> usize
+pub fn number(sheet: &mut Sheet, at: usize, n: u64) -> usize
     ensures { λ r. ⌜ PutNumber at n (now (sheet .entry)) (now (sheet .exit)) r ⌝ }
 {
     let mut digits = [0u8; 20];
@@ -99,11 +110,11 @@ pub fn scale_unit(most: usize) -> usize
     400
 }
 
-// The height of a bar on a scale of five units, 320 high; a bar that is larger ends with the scale.
-pub fn height(n: usize, unit: usize) -> usize
-    requires { ⌜ (0 < unit) × (unit ≤ 400) ⌝ }
-    ensures { λ r. ⌜ (r ≤ 320) × (r ≡ heightOf n (5 * unit)) ⌝ }
+// The height of a bar on the scale of the greatest bar, `most`, which is 320 high; a bar that is larger ends with the scale.
+pub fn height(n: usize, most: usize) -> usize
+    ensures { λ r. ⌜ (r ≤ 320) × (r ≡ heightOf n (5 * unitFor most)) ⌝ }
 {
+    let unit = scale_unit(most);
     if n > 5 * unit {
         return 320;
     }

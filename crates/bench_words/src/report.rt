@@ -1,12 +1,15 @@
 // Reports: the table as understood, refusals, and differences.
 use crate::text::byte;
 use crate::text::combination;
-use crate::text::count;
-use crate::text::number;
+use crate::text::say;
 use crate::text::text;
 use bench_line::agreement::agreeing;
+use bench_line::words::part;
 use isdbs_core::combination::Combination;
 use isdbs_core::combination::MaybeCombination;
+use isdbs_core::frame::MAIN_SYMBOLS;
+use isdbs_core::frame::SLOT_BYTES;
+use isdbs_core::frame::SLOTS;
 use isdbs_core::slots;
 use isdbs_core::slots::Run;
 use isdbs_core::tmcc::Entry;
@@ -16,15 +19,20 @@ use refusal::Answer;
 ghost use mathlib.Core.Path.{_≡_};
 ghost use Prim.Native.Nat.{_-_, _%_, _<_, _≤_};
 ghost use Rattle.isdbs_combination.specs.Combinations.{unitOf};
+ghost use Rattle.isdbs_frame.specs.Frame.{mainSymbols, slotBytes};
 
-fn wide(n: u32) -> u64 {
-    n as u64
+fn wide(n: u32) -> usize {
+    n as usize
 }
 
-fn slots_of(e: Entry) -> u64
+fn word_of(e: Entry) -> usize {
+    e.word as usize
+}
+
+fn slots_of(e: Entry) -> usize
     ensures { λ r. ⌜ r < 256 ⌝ }
 {
-    e.slots as u64
+    e.slots as usize
 }
 
 // An entry that takes slots and carries nothing.
@@ -35,21 +43,11 @@ fn entry_line(e: Entry) {
     let c = e.combination();
     match c {
         MaybeCombination::Some(_) => {}
-        MaybeCombination::None => {
-            text(b"  word ");
-            number(e.word as u64);
-            text(b": no combination, ");
-            number(slots_of(e));
-            text(b" slots that carry nothing\n");
-        }
+        MaybeCombination::None => say(
+            b"  word $: no combination, $ slots that carry nothing\n",
+            &[word_of(e), slots_of(e)],
+        ),
     }
-}
-
-// n things from number a on.
-fn range(n: usize, name: &[u8], a: usize) {
-    count(n);
-    text(name);
-    count(a);
 }
 
 fn run_line(r: Run) {
@@ -62,21 +60,12 @@ fn run_line(r: Run) {
     if r.symbol_end < r.symbol_start {
         return;
     }
-    text(b": ");
-    range(
-        r.slot_end - r.slot_start,
-        b" slots from slot ",
-        r.slot_start,
+    let slots = r.slot_end - r.slot_start;
+    let symbols = r.symbol_end - r.symbol_start;
+    say(
+        b": $ slots from slot $, of them $ valid; $ symbols from symbol $\n",
+        &[slots, r.slot_start, r.valid_slots, symbols, r.symbol_start],
     );
-    text(b", of them ");
-    count(r.valid_slots);
-    text(b" valid; ");
-    range(
-        r.symbol_end - r.symbol_start,
-        b" symbols from symbol ",
-        r.symbol_start,
-    );
-    text(b"\n");
 }
 
 fn run_at(rs: [Run; 4], n: usize, i: usize) {
@@ -87,52 +76,49 @@ fn run_at(rs: [Run; 4], n: usize, i: usize) {
     }
 }
 
-// What a row of document 01's table says, by its number.
-fn row(number: u32) {
-    match number {
-        1 => text(b"the table takes more than 48 slots"),
-        2 => text(b"the table has no valid slot to compare"),
-        3 => text(b"the traceback is 0 or above 1,024"),
-        4 => text(b"a state is out of its range"),
-        5 => text(b"a length does not fit"),
-        6 => text(b"a frame has 38,976 points"),
-        7 => text(b"a part of a point is not a finite number, or is beyond 65,536"),
-        8 => text(b"a scale is not above 0, or is above 64"),
-        9 => text(b"the space for what is written is too short"),
-        10 => text(b"the slots of an entry do not fill whole units"),
-        11 => text(b"an entry gives slots to a reserved word"),
-        12 => text(b"a code has a length of 3 to 7 and two generators of that length"),
-        13 => text(b"no full load has exactly these points"),
-        14 => text(b"a window is of 1 to 256 frames"),
-        15 => text(b"no coded stretch between these states lies within four bits"),
-        _ => text(b"the library does not take this"),
-    }
+// What each row of document 01's table says, by its number; 0 is none of them.
+fn row(number: usize) {
+    let rows = b"the library does not take this\n\
+        the table takes more than 48 slots\n\
+        the table has no valid slot to compare\n\
+        the traceback is 0 or above 1,024\n\
+        a state is out of its range\n\
+        a length does not fit\n\
+        a frame has 38,976 points\n\
+        a part of a point is not a finite number, or is beyond 65,536\n\
+        a scale is not above 0, or is above 64\n\
+        the space for what is written is too short\n\
+        the slots of an entry do not fill whole units\n\
+        an entry gives slots to a reserved word\n\
+        a code has a length of 3 to 7 and two generators of that length\n\
+        no full load has exactly these points\n\
+        a window is of 1 to 256 frames\n\
+        no coded stretch between these states lies within four bits";
+    text(part(rows, b'\n', number));
 }
 
 // How the last line of a refused run begins.
 pub fn refused(answer: Answer) {
-    text(b"refused ");
-    number(wide(refusal::number(answer)));
-    text(b": ");
+    say(b"refused $: ", &[wide(refusal::number(answer))]);
 }
 
 // The last line of a call that was turned back.
 pub fn refuse(answer: Answer) {
     refused(answer);
-    row(refusal::number(answer));
+    row(wide(refusal::number(answer)));
     text(b"\n");
 }
 
 // Slots of a unit.
-fn unit_of(c: Combination) -> u64
+fn unit_of(c: Combination) -> usize
     ensures { λ r. ⌜ (0 < r) × (r ≤ 8) × (r ≡ unitOf c .slots) ⌝ }
 {
     let u = c.slot_unit();
-    u.slots as u64
+    u.slots as usize
 }
 
 // How many of n slots fill whole units.
-fn filled(n: u64, unit: u64) -> u64
+fn filled(n: usize, unit: usize) -> usize
     requires { ⌜ 0 < unit ⌝ }
     ensures { λ r. ⌜ (r ≤ n) × (r ≡ n - n % unit) ⌝ }
 {
@@ -140,7 +126,7 @@ fn filled(n: u64, unit: u64) -> u64
 }
 
 // Entry i, counted from 1, has a part unit.
-fn refuse_part(i: u64, e: Entry) {
+fn refuse_part(i: usize, e: Entry) {
     let c = e.combination();
     match c {
         MaybeCombination::Some(c) => {
@@ -148,26 +134,19 @@ fn refuse_part(i: u64, e: Entry) {
             let unit = unit_of(c);
             let low = filled(n, unit);
             refused(Answer::PartUnit);
-            text(b"entry ");
-            number(i);
-            text(b", ");
+            say(b"entry $, ", &[i]);
             combination(c);
-            text(b" with ");
-            number(n);
-            text(b" slots: units of ");
-            number(unit);
-            text(b"; ");
-            number(low);
-            text(b" or ");
-            number(low + unit);
-            text(b" would be whole\n");
+            say(
+                b" with $ slots: units of $; $ or $ would be whole\n",
+                &[n, unit, low, low + unit],
+            );
         }
         MaybeCombination::None => {}
     }
 }
 
 // Whether entry i has a part unit; then it is shown.
-fn part_at(i: u64, e: Entry) -> bool {
+fn part_at(i: usize, e: Entry) -> bool {
     if e.part_unit() {
         refuse_part(i, e);
         return true;
@@ -175,67 +154,59 @@ fn part_at(i: u64, e: Entry) -> bool {
     false
 }
 
-// The first entry with a part unit.
-fn refuse_parts(t: Table) {
-    let es = t.entries;
-    if part_at(1, es[0]) {
-        return;
-    }
-    if part_at(2, es[1]) {
-        return;
-    }
-    if part_at(3, es[2]) {
-        return;
-    }
-    part_at(4, es[3]);
-}
-
 // Whether entry i gives slots to a reserved word; then it is shown.
-fn reserved_at(i: u64, e: Entry) -> bool {
+fn reserved_at(i: usize, e: Entry) -> bool {
     if e.reserved_word() {
         refused(Answer::ReservedWord);
-        text(b"entry ");
-        number(i);
-        text(b", word ");
-        number(e.word as u64);
-        text(b" with ");
-        number(slots_of(e));
-        text(b" slots: the word is reserved; with 0 slots, or with word 15, it would be taken\n");
+        say(
+            b"entry $, word $ with $ slots: the word is reserved; with 0 slots, or with word 15, it would be taken\n",
+            &[i, word_of(e), slots_of(e)],
+        );
         return true;
     }
     false
 }
 
-// The first entry that gives slots to a reserved word.
-fn refuse_reserved(t: Table) {
+// Whether an answer is about entry i; then it is shown.
+fn entry_at(answer: Answer, i: usize, e: Entry) -> bool {
+    match answer {
+        Answer::PartUnit => part_at(i, e),
+        _ => reserved_at(i, e),
+    }
+}
+
+// The first entry that an answer is about.
+fn refuse_entry(t: Table, answer: Answer) {
     let es = t.entries;
-    if reserved_at(1, es[0]) {
+    if entry_at(answer, 1, es[0]) {
         return;
     }
-    if reserved_at(2, es[1]) {
+    if entry_at(answer, 2, es[1]) {
         return;
     }
-    if reserved_at(3, es[2]) {
+    if entry_at(answer, 3, es[2]) {
         return;
     }
-    reserved_at(4, es[3]);
+    entry_at(answer, 4, es[3]);
 }
 
 // The slots of a table that are too many.
 fn refuse_sum(t: Table, answer: Answer) {
     let es = t.entries;
     refused(answer);
-    text(b"the table takes ");
-    number(slots_of(es[0]) + slots_of(es[1]) + slots_of(es[2]) + slots_of(es[3]));
-    text(b" slots, and a frame has 48\n");
+    let sum = slots_of(es[0]) + slots_of(es[1]) + slots_of(es[2]) + slots_of(es[3]);
+    say(
+        b"the table takes $ slots, and a frame has $\n",
+        &[sum, SLOTS],
+    );
 }
 
 // The last line of a table that was turned back.
 fn refuse_table(t: Table, answer: Answer) {
     match answer {
         Answer::Table => refuse_sum(t, answer),
-        Answer::PartUnit => refuse_parts(t),
-        Answer::ReservedWord => refuse_reserved(t),
+        Answer::PartUnit => refuse_entry(t, answer),
+        Answer::ReservedWord => refuse_entry(t, answer),
         _ => refuse(answer),
     }
 }
@@ -261,27 +232,26 @@ pub enum Valid {
     Refused,
 }
 
-// The table as understood, and its valid slots, at most 48; or the refusal.
+// The table as understood, and its valid slots, at most those of a frame; or the refusal.
 pub fn table(t: Table) -> Valid {
     let all = slots::runs(t);
     let answer = all.answer;
-    if refusal::number(answer) != 0 {
+    let Answer::Accepted = answer else {
         refuse_table(t, answer);
         return Valid::Refused;
-    }
+    };
     text(b"table:\n");
     let rs = all.runs;
     run_lines(rs, all.count);
     entry_lines(t);
     let v = all.valid_slots;
-    if v > 48 {
+    if v > SLOTS {
         return Valid::Refused;
     }
-    text(b"  in all ");
-    count(v);
-    text(b" valid slots of 203 bytes: the frame carries ");
-    count(203 * v);
-    text(b" bytes\n");
+    say(
+        b"  in all $ valid slots of $ bytes: the frame carries $ bytes\n",
+        &[v, SLOT_BYTES, SLOT_BYTES * v],
+    );
     Valid::Slots(v)
 }
 
@@ -294,12 +264,12 @@ fn is_number(x: f64) -> bool {
     x - x == 0.0f64
 }
 
-// The first point of the frame with a bad part, or 38,976.
-fn first_bad(re: &[f64; 38976], im: &[f64; 38976]) -> usize
-    ensures { λ r. ⌜ r ≤ 38976 ⌝ }
+// The first point of the frame with a bad part, or the end of the frame.
+fn first_bad(re: &[f64; MAIN_SYMBOLS], im: &[f64; MAIN_SYMBOLS]) -> usize
+    ensures { λ r. ⌜ r ≤ mainSymbols ⌝ }
 {
     let mut k: usize = 0;
-    while k < 38976 {
+    while k < MAIN_SYMBOLS {
         if is_bad(re[k]) || is_bad(im[k]) {
             break;
         }
@@ -309,9 +279,7 @@ fn first_bad(re: &[f64; 38976], im: &[f64; 38976]) -> usize
 }
 
 fn bad_part(k: usize, name: &[u8], x: f64) {
-    text(b"refused 7: point ");
-    count(k);
-    text(b"'s ");
+    say(b"refused 7: point $'s ", &[k]);
     text(name);
     if is_number(x) {
         text(b" part is beyond 65,536 (points are counted from 0)\n");
@@ -320,9 +288,9 @@ fn bad_part(k: usize, name: &[u8], x: f64) {
     }
 }
 
-fn refuse_sample(re: &[f64; 38976], im: &[f64; 38976]) {
+fn refuse_sample(re: &[f64; MAIN_SYMBOLS], im: &[f64; MAIN_SYMBOLS]) {
     let k = first_bad(re, im);
-    if k < 38976 {
+    if k < MAIN_SYMBOLS {
         let x = re[k];
         let y = im[k];
         if is_bad(x) {
@@ -334,11 +302,10 @@ fn refuse_sample(re: &[f64; 38976], im: &[f64; 38976]) {
 }
 
 fn refuse_symbols(points: usize, over: usize) {
-    text(b"refused 6: the file has ");
-    count(points);
-    text(b" points and ");
-    count(over);
-    text(b" bytes over, and a frame has 38,976 points\n");
+    say(
+        b"refused 6: the file has $ points and $ bytes over, and a frame has $ points\n",
+        &[points, over, MAIN_SYMBOLS],
+    );
 }
 
 // The last line of a reading that was turned back.
@@ -346,8 +313,8 @@ pub fn refuse_reading(
     answer: Answer,
     points: usize,
     over: usize,
-    re: &[f64; 38976],
-    im: &[f64; 38976],
+    re: &[f64; MAIN_SYMBOLS],
+    im: &[f64; MAIN_SYMBOLS],
 ) {
     match answer {
         Answer::Symbols => refuse_symbols(points, over),
@@ -371,37 +338,28 @@ fn first_difference(a: &[u8], b: &[u8]) -> usize {
 fn difference(a: &[u8], b: &[u8]) {
     let i = first_difference(a, b);
     if i < a.len() && i < b.len() {
-        text(b"; first difference at byte ");
-        count(i);
-        text(b": sent 0x");
+        say(b"; first difference at byte $: sent 0x", &[i]);
         byte(a[i]);
         text(b", read 0x");
         byte(b[i]);
     }
 }
 
-// A valid slot as sent and as read, and how many of its bytes agree, at most 203.
+// A valid slot as sent and as read, and how many of its bytes agree, at most all.
 pub fn slot_line(k: usize, a: &[u8], b: &[u8]) -> usize
-    ensures { λ r. ⌜ r ≤ 203 ⌝ }
+    ensures { λ r. ⌜ r ≤ slotBytes ⌝ }
 {
     let n = agreeing(a, b);
-    text(b"  valid slot ");
-    count(k);
-    text(b": ");
-    count(n);
-    text(b" of 203 bytes agree");
+    say(b"  valid slot $: $ of $ bytes agree", &[k, n, SLOT_BYTES]);
     difference(a, b);
     text(b"\n");
-    if n < 203 {
+    if n < SLOT_BYTES {
         return n;
     }
-    203
+    SLOT_BYTES
 }
 
 // n of m bytes agree.
 pub fn agree(n: usize, m: usize) {
-    count(n);
-    text(b" of ");
-    count(m);
-    text(b" bytes agree");
+    say(b"$ of $ bytes agree", &[n, m]);
 }

@@ -1,4 +1,6 @@
 // What is written on standard output.
+use bench_line::words::part;
+use bench_line::words::parts;
 use isdbs_core::combination::Combination;
 use libc::STDOUT_FILENO;
 
@@ -37,6 +39,22 @@ pub fn count(n: usize) {
     number(n as u64);
 }
 
+// Number i, where there is one.
+fn number_at(numbers: &[usize], i: usize) {
+    if i < numbers.len() {
+        count(numbers[i]);
+    }
+}
+
+// Writes a form, each $ of it replaced by the next of the numbers.
+pub fn say(form: &[u8], numbers: &[usize]) {
+    let n = parts(form, b'$');
+    for i in 0..n {
+        text(part(form, b'$', i));
+        number_at(numbers, i);
+    }
+}
+
 pub fn byte(b: u8) {
     io::print_hex(STDOUT_FILENO, b as u64, 2);
 }
@@ -46,6 +64,15 @@ pub fn quoted(s: &[u8]) {
     text(b"\"");
     text(s);
     text(b"\"");
+}
+
+// A file by its kind and name, and n of what it holds.
+pub fn file(kind: &[u8], name: &[u8], n: usize, what: &[u8]) {
+    text(kind);
+    text(b" ");
+    quoted(name);
+    say(b": $", &[n]);
+    text(what);
 }
 
 pub fn combination(c: Combination) {

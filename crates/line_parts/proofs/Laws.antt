@@ -1,6 +1,6 @@
 -- Laws of the definitions: one element more of each, as a loop over a list takes it. Assumes nothing.
 use mathlib.Core.Path.{_≡_, refl, sym, ap, _∙_}
-use mathlib.Core.Bool.{Bool, true, false, cond}
+use mathlib.Core.Bool.{Bool, true, false, cond, _&&_}
 use mathlib.Core.List.{List, [], _∷_}
 use Prim.Native.Nat.{ℕ, zero, suc, _+_, _-_, _<_, _≤_}
 use native.Mathlib.Numerals.{add-one}
@@ -10,7 +10,6 @@ use borrow.Author.Tests.{eqb-true}
 use lib.Dec.{eqb}
 use lib.ListN.{length, getD, take, drop}
 use lib.Seq.{drop-cons}
-use Rattle.isdbs_combination.specs.Lists.{both}
 use Rattle.line_parts.specs.Parts.{after, until, stops, equal}
 use Rattle.line_parts.specs.Agreement.{agreement}
 
@@ -22,7 +21,7 @@ equal-so [] (y ∷ b) e = cc
 equal-so (x ∷ a) [] e = cc
 equal-so (x ∷ a) (y ∷ b) e = go (eqb x y) refl e (equal-so a b)
   where
-    go : (t : Bool) → eqb x y ≡ t → both t (equal a b) ≡ true → (equal a b ≡ true → a ≡ b) → (x ∷ a) ≡ (y ∷ b)
+    go : (t : Bool) → eqb x y ≡ t → (t && equal a b) ≡ true → (equal a b ≡ true → a ≡ b) → (x ∷ a) ≡ (y ∷ b)
     go true h k f = let p = eqb-true x y h in let q = f k in cc
     go false h k f = cc
 
@@ -45,7 +44,7 @@ module _ (a b : List ℕ) (i : ℕ) (ha : i < length a) (hb : i < length b) wher
   unfolding agreement
   agreement-next = rw (add-one, drop-cons a i 0, drop-cons b i 0)
 
-  pub equal-next : equal (drop i a) (drop i b) ≡ both (eqb (getD a i 0) (getD b i 0)) (equal (drop (i + 1) a) (drop (i + 1) b))
+  pub equal-next : equal (drop i a) (drop i b) ≡ (eqb (getD a i 0) (getD b i 0) && equal (drop (i + 1) a) (drop (i + 1) b))
   unfolding equal
   equal-next = rw (add-one, drop-cons a i 0, drop-cons b i 0)
 

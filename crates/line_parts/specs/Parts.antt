@@ -1,9 +1,8 @@
 -- A line's words, a table's entries, an entry's two numbers: parts of a list of bytes, with one byte, the stop, between each two. Assumes nothing.
-use mathlib.Core.Bool.{Bool, true, false, cond}
+use mathlib.Core.Bool.{Bool, true, false, cond, _&&_}
 use mathlib.Core.List.{List, [], _∷_}
 use Prim.Native.Nat.{ℕ, zero, suc, _+_}
 use lib.Dec.{eqb}
-use Rattle.isdbs_combination.specs.Lists.{both}
 
 -- what follows the i-th stop; nothing where there are fewer
 unfoldable pub after : ℕ → ℕ → List ℕ → List ℕ
@@ -33,4 +32,4 @@ unfoldable pub equal : List ℕ → List ℕ → Bool
 equal [] [] = true
 equal [] (y ∷ b) = false
 equal (x ∷ a) [] = false
-equal (x ∷ a) (y ∷ b) = both (eqb x y) (equal a b)
+equal (x ∷ a) (y ∷ b) = eqb x y && equal a b

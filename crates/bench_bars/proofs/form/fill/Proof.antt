@@ -6,10 +6,10 @@ use Rattle.bench_bars.proofs.form.fill.Statement.{statement}
 use Rattle.bench_bars.proofs.form.fill.Tie as tie
 
 abbrev Inv-loop : tie.InvT-loop
-Inv-loop sheet₀ at form numbers place₀ next₀ i₀ sheet place next i = (i ≤ length form) × (next ≤ i)
+Inv-loop sheet₀ at form numbers place₀ next₀ i₀ i-end sheet place next i = (i ≤ length form) × (next ≤ i)
 
 abbrev μ-loop : tie.MeasureT-loop
-μ-loop sheet₀ at form numbers place₀ next₀ i₀ sheet place next i = length form - i
+μ-loop sheet₀ at form numbers place₀ next₀ i₀ i-end sheet place next i = length form - i
 
 loop-holds : tie.Need-loop-holds Inv-loop μ-loop
 loop-holds c = search needs

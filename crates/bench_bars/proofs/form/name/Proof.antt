@@ -6,10 +6,10 @@ use Rattle.bench_bars.proofs.form.name.Statement.{statement}
 use Rattle.bench_bars.proofs.form.name.Tie as tie
 
 abbrev Inv-loop : tie.InvT-loop
-Inv-loop sheet₀ at s place₀ i₀ sheet place i = i ≤ length s
+Inv-loop sheet₀ at s place₀ i₀ i-end sheet place i = i ≤ length s
 
 abbrev μ-loop : tie.MeasureT-loop
-μ-loop sheet₀ at s place₀ i₀ sheet place i = length s - i
+μ-loop sheet₀ at s place₀ i₀ i-end sheet place i = length s - i
 
 loop-holds : tie.Need-loop-holds Inv-loop μ-loop
 loop-holds c = search needs
