@@ -26,7 +26,7 @@ use Rattle.exact_frame.specs.Frames.{encoded-within}
 use Rattle.exact_frame.specs.Call.{eights, ReadsBack, exactly, short}
 use Rattle.exact_frame.specs.CallLaws.{read-back}
 use Rattle.answers_c.specs.Answers.{answered, left}
-use Rattle.exact_c.specs.Call.{Received, Lays, ReadsBackC, exactly-c, short-c, ExactC}
+use Rattle.exact_c.specs.Call.{Lays, ReadsBackC, exactly-c, short-c, ExactC, WithinLaid}
 
 -- ---- what is laid
 
@@ -41,7 +41,7 @@ module _ (t : tmcc.Table) (m : Mapping) (load : List ℕ) (first : Bool) (re₀ 
   abbrev imPart : ℕ → Float
   imPart k = pointAt t m load (startState first) k .im
 
-  received-within : (re im : List Float) → Received t (laid (frameRe t m load (startState first)) re₀) (laid (frameIm t m load (startState first)) im₀) re im → Within re im load t m first
+  received-within : (re im : List Float) → WithinLaid t (laid (frameRe t m load (startState first)) re₀) (laid (frameIm t m load (startState first)) im₀) re im → Within re im load t m first
   received-within re im r = record {
     re-count = r .re-count;
     im-count = r .im-count;

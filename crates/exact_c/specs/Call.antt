@@ -17,7 +17,7 @@ use Rattle.margins.specs.Margins.{freeRe, freeIm, holds, Within}
 use Rattle.isdbs_frame.specs.Frame.{mainSymbols}
 
 -- received parts that keep the margins of the parts that were laid, "whatever is lent past them"
-pub record Received (t : tmcc.Table) (laidRe laidIm re im : List Float) : Type 0 where
+pub record WithinLaid (t : tmcc.Table) (laidRe laidIm re im : List Float) : Type 0 where
   pub re-count : mainSymbols ≤ length re
   pub im-count : mainSymbols ≤ length im
   pub re-parts : (k : ℕ) → k < mainSymbols → T (holds (freeRe t k) (getD laidRe k nan) (getD re k nan))
@@ -26,7 +26,7 @@ pub record Received (t : tmcc.Table) (laidRe laidIm re im : List Float) : Type 0
 -- the frame that an accepted call lays from the start state for `first` lies within the margins of its load, and so does every frame received within its margins
 pub record Lays (answer : ℕ) (t : tmcc.Table) (m : Mapping) (load : List ℕ) (state : ℕ) (laidRe laidIm : List Float) : Type 0 where
   pub own : answer ≡ 0 → (first : Bool) → state ≡ startState first → Within laidRe laidIm load t m first
-  pub received : answer ≡ 0 → (first : Bool) → state ≡ startState first → (re im : List Float) → Received t laidRe laidIm re im → Within re im load t m first
+  pub received : answer ≡ 0 → (first : Bool) → state ≡ startState first → (re im : List Float) → WithinLaid t laidRe laidIm re im → Within re im load t m first
 
 -- what comes back: 0, the load at the front of the byte output, a zero count for each valid slot and the sum 0; or 9 where a lent slice is too short; nothing else
 pub data ReadsBackC (t : tmcc.Table) (load : List ℕ) (decisions bits space slots : ℕ) (answer : ℕ) (bytes counts : List ℕ) (sum : ℕ) : Type 0 where

@@ -24,9 +24,9 @@ use Rattle.isdbs_runs.specs.RunsOf.{frameSteps}
 use Rattle.isdbs_points.specs.declared.Cplx.{Cplx}
 use Rattle.isdbs_points.specs.declared.Mapping.{Mapping}
 use Rattle.isdbs_points.specs.Points.{point, unused, zero64, root64, psk8Of, subset, conjugated, qpskOf}
-use Rattle.isdbs_points.specs.Layout.{Segment, segments, orderOf, stepsPerPeriod, placeIn, loadBit, In}
+use Rattle.isdbs_points.specs.Layout.{Segment, segments, orderOf, stepsPerPeriod, loadBit, In, firstPlace}
 use Rattle.isdbs_points.specs.Frame.{inputs, labelAt, codedBit, sentBit, pointBy, pointIn, pointAt, startState}
-use Rattle.isdbs_metrics.specs.Reading.{Received, symbolAt, scaled, partOf, carrier, softAt, pairMetrics, correlation, metricsBy, metricsIn, metricsAt}
+use Rattle.isdbs_metrics.specs.Reading.{Received, scaled, partOf, carrier, softAt, pairMetrics, correlation, metricsBy, metricsIn, metricsAt, receivedAt}
 use Rattle.margins.specs.Margins.{keeps, isBpsk, Within}
 use Rattle.margins.specs.Clean.{psk8-clean, conjugated-keeps}
 use Rattle.margin_ends.specs.Ends.{eight}
@@ -53,7 +53,7 @@ module _ (t : Table) (fit : TableAccepted t) (m : Mapping) (first : Bool) (load 
   point-at g i j l = rw (at-symbol t unused (pointIn m load at) g i j l)
 
   -- its parts keep the margins
-  re-keeps : (g : Segment) → In g (segments t) → (j : ℕ) → j < g .symbols → T (keeps (pointIn m load at g j .re) (symbolAt r (g .symbol + j) .re))
+  re-keeps : (g : Segment) → In g (segments t) → (j : ℕ) → j < g .symbols → T (keeps (pointIn m load at g j .re) (receivedAt r (g .symbol + j) .re))
   re-keeps g i j l =
       rw (at-symbol t true (λ g j. false) g i j l, point-at g i j l)
       at (within .re-parts (g .symbol + j) (symbol-fits t fit g i j l))
@@ -88,15 +88,15 @@ module _ (t : Table) (fit : TableAccepted t) (m : Mapping) (first : Bool) (load 
     unfolding pointBy
     one-at e n l =
         subst (λ (x : Modulation). Speaks (sentBit at g n) (scaled r g (carrier x r g n))) (sym e)
-        (one-speaks (sentBit at g n) (symbolAt r (g .symbol + n) .re) (sent-small g n)
-        (subst (λ (x : Modulation). T (keeps (pointBy x m load at g n .re) (symbolAt r (g .symbol + n) .re))) e (re-keeps g i n l)))
+        (one-speaks (sentBit at g n) (receivedAt r (g .symbol + n) .re) (sent-small g n)
+        (subst (λ (x : Modulation). T (keeps (pointBy x m load at g n .re) (receivedAt r (g .symbol + n) .re))) e (re-keeps g i n l)))
 
     two-at : modulationOf c ≡ Qpsk → (n : ℕ) → n < 2 * g .symbols → SpeaksAt n
     unfolding pointBy
     two-at e n l =
         let j = n / 2 in
         let J : j < g .symbols = omega arith in
-        let z = symbolAt r (g .symbol + j) in
+        let z = receivedAt r (g .symbol + j) in
         let reverse = m .«qpsk_p1_on_q» in
         let x : T (keeps (qpskOf reverse (sentBit at g (2 * j)) (sentBit at g (2 * j + 1)) .re) (getD re (g .symbol + j) nan)) =
         subst (λ (x : Modulation). T (keeps (pointBy x m load at g j .re) (getD re (g .symbol + j) nan))) e (re-keeps g i j J) in
@@ -114,23 +114,23 @@ module _ (t : Table) (fit : TableAccepted t) (m : Mapping) (first : Bool) (load 
     n = length (orderOf c)
 
     module _ (w : ℕ) (s : Sends c w) (speaks : (n : ℕ) → n < w * g .symbols → SpeaksAt n) (k : ℕ) (K : k < g .steps) where
-      number-small : (b : ℕ) → placeIn (mother g k b) (orderOf c) < n → number g k b < w * g .symbols
+      number-small : (b : ℕ) → firstPlace (mother g k b) (orderOf c) < n → number g k b < w * g .symbols
       number-small b h =
           let o = table-whole t fit g i in
-          rw (o .symbols-are) (s .room (o .units) k (placeIn (mother g k b) (orderOf c)) (rw (o .steps-are) at K) h)
+          rw (o .symbols-are) (s .room (o .units) k (firstPlace (mother g k b) (orderOf c)) (rw (o .steps-are) at K) h)
 
-      soft-speaks : (b : ℕ) → b < 2 → placeIn (mother g k b) (orderOf c) < n → Speaks (codedBit b (at (g .step + k))) (softAt r g k b)
+      soft-speaks : (b : ℕ) → b < 2 → firstPlace (mother g k b) (orderOf c) < n → Speaks (codedBit b (at (g .step + k))) (softAt r g k b)
       unfolding softAt
       soft-speaks b B h =
-          rw (true-of (ltb (placeIn (mother g k b) (orderOf c)) n) (lt→ltb (placeIn (mother g k b) (orderOf c)) n h), ← sent-at g k b at (s .period) B h)
+          rw (true-of (ltb (firstPlace (mother g k b) (orderOf c)) n) (lt→ltb (firstPlace (mother g k b) (orderOf c)) n h), ← sent-at g k b at (s .period) B h)
           (speaks (number g k b) (number-small b h))
 
       soft-says : (b : ℕ) → b < 2 → Said (codedBit b (at (g .step + k))) (softAt r g k b)
       unfolding softAt
-      soft-says b B = go (ltb (placeIn (mother g k b) (orderOf c)) n) refl
+      soft-says b B = go (ltb (firstPlace (mother g k b) (orderOf c)) n) refl
         where
-          go : (t : Bool) → ltb (placeIn (mother g k b) (orderOf c)) n ≡ t → Said (codedBit b (at (g .step + k))) (softAt r g k b)
-          go true e = inr (soft-speaks b B (ltb→lt (placeIn (mother g k b) (orderOf c)) n (subst T (sym e) tt)))
+          go : (t : Bool) → ltb (firstPlace (mother g k b) (orderOf c)) n ≡ t → Said (codedBit b (at (g .step + k))) (softAt r g k b)
+          go true e = inr (soft-speaks b B (ltb→lt (firstPlace (mother g k b) (orderOf c)) n (subst T (sym e) tt)))
           go false e = inl (rw e)
 
       pair-at : Favour (pairMetrics (softAt r g k 0) (softAt r g k 1)) (at (g .step + k))
@@ -145,7 +145,7 @@ module _ (t : Table) (fit : TableAccepted t) (m : Mapping) (first : Bool) (load 
     -- ---- a step of a TC8PSK segment
     module _ (e : modulationOf c ≡ Tc8psk) (s : Pairs c) (k : ℕ) (K : k < g .steps) where
       abbrev z : Cplx
-      z = symbolAt r (g .symbol + k)
+      z = receivedAt r (g .symbol + k)
 
       abbrev c2 : ℕ
       c2 = loadBit load (g .bit + 2 * k)

@@ -20,9 +20,9 @@ use Rattle.isdbs_runs.specs.RunsOf.{frameSteps, loadBytes}
 use Rattle.isdbs_points.specs.declared.Cplx.{Cplx}
 use Rattle.isdbs_points.specs.declared.Mapping.{Mapping}
 use Rattle.isdbs_points.specs.Points.{zero64}
-use Rattle.isdbs_points.specs.Layout.{Segment, segments, orderOf, placeIn, atBit, byteOf, In}
+use Rattle.isdbs_points.specs.Layout.{Segment, segments, orderOf, atBit, byteOf, In, firstPlace}
 use Rattle.isdbs_points.specs.Frame.{labelAt, startState}
-use Rattle.isdbs_metrics.specs.Reading.{Received, symbolAt, scaled, partOf, carrier, softAt, correlation, subsetPoint, subsetMetrics, metricsBy, metricsIn, metricsAt, startValues, decodedBits, bitBy, bitIn, bytesFrom, decodedBytes}
+use Rattle.isdbs_metrics.specs.Reading.{Received, scaled, partOf, carrier, softAt, correlation, subsetPoint, subsetMetrics, metricsBy, metricsIn, metricsAt, startValues, decodedBits, bitBy, bitIn, bytesFrom, decodedBytes, receivedAt}
 use Rattle.trellis.specs.LaidLaws.{upto-cong}
 use Rattle.isdbs_points.specs.SizeLaws.{table-whole, symbol-fits, at-step, at-bit, find-step, find-bit}
 use Rattle.isdbs_points.specs.OrderLaws.{Sends, Pairs, Kind, one, two, three, kind, mother, number}
@@ -47,7 +47,7 @@ module _
   abbrev r′ : Received
   r′ = record { re = re′; im = im′; mapping = m; scale = scale }
 
-  symbol-alike : (k : ℕ) → k < mainSymbols → symbolAt r k ≡ symbolAt r′ k
+  symbol-alike : (k : ℕ) → k < mainSymbols → receivedAt r k ≡ receivedAt r′ k
   symbol-alike k l = rw (re-alike k l, im-alike k l)
 
   module _ (g : Segment) (i : In g (segments t)) where
@@ -68,15 +68,15 @@ module _
     module _ (w : ℕ) (s : Sends c w) (alike : (n : ℕ) → n < w * g .symbols → CarrierAlike n) (k : ℕ) (K : k < g .steps) where
       soft-alike : (b : ℕ) → softAt r g k b ≡ softAt r′ g k b
       unfolding softAt
-      soft-alike b = go (ltb (placeIn (mother g k b) (orderOf c)) (length (orderOf c))) (ltb→lt (placeIn (mother g k b) (orderOf c)) (length (orderOf c)))
+      soft-alike b = go (ltb (firstPlace (mother g k b) (orderOf c)) (length (orderOf c))) (ltb→lt (firstPlace (mother g k b) (orderOf c)) (length (orderOf c)))
         where
-          go : (u : Bool) → (T u → placeIn (mother g k b) (orderOf c) < length (orderOf c))
+          go : (u : Bool) → (T u → firstPlace (mother g k b) (orderOf c) < length (orderOf c))
               → cond u (scaled r g (carrier (modulationOf c) r g (number g k b))) (ofBits binary32 0)
               ≡ cond u (scaled r′ g (carrier (modulationOf c) r′ g (number g k b))) (ofBits binary32 0)
           go true h =
               let o = table-whole t fit g i in
               let small : number g k b < w * g .symbols =
-              rw (o .symbols-are) (s .room (o .units) k (placeIn (mother g k b) (orderOf c)) (rw (o .steps-are) at K) (h tt)) in
+              rw (o .symbols-are) (s .room (o .units) k (firstPlace (mother g k b) (orderOf c)) (rw (o .steps-are) at K) (h tt)) in
               rw (alike (number g k b) small)
           go false h = refl
 

@@ -24,9 +24,9 @@ use Rattle.isdbs_tables.specs.Tables.{TableAccepted}
 use Rattle.isdbs_runs.specs.RunsOf.{frameSteps}
 use Rattle.isdbs_points.specs.declared.Cplx.{Cplx}
 use Rattle.isdbs_points.specs.Points.{zero64, one64, root64, psk8Of, subset}
-use Rattle.isdbs_points.specs.Layout.{Segment, segments, sentOrder, orderOf, stepsPerPeriod, placeIn, In}
+use Rattle.isdbs_points.specs.Layout.{Segment, segments, sentOrder, orderOf, stepsPerPeriod, In, firstPlace}
 use Rattle.isdbs_points.specs.SizeLaws.{table-whole, symbol-fits, at-step, find-step}
-use Rattle.isdbs_metrics.specs.Reading.{Received, symbolAt, scaled, partOf, carrier, softAt, pairMetrics, correlation, absolute, subsetPoint, subsetMetrics, metricsBy, metricsIn, metricsAt}
+use Rattle.isdbs_metrics.specs.Reading.{Received, scaled, partOf, carrier, softAt, pairMetrics, correlation, absolute, subsetPoint, subsetMetrics, metricsBy, metricsIn, metricsAt, receivedAt}
 use Rattle.frame_ranges.specs.Rising.{Up, Rises, pair-rises, product-up, absolute-up, soft-up}
 use Rattle.frame_ranges.specs.Size.{Size, size-more, size-neg, size-add, size-sub, size-mul, size-absolute, size-soft, size-zero}
 use Rattle.isdbs_frame.specs.Frame.{mainSymbols}
@@ -112,14 +112,14 @@ four-of P a b c d p q r s (suc (suc (suc (suc l)))) h = absurd (omega arith)
 
 module _ (p s : ℕ) (room : p + s + 2 ≤ 127) (t : Table) (fit : TableAccepted t) (r : Received) (z : Sized p s r) where
   -- ---- a symbol
-  re-at : (k : ℕ) → k < mainSymbols → Size binary64 p (symbolAt r k .re)
+  re-at : (k : ℕ) → k < mainSymbols → Size binary64 p (receivedAt r k .re)
   re-at k h = z .re-in k h
 
-  im-at : (k : ℕ) → k < mainSymbols → Size binary64 p (symbolAt r k .im)
+  im-at : (k : ℕ) → k < mainSymbols → Size binary64 p (receivedAt r k .im)
   im-at k h = pick (Size binary64 p) (r .mapping .conjugate) (neg (getD (r .im) k nan)) (getD (r .im) k nan) (size-neg (z .im-in k h)) (z .im-in k h)
 
-  part-at : (b : Bool) (k h : ℕ) → k < mainSymbols → Size binary64 p (partOf b (symbolAt r k) h)
-  part-at b k h l = pick (Size binary64 p) (eqb h (bit b)) (symbolAt r k .re) (symbolAt r k .im) (re-at k l) (im-at k l)
+  part-at : (b : Bool) (k h : ℕ) → k < mainSymbols → Size binary64 p (partOf b (receivedAt r k) h)
+  part-at b k h l = pick (Size binary64 p) (eqb h (bit b)) (receivedAt r k .re) (receivedAt r k .im) (re-at k l) (im-at k l)
 
   -- "`soft(part)` × scale"
   scaled-in : (g : Segment) (x : Float) (q : ℕ) → q + s ≤ 127 → Size binary64 q x → Size binary32 (q + s) (scaled r g x)
@@ -146,7 +146,7 @@ module _ (p s : ℕ) (room : p + s + 2 ≤ 127) (t : Table) (fit : TableAccepted
         c = g .combination
 
         i : ℕ
-        i = placeIn (2 * (k % stepsPerPeriod c) + b) (orderOf c)
+        i = firstPlace (2 * (k % stepsPerPeriod c) + b) (orderOf c)
 
         x : Float
         x = carrier (modulationOf c) r g (k / stepsPerPeriod c * length (orderOf c) + i)
@@ -169,7 +169,7 @@ module _ (p s : ℕ) (room : p + s + 2 ≤ 127) (t : Table) (fit : TableAccepted
 
     module _ (k : ℕ) (e : modulationOf (g .combination) ≡ Tc8psk) (K : k < g .steps) (l : ℕ) (h : l < 4) where
       abbrev v : Cplx
-      v = symbolAt r (g .symbol + k)
+      v = receivedAt r (g .symbol + k)
 
       abbrev x : Float
       x = correlation v (subsetPoint r l)

@@ -20,7 +20,7 @@ use Rattle.isdbs_combination.specs.Combinations.{modulationOf}
 use Rattle.isdbs_points.specs.declared.Mapping.{Mapping}
 use Rattle.isdbs_soft.specs.Soft.{softOf}
 use Rattle.isdbs_points.specs.Points.{point, conjugated}
-use Rattle.isdbs_points.specs.Layout.{orderOf, stepsPerPeriod, placeIn, sentOrder}
+use Rattle.isdbs_points.specs.Layout.{orderOf, stepsPerPeriod, sentOrder, firstPlace}
 use Rattle.trellis.specs.LaidLaws.{upto-cong, laid-at}
 use Rattle.isdbs_points.specs.Pieces.{piece}
 use Rattle.isdbs_metrics.specs.Reading.{partOf, carrier, pairMetrics, metricsBy, softAt, absolute, subsetMetrics}
@@ -40,7 +40,7 @@ softPart x scale = mul binary32 (softOf x) scale
 
 pub bpsk-metrics : (c : Combination) (re im : List Float) (m : Mapping) (scale : Float) (k : ℕ) → modulationOf c ≡ Bpsk
     → pieceMetrics c re im m scale k ≡ pairMetrics (softPart (getD re (2 * k) nan) scale) (softPart (getD re (2 * k + 1) nan) scale)
-unfolding metricsBy softAt placeIn
+unfolding metricsBy softAt firstPlace
 bpsk-metrics «Bpsk1_2» re im m scale k h =
     let e : k % 1 ≡ 0 = omega arith in
     let f : k / 1 * 2 + 0 ≡ 2 * k = omega arith in
@@ -65,11 +65,11 @@ carrier-qpsk c re im m scale i h =
 
 soft-qpsk : (c : Combination) (re im : List Float) (m : Mapping) (scale : Float) (k b : ℕ) → modulationOf c ≡ Qpsk
     → softAt (received re im m scale) (piece c 0) k b
-    ≡ placed re im m scale (k / stepsPerPeriod c * length (orderOf c)) (length (orderOf c)) (placeIn (2 * (k % stepsPerPeriod c) + b) (orderOf c))
+    ≡ placed re im m scale (k / stepsPerPeriod c * length (orderOf c)) (length (orderOf c)) (firstPlace (2 * (k % stepsPerPeriod c) + b) (orderOf c))
 unfolding softAt
 soft-qpsk c re im m scale k b h =
     let n = length (orderOf c) in
-    let i = placeIn (2 * (k % stepsPerPeriod c) + b) (orderOf c) in
+    let i = firstPlace (2 * (k % stepsPerPeriod c) + b) (orderOf c) in
     ap (λ (x : Float). cond (ltb i n) (softPart x scale) (ofBits binary32 0)) (carrier-qpsk c re im m scale (k / stepsPerPeriod c * n + i) h)
 
 -- ---- BPSK
@@ -262,7 +262,7 @@ module _ (c : Combination) (re im : List Float) (m : Mapping) (scale : Float) (k
     spread-is j h =
         let k = j / 2 in
         let s = stands c k0 n k p q (omega arith) in
-        let i = placeIn (2 * (k % stepsPerPeriod c) + j % 2) (orderOf c) in
+        let i = firstPlace (2 * (k % stepsPerPeriod c) + j % 2) (orderOf c) in
         let b = k / stepsPerPeriod c * length (orderOf c) in
         either (ltb i (length (orderOf c))) (getD softs (b + i) nan) (softPart (qpskPart re im m (2 * from + b + i)) scale)
         (λ t. soft-is (b + i) (s .within i (ltb-true i (length (orderOf c)) t)) ∙ ap (λ (x : ℕ). softPart (qpskPart re im m x) scale) (sym (add-assoc (2 * from) b i)))

@@ -12,7 +12,7 @@ use Rattle.viterbi.specs.Calls.{fourSteps}
 use Rattle.isdbs_combination.specs.declared.Combination.{Combination}
 use Rattle.isdbs_points.specs.declared.Mapping.{Mapping}
 use Rattle.isdbs_points.specs.Points.{point, conjugated, psk8Of, subset}
-use Rattle.isdbs_points.specs.Layout.{orderOf, stepsPerPeriod, placeIn}
+use Rattle.isdbs_points.specs.Layout.{orderOf, stepsPerPeriod, firstPlace}
 use Rattle.isdbs_points.specs.Pieces.{piece}
 use Rattle.isdbs_metrics.specs.Reading.{softAt, correlation}
 use Rattle.isdbs_metrics.specs.Steps.{received, pieceMetrics}
@@ -55,7 +55,7 @@ stepSoft c re im m scale k0 j = softAt (received re im m scale) (piece c 0) (k0 
 abbrev pub spreadSoft : Combination → List Float → ℕ → Float
 spreadSoft c softs j =
     let n = length (orderOf c) in
-    let i = placeIn (2 * (j / 2 % stepsPerPeriod c) + j % 2) (orderOf c) in
+    let i = firstPlace (2 * (j / 2 % stepsPerPeriod c) + j % 2) (orderOf c) in
     cond (ltb i n) (getD softs (j / 2 / stepsPerPeriod c * n + i) nan) (ofBits binary32 0)
 
 -- what a TC8PSK symbol k gives with the four points of C2 = 0, in the order of the labels 2 X + Y

@@ -10,7 +10,7 @@ use lib.Seq.{getD-drop}
 use lib.Ieee.{Float, nan, binary32, ofBits}
 use Rattle.isdbs_combination.specs.declared.Combination.{Combination}
 use Rattle.isdbs_combination.specs.declared.Combination.the-variants.{«Bpsk1_2», «Qpsk1_2», «Qpsk2_3», «Qpsk3_4», «Qpsk5_6», «Qpsk7_8», «Tc8psk2_3»}
-use Rattle.isdbs_points.specs.Layout.{orderOf, stepsPerPeriod, placeIn, sentOrder}
+use Rattle.isdbs_points.specs.Layout.{orderOf, stepsPerPeriod, sentOrder, firstPlace}
 use Rattle.isdbs_pack.specs.FrameRunLaws.{tail-is}
 use Rattle.isdbs_blocks.specs.Blocks.{spreadSoft}
 
@@ -47,8 +47,8 @@ place-at «Qpsk7_8» t a h = (omega arith, omega arith)
 place-at «Tc8psk2_3» t a h = (omega arith, omega arith)
 
 pub spread-at : (c : Combination) (softs : List Float) (places : List ℕ) (count from to t a : ℕ) → count ≡ length (orderOf c) → from ≡ t * length (orderOf c) → to ≡ t * (2 * stepsPerPeriod c)
-    → getD places a 0 ≡ placeIn a (orderOf c) → a < 2 * stepsPerPeriod c
+    → getD places a 0 ≡ firstPlace a (orderOf c) → a < 2 * stepsPerPeriod c
     → cond (ltb (getD places a 0) count) (getD (take (length softs - from) (drop from softs)) (getD places a 0) nan) (ofBits binary32 0) ≡ spreadSoft c softs (to + a)
 spread-at c softs places count from to t a ec ef et ep h =
     let q = place-at c t a h in
-    rw (ec, ep, tail-is from softs, getD-drop from softs (placeIn a (orderOf c)) nan, et, q .0, q .1, ef)
+    rw (ec, ep, tail-is from softs, getD-drop from softs (firstPlace a (orderOf c)) nan, et, q .0, q .1, ef)

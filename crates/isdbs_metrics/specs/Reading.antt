@@ -19,7 +19,7 @@ use Rattle.isdbs_points.specs.declared.Cplx.{Cplx}
 use Rattle.isdbs_points.specs.declared.Mapping.{Mapping}
 use Rattle.isdbs_soft.specs.Soft.{softOf}
 use Rattle.isdbs_points.specs.Points.{point, zero64, psk8Of, subset, conjugated}
-use Rattle.isdbs_points.specs.Layout.{Segment, orderOf, stepsPerPeriod, placeIn, atStep, atBit, byteOf, wordBit}
+use Rattle.isdbs_points.specs.Layout.{Segment, orderOf, stepsPerPeriod, atStep, atBit, byteOf, wordBit, firstPlace}
 use Rattle.isdbs_points.specs.Frame.{labelAt, startState}
 
 -- a received frame as it is lent, its mapping, and the scale for each combination
@@ -30,8 +30,8 @@ pub record Received : Type 0 where
   pub scale : Combination → Float
 
 -- symbol k as it is read: "`conjugate` negates every imaginary part"
-abbrev pub symbolAt : Received → ℕ → Cplx
-symbolAt r k = point (getD (r .re) k nan) (conjugated (r .mapping .conjugate) (getD (r .im) k nan))
+abbrev pub receivedAt : Received → ℕ → Cplx
+receivedAt r k = point (getD (r .re) k nan) (conjugated (r .mapping .conjugate) (getD (r .im) k nan))
 
 -- "Soft values l are `soft(part)` × scale in f32"
 abbrev pub scaled : Received → Segment → Float → Float
@@ -44,8 +44,8 @@ partOf reverse z h = cond (eqb h (bit reverse)) (z .re) (z .im)
 
 -- the part that carries the coded bit which the segment sends i-th: one a symbol in BPSK, two in QPSK
 abbrev pub carrier : Modulation → Received → Segment → ℕ → Float
-carrier Bpsk r g i = symbolAt r (g .symbol + i) .re
-carrier Qpsk r g i = partOf (r .mapping .«qpsk_p1_on_q») (symbolAt r (g .symbol + i / 2)) (i % 2)
+carrier Bpsk r g i = receivedAt r (g .symbol + i) .re
+carrier Qpsk r g i = partOf (r .mapping .«qpsk_p1_on_q») (receivedAt r (g .symbol + i / 2)) (i % 2)
 carrier Tc8psk r g i = nan
 
 -- the soft value of X (b = 0) or Y (b = 1) at step k of a segment; "Erased soft values are 0"
@@ -53,7 +53,7 @@ unfoldable pub softAt : Received → Segment → ℕ → ℕ → Float
 softAt r g k b =
     let c = g .combination in
     let n = length (orderOf c) in
-    let i = placeIn (2 * (k % stepsPerPeriod c) + b) (orderOf c) in
+    let i = firstPlace (2 * (k % stepsPerPeriod c) + b) (orderOf c) in
     cond (ltb i n) (scaled r g (carrier (modulationOf c) r g (k / stepsPerPeriod c * n + i))) (ofBits binary32 0)
 
 -- "a four-metric step with lx+ly, lx−ly, −lx+ly, −lx−ly, each rounded, at 2X+Y"
@@ -82,7 +82,7 @@ subsetMetrics r g v = upto (λ l. scaled r g (absolute (correlation v (subsetPoi
 unfoldable pub metricsBy : Modulation → Received → Segment → ℕ → List Float
 metricsBy Bpsk r g k = pairMetrics (softAt r g k 0) (softAt r g k 1)
 metricsBy Qpsk r g k = pairMetrics (softAt r g k 0) (softAt r g k 1)
-metricsBy Tc8psk r g k = subsetMetrics r g (symbolAt r (g .symbol + k))
+metricsBy Tc8psk r g k = subsetMetrics r g (receivedAt r (g .symbol + k))
 
 abbrev pub metricsIn : Received → Segment → ℕ → List Float
 metricsIn r g k = metricsBy (modulationOf (g .combination)) r g k
@@ -105,7 +105,7 @@ decodedBits t r knownStart first =
 -- ---- bytes
 -- "C2 is 1 exactly when (v × conj p).re is below 0, p being the point of label 2C1+C0"
 abbrev pub uncoded : Received → (ℕ → ℕ) → Segment → ℕ → ℕ
-uncoded r at g k = bit (lt (correlation (symbolAt r (g .symbol + k)) (subsetPoint r (at (g .step + k)))) zero64)
+uncoded r at g k = bit (lt (correlation (receivedAt r (g .symbol + k)) (subsetPoint r (at (g .step + k)))) zero64)
 
 -- bit i of a segment's bytes: "a TC8PSK step gives C2, then its decoded bit"
 unfoldable pub bitBy : Modulation → Received → (ℕ → ℕ) → List ℕ → Segment → ℕ → ℕ

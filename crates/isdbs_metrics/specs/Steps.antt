@@ -12,7 +12,7 @@ use Rattle.isdbs_combination.specs.Combinations.{modulationOf}
 use Rattle.isdbs_points.specs.declared.Mapping.{Mapping}
 use Rattle.isdbs_metrics.specs.declared.PeriodLayout.{PeriodLayout}
 use Rattle.isdbs_points.specs.Points.{point, conjugated}
-use Rattle.isdbs_points.specs.Layout.{orderOf, stepsPerPeriod, placeIn}
+use Rattle.isdbs_points.specs.Layout.{orderOf, stepsPerPeriod, firstPlace}
 use Rattle.isdbs_points.specs.Pieces.{piece}
 use Rattle.isdbs_points.specs.Frame.{labelAt}
 use Rattle.isdbs_metrics.specs.Reading.{Received, partOf, metricsIn, bitIn}
@@ -31,7 +31,7 @@ pub record LayoutOf (r : PeriodLayout) : Type 0 where
   pub modulation : r .modulation ≡ modulationOf (r .combination)
   pub period : r .period ≡ stepsPerPeriod (r .combination)
   pub count : r .count ≡ length (orderOf (r .combination))
-  pub places : (a : ℕ) → a < 2 * stepsPerPeriod (r .combination) → getD (r .places) a 0 ≡ placeIn a (orderOf (r .combination))
+  pub places : (a : ℕ) → a < 2 * stepsPerPeriod (r .combination) → getD (r .places) a 0 ≡ firstPlace a (orderOf (r .combination))
 
 -- the points of step k lie among the first n
 abbrev pub ReachesBy : Modulation → Combination → ℕ → ℕ → Type 0

@@ -16,15 +16,15 @@ use Rattle.isdbs_combination.specs.Combinations.{modulationOf}
 use Rattle.isdbs_points.specs.declared.Cplx.{Cplx}
 use Rattle.isdbs_points.specs.declared.Mapping.{Mapping}
 use Rattle.isdbs_points.specs.Points.{psk8Of, subset, zero64}
-use Rattle.isdbs_points.specs.Layout.{segmentOf, orderOf, stepsPerPeriod, placeIn}
+use Rattle.isdbs_points.specs.Layout.{segmentOf, orderOf, stepsPerPeriod, firstPlace}
 use Rattle.isdbs_points.specs.Pieces.{piece}
 use Rattle.isdbs_points.specs.Frame.{labelAt}
-use Rattle.isdbs_metrics.specs.Reading.{Received, correlation, symbolAt, carrier, softAt, scaled, pairMetrics, subsetMetrics, metricsBy, metricsIn, bitBy, bitIn, uncoded}
+use Rattle.isdbs_metrics.specs.Reading.{Received, correlation, carrier, softAt, scaled, pairMetrics, subsetMetrics, metricsBy, metricsIn, bitBy, bitIn, uncoded, receivedAt}
 use Rattle.isdbs_metrics.specs.Steps.{received, pieceMetrics, pieceBit}
 use Rattle.isdbs_pack.specs.Bytes.{receivedWith}
 
 -- a symbol of a part
-symbol-part : (re im : List Float) (m : Mapping) (a : Float) (scales : Combination → Float) (s i : ℕ) → symbolAt (received (drop s re) (drop s im) m a) (0 + i) ≡ symbolAt (receivedWith re im m scales) (s + i)
+symbol-part : (re im : List Float) (m : Mapping) (a : Float) (scales : Combination → Float) (s i : ℕ) → receivedAt (received (drop s re) (drop s im) m a) (0 + i) ≡ receivedAt (receivedWith re im m scales) (s + i)
 symbol-part re im m a scales s i =
     rw (zero-add i, getD-drop s re i nan, getD-drop s im i nan)
 
@@ -50,7 +50,7 @@ module _ (re im : List Float) (m : Mapping) (scales : Combination → Float) (r 
   soft-part b =
       let c = r .combination in
       let n = length (orderOf c) in
-      let i = placeIn (2 * (k % stepsPerPeriod c) + b) (orderOf c) in
+      let i = firstPlace (2 * (k % stepsPerPeriod c) + b) (orderOf c) in
       ap (λ (x : Float). cond (ltb i n) (scaled whole (segmentOf r step bit) x) (ofBits binary32 0)) (carrier-part (modulationOf c) (k / stepsPerPeriod c * n + i))
 
   by-modulation : (o : Modulation) → metricsBy o part (piece (r .combination) 0) k ≡ metricsBy o whole (segmentOf r step bit) k
@@ -79,8 +79,8 @@ module _ (re im : List Float) (m : Mapping) (scales : Combination → Float) (r 
   bit-by Tc8psk h =
       let j = i / 2 in
       ap (λ (z : Cplx). cond (eqb (i % 2) 0) (Rattle.trellis.specs.Lists.bit (lt (correlation z (psk8Of (subset (m .«tc8psk_c1_is_y») (labelAt s (drop step us) (0 + j))))) zero64)) (getD (drop step us) (0 + j) 0)) (symbol-part re im m nan scales (r .«symbol_start») j)
-      ∙ ap (λ (x : ℕ). cond (eqb (i % 2) 0) (Rattle.trellis.specs.Lists.bit (lt (correlation (symbolAt (receivedWith re im m scales) (r .«symbol_start» + j)) (psk8Of (subset (m .«tc8psk_c1_is_y») (labelAt s (drop step us) x)))) zero64)) (getD (drop step us) x 0)) (zero-add j)
-      ∙ ap (λ (x : ℕ). cond (eqb (i % 2) 0) (Rattle.trellis.specs.Lists.bit (lt (correlation (symbolAt (receivedWith re im m scales) (r .«symbol_start» + j)) (psk8Of (subset (m .«tc8psk_c1_is_y») x))) zero64)) (getD (drop step us) j 0)) (h refl)
+      ∙ ap (λ (x : ℕ). cond (eqb (i % 2) 0) (Rattle.trellis.specs.Lists.bit (lt (correlation (receivedAt (receivedWith re im m scales) (r .«symbol_start» + j)) (psk8Of (subset (m .«tc8psk_c1_is_y») (labelAt s (drop step us) x)))) zero64)) (getD (drop step us) x 0)) (zero-add j)
+      ∙ ap (λ (x : ℕ). cond (eqb (i % 2) 0) (Rattle.trellis.specs.Lists.bit (lt (correlation (receivedAt (receivedWith re im m scales) (r .«symbol_start» + j)) (psk8Of (subset (m .«tc8psk_c1_is_y») x))) zero64)) (getD (drop step us) j 0)) (h refl)
       ∙ ap (λ (x : ℕ). cond (eqb (i % 2) 0) (uncoded (receivedWith re im m scales) at (segmentOf r step bit) j) x) (getD-drop step us j 0)
 
   -- bit i of a run's bytes is the frame's

@@ -32,9 +32,9 @@ abbrev pub stepsPerPeriod : Combination → ℕ
 stepsPerPeriod c = periodSteps (punctureOf c)
 
 -- where a list has the number a first; its length where it has not
-unfoldable pub placeIn : ℕ → List ℕ → ℕ
-placeIn a [] = 0
-placeIn a (b ∷ bs) = cond (eqb a b) 0 (suc (placeIn a bs))
+unfoldable pub firstPlace : ℕ → List ℕ → ℕ
+firstPlace a [] = 0
+firstPlace a (b ∷ bs) = cond (eqb a b) 0 (suc (firstPlace a bs))
 
 -- ---- segments
 -- a run with the first and the number of its symbols, its trellis steps and its bits of the load

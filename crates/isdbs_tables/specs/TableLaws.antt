@@ -1,14 +1,13 @@
 -- What follows from a table's rows: the one place where they are opened. Assumes nothing.
-use mathlib.Core.Path.{_≡_, refl}
-use mathlib.Core.Bool.{Bool, true, false, _||_}
+use mathlib.Core.Path.{_≡_}
+use mathlib.Core.Bool.{Bool, false}
 use mathlib.Core.List.{List, [], _∷_, _++_}
 use Prim.Native.Nat.{ℕ, _≤_}
-use native.Mathlib.Omega.{arith}
 use lib.Dec.{T}
 use borrow.Author.Tests.{ltb-false}
 use Rattle.refusal.specs.declared.Answer.the-variants as answer
 use Rattle.refusal.specs.Rows.{Row, firstRow}
-use Rattle.refusal.specs.RowLaws.{refusing, passed, refused-above, passed-above, both-passed}
+use Rattle.refusal.specs.RowLaws.{neither, refusing, refusing-both, passed, refused-above, passed-above, both-passed}
 use Rattle.isdbs_tables.specs.declared.Entry.{Entry}
 use Rattle.isdbs_tables.specs.declared.Table.{Table}
 use Rattle.trellis.specs.Lists.{Each}
@@ -18,10 +17,6 @@ use Rattle.isdbs_combination.specs.Combinations.{frameSlots}
 -- each entry is whole units
 abbrev pub WholeUnits : List Entry → Type 0
 WholeUnits es = Each (λ e. partUnit e ≡ false) es
-
-neither : (a b : Bool) → a || b ≡ false → (a ≡ false) × (b ≡ false)
-neither true b h = let z : _≡_ {A = ℕ} 0 1 = cc in absurd (omega arith)
-neither false b h = (refl, h)
 
 -- a test that holds of no entry holds of none
 none-of : (test : Entry → Bool) (es : List Entry) → some test es ≡ false → Each (λ e. test e ≡ false) es
@@ -33,6 +28,9 @@ module _ (t : Table) where
   pub table-refusing : T (refusing (tableRows t))
   unfolding tableRows
   table-refusing = tt
+
+  pub then-refusing : (rows : List Row) → T (refusing rows) → T (refusing (tableRows t ++ rows))
+  then-refusing rows r = refusing-both (tableRows t) rows table-refusing r
 
   -- an accepted table's slots sum to 48 at most
   pub sum-fits : TableAccepted t → slotSum (t .entries) ≤ frameSlots

@@ -15,7 +15,7 @@ use Rattle.isdbs_combination.specs.declared.Modulation.the-variants.{Bpsk, Qpsk
 use Rattle.isdbs_combination.specs.Combinations.{modulationOf}
 use Rattle.isdbs_points.specs.declared.Cplx.{Cplx}
 use Rattle.isdbs_points.specs.declared.Mapping.{Mapping}
-use Rattle.isdbs_points.specs.Layout.{Segment, sentOrder, orderOf, stepsPerPeriod, placeIn}
+use Rattle.isdbs_points.specs.Layout.{Segment, sentOrder, orderOf, stepsPerPeriod, firstPlace}
 use Rattle.isdbs_points.specs.Frame.{codedBit}
 use Rattle.isdbs_points.specs.OrderLaws.{number, step-kept}
 use Rattle.isdbs_metrics.specs.declared.PeriodLayout.{PeriodLayout}
@@ -42,11 +42,11 @@ module _ (c : Combination) (start k : ℕ) where
   abbrev b : ℕ
   b = which (runAt c start) k
 
-  pub place-fits : placeIn (2 * (k % stepsPerPeriod c) + b) (orderOf c) < length (orderOf c)
+  pub place-fits : firstPlace (2 * (k % stepsPerPeriod c) + b) (orderOf c) < length (orderOf c)
   place-fits = which-sent (runAt c start) k (step-kept c (k % stepsPerPeriod c) (place-small c k))
 
   pub sent-in : InFrame c start k → SentIn (modulationOf c) start (number (runAt c start) k b) k
-  sent-in h = in-frame c start k (placeIn (2 * (k % stepsPerPeriod c) + b) (orderOf c)) h place-fits
+  sent-in h = in-frame c start k (firstPlace (2 * (k % stepsPerPeriod c) + b) (orderOf c)) h place-fits
 
 -- what the code's table says of the bit that is read, and of its number among those sent
 module _ (r : PeriodLayout) (h : LayoutOf r) (start k : ℕ) where

@@ -169,6 +169,11 @@ passed rows r e a = condition-false rows (none-holds rows r e) a
 
 -- ---- rows put behind others
 
+-- each of both lists refuses
+pub refusing-both : (above below : List Row) → T (refusing above) → T (refusing below) → T (refusing (above ++ below))
+refusing-both [] below r s = s
+refusing-both (row ∷ rows) below r s = let f = first-refuses (accepted (row .0)) (refusing rows) r in rw (f .0) (refusing-both rows below (f .1) s)
+
 -- where the first ones refuse, those below change nothing
 pub refused-above : (above below : List Row) → (firstRow above ≡ Accepted → ⊥) → firstRow (above ++ below) ≡ firstRow above
 refused-above [] below n = absurd (n refl)

@@ -57,12 +57,12 @@ abbrev pub says : Answer → List ℕ → Said
 says a values = cond (accepted a) (0, values) (numberOf a, [])
 
 -- "from the top": each row of a call stands in the table, none above the row before it
-abbrev pub placeIn : List ℕ → ℕ → ℕ
-placeIn [] n = 0
-placeIn (m ∷ ms) n = cond (eqb m n) 0 (suc (placeIn ms n))
+abbrev pub indexIn : List ℕ → ℕ → ℕ
+indexIn [] n = 0
+indexIn (m ∷ ms) n = cond (eqb m n) 0 (suc (indexIn ms n))
 
 abbrev pub place : Row → ℕ
-place row = placeIn order (numberOf (row .0))
+place row = indexIn order (numberOf (row .0))
 
 abbrev pub downFrom : ℕ → List Row → Bool
 downFrom p [] = true

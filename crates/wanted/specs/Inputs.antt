@@ -25,7 +25,7 @@ use Rattle.isdbs_runs.specs.RunsOf.{frameSteps}
 use Rattle.isdbs_points.specs.declared.Cplx.{Cplx}
 use Rattle.isdbs_points.specs.declared.Mapping.{Mapping}
 use Rattle.isdbs_points.specs.Points.{point, unused, subset, conjugated}
-use Rattle.isdbs_points.specs.Layout.{Segment, segments, orderOf, stepsPerPeriod, placeIn, atStep, loadBit, In}
+use Rattle.isdbs_points.specs.Layout.{Segment, segments, orderOf, stepsPerPeriod, atStep, loadBit, In, firstPlace}
 use Rattle.isdbs_points.specs.Frame.{inputs, labelAt, codedBit, sentBit, pointBy, pointIn, pointAt, startState}
 use Rattle.isdbs_points.specs.SizeLaws.{table-whole, symbol-fits, at-symbol, at-step, find-step}
 use Rattle.isdbs_points.specs.OrderLaws.{Sends, Pairs, Kind, one, two, three, kind, Kept, mother, number, sent-at}
@@ -39,15 +39,15 @@ use Rattle.trellis.specs.Isdb
 
 -- ---- the coded bit that is read is sent
 pub which-small : (g : Segment) (k : ℕ) → which g k < 2
-which-small g k = go (ltb (placeIn (mother g k 0) (orderOf (g .combination))) (length (orderOf (g .combination))))
+which-small g k = go (ltb (firstPlace (mother g k 0) (orderOf (g .combination))) (length (orderOf (g .combination))))
   where
     go : (t : Bool) → cond t 0 1 < 2
     go true = lit< tt
     go false = lit< tt
 
 pub which-sent : (g : Segment) (k : ℕ) → Kept (orderOf (g .combination)) (k % stepsPerPeriod (g .combination))
-    → placeIn (mother g k (which g k)) (orderOf (g .combination)) < length (orderOf (g .combination))
-which-sent g k kept = go (ltb (placeIn (mother g k 0) o) n) (ltb→lt (placeIn (mother g k 0) o) n) (λ h. lt→ltb (placeIn (mother g k 0) o) n h) kept
+    → firstPlace (mother g k (which g k)) (orderOf (g .combination)) < length (orderOf (g .combination))
+which-sent g k kept = go (ltb (firstPlace (mother g k 0) o) n) (ltb→lt (firstPlace (mother g k 0) o) n) (λ h. lt→ltb (firstPlace (mother g k 0) o) n h) kept
   where
     o : List ℕ
     o = orderOf (g .combination)
@@ -55,7 +55,7 @@ which-sent g k kept = go (ltb (placeIn (mother g k 0) o) n) (ltb→lt (placeIn (
     n : ℕ
     n = length o
 
-    go : (t : Bool) → (T t → placeIn (mother g k 0) o < n) → (placeIn (mother g k 0) o < n → T t) → Kept o (k % stepsPerPeriod (g .combination)) → placeIn (mother g k (cond t 0 1)) o < n
+    go : (t : Bool) → (T t → firstPlace (mother g k 0) o < n) → (firstPlace (mother g k 0) o < n → T t) → Kept o (k % stepsPerPeriod (g .combination)) → firstPlace (mother g k (cond t 0 1)) o < n
     go true y x h = y tt
     go false y x (inl h) = absurd (x h)
     go false y x (inr h) = h
@@ -123,13 +123,13 @@ module _ (t : Table) (ok : TableAccepted t) (m : Mapping) (first : Bool) (re im 
       abbrev b : ℕ
       b = which g k
 
-      place-small : placeIn (mother g k b) (orderOf c) < length (orderOf c)
+      place-small : firstPlace (mother g k b) (orderOf c) < length (orderOf c)
       place-small = which-sent g k (s .kept (k % stepsPerPeriod c) (mod-lt k (s .period)))
 
       number-small : number g k b < w * g .symbols
       number-small =
           let o = table-whole t ok g i in
-          rw (o .symbols-are) (s .room (o .units) k (placeIn (mother g k b) (orderOf c)) (rw (o .steps-are) at K) place-small)
+          rw (o .symbols-are) (s .room (o .units) k (firstPlace (mother g k b) (orderOf c)) (rw (o .steps-are) at K) place-small)
 
       sent-is : sentBit at g (number g k b) ≡ codedBit b (at (g .step + k))
       sent-is = sent-at g k b at (s .period) (which-small g k) place-small

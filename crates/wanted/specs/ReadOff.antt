@@ -17,7 +17,7 @@ use Rattle.isdbs_runs.specs.RunsOf.{loadBytes}
 use Rattle.isdbs_points.specs.declared.Cplx.{Cplx}
 use Rattle.isdbs_points.specs.declared.Mapping.{Mapping}
 use Rattle.isdbs_points.specs.Points.{point, zero64, subset, conjugated}
-use Rattle.isdbs_points.specs.Layout.{Segment, orderOf, placeIn, atStep, atBit, byteOf}
+use Rattle.isdbs_points.specs.Layout.{Segment, orderOf, atStep, atBit, byteOf, firstPlace}
 use Rattle.isdbs_points.specs.Frame.{codedBit, startState}
 use Rattle.isdbs_points.specs.OrderLaws.{mother, number}
 use Rattle.isdbs_metrics.specs.Reading.{partOf}
@@ -43,7 +43,7 @@ psk8Label z = bySign (bySign 1 6 0 (z .im)) (bySign 2 5 4 (z .im)) (bySign 3 7 7
 -- ---- the inputs of a segment
 -- the coded bit of step k that is read: X (0) where it is sent, else Y (1)
 abbrev pub which : Segment → ℕ → ℕ
-which g k = cond (ltb (placeIn (mother g k 0) (orderOf (g .combination))) (length (orderOf (g .combination)))) 0 1
+which g k = cond (ltb (firstPlace (mother g k 0) (orderOf (g .combination))) (length (orderOf (g .combination)))) 0 1
 
 module _ (m : Mapping) (z : ℕ → Cplx) where
   -- The coded bit b of step k of a run that starts at a symbol, as the points show it: the run sends it n-th

@@ -2,7 +2,7 @@
 use mathlib.Core.Path.{_≡_, refl, sym, _∙_}
 use mathlib.Core.Logic.{_⊎_, inl, inr}
 use mathlib.Core.Bool.{Bool, true, false}
-use mathlib.Core.List.{List, [], _∷_, _++_}
+use mathlib.Core.List.{List, [], _∷_, _++_, append-assoc}
 use Prim.Native.Nat.{ℕ}
 use lib.Dec.{T}
 use lib.ListN.{length}
@@ -13,22 +13,21 @@ use Rattle.refusal.specs.Rows.{Row, firstRow, Either, says}
 use Rattle.refusal.specs.RowLaws.{refusing, decided, is-refused, refused-above, passed-above}
 use Rattle.isdbs_tables.specs.declared.Table.{Table}
 use Rattle.isdbs_tables.specs.Tables.{tableRows}
+use Rattle.isdbs_tables.specs.TableLaws.{then-refusing}
 use Rattle.isdbs_runs.specs.RunsOf.{loadBytes}
 use Rattle.isdbs_points.specs.declared.Mapping.{Mapping}
 use Rattle.wanted.specs.Wanted.{Unwanted}
 use Rattle.wanted_load.specs.declared.LoadFound.{LoadFound}
 use Rattle.wanted_load.specs.declared.LoadFound.the-variants.{Load, Refused}
-use Rattle.wanted_load.specs.Rows.{earlierRows, wantedRows}
+use Rattle.wanted_load.specs.Rows.{lentRows, earlierRows, wantedRows}
 use Rattle.wanted_load.specs.Found.{loadSaid, Tells, Answered, Outcome, found, none, Turned}
 
 -- 13 stands behind the rows that are checked before the frame is read
 last-row : (t : Table) (re im bytes : ℕ) (b : Bool) → wantedRows t re im bytes b ≡ earlierRows t re im bytes ++ (NoLoad, b) ∷ []
-unfolding tableRows
-last-row t re im bytes b = refl
+last-row t re im bytes b = sym (append-assoc (tableRows t) (lentRows (loadBytes t) re im bytes) ((NoLoad, b) ∷ []))
 
 earlier-refusing : (t : Table) (re im bytes : ℕ) → T (refusing (earlierRows t re im bytes))
-unfolding tableRows
-earlier-refusing t re im bytes = tt
+earlier-refusing t re im bytes = then-refusing t (lentRows (loadBytes t) re im bytes) tt
 
 module _ (t : Table) (m : Mapping) (first : Bool) (re im : List Float) (r : LoadFound) (bytes₀ bytes : List ℕ) where
   abbrev rows : List Row

@@ -1,6 +1,6 @@
 -- `layout_of` meets its contract. Assumes nothing.
 use Rattle.isdbs_metrics.proofs.Codes.{places-1, places-2, places-3, places-4, places-5, places-6, places-7}
-use Rattle.isdbs_points.specs.Layout.{sentOrder, placeIn}
+use Rattle.isdbs_points.specs.Layout.{sentOrder, firstPlace}
 use mathlib.Core.Path.{_≡_, refl, sym, _∙_, ap}
 use borrow.Author.Needs.{needs}
 use Rattle.isdbs_metrics.proofs.layout_of.Statement.{statement}
@@ -28,31 +28,31 @@ enum-told-7 : tie.Need-enum-told-7
 enum-told-7 c = search needs
 
 returns : tie.Need-returns
-unfolding sentOrder placeIn
+unfolding sentOrder firstPlace
 returns c = rw (c .enum-told .given .1) (refl, record { modulation = refl; period = refl; count = refl; places = places-1 })
 
 returns-2 : tie.Need-returns-2
-unfolding sentOrder placeIn
+unfolding sentOrder firstPlace
 returns-2 c = rw (c .enum-told2 .given .1) (refl, record { modulation = refl; period = refl; count = refl; places = places-2 })
 
 returns-3 : tie.Need-returns-3
-unfolding sentOrder placeIn
+unfolding sentOrder firstPlace
 returns-3 c = rw (c .enum-told3 .given .1) (refl, record { modulation = refl; period = refl; count = refl; places = places-3 })
 
 returns-4 : tie.Need-returns-4
-unfolding sentOrder placeIn
+unfolding sentOrder firstPlace
 returns-4 c = rw (c .enum-told4 .given .1) (refl, record { modulation = refl; period = refl; count = refl; places = places-4 })
 
 returns-5 : tie.Need-returns-5
-unfolding sentOrder placeIn
+unfolding sentOrder firstPlace
 returns-5 c = rw (c .enum-told5 .given .1) (refl, record { modulation = refl; period = refl; count = refl; places = places-5 })
 
 returns-6 : tie.Need-returns-6
-unfolding sentOrder placeIn
+unfolding sentOrder firstPlace
 returns-6 c = rw (c .enum-told6 .given .1) (refl, record { modulation = refl; period = refl; count = refl; places = places-6 })
 
 returns-7 : tie.Need-returns-7
-unfolding sentOrder placeIn
+unfolding sentOrder firstPlace
 returns-7 c = rw (c .enum-told7 .given .1) (refl, record { modulation = refl; period = refl; count = refl; places = places-7 })
 
 pub layout-of-spec : {M : Type 1} → statement M
