@@ -1,19 +1,10 @@
 -- Steps in a row, with nothing between them. Assumes nothing.
-use mathlib.Core.List.{List, [], _∷_}
-use Prim.Native.Nat.{ℕ, zero, suc, _+_, _*_}
-use lib.ListN.{getD}
-use lib.Ieee.{Float, nan}
+use mathlib.Core.List.{List}
+use Prim.Native.Nat.{ℕ, zero, suc}
+use lib.Ieee.{Float}
 use Rattle.trellis.specs.Lists.{upto}
-use Rattle.trellis.specs.Step.{Step, Tie, pair, four, nexts, word}
+use Rattle.trellis.specs.Step.{Step, Tie, nexts, word}
 use Rattle.trellis.specs.Isdb
-
--- the steps of a list: two soft values each, four metrics each
-abbrev pub pairSteps : List Float → ℕ → Step
-pairSteps xs k = pair (getD xs (2 * k) nan) (getD xs (2 * k + 1) nan)
-
-abbrev pub fourSteps : List Float → ℕ → Step
-fourSteps xs k =
-    four (getD xs (4 * k) nan ∷ getD xs (4 * k + 1) nan ∷ getD xs (4 * k + 2) nan ∷ getD xs (4 * k + 3) nan ∷ [])
 
 module _ (half : ℕ) (label : ℕ → ℕ → ℕ) (rule : Tie) where
   -- the path values after n steps

@@ -7,7 +7,8 @@ ghost use lib.ListN.{length};
 ghost use Rattle.trellis.specs.Lists.{laid};
 ghost use Rattle.trellis.specs.Step.{pair, four};
 ghost use Rattle.trellis.specs.Isdb.{nexts, word};
-ghost use Rattle.acs_runs.specs.Runs.{pairSteps, fourSteps, runValues, runWords};
+ghost use Rattle.acs_runs.specs.Runs.{runValues, runWords};
+ghost use Rattle.trellis.specs.Run.{pairSteps, fourSteps};
 
 // n steps of a pair of soft values each.
 pub fn run2(pm: &mut [f32; 64], pairs: &[f32], n: usize, words: &mut [u64])

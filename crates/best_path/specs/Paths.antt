@@ -2,7 +2,7 @@
 -- A path is its start s and its inputs us: the state after k steps is `stateAt half s us k`, and the coded pair of a branch is `out u s`. Assumes nothing.
 use mathlib.Core.Path.{_≡_}
 use mathlib.Core.Logic.{_⊎_}
-use mathlib.Core.List.{List, [], _∷_}
+use mathlib.Core.List.{List}
 use Prim.Native.Nat.{ℕ, zero, suc, _+_, _*_, _%_, _≤_, _<_}
 use lib.IntN.{ℤ, pos, natAbs, _+ℤ_}
 use lib.Signed.{_≤ℤ_}
@@ -83,10 +83,6 @@ pub record Integer (b : ℕ) (x : Float) (z : ℤ) : Type 0 where
   pub held : T (fits binary32 x)
   pub equal : T (eq x (ofInt binary32 z))
   pub within : natAbs z ≤ b
-
--- quadruple k of a flat list
-abbrev pub quadruple : List Float → ℕ → List Float
-quadruple xs k = getD xs (4 * k) nan ∷ getD xs (4 * k + 1) nan ∷ getD xs (4 * k + 2) nan ∷ getD xs (4 * k + 3) nan ∷ []
 
 -- the first n quadruples hold whole numbers within the bound: m k c is what quadruple k has for the coded pair c
 abbrev pub Quadruples : (ℕ → List Float) → (ℕ → ℕ → ℤ) → ℕ → Type 0

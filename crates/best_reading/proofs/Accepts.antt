@@ -16,8 +16,8 @@ use Rattle.refusal.specs.Rows.{firstRow}
 use Rattle.refusal.specs.declared.Answer.the-variants.{Accepted, State, Length, Sample, Space}
 use Rattle.trellis.specs.Isdb
 use Rattle.trellis.specs.Step.{four}
-use Rattle.trellis.specs.Run.{Decoder, block}
-use Rattle.best_path.specs.Paths.{longest, bound, Integer, Quadruples, Reading, quadruple}
+use Rattle.trellis.specs.Run.{Decoder, block, quadruple, releases, fourSteps}
+use Rattle.best_path.specs.Paths.{longest, bound, Integer, Quadruples, Reading}
 use Rattle.best_path.specs.Exact.{Whole, le-from}
 use Rattle.best_path.specs.Calls.{readBits, isdb-given, isdb-unknown}
 use Rattle.best_path.specs.Integers.{integer-whole, hi-most, lo-most}
@@ -25,8 +25,8 @@ use Rattle.refusal.specs.RowLaws as row
 use Rattle.refusal.specs.RowLaws.{neither}
 use borrow.Author.Tests.{ltb-false}
 use Rattle.isdb_fec.specs.Values.{within, someBeyond, streamLimit}
-use Rattle.isdb_fec.specs.Rows.{badState, pushMetricsRows, flushRows, stepsShort, releases, readingRows}
-use Rattle.isdb_fec.specs.Calls.{fourSteps, flush}
+use Rattle.isdb_fec.specs.Rows.{badState, pushMetricsRows, flushRows, stepsShort, readingRows}
+use Rattle.isdb_fec.specs.Calls.{flush}
 use Rattle.viterbi.specs.CountLaws.{counted, releases-le}
 use Rattle.call_ranges.specs.Inside.{none-beyond}
 use Rattle.call_ranges.specs.Reached.{Reached, with-state, unknown-state}

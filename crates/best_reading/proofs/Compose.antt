@@ -8,20 +8,20 @@ use native.Mathlib.Omega.{arith}
 use lib.Dec.{T, ltb, not-T, nltb→le}
 use lib.ListN.{length, getD, take, drop, replicate, length-append, length-drop}
 use lib.Ieee.{Float, nan, binary32, fits}
-use Rattle.refusal.specs.Rows.{firstRow}
+use Rattle.refusal.specs.Rows.{firstRow, Either}
 use Rattle.refusal.specs.declared.Answer.{Answer}
 use Rattle.refusal.specs.declared.Answer.the-variants.{Accepted, Space}
 use Rattle.trellis.specs.Isdb
 use Rattle.trellis.specs.Isdb.{decoded}
 use Rattle.trellis.specs.Lists.{laid}
 use Rattle.trellis.specs.Step.{input, traced}
-use Rattle.trellis.specs.Run.{Decoder, block}
+use Rattle.trellis.specs.Run.{Decoder, block, fourSteps}
 use Rattle.best_path.specs.Paths.{Reading}
 use Rattle.trellis.specs.ListLaws.{length-upto}
 use Rattle.isdb_fec.specs.declared.conv.ViterbiDecoder.{ViterbiDecoder}
 use Rattle.isdb_fec.specs.declared.conv.Released.{Released}
 use Rattle.isdb_fec.specs.Rows.{pushMetricsRows, flushRows, readingRows}
-use Rattle.isdb_fec.specs.Calls.{fourSteps, call, flush, handed, bestState, Fresh, Zero, Leaves, Flushes, Unchanged, Either}
+use Rattle.isdb_fec.specs.Calls.{call, flush, handed, bestState, Fresh, Zero, Leaves, Flushes, Unchanged}
 use Rattle.refusal.specs.RowLaws.{decided, passed}
 use Rattle.trellis.specs.LaidLaws.{take-laid, laid-after}
 use Rattle.best_reading.specs.declared.Start.{Start}

@@ -7,16 +7,16 @@ use lib.Dec.{eqb, ltb}
 use lib.IntN.{ℤ}
 use lib.ListN.{length, getD, take, drop}
 use lib.Ieee.{Float, nan}
-use Rattle.refusal.specs.Rows.{Row, firstRow}
+use Rattle.refusal.specs.Rows.{Row, firstRow, Either}
 use Rattle.refusal.specs.declared.Answer.the-variants.{Accepted, Length, Sample, Space}
 use Rattle.trellis.specs.Isdb
-use Rattle.trellis.specs.Run.{Decoder, block, startAt, startUnknown}
-use Rattle.best_path.specs.Paths.{longest, quadruple, Quadruples, Reading}
+use Rattle.trellis.specs.Run.{Decoder, block, startAt, startUnknown, quadruple, fourSteps}
+use Rattle.best_path.specs.Paths.{longest, Quadruples, Reading}
 use Rattle.isdb_fec.specs.declared.conv.ViterbiDecoder.{ViterbiDecoder}
 use Rattle.isdb_fec.specs.declared.conv.Released.{Released}
 use Rattle.isdb_fec.specs.Values.{someBeyond, streamLimit}
 use Rattle.isdb_fec.specs.Rows.{flushRows}
-use Rattle.isdb_fec.specs.Calls.{fourSteps, call, flush, Flushes, Unchanged, Either}
+use Rattle.isdb_fec.specs.Calls.{call, flush, Flushes, Unchanged}
 use Rattle.call_ranges.specs.Finished.{Finished}
 use Rattle.best_reading.specs.declared.Start.{Start}
 use Rattle.best_reading.specs.declared.Start.the-variants.{Given, Unknown}

@@ -14,7 +14,7 @@ use Rattle.refusal.specs.Rows.{firstRow}
 use Rattle.refusal.specs.declared.Answer.the-variants.{Accepted, Traceback, Sample}
 use Rattle.trellis.specs.Isdb
 use Rattle.trellis.specs.Step.{Step}
-use Rattle.trellis.specs.Run.{Decoder, block, tracebackLimit}
+use Rattle.trellis.specs.Run.{Decoder, block, tracebackLimit, pairSteps, fourSteps, knownSteps}
 use Rattle.lead.specs.Ties.{false-of}
 use Rattle.trellis.specs.RunLaws.{after-values}
 use Rattle.lead.specs.Complement.{small}
@@ -28,7 +28,7 @@ use Rattle.isdb_fec.specs.declared.conv.ViterbiDecoder.{ViterbiDecoder}
 use Rattle.isdb_fec.specs.declared.conv.Released.{Released}
 use Rattle.isdb_fec.specs.Values.{someBeyond, pathLimit, streamLimit}
 use Rattle.isdb_fec.specs.Rows.{badTraceback, badState, freshRows, handedRows, streamRows}
-use Rattle.isdb_fec.specs.Calls.{pairSteps, fourSteps, knownSteps, call, steps, handed, Fresh, Leaves, Emits}
+use Rattle.isdb_fec.specs.Calls.{call, steps, handed, Fresh, Leaves, Emits}
 use Rattle.viterbi.specs.CountLaws.{counted}
 use Rattle.refusal.specs.RowLaws.{passed}
 use Rattle.call_ranges.specs.Inside.{inside-within, within-inside, none-beyond, all-inside}

@@ -15,9 +15,9 @@ use Rattle.trellis.specs.Code.{label, output, tapped}
 use Rattle.trellis.specs.Step as step
 use Rattle.trellis.specs.Step.{Step, four, branch, cand, wins, next, top, renormalised}
 use Rattle.trellis.specs.Run as run
-use Rattle.trellis.specs.Run.{Decoder, startUnknown, settled}
+use Rattle.trellis.specs.Run.{Decoder, startUnknown, settled, fourSteps}
 use Rattle.trellis.specs.RunLaws.{after-values}
-use Rattle.isdb_fec.specs.Calls.{fourSteps, steps}
+use Rattle.isdb_fec.specs.Calls.{steps}
 use Rattle.viterbi.specs.HoldingLaws.{bare}
 use Rattle.viterbi.specs.Calls.{fourCall}
 use Rattle.viterbi.specs.RunLaws.{then}

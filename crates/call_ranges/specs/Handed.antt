@@ -6,16 +6,17 @@ use mathlib.Core.List.{List}
 use Prim.Native.Nat.{ℕ, _/_}
 use lib.ListN.{length}
 use lib.Ieee.{Float}
-use Rattle.refusal.specs.Rows.{firstRow}
+use Rattle.refusal.specs.Rows.{firstRow, Either}
 use Rattle.refusal.specs.declared.Answer.the-variants.{Accepted}
 use Rattle.refusal.specs.RowLaws.{decided}
-use Rattle.trellis.specs.Run.{startAt, startUnknown}
+use Rattle.trellis.specs.Run.{startAt, startUnknown, pairSteps, fourSteps, knownSteps}
 use Rattle.isdb_fec.specs.declared.conv.ViterbiDecoder.{ViterbiDecoder}
 use Rattle.isdb_fec.specs.declared.conv.Made.{Made}
 use Rattle.isdb_fec.specs.declared.conv.Released.{Released}
 use Rattle.isdb_fec.specs.Rows.{freshRows, pushRows, pushMetricsRows, pushKnownRows, flushRows}
-use Rattle.isdb_fec.specs.Calls.{pairSteps, fourSteps, knownSteps, call, steps, handed, Fresh, Zero, Leaves, Flushes, FlushesAt, Unchanged, Either}
-use Rattle.call_ranges.specs.Reached.{Reached, Floats, fresh, with-state, unknown-state, push, push-metrics, push-known, flush, flush-at}
+use Rattle.isdb_fec.specs.Calls.{call, steps, handed, Fresh, Zero, Leaves, Flushes, FlushesAt, Unchanged}
+use Rattle.call_ranges.specs.Reached.{Reached, Floats, with-state, unknown-state, push, push-metrics, push-known, flush, flush-at}
+use Rattle.call_ranges.specs.Finished.{fresh}
 use Rattle.trellis.specs.Isdb.{frameTraceback}
 
 -- ---- a fresh start that is accepted

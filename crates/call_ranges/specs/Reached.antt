@@ -8,20 +8,15 @@ use lib.ListN.{getD, length}
 use lib.Ieee.{Float, nan, binary32, fits}
 use Rattle.refusal.specs.Rows.{firstRow}
 use Rattle.refusal.specs.declared.Answer.the-variants.{Accepted}
-use Rattle.trellis.specs.Run.{startAt, startUnknown}
+use Rattle.trellis.specs.Run.{startAt, startUnknown, pairSteps, fourSteps, knownSteps}
 use Rattle.isdb_fec.specs.declared.conv.ViterbiDecoder.{ViterbiDecoder}
 use Rattle.isdb_fec.specs.declared.conv.Released.{Released}
 use Rattle.isdb_fec.specs.Rows.{freshRows, pushRows, pushMetricsRows, pushKnownRows, flushRows}
-use Rattle.isdb_fec.specs.Calls.{pairSteps, fourSteps, knownSteps, call, steps, handed, Fresh, Leaves, Flushes, FlushesAt}
-use Rattle.trellis.specs.Isdb.{frameTraceback}
+use Rattle.isdb_fec.specs.Calls.{call, steps, handed, Fresh, Leaves, Flushes, FlushesAt}
 
 -- every value of a lent f32 slice is one of the format's; the borrow checker tells it of each slice
 abbrev pub Floats : List Float → Type 0
 Floats xs = (i : ℕ) → T (fits binary32 (getD xs i nan))
-
--- the decoder of traceback 128 that `with_state` makes
-abbrev pub fresh : ℕ → ViterbiDecoder
-fresh state = record { pm = startAt 64 state; held = 0; traceback = frameTraceback }
 
 pub data Reached : ViterbiDecoder → Type 0 where
   -- `new` is `with_state` at 0

@@ -17,7 +17,7 @@ use Rattle.trellis.specs.Isdb.{valuesAt, nexts}
 use Rattle.trellis.specs.ListLaws.{getD-upto}
 use Rattle.trellis.specs.Step.{Step, known, ruled}
 use Rattle.trellis.specs.Run as run
-use Rattle.trellis.specs.Run.{startAt, startUnknown, settled}
+use Rattle.trellis.specs.Run.{startAt, startUnknown, settled, pairSteps, fourSteps, knownSteps}
 use Rattle.trellis.specs.RunLaws.{after-values}
 use Rattle.lead.specs.Complement.{small}
 use Rattle.path_ranges.specs.Steps.{Soft, soft-moves, Falls, soft-falls}
@@ -28,7 +28,7 @@ use Rattle.path_ranges.specs.Starts.{given-bounded, unknown-bounded}
 use Rattle.isdb_fec.specs.declared.conv.ViterbiDecoder.{ViterbiDecoder}
 use Rattle.isdb_fec.specs.declared.conv.Released.{Released}
 use Rattle.isdb_fec.specs.Rows.{pushRows, pushMetricsRows}
-use Rattle.isdb_fec.specs.Calls.{pairSteps, fourSteps, knownSteps, steps, call, handed, Leaves}
+use Rattle.isdb_fec.specs.Calls.{steps, call, handed, Leaves}
 use Rattle.viterbi.specs.Calls.{pairCall, fourCall}
 use Rattle.isdb_fec.specs.TwoCallLaws as calls
 use Rattle.isdb_fec.specs.TwoCallLaws.{both}

@@ -2,9 +2,10 @@
 ghost use mathlib.Core.Path.{_≡_};
 ghost use Prim.Native.Nat.{_/_};
 ghost use lib.ListN.{length};
-ghost use Rattle.refusal.specs.Rows.{firstRow};
-ghost use Rattle.isdb_fec.specs.Calls.{pairSteps, call, handed, Leaves, Unchanged, Either};
-ghost use Rattle.call_ranges.specs.Reached.{fresh};
+ghost use Rattle.refusal.specs.Rows.{firstRow, Either};
+ghost use Rattle.isdb_fec.specs.Calls.{call, handed, Leaves, Unchanged};
+ghost use Rattle.call_ranges.specs.Finished.{fresh};
+ghost use Rattle.trellis.specs.Run.{pairSteps};
 ghost use Rattle.isdb_fec.specs.Rows.{streamRest};
 ghost use Rattle.trellis.specs.Isdb.{frameTraceback};
 use isdb_fec::conv::Released;

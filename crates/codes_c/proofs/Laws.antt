@@ -20,7 +20,7 @@ use Rattle.short_code.specs.declared.Code.{Code}
 use Rattle.short_code.specs.Codes.{codeOf}
 use Rattle.short_fec.specs.Rows.{encodeRows}
 use Rattle.trellis.specs.Lists.{laid}
-use Rattle.trellis.specs.Encoded.{codedBits, endState}
+use Rattle.trellis.specs.Encoded.{codedBits, lastState}
 use Rattle.short_fec.specs.Calls.{Leaves, Flushes}
 use Rattle.answers_c.specs.Answers.{answered, left}
 use Rattle.answers_c.specs.AnswerLaws.{kept}
@@ -89,14 +89,14 @@ module _ (k c : Code) (ek : k ≡ c) (v w : ViterbiDecoder) (ev : v ≡ w) (rows
 
 -- ---- the list encoder
 module _ (k c : Code) (ek : k ≡ c) (s n : ℕ) (a : Answer) (us out₀ out : List ℕ) (s′ : ℕ) (en : n ≡ numberOf a) (ea : a ≡ firstRow (encodeRows k s (length us) (length out₀)))
-    (es : Either a (s′ ≡ endState (codeOf k) s us) (s′ ≡ s)) (eo : Either a (out ≡ laid (codedBits (codeOf k) s us) out₀) (out ≡ out₀)) where
+    (es : Either a (s′ ≡ lastState (codeOf k) s us) (s′ ≡ s)) (eo : Either a (out ≡ laid (codedBits (codeOf k) s us) out₀) (out ≡ out₀)) where
   encode-number : n ≡ answered (encodeRows c s (length us) (length out₀))
   encode-number = en ∙ ap numberOf (rw ek at ea)
 
-  pub encode-done : n ≡ 0 → (0 ≡ answered (encodeRows c s (length us) (length out₀))) × (s′ ≡ endState (codeOf c) s us) × (out ≡ laid (codedBits (codeOf c) s us) out₀)
+  pub encode-done : n ≡ 0 → (0 ≡ answered (encodeRows c s (length us) (length out₀))) × (s′ ≡ lastState (codeOf c) s us) × (out ≡ laid (codedBits (codeOf c) s us) out₀)
   encode-done z =
       let y = zero-accepted a (sym en ∙ z) in
       (sym z ∙ encode-number, rw ek at (es .0 y), rw ek at (eo .0 y))
 
-  pub encode-refused : (n ≡ 0 → ⊥) → (n ≡ answered (encodeRows c s (length us) (length out₀))) × (s ≡ left n (endState (codeOf c) s us) s) × (out ≡ left n (laid (codedBits (codeOf c) s us) out₀) out₀)
-  encode-refused h = (encode-number, kept n (endState (codeOf c) s us) s h, eo .1 (λ y. h (en ∙ ap numberOf y)) ∙ kept n (laid (codedBits (codeOf c) s us) out₀) out₀ h)
+  pub encode-refused : (n ≡ 0 → ⊥) → (n ≡ answered (encodeRows c s (length us) (length out₀))) × (s ≡ left n (lastState (codeOf c) s us) s) × (out ≡ left n (laid (codedBits (codeOf c) s us) out₀) out₀)
+  encode-refused h = (encode-number, kept n (lastState (codeOf c) s us) s h, eo .1 (λ y. h (en ∙ ap numberOf y)) ∙ kept n (laid (codedBits (codeOf c) s us) out₀) out₀ h)

@@ -14,8 +14,8 @@ ghost use mathlib.Core.Bool.{not};
 ghost use Prim.Native.Nat.{ℕ, _/_};
 ghost use lib.ListN.{length, take};
 ghost use Rattle.trellis.specs.Lists.{laid};
-ghost use Rattle.trellis.specs.Encoded.{codedBits, endState};
-ghost use Rattle.viterbi.specs.Calls.{pairSteps, fourSteps, knownSteps};
+ghost use Rattle.trellis.specs.Encoded.{codedBits, lastState};
+ghost use Rattle.trellis.specs.Run.{pairSteps, fourSteps, knownSteps};
 ghost use Rattle.short_code.specs.Codes.{codeOf, goodCode};
 ghost use Rattle.short_fec.specs.Calls.{steps, call, handed, bestOf, endOf};
 ghost use Rattle.short_fec.specs.Rows.{encodeRows, handedRows, streamRows, knownRows, flushRows};
@@ -83,7 +83,7 @@ pub extern "C" fn isdb_code_encode(
     out: &mut [u8],
 ) -> u32
     ensures answers { λ r. ⌜ r ≡ answered (encodeRows (codeFrom constraint g1 g2) (now (state .entry)) (length (now (bits .entry))) (length (now (out .entry)))) ⌝ }
-    ensures state { λ r. ⌜ now (state .exit) ≡ left r (endState (codeOf (codeFrom constraint g1 g2)) (now (state .entry)) (now (bits .entry))) (now (state .entry)) ⌝ }
+    ensures state { λ r. ⌜ now (state .exit) ≡ left r (lastState (codeOf (codeFrom constraint g1 g2)) (now (state .entry)) (now (bits .entry))) (now (state .entry)) ⌝ }
     ensures coded { λ r. ⌜ now (out .exit) ≡ left r (laid (codedBits (codeOf (codeFrom constraint g1 g2)) (now (state .entry)) (now (bits .entry))) (now (out .entry))) (now (out .entry)) ⌝ }
 {
     let code = code_from(constraint, g1, g2);

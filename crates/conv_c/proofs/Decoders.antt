@@ -10,12 +10,12 @@ use lib.Ieee.{Float}
 use borrow.Author.Tests.{eq-eqb, ne-eqb, eqb-true, eqb-false}
 use Rattle.refusal.specs.declared.Answer.{Answer}
 use Rattle.refusal.specs.declared.Answer.the-variants.{Accepted}
-use Rattle.refusal.specs.Rows.{Row, numberOf, firstRow}
+use Rattle.refusal.specs.Rows.{Row, numberOf, firstRow, Either}
 use Rattle.refusal.specs.RowLaws.{zero-accepted}
 use Rattle.trellis.specs.Run.{Decoder}
 use Rattle.isdb_fec.specs.declared.conv.ViterbiDecoder.{ViterbiDecoder}
 use Rattle.isdb_fec.specs.declared.conv.Released.{Released}
-use Rattle.isdb_fec.specs.Calls.{Either, Leaves, Emits, Unchanged}
+use Rattle.isdb_fec.specs.Calls.{Leaves, Emits, Unchanged}
 use Rattle.answers_c.specs.Answers.{answered, left}
 use Rattle.answers_c.specs.Lengths.{withStates}
 use Rattle.decoder_c.specs.Decoders.{Stored, Emitted}

@@ -7,8 +7,7 @@ use lib.ListN.{length}
 use lib.Ieee.{Float}
 use Rattle.refusal.specs.Rows.{Row}
 use Rattle.refusal.specs.declared.Answer.the-variants.{Traceback, State, Length, Sample, Space}
-use Rattle.trellis.specs.Run.{block, tracebackLimit}
-use Rattle.viterbi.specs.Calls.{releases}
+use Rattle.trellis.specs.Run.{block, tracebackLimit, releases}
 use Rattle.decoder_rows.specs.Values.{someBeyond, pathLimit, streamLimit}
 
 -- 3: "above 1,024, or 0 in a handed state"

@@ -11,8 +11,7 @@ use lib.Ieee.{Float, nan, lt, ofBits}
 use borrow.Author.Tests.{le-ltb}
 use Rattle.refusal.specs.declared.Answer.{Answer}
 use Rattle.refusal.specs.declared.Answer.the-variants.{Accepted, Space}
-use Rattle.refusal.specs.Rows.{firstRow}
-use Rattle.isdb_fec.specs.Calls.{Either}
+use Rattle.refusal.specs.Rows.{firstRow, Either}
 use Rattle.isdbs_tables.specs.declared.Table.{Table}
 use Rattle.isdbs_tables.specs.Tables.{TableAccepted}
 use Rattle.isdbs_tables.specs.TableLaws.{then-rows}

@@ -22,14 +22,13 @@ use Rattle.isdbs_runs.specs.RunsOf.{frameSteps, loadBytes}
 use Rattle.isdbs_points.specs.declared.Mapping.{Mapping}
 use Rattle.isdbs_points.specs.Layout.{Segment, segments, atBit, loadBit, FullLoad, wordBit, In}
 use Rattle.isdbs_points.specs.Frame.{coded, inputIn, inputs, labelAt, stateAfter, startState}
-use Rattle.isdbs_metrics.specs.Reading.{Received, metricsAt, decodedBits, uncoded, bitBy, bitIn, bytesFrom, decodedBytes}
+use Rattle.isdbs_metrics.specs.Reading.{Received, metricsAt, decodedBits, uncoded, bitBy, bitIn, bytesFrom, decodedBytes, received}
 use Rattle.margins.specs.Margins.{Within}
 use Rattle.isdbs_points.specs.SizeLaws.{table-whole, few-steps, step-fits, at-bit, find-bit}
 use Rattle.isdbs_points.specs.OrderLaws.{Pairs, Kind, one, two, three, kind}
 use Rattle.isdbs_points.specs.BitLaws.{of-pair, bytes-are}
 use Rattle.isdbs_points.specs.InputLaws.{label-alike, input-at, input-small}
 use Rattle.exact_frame.specs.Steps.{step-favours, tc-bit}
-use Rattle.isdbs_metrics.specs.Steps.{received}
 use Rattle.margin_ends.specs.Ends.{eight}
 
 start-small : (first : Bool) → startState first < 64

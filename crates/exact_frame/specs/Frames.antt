@@ -22,14 +22,13 @@ use Rattle.isdbs_points.specs.declared.Mapping.{Mapping}
 use Rattle.isdbs_points.specs.Points.{unused, zero64, one64, root64, qpskOf, subset}
 use Rattle.isdbs_points.specs.Layout.{Segment, segments, atSymbol, loadBit, FullLoad}
 use Rattle.isdbs_points.specs.Frame.{inputs, labelAt, sentBit, pointBy, pointIn, pointAt, frameRe, frameIm, startState}
-use Rattle.isdbs_encode.specs.Encoding.{FrameLaid}
-use Rattle.isdbs_metrics.specs.Reading.{decodedBytes}
+use Rattle.isdbs_metrics.specs.Reading.{decodedBytes, received}
 use Rattle.margins.specs.Margins.{keeps, anyAccepted, holds, freeRe, freeIm, Within}
 use Rattle.margins.specs.Clean.{Clean, clean-zero, clean-minus-zero, clean-one, clean-minus-one, clean-root, clean-minus-root, conjugated-clean, term-clean, psk8-clean, lowEnd, highEnd, keeps-accepted, clean-within, Other}
 use Rattle.isdbs_points.specs.PlaceLaws.{among-all}
 use Rattle.isdbs_points.specs.BitLaws.{subset-small, load-bit-small}
 use Rattle.exact_frame.specs.Bits.{label-small}
-use Rattle.isdbs_metrics.specs.Steps.{received}
+use Rattle.isdbs_encode.specs.Laid.{FrameLaid}
 use Rattle.exact_frame.specs.Exact.{decoded-load}
 use Rattle.isdbs_frame.specs.Frame.{mainSymbols}
 use Rattle.margin_ends.specs.Ends.{eight}

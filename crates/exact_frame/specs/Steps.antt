@@ -26,7 +26,7 @@ use Rattle.isdbs_points.specs.declared.Mapping.{Mapping}
 use Rattle.isdbs_points.specs.Points.{point, unused, zero64, root64, psk8Of, subset, conjugated, qpskOf}
 use Rattle.isdbs_points.specs.Layout.{Segment, segments, orderOf, stepsPerPeriod, loadBit, In, firstPlace}
 use Rattle.isdbs_points.specs.Frame.{inputs, labelAt, codedBit, sentBit, pointBy, pointIn, pointAt, startState}
-use Rattle.isdbs_metrics.specs.Reading.{Received, scaled, partOf, carrier, softAt, pairMetrics, correlation, metricsBy, metricsIn, metricsAt, receivedAt}
+use Rattle.isdbs_metrics.specs.Reading.{Received, scaled, partOf, carrier, softAt, pairMetrics, correlation, metricsBy, metricsIn, metricsAt, receivedAt, received}
 use Rattle.margins.specs.Margins.{keeps, isBpsk, Within}
 use Rattle.margins.specs.Clean.{psk8-clean, conjugated-keeps}
 use Rattle.margin_ends.specs.Ends.{eight}

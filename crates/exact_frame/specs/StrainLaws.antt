@@ -16,7 +16,7 @@ use Rattle.isdbs_tables.specs.Tables.{TableAccepted}
 use Rattle.isdbs_runs.specs.RunsOf.{validTotal, frameSteps, loadBytes}
 use Rattle.isdbs_points.specs.declared.Mapping.{Mapping}
 use Rattle.isdbs_points.specs.Frame.{inputs, labelAt, startState}
-use Rattle.isdbs_metrics.specs.Reading.{Received, metricsAt, decodedBits, decodedBytes}
+use Rattle.isdbs_metrics.specs.Reading.{Received, metricsAt, decodedBits, decodedBytes, received}
 use Rattle.isdbs_points.specs.Layout.{FullLoad}
 use Rattle.margins.specs.Margins.{Within}
 use Rattle.strain.specs.Strain.{strainedBy, strained, strainOf, strainCounts, strainSum}
@@ -24,7 +24,6 @@ use Rattle.strain.specs.StrainLaws.{none-above, strain-none, strain-of-none}
 use Rattle.exact_frame.specs.Bits.{label-small}
 use Rattle.isdbs_points.specs.InputLaws.{label-alike}
 use Rattle.exact_frame.specs.Steps.{step-favours}
-use Rattle.isdbs_metrics.specs.Steps.{received}
 use Rattle.exact_frame.specs.Exact.{sent-bits, decoded-load}
 use Rattle.margin_ends.specs.Ends.{eight}
 

@@ -2,8 +2,7 @@
 ghost use mathlib.Core.Path.{_≡_};
 ghost use mathlib.Core.Bool.{true};
 ghost use lib.ListN.{length};
-ghost use Rattle.refusal.specs.Rows.{firstRow};
-ghost use Rattle.isdb_fec.specs.Calls.{Either};
+ghost use Rattle.refusal.specs.Rows.{firstRow, Either};
 ghost use Rattle.isdbs_phy.specs.DecodeRows.{decodeRows, frameSaid, frameAnswer, Kept, FrameLeft};
 ghost use Rattle.isdbs_decode.specs.Scales.{receivedBy};
 ghost use Rattle.strain.specs.Strain.{strainSum};

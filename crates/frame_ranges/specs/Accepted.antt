@@ -50,7 +50,8 @@ use Rattle.frame_ranges.specs.Ranges.{Between, pathRange, Ranges, frameA
 use Rattle.isdbs_frame.specs.Frame.{mainSymbols}
 use Rattle.trellis.specs.Isdb.{frameTraceback}
 use Rattle.trellis.specs.Isdb
-use Rattle.frame_ranges.specs.Numbers.{ruledOut, partPower, scalePower, metricPower, softLimit, metricLimit, stepMost, floor, leastPath, mostPath}
+use Rattle.frame_ranges.specs.Numbers.{ruledOut, partPower, scalePower, metricPower, stepMost, floor}
+use Rattle.frame_ranges.specs.Limits.{softLimit, metricLimit, leastPath, mostPath}
 
 -- ---- a value within a power of two, as a test
 size-within : {t : ℕ} {x : Float} (limit : Float) → limit ≡ two-to t → t ≤ 127 → Size binary32 t x → T (within limit x)

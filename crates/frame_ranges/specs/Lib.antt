@@ -3,6 +3,7 @@
 pub mod Size
 pub mod Rising
 pub mod Metrics
+pub mod Limits
 pub mod Numbers
 pub mod NumberLaws
 pub mod Ranges

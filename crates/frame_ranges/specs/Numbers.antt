@@ -1,6 +1,5 @@
--- The numbers of the ranges, in one place: the limits of the rows give the rest. Units of path values are 512, as in crate path_ranges. Assumes nothing.
+-- The numbers of the ranges, in one place, as exponents and in units: the limits of the rows give the rest. Units of path values are 512, as in crate path_ranges. Assumes nothing.
 use Prim.Native.Nat.{ℕ, suc, _+_}
-use lib.Ieee.{Float, binary32, ofBits}
 
 -- 2 ^ 16 is 65,536, the limit of a frame part; 2 ^ 6 is 64, that of a scale
 abbrev pub partPower : ℕ
@@ -13,15 +12,9 @@ scalePower = 6
 abbrev pub softPower : ℕ
 softPower = partPower + scalePower
 
-abbrev pub softLimit : Float
-softLimit = ofBits binary32 0x4a80_0000
-
 -- twice that, 2 ^ 23: a branch metric
 abbrev pub metricPower : ℕ
 metricPower = suc softPower
-
-abbrev pub metricLimit : Float
-metricLimit = ofBits binary32 0x4b00_0000
 
 -- the same in 512
 abbrev pub stepMost : ℕ
@@ -34,10 +27,3 @@ floor = 1048576
 -- 1.0e9, what a ruled out state is set to, without its sign
 abbrev pub ruledOut : ℕ
 ruledOut = 1953125
-
--- a path value is from -1.0e9, that of a ruled out state, to 2 ^ 29 = 64 * 2 ^ 23
-abbrev pub leastPath : Float
-leastPath = ofBits binary32 0xce6e_6b28
-
-abbrev pub mostPath : Float
-mostPath = ofBits binary32 0x4e00_0000

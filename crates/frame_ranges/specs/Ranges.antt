@@ -23,7 +23,7 @@ use Rattle.isdbs_points.specs.Layout.{Segment, segments, In}
 use Rattle.isdbs_metrics.specs.Reading.{Received, softAt, metricsAt, startValues}
 use Rattle.isdbs_decode.specs.Scales.{receivedBy}
 use Rattle.isdbs_decode.specs.Runs.{frameMetrics, knownBits}
-use Rattle.frame_ranges.specs.Numbers.{softLimit, metricLimit, leastPath, mostPath}
+use Rattle.frame_ranges.specs.Limits.{softLimit, metricLimit, leastPath, mostPath}
 use Rattle.trellis.specs.Isdb
 
 -- each soft value of BPSK and QPSK, times its scale

@@ -1,8 +1,7 @@
 // How large the soft values, metrics and path values of a frame can become. The ranges and the theorem are in specs/.
 ghost use mathlib.Core.Path.{_≡_};
 ghost use lib.ListN.{length};
-ghost use Rattle.refusal.specs.Rows.{firstRow};
-ghost use Rattle.isdb_fec.specs.Calls.{Either};
+ghost use Rattle.refusal.specs.Rows.{firstRow, Either};
 ghost use Rattle.isdbs_phy.specs.DecodeRows.{decodeRows, frameSaid, frameAnswer, Kept, FrameLeft};
 ghost use Rattle.isdbs_decode.specs.Scales.{receivedBy};
 ghost use Rattle.strain.specs.Strain.{strainSum};

@@ -13,12 +13,12 @@ use Rattle.refusal.specs.Rows.{firstRow}
 use Rattle.refusal.specs.declared.Answer.the-variants.{Accepted, Length, Sample, Space}
 use Rattle.refusal.specs.RowLaws as row
 use Rattle.refusal.specs.RowLaws.{both-passed, passed-by}
-use Rattle.trellis.specs.Run.{Decoder}
+use Rattle.trellis.specs.Run.{Decoder, releases, pairSteps, fourSteps}
 use Rattle.isdb_fec.specs.declared.conv.ViterbiDecoder.{ViterbiDecoder}
 use Rattle.isdb_fec.specs.declared.conv.Released.{Released}
 use Rattle.isdb_fec.specs.Values.{within, someBeyond, streamLimit}
-use Rattle.isdb_fec.specs.Rows.{releases, stepsShort, handedRows, streamRest, streamRows, pushRows, pushMetricsRows, pushKnownRows}
-use Rattle.isdb_fec.specs.Calls.{pairSteps, fourSteps, handed, Leaves}
+use Rattle.isdb_fec.specs.Rows.{stepsShort, handedRows, streamRest, streamRows, pushRows, pushMetricsRows, pushKnownRows}
+use Rattle.isdb_fec.specs.Calls.{handed, Leaves}
 use Rattle.trellis.specs.LaidLaws.{length-laid}
 use Rattle.isdb_fec.specs.AnswerLaws.{neither, Enough, stream-enough, known-enough}
 use Rattle.viterbi.specs.CountLaws.{Counted, releases-is}

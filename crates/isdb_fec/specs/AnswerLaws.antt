@@ -11,10 +11,10 @@ use Rattle.refusal.specs.Rows.{Row, firstRow, Either}
 pub use Rattle.refusal.specs.RowLaws.{refused, numbered, neither}
 use Rattle.refusal.specs.RowLaws.{done, passed, both-passed}
 use Rattle.refusal.specs.declared.Answer.the-variants.{Accepted, Space}
-use Rattle.trellis.specs.Run.{tracebackLimit, block}
+use Rattle.trellis.specs.Run.{tracebackLimit, block, releases}
 use Rattle.decoder_rows.specs.RowLaws as handed
 use Rattle.isdb_fec.specs.declared.conv.ViterbiDecoder.{ViterbiDecoder}
-use Rattle.isdb_fec.specs.Rows.{releases, shortOf, stepsShort, handedRows, streamRest, streamRows, pushKnownRows, flushRows}
+use Rattle.isdb_fec.specs.Rows.{shortOf, stepsShort, handedRows, streamRest, streamRows, pushKnownRows, flushRows}
 
 pub accepted : {P Q : Type 0} → P → Either Accepted P Q
 accepted = done

@@ -1,16 +1,13 @@
 -- What each call leaves: the decoder of crate trellis at the code of ISDB. Assumes nothing.
 use mathlib.Core.Path.{_≡_}
-use mathlib.Core.Bool.{cond}
 use mathlib.Core.List.{List}
 use Prim.Native.Nat.{ℕ}
 use lib.ListN.{length, replicate}
-use lib.Dec.{eqb}
 use lib.Ieee.{Float, binary32, ofBits}
-pub use Rattle.refusal.specs.Rows.{Either}
 use Rattle.trellis.specs.Isdb.{flushAt}
 use Rattle.trellis.specs.Lists.{laid}
-use Rattle.trellis.specs.Run.{Decoder, decisionsAfter}
-pub use Rattle.viterbi.specs.Calls.{pairSteps, fourSteps, knownSteps, nexts, word, bestState, traced, settle, stepOnce, steps, call, flush, holding, Stepped, Holds, Room}
+use Rattle.trellis.specs.Run.{Decoder, decisionsAfter, depth, holding}
+pub use Rattle.viterbi.specs.Calls.{nexts, word, bestState, traced, settle, stepOnce, steps, call, flush, Stepped, Holds, Room}
 use Rattle.isdb_fec.specs.declared.conv.ViterbiDecoder.{ViterbiDecoder}
 use Rattle.isdb_fec.specs.declared.conv.Released.{Released}
 
@@ -22,7 +19,7 @@ handed v decisions = holding (v .pm) (v .held) decisions
 pub record Fresh (tb : ℕ) (pm : List Float) (v : ViterbiDecoder) : Type 0 where
   pub values : v .pm ≡ pm
   pub held-is : v .held ≡ 0
-  pub traceback-is : v .traceback ≡ cond (eqb tb 0) 1 tb
+  pub traceback-is : v .traceback ≡ depth tb
 
 -- what stands in place of a decoder that is refused: every call refuses it by row 3
 pub record Zero (v : ViterbiDecoder) : Type 0 where

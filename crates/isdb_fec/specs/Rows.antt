@@ -7,7 +7,6 @@ use lib.ListN.{length}
 use lib.Ieee.{Float}
 use Rattle.refusal.specs.Rows.{Row}
 use Rattle.refusal.specs.declared.Answer.the-variants.{Traceback, State, Length, Sample, Space}
-pub use Rattle.viterbi.specs.Calls.{releases}
 use Rattle.trellis.specs.Isdb.{frameWords}
 use Rattle.trellis.specs.Run.{tracebackLimit}
 use Rattle.decoder_rows.specs.Values.{someBeyond, streamLimit}

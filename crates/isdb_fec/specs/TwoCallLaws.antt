@@ -12,11 +12,11 @@ use Rattle.trellis.specs.Isdb
 use Rattle.trellis.specs.Lists.{laid}
 use Rattle.trellis.specs.Step as trellis
 use Rattle.trellis.specs.Step.{renormalised}
-use Rattle.trellis.specs.Run.{Decoder, decisionsAfter, block, tracebackLimit}
+use Rattle.trellis.specs.Run.{Decoder, decisionsAfter, block, tracebackLimit, pairSteps, fourSteps, knownSteps}
 use Rattle.isdb_fec.specs.declared.conv.ViterbiDecoder.{ViterbiDecoder}
 use Rattle.isdb_fec.specs.declared.conv.Released.{Released}
 use Rattle.isdb_fec.specs.Rows.{pushRows, pushMetricsRows, pushKnownRows}
-use Rattle.isdb_fec.specs.Calls.{pairSteps, fourSteps, knownSteps, steps, call, handed, Leaves}
+use Rattle.isdb_fec.specs.Calls.{steps, call, handed, Leaves}
 use Rattle.trellis.specs.LaidLaws.{laid-after}
 use Rattle.isdb_fec.specs.AnswerLaws.{Enough, stream-enough, known-enough}
 use Rattle.viterbi.specs.CountLaws.{Counted, counted}

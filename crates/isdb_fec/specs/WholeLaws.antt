@@ -12,11 +12,11 @@ use Rattle.refusal.specs.declared.Answer.the-variants.{Accepted}
 use Rattle.trellis.specs.Isdb
 use Rattle.trellis.specs.Step as trellis
 use Rattle.trellis.specs.Step.{renormalised}
-use Rattle.trellis.specs.Run.{after, block, tracebackLimit}
+use Rattle.trellis.specs.Run.{after, block, tracebackLimit, releases, holding}
 use Rattle.viterbi.specs.declared.At.{At}
 use Rattle.isdb_fec.specs.declared.conv.ViterbiDecoder.{ViterbiDecoder}
-use Rattle.isdb_fec.specs.Rows.{releases}
-use Rattle.isdb_fec.specs.Calls.{stepOnce, steps, call, handed, holding, Holds, Stepped, Room, Leaves, Unchanged, Either}
+use Rattle.isdb_fec.specs.Calls.{stepOnce, steps, call, handed, Holds, Stepped, Room, Leaves, Unchanged}
+use Rattle.refusal.specs.Rows.{Either}
 use Rattle.isdb_fec.specs.AnswerLaws.{Enough, refused}
 use Rattle.viterbi.specs.Calls.{stepsFrom, Carried}
 use Rattle.viterbi.specs.BlockLaws.{from-steps}

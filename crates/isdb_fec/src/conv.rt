@@ -3,11 +3,11 @@
 ghost use mathlib.Core.Path.{_≡_};
 ghost use Prim.Native.Nat.{ℕ, _+_, _*_, _<_, _≤_, _/_, _%_};
 ghost use lib.ListN.{length};
-ghost use Rattle.refusal.specs.Rows.{firstRow};
+ghost use Rattle.refusal.specs.Rows.{firstRow, Either};
 ghost use Rattle.trellis.specs.Code.{isdb, output, moved};
-ghost use Rattle.trellis.specs.Run.{startAt, startUnknown};
+ghost use Rattle.trellis.specs.Run.{startAt, startUnknown, pairSteps, fourSteps, knownSteps};
 ghost use Rattle.isdb_fec.specs.Rows.{encoderRows, freshRows, streamRows, pushRows, pushMetricsRows, pushKnownRows, flushRows};
-ghost use Rattle.isdb_fec.specs.Calls.{pairSteps, fourSteps, knownSteps, steps, call, handed, Leaves, Flushes, FlushesAt, Unchanged, Either, Fresh, Zero};
+ghost use Rattle.isdb_fec.specs.Calls.{steps, call, handed, Leaves, Flushes, FlushesAt, Unchanged, Fresh, Zero};
 pub use decoder_rows::PATH_LIMIT;
 pub use decoder_rows::STREAM_LIMIT;
 pub use decoder_rows::some_beyond;

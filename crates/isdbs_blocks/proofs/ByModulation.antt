@@ -11,7 +11,6 @@ use lib.ListN.{getD, length}
 use lib.Ieee.{Float, nan, binary32, mul, ofBits}
 use Rattle.trellis.specs.Lists.{upto, laid}
 use Rattle.trellis.specs.Step.{Step, four}
-use Rattle.viterbi.specs.Calls.{fourSteps}
 use Rattle.isdbs_combination.specs.declared.Combination.{Combination}
 use Rattle.isdbs_combination.specs.declared.Combination.the-variants.{«Bpsk1_2», «Qpsk1_2», «Qpsk2_3», «Qpsk3_4», «Qpsk5_6», «Qpsk7_8», «Tc8psk2_3»}
 use Rattle.isdbs_combination.specs.declared.Modulation.{Modulation}
@@ -23,9 +22,10 @@ use Rattle.isdbs_points.specs.Points.{point, conjugated}
 use Rattle.isdbs_points.specs.Layout.{orderOf, stepsPerPeriod, sentOrder, firstPlace}
 use Rattle.trellis.specs.LaidLaws.{upto-cong, laid-at}
 use Rattle.isdbs_points.specs.Pieces.{piece}
-use Rattle.isdbs_metrics.specs.Reading.{partOf, carrier, pairMetrics, metricsBy, softAt, absolute, subsetMetrics}
+use Rattle.isdbs_metrics.specs.Reading.{partOf, carrier, pairMetrics, metricsBy, softAt, absolute, subsetMetrics, received}
 use Rattle.isdbs_metrics.specs.declared.PeriodLayout.{PeriodLayout}
-use Rattle.isdbs_metrics.specs.Steps.{received, qpskPart, pieceMetrics, Covers, LayoutOf}
+use Rattle.isdbs_metrics.specs.Steps.{qpskPart, pieceMetrics, Covers, LayoutOf}
+use Rattle.trellis.specs.Run.{fourSteps}
 use Rattle.strain.specs.Marks.{markOf}
 use Rattle.isdbs_blocks.specs.Blocks.{Periods, fours, runSteps, runMark, fourIn, BlockMade, stepSoft, spreadSoft, subsetParts}
 use Rattle.isdbs_blocks.specs.PeriodLaws.{short}

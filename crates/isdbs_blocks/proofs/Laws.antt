@@ -11,7 +11,7 @@ use lib.Ieee.{Float, nan, mul, binary32}
 use Rattle.trellis.specs.Lists.{upto, laid}
 use Rattle.trellis.specs.ListLaws.{length-upto, getD-upto}
 use Rattle.trellis.specs.Step.{Step, four}
-use Rattle.viterbi.specs.Calls.{fourSteps}
+use Rattle.trellis.specs.Run.{fourSteps}
 use Rattle.trellis.specs.LaidLaws.{upto-cong, laid-upto, length-laid-upto, laid-at}
 use Rattle.isdbs_points.specs.declared.Mapping.{Mapping}
 use Rattle.isdbs_points.specs.Points.{conjugated}

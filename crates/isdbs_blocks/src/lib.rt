@@ -18,7 +18,7 @@ ghost use lib.Dec.{ltb};
 ghost use lib.ListN.{length, getD, set};
 ghost use lib.Ieee.{nan, mul, binary32, ofBits};
 ghost use Rattle.trellis.specs.Lists.{upto, laid};
-ghost use Rattle.viterbi.specs.Calls.{fourSteps};
+ghost use Rattle.trellis.specs.Run.{fourSteps};
 ghost use Rattle.isdbs_combination.specs.Combinations.{modulationOf};
 ghost use Rattle.isdbs_combination.specs.declared.Modulation.the-variants.{Bpsk, Qpsk, Tc8psk};
 ghost use Rattle.isdbs_soft.specs.Soft.{softOf};

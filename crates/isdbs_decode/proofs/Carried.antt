@@ -11,9 +11,9 @@ use Rattle.trellis.specs.Isdb
 use Rattle.trellis.specs.Isdb.{closed}
 use Rattle.trellis.specs.Lists.{laid}
 use Rattle.trellis.specs.Step.{Step, renormalised}
-use Rattle.trellis.specs.Run.{Decoder, after}
+use Rattle.trellis.specs.Run.{Decoder, after, holding}
 use Rattle.viterbi.specs.declared.At.{At}
-use Rattle.viterbi.specs.Calls.{stepOnce, steps, traced, bestState, holding, Holds, Stepped}
+use Rattle.viterbi.specs.Calls.{stepOnce, steps, traced, bestState, Holds, Stepped}
 use Rattle.viterbi.specs.CountLaws.{step-counts}
 use Rattle.viterbi.specs.HoldingLaws.{holds-next, holding-is, cleared}
 use Rattle.trellis.specs.LaidLaws.{laid-after, laid-laid}

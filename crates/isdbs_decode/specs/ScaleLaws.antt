@@ -9,7 +9,7 @@ use Rattle.isdbs_combination.specs.declared.Combination.{Combination}
 use Rattle.isdbs_combination.specs.declared.Combination.the-variants.{«Bpsk1_2», «Qpsk1_2», «Qpsk2_3», «Qpsk3_4», «Qpsk5_6», «Qpsk7_8», «Tc8psk2_3»}
 use Rattle.isdbs_combination.specs.Combinations.{wordOf}
 use Rattle.isdbs_points.specs.declared.Mapping.{Mapping}
-use Rattle.isdbs_metrics.specs.Steps.{received}
+use Rattle.isdbs_metrics.specs.Reading.{received}
 use Rattle.isdbs_decode.specs.Scales.{scaleOf, receivedBy}
 
 -- every combination has a scale among the seven

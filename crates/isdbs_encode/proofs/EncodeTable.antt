@@ -28,7 +28,8 @@ use Rattle.isdbs_points.specs.Frame.{inputs, labelAt, pointIn, pointAt, endStat
 use Rattle.trellis.specs.LaidLaws.{laid-part, length-laid-upto}
 use Rattle.isdbs_points.specs.PlaceLaws.{Fill, before, fill-last, among-past}
 use Rattle.isdbs_points.specs.SizeLaws.{symbolSum, fill-symbols, symbol-sum-few, table-whole}
-use Rattle.isdbs_encode.specs.Encoding.{symbolsOf, inputsOf, pointOf, Tiled, RunsMade, FrameLaid}
+use Rattle.isdbs_encode.specs.Encoding.{symbolsOf, inputsOf, pointOf, Tiled, RunsMade}
+use Rattle.isdbs_encode.specs.Laid.{FrameLaid}
 use Rattle.isdbs_pieces.specs.PieceLaws.{tail-back}
 
 -- ---- the runs of a table

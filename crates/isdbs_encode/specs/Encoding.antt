@@ -1,4 +1,4 @@
--- Encoding a frame: what it leaves, and the frame as its runs make it. Assumes nothing.
+-- The frame as its runs make it. Assumes nothing.
 use mathlib.Core.Path.{_≡_}
 use mathlib.Core.List.{List}
 use Prim.Native.Nat.{ℕ, _<_, _≤_}
@@ -15,15 +15,10 @@ use Rattle.isdbs_points.specs.declared.Mapping.{Mapping}
 use Rattle.isdbs_encode.specs.declared.RunsEncoded.{RunsEncoded}
 use Rattle.isdbs_points.specs.Points.{unused}
 use Rattle.isdbs_points.specs.Layout.{Segment, segmentsFrom, among, In}
-use Rattle.isdbs_points.specs.Frame.{inputIn, labelAt, pointIn, frameRe, frameIm}
+use Rattle.isdbs_points.specs.Frame.{inputIn, labelAt, pointIn}
 use Rattle.isdbs_points.specs.Pieces.{mapped}
 use Rattle.isdbs_points.specs.PlaceLaws.{Fill, before}
 use Rattle.isdbs_points.specs.SizeLaws.{Whole}
-
--- accepted: the frame lies over the beginning of the lent parts; what stands past its 38,976 points is as before
-pub record FrameLaid (t : Table) (m : Mapping) (load : List ℕ) (s : ℕ) (re₀ re im₀ im : List Float) : Type 0 where
-  pub re-is : re ≡ laid (frameRe t m load s) re₀
-  pub im-is : im ≡ laid (frameIm t m load s) im₀
 
 -- ---- the frame as a list of runs makes it: with the runs of a table it is the table's
 abbrev pub symbolsOf : List Run → ℕ

@@ -15,7 +15,8 @@ ghost use Rattle.isdbs_frame.specs.Frame.{mainSymbols};
 ghost use Rattle.isdbs_tables.specs.Tables.{TableAccepted};
 ghost use Rattle.isdbs_points.specs.Points.{zero64, conjugated};
 ghost use Rattle.isdbs_points.specs.Frame.{endState};
-ghost use Rattle.isdbs_encode.specs.Encoding.{FrameLaid, Tiled, RunsMade};
+ghost use Rattle.isdbs_encode.specs.Encoding.{Tiled, RunsMade};
+ghost use Rattle.isdbs_encode.specs.Laid.{FrameLaid};
 
 // n unused points.
 fn put_unused(n: usize, m: Mapping, re: &mut [f64], im: &mut [f64])

@@ -29,6 +29,10 @@ pub record Received : Type 0 where
   pub mapping : Mapping
   pub scale : Combination → Float
 
+-- with one scale for every combination
+abbrev pub received : List Float → List Float → Mapping → Float → Received
+received re im m scale = record { re = re; im = im; mapping = m; scale = λ c. scale }
+
 -- symbol k as it is read: "`conjugate` negates every imaginary part"
 abbrev pub receivedAt : Received → ℕ → Cplx
 receivedAt r k = point (getD (r .re) k nan) (conjugated (r .mapping .conjugate) (getD (r .im) k nan))

@@ -15,11 +15,7 @@ use Rattle.isdbs_points.specs.Points.{point, conjugated}
 use Rattle.isdbs_points.specs.Layout.{orderOf, stepsPerPeriod, firstPlace}
 use Rattle.isdbs_points.specs.Pieces.{piece}
 use Rattle.isdbs_points.specs.Frame.{labelAt}
-use Rattle.isdbs_metrics.specs.Reading.{Received, partOf, metricsIn, bitIn}
-
--- points as they are lent, with one scale for every combination
-abbrev pub received : List Float → List Float → Mapping → Float → Received
-received re im m scale = record { re = re; im = im; mapping = m; scale = λ c. scale }
+use Rattle.isdbs_metrics.specs.Reading.{Received, partOf, metricsIn, bitIn, received}
 
 -- the part of a QPSK run's points that carries the coded bit sent i-th
 abbrev pub qpskPart : List Float → List Float → Mapping → ℕ → Float

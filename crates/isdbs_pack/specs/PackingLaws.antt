@@ -19,10 +19,10 @@ use Rattle.isdbs_points.specs.declared.Mapping.{Mapping}
 use Rattle.isdbs_points.specs.Layout.{byteOf, segmentOf}
 use Rattle.isdbs_points.specs.Pieces.{piece}
 use Rattle.isdbs_points.specs.Frame.{labelAt}
-use Rattle.isdbs_metrics.specs.Reading.{bitBy, bitIn}
+use Rattle.isdbs_metrics.specs.Reading.{bitBy, bitIn, received}
 use Rattle.trellis.specs.LaidLaws.{laid-upto, upto-cong}
 use Rattle.isdbs_points.specs.StateLaws.{state-shift, label-shift}
-use Rattle.isdbs_metrics.specs.Steps.{received, pieceBit}
+use Rattle.isdbs_metrics.specs.Steps.{pieceBit}
 use Rattle.isdbs_pack.specs.DigitLaws.{byte-cong}
 use Rattle.isdbs_pack.specs.Bytes.{receivedWith}
 use Rattle.isdbs_pack.specs.PartLaws.{bit-part}

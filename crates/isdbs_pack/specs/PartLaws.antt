@@ -19,8 +19,8 @@ use Rattle.isdbs_points.specs.Points.{psk8Of, subset, zero64}
 use Rattle.isdbs_points.specs.Layout.{segmentOf, orderOf, stepsPerPeriod, firstPlace}
 use Rattle.isdbs_points.specs.Pieces.{piece}
 use Rattle.isdbs_points.specs.Frame.{labelAt}
-use Rattle.isdbs_metrics.specs.Reading.{Received, correlation, carrier, softAt, scaled, pairMetrics, subsetMetrics, metricsBy, metricsIn, bitBy, bitIn, uncoded, receivedAt}
-use Rattle.isdbs_metrics.specs.Steps.{received, pieceMetrics, pieceBit}
+use Rattle.isdbs_metrics.specs.Reading.{Received, correlation, carrier, softAt, scaled, pairMetrics, subsetMetrics, metricsBy, metricsIn, bitBy, bitIn, uncoded, receivedAt, received}
+use Rattle.isdbs_metrics.specs.Steps.{pieceMetrics, pieceBit}
 use Rattle.isdbs_pack.specs.Bytes.{receivedWith}
 
 -- a symbol of a part

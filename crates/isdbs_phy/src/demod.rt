@@ -32,13 +32,12 @@ use isdbs_strain::decode_strained;
 use refusal::Answer;
 ghost use mathlib.Core.Path.{_≡_};
 ghost use lib.ListN.{length};
-ghost use Rattle.refusal.specs.Rows.{firstRow};
-ghost use Rattle.isdb_fec.specs.Calls.{Either};
+ghost use Rattle.refusal.specs.Rows.{firstRow, Either};
 ghost use Rattle.isdbs_points.specs.Frame.{startState, endState};
 ghost use Rattle.isdbs_phy.specs.DecodeRows.{decodeRows, oneScaleRows, frameSaid, frameAnswer, Kept, FrameLeft};
-ghost use Rattle.isdbs_encode.specs.Encoding.{FrameLaid};
 ghost use Rattle.isdbs_phy.specs.EncodeRows.{encodeRows, encodeFrameRows, PartsKept};
-ghost use Rattle.isdbs_metrics.specs.Steps.{received};
+ghost use Rattle.isdbs_metrics.specs.Reading.{received};
+ghost use Rattle.isdbs_encode.specs.Laid.{FrameLaid};
 ghost use Rattle.isdbs_decode.specs.Scales.{receivedBy};
 ghost use Rattle.strain.specs.Strain.{strainSum};
 

@@ -9,7 +9,8 @@ use lib.Ieee.{Float}
 use Rattle.trellis.specs.Step.{Step}
 use Rattle.viterbi.specs.declared.At.{At}
 use Rattle.viterbi.specs.Calls as viterbi
-use Rattle.viterbi.specs.Calls.{steps, fourSteps}
+use Rattle.viterbi.specs.Calls.{steps}
+use Rattle.trellis.specs.Run.{fourSteps}
 use Rattle.viterbi.specs.BlockLaws.{from-steps}
 use Rattle.isdbs_combination.specs.declared.Combination.{Combination}
 use Rattle.isdbs_combination.specs.declared.Combination.the-variants.{«Bpsk1_2», «Qpsk1_2», «Qpsk2_3», «Qpsk3_4», «Qpsk5_6», «Qpsk7_8», «Tc8psk2_3»}

@@ -12,11 +12,11 @@ use Rattle.trellis.specs.Isdb
 use Rattle.trellis.specs.Lists.{upto, laid}
 use Rattle.trellis.specs.Step as trellis
 use Rattle.trellis.specs.Step.{pair, renormalised}
-use Rattle.trellis.specs.Run.{Decoder, startAt, after}
+use Rattle.trellis.specs.Run.{Decoder, startAt, after, holding, depth}
 use Rattle.viterbi.specs.declared.At.{At}
 use Rattle.isdb_fec.specs.declared.conv.ViterbiDecoder.{ViterbiDecoder}
 use Rattle.isdb_fec.specs.Calls as fec
-use Rattle.isdb_fec.specs.Calls.{Holds, holding, bestState, traced}
+use Rattle.isdb_fec.specs.Calls.{Holds, bestState, traced}
 use Rattle.isdb_fec.specs.AnswerLaws.{Enough}
 use Rattle.trellis.specs.LaidLaws.{laid-laid, laid-after}
 use Rattle.trellis.specs.ListLaws.{getD-upto}
@@ -27,7 +27,6 @@ use Rattle.isdbt_table.specs.declared.CodeRate.the-variants.{R1_2, R2_3, R3_4, 
 use Rattle.isdbt_table.specs.declared.Puncturing.{Puncturing}
 use Rattle.isdbt_table.specs.Table.{period, sent, compiled}
 use Rattle.isdbt_table.specs.Puncture.{softAt, depunctured}
-use Rattle.isdbt_rows.specs.Rows.{depth}
 use Rattle.isdbt_fec.specs.Calls.{steps, fresh, decodedBits}
 use Rattle.isdbt_table.specs.NumberLaws.{numbers}
 use Rattle.isdbt_steps.specs.Soft.{softBy, stepsBy}

@@ -9,12 +9,12 @@ use Rattle.trellis.specs.Isdb
 use Rattle.trellis.specs.Lists.{laid}
 use Rattle.trellis.specs.Step as trellis
 use Rattle.trellis.specs.Step.{renormalised}
-use Rattle.trellis.specs.Run.{startAt}
+use Rattle.trellis.specs.Run.{startAt, holding, releases}
 use Rattle.viterbi.specs.declared.At.{At}
 use Rattle.isdb_fec.specs.Calls as fec
-use Rattle.isdb_fec.specs.Calls.{Holds, holding, bestState, traced}
+use Rattle.isdb_fec.specs.Calls.{Holds, bestState, traced}
 use Rattle.isdb_fec.specs.AnswerLaws.{Enough}
-use Rattle.viterbi.specs.Calls.{releases, Carried}
+use Rattle.viterbi.specs.Calls.{Carried}
 use Rattle.viterbi.specs.CountLaws.{counted, releases-le}
 use Rattle.viterbi.specs.BlockLaws.{from-steps}
 use Rattle.isdb_fec.specs.WholeLaws.{begins, lengths}

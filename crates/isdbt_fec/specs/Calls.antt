@@ -9,13 +9,12 @@ use Rattle.trellis.specs.Lists.{laid}
 use Rattle.trellis.specs.Code.{stateAt}
 use Rattle.trellis.specs.Step as trellis
 use Rattle.trellis.specs.Step.{pair}
-use Rattle.trellis.specs.Run.{Decoder, startAt, block}
+use Rattle.trellis.specs.Run.{Decoder, startAt, block, depth}
 use Rattle.isdbt_table.specs.declared.CodeRate.{CodeRate}
 use Rattle.isdbt_fec.specs.declared.conv.Encoded.{Encoded}
 use Rattle.isdbt_fec.specs.declared.conv.Done.{Done}
 use Rattle.isdbt_table.specs.Table.{period, sent}
 use Rattle.isdbt_table.specs.Puncture.{inputs, punctured, depunctured}
-use Rattle.isdbt_rows.specs.Rows.{depth}
 
 -- the sent bits at the front, the rest as before; the state has taken every bit and carries on from call to call
 pub record Encodes (rate : CodeRate) (s : ℕ) (bits : List ℕ) (r : Encoded) (out₀ out : List ℕ) : Type 0 where

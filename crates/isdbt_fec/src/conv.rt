@@ -3,15 +3,14 @@
 ghost use mathlib.Core.Path.{_≡_};
 ghost use Prim.Native.Nat.{ℕ, _+_, _-_, _*_, _<_, _≤_, _/_, _%_, _^_};
 ghost use lib.ListN.{length, getD, take, replicate};
-ghost use Rattle.refusal.specs.Rows.{firstRow};
+ghost use Rattle.refusal.specs.Rows.{firstRow, Either};
 ghost use Rattle.trellis.specs.Lists.{upto, laid};
 ghost use Rattle.trellis.specs.Code.{stateAt};
-ghost use Rattle.isdb_fec.specs.Calls.{Either};
 ghost use Rattle.isdbt_table.specs.Table.{period, sent};
 ghost use Rattle.isdbt_table.specs.Puncture.{inputs, mother, punctured, depunctured};
-ghost use Rattle.isdbt_rows.specs.Rows.{depth, encodeRows, depunctureRows, decodeRows};
+ghost use Rattle.isdbt_rows.specs.Rows.{encodeRows, depunctureRows, decodeRows};
 ghost use Rattle.isdbt_fec.specs.Calls.{Encodes, Unencoded, Depunctures, Untouched, decodedBits, Decodes, Undecoded};
-ghost use Rattle.trellis.specs.Run.{tracebackLimit, block};
+ghost use Rattle.trellis.specs.Run.{tracebackLimit, block, depth};
 use isdb_fec::conv::ConvEncoder;
 use isdbt_rows::answer_decode;
 use isdbt_rows::answer_depuncture;

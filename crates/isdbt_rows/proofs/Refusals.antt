@@ -12,7 +12,8 @@ use Rattle.isdb_fec.specs.Values.{someBeyond, streamLimit}
 use Rattle.isdbt_table.specs.declared.CodeRate.{CodeRate}
 use Rattle.isdbt_table.specs.declared.Puncturing.{Puncturing}
 use Rattle.isdbt_table.specs.Table.{compiled}
-use Rattle.isdbt_rows.specs.Rows.{depth, encodeRows, depunctureRows, decodeRows}
+use Rattle.isdbt_rows.specs.Rows.{encodeRows, depunctureRows, decodeRows}
+use Rattle.trellis.specs.Run.{depth}
 
 module _ (rate : CodeRate) {p : Puncturing} (e : p ≡ compiled rate) where
   pub encode-answer : (s count out : ℕ) (state whole short : Bool)

@@ -13,8 +13,8 @@ use Rattle.refusal.specs.declared.Answer.the-variants.{Accepted, Traceback, Sta
 use Rattle.refusal.specs.RowLaws.{passed, neither}
 use Rattle.isdbt_table.specs.declared.CodeRate.{CodeRate}
 use Rattle.isdbt_table.specs.Table.{period, sent}
-use Rattle.isdbt_rows.specs.Rows.{broken, depth, encodeRows, depunctureRows, decodeRows}
-use Rattle.trellis.specs.Run.{block, tracebackLimit}
+use Rattle.isdbt_rows.specs.Rows.{broken, encodeRows, depunctureRows, decodeRows}
+use Rattle.trellis.specs.Run.{block, tracebackLimit, depth}
 
 whole : (per count : ℕ) → broken per count ≡ false → count % per ≡ 0
 whole per count e = eqb-true (count % per) 0 (not-false (eqb (count % per) 0) e)

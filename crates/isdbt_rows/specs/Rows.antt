@@ -1,5 +1,5 @@
 -- The refusal rows of each call, in document 01's order. Assumes nothing.
-use mathlib.Core.Bool.{Bool, cond, not, _||_}
+use mathlib.Core.Bool.{Bool, not, _||_}
 use mathlib.Core.List.{List, [], _∷_}
 use Prim.Native.Nat.{ℕ, _+_, _*_, _/_, _%_}
 use lib.Dec.{eqb, ltb}
@@ -7,7 +7,7 @@ use lib.ListN.{length}
 use lib.Ieee.{Float}
 use Rattle.refusal.specs.Rows.{Row}
 use Rattle.refusal.specs.declared.Answer.the-variants.{Traceback, State, Length, Sample, Space}
-use Rattle.trellis.specs.Run.{block, tracebackLimit}
+use Rattle.trellis.specs.Run.{block, tracebackLimit, depth}
 use Rattle.isdb_fec.specs.Values.{someBeyond, streamLimit}
 use Rattle.isdbt_table.specs.declared.CodeRate.{CodeRate}
 use Rattle.isdbt_table.specs.Table.{period, sent}
@@ -15,10 +15,6 @@ use Rattle.isdbt_table.specs.Table.{period, sent}
 -- 5: "stream not whole periods", of values that come `per` for each period
 abbrev pub broken : ℕ → ℕ → Bool
 broken per count = not (eqb (count % per) 0)
-
--- "Traceback 0 acts as 1"
-abbrev pub depth : ℕ → ℕ
-depth tb = cond (eqb tb 0) 1 tb
 
 -- `count` bytes from the state s into `out` places
 abbrev pub encodeRows : CodeRate → ℕ → ℕ → ℕ → List Row

@@ -8,7 +8,7 @@ use lib.Ieee.{Float, nan}
 use Rattle.trellis.specs.Lists.{upto}
 use Rattle.trellis.specs.ListLaws.{length-upto, getD-upto}
 use Rattle.trellis.specs.Step.{pair}
-use Rattle.viterbi.specs.Calls.{pairSteps}
+use Rattle.trellis.specs.Run.{pairSteps}
 use Rattle.isdbt_table.specs.WrittenLaws.{Written}
 use Rattle.isdbt_steps.specs.Soft.{softBy, stepsBy}
 

@@ -15,7 +15,7 @@ use Rattle.isdbs_combination.specs.Combinations.{frameSlots}
 use Rattle.isdbs_runs.specs.RunsOf.{Planned, runsOf, noRun}
 use Rattle.isdbs_points.specs.declared.Mapping.{Mapping}
 use Rattle.isdbs_points.specs.Frame.{pointAt, startState}
-use Rattle.isdbs_encode.specs.Encoding.{FrameLaid}
+use Rattle.isdbs_encode.specs.Laid.{FrameLaid}
 use Rattle.trellis.specs.LaidLaws.{laid-at}
 use Rattle.strain.specs.Counts.{summed}
 use Rattle.isdbs_judge.specs.Given.{slotGiven}

@@ -10,14 +10,14 @@ use lib.Dec.{ltb}
 use borrow.Rule.Slice.PartMut.{midOf, putMid}
 use lib.ListN.{length, take, drop, replicate, length-append, length-drop}
 use lib.Ieee.{Float}
-use Rattle.refusal.specs.Rows.{firstRow}
+use Rattle.refusal.specs.Rows.{firstRow, Either}
 use Rattle.refusal.specs.declared.Answer.{Answer}
 use Rattle.refusal.specs.declared.Answer.the-variants.{Accepted, Space}
 use Rattle.refusal.specs.RowLaws.{none-accepted, refused, decided}
 use Rattle.trellis.specs.Isdb
 use Rattle.trellis.specs.Isdb.{flushAt}
 use Rattle.trellis.specs.Lists.{laid}
-use Rattle.trellis.specs.Run.{Decoder, block, startAt, depth}
+use Rattle.trellis.specs.Run.{Decoder, block, startAt, depth, releases, pairSteps}
 use Rattle.best_path.specs.Corrected.{length-soft, soft-at, known-end}
 use Rattle.viterbi.specs.CountLaws.{Counted, releases-le}
 use Rattle.viterbi.specs.HoldingLaws.{bare, holding-is}
@@ -27,8 +27,8 @@ use Rattle.viterbi.specs.TracedLaws.{length-traced}
 use Rattle.isdb_fec.specs.declared.conv.ViterbiDecoder.{ViterbiDecoder}
 use Rattle.isdb_fec.specs.declared.conv.Made.{Made}
 use Rattle.isdb_fec.specs.declared.conv.Released.{Released}
-use Rattle.isdb_fec.specs.Rows.{freshRows, releases, streamRest, pushRows, flushRows}
-use Rattle.isdb_fec.specs.Calls.{pairSteps, call, handed, Fresh, Zero, Leaves, FlushesAt, Unchanged, Either}
+use Rattle.isdb_fec.specs.Rows.{freshRows, streamRest, pushRows, flushRows}
+use Rattle.isdb_fec.specs.Calls.{call, handed, Fresh, Zero, Leaves, FlushesAt, Unchanged}
 use Rattle.isdb_fec.specs.AnswerLaws.{flush-enough}
 use Rattle.isdb_fec.specs.TwoCallLaws.{soft-call}
 use Rattle.call_ranges.specs.Reached.{Reached, Floats, with-state}

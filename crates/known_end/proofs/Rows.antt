@@ -8,7 +8,7 @@ use borrow.Author.Tests.{ltb-false, le-ltb, eqb-false}
 use lib.Dec.{eqb, ltb, lit<, lit≤}
 use lib.ListN.{length, replicate}
 use lib.Ieee.{Float, binary32, neg, le, ofBits}
-use Rattle.refusal.specs.Rows.{firstRow}
+use Rattle.refusal.specs.Rows.{firstRow, Either}
 use Rattle.refusal.specs.RowLaws as row
 use Rattle.refusal.specs.RowLaws.{neither, numbered}
 use Rattle.refusal.specs.declared.Answer.{Answer}
@@ -19,7 +19,7 @@ use Rattle.best_path.specs.Corrected.{length-soft}
 use Rattle.isdb_fec.specs.declared.conv.ViterbiDecoder.{ViterbiDecoder}
 use Rattle.isdb_fec.specs.Values.{within, someBeyond, streamLimit}
 use Rattle.isdb_fec.specs.Rows.{freshRows}
-use Rattle.isdb_fec.specs.Calls.{Fresh, Zero, Either}
+use Rattle.isdb_fec.specs.Calls.{Fresh, Zero}
 use Rattle.known_end.specs.Calls.{fresh, betweenRows}
 
 pub depth-small : (tb : ℕ) → tb ≤ 1024 → (1 ≤ depth tb) × (depth tb ≤ 1024)

@@ -6,12 +6,12 @@ use Prim.Native.Nat.{ℕ, _+_, _/_, _%_, _≤_}
 use lib.Dec.{eqb, ltb}
 use lib.ListN.{length, take, replicate}
 use lib.Ieee.{Float, binary32, ofBits}
-use Rattle.refusal.specs.Rows.{Row, firstRow}
+use Rattle.refusal.specs.Rows.{Row, firstRow, Either}
 use Rattle.refusal.specs.declared.Answer.the-variants.{Accepted, Length, Sample, Space}
 use Rattle.trellis.specs.Code.{isdb}
 use Rattle.trellis.specs.Encoded.{encoded, reached}
 use Rattle.trellis.specs.Isdb.{flushAt}
-use Rattle.trellis.specs.Run.{Decoder, block, depth, freshFrom, startAt, tracebackLimit}
+use Rattle.trellis.specs.Run.{Decoder, block, depth, freshFrom, startAt, tracebackLimit, pairSteps}
 use Rattle.trellis.specs.Stretch.{differing, Bits, Coded}
 use Rattle.best_path.specs.Hard.{mostWrong, softPairs}
 use Rattle.best_path.specs.Paths.{longest}
@@ -19,7 +19,7 @@ use Rattle.isdb_fec.specs.declared.conv.ViterbiDecoder.{ViterbiDecoder}
 use Rattle.isdb_fec.specs.declared.conv.Released.{Released}
 use Rattle.isdb_fec.specs.Values.{someBeyond, streamLimit}
 use Rattle.isdb_fec.specs.Rows.{freshRows}
-use Rattle.isdb_fec.specs.Calls.{pairSteps, call, Unchanged, Either}
+use Rattle.isdb_fec.specs.Calls.{call, Unchanged}
 use Rattle.call_ranges.specs.Finished.{Finished}
 
 -- what `with_state` makes: the fresh decoder, or all zeros for a traceback that is refused

@@ -19,7 +19,7 @@ use Rattle.isdbt_table.specs.Puncture.{inputs, mother, place, punctured}
 use Rattle.isdbt_table.specs.SizeLaws.{order-below}
 use Rattle.overlay.specs.Overlaid.{overlaid, chosen}
 use Rattle.overlay.specs.OverlaidLaws.{length-overlaid}
-use Rattle.trellis.specs.Encoded.{codedBits, endState}
+use Rattle.trellis.specs.Encoded.{codedBits, lastState}
 use Rattle.overlay.specs.CodingLaws.{overlays, overlays-chosen}
 use Rattle.overlay.specs.Kept.{kept-is}
 use Rattle.trellis.specs.Isdb
@@ -78,5 +78,5 @@ module _ (us vs : List ℕ) (e : length us ≡ length vs) (s r : ℕ) (hs : s < 
   pub state-overlaid : stateAt 32 (bitXor s r) (inputs (overlaid us vs)) (length (overlaid us vs)) ≡ bitXor (stateAt 32 s (inputs us) (length us)) (stateAt 32 r (inputs vs) (length vs))
   state-overlaid =
       last-is (bitXor s r) (overlaid us vs) ∙ sym (reached-is isdb (bitXor s r) (inputs (overlaid us vs))) ∙ overlays isdb us vs s r e hs hr .end
-      ∙ ap (λ (x : ℕ). bitXor x (endState isdb r vs)) (reached-is isdb s (inputs us) ∙ sym (last-is s us))
+      ∙ ap (λ (x : ℕ). bitXor x (lastState isdb r vs)) (reached-is isdb s (inputs us) ∙ sym (last-is s us))
       ∙ ap (λ (x : ℕ). bitXor (stateAt 32 s (inputs us) (length us)) x) (reached-is isdb r (inputs vs) ∙ sym (last-is r vs))

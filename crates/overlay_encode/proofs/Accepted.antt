@@ -12,7 +12,7 @@ use Rattle.refusal.specs.Rows.{firstRow, Either}
 use Rattle.refusal.specs.RowLaws.{neither, passed, none-accepted}
 use Rattle.refusal.specs.declared.Answer.the-variants as answer
 use Rattle.trellis.specs.Lists.{laid}
-use Rattle.trellis.specs.Encoded.{codedBits, endState}
+use Rattle.trellis.specs.Encoded.{codedBits, lastState}
 use Rattle.trellis.specs.LaidLaws.{take-laid}
 use Rattle.short_code.specs.declared.Code.{Code}
 use Rattle.short_code.specs.Codes.{codeOf, goodCode, statesOf}
@@ -79,10 +79,10 @@ module _ (c : Code) (s r : ℕ) (us vs : List ℕ) where
   abbrev pub Said : ℕ → List ℕ → Encoded → List ℕ → List ℕ → Type 0
   Said t ts e out₀ out =
       (e .answer ≡ firstRow (encodeRows c t (length ts) (length out₀)))
-      × (Either (e .answer) (e .enc .state ≡ endState (codeOf c) t ts) (e .enc .state ≡ t) × Either (e .answer) (out ≡ laid (codedBits (codeOf c) t ts) out₀) (out ≡ out₀))
+      × (Either (e .answer) (e .enc .state ≡ lastState (codeOf c) t ts) (e .enc .state ≡ t) × Either (e .answer) (out ≡ laid (codedBits (codeOf c) t ts) out₀) (out ≡ out₀))
 
   made : (t : ℕ) (ts : List ℕ) (e : Encoded) (out₀ out : List ℕ) → goodCode c ≡ true → t < statesOf c → 2 * length ts ≤ length out₀ → Said t ts e out₀ out
-      → (e .enc .state ≡ endState (codeOf c) t ts) × (out ≡ laid (codedBits (codeOf c) t ts) out₀)
+      → (e .enc .state ≡ lastState (codeOf c) t ts) × (out ≡ laid (codedBits (codeOf c) t ts) out₀)
   made t ts e out₀ out g h room said =
       let rows = encodeRows c t (length ts) (length out₀) in
       let yes = said .0 ∙ none-accepted rows (ap not g, (lt-leb (statesOf c) t h, (le-ltb (length out₀) (2 * length ts) room, tt))) in
@@ -118,5 +118,5 @@ module _ (c : Code) (s r : ℕ) (us vs : List ℕ) where
       let tz : take (2 * length us) (after .third) ≡ z = ap (λ (l : List ℕ). take (2 * length us) l) (done .third-are) ∙ front z (before .third) (2 * length us) lz in
       record {
         outputs = tz ∙ law .outputs ∙ sym (ap (λ (l : List ℕ). overlaid l (take (2 * length us) (after .second))) tx ∙ ap (λ (l : List ℕ). overlaid x l) ty);
-        end = done .third-end ∙ law .end ∙ sym (ap (λ (k : ℕ). bitXor k (e .second .state)) (done .first-end) ∙ ap (λ (k : ℕ). bitXor (endState (codeOf c) s us) k) (done .second-end));
+        end = done .third-end ∙ law .end ∙ sym (ap (λ (k : ℕ). bitXor k (e .second .state)) (done .first-end) ∙ ap (λ (k : ℕ). bitXor (lastState (codeOf c) s us) k) (done .second-end));
       }

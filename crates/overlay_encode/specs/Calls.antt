@@ -9,7 +9,7 @@ use Rattle.trellis.specs.Lists.{laid}
 use Rattle.short_code.specs.declared.Code.{Code}
 use Rattle.short_code.specs.Codes.{codeOf, goodCode, statesOf}
 use Rattle.overlay.specs.Overlaid.{overlaid}
-use Rattle.trellis.specs.Encoded.{codedBits, endState}
+use Rattle.trellis.specs.Encoded.{codedBits, lastState}
 use Rattle.overlay_encode.specs.declared.Encodings.{Encodings}
 
 -- the three lent outputs, as they were or as they are
@@ -23,9 +23,9 @@ lent x y z = record { first = x; second = y; third = z }
 
 -- accepted: the strings us from the state s, vs from r, and their exclusive-or from that of the states; in each output what lies past is as before
 pub record Encodes (c : Code) (s r : ℕ) (us vs : List ℕ) (e : Encodings) (before after : Lent) : Type 0 where
-  pub first-end : e .first .state ≡ endState (codeOf c) s us
-  pub second-end : e .second .state ≡ endState (codeOf c) r vs
-  pub third-end : e .third .state ≡ endState (codeOf c) (bitXor s r) (overlaid us vs)
+  pub first-end : e .first .state ≡ lastState (codeOf c) s us
+  pub second-end : e .second .state ≡ lastState (codeOf c) r vs
+  pub third-end : e .third .state ≡ lastState (codeOf c) (bitXor s r) (overlaid us vs)
   pub first-are : after .first ≡ laid (codedBits (codeOf c) s us) (before .first)
   pub second-are : after .second ≡ laid (codedBits (codeOf c) r vs) (before .second)
   pub third-are : after .third ≡ laid (codedBits (codeOf c) (bitXor s r) (overlaid us vs)) (before .third)

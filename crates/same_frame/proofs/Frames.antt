@@ -10,7 +10,7 @@ use Rattle.isdbs_tables.specs.declared.Table.{Table}
 use Rattle.isdbs_frame.specs.Frame.{mainSymbols}
 use Rattle.isdbs_points.specs.declared.Mapping.{Mapping}
 use Rattle.isdbs_points.specs.Frame.{pointAt, startState}
-use Rattle.isdbs_encode.specs.Encoding.{FrameLaid}
+use Rattle.isdbs_encode.specs.Laid.{FrameLaid}
 use Rattle.wanted.specs.Inputs.{re-at, im-at}
 use Rattle.wanted.specs.Only.{encodes-parts}
 use Rattle.same_frame.specs.NumberLaws.{point-number}

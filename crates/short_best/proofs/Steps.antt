@@ -9,8 +9,8 @@ use lib.Ieee.{Float}
 use Rattle.trellis.specs.Isdb.{rule}
 use Rattle.trellis.specs.Lists.{laid}
 use Rattle.trellis.specs.Step.{best, traced, renormalised}
-use Rattle.trellis.specs.Run.{Decoder, after, pushed, flushed, decisionsAfter}
-use Rattle.viterbi.specs.Calls.{fourSteps, releases, Holds}
+use Rattle.trellis.specs.Run.{Decoder, after, pushed, flushed, decisionsAfter, fourSteps, releases}
+use Rattle.viterbi.specs.Calls.{Holds}
 use Rattle.viterbi.specs.CountLaws.{counted}
 use Rattle.viterbi.specs.HoldingLaws.{holds-closed, holds-flushed}
 use Rattle.short_code.specs.declared.Code.{Code}

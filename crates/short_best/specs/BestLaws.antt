@@ -18,9 +18,9 @@ use Rattle.refusal.specs.declared.Answer.the-variants as answer
 use Rattle.trellis.specs.Isdb.{rule, frameTraceback}
 use Rattle.trellis.specs.Lists.{laid}
 use Rattle.trellis.specs.Step.{four}
-use Rattle.trellis.specs.Run.{block, startAt, startUnknown}
+use Rattle.trellis.specs.Run.{block, startAt, startUnknown, quadruple}
 use Rattle.trellis.specs.LaidLaws.{take-laid}
-use Rattle.best_path.specs.Paths.{longest, bound, Integer, Quadruples, Reading, This, Any, quadruple}
+use Rattle.best_path.specs.Paths.{longest, bound, Integer, Quadruples, Reading, This, Any}
 use Rattle.best_path.specs.Exact.{Whole, le-from}
 use Rattle.best_path.specs.Calls as best-path
 use Rattle.best_path.specs.Calls.{code-given, code-unknown}

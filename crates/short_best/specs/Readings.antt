@@ -12,9 +12,8 @@ use Rattle.refusal.specs.Rows.{Row}
 use Rattle.refusal.specs.declared.Answer.the-variants as answer
 use Rattle.trellis.specs.Isdb.{rule, frameTraceback}
 use Rattle.trellis.specs.Lists.{laid}
-use Rattle.trellis.specs.Run.{Decoder, block, startAt, startUnknown, decisionsAfter, flushed}
-use Rattle.viterbi.specs.Calls.{fourSteps}
-use Rattle.best_path.specs.Paths.{longest, quadruple, Quadruples, Reading}
+use Rattle.trellis.specs.Run.{Decoder, block, startAt, startUnknown, decisionsAfter, flushed, fourSteps, quadruple}
+use Rattle.best_path.specs.Paths.{longest, Quadruples, Reading}
 use Rattle.isdb_fec.specs.Rows as reading
 use Rattle.short_code.specs.declared.Code.{Code}
 use Rattle.short_code.specs.Codes.{labels, halfOf, statesOf, goodCode}

@@ -24,11 +24,10 @@ use Rattle.trellis.specs.Lists.{laid}
 use Rattle.trellis.specs.ListLaws.{length-upto}
 use Rattle.trellis.specs.RunLaws.{label-under, after-values}
 use Rattle.trellis.specs.Step.{Step, four, renormalised, traced, best}
-use Rattle.trellis.specs.Run.{Decoder, block, startAt, startUnknown, valuesAt, after, decisionsAfter}
-use Rattle.viterbi.specs.Calls.{fourSteps, releases}
+use Rattle.trellis.specs.Run.{Decoder, block, startAt, startUnknown, valuesAt, after, decisionsAfter, fourSteps, releases, quadruple}
 use Rattle.viterbi.specs.CountLaws.{counted, releases-is}
 use Rattle.trellis.specs.LaidLaws.{take-laid, length-laid}
-use Rattle.best_path.specs.Paths.{longest, bound, Quadruples, Reading, quadruple}
+use Rattle.best_path.specs.Paths.{longest, bound, Quadruples, Reading}
 use Rattle.best_path.specs.Viterbi.{Z, value}
 use Rattle.best_path.specs.Exact.{Whole, le-from}
 use Rattle.best_path.specs.Tracks.{Tracks, times, times-step, tracks}

@@ -11,7 +11,7 @@ use lib.ListN.{length, getD, take, set}
 use lib.Seq.{take-all}
 use Rattle.trellis.specs.Lists.{laid}
 use Rattle.trellis.specs.Code.{output, moved, stateAt}
-use Rattle.trellis.specs.Encoded.{lowBits, codedBits, endState}
+use Rattle.trellis.specs.Encoded.{lowBits, codedBits, lastState}
 use Rattle.trellis.specs.EncodedLaws.{reached-is}
 use Rattle.trellis.specs.LaidLaws.{laid-next}
 use Rattle.short_code.specs.declared.Code.{Code}
@@ -53,5 +53,5 @@ pub state-next : (c : Code) (h s : ℕ) (us : List ℕ) (k v w : ℕ) → h ≡ 
 unfolding stateAt
 state-next c h s us k v w eh ev ew = rw (add-one k) (ew ∙ rw (eh, ev) (ap (λ (u : ℕ). moved (halfOf c) u (stateBefore c s us k)) (sym (low-at us k))))
 
-pub state-last : (c : Code) (s : ℕ) (us : List ℕ) → stateBefore c s us (length us) ≡ endState (codeOf c) s us
+pub state-last : (c : Code) (s : ℕ) (us : List ℕ) → stateBefore c s us (length us) ≡ lastState (codeOf c) s us
 state-last c s us = ap (λ (n : ℕ). stateBefore c s us n) (sym (length-low us)) ∙ sym (reached-is (codeOf c) s (lowBits us))

@@ -6,7 +6,7 @@ ghost use lib.Dec.{ltb};
 ghost use lib.ListN.{length};
 ghost use Rattle.refusal.specs.Rows.{firstRow, Either};
 ghost use Rattle.trellis.specs.Lists.{laid};
-ghost use Rattle.trellis.specs.Encoded.{codedBits, endState};
+ghost use Rattle.trellis.specs.Encoded.{codedBits, lastState};
 ghost use Rattle.short_code.specs.Codes.{codeOf, goodCode, Fits};
 ghost use Rattle.short_fec.specs.Rows.{encodeRows};
 use isdb_fec::conv::ConvEncoder;
@@ -55,7 +55,7 @@ fn answer_encode(code: Code, state: u8, n: usize, space: usize) -> Answer
 // X and Y of each input at the front of `out`. The state after the last.
 fn encode_all(code: Code, h: usize, state: u8, bits: &[u8], out: &mut [u8]) -> u8
     requires { ⌜ (1 ≤ h) × (h ≤ 32) × Fits code h × (state < 2 * h) × (2 * length (now bits) ≤ length (now out)) ⌝ }
-    ensures { λ r. ⌜ (r ≡ endState (codeOf code) state (now (bits .entry))) × (now (out .exit) ≡ laid (codedBits (codeOf code) state (now (bits .entry))) (now (out .entry))) ⌝ }
+    ensures { λ r. ⌜ (r ≡ lastState (codeOf code) state (now (bits .entry))) × (now (out .exit) ≡ laid (codedBits (codeOf code) state (now (bits .entry))) (now (out .entry))) ⌝ }
 {
     let mut s = state;
     for i in 0..bits.len() {
@@ -70,7 +70,7 @@ fn encode_all(code: Code, h: usize, state: u8, bits: &[u8], out: &mut [u8]) -> u
 // Encodes the low bit of each byte: X then Y of each at the front of `out`.
 pub fn encode(code: Code, enc: ConvEncoder, bits: &[u8], out: &mut [u8]) -> Encoded
     ensures answers { λ r. ⌜ r .answer ≡ firstRow (encodeRows code (enc .state) (length (now (bits .entry))) (length (now (out .entry)))) ⌝ }
-    ensures state { λ r. ⌜ Either (r .answer) (r .enc .state ≡ endState (codeOf code) (enc .state) (now (bits .entry))) (r .enc .state ≡ enc .state) ⌝ }
+    ensures state { λ r. ⌜ Either (r .answer) (r .enc .state ≡ lastState (codeOf code) (enc .state) (now (bits .entry))) (r .enc .state ≡ enc .state) ⌝ }
     ensures coded { λ r. ⌜ Either (r .answer) (now (out .exit) ≡ laid (codedBits (codeOf code) (enc .state) (now (bits .entry))) (now (out .entry))) (now (out .exit) ≡ now (out .entry)) ⌝ }
 {
     let state = enc.state;

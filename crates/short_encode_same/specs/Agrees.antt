@@ -15,7 +15,7 @@ use Rattle.refusal.specs.RowLaws.{decided}
 use Rattle.trellis.specs.Lists.{upto, laid}
 use Rattle.trellis.specs.ListLaws.{length-upto, getD-upto}
 use Rattle.trellis.specs.Code.{isdb, output, stateAt}
-use Rattle.trellis.specs.Encoded.{lowBits, codedBits, endState}
+use Rattle.trellis.specs.Encoded.{lowBits, codedBits, lastState}
 use Rattle.trellis.specs.EncodedLaws.{reached-is}
 use Rattle.isdbt_table.specs.declared.CodeRate.the-variants.{R1_2}
 use Rattle.isdbt_fec.specs.declared.conv.Encoded as isdbt
@@ -73,13 +73,13 @@ module _ (s : ℕ) (us : List ℕ) where
       let b : i < 2 * length us = rw (length-upto f (2 * length us)) at h in
       getD-upto f 0 (2 * length us) i b ∙ ap (mother s (inputs us)) (place-is i) ∙ mother-is i (i % 2) refl b))
 
-  pub last-state : endState (codeOf isdbCode) s us ≡ stateAt 32 s (inputs us) (length us)
+  pub last-state : lastState (codeOf isdbCode) s us ≡ stateAt 32 s (inputs us) (length us)
   last-state = reached-is (codeOf isdbCode) s (lowBits us) ∙ ap (stateAt 32 s (inputs us)) (length-low us)
 
 -- ---- the contracts of the two calls, of the state s and the input bytes us
 pub encode-agrees : (s : ℕ) (us out₀ out out′ : List ℕ) (r : short.Encoded) (r′ : isdbt.Encoded)
     → r .answer ≡ firstRow (short-rows.encodeRows isdbCode s (length us) (length out₀))
-    → Either (r .answer) (r .enc .state ≡ endState (codeOf isdbCode) s us) (r .enc .state ≡ s)
+    → Either (r .answer) (r .enc .state ≡ lastState (codeOf isdbCode) s us) (r .enc .state ≡ s)
     → Either (r .answer) (out ≡ laid (codedBits (codeOf isdbCode) s us) out₀) (out ≡ out₀)
     → r′ .answer ≡ firstRow (isdbt-rows.encodeRows R1_2 s (length us) (length out₀))
     → Either (r′ .answer) (Encodes R1_2 s us r′ out₀ out′) (Unencoded s r′ out₀ out′)

@@ -6,9 +6,8 @@ use lib.ListN.{take, replicate}
 use lib.Ieee.{Float, binary32, ofBits}
 use Rattle.trellis.specs.Lists.{laid}
 use Rattle.trellis.specs.Step.{Step, traced, best}
-use Rattle.trellis.specs.Run.{Decoder, after, pushed, startAt, startUnknown}
+use Rattle.trellis.specs.Run.{Decoder, after, pushed, startAt, startUnknown, holding}
 use Rattle.trellis.specs.Isdb.{rule}
-use Rattle.viterbi.specs.Calls.{holding}
 use Rattle.isdb_fec.specs.declared.conv.ViterbiDecoder.{ViterbiDecoder}
 use Rattle.isdb_fec.specs.declared.conv.Released.{Released}
 use Rattle.isdb_fec.specs.Calls as isdb

@@ -11,10 +11,10 @@ use lib.Ieee.{Float}
 use Rattle.refusal.specs.Rows.{Row, firstRow}
 use Rattle.refusal.specs.RowLaws.{neither, passed, both-passed}
 use Rattle.refusal.specs.declared.Answer.the-variants as answer
-use Rattle.trellis.specs.Run.{block, tracebackLimit}
+use Rattle.trellis.specs.Run.{block, tracebackLimit, releases}
 use Rattle.isdb_fec.specs.declared.conv.ViterbiDecoder.{ViterbiDecoder}
 use Rattle.isdb_fec.specs.Values.{someBeyond, pathLimit}
-use Rattle.isdb_fec.specs.Rows.{releases, shortOf, stepsShort, streamRest}
+use Rattle.isdb_fec.specs.Rows.{shortOf, stepsShort, streamRest}
 use Rattle.isdb_fec.specs.AnswerLaws.{Enough, FlushEnough}
 use Rattle.short_code.specs.declared.Code.{Code}
 use Rattle.short_code.specs.Codes.{goodCode, statesOf}

@@ -16,10 +16,9 @@ use Rattle.refusal.specs.declared.Answer.the-variants.{Accepted}
 use Rattle.trellis.specs.Lists.{laid}
 use Rattle.trellis.specs.ListLaws.{length-upto}
 use Rattle.trellis.specs.Step.{Step, Tie, pair, four, known, top, next, nexts, renormalised, ruled, traced}
-use Rattle.trellis.specs.Run.{Decoder, settled, valuesAt, after, startAt, startUnknown}
+use Rattle.trellis.specs.Run.{Decoder, settled, valuesAt, after, startAt, startUnknown, pairSteps, fourSteps, knownSteps, holding}
 use Rattle.trellis.specs.RunLaws.{after-values}
 use Rattle.trellis.specs.Isdb as isdb
-use Rattle.viterbi.specs.Calls.{pairSteps, fourSteps, knownSteps, holding}
 use Rattle.isdb_fec.specs.declared.conv.ViterbiDecoder.{ViterbiDecoder}
 use Rattle.isdb_fec.specs.declared.conv.Released.{Released}
 use Rattle.isdb_fec.specs.Rows as fec

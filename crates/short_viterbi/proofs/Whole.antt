@@ -8,10 +8,10 @@ use lib.ListN.{length, take}
 use lib.Seq.{length-take-le}
 use lib.Ieee.{Float}
 use Rattle.trellis.specs.Step.{Step}
-use Rattle.trellis.specs.Run.{stepped, after}
+use Rattle.trellis.specs.Run.{stepped, after, releases, holding}
 use Rattle.trellis.specs.Isdb.{rule}
 use Rattle.viterbi.specs.declared.At.{At}
-use Rattle.viterbi.specs.Calls.{releases, holding, Holds, Stepped, Room}
+use Rattle.viterbi.specs.Calls.{Holds, Stepped, Room}
 use Rattle.viterbi.specs.HoldingLaws.{holds-start, steps-lengths, steps-ready, steps-next}
 
 -- the values of step i are there

@@ -5,7 +5,7 @@ use Prim.Native.Nat.{ℕ}
 use lib.Dec.{eqb}
 use lib.Ieee.{Float}
 use Rattle.trellis.specs.Step.{Step}
-use Rattle.viterbi.specs.Calls.{pairSteps, fourSteps}
+use Rattle.trellis.specs.Run.{pairSteps, fourSteps}
 
 abbrev pub softSteps : ℕ → List Float → ℕ → Step
 softSteps per xs k = cond (eqb per 2) (pairSteps xs k) (fourSteps xs k)

@@ -27,5 +27,5 @@ module _ (c : Code) where
   abbrev pub codedBits : ℕ → List ℕ → List ℕ
   codedBits s us = bitsOf (encoded s (lowBits us))
 
-  abbrev pub endState : ℕ → List ℕ → ℕ
-  endState s us = reached s (lowBits us)
+  abbrev pub lastState : ℕ → List ℕ → ℕ
+  lastState s us = reached s (lowBits us)

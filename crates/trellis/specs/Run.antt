@@ -1,10 +1,10 @@
 -- A decoder's calls as functions of a sequence of steps. Document 01, "The decoder and encoder". Assumes nothing.
 use mathlib.Core.Bool.{cond}
 use mathlib.Core.List.{List, [], _∷_, _++_}
-use Prim.Native.Nat.{ℕ, zero, suc, _+_, _-_, _*_, _%_}
-use lib.ListN.{length, take, drop, replicate}
+use Prim.Native.Nat.{ℕ, zero, suc, _+_, _-_, _*_, _/_, _%_}
+use lib.ListN.{length, getD, take, drop, replicate}
 use lib.Dec.{eqb, leb, ltb}
-use lib.Ieee.{Float, binary32, ofBits}
+use lib.Ieee.{Float, nan, binary32, ofBits}
 use Rattle.trellis.specs.Lists.{upto, laid}
 use Rattle.trellis.specs.Step.{Step, pair, four, known, Tie, nexts, word, best, renormalised, ruled, traced}
 
@@ -99,3 +99,25 @@ module _ (half : ℕ) (out : ℕ → ℕ → ℕ) (t : Tie) where
 -- so once a release took place the first 4,096 + traceback words are the held ones and zeros; the rest is as before.
 abbrev pub decisionsAfter : ℕ → List ℕ → List ℕ → List ℕ → List ℕ
 decisionsAfter tb ws bs before = laid ws (cond (ltb 0 (length bs)) (laid (replicate (block + tb) 0) before) before)
+
+-- a decoder as its path values and the front of the lent decisions hold it
+abbrev pub holding : List Float → ℕ → List ℕ → Decoder
+holding pm held decisions = record { values = pm; words = take held decisions; bits = [] }
+
+-- the releases of a call of n steps on h held words: one as 4,096 + traceback words are held, which leaves `traceback` of them
+abbrev pub releases : ℕ → ℕ → ℕ → ℕ
+releases tb h n = cond (ltb (h + n) (block + tb)) 0 ((h + n - tb) / block)
+
+-- ---- the steps of a call: two soft values, four metrics, or one known bit each
+abbrev pub pairSteps : List Float → ℕ → Step
+pairSteps xs k = pair (getD xs (2 * k) nan) (getD xs (2 * k + 1) nan)
+
+-- quadruple k of a flat list
+abbrev pub quadruple : List Float → ℕ → List Float
+quadruple xs k = getD xs (4 * k) nan ∷ getD xs (4 * k + 1) nan ∷ getD xs (4 * k + 2) nan ∷ getD xs (4 * k + 3) nan ∷ []
+
+abbrev pub fourSteps : List Float → ℕ → Step
+fourSteps xs k = four (quadruple xs k)
+
+abbrev pub knownSteps : List ℕ → ℕ → Step
+knownSteps bs k = known (getD bs k 0)

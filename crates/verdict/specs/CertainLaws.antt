@@ -12,7 +12,7 @@ use Rattle.isdbs_runs.specs.RunsOf.{loadBytes}
 use Rattle.isdbs_points.specs.declared.Mapping.{Mapping}
 use Rattle.isdbs_points.specs.Layout.{FullLoad}
 use Rattle.margins.specs.Margins.{Within}
-use Rattle.isdbs_metrics.specs.Steps.{received}
+use Rattle.isdbs_metrics.specs.Reading.{received}
 use Rattle.exact_frame.specs.Exact.{one-load}
 use Rattle.exact_frame.specs.StrainLaws.{DecodedExactly, decoded-exactly}
 use Rattle.verdict.specs.Outside.{outsideSum}

@@ -13,10 +13,10 @@ use Rattle.trellis.specs.Lists.{laid}
 use Rattle.trellis.specs.ListLaws.{length-upto}
 use Rattle.trellis.specs.Step.{Step, pair, four}
 use Rattle.trellis.specs.Isdb
-use Rattle.trellis.specs.Run.{Decoder}
-use Rattle.acs_runs.specs.Runs.{wordAfter, runValues, runWords, pairSteps, fourSteps}
+use Rattle.trellis.specs.Run.{Decoder, pairSteps, fourSteps, releases}
+use Rattle.acs_runs.specs.Runs.{wordAfter, runValues, runWords}
 use Rattle.viterbi.specs.declared.At.{At}
-use Rattle.viterbi.specs.Calls.{releases, stepsFrom, Carried, Ended, Holds, blockEnd}
+use Rattle.viterbi.specs.Calls.{stepsFrom, Carried, Ended, Holds, blockEnd}
 use Rattle.viterbi.specs.CountLaws.{releases-is}
 use Rattle.trellis.specs.LaidLaws.{length-laid}
 use Rattle.viterbi.specs.BlockLaws.{Soft, ran, block-is, from-more}

@@ -12,10 +12,10 @@ use borrow.Author.Tests.{eq-eqb, ne-eqb, eqb-true, eqb-false}
 use Rattle.trellis.specs.Lists.{upto}
 use Rattle.trellis.specs.ListLaws.{length-upto}
 use Rattle.trellis.specs.Step.{Step, pair, four, renormalised}
-use Rattle.trellis.specs.Run.{Decoder, block, settled, stepped, after}
+use Rattle.trellis.specs.Run.{Decoder, block, settled, stepped, after, pairSteps, fourSteps}
 use Rattle.trellis.specs.Isdb
 use Rattle.trellis.specs.Isdb.{nexts, word, settle, stepOnce, steps, released}
-use Rattle.acs_runs.specs.Runs.{valuesAfter, wordAfter, runValues, runWords, pairSteps, fourSteps}
+use Rattle.acs_runs.specs.Runs.{valuesAfter, wordAfter, runValues, runWords}
 use Rattle.viterbi.specs.Calls.{stepsFrom, blockEnd}
 use Rattle.viterbi.specs.StepLaws.{unreleased}
 

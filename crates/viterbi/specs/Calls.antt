@@ -3,17 +3,15 @@ use mathlib.Core.Path.{_≡_}
 use mathlib.Core.Bool.{cond}
 use mathlib.Core.Logic.{_⊎_}
 use mathlib.Core.List.{List, [], _∷_, _++_}
-use Prim.Native.Nat.{ℕ, zero, suc, _+_, _-_, _*_, _/_, _%_, _<_, _≤_}
-use lib.Dec.{eqb, ltb}
-use lib.ListN.{length, getD, take, drop}
+use Prim.Native.Nat.{ℕ, zero, suc, _+_, _*_, _/_, _%_, _<_, _≤_}
+use lib.Dec.{eqb}
+use lib.ListN.{length, take, drop}
 use lib.Ieee.{Float}
 use Rattle.trellis.specs.Lists.{laid}
 use Rattle.trellis.specs.Step as trellis
 use Rattle.trellis.specs.Step.{pair, four, known, renormalised}
 pub use Rattle.trellis.specs.Isdb.{nexts, word, bestState, traced, settle, stepOnce, steps, call, flush, released}
--- the steps of a call: two soft values each, four metrics each
-pub use Rattle.acs_runs.specs.Runs.{pairSteps, fourSteps}
-use Rattle.trellis.specs.Run.{Decoder, block, decisionsAfter}
+use Rattle.trellis.specs.Run.{Decoder, block, decisionsAfter, releases, pairSteps, fourSteps, knownSteps}
 use Rattle.viterbi.specs.declared.Step.{Step}
 use Rattle.viterbi.specs.declared.Step.the-variants.{Pair, Four, Known}
 use Rattle.viterbi.specs.declared.At.{At}
@@ -24,10 +22,6 @@ stepOf (Pair lx ly) = pair lx ly
 stepOf (Four a b c d) = four (a ∷ b ∷ c ∷ d ∷ [])
 stepOf (Known b) = known b
 
--- the steps of a call: one known bit each
-abbrev pub knownSteps : List ℕ → ℕ → trellis.Step
-knownSteps bs k = known (getD bs k 0)
-
 -- calls as functions of a decoder: those of `push_known`, `push` and `push_metrics`
 abbrev pub knownCall : ℕ → List ℕ → Decoder → Decoder
 knownCall tb bits d = steps tb (knownSteps bits) d (length bits)
@@ -37,14 +31,6 @@ pairCall tb pairs d = call tb (pairSteps pairs) d (length pairs / 2)
 
 abbrev pub fourCall : ℕ → List Float → Decoder → Decoder
 fourCall tb metrics d = call tb (fourSteps metrics) d (length metrics / 4)
-
--- the releases of a call of n steps on h held words: one as 4,096 + traceback words are held, which leaves `traceback` of them
-abbrev pub releases : ℕ → ℕ → ℕ → ℕ
-releases tb h n = cond (ltb (h + n) (block + tb)) 0 ((h + n - tb) / block)
-
--- a decoder as its path values and the front of the lent decisions hold it
-abbrev pub holding : List Float → ℕ → List ℕ → Decoder
-holding pm held decisions = record { values = pm; words = take held decisions; bits = [] }
 
 -- what one step of a call leaves, which gives the decoder d, with `count` bits put out before
 pub record Stepped (tb : ℕ) (d : Decoder) (count : ℕ) (r : At) (pm : List Float) (decisions₀ decisions out₀ out : List ℕ) : Type 0 where

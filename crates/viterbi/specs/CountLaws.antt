@@ -10,8 +10,7 @@ use lib.ListN.{length, take, drop, length-append, length-drop}
 use lib.Seq.{length-take-le}
 use borrow.Author.Tests.{ltb-true, ltb-false, leb-true, leb-false}
 use Rattle.trellis.specs.Step.{Step, Tie, nexts, word, best, traced}
-use Rattle.trellis.specs.Run.{Decoder, block, settled, stepped, after, tracebackLimit}
-use Rattle.viterbi.specs.Calls.{releases}
+use Rattle.trellis.specs.Run.{Decoder, block, settled, stepped, after, tracebackLimit, releases}
 use Rattle.viterbi.specs.TracedLaws.{length-traced}
 use Rattle.viterbi.specs.StepLaws.{grown, unreleased, releasing}
 

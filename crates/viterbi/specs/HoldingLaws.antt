@@ -12,9 +12,9 @@ use lib.Ieee.{Float}
 use borrow.Author.Tests.{leb-true, leb-false, lt-ltb}
 use Rattle.trellis.specs.Lists.{laid}
 use Rattle.trellis.specs.Step.{Step, Tie, nexts, word, best, renormalised, traced}
-use Rattle.trellis.specs.Run.{Decoder, block, settled, stepped, after, pushed, flushed, decisionsAfter, tracebackLimit}
+use Rattle.trellis.specs.Run.{Decoder, block, settled, stepped, after, pushed, flushed, decisionsAfter, tracebackLimit, releases, holding}
 use Rattle.viterbi.specs.declared.At.{At}
-use Rattle.viterbi.specs.Calls.{releases, holding, Holds, Stepped, Room}
+use Rattle.viterbi.specs.Calls.{Holds, Stepped, Room}
 use Rattle.trellis.specs.LaidLaws.{laid-laid, take-laid, length-laid, laid-after}
 use Rattle.viterbi.specs.TracedLaws.{length-traced}
 use Rattle.viterbi.specs.StepLaws.{grown, unreleased, releasing}

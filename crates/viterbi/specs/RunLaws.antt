@@ -12,8 +12,7 @@ use lib.Seq.{getD-append-add}
 use lib.Ieee.{Float, nan}
 use borrow.Author.Tests.{leb-true, leb-false}
 use Rattle.trellis.specs.Step.{Step, Tie, pair, four, known, nexts, best, renormalised, traced}
-use Rattle.trellis.specs.Run.{Decoder, block, settled, stepped, after, closed, pushed}
-use Rattle.viterbi.specs.Calls.{pairSteps, fourSteps, knownSteps}
+use Rattle.trellis.specs.Run.{Decoder, block, settled, stepped, after, closed, pushed, pairSteps, fourSteps, knownSteps}
 use Rattle.viterbi.specs.StepLaws.{grown, unreleased, releasing}
 use Rattle.viterbi.specs.HoldingLaws.{bare}
 

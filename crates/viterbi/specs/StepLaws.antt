@@ -12,8 +12,8 @@ use lib.Ieee.{Float}
 use borrow.Author.Tests.{le-leb, lt-leb}
 use Rattle.trellis.specs.Lists.{laid}
 use Rattle.trellis.specs.Step.{Step, Tie, nexts, word, best, traced}
-use Rattle.trellis.specs.Run.{Decoder, block, settled, stepped, released}
-use Rattle.viterbi.specs.Calls.{holding, Stepped}
+use Rattle.trellis.specs.Run.{Decoder, block, settled, stepped, released, holding}
+use Rattle.viterbi.specs.Calls.{Stepped}
 use Rattle.trellis.specs.LaidLaws.{laid-more}
 use Rattle.viterbi.specs.TracedLaws.{length-traced}
 

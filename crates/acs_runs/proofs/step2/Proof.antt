@@ -1,7 +1,7 @@
 -- `acs_runs::step2` meets its contract: a run of one step. Assumes nothing.
 use mathlib.Core.List.{[], _∷_}
 use borrow.Author.Needs.{needs}
-use Rattle.acs_runs.specs.Runs.{pairSteps}
+use Rattle.trellis.specs.Run.{pairSteps}
 use Rattle.acs_runs.proofs.Turn.{one-step}
 use Rattle.acs_runs.proofs.step2.Statement.{statement}
 use Rattle.acs_runs.proofs.step2.Tie as tie

@@ -1,7 +1,7 @@
 -- `acs_runs::step4` meets its contract: a run of one step. Assumes nothing.
 use mathlib.Core.List.{[], _∷_}
 use borrow.Author.Needs.{needs}
-use Rattle.acs_runs.specs.Runs.{fourSteps}
+use Rattle.trellis.specs.Run.{fourSteps}
 use Rattle.acs_runs.proofs.Turn.{one-step}
 use Rattle.acs_runs.proofs.step4.Statement.{statement}
 use Rattle.acs_runs.proofs.step4.Tie as tie

@@ -5,7 +5,8 @@ use borrow.Author.Needs.{needs}
 use lib.ListN.{length}
 use Rattle.isdb_fec.specs.declared.conv.ViterbiDecoder.{ViterbiDecoder}
 use Rattle.isdb_fec.specs.Rows.{badTraceback, badState, pushKnownRows}
-use Rattle.isdb_fec.specs.Calls.{steps, handed, knownSteps}
+use Rattle.isdb_fec.specs.Calls.{steps, handed}
+use Rattle.trellis.specs.Run.{knownSteps}
 use Rattle.decoder_c.specs.Decoders.{decoderOf}
 use Rattle.answers_c.specs.LengthLaws.{not-states, refused-2}
 use Rattle.conv_c.proofs.Decoders.{unstored, pushed}

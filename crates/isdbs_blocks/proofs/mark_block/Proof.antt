@@ -5,7 +5,7 @@ use Prim.Native.Nat.{ℕ, _-_, _≤_}
 use native.Mathlib.Omega.{arith}
 use lib.ListN.{length, set, length-set}
 use Rattle.trellis.specs.Lists.{upto, laid}
-use Rattle.viterbi.specs.Calls.{fourSteps}
+use Rattle.trellis.specs.Run.{fourSteps}
 use Rattle.strain.specs.Marks.{markOf}
 use Rattle.isdbs_blocks.specs.Blocks.{fourIn}
 use Rattle.isdbs_blocks.proofs.Laws.{put-one}

@@ -15,7 +15,8 @@ use Rattle.isdbt_c.proofs.Rates.{rate-answer, rate-value}
 use Prim.Native.Nat.{ℕ, _*_, _/_}
 use Rattle.isdb_fec.specs.Rows.{freshRows}
 use Rattle.isdbt_table.specs.Table.{period, sent}
-use Rattle.isdbt_rows.specs.Rows.{depth, decodeRows}
+use Rattle.isdbt_rows.specs.Rows.{decodeRows}
+use Rattle.trellis.specs.Run.{depth}
 use Rattle.isdbt_fec.specs.Calls.{decodedBits}
 use borrow.Author.Needs.{needs}
 use Rattle.isdbt_c.proofs.isdbt_decode_punctured.Statement.{statement}

@@ -5,7 +5,7 @@ use native.Mathlib.Omega.{arith}
 use borrow.Author.Needs.{needs}
 use borrow.Author.Tests.{lt-ltb, le-ltb, eq-eqb, ne-eqb}
 use Prim.Native.Nat.{_+_}
-use Rattle.isdbt_rows.specs.Rows.{depth}
+use Rattle.trellis.specs.Run.{depth}
 use Rattle.isdbt_rows.specs.RowLaws.{depth-range}
 use Rattle.isdbt_table.specs.NumberLaws.{numbers}
 use Rattle.isdbt_rows.proofs.Refusals.{decode-answer}

@@ -1,6 +1,6 @@
 -- `matches` meets its contract. Assumes nothing.
 use Rattle.same_frame.proofs.Frames.{both-compared, first-differs}
-use Rattle.isdbs_encode.specs.Encoding.{FrameLaid}
+use Rattle.isdbs_encode.specs.Laid.{FrameLaid}
 use Rattle.isdbs_points.specs.Frame.{startState}
 use Prim.Native.Nat.{ℕ}
 use mathlib.Core.Path.{subst}

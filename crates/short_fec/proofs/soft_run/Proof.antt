@@ -2,7 +2,7 @@
 use mathlib.Core.Path.{_≡_, refl, sym, _∙_, ap}
 use Prim.Native.Nat.{ℕ, suc, _+_, _-_, _*_, _/_, _%_, _^_, _<_, _≤_}
 use Rattle.trellis.specs.Isdb.{rule}
-use Rattle.viterbi.specs.Calls.{holding}
+use Rattle.trellis.specs.Run.{holding}
 use Rattle.viterbi.specs.HoldingLaws.{holds-closed}
 use Rattle.short_viterbi.specs.Soft.{softSteps}
 use Rattle.short_code.specs.Codes.{labels, halfOf, statesOf, goodCode}

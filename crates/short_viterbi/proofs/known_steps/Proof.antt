@@ -4,9 +4,9 @@ use Prim.Native.Nat.{ℕ, suc, _+_, _-_, _*_, _/_, _%_, _^_, _<_, _≤_}
 use native.Mathlib.Omega.{arith}
 use borrow.Author.Needs.{needs}
 use lib.ListN.{length}
-use Rattle.trellis.specs.Run.{after}
+use Rattle.trellis.specs.Run.{after, knownSteps, holding}
 use Rattle.trellis.specs.Isdb.{rule}
-use Rattle.viterbi.specs.Calls.{knownSteps, holding, Holds}
+use Rattle.viterbi.specs.Calls.{Holds}
 use Rattle.short_code.specs.Codes.{labels}
 use Rattle.short_viterbi.specs.Soft.{softSteps}
 use Rattle.short_viterbi.proofs.Whole.{inside, begins, lengths, ready, goes-on}

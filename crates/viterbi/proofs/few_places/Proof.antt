@@ -6,7 +6,7 @@ use borrow.Author.Needs.{needs}
 use mathlib.Core.Bool.{Bool, true, false, cond}
 use lib.Dec.{ltb}
 use borrow.Author.Tests.{ltb-true, ltb-false, lt-ltb, le-ltb}
-use Rattle.viterbi.specs.Calls.{releases}
+use Rattle.trellis.specs.Run.{releases}
 use borrow.Author.Needs.{needs}
 use Rattle.viterbi.proofs.few_places.Statement.{statement}
 use Rattle.viterbi.proofs.few_places.Tie as tie

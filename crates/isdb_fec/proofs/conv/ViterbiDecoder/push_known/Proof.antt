@@ -4,7 +4,8 @@ use Prim.Native.Nat.{ℕ, suc, _+_, _-_, _*_, _/_, _%_, _<_, _≤_}
 use native.Mathlib.Omega.{arith}
 use borrow.Author.Needs.{needs}
 use lib.ListN.{length}
-use Rattle.isdb_fec.specs.Calls.{steps, holding, Holds, knownSteps}
+use Rattle.isdb_fec.specs.Calls.{steps, Holds}
+use Rattle.trellis.specs.Run.{holding, knownSteps}
 use Rattle.isdb_fec.specs.AnswerLaws.{accepted, known-enough}
 use Rattle.isdb_fec.specs.WholeLaws.{begins, lengths, ready, goes-on, ends, as-given}
 use Rattle.refusal.proofs.Told.{told}
