@@ -15,9 +15,9 @@ ghost use Rattle.full_frame.specs.Places.{from, pointsOf, sourceAt, plac
 ghost use Rattle.full_frame.specs.Rows.{shortInputs, shortFrame, layRows, takeRows, leaves};
 ghost use Rattle.isdbs_frame.specs.Frame.{frameSymbols, mainSymbols, burstPoints, headerSymbols};
 
-// Symbols from one burst to the next.
+// Symbols from one burst to the next (ITU-R BO.1408-1, section 7).
 const PERIOD: usize = BURST_PERIOD + BURST_SYMBOLS;
-// Points of the burst input: 192 bursts of 4.
+// Points of the burst input: 192 bursts of 4 (document 02, P1).
 const BURST_POINTS: usize = BURSTS * BURST_SYMBOLS;
 
 // The three inputs of a frame.

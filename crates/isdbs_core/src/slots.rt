@@ -29,7 +29,7 @@ ghost use Rattle.isdbs_core.specs.Symbols.{pairHolds, firstPair, lastBit
 ghost use Rattle.isdbs_core.specs.Answers.{byteSaid};
 ghost use Rattle.isdbs_frame.specs.Frame.{slotBytes};
 
-// The last information bit that has a position.
+// The last information bit that has a position (document 01, refusal 2: "bit above 1,000,000").
 pub const LAST_BIT: usize = 1_000_000;
 
 // Whether a pair holds X or Y of input i of a period.

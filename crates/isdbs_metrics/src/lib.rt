@@ -20,6 +20,7 @@ pub struct PeriodLayout {
     pub places: [usize; 14],
 }
 
+// By the puncturing of BO.1408-1, Table 2 (`orderOf` of the combination): `LayoutOf` in specs/Steps.antt says so.
 pub fn layout_of(c: Combination) -> PeriodLayout
     ensures { λ r. ⌜ (r .combination ≡ c) × LayoutOf r ⌝ }
 {

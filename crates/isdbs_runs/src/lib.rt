@@ -22,7 +22,7 @@ pub struct Run {
     pub symbol_end: usize,
 }
 
-// The run that stands past the count.
+// The run that stands past the count: "the Vec of runs is four records and a count" (document 01).
 pub const NO_RUN: Run = Run {
     combination: Combination::Bpsk1_2,
     slot_start: 0,

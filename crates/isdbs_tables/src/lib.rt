@@ -18,7 +18,7 @@ pub struct Entry {
     pub slots: u8,
 }
 
-// An entry not in use (section 6.1.2).
+// An entry not in use (BO.1408-1, section 6.1.2).
 pub const DUMMY: Entry = Entry { word: 15, slots: 0 };
 
 impl Entry {
