@@ -19,7 +19,9 @@ use viterbi::clear;
 use viterbi::encode_bit;
 
 // P13: "at most 4,096 steps", two bits each.
-const MOST_BITS: usize = 8192;
+const MOST_STEPS: usize = 4_096;
+
+const MOST_BITS: usize = 2 * MOST_STEPS;
 
 // P13: "differs in at most four bits".
 const MOST_CHANGED: u8 = 4;
