@@ -149,9 +149,9 @@ pub fn slot_byte_symbol(t: Table, slot: usize, byte: usize) -> SlotByte
 {
     let all = runs(t);
     let answer = all.answer;
-    if refusal::number(answer) != 0 {
+    let Answer::Accepted = answer else {
         return SlotByte::Refused(answer);
-    }
+    };
     if byte >= SLOT_BYTES {
         return SlotByte::Nothing;
     }

@@ -135,11 +135,9 @@ pub fn state_after(word: u16) -> u8
     ensures { λ r. ⌜ r ≡ stateAfter word ⌝ }
 {
     let mut state: u8 = 0;
-    let mut i: usize = 0;
-    while i < 16 {
+    for i in 0..16 {
         let c = encode_bit(state, word_bit(word, i));
         state = c.state;
-        i += 1;
     }
     state
 }

@@ -109,21 +109,20 @@ pub fn runs(t: Table) -> FrameRuns
     ensures { λ r. ⌜ r ≡ fourRuns t ⌝ }
 {
     let answer = table_answer(t);
-    if refusal::number(answer) == 0 {
-        let p = plan_of(t);
-        let runs = p.runs;
-        FrameRuns {
-            answer,
-            count: p.count,
-            runs,
-            valid_slots: p.valid_slots,
-        }
-    } else {
-        FrameRuns {
+    let Answer::Accepted = answer else {
+        return FrameRuns {
             answer,
             count: 0,
             runs: [NO_RUN; 4],
             valid_slots: 0,
-        }
+        };
+    };
+    let p = plan_of(t);
+    let runs = p.runs;
+    FrameRuns {
+        answer,
+        count: p.count,
+        runs,
+        valid_slots: p.valid_slots,
     }
 }
