@@ -105,7 +105,7 @@ pub fn acs4(pm: &mut [f32; 64], m: [f32; 4]) -> u64
     join(low, high)
 }
 
-// The greatest path value; of equals the first.
+// The greatest path value; of equals the first. It begins at the least f32, as the Rust does.
 fn greatest(pm: &[f32; 64]) -> f32
     ensures { λ r. ⌜ r ≡ top (now (pm .entry)) 64 ⌝ }
 {
@@ -127,7 +127,7 @@ pub fn renormalise(pm: &mut [f32; 64])
     }
 }
 
-// Sets the states that the last input b does not lead to.
+// Sets the states that the last input b does not lead to (document 01: "the 32 states that the bit rules out are set to -1.0e9").
 pub fn rule_out(pm: &mut [f32; 64], b: u8)
     ensures { λ _. ⌜ now (pm .exit) ≡ ruled 32 b (now (pm .entry)) ⌝ }
 {

@@ -3,6 +3,7 @@
 pub type Numbers = [[[u8; 32]; 2]; 2];
 
 // The number 2X + Y of the branch from the state 2j + b on the input u: BRANCH[u][b][j]. Every eighth entry names its input and state.
+// Each entry is `label` of the code (crates/trellis/specs/Code.antt), the parities under 171 and 133 octal; specs/Branches.antt says so (document 02, P4).
 pub const BRANCH: Numbers = [
     [
         [

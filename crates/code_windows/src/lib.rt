@@ -16,7 +16,7 @@ pub fn reversed(s: u8) -> u8
         + s / 32 % 2
 }
 
-// X as the tapped digits of every window of z: the input and the stages 1, 2, 3 and 6.
+// X as the tapped digits of every window of z: the input and the stages 1, 2, 3 and 6 (171 octal; BO.1408-1, Fig. 13).
 fn x_outputs(z: usize) -> usize
     requires { ⌜ z < 16384 ⌝ }
     ensures { λ r. ⌜ (r ≡ xOutputs z) × (r < 16384) ⌝ }
@@ -24,7 +24,7 @@ fn x_outputs(z: usize) -> usize
     z ^ (z >> 1) ^ (z >> 2) ^ (z >> 3) ^ (z >> 6)
 }
 
-// Y in the same way: the input and the stages 2, 3, 5 and 6.
+// Y in the same way: the input and the stages 2, 3, 5 and 6 (133 octal).
 fn y_outputs(z: usize) -> usize
     requires { ⌜ z < 16384 ⌝ }
     ensures { λ r. ⌜ (r ≡ yOutputs z) × (r < 16384) ⌝ }

@@ -11,9 +11,9 @@ use trellis::BLOCK;
 use trellis::TRACEBACK_LIMIT;
 use viterbi::few_places;
 
-// The greatest path value of a handed state, 2^32.
+// The greatest path value of a handed state, 2^32 (document 01, refusal 4).
 pub const PATH_LIMIT: f32 = 4294967296.0;
-// The greatest soft value or metric.
+// The greatest soft value or metric (document 01, refusal 7: "1,048,576 for a stream value").
 pub const STREAM_LIMIT: f32 = 1048576.0;
 
 // Whether a value is not a number or beyond the limit.

@@ -16,7 +16,7 @@ ghost use Rattle.frame_rows.specs.DecodeRows.{badScale, someBad, shortSp
 ghost use Rattle.isdb_fec.specs.Values.{within};
 ghost use Rattle.frame_rows.specs.EncodeRows.{encodeRows};
 
-// The greatest scale that is taken.
+// The greatest scale that is taken (document 01, refusal 8: "not above 0, or above 64").
 pub const SCALE_LIMIT: f32 = 64.0;
 
 // Whether a value is not a number or beyond the limit.

@@ -15,9 +15,9 @@ ghost use Rattle.full_frame.specs.Places.{from, pointsOf, sourceAt, plac
 ghost use Rattle.full_frame.specs.Rows.{shortInputs, shortFrame, layRows, takeRows, leaves};
 ghost use Rattle.isdbs_frame.specs.Frame.{frameSymbols, mainSymbols, burstPoints, headerSymbols};
 
-// Symbols from one burst to the next.
+// Symbols from one burst to the next (ITU-R BO.1408-1, section 7).
 const PERIOD: usize = BURST_PERIOD + BURST_SYMBOLS;
-// Points of the burst input: 192 bursts of 4.
+// Points of the burst input: 192 bursts of 4 (document 02, P1).
 const BURST_POINTS: usize = BURSTS * BURST_SYMBOLS;
 
 // The three inputs of a frame.
@@ -50,10 +50,8 @@ fn lay_part(header: &[f64], signal: &[f64], bursts: &[f64], out: &mut [f64])
     requires { ⌜ (headerSymbols ≤ length (now header)) × (mainSymbols ≤ length (now signal)) × (burstPoints ≤ length (now bursts)) × (frameSymbols ≤ length (now out)) ⌝ }
     ensures { λ _. ⌜ now (out .exit) ≡ laid (fullPart (inputs (now (header .entry)) (now (signal .entry)) (now (bursts .entry)))) (now (out .entry)) ⌝ }
 {
-    let mut p: usize = 0;
-    while p < FRAME_SYMBOLS {
+    for p in 0..FRAME_SYMBOLS {
         out[p] = point_at(header, signal, bursts, p);
-        p += 1;
     }
 }
 
@@ -89,11 +87,9 @@ fn take_input(input: Input, full: &[f64], out: &mut [f64])
     ensures { λ _. ⌜ now (out .exit) ≡ laid (taken input (now (full .entry))) (now (out .entry)) ⌝ }
 {
     let n = points(input);
-    let mut i: usize = 0;
-    while i < n {
+    for i in 0..n {
         let p = place(input, i);
         out[i] = full[p];
-        i += 1;
     }
 }
 

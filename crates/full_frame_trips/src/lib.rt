@@ -92,9 +92,9 @@ pub fn lay_then_take(
         out_burst_im.len(),
     );
     let answer = first_row(inputs, short_frame(re.len(), im.len()), outputs);
-    if refusal::number(answer) != 0 {
+    let Answer::Accepted = answer else {
         return answer;
-    }
+    };
     lay(
         header_re,
         header_im,
@@ -150,9 +150,9 @@ pub fn take_then_lay(
     );
     let frame = short_frame(re.len(), im.len());
     let answer = first_row(frame, parts, short_frame(out_re.len(), out_im.len()));
-    if refusal::number(answer) != 0 {
+    let Answer::Accepted = answer else {
         return answer;
-    }
+    };
     take_apart(
         re,
         im,

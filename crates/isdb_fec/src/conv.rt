@@ -1,5 +1,9 @@
 // The mother code of constraint length 7 with generators 171 and 133 octal, and its soft-decision Viterbi decoder: the inner code of
-// every ISDB system. Puncturing lives with the systems.
+// every ISDB system: ISDB-S (ITU-R BO.1408-1, Annex 1, section 9, Fig. 13; MIC Ordinance No. 87 of 2011, annexed table 49, item 3) and
+// ISDB-T (ARIB STD-B31, section 3.8, Fig. 3-10). Puncturing lives with the systems. After conv.rs of isdb-fec.
+//
+// The figures have six stages. X sums the input and the stages 1, 2, 3 and 6, Y the input and the stages 2, 3, 5 and 6; with the input as the
+// highest of seven digits these are 171 and 133 octal.
 ghost use mathlib.Core.Path.{_≡_};
 ghost use Prim.Native.Nat.{ℕ, _+_, _*_, _<_, _≤_, _/_, _%_};
 ghost use lib.ListN.{length};
@@ -26,15 +30,16 @@ use viterbi::run_pairs;
 use viterbi::start_at;
 use viterbi::start_unknown;
 
+// k of the mother code (BO.1408-1, Fig. 13; STD-B31, section 3.8).
 pub const CONSTRAINT_LENGTH: usize = 7;
-// The generator of the output X.
+// The generator of the output X (the same places).
 pub const G1: u8 = 0o171;
-// The generator of the output Y.
+// The generator of the output Y (the same places).
 pub const G2: u8 = 0o133;
-// 2 ^ (CONSTRAINT_LENGTH - 1).
+// The states of the encoder, 2 ^ (CONSTRAINT_LENGTH - 1).
 pub const STATES: usize = 64;
 
-// 16 constraint lengths.
+// 16 constraint lengths, which the Rust takes for ample at rate 7/8.
 pub const DEFAULT_TRACEBACK: usize = 112;
 
 pub struct Branch {

@@ -15,7 +15,7 @@ pub enum Combination {
     Tc8psk2_3,
 }
 
-// Every combination, from the most to the least efficient.
+// Every combination, from the most to the least efficient: the slot order of BO.1408-1, section 3.2.
 pub const ALL: [Combination; 7] = [
     Combination::Tc8psk2_3,
     Combination::Qpsk7_8,
@@ -33,13 +33,13 @@ pub enum Modulation {
     Tc8psk,
 }
 
-// The slots of a frame (BO.1408-1, section 3).
+// The slots of a frame, N (BO.1408-1, Appendix 1, Table 3 item 1).
 pub const FRAME_SLOTS: usize = 48;
 
-// Information bits of a slot on air, its 203 bytes.
+// Information bits of a slot on air, its 203 bytes (Table 3 item 3).
 pub const SLOT_BITS: usize = 1_624;
 
-// The symbols of a slot: 48 slots make the 38,976 of a frame's main signal.
+// The symbols of a slot, 8 x 203 / E_max (BO.1408-1, section 3.2): 48 slots make the 38,976 of a frame's main signal.
 pub const SLOT_SYMBOLS: usize = 812;
 
 // The word of unused entries (Table 1: 1111; BO.1408-1, section 6.1.2).
@@ -58,7 +58,7 @@ pub enum MaybeCombination {
     None,
 }
 
-// The punctured codes of QPSK.
+// The punctured codes of QPSK (BO.1408-1, Table 2).
 pub enum Puncture {
     R2_3,
     R3_4,
@@ -97,7 +97,7 @@ pub struct BitPairs {
 }
 
 impl CombinationWord {
-    // By the low 4 bits.
+    // By the low 4 bits (Table 1).
     pub fn from_word(w: u8) -> CombinationWord
         ensures { λ r. ⌜ r ≡ wordMeans w ⌝ }
     {
@@ -137,6 +137,7 @@ impl CombinationWord {
 }
 
 impl Combination {
+    // The word of Table 1.
     pub fn word(self) -> u8
         ensures { λ r. ⌜ r ≡ wordOf self ⌝ }
     {
@@ -167,7 +168,7 @@ impl Combination {
         }
     }
 
-    // Position in ALL: 0 for the most efficient.
+    // Position in ALL: 0 for the most efficient (section 3.2).
     pub fn rank(self) -> usize
         ensures { λ r. ⌜ r ≡ rankOf self ⌝ }
     {
@@ -196,7 +197,7 @@ impl Combination {
         }
     }
 
-    // Code rate.
+    // Code rate (Table 1).
     pub fn rate(self) -> Ratio
         ensures { λ r. ⌜ r ≡ rateOf self ⌝ }
     {
@@ -222,7 +223,7 @@ impl Combination {
         }
     }
 
-    // Information bits per symbol.
+    // Information bits per symbol (section 3.2, equation (1)). TC8PSK has one bit uncoded and one at rate 1/2.
     pub fn efficiency(self) -> Ratio
         ensures { λ r. ⌜ r ≡ efficiencyOf self ⌝ }
     {
@@ -237,6 +238,7 @@ impl Combination {
         }
     }
 
+    // The slot unit (annexed table 48, appended note 3).
     pub fn slot_unit(self) -> SlotUnit
         ensures { λ r. ⌜ r ≡ unitOf self ⌝ }
     {
@@ -251,7 +253,7 @@ impl Combination {
         }
     }
 
-    // Symbols of a slot unit.
+    // Symbols of a slot unit, 812 for each slot (section 3.2, equations (1) to (4)).
     pub fn symbols_per_unit(self) -> usize
         ensures { λ r. ⌜ r ≡ unitOf self .slots * slotSymbols ⌝ }
     {
@@ -266,7 +268,7 @@ impl Combination {
         }
     }
 
-    // Trellis steps of a valid slot.
+    // Trellis steps of a valid slot: one for each bit, of TC8PSK for each second one.
     pub fn steps_per_slot(self) -> usize
         ensures { λ r. ⌜ r ≡ slotSteps self ⌝ }
     {
@@ -281,6 +283,7 @@ impl Combination {
         }
     }
 
+    // The punctured code (Table 2); none at rate 1/2 and for the coded bit of TC8PSK.
     pub fn puncturing(self) -> MaybePuncture
         ensures { λ r. ⌜ r ≡ punctureOf self ⌝ }
     {
@@ -312,7 +315,7 @@ fn bit_pairs(count: usize, b: [usize; 8]) -> BitPairs
 }
 
 impl Puncture {
-    // The pairs of a period, in the order sent: the first bit of a pair is p1, the second p0.
+    // The pairs of a period, in the order sent (Table 2; annexed table 49, note 4): the first bit of a pair is p1, the second p0.
     pub fn pairs(self) -> BitPairs
         ensures { λ r. ⌜ r ≡ fourPairs self ⌝ }
     {
@@ -324,7 +327,7 @@ impl Puncture {
         }
     }
 
-    // Input bits per period.
+    // Input bits per period (Table 2).
     pub fn period(self) -> usize
         ensures { λ r. ⌜ r ≡ periodOf self ⌝ }
     {

@@ -29,7 +29,7 @@ ghost use Rattle.isdbs_core.specs.Symbols.{pairHolds, firstPair, lastBit
 ghost use Rattle.isdbs_core.specs.Answers.{byteSaid};
 ghost use Rattle.isdbs_frame.specs.Frame.{slotBytes};
 
-// The last information bit that has a position.
+// The last information bit that has a position (document 01, refusal 2: "bit above 1,000,000").
 pub const LAST_BIT: usize = 1_000_000;
 
 // Whether a pair holds X or Y of input i of a period.
@@ -149,9 +149,9 @@ pub fn slot_byte_symbol(t: Table, slot: usize, byte: usize) -> SlotByte
 {
     let all = runs(t);
     let answer = all.answer;
-    if refusal::number(answer) != 0 {
+    let Answer::Accepted = answer else {
         return SlotByte::Refused(answer);
-    }
+    };
     if byte >= SLOT_BYTES {
         return SlotByte::Nothing;
     }

@@ -17,23 +17,23 @@ pub const SLOTS: usize = FRAME_SLOTS;
 pub const FRAMES: usize = 8;
 // Bytes per slot on air, B (item 3: the MPEG sync byte is not sent).
 pub const SLOT_BYTES: usize = 203;
-// Bytes per slot with the sync byte.
+// Bytes per slot with the sync byte, a codeword of RS(204,188).
 pub const PACKET_BYTES: usize = 204;
 // Main-signal symbols per frame, I_D (item 4).
 pub const MAIN_SYMBOLS: usize = 38_976;
 // Symbols per frame, with header and bursts (item 5).
 pub const FRAME_SYMBOLS: usize = 39_936;
-// Symbols of the header at the start of each frame.
+// Symbols of the header at the start of each frame: 96 bits at rate 1/2 (annexed tables 45 and 50).
 pub const HEADER_SYMBOLS: usize = 192;
 // Main-signal symbols between two bursts (BO.1408-1, section 7).
 pub const BURST_PERIOD: usize = 203;
 // Symbols per burst (section 7).
 pub const BURST_SYMBOLS: usize = 4;
-// Bursts per frame.
+// Bursts per frame: 38,976 / 203.
 pub const BURSTS: usize = 192;
-// Header bytes per frame: W1 (2), TMCC (8), W2 or W3 (2).
+// Header bytes per frame: W1 (2), TMCC (8), W2 or W3 (2) (annexed table 45).
 pub const HEADER_BYTES: usize = 12;
-// TMCC bytes per frame.
+// TMCC bytes per frame (annexed table 45).
 pub const TMCC_BYTES_PER_FRAME: usize = 8;
 // Highest spectrum efficiency, bits per symbol (item 7).
 pub const E_MAX: usize = 2;
@@ -47,7 +47,7 @@ pub const W2: u16 = 0xA340;
 
 pub const W3: u16 = 0x5CBF;
 
-// The last 20 bits of W1, W2, W3 after the inner code: the first six bits of a word flush the encoder, so these do not depend on its state (section 6.3).
+// The last 20 bits of W1, W2, W3 after the inner code (annexed table 45, note 1): the first six bits of a word flush the encoder, so these do not depend on its state (section 6.3).
 pub const W1_CODED_TAIL: u32 = 0xECD28;
 
 pub const W2_CODED_TAIL: u32 = 0x0B677;
@@ -55,7 +55,7 @@ pub const W2_CODED_TAIL: u32 = 0x0B677;
 pub const W3_CODED_TAIL: u32 = 0xF4988;
 // Length of a coded tail in bits.
 pub const CODED_TAIL_BITS: usize = 20;
-// Header symbols where the tails of W1 and of W2 or W3 start.
+// Header symbols where the tails of W1 and of W2 or W3 start: the last 20 of the 32 that carry W1, and of the header.
 pub const W1_TAIL_AT: usize = 12;
 
 pub const W23_TAIL_AT: usize = 172;

@@ -7,6 +7,7 @@ ghost use mathlib.Core.Path.{_≡_};
 ghost use Prim.Native.Nat.{_<_};
 ghost use lib.ListN.{length, getD};
 ghost use lib.Ieee.{nan};
+ghost use Rattle.isdbs_combination.specs.Combinations.{modulationOf};
 ghost use Rattle.isdbs_points.specs.Points.{point, conjugated};
 ghost use Rattle.isdbs_metrics.specs.Reading.{correlation};
 ghost use Rattle.isdbs_metrics.specs.Steps.{LayoutOf};
@@ -20,59 +21,31 @@ pub struct PeriodLayout {
     pub places: [usize; 14],
 }
 
+// The period of a combination's code by its numbers.
+fn layout(c: Combination, period: usize, count: usize, places: [usize; 14]) -> PeriodLayout
+    ensures { λ r. ⌜ r ≡ record { combination = c; modulation = modulationOf c; period = period; count = count; places = places } ⌝ }
+{
+    PeriodLayout {
+        combination: c,
+        modulation: c.modulation(),
+        period,
+        count,
+        places,
+    }
+}
+
+// By the puncturing of BO.1408-1, Table 2 (`orderOf` of the combination): `LayoutOf` in specs/Steps.antt says so.
 pub fn layout_of(c: Combination) -> PeriodLayout
     ensures { λ r. ⌜ (r .combination ≡ c) × LayoutOf r ⌝ }
 {
     match c {
-        Combination::Bpsk1_2 => PeriodLayout {
-            combination: c,
-            modulation: Modulation::Bpsk,
-            period: 1,
-            count: 2,
-            places: [0, 1, 2, 2, 2, 2, 2, 2, 2, 2, 2, 2, 2, 2],
-        },
-        Combination::Qpsk1_2 => PeriodLayout {
-            combination: c,
-            modulation: Modulation::Qpsk,
-            period: 1,
-            count: 2,
-            places: [0, 1, 2, 2, 2, 2, 2, 2, 2, 2, 2, 2, 2, 2],
-        },
-        Combination::Qpsk2_3 => PeriodLayout {
-            combination: c,
-            modulation: Modulation::Qpsk,
-            period: 4,
-            count: 6,
-            places: [0, 1, 6, 2, 3, 4, 6, 5, 6, 6, 6, 6, 6, 6],
-        },
-        Combination::Qpsk3_4 => PeriodLayout {
-            combination: c,
-            modulation: Modulation::Qpsk,
-            period: 3,
-            count: 4,
-            places: [0, 1, 4, 2, 3, 4, 4, 4, 4, 4, 4, 4, 4, 4],
-        },
-        Combination::Qpsk5_6 => PeriodLayout {
-            combination: c,
-            modulation: Modulation::Qpsk,
-            period: 5,
-            count: 6,
-            places: [0, 1, 6, 2, 3, 6, 6, 4, 5, 6, 6, 6, 6, 6],
-        },
-        Combination::Qpsk7_8 => PeriodLayout {
-            combination: c,
-            modulation: Modulation::Qpsk,
-            period: 7,
-            count: 8,
-            places: [0, 1, 8, 2, 8, 3, 8, 4, 5, 8, 8, 6, 7, 8],
-        },
-        Combination::Tc8psk2_3 => PeriodLayout {
-            combination: c,
-            modulation: Modulation::Tc8psk,
-            period: 1,
-            count: 2,
-            places: [0, 1, 2, 2, 2, 2, 2, 2, 2, 2, 2, 2, 2, 2],
-        },
+        Combination::Bpsk1_2 => layout(c, 1, 2, [0, 1, 2, 2, 2, 2, 2, 2, 2, 2, 2, 2, 2, 2]),
+        Combination::Qpsk1_2 => layout(c, 1, 2, [0, 1, 2, 2, 2, 2, 2, 2, 2, 2, 2, 2, 2, 2]),
+        Combination::Qpsk2_3 => layout(c, 4, 6, [0, 1, 6, 2, 3, 4, 6, 5, 6, 6, 6, 6, 6, 6]),
+        Combination::Qpsk3_4 => layout(c, 3, 4, [0, 1, 4, 2, 3, 4, 4, 4, 4, 4, 4, 4, 4, 4]),
+        Combination::Qpsk5_6 => layout(c, 5, 6, [0, 1, 6, 2, 3, 6, 6, 4, 5, 6, 6, 6, 6, 6]),
+        Combination::Qpsk7_8 => layout(c, 7, 8, [0, 1, 8, 2, 8, 3, 8, 4, 5, 8, 8, 6, 7, 8]),
+        Combination::Tc8psk2_3 => layout(c, 1, 2, [0, 1, 2, 2, 2, 2, 2, 2, 2, 2, 2, 2, 2, 2]),
     }
 }
 

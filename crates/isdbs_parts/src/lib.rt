@@ -12,16 +12,17 @@ pub fn slot_part_answer(bytes: &[u8], t: Table, k: usize) -> Answer
 {
     let all = runs(t);
     let answer = all.answer;
-    if refusal::number(answer) == 0 {
-        let v = all.valid_slots;
-        if k >= v {
-            return Answer::Position;
-        }
-        if bytes.len() != SLOT_BYTES * v {
-            return Answer::Length;
-        }
+    let Answer::Accepted = answer else {
+        return answer;
+    };
+    let v = all.valid_slots;
+    if k >= v {
+        return Answer::Position;
     }
-    answer
+    if bytes.len() != SLOT_BYTES * v {
+        return Answer::Length;
+    }
+    Answer::Accepted
 }
 
 // The 203 bytes of valid slot k, a part of the load; empty where the call is turned back.
@@ -29,9 +30,8 @@ pub fn slot_part<'a>(bytes: &'a [u8], t: Table, k: usize) -> &'a [u8]
     ensures { λ r. ⌜ now r ≡ slotPart (now (bytes .entry)) t k ⌝ }
 {
     let answer = slot_part_answer(bytes, t, k);
-    if refusal::number(answer) == 0 {
-        &bytes[SLOT_BYTES * k..SLOT_BYTES * k + SLOT_BYTES]
-    } else {
-        &bytes[0..0]
-    }
+    let Answer::Accepted = answer else {
+        return &bytes[0..0];
+    };
+    &bytes[SLOT_BYTES * k..SLOT_BYTES * k + SLOT_BYTES]
 }

@@ -39,12 +39,10 @@ fn qpsk_table(m: Mapping) -> PointTable
 {
     let mut re = [0.0; 8];
     let mut im = [0.0; 8];
-    let mut l: usize = 0;
-    while l < 4 {
+    for l in 0..4 {
         let p = qpsk_mapped(m.qpsk_p1_on_q, (l / 2) as u8, l as u8);
         re[l] = p.re;
         im[l] = mirror(m.conjugate, p.im);
-        l += 1;
     }
     PointTable { re, im }
 }
@@ -55,13 +53,11 @@ fn psk8_table(m: Mapping) -> PointTable
 {
     let mut re = [0.0; 8];
     let mut im = [0.0; 8];
-    let mut l: usize = 0;
-    while l < 8 {
+    for l in 0..8 {
         let c1_c0 = subset_of(m.tc8psk_c1_is_y, (l % 4) as u8);
         let p = psk8_point(4 * (l / 4) as u8 + c1_c0);
         re[l] = p.re;
         im[l] = mirror(m.conjugate, p.im);
-        l += 1;
     }
     PointTable { re, im }
 }
@@ -89,13 +85,11 @@ fn register_table(m: Mapping) -> RegisterTable
     let ys = t.im;
     let mut re = [0.0; 256];
     let mut im = [0.0; 256];
-    let mut w: usize = 0;
-    while w < 256 {
+    for w in 0..256 {
         let out = outputs(w);
         let l = 4 * (w / 128) + 2 * digit(out, 16) + digit(out, 0);
         re[w] = xs[l];
         im[w] = ys[l];
-        w += 1;
     }
     RegisterTable { re, im }
 }
@@ -115,8 +109,7 @@ fn encode_bpsk(
 {
     let signs = [1.0, -1.0];
     let mut state = start;
-    let mut k: usize = 0;
-    while k < n {
+    for k in 0..n {
         let sent = encode_step(bytes, bit + k, state);
         let l = sent.label;
         state = sent.state;
@@ -125,7 +118,6 @@ fn encode_bpsk(
         im[2 * k] = y;
         re[2 * k + 1] = signs[l % 2];
         im[2 * k + 1] = y;
-        k += 1;
     }
     state
 }
@@ -143,13 +135,11 @@ fn put_byte(
     ensures { λ r. ⌜ ByteEncoded byte start r (now (xs .entry)) (now (ys .entry)) (now (re .entry)) (now (re .exit)) (now (im .entry)) (now (im .exit)) ⌝ }
 {
     let z = 16 * (start as usize) + coded_inputs(byte);
-    let mut i: usize = 0;
-    while i < 4 {
+    for i in 0..4 {
         let c2 = byte_bit(byte, 2 * i);
         let w = 128 * (c2 as usize) + (z >> (3 - i)) % 128;
         re[i] = xs[w];
         im[i] = ys[w];
-        i += 1;
     }
     (z % 64) as u8
 }
@@ -274,14 +264,12 @@ fn put_pairs(
     requires { ⌜ (count ≤ 4) × (count ≤ length (now re)) × (count ≤ length (now im)) × AtMost count 31 (now s1) × AtMost count 31 (now s0) ⌝ }
     ensures { λ _. ⌜ (now (re .exit) ≡ laid (upto (λ i. getD (now (xs .entry)) (pairLabel word (now (s1 .entry)) (now (s0 .entry)) i) nan) count) (now (re .entry))) × (now (im .exit) ≡ laid (upto (λ i. getD (now (ys .entry)) (pairLabel word (now (s1 .entry)) (now (s0 .entry)) i) nan) count) (now (im .entry))) ⌝ }
 {
-    let mut i: usize = 0;
-    while i < count {
+    for i in 0..count {
         let a = digit(word, s1[i]);
         let b = digit(word, s0[i]);
         let l = 2 * a + b;
         re[i] = xs[l];
         im[i] = ys[l];
-        i += 1;
     }
 }
 
@@ -313,8 +301,7 @@ fn encode_qpsk(
     let mut state = reversed(start);
     let mut done: usize = 0;
     let mut j: usize = 0;
-    let mut q: usize = 0;
-    while q < periods {
+    for q in 0..periods {
         let e = encode_period(bytes, bit + done, period, state);
         state = e.state;
         put_pairs(
@@ -329,7 +316,6 @@ fn encode_qpsk(
         );
         done += period;
         j += count;
-        q += 1;
     }
     reversed(state)
 }

@@ -11,10 +11,10 @@ ghost use Rattle.isdbs_points.specs.Points.{psk8Of, qpskOf, subset, conj
 ghost use Rattle.isdbs_points.specs.Layout.{wordBit};
 ghost use Rattle.isdbs_points.specs.Frame.{stateAfter, startState};
 
-// The greatest part of a received point that is taken, of either sign.
+// The greatest part of a received point that is taken, of either sign (refusal 7 as document 02, P8 leaves it).
 pub const PART_LIMIT: f64 = 65536.0;
 
-// 1 / sqrt 2 as an f64.
+// 1 / sqrt 2 as an f64: document 01's s, of the bits 3FE6A09E667F3BCD.
 const ROOT: f64 = 0.7071067811865476;
 
 // A point's real and imaginary part.
@@ -34,7 +34,7 @@ pub struct Mapping {
 }
 
 impl Mapping {
-    // The reading of STD-B20.
+    // The reading of STD-B20 (annexed table 46; BO.1408-1, Fig. 15).
     pub fn default() -> Self
         ensures { λ r. ⌜ (r .conjugate ≡ false) × (r .«qpsk_p1_on_q» ≡ false) × (r .«tc8psk_c1_is_y» ≡ true) ⌝ }
     {
@@ -46,7 +46,7 @@ impl Mapping {
     }
 }
 
-// The 8PSK point of the label C2 C1 C0; the low three bits count.
+// The 8PSK point of the label C2 C1 C0 (annexed table 46); the low three bits count.
 pub fn psk8_point(label: u8) -> Cplx
     ensures { λ r. ⌜ r ≡ psk8Of (label % 8) ⌝ }
 {
@@ -135,11 +135,9 @@ pub fn state_after(word: u16) -> u8
     ensures { λ r. ⌜ r ≡ stateAfter word ⌝ }
 {
     let mut state: u8 = 0;
-    let mut i: usize = 0;
-    while i < 16 {
+    for i in 0..16 {
         let c = encode_bit(state, word_bit(word, i));
         state = c.state;
-        i += 1;
     }
     state
 }

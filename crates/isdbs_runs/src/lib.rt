@@ -22,7 +22,7 @@ pub struct Run {
     pub symbol_end: usize,
 }
 
-// The run that stands past the count.
+// The run that stands past the count: "the Vec of runs is four records and a count" (document 01).
 pub const NO_RUN: Run = Run {
     combination: Combination::Bpsk1_2,
     slot_start: 0,
@@ -109,21 +109,20 @@ pub fn runs(t: Table) -> FrameRuns
     ensures { λ r. ⌜ r ≡ fourRuns t ⌝ }
 {
     let answer = table_answer(t);
-    if refusal::number(answer) == 0 {
-        let p = plan_of(t);
-        let runs = p.runs;
-        FrameRuns {
-            answer,
-            count: p.count,
-            runs,
-            valid_slots: p.valid_slots,
-        }
-    } else {
-        FrameRuns {
+    let Answer::Accepted = answer else {
+        return FrameRuns {
             answer,
             count: 0,
             runs: [NO_RUN; 4],
             valid_slots: 0,
-        }
+        };
+    };
+    let p = plan_of(t);
+    let runs = p.runs;
+    FrameRuns {
+        answer,
+        count: p.count,
+        runs,
+        valid_slots: p.valid_slots,
     }
 }

@@ -18,7 +18,7 @@ pub struct Entry {
     pub slots: u8,
 }
 
-// An entry not in use (section 6.1.2).
+// An entry not in use (BO.1408-1, section 6.1.2).
 pub const DUMMY: Entry = Entry { word: 15, slots: 0 };
 
 impl Entry {
@@ -189,11 +189,10 @@ pub fn slot_combinations(t: Table) -> SlotMarks
     ensures { λ r. ⌜ r ≡ slotMarks t ⌝ }
 {
     let answer = table_answer(t);
-    if refusal::number(answer) == 0 {
-        let slots = marks(t);
-        SlotMarks { answer, slots }
-    } else {
+    let Answer::Accepted = answer else {
         let slots = no_marks();
-        SlotMarks { answer, slots }
-    }
+        return SlotMarks { answer, slots };
+    };
+    let slots = marks(t);
+    SlotMarks { answer, slots }
 }

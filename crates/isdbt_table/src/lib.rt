@@ -1,4 +1,5 @@
-// The puncturing of ISDB-T (ARIB STD-B31, section 3.8, Table 3-8): the table, and the order of sent bits that it makes.
+// The puncturing of ISDB-T (ARIB STD-B31, section 3.8, Table 3-8): the table, and the order of sent bits that it makes. After conv.rs of
+// isdbt-fec.
 ghost use mathlib.Core.Path.{_≡_};
 ghost use Prim.Native.Nat.{_+_, _-_, _*_, _<_, _≤_};
 ghost use Rattle.isdbt_table.specs.Table.{rowOf, specOf, compiled};
@@ -25,7 +26,7 @@ pub struct PunctureSpec {
     pub indices: [usize; 8],
 }
 
-// Table 3-8 (rows 1/2, 2/3, 3/4, 5/6, 7/8).
+// Table 3-8 of ARIB STD-B31, section 3.8 (rows 1/2, 2/3, 3/4, 5/6, 7/8): `specOf` in specs/Table.antt, row for row.
 pub const TABLE_3_8: [PunctureSpec; 5] = [
     PunctureSpec {
         rate: CodeRate::R1_2,
@@ -74,7 +75,7 @@ pub const TABLE_3_8: [PunctureSpec; 5] = [
     },
 ];
 
-// The row of a rate in TABLE_3_8.
+// The row of a rate in TABLE_3_8, in the order of Table 3-8.
 fn table_3_8_row(rate: CodeRate) -> usize
     ensures { λ r. ⌜ (r ≡ rowOf rate) × (r < 5) ⌝ }
 {

@@ -33,7 +33,7 @@ fn accepted(x: f64) -> bool
     between(-PART_LIMIT, PART_LIMIT, x)
 }
 
-// A part keeps the margin of a clean one: within 1/32 of 0; from 31/32 to 33/32 at 1; from 87/128 to 94/128 at 1/√2; negatives mirrored.
+// A part keeps the margin of a clean one (document 01, the margins of demand 3): within 1/32 of 0; from 31/32 to 33/32 at 1; from 87/128 to 94/128 at 1/√2; negatives mirrored.
 fn keeps(clean: f64, x: f64) -> bool
     ensures { λ r. ⌜ r ≡ keeps clean x ⌝ }
 {

@@ -1,4 +1,4 @@
-// Mending stored coded stretches: hard X, Y bits with at most four wrong ones, between a known start and a known end.
+// Mending stored coded stretches (document 02, P13): hard X, Y bits with at most four wrong ones, between a known start and a known end.
 ghost use mathlib.Core.Path.{_≡_};
 ghost use Prim.Native.Nat.{_+_, _*_, _/_, _%_, _^_, _≤_, _<_};
 ghost use lib.ListN.{length};
@@ -18,12 +18,17 @@ use trellis::FRAME_WORDS;
 use viterbi::clear;
 use viterbi::encode_bit;
 
-// 4,096 steps.
-const MOST_BITS: usize = 8192;
+// P13: "at most 4,096 steps", two bits each.
+const MOST_STEPS: usize = 4_096;
 
+const MOST_BITS: usize = 2 * MOST_STEPS;
+
+// P13: "differs in at most four bits".
 const MOST_CHANGED: u8 = 4;
 
+// P13: "the position list always needing four places".
 const PLACES: usize = 4;
+
 // What a call gives: how many positions were changed. Refused: 0.
 pub struct Mended {
     pub answer: Answer,

@@ -10,7 +10,7 @@ ghost use Rattle.mend_distance.specs.Distances.{through, nexts, word, be
 use trellis::HALF;
 use viterbi::encode_bit;
 
-// One more than the most bits that are mended.
+// One more than the most bits that are mended (document 02, P13: "at most four bits").
 const FAR: u8 = 5;
 
 // The number of states, which the type of the table fixes.

@@ -1,4 +1,4 @@
-// The codes of constraint length 3 to 7 with two generators: the test of a code, and one input of its encoder.
+// The codes of constraint length 3 to 7 with two generators (document 02, P7): the test of a code, and one input of its encoder.
 ghost use mathlib.Core.Path.{_≡_};
 ghost use mathlib.Core.Bool.{_&&_};
 ghost use Prim.Native.Nat.{_*_, _<_, _≤_, _%_};

@@ -124,7 +124,7 @@ pub fn renormalise(pm: &mut [f32], h: usize)
     }
 }
 
-// Sets the states that the last input b does not lead to.
+// Sets the states that the last input b does not lead to (document 01: "set to -1.0e9").
 fn rule_out(pm: &mut [f32], h: usize, b: u8)
     requires { ⌜ (1 ≤ h) × (length (now pm) ≡ 2 * h) ⌝ }
     ensures { λ _. ⌜ now (pm .exit) ≡ ruled h b (now (pm .entry)) ⌝ }
@@ -172,7 +172,7 @@ pub fn trellis_step(pm: &mut [f32], code: Code, h: usize, i: usize, x: Step) -> 
     w
 }
 
-// The path value of the state k at a known start.
+// The path value of the state k at a known start (document 01: "0 at the given state .. -1,000,000 elsewhere").
 fn start_value(k: usize, start: usize) -> f32
     ensures { λ r. ⌜ r ≡ cond (eqb k start) (ofBits binary32 0) (ofBits binary32 0xc974_2400) ⌝ }
 {

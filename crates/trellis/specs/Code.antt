@@ -9,7 +9,8 @@ pub record Code : Type 0 where
   pub g1 : ℕ
   pub g2 : ℕ
 
--- STD-B20: constraint length 7, generators 171 (X) and 133 (Y) octal
+-- the inner code of every ISDB system (ITU-R BO.1408-1, section 9, Fig. 13, as STD-B20; ARIB STD-B31, section 3.8, Fig. 3-10): constraint length 7,
+-- generators 171 (X) and 133 (Y) octal
 abbrev pub isdb : Code
 isdb = record { constraint = 7; g1 = 0o171; g2 = 0o133 }
 

@@ -1,20 +1,20 @@
 // The code, its trellis and the decoder's run are definitions: see specs/. Here are the decoder's numbers as the code takes them.
 
-// The states of the code (STD-B20's constraint length of 7: 2 ^ 6), and half of them.
+// The states of the code, and half of them: 2 ^ 6 at the constraint length 7 of ITU-R BO.1408-1, section 9, Fig. 13 (`isdb` in specs/Code.antt).
 pub const STATES: usize = 64;
 
 pub const HALF: usize = 32;
 
-// The bits that leave a decoder at once.
+// The bits that leave a decoder at once (document 01: "4,096 bits leave").
 pub const BLOCK: usize = 4_096;
 
-// The longest traceback.
+// The longest traceback (document 01, refusal 3: "above 1,024").
 pub const TRACEBACK_LIMIT: usize = 1_024;
 
-// The traceback of a frame, and the decision words that it needs.
+// The traceback of a frame (document 01: "with traceback 128"), and the decision words that it needs (refusal 9: "4,096 + traceback").
 pub const FRAME_TRACEBACK: usize = 128;
 
 pub const FRAME_WORDS: usize = BLOCK + FRAME_TRACEBACK;
 
-// The steps of the longest frame: QPSK 7/8 of 48 slots.
+// The steps of the longest frame (document 01: "QPSK 7/8 of 48 slots: 8,526 bytes, 68,208 steps").
 pub const LONGEST_FRAME: usize = 68_208;

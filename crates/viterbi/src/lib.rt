@@ -20,6 +20,7 @@ use release::trace;
 use trellis::BLOCK;
 
 // The outputs X and Y for the input 0: that of the state s is bit s. Both generators tap the input, so the input 1 gives the other bit.
+// Worked out from `output isdb` (crates/trellis/specs/Code.antt), the parities under 171 and 133 octal, as the contract of `encode_bit` has it.
 const X_OUTPUTS: u64 = 0x55aa_aa55_aa55_55aa;
 
 const Y_OUTPUTS: u64 = 0x6699_9966_6699_9966;
@@ -258,7 +259,7 @@ pub fn finish(pm: &[f32; 64], at: At, decisions: &mut [u64], out: &mut [u8]) -> 
     finish_at(acs::best_state(pm), at, decisions, out)
 }
 
-// The path values of a known start.
+// The path values of a known start (document 01: "0 at the given state (mod 64), -1,000,000 elsewhere").
 pub fn start_at(state: u8) -> [f32; 64]
     ensures { λ r. ⌜ r ≡ startAt 64 state ⌝ }
 {

@@ -1,7 +1,9 @@
 -- `lay_then_take` meets its contract. Assumes nothing.
-use mathlib.Core.Path.{_≡_, sym, _∙_}
+use mathlib.Core.Path.{_≡_, ap}
 use mathlib.Core.Bool.{_||_}
 use Rattle.refusal.specs.Rows.{numberOf}
+use Rattle.refusal.specs.RowLaws.{zero-accepted}
+use Rattle.refusal.proofs.Told.{told}
 use Rattle.full_frame.specs.declared.Input.the-variants.{Header, Main, Burst}
 use Rattle.full_frame.specs.Places.{inputs, fullPart}
 use Rattle.full_frame.specs.Rows.{inputsShort, shortFrame}
@@ -23,19 +25,19 @@ short-frame-requires c κs = search needs
 first-row-requires : tie.Need-first-row-requires
 first-row-requires c κs = search needs
 
-number-requires : tie.Need-number-requires
-number-requires c κs = search needs
+enum-told : tie.Need-enum-told
+enum-told c = search needs
 
 returns : tie.Need-returns
 returns c =
-    let x = c .before .before .before .before .before .before .before .before .before .before .before .before .before .before .before .before .before .before .before .before .args in
+    let x = c .before .before .before .before .before .before .before .before .before .before .before .before .before .before .before .before .before .before .before .args in
     let res = inputs (x .header-re .now) (x .main-re .now) (x .burst-re .now) in
     let ims = inputs (x .header-im .now) (x .main-im .now) (x .burst-im .now) in
     let outs = inputs (x .out-header-re .now) (x .out-main-re .now) (x .out-burst-re .now) in
     let outs' = inputs (x .out-header-im .now) (x .out-main-im .now) (x .out-burst-im .now) in
-    let a = c .before .before .first-row .result in
-    let h = by-tests a (inputsShort res || inputsShort ims) (shortFrame (length (x .re .now)) (length (x .im .now))) (inputsShort outs || inputsShort outs') (c .before .before .before .before .before .short-parts .ensures) (c .before .before .before .short-frame .ensures) (c .before .before .before .before .short-parts2 .ensures) (c .before .before .first-row .ensures) in
-    let n : numberOf a ≡ 0 → ⊥ = λ z. c .if1 .taken (c .before .number .ensures ∙ z) in
+    let a = c .before .first-row .result in
+    let h = by-tests a (inputsShort res || inputsShort ims) (shortFrame (length (x .re .now)) (length (x .im .now))) (inputsShort outs || inputsShort outs') (c .before .before .before .before .short-parts .ensures) (c .before .before .short-frame .ensures) (c .before .before .before .short-parts2 .ensures) (c .before .first-row .ensures) in
+    let n : numberOf a ≡ 0 → ⊥ = λ z. told a (c .match .keys2) (zero-accepted a z) in
     (h, (kept a (fullPart res) (x .re .now) n, (kept a (fullPart ims) (x .im .now) n, (kept a (take 192 (x .header-re .now)) (x .out-header-re .now) n, (kept a (take 192 (x .header-im .now)) (x .out-header-im .now) n, (kept a (take 38976 (x .main-re .now)) (x .out-main-re .now) n, (kept a (take 38976 (x .main-im .now)) (x .out-main-im .now) n, (kept a (take 768 (x .burst-re .now)) (x .out-burst-re .now) n, kept a (take 768 (x .burst-im .now)) (x .out-burst-im .now) n))))))))
 
 lay-requires : tie.Need-lay-requires
@@ -77,7 +79,7 @@ returns-2 c =
     let outs' = inputs (x .out-header-im .now) (x .out-main-im .now) (x .out-burst-im .now) in
     let a = c .before .before .before .before .before .before .before .before .before .before .before .before .before .before .before .before .before .before .before .before .before .before .before .before .before .before .before .before .before .before .first-row .result in
     let h = by-tests a (inputsShort res || inputsShort ims) (shortFrame (length (x .re .now)) (length (x .im .now))) (inputsShort outs || inputsShort outs') (c .before .before .before .before .before .before .before .before .before .before .before .before .before .before .before .before .before .before .before .before .before .before .before .before .before .before .before .before .before .before .before .before .before .short-parts .ensures) (c .before .before .before .before .before .before .before .before .before .before .before .before .before .before .before .before .before .before .before .before .before .before .before .before .before .before .before .before .before .before .before .short-frame .ensures) (c .before .before .before .before .before .before .before .before .before .before .before .before .before .before .before .before .before .before .before .before .before .before .before .before .before .before .before .before .before .before .before .before .short-parts2 .ensures) (c .before .before .before .before .before .before .before .before .before .before .before .before .before .before .before .before .before .before .before .before .before .before .before .before .before .before .before .before .before .before .first-row .ensures) in
-    let z : numberOf a ≡ 0 = sym (c .before .before .before .before .before .before .before .before .before .before .before .before .before .before .before .before .before .before .before .before .before .before .before .before .before .before .before .before .before .number .ensures) ∙ c .before .before .before .before .before .before .before .before .before .before .before .before .before .before .before .before .before .before .before .before .before .before .before .before .before .before .before .before .if1 .left in
+    let z : numberOf a ≡ 0 = ap numberOf (c .before .before .before .before .before .before .before .before .before .before .before .before .before .before .before .before .before .before .before .before .before .before .before .before .before .before .before .before .enum-told .given .1) in
     let tests = none-short a (inputsShort res || inputsShort ims) (shortFrame (length (x .re .now)) (length (x .im .now))) (inputsShort outs || inputsShort outs') h z in
     let e = c .before .before .before .before .before .before .before .before .before .before .before .before .before .before .before .before .before .before .before .before .before .before .before .before .before .lay .ensures in
     let g = c .before .before .before .before .before .before .before .before .before .before .before .before .take-apart .ensures in
@@ -92,7 +94,7 @@ lay-then-take-spec =
     short-parts-requires-2
     short-frame-requires
     first-row-requires
-    number-requires
+    enum-told
     returns
     lay-requires
     take-apart-requires

@@ -1,7 +1,9 @@
 -- `take_then_lay` meets its contract. Assumes nothing.
-use mathlib.Core.Path.{_≡_, sym, _∙_}
+use mathlib.Core.Path.{_≡_, ap}
 use mathlib.Core.Bool.{_||_}
 use Rattle.refusal.specs.Rows.{numberOf}
+use Rattle.refusal.specs.RowLaws.{zero-accepted}
+use Rattle.refusal.proofs.Told.{told}
 use Rattle.full_frame.specs.declared.Input.the-variants.{Header, Main, Burst}
 use Rattle.full_frame.specs.Places.{inputs, taken}
 use Rattle.full_frame.specs.Rows.{inputsShort, shortFrame}
@@ -23,17 +25,17 @@ short-frame-requires-2 c κs = search needs
 first-row-requires : tie.Need-first-row-requires
 first-row-requires c κs = search needs
 
-number-requires : tie.Need-number-requires
-number-requires c κs = search needs
+enum-told : tie.Need-enum-told
+enum-told c = search needs
 
 returns : tie.Need-returns
 returns c =
-    let x = c .before .before .before .before .before .before .before .before .before .before .before .before .before .before .before .before .args in
+    let x = c .before .before .before .before .before .before .before .before .before .before .before .before .before .before .before .args in
     let res = inputs (x .header-re .now) (x .main-re .now) (x .burst-re .now) in
     let ims = inputs (x .header-im .now) (x .main-im .now) (x .burst-im .now) in
-    let a = c .before .before .first-row .result in
-    let h = by-tests a (shortFrame (length (x .re .now)) (length (x .im .now))) (inputsShort res || inputsShort ims) (shortFrame (length (x .out-re .now)) (length (x .out-im .now))) (c .before .before .before .before .short-frame .ensures) (c .before .before .before .before .before .short-parts .ensures) (c .before .before .before .short-frame2 .ensures) (c .before .before .first-row .ensures) in
-    let n : numberOf a ≡ 0 → ⊥ = λ z. c .if1 .taken (c .before .number .ensures ∙ z) in
+    let a = c .before .first-row .result in
+    let h = by-tests a (shortFrame (length (x .re .now)) (length (x .im .now))) (inputsShort res || inputsShort ims) (shortFrame (length (x .out-re .now)) (length (x .out-im .now))) (c .before .before .before .short-frame .ensures) (c .before .before .before .before .short-parts .ensures) (c .before .before .short-frame2 .ensures) (c .before .first-row .ensures) in
+    let n : numberOf a ≡ 0 → ⊥ = λ z. told a (c .match .keys2) (zero-accepted a z) in
     (h, (kept a (take 39936 (x .re .now)) (x .out-re .now) n, (kept a (take 39936 (x .im .now)) (x .out-im .now) n, (kept a (taken Header (x .re .now)) (x .header-re .now) n, (kept a (taken Header (x .im .now)) (x .header-im .now) n, (kept a (taken Main (x .re .now)) (x .main-re .now) n, (kept a (taken Main (x .im .now)) (x .main-im .now) n, (kept a (taken Burst (x .re .now)) (x .burst-re .now) n, kept a (taken Burst (x .im .now)) (x .burst-im .now) n))))))))
 
 take-apart-requires : tie.Need-take-apart-requires
@@ -73,7 +75,7 @@ returns-2 c =
     let ims = inputs (x .header-im .now) (x .main-im .now) (x .burst-im .now) in
     let a = c .before .before .before .before .before .before .before .before .before .before .before .before .before .before .before .before .before .before .before .before .before .before .before .before .before .before .before .before .before .before .before .before .before .before .first-row .result in
     let h = by-tests a (shortFrame (length (x .re .now)) (length (x .im .now))) (inputsShort res || inputsShort ims) (shortFrame (length (x .out-re .now)) (length (x .out-im .now))) (c .before .before .before .before .before .before .before .before .before .before .before .before .before .before .before .before .before .before .before .before .before .before .before .before .before .before .before .before .before .before .before .before .before .before .before .before .short-frame .ensures) (c .before .before .before .before .before .before .before .before .before .before .before .before .before .before .before .before .before .before .before .before .before .before .before .before .before .before .before .before .before .before .before .before .before .before .before .before .before .short-parts .ensures) (c .before .before .before .before .before .before .before .before .before .before .before .before .before .before .before .before .before .before .before .before .before .before .before .before .before .before .before .before .before .before .before .before .before .before .before .short-frame2 .ensures) (c .before .before .before .before .before .before .before .before .before .before .before .before .before .before .before .before .before .before .before .before .before .before .before .before .before .before .before .before .before .before .before .before .before .before .first-row .ensures) in
-    let z : numberOf a ≡ 0 = sym (c .before .before .before .before .before .before .before .before .before .before .before .before .before .before .before .before .before .before .before .before .before .before .before .before .before .before .before .before .before .before .before .before .before .number .ensures) ∙ c .before .before .before .before .before .before .before .before .before .before .before .before .before .before .before .before .before .before .before .before .before .before .before .before .before .before .before .before .before .before .before .before .if1 .left in
+    let z : numberOf a ≡ 0 = ap numberOf (c .before .before .before .before .before .before .before .before .before .before .before .before .before .before .before .before .before .before .before .before .before .before .before .before .before .before .before .before .before .before .before .before .enum-told .given .1) in
     let tests = none-short a (shortFrame (length (x .re .now)) (length (x .im .now))) (inputsShort res || inputsShort ims) (shortFrame (length (x .out-re .now)) (length (x .out-im .now))) h z in
     let b = c .before .before .before .before .before .before .before .before .before .before .before .before .before .before .before .before .before .before .before .before .before .before .before .before .before .take-apart .result in
     let e = c .before .before .before .before .before .before .before .before .before .before .before .before .before .before .before .before .before .before .before .before .before .before .before .before .before .take-apart .ensures in
@@ -91,7 +93,7 @@ take-then-lay-spec =
     short-frame-requires
     short-frame-requires-2
     first-row-requires
-    number-requires
+    enum-told
     returns
     take-apart-requires
     lay-requires
