@@ -4,11 +4,11 @@ use native.Mathlib.Omega.{arith}
 use Prim.Native.Nat.{_-_, _≤_}
 use mathlib.Core.Path.{_≡_, refl, _∙_}
 use lib.ListN.{length, length-set}
-use Rattle.isdbs_strain.specs.Pieces.{RunCounted}
-use Rattle.isdbs_strain.proofs.Counting.{count-few}
-use Rattle.isdbs_strain.proofs.Slots.{runCount, within, marks-from, bits-from, run-first, run-few, run-next}
-use Rattle.isdbs_strain.proofs.count_run.Statement.{statement}
-use Rattle.isdbs_strain.proofs.count_run.Tie as tie
+use Rattle.frame_strain.specs.Pieces.{RunCounted}
+use Rattle.slot_strain.proofs.Counting.{count-few}
+use Rattle.frame_strain.proofs.Slots.{runCount, within, marks-from, bits-from, run-first, run-few, run-next}
+use Rattle.frame_strain.proofs.count_run.Statement.{statement}
+use Rattle.frame_strain.proofs.count_run.Tie as tie
 
 abbrev Inv-loop : tie.InvT-loop
 Inv-loop labels w n marks bits start counts₀ state₀ sum₀ v₀ counts state sum v = (v ≤ n) × (length counts ≡ length counts₀) × RunCounted w marks bits start v (runCount sum state) counts₀ counts

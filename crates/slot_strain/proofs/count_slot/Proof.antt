@@ -6,10 +6,10 @@ use native.Mathlib.Nat.{mod-lt}
 use lib.Dec.{lit<}
 use lib.ListN.{getD}
 use mathlib.Core.Path.{_≡_, refl}
-use Rattle.isdbs_strain.specs.Pieces.{Counted}
-use Rattle.isdbs_strain.proofs.Counting.{slot, counted-first, count-few, label-is, counted-next}
-use Rattle.isdbs_strain.proofs.count_slot.Statement.{statement}
-use Rattle.isdbs_strain.proofs.count_slot.Tie as tie
+use Rattle.slot_strain.specs.Counted.{Counted}
+use Rattle.slot_strain.proofs.Counting.{slot, counted-first, count-few, label-is, counted-next}
+use Rattle.slot_strain.proofs.count_slot.Statement.{statement}
+use Rattle.slot_strain.proofs.count_slot.Tie as tie
 
 bit-of : (x : ℕ) → x % 2 < 2
 bit-of x = mod-lt x (lit< tt)

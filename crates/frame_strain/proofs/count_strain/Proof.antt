@@ -7,9 +7,9 @@ use lib.ListN.{getD, length-drop}
 use Rattle.isdbs_runs.specs.RunsOf.{noRun}
 use Rattle.isdbs_pack.specs.FrameRunLaws.{listed-runs, steps-by, tail-is, all-valid}
 use Rattle.strain.specs.Slots.{bySlot}
-use Rattle.isdbs_strain.proofs.Frames.{slot-steps-few, Done, done-first, done-room, done-small, done-next}
-use Rattle.isdbs_strain.proofs.count_strain.Statement.{statement}
-use Rattle.isdbs_strain.proofs.count_strain.Tie as tie
+use Rattle.frame_strain.proofs.Frames.{slot-steps-few, Done, done-first, done-room, done-small, done-next}
+use Rattle.frame_strain.proofs.count_strain.Statement.{statement}
+use Rattle.frame_strain.proofs.count_strain.Tie as tie
 
 abbrev Inv-loop : tie.InvT-loop
 Inv-loop start marks bits counts₀ count list labels state₀ step₀ done₀ sum₀ i₀ counts state step done sum i = Done start marks bits counts₀ count list counts state step done sum i

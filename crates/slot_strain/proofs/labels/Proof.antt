@@ -6,9 +6,9 @@ use lib.Dec.{T, eqb, eqb→eq}
 use lib.ListN.{getD}
 use Rattle.trellis.specs.Code.{tapped, output, label}
 use Rattle.acs_paths.specs.TableLaws.{all, at}
-use Rattle.isdbs_strain.specs.Pieces.{Labels}
-use Rattle.isdbs_strain.proofs.labels.Statement.{statement}
-use Rattle.isdbs_strain.proofs.labels.Tie as tie
+use Rattle.slot_strain.specs.Counted.{Labels}
+use Rattle.slot_strain.proofs.labels.Statement.{statement}
+use Rattle.slot_strain.proofs.labels.Tie as tie
 use Rattle.trellis.specs.Isdb
 
 abbrev entry : ℕ → ℕ → Bool

@@ -30,10 +30,10 @@ use Rattle.strain.specs.Counts.{summed}
 use Rattle.strain.specs.CountsLaws.{summed-same, summed-append}
 use Rattle.strain.specs.Slots.{slotOf, slotsOf, overSlot}
 use Rattle.strain.specs.Marks.{marked}
-use Rattle.isdbs_strain.specs.declared.RunCount.{RunCount}
-use Rattle.isdbs_strain.specs.Pieces.{runStrain, RunCounted}
-use Rattle.isdbs_strain.proofs.Slots as slots
-use Rattle.isdbs_strain.proofs.Slots.{from}
+use Rattle.frame_strain.specs.declared.RunCount.{RunCount}
+use Rattle.frame_strain.specs.Pieces.{runStrain, RunCounted}
+use Rattle.frame_strain.proofs.Slots as slots
+use Rattle.frame_strain.proofs.Slots.{from}
 
 -- the strain of slot j of a list of runs
 abbrev pub listStrain : List Run → List ℕ → ℕ → List ℕ → ℕ → ℕ

@@ -16,10 +16,11 @@ use Rattle.isdbs_pack.specs.FrameRunLaws.{tail-is}
 use Rattle.strain.specs.Counts.{summed}
 use Rattle.strain.specs.CountsLaws.{summed-same, summed-parts, summed-few}
 use Rattle.strain.specs.Marks.{marked}
-use Rattle.isdbs_strain.specs.declared.Slot.{Slot}
-use Rattle.isdbs_strain.specs.declared.RunCount.{RunCount}
-use Rattle.isdbs_strain.specs.Pieces.{Counted, runStrain, RunCounted}
-use Rattle.isdbs_strain.proofs.Counting.{marked-few}
+use Rattle.slot_strain.specs.declared.Slot.{Slot}
+use Rattle.frame_strain.specs.declared.RunCount.{RunCount}
+use Rattle.slot_strain.specs.Counted.{Counted}
+use Rattle.frame_strain.specs.Pieces.{runStrain, RunCounted}
+use Rattle.slot_strain.proofs.Counting.{marked-few}
 
 abbrev pub runCount : ℕ → ℕ → RunCount
 runCount sum state = record { sum = sum; state = state }

@@ -13,8 +13,8 @@ use Rattle.strain.specs.Counts.{summed}
 use Rattle.strain.specs.CountsLaws.{summed-few}
 use Rattle.strain.specs.Marks.{marked}
 use Rattle.strain.specs.MarksLaws.{label-small}
-use Rattle.isdbs_strain.specs.declared.Slot.{Slot}
-use Rattle.isdbs_strain.specs.Pieces.{Labels, Counted}
+use Rattle.slot_strain.specs.declared.Slot.{Slot}
+use Rattle.slot_strain.specs.Counted.{Labels, Counted}
 
 abbrev pub slot : ℕ → ℕ → Slot
 slot count state = record { count = count; state = state }
