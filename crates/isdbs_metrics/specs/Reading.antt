@@ -5,10 +5,10 @@ use Prim.Native.Nat.{ℕ, _+_, _*_, _/_, _%_}
 use lib.ListN.{getD, length}
 use lib.Dec.{eqb, ltb}
 use lib.Ieee.{Float, nan, inf, fin, binary32, binary64, neg, add, sub, mul, lt, ofBits}
-use Rattle.trellis.specs.Isdb.{call, steps, flush}
+use Rattle.trellis.specs.Isdb.{frameTraceback, call, steps, flush}
 use Rattle.trellis.specs.Lists.{upto, bit}
 use Rattle.trellis.specs.Step.{four, known}
-use Rattle.trellis.specs.Run.{Decoder, startAt, startUnknown}
+use Rattle.trellis.specs.Run.{freshFrom, startAt, startUnknown}
 use Rattle.isdbs_combination.specs.declared.Combination.{Combination}
 use Rattle.isdbs_combination.specs.declared.Modulation.{Modulation}
 use Rattle.isdbs_combination.specs.declared.Modulation.the-variants.{Bpsk, Qpsk, Tc8psk}
@@ -97,7 +97,7 @@ startValues knownStart first = cond knownStart (startAt 64 (startState first)) (
 -- "all in one `push_metrics` with traceback 128; then the 16 bits of W1, high bit first, as known bits; then a flush"
 unfoldable pub decodedBits : Table → Received → Bool → Bool → List ℕ
 decodedBits t r knownStart first =
-    let d0 : Decoder = record { values = startValues knownStart first; words = []; bits = [] } in
+    let d0 = freshFrom (startValues knownStart first) in
     let d1 = call frameTraceback (λ k. four (metricsAt t r k)) d0 (frameSteps t) in
     let d2 = steps frameTraceback (λ k. known (wordBit 0x1b95 k)) d1 16 in
     flush d2 .bits
