@@ -38,9 +38,10 @@ use Rattle.isdbs_phy.specs.DecodeRows.{someOf, partLimit, scaleLimit, badScale,
 use Rattle.isdbs_points.specs.Layout.{wordBit}
 use Rattle.isdbs_points.specs.Frame.{startState}
 use Rattle.isdbs_metrics.specs.Reading.{Received, metricsAt, startValues}
-use Rattle.isdbs_decode.specs.Scales.{scaleOf, receivedBy}
-use Rattle.isdbs_decode.specs.ScaleLaws.{word-in}
-use Rattle.isdbs_decode.specs.Runs.{frameMetrics, knownBits}
+use Rattle.frame_end.specs.End.{knownBits}
+use Rattle.frame_read.specs.Steps.{frameMetrics}
+use Rattle.frame_read.specs.ScaleLaws.{word-in}
+use Rattle.frame_read.specs.Scales.{scaleOf, receivedBy}
 use Rattle.isdb_fec.specs.Values.{within}
 use Rattle.frame_ranges.specs.NumberLaws.{part-limit, scale-limit, soft-limit, metric-limit, step-most, path-limits, known-limits, known-deep, under-ruled, least-path, most-path}
 use Rattle.frame_ranges.specs.Size.{Size, two-lo, between-size, size-from, size-to}

@@ -12,7 +12,8 @@ use Rattle.isdbs_tables.specs.declared.Table.{Table}
 use Rattle.isdbs_runs.specs.RunsOf.{frameSteps, validTotal}
 use Rattle.isdbs_points.specs.Frame.{startState}
 use Rattle.isdbs_metrics.specs.Reading.{Received, startValues}
-use Rattle.isdbs_decode.specs.Runs.{frameMetrics, knownBits}
+use Rattle.frame_end.specs.End.{knownBits}
+use Rattle.frame_read.specs.Steps.{frameMetrics}
 use Rattle.strain.specs.Counts.{summed}
 use Rattle.strain.specs.Marks.{frameMark}
 use Rattle.frame_strain.specs.Pieces.{frameStrain}

@@ -10,7 +10,7 @@ ghost use lib.ListN.{length};
 ghost use Rattle.isdbs_frame.specs.Frame.{mainSymbols};
 ghost use Rattle.isdbs_runs.specs.RunsOf.{validTotal, frameSteps, loadBytes, Planned};
 ghost use Rattle.trellis.specs.Isdb.{frameWords};
-ghost use Rattle.isdbs_decode.specs.Scales.{receivedBy};
+ghost use Rattle.frame_read.specs.Scales.{receivedBy};
 ghost use Rattle.isdbs_decode.specs.Runs.{FrameRead};
 ghost use Rattle.strain.specs.Strain.{StrainLaid};
 ghost use Rattle.isdbs_strain.specs.Final.{FrameCounted};

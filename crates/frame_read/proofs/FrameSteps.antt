@@ -23,8 +23,8 @@ use Rattle.isdbs_metrics.specs.Reading.{Received, metricsIn, metricsAt}
 use Rattle.isdbs_metrics.specs.Steps.{pieceMetrics}
 use Rattle.isdbs_blocks.specs.Blocks.{runSteps, Periods}
 use Rattle.isdbs_read.specs.Carried.{Carried}
-use Rattle.isdbs_decode.specs.Runs.{RunsRead}
-use Rattle.isdbs_decode.specs.Scales.{scaleOf, receivedBy}
+use Rattle.frame_read.specs.Steps.{RunsRead}
+use Rattle.frame_read.specs.Scales.{scaleOf, receivedBy}
 use Rattle.isdbs_pack.specs.AmongLaws.{stepsTo, validTo, among-step}
 use Rattle.isdbs_pack.specs.PartLaws.{metrics-part}
 use Rattle.isdbs_pack.specs.FrameRunLaws.{RunList, RunAt, Listed, tail-is, run-first, run-next, run-last}

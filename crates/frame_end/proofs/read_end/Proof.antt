@@ -1,17 +1,17 @@
 -- `read_end` meets its contract. Assumes nothing.
 use Rattle.isdbs_read.specs.BlockLaws.{read-start}
-use Rattle.isdbs_decode.proofs.Carried.{read-next, ended}
+use Rattle.frame_end.proofs.Ending.{read-next, ended}
 use Rattle.trellis.specs.Step.{known}
 use native.Mathlib.Nat.{zero-add}
 use borrow.Author.Needs.{needs}
 use Rattle.isdbs_read.specs.Carried.{Carried}
-use Rattle.isdbs_decode.specs.Runs.{knownBits}
+use Rattle.frame_end.specs.End.{knownBits}
 use lib.ListN.{length}
 use native.Mathlib.Omega.{arith}
 use Prim.Native.Nat.{_-_, _≤_}
 use mathlib.Core.Path.{_≡_, refl, ap}
-use Rattle.isdbs_decode.proofs.read_end.Statement.{statement}
-use Rattle.isdbs_decode.proofs.read_end.Tie as tie
+use Rattle.frame_end.proofs.read_end.Statement.{statement}
+use Rattle.frame_end.proofs.read_end.Tie as tie
 
 abbrev Inv-loop : tie.InvT-loop
 Inv-loop pm₀ decisions₀ bits₀ now-at₀ i₀ pm decisions bits now-at i = (i ≤ 16) × (length decisions ≡ length decisions₀) × (length bits ≡ length bits₀) × Carried knownBits 0 i pm₀ now-at₀ decisions₀ bits₀ now-at pm decisions bits

@@ -1,9 +1,9 @@
 -- `scale_place` meets its contract. Assumes nothing.
 use native.Mathlib.Omega.{arith}
 use borrow.Author.Needs.{needs}
-use Rattle.isdbs_decode.specs.ScaleLaws.{word-in}
-use Rattle.isdbs_decode.proofs.scale_place.Statement.{statement}
-use Rattle.isdbs_decode.proofs.scale_place.Tie as tie
+use Rattle.frame_read.specs.ScaleLaws.{word-in}
+use Rattle.frame_read.proofs.scale_place.Statement.{statement}
+use Rattle.frame_read.proofs.scale_place.Tie as tie
 
 word-requires : tie.Need-word-requires
 word-requires c κs = search needs

@@ -7,10 +7,10 @@ use lib.ListN.{length, getD, set, length-set}
 use lib.Ieee.{Float, nan}
 use Rattle.trellis.specs.Lists.{upto, laid}
 use Rattle.isdbs_points.specs.Points.{conjugated}
-use Rattle.isdbs_blocks.specs.Blocks.{turns}
-use Rattle.isdbs_blocks.proofs.Laws.{put-two, length-two, turns-first, turns-second}
-use Rattle.isdbs_blocks.proofs.by_turns.Statement.{statement}
-use Rattle.isdbs_blocks.proofs.by_turns.Tie as tie
+use Rattle.block_parts.specs.Turns.{turns}
+use Rattle.block_parts.proofs.Filled.{put-two, length-two, turns-first, turns-second}
+use Rattle.block_parts.proofs.by_turns.Statement.{statement}
+use Rattle.block_parts.proofs.by_turns.Tie as tie
 
 abbrev Inv-loop : tie.InvT-loop
 Inv-loop a turn-a b turn-b from n parts₀ i₀ parts i = (i ≤ n) × (length parts ≡ length parts₀) × (parts ≡ laid (upto (turns (λ k. conjugated turn-a (getD a (from + k) nan)) (λ k. conjugated turn-b (getD b (from + k) nan))) (2 * i)) parts₀)

@@ -1,16 +1,16 @@
 -- `read_runs` meets its contract. Assumes nothing.
 use borrow.Author.Needs.{needs}
 use Rattle.isdbs_pack.specs.FrameRunLaws.{listed-runs, steps-by, part-covers, tail-is}
-use Rattle.isdbs_decode.proofs.FrameSteps.{run-periods, Read, read-first, read-next, read-last}
-use Rattle.isdbs_decode.proofs.FrameMarks.{Marked, marked-first, marked-next, marked-last}
+use Rattle.frame_read.proofs.FrameSteps.{run-periods, Read, read-first, read-next, read-last}
+use Rattle.frame_read.proofs.FrameMarks.{Marked, marked-first, marked-next, marked-last}
 use Rattle.isdbs_runs.specs.RunsOf.{noRun}
 use lib.ListN.{getD, length-drop}
 use lib.Ieee.{nan}
 use native.Mathlib.Omega.{arith}
 use Prim.Native.Nat.{ℕ, _-_}
 use mathlib.Core.Path.{ap}
-use Rattle.isdbs_decode.proofs.read_runs.Statement.{statement}
-use Rattle.isdbs_decode.proofs.read_runs.Tie as tie
+use Rattle.frame_read.proofs.read_runs.Statement.{statement}
+use Rattle.frame_read.proofs.read_runs.Tie as tie
 
 abbrev Inv-loop : tie.InvT-loop
 Inv-loop m pm₀ re im decisions₀ bits₀ marks₀ scales count list at₀ step₀ i₀ pm decisions bits marks at step i = Read m scales pm₀ re im decisions₀ bits₀ count list pm decisions bits at step i × Marked m scales re im marks₀ count list marks step

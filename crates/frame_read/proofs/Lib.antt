@@ -1,3 +1,2 @@
-pub mod Carried
 pub mod FrameMarks
 pub mod FrameSteps

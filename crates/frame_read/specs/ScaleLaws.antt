@@ -10,7 +10,7 @@ use Rattle.isdbs_combination.specs.declared.Combination.the-variants.{«Bpsk1_2
 use Rattle.isdbs_combination.specs.Combinations.{wordOf}
 use Rattle.isdbs_points.specs.declared.Mapping.{Mapping}
 use Rattle.isdbs_metrics.specs.Steps.{received}
-use Rattle.isdbs_decode.specs.Scales.{scaleOf, receivedBy}
+use Rattle.frame_read.specs.Scales.{scaleOf, receivedBy}
 
 -- every combination has a scale among the seven
 pub word-in : (c : Combination) → (1 ≤ wordOf c) × (wordOf c ≤ 7)

@@ -2,9 +2,9 @@
 use borrow.Author.Needs.{needs}
 use mathlib.Core.Path.{_∙_}
 use Prim.Native.Nat.{_*_}
-use Rattle.isdbs_blocks.proofs.Laws.{soft-tail}
-use Rattle.isdbs_blocks.proofs.bpsk_softs.Statement.{statement}
-use Rattle.isdbs_blocks.proofs.bpsk_softs.Tie as tie
+use Rattle.block_parts.proofs.Filled.{soft-tail}
+use Rattle.block_parts.proofs.bpsk_softs.Statement.{statement}
+use Rattle.block_parts.proofs.bpsk_softs.Tie as tie
 
 mul-from : tie.Need-mul-from
 mul-from c = search needs

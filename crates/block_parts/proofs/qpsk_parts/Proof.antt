@@ -3,9 +3,9 @@ use borrow.Author.Needs.{needs}
 use mathlib.Core.Path.{_∙_}
 use Prim.Native.Nat.{_-_}
 use lib.ListN.{length}
-use Rattle.isdbs_blocks.proofs.Laws.{real-first, imaginary-first}
-use Rattle.isdbs_blocks.proofs.qpsk_parts.Statement.{statement}
-use Rattle.isdbs_blocks.proofs.qpsk_parts.Tie as tie
+use Rattle.block_parts.proofs.Filled.{real-first, imaginary-first}
+use Rattle.block_parts.proofs.qpsk_parts.Statement.{statement}
+use Rattle.block_parts.proofs.qpsk_parts.Tie as tie
 
 by-turns-requires : tie.Need-by-turns-requires
 by-turns-requires c κs = search needs

@@ -17,8 +17,8 @@ use Rattle.isdbs_pack.specs.FrameByteLaws.{written-tail}
 use Rattle.isdbs_pack.specs.FrameRunLaws.{RunAt, Listed, run-last}
 use Rattle.strain.specs.Marks.{markOf, frameMark}
 use Rattle.isdbs_blocks.specs.Blocks.{runMark}
-use Rattle.isdbs_decode.specs.Scales.{scaleOf, receivedBy}
-use Rattle.isdbs_decode.proofs.FrameSteps.{listed, metrics-are}
+use Rattle.frame_read.specs.Scales.{scaleOf, receivedBy}
+use Rattle.frame_read.proofs.FrameSteps.{listed, metrics-are}
 
 -- the marks of a list of runs
 abbrev listMark : List Run → Received → ℕ → ℕ
