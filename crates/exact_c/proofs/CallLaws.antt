@@ -20,7 +20,7 @@ use Rattle.isdbs_phy.specs.declared.demod.FrameDecoded.{FrameDecoded}
 use Rattle.isdbs_phy.specs.declared.demod.FrameDecoded.the-variants.{Decoded, Refused}
 use Rattle.isdbs_phy.specs.DecodeRows.{decodeRows, frameSaid, frameAnswer}
 use Rattle.margins.specs.Margins.{Within}
-use Rattle.isdbs_decode.specs.Scales.{receivedBy}
+use Rattle.frame_read.specs.Scales.{receivedBy}
 use Rattle.strain.specs.Strain.{strainCounts, strainSum}
 use Rattle.exact_frame.specs.Frames.{encoded-within}
 use Rattle.exact_frame.specs.Call.{eights, ReadsBack, exactly, short}

@@ -7,7 +7,7 @@ ghost use Rattle.isdbs_points.specs.Frame.{endState, frameRe, frameIm};
 ghost use Rattle.isdbs_metrics.specs.Reading.{decodedBits, decodedBytes};
 ghost use Rattle.isdbs_phy.specs.EncodeRows.{encodeRows};
 ghost use Rattle.isdbs_phy.specs.DecodeRows.{decodeRows};
-ghost use Rattle.isdbs_decode.specs.Scales.{receivedBy};
+ghost use Rattle.frame_read.specs.Scales.{receivedBy};
 ghost use Rattle.strain.specs.Strain.{strainCounts, strainSum};
 ghost use Rattle.exact_frame.specs.Call.{eights};
 ghost use Rattle.table_c.specs.Forms.{tableOf};

@@ -21,8 +21,8 @@ use Rattle.isdbs_phy.specs.declared.demod.FrameDecoded.{FrameDecoded}
 use Rattle.isdbs_phy.specs.DecodeRows.{someOf, partLimit, someBad, shortSpace, pointRows, lastRows, decodeRows, frameSaid, frameAnswer, Kept, FrameLeft, someOfBeyond}
 use Rattle.isdb_fec.specs.Values.{within}
 use Rattle.strain.specs.Strain.{strainSum}
-use Rattle.isdbs_decode.specs.Scales.{receivedBy}
-use Rattle.isdbs_decode.specs.ScaleLaws.{equal-scales}
+use Rattle.frame_read.specs.ScaleLaws.{equal-scales}
+use Rattle.frame_read.specs.Scales.{receivedBy}
 use Rattle.isdbs_points.specs.Layout.{FullLoad}
 use Rattle.margins.specs.Margins.{anyAccepted, Within}
 use Rattle.exact_frame.specs.StrainLaws.{decoded-exactly}

@@ -4,7 +4,7 @@ ghost use mathlib.Core.Bool.{true};
 ghost use lib.ListN.{length};
 ghost use Rattle.refusal.specs.Rows.{firstRow, Either};
 ghost use Rattle.isdbs_phy.specs.DecodeRows.{decodeRows, frameSaid, frameAnswer, Kept, FrameLeft};
-ghost use Rattle.isdbs_decode.specs.Scales.{receivedBy};
+ghost use Rattle.frame_read.specs.Scales.{receivedBy};
 ghost use Rattle.strain.specs.Strain.{strainSum};
 ghost use Rattle.exact_frame.specs.Call.{eights, Exact};
 use isdbs_core::tmcc::Table;

@@ -21,7 +21,7 @@ use Rattle.trellis.specs.Run.{valuesAt, pushed, freshFrom}
 use Rattle.trellis.specs.RunLaws.{after-values}
 use Rattle.lead.specs.Complement.{small, complement}
 use Rattle.path_ranges.specs.Bounds.{Within, wider}
-use Rattle.path_ranges.specs.Values.{nothing, from-least, to-most}
+use Rattle.path_ranges.specs.Values.{nothing, from-least, to-most, ruledOut}
 use Rattle.path_ranges.specs.Steps.{Soft, quad, Falls, quad-falls}
 use Rattle.path_ranges.specs.Invariant.{Bounded, bounded-within}
 use Rattle.path_ranges.specs.Run.{InRange, soft-call, known-call, path-within, path-within-next}
@@ -38,9 +38,10 @@ use Rattle.isdbs_phy.specs.DecodeRows.{someOf, partLimit, scaleLimit, badScale,
 use Rattle.isdbs_points.specs.Layout.{wordBit}
 use Rattle.isdbs_points.specs.Frame.{startState}
 use Rattle.isdbs_metrics.specs.Reading.{Received, metricsAt, startValues}
-use Rattle.isdbs_decode.specs.Scales.{scaleOf, receivedBy}
-use Rattle.isdbs_decode.specs.ScaleLaws.{word-in}
-use Rattle.isdbs_decode.specs.Runs.{frameMetrics, knownBits}
+use Rattle.frame_end.specs.End.{knownBits}
+use Rattle.frame_read.specs.Steps.{frameMetrics}
+use Rattle.frame_read.specs.ScaleLaws.{word-in}
+use Rattle.frame_read.specs.Scales.{scaleOf, receivedBy}
 use Rattle.isdb_fec.specs.Values.{within}
 use Rattle.frame_ranges.specs.NumberLaws.{part-limit, scale-limit, soft-limit, metric-limit, step-most, path-limits, known-limits, known-deep, under-ruled, least-path, most-path}
 use Rattle.frame_ranges.specs.Size.{Size, two-lo, between-size, size-from, size-to}
@@ -50,7 +51,7 @@ use Rattle.frame_ranges.specs.Ranges.{Between, pathRange, Ranges, frameA
 use Rattle.isdbs_frame.specs.Frame.{mainSymbols}
 use Rattle.trellis.specs.Isdb.{frameTraceback}
 use Rattle.trellis.specs.Isdb
-use Rattle.frame_ranges.specs.Numbers.{ruledOut, partPower, scalePower, metricPower, stepMost, floor}
+use Rattle.frame_ranges.specs.Numbers.{partPower, scalePower, metricPower, stepMost, floor}
 use Rattle.frame_ranges.specs.Limits.{softLimit, metricLimit, leastPath, mostPath}
 
 -- ---- a value within a power of two, as a test

@@ -14,7 +14,7 @@ ghost use Rattle.trellis.specs.Lists.{laid};
 ghost use Rattle.isdbs_points.specs.Frame.{endState, frameRe, frameIm};
 ghost use Rattle.isdbs_phy.specs.EncodeRows.{encodeRows};
 ghost use Rattle.isdbs_tables.specs.Tables.{tableRows};
-ghost use Rattle.isdbs_decode.specs.Scales.{receivedBy};
+ghost use Rattle.frame_read.specs.Scales.{receivedBy};
 ghost use Rattle.isdbs_metrics.specs.Reading.{decodedBits, decodedBytes};
 ghost use Rattle.trellis.specs.Isdb.{frameWords};
 ghost use Rattle.strain.specs.Strain.{strainCounts, strainSum};

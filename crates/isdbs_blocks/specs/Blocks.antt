@@ -3,7 +3,7 @@ use mathlib.Core.Path.{_≡_}
 use mathlib.Core.Bool.{cond}
 use mathlib.Core.List.{List, []}
 use Prim.Native.Nat.{ℕ, _+_, _*_, _/_, _%_, _<_, _≤_}
-use lib.Dec.{eqb, ltb}
+use lib.Dec.{ltb}
 use lib.ListN.{length, getD}
 use lib.Ieee.{Float, nan, binary32, ofBits}
 use Rattle.trellis.specs.Lists.{upto}
@@ -40,10 +40,7 @@ pub record BlockMade (ys : ℕ → Step) (k0 n : ℕ) (block : List Float) : Typ
   pub long : 4 * n ≤ length block
   pub made : (i : ℕ) → i < n → fourSteps block i ≡ ys (k0 + i)
 
--- two lists by turns, and the metrics of steps one after the other
-abbrev pub turns : (ℕ → Float) → (ℕ → Float) → ℕ → Float
-turns f g i = cond (eqb (i % 2) 0) (f (i / 2)) (g (i / 2))
-
+-- the metrics of steps one after the other
 abbrev pub fours : (ℕ → List Float) → ℕ → Float
 fours ms i = getD (ms (i / 4)) (i % 4) nan
 

@@ -1,11 +1,12 @@
 // The four metrics of each step of a block, which is at most 64 whole periods of a run. The lent parts start at the run's first symbol.
+use block_parts::bpsk_softs;
+use block_parts::qpsk_parts;
 use isdbs_core::combination::Modulation;
 use isdbs_metrics::PeriodLayout;
 use isdbs_metrics::correlation;
 use isdbs_metrics::symbol;
 use isdbs_points::Cplx;
 use isdbs_points::Mapping;
-use isdbs_points::mirror;
 use isdbs_points::psk8_point;
 use isdbs_points::subset_of;
 use soft_blocks::magnitude_block;
@@ -16,49 +17,17 @@ ghost use mathlib.Core.Bool.{cond};
 ghost use Prim.Native.Nat.{_+_, _*_, _/_, _<_, _≤_, _^_};
 ghost use lib.Dec.{ltb};
 ghost use lib.ListN.{length, getD, set};
-ghost use lib.Ieee.{nan, mul, binary32, ofBits};
+ghost use lib.Ieee.{nan, binary32, ofBits};
 ghost use Rattle.trellis.specs.Lists.{upto, laid};
 ghost use Rattle.trellis.specs.Run.{fourSteps};
 ghost use Rattle.isdbs_combination.specs.Combinations.{modulationOf};
 ghost use Rattle.isdbs_combination.specs.declared.Modulation.the-variants.{Bpsk, Qpsk, Tc8psk};
-ghost use Rattle.isdbs_soft.specs.Soft.{softOf};
-ghost use Rattle.isdbs_points.specs.Points.{conjugated, psk8Of, subset};
+ghost use Rattle.isdbs_points.specs.Points.{psk8Of, subset};
 ghost use Rattle.isdbs_points.specs.Layout.{stepsPerPeriod};
 ghost use Rattle.isdbs_metrics.specs.Reading.{pairMetrics};
-ghost use Rattle.isdbs_metrics.specs.Steps.{LayoutOf, Covers, qpskPart};
+ghost use Rattle.isdbs_metrics.specs.Steps.{LayoutOf, Covers};
 ghost use Rattle.strain.specs.Marks.{markOf};
-ghost use Rattle.isdbs_blocks.specs.Blocks.{runSteps, runMark, fourIn, Periods, BlockMade, turns, fours, stepSoft, spreadSoft, subsetParts};
-
-// The parts of a and b by turns, from place `from` on.
-fn by_turns(
-    a: &[f64],
-    turn_a: bool,
-    b: &[f64],
-    turn_b: bool,
-    from: usize,
-    n: usize,
-    parts: &mut [f64],
-)
-    requires { ⌜ (from + n ≤ length (now a)) × (from + n ≤ length (now b)) × (2 * n ≤ length (now parts)) ⌝ }
-    ensures { λ _. ⌜ now (parts .exit) ≡ laid (upto (turns (λ k. conjugated «turn_a» (getD (now (a .entry)) (from + k) nan)) (λ k. conjugated «turn_b» (getD (now (b .entry)) (from + k) nan))) (2 * n)) (now (parts .entry)) ⌝ }
-{
-    for i in 0..n {
-        parts[2 * i] = mirror(turn_a, a[from + i]);
-        parts[2 * i + 1] = mirror(turn_b, b[from + i]);
-    }
-}
-
-// The parts of n symbols of QPSK from symbol `from` on, in the order of the coded bits that they carry.
-fn qpsk_parts(re: &[f64], im: &[f64], m: Mapping, from: usize, n: usize, parts: &mut [f64])
-    requires { ⌜ (from + n ≤ length (now re)) × (from + n ≤ length (now im)) × (2 * n ≤ length (now parts)) ⌝ }
-    ensures { λ _. ⌜ now (parts .exit) ≡ laid (upto (λ i. qpskPart (now (re .entry)) (now (im .entry)) m (2 * from + i)) (2 * n)) (now (parts .entry)) ⌝ }
-{
-    if m.qpsk_p1_on_q {
-        by_turns(im, m.conjugate, re, false, from, n, parts);
-    } else {
-        by_turns(re, false, im, m.conjugate, from, n, parts);
-    }
-}
+ghost use Rattle.isdbs_blocks.specs.Blocks.{runSteps, runMark, fourIn, Periods, BlockMade, fours, stepSoft, spreadSoft, subsetParts};
 
 // The soft value at a place of a period; 0 where the mother bit is erased.
 fn sent(softs: &[f32], place: usize, count: usize) -> f32
@@ -131,15 +100,6 @@ fn qpsk_softs(
     qpsk_parts(re, im, m, from, periods * symbols, parts);
     soft_block(parts, periods * layout.count, scale, softs);
     spread(softs, layout, periods, pairs);
-}
-
-// The soft values of n steps of BPSK from step k0 on: X, then Y, on successive symbols.
-fn bpsk_softs(re: &[f64], scale: f32, k0: usize, n: usize, pairs: &mut [f32])
-    requires { ⌜ (2 * (k0 + n) ≤ length (now re)) × (2 * n ≤ length (now pairs)) ⌝ }
-    ensures { λ _. ⌜ now (pairs .exit) ≡ laid (upto (λ j. mul binary32 (softOf (getD (now (re .entry)) (2 * k0 + j) nan)) scale) (2 * n)) (now (pairs .entry)) ⌝ }
-{
-    let from = 2 * k0;
-    soft_block(&re[from..], 2 * n, scale, pairs);
 }
 
 // The four metrics of n steps from their soft values.

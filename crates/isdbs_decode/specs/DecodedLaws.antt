@@ -21,7 +21,9 @@ use Rattle.viterbi.specs.TracedLaws.{length-traced}
 use Rattle.isdbs_tables.specs.declared.Table.{Table}
 use Rattle.isdbs_runs.specs.RunsOf.{frameSteps}
 use Rattle.isdbs_metrics.specs.Reading.{Received, startValues, decodedBits}
-use Rattle.isdbs_decode.specs.Runs.{frameMetrics, knownBits, endedBits, bitsFrom}
+use Rattle.frame_end.specs.End.{knownBits, endedBits}
+use Rattle.frame_read.specs.Steps.{frameMetrics}
+use Rattle.isdbs_decode.specs.Runs.{bitsFrom}
 
 -- each of a list is 0 or 1
 abbrev pub Binary : List ℕ → Type 0

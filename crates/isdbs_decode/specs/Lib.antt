@@ -1,4 +1,2 @@
 pub mod DecodedLaws
 pub mod Runs
-pub mod ScaleLaws
-pub mod Scales

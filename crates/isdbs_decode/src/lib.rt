@@ -1,36 +1,25 @@
 // The core of frame decoding: points to decoded bits. No row is checked here.
-use isdbs_core::combination::Combination;
-use isdbs_core::frame::W1;
+use frame_end::read_end;
+use frame_read::read_runs;
 use isdbs_core::slots::Plan;
 use isdbs_pack::write_bytes;
 use isdbs_points::Mapping;
 use isdbs_points::start_state;
-use isdbs_points::word_bit;
-use isdbs_read::read_run;
-use trellis::FRAME_TRACEBACK;
-use trellis::FRAME_WORDS;
-use viterbi::At;
-use viterbi::Step;
-use viterbi::advance;
-use viterbi::clear;
-use viterbi::finish;
-use viterbi::renormalise;
 use viterbi::start_at;
 use viterbi::start_unknown;
 ghost use mathlib.Core.Path.{_≡_};
 ghost use mathlib.Core.Bool.{cond, true, false};
-ghost use Prim.Native.Nat.{_+_, _-_, _<_, _≤_};
+ghost use Prim.Native.Nat.{_+_, _≤_};
 ghost use lib.ListN.{length, replicate};
 ghost use lib.Ieee.{binary32, ofBits};
 ghost use Rattle.trellis.specs.Lists.{upto, laid};
 ghost use Rattle.trellis.specs.Run.{startAt, startUnknown};
-ghost use Rattle.isdbs_combination.specs.Combinations.{wordOf};
 ghost use Rattle.isdbs_frame.specs.Frame.{mainSymbols};
 ghost use Rattle.isdbs_runs.specs.RunsOf.{frameSteps, loadBytes, Planned};
 ghost use Rattle.trellis.specs.Isdb.{frameWords};
 ghost use Rattle.strain.specs.Marks.{frameMark};
-ghost use Rattle.isdbs_decode.specs.Scales.{receivedBy};
-ghost use Rattle.isdbs_decode.specs.Runs.{RunsRead, Ended, bitsFrom, FrameRead};
+ghost use Rattle.frame_read.specs.Scales.{receivedBy};
+ghost use Rattle.isdbs_decode.specs.Runs.{bitsFrom, FrameRead};
 
 // Decoder settings.
 pub struct DemodOptions {
@@ -53,75 +42,6 @@ impl DemodOptions {
             scales: [8.0; 7],
         }
     }
-}
-
-// The place of a combination's scale.
-fn scale_place(c: Combination) -> usize
-    ensures { λ r. ⌜ (r ≡ wordOf c - 1) × (r < 7) ⌝ }
-{
-    let word = c.word() as usize;
-    word - 1
-}
-
-// Reads the runs of a frame, each with the scale of its combination. The steps are counted on over all of them.
-fn read_runs(
-    p: Plan,
-    m: Mapping,
-    scales: [f32; 7],
-    pm: &mut [f32; 64],
-    re: &[f64],
-    im: &[f64],
-    decisions: &mut [u64],
-    bits: &mut [u8],
-    marks: &mut [u8],
-) -> At
-    requires { ⌜ Planned p × (mainSymbols ≤ length (now re)) × (mainSymbols ≤ length (now im)) × (frameWords ≤ length (now decisions)) × (frameSteps (p .table) ≤ length (now bits)) × (frameSteps (p .table) ≤ length (now marks)) ⌝ }
-    ensures read { λ r. ⌜ RunsRead (p .table) (receivedBy (now (re .entry)) (now (im .entry)) m scales) (now (pm .entry)) (now (decisions .entry)) (now (bits .entry)) r (now (pm .exit)) (now (decisions .exit)) (now (bits .exit)) ⌝ }
-    ensures marked { λ _. ⌜ now (marks .exit) ≡ laid (upto (frameMark (p .table) (receivedBy (now (re .entry)) (now (im .entry)) m scales)) (frameSteps (p .table))) (now (marks .entry)) ⌝ }
-{
-    let count = p.count;
-    let list = p.runs;
-    let mut at = At { held: 0, count: 0 };
-    let mut step: usize = 0;
-    for i in 0..count {
-        let r = list[i];
-        let c = r.combination;
-        let n = c.steps_per_slot() * r.valid_slots;
-        let start = r.symbol_start;
-        let place = scale_place(c);
-        let scale = scales[place];
-        at = read_run(
-            pm,
-            at,
-            step,
-            n,
-            c,
-            m,
-            scale,
-            &re[start..],
-            &im[start..],
-            decisions,
-            bits,
-            &mut marks[step..],
-        );
-        step = step + n;
-    }
-    at
-}
-
-// The end of a frame: the maximum is subtracted, the 16 bits of W1 follow as known bits, all held bits leave, and the words become 0.
-fn read_end(pm: &mut [f32; 64], at: At, decisions: &mut [u64], bits: &mut [u8])
-    requires { ⌜ (at .held < frameWords) × (frameWords ≤ length (now decisions)) × (at .held + at .count + 16 ≤ length (now bits)) ⌝ }
-    ensures { λ _. ⌜ Ended (now (pm .entry)) at (now (decisions .entry)) (now (bits .entry)) (now (decisions .exit)) (now (bits .exit)) ⌝ }
-{
-    renormalise(pm);
-    let mut now_at = at;
-    for i in 0..16 {
-        let x = Step::Known(word_bit(W1, i));
-        now_at = advance(pm, now_at, FRAME_TRACEBACK, i, x, decisions, bits);
-    }
-    finish(pm, now_at, decisions, bits);
-    clear(decisions, FRAME_WORDS);
 }
 
 // The decoded bits of a frame: one for each step, then the 16 of W1. The path values start as `start`.

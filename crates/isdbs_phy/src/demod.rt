@@ -38,7 +38,7 @@ ghost use Rattle.isdbs_phy.specs.DecodeRows.{decodeRows, oneScaleRows, f
 ghost use Rattle.isdbs_phy.specs.EncodeRows.{encodeRows, encodeFrameRows, PartsKept};
 ghost use Rattle.isdbs_metrics.specs.Reading.{received};
 ghost use Rattle.isdbs_encode.specs.Laid.{FrameLaid};
-ghost use Rattle.isdbs_decode.specs.Scales.{receivedBy};
+ghost use Rattle.frame_read.specs.Scales.{receivedBy};
 ghost use Rattle.strain.specs.Strain.{strainSum};
 
 // What encoding a frame answers: the encoder after the last bit, or as it was given.

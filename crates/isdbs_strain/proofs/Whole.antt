@@ -22,7 +22,8 @@ use Rattle.strain.specs.SlotsLaws.{by-slot-same}
 use Rattle.strain.specs.Strain.{strained, strainOf, StrainLaid}
 use Rattle.strain.specs.Marks.{frameMark, marked}
 use Rattle.strain.specs.MarksLaws.{marked-is}
-use Rattle.isdbs_strain.specs.Pieces.{frameStrain, finalBits, FrameCounted}
+use Rattle.frame_strain.specs.Pieces.{frameStrain}
+use Rattle.isdbs_strain.specs.Final.{finalBits, FrameCounted}
 
 pub steps-are : (p : Plan) → Planned p → p .steps ≡ frameSteps (p .table)
 steps-are p h = ap (λ (z : Plan). z .steps) (h .is)

@@ -8,7 +8,7 @@ use Rattle.trellis.specs.Lists.{upto, laid}
 use Rattle.trellis.specs.Run.{fourSteps}
 use Rattle.strain.specs.Marks.{markOf}
 use Rattle.isdbs_blocks.specs.Blocks.{fourIn}
-use Rattle.isdbs_blocks.proofs.Laws.{put-one}
+use Rattle.block_parts.specs.FilledLaws.{put-one}
 use Rattle.isdbs_blocks.proofs.mark_block.Statement.{statement}
 use Rattle.isdbs_blocks.proofs.mark_block.Tie as tie
 

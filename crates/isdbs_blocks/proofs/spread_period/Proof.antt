@@ -9,7 +9,7 @@ use Rattle.trellis.specs.Lists.{upto, laid}
 use mathlib.Core.Bool.{cond}
 use lib.Dec.{ltb}
 use lib.Ieee.{binary32, ofBits}
-use Rattle.isdbs_blocks.proofs.Laws.{put-one}
+use Rattle.block_parts.specs.FilledLaws.{put-one}
 use Rattle.isdbs_blocks.proofs.spread_period.Statement.{statement}
 use Rattle.isdbs_blocks.proofs.spread_period.Tie as tie
 

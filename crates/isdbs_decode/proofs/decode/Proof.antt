@@ -2,7 +2,7 @@
 use Rattle.isdbs_pack.specs.FrameRunLaws.{front-is}
 use Rattle.isdbs_decode.specs.DecodedLaws.{from-count, from-binary, binary-at, decoded-from}
 use Rattle.isdbs_decode.specs.Runs.{bitsFrom}
-use Rattle.isdbs_decode.specs.Scales.{scaleOf, receivedBy}
+use Rattle.frame_read.specs.Scales.{scaleOf, receivedBy}
 use Rattle.isdbs_metrics.specs.Reading.{startValues, bytesFrom, decodedBits}
 use Rattle.trellis.specs.Run.{startAt, startUnknown}
 use Rattle.trellis.specs.Lists.{laid}

@@ -3,7 +3,7 @@ use mathlib.Core.Path.{_∙_}
 use native.Mathlib.Omega.{arith}
 use Rattle.isdbs_points.specs.SizeLaws.{few-steps}
 use Rattle.isdbs_metrics.specs.Reading.{decodedBits}
-use Rattle.isdbs_decode.specs.Scales.{receivedBy}
+use Rattle.frame_read.specs.Scales.{receivedBy}
 use Rattle.isdbs_decode.specs.DecodedLaws.{decoded-count, decoded-binary, binary-at}
 use Rattle.isdbs_strain.proofs.Whole.{steps-are, front, final-is, marks-are}
 use borrow.Author.Needs.{needs}

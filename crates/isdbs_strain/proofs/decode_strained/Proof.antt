@@ -1,5 +1,5 @@
 -- `decode_strained` meets its contract. Assumes nothing.
-use Rattle.isdbs_decode.specs.Scales.{receivedBy}
+use Rattle.frame_read.specs.Scales.{receivedBy}
 use Rattle.isdbs_strain.proofs.Whole.{strain-laid}
 use borrow.Author.Needs.{needs}
 use Rattle.isdbs_strain.proofs.decode_strained.Statement.{statement}

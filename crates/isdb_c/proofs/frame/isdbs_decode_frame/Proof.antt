@@ -7,7 +7,7 @@ use Rattle.refusal.specs.Rows.{firstRow, numberOf}
 use Rattle.refusal.specs.RowLaws.{zero-accepted}
 use Rattle.isdbs_phy.specs.DecodeRows.{decodeRows}
 use Rattle.isdbs_tables.specs.Tables.{tableRows}
-use Rattle.isdbs_decode.specs.Scales.{receivedBy}
+use Rattle.frame_read.specs.Scales.{receivedBy}
 use Rattle.strain.specs.Strain.{strainSum}
 use Rattle.table_c.specs.Forms.{tableOf}
 use Rattle.answers_c.specs.Answers.{answered}

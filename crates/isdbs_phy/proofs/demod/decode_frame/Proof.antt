@@ -6,7 +6,7 @@ use Rattle.isdbs_runs.specs.declared.Plan.{Plan}
 use Rattle.isdbs_tables.specs.declared.Table.{Table}
 use Rattle.isdbs_runs.specs.RunsOf.{planOf}
 use Rattle.refusal.specs.Rows.{firstRow}
-use Rattle.isdbs_decode.specs.Scales.{receivedBy}
+use Rattle.frame_read.specs.Scales.{receivedBy}
 use Rattle.strain.specs.Strain.{strainSum}
 use Rattle.isdb_fec.specs.AnswerLaws.{refused}
 use Rattle.refusal.specs.declared.Answer.{Answer}

@@ -5,11 +5,11 @@ use lib.ListN.{length, replicate}
 use Rattle.refusal.specs.declared.Answer.{Answer}
 use Rattle.refusal.specs.Rows.{firstRow}
 use Rattle.isdbs_metrics.specs.Reading.{Received}
-use Rattle.isdbs_decode.specs.Scales.{receivedBy}
 use Rattle.strain.specs.Strain.{strainSum}
 use Rattle.isdbs_phy.specs.DecodeRows.{decodeRows, oneScaleRows, frameAnswer, FrameLeft}
 use Rattle.frame_rows.specs.ScaleLaws.{equal-rows}
-use Rattle.isdbs_decode.specs.ScaleLaws.{equal-scales}
+use Rattle.frame_read.specs.ScaleLaws.{equal-scales}
+use Rattle.frame_read.specs.Scales.{receivedBy}
 use borrow.Author.Needs.{needs}
 use Rattle.isdbs_phy.proofs.demod.decode_frame_one_scale.Statement.{statement}
 use Rattle.isdbs_phy.proofs.demod.decode_frame_one_scale.Tie as tie

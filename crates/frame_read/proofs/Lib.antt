@@ -1,0 +1,2 @@
+pub mod FrameMarks
+pub mod FrameSteps

@@ -1,0 +1,3 @@
+pub mod ScaleLaws
+pub mod Scales
+pub mod Steps

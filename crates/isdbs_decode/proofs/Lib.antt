@@ -1,3 +1,0 @@
-pub mod Carried
-pub mod FrameMarks
-pub mod FrameSteps
