@@ -20,7 +20,7 @@ use Rattle.slot_strain.specs.declared.Slot.{Slot}
 use Rattle.frame_strain.specs.declared.RunCount.{RunCount}
 use Rattle.slot_strain.specs.Counted.{Counted}
 use Rattle.frame_strain.specs.Pieces.{runStrain, RunCounted}
-use Rattle.slot_strain.proofs.Counting.{marked-few}
+use Rattle.slot_strain.specs.CountingLaws.{marked-few}
 
 abbrev pub runCount : ℕ → ℕ → RunCount
 runCount sum state = record { sum = sum; state = state }

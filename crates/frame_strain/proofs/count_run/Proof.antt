@@ -5,7 +5,7 @@ use Prim.Native.Nat.{_-_, _≤_}
 use mathlib.Core.Path.{_≡_, refl, _∙_}
 use lib.ListN.{length, length-set}
 use Rattle.frame_strain.specs.Pieces.{RunCounted}
-use Rattle.slot_strain.proofs.Counting.{count-few}
+use Rattle.slot_strain.specs.CountingLaws.{count-few}
 use Rattle.frame_strain.proofs.Slots.{runCount, within, marks-from, bits-from, run-first, run-few, run-next}
 use Rattle.frame_strain.proofs.count_run.Statement.{statement}
 use Rattle.frame_strain.proofs.count_run.Tie as tie

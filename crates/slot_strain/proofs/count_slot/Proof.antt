@@ -7,7 +7,7 @@ use lib.Dec.{lit<}
 use lib.ListN.{getD}
 use mathlib.Core.Path.{_≡_, refl}
 use Rattle.slot_strain.specs.Counted.{Counted}
-use Rattle.slot_strain.proofs.Counting.{slot, counted-first, count-few, label-is, counted-next}
+use Rattle.slot_strain.specs.CountingLaws.{slot, counted-first, count-few, label-is, counted-next}
 use Rattle.slot_strain.proofs.count_slot.Statement.{statement}
 use Rattle.slot_strain.proofs.count_slot.Tie as tie
 
