@@ -1,11 +1,12 @@
 // The bench program's commands, on a line of words that are separated by 0 bytes. Reports go to standard output; the last line is ok, or
 // begins with doubtful, refused or failed. A crate for each command.
+pub use bench_line::space::LINE_BYTES;
 use bench_line::words::part;
 use bench_line::words::same;
 use bench_setting::usage;
 
 // Puts src into dst from `at` on, as far as it goes, and answers where it ends.
-pub fn put(dst: &mut [u8; 4096], at: usize, src: &[u8]) -> usize {
+pub fn put(dst: &mut [u8; LINE_BYTES], at: usize, src: &[u8]) -> usize {
     bench_files::files::put(dst, at, src)
 }
 
@@ -86,8 +87,8 @@ pub fn demonstrate() {
 }
 
 // Runs the command in the first n bytes of a buffer.
-pub fn run_first(line: &[u8; 4096], n: usize) {
-    if n >= 4096 {
+pub fn run_first(line: &[u8; LINE_BYTES], n: usize) {
+    if n >= LINE_BYTES {
         usage::misused(b"the words are longer than 4,095 bytes together", b"");
         return;
     }
