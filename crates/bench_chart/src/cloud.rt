@@ -12,13 +12,15 @@ ghost use mathlib.Core.Bool.{false, not, _&&_};
 ghost use Prim.Native.Nat.{_≤_};
 ghost use Rattle.margins.specs.Margins.{holds};
 
+const SQUARES: usize = BINS * BINS;
+
 // One more, up to 65,535.
 fn more(n: u32) -> u32 {
     if n < 65_535 { n + 1 } else { n }
 }
 
 fn clear(bins: &mut Squares) {
-    for i in 0..BINS * BINS {
+    for i in 0..SQUARES {
         bins[i] = 0;
     }
 }

@@ -4,11 +4,11 @@ use bench_line::space::LINE_BYTES;
 use bench_line::space::LOAD_BYTES;
 use bench_line::space::LOAD_SPACE;
 use bench_line::words::front;
+use bench_line::words::is_narrow;
 use bench_line::words::same;
 use bench_words::text::number;
 use bench_words::text::quoted;
 use bench_words::text::text;
-use is_narrow;
 ghost use Rattle.libc.specs.Io.{Ended};
 
 // Why the system failed, in words.

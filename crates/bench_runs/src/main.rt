@@ -12,6 +12,9 @@ use isdbs_frame::MAIN_SYMBOLS;
 use libc::STDOUT_FILENO;
 ghost use Prim.Native.Nat.{_≤_};
 
+// The parts of a frame's points.
+const PARTS: usize = 2 * MAIN_SYMBOLS;
+
 // A command's words are separated by 0 bytes.
 fn separated(b: u8) -> u8 {
     if b == b' ' { 0 } else { b }
@@ -157,7 +160,7 @@ fn write_part(file: i32, n: u32) {
 
 fn write_noise(file: i32) {
     let mut n: u32 = 1;
-    for _ in 0..2 * MAIN_SYMBOLS {
+    for k in 0..PARTS {
         n = next_random(n);
         write_part(file, n);
     }
