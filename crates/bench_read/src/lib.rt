@@ -196,12 +196,12 @@ fn read_in_space(
 // Reads the points of the frame; says what was read.
 fn points_of(line: &[u8], re: &mut [f64; MAIN_SYMBOLS], im: &mut [f64; MAIN_SYMBOLS]) -> Got {
     let input = part(line, 0, 4);
-    let file = open(input, part(line, 0, 5), picture_of(line));
-    if file < 0 {
+    let opened = open(input, part(line, 0, 5), picture_of(line));
+    if opened < 0 {
         return files::nothing();
     }
     text(b"reading the points\n");
-    let got = files::read_points(file, input, re, im);
+    let got = files::read_points(opened, input, re, im);
     if got.well {
         file(b"frame", input, got.count, b" points; decoding\n");
     }
