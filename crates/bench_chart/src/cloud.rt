@@ -1,5 +1,8 @@
 // The received points of a run: how many lie in each square of 1/64 by 1/64, from -1.5 to 1.5.
+use bench_sheet::BINS;
+use bench_sheet::Squares;
 use bench_sheet::bin;
+use isdbs_core::frame::MAIN_SYMBOLS;
 use isdbs_core::slots::Run;
 use margin_test::both;
 use margin_test::holds;
@@ -9,22 +12,22 @@ ghost use mathlib.Core.Bool.{false, not, _&&_};
 ghost use Prim.Native.Nat.{_≤_};
 ghost use Rattle.margins.specs.Margins.{holds};
 
+const SQUARES: usize = BINS * BINS;
+
 // One more, up to 65,535.
 fn more(n: u32) -> u32 {
     if n < 65_535 { n + 1 } else { n }
 }
 
-fn clear(bins: &mut [u32; 36864]) {
-    let mut i: usize = 0;
-    while i < 36864 {
+fn clear(bins: &mut Squares) {
+    for i in 0..SQUARES {
         bins[i] = 0;
-        i = i + 1;
     }
 }
 
 // Counts a point. The rows of squares go down from the greatest imaginary part.
-fn mark(bins: &mut [u32; 36864], x: f64, y: f64) {
-    let i = 192 * (191 - bin(y)) + bin(x);
+fn mark(bins: &mut Squares, x: f64, y: f64) {
+    let i = BINS * (BINS - 1 - bin(y)) + bin(x);
     bins[i] = more(bins[i]);
 }
 
@@ -37,16 +40,16 @@ fn is_outside(bpsk: bool, clean_re: f64, clean_im: f64, x: f64, y: f64) -> bool
 
 // Counts point k where it lies inside or outside its margins, as asked.
 fn mark_at(
-    bins: &mut [u32; 36864],
+    bins: &mut Squares,
     k: usize,
     bpsk: bool,
     outside: bool,
-    re: &[f64; 38976],
-    im: &[f64; 38976],
-    clean_re: &[f64; 38976],
-    clean_im: &[f64; 38976],
+    re: &[f64; MAIN_SYMBOLS],
+    im: &[f64; MAIN_SYMBOLS],
+    clean_re: &[f64; MAIN_SYMBOLS],
+    clean_im: &[f64; MAIN_SYMBOLS],
 ) {
-    if k >= 38976 {
+    if k >= MAIN_SYMBOLS {
         return;
     }
     let x = re[k];
@@ -58,13 +61,13 @@ fn mark_at(
 
 // Counts the points of a run inside or outside their margins.
 pub(crate) fn gather(
-    bins: &mut [u32; 36864],
+    bins: &mut Squares,
     r: Run,
     outside: bool,
-    re: &[f64; 38976],
-    im: &[f64; 38976],
-    clean_re: &[f64; 38976],
-    clean_im: &[f64; 38976],
+    re: &[f64; MAIN_SYMBOLS],
+    im: &[f64; MAIN_SYMBOLS],
+    clean_re: &[f64; MAIN_SYMBOLS],
+    clean_im: &[f64; MAIN_SYMBOLS],
 ) {
     clear(bins);
     let c = r.combination;
@@ -92,11 +95,11 @@ fn tally(so: bool) -> usize
 }
 
 // How many points of a run lie outside the picture.
-pub(crate) fn beyond(re: &[f64; 38976], im: &[f64; 38976], r: Run) -> usize {
+pub(crate) fn beyond(re: &[f64; MAIN_SYMBOLS], im: &[f64; MAIN_SYMBOLS], r: Run) -> usize {
     let to = r.symbol_end;
     let mut n: usize = 0;
     let mut k = r.symbol_start;
-    while k < to && k < 38976 {
+    while k < to && k < MAIN_SYMBOLS {
         n = n + tally(is_out(re[k], im[k]));
         k = k + 1;
     }

@@ -4,22 +4,26 @@ mod panel;
 
 pub use bench_head::Facts;
 use bench_head::draw_head;
+use bench_sheet::Sheet;
+use bench_sheet::Squares;
 use bench_sheet::put;
+use isdbs_core::frame::MAIN_SYMBOLS;
+use isdbs_core::frame::SLOTS;
 use isdbs_core::slots;
 use isdbs_core::slots::Run;
 ghost use Prim.Native.Nat.{_<_};
 
 fn panel_at(
-    sheet: &mut [u8; 327680],
+    sheet: &mut Sheet,
     at: usize,
-    bins: &mut [u32; 36864],
+    bins: &mut Squares,
     rs: [Run; 4],
     n: usize,
     i: usize,
-    re: &[f64; 38976],
-    im: &[f64; 38976],
-    clean_re: &[f64; 38976],
-    clean_im: &[f64; 38976],
+    re: &[f64; MAIN_SYMBOLS],
+    im: &[f64; MAIN_SYMBOLS],
+    clean_re: &[f64; MAIN_SYMBOLS],
+    clean_im: &[f64; MAIN_SYMBOLS],
 ) -> usize
     requires { ⌜ i < 4 ⌝ }
 {
@@ -31,15 +35,15 @@ fn panel_at(
 
 // The panels of the first n runs.
 fn panels(
-    sheet: &mut [u8; 327680],
+    sheet: &mut Sheet,
     at: usize,
-    bins: &mut [u32; 36864],
+    bins: &mut Squares,
     rs: [Run; 4],
     n: usize,
-    re: &[f64; 38976],
-    im: &[f64; 38976],
-    clean_re: &[f64; 38976],
-    clean_im: &[f64; 38976],
+    re: &[f64; MAIN_SYMBOLS],
+    im: &[f64; MAIN_SYMBOLS],
+    clean_re: &[f64; MAIN_SYMBOLS],
+    clean_im: &[f64; MAIN_SYMBOLS],
 ) -> usize {
     let a = panel_at(sheet, at, bins, rs, n, 0, re, im, clean_re, clean_im);
     let b = panel_at(sheet, a, bins, rs, n, 1, re, im, clean_re, clean_im);
@@ -50,16 +54,16 @@ fn panels(
 // Draws the picture of a frame on a sheet, and answers how long it is; more than the sheet has where it does not fit.
 // Lent are the strained steps of each valid slot, the points outside of each slot, the received points and those of the bytes that were read.
 pub fn draw(
-    sheet: &mut [u8; 327680],
-    bins: &mut [u32; 36864],
+    sheet: &mut Sheet,
+    bins: &mut Squares,
     name: &[u8],
     f: Facts,
-    counts: &[u32; 48],
-    outside: &[u32; 48],
-    re: &[f64; 38976],
-    im: &[f64; 38976],
-    clean_re: &[f64; 38976],
-    clean_im: &[f64; 38976],
+    counts: &[u32; SLOTS],
+    outside: &[u32; SLOTS],
+    re: &[f64; MAIN_SYMBOLS],
+    im: &[f64; MAIN_SYMBOLS],
+    clean_re: &[f64; MAIN_SYMBOLS],
+    clean_im: &[f64; MAIN_SYMBOLS],
 ) -> usize {
     let t = f.table;
     let all = slots::runs(t);

@@ -1,19 +1,22 @@
 // A panel: the received points of a run over the lines of its picture.
 use crate::cloud;
 use bench_bars::form::fill;
+use bench_sheet::Sheet;
+use bench_sheet::Squares;
+use isdbs_core::frame::MAIN_SYMBOLS;
 use isdbs_core::slots::Run;
 ghost use Prim.Native.Nat.{_<_};
 
 // The squares of a run.
 fn points(
-    sheet: &mut [u8; 327680],
+    sheet: &mut Sheet,
     at: usize,
-    bins: &mut [u32; 36864],
+    bins: &mut Squares,
     r: Run,
-    re: &[f64; 38976],
-    im: &[f64; 38976],
-    clean_re: &[f64; 38976],
-    clean_im: &[f64; 38976],
+    re: &[f64; MAIN_SYMBOLS],
+    im: &[f64; MAIN_SYMBOLS],
+    clean_re: &[f64; MAIN_SYMBOLS],
+    clean_im: &[f64; MAIN_SYMBOLS],
 ) -> usize {
     cloud::gather(bins, r, false, re, im, clean_re, clean_im);
     let a = bench_panel::within(sheet, at, bins);
@@ -23,15 +26,15 @@ fn points(
 
 // The panel of run i, which is one of four, two in a row; the first begins at y = 1260.
 pub(crate) fn panel(
-    sheet: &mut [u8; 327680],
+    sheet: &mut Sheet,
     at: usize,
-    bins: &mut [u32; 36864],
+    bins: &mut Squares,
     r: Run,
     i: usize,
-    re: &[f64; 38976],
-    im: &[f64; 38976],
-    clean_re: &[f64; 38976],
-    clean_im: &[f64; 38976],
+    re: &[f64; MAIN_SYMBOLS],
+    im: &[f64; MAIN_SYMBOLS],
+    clean_re: &[f64; MAIN_SYMBOLS],
+    clean_im: &[f64; MAIN_SYMBOLS],
 ) -> usize
     requires { ⌜ i < 4 ⌝ }
 {
@@ -45,7 +48,7 @@ pub(crate) fn panel(
         sheet,
         at,
         b"<g transform=\"translate(@ @)\">\n",
-        [120 + 860 * (i % 2), 1260 + 940 * (i / 2), 0, 0, 0, 0],
+        &[120 + 860 * (i % 2), 1260 + 940 * (i / 2)],
     );
     let b = bench_panel::title(sheet, a, i, c, n, cloud::beyond(re, im, r));
     let d = bench_panel::grid(sheet, b);

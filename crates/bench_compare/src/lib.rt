@@ -1,5 +1,7 @@
 // The bench program's command compare: how many bytes of two loads agree.
 use bench_files::files;
+use bench_line::space::LOAD_BYTES;
+use bench_line::space::LOAD_SPACE;
 use bench_line::words;
 use bench_line::words::front;
 use bench_line::words::part;
@@ -7,38 +9,37 @@ use bench_line::words::parts;
 use bench_setting::usage::misused;
 use bench_words::report;
 use bench_words::report::Valid;
-use bench_words::text::count;
 use bench_words::text::quoted;
+use bench_words::text::say;
 use bench_words::text::text;
+use isdbs_core::frame::SLOT_BYTES;
+use isdbs_core::frame::SLOTS;
 use isdbs_core::slots;
 use isdbs_core::tmcc::Table;
 use refusal::Answer;
 ghost use Prim.Native.Nat.{_≤_, _*_};
+ghost use Rattle.isdbs_frame.specs.Frame.{slotBytes};
 
 // Compares slot by slot, and answers how many bytes agree.
 fn compare_slots(t: Table, v: usize, sent: &[u8], read: &[u8]) -> usize
     requires { ⌜ v ≤ 48 ⌝ }
-    ensures { λ r. ⌜ r ≤ 203 * v ⌝ }
+    ensures { λ r. ⌜ r ≤ slotBytes * v ⌝ }
 {
     let mut n: usize = 0;
-    let mut k: usize = 0;
-    while k < v {
+    for k in 0..v {
         let a = slots::slot_part(sent, t, k);
         let b = slots::slot_part(read, t, k);
         n = n + report::slot_line(k, a, b);
-        k = k + 1;
     }
     n
 }
 
 // How a file's bytes differ from a load of the table.
 fn load_reason(n: usize) {
-    if n >= 9745 {
-        text(b" has more than 9,744 bytes");
+    if n > LOAD_BYTES {
+        say(b" has more than $ bytes", &[LOAD_BYTES]);
     } else {
-        text(b" has ");
-        count(n);
-        text(b" bytes");
+        say(b" has $ bytes", &[n]);
     }
     text(b", which is not what the table carries\n");
 }
@@ -58,11 +59,11 @@ fn refuse_load(answer: Answer, name: &[u8], n: usize) {
 // Whether the bytes are a whole load of the table; else says why not.
 fn is_load(t: Table, name: &[u8], bytes: &[u8]) -> bool {
     let answer = slots::slot_part_answer(bytes, t, 0);
-    if refusal::number(answer) == 0 {
-        return true;
-    }
-    refuse_load(answer, name, bytes.len());
-    false
+    let Answer::Accepted = answer else {
+        refuse_load(answer, name, bytes.len());
+        return false;
+    };
+    true
 }
 
 // The last line of a comparison.
@@ -79,35 +80,28 @@ fn verdict(n: usize, all: usize) {
 }
 
 fn compare_loads(t: Table, v: usize, sent: &[u8], read: &[u8]) {
-    if v > 48 {
+    if v > SLOTS {
         return;
     }
     let n = compare_slots(t, v, sent, read);
-    verdict(n, 203 * v);
-}
-
-// Reads a file of bytes.
-fn read_load(name: &[u8], bytes: &mut [u8; 9745]) -> files::Got {
-    let file = files::open(name);
-    if file < 0 {
-        return files::Got {
-            well: false,
-            count: 0,
-            over: 0,
-        };
-    }
-    files::read_bytes(file, name, bytes)
+    verdict(n, SLOT_BYTES * v);
 }
 
 // Reads both loads, and compares them.
-fn compare_files(t: Table, v: usize, line: &[u8], sent: &mut [u8; 9745], read: &mut [u8; 9745]) {
+fn compare_files(
+    t: Table,
+    v: usize,
+    line: &[u8],
+    sent: &mut [u8; LOAD_SPACE],
+    read: &mut [u8; LOAD_SPACE],
+) {
     let sent_name = part(line, 0, 2);
     let read_name = part(line, 0, 3);
-    let a = read_load(sent_name, sent);
+    let a = files::bytes_of(sent_name, sent);
     if !a.well {
         return;
     }
-    let b = read_load(read_name, read);
+    let b = files::bytes_of(read_name, read);
     if !b.well {
         return;
     }
@@ -123,8 +117,8 @@ fn compare_files(t: Table, v: usize, line: &[u8], sent: &mut [u8; 9745], read: &
 
 // The same, on space of its own.
 fn compare_in_space(t: Table, v: usize, line: &[u8]) {
-    let mut sent = [0u8; 9745];
-    let mut read = [0u8; 9745];
+    let mut sent = [0u8; LOAD_SPACE];
+    let mut read = [0u8; LOAD_SPACE];
     compare_files(t, v, line, &mut sent, &mut read);
 }
 

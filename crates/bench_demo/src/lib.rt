@@ -1,8 +1,13 @@
 // The bench program's demonstration on built-in data.
+use bench_line::space::BIT_SPACE;
+use bench_line::space::LOAD_SPACE;
 use bench_line::words::front;
 use bench_words::report;
-use bench_words::text::count;
+use bench_words::text::say;
 use bench_words::text::text;
+use isdbs_core::frame::MAIN_SYMBOLS;
+use isdbs_core::frame::SLOT_BYTES;
+use isdbs_core::frame::SLOTS;
 use isdbs_core::tmcc;
 use isdbs_core::tmcc::Entry;
 use isdbs_core::tmcc::Table;
@@ -11,9 +16,13 @@ use isdbs_phy::demod::FrameDecoded;
 use isdbs_phy::demod::Mapping;
 use isdbs_phy::demod::decode_frame;
 use isdbs_phy::demod::encode_frame;
+use refusal::Answer;
+use trellis::FRAME_WORDS;
 
-// The bytes of the table's 45 valid slots.
-const CARRIED: usize = 9_135;
+// The valid slots of the table, and their bytes.
+const VALID: usize = 45;
+
+const CARRIED: usize = VALID * SLOT_BYTES;
 
 // TC8PSK 44 slots, BPSK 4.
 fn table() -> Table {
@@ -25,22 +34,18 @@ fn table() -> Table {
 }
 
 // The built-in load: 3, 10, 17 and so on, modulo 256.
-fn fill(load: &mut [u8; 9745]) {
+fn fill(load: &mut [u8; LOAD_SPACE]) {
     let mut b: u8 = 3;
-    let mut i: usize = 0;
-    while i < CARRIED {
+    for i in 0..CARRIED {
         load[i] = b;
         b = std::num::wrapping_add_u8(b, 7);
-        i = i + 1;
     }
 }
 
 // Moves every part by 1/64, which is half of what a part may be off.
-fn disturb(parts: &mut [f64; 38976]) {
-    let mut k: usize = 0;
-    while k < 38976 {
+fn disturb(parts: &mut [f64; MAIN_SYMBOLS]) {
+    for k in 0..MAIN_SYMBOLS {
         parts[k] = parts[k] + 0.015625f64;
-        k = k + 1;
     }
 }
 
@@ -55,21 +60,35 @@ fn verdict(load: &[u8], bytes: &[u8]) {
 }
 
 fn read_line(steps: usize) {
-    text(b"The frame is decoded in ");
-    count(steps);
-    text(b" trellis steps, one for each bit that the convolutional code carries.\n");
+    say(
+        b"The frame is decoded in $ trellis steps, one for each bit that the convolutional code carries.\n",
+        &[steps],
+    );
 }
 
 // Makes the frame of the load.
-fn make(load: &[u8; 9745], re: &mut [f64; 38976], im: &mut [f64; 38976]) -> bool {
+fn make(
+    load: &[u8; LOAD_SPACE],
+    re: &mut [f64; MAIN_SYMBOLS],
+    im: &mut [f64; MAIN_SYMBOLS],
+) -> bool {
     let m = Mapping::default();
     let answer = encode_frame(load, table(), true, m, re, im);
-    if refusal::number(answer) != 0 {
+    let Answer::Accepted = answer else {
         report::refuse(answer);
         return false;
-    }
-    text(b"The load is 9,135 built-in bytes: 45 valid slots of 203 bytes each.\n");
-    text(b"The frame is made: 38,976 points, 812 for each of the 48 slots.\n");
+    };
+    say(
+        b"The load is $ built-in bytes: $ valid slots of $ bytes each.\nThe frame is made: $ points, $ for each of the $ slots.\n",
+        &[
+            CARRIED,
+            VALID,
+            SLOT_BYTES,
+            MAIN_SYMBOLS,
+            MAIN_SYMBOLS / SLOTS,
+            SLOTS,
+        ],
+    );
     disturb(re);
     disturb(im);
     text(b"Every part of every point is moved by 1/64, as a channel might do.\n");
@@ -78,15 +97,15 @@ fn make(load: &[u8; 9745], re: &mut [f64; 38976], im: &mut [f64; 38976]) -> bool
 
 // Reads the frame, and compares.
 fn read(
-    load: &[u8; 9745],
-    re: &[f64; 38976],
-    im: &[f64; 38976],
-    decisions: &mut [u64; 4224],
-    bits: &mut [u8; 68224],
-    bytes: &mut [u8; 9745],
+    load: &[u8; LOAD_SPACE],
+    re: &[f64; MAIN_SYMBOLS],
+    im: &[f64; MAIN_SYMBOLS],
+    decisions: &mut [u64; FRAME_WORDS],
+    bits: &mut [u8; BIT_SPACE],
+    bytes: &mut [u8; LOAD_SPACE],
 ) {
     let o = DemodOptions::default();
-    let mut counts = [0u32; 48];
+    let mut counts = [0u32; SLOTS];
     let done = decode_frame(
         re,
         im,
@@ -109,10 +128,10 @@ fn read(
 }
 
 // The same, on space of its own.
-fn read_in_space(load: &[u8; 9745], re: &[f64; 38976], im: &[f64; 38976]) {
-    let mut decisions = [0u64; 4224];
-    let mut bits = [0u8; 68224];
-    let mut bytes = [0u8; 9745];
+fn read_in_space(load: &[u8; LOAD_SPACE], re: &[f64; MAIN_SYMBOLS], im: &[f64; MAIN_SYMBOLS]) {
+    let mut decisions = [0u64; FRAME_WORDS];
+    let mut bits = [0u8; BIT_SPACE];
+    let mut bytes = [0u8; LOAD_SPACE];
     read(load, re, im, &mut decisions, &mut bits, &mut bytes);
 }
 
@@ -120,9 +139,9 @@ fn read_in_space(load: &[u8; 9745], re: &[f64; 38976], im: &[f64; 38976]) {
 pub fn demonstrate() {
     text(b"A demonstration on built-in data: an ISDB-S frame is made, disturbed and read back.\n");
     report::table(table());
-    let mut re = [0.0f64; 38976];
-    let mut im = [0.0f64; 38976];
-    let mut load = [0u8; 9745];
+    let mut re = [0.0f64; MAIN_SYMBOLS];
+    let mut im = [0.0f64; MAIN_SYMBOLS];
+    let mut load = [0u8; LOAD_SPACE];
     fill(&mut load);
     if make(&load, &mut re, &mut im) {
         read_in_space(&load, &re, &im);

@@ -1,21 +1,21 @@
 // Files: read whole, and written whole or not at all.
 use crate::points;
+use bench_line::space::LINE_BYTES;
+use bench_line::space::LOAD_BYTES;
+use bench_line::space::LOAD_SPACE;
 use bench_line::words::front;
+use bench_line::words::is_narrow;
 use bench_line::words::same;
 use bench_words::text::number;
 use bench_words::text::quoted;
 use bench_words::text::text;
 ghost use Rattle.libc.specs.Io.{Ended};
 
-// The bytes of a full load of 48 slots, and one more, so that a file that is longer is told from one that is full.
-const LOAD: usize = 9_745;
-
 // Why the system failed, in words.
 fn reason(error: i32) {
     match error {
         libc::ENOENT => text(b"there is no such file or folder"),
-        libc::EACCES => text(b"permission is denied"),
-        libc::EPERM => text(b"permission is denied"),
+        libc::EACCES | libc::EPERM => text(b"permission is denied"),
         libc::EEXIST => text(
             b"it is there already; another run may be writing it, or one was broken off: then remove it",
         ),
@@ -55,14 +55,14 @@ fn failed(what: &[u8], name: &[u8], error: i32) {
 
 // The next place of a buffer, or its end.
 pub fn next(j: usize) -> usize {
-    if j < 4096 { j + 1 } else { j }
+    if j < LINE_BYTES { j + 1 } else { j }
 }
 
 // Puts src into dst from `at` on, as far as it goes, and answers where it ends.
-pub fn put(dst: &mut [u8; 4096], at: usize, src: &[u8]) -> usize {
+pub fn put(dst: &mut [u8; LINE_BYTES], at: usize, src: &[u8]) -> usize {
     let mut i: usize = 0;
     let mut j = at;
-    while i < src.len() && j < 4096 {
+    while i < src.len() && j < LINE_BYTES {
         dst[j] = src[i];
         i = i + 1;
         j = next(j);
@@ -71,28 +71,28 @@ pub fn put(dst: &mut [u8; 4096], at: usize, src: &[u8]) -> usize {
 }
 
 // Puts a number's digits into dst from `at` on, and answers where they end.
-fn put_number(dst: &mut [u8; 4096], at: usize, number: u64) -> usize {
+fn put_number(dst: &mut [u8; LINE_BYTES], at: usize, number: u64) -> usize {
     let mut digits = [0u8; 20];
     let n = io::decimal(number, &mut digits);
     put(dst, at, &digits[..n])
 }
 
 // The first n bytes.
-fn front_of<'a>(s: &'a [u8; 4096], n: usize) -> &'a [u8] {
+fn front_of<'a>(s: &'a [u8; LINE_BYTES], n: usize) -> &'a [u8] {
     front(s, n)
 }
 
 // The text with a 0 in its last place.
-fn closed(text: [u8; 4096]) -> [u8; 4096]
+fn closed(text: [u8; LINE_BYTES]) -> [u8; LINE_BYTES]
     ensures { λ r. ⌜ Ended r ⌝ }
 {
     let mut out = text;
-    out[4095] = 0;
+    out[LINE_BYTES - 1] = 0;
     out
 }
 
 // The path of the system's link to an open file.
-fn link(file: u64) -> [u8; 4096]
+fn link(file: u64) -> [u8; LINE_BYTES]
     ensures { λ r. ⌜ Ended r ⌝ }
 {
     let mut path = io::buffer();
@@ -128,20 +128,28 @@ fn compare_places(a: u64, b: u64) -> Places {
     }
 }
 
+// The last line of a run that an output's name stopped.
+fn output_is(how: &[u8], name: &[u8], why: &[u8]) {
+    text(how);
+    text(b": the output ");
+    quoted(name);
+    text(why);
+}
+
 // Whether the output is known to be another file than the input; else says that it is not.
 fn is_apart(places: Places, name: &[u8]) -> bool {
     match places {
         Places::Apart => true,
         Places::Same => {
-            text(b"refused: the output ");
-            quoted(name);
-            text(b" is the input\n");
+            output_is(b"refused", name, b" is the input\n");
             false
         }
         Places::Unknown => {
-            text(b"refused: the output ");
-            quoted(name);
-            text(b" is there already, and without /proc it cannot be told from the input\n");
+            output_is(
+                b"refused",
+                name,
+                b" is there already, and without /proc it cannot be told from the input\n",
+            );
             false
         }
     }
@@ -165,9 +173,7 @@ pub fn may_write(name: &[u8], input: i32) -> bool {
         return false;
     }
     if !is_plain {
-        text(b"failed: the output ");
-        quoted(name);
-        text(b" is not a plain file\n");
+        output_is(b"failed", name, b" is not a plain file\n");
     }
     is_plain
 }
@@ -212,16 +218,43 @@ pub struct Got {
     pub over: usize,
 }
 
+// Of a file that could not be opened.
+pub fn nothing() -> Got {
+    Got {
+        well: false,
+        count: 0,
+        over: 0,
+    }
+}
+
 // Reads an open file's bytes, as many as the buffer holds, and closes it.
-pub fn read_bytes(file: i32, name: &[u8], bytes: &mut [u8; 9745]) -> Got {
+fn read_bytes(file: i32, name: &[u8], bytes: &mut [u8; LOAD_SPACE]) -> Got {
     let n = io::read_full(file, bytes);
-    let well = n == LOAD || has_ended(file, name);
+    let well = n > LOAD_BYTES || has_ended(file, name);
     libc::close(file);
     Got {
         well,
         count: n,
         over: 0,
     }
+}
+
+// Reads a file's bytes.
+pub fn bytes_of(name: &[u8], bytes: &mut [u8; LOAD_SPACE]) -> Got {
+    let file = open(name);
+    if file < 0 {
+        return nothing();
+    }
+    read_bytes(file, name, bytes)
+}
+
+// Reads the input's bytes, where the output may be written.
+pub fn bytes_for(input: &[u8], output: &[u8], bytes: &mut [u8; LOAD_SPACE]) -> Got {
+    let file = open_for(input, output);
+    if file < 0 {
+        return nothing();
+    }
+    read_bytes(file, input, bytes)
 }
 
 // Puts x at place k, where there is one.
@@ -263,7 +296,7 @@ fn fill(file: i32, narrow: bool, n: usize, re: &mut [f64], im: &mut [f64]) -> Go
 // Reads an open file's points, as many as the slices hold, and closes it.
 pub fn read_points(file: i32, name: &[u8], re: &mut [f64], im: &mut [f64]) -> Got {
     let all = re.len();
-    let got = fill(file, bench_line::words::is_narrow(name), all, re, im);
+    let got = fill(file, is_narrow(name), all, re, im);
     let n = got.count;
     let well = n == all || has_ended(file, name);
     libc::close(file);
@@ -287,9 +320,11 @@ pub fn is_plain(name: &[u8]) -> bool {
     if !same(end_of(name), b".part") {
         return true;
     }
-    text(b"failed: the output ");
-    quoted(name);
-    text(b" has the ending of a file that is being written\n");
+    output_is(
+        b"failed",
+        name,
+        b" has the ending of a file that is being written\n",
+    );
     false
 }
 
@@ -305,7 +340,7 @@ pub fn are_two(a: &[u8], b: &[u8]) -> bool {
 }
 
 // The file that is written before it takes the output's name.
-fn part_name(name: &[u8], part: &mut [u8; 4096]) -> usize {
+fn part_name(name: &[u8], part: &mut [u8; LINE_BYTES]) -> usize {
     let at = put(part, 0, name);
     put(part, at, b".part")
 }
@@ -389,7 +424,7 @@ pub fn stage_points(name: &[u8], re: &[f64], im: &[f64]) -> bool {
     if file < 0 {
         return false;
     }
-    let is_written = pour(file, bench_line::words::is_narrow(name), re, im);
+    let is_written = pour(file, is_narrow(name), re, im);
     close_part(file, is_written, part, name)
 }
 

@@ -1,30 +1,31 @@
 // lay: header, main and burst points to a full frame.
+use crate::BURST_POINTS;
 use crate::points;
 use bench_files::files;
 use bench_files::files::Got;
 use bench_line::words::front_parts;
 use bench_line::words::part;
+use bench_words::text::file;
 use bench_words::text::text;
+use isdbs_frame::FRAME_SYMBOLS;
+use isdbs_frame::HEADER_SYMBOLS;
+use isdbs_frame::MAIN_SYMBOLS;
+use refusal::Answer;
 
 // Reads the points of an input, where the output may be written.
 fn read_input(kind: &[u8], input: &[u8], output: &[u8], re: &mut [f64], im: &mut [f64]) -> Got {
-    let file = files::open_for(input, output);
-    if file < 0 {
-        return Got {
-            well: false,
-            count: 0,
-            over: 0,
-        };
+    let opened = files::open_for(input, output);
+    if opened < 0 {
+        return files::nothing();
     }
-    points::read(kind, file, input, re, im)
+    points::read(kind, opened, input, re, im)
 }
 
 // Writes the frame that was laid.
 fn keep(output: &[u8], re: &[f64], im: &[f64]) {
     text(b"writing the full frame\n");
     if files::write_points(output, re, im) {
-        points::points_of(b"full frame", output, re.len());
-        text(b"\nok\n");
+        file(b"full frame", output, re.len(), b" points\nok\n");
     }
 }
 
@@ -53,26 +54,26 @@ fn lay_read(
         re,
         im,
     );
-    if refusal::number(answer) != 0 {
+    let Answer::Accepted = answer else {
         points::refuse(
             answer,
             b"a full frame takes 192 header, 38,976 main and 768 burst points",
         );
         return;
-    }
+    };
     keep(output, re, im);
 }
 
 pub(crate) fn lay(
     line: &[u8],
-    header_re: &mut [f64; 192],
-    header_im: &mut [f64; 192],
-    main_re: &mut [f64; 38976],
-    main_im: &mut [f64; 38976],
-    burst_re: &mut [f64; 768],
-    burst_im: &mut [f64; 768],
-    re: &mut [f64; 39936],
-    im: &mut [f64; 39936],
+    header_re: &mut [f64; HEADER_SYMBOLS],
+    header_im: &mut [f64; HEADER_SYMBOLS],
+    main_re: &mut [f64; MAIN_SYMBOLS],
+    main_im: &mut [f64; MAIN_SYMBOLS],
+    burst_re: &mut [f64; BURST_POINTS],
+    burst_im: &mut [f64; BURST_POINTS],
+    re: &mut [f64; FRAME_SYMBOLS],
+    im: &mut [f64; FRAME_SYMBOLS],
 ) {
     let output = part(line, 0, 4);
     let h = read_input(b"header", part(line, 0, 1), output, header_re, header_im);

@@ -2,32 +2,20 @@
 use bench_files::files;
 use bench_files::files::Got;
 use bench_words::report;
-use bench_words::text::count;
-use bench_words::text::quoted;
+use bench_words::text::file;
+use bench_words::text::say;
 use bench_words::text::text;
 use refusal::Answer;
 
-// A file of n points, by what it holds and its name.
-pub(crate) fn points_of(kind: &[u8], name: &[u8], n: usize) {
-    text(kind);
-    text(b" ");
-    quoted(name);
-    text(b": ");
-    count(n);
-    text(b" points");
-}
-
 // Reads an open file's points, and reports how many there are.
-pub(crate) fn read(kind: &[u8], file: i32, name: &[u8], re: &mut [f64], im: &mut [f64]) -> Got {
-    let got = files::read_points(file, name, re, im);
+pub(crate) fn read(kind: &[u8], opened: i32, name: &[u8], re: &mut [f64], im: &mut [f64]) -> Got {
+    let got = files::read_points(opened, name, re, im);
     if !got.well {
         return got;
     }
-    points_of(kind, name, got.count);
+    file(kind, name, got.count, b" points");
     if got.over > 0 {
-        text(b" and ");
-        count(got.over);
-        text(b" bytes over");
+        say(b" and $ bytes over", &[got.over]);
     }
     text(b"\n");
     got

@@ -1,9 +1,15 @@
 // part: a full frame to header, main and burst points.
+use crate::BURST_POINTS;
 use crate::points;
 use bench_files::files;
 use bench_line::words::front_parts;
 use bench_line::words::part;
+use bench_words::text::file;
 use bench_words::text::text;
+use isdbs_frame::FRAME_SYMBOLS;
+use isdbs_frame::HEADER_SYMBOLS;
+use isdbs_frame::MAIN_SYMBOLS;
+use refusal::Answer;
 
 // Whether three outputs can be staged side by side; else says why not.
 fn are_three(header: &[u8], signal: &[u8], burst: &[u8]) -> bool {
@@ -93,10 +99,9 @@ fn write(
         return;
     }
     if keep(header, signal, burst) {
-        points::points_of(b"header", header, header_re.len());
-        points::points_of(b"\nmain", signal, main_re.len());
-        points::points_of(b"\nburst", burst, burst_re.len());
-        text(b"\nok\n");
+        file(b"header", header, header_re.len(), b" points\n");
+        file(b"main", signal, main_re.len(), b" points\n");
+        file(b"burst", burst, burst_re.len(), b" points\nok\n");
     }
 }
 
@@ -123,10 +128,10 @@ fn take_read(
         burst_re,
         burst_im,
     );
-    if refusal::number(answer) != 0 {
+    let Answer::Accepted = answer else {
         points::refuse(answer, b"a full frame has 39,936 points");
         return;
-    }
+    };
     write(
         line,
         header_re,
@@ -140,14 +145,14 @@ fn take_read(
 
 pub(crate) fn take_apart(
     line: &[u8],
-    re: &mut [f64; 39936],
-    im: &mut [f64; 39936],
-    header_re: &mut [f64; 192],
-    header_im: &mut [f64; 192],
-    main_re: &mut [f64; 38976],
-    main_im: &mut [f64; 38976],
-    burst_re: &mut [f64; 768],
-    burst_im: &mut [f64; 768],
+    header_re: &mut [f64; HEADER_SYMBOLS],
+    header_im: &mut [f64; HEADER_SYMBOLS],
+    main_re: &mut [f64; MAIN_SYMBOLS],
+    main_im: &mut [f64; MAIN_SYMBOLS],
+    burst_re: &mut [f64; BURST_POINTS],
+    burst_im: &mut [f64; BURST_POINTS],
+    re: &mut [f64; FRAME_SYMBOLS],
+    im: &mut [f64; FRAME_SYMBOLS],
 ) {
     let input = part(line, 0, 1);
     let header = part(line, 0, 2);
@@ -156,11 +161,11 @@ pub(crate) fn take_apart(
     if !are_three(header, signal, burst) {
         return;
     }
-    let file = open(input, header, signal, burst);
-    if file < 0 {
+    let opened = open(input, header, signal, burst);
+    if opened < 0 {
         return;
     }
-    let got = points::read(b"full frame", file, input, re, im);
+    let got = points::read(b"full frame", opened, input, re, im);
     if !got.well {
         return;
     }

@@ -2,11 +2,17 @@
 use bench_bars::bars;
 use bench_bars::form;
 use bench_bars::form::fill;
+use bench_sheet::Sheet;
 use bench_sheet::put;
+use isdbs_core::frame::MAIN_SYMBOLS;
+use isdbs_core::frame::SLOTS;
 use isdbs_core::slots;
 use isdbs_core::slots::Run;
 use isdbs_core::tmcc::Table;
 ghost use Prim.Native.Nat.{_≤_};
+
+// The points of a slot of the frame.
+const SLOT_SYMBOLS: usize = MAIN_SYMBOLS / SLOTS;
 
 // How high the picture of n runs is.
 fn page(n: usize) -> usize {
@@ -18,12 +24,12 @@ fn page(n: usize) -> usize {
 }
 
 // The picture's size, its ground, and the letters of its words.
-fn open(sheet: &mut [u8; 327680], at: usize, n: usize) -> usize {
+fn open(sheet: &mut Sheet, at: usize, n: usize) -> usize {
     fill(
         sheet,
         at,
         b"<svg xmlns=\"http://www.w3.org/2000/svg\" width=\"900\" viewBox=\"0 0 1800 @\" font-family=\"sans-serif\" font-size=\"22\">\n<rect width=\"1800\" height=\"@\" fill=\"#fff\"/>\n",
-        [page(n), page(n), 0, 0, 0, 0],
+        &[page(n), page(n)],
     )
 }
 
@@ -37,7 +43,7 @@ pub struct Facts {
 }
 
 // The verdict.
-fn verdict(sheet: &mut [u8; 327680], at: usize, f: Facts) -> usize {
+fn verdict(sheet: &mut Sheet, at: usize, f: Facts) -> usize {
     if f.size == 0 {
         return put(sheet, at, b"certain: the table carries no bytes");
     }
@@ -52,12 +58,12 @@ fn verdict(sheet: &mut [u8; 327680], at: usize, f: Facts) -> usize {
         sheet,
         at,
         b"doubtful: points outside the margins: $; the bytes are a reading, not a proof",
-        [f.outside as usize, 0, 0, 0, 0, 0],
+        &[f.outside as usize],
     )
 }
 
 // The lines at the top.
-fn head(sheet: &mut [u8; 327680], at: usize, name: &[u8], f: Facts) -> usize {
+fn head(sheet: &mut Sheet, at: usize, name: &[u8], f: Facts) -> usize {
     let a = put(
         sheet,
         at,
@@ -74,12 +80,12 @@ fn head(sheet: &mut [u8; 327680], at: usize, name: &[u8], f: Facts) -> usize {
         sheet,
         d,
         b"</text>\n<text x=\"60\" y=\"148\" font-size=\"26\">$ of $ steps strained: there the points spoke against the bits that were read. 0 alone does not mean a good frame.</text>\n",
-        [f.strained as usize, f.steps, 0, 0, 0, 0],
+        &[f.strained as usize, f.steps],
     )
 }
 
 // The words of the bars' axes.
-fn bar_words(sheet: &mut [u8; 327680], at: usize) -> usize {
+fn bar_words(sheet: &mut Sheet, at: usize) -> usize {
     put(
         sheet,
         at,
@@ -87,26 +93,26 @@ fn bar_words(sheet: &mut [u8; 327680], at: usize) -> usize {
     )
 }
 
-// The valid slot after those of a run whose first is `from`; 48 at most.
+// The valid slot after those of a run whose first is `from`; at most the last one's end.
 fn after(from: usize, r: Run) -> usize
     ensures { λ r. ⌜ r ≤ 48 ⌝ }
 {
     let n = r.valid_slots;
-    if from > 48 {
-        return 48;
+    if from > SLOTS {
+        return SLOTS;
     }
-    if n > 48 - from {
-        return 48;
+    if n > SLOTS - from {
+        return SLOTS;
     }
     from + n
 }
 
-fn strip(sheet: &mut [u8; 327680], at: usize, i: usize, from: usize, r: Run) -> usize {
+fn strip(sheet: &mut Sheet, at: usize, i: usize, from: usize, r: Run) -> usize {
     bars::strip(sheet, at, i, from, after(from, r))
 }
 
 // The strips of the runs' letters below the bars.
-fn strips(sheet: &mut [u8; 327680], at: usize, rs: [Run; 4]) -> usize {
+fn strips(sheet: &mut Sheet, at: usize, rs: [Run; 4]) -> usize {
     let a = strip(sheet, at, 0, 0, rs[0]);
     let n = after(0, rs[0]);
     let b = strip(sheet, a, 1, n, rs[1]);
@@ -116,13 +122,7 @@ fn strips(sheet: &mut [u8; 327680], at: usize, rs: [Run; 4]) -> usize {
 }
 
 // The bars of the strained steps of n valid slots.
-fn strain(
-    sheet: &mut [u8; 327680],
-    at: usize,
-    rs: [Run; 4],
-    n: usize,
-    counts: &[u32; 48],
-) -> usize {
+fn strain(sheet: &mut Sheet, at: usize, rs: [Run; 4], n: usize, counts: &[u32; SLOTS]) -> usize {
     let a = put(sheet, at, b"<g transform=\"translate(0 150)\">\n");
     let b = bars::bars(sheet, a, counts, n, b"#3182bd");
     let c = strips(sheet, b, rs);
@@ -130,22 +130,28 @@ fn strain(
     put(sheet, d, b"</g>\n")
 }
 
-fn frame_strip(sheet: &mut [u8; 327680], at: usize, i: usize, r: Run) -> usize {
-    bars::strip(sheet, at, i, r.symbol_start / 812, r.symbol_end / 812)
+fn frame_strip(sheet: &mut Sheet, at: usize, i: usize, r: Run) -> usize {
+    bars::strip(
+        sheet,
+        at,
+        i,
+        r.symbol_start / SLOT_SYMBOLS,
+        r.symbol_end / SLOT_SYMBOLS,
+    )
 }
 
-// The strips of the runs' letters below the 48 slots of the frame.
-fn frame_strips(sheet: &mut [u8; 327680], at: usize, rs: [Run; 4]) -> usize {
+// The strips of the runs' letters below the slots of the frame.
+fn frame_strips(sheet: &mut Sheet, at: usize, rs: [Run; 4]) -> usize {
     let a = frame_strip(sheet, at, 0, rs[0]);
     let b = frame_strip(sheet, a, 1, rs[1]);
     let c = frame_strip(sheet, b, 2, rs[2]);
     frame_strip(sheet, c, 3, rs[3])
 }
 
-// The bars of the points outside the margins of the 48 slots of the frame.
-fn misses(sheet: &mut [u8; 327680], at: usize, rs: [Run; 4], outside: &[u32; 48]) -> usize {
+// The bars of the points outside the margins of the slots of the frame.
+fn misses(sheet: &mut Sheet, at: usize, rs: [Run; 4], outside: &[u32; SLOTS]) -> usize {
     let a = put(sheet, at, b"<g transform=\"translate(0 640)\">\n");
-    let b = bars::bars(sheet, a, outside, 48, b"#de2d26");
+    let b = bars::bars(sheet, a, outside, SLOTS, b"#de2d26");
     let c = frame_strips(sheet, b, rs);
     put(
         sheet,
@@ -155,7 +161,7 @@ fn misses(sheet: &mut [u8; 327680], at: usize, rs: [Run; 4], outside: &[u32; 48]
 }
 
 // What the squares and boxes of the panels are.
-fn legend(sheet: &mut [u8; 327680], at: usize) -> usize {
+fn legend(sheet: &mut Sheet, at: usize) -> usize {
     let a = put(
         sheet,
         at,
@@ -180,11 +186,11 @@ fn legend(sheet: &mut [u8; 327680], at: usize) -> usize {
 
 // Draws the upper part on a sheet, and answers the place after it.
 pub fn draw_head(
-    sheet: &mut [u8; 327680],
+    sheet: &mut Sheet,
     name: &[u8],
     f: Facts,
-    counts: &[u32; 48],
-    outside: &[u32; 48],
+    counts: &[u32; SLOTS],
+    outside: &[u32; SLOTS],
 ) -> usize {
     let t = f.table;
     let all = slots::runs(t);

@@ -1,83 +1,55 @@
 // The bench program's commands, on a line of words that are separated by 0 bytes. Reports go to standard output; the last line is ok, or
 // begins with doubtful, refused or failed. A crate for each command.
+pub use bench_line::space::LINE_BYTES;
 use bench_line::words::part;
+use bench_line::words::parts;
 use bench_line::words::same;
 use bench_setting::usage;
 
 // Puts src into dst from `at` on, as far as it goes, and answers where it ends.
-pub fn put(dst: &mut [u8; 4096], at: usize, src: &[u8]) -> usize {
+pub fn put(dst: &mut [u8; LINE_BYTES], at: usize, src: &[u8]) -> usize {
     bench_files::files::put(dst, at, src)
 }
 
-// Whether a word asks for help.
-fn is_help(word: &[u8]) -> bool {
-    if same(word, b"help") {
-        return true;
+// Which part of a list a word is; the end of the list where it is none.
+fn place_of(list: &[u8], word: &[u8]) -> usize {
+    let n = parts(list, b' ');
+    let mut i: usize = 0;
+    while i < n {
+        if same(part(list, b' ', i), word) {
+            break;
+        }
+        i = i + 1;
     }
-    if same(word, b"--help") {
-        return true;
-    }
-    same(word, b"-h")
+    i
 }
 
-// Runs the command of a line.
+// The place of a command's word among all of them.
+fn command_of(word: &[u8]) -> usize {
+    place_of(
+        b"make read judge compare lay part bytes series mend overlay version help --help -h",
+        word,
+    )
+}
+
+// Runs the command of a line, by its place.
 pub fn run(line: &[u8]) {
-    let command = part(line, 0, 0);
-    if same(command, b"make") {
-        bench_make::make(line);
-        return;
+    let word = part(line, 0, 0);
+    match command_of(word) {
+        0 => bench_make::make(line),
+        1 => bench_read::read(line),
+        2 => bench_judge::judge(line),
+        3 => bench_compare::compare(line),
+        4 => bench_full::lay(line),
+        5 => bench_full::take_apart(line),
+        6 => bench_wanted::bytes(line),
+        7 => bench_series::series(line),
+        8 => bench_mend::mend(line),
+        9 => bench_overlay::overlay(line),
+        10 => usage::version(),
+        11..=13 => usage::help(),
+        _ => usage::misused(b"there is no command", word),
     }
-    if same(command, b"read") {
-        bench_read::read(line);
-        return;
-    }
-    if same(command, b"judge") {
-        bench_judge::judge(line);
-        return;
-    }
-    if same(command, b"compare") {
-        bench_compare::compare(line);
-        return;
-    }
-    if same(command, b"lay") {
-        bench_full::lay(line);
-        return;
-    }
-    if same(command, b"part") {
-        bench_full::take_apart(line);
-        return;
-    }
-    if same(command, b"bytes") {
-        bench_wanted::bytes(line);
-        return;
-    }
-    if same(command, b"series") {
-        bench_series::series(line);
-        return;
-    }
-    run_other(line);
-}
-
-// Runs a command that is none of those on frames.
-fn run_other(line: &[u8]) {
-    let command = part(line, 0, 0);
-    if same(command, b"mend") {
-        bench_mend::mend(line);
-        return;
-    }
-    if same(command, b"overlay") {
-        bench_overlay::overlay(line);
-        return;
-    }
-    if is_help(command) {
-        usage::help();
-        return;
-    }
-    if same(command, b"version") {
-        usage::version();
-        return;
-    }
-    usage::misused(b"there is no command", command);
 }
 
 // Runs the demonstration.
@@ -86,8 +58,8 @@ pub fn demonstrate() {
 }
 
 // Runs the command in the first n bytes of a buffer.
-pub fn run_first(line: &[u8; 4096], n: usize) {
-    if n >= 4096 {
+pub fn run_first(line: &[u8; LINE_BYTES], n: usize) {
+    if n >= LINE_BYTES {
         usage::misused(b"the words are longer than 4,095 bytes together", b"");
         return;
     }

@@ -1,5 +1,6 @@
 // The bench program's command on stored coded stretches: mend.
 use bench_files::files;
+use bench_line::space::LOAD_SPACE;
 use bench_line::words::Number;
 use bench_line::words::digits;
 use bench_line::words::front;
@@ -7,30 +8,20 @@ use bench_line::words::part;
 use bench_line::words::parts;
 use bench_setting::usage::misused;
 use bench_words::report;
-use bench_words::text::count;
-use bench_words::text::quoted;
+use bench_words::text::file;
+use bench_words::text::say;
 use bench_words::text::text;
 use refusal::Answer;
-
-// A file of n bits, by what it holds and its name.
-fn bits_of(kind: &[u8], name: &[u8], n: usize) {
-    text(kind);
-    text(b" ");
-    quoted(name);
-    text(b": ");
-    count(n);
-    text(b" bits\n");
-}
+use trellis::FRAME_WORDS;
 
 // A position in words.
 fn position(place: u32) {
+    let step = (place / 2) as usize;
     if place % 2 == 0 {
-        text(b"  X of step ");
+        say(b"  X of step $\n", &[step]);
     } else {
-        text(b"  Y of step ");
+        say(b"  Y of step $\n", &[step]);
     }
-    count((place / 2) as usize);
-    text(b"\n");
 }
 
 fn position_at(list: [u32; 4], n: usize, i: usize) {
@@ -47,9 +38,7 @@ fn changes(list: [u32; 4], n: usize) {
         text(b"no bit is changed\n");
         return;
     }
-    text(b"bits changed: ");
-    count(n);
-    text(b"\n");
+    say(b"bits changed: $\n", &[n]);
     position_at(list, n, 0);
     position_at(list, n, 1);
     position_at(list, n, 2);
@@ -73,20 +62,19 @@ fn mend_read(
     start: u8,
     end: u8,
     output: &[u8],
-    decisions: &mut [u64; 4224],
-    out: &mut [u8; 9745],
+    decisions: &mut [u64; FRAME_WORDS],
+    out: &mut [u8; LOAD_SPACE],
 ) {
     let mut list = [0u32; 4];
     let m = mend::mend(stored, start, end, decisions, out, &mut list);
     let answer = m.answer;
-    if refusal::number(answer) != 0 {
+    let Answer::Accepted = answer else {
         refuse(answer);
         return;
-    }
+    };
     changes(list, m.count);
     if files::write_bytes(output, front(out, stored.len())) {
-        bits_of(b"mended", output, stored.len());
-        text(b"ok\n");
+        file(b"mended", output, stored.len(), b" bits\nok\n");
     }
 }
 
@@ -95,29 +83,25 @@ fn mend_file(
     line: &[u8],
     start: u8,
     end: u8,
-    decisions: &mut [u64; 4224],
-    bits: &mut [u8; 9745],
-    out: &mut [u8; 9745],
+    decisions: &mut [u64; FRAME_WORDS],
+    bits: &mut [u8; LOAD_SPACE],
+    out: &mut [u8; LOAD_SPACE],
 ) {
     let input = part(line, 0, 3);
     let output = part(line, 0, 4);
-    let file = files::open_for(input, output);
-    if file < 0 {
-        return;
-    }
-    let got = files::read_bytes(file, input, bits);
+    let got = files::bytes_for(input, output, bits);
     if !got.well {
         return;
     }
-    bits_of(b"stretch", input, got.count);
+    file(b"stretch", input, got.count, b" bits\n");
     mend_read(front(bits, got.count), start, end, output, decisions, out);
 }
 
 // The same, on space of its own.
 fn mend_in_space(line: &[u8], start: u8, end: u8) {
-    let mut decisions = [0u64; 4224];
-    let mut bits = [0u8; 9745];
-    let mut out = [0u8; 9745];
+    let mut decisions = [0u64; FRAME_WORDS];
+    let mut bits = [0u8; LOAD_SPACE];
+    let mut out = [0u8; LOAD_SPACE];
     mend_file(line, start, end, &mut decisions, &mut bits, &mut out);
 }
 

@@ -1,43 +1,32 @@
 // The bench program's command overlay: the exclusive-or of two loads.
 use bench_files::files;
 use bench_files::files::Got;
+use bench_line::space::LOAD_BYTES;
+use bench_line::space::LOAD_SPACE;
 use bench_line::words::front;
 use bench_line::words::part;
 use bench_line::words::parts;
 use bench_setting::usage::misused;
 use bench_words::report;
-use bench_words::text::count;
+use bench_words::text::file;
 use bench_words::text::quoted;
 use bench_words::text::text;
 use refusal::Answer;
 
-// The most bytes of a load.
-const MOST: usize = 9744;
-
 // What was read of a file.
 fn bytes_of(name: &[u8], n: usize) {
-    text(b"load ");
-    quoted(name);
-    if n > MOST {
+    if n > LOAD_BYTES {
+        text(b"load ");
+        quoted(name);
         text(b": more than 9,744 bytes\n");
         return;
     }
-    text(b": ");
-    count(n);
-    text(b" bytes\n");
+    file(b"load", name, n, b" bytes\n");
 }
 
 // Reads an input, where the output may be written.
-fn read(input: &[u8], output: &[u8], bytes: &mut [u8; 9745]) -> Got {
-    let file = files::open_for(input, output);
-    if file < 0 {
-        return Got {
-            well: false,
-            count: 0,
-            over: 0,
-        };
-    }
-    let got = files::read_bytes(file, input, bytes);
+fn read(input: &[u8], output: &[u8], bytes: &mut [u8; LOAD_SPACE]) -> Got {
+    let got = files::bytes_for(input, output, bytes);
     if got.well {
         bytes_of(input, got.count);
     }
@@ -48,11 +37,7 @@ fn read(input: &[u8], output: &[u8], bytes: &mut [u8; 9745]) -> Got {
 fn keep(name: &[u8], bytes: &[u8]) {
     text(b"writing the exclusive-or\n");
     if files::write_bytes(name, bytes) {
-        text(b"overlaid ");
-        quoted(name);
-        text(b": ");
-        count(bytes.len());
-        text(b" bytes\nok\n");
+        file(b"overlaid", name, bytes.len(), b" bytes\nok\n");
     }
 }
 
@@ -67,11 +52,11 @@ fn overlay_read(
     n: usize,
     m: usize,
     output: &[u8],
-    first: &[u8; 9745],
-    second: &[u8; 9745],
-    sum: &mut [u8; 9745],
+    first: &[u8; LOAD_SPACE],
+    second: &[u8; LOAD_SPACE],
+    sum: &mut [u8; LOAD_SPACE],
 ) {
-    if n > MOST || m > MOST {
+    if n > LOAD_BYTES || m > LOAD_BYTES {
         refuse(Answer::Length, b"a load has at most 9,744 bytes");
         return;
     }
@@ -85,9 +70,9 @@ fn overlay_read(
 
 fn overlay_files(
     line: &[u8],
-    first: &mut [u8; 9745],
-    second: &mut [u8; 9745],
-    sum: &mut [u8; 9745],
+    first: &mut [u8; LOAD_SPACE],
+    second: &mut [u8; LOAD_SPACE],
+    sum: &mut [u8; LOAD_SPACE],
 ) {
     let output = part(line, 0, 3);
     let a = read(part(line, 0, 1), output, first);
@@ -107,8 +92,8 @@ pub fn overlay(line: &[u8]) {
         misused(b"overlay takes LOAD1 LOAD2 OUT", b"");
         return;
     }
-    let mut first = [0u8; 9745];
-    let mut second = [0u8; 9745];
-    let mut sum = [0u8; 9745];
+    let mut first = [0u8; LOAD_SPACE];
+    let mut second = [0u8; LOAD_SPACE];
+    let mut sum = [0u8; LOAD_SPACE];
     overlay_files(line, &mut first, &mut second, &mut sum);
 }

@@ -4,11 +4,13 @@ mod squares;
 use crate::squares::squares;
 use bench_bars::bars::letter;
 use bench_bars::form::fill;
+use bench_sheet::Sheet;
+use bench_sheet::Squares;
 use bench_sheet::put;
 use isdbs_core::combination::Combination;
 use isdbs_core::combination::Modulation;
 
-fn combination(sheet: &mut [u8; 327680], at: usize, c: Combination) -> usize {
+fn combination(sheet: &mut Sheet, at: usize, c: Combination) -> usize {
     match c {
         Combination::Bpsk1_2 => put(sheet, at, b"BPSK 1/2"),
         Combination::Qpsk1_2 => put(sheet, at, b"QPSK 1/2"),
@@ -21,7 +23,7 @@ fn combination(sheet: &mut [u8; 327680], at: usize, c: Combination) -> usize {
 }
 
 // Demand 3's margins, as boxes around (0, 0): a part of 0 within 8, of 1 from 248 to 264, of 0.7071 from 174 to 188. BPSK's imaginary part is free.
-fn margins(sheet: &mut [u8; 327680], at: usize, m: Modulation) -> usize {
+fn margins(sheet: &mut Sheet, at: usize, m: Modulation) -> usize {
     match m {
         Modulation::Bpsk => put(sheet, at, b"M248 -384h16v768h-16zM-264 -384h16v768h-16z"),
         Modulation::Qpsk => put(
@@ -38,7 +40,7 @@ fn margins(sheet: &mut [u8; 327680], at: usize, m: Modulation) -> usize {
 }
 
 // The ideal points, as crosses around (0, 0).
-fn ideal(sheet: &mut [u8; 327680], at: usize, m: Modulation) -> usize {
+fn ideal(sheet: &mut Sheet, at: usize, m: Modulation) -> usize {
     match m {
         Modulation::Bpsk => put(sheet, at, b"M251 0h10M256 -5v10M-261 0h10M-256 -5v10"),
         Modulation::Qpsk => put(
@@ -55,7 +57,7 @@ fn ideal(sheet: &mut [u8; 327680], at: usize, m: Modulation) -> usize {
 }
 
 // Margins and ideal points over the squares; the end of the panel.
-pub fn overlay(sheet: &mut [u8; 327680], at: usize, m: Modulation) -> usize {
+pub fn overlay(sheet: &mut Sheet, at: usize, m: Modulation) -> usize {
     let a = put(
         sheet,
         at,
@@ -67,21 +69,16 @@ pub fn overlay(sheet: &mut [u8; 327680], at: usize, m: Modulation) -> usize {
     put(sheet, d, b"\"/>\n</g>\n</g>\n")
 }
 
-fn out_of_view(sheet: &mut [u8; 327680], at: usize, n: usize) -> usize {
+fn out_of_view(sheet: &mut Sheet, at: usize, n: usize) -> usize {
     if n == 0 {
         return at;
     }
-    fill(
-        sheet,
-        at,
-        b"; $ beyond 1.5, drawn at the edge",
-        [n, 0, 0, 0, 0, 0],
-    )
+    fill(sheet, at, b"; $ beyond 1.5, drawn at the edge", &[n])
 }
 
 // The line above the panel of run i.
 pub fn title(
-    sheet: &mut [u8; 327680],
+    sheet: &mut Sheet,
     at: usize,
     i: usize,
     c: Combination,
@@ -92,13 +89,13 @@ pub fn title(
     let b = letter(sheet, a, i);
     let d = put(sheet, b, b": ");
     let e = combination(sheet, d, c);
-    let f = fill(sheet, e, b", $ points", [points, 0, 0, 0, 0, 0]);
+    let f = fill(sheet, e, b", $ points", &[points]);
     let g = out_of_view(sheet, f, beyond);
     put(sheet, g, b"</text>\n")
 }
 
 // The border, and lines at -1, 0 and 1.
-pub fn grid(sheet: &mut [u8; 327680], at: usize) -> usize {
+pub fn grid(sheet: &mut Sheet, at: usize) -> usize {
     put(
         sheet,
         at,
@@ -107,7 +104,7 @@ pub fn grid(sheet: &mut [u8; 327680], at: usize) -> usize {
 }
 
 // The words of both axes.
-pub fn axes(sheet: &mut [u8; 327680], at: usize) -> usize {
+pub fn axes(sheet: &mut Sheet, at: usize) -> usize {
     let a = put(
         sheet,
         at,
@@ -126,7 +123,7 @@ pub fn axes(sheet: &mut [u8; 327680], at: usize) -> usize {
 }
 
 // The squares of the points within their margins, which were gathered. A stroke lies in the middle of its row.
-pub fn within(sheet: &mut [u8; 327680], at: usize, bins: &[u32; 36864]) -> usize {
+pub fn within(sheet: &mut Sheet, at: usize, bins: &Squares) -> usize {
     let a = put(sheet, at, b"<g transform=\"translate(0 2) scale(4)\">\n");
     let b = squares(sheet, a, bins, 1, b"#9ecae1");
     let c = squares(sheet, b, bins, 2, b"#6baed6");
@@ -135,7 +132,7 @@ pub fn within(sheet: &mut [u8; 327680], at: usize, bins: &[u32; 36864]) -> usize
 }
 
 // The squares of those outside.
-pub fn outside(sheet: &mut [u8; 327680], at: usize, bins: &[u32; 36864]) -> usize {
+pub fn outside(sheet: &mut Sheet, at: usize, bins: &Squares) -> usize {
     let a = squares(sheet, at, bins, 1, b"#fcae91");
     let b = squares(sheet, a, bins, 2, b"#fb6a4a");
     let c = squares(sheet, b, bins, 3, b"#de2d26");

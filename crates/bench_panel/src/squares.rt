@@ -1,5 +1,8 @@
 // Squares of 1/64 by 1/64, shaded by how many points lie in each.
 use bench_bars::form::fill;
+use bench_sheet::BINS;
+use bench_sheet::Sheet;
+use bench_sheet::Squares;
 use bench_sheet::put;
 ghost use Prim.Native.Nat.{_<_};
 
@@ -15,29 +18,29 @@ fn shade(n: u32) -> usize {
 }
 
 // A square at (x, y), as a stroke after one that ended at `from`, which is 0 where there is none in this row.
-fn square(sheet: &mut [u8; 327680], at: usize, from: usize, x: usize, y: usize) -> usize {
+fn square(sheet: &mut Sheet, at: usize, from: usize, x: usize, y: usize) -> usize {
     if from == x {
         if x > 0 {
             return put(sheet, at, b"h1");
         }
     }
     if from == 0 {
-        return fill(sheet, at, b"M@ @h1", [x, y, 0, 0, 0, 0]);
+        return fill(sheet, at, b"M@ @h1", &[x, y]);
     }
     if from > x {
         return at;
     }
-    fill(sheet, at, b"m@ 0h1", [x - from, 0, 0, 0, 0, 0])
+    fill(sheet, at, b"m@ 0h1", &[x - from])
 }
 
 // The squares of one shade in row y.
-fn row(sheet: &mut [u8; 327680], at: usize, bins: &[u32; 36864], y: usize, which: usize) -> usize
+fn row(sheet: &mut Sheet, at: usize, bins: &Squares, y: usize, which: usize) -> usize
     requires { ⌜ y < 192 ⌝ }
 {
     let mut place = at;
     let mut from: usize = 0;
-    for x in 0..192usize {
-        if shade(bins[192 * y + x]) == which {
+    for x in 0..BINS {
+        if shade(bins[BINS * y + x]) == which {
             place = square(sheet, place, from, x, y);
             from = x + 1;
         }
@@ -47,16 +50,16 @@ fn row(sheet: &mut [u8; 327680], at: usize, bins: &[u32; 36864], y: usize, which
 
 // The squares of one shade, in units of a square.
 pub(crate) fn squares(
-    sheet: &mut [u8; 327680],
+    sheet: &mut Sheet,
     at: usize,
-    bins: &[u32; 36864],
+    bins: &Squares,
     which: usize,
     colour: &[u8],
 ) -> usize {
     let a = put(sheet, at, b"<path stroke=\"");
     let b = put(sheet, a, colour);
     let mut place = put(sheet, b, b"\" d=\"");
-    for y in 0..192usize {
+    for y in 0..BINS {
         place = row(sheet, place, bins, y, which);
     }
     put(sheet, place, b"\"/>\n")

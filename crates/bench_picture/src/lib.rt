@@ -6,11 +6,16 @@ use bench_line::words::front;
 use bench_line::words::part;
 use bench_setting::choice::Reading;
 use bench_setting::choice::picture_of;
+use bench_sheet::BINS;
+use bench_sheet::SHEET_BYTES;
+use bench_sheet::Sheet;
 use bench_words::report;
-use bench_words::text::count;
-use bench_words::text::quoted;
+use bench_words::text::file;
 use bench_words::text::text;
+use isdbs_core::frame::MAIN_SYMBOLS;
+use isdbs_core::frame::SLOTS;
 use isdbs_phy::demod::encode_frame;
+use refusal::Answer;
 
 // Whether the bytes and the picture can be staged side by side; else says why not. No name: no picture.
 pub fn are_apart(output: &[u8], picture: &[u8]) -> bool {
@@ -52,28 +57,19 @@ fn write_both(output: &[u8], bytes: &[u8], picture: &[u8], drawn: &[u8]) -> bool
     files::keep(picture)
 }
 
-// A file that was written.
-fn written(kind: &[u8], name: &[u8], n: usize) {
-    text(kind);
-    quoted(name);
-    text(b": ");
-    count(n);
-    text(b" bytes\n");
-}
-
 // Writes the bytes and the first n bytes of a sheet with the picture, where it fits on the sheet.
-fn keep_both(line: &[u8], bytes: &[u8], sheet: &[u8; 327680], n: usize) -> bool {
+fn keep_both(line: &[u8], bytes: &[u8], sheet: &Sheet, n: usize) -> bool {
     let output = part(line, 0, 5);
     let picture = picture_of(line);
-    if n > 327680 {
+    if n > SHEET_BYTES {
         text(b"failed: the picture is too large\n");
         return false;
     }
     if !write_both(output, bytes, picture, front(sheet, n)) {
         return false;
     }
-    written(b"bytes ", output, bytes.len());
-    written(b"picture ", picture, n);
+    file(b"bytes", output, bytes.len(), b" bytes\n");
+    file(b"picture", picture, n, b" bytes\n");
     true
 }
 
@@ -82,15 +78,15 @@ fn keep_drawn(
     f: Facts,
     line: &[u8],
     bytes: &[u8],
-    counts: &[u32; 48],
-    outside: &[u32; 48],
-    re: &[f64; 38976],
-    im: &[f64; 38976],
-    clean_re: &[f64; 38976],
-    clean_im: &[f64; 38976],
+    counts: &[u32; SLOTS],
+    outside: &[u32; SLOTS],
+    re: &[f64; MAIN_SYMBOLS],
+    im: &[f64; MAIN_SYMBOLS],
+    clean_re: &[f64; MAIN_SYMBOLS],
+    clean_im: &[f64; MAIN_SYMBOLS],
 ) -> bool {
-    let mut sheet = [0u8; 327680];
-    let mut bins = [0u32; 36864];
+    let mut sheet = [0u8; SHEET_BYTES];
+    let mut bins = [0u32; BINS * BINS];
     let n = draw(
         &mut sheet,
         &mut bins,
@@ -110,16 +106,16 @@ fn keep_drawn(
 fn encode(
     s: Reading,
     bytes: &[u8],
-    clean_re: &mut [f64; 38976],
-    clean_im: &mut [f64; 38976],
+    clean_re: &mut [f64; MAIN_SYMBOLS],
+    clean_im: &mut [f64; MAIN_SYMBOLS],
 ) -> bool {
     let t = s.table;
     let m = s.mapping;
     let answer = encode_frame(bytes, t, s.first, m, clean_re, clean_im);
-    if refusal::number(answer) != 0 {
+    let Answer::Accepted = answer else {
         report::refuse(answer);
         return false;
-    }
+    };
     true
 }
 
@@ -129,13 +125,13 @@ fn keep_encoded(
     f: Facts,
     line: &[u8],
     bytes: &[u8],
-    counts: &[u32; 48],
-    outside: &[u32; 48],
-    re: &[f64; 38976],
-    im: &[f64; 38976],
+    counts: &[u32; SLOTS],
+    outside: &[u32; SLOTS],
+    re: &[f64; MAIN_SYMBOLS],
+    im: &[f64; MAIN_SYMBOLS],
 ) -> bool {
-    let mut clean_re = [0.0f64; 38976];
-    let mut clean_im = [0.0f64; 38976];
+    let mut clean_re = [0.0f64; MAIN_SYMBOLS];
+    let mut clean_im = [0.0f64; MAIN_SYMBOLS];
     if !encode(s, bytes, &mut clean_re, &mut clean_im) {
         return false;
     }
@@ -157,7 +153,7 @@ fn keep_bytes(output: &[u8], bytes: &[u8]) -> bool {
     if !files::write_bytes(output, bytes) {
         return false;
     }
-    written(b"bytes ", output, bytes.len());
+    file(b"bytes", output, bytes.len(), b" bytes\n");
     true
 }
 
@@ -167,10 +163,10 @@ pub fn keep(
     f: Facts,
     line: &[u8],
     bytes: &[u8],
-    counts: &[u32; 48],
-    outside: &[u32; 48],
-    re: &[f64; 38976],
-    im: &[f64; 38976],
+    counts: &[u32; SLOTS],
+    outside: &[u32; SLOTS],
+    re: &[f64; MAIN_SYMBOLS],
+    im: &[f64; MAIN_SYMBOLS],
 ) -> bool {
     if picture_of(line).len() == 0 {
         return keep_bytes(part(line, 0, 5), bytes);

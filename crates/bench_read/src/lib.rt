@@ -2,6 +2,8 @@
 use bench_chart::Facts;
 use bench_files::files;
 use bench_files::files::Got;
+use bench_line::space::BIT_SPACE;
+use bench_line::space::LOAD_SPACE;
 use bench_line::words::front;
 use bench_line::words::front_parts;
 use bench_line::words::part;
@@ -13,14 +15,17 @@ use bench_setting::choice::picture_of;
 use bench_setting::choice::reading_of;
 use bench_words::report;
 use bench_words::report::Valid;
-use bench_words::text::count;
-use bench_words::text::quoted;
+use bench_words::text::file;
+use bench_words::text::say;
 use bench_words::text::text;
+use isdbs_core::frame::MAIN_SYMBOLS;
+use isdbs_core::frame::SLOTS;
 use isdbs_phy::demod::DemodOptions;
 use isdbs_phy::demod::FrameDecoded;
 use isdbs_phy::demod::decode_frame;
 use judge::FrameJudged;
 use judge::judge;
+use trellis::FRAME_WORDS;
 
 fn is_eight(x: f32) -> bool {
     x == 8.0f32
@@ -35,11 +40,9 @@ fn is_plain(s: Reading) -> bool {
 }
 
 // Reports what was read, and the verdict on it.
-fn tell(s: Reading, f: Facts, counts: &[u32; 48], outside: &[u32; 48]) {
+fn tell(s: Reading, f: Facts, counts: &[u32; SLOTS], outside: &[u32; SLOTS]) {
     let t = f.table;
-    text(b"decoded: ");
-    count(f.steps);
-    text(b" trellis steps\n");
+    say(b"decoded: $ trellis steps\n", &[f.steps]);
     bench_strain::by_slot(t, counts);
     bench_strain::in_all(f.steps, f.strained);
     if !is_plain(s) {
@@ -55,9 +58,9 @@ fn judge_bytes(
     s: Reading,
     points: usize,
     bytes: &[u8],
-    re: &[f64; 38976],
-    im: &[f64; 38976],
-    outside: &mut [u32; 48],
+    re: &[f64; MAIN_SYMBOLS],
+    im: &[f64; MAIN_SYMBOLS],
+    outside: &mut [u32; SLOTS],
 ) -> FrameJudged {
     let t = s.table;
     let m = s.mapping;
@@ -80,12 +83,12 @@ fn conclude(
     steps: usize,
     strained: u32,
     bytes: &[u8],
-    counts: &[u32; 48],
-    re: &[f64; 38976],
-    im: &[f64; 38976],
+    counts: &[u32; SLOTS],
+    re: &[f64; MAIN_SYMBOLS],
+    im: &[f64; MAIN_SYMBOLS],
 ) {
     let table = s.table;
-    let mut outside = [0u32; 48];
+    let mut outside = [0u32; SLOTS];
     let judged = judge_bytes(s, points, bytes, re, im, &mut outside);
     match judged {
         FrameJudged::Judged(sum) => {
@@ -109,12 +112,12 @@ fn conclude(
 fn decode(
     s: Reading,
     n: usize,
-    re: &[f64; 38976],
-    im: &[f64; 38976],
-    decisions: &mut [u64; 4224],
-    bits: &mut [u8; 68224],
-    bytes: &mut [u8; 9745],
-    counts: &mut [u32; 48],
+    re: &[f64; MAIN_SYMBOLS],
+    im: &[f64; MAIN_SYMBOLS],
+    decisions: &mut [u64; FRAME_WORDS],
+    bits: &mut [u8; BIT_SPACE],
+    bytes: &mut [u8; LOAD_SPACE],
+    counts: &mut [u32; SLOTS],
 ) -> FrameDecoded {
     let t = s.table;
     let mapping = s.mapping;
@@ -142,14 +145,14 @@ fn read_points(
     s: Reading,
     line: &[u8],
     points: Got,
-    re: &[f64; 38976],
-    im: &[f64; 38976],
-    decisions: &mut [u64; 4224],
-    bits: &mut [u8; 68224],
-    bytes: &mut [u8; 9745],
+    re: &[f64; MAIN_SYMBOLS],
+    im: &[f64; MAIN_SYMBOLS],
+    decisions: &mut [u64; FRAME_WORDS],
+    bits: &mut [u8; BIT_SPACE],
+    bytes: &mut [u8; LOAD_SPACE],
 ) {
     let n = points.count;
-    let mut counts = [0u32; 48];
+    let mut counts = [0u32; SLOTS];
     let done = decode(s, n, re, im, decisions, bits, bytes, &mut counts);
     match done {
         FrameDecoded::Decoded(size, steps, strained) => conclude(
@@ -168,10 +171,16 @@ fn read_points(
 }
 
 // The same, on space of its own.
-fn read_in_space(s: Reading, line: &[u8], points: Got, re: &[f64; 38976], im: &[f64; 38976]) {
-    let mut decisions = [0u64; 4224];
-    let mut bits = [0u8; 68224];
-    let mut bytes = [0u8; 9745];
+fn read_in_space(
+    s: Reading,
+    line: &[u8],
+    points: Got,
+    re: &[f64; MAIN_SYMBOLS],
+    im: &[f64; MAIN_SYMBOLS],
+) {
+    let mut decisions = [0u64; FRAME_WORDS];
+    let mut bits = [0u8; BIT_SPACE];
+    let mut bytes = [0u8; LOAD_SPACE];
     read_points(
         s,
         line,
@@ -185,24 +194,16 @@ fn read_in_space(s: Reading, line: &[u8], points: Got, re: &[f64; 38976], im: &[
 }
 
 // Reads the points of the frame; says what was read.
-fn points_of(line: &[u8], re: &mut [f64; 38976], im: &mut [f64; 38976]) -> Got {
+fn points_of(line: &[u8], re: &mut [f64; MAIN_SYMBOLS], im: &mut [f64; MAIN_SYMBOLS]) -> Got {
     let input = part(line, 0, 4);
-    let file = open(input, part(line, 0, 5), picture_of(line));
-    if file < 0 {
-        return Got {
-            well: false,
-            count: 0,
-            over: 0,
-        };
+    let opened = open(input, part(line, 0, 5), picture_of(line));
+    if opened < 0 {
+        return files::nothing();
     }
     text(b"reading the points\n");
-    let got = files::read_points(file, input, re, im);
+    let got = files::read_points(opened, input, re, im);
     if got.well {
-        text(b"frame ");
-        quoted(input);
-        text(b": ");
-        count(got.count);
-        text(b" points; decoding\n");
+        file(b"frame", input, got.count, b" points; decoding\n");
     }
     got
 }
@@ -212,8 +213,8 @@ fn read_frame(s: Reading, line: &[u8]) {
     if !are_apart(part(line, 0, 5), picture_of(line)) {
         return;
     }
-    let mut re = [0.0f64; 38976];
-    let mut im = [0.0f64; 38976];
+    let mut re = [0.0f64; MAIN_SYMBOLS];
+    let mut im = [0.0f64; MAIN_SYMBOLS];
     let got = points_of(line, &mut re, &mut im);
     if got.well {
         read_in_space(s, line, got, &re, &im);

@@ -1,25 +1,28 @@
 // The bench program's commands, run one after another on files of this folder: what is written is held to the file stdout.
 // The file data/lines has a line for each step: $ and a command of bench; # and words that are shown; or what is done to a file by hand:
 // show NAME, cut NAME SIZE, patch NAME PLACE BYTES (in hexadecimal digits), noise NAME.
+use bench_line::space::LINE_BYTES;
 use bench_line::words::Number;
 use bench_line::words::digits;
 use bench_line::words::front;
 use bench_line::words::part;
 use bench_line::words::parts;
 use bench_line::words::same;
+use isdbs_frame::MAIN_SYMBOLS;
 use libc::STDOUT_FILENO;
 ghost use Prim.Native.Nat.{_≤_};
+
+// The parts of a frame's points.
+const PARTS: usize = 2 * MAIN_SYMBOLS;
 
 // A command's words are separated by 0 bytes.
 fn separated(b: u8) -> u8 {
     if b == b' ' { 0 } else { b }
 }
 
-fn separate(line: &mut [u8; 4096]) {
-    let mut i: usize = 0;
-    while i < 4096 {
+fn separate(line: &mut [u8; LINE_BYTES]) {
+    for i in 0..LINE_BYTES {
         line[i] = separated(line[i]);
-        i = i + 1;
     }
 }
 
@@ -64,9 +67,9 @@ fn nibble(digits: &[u8], i: usize) -> u8
 }
 
 // The bytes of hexadecimal digits, two for each; answers how many.
-fn unhex(digits: &[u8], bytes: &mut [u8; 4096]) -> usize {
+fn unhex(digits: &[u8], bytes: &mut [u8; LINE_BYTES]) -> usize {
     let mut i: usize = 0;
-    while i < 4096 && 2 * i < digits.len() {
+    while i < LINE_BYTES && 2 * i < digits.len() {
         bytes[i] = 16 * nibble(digits, 2 * i) + nibble(digits, 2 * i + 1);
         i = i + 1;
     }
@@ -74,7 +77,7 @@ fn unhex(digits: &[u8], bytes: &mut [u8; 4096]) -> usize {
 }
 
 // Writes the bytes of a line into a file at its place.
-fn write_at(file: i32, line: &[u8], bytes: &mut [u8; 4096]) {
+fn write_at(file: i32, line: &[u8], bytes: &mut [u8; LINE_BYTES]) {
     let n = unhex(part(line, b' ', 3), bytes);
     libc::pwrite(file, front(bytes, n), number(line, 2));
 }
@@ -107,7 +110,7 @@ fn show_some(file: i32) -> bool {
     let mut buffer = io::buffer();
     let n = io::read_full(file, &mut buffer);
     io::write_all(STDOUT_FILENO, &buffer[..n]);
-    n == 4096
+    n == LINE_BYTES
 }
 
 // Shows an open file of up to 100 buffers.
@@ -157,11 +160,9 @@ fn write_part(file: i32, n: u32) {
 
 fn write_noise(file: i32) {
     let mut n: u32 = 1;
-    let mut k: usize = 0;
-    while k < 77952 {
+    for k in 0..PARTS {
         n = next_random(n);
         write_part(file, n);
-        k = k + 1;
     }
 }
 
@@ -225,10 +226,8 @@ fn step(line: &[u8]) {
 
 fn run_lines(lines: &[u8]) {
     let n = parts(lines, b'\n');
-    let mut i: usize = 0;
-    while i < n {
+    for i in 0..n {
         step(part(lines, b'\n', i));
-        i = i + 1;
     }
 }
 

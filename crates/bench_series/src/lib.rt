@@ -1,6 +1,8 @@
 // The bench program's command series: the strained steps of frame after frame, with the total and the greatest of the last frames.
 use bench_files::files;
 use bench_files::files::Got;
+use bench_line::space::BIT_SPACE;
+use bench_line::space::LOAD_SPACE;
 use bench_line::words::Number;
 use bench_line::words::digits;
 use bench_line::words::front_parts;
@@ -11,10 +13,11 @@ use bench_setting::setting::setting_of;
 use bench_setting::usage::misused;
 use bench_words::report;
 use bench_words::report::Valid;
-use bench_words::text::count;
-use bench_words::text::number;
 use bench_words::text::quoted;
+use bench_words::text::say;
 use bench_words::text::text;
+use isdbs_core::frame::MAIN_SYMBOLS;
+use isdbs_core::frame::SLOTS;
 use isdbs_core::tmcc::Table;
 use isdbs_phy::demod::DemodOptions;
 use isdbs_phy::demod::FrameDecoded;
@@ -24,7 +27,11 @@ use refusal::Answer;
 use strain_window::Pushed;
 use strain_window::WindowState;
 use strain_window::push;
+use trellis::FRAME_WORDS;
 ghost use Prim.Native.Nat.{_<_};
+
+// The longest window.
+const LONGEST: usize = 256;
 
 // The words before the first frame: series, WINDOW, TABLE, MAPPING and KIND.
 const BEFORE: usize = 5;
@@ -49,47 +56,37 @@ struct Went {
     state: WindowState,
 }
 
-fn wide(n: u32) -> u64 {
-    n as u64
-}
-
-// n of m frames read.
-fn read_of(n: usize, m: usize) {
-    count(n);
-    text(b" of ");
-    count(m);
-    text(b" frames read");
+fn wide(n: u32) -> usize {
+    n as usize
 }
 
 // The line of a frame that was read.
 fn frame_line(place: Place, name: &[u8], strained: u32, steps: usize, kept: Pushed) {
     let state = kept.state;
     if place.read < place.all {
-        read_of(place.read + 1, place.all);
+        say(b"$ of $ frames read", &[place.read + 1, place.all]);
     }
     text(b": ");
     quoted(name);
-    text(b", ");
-    number(wide(strained));
-    text(b" of ");
-    count(steps);
-    text(b" steps strained; last ");
-    number(wide(state.fill));
-    text(b": total ");
-    number(wide(kept.total));
-    text(b", greatest ");
-    number(wide(kept.greatest));
-    text(b"\n");
+    say(
+        b", $ of $ steps strained; last $: total $, greatest $\n",
+        &[
+            wide(strained),
+            steps,
+            wide(state.fill),
+            wide(kept.total),
+            wide(kept.greatest),
+        ],
+    );
 }
 
 // The line above the last one of a run that a frame's refusal ends.
 fn refused_line(place: Place, name: &[u8], answer: Answer) {
     quoted(name);
-    text(b" is refused by row ");
-    number(wide(refusal::number(answer)));
-    text(b"; before it ");
-    read_of(place.read, place.all);
-    text(b"\n");
+    say(
+        b" is refused by row $; before it $ of $ frames read\n",
+        &[wide(refusal::number(answer)), place.read, place.all],
+    );
 }
 
 fn stopped(state: WindowState) -> Went {
@@ -103,15 +100,15 @@ fn keep(
     steps: usize,
     strained: u32,
     state: WindowState,
-    sums: &mut [u32; 256],
+    sums: &mut [u32; LONGEST],
 ) -> Went {
     let kept = push(state, place.read == 0, strained, sums);
     let answer = kept.answer;
-    if refusal::number(answer) != 0 {
+    let Answer::Accepted = answer else {
         refused_line(place, name, answer);
         report::refuse(answer);
         return stopped(state);
-    }
+    };
     frame_line(place, name, strained, steps, kept);
     let state = kept.state;
     Went { on: true, state }
@@ -121,21 +118,22 @@ fn keep(
 fn decode(
     s: Reading,
     n: usize,
-    re: &[f64; 38976],
-    im: &[f64; 38976],
-    decisions: &mut [u64; 4224],
-    bits: &mut [u8; 68224],
-    bytes: &mut [u8; 9745],
+    re: &[f64; MAIN_SYMBOLS],
+    im: &[f64; MAIN_SYMBOLS],
+    decisions: &mut [u64; FRAME_WORDS],
+    bits: &mut [u8; BIT_SPACE],
+    bytes: &mut [u8; LOAD_SPACE],
 ) -> FrameDecoded {
     let t = s.table;
     let mapping = s.mapping;
-    let scales = [8.0f32; 7];
+    let plain = DemodOptions::default();
+    let scales = plain.scales;
     let o = DemodOptions {
         mapping,
         known_start: true,
         scales,
     };
-    let mut counts = [0u32; 48];
+    let mut counts = [0u32; SLOTS];
     decode_frame(
         front_parts(re, n),
         front_parts(im, n),
@@ -150,14 +148,10 @@ fn decode(
 }
 
 // Reads a file's points.
-fn points_of(name: &[u8], re: &mut [f64; 38976], im: &mut [f64; 38976]) -> Got {
+fn points_of(name: &[u8], re: &mut [f64; MAIN_SYMBOLS], im: &mut [f64; MAIN_SYMBOLS]) -> Got {
     let file = files::open(name);
     if file < 0 {
-        return Got {
-            well: false,
-            count: 0,
-            over: 0,
-        };
+        return files::nothing();
     }
     files::read_points(file, name, re, im)
 }
@@ -168,12 +162,12 @@ fn read_one(
     place: Place,
     name: &[u8],
     state: WindowState,
-    sums: &mut [u32; 256],
-    re: &mut [f64; 38976],
-    im: &mut [f64; 38976],
-    decisions: &mut [u64; 4224],
-    bits: &mut [u8; 68224],
-    bytes: &mut [u8; 9745],
+    sums: &mut [u32; LONGEST],
+    re: &mut [f64; MAIN_SYMBOLS],
+    im: &mut [f64; MAIN_SYMBOLS],
+    decisions: &mut [u64; FRAME_WORDS],
+    bits: &mut [u8; BIT_SPACE],
+    bytes: &mut [u8; LOAD_SPACE],
 ) -> Went {
     let got = points_of(name, re, im);
     if !got.well {
@@ -197,12 +191,12 @@ fn read_all(
     line: &[u8],
     s: Reading,
     words: usize,
-    sums: &mut [u32; 256],
-    re: &mut [f64; 38976],
-    im: &mut [f64; 38976],
-    decisions: &mut [u64; 4224],
-    bits: &mut [u8; 68224],
-    bytes: &mut [u8; 9745],
+    sums: &mut [u32; LONGEST],
+    re: &mut [f64; MAIN_SYMBOLS],
+    im: &mut [f64; MAIN_SYMBOLS],
+    decisions: &mut [u64; FRAME_WORDS],
+    bits: &mut [u8; BIT_SPACE],
+    bytes: &mut [u8; LOAD_SPACE],
 )
     requires { ⌜ 5 < words ⌝ }
 {
@@ -234,28 +228,29 @@ fn fresh(window: u32) -> WindowState {
 }
 
 // Whether a window of this length is taken; else says why not. The sum that is tried is forgotten by the first frame's push.
-fn is_window(window: u32, sums: &mut [u32; 256]) -> bool {
+fn is_window(window: u32, sums: &mut [u32; LONGEST]) -> bool {
     let tried = push(fresh(window), true, 0, sums);
     let answer = tried.answer;
-    if refusal::number(answer) == 0 {
-        return true;
-    }
-    report::refused(answer);
-    text(b"a window is of 1 to 256 frames, not of ");
-    number(wide(window));
-    text(b"\n");
-    false
+    let Answer::Accepted = answer else {
+        report::refused(answer);
+        say(
+            b"a window is of 1 to $ frames, not of $\n",
+            &[LONGEST, wide(window)],
+        );
+        return false;
+    };
+    true
 }
 
 // Reads the frames of a series of `words` words, on space of its own.
-fn read_in_space(line: &[u8], s: Reading, words: usize, sums: &mut [u32; 256])
+fn read_in_space(line: &[u8], s: Reading, words: usize, sums: &mut [u32; LONGEST])
     requires { ⌜ 5 < words ⌝ }
 {
-    let mut re = [0.0f64; 38976];
-    let mut im = [0.0f64; 38976];
-    let mut decisions = [0u64; 4224];
-    let mut bits = [0u8; 68224];
-    let mut bytes = [0u8; 9745];
+    let mut re = [0.0f64; MAIN_SYMBOLS];
+    let mut im = [0.0f64; MAIN_SYMBOLS];
+    let mut decisions = [0u64; FRAME_WORDS];
+    let mut bits = [0u8; BIT_SPACE];
+    let mut bytes = [0u8; LOAD_SPACE];
     read_all(
         line,
         s,
@@ -274,15 +269,14 @@ fn series_of(line: &[u8], s: Reading) {
     if words <= BEFORE {
         return;
     }
-    let mut sums = [0u32; 256];
+    let mut sums = [0u32; LONGEST];
     if !is_window(s.window, &mut sums) {
         return;
     }
-    text(b"window of ");
-    number(wide(s.window));
-    text(b"; a sum of 0 alone does not mean a good frame\n");
-    read_of(0, words - BEFORE);
-    text(b"\n");
+    say(
+        b"window of $; a sum of 0 alone does not mean a good frame\n0 of $ frames read\n",
+        &[wide(s.window), words - BEFORE],
+    );
     read_in_space(line, s, words, &mut sums);
 }
 
@@ -299,7 +293,7 @@ fn reading_by(window: u32, s: Setting) -> Reading {
 
 // bench series WINDOW TABLE MAPPING KIND FRAME..
 pub fn series(line: &[u8]) {
-    if parts(line, 0) < 6 {
+    if parts(line, 0) <= BEFORE {
         misused(b"series takes WINDOW TABLE MAPPING KIND FRAME..", b"");
         return;
     }

@@ -1,7 +1,7 @@
 // The words of read.
 use crate::setting::Setting;
 use crate::setting::no_setting;
-use crate::setting::setting_of;
+use crate::setting::setting_at;
 use crate::usage::misused;
 use bench_line::words;
 use bench_line::words::MaybeScale;
@@ -13,6 +13,9 @@ use isdbs_core::tmcc::Table;
 use isdbs_points::Mapping;
 ghost use Prim.Native.Nat.{_<_};
 
+// A scale for each combination.
+const SCALES: usize = 7;
+
 // How a frame is read, where the words are understood: its scales in the order of words 1 to 7.
 pub struct Reading {
     pub is_good: bool,
@@ -20,17 +23,17 @@ pub struct Reading {
     pub mapping: Mapping,
     pub first: bool,
     pub known_start: bool,
-    pub scales: [f32; 7],
+    pub scales: [f32; SCALES],
 }
 
 // How the reading starts, and its scales.
 struct Choice {
     is_good: bool,
     known_start: bool,
-    scales: [f32; 7],
+    scales: [f32; SCALES],
 }
 
-fn chosen(is_good: bool, known_start: bool, scales: [f32; 7]) -> Choice {
+fn chosen(is_good: bool, known_start: bool, scales: [f32; SCALES]) -> Choice {
     Choice {
         is_good,
         known_start,
@@ -38,12 +41,17 @@ fn chosen(is_good: bool, known_start: bool, scales: [f32; 7]) -> Choice {
     }
 }
 
+// All scales at 8.
+fn at_eight(is_good: bool, known_start: bool) -> Choice {
+    chosen(is_good, known_start, [8.0f32; SCALES])
+}
+
 fn bad_choice(word: &[u8]) -> Choice {
     misused(
         b"after BYTES comes [unknown] [SCALES] [chart FILE], not",
         word,
     );
-    chosen(false, false, [8.0f32; 7])
+    at_eight(false, false)
 }
 
 // A number for all seven.
@@ -52,16 +60,16 @@ fn one_scale(number: &[u8], known_start: bool) -> Choice {
     let MaybeScale::Is(n) = scale else {
         return bad_choice(number);
     };
-    chosen(true, known_start, [n; 7])
+    chosen(true, known_start, [n; SCALES])
 }
 
 // Seven numbers with commas between.
 fn seven_scales(list: &[u8], known_start: bool) -> Choice {
-    if parts(list, b',') != 7 {
+    if parts(list, b',') != SCALES {
         return bad_choice(list);
     }
-    let mut scales = [8.0f32; 7];
-    for i in 0..7 {
+    let mut scales = [8.0f32; SCALES];
+    for i in 0..SCALES {
         let scale = words::scale(part(list, b',', i));
         let MaybeScale::Is(n) = scale else {
             return bad_choice(list);
@@ -89,7 +97,7 @@ fn scale_at(line: &[u8], i: usize, known_start: bool) -> Choice
 // The words of `read` from the sixth on, of which there are n in all.
 fn choice_of(line: &[u8], n: usize) -> Choice {
     if n == 6 {
-        return chosen(true, true, [8.0f32; 7]);
+        return at_eight(true, true);
     }
     if n == 8 {
         return scale_at(line, 6, true);
@@ -98,7 +106,7 @@ fn choice_of(line: &[u8], n: usize) -> Choice {
         return bad_choice(part(line, 0, 6));
     }
     if n == 7 {
-        return chosen(true, false, [8.0f32; 7]);
+        return at_eight(true, false);
     }
     scale_at(line, 7, false)
 }
@@ -133,13 +141,13 @@ fn setting_for(line: &[u8], n: usize) -> Setting {
         );
         return no_setting();
     }
-    setting_of(part(line, 0, 1), part(line, 0, 2), part(line, 0, 3))
+    setting_at(line)
 }
 
 // The words after those, where they were understood.
 fn choice_after(is_good: bool, line: &[u8], n: usize) -> Choice {
     if !is_good {
-        return chosen(false, false, [8.0f32; 7]);
+        return at_eight(false, false);
     }
     choice_of(line, n)
 }

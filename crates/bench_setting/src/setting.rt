@@ -2,6 +2,8 @@
 use crate::usage::misused;
 use bench_line::words;
 use bench_line::words::MaybeMapping;
+use bench_line::words::part;
+use bench_line::words::parts;
 use bench_line::words::same;
 use isdbs_core::tmcc;
 use isdbs_core::tmcc::Table;
@@ -33,10 +35,21 @@ pub(crate) fn no_setting() -> Setting {
     settled(false, table, m, false)
 }
 
-fn bad_setting(table: Table, why: &[u8], word: &[u8]) -> Setting {
+// The same, where a word is not understood.
+fn bad_setting(why: &[u8], word: &[u8]) -> Setting {
     misused(why, word);
-    let m = Mapping::default();
-    settled(false, table, m, false)
+    no_setting()
+}
+
+// The setting of a table and a mapping, where the word of its kind is understood.
+fn setting_by(table: Table, mapping: Mapping, kind: &[u8]) -> Setting {
+    if same(kind, b"first") {
+        return settled(true, table, mapping, true);
+    }
+    if same(kind, b"other") {
+        return settled(true, table, mapping, false);
+    }
+    bad_setting(b"this is no KIND:", kind)
 }
 
 // What three words of a line say.
@@ -44,17 +57,24 @@ pub fn setting_of(table: &[u8], mapping: &[u8], kind: &[u8]) -> Setting {
     let parsed = words::table(table);
     let t = parsed.table;
     if !parsed.is_table {
-        return bad_setting(t, b"this is no TABLE:", table);
+        return bad_setting(b"this is no TABLE:", table);
     }
     let meant = words::mapping(mapping);
     let MaybeMapping::Is(m) = meant else {
-        return bad_setting(t, b"this is no MAPPING:", mapping);
+        return bad_setting(b"this is no MAPPING:", mapping);
     };
-    if same(kind, b"first") {
-        return settled(true, t, m, true);
+    setting_by(t, m, kind)
+}
+
+// What words 1 to 3 of a line say.
+pub fn setting_at(line: &[u8]) -> Setting {
+    setting_of(part(line, 0, 1), part(line, 0, 2), part(line, 0, 3))
+}
+
+// The same of a command that takes two files after them; else `usage` is said.
+pub fn setting_for_two(line: &[u8], usage: &[u8]) -> Setting {
+    if parts(line, 0) != 6 {
+        return bad_setting(usage, b"");
     }
-    if same(kind, b"other") {
-        return settled(true, t, m, false);
-    }
-    bad_setting(t, b"this is no KIND:", kind)
+    setting_at(line)
 }

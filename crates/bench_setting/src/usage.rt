@@ -3,69 +3,38 @@ use bench_words::text::quoted;
 use bench_words::text::text;
 
 fn usage_commands() {
-    text(b"usage:\n");
     text(
-        b"  bench                                                            a demonstration on built-in data\n",
-    );
-    text(
-        b"  bench make TABLE MAPPING KIND LOAD FRAME                         bytes of LOAD to points in FRAME\n",
-    );
-    text(
-        b"  bench read TABLE MAPPING KIND FRAME BYTES [unknown] [SCALES] [chart FILE]\n                                                                   points of FRAME to bytes in BYTES, and to a picture in FILE\n",
-    );
-    text(
-        b"  bench judge TABLE MAPPING KIND FRAME BYTES                       whether the points of FRAME prove the bytes of BYTES\n",
-    );
-    text(
-        b"  bench compare TABLE SENT READ                                    how many bytes agree\n",
-    );
-    text(
-        b"  bench lay HEADER MAIN BURST FULL                                 header, main and burst points to the points of FULL\n",
-    );
-    text(
-        b"  bench part FULL HEADER MAIN BURST                                points of FULL to header, main and burst points\n",
-    );
-    text(
-        b"  bench bytes TABLE MAPPING KIND FRAME BYTES                       the full load behind the points of FRAME to BYTES\n",
-    );
-    text(
-        b"  bench series WINDOW TABLE MAPPING KIND FRAME..                   strained steps of each FRAME; total and greatest of the last WINDOW\n",
-    );
-    text(
-        b"  bench mend START END BITS OUT                                    coded bits of BITS to the coded stretch within four bits in OUT\n",
-    );
-    text(
-        b"  bench overlay LOAD1 LOAD2 OUT                                    the exclusive-or of two loads to OUT\n",
-    );
-    text(b"  bench help                                                       these words\n");
-    text(
-        b"  bench version                                                    the version of the program\n",
+        b"usage:\n  \
+        bench                                                            a demonstration on built-in data\n  \
+        bench make TABLE MAPPING KIND LOAD FRAME                         bytes of LOAD to points in FRAME\n  \
+        bench read TABLE MAPPING KIND FRAME BYTES [unknown] [SCALES] [chart FILE]\n                                                                   \
+        points of FRAME to bytes in BYTES, and to a picture in FILE\n  \
+        bench judge TABLE MAPPING KIND FRAME BYTES                       whether the points of FRAME prove the bytes of BYTES\n  \
+        bench compare TABLE SENT READ                                    how many bytes agree\n  \
+        bench lay HEADER MAIN BURST FULL                                 header, main and burst points to the points of FULL\n  \
+        bench part FULL HEADER MAIN BURST                                points of FULL to header, main and burst points\n  \
+        bench bytes TABLE MAPPING KIND FRAME BYTES                       the full load behind the points of FRAME to BYTES\n  \
+        bench series WINDOW TABLE MAPPING KIND FRAME..                   strained steps of each FRAME; total and greatest of the last WINDOW\n  \
+        bench mend START END BITS OUT                                    coded bits of BITS to the coded stretch within four bits in OUT\n  \
+        bench overlay LOAD1 LOAD2 OUT                                    the exclusive-or of two loads to OUT\n  \
+        bench help                                                       these words\n  \
+        bench version                                                    the version of the program\n",
     );
 }
 
 fn usage_words() {
     text(
-        b"  TABLE    word:slots entries joined by commas, up to four, as 7:44,1:4 (word 0 to 15, slots 0 to 255)\n",
+        b"  TABLE    word:slots entries joined by commas, up to four, as 7:44,1:4 (word 0 to 15, slots 0 to 255)\n  \
+        MAPPING  three digits 0 or 1: conjugate, qpsk_p1_on_q, tc8psk_c1_is_y; 001 is the default reading\n  \
+        KIND     first (of a superframe) or other\n  \
+        FRAME    38,976 points, interleaved little-endian f64 parts; f32 where the name ends in .cf32\n  \
+        HEADER, MAIN, BURST, FULL    192, 38,976, 768 and 39,936 points in the same forms as FRAME\n  \
+        WINDOW   how many of the last frames are summed, 1 to 256\n  \
+        LOAD1, LOAD2    raw bytes, equally many in both, up to 9,744\n  \
+        SCALES   scale N for all, or scales A,B,C,D,E,F,G in the order of words 1 to 7; 8 where they are not given\n  \
+        START, END, BITS    states, taken mod 64; coded bits X, Y of up to 4,096 steps, a byte of 0 or 1 for each\n  \
+        N        a number as 8 or 0.5, up to three digits before and after the point\n",
     );
-    text(
-        b"  MAPPING  three digits 0 or 1: conjugate, qpsk_p1_on_q, tc8psk_c1_is_y; 001 is the default reading\n",
-    );
-    text(b"  KIND     first (of a superframe) or other\n");
-    text(
-        b"  FRAME    38,976 points, interleaved little-endian f64 parts; f32 where the name ends in .cf32\n",
-    );
-    text(
-        b"  HEADER, MAIN, BURST, FULL    192, 38,976, 768 and 39,936 points in the same forms as FRAME\n",
-    );
-    text(b"  WINDOW   how many of the last frames are summed, 1 to 256\n");
-    text(b"  LOAD1, LOAD2    raw bytes, equally many in both, up to 9,744\n");
-    text(
-        b"  SCALES   scale N for all, or scales A,B,C,D,E,F,G in the order of words 1 to 7; 8 where they are not given\n",
-    );
-    text(
-        b"  START, END, BITS    states, taken mod 64; coded bits X, Y of up to 4,096 steps, a byte of 0 or 1 for each\n",
-    );
-    text(b"  N        a number as 8 or 0.5, up to three digits before and after the point\n");
 }
 
 fn usage() {

@@ -1,15 +1,15 @@
 // The strain of a frame that was read: a line for each valid slot with a strained step, and how many there are in all.
 use bench_words::text::combination;
-use bench_words::text::count;
-use bench_words::text::number;
+use bench_words::text::say;
 use bench_words::text::text;
+use isdbs_core::frame::SLOTS;
 use isdbs_core::slots;
 use isdbs_core::slots::Run;
 use isdbs_core::tmcc::Table;
 ghost use Prim.Native.Nat.{_≤_};
 
-fn wide(n: u32) -> u64 {
-    n as u64
+fn wide(n: u32) -> usize {
+    n as usize
 }
 
 // Valid slot k of the frame, which a run has.
@@ -18,26 +18,23 @@ fn slot_line(k: usize, r: Run, strained: u32) {
         return;
     }
     let c = r.combination;
-    text(b"  valid slot ");
-    count(k);
-    text(b", ");
+    say(b"  valid slot $, ", &[k]);
     combination(c);
-    text(b": ");
-    number(wide(strained));
-    text(b" of ");
-    count(c.steps_per_slot());
-    text(b" steps strained\n");
+    say(
+        b": $ of $ steps strained\n",
+        &[wide(strained), c.steps_per_slot()],
+    );
 }
 
 // The line of slot v of a run, which is valid slot k of the frame, if there is such a slot; then the valid slot after it.
-fn slot_in(r: Run, v: usize, k: usize, counts: &[u32; 48]) -> usize
+fn slot_in(r: Run, v: usize, k: usize, counts: &[u32; SLOTS]) -> usize
     requires { ⌜ k ≤ 48 ⌝ }
     ensures { λ r. ⌜ r ≤ 48 ⌝ }
 {
     if v >= r.valid_slots {
         return k;
     }
-    if k >= 48 {
+    if k >= SLOTS {
         return k;
     }
     slot_line(k, r, counts[k]);
@@ -45,19 +42,19 @@ fn slot_in(r: Run, v: usize, k: usize, counts: &[u32; 48]) -> usize
 }
 
 // The valid slots of a run, of which the first is valid slot `from` of the frame; then the first of the next run.
-fn run_lines(r: Run, from: usize, counts: &[u32; 48]) -> usize
+fn run_lines(r: Run, from: usize, counts: &[u32; SLOTS]) -> usize
     requires { ⌜ from ≤ 48 ⌝ }
     ensures { λ r. ⌜ r ≤ 48 ⌝ }
 {
     let mut k = from;
-    for v in 0..48usize {
+    for v in 0..SLOTS {
         k = slot_in(r, v, k, counts);
     }
     k
 }
 
 // The strained slots of a table's frame. The runs past the last have no slot.
-pub fn by_slot(t: Table, counts: &[u32; 48]) {
+pub fn by_slot(t: Table, counts: &[u32; SLOTS]) {
     let all = slots::runs(t);
     let rs = all.runs;
     let a = run_lines(rs[0], 0, counts);
@@ -68,11 +65,7 @@ pub fn by_slot(t: Table, counts: &[u32; 48]) {
 
 // How many steps are strained in all. Without any the frame may still be bad.
 pub fn in_all(steps: usize, strained: u32) {
-    text(b"strained: ");
-    number(wide(strained));
-    text(b" of ");
-    count(steps);
-    text(b" steps");
+    say(b"strained: $ of $ steps", &[wide(strained), steps]);
     if strained == 0 {
         text(b"; that alone does not mean a good frame");
     }

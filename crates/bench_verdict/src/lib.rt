@@ -1,15 +1,12 @@
 // The verdict in words: whether the points of a frame prove the bytes that were read, or those at hand.
 use bench_words::text::count;
-use bench_words::text::number;
+use bench_words::text::say;
 use bench_words::text::text;
+use isdbs_frame::SLOTS;
 ghost use Prim.Native.Nat.{_≤_};
 
 // More slots than these are counted and not named.
 const NAMED: usize = 8;
-
-fn wide(n: u32) -> u64 {
-    n as u64
-}
 
 fn tally(so: bool) -> usize
     ensures { λ r. ⌜ r ≤ 1 ⌝ }
@@ -18,11 +15,11 @@ fn tally(so: bool) -> usize
 }
 
 // How many of the counts are not 0.
-fn counted(counts: &[u32; 48]) -> usize
+fn counted(counts: &[u32; SLOTS]) -> usize
     ensures { λ r. ⌜ r ≤ 48 ⌝ }
 {
     let mut n: usize = 0;
-    for k in 0..48usize {
+    for k in 0..SLOTS {
         n = n + tally(counts[k] != 0);
     }
     n
@@ -47,23 +44,22 @@ fn slot_name(n: usize, left: usize, k: usize, amount: u32) -> usize {
     left - 1
 }
 
-fn slot_names(counts: &[u32; 48], n: usize) {
+fn slot_names(counts: &[u32; SLOTS], n: usize) {
     let mut left = n;
-    for k in 0..48usize {
+    for k in 0..SLOTS {
         left = slot_name(n, left, k, counts[k]);
     }
 }
 
 // In which slots the counts are not 0.
-fn places(counts: &[u32; 48], kind: &[u8]) {
+fn places(counts: &[u32; SLOTS], kind: &[u8]) {
     let n = counted(counts);
     if n == 0 {
         return;
     }
     text(b", in");
     if n > NAMED {
-        text(b" ");
-        count(n);
+        say(b" $", &[n]);
         text(kind);
         text(b"s");
         return;
@@ -78,21 +74,21 @@ fn places(counts: &[u32; 48], kind: &[u8]) {
 
 // How many things there are.
 fn things(n: u32, name: &[u8]) {
-    number(wide(n));
+    count(n as usize);
     text(name);
     if n != 1 {
         text(b"s");
     }
 }
 
-fn points_outside(sum: u32, outside: &[u32; 48]) {
+fn points_outside(sum: u32, outside: &[u32; SLOTS]) {
     things(sum, b" point");
     text(b" outside the margins");
     places(outside, b" slot");
 }
 
 // The words of a reading: the points outside the margins of its bytes, and its strained steps.
-pub fn tell(size: usize, sum: u32, outside: &[u32; 48], strained: u32, counts: &[u32; 48]) {
+pub fn tell(size: usize, sum: u32, outside: &[u32; SLOTS], strained: u32, counts: &[u32; SLOTS]) {
     if size == 0 {
         text(b"certain: the table carries no bytes\n");
         return;
@@ -121,7 +117,7 @@ pub fn end(sum: u32) {
 }
 
 // The words of bytes at hand.
-pub fn tell_at_hand(size: usize, sum: u32, outside: &[u32; 48]) {
+pub fn tell_at_hand(size: usize, sum: u32, outside: &[u32; SLOTS]) {
     if size == 0 || sum == 0 {
         tell(size, sum, outside, 0, outside);
         return;

@@ -3,18 +3,17 @@ mod misfit;
 
 use bench_files::files;
 use bench_files::files::Got;
+use bench_line::space::LOAD_SPACE;
 use bench_line::words::front;
 use bench_line::words::front_parts;
 use bench_line::words::part;
-use bench_line::words::parts;
 use bench_setting::setting::Setting;
-use bench_setting::setting::setting_of;
-use bench_setting::usage::misused;
+use bench_setting::setting::setting_for_two;
 use bench_words::report;
 use bench_words::report::Valid;
-use bench_words::text::count;
-use bench_words::text::quoted;
+use bench_words::text::file;
 use bench_words::text::text;
+use isdbs_core::frame::MAIN_SYMBOLS;
 use isdbs_core::tmcc::Table;
 use isdbs_points::Mapping;
 use refusal::Answer;
@@ -25,11 +24,7 @@ use wanted_load::wanted_load;
 fn keep(name: &[u8], bytes: &[u8]) {
     text(b"writing the load\n");
     if files::write_bytes(name, bytes) {
-        text(b"bytes ");
-        quoted(name);
-        text(b": ");
-        count(bytes.len());
-        text(b" bytes\nok\n");
+        file(b"bytes", name, bytes.len(), b" bytes\nok\n");
     }
 }
 
@@ -40,9 +35,9 @@ fn refuse(
     t: Table,
     m: Mapping,
     first: bool,
-    re: &[f64; 38976],
-    im: &[f64; 38976],
-    load: &mut [u8; 9745],
+    re: &[f64; MAIN_SYMBOLS],
+    im: &[f64; MAIN_SYMBOLS],
+    load: &mut [u8; LOAD_SPACE],
 ) {
     match answer {
         Answer::NoLoad => misfit::show(t, m, first, re, im, load),
@@ -57,9 +52,9 @@ fn find(
     m: Mapping,
     first: bool,
     output: &[u8],
-    re: &[f64; 38976],
-    im: &[f64; 38976],
-    bytes: &mut [u8; 9745],
+    re: &[f64; MAIN_SYMBOLS],
+    im: &[f64; MAIN_SYMBOLS],
+    bytes: &mut [u8; LOAD_SPACE],
 ) {
     let n = points.count;
     let found = wanted_load(front_parts(re, n), front_parts(im, n), t, m, first, bytes);
@@ -73,46 +68,38 @@ fn find(
 fn find_in(
     s: Setting,
     line: &[u8],
-    re: &mut [f64; 38976],
-    im: &mut [f64; 38976],
-    load: &mut [u8; 9745],
+    re: &mut [f64; MAIN_SYMBOLS],
+    im: &mut [f64; MAIN_SYMBOLS],
+    load: &mut [u8; LOAD_SPACE],
 ) {
     let input = part(line, 0, 4);
     let output = part(line, 0, 5);
     let t = s.table;
     let m = s.mapping;
-    let file = files::open_for(input, output);
-    if file < 0 {
+    let opened = files::open_for(input, output);
+    if opened < 0 {
         return;
     }
     text(b"reading the points\n");
-    let got = files::read_points(file, input, re, im);
+    let got = files::read_points(opened, input, re, im);
     if !got.well {
         return;
     }
-    text(b"frame ");
-    quoted(input);
-    text(b": ");
-    count(got.count);
-    text(b" points\n");
+    file(b"frame", input, got.count, b" points\n");
     find(got, t, m, s.first, output, re, im, load);
 }
 
 // The same, on space of its own.
 fn find_in_space(s: Setting, line: &[u8]) {
-    let mut re = [0.0f64; 38976];
-    let mut im = [0.0f64; 38976];
-    let mut load = [0u8; 9745];
+    let mut re = [0.0f64; MAIN_SYMBOLS];
+    let mut im = [0.0f64; MAIN_SYMBOLS];
+    let mut load = [0u8; LOAD_SPACE];
     find_in(s, line, &mut re, &mut im, &mut load);
 }
 
 // bench bytes TABLE MAPPING KIND FRAME BYTES
 pub fn bytes(line: &[u8]) {
-    if parts(line, 0) != 6 {
-        misused(b"bytes takes TABLE MAPPING KIND FRAME BYTES", b"");
-        return;
-    }
-    let s = setting_of(part(line, 0, 1), part(line, 0, 2), part(line, 0, 3));
+    let s = setting_for_two(line, b"bytes takes TABLE MAPPING KIND FRAME BYTES");
     if !s.is_good {
         return;
     }

@@ -1,8 +1,10 @@
 // The first point that fits no load: the load that the points show is read off and encoded again, and the frames are compared point by point.
+use bench_line::space::LOAD_SPACE;
 use bench_line::words::front;
 use bench_words::report;
-use bench_words::text::count;
+use bench_words::text::say;
 use bench_words::text::text;
+use isdbs_core::frame::MAIN_SYMBOLS;
 use isdbs_core::slots::Plan;
 use isdbs_core::slots::plan_of;
 use isdbs_core::tmcc::Table;
@@ -14,6 +16,7 @@ use isdbs_wanted::read_load;
 use libc::STDOUT_FILENO;
 use refusal::Answer;
 ghost use Prim.Native.Nat.{_≤_};
+ghost use Rattle.isdbs_frame.specs.Frame.{mainSymbols};
 ghost use Rattle.isdbs_runs.specs.RunsOf.{Planned};
 
 // The bits of a part, one pattern for every NaN.
@@ -29,17 +32,17 @@ fn differ(x: f64, y: f64) -> bool {
     bits(x) != bits(y)
 }
 
-// The first point in which two frames differ, or 38,976.
+// The first point in which two frames differ, or the end of the frames.
 fn first_difference(
-    re: &[f64; 38976],
-    im: &[f64; 38976],
-    xs: &[f64; 38976],
-    ys: &[f64; 38976],
+    re: &[f64; MAIN_SYMBOLS],
+    im: &[f64; MAIN_SYMBOLS],
+    xs: &[f64; MAIN_SYMBOLS],
+    ys: &[f64; MAIN_SYMBOLS],
 ) -> usize
-    ensures { λ r. ⌜ r ≤ 38976 ⌝ }
+    ensures { λ r. ⌜ r ≤ mainSymbols ⌝ }
 {
     let mut k: usize = 0;
-    while k < 38976 {
+    while k < MAIN_SYMBOLS {
         if differ(re[k], xs[k]) || differ(im[k], ys[k]) {
             break;
         }
@@ -76,22 +79,23 @@ fn point(x: f64, y: f64) {
 
 // The last lines: point k as it is, and as the load that is read off has it.
 fn refuse_at(k: usize, x: f64, y: f64, u: f64, v: f64) {
-    text(b"point ");
-    count(k);
-    text(b" is ");
+    say(b"point $ is ", &[k]);
     point(x, y);
     text(b"; the load that the points show has ");
     point(u, v);
     text(b" there\n");
     report::refused(Answer::NoLoad);
-    text(b"point ");
-    count(k);
-    text(b" fits no load (points are counted from 0)\n");
+    say(b"point $ fits no load (points are counted from 0)\n", &[k]);
 }
 
-fn refuse_first(re: &[f64; 38976], im: &[f64; 38976], xs: &[f64; 38976], ys: &[f64; 38976]) {
+fn refuse_first(
+    re: &[f64; MAIN_SYMBOLS],
+    im: &[f64; MAIN_SYMBOLS],
+    xs: &[f64; MAIN_SYMBOLS],
+    ys: &[f64; MAIN_SYMBOLS],
+) {
     let k = first_difference(re, im, xs, ys);
-    if k < 38976 {
+    if k < MAIN_SYMBOLS {
         refuse_at(k, re[k], im[k], xs[k], ys[k]);
     }
 }
@@ -101,9 +105,9 @@ fn read_off(
     p: Plan,
     m: Mapping,
     first: bool,
-    re: &[f64; 38976],
-    im: &[f64; 38976],
-    load: &mut [u8; 9745],
+    re: &[f64; MAIN_SYMBOLS],
+    im: &[f64; MAIN_SYMBOLS],
+    load: &mut [u8; LOAD_SPACE],
 )
     requires { ⌜ Planned p ⌝ }
 {
@@ -115,9 +119,9 @@ fn read_by_table(
     t: Table,
     m: Mapping,
     first: bool,
-    re: &[f64; 38976],
-    im: &[f64; 38976],
-    load: &mut [u8; 9745],
+    re: &[f64; MAIN_SYMBOLS],
+    im: &[f64; MAIN_SYMBOLS],
+    load: &mut [u8; LOAD_SPACE],
 ) -> usize {
     let p = plan_of(t);
     let n = p.bytes;
@@ -135,16 +139,16 @@ fn show_against(
     m: Mapping,
     first: bool,
     load: &[u8],
-    re: &[f64; 38976],
-    im: &[f64; 38976],
-    xs: &mut [f64; 38976],
-    ys: &mut [f64; 38976],
+    re: &[f64; MAIN_SYMBOLS],
+    im: &[f64; MAIN_SYMBOLS],
+    xs: &mut [f64; MAIN_SYMBOLS],
+    ys: &mut [f64; MAIN_SYMBOLS],
 ) {
     let answer = encode_frame(load, t, first, m, xs, ys);
-    if refusal::number(answer) != 0 {
+    let Answer::Accepted = answer else {
         report::refuse(answer);
         return;
-    }
+    };
     refuse_first(re, im, xs, ys);
 }
 
@@ -153,12 +157,12 @@ pub(crate) fn show(
     t: Table,
     m: Mapping,
     first: bool,
-    re: &[f64; 38976],
-    im: &[f64; 38976],
-    load: &mut [u8; 9745],
+    re: &[f64; MAIN_SYMBOLS],
+    im: &[f64; MAIN_SYMBOLS],
+    load: &mut [u8; LOAD_SPACE],
 ) {
     let n = read_by_table(t, m, first, re, im, load);
-    let mut xs = [0.0f64; 38976];
-    let mut ys = [0.0f64; 38976];
+    let mut xs = [0.0f64; MAIN_SYMBOLS];
+    let mut ys = [0.0f64; MAIN_SYMBOLS];
     show_against(t, m, first, front(load, n), re, im, &mut xs, &mut ys);
 }
