@@ -48,6 +48,28 @@ fn at_places(re: &[f64], im: &[f64], points: [usize; 5], places: [f64; 5]) -> [u
     found
 }
 
+fn header_places(re: &[f64; 192], im: &[f64; 192]) -> [usize; 5] {
+    at_places(re, im, [0, 191, 1, 2, 3], [0.0, 191.0, 1.0, 2.0, 3.0])
+}
+
+fn main_places(re: &[f64; 38976], im: &[f64; 38976]) -> [usize; 5] {
+    at_places(
+        re,
+        im,
+        [0, 202, 203, 38975, 1],
+        [192.0, 394.0, 399.0, 39931.0, 193.0],
+    )
+}
+
+fn burst_places(re: &[f64; 768], im: &[f64; 768]) -> [usize; 5] {
+    at_places(
+        re,
+        im,
+        [0, 1, 2, 3, 767],
+        [nan(), 396.0, 397.0, 398.0, 39935.0],
+    )
+}
+
 // The answer of taking a frame apart, and the points that the request names.
 fn show_apart(
     answer: usize,
@@ -58,19 +80,9 @@ fn show_apart(
     br: &[f64; 768],
     bi: &[f64; 768],
 ) {
-    let h = at_places(hr, hi, [0, 191, 1, 2, 3], [0.0, 191.0, 1.0, 2.0, 3.0]);
-    let m = at_places(
-        mr,
-        mi,
-        [0, 202, 203, 38975, 1],
-        [192.0, 394.0, 399.0, 39931.0, 193.0],
-    );
-    let b = at_places(
-        br,
-        bi,
-        [0, 1, 2, 3, 767],
-        [nan(), 396.0, 397.0, 398.0, 39935.0],
-    );
+    let h = header_places(hr, hi);
+    let m = main_places(mr, mi);
+    let b = burst_places(br, bi);
     let found = [
         answer,
         h[0],
