@@ -2,11 +2,12 @@
 // the decoder reads.
 ghost use Prim.Native.Nat.{_≤_, _<_};
 use best_reading::Start;
+use cases_lib::end_line;
 use cases_lib::one;
 use cases_lib::row;
 use cases_lib::show;
 use cases_lib::show_bits;
-use cases_lib::text;
+use cases_lib::show_one;
 use cases_lib::wide;
 use cases_paths::Survey;
 use cases_paths::floats;
@@ -14,10 +15,48 @@ use cases_paths::has_inputs;
 use cases_paths::larger;
 use cases_paths::scattered;
 use cases_paths::search_all;
+use isdb_fec::conv::G1;
+use isdb_fec::conv::G2;
+
+// The inputs 00000000 and 10000000 from state 0 have the greatest sum: both end in state 0, by way of the states 0 and 1.
+const TWO: [u8; 32] = [
+    32,
+    0,
+    0,
+    32,
+    32,
+    0,
+    32,
+    0,
+    32,
+    0,
+    0,
+    32,
+    32,
+    0,
+    0,
+    32,
+    32,
+    0,
+    0,
+    0,
+    32,
+    32,
+    0,
+    0,
+    32,
+    0,
+    0,
+    32,
+    32,
+    0,
+    0,
+    0,
+];
 
 // All paths of n steps of the code from the states `from` to `to`, the last not among them.
 fn search(metrics: &[u8; 32], n: usize, from: u32, to: u32) -> Survey {
-    search_all(0o171, 0o133, 32, metrics, n, from, to)
+    search_all(G1, G2, 32, metrics, n, from, to)
 }
 
 // The eight inputs, the first in the lowest bit.
@@ -51,10 +90,10 @@ fn line(metrics: &[u8; 32], start: Start, from: u32, to: u32) {
     show_eight(&first);
     let mut decisions = [0u64; 4224];
     let mut out = [9u8; 8];
-    let answer = [read(metrics, start, &mut decisions, &mut out)];
-    show(b" answer $ bits ", &answer);
+    let answer = read(metrics, start, &mut decisions, &mut out);
+    show_one(b" answer $ bits ", answer);
     show_eight(&out);
-    text(b"\n");
+    end_line();
 }
 
 fn both(metrics: &[u8; 32], start: u8) {
@@ -123,41 +162,7 @@ fn main() {
     for n in 0..9usize {
         stretch(n);
     }
-    // The inputs 00000000 and 10000000 from state 0 have the greatest sum: both end in state 0, by way of the states 0 and 1.
-    let two = [
-        32u8,
-        0,
-        0,
-        32,
-        32,
-        0,
-        32,
-        0,
-        32,
-        0,
-        0,
-        32,
-        32,
-        0,
-        0,
-        32,
-        32,
-        0,
-        0,
-        0,
-        32,
-        32,
-        0,
-        0,
-        32,
-        0,
-        0,
-        32,
-        32,
-        0,
-        0,
-        0,
-    ];
+    let two = TWO;
     both(&two, 0);
     // All equal.
     let flat = [16u8; 32];

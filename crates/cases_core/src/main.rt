@@ -1,6 +1,11 @@
 // The examples of document 01 that are executed, and traps of its rules: what is written is held to the file stdout.
+use cases_frames::table_of;
+use cases_lib::end_line;
+use cases_lib::front;
 use cases_lib::row;
 use cases_lib::show;
+use cases_lib::show_line;
+use cases_lib::show_one;
 use cases_lib::small;
 use cases_lib::text;
 use isdbs_core::combination;
@@ -16,9 +21,10 @@ use isdbs_core::tmcc::Entry;
 use isdbs_core::tmcc::SlotMark;
 use isdbs_core::tmcc::Table;
 
+// Tables are numbers: entry i has its word at bit 16 i and its slots at bit 16 i + 8. Word 15 with no slots is an entry not in use.
+
 fn count(n: usize) {
-    let found = [n];
-    show(b" #", &found);
+    show_one(b" #", n);
 }
 
 fn word(c: Combination) -> usize {
@@ -26,8 +32,7 @@ fn word(c: Combination) -> usize {
 }
 
 fn refused(a: refusal::Answer) {
-    let found = [row(a)];
-    show(b" refused #", &found);
+    show_one(b" refused #", row(a));
 }
 
 // A position, or the number of the row.
@@ -46,35 +51,7 @@ fn slot_byte(p: SlotByte) {
     }
 }
 
-fn table(a: Entry, b: Entry, c: Entry, d: Entry) -> Table {
-    Table {
-        entries: [a, b, c, d],
-    }
-}
-
-fn entry(word: u8, slots: u8) -> Entry {
-    Entry { word, slots }
-}
-
-// Two entries, the others not in use.
-fn two(w: u8, n: u8, v: u8, m: u8) -> Table {
-    table(entry(w, n), entry(v, m), tmcc::DUMMY, tmcc::DUMMY)
-}
-
-// One entry.
-fn one(w: u8, n: u8) -> Table {
-    two(w, n, 15, 0)
-}
-
-// Four entries of one word, the last of m slots.
-fn four(w: u8, n: u8, m: u8) -> Table {
-    table(entry(w, n), entry(w, n), entry(w, n), entry(w, m))
-}
-
-// Each entry has fewer slots than a unit.
-fn under() -> Table {
-    table(entry(1, 3), entry(6, 7), entry(5, 5), entry(2, 1))
-}
+// ---- tables
 
 // A run: combination's word, slots, valid slots, symbols.
 fn run(r: Run) {
@@ -90,19 +67,89 @@ fn run(r: Run) {
     show(b" | # # # # # #", &found);
 }
 
+fn four_runs(rs: [Run; 4]) {
+    for i in 0..4usize {
+        run(rs[i]);
+    }
+}
+
 // The answer of `runs`: row, count, valid slots, and the four records.
-fn runs(name: &[u8], t: Table) {
-    text(name);
+fn runs(t: Table) {
     let all = slots::runs(t);
     let answer = all.answer;
     let found = [row(answer), all.count, all.valid_slots];
     show(b" # # #", &found);
     let rs = all.runs;
-    run(rs[0]);
-    run(rs[1]);
-    run(rs[2]);
-    run(rs[3]);
-    text(b"\n");
+    four_runs(rs);
+    end_line();
+}
+
+const SHOWN: [u64; 11] = [
+    0x0c05_0c05_0c05_0c05,
+    0x0d05_0c05_0c05_0c05,
+    0x000f_000f_3807_c807,
+    0x000f_000f_000f_0117,
+    0x000f_000f_000f_3006,
+    0x000f_000f_000f_3007,
+    0x000f_000f_0107_0002,
+    0x0102_0505_0706_0301,
+    0x000f_000f_000f_0503,
+    0x000f_000f_0202_0a0f,
+    0x000f_000f_2c07_0401,
+];
+
+fn tables() {
+    let shown = SHOWN;
+    for k in 0..11usize {
+        show_line(
+            b"48 slots:\n49 slots:\n200 and 56:\nword 0x17:\nQPSK 7/8 x 48:\nTC8PSK x 48:\nempty QPSK 1/2, TC8PSK 1:\nunder a unit:\nQPSK 2/3, 5:\n15 x 10, QPSK 1/2, 2:\nBPSK 4, TC8PSK 44:",
+            k + 1,
+        );
+        runs(table_of(shown[k]));
+    }
+}
+
+// The row of a table.
+fn answer(t: Table) -> usize {
+    let all = slots::runs(t);
+    let a = all.answer;
+    row(a)
+}
+
+// Rows 10 and 11: 3:5; 8:3,3:5; 0x13:5; a part unit in the last entry; 3:3,8:3; 0x18:1; 0:1; 14:1 in the last entry; 1, and 1, 10 and 11 at once. Accepted: 8:0; 15:10,2:2; 0x1f:10; 1:0.
+const ANSWERED: [u64; 14] = [
+    0x000f_000f_000f_0503,
+    0x000f_000f_0503_0308,
+    0x000f_000f_000f_0513,
+    0x0102_0202_0202_0202,
+    0x000f_000f_0308_0303,
+    0x000f_000f_000f_0118,
+    0x000f_000f_000f_0100,
+    0x010e_000f_000f_000f,
+    0x000f_000f_000f_3106,
+    0x000f_000f_2a08_0706,
+    0x000f_000f_000f_0008,
+    0x000f_000f_0202_0a0f,
+    0x000f_000f_000f_0a1f,
+    0x000f_000f_000f_0001,
+];
+
+fn answers() -> [usize; 14] {
+    let tables = ANSWERED;
+    let mut found = [99usize; 14];
+    for k in 0..14usize {
+        let n = answer(table_of(tables[k]));
+        found[k] = n;
+    }
+    found
+}
+
+fn answered_tables() {
+    let found = answers();
+    show(
+        b"part units: # # # #\nreserved words: # # # #\nabove 48: # #\naccepted: # # # #\n",
+        &found,
+    );
 }
 
 // a times b, for a per slot and b slots.
@@ -116,8 +163,7 @@ fn times(a: usize, b: usize) -> usize {
 }
 
 // Bytes of a full load and trellis steps, where one run has all the valid slots.
-fn load(name: &[u8], t: Table) {
-    text(name);
+fn load(t: Table) {
     let all = slots::runs(t);
     let rs = all.runs;
     let r = rs[0];
@@ -129,6 +175,14 @@ fn load(name: &[u8], t: Table) {
     show(b" # #\n", &found);
 }
 
+fn loads() {
+    text(b"load and steps, QPSK 7/8 x 48:");
+    load(table_of(0x000f_000f_000f_3006));
+    text(b"load and steps, TC8PSK x 48:");
+    load(table_of(0x000f_000f_000f_3007));
+}
+
+// A mark's word.
 fn mark(m: SlotMark) {
     let c = m.mark;
     match c {
@@ -138,8 +192,7 @@ fn mark(m: SlotMark) {
 }
 
 // The word of each slot's mark.
-fn marks(name: &[u8], t: Table) {
-    text(name);
+fn marks(t: Table) {
     let all = tmcc::slot_combinations(t);
     let answer = all.answer;
     count(row(answer));
@@ -147,26 +200,40 @@ fn marks(name: &[u8], t: Table) {
     for s in 0..48 {
         mark(ms[s]);
     }
-    text(b"\n");
+    end_line();
 }
+
+const MARKED: [u64; 4] = [
+    0x0102_0505_0706_0301,
+    0x000f_000f_000f_0603,
+    0x000f_000f_0202_0a0f,
+    0x000f_000f_000f_3107,
+];
+
+fn all_marks() {
+    let tables = MARKED;
+    for k in 0..4usize {
+        show_line(
+            b"marks, under a unit:\nmarks, QPSK 2/3, 6:\nmarks, 15 x 10, QPSK 1/2, 2:\nmarks, 49 slots:",
+            k + 1,
+        );
+        marks(table_of(tables[k]));
+    }
+}
+
+// ---- positions
 
 fn bit(c: Combination, b: usize) {
     position(slots::bit_symbol(c, b));
 }
 
 fn bits_of_2_3() {
+    let bits = [0usize, 1, 2, 3, 4, 5, 6, 7, 1_000_000, 1_000_001];
     text(b"bit_symbol 2/3:");
-    bit(Combination::Qpsk2_3, 0);
-    bit(Combination::Qpsk2_3, 1);
-    bit(Combination::Qpsk2_3, 2);
-    bit(Combination::Qpsk2_3, 3);
-    bit(Combination::Qpsk2_3, 4);
-    bit(Combination::Qpsk2_3, 5);
-    bit(Combination::Qpsk2_3, 6);
-    bit(Combination::Qpsk2_3, 7);
-    bit(Combination::Qpsk2_3, 1_000_000);
-    bit(Combination::Qpsk2_3, 1_000_001);
-    text(b"\n");
+    for k in 0..10usize {
+        bit(Combination::Qpsk2_3, bits[k]);
+    }
+    end_line();
 }
 
 fn other_bits() {
@@ -178,33 +245,29 @@ fn other_bits() {
     bit(Combination::Qpsk7_8, 1_000_000);
     bit(Combination::Tc8psk2_3, 1_000_000);
     bit(Combination::Tc8psk2_3, 18_446_744_073_709_551_615);
-    text(b"\n");
+    end_line();
 }
 
-fn places() {
+fn main_places() {
     text(b"main:");
     position(frame::main_symbol_position(0));
     position(frame::main_symbol_position(202));
     position(frame::main_symbol_position(203));
     position(frame::main_symbol_position(38_975));
     position(frame::main_symbol_position(38_976));
-    text(b"\nburst:");
+    end_line();
+}
+
+fn burst_places() {
+    text(b"burst:");
     position(frame::burst_symbol_position(0, 0));
     position(frame::burst_symbol_position(191, 3));
     position(frame::burst_symbol_position(192, 0));
     position(frame::burst_symbol_position(0, 4));
-    text(b"\n");
+    end_line();
 }
 
-// The bits of a coded tail.
-fn tail(name: &[u8], t: u32) {
-    text(name);
-    let bits = frame::tail_bits(t);
-    for i in 0..20 {
-        count(small(bits[i]));
-    }
-    text(b"\n");
-}
+// ---- numbers
 
 // The numbers of a frame, as the paper has them.
 fn frame_numbers() {
@@ -244,28 +307,49 @@ fn header_words() {
     show(b"words: # # #\ntails: # # #\n", &found);
 }
 
-// The combinations in their order, and the word and slots of an entry not in use.
+// The combinations in their order.
 fn combinations() {
     let all = combination::ALL;
+    text(b"by efficiency:");
+    for k in 0..7usize {
+        count(word(all[k]));
+    }
+    end_line();
+}
+
+// The word and slots of an entry not in use; the bits of a slot and the last of a run.
+fn not_in_use() {
     let unused = tmcc::DUMMY;
     let found = [
-        word(all[0]),
-        word(all[1]),
-        word(all[2]),
-        word(all[3]),
-        word(all[4]),
-        word(all[5]),
-        word(all[6]),
         small(combination::DUMMY_WORD),
         small(unused.word),
         small(unused.slots),
         slots::SLOT_BITS,
         slots::LAST_BIT,
     ];
-    show(
-        b"by efficiency: # # # # # # #\nnot in use: # # #\nbits: # #\n",
-        &found,
-    );
+    show(b"not in use: # # #\nbits: # #\n", &found);
+}
+
+// The bits of a coded tail.
+fn tail(t: u32) {
+    let bits = frame::tail_bits(t);
+    for i in 0..20 {
+        count(small(bits[i]));
+    }
+    end_line();
+}
+
+fn tails() {
+    let all = [
+        frame::W1_CODED_TAIL,
+        frame::W2_CODED_TAIL,
+        frame::W3_CODED_TAIL,
+        0xFFF0_0001,
+    ];
+    for k in 0..4usize {
+        show_line(b"W1 tail:\nW2 tail:\nW3 tail:\nhigh bits ignored:", k + 1);
+        tail(all[k]);
+    }
 }
 
 fn maybe(c: MaybeCombination) {
@@ -275,11 +359,33 @@ fn maybe(c: MaybeCombination) {
     }
 }
 
-fn assigned(name: &[u8], w: u8) {
-    text(name);
-    maybe(Combination::from_word(w));
-    maybe(entry(w, 0).combination());
-    text(b"\n");
+// The combination of a whole word, and that of an entry, by the low 4 bits.
+fn assigned(word: u8) {
+    maybe(Combination::from_word(word));
+    let e = Entry { word, slots: 0 };
+    maybe(e.combination());
+    end_line();
+}
+
+fn words() {
+    let all = [0x17u8, 7, 0, 8, 15];
+    for k in 0..5usize {
+        show_line(
+            b"word 0x17, whole and low 4 bits:\nword 7:\nword 0:\nword 8:\nword 15:",
+            k + 1,
+        );
+        assigned(all[k]);
+    }
+}
+
+// ---- slots of a load
+
+// The first and last byte, where there are any.
+fn ends(p: &[u8]) {
+    if 0 < p.len() {
+        let found = [small(p[0]), small(p[p.len() - 1])];
+        show(b" # #", &found);
+    }
 }
 
 // The part of slot k of a load whose byte i is i mod 251: answer, length, first and last byte.
@@ -288,11 +394,8 @@ fn part(bytes: &[u8], t: Table, k: usize) {
     let p = slots::slot_part(bytes, t, k);
     let found = [answer, p.len()];
     show(b" # #", &found);
-    if 0 < p.len() {
-        let ends = [small(p[0]), small(p[p.len() - 1])];
-        show(b" # #", &ends);
-    }
-    text(b"\n");
+    ends(p);
+    end_line();
 }
 
 // Byte i is i mod 251.
@@ -304,177 +407,105 @@ fn fill(bytes: &mut [u8]) {
     }
 }
 
-// The first n bytes.
-fn front(bytes: &[u8], n: usize) -> &[u8] {
-    if n <= bytes.len() {
-        &bytes[0..n]
-    } else {
-        bytes
+// The bytes, the table and the slot of each case: 2 valid slots, a load of 406 bytes; then one byte too many or too few, and a slot too many.
+const LOADS: [usize; 10] = [406, 406, 406, 407, 407, 405, 406, 0, 406, 406];
+
+const PARTED: [u64; 10] = [
+    0x000f_000f_000f_0303,
+    0x000f_000f_000f_0303,
+    0x000f_000f_000f_0303,
+    0x000f_000f_000f_0303,
+    0x000f_000f_000f_0303,
+    0x000f_000f_000f_0303,
+    0x000f_000f_000f_3103,
+    0x000f_000f_000f_000f,
+    0x000f_000f_000f_0503,
+    0x000f_000f_0308_0303,
+];
+
+const PARTS: [usize; 10] = [
+    0,
+    1,
+    2,
+    2,
+    0,
+    0,
+    9,
+    0,
+    18_446_744_073_709_551_615,
+    18_446_744_073_709_551_615,
+];
+
+fn parts(bytes: &[u8]) {
+    let lengths = LOADS;
+    let tables = PARTED;
+    let slots = PARTS;
+    for k in 0..10usize {
+        show_line(
+            b"part 0:\npart 1:\nslot 2 of 2:\nslot 2 of 2, 407 bytes:\n407 bytes:\n405 bytes:\n49 slots:\nno valid slot:\npart unit, a wild slot:\nreserved word, a wild slot:",
+            k + 1,
+        );
+        part(front(bytes, lengths[k]), table_of(tables[k]), slots[k]);
     }
 }
 
-// 2 valid slots, a load of 406 bytes; then one byte too many or too few, and a slot too many.
-fn parts(bytes: &[u8]) {
-    let t = one(3, 3);
-    text(b"part 0:");
-    part(front(bytes, 406), t, 0);
-    text(b"part 1:");
-    part(front(bytes, 406), t, 1);
-    text(b"slot 2 of 2:");
-    part(front(bytes, 406), t, 2);
-    text(b"slot 2 of 2, 407 bytes:");
-    part(front(bytes, 407), t, 2);
-    text(b"407 bytes:");
-    part(front(bytes, 407), t, 0);
-    text(b"405 bytes:");
-    part(front(bytes, 405), t, 0);
-    text(b"49 slots:");
-    part(front(bytes, 406), one(3, 49), 9);
-    text(b"no valid slot:");
-    part(front(bytes, 0), one(15, 0), 0);
-    text(b"part unit, a wild slot:");
-    part(front(bytes, 406), one(3, 5), 18_446_744_073_709_551_615);
-    text(b"reserved word, a wild slot:");
-    part(
-        front(bytes, 406),
-        two(3, 3, 8, 3),
-        18_446_744_073_709_551_615,
-    );
+fn at(table: u64, slot: usize, byte: usize) {
+    slot_byte(slots::slot_byte_symbol(table_of(table), slot, byte));
 }
 
-fn at(t: Table, slot: usize, byte: usize) {
-    slot_byte(slots::slot_byte_symbol(t, slot, byte));
-}
+const BENCH: u64 = 0x000f_000f_000f_3007;
 
 fn slot_bytes() {
-    let bench = one(7, 48);
     text(b"bytes, TC8PSK x 48:");
-    at(bench, 0, 0);
-    at(bench, 1, 0);
-    at(bench, 47, 0);
-    at(bench, 47, 202);
-    at(bench, 47, 203);
-    at(bench, 48, 0);
-    text(b"\n");
+    at(BENCH, 0, 0);
+    at(BENCH, 1, 0);
+    at(BENCH, 47, 0);
+    at(BENCH, 47, 202);
+    at(BENCH, 47, 203);
+    at(BENCH, 48, 0);
+    end_line();
 }
+
+const MIXED: u64 = 0x000f_000f_0303_0401;
 
 fn mixed_bytes() {
-    let mixed = two(1, 4, 3, 3);
     text(b"bytes, BPSK 4, QPSK 2/3 3:");
-    at(mixed, 0, 9);
-    at(mixed, 1, 0);
-    at(mixed, 4, 9);
-    at(mixed, 5, 9);
-    at(mixed, 6, 0);
-    at(mixed, 7, 0);
-    at(mixed, 8, 0);
-    at(one(7, 49), 0, 0);
-    at(two(1, 4, 3, 5), 0, 0);
-    at(two(1, 4, 0, 1), 0, 0);
-    text(b"\n");
+    at(MIXED, 0, 9);
+    at(MIXED, 1, 0);
+    at(MIXED, 4, 9);
+    at(MIXED, 5, 9);
+    at(MIXED, 6, 0);
+    at(MIXED, 7, 0);
+    at(MIXED, 8, 0);
+    at(0x000f_000f_000f_3107, 0, 0);
+    at(0x000f_000f_0503_0401, 0, 0);
+    at(0x000f_000f_0100_0401, 0, 0);
+    end_line();
 }
 
-fn tables() {
-    runs(b"48 slots:", four(5, 12, 12));
-    runs(b"49 slots:", four(5, 12, 13));
-    runs(b"200 and 56:", two(7, 200, 7, 56));
-    runs(b"word 0x17:", one(0x17, 1));
-    runs(b"QPSK 7/8 x 48:", one(6, 48));
-    runs(b"TC8PSK x 48:", one(7, 48));
-}
-
-fn more_tables() {
-    runs(b"empty QPSK 1/2, TC8PSK 1:", two(2, 0, 7, 1));
-    runs(b"under a unit:", under());
-    runs(b"QPSK 2/3, 5:", one(3, 5));
-    runs(b"15 x 10, QPSK 1/2, 2:", two(15, 10, 2, 2));
-    runs(b"BPSK 4, TC8PSK 44:", two(1, 4, 7, 44));
-}
-
-// The row of a table.
-fn answer(t: Table) -> usize {
-    let all = slots::runs(t);
-    let a = all.answer;
-    row(a)
-}
-
-// Rows 10 and 11: 3:5; 8:3,3:5; 0x13:5; a part unit in the last entry; 3:3,8:3; 0x18:1; 0:1; 14:1; 1, 10 and 11 at once.
-fn refused_tables() {
-    let found = [
-        answer(one(3, 5)),
-        answer(two(8, 3, 3, 5)),
-        answer(one(0x13, 5)),
-        answer(four(2, 2, 1)),
-        answer(two(3, 3, 8, 3)),
-        answer(one(0x18, 1)),
-        answer(one(0, 1)),
-        answer(table(tmcc::DUMMY, tmcc::DUMMY, tmcc::DUMMY, entry(14, 1))),
-        answer(one(6, 49)),
-        answer(two(6, 7, 8, 42)),
-    ];
-    show(
-        b"part units: # # # #\nreserved words: # # # #\nabove 48: # #\n",
-        &found,
-    );
-}
-
-// Accepted: 8:0; 15:10,2:2; 0x1f:10; 1:0.
-fn accepted_tables() {
-    let found = [
-        answer(one(8, 0)),
-        answer(two(15, 10, 2, 2)),
-        answer(one(0x1f, 10)),
-        answer(one(1, 0)),
-    ];
-    show(b"accepted: # # # #\n", &found);
-}
-
-fn loads() {
-    load(b"load and steps, QPSK 7/8 x 48:", one(6, 48));
-    load(b"load and steps, TC8PSK x 48:", one(7, 48));
-}
-
-fn all_marks() {
-    marks(b"marks, under a unit:", under());
-    marks(b"marks, QPSK 2/3, 6:", one(3, 6));
-    marks(b"marks, 15 x 10, QPSK 1/2, 2:", two(15, 10, 2, 2));
-    marks(b"marks, 49 slots:", one(7, 49));
-}
-
-fn tails() {
-    tail(b"W1 tail:", frame::W1_CODED_TAIL);
-    tail(b"W2 tail:", frame::W2_CODED_TAIL);
-    tail(b"W3 tail:", frame::W3_CODED_TAIL);
-    tail(b"high bits ignored:", 0xFFF0_0001);
-}
-
-fn words() {
-    assigned(b"word 0x17, whole and low 4 bits:", 0x17);
-    assigned(b"word 7:", 7);
-    assigned(b"word 0:", 0);
-    assigned(b"word 8:", 8);
-    assigned(b"word 15:", 15);
-}
-
-fn main() {
-    tables();
-    more_tables();
-    refused_tables();
-    accepted_tables();
-    loads();
-    all_marks();
-    bits_of_2_3();
-    other_bits();
-    places();
-    frame_numbers();
-    header_words();
-    combinations();
-    tails();
-    words();
+fn slots_of_a_load() {
     let mut bytes = io::buffer();
     fill(&mut bytes);
     parts(&bytes);
     slot_bytes();
     mixed_bytes();
+}
+
+fn main() {
+    tables();
+    answered_tables();
+    loads();
+    all_marks();
+    bits_of_2_3();
+    other_bits();
+    main_places();
+    burst_places();
+    frame_numbers();
+    header_words();
+    combinations();
+    not_in_use();
+    tails();
+    words();
+    slots_of_a_load();
     text(b"end\n");
 }

@@ -7,8 +7,11 @@ use cases_lib::alike;
 use cases_lib::one;
 use cases_lib::row;
 use cases_lib::show;
+use cases_lib::show_line;
+use cases_lib::step;
 use cases_lib::text;
 use cases_lib::words_of;
+use cases_paths::isdb_label;
 use isdb_fec::conv::ConvEncoder;
 use isdb_fec::conv::Made;
 use isdb_fec::conv::Released;
@@ -293,7 +296,7 @@ fn count_of(pm: &[f32; 64], x: f32) -> usize {
 // 2^20 and three times 2^20 - 2.5. Of the two branches into a state the outputs are complements, so 32 states have a branch (0, 0) and 32 have not, at the last step. The
 // values are then k 2^20 and k 2^20 - 2.5 rounded, k being the steps since the maximum was subtracted: a difference of 2 for k from 17 to 32 (a unit is 2), 4 for k from
 // 33 to 64 (a unit is 4) and 0 for k from 65 to 128 (a unit is 8). Shown is how many path values are 0, -2 and -4.
-fn counted(name: &[u8], held: usize, n: usize)
+fn counted(case: usize, held: usize, n: usize)
     requires { ⌜ n ≤ 512 ⌝ }
 {
     let mut metrics = [1048576.0f32; 512];
@@ -311,25 +314,11 @@ fn counted(name: &[u8], held: usize, n: usize)
     let b = push_part(a.dec, &metrics, n, 512, &mut decisions, &mut out);
     let pm = b.dec.pm;
     let values = [count_of(&pm, 0.0), count_of(&pm, -2.0), count_of(&pm, -4.0)];
-    text(name);
+    show_line(
+        b"128 quadruples in one call\nin calls of 100 and 28\nin calls of 64 and 64\nin one call after 28 held steps",
+        case,
+    );
     show(b": # path values are 0, # are -2, # are -4\n", &values);
-}
-
-// The modulo-2 sum of the low 8 bits of x.
-fn parity(x: u32) -> u32
-    ensures { λ r. ⌜ r < 2 ⌝ }
-{
-    let a = x ^ (x >> 4);
-    let b = a ^ (a >> 2);
-    (b ^ (b >> 1)) % 2
-}
-
-// The coded pair 2X + Y of the input u at a state: the parities of 64 u + state under 171 and 133 octal.
-fn label(u: u32, state: u32) -> u32
-    ensures { λ r. ⌜ r < 4 ⌝ }
-{
-    let register = (u % 2) * 64 + state % 64;
-    2 * parity(register & 0o171) + parity(register & 0o133)
 }
 
 // Whether `branch_output`, and the number that the step of four metrics reads, are the coded pair, for the register 64 u + state.
@@ -338,7 +327,7 @@ fn is_branch(register: u32) -> bool {
     let u = (register / 64 % 256) as u8;
     let b = branch_output(state, u);
     let answer = b.answer;
-    let pair = label(register / 64, register);
+    let pair = isdb_label(register / 64, register);
     (row(answer) == 0)
         & (b.x < 2)
         & (2 * (b.x as u32) + (b.y as u32) == pair)
@@ -379,11 +368,9 @@ fn send(bits: &mut [u8; 4226], metrics: &mut [f32; 16904]) {
     let mut x: u64 = 1;
     let mut state: u32 = 0;
     for k in 0..4226usize {
-        x = x ^ (x << 13);
-        x = x ^ (x >> 7);
-        x = x ^ (x << 17);
+        x = step(x);
         let u = ((x >> 63) % 2) as u32;
-        let sent = label(u, state);
+        let sent = isdb_label(u, state);
         state = (u % 2) * 32 + state % 64 / 2;
         bits[k] = (u % 2) as u8;
         metrics[4 * k] = metric(x, sent == 0);
@@ -547,13 +534,13 @@ fn main() {
     print_tails(63);
     cases();
     // The maximum is subtracted after steps 64 and 128.
-    counted(b"128 quadruples in one call", 0, 512);
+    counted(1, 0, 512);
     // After steps 64, 100 and 128.
-    counted(b"in calls of 100 and 28", 0, 400);
+    counted(2, 0, 400);
     // After steps 64 and 128: the count restarts at each call.
-    counted(b"in calls of 64 and 64", 0, 256);
+    counted(3, 0, 256);
     // The same: held steps do not count. If they did, it would be after steps 36, 100 and 128.
-    counted(b"in one call after 28 held steps", 28, 512);
+    counted(4, 28, 512);
     sent_and_released();
     handed_words();
     all_tracebacks();

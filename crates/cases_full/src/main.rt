@@ -1,16 +1,14 @@
 // A full frame whose point p holds p in its real part and -p in its imaginary part, taken apart and laid again. Place 0 has -0.0 and place 395 NaN. The slices of the frame are
 // ten points longer than it. A line for each place that the request names, for the frame laid again, and for each short slice.
+ghost use Prim.Native.Nat.{_≤_};
+ghost use lib.ListN.{length};
+use cases_lib::nan;
 use cases_lib::one;
 use cases_lib::row;
+use cases_lib::same_double;
 use cases_lib::show;
 use full_frame::lay;
 use full_frame::take_apart;
-ghost use Prim.Native.Nat.{_≤_};
-ghost use lib.ListN.{length};
-
-fn nan() -> f64 {
-    0.0 / 0.0
-}
 
 // Point p of the frame holds p and -p.
 fn fill(re: &mut [f64; 39946], im: &mut [f64; 39946]) {
@@ -24,37 +22,52 @@ fn fill(re: &mut [f64; 39946], im: &mut [f64; 39946]) {
     im[395] = nan();
 }
 
-// Whether two values are the same, the sign of a zero too; of a NaN, that both are one.
-fn same(a: f64, b: f64) -> usize
-    ensures { λ r. ⌜ r ≤ 1 ⌝ }
-{
-    if a == b {
-        if 1.0 / a == 1.0 / b {
-            return 1;
-        }
-        return 0;
-    }
-    if a == a {
-        return 0;
-    }
-    if b == b {
-        return 0;
-    }
-    1
-}
-
 // How many of the 39,946 places are the same.
 fn alike(a: &[f64; 39946], b: &[f64; 39946]) -> usize {
     let mut n: usize = 0;
     for p in 0..39946usize {
-        n = n + same(a[p], b[p]);
+        n += one(same_double(a[p], b[p]));
     }
     n
 }
 
 // Whether a point is that of a place.
 fn at(re: f64, im: f64, p: f64) -> usize {
-    one(same(re, p) + same(im, -p) == 2)
+    one(same_double(re, p) & same_double(im, -p))
+}
+
+// Which of five points are those of their places in the frame.
+fn at_places(re: &[f64], im: &[f64], points: [usize; 5], places: [f64; 5]) -> [usize; 5] {
+    let mut found = [0usize; 5];
+    for i in 0..5usize {
+        let k = points[i];
+        if k < re.len() && k < im.len() {
+            found[i] = at(re[k], im[k], places[i]);
+        }
+    }
+    found
+}
+
+fn header_places(re: &[f64; 192], im: &[f64; 192]) -> [usize; 5] {
+    at_places(re, im, [0, 191, 1, 2, 3], [0.0, 191.0, 1.0, 2.0, 3.0])
+}
+
+fn main_places(re: &[f64; 38976], im: &[f64; 38976]) -> [usize; 5] {
+    at_places(
+        re,
+        im,
+        [0, 202, 203, 38975, 1],
+        [192.0, 394.0, 399.0, 39931.0, 193.0],
+    )
+}
+
+fn burst_places(re: &[f64; 768], im: &[f64; 768]) -> [usize; 5] {
+    at_places(
+        re,
+        im,
+        [0, 1, 2, 3, 767],
+        [nan(), 396.0, 397.0, 398.0, 39935.0],
+    )
 }
 
 // The answer of taking a frame apart, and the points that the request names.
@@ -67,19 +80,22 @@ fn show_apart(
     br: &[f64; 768],
     bi: &[f64; 768],
 ) {
+    let h = header_places(hr, hi);
+    let m = main_places(mr, mi);
+    let b = burst_places(br, bi);
     let found = [
         answer,
-        at(hr[0], hi[0], 0.0),
-        at(hr[191], hi[191], 191.0),
-        at(mr[0], mi[0], 192.0),
-        at(mr[202], mi[202], 394.0),
-        at(br[0], bi[0], nan()),
-        at(br[1], bi[1], 396.0),
-        at(br[2], bi[2], 397.0),
-        at(br[3], bi[3], 398.0),
-        at(mr[203], mi[203], 399.0),
-        at(mr[38975], mi[38975], 39931.0),
-        at(br[767], bi[767], 39935.0),
+        h[0],
+        h[1],
+        m[0],
+        m[1],
+        b[0],
+        b[1],
+        b[2],
+        b[3],
+        m[2],
+        m[3],
+        b[4],
     ];
     show(
         b"take apart: #\nheader 0 (0 and -0.0) @ its place\nheader 191 @ its place\nmain 0 @ its place\nmain 202 @ its place\nburst 0, symbol 0 (NaN) @ its place\nburst 0, symbol 1 @ its place\nburst 0, symbol 2 @ its place\nburst 0, symbol 3 @ its place\nmain 203 @ its place\nmain 38,975 @ its place\nburst 191, symbol 3 @ its place\n",

@@ -4,14 +4,19 @@
 ghost use Prim.Native.Nat.{_≤_, _<_};
 use cases_frames::load_bytes;
 use cases_frames::mapping_of;
+use cases_frames::margin_end;
 use cases_frames::table_of;
 use cases_lib::draw;
+use cases_lib::front;
 use cases_lib::least;
+use cases_lib::nan;
 use cases_lib::one;
 use cases_lib::row;
 use cases_lib::show;
 use cases_lib::step;
 use cases_lib::wide;
+use isdbs_core::frame::MAIN_SYMBOLS;
+use isdbs_core::frame::SLOTS;
 use isdbs_phy::demod::encode_frame;
 use judge::FrameJudged;
 use judge::judge;
@@ -33,27 +38,12 @@ fn is_first(k: u64) -> bool {
     k / 8 % 2 == 1
 }
 
-// The first n bytes or parts, or none where there are fewer.
-fn front<'a>(s: &'a [u8], n: usize) -> &'a [u8] {
-    if n <= s.len() { &s[0..n] } else { &s[0..0] }
-}
-
+// The first n parts, or none where there are fewer.
 fn front_parts<'a>(s: &'a [f64], n: usize) -> &'a [f64] {
     if n <= s.len() { &s[0..n] } else { &s[0..0] }
 }
 
 // ---- changed parts
-
-// An end of the margin of a clean 0, 1/sqrt 2 or 1.
-fn end(clean: f64, upper: bool) -> f64 {
-    if clean < 0.25 {
-        return if upper { 0.03125 } else { -0.03125 };
-    }
-    if clean < 0.875 {
-        return if upper { 0.734375 } else { 0.6796875 };
-    }
-    if upper { 1.03125 } else { 0.96875 }
-}
 
 // One ulp from an end: away from 0 above 1/sqrt 2 and 1 and at 0, else towards it.
 fn beyond(x: f64, upper: bool) -> f64 {
@@ -77,7 +67,7 @@ fn changed(clean: f64, how: u64) -> f64 {
 
 fn changed_up(clean: f64, how: u64) -> f64 {
     let upper = how % 2 == 1;
-    let x = end(clean, upper);
+    let x = margin_end(clean, upper);
     if how < 2 { x } else { beyond(x, upper) }
 }
 
@@ -93,7 +83,7 @@ fn spread_part(clean: f64, draw: u64, noisy: bool) -> f64 {
 // Every part of the frame so.
 fn spread(re: &mut [f64; 38980], im: &mut [f64; 38980], seed: u64, noisy: bool) {
     let mut x = seed;
-    for k in 0..38976usize {
+    for k in 0..MAIN_SYMBOLS {
         x = step(x);
         re[k] = spread_part(re[k], x, noisy);
         x = step(x);
@@ -155,7 +145,7 @@ fn ask_front(
 // The sum of the 48 counts.
 fn total(counts: &[u32; 50]) -> u32 {
     let mut sum: u32 = 0;
-    for j in 0..48usize {
+    for j in 0..SLOTS {
         sum = std::num::wrapping_add_u32(sum, counts[j]);
     }
     sum
@@ -234,9 +224,10 @@ fn prepare(re: &mut [f64; 38980], im: &mut [f64; 38980], table: u64, i: u64, see
     ensures { λ r. ⌜ r .slot < 48 ⌝ }
 {
     if i == 3 {
-        let used = re[38975] != 0.0 || im[38975] != 0.0;
-        re[38975] = 65536.0;
-        im[38975] = -65536.0;
+        let last = MAIN_SYMBOLS - 1;
+        let used = re[last] != 0.0 || im[last] != 0.0;
+        re[last] = 65536.0;
+        im[last] = -65536.0;
         return Wanted {
             outside: used as u32,
             slot: 47,
@@ -365,6 +356,14 @@ const LENT: [[usize; 5]; 17] = [
     [9744, 38976, 38976, 47, 7],
 ];
 
+// Number j of case i.
+fn lent(i: usize, j: usize) -> usize
+    requires { ⌜ (i < 17) × (j < 5) ⌝ }
+{
+    let all = LENT;
+    all[i][j]
+}
+
 // Its table: 49 slots, a part of a unit, a reserved word, or a good one.
 fn lent_table(i: usize) -> u64 {
     match i {
@@ -382,7 +381,7 @@ fn lent_part(i: usize) -> f64 {
         8 => 65536.00000000001,
         9 => -65536.00000000001,
         10 => 1.0 / 0.0,
-        11 | 13..=16 => 0.0 / 0.0,
+        11 | 13..=16 => nan(),
         _ => 0.0,
     }
 }
@@ -392,19 +391,19 @@ fn one_row(i: usize, re: &[f64; 38980], im: &mut [f64; 38980], load: &[u8; 9750]
     requires { ⌜ i < 17 ⌝ }
 {
     let mut counts = [7u32; 50];
-    let l = LENT;
-    im[38975] = lent_part(i);
+    im[MAIN_SYMBOLS - 1] = lent_part(i);
     let told = ask_front(
         4,
         lent_table(i),
-        front_parts(re, l[i][1]),
-        front_parts(im, l[i][2]),
-        front(load, l[i][0]),
+        front_parts(re, lent(i, 1)),
+        front_parts(im, lent(i, 2)),
+        front(load, lent(i, 0)),
         &mut counts,
-        l[i][3],
+        lent(i, 3),
     );
     let kept = total(&counts) == 336;
-    (told.number == l[i][4]) & (kept == (l[i][4] != 0))
+    let number = lent(i, 4);
+    (told.number == number) & (kept == (number != 0))
 }
 
 // How many of the 17 are.

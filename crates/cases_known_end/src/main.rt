@@ -1,10 +1,10 @@
 // Stretches with a known end: one step with both bits wrong; the ten places of the least-weight difference, of which four may be wrong and five not; ends above 63; nothing held.
 use cases_lib::bytes_of;
+use cases_lib::end_line;
 use cases_lib::row;
 use cases_lib::show;
 use cases_lib::show_bits;
 use cases_lib::small;
-use cases_lib::text;
 use cases_lib::wide;
 use isdb_fec::conv::ViterbiDecoder;
 
@@ -120,7 +120,7 @@ fn one_step() {
 
 fn show_out(out: &[u8; 7]) {
     show_bits(out);
-    text(b"\n");
+    end_line();
 }
 
 // The reading of a stretch that is far from every path, between the states.
@@ -135,11 +135,9 @@ fn line(start: u8, end: u8) {
 
 fn main() {
     one_step();
-    survey(1);
-    survey(2);
-    survey(3);
-    survey(4);
-    survey(5);
+    for wrong in 1..6u32 {
+        survey(wrong);
+    }
     line(0, 63);
     line(0, 255);
     line(64, 127);

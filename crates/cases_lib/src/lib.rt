@@ -15,6 +15,10 @@ fn put(byte: u8) {
     text(&one);
 }
 
+pub fn end_line() {
+    put(b'\n');
+}
+
 // The last decimal digit.
 fn digit_of(n: usize) -> u8 {
     b'0' + (n % 10) as u8
@@ -85,6 +89,31 @@ pub fn show(words: &[u8], numbers: &[usize]) {
     let mut k: usize = 0;
     for i in 0..words.len() {
         k = put_next(words[i], numbers, k);
+    }
+}
+
+// A text with one number.
+pub fn show_one(words: &[u8], number: usize) {
+    let numbers = [number];
+    show(words, &numbers);
+}
+
+// A byte of the lines, where it stands in the first of those left. How many lines are still before the one that is shown.
+fn put_left(byte: u8, left: usize) -> usize {
+    if byte == b'\n' {
+        return if left == 0 { 0 } else { left - 1 };
+    }
+    if left == 1 {
+        put(byte);
+    }
+    left
+}
+
+// Line k of a text, the first being 1, without its end.
+pub fn show_line(lines: &[u8], k: usize) {
+    let mut left = k;
+    for i in 0..lines.len() {
+        left = put_left(lines[i], left);
     }
 }
 
@@ -217,7 +246,25 @@ pub fn float_bits(x: f32) -> u32 {
     f32::to_bits(x)
 }
 
+pub fn nan() -> f64 {
+    0.0 / 0.0
+}
+
 // ---- comparing
+
+// Whether two values are the same, the sign of a zero too; of a NaN, that both are one.
+pub fn same_double(a: f64, b: f64) -> bool {
+    double_bits(a) == double_bits(b)
+}
+
+// The first n bytes, or none where there are fewer.
+pub fn front<'a>(bytes: &'a [u8], n: usize) -> &'a [u8] {
+    if n <= bytes.len() {
+        &bytes[0..n]
+    } else {
+        &bytes[0..0]
+    }
+}
 
 // How many of the n bytes of a from `from` on are those of b, as far as both reach.
 pub fn alike(a: &[u8], from: usize, b: &[u8], n: usize) -> usize
@@ -252,4 +299,25 @@ pub fn words_of(words: &[u64], from: usize, to: usize, w: u64) -> usize {
         n += one(words[i] == w);
     }
     n
+}
+
+// ---- stored lists
+
+// Whether the file has a whole line more, which is put in the slice.
+pub fn read_line(file: i32, line: &mut [u8]) -> bool {
+    io::read_full(file, line) == line.len()
+}
+
+// Shows a line that does not agree, and says whether it does.
+pub fn passed(line: &[u8], agrees: bool) -> bool {
+    if !agrees {
+        text(line);
+    }
+    agrees
+}
+
+// How many of the lines agree, and how many do not.
+pub fn show_agreeing(agree: usize, lines: usize) {
+    let found = [agree, lines - least(agree, lines)];
+    show(b"# agree\n# differ\n", &found);
 }

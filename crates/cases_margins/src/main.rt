@@ -3,9 +3,11 @@
 // is 65,536 or -65,536. Free are the imaginary parts of BPSK and both parts of the points outside every run. The slices are ten points longer than a frame, and these hold
 // 100,000, more than a part of a frame may be. A line for each frame shows its table as WORDxSLOTS, how many bytes of the load come back, and how many parts are free: one for each
 // symbol of BPSK, and two for each of the 38,976 that is in no run, a slot of a run being 812 symbols.
-ghost use Prim.Native.Nat.{_≤_};
+ghost use Prim.Native.Nat.{_≤_, _<_};
+use cases_frames::TABLES;
 use cases_frames::load_bytes;
 use cases_frames::mapping_of;
+use cases_frames::margin_end;
 use cases_frames::show_table;
 use cases_frames::table_of;
 use cases_lib::alike;
@@ -14,75 +16,41 @@ use cases_lib::least;
 use cases_lib::one;
 use cases_lib::row;
 use cases_lib::show;
+use cases_lib::show_one;
 use cases_lib::step;
+use cases_lib::text;
 use isdbs_core::combination::Combination;
+use isdbs_core::frame::MAIN_SYMBOLS;
+use isdbs_core::frame::SLOTS;
 use isdbs_core::slots::Run;
 use isdbs_core::slots::runs;
 use isdbs_phy::demod::FrameDecoded;
 use isdbs_phy::demod::encode_frame;
 
-// The tables. Entry i has its word at bit 16 i and its slots at bit 16 i + 8. Frame k has the mapping k % 8.
-const TABLES: [u64; 25] = [
-    // each combination in all slots
-    0x3007,
-    0x3006,
-    0x3005,
-    0x3004,
-    0x3003,
-    0x3002,
-    0x3001,
-    // four in all slots
-    0x0801_0c05_0806_1407,
-    // each combination in some whole units, the rest of the slots free
-    0x0401,
-    0x2e02,
-    0x2d03,
-    0x2c04,
-    0x2f07,
-    0x2806,
-    0x2a05,
-    // two in all slots
-    0x0402_2c07,
-    // four in all slots, in another order
-    0x0f07_0804_0903_1006,
-    // words that stand for no combination: 15 with slots, 8 without
-    0x1007_0a02_0a0f_0c05,
-    0x1006_1407_0801_040f,
-    0x0c04_0903_0008_0602,
-    // a word of which the low 4 bits count
-    0x0c03_0c01_0c05_0c17,
-    // small runs, free slots
-    0x000f_0806_0107_0401,
-    0x0f0f_0806_0c05_0c04,
-    // a combination twice
-    0x0c02_0d07_0c01_0b07,
-    // the empty table
-    0x000f_000f_000f_000f,
-];
+// Table k: those that each program goes through, and the empty table. Frame k has the mapping k % 8.
+fn table(k: usize) -> u64
+    requires { ⌜ k < 25 ⌝ }
+{
+    let tables = TABLES;
+    if k < 24 {
+        tables[k]
+    } else {
+        0x000f_000f_000f_000f
+    }
+}
 
 // The kind of frame k: both kinds with each mapping.
 fn is_first(k: u64) -> bool {
     k % 2 == k / 8 % 2
 }
 
-// An end of the margin of a clean 0, 1/sqrt 2 or 1.
-fn end(clean: f64, upper: bool) -> f64 {
-    if clean < 0.25 {
-        return if upper { 0.03125 } else { -0.03125 };
-    }
-    if clean < 0.875 {
-        return if upper { 0.734375 } else { 0.6796875 };
-    }
-    if upper { 1.03125 } else { 0.96875 }
-}
-
 // An end of the margin of a clean part.
 fn moved(clean: f64, draw: u64) -> f64 {
     let upper = draw >> 63 == 1;
     if clean < 0.0 {
-        return -end(-clean, upper);
+        return -margin_end(-clean, upper);
     }
-    end(clean, upper)
+    margin_end(clean, upper)
 }
 
 // The symbols of BPSK, from `from` up to but not including `to`.
@@ -138,9 +106,8 @@ fn is_free(outside: bool, k: usize, bpsk: Symbols) -> bool {
 // Moves every part of the clean points to an end of its margin. How many parts are free.
 fn receive(re: &mut [f64; 38986], im: &mut [f64; 38986], bpsk: Symbols, seed: u64) -> usize {
     let mut x = seed;
-    let mut k: usize = 0;
     let mut n: usize = 0;
-    while k < 38976 {
+    for k in 0..MAIN_SYMBOLS {
         let outside = is_outside(re[k], im[k]);
         let free = is_free(outside, k, bpsk);
         x = step(x);
@@ -148,7 +115,6 @@ fn receive(re: &mut [f64; 38986], im: &mut [f64; 38986], bpsk: Symbols, seed: u6
         x = step(x);
         im[k] = part(im[k], free, x);
         n += one(outside) + one(free);
-        k += 1;
     }
     n
 }
@@ -181,7 +147,7 @@ fn read(
     let t = table_of(table);
     let m = mapping_of(k);
     let first = is_first(k);
-    let mut counts = [7u32; 48];
+    let mut counts = [7u32; SLOTS];
     exact_frame::read_frame(re, im, t, first, m, decisions, bits, bytes, &mut counts)
 }
 
@@ -275,20 +241,18 @@ fn passes(k: u64, table: u64) -> bool {
 fn passing() -> usize
     ensures { λ r. ⌜ r ≤ 25 ⌝ }
 {
-    let tables = TABLES;
     let mut n: usize = 0;
     for k in 0..25usize {
-        n += one(passes(k as u64, tables[k]));
+        n += one(passes(k as u64, table(k)));
     }
     n
 }
 
 fn main() {
     let n = passing();
-    let found = [25 - n];
     if n == 25 {
-        show(b"25 frames, all bytes agree, no step is strained\n", &found);
+        text(b"25 frames, all bytes agree, no step is strained\n");
     } else {
-        show(b"# of 25 frames differ\n", &found);
+        show_one(b"# of 25 frames differ\n", 25 - n);
     }
 }

@@ -1,5 +1,6 @@
 // Mended stretches: the cases of request P13 and its rows, a stretch of 4,096 steps, and every stretch of up to 7 steps beside an exhaustive search.
 use cases_lib::alike;
+use cases_lib::front;
 use cases_lib::row;
 use cases_lib::show;
 use cases_lib::small;
@@ -81,11 +82,6 @@ fn unpack(stored: u32) -> [u8; 14] {
         rest = rest / 2;
     }
     bits
-}
-
-// The first n bits, or none where there are fewer.
-fn front<'a>(s: &'a [u8], n: usize) -> &'a [u8] {
-    if n <= s.len() { &s[0..n] } else { &s[0..0] }
 }
 
 // The call, named once: its code is then compiled once.

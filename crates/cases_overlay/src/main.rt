@@ -9,10 +9,12 @@ use cases_lib::one;
 use cases_lib::row;
 use cases_lib::show;
 use cases_lib::show_bits;
+use cases_lib::show_one;
 use cases_lib::small;
 use cases_lib::step;
 use cases_lib::text;
 use isdb_fec::conv::ConvEncoder;
+use isdbs_core::frame::MAIN_SYMBOLS;
 use isdbs_phy::demod::encode_frame_with_state;
 use isdbt_fec::conv::CodeRate;
 use isdbt_fec::conv::Encoded;
@@ -20,6 +22,7 @@ use isdbt_fec::conv::encode_punctured;
 use overlay_encode::Code;
 use overlay_encode::encode_overlaid;
 use overlay_encode::overlay;
+use refusal::Answer;
 
 // The start states of the first load and of the second; their exclusive-or is 58.
 const FIRST: u8 = 5;
@@ -83,8 +86,13 @@ fn bits_of(word: u8, re: f64, im: f64) -> u8 {
 }
 
 // The bits of each point.
-fn lay(word: u8, re: &[f64; 38976], im: &[f64; 38976], bits: &mut [u8; 38976]) {
-    for k in 0..38976usize {
+fn lay(
+    word: u8,
+    re: &[f64; MAIN_SYMBOLS],
+    im: &[f64; MAIN_SYMBOLS],
+    bits: &mut [u8; MAIN_SYMBOLS],
+) {
+    for k in 0..MAIN_SYMBOLS {
         bits[k] = bits_of(word, re[k], im[k]);
     }
 }
@@ -94,22 +102,22 @@ fn encode(
     load: &[u8; 9744],
     word: u8,
     state: u8,
-    re: &mut [f64; 38976],
-    im: &mut [f64; 38976],
+    re: &mut [f64; MAIN_SYMBOLS],
+    im: &mut [f64; MAIN_SYMBOLS],
 ) -> u8 {
     let t = table_of(0x000f_000f_000f_3000 + word as u64);
     let made = encode_frame_with_state(load, t, ConvEncoder { state }, mapping_of(4), re, im);
     let answer = made.answer;
-    if row(answer) != 0 {
+    let Answer::Accepted = answer else {
         return 255;
-    }
+    };
     made.enc.state
 }
 
 // The same with the bits of the points alone.
-fn frame(load: &[u8; 9744], word: u8, state: u8, bits: &mut [u8; 38976]) -> u8 {
-    let mut re = [0.0f64; 38976];
-    let mut im = [0.0f64; 38976];
+fn frame(load: &[u8; 9744], word: u8, state: u8, bits: &mut [u8; MAIN_SYMBOLS]) -> u8 {
+    let mut re = [0.0f64; MAIN_SYMBOLS];
+    let mut im = [0.0f64; MAIN_SYMBOLS];
     let last = encode(load, word, state, &mut re, &mut im);
     lay(word, &re, &im, bits);
     last
@@ -131,7 +139,7 @@ struct Laid {
     ends: usize,
 }
 
-fn points(a: &[u8; 38976], b: &[u8; 38976], c: &[u8; 38976]) -> usize {
+fn points(a: &[u8; MAIN_SYMBOLS], b: &[u8; MAIN_SYMBOLS], c: &[u8; MAIN_SYMBOLS]) -> usize {
     overlaid(a, b, c)
 }
 
@@ -141,10 +149,10 @@ fn third(
     load: &[u8; 9744],
     state: u8,
     end: u8,
-    a: &[u8; 38976],
-    b: &[u8; 38976],
+    a: &[u8; MAIN_SYMBOLS],
+    b: &[u8; MAIN_SYMBOLS],
 ) -> Laid {
-    let mut c = [0u8; 38976];
+    let mut c = [0u8; MAIN_SYMBOLS];
     let last = frame(load, word, state, &mut c);
     Laid {
         right: points(a, b, &c),
@@ -159,8 +167,8 @@ fn combination(
     sum: &[u8; 9744],
     either: &[u8; 9744],
 ) {
-    let mut a = [0u8; 38976];
-    let mut b = [0u8; 38976];
+    let mut a = [0u8; MAIN_SYMBOLS];
+    let mut b = [0u8; MAIN_SYMBOLS];
     let after = frame(first, word, FIRST, &mut a);
     let end = after ^ frame(second, word, SECOND, &mut b);
     let x = third(word, sum, 58, end, &a, &b);
@@ -265,7 +273,7 @@ fn unpack(load: &[u8; 9744], bits: &mut [u8; 840]) {
 }
 
 // Of how many of the first 630 points the bits are those that ISDB-T sends.
-fn pairs(points: &[u8; 38976], sent: &[u8; 1260]) -> usize {
+fn pairs(points: &[u8; MAIN_SYMBOLS], sent: &[u8; 1260]) -> usize {
     let mut n: usize = 0;
     for j in 0..630usize {
         n += one((points[j] % 2 == sent[2 * j]) & (points[j] / 2 == sent[2 * j + 1]));
@@ -281,7 +289,7 @@ fn send_bits(bits: &[u8; 840], sent: &mut [u8; 1260]) -> usize {
 
 // 210 periods of ISDB-S QPSK 2/3, which are 420 of ISDB-T 2/3.
 fn two_thirds(load: &[u8; 9744]) {
-    let mut points = [0u8; 38976];
+    let mut points = [0u8; MAIN_SYMBOLS];
     let mut bits = [0u8; 840];
     let mut sent = [9u8; 1260];
     frame(load, 3, FIRST, &mut points);
@@ -299,8 +307,7 @@ fn two_thirds(load: &[u8; 9744]) {
 fn line(label: &[u8], out: &[u8; 12], enc: ConvEncoder) {
     text(label);
     show_bits(out);
-    let state = [small(enc.state)];
-    show(b" state #\n", &state);
+    show_one(b" state #\n", small(enc.state));
 }
 
 // A code with the generators 7 and 5 octal.
@@ -332,8 +339,7 @@ fn length_three() {
         &mut z,
     );
     let answer = e.answer;
-    let found = [row(answer)];
-    show(b"length 3: answer #\n", &found);
+    show_one(b"length 3: answer #\n", row(answer));
     line(b"first  ", &x, e.first);
     line(b"second ", &y, e.second);
     line(b"sum    ", &z, e.third);

@@ -32,6 +32,13 @@ fn label(g1: u8, g2: u8, half: u32, u: u32, state: u32) -> u32
     2 * parity(register & wide_of(g1)) + parity(register & wide_of(g2))
 }
 
+// The same of ISDB's code.
+pub fn isdb_label(u: u32, state: u32) -> u32
+    ensures { λ r. ⌜ r < 4 ⌝ }
+{
+    label(0o171, 0o133, 32, u % 2, state)
+}
+
 // A path's sum, and its place in the order: the end state, then the predecessor's low bit at the last step, the step before it, and so on.
 struct Walked {
     sum: u32,
@@ -139,12 +146,19 @@ fn metric(x: u32, few: bool) -> u8 {
     }
 }
 
+// The next of a row of numbers below 65,536 that goes by no rule.
+pub fn next(x: u32) -> u32
+    ensures { λ r. ⌜ r < 65536 ⌝ }
+{
+    (x % 65536 * 25173 + 13849) % 65536
+}
+
 // Metrics that go by no rule. Few different ones make equal sums.
 pub fn scattered(seed: u32, few: bool) -> [u8; 32] {
     let mut x = seed % 65536;
     let mut ms = [16u8; 32];
     for k in 0..32 {
-        x = (x * 25173 + 13849) % 65536;
+        x = next(x);
         ms[k] = metric(x, few);
     }
     ms

@@ -5,8 +5,9 @@ use cases_lib::alike;
 use cases_lib::one;
 use cases_lib::row;
 use cases_lib::show;
+use cases_lib::show_line;
+use cases_lib::show_one;
 use cases_lib::small;
-use cases_lib::text;
 use cases_lib::wide;
 use cases_paths::floats;
 use cases_paths::has_inputs;
@@ -144,38 +145,42 @@ fn handed_answer(code: Code, held: usize, traceback: usize) -> usize {
     number(nothing_pushed(code, handed(pm, held, traceback)))
 }
 
-fn says(name: &[u8], holds: bool) {
-    text(name);
-    let found = [one(holds)];
-    show(b" @\n", &found);
+// Whether case k holds.
+fn holds(k: usize) -> bool {
+    match k {
+        0 => three_inputs(),
+        1 => encoder_answer(3) == 0,
+        2 => encoder_answer(4) == 4,
+        3 => five_places() == 9,
+        4 => fifth_start(),
+        5 => four_values(),
+        6 => no_number(4) == 0,
+        7 => no_number(3) == 4,
+        _ => code_holds(k),
+    }
+}
+
+fn code_holds(k: usize) -> bool {
+    match k {
+        8 => fresh_answer(code_of(3, 3, 8)) == 12,
+        9 => fresh_answer(code_of(3, 4, 3)) == 12,
+        10 => fresh_answer(code_of(3, 4, 4)) == 0,
+        11 => fresh_answer(code_of(2, 3, 2)) == 12,
+        12 => fresh_answer(code_of(255, 255, 255)) == 12,
+        13 => handed_answer(code_of(8, 128, 128), 0, 0) == 3,
+        14 => handed_answer(code_of(8, 128, 128), 4224, 128) == 12,
+        _ => handed_answer(code_of(7, 64, 64), 4224, 128) == 4,
+    }
 }
 
 fn worked_cases() {
-    says(b"inputs 1, 0, 0 give 3, 2, 3", three_inputs());
-    says(b"encoder state 3", encoder_answer(3) == 0);
-    says(b"encoder state 4", encoder_answer(4) == 4);
-    says(b"five places", five_places() == 9);
-    says(b"start 5 is state 1", fifth_start());
-    says(b"four values", four_values());
-    says(b"no number at place 4", no_number(4) == 0);
-    says(b"no number at place 3", no_number(3) == 4);
-    says(b"generators 3 and 8", fresh_answer(code_of(3, 3, 8)) == 12);
-    says(b"generators 4 and 3", fresh_answer(code_of(3, 4, 3)) == 12);
-    says(b"generators 4 and 4", fresh_answer(code_of(3, 4, 4)) == 0);
-    says(b"length 2", fresh_answer(code_of(2, 3, 2)) == 12);
-    says(b"length 255", fresh_answer(code_of(255, 255, 255)) == 12);
-    says(
-        b"traceback 0, length 8",
-        handed_answer(code_of(8, 128, 128), 0, 0) == 3,
-    );
-    says(
-        b"length 8, too many held",
-        handed_answer(code_of(8, 128, 128), 4224, 128) == 12,
-    );
-    says(
-        b"length 7, too many held",
-        handed_answer(code_of(7, 64, 64), 4224, 128) == 4,
-    );
+    for k in 0..16usize {
+        show_line(
+            b"inputs 1, 0, 0 give 3, 2, 3\nencoder state 3\nencoder state 4\nfive places\nstart 5 is state 1\nfour values\nno number at place 4\nno number at place 3\ngenerators 3 and 8\ngenerators 4 and 3\ngenerators 4 and 4\nlength 2\nlength 255\ntraceback 0, length 8\nlength 8, too many held\nlength 7, too many held",
+            k + 1,
+        );
+        show_one(b" @\n", one(holds(k)));
+    }
 }
 
 // ---- every length beside a search

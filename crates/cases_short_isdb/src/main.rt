@@ -5,7 +5,9 @@ use cases_lib::alike;
 use cases_lib::least;
 use cases_lib::one;
 use cases_lib::row;
-use cases_lib::show;
+use cases_lib::show_line;
+use cases_lib::show_one;
+use cases_paths::next;
 use isdb_fec::conv::ConvEncoder;
 use isdb_fec::conv::Made;
 use isdb_fec::conv::Released;
@@ -44,14 +46,6 @@ fn same_words(a: &[u64; 4300], b: &[u64; 4300]) -> bool {
         }
     }
     true
-}
-
-// The next of a row of numbers below 65,536 that goes by no rule.
-fn next(x: u32) -> u32
-    requires { ⌜ x < 65536 ⌝ }
-    ensures { λ r. ⌜ r < 65536 ⌝ }
-{
-    (x * 25173 + 13849) % 65536
 }
 
 // A soft value from -8 to 8.
@@ -107,7 +101,7 @@ fn bit_agrees(s: u8, u: u8) -> bool {
 fn starts() -> bool {
     for s in 0..256usize {
         let state = (s % 256) as u8;
-        if fresh_agree(state) & bit_agrees(state, 254) & bit_agrees(state, 3) {} else {
+        if !(fresh_agree(state) & bit_agrees(state, 254) & bit_agrees(state, 3)) {
             return false;
         }
     }
@@ -210,15 +204,23 @@ fn by_isdb(
     }
 }
 
-fn show_call(call: Call, holds: bool) {
-    let found = [one(holds)];
+// The line of a call's name.
+fn name(call: Call) -> usize {
     match call {
-        Call::Push => show(b"push &s\n", &found),
-        Call::Metrics => show(b"push_metrics &s\n", &found),
-        Call::Known => show(b"push_known &s\n", &found),
-        Call::FlushAt(_) => show(b"flush_at &s\n", &found),
-        Call::Flush => show(b"flush &s\n", &found),
+        Call::Push => 1,
+        Call::Metrics => 2,
+        Call::Known => 3,
+        Call::FlushAt(_) => 4,
+        Call::Flush => 5,
     }
+}
+
+fn show_call(call: Call, holds: bool) {
+    show_line(
+        b"push\npush_metrics\npush_known\nflush_at\nflush",
+        name(call),
+    );
+    show_one(b" &s\n", one(holds));
 }
 
 // Whether two results are the same, with the number that is expected.
@@ -281,8 +283,7 @@ fn run(values: &[f32; 18000], bits: &[u8; 4500]) {
 }
 
 fn main() {
-    let found = [one(starts())];
-    show(b"fresh decoders and the encoder &s\n", &found);
+    show_one(b"fresh decoders and the encoder &s\n", one(starts()));
     let mut values = [0.0f32; 18000];
     let mut bits = [0u8; 4500];
     fill(&mut values, 1);

@@ -6,8 +6,11 @@ use cases_frames::table_of;
 use cases_lib::one;
 use cases_lib::row;
 use cases_lib::show;
-use cases_lib::text;
+use cases_lib::show_line;
+use cases_lib::show_one;
 use cases_lib::wide;
+use isdbs_core::frame::MAIN_SYMBOLS;
+use isdbs_core::frame::SLOTS;
 use isdbs_phy::demod::DemodOptions;
 use isdbs_phy::demod::FrameDecoded;
 use isdbs_phy::demod::decode_frame;
@@ -35,15 +38,15 @@ fn fill(load: &mut [u8; 9744]) {
 }
 
 // How many of the counts are w.
-fn places(counts: &[u32; 48], w: u32) -> usize {
+fn places(counts: &[u32; SLOTS], w: u32) -> usize {
     let mut n: usize = 0;
-    for i in 0..48usize {
+    for i in 0..SLOTS {
         n += one(counts[i] == w);
     }
     n
 }
 
-fn show_counts(counts: &[u32; 48]) {
+fn show_counts(counts: &[u32; SLOTS]) {
     let found = [
         wide(counts[0]),
         wide(counts[1]),
@@ -64,8 +67,7 @@ fn show_answer(r: FrameDecoded) {
             show(b": strained # of #", &found);
         }
         FrameDecoded::Refused(a) => {
-            let found = [row(a)];
-            show(b": refused #", &found);
+            show_one(b": refused #", row(a));
         }
     }
 }
@@ -74,8 +76,8 @@ fn decode(
     table: u64,
     first: bool,
     known_start: bool,
-    re: &[f64; 38976],
-    im: &[f64; 38976],
+    re: &[f64; MAIN_SYMBOLS],
+    im: &[f64; MAIN_SYMBOLS],
     decisions: &mut [u64; 4224],
     bits: &mut [u8; 68224],
     bytes: &mut [u8; 9744],
@@ -99,14 +101,21 @@ fn decode(
     )
 }
 
-// Reads a frame with the first n of 48 counts lent. A frame that is the first has a start that the decoder knows.
-fn read(what: &[u8], table: u64, first: bool, n: usize, re: &[f64; 38976], im: &[f64; 38976])
+// Reads a frame with the first n of 48 counts lent, and shows it by the name of the case, the first being 1. A frame that is the first has a start that the decoder knows.
+fn read(
+    case: usize,
+    table: u64,
+    first: bool,
+    n: usize,
+    re: &[f64; MAIN_SYMBOLS],
+    im: &[f64; MAIN_SYMBOLS],
+)
     requires { ⌜ n ≤ 48 ⌝ }
 {
     let mut decisions = [0u64; 4224];
     let mut bits = [0u8; 68224];
     let mut bytes = [0u8; 9744];
-    let mut counts = [7u32; 48];
+    let mut counts = [7u32; SLOTS];
     let r = decode(
         table,
         first,
@@ -118,7 +127,10 @@ fn read(what: &[u8], table: u64, first: bool, n: usize, re: &[f64; 38976], im: &
         &mut bytes,
         &mut counts[0..n],
     );
-    text(what);
+    show_line(
+        b"all points 0\nQPSK 1/2, clean\nQPSK 1/2, symbol 1629 negated\nQPSK 1/2, not the first, start unknown\nQPSK 5/6, step 1624 turned\nQPSK 5/6, five places lent\nQPSK 5/6, four places lent\nQPSK 5/6, step 1623 turned\nTC8PSK 2/3, symbol 815 turned by 90 degrees",
+        case,
+    );
     show_answer(r);
     show_counts(&counts);
 }
@@ -127,27 +139,27 @@ fn encode(
     load: &[u8; 9744],
     table: u64,
     first: bool,
-    re: &mut [f64; 38976],
-    im: &mut [f64; 38976],
+    re: &mut [f64; MAIN_SYMBOLS],
+    im: &mut [f64; MAIN_SYMBOLS],
 ) {
     encode_frame(load, table_of(table), first, mapping_of(MAPPING), re, im);
 }
 
 // The clean frame of the load.
-fn make(table: u64, first: bool, re: &mut [f64; 38976], im: &mut [f64; 38976]) {
+fn make(table: u64, first: bool, re: &mut [f64; MAIN_SYMBOLS], im: &mut [f64; MAIN_SYMBOLS]) {
     let mut load = [0u8; 9744];
     fill(&mut load);
     encode(&load, table, first, re, im);
 }
 
-fn negate(parts: &mut [f64; 38976], k: usize)
+fn negate(parts: &mut [f64; MAIN_SYMBOLS], k: usize)
     requires { ⌜ k < 38976 ⌝ }
 {
     parts[k] = -parts[k];
 }
 
 // Turns point k by 90 degrees.
-fn quarter(re: &mut [f64; 38976], im: &mut [f64; 38976], k: usize)
+fn quarter(re: &mut [f64; MAIN_SYMBOLS], im: &mut [f64; MAIN_SYMBOLS], k: usize)
     requires { ⌜ k < 38976 ⌝ }
 {
     let x = re[k];
@@ -158,82 +170,40 @@ fn quarter(re: &mut [f64; 38976], im: &mut [f64; 38976], k: usize)
 // All points 0. Then QPSK 1/2 in four slots, of which two are valid: symbol k is step k, and step 1,629 is the sixth of valid slot 1. The same of a frame that is not the first,
 // with a start that the decoder does not know: the bits are encoded again from the state that the header leaves.
 fn half_rate() {
-    let mut re = [0.0f64; 38976];
-    let mut im = [0.0f64; 38976];
-    read(b"all points 0", ALL, true, 48, &re, &im);
+    let mut re = [0.0f64; MAIN_SYMBOLS];
+    let mut im = [0.0f64; MAIN_SYMBOLS];
+    read(1, ALL, true, SLOTS, &re, &im);
     make(HALF, true, &mut re, &mut im);
-    read(b"QPSK 1/2, clean", HALF, true, 48, &re, &im);
+    read(2, HALF, true, SLOTS, &re, &im);
     negate(&mut re, 1629);
     negate(&mut im, 1629);
-    read(b"QPSK 1/2, symbol 1629 negated", HALF, true, 48, &re, &im);
+    read(3, HALF, true, SLOTS, &re, &im);
     make(HALF, false, &mut re, &mut im);
-    read(
-        b"QPSK 1/2, not the first, start unknown",
-        HALF,
-        false,
-        48,
-        &re,
-        &im,
-    );
+    read(4, HALF, false, SLOTS, &re, &im);
 }
 
 // QPSK 5/6 in six slots, of which five are valid. A period is five steps and three symbols; step 1,624, the first of valid slot 1, is the last of a period, and is sent on
 // the imaginary part of symbol 974, whose real part has step 1,623.
 fn five_sixths() {
-    let mut re = [0.0f64; 38976];
-    let mut im = [0.0f64; 38976];
+    let mut re = [0.0f64; MAIN_SYMBOLS];
+    let mut im = [0.0f64; MAIN_SYMBOLS];
     make(FIVE_SIXTHS, true, &mut re, &mut im);
     negate(&mut im, 974);
-    read(
-        b"QPSK 5/6, step 1624 turned",
-        FIVE_SIXTHS,
-        true,
-        48,
-        &re,
-        &im,
-    );
-    read(
-        b"QPSK 5/6, five places lent",
-        FIVE_SIXTHS,
-        true,
-        5,
-        &re,
-        &im,
-    );
-    read(
-        b"QPSK 5/6, four places lent",
-        FIVE_SIXTHS,
-        true,
-        4,
-        &re,
-        &im,
-    );
+    read(5, FIVE_SIXTHS, true, SLOTS, &re, &im);
+    read(6, FIVE_SIXTHS, true, 5, &re, &im);
+    read(7, FIVE_SIXTHS, true, 4, &re, &im);
     negate(&mut im, 974);
     negate(&mut re, 974);
-    read(
-        b"QPSK 5/6, step 1623 turned",
-        FIVE_SIXTHS,
-        true,
-        48,
-        &re,
-        &im,
-    );
+    read(8, FIVE_SIXTHS, true, SLOTS, &re, &im);
 }
 
 // TC8PSK in two slots: 812 steps to a slot, and step 815 is the fourth of valid slot 1.
 fn eight_points() {
-    let mut re = [0.0f64; 38976];
-    let mut im = [0.0f64; 38976];
+    let mut re = [0.0f64; MAIN_SYMBOLS];
+    let mut im = [0.0f64; MAIN_SYMBOLS];
     make(EIGHT, true, &mut re, &mut im);
     quarter(&mut re, &mut im, 815);
-    read(
-        b"TC8PSK 2/3, symbol 815 turned by 90 degrees",
-        EIGHT,
-        true,
-        48,
-        &re,
-        &im,
-    );
+    read(9, EIGHT, true, SLOTS, &re, &im);
 }
 
 fn main() {

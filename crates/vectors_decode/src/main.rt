@@ -7,15 +7,24 @@ use cases_frames::table_of;
 use cases_lib::digest;
 use cases_lib::double_of;
 use cases_lib::draw;
+use cases_lib::end_line;
 use cases_lib::float_of;
+use cases_lib::front;
+use cases_lib::nan;
 use cases_lib::number;
 use cases_lib::one;
+use cases_lib::passed;
+use cases_lib::read_line;
 use cases_lib::row;
 use cases_lib::show;
+use cases_lib::show_agreeing;
 use cases_lib::show_bits;
+use cases_lib::show_one;
 use cases_lib::step;
-use cases_lib::text;
 use cases_lib::words_of;
+use isdbs_core::frame::MAIN_SYMBOLS;
+use isdbs_core::frame::SLOT_BYTES;
+use isdbs_core::frame::SLOTS;
 use isdbs_phy::demod::DemodOptions;
 use isdbs_phy::demod::FrameDecoded;
 use isdbs_phy::demod::decode_frame;
@@ -50,9 +59,15 @@ fn part(kind: u64, clean: f64, draw: u64, amplitude: f64) -> f64 {
 }
 
 // Makes the received points of the clean ones.
-fn receive(re: &mut [f64; 38976], im: &mut [f64; 38976], kind: u64, seed: u64, amplitude: f64) {
+fn receive(
+    re: &mut [f64; MAIN_SYMBOLS],
+    im: &mut [f64; MAIN_SYMBOLS],
+    kind: u64,
+    seed: u64,
+    amplitude: f64,
+) {
     let mut x = seed;
-    for k in 0..38976usize {
+    for k in 0..MAIN_SYMBOLS {
         x = step(x);
         re[k] = part(kind, re[k], x, amplitude);
         x = step(x);
@@ -93,15 +108,10 @@ fn is_first(line: &[u8; 166]) -> bool {
     number(line, 20, 22) == 1
 }
 
-// The first n bytes, or none where there are fewer.
-fn front<'a>(s: &'a [u8], n: usize) -> &'a [u8] {
-    if n <= s.len() { &s[0..n] } else { &s[0..0] }
-}
-
 // The clean frame of the line's load: the answer's number.
-fn clean(line: &[u8; 166], re: &mut [f64; 38976], im: &mut [f64; 38976]) -> usize {
+fn clean(line: &[u8; 166], re: &mut [f64; MAIN_SYMBOLS], im: &mut [f64; MAIN_SYMBOLS]) -> usize {
     let mut bytes = [0u8; 9744];
-    let count = (number(line, 129, 131) % 49 * 203) as usize;
+    let count = (number(line, 129, 131) % 49) as usize * SLOT_BYTES;
     draw(&mut bytes, count, number(line, 83, 99));
     let t = table_of(number(line, 0, 16));
     let m = mapping_of(number(line, 17, 19));
@@ -130,13 +140,13 @@ fn decode(
     table: u64,
     first: bool,
     o: DemodOptions,
-    re: &[f64; 38976],
-    im: &[f64; 38976],
+    re: &[f64; MAIN_SYMBOLS],
+    im: &[f64; MAIN_SYMBOLS],
     decisions: &mut [u64; 4224],
     bits: &mut [u8; 68224],
     bytes: &mut [u8; 9744],
 ) -> FrameDecoded {
-    let mut counts = [0u32; 48];
+    let mut counts = [0u32; SLOTS];
     decode_frame(
         re,
         im,
@@ -151,7 +161,7 @@ fn decode(
 }
 
 // Whether the points are decoded as the Rust decodes them. What is lent holds no zeros.
-fn decodes(line: &[u8; 166], re: &[f64; 38976], im: &[f64; 38976]) -> bool {
+fn decodes(line: &[u8; 166], re: &[f64; MAIN_SYMBOLS], im: &[f64; MAIN_SYMBOLS]) -> bool {
     let mut decisions = [0xffff_ffff_ffff_ffffu64; 4224];
     let mut bits = [7u8; 68224];
     let mut bytes = [165u8; 9744];
@@ -173,8 +183,8 @@ fn decodes(line: &[u8; 166], re: &[f64; 38976], im: &[f64; 38976]) -> bool {
 
 // Whether the line's frame is decoded as the Rust decodes it.
 fn agrees(line: &[u8; 166]) -> bool {
-    let mut re = [0.0f64; 38976];
-    let mut im = [0.0f64; 38976];
+    let mut re = [0.0f64; MAIN_SYMBOLS];
+    let mut im = [0.0f64; MAIN_SYMBOLS];
     let made = clean(line, &mut re, &mut im);
     receive(
         &mut re,
@@ -189,14 +199,11 @@ fn agrees(line: &[u8; 166]) -> bool {
 // Whether a whole line was read and its frame agrees; a line where it does not is shown.
 fn passes(file: i32) -> bool {
     let mut line = [0u8; 166];
-    if io::read_full(file, &mut line) < 166 {
+    if !read_line(file, &mut line) {
         return false;
     }
-    if agrees(&line) {
-        return true;
-    }
-    text(&line);
-    false
+    let same = agrees(&line);
+    passed(&line, same)
 }
 
 // How many of the lines pass: none of those that are missing.
@@ -222,8 +229,8 @@ fn scales_with(place: usize, scale: f32) -> [f32; 7]
 // The empty table has no steps and no bytes. Its bits are the 16 known ones of W1, 1B95 in hexadecimal, and those past them are as lent (7, shown as ?). Of the words, which
 // are all ones before, the first 4,224 are 0, though 16 steps have used 16, and the six past them are kept.
 fn empty_table() {
-    let re = [0.5f64; 38976];
-    let im = [0.5f64; 38976];
+    let re = [0.5f64; MAIN_SYMBOLS];
+    let im = [0.5f64; MAIN_SYMBOLS];
     let mut decisions = [0xffff_ffff_ffff_ffffu64; 4230];
     let mut bits = [7u8; 18];
     let r = decode_empty(&re, &im, &mut decisions, &mut bits);
@@ -234,8 +241,8 @@ fn empty_table() {
 }
 
 fn decode_empty(
-    re: &[f64; 38976],
-    im: &[f64; 38976],
+    re: &[f64; MAIN_SYMBOLS],
+    im: &[f64; MAIN_SYMBOLS],
     decisions: &mut [u64; 4230],
     bits: &mut [u8; 18],
 ) -> FrameDecoded {
@@ -288,9 +295,9 @@ fn tried_scale(k: usize) -> f32 {
 fn answer_at(table: u64, place: usize, scale: f32, x: f64) -> usize
     requires { ⌜ place < 7 ⌝ }
 {
-    let mut re = [0.5f64; 38976];
-    re[38975] = x;
-    let im = [0.5f64; 38976];
+    let mut re = [0.5f64; MAIN_SYMBOLS];
+    re[MAIN_SYMBOLS - 1] = x;
+    let im = [0.5f64; MAIN_SYMBOLS];
     let mut decisions = [0u64; 4224];
     let mut bits = [0u8; 68224];
     let mut bytes = [0u8; 9744];
@@ -319,13 +326,11 @@ fn answer_at(table: u64, place: usize, scale: f32, x: f64) -> usize
 fn show_place(place: usize)
     requires { ⌜ place < 7 ⌝ }
 {
-    let at = [place];
-    show(b"scale # wrong, then good:", &at);
+    show_one(b"scale # wrong, then good:", place);
     for k in 0..8usize {
-        let answer = [answer_at(0x3007, place, tried_scale(k), 0.0)];
-        show(b" #", &answer);
+        show_one(b" #", answer_at(0x3007, place, tried_scale(k), 0.0));
     }
-    text(b"\n");
+    end_line();
 }
 
 // Row 8 for each of the seven places; then the rows above it: 49 slots, and a NaN among the points, each with a wrong scale.
@@ -334,7 +339,7 @@ fn wrong_scales() {
         show_place(place);
     }
     let many = answer_at(0x3107, 0, -0.0f32, 0.0);
-    let sample = answer_at(0x3007, 0, -0.0f32, 0.0f64 / 0.0f64);
+    let sample = answer_at(0x3007, 0, -0.0f32, nan());
     let above = [many, sample];
     show(b"rows above: #, #\n", &above);
 }
@@ -348,8 +353,7 @@ fn main() {
     }
     let agree = agreeing(file);
     libc::close(file);
-    let found = [agree, LINES - agree];
-    show(b"# agree\n# differ\n", &found);
+    show_agreeing(agree, LINES);
     wrong_scales();
     empty_table();
 }

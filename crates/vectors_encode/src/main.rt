@@ -6,22 +6,26 @@ use cases_frames::mapping_of;
 use cases_frames::table_of;
 use cases_lib::double_bits;
 use cases_lib::draw;
+use cases_lib::front;
 use cases_lib::number;
 use cases_lib::one;
+use cases_lib::passed;
+use cases_lib::read_line;
 use cases_lib::row;
-use cases_lib::show;
+use cases_lib::show_agreeing;
+use cases_lib::show_one;
 use cases_lib::step;
-use cases_lib::text;
 use isdb_fec::conv::ConvEncoder;
+use isdbs_core::frame::MAIN_SYMBOLS;
 use isdbs_phy::demod::FrameEncoded;
 use isdbs_phy::demod::encode_frame_with_state;
 
 const LINES: usize = 389;
 
 // The lists' digest of the points.
-fn digest(re: &[f64; 38976], im: &[f64; 38976]) -> u64 {
+fn digest(re: &[f64; MAIN_SYMBOLS], im: &[f64; MAIN_SYMBOLS]) -> u64 {
     let mut h: u64 = 0x9e37_79b9_7f4a_7c15;
-    for k in 0..38976usize {
+    for k in 0..MAIN_SYMBOLS {
         h = step(h ^ double_bits(re[k]));
         h = step(h ^ double_bits(im[k]));
     }
@@ -29,21 +33,20 @@ fn digest(re: &[f64; 38976], im: &[f64; 38976]) -> u64 {
 }
 
 // Whether the frame has the line's digest, end state and sample.
-fn matches(line: &[u8; 104], end: u8, re: &[f64; 38976], im: &[f64; 38976]) -> bool {
-    let k = (number(line, 65, 69) % 38976) as usize;
+fn matches(line: &[u8; 104], end: u8, re: &[f64; MAIN_SYMBOLS], im: &[f64; MAIN_SYMBOLS]) -> bool {
+    let k = (number(line, 65, 69) % MAIN_SYMBOLS as u64) as usize;
     (digest(re, im) == number(line, 45, 61))
         & (end as u64 == number(line, 62, 64))
         & (double_bits(re[k]) == number(line, 70, 86))
         & (double_bits(im[k]) == number(line, 87, 103))
 }
 
-// The first n bytes, or none where there are fewer.
-fn front<'a>(s: &'a [u8], n: usize) -> &'a [u8] {
-    if n <= s.len() { &s[0..n] } else { &s[0..0] }
-}
-
 // The frame of the line's load.
-fn encode(line: &[u8; 104], re: &mut [f64; 38976], im: &mut [f64; 38976]) -> FrameEncoded {
+fn encode(
+    line: &[u8; 104],
+    re: &mut [f64; MAIN_SYMBOLS],
+    im: &mut [f64; MAIN_SYMBOLS],
+) -> FrameEncoded {
     let mut bytes = [0u8; 10240];
     let count = (number(line, 23, 27) % 10241) as usize;
     draw(&mut bytes, count, number(line, 28, 44));
@@ -57,8 +60,8 @@ fn encode(line: &[u8; 104], re: &mut [f64; 38976], im: &mut [f64; 38976]) -> Fra
 
 // Whether the line's frame is made as the Rust makes it.
 fn agrees(line: &[u8; 104]) -> bool {
-    let mut re = [0.0f64; 38976];
-    let mut im = [0.0f64; 38976];
+    let mut re = [0.0f64; MAIN_SYMBOLS];
+    let mut im = [0.0f64; MAIN_SYMBOLS];
     let made = encode(line, &mut re, &mut im);
     let answer = made.answer;
     (row(answer) == 0) & matches(line, made.enc.state, &re, &im)
@@ -67,14 +70,11 @@ fn agrees(line: &[u8; 104]) -> bool {
 // Whether a whole line was read and its frame agrees; a line where it does not is shown.
 fn passes(file: i32) -> bool {
     let mut line = [0u8; 104];
-    if io::read_full(file, &mut line) < 104 {
+    if !read_line(file, &mut line) {
         return false;
     }
-    if agrees(&line) {
-        return true;
-    }
-    text(&line);
-    false
+    let same = agrees(&line);
+    passed(&line, same)
 }
 
 // How many of the lines pass: none of those that are missing.
@@ -90,8 +90,8 @@ fn agreeing(file: i32) -> usize
 
 // The row of QPSK 2/3 in 5 slots from state 64: row 10 stands above row 4.
 fn part_unit() -> usize {
-    let mut re = [0.0f64; 38976];
-    let mut im = [0.0f64; 38976];
+    let mut re = [0.0f64; MAIN_SYMBOLS];
+    let mut im = [0.0f64; MAIN_SYMBOLS];
     let enc = ConvEncoder { state: 64 };
     let made = encode_frame_with_state(b"", table_of(0x0503), enc, mapping_of(4), &mut re, &mut im);
     let answer = made.answer;
@@ -107,9 +107,6 @@ fn main() {
     }
     let agree = agreeing(file);
     libc::close(file);
-    let found = [agree, LINES - agree, part_unit()];
-    show(
-        b"# agree\n# differ\npart unit from state 64: refused #\n",
-        &found,
-    );
+    show_agreeing(agree, LINES);
+    show_one(b"part unit from state 64: refused #\n", part_unit());
 }

@@ -6,9 +6,10 @@ use cases_lib::float_bits;
 use cases_lib::float_of;
 use cases_lib::number;
 use cases_lib::one;
-use cases_lib::show;
+use cases_lib::passed;
+use cases_lib::read_line;
+use cases_lib::show_agreeing;
 use cases_lib::small;
-use cases_lib::text;
 use cases_lib::wide;
 use isdb_fec::conv::ConvEncoder;
 use isdbt_fec::conv::CodeRate;
@@ -246,14 +247,11 @@ fn agrees(line: &[u8; 24]) -> bool {
 // Whether a whole line was read and the call gives its digest; a line where it does not is shown.
 fn passes(file: i32) -> bool {
     let mut line = [0u8; 24];
-    if io::read_full(file, &mut line) < 24 {
+    if !read_line(file, &mut line) {
         return false;
     }
-    if agrees(&line) {
-        return true;
-    }
-    text(&line);
-    false
+    let same = agrees(&line);
+    passed(&line, same)
 }
 
 // How many of the lines pass: none of those that are missing.
@@ -276,6 +274,5 @@ fn main() {
     }
     let agree = agreeing(file);
     libc::close(file);
-    let found = [agree, LINES - agree];
-    show(b"# agree\n# differ\n", &found);
+    show_agreeing(agree, LINES);
 }

@@ -5,8 +5,9 @@ use cases_lib::double_of;
 use cases_lib::float_bits;
 use cases_lib::number;
 use cases_lib::one;
-use cases_lib::show;
-use cases_lib::text;
+use cases_lib::passed;
+use cases_lib::read_line;
+use cases_lib::show_agreeing;
 
 const LINES: usize = 5324;
 
@@ -28,14 +29,11 @@ fn agrees(line: &[u8; 26]) -> bool {
 // Whether a whole line was read and `soft` gives its answer; a line where it does not is shown.
 fn passes(file: i32) -> bool {
     let mut line = [0u8; 26];
-    if io::read_full(file, &mut line) < 26 {
+    if !read_line(file, &mut line) {
         return false;
     }
-    if agrees(&line) {
-        return true;
-    }
-    text(&line);
-    false
+    let same = agrees(&line);
+    passed(&line, same)
 }
 
 // How many of the lines pass: none of those that are missing.
@@ -58,6 +56,5 @@ fn main() {
     }
     let agree = agreeing(file);
     libc::close(file);
-    let found = [agree, LINES - agree];
-    show(b"# agree\n# differ\n", &found);
+    show_agreeing(agree, LINES);
 }

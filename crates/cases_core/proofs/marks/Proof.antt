@@ -5,13 +5,10 @@ use Rattle.cases_core.proofs.marks.Statement.{statement}
 use Rattle.cases_core.proofs.marks.Tie as tie
 
 abbrev Inv-loop : tie.InvT-loop
-Inv-loop name ms s₀ t7 s = s ≤ 48
+Inv-loop ms s₀ s = s ≤ 48
 
 abbrev μ-loop : tie.MeasureT-loop
-μ-loop name ms s₀ t7 s = 48 - s
-
-text-requires : tie.Need-text-requires Inv-loop μ-loop
-text-requires c κs = search needs
+μ-loop ms s₀ s = 48 - s
 
 slot-combinations-requires : tie.Need-slot-combinations-requires Inv-loop μ-loop
 slot-combinations-requires c κs = search needs
@@ -43,11 +40,8 @@ loop-less c = search needs
 loop-again : tie.Need-loop-again Inv-loop μ-loop
 loop-again c = search needs
 
-slice-aggregate-text : tie.Need-slice-aggregate-text Inv-loop μ-loop
-slice-aggregate-text c = search needs
-
-text-requires-2 : tie.Need-text-requires-2 Inv-loop μ-loop
-text-requires-2 c κs = search needs
+end-line-requires : tie.Need-end-line-requires Inv-loop μ-loop
+end-line-requires c κs = search needs
 
 returns : tie.Need-returns Inv-loop μ-loop
 returns c = search needs
@@ -58,7 +52,6 @@ marks-spec =
     (tie.spec
     Inv-loop
     μ-loop
-    text-requires
     slot-combinations-requires
     row-requires
     count-requires
@@ -69,6 +62,5 @@ marks-spec =
     add-s
     loop-less
     loop-again
-    slice-aggregate-text
-    text-requires-2
+    end-line-requires
     returns)

@@ -5,13 +5,10 @@ use Rattle.cases_core.proofs.tail.Statement.{statement}
 use Rattle.cases_core.proofs.tail.Tie as tie
 
 abbrev Inv-loop : tie.InvT-loop
-Inv-loop name t bits i₀ t5 i = i ≤ 20
+Inv-loop t bits i₀ i = i ≤ 20
 
 abbrev μ-loop : tie.MeasureT-loop
-μ-loop name t bits i₀ t5 i = 20 - i
-
-text-requires : tie.Need-text-requires Inv-loop μ-loop
-text-requires c κs = search needs
+μ-loop t bits i₀ i = 20 - i
 
 tail-bits-requires : tie.Need-tail-bits-requires Inv-loop μ-loop
 tail-bits-requires c κs = search needs
@@ -37,11 +34,8 @@ loop-less c = search needs
 loop-again : tie.Need-loop-again Inv-loop μ-loop
 loop-again c = search needs
 
-slice-aggregate-text : tie.Need-slice-aggregate-text Inv-loop μ-loop
-slice-aggregate-text c = search needs
-
-text-requires-2 : tie.Need-text-requires-2 Inv-loop μ-loop
-text-requires-2 c κs = search needs
+end-line-requires : tie.Need-end-line-requires Inv-loop μ-loop
+end-line-requires c κs = search needs
 
 returns : tie.Need-returns Inv-loop μ-loop
 returns c = search needs
@@ -52,7 +46,6 @@ tail-spec =
     (tie.spec
     Inv-loop
     μ-loop
-    text-requires
     tail-bits-requires
     loop-holds
     array-read-small
@@ -61,6 +54,5 @@ tail-spec =
     add-i
     loop-less
     loop-again
-    slice-aggregate-text
-    text-requires-2
+    end-line-requires
     returns)

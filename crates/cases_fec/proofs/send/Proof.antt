@@ -13,11 +13,14 @@ abbrev μ-loop : tie.MeasureT-loop
 loop-holds : tie.Need-loop-holds Inv-loop μ-loop
 loop-holds c = search needs
 
+step-requires : tie.Need-step-requires Inv-loop μ-loop
+step-requires c κs = search needs
+
 cast-u : tie.Need-cast-u Inv-loop μ-loop
 cast-u c = search needs
 
-label-requires : tie.Need-label-requires Inv-loop μ-loop
-label-requires c κs = search needs
+isdb-label-requires : tie.Need-isdb-label-requires Inv-loop μ-loop
+isdb-label-requires c κs = search needs
 
 mul-state : tie.Need-mul-state Inv-loop μ-loop
 mul-state c = search needs
@@ -107,8 +110,9 @@ send-spec =
     Inv-loop
     μ-loop
     loop-holds
+    step-requires
     cast-u
-    label-requires
+    isdb-label-requires
     mul-state
     add-state
     cast-bits

@@ -5,19 +5,16 @@ use Rattle.cases_margins.proofs.passing.Statement.{statement}
 use Rattle.cases_margins.proofs.passing.Tie as tie
 
 abbrev Inv-loop : tie.InvT-loop
-Inv-loop tables n₀ k₀ n k = (n ≤ k) × (k ≤ 25)
+Inv-loop n₀ k₀ n k = (n ≤ k) × (k ≤ 25)
 
 abbrev μ-loop : tie.MeasureT-loop
-μ-loop tables n₀ k₀ n k = 25 - k
+μ-loop n₀ k₀ n k = 25 - k
 
 loop-holds : tie.Need-loop-holds Inv-loop μ-loop
 loop-holds c = search needs
 
-mul-passes : tie.Need-mul-passes Inv-loop μ-loop
-mul-passes c = search needs
-
-array-read-passes : tie.Need-array-read-passes Inv-loop μ-loop
-array-read-passes c = search needs
+table-requires : tie.Need-table-requires Inv-loop μ-loop
+table-requires c κs = search needs
 
 passes-requires : tie.Need-passes-requires Inv-loop μ-loop
 passes-requires c κs = search needs
@@ -47,8 +44,7 @@ passing-spec =
     Inv-loop
     μ-loop
     loop-holds
-    mul-passes
-    array-read-passes
+    table-requires
     passes-requires
     one-requires
     add-n

@@ -5,10 +5,10 @@ use Rattle.cases_margins.proofs.receive.Statement.{statement}
 use Rattle.cases_margins.proofs.receive.Tie as tie
 
 abbrev Inv-loop : tie.InvT-loop
-Inv-loop re₀ im₀ bpsk seed x₀ k₀ n₀ re im x k n = (n ≤ k + k) × (k ≤ 38976)
+Inv-loop re₀ im₀ bpsk seed x₀ n₀ k₀ re im x n k = (n ≤ k + k) × (k ≤ 38976)
 
 abbrev μ-loop : tie.MeasureT-loop
-μ-loop re₀ im₀ bpsk seed x₀ k₀ n₀ re im x k n = 38976 - k
+μ-loop re₀ im₀ bpsk seed x₀ n₀ k₀ re im x n k = 38976 - k
 
 loop-holds : tie.Need-loop-holds Inv-loop μ-loop
 loop-holds c = search needs

@@ -1,11 +1,11 @@
 -- `scattered` is safe and ends. Assumes nothing.
-use Prim.Native.Nat.{_+_, _-_, _*_, _≤_, _<_}
+use Prim.Native.Nat.{_-_, _≤_}
 use borrow.Author.Needs.{needs}
 use Rattle.cases_paths.proofs.scattered.Statement.{statement}
 use Rattle.cases_paths.proofs.scattered.Tie as tie
 
 abbrev Inv-loop : tie.InvT-loop
-Inv-loop seed few x₀ ms₀ k₀ x ms k = (k ≤ 32) × (x < 65536)
+Inv-loop seed few x₀ ms₀ k₀ x ms k = k ≤ 32
 
 abbrev μ-loop : tie.MeasureT-loop
 μ-loop seed few x₀ ms₀ k₀ x ms k = 32 - k
@@ -13,11 +13,8 @@ abbrev μ-loop : tie.MeasureT-loop
 loop-holds : tie.Need-loop-holds Inv-loop μ-loop
 loop-holds c = search needs
 
-mul-x : tie.Need-mul-x Inv-loop μ-loop
-mul-x c = search needs
-
-add-x : tie.Need-add-x Inv-loop μ-loop
-add-x c = search needs
+next-requires : tie.Need-next-requires Inv-loop μ-loop
+next-requires c κs = search needs
 
 metric-requires : tie.Need-metric-requires Inv-loop μ-loop
 metric-requires c κs = search needs
@@ -44,8 +41,7 @@ scattered-spec =
     Inv-loop
     μ-loop
     loop-holds
-    mul-x
-    add-x
+    next-requires
     metric-requires
     array-write-ms
     add-k

@@ -5,19 +5,16 @@ use Rattle.cases_wanted.proofs.passing.Statement.{statement}
 use Rattle.cases_wanted.proofs.passing.Tie as tie
 
 abbrev Inv-loop : tie.InvT-loop
-Inv-loop tables n₀ i₀ n i = (n ≤ i) × (i ≤ 25)
+Inv-loop n₀ i₀ n i = (n ≤ i) × (i ≤ 25)
 
 abbrev μ-loop : tie.MeasureT-loop
-μ-loop tables n₀ i₀ n i = 25 - i
+μ-loop n₀ i₀ n i = 25 - i
 
 loop-holds : tie.Need-loop-holds Inv-loop μ-loop
 loop-holds c = search needs
 
-mul-one-table : tie.Need-mul-one-table Inv-loop μ-loop
-mul-one-table c = search needs
-
-array-read-one-table : tie.Need-array-read-one-table Inv-loop μ-loop
-array-read-one-table c = search needs
+table-requires : tie.Need-table-requires Inv-loop μ-loop
+table-requires c κs = search needs
 
 one-table-requires : tie.Need-one-table-requires Inv-loop μ-loop
 one-table-requires c κs = search needs
@@ -47,8 +44,7 @@ passing-spec =
     Inv-loop
     μ-loop
     loop-holds
-    mul-one-table
-    array-read-one-table
+    table-requires
     one-table-requires
     one-requires
     add-n

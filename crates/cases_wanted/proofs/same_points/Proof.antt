@@ -13,20 +13,20 @@ abbrev μ-loop : tie.MeasureT-loop
 loop-holds : tie.Need-loop-holds Inv-loop μ-loop
 loop-holds c = search needs
 
-mul-same : tie.Need-mul-same Inv-loop μ-loop
-mul-same c = search needs
+mul-same-double : tie.Need-mul-same-double Inv-loop μ-loop
+mul-same-double c = search needs
 
-element-copy-out-same : tie.Need-element-copy-out-same Inv-loop μ-loop
-element-copy-out-same c = search needs
+element-copy-out-same-double : tie.Need-element-copy-out-same-double Inv-loop μ-loop
+element-copy-out-same-double c = search needs
 
-mul-same-2 : tie.Need-mul-same-2 Inv-loop μ-loop
-mul-same-2 c = search needs
+mul-same-double-2 : tie.Need-mul-same-double-2 Inv-loop μ-loop
+mul-same-double-2 c = search needs
 
-element-copy-out-same-2 : tie.Need-element-copy-out-same-2 Inv-loop μ-loop
-element-copy-out-same-2 c = search needs
+element-copy-out-same-double-2 : tie.Need-element-copy-out-same-double-2 Inv-loop μ-loop
+element-copy-out-same-double-2 c = search needs
 
-same-requires : tie.Need-same-requires Inv-loop μ-loop
-same-requires c κs = search needs
+same-double-requires : tie.Need-same-double-requires Inv-loop μ-loop
+same-double-requires c κs = search needs
 
 returns : tie.Need-returns Inv-loop μ-loop
 returns c = search needs
@@ -50,11 +50,11 @@ same-points-spec =
     Inv-loop
     μ-loop
     loop-holds
-    mul-same
-    element-copy-out-same
-    mul-same-2
-    element-copy-out-same-2
-    same-requires
+    mul-same-double
+    element-copy-out-same-double
+    mul-same-double-2
+    element-copy-out-same-double-2
+    same-double-requires
     returns
     add-k
     loop-less

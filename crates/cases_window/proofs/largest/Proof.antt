@@ -7,10 +7,10 @@ use Rattle.cases_window.proofs.largest.Statement.{statement}
 use Rattle.cases_window.proofs.largest.Tie as tie
 
 abbrev Inv-loop : tie.InvT-loop
-Inv-loop kept₀ v₀ i₀ t5 kept v i = (i ≤ 299) × (length kept ≡ length kept₀)
+Inv-loop kept₀ v₀ i₀ kept v i = (i ≤ 299) × (length kept ≡ length kept₀)
 
 abbrev μ-loop : tie.MeasureT-loop
-μ-loop kept₀ v₀ i₀ t5 kept v i = 299 - i
+μ-loop kept₀ v₀ i₀ kept v i = 299 - i
 
 at-requires : tie.Need-at-requires Inv-loop μ-loop
 at-requires c κs = search needs
@@ -36,11 +36,8 @@ push-requires-2 c κs = search needs
 show-pushed-requires : tie.Need-show-pushed-requires Inv-loop μ-loop
 show-pushed-requires c κs = search needs
 
-slice-aggregate-text : tie.Need-slice-aggregate-text Inv-loop μ-loop
-slice-aggregate-text c = search needs
-
-text-requires : tie.Need-text-requires Inv-loop μ-loop
-text-requires c κs = search needs
+end-line-requires : tie.Need-end-line-requires Inv-loop μ-loop
+end-line-requires c κs = search needs
 
 same-length : tie.Need-same-length Inv-loop μ-loop
 same-length c = search needs
@@ -62,7 +59,6 @@ largest-spec =
     loop-again
     push-requires-2
     show-pushed-requires
-    slice-aggregate-text
-    text-requires
+    end-line-requires
     same-length
     returns)

@@ -5,10 +5,10 @@ use Rattle.cases_window.proofs.show_sums.Statement.{statement}
 use Rattle.cases_window.proofs.show_sums.Tie as tie
 
 abbrev Inv-loop : tie.InvT-loop
-Inv-loop kept i₀ t5 t6 i-end i = i ≤ i-end
+Inv-loop kept i₀ t4 i-end i = i ≤ i-end
 
 abbrev μ-loop : tie.MeasureT-loop
-μ-loop kept i₀ t5 t6 i-end i = i-end - i
+μ-loop kept i₀ t4 i-end i = i-end - i
 
 slice-aggregate-text : tie.Need-slice-aggregate-text Inv-loop μ-loop
 slice-aggregate-text c = search needs
@@ -19,6 +19,9 @@ text-requires c κs = search needs
 loop-holds : tie.Need-loop-holds Inv-loop μ-loop
 loop-holds c = search needs
 
+slice-aggregate-show-one : tie.Need-slice-aggregate-show-one Inv-loop μ-loop
+slice-aggregate-show-one c = search needs
+
 mul-wide : tie.Need-mul-wide Inv-loop μ-loop
 mul-wide c = search needs
 
@@ -28,14 +31,8 @@ shared-slice-read-wide c = search needs
 wide-requires : tie.Need-wide-requires Inv-loop μ-loop
 wide-requires c κs = search needs
 
-slice-aggregate-show : tie.Need-slice-aggregate-show Inv-loop μ-loop
-slice-aggregate-show c = search needs
-
-slice-aggregate-show-2 : tie.Need-slice-aggregate-show-2 Inv-loop μ-loop
-slice-aggregate-show-2 c = search needs
-
-show-requires : tie.Need-show-requires Inv-loop μ-loop
-show-requires c κs = search needs
+show-one-requires : tie.Need-show-one-requires Inv-loop μ-loop
+show-one-requires c κs = search needs
 
 add-i : tie.Need-add-i Inv-loop μ-loop
 add-i c = search needs
@@ -46,11 +43,8 @@ loop-less c = search needs
 loop-again : tie.Need-loop-again Inv-loop μ-loop
 loop-again c = search needs
 
-slice-aggregate-text-2 : tie.Need-slice-aggregate-text-2 Inv-loop μ-loop
-slice-aggregate-text-2 c = search needs
-
-text-requires-2 : tie.Need-text-requires-2 Inv-loop μ-loop
-text-requires-2 c κs = search needs
+end-line-requires : tie.Need-end-line-requires Inv-loop μ-loop
+end-line-requires c κs = search needs
 
 returns : tie.Need-returns Inv-loop μ-loop
 returns c = search needs
@@ -64,15 +58,13 @@ show-sums-spec =
     slice-aggregate-text
     text-requires
     loop-holds
+    slice-aggregate-show-one
     mul-wide
     shared-slice-read-wide
     wide-requires
-    slice-aggregate-show
-    slice-aggregate-show-2
-    show-requires
+    show-one-requires
     add-i
     loop-less
     loop-again
-    slice-aggregate-text-2
-    text-requires-2
+    end-line-requires
     returns)

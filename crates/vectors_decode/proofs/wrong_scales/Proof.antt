@@ -28,6 +28,9 @@ loop-again c = search needs
 answer-at-requires : tie.Need-answer-at-requires Inv-loop μ-loop
 answer-at-requires c κs = search needs
 
+nan-requires : tie.Need-nan-requires Inv-loop μ-loop
+nan-requires c κs = search needs
+
 answer-at-requires-2 : tie.Need-answer-at-requires-2 Inv-loop μ-loop
 answer-at-requires-2 c κs = search needs
 
@@ -55,6 +58,7 @@ wrong-scales-spec =
     loop-less
     loop-again
     answer-at-requires
+    nan-requires
     answer-at-requires-2
     slice-aggregate-show
     slice-aggregate-show-2

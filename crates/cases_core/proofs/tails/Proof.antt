@@ -1,0 +1,62 @@
+-- `tails` is safe and ends. Assumes nothing.
+use Prim.Native.Nat.{_-_, _≤_}
+use borrow.Author.Needs.{needs}
+use Rattle.cases_core.proofs.tails.Statement.{statement}
+use Rattle.cases_core.proofs.tails.Tie as tie
+
+abbrev Inv-loop : tie.InvT-loop
+Inv-loop all k₀ t3 k = k ≤ 4
+
+abbrev μ-loop : tie.MeasureT-loop
+μ-loop all k₀ t3 k = 4 - k
+
+loop-holds : tie.Need-loop-holds Inv-loop μ-loop
+loop-holds c = search needs
+
+slice-aggregate-show-line : tie.Need-slice-aggregate-show-line Inv-loop μ-loop
+slice-aggregate-show-line c = search needs
+
+add-show-line : tie.Need-add-show-line Inv-loop μ-loop
+add-show-line c = search needs
+
+show-line-requires : tie.Need-show-line-requires Inv-loop μ-loop
+show-line-requires c κs = search needs
+
+mul-tail : tie.Need-mul-tail Inv-loop μ-loop
+mul-tail c = search needs
+
+array-read-tail : tie.Need-array-read-tail Inv-loop μ-loop
+array-read-tail c = search needs
+
+tail-requires : tie.Need-tail-requires Inv-loop μ-loop
+tail-requires c κs = search needs
+
+add-k : tie.Need-add-k Inv-loop μ-loop
+add-k c = search needs
+
+loop-less : tie.Need-loop-less Inv-loop μ-loop
+loop-less c = search needs
+
+loop-again : tie.Need-loop-again Inv-loop μ-loop
+loop-again c = search needs
+
+returns : tie.Need-returns Inv-loop μ-loop
+returns c = search needs
+
+pub tails-spec : {M : Type 1} → statement M
+tails-spec =
+    tie.close
+    (tie.spec
+    Inv-loop
+    μ-loop
+    loop-holds
+    slice-aggregate-show-line
+    add-show-line
+    show-line-requires
+    mul-tail
+    array-read-tail
+    tail-requires
+    add-k
+    loop-less
+    loop-again
+    returns)
