@@ -128,9 +128,9 @@ pub fn encode_answer(t: Table, state: u8, a: usize, b: usize) -> Answer
     ensures { λ r. ⌜ r ≡ firstRow (encodeRows t state a b) ⌝ }
 {
     let first = table_answer(t);
-    if refusal::number(first) != 0 {
+    let Answer::Accepted = first else {
         return first;
-    }
+    };
     if state > 63 {
         return Answer::State;
     }

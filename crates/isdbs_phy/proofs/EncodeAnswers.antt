@@ -7,9 +7,9 @@ use Prim.Native.Nat.{ℕ}
 use native.Mathlib.Omega.{arith}
 use lib.Dec.{ltb}
 use Rattle.refusal.specs.declared.Answer.{Answer}
-use Rattle.refusal.specs.declared.Answer.the-variants.{State, Space}
-use Rattle.refusal.specs.Rows.{Row, numberOf, firstRow}
-use Rattle.refusal.specs.RowLaws.{zero-accepted, decided, refused-by, passed-by, passed}
+use Rattle.refusal.specs.declared.Answer.the-variants.{Accepted, State, Space}
+use Rattle.refusal.specs.Rows.{Row, firstRow}
+use Rattle.refusal.specs.RowLaws.{decided, passed}
 use Rattle.isdbs_tables.specs.declared.Table.{Table}
 use Rattle.isdbs_tables.specs.Tables.{tableRows, tableAnswer, TableAccepted}
 use Rattle.isdbs_tables.specs.TableLaws.{table-refusing, then-rows, before-rows, then-accepted}
@@ -24,9 +24,9 @@ module _ (t : Table) (s a b : ℕ) where
   rest = (State, ltb 63 s) ∷ (Space, shortParts a b) ∷ []
 
   -- where all rows pass, none of their conditions holds
-  pub rows-pass : (x : Answer) → x ≡ firstRow (encodeRows t s a b) → numberOf x ≡ 0 → TableAccepted t × (ltb 63 s ≡ false) × (ltb a 38976 ≡ false) × (ltb b 38976 ≡ false)
+  pub rows-pass : (x : Answer) → x ≡ firstRow (encodeRows t s a b) → x ≡ Accepted → TableAccepted t × (ltb 63 s ≡ false) × (ltb a 38976 ≡ false) × (ltb b 38976 ≡ false)
   rows-pass x e z =
-      let p = then-accepted t rest (sym e ∙ zero-accepted x z) in
+      let p = then-accepted t rest (sym e ∙ z) in
       let q = passed rest tt (p .1) in
       let w = neither (ltb a 38976) (ltb b 38976) (q Space) in
       (p .0, q State, w .0, w .1)

@@ -62,9 +62,9 @@ pub fn encode_frame_with_state(
 {
     let state = enc.state;
     let answer = encode_answer(t, state, re.len(), im.len());
-    if refusal::number(answer) != 0 {
+    let Answer::Accepted = answer else {
         return FrameEncoded { answer, enc };
-    }
+    };
     let end = encode_main(bytes, t, state, m, re, im);
     FrameEncoded {
         answer,

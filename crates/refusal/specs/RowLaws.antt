@@ -5,7 +5,7 @@ use mathlib.Core.Bool.{Bool, true, false, cond, _||_}
 use mathlib.Core.List.{List, [], _∷_, _++_}
 use Prim.Native.Nat.{ℕ, _<_}
 use native.Mathlib.Omega.{arith}
-use borrow.Author.Tests.{eqb-true, eqb-false, eq-eqb, ne-eqb}
+use borrow.Author.Tests.{eqb-true, eqb-false, ne-eqb}
 use lib.Dec.{T, eqb}
 use lib.ListN.{length, getD}
 use types.Run.{OneOf, miss}
@@ -73,13 +73,6 @@ decided a = by (accepted a) refl
     by : (b : Bool) → accepted a ≡ b → (a ≡ Accepted) ⊎ (a ≡ Accepted → ⊥)
     by true h = inl (accepted-is a h)
     by false h = inr (refused-is a h)
-
--- a call's number n is 0 exactly where its answer b is accepted
-pub accepts : (a b : Answer) (n : ℕ) → a ≡ b → n ≡ numberOf a → n ≡ 0 → accepted b ≡ true
-accepts a b n e m z = eq-eqb (numberOf b) 0 (sym (m ∙ ap numberOf e) ∙ z)
-
-pub refuses : (a b : Answer) (n : ℕ) → a ≡ b → n ≡ numberOf a → (n ≡ 0 → ⊥) → accepted b ≡ false
-refuses a b n e m z = ne-eqb (numberOf b) 0 (λ q. z ((m ∙ ap numberOf e) ∙ q))
 
 pub done : {P Q : Type 0} → P → Either Accepted P Q
 done p = ((λ e. p), (λ n. absurd (n refl)))

@@ -1,14 +1,11 @@
 -- `demod::encode_frame_with_state` meets its contract. Assumes nothing.
 use Rattle.isdbs_frame.specs.Frame.{mainSymbols}
-use mathlib.Core.Path.{_≡_, refl, sym, _∙_, ap}
-use Prim.Native.Nat.{ℕ, _+_, _*_, _-_, _<_, _≤_}
+use mathlib.Core.Path.{refl}
 use native.Mathlib.Omega.{arith}
 use borrow.Author.Tests.{ltb-false}
 use lib.ListN.{length}
-use Rattle.refusal.specs.declared.Answer.the-variants.{Accepted}
-use Rattle.refusal.specs.Rows.{numberOf}
 use Rattle.isdb_fec.specs.AnswerLaws.{refused}
-use Rattle.refusal.specs.RowLaws.{zero-accepted}
+use Rattle.refusal.proofs.Told.{told}
 use Rattle.isdbs_phy.proofs.EncodeAnswers.{rows-pass}
 use borrow.Author.Needs.{needs}
 use Rattle.isdbs_phy.proofs.demod.encode_frame_with_state.Statement.{statement}
@@ -17,19 +14,19 @@ use Rattle.isdbs_phy.proofs.demod.encode_frame_with_state.Tie as tie
 encode-answer-requires : tie.Need-encode-answer-requires
 encode-answer-requires c κs = search needs
 
-number-requires : tie.Need-number-requires
-number-requires c κs = search needs
+enum-told : tie.Need-enum-told
+enum-told c = search needs
 
 returns : tie.Need-returns
 returns c =
-    let a = c .before .before .encode-answer .result in
-    let n : a ≡ Accepted → ⊥ = λ e. c .if1 .taken (c .before .number .ensures ∙ ap numberOf e) in
-    (c .before .before .encode-answer .ensures, (refused a n refl, refused a n (record { re-is = refl; im-is = refl })))
+    let a = c .before .encode-answer .result in
+    let n = told a (c .match .keys2) in
+    (c .before .encode-answer .ensures, (refused a n refl, refused a n (record { re-is = refl; im-is = refl })))
 
 encode-main-requires : tie.Need-encode-main-requires
 encode-main-requires c κs =
     let s = c .before .before .before .before .before .before .before .before in
-    let z : numberOf (c .before .before .before .before .encode-answer .result) ≡ 0 = sym (c .before .before .before .number .ensures) ∙ c .before .before .if1 .left in
+    let z = c .before .before .enum-told .given .1 in
     let p = rows-pass (s .args .t) (s .args .enc .state) (length (s .args .re .now)) (length (s .args .im .now)) (c .before .before .before .before .encode-answer .result) (c .before .before .before .before .encode-answer .ensures) z in
     (p .0, omega (arith, ltb-false 63 (s .args .enc .state) (p .1)), ltb-false (length (s .args .re .now)) mainSymbols (p .2), ltb-false (length (s .args .im .now)) mainSymbols (p .3))
 
@@ -42,7 +39,7 @@ same-length-2 c = search needs
 returns-2 : tie.Need-returns-2
 returns-2 c =
     let a = c .before .before .before .before .before .before .before .before .before .encode-answer .result in
-    let z : a ≡ Accepted = zero-accepted a (sym (c .before .before .before .before .before .before .before .before .number .ensures) ∙ c .before .before .before .before .before .before .before .if1 .left) in
+    let z = c .before .before .before .before .before .before .before .enum-told .given .1 in
     (c .before .before .before .before .before .before .before .before .before .encode-answer .ensures, ((λ e. c .before .before .before .before .encode-main .ensures .0, λ n. absurd (n z)), (λ e. c .before .before .before .before .encode-main .ensures .1, λ n. absurd (n z))))
 
 pub encode-frame-with-state-spec : {M : Type 1} → statement M
@@ -50,7 +47,7 @@ encode-frame-with-state-spec =
     tie.close
     (tie.spec
     encode-answer-requires
-    number-requires
+    enum-told
     returns
     encode-main-requires
     same-length
