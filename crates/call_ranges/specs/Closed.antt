@@ -19,7 +19,7 @@ use Rattle.lead.specs.Ties.{false-of}
 use Rattle.trellis.specs.RunLaws.{after-values}
 use Rattle.lead.specs.Complement.{small}
 use Rattle.path_ranges.specs.Bounds.{Within, wider}
-use Rattle.path_ranges.specs.Values.{nothing, from-least, to-most, ruledOut}
+use Rattle.path_ranges.specs.Values.{nothing, from-least, to-most}
 use Rattle.path_ranges.specs.Steps.{Soft, two, quad, soft-falls}
 use Rattle.path_ranges.specs.Invariant.{Bounded, bounded-within}
 use Rattle.path_ranges.specs.Run.{soft-call, known-call}
@@ -34,7 +34,7 @@ use Rattle.refusal.specs.RowLaws.{passed}
 use Rattle.call_ranges.specs.Inside.{inside-within, within-inside, none-beyond, all-inside}
 use Rattle.call_ranges.specs.Reached as reached
 use Rattle.call_ranges.specs.Reached.{Reached, Floats, with-state, unknown-state}
-use Rattle.call_ranges.specs.Numbers.{stepMost, streamMost, deepest, leastPath, pathMost, stream-limits, stream-deep, path-limit, stream-limit, least-path}
+use Rattle.call_ranges.specs.Numbers.{ruledOut, stepMost, streamMost, deepest, leastPath, pathMost, stream-limits, stream-deep, path-limit, stream-limit, least-path}
 
 -- what holds of every such state
 pub record Fit (v : ViterbiDecoder) : Type 0 where

@@ -36,8 +36,7 @@ use Rattle.call_ranges.specs.Normalised.{Normalised, normalised-start, r
 use Rattle.call_ranges.specs.Reached as reached
 use Rattle.call_ranges.specs.Reached.{Reached, Floats, with-state, unknown-state}
 use Rattle.call_ranges.specs.Closed.{Fit, reached-fit, stream-inside, pair-soft, four-soft}
-use Rattle.call_ranges.specs.Numbers.{stepMost, stream-limits, stream-deep}
-use Rattle.path_ranges.specs.Values.{ruledOut}
+use Rattle.call_ranges.specs.Numbers.{stepMost, stream-limits, stream-deep, ruledOut}
 
 -- ---- the steps of a call
 module _ {v : ViterbiDecoder} (i : Fit v) (start : Normalised (v .pm)) (decisions₀ : List ℕ) where

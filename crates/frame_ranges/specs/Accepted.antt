@@ -21,7 +21,7 @@ use Rattle.trellis.specs.Run.{valuesAt, pushed, freshFrom}
 use Rattle.trellis.specs.RunLaws.{after-values}
 use Rattle.lead.specs.Complement.{small, complement}
 use Rattle.path_ranges.specs.Bounds.{Within, wider}
-use Rattle.path_ranges.specs.Values.{nothing, from-least, to-most, ruledOut}
+use Rattle.path_ranges.specs.Values.{nothing, from-least, to-most}
 use Rattle.path_ranges.specs.Steps.{Soft, quad, Falls, quad-falls}
 use Rattle.path_ranges.specs.Invariant.{Bounded, bounded-within}
 use Rattle.path_ranges.specs.Run.{InRange, soft-call, known-call, path-within, path-within-next}
@@ -51,8 +51,8 @@ use Rattle.frame_ranges.specs.Ranges.{Between, pathRange, Ranges, frameA
 use Rattle.isdbs_frame.specs.Frame.{mainSymbols}
 use Rattle.trellis.specs.Isdb.{frameTraceback}
 use Rattle.trellis.specs.Isdb
-use Rattle.frame_ranges.specs.Numbers.{partPower, scalePower, metricPower, stepMost, floor}
 use Rattle.frame_ranges.specs.Limits.{softLimit, metricLimit, leastPath, mostPath}
+use Rattle.frame_ranges.specs.Numbers.{ruledOut, partPower, scalePower, metricPower, stepMost, floor}
 
 -- ---- a value within a power of two, as a test
 size-within : {t : ℕ} {x : Float} (limit : Float) → limit ≡ two-to t → t ≤ 127 → Size binary32 t x → T (within limit x)

@@ -7,11 +7,11 @@ use Rattle.ieee.specs.Value.{mag, hi, lo}
 use Rattle.ieee.specs.Rounding.{pow2, pow2-add}
 use Rattle.ieee.specs.Constants.{two-to}
 use Rattle.path_ranges.specs.Bounds.{U}
-use Rattle.path_ranges.specs.Values.{Is, ruledOut}
+use Rattle.path_ranges.specs.Values.{Is}
 use Rattle.path_ranges.specs.Invariant.{Limits}
 use Rattle.isdbs_phy.specs.DecodeRows.{partLimit, scaleLimit}
-use Rattle.frame_ranges.specs.Numbers.{partPower, scalePower, softPower, metricPower, stepMost, floor}
 use Rattle.frame_ranges.specs.Limits.{softLimit, metricLimit, leastPath, mostPath}
+use Rattle.frame_ranges.specs.Numbers.{ruledOut, partPower, scalePower, softPower, metricPower, stepMost, floor}
 
 -- ---- that they belong together
 pub part-limit : partLimit ≡ two-to partPower
