@@ -17,7 +17,7 @@ use Rattle.isdb_fec.specs.Values.{pathLimit, streamLimit}
 use Rattle.isdbs_points.specs.Points.{zero64, one64, root64}
 use Rattle.isdbs_phy.specs.DecodeRows.{partLimit, badScale}
 use Rattle.call_ranges.specs.Numbers as calls
-use Rattle.frame_ranges.specs.Numbers as frames
+use Rattle.frame_ranges.specs.Limits as frames
 use Rattle.margin_ends.specs.Ends.{eight}
 
 -- ---- the decoder
