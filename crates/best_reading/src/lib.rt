@@ -10,6 +10,7 @@ ghost use Rattle.isdb_fec.specs.Rows.{readingRows};
 use isdb_fec::conv::Released;
 use isdb_fec::conv::ViterbiDecoder;
 use refusal::Answer;
+use trellis::FRAME_TRACEBACK;
 
 pub enum Start {
     // A state, mod 64.
@@ -23,11 +24,11 @@ fn started(start: Start) -> ViterbiDecoder
 {
     match start {
         Start::Given(s) => {
-            let made = ViterbiDecoder::with_state(128, s);
+            let made = ViterbiDecoder::with_state(FRAME_TRACEBACK, s);
             made.dec
         }
         Start::Unknown => {
-            let made = ViterbiDecoder::new_unknown_state(128);
+            let made = ViterbiDecoder::new_unknown_state(FRAME_TRACEBACK);
             made.dec
         }
     }

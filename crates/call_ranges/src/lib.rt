@@ -10,6 +10,7 @@ ghost use Rattle.isdb_fec.specs.Rows.{streamRest};
 ghost use Rattle.trellis.specs.Isdb.{frameTraceback};
 use isdb_fec::conv::Released;
 use isdb_fec::conv::ViterbiDecoder;
+use trellis::FRAME_TRACEBACK;
 
 // `push` on a fresh decoder of traceback 128 that starts in the given state, mod 64: it is never refused for its state, only by 5, 7 and 9.
 pub fn push_fresh(state: u8, pairs: &[f32], decisions: &mut [u64], out: &mut [u8]) -> Released
@@ -18,7 +19,7 @@ pub fn push_fresh(state: u8, pairs: &[f32], decisions: &mut [u64], out: &mut [u8
         (Leaves frameTraceback (call frameTraceback (pairSteps (now (pairs .entry))) (handed (fresh state) (now (decisions .entry))) (length (now (pairs .entry)) / 2)) r (now (decisions .entry)) (now (decisions .exit)) (now (out .entry)) (now (out .exit)))
         (Unchanged (fresh state) r (now (decisions .entry)) (now (decisions .exit)) (now (out .entry)) (now (out .exit))) ⌝ }
 {
-    let made = ViterbiDecoder::with_state(128, state);
+    let made = ViterbiDecoder::with_state(FRAME_TRACEBACK, state);
     let dec = made.dec;
     dec.push(pairs, decisions, out)
 }

@@ -9,6 +9,7 @@ use isdb_fec::conv::some_beyond;
 use short_code::good;
 use short_code::half;
 use short_fec::Code;
+use trellis::BLOCK;
 ghost use mathlib.Core.Path.{_≡_};
 ghost use mathlib.Core.Bool.{not};
 ghost use Prim.Native.Nat.{ℕ, _/_};
@@ -63,7 +64,7 @@ fn not_states(code: Code, pm: &[f32], held: u64, traceback: u64) -> u32
     if bad(code) {
         return 12;
     }
-    if held >= 4096 + traceback {
+    if held >= BLOCK + traceback {
         return 4;
     }
     if first_beyond(pm, 2 * half(code)) {

@@ -3,6 +3,7 @@ use isdb_fec::conv::PATH_LIMIT;
 use isdb_fec::conv::Released;
 use isdb_fec::conv::TRACEBACK_LIMIT;
 use isdb_fec::conv::ViterbiDecoder;
+use trellis::BLOCK;
 ghost use mathlib.Core.Path.{_≡_};
 ghost use lib.ListN.{length};
 ghost use Rattle.refusal.specs.Rows.{numberOf};
@@ -21,7 +22,7 @@ pub fn not_states(pm: &[f32], held: u64, traceback: u64) -> u32
     if traceback > TRACEBACK_LIMIT as u64 {
         return 3;
     }
-    if held >= 4096 + traceback {
+    if held >= BLOCK + traceback {
         return 4;
     }
     if isdb_fec::conv::some_beyond(pm, PATH_LIMIT) {

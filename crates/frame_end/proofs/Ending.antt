@@ -18,7 +18,8 @@ use Rattle.viterbi.specs.CountLaws.{step-counts}
 use Rattle.viterbi.specs.HoldingLaws.{holds-next, holding-is, cleared}
 use Rattle.trellis.specs.LaidLaws.{laid-after, laid-laid}
 use Rattle.isdbs_read.specs.Carried.{Carried}
-use Rattle.frame_end.specs.End.{Ended, knownBits}
+use Rattle.frame_end.specs.End.{Ended}
+use Rattle.isdbs_metrics.specs.Reading.{knownBits}
 
 -- ---- the decoder
 module _ (ys : ℕ → Step) (i0 : ℕ) (pm₀ : List Float) (at : At) (dec₀ out₀ : List ℕ) where

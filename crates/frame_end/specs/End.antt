@@ -6,15 +6,10 @@ use lib.ListN.{length, replicate}
 use lib.Ieee.{Float}
 use Rattle.trellis.specs.Isdb.{closed, frameTraceback, frameWords}
 use Rattle.trellis.specs.Lists.{laid}
-use Rattle.trellis.specs.Step.{Step, known}
 use Rattle.trellis.specs.Run.{Decoder}
 use Rattle.viterbi.specs.declared.At.{At}
 use Rattle.viterbi.specs.Calls.{steps, flush, Holds}
-use Rattle.isdbs_points.specs.Layout.{wordBit}
-
--- the known bits that follow a frame
-abbrev pub knownBits : ℕ → Step
-knownBits k = known (wordBit 0x1b95 k)
+use Rattle.isdbs_metrics.specs.Reading.{knownBits}
 
 -- "then the 16 bits of W1, high bit first, as known bits; then a flush": the bits of a decoder d whose frame steps are done
 abbrev pub endedBits : Decoder → List ℕ

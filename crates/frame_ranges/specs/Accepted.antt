@@ -37,8 +37,7 @@ use Rattle.isdbs_points.specs.declared.Mapping.{Mapping}
 use Rattle.isdbs_phy.specs.DecodeRows.{someOf, partLimit, scaleLimit, badScale, someBad, pointRows, lastRows, decodeRows, someOfBeyond}
 use Rattle.isdbs_points.specs.Layout.{wordBit}
 use Rattle.isdbs_points.specs.Frame.{startState}
-use Rattle.isdbs_metrics.specs.Reading.{Received, metricsAt, startValues}
-use Rattle.frame_end.specs.End.{knownBits}
+use Rattle.isdbs_metrics.specs.Reading.{Received, metricsAt, startValues, knownBits}
 use Rattle.frame_read.specs.Steps.{frameMetrics}
 use Rattle.frame_read.specs.ScaleLaws.{word-in}
 use Rattle.frame_read.specs.Scales.{scaleOf, receivedBy}

@@ -20,8 +20,7 @@ use Rattle.isdbs_points.specs.declared.Mapping.{Mapping}
 use Rattle.isdbs_phy.specs.DecodeRows.{decodeRows}
 use Rattle.isdb_fec.specs.Values.{within}
 use Rattle.isdbs_points.specs.Layout.{Segment, segments, In}
-use Rattle.isdbs_metrics.specs.Reading.{Received, softAt, metricsAt, startValues}
-use Rattle.frame_end.specs.End.{knownBits}
+use Rattle.isdbs_metrics.specs.Reading.{Received, softAt, metricsAt, startValues, knownBits}
 use Rattle.frame_read.specs.Steps.{frameMetrics}
 use Rattle.frame_read.specs.Scales.{receivedBy}
 use Rattle.frame_ranges.specs.Limits.{softLimit, metricLimit, leastPath, mostPath}

@@ -16,6 +16,7 @@ pub use decoder_rows::PATH_LIMIT;
 pub use decoder_rows::STREAM_LIMIT;
 pub use decoder_rows::some_beyond;
 use refusal::Answer;
+pub use trellis::STATES;
 pub use trellis::TRACEBACK_LIMIT;
 use viterbi::At;
 use viterbi::Step;
@@ -36,9 +37,6 @@ pub const CONSTRAINT_LENGTH: usize = 7;
 pub const G1: u8 = 0o171;
 // The generator of the output Y (the same places).
 pub const G2: u8 = 0o133;
-// The states of the encoder, 2 ^ (CONSTRAINT_LENGTH - 1).
-pub const STATES: usize = 64;
-
 // 16 constraint lengths, which the Rust takes for ample at rate 7/8.
 pub const DEFAULT_TRACEBACK: usize = 112;
 

@@ -20,8 +20,8 @@ use Rattle.viterbi.specs.CountLaws.{counted}
 use Rattle.viterbi.specs.TracedLaws.{length-traced}
 use Rattle.isdbs_tables.specs.declared.Table.{Table}
 use Rattle.isdbs_runs.specs.RunsOf.{frameSteps}
-use Rattle.isdbs_metrics.specs.Reading.{Received, startValues, decodedBits}
-use Rattle.frame_end.specs.End.{knownBits, endedBits}
+use Rattle.isdbs_metrics.specs.Reading.{Received, startValues, decodedBits, knownBits}
+use Rattle.frame_end.specs.End.{endedBits}
 use Rattle.frame_read.specs.Steps.{frameMetrics}
 use Rattle.isdbs_decode.specs.Runs.{bitsFrom}
 

@@ -7,7 +7,7 @@ use lib.Dec.{eqb, ltb}
 use lib.Ieee.{Float, nan, inf, fin, binary32, binary64, neg, add, sub, mul, lt, ofBits}
 use Rattle.trellis.specs.Isdb.{frameTraceback, call, steps, flush}
 use Rattle.trellis.specs.Lists.{upto, bit}
-use Rattle.trellis.specs.Step.{four, known}
+use Rattle.trellis.specs.Step.{Step, four, known}
 use Rattle.trellis.specs.Run.{freshFrom, startAt, startUnknown}
 use Rattle.isdbs_combination.specs.declared.Combination.{Combination}
 use Rattle.isdbs_combination.specs.declared.Modulation.{Modulation}
@@ -98,12 +98,16 @@ metricsAt t r = atStep [] (metricsIn r) t
 abbrev pub startValues : Bool → Bool → List Float
 startValues knownStart first = cond knownStart (startAt 64 (startState first)) (startUnknown 64)
 
+-- W1, whose bits follow a frame as known bits
+abbrev pub knownBits : ℕ → Step
+knownBits k = known (wordBit 0x1b95 k)
+
 -- "all in one `push_metrics` with traceback 128; then the 16 bits of W1, high bit first, as known bits; then a flush"
 unfoldable pub decodedBits : Table → Received → Bool → Bool → List ℕ
 decodedBits t r knownStart first =
     let d0 = freshFrom (startValues knownStart first) in
     let d1 = call frameTraceback (λ k. four (metricsAt t r k)) d0 (frameSteps t) in
-    let d2 = steps frameTraceback (λ k. known (wordBit 0x1b95 k)) d1 16 in
+    let d2 = steps frameTraceback knownBits d1 16 in
     flush d2 .bits
 
 -- ---- bytes

@@ -9,15 +9,11 @@ use lib.Dec.{ltb}
 use Rattle.refusal.specs.declared.Answer.{Answer}
 use Rattle.refusal.specs.declared.Answer.the-variants.{Accepted, State, Space}
 use Rattle.refusal.specs.Rows.{Row, firstRow}
-use Rattle.refusal.specs.RowLaws.{decided, passed}
+use Rattle.refusal.specs.RowLaws.{neither, decided, passed}
 use Rattle.isdbs_tables.specs.declared.Table.{Table}
 use Rattle.isdbs_tables.specs.Tables.{tableRows, tableAnswer, TableAccepted}
 use Rattle.isdbs_tables.specs.TableLaws.{table-refusing, then-rows, before-rows, then-accepted}
 use Rattle.isdbs_phy.specs.EncodeRows.{shortParts, encodeRows, encodeFrameRows}
-
-neither : (x y : Bool) → x || y ≡ false → (x ≡ false) × (y ≡ false)
-neither false y e = (refl, e)
-neither true y e = (e, absurd (let z : _≡_ {A = ℕ} 0 1 = cc in omega arith))
 
 module _ (t : Table) (s a b : ℕ) where
   abbrev rest : List Row

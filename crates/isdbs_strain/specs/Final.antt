@@ -11,8 +11,7 @@ use Rattle.viterbi.specs.Calls.{steps, call, flush}
 use Rattle.isdbs_tables.specs.declared.Table.{Table}
 use Rattle.isdbs_runs.specs.RunsOf.{frameSteps, validTotal}
 use Rattle.isdbs_points.specs.Frame.{startState}
-use Rattle.isdbs_metrics.specs.Reading.{Received, startValues}
-use Rattle.frame_end.specs.End.{knownBits}
+use Rattle.isdbs_metrics.specs.Reading.{Received, startValues, knownBits}
 use Rattle.frame_read.specs.Steps.{frameMetrics}
 use Rattle.strain.specs.Counts.{summed}
 use Rattle.strain.specs.Marks.{frameMark}

@@ -12,7 +12,8 @@ use Rattle.trellis.specs.Code.{stateAt}
 use Rattle.isdbt_table.specs.declared.CodeRate.{CodeRate}
 use Rattle.isdbt_table.specs.declared.Puncturing.{Puncturing}
 use Rattle.isdbt_table.specs.Table.{period, sent, compiled}
-use Rattle.isdbt_table.specs.Puncture.{inputs, mother, punctured}
+use Rattle.isdbt_table.specs.Puncture.{mother, punctured}
+use Rattle.trellis.specs.Encoded.{lowBits}
 use Rattle.isdbt_table.specs.NumberLaws.{numbers}
 use Rattle.isdbt_table.specs.SizeLaws.{Sizes}
 use Rattle.isdbt_fec.specs.EncodeLaws.{placeBy, state-below, bit-below, next-bits, block-inside, one-more, part-length, next-state, whole-bits, whole-sent}
@@ -32,8 +33,8 @@ pub record Sendable (count space period n : ℕ) (order : List ℕ) (end : ℕ) 
 
 -- after b periods: the state, and the sent bits at the front of `out`
 pub record Coded (s : ℕ) (bits out₀ : List ℕ) (period n : ℕ) (order : List ℕ) (b st : ℕ) (out : List ℕ) : Type 0 where
-  pub state-is : st ≡ stateAt 32 s (inputs bits) (b * period)
-  pub written : Written (λ j. mother s (inputs bits) (placeBy period n order j)) (b * n) out₀ out
+  pub state-is : st ≡ stateAt 32 s (lowBits bits) (b * period)
+  pub written : Written (λ j. mother s (lowBits bits) (placeBy period n order j)) (b * n) out₀ out
 
 pub coded-below : {s : ℕ} {bits out₀ : List ℕ} {period n : ℕ} {order : List ℕ} {b st : ℕ} {out : List ℕ} → Coded s bits out₀ period n order b st out → s < 64 → st < 64
 coded-below {s} {bits} {out₀} {period} {n} {order} {b} h low = rw (h .state-is) (state-below s bits (b * period) low)
@@ -55,7 +56,7 @@ tail-long out n b h = rw (tail-whole (b * n) out out out (omega arith), length-d
 
 module _ (rate : CodeRate) (p : Puncturing) (e : p ≡ compiled rate) (s : ℕ) (bits out₀ : List ℕ) where
   abbrev f : ℕ → ℕ
-  f j = mother s (inputs bits) (placeBy (p .period) (p .n) (p .order) j)
+  f j = mother s (lowBits bits) (placeBy (p .period) (p .n) (p .order) j)
 
   pub sendable : length bits / period rate * sent rate ≤ length out₀ → Sendable (length bits) (length out₀) (p .period) (p .n) (p .order) (length bits / p .period)
   sendable room =
@@ -76,8 +77,8 @@ module _ (rate : CodeRate) (p : Puncturing) (e : p ≡ compiled rate) (s : ℕ) 
   -- a period more: r and m are its state and its mother bits, `front` the sent bits at the front of what was left of `out`
   module _ (b st : ℕ) (out : List ℕ) (h : Coded s bits out₀ (p .period) (p .n) (p .order) b st out)
       (i : Inside (length bits) (length out₀) (p .period) (p .n) b) where
-    pub coded-next : (r : ℕ) (m front : List ℕ) → (r ≡ stateAt 32 st (inputs (partOf bits (p .period) b)) (length (partOf bits (p .period) b)))
-        × ((k : ℕ) → k < 2 * length (partOf bits (p .period) b) → getD m k 0 ≡ mother st (inputs (partOf bits (p .period) b)) k)
+    pub coded-next : (r : ℕ) (m front : List ℕ) → (r ≡ stateAt 32 st (lowBits (partOf bits (p .period) b)) (length (partOf bits (p .period) b)))
+        × ((k : ℕ) → k < 2 * length (partOf bits (p .period) b) → getD m k 0 ≡ mother st (lowBits (partOf bits (p .period) b)) k)
         → front ≡ laid (upto (λ j. getD m (getD (p .order) j 0) 0) (p .n)) (midOf (b * p .n) (length out - b * p .n) out)
         → Coded s bits out₀ (p .period) (p .n) (p .order) (b + 1) r (putMid (b * p .n) (length out - b * p .n) out front)
     coded-next r m front q w =
@@ -86,7 +87,7 @@ module _ (rate : CodeRate) (p : Puncturing) (e : p ≡ compiled rate) (s : ℕ) 
         let n = p .n in
         let us = take (p .period) (drop (b * p .period) bits) in
         let same-part = part-is bits (p .period) b in
-        let mothers : (k : ℕ) → k < 2 * p .period → getD m k 0 ≡ mother st (inputs us) k =
+        let mothers : (k : ℕ) → k < 2 * p .period → getD m k 0 ≡ mother st (lowBits us) k =
         rw (part-length rate p e s bits b (i .taken)) at (rw same-part at (q .1)) in
         let same = next-bits rate p e s bits b st m (h .state-is) mothers in
         let tail = written-tail (b * n) out front (upto (λ j. getD m (getD (p .order) j 0) 0) n) (omega arith) w in
@@ -97,8 +98,8 @@ module _ (rate : CodeRate) (p : Puncturing) (e : p ≡ compiled rate) (s : ℕ) 
 
   -- the end
   pub coded-all : (st : ℕ) (out : List ℕ) → length bits % period rate ≡ 0 → Coded s bits out₀ (p .period) (p .n) (p .order) (length bits / p .period) st out
-      → (st ≡ stateAt 32 s (inputs bits) (length bits)) × (out ≡ laid (punctured rate s bits) out₀)
+      → (st ≡ stateAt 32 s (lowBits bits) (length bits)) × (out ≡ laid (punctured rate s bits) out₀)
   coded-all st out whole h = (
-    h .state-is ∙ ap (λ (k : ℕ). stateAt 32 s (inputs bits) k) (whole-bits rate p e s bits whole),
+    h .state-is ∙ ap (λ (k : ℕ). stateAt 32 s (lowBits bits) k) (whole-bits rate p e s bits whole),
     h .written .front ∙ ap (λ (l : List ℕ). laid l out₀) (whole-sent rate p e s bits),
   )

@@ -14,11 +14,12 @@ use Rattle.isdbt_table.specs.declared.CodeRate.{CodeRate}
 use Rattle.isdbt_fec.specs.declared.conv.Encoded.{Encoded}
 use Rattle.isdbt_fec.specs.declared.conv.Done.{Done}
 use Rattle.isdbt_table.specs.Table.{period, sent}
-use Rattle.isdbt_table.specs.Puncture.{inputs, punctured, depunctured}
+use Rattle.isdbt_table.specs.Puncture.{punctured, depunctured}
+use Rattle.trellis.specs.Encoded.{lowBits}
 
 -- the sent bits at the front, the rest as before; the state has taken every bit and carries on from call to call
 pub record Encodes (rate : CodeRate) (s : ℕ) (bits : List ℕ) (r : Encoded) (out₀ out : List ℕ) : Type 0 where
-  pub state-is : r .enc .state ≡ stateAt 32 s (inputs bits) (length bits)
+  pub state-is : r .enc .state ≡ stateAt 32 s (lowBits bits) (length bits)
   pub count-is : r .count ≡ length bits / period rate * sent rate
   pub bits-are : out ≡ laid (punctured rate s bits) out₀
 

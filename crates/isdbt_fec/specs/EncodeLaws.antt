@@ -14,13 +14,14 @@ use Rattle.isdbt_table.specs.declared.CodeRate.{CodeRate}
 use Rattle.isdbt_table.specs.declared.CodeRate.the-variants.{R1_2, R2_3, R3_4, R5_6, R7_8}
 use Rattle.isdbt_table.specs.declared.Puncturing.{Puncturing}
 use Rattle.isdbt_table.specs.Table.{period, sent, compiled}
-use Rattle.isdbt_table.specs.Puncture.{inputs, mother, place, punctured}
+use Rattle.isdbt_table.specs.Puncture.{mother, place, punctured}
+use Rattle.trellis.specs.Encoded.{lowBits}
 use Rattle.trellis.specs.LaidLaws.{upto-cong}
 use Rattle.isdbt_table.specs.NumberLaws.{numbers}
 use Rattle.isdbt_table.specs.SizeLaws.{sizes, order-at, order-below, place-in}
 
 -- the low bit of a byte, past the end too
-pub input-at : (bits : List ℕ) (i : ℕ) → getD (inputs bits) i 0 ≡ getD bits i 0 % 2
+pub input-at : (bits : List ℕ) (i : ℕ) → getD (lowBits bits) i 0 ≡ getD bits i 0 % 2
 input-at [] i = refl
 input-at (b ∷ bits) zero = refl
 input-at (b ∷ bits) (suc i) = input-at bits i
@@ -30,11 +31,11 @@ unfolding stateAt
 state-next s us n = rw (add-one n) refl
 
 -- an encoder's state is below 64
-pub state-below : (s : ℕ) (bits : List ℕ) (n : ℕ) → s < 64 → stateAt 32 s (inputs bits) n < 64
+pub state-below : (s : ℕ) (bits : List ℕ) (n : ℕ) → s < 64 → stateAt 32 s (lowBits bits) n < 64
 unfolding stateAt
 state-below s bits zero h = h
 state-below s bits (suc n) h =
-    let g : stateAt 32 s (inputs bits) n < 64 = state-below s bits n h in
+    let g : stateAt 32 s (lowBits bits) n < 64 = state-below s bits n h in
     let e = input-at bits n in
     omega arith
 
@@ -43,20 +44,20 @@ module _ (s a m : ℕ) (bits : List ℕ) where
   abbrev part : List ℕ
   part = take m (drop a bits)
 
-  part-input : (i : ℕ) → i < m → getD (inputs part) i 0 ≡ getD (inputs bits) (a + i) 0
+  part-input : (i : ℕ) → i < m → getD (lowBits part) i 0 ≡ getD (lowBits bits) (a + i) 0
   part-input i h =
       input-at part i ∙ ap (λ (x : ℕ). x % 2) (getD-take m (drop a bits) i 0 h ∙ getD-drop a bits i 0) ∙ sym (input-at bits (a + i))
 
-  pub part-state : (n : ℕ) → n ≤ m → stateAt 32 (stateAt 32 s (inputs bits) a) (inputs part) n ≡ stateAt 32 s (inputs bits) (a + n)
+  pub part-state : (n : ℕ) → n ≤ m → stateAt 32 (stateAt 32 s (lowBits bits) a) (lowBits part) n ≡ stateAt 32 s (lowBits bits) (a + n)
   unfolding stateAt
-  part-state zero h = let z : a ≡ a + 0 = omega arith in ap (λ (k : ℕ). stateAt 32 s (inputs bits) k) z
+  part-state zero h = let z : a ≡ a + 0 = omega arith in ap (λ (k : ℕ). stateAt 32 s (lowBits bits) k) z
   part-state (suc n) h =
       let z : a + suc n ≡ suc (a + n) = omega arith in
       let g : n < m = omega arith in
       let before = part-state n (omega arith) in
       rw (z, part-input n g, before) refl
 
-  pub part-mother : (k : ℕ) → k < 2 * m → mother (stateAt 32 s (inputs bits) a) (inputs part) k ≡ mother s (inputs bits) (2 * a + k)
+  pub part-mother : (k : ℕ) → k < 2 * m → mother (stateAt 32 s (lowBits bits) a) (lowBits part) k ≡ mother s (lowBits bits) (2 * a + k)
   unfolding mother
   part-mother k h =
       let q : (2 * a + k) / 2 ≡ a + k / 2 = omega arith in
@@ -106,16 +107,16 @@ module _ (rate : CodeRate) (p : Puncturing) (e : p ≡ compiled rate) (s : ℕ) 
   pub bit-below : (i : ℕ) → i < p .n → getD (p .order) i 0 < 2 * p .period
   bit-below = rw e (λ (i : ℕ) (h : i < sent rate). rw (order-at rate i h) (order-below rate i h))
 
-  pub next-bits : (b st : ℕ) (m : List ℕ) → st ≡ stateAt 32 s (inputs bits) (b * p .period)
-      → ((k : ℕ) → k < 2 * p .period → getD m k 0 ≡ mother st (inputs (take (p .period) (drop (b * p .period) bits))) k)
-      → (i : ℕ) → i < p .n → getD m (getD (p .order) i 0) 0 ≡ mother s (inputs bits) (placeBy (p .period) (p .n) (p .order) (b * p .n + i))
+  pub next-bits : (b st : ℕ) (m : List ℕ) → st ≡ stateAt 32 s (lowBits bits) (b * p .period)
+      → ((k : ℕ) → k < 2 * p .period → getD m k 0 ≡ mother st (lowBits (take (p .period) (drop (b * p .period) bits))) k)
+      → (i : ℕ) → i < p .n → getD m (getD (p .order) i 0) 0 ≡ mother s (lowBits bits) (placeBy (p .period) (p .n) (p .order) (b * p .n + i))
   next-bits b st m es em i h =
       let k = getD (p .order) i 0 in
       let g : k < 2 * p .period = bit-below i h in
       let there : placeBy (p .period) (p .n) (p .order) (b * p .n + i) ≡ 2 * (b * p .period) + k =
       place-is (b * p .n + i) ∙ placed i h in
-      em k g ∙ ap (λ (x : ℕ). mother x (inputs (take (p .period) (drop (b * p .period) bits))) k) es
-      ∙ part-mother s (b * p .period) (p .period) bits k g ∙ ap (λ (x : ℕ). mother s (inputs bits) x) (sym there)
+      em k g ∙ ap (λ (x : ℕ). mother x (lowBits (take (p .period) (drop (b * p .period) bits))) k) es
+      ∙ part-mother s (b * p .period) (p .period) bits k g ∙ ap (λ (x : ℕ). mother s (lowBits bits) x) (sym there)
     where
       placed : (i : ℕ) → i < p .n → place rate (b * p .n + i) ≡ 2 * (b * p .period) + getD (p .order) i 0
       placed = rw e (λ (i : ℕ) (h : i < sent rate). place-in rate b i h ∙ ap (λ (x : ℕ). 2 * (b * period rate) + x) (sym (order-at rate i h)))
@@ -125,28 +126,28 @@ module _ (rate : CodeRate) (p : Puncturing) (e : p ≡ compiled rate) (s : ℕ) 
     pub part-length : length (take (p .period) (drop (b * p .period) bits)) ≡ p .period
     part-length = length-take-le (p .period) (drop (b * p .period) bits) (rw (length-drop (b * p .period) bits) (omega arith))
 
-    pub next-state : (st r : ℕ) → st ≡ stateAt 32 s (inputs bits) (b * p .period)
-        → r ≡ stateAt 32 st (inputs (take (p .period) (drop (b * p .period) bits))) (length (take (p .period) (drop (b * p .period) bits)))
-        → r ≡ stateAt 32 s (inputs bits) ((b + 1) * p .period)
+    pub next-state : (st r : ℕ) → st ≡ stateAt 32 s (lowBits bits) (b * p .period)
+        → r ≡ stateAt 32 st (lowBits (take (p .period) (drop (b * p .period) bits))) (length (take (p .period) (drop (b * p .period) bits)))
+        → r ≡ stateAt 32 s (lowBits bits) ((b + 1) * p .period)
     next-state st r es er =
-        let part = inputs (take (p .period) (drop (b * p .period) bits)) in
+        let part = lowBits (take (p .period) (drop (b * p .period) bits)) in
         er ∙ ap (λ (k : ℕ). stateAt 32 st part k) part-length ∙ ap (λ (x : ℕ). stateAt 32 x part (p .period)) es
         ∙ part-state s (b * p .period) (p .period) bits (p .period) (le-refl (p .period))
-        ∙ ap (λ (k : ℕ). stateAt 32 s (inputs bits) k) (sym (one-more b (p .period)))
+        ∙ ap (λ (k : ℕ). stateAt 32 s (lowBits bits) k) (sym (one-more b (p .period)))
 
   -- the end: whole periods are all the bits
   pub whole-bits : length bits % period rate ≡ 0 → length bits / p .period * p .period ≡ length bits
   whole-bits h =
       rw e (let d = div-add-mod' (length bits) (period rate) in omega arith)
 
-  pub whole-sent : upto (λ j. mother s (inputs bits) (placeBy (p .period) (p .n) (p .order) j)) (length bits / p .period * p .n) ≡ punctured rate s bits
+  pub whole-sent : upto (λ j. mother s (lowBits bits) (placeBy (p .period) (p .n) (p .order) j)) (length bits / p .period * p .n) ≡ punctured rate s bits
   unfolding punctured
   whole-sent =
       let z = numbers rate p e in
       let count : length bits / p .period * p .n ≡ length bits / period rate * sent rate = rw (z .n-is, z .period-is) refl in
-      ap (λ (k : ℕ). upto (λ j. mother s (inputs bits) (placeBy (p .period) (p .n) (p .order) j)) k) count
-      ∙ upto-cong (λ j. mother s (inputs bits) (placeBy (p .period) (p .n) (p .order) j)) (λ j. mother s (inputs bits) (place rate j)) (length bits / period rate * sent rate)
-      (λ j h. ap (λ (k : ℕ). mother s (inputs bits) k) (place-is j))
+      ap (λ (k : ℕ). upto (λ j. mother s (lowBits bits) (placeBy (p .period) (p .n) (p .order) j)) k) count
+      ∙ upto-cong (λ j. mother s (lowBits bits) (placeBy (p .period) (p .n) (p .order) j)) (λ j. mother s (lowBits bits) (place rate j)) (length bits / period rate * sent rate)
+      (λ j h. ap (λ (k : ℕ). mother s (lowBits bits) k) (place-is j))
 
 -- the period b lies inside, with its bits and with what is sent for them
 inside : (rate : CodeRate) (count out b : ℕ) → b < count / period rate → count / period rate * sent rate ≤ out

@@ -7,7 +7,8 @@ ghost use Rattle.refusal.specs.Rows.{firstRow, Either};
 ghost use Rattle.trellis.specs.Lists.{upto, laid};
 ghost use Rattle.trellis.specs.Code.{stateAt};
 ghost use Rattle.isdbt_table.specs.Table.{period, sent};
-ghost use Rattle.isdbt_table.specs.Puncture.{inputs, mother, punctured, depunctured};
+ghost use Rattle.isdbt_table.specs.Puncture.{mother, punctured, depunctured};
+ghost use Rattle.trellis.specs.Encoded.{lowBits};
 ghost use Rattle.isdbt_rows.specs.Rows.{encodeRows, depunctureRows, decodeRows};
 ghost use Rattle.isdbt_fec.specs.Calls.{Encodes, Unencoded, Depunctures, Untouched, decodedBits, Decodes, Undecoded};
 ghost use Rattle.trellis.specs.Run.{tracebackLimit, block, depth};
@@ -39,8 +40,8 @@ struct Period {
 // Encodes the bits of a period.
 fn encode_period(state: u8, bits: &[u8]) -> Period
     requires { ⌜ (state < 64) × (length (now bits) ≤ 7) ⌝ }
-    ensures { λ r. ⌜ (r .state ≡ stateAt 32 state (inputs (now (bits .entry))) (length (now (bits .entry))))
-        × ((k : ℕ) → k < 2 * length (now (bits .entry)) → getD (r .mother) k 0 ≡ mother state (inputs (now (bits .entry))) k) ⌝ }
+    ensures { λ r. ⌜ (r .state ≡ stateAt 32 state (lowBits (now (bits .entry))) (length (now (bits .entry))))
+        × ((k : ℕ) → k < 2 * length (now (bits .entry)) → getD (r .mother) k 0 ≡ mother state (lowBits (now (bits .entry))) k) ⌝ }
 {
     let mut s = state;
     let mut m = [0u8; 14];
@@ -70,7 +71,7 @@ fn send(m: &[u8; 14], order: &[usize; 8], n: usize, out: &mut [u8])
 // Encodes whole periods from the state; the state after them.
 fn encode_periods(rate: CodeRate, state: u8, bits: &[u8], out: &mut [u8]) -> u8
     requires { ⌜ (state < 64) × (length (now bits) % period rate ≡ 0) × (length (now bits) / period rate * sent rate ≤ length (now out)) ⌝ }
-    ensures { λ r. ⌜ (r ≡ stateAt 32 state (inputs (now (bits .entry))) (length (now (bits .entry))))
+    ensures { λ r. ⌜ (r ≡ stateAt 32 state (lowBits (now (bits .entry))) (length (now (bits .entry))))
         × (now (out .exit) ≡ laid (punctured rate state (now (bits .entry))) (now (out .entry))) ⌝ }
 {
     let p = Puncturing::new(rate);

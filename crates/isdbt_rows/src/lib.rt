@@ -11,6 +11,7 @@ use isdb_fec::conv::some_beyond;
 use isdbt_table::CodeRate;
 use isdbt_table::Puncturing;
 use refusal::Answer;
+use trellis::BLOCK;
 
 // Whether `space` places are too few for `blocks` blocks of `per` elements. The product may be past any number of the machine.
 fn few(space: usize, per: usize, blocks: usize) -> bool
@@ -81,7 +82,7 @@ pub fn answer_decode(
     if few(space, p.period, llrs.len() / p.n) {
         return Answer::Space;
     }
-    if decisions < 4096 + depth_of(traceback) {
+    if decisions < BLOCK + depth_of(traceback) {
         return Answer::Space;
     }
     Answer::Accepted

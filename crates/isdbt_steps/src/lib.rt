@@ -9,6 +9,7 @@ ghost use Rattle.isdbt_table.specs.Puncture.{spread};
 ghost use Rattle.viterbi.specs.Calls.{bestState, traced};
 ghost use Rattle.isdbt_steps.specs.Soft.{stepsBy};
 ghost use Rattle.trellis.specs.Run.{block, tracebackLimit, pairSteps};
+use trellis::BLOCK;
 use viterbi::At;
 use viterbi::clear;
 use viterbi::finish;
@@ -79,6 +80,6 @@ pub fn end_call(
 {
     renormalise(pm);
     let bits = finish(pm, at, decisions, out);
-    clear(decisions, 4096 + traceback);
+    clear(decisions, BLOCK + traceback);
     bits
 }

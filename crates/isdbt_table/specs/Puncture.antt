@@ -7,12 +7,9 @@ use lib.Dec.{eqb}
 use lib.Ieee.{Float, nan, binary32, ofBits}
 use Rattle.trellis.specs.Lists.{upto}
 use Rattle.trellis.specs.Code.{isdb, output, stateAt}
+use Rattle.trellis.specs.Encoded.{lowBits}
 use Rattle.isdbt_table.specs.declared.CodeRate.{CodeRate}
 use Rattle.isdbt_table.specs.Table.{rowX, rowY, period, sent, order}
-
--- "Only the low bit of an input .. byte counts"
-abbrev pub inputs : List ℕ → List ℕ
-inputs bits = map (λ b. b % 2) bits
 
 -- bit k of the mother code X1, Y1, X2, Y2, .. of the inputs us, from the state s
 unfoldable pub mother : ℕ → List ℕ → ℕ → ℕ
@@ -24,7 +21,7 @@ place rate j = 2 * period rate * (j / sent rate) + getD (order rate) (j % sent r
 
 -- what is sent for the bytes of whole periods, from the state s
 unfoldable pub punctured : CodeRate → ℕ → List ℕ → List ℕ
-punctured rate s bits = upto (λ j. mother s (inputs bits) (place rate j)) (length bits / period rate * sent rate)
+punctured rate s bits = upto (λ j. mother s (lowBits bits) (place rate j)) (length bits / period rate * sent rate)
 
 -- the value for the mother bit k of a period, where xs has from j on the values of the mother bits ps; "Erased soft values are 0"
 unfoldable pub spread : List ℕ → List Float → ℕ → ℕ → Float

@@ -1,7 +1,8 @@
 -- Table 3-8 of ARIB STD-B31: which bits of the mother code are sent at each code rate, and in what order. Assumes nothing.
 use mathlib.Core.List.{List, [], _∷_, _++_, map}
 use Prim.Native.Nat.{ℕ, _+_, _-_, _*_}
-use lib.ListN.{length, replicate}
+use lib.ListN.{length}
+use Rattle.trellis.specs.Lists.{padded}
 use Rattle.isdbt_table.specs.declared.CodeRate.{CodeRate}
 use Rattle.isdbt_table.specs.declared.CodeRate.the-variants.{R1_2, R2_3, R3_4, R5_6, R7_8}
 use Rattle.isdbt_table.specs.declared.PunctureSpec.{PunctureSpec}
@@ -57,10 +58,6 @@ number b = 2 * (index b - 1) + letter b
 -- the mother bits that are sent of a period, in their order
 abbrev pub order : CodeRate → List ℕ
 order rate = map number (sequence rate)
-
--- a list with places added up to n
-abbrev pub padded : ℕ → ℕ → List ℕ → List ℕ
-padded n z l = l ++ replicate (n - length l) z
 
 -- the rates in the table's order
 abbrev pub rowOf : CodeRate → ℕ

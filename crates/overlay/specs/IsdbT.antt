@@ -15,11 +15,11 @@ use Rattle.isdbs_points.specs.Frame.{labelAt, codedBit}
 use Rattle.isdbt_table.specs.declared.CodeRate.{CodeRate}
 use Rattle.isdbt_table.specs.declared.CodeRate.the-variants.{R1_2, R2_3, R3_4, R5_6, R7_8}
 use Rattle.isdbt_table.specs.Table.{order, period, sent}
-use Rattle.isdbt_table.specs.Puncture.{inputs, mother, place, punctured}
+use Rattle.isdbt_table.specs.Puncture.{mother, place, punctured}
 use Rattle.isdbt_table.specs.SizeLaws.{order-below}
 use Rattle.overlay.specs.Overlaid.{overlaid, chosen}
 use Rattle.overlay.specs.OverlaidLaws.{length-overlaid}
-use Rattle.trellis.specs.Encoded.{codedBits, lastState}
+use Rattle.trellis.specs.Encoded.{codedBits, lastState, lowBits}
 use Rattle.overlay.specs.CodingLaws.{overlays, overlays-chosen}
 use Rattle.overlay.specs.Kept.{kept-is}
 use Rattle.trellis.specs.Isdb
@@ -48,15 +48,15 @@ turn R3_4 j = omega arith
 turn R5_6 j = omega arith
 turn R7_8 j = omega arith
 
--- the places of the mother bits that are sent for n inputs
+-- the places of the mother bits that are sent for n lowBits
 abbrev pub sentPlaces : CodeRate → ℕ → List ℕ
 sentPlaces rate n = upto (place rate) (n / period rate * sent rate)
 
 pub punctured-chosen : (rate : CodeRate) (s : ℕ) (us : List ℕ) → punctured rate s us ≡ chosen (sentPlaces rate (length us)) (codedBits isdb s us)
 unfolding punctured
 punctured-chosen rate s us =
-    kept-is s us (λ j. mother s (inputs us) (place rate j)) (place rate) (length us / period rate * sent rate)
-    (λ j h. (place-below rate (length us) j (order-below rate (j % sent rate) (turn rate j)) h, mother-is s (inputs us) (place rate j)))
+    kept-is s us (λ j. mother s (lowBits us) (place rate j)) (place rate) (length us / period rate * sent rate)
+    (λ j h. (place-below rate (length us) j (order-below rate (j % sent rate) (turn rate j)) h, mother-is s (lowBits us) (place rate j)))
 
 module _ (us vs : List ℕ) (e : length us ≡ length vs) (s r : ℕ) (hs : s < 64) (hr : r < 64) where
   -- THE THEOREM
@@ -71,12 +71,12 @@ module _ (us vs : List ℕ) (e : length us ≡ length vs) (s r : ℕ) (hs : s < 
       ∙ ap (λ (l : List ℕ). overlaid (chosen ps (codedBits isdb s us)) l) (punctured-chosen rate r vs)
       ∙ ap (λ (n : ℕ). overlaid (chosen ps (codedBits isdb s us)) (chosen (sentPlaces rate n) (codedBits isdb r vs))) (sym e))
 
-  last-is : (t : ℕ) (ws : List ℕ) → stateAt 32 t (inputs ws) (length ws) ≡ stateAt 32 t (inputs ws) (length (inputs ws))
-  last-is t ws = ap (λ (n : ℕ). stateAt 32 t (inputs ws) n) (sym (length-map ws (λ b. b % 2)))
+  last-is : (t : ℕ) (ws : List ℕ) → stateAt 32 t (lowBits ws) (length ws) ≡ stateAt 32 t (lowBits ws) (length (lowBits ws))
+  last-is t ws = ap (λ (n : ℕ). stateAt 32 t (lowBits ws) n) (sym (length-map ws (λ b. b % 2)))
 
   -- the state that `encode_punctured` leaves
-  pub state-overlaid : stateAt 32 (bitXor s r) (inputs (overlaid us vs)) (length (overlaid us vs)) ≡ bitXor (stateAt 32 s (inputs us) (length us)) (stateAt 32 r (inputs vs) (length vs))
+  pub state-overlaid : stateAt 32 (bitXor s r) (lowBits (overlaid us vs)) (length (overlaid us vs)) ≡ bitXor (stateAt 32 s (lowBits us) (length us)) (stateAt 32 r (lowBits vs) (length vs))
   state-overlaid =
-      last-is (bitXor s r) (overlaid us vs) ∙ sym (reached-is isdb (bitXor s r) (inputs (overlaid us vs))) ∙ overlays isdb us vs s r e hs hr .end
-      ∙ ap (λ (x : ℕ). bitXor x (lastState isdb r vs)) (reached-is isdb s (inputs us) ∙ sym (last-is s us))
-      ∙ ap (λ (x : ℕ). bitXor (stateAt 32 s (inputs us) (length us)) x) (reached-is isdb r (inputs vs) ∙ sym (last-is r vs))
+      last-is (bitXor s r) (overlaid us vs) ∙ sym (reached-is isdb (bitXor s r) (lowBits (overlaid us vs))) ∙ overlays isdb us vs s r e hs hr .end
+      ∙ ap (λ (x : ℕ). bitXor x (lastState isdb r vs)) (reached-is isdb s (lowBits us) ∙ sym (last-is s us))
+      ∙ ap (λ (x : ℕ). bitXor (stateAt 32 s (lowBits us) (length us)) x) (reached-is isdb r (lowBits vs) ∙ sym (last-is r vs))

@@ -21,6 +21,7 @@ use short_step::renormalise;
 use short_step::start_at;
 use short_viterbi::finish_at;
 use short_viterbi::soft_steps;
+use trellis::FRAME_TRACEBACK;
 use trellis::FRAME_WORDS;
 use viterbi::At;
 
@@ -109,7 +110,18 @@ fn run(
     begin(pm, start);
     let at = At { held: 0, count: 0 };
     let n = metrics.len() / 4;
-    let end = soft_steps(pm, code, h, at, 128, metrics, 4, n, decisions, out);
+    let end = soft_steps(
+        pm,
+        code,
+        h,
+        at,
+        FRAME_TRACEBACK,
+        metrics,
+        4,
+        n,
+        decisions,
+        out,
+    );
     renormalise(pm, h);
     let best = best_state(pm, h);
     finish_at(best, h, end, decisions, out)

@@ -19,7 +19,7 @@ use Rattle.trellis.specs.Encoded.{lowBits, codedBits, lastState}
 use Rattle.trellis.specs.EncodedLaws.{reached-is}
 use Rattle.isdbt_table.specs.declared.CodeRate.the-variants.{R1_2}
 use Rattle.isdbt_fec.specs.declared.conv.Encoded as isdbt
-use Rattle.isdbt_table.specs.Puncture.{inputs, mother, place, punctured}
+use Rattle.isdbt_table.specs.Puncture.{mother, place, punctured}
 use Rattle.isdbt_rows.specs.Rows as isdbt-rows
 use Rattle.isdbt_fec.specs.Calls.{Encodes, Unencoded}
 use Rattle.short_code.specs.Codes.{codeOf}
@@ -46,24 +46,24 @@ place-is j = let e = either-bit (j % 2) (omega arith) in omega arith
 
 module _ (s : ℕ) (us : List ℕ) where
   -- mother bit i is X of input i / 2 where i is even, Y where it is odd
-  mother-is : (i r : ℕ) → i % 2 ≡ r → i < 2 * length us → mother s (inputs us) i ≡ getD (codedBits (codeOf isdbCode) s us) i 0
+  mother-is : (i r : ℕ) → i % 2 ≡ r → i < 2 * length us → mother s (lowBits us) i ≡ getD (codedBits (codeOf isdbCode) s us) i 0
   unfolding mother
   mother-is i zero e h =
       let k : 2 * (i / 2) ≡ i = omega arith in
-      ap (λ (m : ℕ). output isdb (cond (eqb m 0) 0o171 0o133) (getD (inputs us) (i / 2) 0) (stateAt 32 s (inputs us) (i / 2))) e
-      ∙ ap (λ (u : ℕ). output isdb 0o171 u (stateAt 32 s (inputs us) (i / 2))) (low-at us (i / 2))
+      ap (λ (m : ℕ). output isdb (cond (eqb m 0) 0o171 0o133) (getD (lowBits us) (i / 2) 0) (stateAt 32 s (lowBits us) (i / 2))) e
+      ∙ ap (λ (u : ℕ). output isdb 0o171 u (stateAt 32 s (lowBits us) (i / 2))) (low-at us (i / 2))
       ∙ sym (coded-x isdbCode s us (i / 2) (omega arith)) ∙ ap (λ (m : ℕ). getD (codedBits (codeOf isdbCode) s us) m 0) k
   mother-is i (suc zero) e h =
       let k : 2 * (i / 2) + 1 ≡ i = omega arith in
-      ap (λ (m : ℕ). output isdb (cond (eqb m 0) 0o171 0o133) (getD (inputs us) (i / 2) 0) (stateAt 32 s (inputs us) (i / 2))) e
-      ∙ ap (λ (u : ℕ). output isdb 0o133 u (stateAt 32 s (inputs us) (i / 2))) (low-at us (i / 2))
+      ap (λ (m : ℕ). output isdb (cond (eqb m 0) 0o171 0o133) (getD (lowBits us) (i / 2) 0) (stateAt 32 s (lowBits us) (i / 2))) e
+      ∙ ap (λ (u : ℕ). output isdb 0o133 u (stateAt 32 s (lowBits us) (i / 2))) (low-at us (i / 2))
       ∙ sym (coded-y isdbCode s us (i / 2) (omega arith)) ∙ ap (λ (m : ℕ). getD (codedBits (codeOf isdbCode) s us) m 0) k
   mother-is i (suc (suc r)) e h = absurd (omega arith)
 
   pub coded-punctured : codedBits (codeOf isdbCode) s us ≡ punctured R1_2 s us
   unfolding punctured
   coded-punctured =
-      let f : ℕ → ℕ = λ j. mother s (inputs us) (place R1_2 j) in
+      let f : ℕ → ℕ = λ j. mother s (lowBits us) (place R1_2 j) in
       let n : length us / 1 * 2 ≡ 2 * length us = omega arith in
       let l = length-coded isdbCode s us in
       sym
@@ -71,10 +71,10 @@ module _ (s : ℕ) (us : List ℕ) where
       ∙ ext-getD 0 (upto f (2 * length us)) (codedBits (codeOf isdbCode) s us) (length-upto f (2 * length us) ∙ sym l)
       (λ i h.
       let b : i < 2 * length us = rw (length-upto f (2 * length us)) at h in
-      getD-upto f 0 (2 * length us) i b ∙ ap (mother s (inputs us)) (place-is i) ∙ mother-is i (i % 2) refl b))
+      getD-upto f 0 (2 * length us) i b ∙ ap (mother s (lowBits us)) (place-is i) ∙ mother-is i (i % 2) refl b))
 
-  pub last-state : lastState (codeOf isdbCode) s us ≡ stateAt 32 s (inputs us) (length us)
-  last-state = reached-is (codeOf isdbCode) s (lowBits us) ∙ ap (stateAt 32 s (inputs us)) (length-low us)
+  pub last-state : lastState (codeOf isdbCode) s us ≡ stateAt 32 s (lowBits us) (length us)
+  last-state = reached-is (codeOf isdbCode) s (lowBits us) ∙ ap (stateAt 32 s (lowBits us)) (length-low us)
 
 -- ---- the contracts of the two calls, of the state s and the input bytes us
 pub encode-agrees : (s : ℕ) (us out₀ out out′ : List ℕ) (r : short.Encoded) (r′ : isdbt.Encoded)

@@ -11,8 +11,8 @@ use native.Mathlib.Nat.{eq-or-lt-of-le, mod-eq-of-lt, mod-self, mod-add-mod, add
 use lib.ListN.{length, take, drop, set, length-append, length-set, take-append-drop}
 use borrow.Author.Tests.{ltb-false}
 use lib.Seq.{length-take-le, take-length, drop-length, drop-cons, drop-append-le, drop-drop, drop-set-lt, take-suc-set}
-use Rattle.refusal.specs.RowLaws.{none-holds}
-use Rattle.refusal.specs.declared.Answer.the-variants.{Accepted}
+use Rattle.refusal.specs.RowLaws.{passed}
+use Rattle.refusal.specs.declared.Answer.the-variants.{Accepted, Window, Space}
 use Rattle.strain_window.specs.declared.WindowState.{WindowState}
 use Rattle.strain_window.specs.declared.Pushed.{Pushed}
 use Rattle.strain_window.specs.Rows.{keptSums, pushRows}
@@ -74,8 +74,8 @@ pub record Held (w : ℕ) (v : WindowState) (kept h : List ℕ) : Type 0 where
 -- an accepted push was allowed
 pub call-allowed : {v : WindowState} {clear : Bool} {sum : ℕ} {lent kept : List ℕ} {r : Pushed} → Called v clear sum lent r kept → r .answer ≡ Accepted → Allowed v sum lent
 call-allowed {v} {clear} {sum} {lent} c ok =
-    let a = none-holds (pushRows v sum lent) tt (sym (c .answers) ∙ ok) in
-    allowed v sum lent (a .0) (ltb-false (length lent) (v .window) (a .1 .0))
+    let p = passed (pushRows v sum lent) tt (sym (c .answers) ∙ ok) in
+    allowed v sum lent (p Window) (ltb-false (length lent) (v .window) (p Space))
 
 -- the first push of a window: one sum is kept, at place 0
 alone : (clear : Bool) (v : WindowState) (sum : ℕ) (lent : List ℕ) → Starts clear v → Sound v → v .window ≤ length lent

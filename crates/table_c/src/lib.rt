@@ -1,4 +1,5 @@
 // Calls for C on a table, and positions.
+use isdbs_combination::FRAME_SLOTS;
 use isdbs_core::combination::Combination;
 use isdbs_core::combination::MaybeCombination;
 use isdbs_core::frame::Position;
@@ -60,11 +61,11 @@ pub extern "C" fn isdbs_slot_combinations(table: u64, out: &mut [u8]) -> u32
     if answer != 0 {
         return answer;
     }
-    if out.len() < 48 {
+    if out.len() < FRAME_SLOTS {
         return 9;
     }
     let slots = marks.slots;
-    for s in 0..48 {
+    for s in 0..FRAME_SLOTS {
         let slot = slots[s];
         let m = slot.mark;
         out[s] = mark_word(m);

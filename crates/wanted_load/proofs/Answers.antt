@@ -2,7 +2,7 @@
 use mathlib.Core.Path.{_≡_, refl, sym, _∙_}
 use mathlib.Core.Logic.{_⊎_, inl, inr}
 use mathlib.Core.Bool.{Bool, true, false}
-use mathlib.Core.List.{List, [], _∷_, _++_, append-assoc}
+use mathlib.Core.List.{List, [], _∷_, _++_}
 use Prim.Native.Nat.{ℕ}
 use lib.Dec.{T}
 use lib.ListN.{length}
@@ -24,7 +24,7 @@ use Rattle.wanted_load.specs.Found.{loadSaid, Tells, Answered, Outcome, 
 
 -- 13 stands behind the rows that are checked before the frame is read
 last-row : (t : Table) (re im bytes : ℕ) (b : Bool) → wantedRows t re im bytes b ≡ earlierRows t re im bytes ++ (NoLoad, b) ∷ []
-last-row t re im bytes b = sym (append-assoc (tableRows t) (lentRows (loadBytes t) re im bytes) ((NoLoad, b) ∷ []))
+last-row t re im bytes b = refl
 
 earlier-refusing : (t : Table) (re im bytes : ℕ) → T (refusing (earlierRows t re im bytes))
 earlier-refusing t re im bytes = then-refusing t (lentRows (loadBytes t) re im bytes) tt

@@ -20,4 +20,4 @@ earlierRows t re im bytes = tableRows t ++ lentRows (loadBytes t) re im bytes
 
 -- all rows, over whether no full load encodes to the frame: "13 precisely if no full load encodes to the frame, checked last"
 abbrev pub wantedRows : Table → ℕ → ℕ → ℕ → Bool → List Row
-wantedRows t re im bytes none = tableRows t ++ (Symbols, ltb re mainSymbols || ltb im mainSymbols) ∷ (Space, ltb bytes (loadBytes t)) ∷ (NoLoad, none) ∷ []
+wantedRows t re im bytes none = earlierRows t re im bytes ++ (NoLoad, none) ∷ []

@@ -1,5 +1,7 @@
 // Request P9: the bytes behind a wanted frame. What the frame shows is read off, encoded again and compared (`same_frame`); the lent bytes are written only then.
 use isdbs_core::frame::MAIN_SYMBOLS;
+use isdbs_core::frame::SLOT_BYTES;
+use isdbs_core::frame::SLOTS;
 use isdbs_core::slots::Plan;
 use isdbs_core::slots::plan_of;
 use isdbs_core::tmcc::Table;
@@ -21,6 +23,9 @@ ghost use Rattle.isdbs_runs.specs.RunsOf.{planOf, Planned, loadBytes};
 ghost use Rattle.wanted_load.specs.Rows.{lentRows, earlierRows};
 ghost use Rattle.same_frame.specs.Alike.{Matches};
 ghost use Rattle.wanted_load.specs.Found.{Answered, Searched, Outcome, Turned};
+
+// The bytes of the longest load: every slot of a frame valid.
+const LOAD_BYTES: usize = SLOTS * SLOT_BYTES;
 
 // A load, laid over the beginning of the lent bytes.
 fn put(load: &[u8], bytes: &mut [u8])
@@ -84,7 +89,7 @@ fn search_arrays(
     im: &[f64],
     m: Mapping,
     first: bool,
-    load: &mut [u8; 9744],
+    load: &mut [u8; LOAD_BYTES],
     xs: &mut [f64; MAIN_SYMBOLS],
     ys: &mut [f64; MAIN_SYMBOLS],
     bytes: &mut [u8],
@@ -100,7 +105,7 @@ fn find_load(p: Plan, re: &[f64], im: &[f64], m: Mapping, first: bool, bytes: &m
     requires { ⌜ Planned p × (mainSymbols ≤ length (now re)) × (mainSymbols ≤ length (now im)) × (loadBytes (p .table) ≤ length (now bytes)) ⌝ }
     ensures { λ r. ⌜ Searched (p .table) m first (now (re .entry)) (now (im .entry)) r (now (bytes .entry)) (now (bytes .exit)) ⌝ }
 {
-    let mut load = [0u8; 9744];
+    let mut load = [0u8; LOAD_BYTES];
     let mut xs = [0.0f64; MAIN_SYMBOLS];
     let mut ys = [0.0f64; MAIN_SYMBOLS];
     search_arrays(p, re, im, m, first, &mut load, &mut xs, &mut ys, bytes)

@@ -5,7 +5,7 @@ use Rattle.trellis.specs.Step.{known}
 use native.Mathlib.Nat.{zero-add}
 use borrow.Author.Needs.{needs}
 use Rattle.isdbs_read.specs.Carried.{Carried}
-use Rattle.frame_end.specs.End.{knownBits}
+use Rattle.isdbs_metrics.specs.Reading.{knownBits}
 use lib.ListN.{length}
 use native.Mathlib.Omega.{arith}
 use Prim.Native.Nat.{_-_, _≤_}

@@ -6,13 +6,14 @@ use native.Mathlib.Omega.{arith}
 use borrow.Author.Needs.{needs}
 use lib.ListN.{length, getD, set, length-set}
 use Rattle.trellis.specs.Code.{stateAt}
-use Rattle.isdbt_table.specs.Puncture.{inputs, mother}
+use Rattle.isdbt_table.specs.Puncture.{mother}
+use Rattle.trellis.specs.Encoded.{lowBits}
 use Rattle.isdbt_fec.specs.EncodeLaws.{input-at, state-next, state-below, mother-x, mother-y, written-pair}
 use Rattle.isdbt_fec.proofs.conv.encode_period.Statement.{statement}
 use Rattle.isdbt_fec.proofs.conv.encode_period.Tie as tie
 
 abbrev Inv-loop : tie.InvT-loop
-Inv-loop state bits s₀ m₀ i₀ i-end s m i = (i ≤ i-end) × (s ≡ stateAt 32 state (inputs bits) i) × (length m ≡ 14) × ((k : ℕ) → k < 2 * i → getD m k 0 ≡ mother state (inputs bits) k)
+Inv-loop state bits s₀ m₀ i₀ i-end s m i = (i ≤ i-end) × (s ≡ stateAt 32 state (lowBits bits) i) × (length m ≡ 14) × ((k : ℕ) → k < 2 * i → getD m k 0 ≡ mother state (lowBits bits) k)
 
 abbrev μ-loop : tie.MeasureT-loop
 μ-loop state bits s₀ m₀ i₀ i-end s m i = i-end - i
@@ -55,7 +56,7 @@ loop-again : tie.Need-loop-again Inv-loop μ-loop
 loop-again c =
     let at = c .before .before .before in
     let a = at .before .before .args in
-    let us = inputs (a .bits .now) in
+    let us = lowBits (a .bits .now) in
     let i = at .loop .i in
     let m = at .loop .m in
     let inv = at .loop .inv in
