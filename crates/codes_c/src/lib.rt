@@ -26,6 +26,9 @@ ghost use Rattle.answers_c.specs.Lengths.{untilLength, withStates};
 ghost use Rattle.decoder_c.specs.Decoders.{decoderOf};
 ghost use Rattle.codes_c.specs.Stored.{codeFrom, Stored, Traced};
 
+// The bits that leave at once: a state holds fewer words than these and its traceback.
+const HELD: u64 = BLOCK as u64;
+
 // The code of three numbers.
 fn code_from(constraint: u8, g1: u8, g2: u8) -> Code
     ensures { λ r. ⌜ r ≡ codeFrom constraint g1 g2 ⌝ }
@@ -64,7 +67,7 @@ fn not_states(code: Code, pm: &[f32], held: u64, traceback: u64) -> u32
     if bad(code) {
         return 12;
     }
-    if held >= BLOCK + traceback {
+    if held >= HELD + traceback {
         return 4;
     }
     if first_beyond(pm, 2 * half(code)) {

@@ -12,6 +12,9 @@ ghost use Rattle.answers_c.specs.Answers.{answered, left};
 ghost use Rattle.answers_c.specs.Lengths.{untilLength};
 ghost use Rattle.decoder_c.specs.Decoders.{decoderOf};
 
+// The bits that leave at once: a state holds fewer words than these and its traceback.
+const HELD: u64 = BLOCK as u64;
+
 // The answer where the path values are not 64: rows 3 and 4 stand above 5.
 pub fn not_states(pm: &[f32], held: u64, traceback: u64) -> u32
     ensures { λ r. ⌜ r ≡ answered (untilLength (handedRows (decoderOf (now (pm .entry)) held traceback))) ⌝ }
@@ -22,7 +25,7 @@ pub fn not_states(pm: &[f32], held: u64, traceback: u64) -> u32
     if traceback > TRACEBACK_LIMIT as u64 {
         return 3;
     }
-    if held >= BLOCK + traceback {
+    if held >= HELD + traceback {
         return 4;
     }
     if isdb_fec::conv::some_beyond(pm, PATH_LIMIT) {
