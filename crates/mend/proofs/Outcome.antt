@@ -38,7 +38,7 @@ front-long s e bits out₀ out w = ap length (front-is s e bits out₀ out w) �
 pub front-near : (s e : ℕ) (bits out₀ out : List ℕ) → Writes s e bits out₀ out → unlike (take (length bits) out) bits ≤ mostChanged
 front-near s e bits out₀ out w = rw (front-is s e bits out₀ out w) (w .within .four)
 
--- the frameWords that were kept are cleared
+-- the words that were kept are cleared
 pub cleared : (f : ℕ → ℕ) (n : ℕ) (ds₀ ds ds' : List ℕ) → n ≤ frameWords → ds ≡ laid (upto f n) ds₀ → ds' ≡ laid (replicate frameWords 0) ds → ds' ≡ laid (replicate frameWords 0) ds₀
 cleared f n ds₀ ds ds' h e c =
     let l = length-upto f n in

@@ -12,7 +12,7 @@ use Rattle.mend.specs.declared.Mended.{Mended}
 use Rattle.mend.specs.Rows.{mendRows}
 use Rattle.trellis.specs.Isdb.{frameWords}
 
--- what an accepted call leaves. "return the coded stretch that differs in at most four bits, with the changed positions in rising order"; "the first 4,224 decision frameWords are 0, and
+-- what an accepted call leaves. "return the coded stretch that differs in at most four bits, with the changed positions in rising order"; "the first 4,224 decision words are 0, and
 -- list places past the changed positions are as before"
 pub record Mends (s e : ℕ) (bits : List ℕ) (r : Mended) (decisions₀ decisions out₀ out list₀ list : List ℕ) : Type 0 where
   pub inputs : List ℕ

@@ -48,7 +48,7 @@ turn R3_4 j = omega arith
 turn R5_6 j = omega arith
 turn R7_8 j = omega arith
 
--- the places of the mother bits that are sent for n lowBits
+-- the places of the mother bits that are sent for n inputs
 abbrev pub sentPlaces : CodeRate → ℕ → List ℕ
 sentPlaces rate n = upto (place rate) (n / period rate * sent rate)
 

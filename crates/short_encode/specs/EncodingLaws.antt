@@ -21,7 +21,7 @@ low-at (u ∷ us) (suc k) = low-at us k
 pub length-low : (us : List ℕ) → length (lowBits us) ≡ length us
 length-low us = length-map us (λ u. u % 2)
 
--- ---- the bitsOf of pairs
+-- ---- the bits of pairs
 length-parts : (ls : List ℕ) → length (bitsOf ls) ≡ 2 * length ls
 length-parts [] = refl
 length-parts (l ∷ ls) = let e = length-parts ls in omega arith
