@@ -20,10 +20,11 @@ use path_choice::greater;
 use path_choice::larger;
 use trellis::HALF;
 use trellis::STATES;
+ghost use Rattle.trellis.specs.Isdb;
 
 // The number of states, which the type of the path values fixes.
-fn states(pm: &[f32; 64]) -> usize
-    ensures { λ r. ⌜ (r ≡ 64) × (length (now (pm .entry)) ≡ 64) ⌝ }
+fn states(pm: &[f32; STATES]) -> usize
+    ensures { λ r. ⌜ (r ≡ Isdb.states) × (length (now (pm .entry)) ≡ Isdb.states) ⌝ }
 {
     let values: &[f32] = pm;
     values.len()
@@ -44,8 +45,8 @@ fn join(low: u32, high: u32) -> u64
 
 // The states 32u + j of a pair step, and their decisions.
 fn pair_half(
-    old: &[f32; 64],
-    new: &mut [f32; 64],
+    old: &[f32; STATES],
+    new: &mut [f32; STATES],
     x: &Table,
     y: &Table,
     u: usize,
@@ -53,7 +54,7 @@ fn pair_half(
     ly: f32,
 ) -> u32
     requires { ⌜ (u < 2) × XSigns (now x) × YSigns (now y) ⌝ }
-    ensures { λ r. ⌜ Half (now (old .entry)) (pair lx ly) u (now (new .entry)) 32 (now (new .exit)) r ⌝ }
+    ensures { λ r. ⌜ Half (now (old .entry)) (pair lx ly) u (now (new .entry)) Isdb.half (now (new .exit)) r ⌝ }
 {
     let n = states(new);
     let mut w: u32 = 0;
@@ -67,7 +68,7 @@ fn pair_half(
 }
 
 // The add-compare-select of a pair of soft values. The decision word.
-pub fn acs(pm: &mut [f32; 64], lx: f32, ly: f32) -> u64
+pub fn acs(pm: &mut [f32; STATES], lx: f32, ly: f32) -> u64
     ensures { λ r. ⌜ (now (pm .exit) ≡ nexts (now (pm .entry)) (pair lx ly)) × (r ≡ word (now (pm .entry)) (pair lx ly)) ⌝ }
 {
     let old = *pm;
@@ -79,9 +80,15 @@ pub fn acs(pm: &mut [f32; 64], lx: f32, ly: f32) -> u64
 }
 
 // The states 32u + j of a step of four metrics, and their decisions.
-fn four_half(old: &[f32; 64], new: &mut [f32; 64], t: &Numbers, u: usize, m: [f32; 4]) -> u32
+fn four_half(
+    old: &[f32; STATES],
+    new: &mut [f32; STATES],
+    t: &Numbers,
+    u: usize,
+    m: [f32; 4],
+) -> u32
     requires { ⌜ (u < 2) × BranchNumbers (now t) ⌝ }
-    ensures { λ r. ⌜ Half (now (old .entry)) (four m) u (now (new .entry)) 32 (now (new .exit)) r ⌝ }
+    ensures { λ r. ⌜ Half (now (old .entry)) (four m) u (now (new .entry)) Isdb.half (now (new .exit)) r ⌝ }
 {
     let n = states(new);
     let mut w: u32 = 0;
@@ -95,7 +102,7 @@ fn four_half(old: &[f32; 64], new: &mut [f32; 64], t: &Numbers, u: usize, m: [f3
 }
 
 // The add-compare-select of four metrics, that of the branches with the outputs (X, Y) at 2X + Y. The decision word.
-pub fn acs4(pm: &mut [f32; 64], m: [f32; 4]) -> u64
+pub fn acs4(pm: &mut [f32; STATES], m: [f32; 4]) -> u64
     ensures { λ r. ⌜ (now (pm .exit) ≡ nexts (now (pm .entry)) (four m)) × (r ≡ word (now (pm .entry)) (four m)) ⌝ }
 {
     let old = *pm;
@@ -106,8 +113,8 @@ pub fn acs4(pm: &mut [f32; 64], m: [f32; 4]) -> u64
 }
 
 // The greatest path value; of equals the first. It begins at the least f32, as the Rust does.
-fn greatest(pm: &[f32; 64]) -> f32
-    ensures { λ r. ⌜ r ≡ top (now (pm .entry)) 64 ⌝ }
+fn greatest(pm: &[f32; STATES]) -> f32
+    ensures { λ r. ⌜ r ≡ top (now (pm .entry)) Isdb.states ⌝ }
 {
     let mut t = -3.4028235e38f32;
     for s in 0..STATES {
@@ -117,8 +124,8 @@ fn greatest(pm: &[f32; 64]) -> f32
 }
 
 // Subtracts the greatest path value from each.
-pub fn renormalise(pm: &mut [f32; 64])
-    ensures { λ _. ⌜ now (pm .exit) ≡ renormalised 32 (now (pm .entry)) ⌝ }
+pub fn renormalise(pm: &mut [f32; STATES])
+    ensures { λ _. ⌜ now (pm .exit) ≡ renormalised Isdb.half (now (pm .entry)) ⌝ }
 {
     let n = states(pm);
     let t = greatest(pm);
@@ -128,8 +135,8 @@ pub fn renormalise(pm: &mut [f32; 64])
 }
 
 // Sets the states that the last input b does not lead to (document 01: "the 32 states that the bit rules out are set to -1.0e9").
-pub fn rule_out(pm: &mut [f32; 64], b: u8)
-    ensures { λ _. ⌜ now (pm .exit) ≡ ruled 32 b (now (pm .entry)) ⌝ }
+pub fn rule_out(pm: &mut [f32; STATES], b: u8)
+    ensures { λ _. ⌜ now (pm .exit) ≡ ruled Isdb.half b (now (pm .entry)) ⌝ }
 {
     let kept = (b % 2) as usize;
     let n = states(pm);
@@ -141,8 +148,8 @@ pub fn rule_out(pm: &mut [f32; 64], b: u8)
 }
 
 // The highest state of the greatest path value.
-pub fn best_state(pm: &[f32; 64]) -> usize
-    ensures { λ r. ⌜ (r < 64) × (r ≡ bestState (now (pm .entry))) ⌝ }
+pub fn best_state(pm: &[f32; STATES]) -> usize
+    ensures { λ r. ⌜ (r < Isdb.states) × (r ≡ bestState (now (pm .entry))) ⌝ }
 {
     let values: &[f32] = pm;
     path_choice::best_state(values, HALF)

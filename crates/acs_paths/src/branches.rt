@@ -1,6 +1,7 @@
 // The branch numbers, found by the input u, the low state bit b and the half state j.
+use trellis::HALF;
 
-pub type Numbers = [[[u8; 32]; 2]; 2];
+pub type Numbers = [[[u8; HALF]; 2]; 2];
 
 // The number 2X + Y of the branch from the state 2j + b on the input u: BRANCH[u][b][j]. Every eighth entry names its input and state.
 // Each entry is `label` of the code (crates/trellis/specs/Code.antt), the parities under 171 and 133 octal; specs/Branches.antt says so (document 02, P4).

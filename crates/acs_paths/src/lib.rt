@@ -18,6 +18,7 @@ pub use branches::Numbers;
 pub use signs::SX;
 pub use signs::SY;
 pub use signs::Table;
+use trellis::STATES;
 
 // The term of a soft value x on a branch whose sign is s.
 fn term(s: f32, x: f32) -> f32
@@ -28,7 +29,7 @@ fn term(s: f32, x: f32) -> f32
 
 // The path of a pair step into the state 32u + j from its predecessor 2j + b: lx's term, then ly's.
 pub fn pair_path(
-    old: &[f32; 64],
+    old: &[f32; STATES],
     x: &Table,
     y: &Table,
     u: usize,
@@ -37,15 +38,15 @@ pub fn pair_path(
     lx: f32,
     ly: f32,
 ) -> f32
-    requires { ⌜ (u < 2) × (b < 2) × (j < 32) × XSigns (now x) × YSigns (now y) ⌝ }
-    ensures { λ r. ⌜ r ≡ cand (now (old .entry)) (pair lx ly) (32 * u + j) b ⌝ }
+    requires { ⌜ (u < 2) × (b < 2) × (j < Isdb.half) × XSigns (now x) × YSigns (now y) ⌝ }
+    ensures { λ r. ⌜ r ≡ cand (now (old .entry)) (pair lx ly) (Isdb.half * u + j) b ⌝ }
 {
     old[2 * j + b] + term(x[u][b][j], lx) + term(y[u][b][j], ly)
 }
 
 // The number 2X + Y of the branch from the state 2j + b on the input u.
 fn number(t: &Numbers, u: usize, b: usize, j: usize) -> u8
-    requires { ⌜ (u < 2) × (b < 2) × (j < 32) × BranchNumbers (now t) ⌝ }
+    requires { ⌜ (u < 2) × (b < 2) × (j < Isdb.half) × BranchNumbers (now t) ⌝ }
     ensures { λ r. ⌜ r ≡ Isdb.labels u (2 * j + b) ⌝ }
 {
     t[u][b][j]
@@ -53,7 +54,7 @@ fn number(t: &Numbers, u: usize, b: usize, j: usize) -> u8
 
 // The number 2X + Y of the branch from the state s (mod 64) on the low bit of u, as the step of four metrics reads it.
 pub fn branch_number(u: u8, s: u8) -> u8
-    ensures { λ r. ⌜ r ≡ Isdb.labels (u % 2) (s % 64) ⌝ }
+    ensures { λ r. ⌜ r ≡ Isdb.labels (u % 2) (s % Isdb.states) ⌝ }
 {
     let t = BRANCH;
     let input = (u % 2) as usize;
@@ -76,9 +77,9 @@ fn metric(m: [f32; 4], n: u8) -> f32
 }
 
 // The path of a step of four metrics into the state 32u + j from its predecessor 2j + b.
-pub fn four_path(old: &[f32; 64], t: &Numbers, u: usize, b: usize, j: usize, m: [f32; 4]) -> f32
-    requires { ⌜ (u < 2) × (b < 2) × (j < 32) × BranchNumbers (now t) ⌝ }
-    ensures { λ r. ⌜ r ≡ cand (now (old .entry)) (four m) (32 * u + j) b ⌝ }
+pub fn four_path(old: &[f32; STATES], t: &Numbers, u: usize, b: usize, j: usize, m: [f32; 4]) -> f32
+    requires { ⌜ (u < 2) × (b < 2) × (j < Isdb.half) × BranchNumbers (now t) ⌝ }
+    ensures { λ r. ⌜ r ≡ cand (now (old .entry)) (four m) (Isdb.half * u + j) b ⌝ }
 {
     old[2 * j + b] + metric(m, number(t, u, b, j))
 }

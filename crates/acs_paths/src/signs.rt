@@ -1,6 +1,7 @@
 // The sign tables, found by the input u, the low state bit b and the half state j.
+use trellis::HALF;
 
-pub type Table = [[[f32; 32]; 2]; 2];
+pub type Table = [[[f32; HALF]; 2]; 2];
 
 // The sign of X on the branch from the state 2j + b on the input u: SX[u][b][j], 1.0 for the coded bit 0 and -1.0 for 1.
 // The coded bit is `output` of the code (crates/trellis/specs/Code.antt) under 171 octal; specs/Signs.antt says so. In the Rust it is the `OnceLock` table.

@@ -6,6 +6,7 @@ use lib.ListN.{length}
 use lib.Ieee.{Float}
 use Rattle.refusal.specs.declared.Answer.the-variants.{Length}
 use Rattle.refusal.specs.Rows.{Row, place}
+use Rattle.trellis.specs.Isdb
 
 -- a row that stands above row 5 in document 01's table
 abbrev pub aboveLength : Row → Bool
@@ -18,7 +19,7 @@ withLength b (row ∷ rows) = cond (aboveLength row) (row ∷ withLength b rows)
 
 -- 5: path values that are not 64
 abbrev pub withStates : List Float → List Row → List Row
-withStates pm rows = withLength (not (eqb (length pm) 64)) rows
+withStates pm rows = withLength (not (eqb (length pm) Isdb.states)) rows
 
 -- the rows above row 5, then a row 5 that holds
 abbrev pub untilLength : List Row → List Row

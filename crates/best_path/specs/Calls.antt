@@ -22,6 +22,9 @@ use Rattle.best_path.specs.Tracks.{Adds, times, Follows}
 use Rattle.best_path.specs.Decoded.{Did, Ended}
 use Rattle.best_path.specs.Integers.{parts-of, quadruples, Pairs, signs, pairs}
 use Rattle.best_path.specs.Starts.{Given, Unknown, best-given, best-unknown, best-between, the-reading}
+use Rattle.best_path.specs.declared.Start.{Start}
+use Rattle.best_path.specs.declared.Start.the-variants as begin
+use Rattle.best_path.specs.Fresh.{startValues, StartsIn}
 
 -- ---- a call without a release
 module _ (half : ℕ) (out : ℕ → ℕ → ℕ) (t : Tie) where
@@ -222,8 +225,13 @@ module _ (c : Code) (t : Tie) (tb : ℕ) (some-tb : 0 < tb) (ms : ℕ → List F
   pub code-unknown : Reading (half c) (label c) t Any m n (readBits (half c) (label c) t tb (λ k. four (ms k)) (startUnknown (2 * half c)) n)
   code-unknown = quadruples-unknown (half c) (pow-pos (c .constraint - 2)) (label c) (label-under c) t ms m n few quads tb some-tb
 
-pub isdb-given : (tb : ℕ) → 0 < tb → (ms : ℕ → List Float) (m : ℕ → ℕ → ℤ) (n : ℕ) → n ≤ longest → Quadruples ms m n → (s : ℕ) → Reading Isdb.half Isdb.labels Isdb.rule (This (s % 64)) m n (readBits Isdb.half Isdb.labels Isdb.rule tb (λ k. four (ms k)) (startAt 64 s) n)
+  -- Both, by what is known of the start.
+  pub code-start : (start : Start) → Reading (half c) (label c) t (StartsIn (2 * half c) start) m n (readBits (half c) (label c) t tb (λ k. four (ms k)) (startValues (2 * half c) start) n)
+  code-start (begin.Given s) = code-given s
+  code-start begin.Unknown = code-unknown
+
+pub isdb-given : (tb : ℕ) → 0 < tb → (ms : ℕ → List Float) (m : ℕ → ℕ → ℤ) (n : ℕ) → n ≤ longest → Quadruples ms m n → (s : ℕ) → Reading Isdb.half Isdb.labels Isdb.rule (This (s % Isdb.states)) m n (readBits Isdb.half Isdb.labels Isdb.rule tb (λ k. four (ms k)) (startAt Isdb.states s) n)
 isdb-given tb h ms m n few quads = code-given isdb Isdb.rule tb h ms m n few quads
 
-pub isdb-unknown : (tb : ℕ) → 0 < tb → (ms : ℕ → List Float) (m : ℕ → ℕ → ℤ) (n : ℕ) → n ≤ longest → Quadruples ms m n → Reading Isdb.half Isdb.labels Isdb.rule Any m n (readBits Isdb.half Isdb.labels Isdb.rule tb (λ k. four (ms k)) (startUnknown 64) n)
+pub isdb-unknown : (tb : ℕ) → 0 < tb → (ms : ℕ → List Float) (m : ℕ → ℕ → ℤ) (n : ℕ) → n ≤ longest → Quadruples ms m n → Reading Isdb.half Isdb.labels Isdb.rule Any m n (readBits Isdb.half Isdb.labels Isdb.rule tb (λ k. four (ms k)) (startUnknown Isdb.states) n)
 isdb-unknown tb h ms m n few quads = code-unknown isdb Isdb.rule tb h ms m n few quads

@@ -12,3 +12,4 @@ pub mod Calls
 pub mod Examples
 pub mod Hard
 pub mod Corrected
+pub mod Fresh

@@ -32,9 +32,10 @@ use Rattle.call_ranges.specs.Inside.{none-beyond}
 use Rattle.call_ranges.specs.Reached.{Reached, with-state, unknown-state}
 use Rattle.call_ranges.specs.Closed.{Fit, soft-fit, four-soft, values-inside, reached-fit, state-fit}
 use Rattle.call_ranges.specs.Answers.{stream-answer}
-use Rattle.best_reading.specs.declared.Start.{Start}
-use Rattle.best_reading.specs.declared.Start.the-variants.{Given, Unknown}
-use Rattle.best_reading.specs.Calls.{startValues, StartsIn, fresh, read, stateOf}
+use Rattle.best_path.specs.declared.Start.{Start}
+use Rattle.best_path.specs.declared.Start.the-variants.{Given, Unknown}
+use Rattle.best_path.specs.Fresh.{startValues, StartsIn}
+use Rattle.best_reading.specs.Calls.{fresh, read, stateOf}
 
 -- ---- tests that fail
 is-false : (b : Bool) → (T b → ⊥) → b ≡ false
@@ -111,7 +112,7 @@ module _ (start : Start) (xs : List Float) where
     n = length xs / 4
 
     abbrev begun : Decoder
-    begun = record { values = startValues start; words = []; bits = [] }
+    begun = record { values = startValues Isdb.states start; words = []; bits = [] }
 
     read-fit : someBeyond streamLimit xs ≡ false → Fit (stateOf (read start xs))
     read-fit e = soft-fit (reached-fit (start-reached start)) (fourSteps xs) n (four-soft xs (values-inside xs fit e)) []
@@ -154,9 +155,9 @@ module _ (start : Start) (xs : List Float) (n : ℕ) (m : ℕ → ℕ → ℤ) (
       go : (a b c d : Bool) → a ≡ false → b ≡ false → c ≡ false → d ≡ false → cond a Length (cond b Sample (cond (c || d) Space Accepted)) ≡ Accepted
       go a b c d ea eb ec ed = rw (ea, eb, ec, ed) refl
 
-  bits-are : (start : Start) → Reading Isdb.half Isdb.labels Isdb.rule (StartsIn start) m n (readBits Isdb.half Isdb.labels Isdb.rule 128 (λ k. four (quadruple xs k)) (startValues start) n)
+  bits-are : (start : Start) → Reading Isdb.half Isdb.labels Isdb.rule (StartsIn Isdb.states start) m n (readBits Isdb.half Isdb.labels Isdb.rule 128 (λ k. four (quadruple xs k)) (startValues Isdb.states start) n)
   bits-are (Given s) = isdb-given 128 (lit< tt) (quadruple xs) m n few quads s
   bits-are Unknown = isdb-unknown 128 (lit< tt) (quadruple xs) m n few quads
 
-  pub reads : Reading Isdb.half Isdb.labels Isdb.rule (StartsIn start) m n (flush (read start xs) .bits)
+  pub reads : Reading Isdb.half Isdb.labels Isdb.rule (StartsIn Isdb.states start) m n (flush (read start xs) .bits)
   reads = let e : length xs / 4 ≡ n = omega arith in rw e (bits-are start)

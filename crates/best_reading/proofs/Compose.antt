@@ -24,13 +24,14 @@ use Rattle.isdb_fec.specs.Rows.{pushMetricsRows, flushRows, readingRows}
 use Rattle.isdb_fec.specs.Calls.{call, flush, handed, bestState, Fresh, Zero, Leaves, Flushes, Unchanged}
 use Rattle.refusal.specs.RowLaws.{decided, passed}
 use Rattle.trellis.specs.LaidLaws.{take-laid, laid-after}
-use Rattle.best_reading.specs.declared.Start.{Start}
+use Rattle.best_path.specs.declared.Start.{Start}
 use Rattle.call_ranges.specs.Finished.{Finished}
-use Rattle.best_reading.specs.Calls.{startValues, StartsIn, fresh, read, stateOf, Flushed, Left, GreatestSum}
+use Rattle.best_path.specs.Fresh.{startValues, StartsIn}
+use Rattle.best_reading.specs.Calls.{fresh, read, stateOf, Flushed, Left, GreatestSum}
 use Rattle.best_reading.proofs.Accepts.{same-rows, short-rows, short-refused, flush-accepts, whole-accepts, reads}
 
 -- the fresh decoder
-pub fresh-is : (start : Start) (pm : List Float) (a : Answer) (v : ViterbiDecoder) → startValues start ≡ pm → a ≡ Accepted → Either a (Fresh 128 pm v) (Zero v) → v ≡ fresh start
+pub fresh-is : (start : Start) (pm : List Float) (a : Answer) (v : ViterbiDecoder) → startValues Isdb.states start ≡ pm → a ≡ Accepted → Either a (Fresh 128 pm v) (Zero v) → v ≡ fresh start
 fresh-is start pm a v s e h =
     let f = h .0 e in
     let x = f .values ∙ sym s in
@@ -82,7 +83,7 @@ all-of start xs r dec₀ dec₁ out₀ out₁ a l = record {
       let d = read start xs in
       let k : length (flush d .bits) ≡ n = b .best .path .count in
       let t : take n out₁ ≡ flush d .bits = ap (λ (x : List ℕ). take n x) (g .bits) ∙ ap (λ (j : ℕ). take j (laid (flush d .bits) out₀)) (sym k) ∙ take-laid (flush d .bits) out₀ in
-      (e, g .count-is ∙ k, subst (λ (x : List ℕ). Reading Isdb.half Isdb.labels Isdb.rule (StartsIn start) m n x) (sym t) b);
+      (e, g .count-is ∙ k, subst (λ (x : List ℕ). Reading Isdb.half Isdb.labels Isdb.rule (StartsIn Isdb.states start) m n x) (sym t) b);
 }
 
 -- what `push_metrics` says of the decoder v

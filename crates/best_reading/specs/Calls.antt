@@ -10,7 +10,7 @@ use lib.Ieee.{Float, nan}
 use Rattle.refusal.specs.Rows.{Row, firstRow, Either}
 use Rattle.refusal.specs.declared.Answer.the-variants.{Accepted, Length, Sample, Space}
 use Rattle.trellis.specs.Isdb
-use Rattle.trellis.specs.Run.{Decoder, block, startAt, startUnknown, quadruple, fourSteps}
+use Rattle.trellis.specs.Run.{Decoder, block, quadruple, fourSteps}
 use Rattle.best_path.specs.Paths.{longest, Quadruples, Reading}
 use Rattle.isdb_fec.specs.declared.conv.ViterbiDecoder.{ViterbiDecoder}
 use Rattle.isdb_fec.specs.declared.conv.Released.{Released}
@@ -18,25 +18,16 @@ use Rattle.isdb_fec.specs.Values.{someBeyond, streamLimit}
 use Rattle.isdb_fec.specs.Rows.{flushRows}
 use Rattle.isdb_fec.specs.Calls.{call, flush, Flushes, Unchanged}
 use Rattle.call_ranges.specs.Finished.{Finished}
-use Rattle.best_reading.specs.declared.Start.{Start}
-use Rattle.best_reading.specs.declared.Start.the-variants.{Given, Unknown}
+use Rattle.best_path.specs.declared.Start.{Start}
+use Rattle.best_path.specs.Fresh.{startValues, StartsIn}
 use Rattle.trellis.specs.Isdb.{frameTraceback}
-
--- the path values of the fresh decoder, and the states in which a path may start
-abbrev pub startValues : Start → List Float
-startValues (Given s) = startAt 64 s
-startValues Unknown = startUnknown 64
-
-abbrev pub StartsIn : Start → ℕ → Type 0
-StartsIn (Given s) z = z ≡ s % 64
-StartsIn Unknown z = Unit {0}
 
 -- the fresh decoder, and the decoder with its held words and its bits once the metrics xs have been pushed
 abbrev pub fresh : Start → ViterbiDecoder
-fresh start = record { pm = startValues start; held = 0; traceback = frameTraceback }
+fresh start = record { pm = startValues Isdb.states start; held = 0; traceback = frameTraceback }
 
 abbrev pub read : Start → List Float → Decoder
-read start xs = call frameTraceback (fourSteps xs) (record { values = startValues start; words = []; bits = [] }) (length xs / 4)
+read start xs = call frameTraceback (fourSteps xs) (record { values = startValues Isdb.states start; words = []; bits = [] }) (length xs / 4)
 
 -- the state of a decoder of traceback 128 whose words are held in the lent decisions
 abbrev pub stateOf : Decoder → ViterbiDecoder
@@ -62,4 +53,4 @@ Left start xs r decisions₀ decisions out₀ out =
 abbrev pub GreatestSum : Start → List Float → Released → ℕ → ℕ → List ℕ → Type 0
 GreatestSum start xs r decisions space out =
     (n : ℕ) (m : ℕ → ℕ → ℤ) → length xs ≡ 4 * n → n ≤ longest → Quadruples (quadruple xs) m n → block + frameTraceback ≤ decisions → n ≤ space
-    → (r .answer ≡ Accepted) × (r .count ≡ n) × Reading Isdb.half Isdb.labels Isdb.rule (StartsIn start) m n (take n out)
+    → (r .answer ≡ Accepted) × (r .count ≡ n) × Reading Isdb.half Isdb.labels Isdb.rule (StartsIn Isdb.states start) m n (take n out)

@@ -7,16 +7,11 @@ ghost use lib.ListN.{length, take, drop};
 ghost use Rattle.refusal.specs.Rows.{firstRow};
 ghost use Rattle.best_reading.specs.Calls.{fresh, Flushed, Left, GreatestSum};
 ghost use Rattle.isdb_fec.specs.Rows.{readingRows};
+pub use best_path::Start;
 use isdb_fec::conv::Released;
 use isdb_fec::conv::ViterbiDecoder;
 use refusal::Answer;
 use trellis::FRAME_TRACEBACK;
-
-pub enum Start {
-    // A state, mod 64.
-    Given(u8),
-    Unknown,
-}
 
 // The fresh decoder of traceback 128.
 fn started(start: Start) -> ViterbiDecoder

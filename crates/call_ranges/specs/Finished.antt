@@ -8,10 +8,11 @@ use Rattle.trellis.specs.Isdb.{frameTraceback}
 use Rattle.trellis.specs.Run.{Decoder, decisionsAfter, startAt}
 use Rattle.isdb_fec.specs.declared.conv.ViterbiDecoder.{ViterbiDecoder}
 use Rattle.isdb_fec.specs.declared.conv.Released.{Released}
+use Rattle.trellis.specs.Isdb
 
 -- the decoder of traceback 128 that `with_state` makes
 abbrev pub fresh : ℕ → ViterbiDecoder
-fresh state = record { pm = startAt 64 state; held = 0; traceback = frameTraceback }
+fresh state = record { pm = startAt Isdb.states state; held = 0; traceback = frameTraceback }
 
 -- of an accepted reading whose pushes left the decoder d: all its bits at the front of the output, and the held words zeroed
 pub record Finished (tb : ℕ) (read : List ℕ) (d : Decoder) (r : Released) (decisions₀ decisions out₀ out : List ℕ) : Type 0 where

@@ -3,10 +3,11 @@
 ghost use mathlib.Core.Path.{_≡_};
 ghost use Prim.Native.Nat.{_<_};
 ghost use Rattle.code_windows.specs.Windows.{backward, xOutputs, yOutputs, outputsIn};
+ghost use Rattle.trellis.specs.Isdb;
 
 // A state with its stages in the other order.
 pub fn reversed(s: u8) -> u8
-    ensures { λ r. ⌜ (r ≡ backward s) × (r < 64) ⌝ }
+    ensures { λ r. ⌜ (r ≡ backward s) × (r < Isdb.states) ⌝ }
 {
     32 * (s % 2)
         + 16 * (s / 2 % 2)

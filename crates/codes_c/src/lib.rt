@@ -10,6 +10,7 @@ use short_code::good;
 use short_code::half;
 use short_fec::Code;
 use trellis::BLOCK;
+use trellis::STATES;
 ghost use mathlib.Core.Path.{_≡_};
 ghost use mathlib.Core.Bool.{not};
 ghost use Prim.Native.Nat.{ℕ, _/_};
@@ -122,7 +123,7 @@ pub extern "C" fn isdb_code_push(
         (now (pm .entry)) (now (pm .exit)) (now (held .entry)) (now (held .exit)) (now (count .entry)) (now (count .exit)) (now (decisions .entry)) (now (decisions .exit)) (now (out .entry)) (now (out .exit)) ⌝ }
 {
     let code = code_from(constraint, g1, g2);
-    if pm.len() != 64 {
+    if pm.len() != STATES {
         return not_states(code, pm, *held, traceback);
     }
     let v = decoder_of(pm, *held, traceback);
@@ -149,7 +150,7 @@ pub extern "C" fn isdb_code_push_metrics(
         (now (pm .entry)) (now (pm .exit)) (now (held .entry)) (now (held .exit)) (now (count .entry)) (now (count .exit)) (now (decisions .entry)) (now (decisions .exit)) (now (out .entry)) (now (out .exit)) ⌝ }
 {
     let code = code_from(constraint, g1, g2);
-    if pm.len() != 64 {
+    if pm.len() != STATES {
         return not_states(code, pm, *held, traceback);
     }
     let v = decoder_of(pm, *held, traceback);
@@ -176,7 +177,7 @@ pub extern "C" fn isdb_code_push_known(
         (now (pm .entry)) (now (pm .exit)) (now (held .entry)) (now (held .exit)) (now (count .entry)) (now (count .exit)) (now (decisions .entry)) (now (decisions .exit)) (now (out .entry)) (now (out .exit)) ⌝ }
 {
     let code = code_from(constraint, g1, g2);
-    if pm.len() != 64 {
+    if pm.len() != STATES {
         return not_states(code, pm, *held, traceback);
     }
     let v = decoder_of(pm, *held, traceback);
@@ -202,7 +203,7 @@ pub extern "C" fn isdb_code_flush(
         (now (pm .exit)) (now (held .exit)) (now (count .entry)) (now (count .exit)) (now (decisions .entry)) (now (decisions .exit)) (now (out .entry)) (now (out .exit)) ⌝ }
 {
     let code = code_from(constraint, g1, g2);
-    if pm.len() != 64 {
+    if pm.len() != STATES {
         return not_states(code, pm, *held, traceback);
     }
     let v = decoder_of(pm, *held, traceback);
@@ -229,7 +230,7 @@ pub extern "C" fn isdb_code_flush_at(
         (now (pm .exit)) (now (held .exit)) (now (count .entry)) (now (count .exit)) (now (decisions .entry)) (now (decisions .exit)) (now (out .entry)) (now (out .exit)) ⌝ }
 {
     let code = code_from(constraint, g1, g2);
-    if pm.len() != 64 {
+    if pm.len() != STATES {
         return not_states(code, pm, *held, traceback);
     }
     let v = decoder_of(pm, *held, traceback);

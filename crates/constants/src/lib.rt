@@ -29,6 +29,7 @@ use isdbs_core::frame::W23_TAIL_AT;
 use isdbs_core::tmcc::CM;
 use isdbs_core::tmcc::DUMMY;
 use isdbs_core::tmcc::Entry;
+ghost use Rattle.isdbs_frame.specs.Frame.{w1, w2, w3};
 
 // Slots, frames, entries of a table; bytes of a slot, of a packet, of a header and of its TMCC; bits per symbol at most.
 pub fn counts() -> [usize; 8]
@@ -66,7 +67,7 @@ pub fn symbols() -> [usize; 10]
 
 // The last 20 coded bits of W1, W2 and W3.
 pub fn coded_tails() -> [u32; 3]
-    ensures { λ r. ⌜ r ≡ codedTail 0x1b95 ∷ codedTail 0xa340 ∷ codedTail 0x5cbf ∷ [] ⌝ }
+    ensures { λ r. ⌜ r ≡ codedTail w1 ∷ codedTail w2 ∷ codedTail w3 ∷ [] ⌝ }
 {
     [W1_CODED_TAIL, W2_CODED_TAIL, W3_CODED_TAIL]
 }

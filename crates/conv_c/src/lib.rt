@@ -2,6 +2,7 @@
 use decoder_c::decoder_of;
 use decoder_c::not_states;
 use decoder_c::store;
+use trellis::STATES;
 ghost use Prim.Native.Nat.{ℕ, _/_};
 ghost use mathlib.Core.Path.{_≡_};
 ghost use lib.ListN.{length};
@@ -27,7 +28,7 @@ pub extern "C" fn isdb_push(
     ensures leaves { λ r. ⌜ Stored r traceback (call traceback (pairSteps (now (pairs .entry))) (handed (decoderOf (now (pm .entry)) (now (held .entry)) traceback) (now (decisions .entry))) (length (now (pairs .entry)) / 2))
         (now (pm .entry)) (now (pm .exit)) (now (held .entry)) (now (held .exit)) (now (count .entry)) (now (count .exit)) (now (decisions .entry)) (now (decisions .exit)) (now (out .entry)) (now (out .exit)) ⌝ }
 {
-    if pm.len() != 64 {
+    if pm.len() != STATES {
         return not_states(pm, *held, traceback);
     }
     let v = decoder_of(pm, *held, traceback);
@@ -50,7 +51,7 @@ pub extern "C" fn isdb_push_metrics(
     ensures leaves { λ r. ⌜ Stored r traceback (call traceback (fourSteps (now (metrics .entry))) (handed (decoderOf (now (pm .entry)) (now (held .entry)) traceback) (now (decisions .entry))) (length (now (metrics .entry)) / 4))
         (now (pm .entry)) (now (pm .exit)) (now (held .entry)) (now (held .exit)) (now (count .entry)) (now (count .exit)) (now (decisions .entry)) (now (decisions .exit)) (now (out .entry)) (now (out .exit)) ⌝ }
 {
-    if pm.len() != 64 {
+    if pm.len() != STATES {
         return not_states(pm, *held, traceback);
     }
     let v = decoder_of(pm, *held, traceback);
@@ -73,7 +74,7 @@ pub extern "C" fn isdb_push_known(
     ensures leaves { λ r. ⌜ Stored r traceback (steps traceback (knownSteps (now (bits .entry))) (handed (decoderOf (now (pm .entry)) (now (held .entry)) traceback) (now (decisions .entry))) (length (now (bits .entry))))
         (now (pm .entry)) (now (pm .exit)) (now (held .entry)) (now (held .exit)) (now (count .entry)) (now (count .exit)) (now (decisions .entry)) (now (decisions .exit)) (now (out .entry)) (now (out .exit)) ⌝ }
 {
-    if pm.len() != 64 {
+    if pm.len() != STATES {
         return not_states(pm, *held, traceback);
     }
     let v = decoder_of(pm, *held, traceback);
@@ -95,7 +96,7 @@ pub extern "C" fn isdb_flush(
     ensures leaves { λ r. ⌜ Flushed r (decoderOf (now (pm .entry)) (now (held .entry)) traceback)
         (now (pm .exit)) (now (held .exit)) (now (count .entry)) (now (count .exit)) (now (decisions .entry)) (now (decisions .exit)) (now (out .entry)) (now (out .exit)) ⌝ }
 {
-    if pm.len() != 64 {
+    if pm.len() != STATES {
         return not_states(pm, *held, traceback);
     }
     let v = decoder_of(pm, *held, traceback);
@@ -118,7 +119,7 @@ pub extern "C" fn isdb_flush_at(
     ensures leaves { λ r. ⌜ FlushedAt end r (decoderOf (now (pm .entry)) (now (held .entry)) traceback)
         (now (pm .exit)) (now (held .exit)) (now (count .entry)) (now (count .exit)) (now (decisions .entry)) (now (decisions .exit)) (now (out .entry)) (now (out .exit)) ⌝ }
 {
-    if pm.len() != 64 {
+    if pm.len() != STATES {
         return not_states(pm, *held, traceback);
     }
     let v = decoder_of(pm, *held, traceback);

@@ -4,6 +4,7 @@ use isdb_fec::conv::Released;
 use isdb_fec::conv::TRACEBACK_LIMIT;
 use isdb_fec::conv::ViterbiDecoder;
 use trellis::BLOCK;
+use trellis::STATES;
 ghost use mathlib.Core.Path.{_≡_};
 ghost use lib.ListN.{length};
 ghost use Rattle.refusal.specs.Rows.{numberOf};
@@ -11,6 +12,7 @@ ghost use Rattle.isdb_fec.specs.Rows.{handedRows};
 ghost use Rattle.answers_c.specs.Answers.{answered, left};
 ghost use Rattle.answers_c.specs.Lengths.{untilLength};
 ghost use Rattle.decoder_c.specs.Decoders.{decoderOf};
+ghost use Rattle.trellis.specs.Isdb;
 
 // The bits that leave at once: a state holds fewer words than these and its traceback.
 const HELD: u64 = BLOCK as u64;
@@ -36,11 +38,11 @@ pub fn not_states(pm: &[f32], held: u64, traceback: u64) -> u32
 
 // The decoder with these path values.
 pub fn decoder_of(pm: &[f32], held: u64, traceback: u64) -> ViterbiDecoder
-    requires { ⌜ length (now pm) ≡ 64 ⌝ }
+    requires { ⌜ length (now pm) ≡ Isdb.states ⌝ }
     ensures { λ r. ⌜ r ≡ decoderOf (now (pm .entry)) held traceback ⌝ }
 {
-    let mut values = [0.0f32; 64];
-    for s in 0..64 {
+    let mut values = [0.0f32; STATES];
+    for s in 0..STATES {
         values[s] = pm[s];
     }
     ViterbiDecoder {
@@ -51,16 +53,16 @@ pub fn decoder_of(pm: &[f32], held: u64, traceback: u64) -> ViterbiDecoder
 }
 
 // The number of states, which the type of the path values fixes.
-fn states(values: &[f32; 64]) -> usize
-    ensures { λ r. ⌜ (r ≡ 64) × (length (now (values .entry)) ≡ 64) ⌝ }
+fn states(values: &[f32; STATES]) -> usize
+    ensures { λ r. ⌜ (r ≡ Isdb.states) × (length (now (values .entry)) ≡ Isdb.states) ⌝ }
 {
     let all: &[f32] = values;
     all.len()
 }
 
 // Copies the path values back.
-fn put_values(values: &[f32; 64], pm: &mut [f32])
-    requires { ⌜ length (now pm) ≡ 64 ⌝ }
+fn put_values(values: &[f32; STATES], pm: &mut [f32])
+    requires { ⌜ length (now pm) ≡ Isdb.states ⌝ }
     ensures { λ _. ⌜ now (pm .exit) ≡ now (values .entry) ⌝ }
 {
     let n = states(values);
@@ -71,7 +73,7 @@ fn put_values(values: &[f32; 64], pm: &mut [f32])
 
 // Hands the state back where the call was accepted.
 pub fn store(r: Released, pm: &mut [f32], held: &mut u64, count: &mut u64) -> u32
-    requires { ⌜ length (now pm) ≡ 64 ⌝ }
+    requires { ⌜ length (now pm) ≡ Isdb.states ⌝ }
     ensures answers { λ n. ⌜ n ≡ numberOf (r .answer) ⌝ }
     ensures values { λ n. ⌜ now (pm .exit) ≡ left n (r .dec .pm) (now (pm .entry)) ⌝ }
     ensures counts { λ n. ⌜ (now (held .exit) ≡ left n (r .dec .held) (now (held .entry))) × (now (count .exit) ≡ left n (r .count) (now (count .entry))) ⌝ }

@@ -30,6 +30,7 @@ use Rattle.isdbs_points.specs.BitLaws.{of-pair, bytes-are}
 use Rattle.isdbs_points.specs.InputLaws.{label-alike, input-at, input-small}
 use Rattle.exact_frame.specs.Steps.{step-favours, tc-bit}
 use Rattle.margin_ends.specs.Ends.{eight}
+use Rattle.isdbs_frame.specs.Frame.{w1}
 
 start-small : (first : Bool) → startState first < 64
 unfolding stateAfter stateAt upto
@@ -49,7 +50,7 @@ module _ (t : Table) (fit : TableAccepted t) (m : Mapping) (first : Bool) (load 
 
   pub sent-bits : (i : ℕ) → i < frameSteps t → getD us i 0 ≡ getD (inputs t load) i 0
   unfolding decodedBits
-  sent-bits = decoded-sent rule frameTraceback (startState first) (inputs t load) (metricsAt t r) (frameSteps t) (few-steps t fit) favours (wordBit 0x1b95) 16 .sent
+  sent-bits = decoded-sent rule frameTraceback (startState first) (inputs t load) (metricsAt t r) (frameSteps t) (few-steps t fit) favours (wordBit w1) 16 .sent
 
   -- ---- the bits of the bytes
   module _ (g : Segment) (i : In g (segments t)) where

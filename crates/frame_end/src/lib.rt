@@ -3,6 +3,7 @@ use isdbs_core::frame::W1;
 use isdbs_points::word_bit;
 use trellis::FRAME_TRACEBACK;
 use trellis::FRAME_WORDS;
+use trellis::STATES;
 use viterbi::At;
 use viterbi::Step;
 use viterbi::advance;
@@ -15,7 +16,7 @@ ghost use Rattle.trellis.specs.Isdb.{frameWords};
 ghost use Rattle.frame_end.specs.End.{Ended};
 
 // The end of a frame: the maximum is subtracted, the 16 bits of W1 follow as known bits, all held bits leave, and the words become 0.
-pub fn read_end(pm: &mut [f32; 64], at: At, decisions: &mut [u64], bits: &mut [u8])
+pub fn read_end(pm: &mut [f32; STATES], at: At, decisions: &mut [u64], bits: &mut [u8])
     requires { ⌜ (at .held < frameWords) × (frameWords ≤ length (now decisions)) × (at .held + at .count + 16 ≤ length (now bits)) ⌝ }
     ensures { λ _. ⌜ Ended (now (pm .entry)) at (now (decisions .entry)) (now (bits .entry)) (now (decisions .exit)) (now (bits .exit)) ⌝ }
 {

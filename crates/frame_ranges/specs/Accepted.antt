@@ -47,7 +47,7 @@ use Rattle.frame_ranges.specs.Size.{Size, two-lo, between-size, size-fro
 use Rattle.frame_ranges.specs.Rising.{Up, Rises}
 use Rattle.frame_ranges.specs.Metrics.{Sized, soft-in, metric-in, metric-rises}
 use Rattle.frame_ranges.specs.Ranges.{Between, pathRange, Ranges, frameAt}
-use Rattle.isdbs_frame.specs.Frame.{mainSymbols}
+use Rattle.isdbs_frame.specs.Frame.{mainSymbols, w1}
 use Rattle.trellis.specs.Isdb.{frameTraceback}
 use Rattle.trellis.specs.Isdb
 use Rattle.frame_ranges.specs.Limits.{softLimit, metricLimit, leastPath, mostPath}
@@ -188,7 +188,7 @@ module _ (e : Tie) (t : Table) (r : Received) (metrics : (k l : ℕ) → k < fra
       at-known = λ j.
           let d = pushed Isdb.half Isdb.labels e frameTraceback (frameMetrics t r) (freshFrom pm) (frameSteps t) in
           rw (after-values Isdb.half Isdb.labels e frameTraceback knownBits d j)
-          (below-zero (valuesAt Isdb.half Isdb.labels e knownBits (d .values) j) (known-call known-limits Isdb.labels small e known-deep (wordBit 0x1b95) (d .values) ended j));
+          (below-zero (valuesAt Isdb.half Isdb.labels e knownBits (d .values) j) (known-call known-limits Isdb.labels small e known-deep (wordBit w1) (d .values) ended j));
     }
 
 start-bounded : (knownStart first : Bool) → Bounded stepMost floor 0 0 (startValues knownStart first)

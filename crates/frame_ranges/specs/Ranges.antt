@@ -36,7 +36,7 @@ metricRange t r = (k l : ℕ) → k < frameSteps t → l < 4 → T (within metri
 
 -- all 64 path values
 abbrev pub Between : Float → Float → List Float → Type 0
-Between a b pm = (s : ℕ) → s < 64 → T (le a (getD pm s nan)) × T (le (getD pm s nan) b)
+Between a b pm = (s : ℕ) → s < Isdb.states → T (le a (getD pm s nan)) × T (le (getD pm s nan) b)
 
 -- the decoder after i of the frame's steps, and after j known bits that follow the whole frame
 abbrev pub frameAt : Tie → Table → Received → List Float → ℕ → Decoder

@@ -3,6 +3,7 @@ use isdbs_core::combination::Combination;
 use isdbs_core::slots::Plan;
 use isdbs_points::Mapping;
 use isdbs_read::read_run;
+use trellis::STATES;
 use viterbi::At;
 ghost use mathlib.Core.Path.{_≡_};
 ghost use Prim.Native.Nat.{_-_, _<_, _≤_};
@@ -29,7 +30,7 @@ pub fn read_runs(
     p: Plan,
     m: Mapping,
     scales: [f32; 7],
-    pm: &mut [f32; 64],
+    pm: &mut [f32; STATES],
     re: &[f64],
     im: &[f64],
     decisions: &mut [u64],

@@ -12,6 +12,7 @@ ghost use Rattle.isdbs_metrics.specs.Steps.{Bits};
 ghost use Rattle.strain.specs.Counts.{summed};
 ghost use Rattle.slot_strain.specs.Counted.{Labels};
 ghost use Rattle.frame_strain.specs.Pieces.{RunCounted, frameStrain};
+ghost use Rattle.trellis.specs.Isdb;
 
 // The strained steps of a run, and the encoder's state after it.
 pub struct RunCount {
@@ -29,7 +30,7 @@ fn count_run(
     start: usize,
     counts: &mut [u32],
 ) -> RunCount
-    requires { ⌜ Labels (now labels) × (w ≤ slotBits) × (n ≤ frameSlots) × (w * n ≤ length (now marks)) × (w * n ≤ length (now bits)) × Bits (now bits) (w * n) × (start < 64) × (n ≤ length (now counts)) ⌝ }
+    requires { ⌜ Labels (now labels) × (w ≤ slotBits) × (n ≤ frameSlots) × (w * n ≤ length (now marks)) × (w * n ≤ length (now bits)) × Bits (now bits) (w * n) × (start < Isdb.states) × (n ≤ length (now counts)) ⌝ }
     ensures { λ r. ⌜ RunCounted w (now (marks .entry)) (now (bits .entry)) start n r (now (counts .entry)) (now (counts .exit)) ⌝ }
 {
     let mut state = start;
@@ -46,7 +47,7 @@ fn count_run(
 
 // The strained steps of each valid slot of a frame, and their sum: by the marks and the decoded bits, which are encoded again from `start`.
 pub fn count_strain(p: Plan, start: usize, marks: &[u8], bits: &[u8], counts: &mut [u32]) -> u32
-    requires { ⌜ (start < 64) × Planned p × (frameSteps (p .table) ≤ length (now marks)) × (frameSteps (p .table) ≤ length (now bits)) × Bits (now bits) (frameSteps (p .table)) × (validTotal (p .table) ≤ length (now counts)) ⌝ }
+    requires { ⌜ (start < Isdb.states) × Planned p × (frameSteps (p .table) ≤ length (now marks)) × (frameSteps (p .table) ≤ length (now bits)) × Bits (now bits) (frameSteps (p .table)) × (validTotal (p .table) ≤ length (now counts)) ⌝ }
     ensures { λ r. ⌜ (now (counts .exit) ≡ laid (upto (frameStrain (p .table) (now (marks .entry)) start (now (bits .entry))) (validTotal (p .table))) (now (counts .entry))) × (r ≡ summed (frameStrain (p .table) (now (marks .entry)) start (now (bits .entry))) (validTotal (p .table))) ⌝ }
 {
     let count = p.count;

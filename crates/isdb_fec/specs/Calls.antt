@@ -10,6 +10,7 @@ use Rattle.trellis.specs.Run.{Decoder, decisionsAfter, depth, holding}
 pub use Rattle.viterbi.specs.Calls.{nexts, word, bestState, traced, settle, stepOnce, steps, call, flush, Stepped, Holds, Room}
 use Rattle.isdb_fec.specs.declared.conv.ViterbiDecoder.{ViterbiDecoder}
 use Rattle.isdb_fec.specs.declared.conv.Released.{Released}
+use Rattle.trellis.specs.Isdb
 
 -- a decoder as its path values and the front of the lent decisions hold it
 abbrev pub handed : ViterbiDecoder → List ℕ → Decoder
@@ -23,7 +24,7 @@ pub record Fresh (tb : ℕ) (pm : List Float) (v : ViterbiDecoder) : Type 0 wher
 
 -- what stands in place of a decoder that is refused: every call refuses it by row 3
 pub record Zero (v : ViterbiDecoder) : Type 0 where
-  pub values : v .pm ≡ replicate 64 (ofBits binary32 0)
+  pub values : v .pm ≡ replicate Isdb.states (ofBits binary32 0)
   pub held-is : v .held ≡ 0
   pub traceback-is : v .traceback ≡ 0
 

@@ -2,7 +2,7 @@
 use mathlib.Core.Bool.{Bool, not, _||_}
 use mathlib.Core.List.{List, [], _∷_}
 use Prim.Native.Nat.{ℕ, _/_, _%_}
-use lib.Dec.{eqb, ltb}
+use lib.Dec.{eqb, leb, ltb}
 use lib.ListN.{length}
 use lib.Ieee.{Float}
 use Rattle.refusal.specs.Rows.{Row}
@@ -12,10 +12,11 @@ use Rattle.trellis.specs.Run.{tracebackLimit}
 use Rattle.decoder_rows.specs.Values.{someBeyond, streamLimit}
 use Rattle.decoder_rows.specs.Rows as handed
 use Rattle.isdb_fec.specs.declared.conv.ViterbiDecoder.{ViterbiDecoder}
+use Rattle.trellis.specs.Isdb
 
 -- 4: "encoder state above 63"
 abbrev pub encoderRows : ℕ → List Row
-encoderRows s = (State, ltb 63 s) ∷ []
+encoderRows s = (State, leb Isdb.states s) ∷ []
 
 -- 3: "above 1,024", of a traceback that is given
 abbrev pub freshRows : ℕ → List Row

@@ -17,6 +17,7 @@ pub use decoder_rows::STREAM_LIMIT;
 pub use decoder_rows::some_beyond;
 use refusal::Answer;
 pub use trellis::STATES;
+use trellis::STATES;
 pub use trellis::TRACEBACK_LIMIT;
 use viterbi::At;
 use viterbi::Step;
@@ -30,6 +31,7 @@ use viterbi::run_fours;
 use viterbi::run_pairs;
 use viterbi::start_at;
 use viterbi::start_unknown;
+ghost use Rattle.trellis.specs.Isdb;
 
 // k of the mother code (BO.1408-1, Fig. 13; STD-B31, section 3.8).
 pub const CONSTRAINT_LENGTH: usize = 7;
@@ -94,7 +96,7 @@ impl ConvEncoder {
     // Encodes one bit.
     pub fn push(self, u: u8) -> Pushed
         ensures answers { λ r. ⌜ r .answer ≡ firstRow (encoderRows (self .state)) ⌝ }
-        ensures outputs { λ r. ⌜ Either (r .answer) ((r .x ≡ output isdb 0o171 (u % 2) (self .state)) × (r .y ≡ output isdb 0o133 (u % 2) (self .state)) × (r .enc .state ≡ moved 32 (u % 2) (self .state))) ((r .x ≡ 0) × (r .y ≡ 0) × (r .enc .state ≡ self .state)) ⌝ }
+        ensures outputs { λ r. ⌜ Either (r .answer) ((r .x ≡ output isdb 0o171 (u % 2) (self .state)) × (r .y ≡ output isdb 0o133 (u % 2) (self .state)) × (r .enc .state ≡ moved Isdb.half (u % 2) (self .state))) ((r .x ≡ 0) × (r .y ≡ 0) × (r .enc .state ≡ self .state)) ⌝ }
     {
         let state = self.state;
         if state > 63 {
@@ -117,7 +119,7 @@ impl ConvEncoder {
 
 // The decoder: a path value for each state, how many decision words it holds in the lent slice, and the traceback depth.
 pub struct ViterbiDecoder {
-    pub pm: [f32; 64],
+    pub pm: [f32; STATES],
     pub held: usize,
     pub traceback: usize,
 }
@@ -134,7 +136,7 @@ pub struct Released {
 }
 
 // A fresh decoder with the path values pm; a refused one is all zero.
-fn fresh(traceback: usize, pm: [f32; 64]) -> Made
+fn fresh(traceback: usize, pm: [f32; STATES]) -> Made
     ensures answers { λ r. ⌜ r .answer ≡ firstRow (freshRows traceback) ⌝ }
     ensures made { λ r. ⌜ Either (r .answer) (Fresh traceback pm (r .dec)) (Zero (r .dec)) ⌝ }
 {
@@ -142,7 +144,7 @@ fn fresh(traceback: usize, pm: [f32; 64]) -> Made
         return Made {
             answer: Answer::Traceback,
             dec: ViterbiDecoder {
-                pm: [0.0f32; 64],
+                pm: [0.0f32; STATES],
                 held: 0,
                 traceback: 0,
             },
@@ -170,7 +172,7 @@ impl ViterbiDecoder {
     // A decoder that starts in state 0.
     pub fn new(traceback: usize) -> Made
         ensures answers { λ r. ⌜ r .answer ≡ firstRow (freshRows traceback) ⌝ }
-        ensures made { λ r. ⌜ Either (r .answer) (Fresh traceback (startAt 64 0) (r .dec)) (Zero (r .dec)) ⌝ }
+        ensures made { λ r. ⌜ Either (r .answer) (Fresh traceback (startAt Isdb.states 0) (r .dec)) (Zero (r .dec)) ⌝ }
     {
         fresh(traceback, start_at(0))
     }
@@ -178,7 +180,7 @@ impl ViterbiDecoder {
     // A decoder whose start state is not known.
     pub fn new_unknown_state(traceback: usize) -> Made
         ensures answers { λ r. ⌜ r .answer ≡ firstRow (freshRows traceback) ⌝ }
-        ensures made { λ r. ⌜ Either (r .answer) (Fresh traceback (startUnknown 64) (r .dec)) (Zero (r .dec)) ⌝ }
+        ensures made { λ r. ⌜ Either (r .answer) (Fresh traceback (startUnknown Isdb.states) (r .dec)) (Zero (r .dec)) ⌝ }
     {
         fresh(traceback, start_unknown())
     }
@@ -186,7 +188,7 @@ impl ViterbiDecoder {
     // A decoder that starts in the given state, mod 64.
     pub fn with_state(traceback: usize, state: u8) -> Made
         ensures answers { λ r. ⌜ r .answer ≡ firstRow (freshRows traceback) ⌝ }
-        ensures made { λ r. ⌜ Either (r .answer) (Fresh traceback (startAt 64 state) (r .dec)) (Zero (r .dec)) ⌝ }
+        ensures made { λ r. ⌜ Either (r .answer) (Fresh traceback (startAt Isdb.states state) (r .dec)) (Zero (r .dec)) ⌝ }
     {
         fresh(traceback, start_at(state))
     }

@@ -1,7 +1,7 @@
 -- The combinations of modulation and code of STD-B20 (ITU-R BO.1408-1, Tables 1 and 2), as document 01, "Runs and points", lists them. Assumes nothing.
 use mathlib.Core.Bool.{cond}
 use mathlib.Core.List.{List, [], _∷_}
-use Prim.Native.Nat.{ℕ, suc, _+_, _-_, _*_, _%_}
+use Prim.Native.Nat.{ℕ, suc, _+_, _-_, _*_, _/_, _%_}
 use lib.Dec.{eqb, ltb}
 use lib.ListN.{length, getD}
 use Rattle.isdbs_combination.specs.declared.Combination.{Combination}
@@ -88,7 +88,7 @@ figures «Qpsk2_3» = record { word = 3; modulation = Qpsk; rate = ratio 2 3; ef
 figures «Qpsk3_4» = record { word = 4; modulation = Qpsk; rate = ratio 3 4; efficiency = ratio 6 4; slotUnit = unit 4 3; steps = slotBits; punctured = puncture.Some «R3_4» }
 figures «Qpsk5_6» = record { word = 5; modulation = Qpsk; rate = ratio 5 6; efficiency = ratio 10 6; slotUnit = unit 6 5; steps = slotBits; punctured = puncture.Some «R5_6» }
 figures «Qpsk7_8» = record { word = 6; modulation = Qpsk; rate = ratio 7 8; efficiency = ratio 14 8; slotUnit = unit 8 7; steps = slotBits; punctured = puncture.Some «R7_8» }
-figures «Tc8psk2_3» = record { word = 7; modulation = Tc8psk; rate = ratio 2 3; efficiency = ratio 2 1; slotUnit = unit 1 1; steps = 812; punctured = puncture.None }
+figures «Tc8psk2_3» = record { word = 7; modulation = Tc8psk; rate = ratio 2 3; efficiency = ratio 2 1; slotUnit = unit 1 1; steps = slotBits / 2; punctured = puncture.None }
 
 abbrev pub wordOf : Combination → ℕ
 wordOf c = figures c .word

@@ -257,15 +257,8 @@ impl Combination {
     pub fn symbols_per_unit(self) -> usize
         ensures { λ r. ⌜ r ≡ unitOf self .slots * slotSymbols ⌝ }
     {
-        match self {
-            Combination::Bpsk1_2 => 3_248,
-            Combination::Qpsk1_2 => 1_624,
-            Combination::Qpsk2_3 => 2_436,
-            Combination::Qpsk3_4 => 3_248,
-            Combination::Qpsk5_6 => 4_872,
-            Combination::Qpsk7_8 => 6_496,
-            Combination::Tc8psk2_3 => 812,
-        }
+        let unit = self.slot_unit();
+        unit.slots * SLOT_SYMBOLS
     }
 
     // Trellis steps of a valid slot: one for each bit, of TC8PSK for each second one.
@@ -279,7 +272,7 @@ impl Combination {
             Combination::Qpsk3_4 => SLOT_BITS,
             Combination::Qpsk5_6 => SLOT_BITS,
             Combination::Qpsk7_8 => SLOT_BITS,
-            Combination::Tc8psk2_3 => 812,
+            Combination::Tc8psk2_3 => SLOT_BITS / 2,
         }
     }
 

@@ -5,6 +5,7 @@ use isdbs_core::slots::Plan;
 use isdbs_pack::write_bytes;
 use isdbs_points::Mapping;
 use isdbs_points::start_state;
+use trellis::STATES;
 use viterbi::start_at;
 use viterbi::start_unknown;
 ghost use mathlib.Core.Path.{_≡_};
@@ -20,6 +21,7 @@ ghost use Rattle.trellis.specs.Isdb.{frameWords};
 ghost use Rattle.strain.specs.Marks.{frameMark};
 ghost use Rattle.frame_read.specs.Scales.{receivedBy};
 ghost use Rattle.isdbs_decode.specs.Runs.{bitsFrom, FrameRead};
+ghost use Rattle.trellis.specs.Isdb;
 
 // Decoder settings.
 pub struct DemodOptions {
@@ -49,7 +51,7 @@ fn decode_bits(
     p: Plan,
     m: Mapping,
     scales: [f32; 7],
-    start: [f32; 64],
+    start: [f32; STATES],
     re: &[f64],
     im: &[f64],
     decisions: &mut [u64],
@@ -66,8 +68,8 @@ fn decode_bits(
 }
 
 // The path values before a frame.
-fn start_values(known_start: bool, state: u8) -> [f32; 64]
-    ensures { λ r. ⌜ r ≡ cond «known_start» (startAt 64 state) (startUnknown 64) ⌝ }
+fn start_values(known_start: bool, state: u8) -> [f32; STATES]
+    ensures { λ r. ⌜ r ≡ cond «known_start» (startAt Isdb.states state) (startUnknown Isdb.states) ⌝ }
 {
     if known_start {
         start_at(state)

@@ -17,6 +17,7 @@ ghost use Rattle.isdbs_points.specs.Points.{zero64, conjugated};
 ghost use Rattle.isdbs_points.specs.Frame.{endState};
 ghost use Rattle.isdbs_encode.specs.Encoding.{Tiled, RunsMade};
 ghost use Rattle.isdbs_encode.specs.Laid.{FrameLaid};
+ghost use Rattle.trellis.specs.Isdb;
 
 // n unused points.
 fn put_unused(n: usize, m: Mapping, re: &mut [f64], im: &mut [f64])
@@ -48,7 +49,7 @@ fn encode_runs(
     re: &mut [f64],
     im: &mut [f64],
 ) -> RunsEncoded
-    requires { ⌜ (count ≤ 4) × (length (take count list) ≡ count) × Tiled (take count list) × (start < 64) × (mainSymbols ≤ length (now re)) × (mainSymbols ≤ length (now im)) ⌝ }
+    requires { ⌜ (count ≤ 4) × (length (take count list) ≡ count) × Tiled (take count list) × (start < Isdb.states) × (mainSymbols ≤ length (now re)) × (mainSymbols ≤ length (now im)) ⌝ }
     ensures { λ r. ⌜ RunsMade (take count list) m (now (bytes .entry)) start r (now (re .entry)) (now (re .exit)) (now (im .entry)) (now (im .exit)) ⌝ }
 {
     let mut state = start;
@@ -87,7 +88,7 @@ pub fn encode_main(
     re: &mut [f64],
     im: &mut [f64],
 ) -> u8
-    requires { ⌜ TableAccepted t × (start < 64) × (mainSymbols ≤ length (now re)) × (mainSymbols ≤ length (now im)) ⌝ }
+    requires { ⌜ TableAccepted t × (start < Isdb.states) × (mainSymbols ≤ length (now re)) × (mainSymbols ≤ length (now im)) ⌝ }
     ensures state { λ r. ⌜ r ≡ endState t (now (bytes .entry)) start ⌝ }
     ensures frame { λ _. ⌜ FrameLaid t m (now (bytes .entry)) start (now (re .entry)) (now (re .exit)) (now (im .entry)) (now (im .exit)) ⌝ }
 {

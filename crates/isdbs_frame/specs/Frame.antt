@@ -38,6 +38,16 @@ mainSymbols = 38976
 abbrev pub slotBytes : ℕ
 slotBytes = 203
 
+-- the sync words of a header (STD-B20 and ITU-R BO.1408-1, section 6.3): W1 begins every one, W2 ends that of the first frame of a superframe, W3 the others
+abbrev pub w1 : ℕ
+w1 = 0x1b95
+
+abbrev pub w2 : ℕ
+w2 = 0xa340
+
+abbrev pub w3 : ℕ
+w3 = 0x5cbf
+
 -- a symbol of the frame: one of the header, main-signal symbol k, or symbol j of burst b
 pub data Symbol : Type 0 where
   header : ℕ → Symbol

@@ -57,8 +57,8 @@ pub struct Sent {
 
 // The trellis step of an input, of which the low bit counts.
 pub fn encode_input(u: u8, state: u8) -> Sent
-    requires { ⌜ state < 64 ⌝ }
-    ensures { λ r. ⌜ (r .label ≡ Isdb.labels (u % 2) state) × (r .state ≡ moved 32 (u % 2) state) × (r .state < 64) × (r .label < 4) ⌝ }
+    requires { ⌜ state < Isdb.states ⌝ }
+    ensures { λ r. ⌜ (r .label ≡ Isdb.labels (u % 2) state) × (r .state ≡ moved Isdb.half (u % 2) state) × (r .state < Isdb.states) × (r .label < 4) ⌝ }
 {
     let c = encode_bit(state, u);
     let label = 2 * c.x + c.y;
@@ -70,8 +70,8 @@ pub fn encode_input(u: u8, state: u8) -> Sent
 
 // The trellis step that bit n of the load makes.
 pub fn encode_step(bytes: &[u8], n: usize, state: u8) -> Sent
-    requires { ⌜ state < 64 ⌝ }
-    ensures { λ r. ⌜ (r .label ≡ Isdb.labels (loadBit (now (bytes .entry)) n) state) × (r .state ≡ moved 32 (loadBit (now (bytes .entry)) n) state) × (r .state < 64) × (r .label < 4) ⌝ }
+    requires { ⌜ state < Isdb.states ⌝ }
+    ensures { λ r. ⌜ (r .label ≡ Isdb.labels (loadBit (now (bytes .entry)) n) state) × (r .state ≡ moved Isdb.half (loadBit (now (bytes .entry)) n) state) × (r .state < Isdb.states) × (r .label < 4) ⌝ }
 {
     encode_input(load_bit(bytes, n), state)
 }

@@ -21,6 +21,8 @@ use Rattle.isdbs_soft.specs.Soft.{softOf}
 use Rattle.isdbs_points.specs.Points.{point, zero64, psk8Of, subset, conjugated}
 use Rattle.isdbs_points.specs.Layout.{Segment, orderOf, stepsPerPeriod, atStep, atBit, byteOf, wordBit, firstPlace}
 use Rattle.isdbs_points.specs.Frame.{labelAt, startState}
+use Rattle.trellis.specs.Isdb
+use Rattle.isdbs_frame.specs.Frame.{w1}
 
 -- a received frame as it is lent, its mapping, and the scale for each combination
 pub record Received : Type 0 where
@@ -96,11 +98,11 @@ metricsAt t r = atStep [] (metricsIn r) t
 
 -- "Unknown start sets all 64 path values to 0"
 abbrev pub startValues : Bool → Bool → List Float
-startValues knownStart first = cond knownStart (startAt 64 (startState first)) (startUnknown 64)
+startValues knownStart first = cond knownStart (startAt Isdb.states (startState first)) (startUnknown Isdb.states)
 
 -- W1, whose bits follow a frame as known bits
 abbrev pub knownBits : ℕ → Step
-knownBits k = known (wordBit 0x1b95 k)
+knownBits k = known (wordBit w1 k)
 
 -- "all in one `push_metrics` with traceback 128; then the 16 bits of W1, high bit first, as known bits; then a flush"
 unfoldable pub decodedBits : Table → Received → Bool → Bool → List ℕ

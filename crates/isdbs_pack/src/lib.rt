@@ -24,6 +24,7 @@ ghost use Rattle.isdbs_points.specs.Layout.{byteOf};
 ghost use Rattle.isdbs_metrics.specs.Reading.{correlation};
 ghost use Rattle.isdbs_metrics.specs.Steps.{Bits, pieceBit, stepsOfBytes, PackRoom};
 ghost use Rattle.isdbs_pack.specs.Bytes.{receivedWith, byteAt};
+ghost use Rattle.trellis.specs.Isdb;
 
 // A byte, and the encoder's state after its bits.
 pub struct Packed {
@@ -33,8 +34,8 @@ pub struct Packed {
 
 // The byte of 8 decoded bits, high bit first.
 fn plain_byte(bits: &[u8], start: u8) -> Packed
-    requires { ⌜ (start < 64) × (8 ≤ length (now bits)) × Bits (now bits) 8 ⌝ }
-    ensures { λ r. ⌜ (r .byte ≡ byteOf (λ i. getD (now (bits .entry)) i 0)) × (r .state ≡ stateAt 32 start (now (bits .entry)) 8) × (r .state < 64) ⌝ }
+    requires { ⌜ (start < Isdb.states) × (8 ≤ length (now bits)) × Bits (now bits) 8 ⌝ }
+    ensures { λ r. ⌜ (r .byte ≡ byteOf (λ i. getD (now (bits .entry)) i 0)) × (r .state ≡ stateAt Isdb.half start (now (bits .entry)) 8) × (r .state < Isdb.states) ⌝ }
 {
     let mut byte: u8 = 0;
     let mut state = start;
@@ -58,8 +59,8 @@ fn uncoded_bit(re: &[f64], im: &[f64], m: Mapping, label: u8, k: usize) -> u8
 
 // The byte of 4 steps of TC8PSK: C2, then the decoded bit, of each.
 fn tc8psk_byte(re: &[f64], im: &[f64], m: Mapping, bits: &[u8], start: u8) -> Packed
-    requires { ⌜ (start < 64) × (4 ≤ length (now re)) × (4 ≤ length (now im)) × (4 ≤ length (now bits)) × Bits (now bits) 4 ⌝ }
-    ensures { λ r. ⌜ (r .byte ≡ byteOf (pieceBit «Tc8psk2_3» (now (re .entry)) (now (im .entry)) m start (now (bits .entry)))) × (r .state ≡ stateAt 32 start (now (bits .entry)) 4) × (r .state < 64) ⌝ }
+    requires { ⌜ (start < Isdb.states) × (4 ≤ length (now re)) × (4 ≤ length (now im)) × (4 ≤ length (now bits)) × Bits (now bits) 4 ⌝ }
+    ensures { λ r. ⌜ (r .byte ≡ byteOf (pieceBit «Tc8psk2_3» (now (re .entry)) (now (im .entry)) m start (now (bits .entry)))) × (r .state ≡ stateAt Isdb.half start (now (bits .entry)) 4) × (r .state < Isdb.states) ⌝ }
 {
     let mut byte: u8 = 0;
     let mut state = start;
@@ -75,8 +76,8 @@ fn tc8psk_byte(re: &[f64], im: &[f64], m: Mapping, bits: &[u8], start: u8) -> Pa
 
 // The bytes of a run of BPSK or QPSK.
 fn pack_plain(bits: &[u8], n: usize, start: u8, bytes: &mut [u8]) -> u8
-    requires { ⌜ (start < 64) × (n < 2 ^ 16) × (8 * n ≤ length (now bits)) × Bits (now bits) (8 * n) × (n ≤ length (now bytes)) ⌝ }
-    ensures { λ r. ⌜ (now (bytes .exit) ≡ laid (upto (λ j. byteOf (λ i. getD (now (bits .entry)) (8 * j + i) 0)) n) (now (bytes .entry))) × (r ≡ stateAt 32 start (now (bits .entry)) (8 * n)) × (r < 64) ⌝ }
+    requires { ⌜ (start < Isdb.states) × (n < 2 ^ 16) × (8 * n ≤ length (now bits)) × Bits (now bits) (8 * n) × (n ≤ length (now bytes)) ⌝ }
+    ensures { λ r. ⌜ (now (bytes .exit) ≡ laid (upto (λ j. byteOf (λ i. getD (now (bits .entry)) (8 * j + i) 0)) n) (now (bytes .entry))) × (r ≡ stateAt Isdb.half start (now (bits .entry)) (8 * n)) × (r < Isdb.states) ⌝ }
 {
     let mut state = start;
     for j in 0..n {
@@ -98,8 +99,8 @@ fn pack_tc8psk(
     start: u8,
     bytes: &mut [u8],
 ) -> u8
-    requires { ⌜ (start < 64) × (n < 2 ^ 16) × (4 * n ≤ length (now re)) × (4 * n ≤ length (now im)) × (4 * n ≤ length (now bits)) × Bits (now bits) (4 * n) × (n ≤ length (now bytes)) ⌝ }
-    ensures { λ r. ⌜ (now (bytes .exit) ≡ laid (upto (λ j. byteOf (λ i. pieceBit «Tc8psk2_3» (now (re .entry)) (now (im .entry)) m start (now (bits .entry)) (8 * j + i))) n) (now (bytes .entry))) × (r ≡ stateAt 32 start (now (bits .entry)) (4 * n)) × (r < 64) ⌝ }
+    requires { ⌜ (start < Isdb.states) × (n < 2 ^ 16) × (4 * n ≤ length (now re)) × (4 * n ≤ length (now im)) × (4 * n ≤ length (now bits)) × Bits (now bits) (4 * n) × (n ≤ length (now bytes)) ⌝ }
+    ensures { λ r. ⌜ (now (bytes .exit) ≡ laid (upto (λ j. byteOf (λ i. pieceBit «Tc8psk2_3» (now (re .entry)) (now (im .entry)) m start (now (bits .entry)) (8 * j + i))) n) (now (bytes .entry))) × (r ≡ stateAt Isdb.half start (now (bits .entry)) (4 * n)) × (r < Isdb.states) ⌝ }
 {
     let mut state = start;
     for j in 0..n {
@@ -122,8 +123,8 @@ fn pack_run(
     start: u8,
     bytes: &mut [u8],
 ) -> u8
-    requires { ⌜ (start < 64) × (n < 2 ^ 16) × PackRoom c n (length (now re)) (length (now im)) (length (now bits)) (now bits) × (n ≤ length (now bytes)) ⌝ }
-    ensures { λ r. ⌜ (now (bytes .exit) ≡ laid (upto (λ j. byteOf (λ i. pieceBit c (now (re .entry)) (now (im .entry)) m start (now (bits .entry)) (8 * j + i))) n) (now (bytes .entry))) × (r ≡ stateAt 32 start (now (bits .entry)) (stepsOfBytes c n)) × (r < 64) ⌝ }
+    requires { ⌜ (start < Isdb.states) × (n < 2 ^ 16) × PackRoom c n (length (now re)) (length (now im)) (length (now bits)) (now bits) × (n ≤ length (now bytes)) ⌝ }
+    ensures { λ r. ⌜ (now (bytes .exit) ≡ laid (upto (λ j. byteOf (λ i. pieceBit c (now (re .entry)) (now (im .entry)) m start (now (bits .entry)) (8 * j + i))) n) (now (bytes .entry))) × (r ≡ stateAt Isdb.half start (now (bits .entry)) (stepsOfBytes c n)) × (r < Isdb.states) ⌝ }
 {
     let modulation = c.modulation();
     match modulation {
@@ -143,7 +144,7 @@ pub fn write_bytes(
     bits: &[u8],
     bytes: &mut [u8],
 )
-    requires { ⌜ (start < 64) × Planned p × (mainSymbols ≤ length (now re)) × (mainSymbols ≤ length (now im)) × (frameSteps (p .table) ≤ length (now bits)) × Bits (now bits) (frameSteps (p .table)) × (loadBytes (p .table) ≤ length (now bytes)) ⌝ }
+    requires { ⌜ (start < Isdb.states) × Planned p × (mainSymbols ≤ length (now re)) × (mainSymbols ≤ length (now im)) × (frameSteps (p .table) ≤ length (now bits)) × Bits (now bits) (frameSteps (p .table)) × (loadBytes (p .table) ≤ length (now bytes)) ⌝ }
     ensures { λ _. ⌜ ((scales : Combination → Float) → now (bytes .exit) ≡ laid (upto (byteAt (p .table) (receivedWith (now (re .entry)) (now (im .entry)) m scales) start (now (bits .entry))) (loadBytes (p .table))) (now (bytes .entry))) ⌝ }
 {
     let count = p.count;

@@ -26,6 +26,7 @@ ghost use Rattle.isdbs_points.specs.Layout.{stepsPerPeriod};
 ghost use Rattle.isdbs_points.specs.Pieces.{pieceSymbols};
 ghost use Rattle.isdbs_load.specs.Bits.{wordBit};
 ghost use Rattle.isdbs_pieces.specs.Encoded.{PieceEncoded, ByteEncoded, TableOf, qpskLabel, psk8Label, ByRegister, PeriodEncoded, PatternOf, AtMost, shiftOf, Shifted, pairLabel};
+ghost use Rattle.trellis.specs.Isdb;
 
 // The points of a modulation under a mapping, by label.
 pub struct PointTable {
@@ -104,7 +105,7 @@ fn encode_bpsk(
     re: &mut [f64],
     im: &mut [f64],
 ) -> u8
-    requires { ⌜ (start < 64) × (bit + n < 2 ^ 32) × (2 * n ≤ length (now re)) × (2 * n ≤ length (now im)) ⌝ }
+    requires { ⌜ (start < Isdb.states) × (bit + n < 2 ^ 32) × (2 * n ≤ length (now re)) × (2 * n ≤ length (now im)) ⌝ }
     ensures { λ r. ⌜ PieceEncoded «Bpsk1_2» m (now (bytes .entry)) bit n start r (now (re .entry)) (now (re .exit)) (now (im .entry)) (now (im .exit)) ⌝ }
 {
     let signs = [1.0, -1.0];
@@ -131,7 +132,7 @@ fn put_byte(
     re: &mut [f64],
     im: &mut [f64],
 ) -> u8
-    requires { ⌜ (start < 64) × (4 ≤ length (now re)) × (4 ≤ length (now im)) ⌝ }
+    requires { ⌜ (start < Isdb.states) × (4 ≤ length (now re)) × (4 ≤ length (now im)) ⌝ }
     ensures { λ r. ⌜ ByteEncoded byte start r (now (xs .entry)) (now (ys .entry)) (now (re .entry)) (now (re .exit)) (now (im .entry)) (now (im .exit)) ⌝ }
 {
     let z = 16 * (start as usize) + coded_inputs(byte);
@@ -154,7 +155,7 @@ fn encode_tc8psk(
     re: &mut [f64],
     im: &mut [f64],
 ) -> u8
-    requires { ⌜ (start < 64) × (bit + 2 * n < 2 ^ 32) × (n ≤ length (now re)) × (n ≤ length (now im)) × (bit % 8 ≡ 0) × (n % 4 ≡ 0) ⌝ }
+    requires { ⌜ (start < Isdb.states) × (bit + 2 * n < 2 ^ 32) × (n ≤ length (now re)) × (n ≤ length (now im)) × (bit % 8 ≡ 0) × (n % 4 ≡ 0) ⌝ }
     ensures { λ r. ⌜ PieceEncoded «Tc8psk2_3» m (now (bytes .entry)) bit n start r (now (re .entry)) (now (re .exit)) (now (im .entry)) (now (im .exit)) ⌝ }
 {
     let t = register_table(m);
@@ -178,7 +179,7 @@ pub struct Period {
 
 // The trellis steps of n bits from bit `bit` of the load on.
 fn encode_period(bytes: &[u8], bit: usize, n: usize, start: u8) -> Period
-    requires { ⌜ (start < 64) × (n ≤ 8) × (bit + n < 2 ^ 32) ⌝ }
+    requires { ⌜ (start < Isdb.states) × (n ≤ 8) × (bit + n < 2 ^ 32) ⌝ }
     ensures { λ r. ⌜ PeriodEncoded (now (bytes .entry)) bit n start r ⌝ }
 {
     let z = ((start as usize) << n) + load_bits(bytes, bit, n);
@@ -284,7 +285,7 @@ fn encode_qpsk(
     re: &mut [f64],
     im: &mut [f64],
 ) -> u8
-    requires { ⌜ (modulationOf c ≡ Qpsk) × (start < 64) × (bit + n < 2 ^ 32) × (n ≡ n / stepsPerPeriod c * stepsPerPeriod c) × (pieceSymbols c n ≤ length (now re)) × (pieceSymbols c n ≤ length (now im)) ⌝ }
+    requires { ⌜ (modulationOf c ≡ Qpsk) × (start < Isdb.states) × (bit + n < 2 ^ 32) × (n ≡ n / stepsPerPeriod c * stepsPerPeriod c) × (pieceSymbols c n ≤ length (now re)) × (pieceSymbols c n ≤ length (now im)) ⌝ }
     ensures { λ r. ⌜ PieceEncoded c m (now (bytes .entry)) bit n start r (now (re .entry)) (now (re .exit)) (now (im .entry)) (now (im .exit)) ⌝ }
 {
     let p = pattern_of(c);
@@ -331,7 +332,7 @@ pub fn encode_run(
     re: &mut [f64],
     im: &mut [f64],
 ) -> u8
-    requires { ⌜ (start < 64) × (bit + 2 * n < 2 ^ 32) × (n ≡ n / stepsPerPeriod c * stepsPerPeriod c) × (pieceSymbols c n ≤ length (now re)) × (pieceSymbols c n ≤ length (now im)) × (bit % 8 ≡ 0) × (n % 4 ≡ 0) ⌝ }
+    requires { ⌜ (start < Isdb.states) × (bit + 2 * n < 2 ^ 32) × (n ≡ n / stepsPerPeriod c * stepsPerPeriod c) × (pieceSymbols c n ≤ length (now re)) × (pieceSymbols c n ≤ length (now im)) × (bit % 8 ≡ 0) × (n % 4 ≡ 0) ⌝ }
     ensures { λ r. ⌜ PieceEncoded c m (now (bytes .entry)) bit n start r (now (re .entry)) (now (re .exit)) (now (im .entry)) (now (im .exit)) ⌝ }
 {
     let modulation = c.modulation();

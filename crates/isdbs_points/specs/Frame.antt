@@ -10,7 +10,7 @@ use Rattle.trellis.specs.Code.{stateAt}
 use Rattle.isdbs_combination.specs.declared.Modulation.{Modulation}
 use Rattle.isdbs_combination.specs.declared.Modulation.the-variants.{Bpsk, Qpsk, Tc8psk}
 use Rattle.isdbs_tables.specs.declared.Table.{Table}
-use Rattle.isdbs_frame.specs.Frame.{mainSymbols}
+use Rattle.isdbs_frame.specs.Frame.{mainSymbols, w2, w3}
 use Rattle.isdbs_combination.specs.Combinations.{modulationOf}
 use Rattle.isdbs_runs.specs.RunsOf.{frameSteps}
 use Rattle.isdbs_points.specs.declared.Cplx.{Cplx}
@@ -34,7 +34,7 @@ inputs t load = upto (atStep 0 (inputIn load) t) (frameSteps t)
 
 -- 2 X + Y at each step of encoding the inputs us from the state s
 abbrev pub labelAt : ℕ → List ℕ → ℕ → ℕ
-labelAt s us k = Isdb.labels (getD us k 0) (stateAt 32 s us k)
+labelAt s us k = Isdb.labels (getD us k 0) (stateAt Isdb.half s us k)
 
 -- a coded bit by its mother bit's number: X at even ones, Y at odd ones
 abbrev pub codedBit : ℕ → ℕ → ℕ
@@ -73,11 +73,11 @@ frameIm t m load s = upto (λ k. pointAt t m load s k .im) mainSymbols
 
 -- the encoder's state after the frame's last bit
 abbrev pub endState : Table → List ℕ → ℕ → ℕ
-endState t load s = stateAt 32 s (inputs t load) (frameSteps t)
+endState t load s = stateAt Isdb.half s (inputs t load) (frameSteps t)
 
 -- "The start state is `state_after(W2)` when `first`, else `state_after(W3)`": the state that a 16-bit word leaves
 unfoldable pub stateAfter : ℕ → ℕ
-stateAfter w = stateAt 32 0 (upto (wordBit w) 16) 16
+stateAfter w = stateAt Isdb.half 0 (upto (wordBit w) 16) 16
 
 abbrev pub startState : Bool → ℕ
-startState first = cond first (stateAfter 0xa340) (stateAfter 0x5cbf)
+startState first = cond first (stateAfter w2) (stateAfter w3)

@@ -10,6 +10,7 @@ ghost use Rattle.trellis.specs.Step.{term};
 ghost use Rattle.isdbs_points.specs.Points.{psk8Of, qpskOf, subset, conjugated};
 ghost use Rattle.isdbs_points.specs.Layout.{wordBit};
 ghost use Rattle.isdbs_points.specs.Frame.{stateAfter, startState};
+ghost use Rattle.trellis.specs.Isdb;
 
 // The greatest part of a received point that is taken, of either sign (refusal 7 as document 02, P8 leaves it).
 pub const PART_LIMIT: f64 = 65536.0;
@@ -144,7 +145,7 @@ pub fn state_after(word: u16) -> u8
 
 // The state that W2 leaves before the first frame of a superframe, and W3 before the others.
 pub fn start_state(first: bool) -> u8
-    ensures { λ r. ⌜ (r ≡ startState first) × (r < 64) ⌝ }
+    ensures { λ r. ⌜ (r ≡ startState first) × (r < Isdb.states) ⌝ }
 {
     if first {
         state_after(W2)

@@ -5,6 +5,7 @@ use isdbs_metrics::PeriodLayout;
 use isdbs_metrics::layout_of;
 use isdbs_points::Mapping;
 use trellis::FRAME_TRACEBACK;
+use trellis::STATES;
 use viterbi::At;
 use viterbi::run_fours;
 ghost use mathlib.Core.Path.{_≡_};
@@ -29,7 +30,7 @@ fn block_of(left: usize, period: usize) -> usize
 // Reads n steps of a run in blocks, and keeps their marks; the first is step i0 of the frame. The parts, the soft values, those at their steps and
 // the metrics of a block are laid in the lent slices.
 fn read_blocks(
-    pm: &mut [f32; 64],
+    pm: &mut [f32; STATES],
     at: At,
     i0: usize,
     n: usize,
@@ -87,7 +88,7 @@ fn read_blocks(
 
 // Reads n steps of a run, whole periods, and keeps their marks; the first is step i0 of the frame.
 pub fn read_run(
-    pm: &mut [f32; 64],
+    pm: &mut [f32; STATES],
     at: At,
     i0: usize,
     n: usize,

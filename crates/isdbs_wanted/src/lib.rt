@@ -27,6 +27,7 @@ ghost use Rattle.isdbs_metrics.specs.Reading.{partOf};
 ghost use Rattle.isdbs_metrics.specs.Steps.{LayoutOf};
 ghost use Rattle.wanted.specs.ReadOff.{shown, hard, bySign, psk8Label, bitAs, inputFrom};
 ghost use Rattle.isdbs_wanted.specs.Pieces.{runAt, stepOf, SentIn, InFrame, ByteIn, BytesIn, nextBit, nextState, stateAfter, bitAfter, runState, runByte, frameByte};
+ghost use Rattle.trellis.specs.Isdb;
 
 // One of three numbers, by whether a part lies above 0, below it or at it.
 fn by_sign(x: f64, above: u8, below: u8, level: u8) -> u8
@@ -138,7 +139,7 @@ fn read_input(
     k: usize,
     state: u8,
 ) -> u8
-    requires { ⌜ LayoutOf layout × (k < 2 ^ 30) × (state < 64) × InFrame (layout .combination) start k × (mainSymbols ≤ length (now re)) × (mainSymbols ≤ length (now im)) ⌝ }
+    requires { ⌜ LayoutOf layout × (k < 2 ^ 30) × (state < Isdb.states) × InFrame (layout .combination) start k × (mainSymbols ≤ length (now re)) × (mainSymbols ≤ length (now im)) ⌝ }
     ensures { λ r. ⌜ (r ≡ inputFrom m (shown m (now (re .entry)) (now (im .entry))) state (runAt (layout .combination) start) k) × (r < 2) ⌝ }
 {
     let places = layout.places;
@@ -169,8 +170,8 @@ fn read_coded(
     k: usize,
     state: u8,
 ) -> BitRead
-    requires { ⌜ LayoutOf layout × (k < 2 ^ 30) × (state < 64) × InFrame (layout .combination) start k × (mainSymbols ≤ length (now re)) × (mainSymbols ≤ length (now im)) ⌝ }
-    ensures { λ r. ⌜ (r .bit ≡ inputFrom m (shown m (now (re .entry)) (now (im .entry))) state (runAt (layout .combination) start) k) × (r .state ≡ moved 32 (inputFrom m (shown m (now (re .entry)) (now (im .entry))) state (runAt (layout .combination) start) k) state) × (r .bit < 2) × (r .state < 64) ⌝ }
+    requires { ⌜ LayoutOf layout × (k < 2 ^ 30) × (state < Isdb.states) × InFrame (layout .combination) start k × (mainSymbols ≤ length (now re)) × (mainSymbols ≤ length (now im)) ⌝ }
+    ensures { λ r. ⌜ (r .bit ≡ inputFrom m (shown m (now (re .entry)) (now (im .entry))) state (runAt (layout .combination) start) k) × (r .state ≡ moved Isdb.half (inputFrom m (shown m (now (re .entry)) (now (im .entry))) state (runAt (layout .combination) start) k) state) × (r .bit < 2) × (r .state < Isdb.states) ⌝ }
 {
     let u = read_input(re, im, m, layout, start, k, state);
     BitRead {
@@ -189,8 +190,8 @@ fn read_bit(
     i: usize,
     state: u8,
 ) -> BitRead
-    requires { ⌜ LayoutOf layout × (i < 2 ^ 30) × (state < 64) × InFrame (layout .combination) start (stepOf (layout .combination) i) × (mainSymbols ≤ length (now re)) × (mainSymbols ≤ length (now im)) ⌝ }
-    ensures { λ r. ⌜ (r .bit ≡ nextBit m (shown m (now (re .entry)) (now (im .entry))) (runAt (layout .combination) start) state i) × (r .state ≡ nextState m (shown m (now (re .entry)) (now (im .entry))) (runAt (layout .combination) start) state i) × (r .bit < 2) × (r .state < 64) ⌝ }
+    requires { ⌜ LayoutOf layout × (i < 2 ^ 30) × (state < Isdb.states) × InFrame (layout .combination) start (stepOf (layout .combination) i) × (mainSymbols ≤ length (now re)) × (mainSymbols ≤ length (now im)) ⌝ }
+    ensures { λ r. ⌜ (r .bit ≡ nextBit m (shown m (now (re .entry)) (now (im .entry))) (runAt (layout .combination) start) state i) × (r .state ≡ nextState m (shown m (now (re .entry)) (now (im .entry))) (runAt (layout .combination) start) state i) × (r .bit < 2) × (r .state < Isdb.states) ⌝ }
 {
     let modulation = layout.modulation;
     match modulation {
@@ -223,8 +224,8 @@ fn read_byte(
     from: usize,
     prior: u8,
 ) -> ByteRead
-    requires { ⌜ LayoutOf layout × (from + 8 < 2 ^ 30) × (prior < 64) × ByteIn (layout .combination) start from × (mainSymbols ≤ length (now re)) × (mainSymbols ≤ length (now im)) ⌝ }
-    ensures { λ r. ⌜ (r .byte ≡ byteOf (bitAfter m (shown m (now (re .entry)) (now (im .entry))) (runAt (layout .combination) start) prior from)) × (r .state ≡ stateAfter m (shown m (now (re .entry)) (now (im .entry))) (runAt (layout .combination) start) prior from 8) × (r .state < 64) ⌝ }
+    requires { ⌜ LayoutOf layout × (from + 8 < 2 ^ 30) × (prior < Isdb.states) × ByteIn (layout .combination) start from × (mainSymbols ≤ length (now re)) × (mainSymbols ≤ length (now im)) ⌝ }
+    ensures { λ r. ⌜ (r .byte ≡ byteOf (bitAfter m (shown m (now (re .entry)) (now (im .entry))) (runAt (layout .combination) start) prior from)) × (r .state ≡ stateAfter m (shown m (now (re .entry)) (now (im .entry))) (runAt (layout .combination) start) prior from 8) × (r .state < Isdb.states) ⌝ }
 {
     let mut byte: u8 = 0;
     let mut state = prior;
@@ -247,8 +248,8 @@ fn read_run(
     prior: u8,
     bytes: &mut [u8],
 ) -> u8
-    requires { ⌜ (prior < 64) × (n < 2 ^ 16) × BytesIn c start n × (mainSymbols ≤ length (now re)) × (mainSymbols ≤ length (now im)) × (n ≤ length (now bytes)) ⌝ }
-    ensures { λ r. ⌜ (now (bytes .exit) ≡ laid (upto (runByte m (shown m (now (re .entry)) (now (im .entry))) (runAt c start) prior) n) (now (bytes .entry))) × (r ≡ runState m (shown m (now (re .entry)) (now (im .entry))) (runAt c start) prior (8 * n)) × (r < 64) ⌝ }
+    requires { ⌜ (prior < Isdb.states) × (n < 2 ^ 16) × BytesIn c start n × (mainSymbols ≤ length (now re)) × (mainSymbols ≤ length (now im)) × (n ≤ length (now bytes)) ⌝ }
+    ensures { λ r. ⌜ (now (bytes .exit) ≡ laid (upto (runByte m (shown m (now (re .entry)) (now (im .entry))) (runAt c start) prior) n) (now (bytes .entry))) × (r ≡ runState m (shown m (now (re .entry)) (now (im .entry))) (runAt c start) prior (8 * n)) × (r < Isdb.states) ⌝ }
 {
     let layout = layout_of(c);
     let mut state = prior;
@@ -262,7 +263,7 @@ fn read_run(
 
 // The load that a frame shows, from the state before it, laid over the beginning of the lent bytes.
 pub fn read_load(p: Plan, m: Mapping, prior: u8, re: &[f64], im: &[f64], bytes: &mut [u8])
-    requires { ⌜ (prior < 64) × Planned p × (mainSymbols ≤ length (now re)) × (mainSymbols ≤ length (now im)) × (loadBytes (p .table) ≤ length (now bytes)) ⌝ }
+    requires { ⌜ (prior < Isdb.states) × Planned p × (mainSymbols ≤ length (now re)) × (mainSymbols ≤ length (now im)) × (loadBytes (p .table) ≤ length (now bytes)) ⌝ }
     ensures { λ _. ⌜ now (bytes .exit) ≡ laid (upto (frameByte (p .table) m (now (re .entry)) (now (im .entry)) prior) (loadBytes (p .table))) (now (bytes .entry)) ⌝ }
 {
     let count = p.count;

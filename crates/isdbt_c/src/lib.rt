@@ -18,6 +18,7 @@ ghost use Rattle.isdbt_fec.specs.Calls.{decodedBits};
 ghost use Rattle.answers_c.specs.Answers.{answered, left};
 ghost use Rattle.answers_c.specs.Lengths.{untilLength};
 ghost use Rattle.isdbt_c.specs.Rates.{rateOf, rateRows, byRate};
+ghost use Rattle.trellis.specs.Isdb;
 
 // A code rate or none.
 pub enum MaybeRate {
@@ -69,7 +70,7 @@ pub extern "C" fn isdbt_encode_punctured(
     count: &mut u64,
 ) -> u32
     ensures answers { λ r. ⌜ r ≡ answered (rateRows (encoderRows (now (state .entry))) (rateOf rate) (λ c. encodeRows c (now (state .entry)) (length (now (bits .entry))) (length (now (out .entry))))) ⌝ }
-    ensures state { λ r. ⌜ now (state .exit) ≡ left r (stateAt 32 (now (state .entry)) (lowBits (now (bits .entry))) (length (now (bits .entry)))) (now (state .entry)) ⌝ }
+    ensures state { λ r. ⌜ now (state .exit) ≡ left r (stateAt Isdb.half (now (state .entry)) (lowBits (now (bits .entry))) (length (now (bits .entry)))) (now (state .entry)) ⌝ }
     ensures leaves { λ r. ⌜ now (out .exit) ≡ left r (laid (byRate (rateOf rate) [] (λ c. punctured c (now (state .entry)) (now (bits .entry)))) (now (out .entry))) (now (out .entry)) ⌝ }
     ensures counts { λ r. ⌜ now (count .exit) ≡ left r (byRate (rateOf rate) 0 (λ c. length (now (bits .entry)) / period c * sent c)) (now (count .entry)) ⌝ }
 {

@@ -16,10 +16,11 @@ use Rattle.isdbt_fec.specs.declared.conv.Done.{Done}
 use Rattle.isdbt_table.specs.Table.{period, sent}
 use Rattle.isdbt_table.specs.Puncture.{punctured, depunctured}
 use Rattle.trellis.specs.Encoded.{lowBits}
+use Rattle.trellis.specs.Isdb
 
 -- the sent bits at the front, the rest as before; the state has taken every bit and carries on from call to call
 pub record Encodes (rate : CodeRate) (s : ℕ) (bits : List ℕ) (r : Encoded) (out₀ out : List ℕ) : Type 0 where
-  pub state-is : r .enc .state ≡ stateAt 32 s (lowBits bits) (length bits)
+  pub state-is : r .enc .state ≡ stateAt Isdb.half s (lowBits bits) (length bits)
   pub count-is : r .count ≡ length bits / period rate * sent rate
   pub bits-are : out ≡ laid (punctured rate s bits) out₀
 
@@ -44,7 +45,7 @@ steps rate xs k = pair (getD (depunctured rate xs) (2 * k) nan) (getD (depunctur
 
 -- the decoder that starts in state 0 and holds nothing
 abbrev pub fresh : Decoder
-fresh = record { values = startAt 64 0; words = []; bits = [] }
+fresh = record { values = startAt Isdb.states 0; words = []; bits = [] }
 
 -- one push of all the steps, and one flush
 unfoldable pub decodedBits : CodeRate → List Float → ℕ → List ℕ

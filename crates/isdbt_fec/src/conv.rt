@@ -30,6 +30,7 @@ use viterbi::At;
 use viterbi::encode_bit;
 use viterbi::run_pairs;
 use viterbi::start_at;
+ghost use Rattle.trellis.specs.Isdb;
 
 // The mother code's bits of a period, X1, Y1, X2, Y2, .., and the state after it. Places from the period's end on hold 0.
 struct Period {
@@ -39,8 +40,8 @@ struct Period {
 
 // Encodes the bits of a period.
 fn encode_period(state: u8, bits: &[u8]) -> Period
-    requires { ⌜ (state < 64) × (length (now bits) ≤ 7) ⌝ }
-    ensures { λ r. ⌜ (r .state ≡ stateAt 32 state (lowBits (now (bits .entry))) (length (now (bits .entry))))
+    requires { ⌜ (state < Isdb.states) × (length (now bits) ≤ 7) ⌝ }
+    ensures { λ r. ⌜ (r .state ≡ stateAt Isdb.half state (lowBits (now (bits .entry))) (length (now (bits .entry))))
         × ((k : ℕ) → k < 2 * length (now (bits .entry)) → getD (r .mother) k 0 ≡ mother state (lowBits (now (bits .entry))) k) ⌝ }
 {
     let mut s = state;
@@ -70,8 +71,8 @@ fn send(m: &[u8; 14], order: &[usize; 8], n: usize, out: &mut [u8])
 
 // Encodes whole periods from the state; the state after them.
 fn encode_periods(rate: CodeRate, state: u8, bits: &[u8], out: &mut [u8]) -> u8
-    requires { ⌜ (state < 64) × (length (now bits) % period rate ≡ 0) × (length (now bits) / period rate * sent rate ≤ length (now out)) ⌝ }
-    ensures { λ r. ⌜ (r ≡ stateAt 32 state (lowBits (now (bits .entry))) (length (now (bits .entry))))
+    requires { ⌜ (state < Isdb.states) × (length (now bits) % period rate ≡ 0) × (length (now bits) / period rate * sent rate ≤ length (now out)) ⌝ }
+    ensures { λ r. ⌜ (r ≡ stateAt Isdb.half state (lowBits (now (bits .entry))) (length (now (bits .entry))))
         × (now (out .exit) ≡ laid (punctured rate state (now (bits .entry))) (now (out .entry))) ⌝ }
 {
     let p = Puncturing::new(rate);

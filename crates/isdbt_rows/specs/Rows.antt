@@ -2,7 +2,7 @@
 use mathlib.Core.Bool.{Bool, not, _||_}
 use mathlib.Core.List.{List, [], _∷_}
 use Prim.Native.Nat.{ℕ, _+_, _*_, _/_, _%_}
-use lib.Dec.{eqb, ltb}
+use lib.Dec.{eqb, leb, ltb}
 use lib.ListN.{length}
 use lib.Ieee.{Float}
 use Rattle.refusal.specs.Rows.{Row}
@@ -11,6 +11,7 @@ use Rattle.trellis.specs.Run.{block, tracebackLimit, depth}
 use Rattle.isdb_fec.specs.Values.{someBeyond, streamLimit}
 use Rattle.isdbt_table.specs.declared.CodeRate.{CodeRate}
 use Rattle.isdbt_table.specs.Table.{period, sent}
+use Rattle.trellis.specs.Isdb
 
 -- 5: "stream not whole periods", of values that come `per` for each period
 abbrev pub broken : ℕ → ℕ → Bool
@@ -19,7 +20,7 @@ broken per count = not (eqb (count % per) 0)
 -- `count` bytes from the state s into `out` places
 abbrev pub encodeRows : CodeRate → ℕ → ℕ → ℕ → List Row
 encodeRows rate s count out =
-    (State, ltb 63 s) ∷ (Length, broken (period rate) count) ∷ (Space, ltb out (count / period rate * sent rate)) ∷ []
+    (State, leb Isdb.states s) ∷ (Length, broken (period rate) count) ∷ (Space, ltb out (count / period rate * sent rate)) ∷ []
 
 -- `count` soft values into `out` places. "`depuncture` only copies, so 7 isn't checked there."
 abbrev pub depunctureRows : CodeRate → ℕ → ℕ → List Row

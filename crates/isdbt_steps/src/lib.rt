@@ -10,10 +10,12 @@ ghost use Rattle.viterbi.specs.Calls.{bestState, traced};
 ghost use Rattle.isdbt_steps.specs.Soft.{stepsBy};
 ghost use Rattle.trellis.specs.Run.{block, tracebackLimit, pairSteps};
 use trellis::BLOCK;
+use trellis::STATES;
 use viterbi::At;
 use viterbi::clear;
 use viterbi::finish;
 use viterbi::renormalise;
+ghost use Rattle.trellis.specs.Isdb;
 
 // The value for the mother bit `place` of the period whose sent values begin at `base`; 0 where it is not sent.
 fn value_at(order: &[usize; 8], n: usize, llrs: &[f32], base: usize, place: usize) -> f32
@@ -67,7 +69,7 @@ pub fn soft_block(
 
 // The end of a call: the maximum is subtracted, the held words are traced from the best state, and the decisions become 0. How many bits are out.
 pub fn end_call(
-    pm: &mut [f32; 64],
+    pm: &mut [f32; STATES],
     at: At,
     traceback: usize,
     decisions: &mut [u64],
@@ -76,7 +78,7 @@ pub fn end_call(
     requires { ⌜ (traceback ≤ tracebackLimit) × (at .held ≤ block + traceback) × (block + traceback ≤ length (now decisions)) × (at .count + at .held ≤ length (now out)) ⌝ }
     ensures { λ r. ⌜ (r ≡ at .count + at .held)
         × (now (decisions .exit) ≡ laid (replicate (block + traceback) 0) (laid (replicate (at .held) 0) (now (decisions .entry))))
-        × (now (out .exit) ≡ take (at .count) (now (out .entry)) ++ laid (traced (take (at .held) (now (decisions .entry))) (bestState (renormalised 32 (now (pm .entry))))) (drop (at .count) (now (out .entry)))) ⌝ }
+        × (now (out .exit) ≡ take (at .count) (now (out .entry)) ++ laid (traced (take (at .held) (now (decisions .entry))) (bestState (renormalised Isdb.half (now (pm .entry))))) (drop (at .count) (now (out .entry)))) ⌝ }
 {
     renormalise(pm);
     let bits = finish(pm, at, decisions, out);

@@ -10,10 +10,11 @@ use Rattle.trellis.specs.Code.{isdb, output, stateAt}
 use Rattle.trellis.specs.Encoded.{lowBits}
 use Rattle.isdbt_table.specs.declared.CodeRate.{CodeRate}
 use Rattle.isdbt_table.specs.Table.{rowX, rowY, period, sent, order}
+use Rattle.trellis.specs.Isdb
 
 -- bit k of the mother code X1, Y1, X2, Y2, .. of the inputs us, from the state s
 unfoldable pub mother : ℕ → List ℕ → ℕ → ℕ
-mother s us k = output isdb (cond (eqb (k % 2) 0) 0o171 0o133) (getD us (k / 2) 0) (stateAt 32 s us (k / 2))
+mother s us k = output isdb (cond (eqb (k % 2) 0) 0o171 0o133) (getD us (k / 2) 0) (stateAt Isdb.half s us (k / 2))
 
 -- the mother bit that the sent bit j of a call carries: the pattern begins with the call
 abbrev pub place : CodeRate → ℕ → ℕ

@@ -21,14 +21,15 @@ use Rattle.isdb_fec.specs.Values.{someBeyond, streamLimit}
 use Rattle.isdb_fec.specs.Rows.{freshRows}
 use Rattle.isdb_fec.specs.Calls.{call, Unchanged}
 use Rattle.call_ranges.specs.Finished.{Finished}
+use Rattle.trellis.specs.Isdb
 
 -- what `with_state` makes: the fresh decoder, or all zeros for a traceback that is refused
 abbrev pub fresh : ℕ → ℕ → ViterbiDecoder
-fresh tb s = cond (ltb tracebackLimit tb) (record { pm = replicate 64 (ofBits binary32 0); held = 0; traceback = 0 }) (record { pm = startAt 64 s; held = 0; traceback = depth tb })
+fresh tb s = cond (ltb tracebackLimit tb) (record { pm = replicate Isdb.states (ofBits binary32 0); held = 0; traceback = 0 }) (record { pm = startAt Isdb.states s; held = 0; traceback = depth tb })
 
 -- the decoder with its held words and its bits once the soft values xs have been pushed
 abbrev pub read : ℕ → ℕ → List Float → Decoder
-read tb s xs = call (depth tb) (pairSteps xs) (freshFrom (startAt 64 s)) (length xs / 2)
+read tb s xs = call (depth tb) (pairSteps xs) (freshFrom (startAt Isdb.states s)) (length xs / 2)
 
 -- the rows of a reading that is lent `decisions` words and `out` places: 3; 5 "soft values not in twos"; 7 "not finite; beyond .. 1,048,576 for a stream value";
 -- 9, a place for each bit, and "decisions always need 4,096 + traceback"
@@ -46,7 +47,7 @@ Left tb s e xs r decisions₀ decisions out₀ out =
 -- a stretch is refused by 9 alone.
 abbrev pub Corrects : ℕ → ℕ → ℕ → List Float → Released → ℕ → ℕ → List ℕ → Type 0
 Corrects tb s e xs r decisions space out =
-    (us ps : List ℕ) → tb ≤ tracebackLimit → length us ≤ longest → Bits us → reached isdb (s % 64) us ≡ e % 64
-    → Coded ps → length ps ≡ length us → differing ps (encoded isdb (s % 64) us) ≤ mostWrong → xs ≡ softPairs ps
+    (us ps : List ℕ) → tb ≤ tracebackLimit → length us ≤ longest → Bits us → reached isdb (s % Isdb.states) us ≡ e % Isdb.states
+    → Coded ps → length ps ≡ length us → differing ps (encoded isdb (s % Isdb.states) us) ≤ mostWrong → xs ≡ softPairs ps
     → (r .answer ≡ firstRow ((Space, ltb space (length us) || ltb decisions (block + depth tb)) ∷ []))
     × (r .answer ≡ Accepted → (r .count ≡ length us) × (take (length us) out ≡ us))

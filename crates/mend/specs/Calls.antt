@@ -11,15 +11,16 @@ use Rattle.mend_distance.specs.Stretches.{sentFrom, changed, Within}
 use Rattle.mend.specs.declared.Mended.{Mended}
 use Rattle.mend.specs.Rows.{mendRows}
 use Rattle.trellis.specs.Isdb.{frameWords}
+use Rattle.trellis.specs.Isdb
 
 -- what an accepted call leaves. "return the coded stretch that differs in at most four bits, with the changed positions in rising order"; "the first 4,224 decision words are 0, and
 -- list places past the changed positions are as before"
 pub record Mends (s e : ℕ) (bits : List ℕ) (r : Mended) (decisions₀ decisions out₀ out list₀ list : List ℕ) : Type 0 where
   pub inputs : List ℕ
-  pub within : Within (s % 64) (e % 64) bits inputs
-  pub out-is : out ≡ laid (sentFrom (s % 64) inputs) out₀
-  pub count-is : r .count ≡ length (changed 0 (sentFrom (s % 64) inputs) bits)
-  pub list-is : list ≡ laid (changed 0 (sentFrom (s % 64) inputs) bits) list₀
+  pub within : Within (s % Isdb.states) (e % Isdb.states) bits inputs
+  pub out-is : out ≡ laid (sentFrom (s % Isdb.states) inputs) out₀
+  pub count-is : r .count ≡ length (changed 0 (sentFrom (s % Isdb.states) inputs) bits)
+  pub list-is : list ≡ laid (changed 0 (sentFrom (s % Isdb.states) inputs) bits) list₀
   pub decisions-is : decisions ≡ laid (replicate frameWords 0) decisions₀
 
 -- what a refused one leaves
@@ -35,4 +36,4 @@ pub record Called (s e : ℕ) (bits : List ℕ) (r : Mended) (decisions₀ decis
   pub far : Bool
   pub answers : r .answer ≡ firstRow (mendRows bits (length decisions₀) (length out₀) (length list₀) far)
   pub leaves : Either (r .answer) (Mends s e bits r decisions₀ decisions out₀ out list₀ list) (Unchanged r decisions₀ decisions out₀ out list₀ list)
-  pub none : r .answer ≡ Unmendable → (us : List ℕ) → Within (s % 64) (e % 64) bits us → ⊥
+  pub none : r .answer ≡ Unmendable → (us : List ℕ) → Within (s % Isdb.states) (e % Isdb.states) bits us → ⊥

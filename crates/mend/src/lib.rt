@@ -17,6 +17,7 @@ use refusal::Answer;
 use trellis::FRAME_WORDS;
 use viterbi::clear;
 use viterbi::encode_bit;
+ghost use Rattle.trellis.specs.Isdb;
 
 // P13: "at most 4,096 steps", two bits each.
 const MOST_STEPS: usize = 4_096;
@@ -72,8 +73,8 @@ fn answer_lent(bits: &[u8], decisions: usize, out: usize, list: usize) -> Answer
 
 // The predecessor of the state s that the decision word w keeps.
 fn kept_predecessor(s: u8, w: u64) -> u8
-    requires { ⌜ s < 64 ⌝ }
-    ensures { λ r. ⌜ (r < 64) × (r ≡ 2 * (s % 32) + w / 2 ^ s % 2) ⌝ }
+    requires { ⌜ s < Isdb.states ⌝ }
+    ensures { λ r. ⌜ (r < Isdb.states) × (r ≡ 2 * (s % Isdb.half) + w / 2 ^ s % 2) ⌝ }
 {
     2 * (s % 32) + ((w >> s) % 2) as u8
 }
@@ -81,9 +82,9 @@ fn kept_predecessor(s: u8, w: u64) -> u8
 // Writes the coded stretch within four bits, traced back from `end` by the decision words, to the front of `out`. The words stay in `decisions`.
 fn write_stretch(bits: &[u8], start: u8, end: u8, decisions: &mut [u64], out: &mut [u8])
     requires { ⌜ Bits (now bits) × (length (now bits) % 2 ≡ 0) × (length (now bits) / 2 ≤ length (now decisions)) × (length (now bits) ≤ length (now out))
-        × (least (start % 64) (end % 64) (now bits) ≤ 4) ⌝ }
-    ensures words { λ _. ⌜ now (decisions .exit) ≡ laid (upto (wordAt (start % 64) (now (bits .entry))) (length (now (bits .entry)) / 2)) (now (decisions .entry)) ⌝ }
-    ensures writes { λ _. ⌜ Writes (start % 64) (end % 64) (now (bits .entry)) (now (out .entry)) (now (out .exit)) ⌝ }
+        × (least (start % Isdb.states) (end % Isdb.states) (now bits) ≤ 4) ⌝ }
+    ensures words { λ _. ⌜ now (decisions .exit) ≡ laid (upto (wordAt (start % Isdb.states) (now (bits .entry))) (length (now (bits .entry)) / 2)) (now (decisions .entry)) ⌝ }
+    ensures writes { λ _. ⌜ Writes (start % Isdb.states) (end % Isdb.states) (now (bits .entry)) (now (out .entry)) (now (out .exit)) ⌝ }
 {
     keep_words(bits, start, decisions);
     let mut s = end % 64;
@@ -122,7 +123,7 @@ fn mend_near(
     out: &mut [u8],
     list: &mut [u32],
 ) -> Mended
-    requires { ⌜ Allowed (now bits) (length (now decisions)) (length (now out)) (length (now list)) × (least (start % 64) (end % 64) (now bits) ≤ 4) ⌝ }
+    requires { ⌜ Allowed (now bits) (length (now decisions)) (length (now out)) (length (now list)) × (least (start % Isdb.states) (end % Isdb.states) (now bits) ≤ 4) ⌝ }
     ensures { λ r. ⌜ (r .answer ≡ Answer.Accepted) × Mends start end (now (bits .entry)) r (now (decisions .entry)) (now (decisions .exit)) (now (out .entry)) (now (out .exit)) (now (list .entry)) (now (list .exit)) ⌝ }
 {
     let n = bits.len();

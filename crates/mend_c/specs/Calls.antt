@@ -8,6 +8,7 @@ use Rattle.mend_distance.specs.Stretches.{Within}
 use Rattle.mend.specs.Rows.{mendRows}
 use Rattle.mend.specs.Calls.{Mends}
 use Rattle.answers_c.specs.Answers.{answered}
+use Rattle.trellis.specs.Isdb
 
 -- the number of the first row that holds; `far` is row 15's condition, which `Left` explains
 pub record Answers (bits : List ℕ) (decisions out list answer : ℕ) : Type 0 where
@@ -18,4 +19,4 @@ pub record Answers (bits : List ℕ) (decisions out list answer : ℕ) : Type 0 
 pub record Left (s e : ℕ) (bits : List ℕ) (answer count₀ count : ℕ) (decisions₀ decisions out₀ out list₀ list : List ℕ) : Type 0 where
   pub mends : answer ≡ 0 → Mends s e bits (record { answer = Accepted; count = count }) decisions₀ decisions out₀ out list₀ list
   pub keeps : (answer ≡ 0 → ⊥) → (count ≡ count₀) × (decisions ≡ decisions₀) × (out ≡ out₀) × (list ≡ list₀)
-  pub none : answer ≡ 15 → (us : List ℕ) → Within (s % 64) (e % 64) bits us → ⊥
+  pub none : answer ≡ 15 → (us : List ℕ) → Within (s % Isdb.states) (e % Isdb.states) bits us → ⊥

@@ -8,14 +8,16 @@ ghost use Rattle.trellis.specs.Lists.{bit, upto, laid};
 ghost use Rattle.trellis.specs.Stretch.{Bits};
 ghost use Rattle.mend_distance.specs.Distances.{through, nexts, word, begun, Capped, least, wordAt};
 use trellis::HALF;
+use trellis::STATES;
 use viterbi::encode_bit;
+ghost use Rattle.trellis.specs.Isdb;
 
 // One more than the most bits that are mended (document 02, P13: "at most four bits").
 const FAR: u8 = 5;
 
 // The number of states, which the type of the table fixes.
-fn states(d: &[u8; 64]) -> usize
-    ensures { λ r. ⌜ (r ≡ 64) × (length (now (d .entry)) ≡ 64) ⌝ }
+fn states(d: &[u8; STATES]) -> usize
+    ensures { λ r. ⌜ (r ≡ Isdb.states) × (length (now (d .entry)) ≡ Isdb.states) ⌝ }
 {
     let numbers: &[u8] = d;
     numbers.len()
@@ -35,8 +37,8 @@ fn beats(odd: u8, even: u8) -> u64
 }
 
 // The bits in which the way to the state k by its predecessor with the low bit b differs; the step's bits are x and y.
-fn way(d: &[u8; 64], k: usize, b: usize, x: u8, y: u8) -> u8
-    requires { ⌜ (k < 64) × (b < 2) × (x < 2) × (y < 2) × Capped (now d) ⌝ }
+fn way(d: &[u8; STATES], k: usize, b: usize, x: u8, y: u8) -> u8
+    requires { ⌜ (k < Isdb.states) × (b < 2) × (x < 2) × (y < 2) × Capped (now d) ⌝ }
     ensures { λ r. ⌜ r ≡ through (now (d .entry)) (2 * x + y) k b ⌝ }
 {
     let from = 2 * (k % HALF) + b;
@@ -45,7 +47,7 @@ fn way(d: &[u8; 64], k: usize, b: usize, x: u8, y: u8) -> u8
 }
 
 // A step of the table. The decision word.
-fn distance_step(d: &mut [u8; 64], x: u8, y: u8) -> u64
+fn distance_step(d: &mut [u8; STATES], x: u8, y: u8) -> u64
     requires { ⌜ (x < 2) × (y < 2) × Capped (now d) ⌝ }
     ensures { λ r. ⌜ (now (d .exit) ≡ nexts (now (d .entry)) (2 * x + y)) × (r ≡ word (now (d .entry)) (2 * x + y)) ⌝ }
 {
@@ -62,10 +64,10 @@ fn distance_step(d: &mut [u8; 64], x: u8, y: u8) -> u64
 }
 
 // Before the first step: 0 at the start state (mod 64), out of reach elsewhere.
-fn start_table(start: u8) -> [u8; 64]
-    ensures { λ r. ⌜ r ≡ begun (start % 64) ⌝ }
+fn start_table(start: u8) -> [u8; STATES]
+    ensures { λ r. ⌜ r ≡ begun (start % Isdb.states) ⌝ }
 {
-    let mut d = [FAR; 64];
+    let mut d = [FAR; STATES];
     let at = (start % 64) as usize;
     d[at] = 0;
     d
@@ -74,7 +76,7 @@ fn start_table(start: u8) -> [u8; 64]
 // The least number of bits in which a coded stretch from `start` to `end`, both mod 64, differs from `bits`, counted up to 5.
 pub fn least_distance(bits: &[u8], start: u8, end: u8) -> u8
     requires { ⌜ Bits (now bits) ⌝ }
-    ensures { λ r. ⌜ r ≡ least (start % 64) (end % 64) (now (bits .entry)) ⌝ }
+    ensures { λ r. ⌜ r ≡ least (start % Isdb.states) (end % Isdb.states) (now (bits .entry)) ⌝ }
 {
     let first = start_table(start);
     let mut d = first;
@@ -89,7 +91,7 @@ pub fn least_distance(bits: &[u8], start: u8, end: u8) -> u8
 // The decision words of the stretch, at the front of `decisions`.
 pub fn keep_words(bits: &[u8], start: u8, decisions: &mut [u64])
     requires { ⌜ Bits (now bits) × (length (now bits) / 2 ≤ length (now decisions)) ⌝ }
-    ensures { λ _. ⌜ now (decisions .exit) ≡ laid (upto (wordAt (start % 64) (now (bits .entry))) (length (now (bits .entry)) / 2)) (now (decisions .entry)) ⌝ }
+    ensures { λ _. ⌜ now (decisions .exit) ≡ laid (upto (wordAt (start % Isdb.states) (now (bits .entry))) (length (now (bits .entry)) / 2)) (now (decisions .entry)) ⌝ }
 {
     let first = start_table(start);
     let mut d = first;

@@ -1,16 +1,18 @@
 // The release of decoded bits: the held decision words are traced back, those left move down, and freed words become 0.
 use trellis::BLOCK;
 use trellis::HALF;
+use trellis::STATES;
 ghost use mathlib.Core.Path.{_≡_};
 ghost use Prim.Native.Nat.{_+_, _<_, _≤_};
 ghost use lib.ListN.{length, take, drop, replicate};
 ghost use Rattle.trellis.specs.Lists.{laid};
 ghost use Rattle.trellis.specs.Isdb.{bestState, traced};
 ghost use Rattle.trellis.specs.Run.{block, tracebackLimit};
+ghost use Rattle.trellis.specs.Isdb;
 
 // Traces the first n decision words back from `state`, and writes the oldest `count` of the n bits to the front of `out`.
 pub fn trace(decisions: &[u64], n: usize, state: usize, count: usize, out: &mut [u8])
-    requires { ⌜ (state < 64) × (n ≤ length (now decisions)) × (count ≤ n) × (count ≤ length (now out)) ⌝ }
+    requires { ⌜ (state < Isdb.states) × (n ≤ length (now decisions)) × (count ≤ n) × (count ≤ length (now out)) ⌝ }
     ensures { λ _. ⌜ now (out .exit) ≡ laid (take count (traced (take n (now (decisions .entry))) state)) (now (out .entry)) ⌝ }
 {
     let mut s = state;
@@ -45,7 +47,7 @@ pub fn clear(decisions: &mut [u64], n: usize)
 }
 
 // The release of 4,096 bits to the front of `out`, as BLOCK + traceback words are held: those left move down, and freed words become 0.
-pub fn release(pm: &[f32; 64], traceback: usize, decisions: &mut [u64], out: &mut [u8])
+pub fn release(pm: &[f32; STATES], traceback: usize, decisions: &mut [u64], out: &mut [u8])
     requires { ⌜ (traceback ≤ tracebackLimit) × (block + traceback ≤ length (now decisions)) × (block ≤ length (now out)) ⌝ }
     ensures { λ _. ⌜ (now (out .exit) ≡ laid (take block (traced (take (block + traceback) (now (decisions .entry))) (bestState (now (pm .entry))))) (now (out .entry)))
         × (now (decisions .exit) ≡ laid (drop block (take (block + traceback) (now (decisions .entry)))) (laid (replicate (block + traceback) 0) (now (decisions .entry)))) ⌝ }

@@ -16,8 +16,9 @@ use Rattle.viterbi.specs.HoldingLaws.{holds-closed, holds-flushed}
 use Rattle.short_code.specs.declared.Code.{Code}
 use Rattle.short_code.specs.Codes.{labels, halfOf, statesOf, Fits}
 use Rattle.short_code.specs.CodeLaws.{states-are}
-use Rattle.short_best.specs.declared.Start.{Start}
-use Rattle.short_best.specs.Readings.{startValues, read, Finished}
+use Rattle.best_path.specs.declared.Start.{Start}
+use Rattle.best_path.specs.Fresh.{startValues}
+use Rattle.short_best.specs.Readings.{read, Finished}
 
 -- a fresh decoder with the path values pm
 abbrev pub begun : List Float → Decoder

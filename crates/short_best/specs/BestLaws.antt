@@ -18,12 +18,12 @@ use Rattle.refusal.specs.declared.Answer.the-variants as answer
 use Rattle.trellis.specs.Isdb.{rule, frameTraceback}
 use Rattle.trellis.specs.Lists.{laid}
 use Rattle.trellis.specs.Step.{four}
-use Rattle.trellis.specs.Run.{block, startAt, startUnknown, quadruple}
+use Rattle.trellis.specs.Run.{block, quadruple}
 use Rattle.trellis.specs.LaidLaws.{take-laid}
-use Rattle.best_path.specs.Paths.{longest, bound, Integer, Quadruples, Reading, This, Any}
+use Rattle.best_path.specs.Paths.{longest, bound, Integer, Quadruples, Reading}
 use Rattle.best_path.specs.Exact.{Whole, le-from}
 use Rattle.best_path.specs.Calls as best-path
-use Rattle.best_path.specs.Calls.{code-given, code-unknown}
+use Rattle.best_path.specs.Calls.{code-start}
 use Rattle.best_path.specs.Integers.{integer-whole, hi-most, lo-most}
 use Rattle.isdb_fec.specs.Values.{within, someBeyond, streamLimit}
 use Rattle.call_ranges.specs.Inside.{none-beyond}
@@ -31,9 +31,9 @@ use Rattle.short_code.specs.declared.Code.{Code}
 use Rattle.short_code.specs.Codes.{codeOf, labels, halfOf, statesOf, goodCode}
 use Rattle.short_code.specs.CodeLaws.{states-are, good-length}
 use Rattle.short_best.specs.declared.Done.{Done}
-use Rattle.short_best.specs.declared.Start.{Start}
-use Rattle.short_best.specs.declared.Start.the-variants.{Given, Unknown}
-use Rattle.short_best.specs.Readings.{startValues, StartsIn, readBits, readingRows, Finished, Refused, GreatestSum}
+use Rattle.best_path.specs.declared.Start.{Start}
+use Rattle.best_path.specs.Fresh.{startValues, StartsIn}
+use Rattle.short_best.specs.Readings.{readBits, readingRows, Finished, Refused, GreatestSum}
 
 -- ---- a whole number within the bound is a stream value
 stream-limit : Whole streamLimit 1048576 0
@@ -76,11 +76,11 @@ module _ (c : Code) (xs : List Float) (n : ℕ) (m : ℕ → ℕ → ℤ) (good 
   abbrev bitsFrom : List Float → List ℕ
   bitsFrom pm = best-path.readBits (halfOf c) (labels c) rule frameTraceback (λ k. four (quadruple xs k)) pm n
 
-  bits-are : (start : Start) → Reading (halfOf c) (labels c) rule (StartsIn c start) m n (bitsFrom (startValues (statesOf c) start))
-  bits-are (Given s) = subst (λ (k : ℕ). Reading (halfOf c) (labels c) rule (This (s % k)) m n (bitsFrom (startAt k s))) states (code-given (codeOf c) rule frameTraceback (lit< tt) (quadruple xs) m n few quads s)
-  bits-are Unknown = subst (λ (k : ℕ). Reading (halfOf c) (labels c) rule Any m n (bitsFrom (startUnknown k))) states (code-unknown (codeOf c) rule frameTraceback (lit< tt) (quadruple xs) m n few quads)
+  bits-are : (start : Start) → Reading (halfOf c) (labels c) rule (StartsIn (statesOf c) start) m n (bitsFrom (startValues (statesOf c) start))
+  bits-are start =
+      subst (λ (k : ℕ). Reading (halfOf c) (labels c) rule (StartsIn k start) m n (bitsFrom (startValues k start))) states (code-start (codeOf c) rule frameTraceback (lit< tt) (quadruple xs) m n few quads start)
 
-  pub reads : (start : Start) → Reading (halfOf c) (labels c) rule (StartsIn c start) m n (readBits c start xs)
+  pub reads : (start : Start) → Reading (halfOf c) (labels c) rule (StartsIn (statesOf c) start) m n (readBits c start xs)
   reads start = let e : length xs / 4 ≡ n = omega arith in rw e (bits-are start)
 
 -- what a call promises whose answer and leavings are those of a reading
@@ -94,4 +94,4 @@ greatest-sum c start xs r dec₀ dec out₀ out a l n m good count few quads hd 
     let b = reads c xs n m good count few quads start in
     let k : length (readBits c start xs) ≡ n = b .best .path .count in
     let t : take n out ≡ readBits c start xs = ap (λ (x : List ℕ). take n x) (g .bits) ∙ ap (λ (j : ℕ). take j (laid (readBits c start xs) out₀)) (sym k) ∙ take-laid (readBits c start xs) out₀ in
-    (e, g .count-is ∙ omega arith, subst (λ (x : List ℕ). Reading (halfOf c) (labels c) rule (StartsIn c start) m n x) (sym t) b)
+    (e, g .count-is ∙ omega arith, subst (λ (x : List ℕ). Reading (halfOf c) (labels c) rule (StartsIn (statesOf c) start) m n x) (sym t) b)

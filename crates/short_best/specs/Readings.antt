@@ -12,24 +12,15 @@ use Rattle.refusal.specs.Rows.{Row}
 use Rattle.refusal.specs.declared.Answer.the-variants as answer
 use Rattle.trellis.specs.Isdb.{rule, frameTraceback}
 use Rattle.trellis.specs.Lists.{laid}
-use Rattle.trellis.specs.Run.{Decoder, block, startAt, startUnknown, decisionsAfter, flushed, fourSteps, quadruple}
+use Rattle.trellis.specs.Run.{Decoder, block, decisionsAfter, flushed, fourSteps, quadruple}
 use Rattle.best_path.specs.Paths.{longest, Quadruples, Reading}
 use Rattle.isdb_fec.specs.Rows as reading
 use Rattle.short_code.specs.declared.Code.{Code}
 use Rattle.short_code.specs.Codes.{labels, halfOf, statesOf, goodCode}
 use Rattle.short_fec.specs.Calls.{call}
 use Rattle.short_best.specs.declared.Done.{Done}
-use Rattle.short_best.specs.declared.Start.{Start}
-use Rattle.short_best.specs.declared.Start.the-variants.{Given, Unknown}
-
--- the path values of n states in a fresh decoder, and the states in which a path may start: "decoder start .. states are taken mod 2^(length-1)"
-abbrev pub startValues : ℕ → Start → List Float
-startValues n (Given s) = startAt n s
-startValues n Unknown = startUnknown n
-
-abbrev pub StartsIn : Code → Start → ℕ → Type 0
-StartsIn c (Given s) z = z ≡ s % statesOf c
-StartsIn c Unknown z = Unit {0}
+use Rattle.best_path.specs.declared.Start.{Start}
+use Rattle.best_path.specs.Fresh.{startValues, StartsIn}
 
 -- the decoder with its held words and its bits once the metrics xs have been pushed; all its bits
 abbrev pub read : Code → Start → List Float → Decoder
@@ -59,4 +50,4 @@ pub record Refused (count : ℕ) (decisions₀ decisions out₀ out : List ℕ) 
 abbrev pub GreatestSum : Code → Start → List Float → Done → ℕ → ℕ → List ℕ → Type 0
 GreatestSum c start xs r decisions space out =
     (n : ℕ) (m : ℕ → ℕ → ℤ) → goodCode c ≡ true → length xs ≡ 4 * n → n ≤ longest → Quadruples (quadruple xs) m n → block + frameTraceback ≤ decisions → n ≤ space
-    → (r .answer ≡ answer.Accepted) × (r .count ≡ n) × Reading (halfOf c) (labels c) rule (StartsIn c start) m n (take n out)
+    → (r .answer ≡ answer.Accepted) × (r .count ≡ n) × Reading (halfOf c) (labels c) rule (StartsIn (statesOf c) start) m n (take n out)

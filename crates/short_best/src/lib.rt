@@ -8,8 +8,10 @@ ghost use lib.ListN.{length};
 ghost use Rattle.refusal.specs.Rows.{firstRow, Either};
 ghost use Rattle.trellis.specs.Run.{startUnknown};
 ghost use Rattle.short_code.specs.Codes.{goodCode, Fits};
-ghost use Rattle.short_best.specs.Readings.{startValues, readingRows, Finished, Refused, GreatestSum};
+ghost use Rattle.best_path.specs.Fresh.{startValues};
+ghost use Rattle.short_best.specs.Readings.{readingRows, Finished, Refused, GreatestSum};
 ghost use Rattle.trellis.specs.Isdb.{frameWords};
+pub use best_path::Start;
 use isdb_fec::conv::STREAM_LIMIT;
 use isdb_fec::conv::some_beyond;
 use refusal::Answer;
@@ -23,13 +25,9 @@ use short_viterbi::finish_at;
 use short_viterbi::soft_steps;
 use trellis::FRAME_TRACEBACK;
 use trellis::FRAME_WORDS;
+use trellis::STATES;
 use viterbi::At;
-
-pub enum Start {
-    // A state, mod 2^(length-1).
-    Given(u8),
-    Unknown,
-}
+ghost use Rattle.trellis.specs.Isdb;
 
 // The answer, and how many bits stand at the front of the output.
 pub struct Done {
@@ -104,7 +102,7 @@ fn run(
     decisions: &mut [u64],
     out: &mut [u8],
 ) -> usize
-    requires { ⌜ (1 ≤ h) × (h ≤ 32) × Fits code h × (length (now pm) ≡ 2 * h) × (frameWords ≤ length (now decisions)) × (length (now metrics) / 4 ≤ length (now out)) ⌝ }
+    requires { ⌜ (1 ≤ h) × (h ≤ Isdb.half) × Fits code h × (length (now pm) ≡ 2 * h) × (frameWords ≤ length (now decisions)) × (length (now metrics) / 4 ≤ length (now out)) ⌝ }
     ensures { λ r. ⌜ Finished code start (now (metrics .entry)) r (now (decisions .entry)) (now (decisions .exit)) (now (out .entry)) (now (out .exit)) ⌝ }
 {
     begin(pm, start);
@@ -147,7 +145,7 @@ pub fn greatest_sum_reading(
     };
     let h = half(code);
     let n = 2 * h;
-    let mut pm = [0.0f32; 64];
+    let mut pm = [0.0f32; STATES];
     let count = run(&mut pm[0..n], code, h, start, metrics, decisions, out);
     Done {
         answer: Answer::Accepted,

@@ -46,9 +46,10 @@ use Rattle.short_code.specs.Codes.{codeOf, labels, halfOf, statesOf, goodCode}
 use Rattle.short_code.specs.CodeLaws.{states-are, good-length}
 use Rattle.short_fec.specs.Rows as short
 use Rattle.short_fec.specs.Calls.{call, handed, bestOf, Leaves, Flushes}
-use Rattle.short_best.specs.declared.Start.{Start}
-use Rattle.short_best.specs.declared.Start.the-variants.{Given, Unknown}
-use Rattle.short_best.specs.Readings.{startValues, StartsIn, read, readBits, readingRows}
+use Rattle.best_path.specs.declared.Start.{Start}
+use Rattle.best_path.specs.declared.Start.the-variants.{Given, Unknown}
+use Rattle.best_path.specs.Fresh.{startValues, StartsIn}
+use Rattle.short_best.specs.Readings.{read, readBits, readingRows}
 use Rattle.short_same.specs.SameLaws.{after-length}
 use Rattle.short_best.specs.BestLaws.{accepts, reads}
 
@@ -231,10 +232,10 @@ module _ (c : Code) (start : Start) (xs : List Float) (n : ℕ) (m : ℕ → ℕ
         ∙ ap (λ (b : List ℕ). b ++ traced half (d .words) (best rule (d .values) (2 * half - 1))) (sym none-out)
 
     -- all bits come with the flush: they are the inputs of the first path of greatest sum
-    pub three-calls : (p .answer ≡ answer.Accepted) × (p .count ≡ 0) × (r .answer ≡ answer.Accepted) × (r .count ≡ n) × Reading half (labels c) rule (StartsIn c start) m n (take n out₂)
+    pub three-calls : (p .answer ≡ answer.Accepted) × (p .count ≡ 0) × (r .answer ≡ answer.Accepted) × (r .count ≡ n) × Reading half (labels c) rule (StartsIn (statesOf c) start) m n (take n out₂)
     three-calls =
         let b = reads c xs n m good count few quads start in
         let k : length (readBits c start xs) ≡ n = b .best .path .count in
         let o : out₂ ≡ laid (readBits c start xs) out₁ = done .bits ∙ ap (λ (l : List ℕ). laid l out₁) traced-is in
         let t : take n out₂ ≡ readBits c start xs = ap (λ (x : List ℕ). take n x) o ∙ ap (λ (j : ℕ). take j (laid (readBits c start xs) out₁)) (sym k) ∙ take-laid (readBits c start xs) out₁ in
-        (pushed, left .count-is ∙ sizes .1, flush-accepts, done .count-is ∙ left .held-is ∙ sizes .0, subst (λ (x : List ℕ). Reading half (labels c) rule (StartsIn c start) m n x) (sym t) b)
+        (pushed, left .count-is ∙ sizes .1, flush-accepts, done .count-is ∙ left .held-is ∙ sizes .0, subst (λ (x : List ℕ). Reading half (labels c) rule (StartsIn (statesOf c) start) m n x) (sym t) b)

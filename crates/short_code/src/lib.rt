@@ -7,6 +7,7 @@ ghost use Rattle.trellis.specs.Code.{output, moved};
 ghost use Rattle.short_code.specs.Codes.{codeOf, labels, goodCode, Fits};
 use viterbi::Coded;
 use viterbi::parity;
+ghost use Rattle.trellis.specs.Isdb;
 
 // The constraint length, and the generators of the outputs X and Y.
 pub struct Code {
@@ -18,14 +19,14 @@ pub struct Code {
 // Half of the states.
 pub fn half(code: Code) -> usize
     requires { ⌜ (3 ≤ code .constraint) × (code .constraint ≤ 7) ⌝ }
-    ensures { λ r. ⌜ (1 ≤ r) × (r ≤ 32) × Fits code r ⌝ }
+    ensures { λ r. ⌜ (1 ≤ r) × (r ≤ Isdb.half) × Fits code r ⌝ }
 {
     1usize << (code.constraint - 2)
 }
 
 // Whether a generator is below 2n and has the bit n, the top one.
 fn has_top(n: usize, g: u8) -> bool
-    requires { ⌜ n ≤ 64 ⌝ }
+    requires { ⌜ n ≤ Isdb.states ⌝ }
     ensures { λ r. ⌜ r ≡ (leb n g && ltb g (2 * n)) ⌝ }
 {
     let g = g as usize;
@@ -52,7 +53,7 @@ pub fn good(code: Code) -> bool
 
 // 2X + Y of the branch from the state s on the input u.
 pub fn label(code: Code, h: usize, u: usize, s: usize) -> u8
-    requires { ⌜ (1 ≤ h) × (h ≤ 32) × Fits code h × (u < 2) × (s < 2 * h) ⌝ }
+    requires { ⌜ (1 ≤ h) × (h ≤ Isdb.half) × Fits code h × (u < 2) × (s < 2 * h) ⌝ }
     ensures { λ r. ⌜ (r < 4) × (r ≡ labels code u s) ⌝ }
 {
     let register = (2 * h * u + s) as u8;
@@ -61,7 +62,7 @@ pub fn label(code: Code, h: usize, u: usize, s: usize) -> u8
 
 // One input of the encoder; only its low bit counts.
 pub fn encode_bit(code: Code, h: usize, state: u8, u: u8) -> Coded
-    requires { ⌜ (1 ≤ h) × (h ≤ 32) × Fits code h × (state < 2 * h) ⌝ }
+    requires { ⌜ (1 ≤ h) × (h ≤ Isdb.half) × Fits code h × (state < 2 * h) ⌝ }
     ensures { λ r. ⌜ (r .x ≡ output (codeOf code) (code .g1) (u % 2) state) × (r .y ≡ output (codeOf code) (code .g2) (u % 2) state) × (r .state ≡ moved h (u % 2) state) × (r .state < 2 * h) ⌝ }
 {
     let b = (u % 2) as usize;

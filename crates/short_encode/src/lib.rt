@@ -15,6 +15,7 @@ pub use short_code::Code;
 use short_code::encode_bit;
 use short_code::good;
 use short_code::half;
+ghost use Rattle.trellis.specs.Isdb;
 
 // The answer, and the encoder after the call.
 pub struct Encoded {
@@ -54,7 +55,7 @@ fn answer_encode(code: Code, state: u8, n: usize, space: usize) -> Answer
 
 // X and Y of each input at the front of `out`. The state after the last.
 fn encode_all(code: Code, h: usize, state: u8, bits: &[u8], out: &mut [u8]) -> u8
-    requires { ⌜ (1 ≤ h) × (h ≤ 32) × Fits code h × (state < 2 * h) × (2 * length (now bits) ≤ length (now out)) ⌝ }
+    requires { ⌜ (1 ≤ h) × (h ≤ Isdb.half) × Fits code h × (state < 2 * h) × (2 * length (now bits) ≤ length (now out)) ⌝ }
     ensures { λ r. ⌜ (r ≡ lastState (codeOf code) state (now (bits .entry))) × (now (out .exit) ≡ laid (codedBits (codeOf code) state (now (bits .entry))) (now (out .entry))) ⌝ }
 {
     let mut s = state;

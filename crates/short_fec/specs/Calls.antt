@@ -13,10 +13,11 @@ use Rattle.isdb_fec.specs.declared.conv.Released.{Released}
 use Rattle.isdb_fec.specs.Calls as isdb
 use Rattle.short_code.specs.declared.Code.{Code}
 use Rattle.short_code.specs.Codes.{labels, halfOf, statesOf}
+use Rattle.trellis.specs.Isdb
 
 -- ---- the decoder
 abbrev zeros : List Float
-zeros = replicate 64 (ofBits binary32 0)
+zeros = replicate Isdb.states (ofBits binary32 0)
 
 -- a fresh state: "decoder start .. states are taken mod 2^(length-1)"
 abbrev pub startValues : Code → ℕ → List Float

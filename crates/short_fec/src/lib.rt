@@ -39,7 +39,9 @@ use short_step::start_at;
 use short_viterbi::finish_at;
 use short_viterbi::known_steps;
 use short_viterbi::soft_steps;
+use trellis::STATES;
 use viterbi::At;
+ghost use Rattle.trellis.specs.Isdb;
 
 // Encodes one bit.
 pub fn push_bit(code: Code, enc: ConvEncoder, u: u8) -> Pushed
@@ -66,7 +68,7 @@ pub fn push_bit(code: Code, enc: ConvEncoder, u: u8) -> Pushed
 }
 
 // A fresh decoder with the path values pm; a refused one is all zero.
-fn fresh(code: Code, traceback: usize, pm: [f32; 64]) -> Made
+fn fresh(code: Code, traceback: usize, pm: [f32; STATES]) -> Made
     ensures answers { λ r. ⌜ r .answer ≡ firstRow (freshRows code traceback) ⌝ }
     ensures made { λ r. ⌜ Either (r .answer) (Fresh traceback pm (r .dec)) (Zero (r .dec)) ⌝ }
 {
@@ -74,7 +76,7 @@ fn fresh(code: Code, traceback: usize, pm: [f32; 64]) -> Made
         return Made {
             answer: Answer::Traceback,
             dec: ViterbiDecoder {
-                pm: [0.0f32; 64],
+                pm: [0.0f32; STATES],
                 held: 0,
                 traceback: 0,
             },
@@ -84,7 +86,7 @@ fn fresh(code: Code, traceback: usize, pm: [f32; 64]) -> Made
         return Made {
             answer: Answer::Code,
             dec: ViterbiDecoder {
-                pm: [0.0f32; 64],
+                pm: [0.0f32; STATES],
                 held: 0,
                 traceback: 0,
             },
@@ -102,10 +104,10 @@ fn fresh(code: Code, traceback: usize, pm: [f32; 64]) -> Made
 }
 
 // The path values of a known start; all 0 for a code that is refused.
-fn start(code: Code, state: u8) -> [f32; 64]
+fn start(code: Code, state: u8) -> [f32; STATES]
     ensures { λ r. ⌜ (goodCode code ≡ true → r ≡ startValues code state) ⌝ }
 {
-    let mut pm = [0.0f32; 64];
+    let mut pm = [0.0f32; STATES];
     if good(code) {
         let n = 2 * half(code);
         start_at(&mut pm[0..n], state);
@@ -126,7 +128,7 @@ pub fn new_unknown_state(code: Code, traceback: usize) -> Made
     ensures answers { λ r. ⌜ r .answer ≡ firstRow (freshRows code traceback) ⌝ }
     ensures made { λ r. ⌜ Either (r .answer) (Fresh traceback (unknownValues code) (r .dec)) (Zero (r .dec)) ⌝ }
 {
-    fresh(code, traceback, [0.0f32; 64])
+    fresh(code, traceback, [0.0f32; STATES])
 }
 
 // All steps of a call of soft values or metrics, and the subtraction at its end.
@@ -142,7 +144,7 @@ fn soft_run(
     decisions: &mut [u64],
     out: &mut [u8],
 ) -> At
-    requires { ⌜ (1 ≤ h) × (h ≤ 32) × Fits code h × (length (now pm) ≡ 2 * h) × ((per ≡ 2) ⊎ (per ≡ 4)) × (per * n ≤ length (now values))
+    requires { ⌜ (1 ≤ h) × (h ≤ Isdb.half) × Fits code h × (length (now pm) ≡ 2 * h) × ((per ≡ 2) ⊎ (per ≡ 4)) × (per * n ≤ length (now values))
         × (1 ≤ traceback) × (traceback ≤ tracebackLimit) × (at .held < block + traceback) × (at .count ≡ 0) × (block + traceback ≤ length (now decisions))
         × (block * releases traceback (at .held) n ≤ length (now out)) ⌝ }
     ensures { λ r. ⌜ Holds traceback (now (decisions .entry)) (now (out .entry)) (pushed h (labels code) rule traceback (softSteps per (now (values .entry))) (holding (now (pm .entry)) (at .held) (now (decisions .entry))) n)

@@ -18,7 +18,9 @@ use short_code::Code;
 use short_code::good;
 use short_code::half;
 use trellis::BLOCK;
+use trellis::STATES;
 use viterbi::few_places;
+ghost use Rattle.trellis.specs.Isdb;
 
 // Row 12.
 pub fn bad(code: Code) -> bool
@@ -41,8 +43,8 @@ pub fn answer_encoder(code: Code, state: u8) -> Answer
 }
 
 // The places of an array of path values.
-pub fn places(pm: &[f32; 64]) -> usize
-    ensures { λ r. ⌜ (r ≡ 64) × (length (now (pm .entry)) ≡ 64) ⌝ }
+pub fn places(pm: &[f32; STATES]) -> usize
+    ensures { λ r. ⌜ (r ≡ Isdb.states) × (length (now (pm .entry)) ≡ Isdb.states) ⌝ }
 {
     let values: &[f32] = pm;
     values.len()

@@ -8,7 +8,7 @@ ghost use lib.Ieee.{neg, nan, binary32, ofBits};
 ghost use Rattle.trellis.specs.Lists.{bit, upto};
 ghost use Rattle.trellis.specs.Step as trellis;
 ghost use Rattle.trellis.specs.Step.{takes, cand, next, nexts, word, top, renormalised, ruled};
-ghost use Rattle.trellis.specs.Run.{settled, startAt};
+ghost use Rattle.trellis.specs.Run.{settled, interval, startAt};
 ghost use Rattle.trellis.specs.Isdb.{rule};
 ghost use Rattle.trellis.specs.WrittenLaws.{Written};
 ghost use Rattle.viterbi.specs.Calls.{stepOf};
@@ -18,7 +18,10 @@ use path_choice::greater;
 use path_choice::larger;
 use short_code::Code;
 use short_code::label;
+use trellis::INTERVAL;
+use trellis::STATES;
 use viterbi::Step;
+ghost use Rattle.trellis.specs.Isdb;
 
 // The term of a soft value x for a coded bit.
 fn term(b: u8, x: f32) -> f32
@@ -44,7 +47,7 @@ fn branch(x: Step, v: f32, l: u8) -> f32
 
 // The path into the state k from its predecessor with the low bit b.
 fn path(pm: &[f32], code: Code, h: usize, k: usize, b: usize, x: Step) -> f32
-    requires { ⌜ (1 ≤ h) × (h ≤ 32) × Fits code h × (length (now pm) ≡ 2 * h) × (k < 2 * h) × (b < 2) ⌝ }
+    requires { ⌜ (1 ≤ h) × (h ≤ Isdb.half) × Fits code h × (length (now pm) ≡ 2 * h) × (k < 2 * h) × (b < 2) ⌝ }
     ensures { λ r. ⌜ r ≡ cand h (labels code) (now (pm .entry)) (stepOf x) k b ⌝ }
 {
     let s = 2 * (k % h) + b;
@@ -58,16 +61,16 @@ fn beats(odd: f32, even: f32) -> u64
     path_choice::beats(odd, even) as u64
 }
 
-fn places(pm: &[f32; 64]) -> usize
-    ensures { λ r. ⌜ (r ≡ 64) × (length (now (pm .entry)) ≡ 64) ⌝ }
+fn places(pm: &[f32; STATES]) -> usize
+    ensures { λ r. ⌜ (r ≡ Isdb.states) × (length (now (pm .entry)) ≡ Isdb.states) ⌝ }
 {
     let values: &[f32] = pm;
     values.len()
 }
 
 // The new path values of a step, at the front of `new`. The decision word.
-fn select(pm: &[f32], new: &mut [f32; 64], code: Code, h: usize, x: Step) -> u64
-    requires { ⌜ (1 ≤ h) × (h ≤ 32) × Fits code h × (length (now pm) ≡ 2 * h) ⌝ }
+fn select(pm: &[f32], new: &mut [f32; STATES], code: Code, h: usize, x: Step) -> u64
+    requires { ⌜ (1 ≤ h) × (h ≤ Isdb.half) × Fits code h × (length (now pm) ≡ 2 * h) ⌝ }
     ensures { λ r. ⌜ Written nan (next h (labels code) rule (now (pm .entry)) (stepOf x)) (2 * h) (now (new .exit)) × (r ≡ word h (labels code) rule (now (pm .entry)) (stepOf x)) ⌝ }
 {
     let all = places(new);
@@ -82,8 +85,8 @@ fn select(pm: &[f32], new: &mut [f32; 64], code: Code, h: usize, x: Step) -> u64
 }
 
 // Copies as many values as there are in `pm`.
-fn copy(new: &[f32; 64], pm: &mut [f32])
-    requires { ⌜ length (now pm) ≤ 64 ⌝ }
+fn copy(new: &[f32; STATES], pm: &mut [f32])
+    requires { ⌜ length (now pm) ≤ Isdb.states ⌝ }
     ensures { λ _. ⌜ now (pm .exit) ≡ upto (λ i. getD (now (new .entry)) i nan) (length (now (pm .entry))) ⌝ }
 {
     for i in 0..pm.len() {
@@ -93,10 +96,10 @@ fn copy(new: &[f32; 64], pm: &mut [f32])
 
 // Adds, compares and selects. The decision word.
 fn add_compare_select(pm: &mut [f32], code: Code, h: usize, x: Step) -> u64
-    requires { ⌜ (1 ≤ h) × (h ≤ 32) × Fits code h × (length (now pm) ≡ 2 * h) ⌝ }
+    requires { ⌜ (1 ≤ h) × (h ≤ Isdb.half) × Fits code h × (length (now pm) ≡ 2 * h) ⌝ }
     ensures { λ r. ⌜ (now (pm .exit) ≡ nexts h (labels code) rule (now (pm .entry)) (stepOf x)) × (r ≡ word h (labels code) rule (now (pm .entry)) (stepOf x)) ⌝ }
 {
-    let mut new = [0.0f32; 64];
+    let mut new = [0.0f32; STATES];
     let w = select(pm, &mut new, code, h, x);
     copy(&new, pm);
     w
@@ -137,12 +140,15 @@ fn rule_out(pm: &mut [f32], h: usize, b: u8)
     }
 }
 
+// The last step before the maximum is subtracted.
+const LAST_STEP: usize = INTERVAL - 1;
+
 // The subtraction after each 64th step.
 fn sixty_fourth(pm: &mut [f32], h: usize, i: usize)
     requires { ⌜ length (now pm) ≡ 2 * h ⌝ }
-    ensures { λ _. ⌜ now (pm .exit) ≡ cond (eqb (i % 64) 63) (renormalised h (now (pm .entry))) (now (pm .entry)) ⌝ }
+    ensures { λ _. ⌜ now (pm .exit) ≡ cond (eqb (i % interval) (interval - 1)) (renormalised h (now (pm .entry))) (now (pm .entry)) ⌝ }
 {
-    if i % 64 == 63 {
+    if i % INTERVAL == LAST_STEP {
         renormalise(pm, h);
     }
 }
@@ -164,7 +170,7 @@ fn settle(pm: &mut [f32], h: usize, i: usize, x: Step)
 
 // Step i of a call. The decision word.
 pub fn trellis_step(pm: &mut [f32], code: Code, h: usize, i: usize, x: Step) -> u64
-    requires { ⌜ (1 ≤ h) × (h ≤ 32) × Fits code h × (length (now pm) ≡ 2 * h) ⌝ }
+    requires { ⌜ (1 ≤ h) × (h ≤ Isdb.half) × Fits code h × (length (now pm) ≡ 2 * h) ⌝ }
     ensures { λ r. ⌜ (now (pm .exit) ≡ settled h (labels code) rule i (stepOf x) (nexts h (labels code) rule (now (pm .entry)) (stepOf x))) × (r ≡ word h (labels code) rule (now (pm .entry)) (stepOf x)) ⌝ }
 {
     let w = add_compare_select(pm, code, h, x);

@@ -20,10 +20,11 @@ use viterbi::At;
 use viterbi::Step;
 use viterbi::clear;
 use viterbi::move_down;
+ghost use Rattle.trellis.specs.Isdb;
 
 // Traces the first n decision words back from `state`, and writes the oldest `count` of the n bits to the front of `out`.
 fn trace(decisions: &[u64], h: usize, n: usize, state: usize, count: usize, out: &mut [u8])
-    requires { ⌜ (1 ≤ h) × (h ≤ 32) × (state < 2 * h) × (n ≤ length (now decisions)) × (count ≤ n) × (count ≤ length (now out)) ⌝ }
+    requires { ⌜ (1 ≤ h) × (h ≤ Isdb.half) × (state < 2 * h) × (n ≤ length (now decisions)) × (count ≤ n) × (count ≤ length (now out)) ⌝ }
     ensures { λ _. ⌜ now (out .exit) ≡ laid (take count (traced h (take n (now (decisions .entry))) state)) (now (out .entry)) ⌝ }
 {
     let mut s = state;
@@ -39,7 +40,7 @@ fn trace(decisions: &[u64], h: usize, n: usize, state: usize, count: usize, out:
 
 // The release of 4,096 bits to the front of `out`, as BLOCK + traceback words are held: those left move down, and freed words become 0.
 fn release(pm: &[f32], h: usize, traceback: usize, decisions: &mut [u64], out: &mut [u8])
-    requires { ⌜ (1 ≤ h) × (h ≤ 32) × (length (now pm) ≡ 2 * h) × (traceback ≤ tracebackLimit) × (block + traceback ≤ length (now decisions)) × (block ≤ length (now out)) ⌝ }
+    requires { ⌜ (1 ≤ h) × (h ≤ Isdb.half) × (length (now pm) ≡ 2 * h) × (traceback ≤ tracebackLimit) × (block + traceback ≤ length (now decisions)) × (block ≤ length (now out)) ⌝ }
     ensures { λ _. ⌜ (now (out .exit) ≡ laid (take block (traced h (take (block + traceback) (now (decisions .entry))) (best rule (now (pm .entry)) (2 * h - 1)))) (now (out .entry)))
         × (now (decisions .exit) ≡ laid (drop block (take (block + traceback) (now (decisions .entry)))) (laid (replicate (block + traceback) 0) (now (decisions .entry)))) ⌝ }
 {
@@ -61,7 +62,7 @@ pub fn advance(
     decisions: &mut [u64],
     out: &mut [u8],
 ) -> At
-    requires { ⌜ (1 ≤ h) × (h ≤ 32) × Fits code h × (length (now pm) ≡ 2 * h) × (1 ≤ traceback) × (traceback ≤ tracebackLimit) × (at .held < block + traceback) × (block + traceback ≤ length (now decisions)) × (at .count ≤ length (now out)) × Room traceback (at .held) (at .count) (length (now out)) ⌝ }
+    requires { ⌜ (1 ≤ h) × (h ≤ Isdb.half) × Fits code h × (length (now pm) ≡ 2 * h) × (1 ≤ traceback) × (traceback ≤ tracebackLimit) × (at .held < block + traceback) × (block + traceback ≤ length (now decisions)) × (at .count ≤ length (now out)) × Room traceback (at .held) (at .count) (length (now out)) ⌝ }
     ensures { λ r. ⌜ Stepped traceback (stepped h (labels code) rule traceback i (stepOf x) (holding (now (pm .entry)) (at .held) (now (decisions .entry)))) (at .count) r (now (pm .exit)) (now (decisions .entry)) (now (decisions .exit)) (now (out .entry)) (now (out .exit)) ⌝ }
 {
     let held = at.held;
@@ -84,7 +85,7 @@ pub fn advance(
 // The end of a call: puts out the bits of all held words, traced back from `state`, after the first `count` places of `out`, and zeroes the words. The
 // new count.
 pub fn finish_at(state: usize, h: usize, at: At, decisions: &mut [u64], out: &mut [u8]) -> usize
-    requires { ⌜ (1 ≤ h) × (h ≤ 32) × (state < 2 * h) × (at .held ≤ length (now decisions)) × (at .count + at .held ≤ length (now out)) ⌝ }
+    requires { ⌜ (1 ≤ h) × (h ≤ Isdb.half) × (state < 2 * h) × (at .held ≤ length (now decisions)) × (at .count + at .held ≤ length (now out)) ⌝ }
     ensures { λ r. ⌜ (r ≡ at .count + at .held)
         × (now (decisions .exit) ≡ laid (replicate (at .held) 0) (now (decisions .entry)))
         × (now (out .exit) ≡ take (at .count) (now (out .entry)) ++ laid (traced h (take (at .held) (now (decisions .entry))) state) (drop (at .count) (now (out .entry)))) ⌝ }
@@ -140,7 +141,7 @@ pub fn soft_steps(
     decisions: &mut [u64],
     out: &mut [u8],
 ) -> At
-    requires { ⌜ (1 ≤ h) × (h ≤ 32) × Fits code h × (length (now pm) ≡ 2 * h) × ((per ≡ 2) ⊎ (per ≡ 4)) × (per * n ≤ length (now values))
+    requires { ⌜ (1 ≤ h) × (h ≤ Isdb.half) × Fits code h × (length (now pm) ≡ 2 * h) × ((per ≡ 2) ⊎ (per ≡ 4)) × (per * n ≤ length (now values))
         × (1 ≤ traceback) × (traceback ≤ tracebackLimit) × (at .held < block + traceback) × (at .count ≡ 0) × (block + traceback ≤ length (now decisions))
         × (block * releases traceback (at .held) n ≤ length (now out)) ⌝ }
     ensures { λ r. ⌜ Holds traceback (now (decisions .entry)) (now (out .entry)) (after h (labels code) rule traceback (softSteps per (now (values .entry))) (holding (now (pm .entry)) (at .held) (now (decisions .entry))) n)
@@ -165,7 +166,7 @@ pub fn known_steps(
     decisions: &mut [u64],
     out: &mut [u8],
 ) -> At
-    requires { ⌜ (1 ≤ h) × (h ≤ 32) × Fits code h × (length (now pm) ≡ 2 * h)
+    requires { ⌜ (1 ≤ h) × (h ≤ Isdb.half) × Fits code h × (length (now pm) ≡ 2 * h)
         × (1 ≤ traceback) × (traceback ≤ tracebackLimit) × (at .held < block + traceback) × (at .count ≡ 0) × (block + traceback ≤ length (now decisions))
         × (block * releases traceback (at .held) (length (now bits)) ≤ length (now out)) ⌝ }
     ensures { λ r. ⌜ Holds traceback (now (decisions .entry)) (now (out .entry)) (after h (labels code) rule traceback (knownSteps (now (bits .entry))) (holding (now (pm .entry)) (at .held) (now (decisions .entry))) (length (now (bits .entry))))

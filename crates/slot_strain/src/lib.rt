@@ -4,6 +4,7 @@ ghost use lib.ListN.{length};
 ghost use Rattle.isdbs_combination.specs.Combinations.{slotBits};
 ghost use Rattle.isdbs_metrics.specs.Steps.{Bits};
 ghost use Rattle.slot_strain.specs.Counted.{Labels, Counted};
+ghost use Rattle.trellis.specs.Isdb;
 
 // 2 X + Y of the input u at the state s, at 64 u + s: the code of STD-B20 with the generators 171 and 133 octal (`labels`, crates/trellis/specs/Isdb.antt); acs_paths has the same by branches.
 const LABELS: [u8; 128] = [
@@ -151,7 +152,7 @@ pub struct Slot {
 
 // n steps by their marks and decoded bits.
 pub fn count_slot(labels: &[u8; 128], n: usize, marks: &[u8], bits: &[u8], start: usize) -> Slot
-    requires { ⌜ Labels (now labels) × (n ≤ slotBits) × (n ≤ length (now marks)) × (n ≤ length (now bits)) × Bits (now bits) n × (start < 64) ⌝ }
+    requires { ⌜ Labels (now labels) × (n ≤ slotBits) × (n ≤ length (now marks)) × (n ≤ length (now bits)) × Bits (now bits) n × (start < Isdb.states) ⌝ }
     ensures { λ r. ⌜ Counted (now (marks .entry)) (now (bits .entry)) start n r ⌝ }
 {
     let mut count: u32 = 0;

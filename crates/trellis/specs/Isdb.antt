@@ -1,7 +1,7 @@
 -- The trellis of ISDB and the rule for equals, named once: the decoder of Step and Run at them. Assumes nothing.
 use mathlib.Core.Bool.{Bool}
 use mathlib.Core.List.{List}
-use Prim.Native.Nat.{ℕ, _+_}
+use Prim.Native.Nat.{ℕ, _+_, _-_}
 use lib.Ieee.{Float}
 use Rattle.trellis.specs.Code.{isdb, label}
 use Rattle.trellis.specs.Step as step
@@ -57,7 +57,7 @@ abbrev pub best : List Float → ℕ → ℕ
 best pm n = step.best rule pm n
 
 abbrev pub bestState : List Float → ℕ
-bestState pm = best pm 63
+bestState pm = best pm (states - 1)
 
 -- the bits that the words give, traced from the state s, oldest first
 abbrev pub traced : List ℕ → ℕ → List ℕ

@@ -37,12 +37,16 @@ tracebackLimit = 1024
 abbrev pub depth : ℕ → ℕ
 depth tb = cond (eqb tb 0) 1 tb
 
+-- "The maximum is subtracted after each 64th step of a call"
+abbrev pub interval : ℕ
+interval = 64
+
 module _ (half : ℕ) (out : ℕ → ℕ → ℕ) (t : Tie) where
-  -- the path values once the step of index i in its call has added: "The maximum is subtracted after each 64th step of a call"; of a
-  -- known bit "the 32 states that the bit rules out are set to -1.0e9 and the maximum is subtracted"
+  -- the path values once the step of index i in its call has added; of a known bit
+  -- "the 32 states that the bit rules out are set to -1.0e9 and the maximum is subtracted"
   unfoldable pub settled : ℕ → Step → List Float → List Float
-  settled i (pair lx ly) pm = cond (eqb (i % 64) 63) (renormalised half pm) pm
-  settled i (four m) pm = cond (eqb (i % 64) 63) (renormalised half pm) pm
+  settled i (pair lx ly) pm = cond (eqb (i % interval) (interval - 1)) (renormalised half pm) pm
+  settled i (four m) pm = cond (eqb (i % interval) (interval - 1)) (renormalised half pm) pm
   settled i (known b) pm = renormalised half (ruled half b pm)
 
   -- the path values after n steps of a call

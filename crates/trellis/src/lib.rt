@@ -8,6 +8,9 @@ pub const HALF: usize = 32;
 // The bits that leave a decoder at once (document 01: "4,096 bits leave").
 pub const BLOCK: usize = 4_096;
 
+// The steps of a call after each of which the maximum is subtracted (document 01: "after each 64th step of a call").
+pub const INTERVAL: usize = 64;
+
 // The longest traceback (document 01, refusal 3: "above 1,024").
 pub const TRACEBACK_LIMIT: usize = 1_024;
 

@@ -10,7 +10,7 @@ ghost use Rattle.trellis.specs.Lists.{laid};
 ghost use Rattle.trellis.specs.Code.{isdb, output, moved};
 ghost use Rattle.trellis.specs.Parity.{ones};
 ghost use Rattle.trellis.specs.Step.{renormalised};
-ghost use Rattle.trellis.specs.Run.{startAt, startUnknown, tracebackLimit, block, holding, releases, pairSteps, fourSteps};
+ghost use Rattle.trellis.specs.Run.{startAt, startUnknown, interval, tracebackLimit, block, holding, releases, pairSteps, fourSteps};
 ghost use Rattle.viterbi.specs.Calls.{stepOf, nexts, word, bestState, traced, settle, stepOnce, Room, Stepped, Carried, Ended};
 pub use acs::renormalise;
 pub use release::clear;
@@ -18,6 +18,9 @@ pub use release::move_down;
 use release::release;
 use release::trace;
 use trellis::BLOCK;
+use trellis::INTERVAL;
+use trellis::STATES;
+ghost use Rattle.trellis.specs.Isdb;
 
 // The outputs X and Y for the input 0: that of the state s is bit s. Both generators tap the input, so the input 1 gives the other bit.
 // Worked out from `output isdb` (crates/trellis/specs/Code.antt), the parities under 171 and 133 octal, as the contract of `encode_bit` has it.
@@ -43,8 +46,8 @@ pub fn parity(x: u8) -> u8
 
 // One input of the encoder; only its low bit counts.
 pub fn encode_bit(state: u8, u: u8) -> Coded
-    requires { ⌜ state < 64 ⌝ }
-    ensures { λ r. ⌜ (r .x ≡ output isdb 0o171 (u % 2) state) × (r .y ≡ output isdb 0o133 (u % 2) state) × (r .state ≡ moved 32 (u % 2) state) ⌝ }
+    requires { ⌜ state < Isdb.states ⌝ }
+    ensures { λ r. ⌜ (r .x ≡ output isdb 0o171 (u % 2) state) × (r .y ≡ output isdb 0o133 (u % 2) state) × (r .state ≡ moved Isdb.half (u % 2) state) ⌝ }
 {
     let b = u % 2;
     Coded {
@@ -61,21 +64,24 @@ pub enum Step {
     Known(u8),
 }
 
+// The last step before the maximum is subtracted.
+const LAST_STEP: usize = INTERVAL - 1;
+
 // Step i of a call: adds, compares and selects, then subtracts the maximum where the step calls for it. The decision word.
-fn trellis_step(pm: &mut [f32; 64], i: usize, x: Step) -> u64
+fn trellis_step(pm: &mut [f32; STATES], i: usize, x: Step) -> u64
     ensures { λ r. ⌜ (now (pm .exit) ≡ settle i (stepOf x) (nexts (now (pm .entry)) (stepOf x))) × (r ≡ word (now (pm .entry)) (stepOf x)) ⌝ }
 {
     match x {
         Step::Pair(lx, ly) => {
             let w = acs_runs::step2(pm, lx, ly);
-            if i % 64 == 63 {
+            if i % INTERVAL == LAST_STEP {
                 renormalise(pm);
             }
             w
         }
         Step::Four(a, b, c, d) => {
             let w = acs_runs::step4(pm, a, b, c, d);
-            if i % 64 == 63 {
+            if i % INTERVAL == LAST_STEP {
                 renormalise(pm);
             }
             w
@@ -97,7 +103,7 @@ pub struct At {
 
 // Step i of a call with the release that may follow it: every call of a decoder runs on this.
 pub fn advance(
-    pm: &mut [f32; 64],
+    pm: &mut [f32; STATES],
     at: At,
     traceback: usize,
     i: usize,
@@ -126,17 +132,17 @@ pub fn advance(
 }
 
 // Subtracts the maximum where 64 steps of the call are done, before its step i.
-fn settle_block(pm: &mut [f32; 64], i: usize)
-    ensures { λ _. ⌜ now (pm .exit) ≡ cond (eqb (i % 64) 0) (renormalised 32 (now (pm .entry))) (now (pm .entry)) ⌝ }
+fn settle_block(pm: &mut [f32; STATES], i: usize)
+    ensures { λ _. ⌜ now (pm .exit) ≡ cond (eqb (i % interval) 0) (renormalised Isdb.half (now (pm .entry))) (now (pm .entry)) ⌝ }
 {
-    if i % 64 == 0 {
+    if i % INTERVAL == 0 {
         renormalise(pm);
     }
 }
 
 // The end of a block, before step i of the call: the maximum is subtracted, and bits are released, where either is due.
 fn end_block(
-    pm: &mut [f32; 64],
+    pm: &mut [f32; STATES],
     at: At,
     traceback: usize,
     i: usize,
@@ -161,7 +167,7 @@ fn end_block(
 
 // n steps of a pair of soft values each, the first of which is step i of the call, in blocks that end where the maximum is subtracted or bits are released.
 pub fn run_pairs(
-    pm: &mut [f32; 64],
+    pm: &mut [f32; STATES],
     at: At,
     traceback: usize,
     i: usize,
@@ -192,7 +198,7 @@ pub fn run_pairs(
 
 // The same of four metrics each.
 pub fn run_fours(
-    pm: &mut [f32; 64],
+    pm: &mut [f32; STATES],
     at: At,
     traceback: usize,
     i: usize,
@@ -237,7 +243,7 @@ pub fn few_places(traceback: usize, held: usize, n: usize, space: usize) -> bool
 // The end of a call: puts out the bits of all held words, traced back from `state`, after the first `count` places of `out`, and zeroes the words. The
 // new count.
 pub fn finish_at(state: usize, at: At, decisions: &mut [u64], out: &mut [u8]) -> usize
-    requires { ⌜ (state < 64) × (at .held ≤ length (now decisions)) × (at .count + at .held ≤ length (now out)) ⌝ }
+    requires { ⌜ (state < Isdb.states) × (at .held ≤ length (now decisions)) × (at .count + at .held ≤ length (now out)) ⌝ }
     ensures { λ r. ⌜ (r ≡ at .count + at .held)
         × (now (decisions .exit) ≡ laid (replicate (at .held) 0) (now (decisions .entry)))
         × (now (out .exit) ≡ take (at .count) (now (out .entry)) ++ laid (traced (take (at .held) (now (decisions .entry))) state) (drop (at .count) (now (out .entry)))) ⌝ }
@@ -250,7 +256,7 @@ pub fn finish_at(state: usize, at: At, decisions: &mut [u64], out: &mut [u8]) ->
 }
 
 // The flush inside a call: from the best state.
-pub fn finish(pm: &[f32; 64], at: At, decisions: &mut [u64], out: &mut [u8]) -> usize
+pub fn finish(pm: &[f32; STATES], at: At, decisions: &mut [u64], out: &mut [u8]) -> usize
     requires { ⌜ (at .held ≤ length (now decisions)) × (at .count + at .held ≤ length (now out)) ⌝ }
     ensures { λ r. ⌜ (r ≡ at .count + at .held)
         × (now (decisions .exit) ≡ laid (replicate (at .held) 0) (now (decisions .entry)))
@@ -260,17 +266,17 @@ pub fn finish(pm: &[f32; 64], at: At, decisions: &mut [u64], out: &mut [u8]) -> 
 }
 
 // The path values of a known start (document 01: "0 at the given state (mod 64), -1,000,000 elsewhere").
-pub fn start_at(state: u8) -> [f32; 64]
-    ensures { λ r. ⌜ r ≡ startAt 64 state ⌝ }
+pub fn start_at(state: u8) -> [f32; STATES]
+    ensures { λ r. ⌜ r ≡ startAt Isdb.states state ⌝ }
 {
-    let mut pm = [-1.0e6f32; 64];
+    let mut pm = [-1.0e6f32; STATES];
     pm[(state % 64) as usize] = 0.0;
     pm
 }
 
 // The path values of an unknown start.
-pub fn start_unknown() -> [f32; 64]
-    ensures { λ r. ⌜ r ≡ startUnknown 64 ⌝ }
+pub fn start_unknown() -> [f32; STATES]
+    ensures { λ r. ⌜ r ≡ startUnknown Isdb.states ⌝ }
 {
-    [0.0f32; 64]
+    [0.0f32; STATES]
 }

@@ -1,7 +1,8 @@
 -- `best_reading::started` meets its contract. Assumes nothing.
 use mathlib.Core.Path.{_≡_, ap}
 use borrow.Author.Needs.{needs}
-use Rattle.best_reading.specs.Calls.{startValues}
+use Rattle.trellis.specs.Isdb
+use Rattle.best_path.specs.Fresh.{startValues}
 use Rattle.best_reading.proofs.Compose.{fresh-is}
 use Rattle.best_reading.proofs.started.Statement.{statement}
 use Rattle.best_reading.proofs.started.Tie as tie
@@ -22,13 +23,13 @@ returns : tie.Need-returns
 returns c =
     let g = c .before .with-state .ensures in
     let k = c .before .before .before .start .given in
-    fresh-is (c .before .before .before .before .before .args .start) _ (c .before .with-state .result .answer) (c .before .with-state .result .dec) (ap startValues (k .1)) (g .0) (g .1)
+    fresh-is (c .before .before .before .before .before .args .start) _ (c .before .with-state .result .answer) (c .before .with-state .result .dec) (ap (startValues Isdb.states) (k .1)) (g .0) (g .1)
 
 returns-2 : tie.Need-returns-2
 returns-2 c =
     let g = c .before .new-unknown-state .ensures in
     let k = c .before .before .enum-told .given in
-    fresh-is (c .before .before .before .before .args .start) _ (c .before .new-unknown-state .result .answer) (c .before .new-unknown-state .result .dec) (ap startValues (k .1)) (g .0) (g .1)
+    fresh-is (c .before .before .before .before .args .start) _ (c .before .new-unknown-state .result .answer) (c .before .new-unknown-state .result .dec) (ap (startValues Isdb.states) (k .1)) (g .0) (g .1)
 
 pub started-spec : {M : Type 1} → statement M
 started-spec =

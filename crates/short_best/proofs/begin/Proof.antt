@@ -2,7 +2,7 @@
 use mathlib.Core.Path.{_≡_, sym, _∙_, ap}
 use lib.ListN.{length}
 use borrow.Author.Needs.{needs}
-use Rattle.short_best.specs.Readings.{startValues}
+use Rattle.best_path.specs.Fresh.{startValues}
 use Rattle.short_best.proofs.begin.Statement.{statement}
 use Rattle.short_best.proofs.begin.Tie as tie
 

@@ -19,7 +19,7 @@ use Rattle.short_code.specs.declared.Code.{Code}
 use Rattle.short_code.specs.Codes.{goodCode}
 use Rattle.short_code.specs.CodeLaws.{good-length}
 use Rattle.short_best.specs.Readings.{readingRows, Finished, Refused}
-use Rattle.short_best.specs.declared.Start.{Start}
+use Rattle.best_path.specs.declared.Start.{Start}
 use Rattle.short_best.specs.BestLaws.{greatest-sum}
 use Rattle.short_best.proofs.greatest_sum_reading.Statement.{statement}
 use Rattle.short_best.proofs.greatest_sum_reading.Tie as tie

@@ -7,7 +7,7 @@ use lib.Dec.{lit≤}
 use lib.ListN.{length}
 use borrow.Author.Needs.{needs}
 use Rattle.viterbi.specs.CountLaws.{releases-le}
-use Rattle.short_best.specs.Readings.{startValues}
+use Rattle.best_path.specs.Fresh.{startValues}
 use Rattle.short_best.proofs.Steps.{all-counted, finished}
 use Rattle.short_best.proofs.run.Statement.{statement}
 use Rattle.short_best.proofs.run.Tie as tie

@@ -1,65 +1,18 @@
--- `Combination::symbols_per_unit` meets its contract: each arm is a line of the definition. Assumes nothing.
+-- `Combination::symbols_per_unit` meets its contract: a unit has at most 8 slots, so the product is a usize. Assumes nothing.
 use borrow.Author.Needs.{needs}
+use native.Mathlib.Omega.{arith}
+use Rattle.isdbs_combination.specs.CombinationLaws.{unit-fits}
 use Rattle.isdbs_combination.proofs.Combination.symbols_per_unit.Statement.{statement}
 use Rattle.isdbs_combination.proofs.Combination.symbols_per_unit.Tie as tie
 
-enum-told : tie.Need-enum-told
-enum-told c = search needs
+slot-unit-requires : tie.Need-slot-unit-requires
+slot-unit-requires c κs = search needs
 
-enum-told-2 : tie.Need-enum-told-2
-enum-told-2 c = search needs
-
-enum-told-3 : tie.Need-enum-told-3
-enum-told-3 c = search needs
-
-enum-told-4 : tie.Need-enum-told-4
-enum-told-4 c = search needs
-
-enum-told-5 : tie.Need-enum-told-5
-enum-told-5 c = search needs
-
-enum-told-6 : tie.Need-enum-told-6
-enum-told-6 c = search needs
-
-enum-told-7 : tie.Need-enum-told-7
-enum-told-7 c = search needs
+mul-result : tie.Need-mul-result
+mul-result c = let f = unit-fits (c .before .before .args .self) .most in rw (c .before .slot-unit .ensures) (omega arith)
 
 returns : tie.Need-returns
-returns c = rw (c .enum-told .given .1)
-
-returns-2 : tie.Need-returns-2
-returns-2 c = rw (c .enum-told2 .given .1)
-
-returns-3 : tie.Need-returns-3
-returns-3 c = rw (c .enum-told3 .given .1)
-
-returns-4 : tie.Need-returns-4
-returns-4 c = rw (c .enum-told4 .given .1)
-
-returns-5 : tie.Need-returns-5
-returns-5 c = rw (c .enum-told5 .given .1)
-
-returns-6 : tie.Need-returns-6
-returns-6 c = rw (c .enum-told6 .given .1)
-
-returns-7 : tie.Need-returns-7
-returns-7 c = rw (c .enum-told7 .given .1)
+returns c = rw (c .before .slot-unit .ensures)
 
 pub symbols-per-unit-spec : {M : Type 1} → statement M
-symbols-per-unit-spec =
-    tie.close
-    (tie.spec
-    enum-told
-    enum-told-2
-    enum-told-3
-    enum-told-4
-    enum-told-5
-    enum-told-6
-    enum-told-7
-    returns
-    returns-2
-    returns-3
-    returns-4
-    returns-5
-    returns-6
-    returns-7)
+symbols-per-unit-spec = tie.close (tie.spec slot-unit-requires mul-result returns)
