@@ -10,7 +10,7 @@ use lib.Dec.{T, ltb, lt→ltb, ltb→lt, lit<}
 use lib.ListN.{getD, length}
 use lib.Ieee.{Float, nan, lt}
 use Rattle.trellis.specs.Code.{stateAt}
-use Rattle.trellis.specs.Lists.{bit}
+use Rattle.trellis.specs.Lists.{bit, firstPlace}
 use Rattle.trellis.specs.Step.{term}
 use Rattle.lead.specs.Favour.{Favour}
 use Rattle.lead.specs.Ties.{true-of}
@@ -24,7 +24,7 @@ use Rattle.isdbs_runs.specs.RunsOf.{frameSteps}
 use Rattle.isdbs_points.specs.declared.Cplx.{Cplx}
 use Rattle.isdbs_points.specs.declared.Mapping.{Mapping}
 use Rattle.isdbs_points.specs.Points.{point, unused, zero64, root64, psk8Of, subset, conjugated, qpskOf}
-use Rattle.isdbs_points.specs.Layout.{Segment, segments, orderOf, stepsPerPeriod, loadBit, In, firstPlace}
+use Rattle.isdbs_points.specs.Layout.{Segment, segments, orderOf, stepsPerPeriod, loadBit, In}
 use Rattle.isdbs_points.specs.Frame.{inputs, labelAt, codedBit, sentBit, pointBy, pointIn, pointAt, startState}
 use Rattle.isdbs_metrics.specs.Reading.{Received, scaled, partOf, carrier, softAt, pairMetrics, correlation, metricsBy, metricsIn, metricsAt, receivedAt, received}
 use Rattle.margins.specs.Margins.{keeps, isBpsk, Within}

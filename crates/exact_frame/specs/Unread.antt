@@ -8,7 +8,7 @@ use lib.Dec.{T, eqb, ltb, ltb→lt, lit<}
 use lib.ListN.{getD, length}
 use lib.Ieee.{Float, nan, binary32, ofBits, lt}
 use Rattle.trellis.specs.Isdb
-use Rattle.trellis.specs.Lists.{bit}
+use Rattle.trellis.specs.Lists.{bit, firstPlace}
 use Rattle.trellis.specs.Step.{Step, Tie, four}
 use Rattle.trellis.specs.Run.{Decoder, after}
 use Rattle.isdbs_combination.specs.declared.Combination.{Combination}
@@ -20,7 +20,7 @@ use Rattle.isdbs_runs.specs.RunsOf.{frameSteps, loadBytes}
 use Rattle.isdbs_points.specs.declared.Cplx.{Cplx}
 use Rattle.isdbs_points.specs.declared.Mapping.{Mapping}
 use Rattle.isdbs_points.specs.Points.{zero64}
-use Rattle.isdbs_points.specs.Layout.{Segment, segments, orderOf, atBit, byteOf, In, firstPlace}
+use Rattle.isdbs_points.specs.Layout.{Segment, segments, orderOf, atBit, byteOf, In}
 use Rattle.isdbs_points.specs.Frame.{labelAt, startState}
 use Rattle.isdbs_metrics.specs.Reading.{Received, scaled, partOf, carrier, softAt, correlation, subsetPoint, subsetMetrics, metricsBy, metricsIn, metricsAt, startValues, decodedBits, bitBy, bitIn, bytesFrom, decodedBytes, receivedAt}
 use Rattle.trellis.specs.LaidLaws.{upto-cong}

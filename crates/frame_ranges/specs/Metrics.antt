@@ -11,7 +11,7 @@ use lib.ListN.{getD, length}
 use lib.Ieee.{Float, nan, binary32, binary64, fits, neg, add, sub, ofBits}
 use Rattle.ieee.specs.Value.{mag, hi, lo}
 use Rattle.ieee.specs.Rounding.{pow2}
-use Rattle.trellis.specs.Lists.{bit}
+use Rattle.trellis.specs.Lists.{bit, firstPlace}
 use Rattle.trellis.specs.ListLaws.{getD-upto}
 use Rattle.lead.specs.Ties.{pick}
 use Rattle.isdbs_combination.specs.declared.Combination.{Combination}
@@ -24,7 +24,7 @@ use Rattle.isdbs_tables.specs.Tables.{TableAccepted}
 use Rattle.isdbs_runs.specs.RunsOf.{frameSteps}
 use Rattle.isdbs_points.specs.declared.Cplx.{Cplx}
 use Rattle.isdbs_points.specs.Points.{zero64, one64, root64, psk8Of, subset}
-use Rattle.isdbs_points.specs.Layout.{Segment, segments, sentOrder, orderOf, stepsPerPeriod, In, firstPlace}
+use Rattle.isdbs_points.specs.Layout.{Segment, segments, sentOrder, orderOf, stepsPerPeriod, In}
 use Rattle.isdbs_points.specs.SizeLaws.{table-whole, symbol-fits, at-step, find-step}
 use Rattle.isdbs_metrics.specs.Reading.{Received, scaled, partOf, carrier, softAt, pairMetrics, correlation, absolute, subsetPoint, subsetMetrics, metricsBy, metricsIn, metricsAt, receivedAt}
 use Rattle.frame_ranges.specs.Rising.{Up, Rises, pair-rises, product-up, absolute-up, soft-up}

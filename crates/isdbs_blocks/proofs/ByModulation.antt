@@ -9,7 +9,7 @@ use borrow.Author.Tests.{ltb-true}
 use lib.Dec.{ltb}
 use lib.ListN.{getD, length}
 use lib.Ieee.{Float, nan, binary32, mul, ofBits}
-use Rattle.trellis.specs.Lists.{upto, laid}
+use Rattle.trellis.specs.Lists.{upto, laid, firstPlace}
 use Rattle.trellis.specs.Step.{Step, four}
 use Rattle.isdbs_combination.specs.declared.Combination.{Combination}
 use Rattle.isdbs_combination.specs.declared.Combination.the-variants.{«Bpsk1_2», «Qpsk1_2», «Qpsk2_3», «Qpsk3_4», «Qpsk5_6», «Qpsk7_8», «Tc8psk2_3»}
@@ -19,7 +19,7 @@ use Rattle.isdbs_combination.specs.Combinations.{modulationOf}
 use Rattle.isdbs_points.specs.declared.Mapping.{Mapping}
 use Rattle.isdbs_soft.specs.Soft.{softOf}
 use Rattle.isdbs_points.specs.Points.{point, conjugated}
-use Rattle.isdbs_points.specs.Layout.{orderOf, stepsPerPeriod, sentOrder, firstPlace}
+use Rattle.isdbs_points.specs.Layout.{orderOf, stepsPerPeriod, sentOrder}
 use Rattle.trellis.specs.LaidLaws.{upto-cong, laid-at}
 use Rattle.isdbs_points.specs.Pieces.{piece}
 use Rattle.isdbs_metrics.specs.Reading.{partOf, carrier, pairMetrics, metricsBy, softAt, absolute, subsetMetrics, received}

@@ -6,12 +6,12 @@ use Prim.Native.Nat.{ℕ, _+_, _*_, _/_, _%_, _<_, _≤_}
 use lib.Dec.{ltb}
 use lib.ListN.{length, getD}
 use lib.Ieee.{Float, nan, binary32, ofBits}
-use Rattle.trellis.specs.Lists.{upto}
+use Rattle.trellis.specs.Lists.{upto, firstPlace}
 use Rattle.trellis.specs.Step.{Step, pair, four, known}
 use Rattle.isdbs_combination.specs.declared.Combination.{Combination}
 use Rattle.isdbs_points.specs.declared.Mapping.{Mapping}
 use Rattle.isdbs_points.specs.Points.{point, conjugated, psk8Of, subset}
-use Rattle.isdbs_points.specs.Layout.{orderOf, stepsPerPeriod, firstPlace}
+use Rattle.isdbs_points.specs.Layout.{orderOf, stepsPerPeriod}
 use Rattle.isdbs_points.specs.Pieces.{piece}
 use Rattle.isdbs_metrics.specs.Reading.{softAt, correlation, received}
 use Rattle.isdbs_metrics.specs.Steps.{pieceMetrics}

@@ -10,7 +10,8 @@ use lib.Seq.{getD-drop}
 use lib.Ieee.{Float, nan, binary32, ofBits}
 use Rattle.isdbs_combination.specs.declared.Combination.{Combination}
 use Rattle.isdbs_combination.specs.declared.Combination.the-variants.{«Bpsk1_2», «Qpsk1_2», «Qpsk2_3», «Qpsk3_4», «Qpsk5_6», «Qpsk7_8», «Tc8psk2_3»}
-use Rattle.isdbs_points.specs.Layout.{orderOf, stepsPerPeriod, sentOrder, firstPlace}
+use Rattle.isdbs_points.specs.Layout.{orderOf, stepsPerPeriod, sentOrder}
+use Rattle.trellis.specs.Lists.{firstPlace}
 use Rattle.isdbs_pack.specs.FrameRunLaws.{tail-is}
 use Rattle.isdbs_blocks.specs.Blocks.{spreadSoft}
 

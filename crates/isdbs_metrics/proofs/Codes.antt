@@ -8,7 +8,8 @@ use lib.ListN.{getD}
 use borrow.Author.Count.{below-none, below-more}
 use Rattle.isdbs_combination.specs.declared.Combination.{Combination}
 use Rattle.isdbs_combination.specs.declared.Combination.the-variants.{«Bpsk1_2», «Qpsk1_2», «Qpsk2_3», «Qpsk3_4», «Qpsk5_6», «Qpsk7_8», «Tc8psk2_3»}
-use Rattle.isdbs_points.specs.Layout.{orderOf, sentOrder, firstPlace}
+use Rattle.isdbs_points.specs.Layout.{orderOf, sentOrder}
+use Rattle.trellis.specs.Lists.{firstPlace}
 
 -- the first n entries of a table are the places
 abbrev Placed : List ℕ → Combination → ℕ → Type 0

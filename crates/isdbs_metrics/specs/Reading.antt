@@ -6,7 +6,7 @@ use lib.ListN.{getD, length}
 use lib.Dec.{eqb, ltb}
 use lib.Ieee.{Float, nan, inf, fin, binary32, binary64, neg, add, sub, mul, lt, ofBits}
 use Rattle.trellis.specs.Isdb.{frameTraceback, call, steps, flush}
-use Rattle.trellis.specs.Lists.{upto, bit}
+use Rattle.trellis.specs.Lists.{upto, bit, firstPlace}
 use Rattle.trellis.specs.Step.{Step, four, known}
 use Rattle.trellis.specs.Run.{freshFrom, startAt, startUnknown}
 use Rattle.isdbs_combination.specs.declared.Combination.{Combination}
@@ -19,7 +19,7 @@ use Rattle.isdbs_points.specs.declared.Cplx.{Cplx}
 use Rattle.isdbs_points.specs.declared.Mapping.{Mapping}
 use Rattle.isdbs_soft.specs.Soft.{softOf}
 use Rattle.isdbs_points.specs.Points.{point, zero64, psk8Of, subset, conjugated}
-use Rattle.isdbs_points.specs.Layout.{Segment, orderOf, stepsPerPeriod, atStep, atBit, byteOf, wordBit, firstPlace}
+use Rattle.isdbs_points.specs.Layout.{Segment, orderOf, stepsPerPeriod, atStep, atBit, byteOf, wordBit}
 use Rattle.isdbs_points.specs.Frame.{labelAt, startState}
 use Rattle.trellis.specs.Isdb
 use Rattle.isdbs_frame.specs.Frame.{w1}

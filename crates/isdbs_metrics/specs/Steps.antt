@@ -12,7 +12,8 @@ use Rattle.isdbs_combination.specs.Combinations.{modulationOf}
 use Rattle.isdbs_points.specs.declared.Mapping.{Mapping}
 use Rattle.isdbs_metrics.specs.declared.PeriodLayout.{PeriodLayout}
 use Rattle.isdbs_points.specs.Points.{point, conjugated}
-use Rattle.isdbs_points.specs.Layout.{orderOf, stepsPerPeriod, firstPlace}
+use Rattle.isdbs_points.specs.Layout.{orderOf, stepsPerPeriod}
+use Rattle.trellis.specs.Lists.{firstPlace}
 use Rattle.isdbs_points.specs.Pieces.{piece}
 use Rattle.isdbs_points.specs.Frame.{labelAt}
 use Rattle.isdbs_metrics.specs.Reading.{Received, partOf, metricsIn, bitIn, received}

@@ -16,7 +16,8 @@ use Rattle.isdbs_combination.specs.Combinations.{modulationOf}
 use Rattle.isdbs_points.specs.declared.Cplx.{Cplx}
 use Rattle.isdbs_points.specs.declared.Mapping.{Mapping}
 use Rattle.isdbs_points.specs.Points.{psk8Of, subset, zero64}
-use Rattle.isdbs_points.specs.Layout.{segmentOf, orderOf, stepsPerPeriod, firstPlace}
+use Rattle.isdbs_points.specs.Layout.{segmentOf, orderOf, stepsPerPeriod}
+use Rattle.trellis.specs.Lists.{firstPlace}
 use Rattle.isdbs_points.specs.Pieces.{piece}
 use Rattle.isdbs_points.specs.Frame.{labelAt}
 use Rattle.isdbs_metrics.specs.Reading.{Received, correlation, carrier, softAt, scaled, pairMetrics, subsetMetrics, metricsBy, metricsIn, bitBy, bitIn, uncoded, receivedAt, received}

@@ -2,9 +2,9 @@
 use mathlib.Core.Path.{_≡_}
 use mathlib.Core.Bool.{cond}
 use mathlib.Core.List.{List, [], _∷_}
-use Prim.Native.Nat.{ℕ, suc, _+_, _-_, _*_, _/_, _%_, _^_, _<_}
+use Prim.Native.Nat.{ℕ, _+_, _-_, _*_, _/_, _%_, _^_, _<_}
 use lib.ListN.{getD, length}
-use lib.Dec.{eqb, ltb}
+use lib.Dec.{ltb}
 use Rattle.isdbs_combination.specs.declared.Combination.{Combination}
 use Rattle.isdbs_combination.specs.declared.MaybePuncture.{MaybePuncture}
 use Rattle.isdbs_combination.specs.declared.MaybePuncture.the-variants.{Some, None}
@@ -30,11 +30,6 @@ orderOf c = orderIn (punctureOf c)
 -- the steps of one period
 abbrev pub stepsPerPeriod : Combination → ℕ
 stepsPerPeriod c = periodSteps (punctureOf c)
-
--- where a list has the number a first; its length where it has not
-unfoldable pub firstPlace : ℕ → List ℕ → ℕ
-firstPlace a [] = 0
-firstPlace a (b ∷ bs) = cond (eqb a b) 0 (suc (firstPlace a bs))
 
 -- ---- segments
 -- a run with the first and the number of its symbols, its trellis steps and its bits of the load

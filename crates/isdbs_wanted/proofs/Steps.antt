@@ -15,7 +15,8 @@ use Rattle.isdbs_combination.specs.declared.Modulation.the-variants.{Bpsk, Qpsk
 use Rattle.isdbs_combination.specs.Combinations.{modulationOf}
 use Rattle.isdbs_points.specs.declared.Cplx.{Cplx}
 use Rattle.isdbs_points.specs.declared.Mapping.{Mapping}
-use Rattle.isdbs_points.specs.Layout.{Segment, sentOrder, orderOf, stepsPerPeriod, firstPlace}
+use Rattle.isdbs_points.specs.Layout.{Segment, sentOrder, orderOf, stepsPerPeriod}
+use Rattle.trellis.specs.Lists.{firstPlace}
 use Rattle.isdbs_points.specs.Frame.{codedBit}
 use Rattle.isdbs_points.specs.OrderLaws.{number, step-kept}
 use Rattle.isdbs_metrics.specs.declared.PeriodLayout.{PeriodLayout}

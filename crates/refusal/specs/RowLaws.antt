@@ -9,6 +9,7 @@ use borrow.Author.Tests.{eqb-true, eqb-false, ne-eqb}
 use lib.Dec.{T, eqb}
 use lib.ListN.{length, getD}
 use types.Run.{OneOf, miss}
+use Rattle.trellis.specs.Lists.{firstPlace}
 use Rattle.refusal.specs.declared.Answer.{Answer}
 use Rattle.refusal.specs.declared.Answer.the-variants.{Accepted, Table, Position, Traceback, State, Length, Symbols, Sample, Scale, Space, PartUnit, ReservedWord, Window, Code, NoLoad, Unmendable}
 use Rattle.refusal.specs.Rows.{numberOf, accepted, Row, firstRow, Either, Said, says, fromTop}
@@ -223,4 +224,5 @@ wholeTable table part reserved position traceback code state window long symbols
     ∷ []
 
 pub whole-from-top : (table part reserved position traceback code state window long symbols sample scale space load mend : Bool) → T (fromTop (wholeTable table part reserved position traceback code state window long symbols sample scale space load mend))
+unfolding firstPlace
 whole-from-top table part reserved position traceback code state window long symbols sample scale space load mend = tt

@@ -2,9 +2,10 @@
 use mathlib.Core.Path.{_≡_}
 use mathlib.Core.Bool.{Bool, true, false, cond}
 use mathlib.Core.List.{List, [], _∷_}
-use Prim.Native.Nat.{ℕ, suc}
+use Prim.Native.Nat.{ℕ}
 use lib.Dec.{eqb, leb, ltb}
 use lib.ListN.{length}
+use Rattle.trellis.specs.Lists.{firstPlace}
 use Rattle.refusal.specs.declared.Answer.{Answer}
 use Rattle.refusal.specs.declared.Answer.the-variants.{Accepted, Table, Position, Traceback, State, Length, Symbols, Sample, Scale, Space, PartUnit, ReservedWord, Window, Code, NoLoad, Unmendable}
 
@@ -57,12 +58,8 @@ abbrev pub says : Answer → List ℕ → Said
 says a values = cond (accepted a) (0, values) (numberOf a, [])
 
 -- "from the top": each row of a call stands in the table, none above the row before it
-abbrev pub indexIn : List ℕ → ℕ → ℕ
-indexIn [] n = 0
-indexIn (m ∷ ms) n = cond (eqb m n) 0 (suc (indexIn ms n))
-
 abbrev pub place : Row → ℕ
-place row = indexIn order (numberOf (row .0))
+place row = firstPlace (numberOf (row .0)) order
 
 abbrev pub downFrom : ℕ → List Row → Bool
 downFrom p [] = true

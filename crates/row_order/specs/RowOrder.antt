@@ -34,6 +34,7 @@ use Rattle.answers_c.specs.Lengths.{withStates}
 use Rattle.isdb_c.specs.Lengths.{scalesRows}
 use Rattle.isdbt_c.specs.Rates.{rateRows}
 use Rattle.isdbt_c.specs.declared.MaybeRate.the-variants.{NoRate}
+use Rattle.trellis.specs.Lists.{firstPlace}
 
 abbrev pub eachFromTop : List (List Row) → Bool
 eachFromTop [] = true
@@ -125,5 +126,5 @@ module _ (t : Table) (v : ViterbiDecoder) (c : Code) (w : WindowState) (parts : 
       ∷ []
 
   pub all-from-top : T (eachFromTop rowLists)
-  unfolding tableRows
+  unfolding tableRows firstPlace
   all-from-top = tt

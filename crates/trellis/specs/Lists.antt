@@ -1,7 +1,8 @@
 -- Lists and numbers made from a function of the index. Assumes nothing.
-use mathlib.Core.Bool.{Bool, true, false}
+use mathlib.Core.Bool.{Bool, true, false, cond}
 use mathlib.Core.List.{List, [], _∷_, _++_}
 use Prim.Native.Nat.{ℕ, zero, suc, _+_, _-_, _*_, _^_}
+use lib.Dec.{eqb}
 use lib.ListN.{length, drop, replicate}
 
 -- the first n values of f
@@ -25,6 +26,11 @@ laid front whole = front ++ drop (length front) whole
 -- a list as the front of n elements, the rest being the filler d
 abbrev pub padded : {A : Type 0} → ℕ → A → List A → List A
 padded n d l = l ++ replicate (n - length l) d
+
+-- where a list has the number a first; its length where it has not
+unfoldable pub firstPlace : ℕ → List ℕ → ℕ
+firstPlace a [] = 0
+firstPlace a (b ∷ bs) = cond (eqb a b) 0 (suc (firstPlace a bs))
 
 -- P holds of each
 abbrev pub Each : {A : Type 0} → (A → Type 0) → List A → Type 0

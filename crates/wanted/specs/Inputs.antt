@@ -25,7 +25,8 @@ use Rattle.isdbs_runs.specs.RunsOf.{frameSteps}
 use Rattle.isdbs_points.specs.declared.Cplx.{Cplx}
 use Rattle.isdbs_points.specs.declared.Mapping.{Mapping}
 use Rattle.isdbs_points.specs.Points.{point, unused, subset, conjugated}
-use Rattle.isdbs_points.specs.Layout.{Segment, segments, orderOf, stepsPerPeriod, atStep, loadBit, In, firstPlace}
+use Rattle.isdbs_points.specs.Layout.{Segment, segments, orderOf, stepsPerPeriod, atStep, loadBit, In}
+use Rattle.trellis.specs.Lists.{firstPlace}
 use Rattle.isdbs_points.specs.Frame.{inputs, labelAt, codedBit, sentBit, pointBy, pointIn, pointAt, startState}
 use Rattle.isdbs_points.specs.SizeLaws.{table-whole, symbol-fits, at-symbol, at-step, find-step}
 use Rattle.isdbs_points.specs.OrderLaws.{Sends, Pairs, Kind, one, two, three, kind, Kept, mother, number, sent-at}

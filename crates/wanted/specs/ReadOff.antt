@@ -7,7 +7,7 @@ use Prim.Native.Nat.{ℕ, zero, suc, _+_, _*_, _/_, _%_}
 use lib.ListN.{getD, length}
 use lib.Dec.{eqb, ltb}
 use lib.Ieee.{Float, nan, lt}
-use Rattle.trellis.specs.Lists.{upto, bit}
+use Rattle.trellis.specs.Lists.{upto, bit, firstPlace}
 use Rattle.trellis.specs.Code.{moved}
 use Rattle.isdbs_combination.specs.declared.Modulation.{Modulation}
 use Rattle.isdbs_combination.specs.declared.Modulation.the-variants.{Bpsk, Qpsk, Tc8psk}
@@ -17,7 +17,7 @@ use Rattle.isdbs_runs.specs.RunsOf.{loadBytes}
 use Rattle.isdbs_points.specs.declared.Cplx.{Cplx}
 use Rattle.isdbs_points.specs.declared.Mapping.{Mapping}
 use Rattle.isdbs_points.specs.Points.{point, zero64, subset, conjugated}
-use Rattle.isdbs_points.specs.Layout.{Segment, orderOf, atStep, atBit, byteOf, firstPlace}
+use Rattle.isdbs_points.specs.Layout.{Segment, orderOf, atStep, atBit, byteOf}
 use Rattle.isdbs_points.specs.Frame.{codedBit, startState}
 use Rattle.isdbs_points.specs.OrderLaws.{mother, number}
 use Rattle.isdbs_metrics.specs.Reading.{partOf}

@@ -1,6 +1,7 @@
 -- `layout_of` meets its contract. Assumes nothing.
 use Rattle.isdbs_metrics.proofs.Codes.{places-1, places-2, places-3, places-4, places-5, places-6, places-7}
-use Rattle.isdbs_points.specs.Layout.{sentOrder, firstPlace}
+use Rattle.isdbs_points.specs.Layout.{sentOrder}
+use Rattle.trellis.specs.Lists.{firstPlace}
 use mathlib.Core.Path.{_≡_, refl, sym, _∙_, ap}
 use borrow.Author.Needs.{needs}
 use Rattle.isdbs_metrics.proofs.layout_of.Statement.{statement}
