@@ -44,18 +44,18 @@ placeIn s = placeOf (symbolOf s)
 
 -- ---- one part, real or imaginary
 -- the three inputs
-abbrev pub inputs : List Float → List Float → List Float → Input → List Float
-inputs hs ms bs Header = hs
-inputs hs ms bs Main = ms
-inputs hs ms bs Burst = bs
+abbrev pub lentInputs : List Float → List Float → List Float → Input → List Float
+lentInputs hs ms bs Header = hs
+lentInputs hs ms bs Main = ms
+lentInputs hs ms bs Burst = bs
 
 -- "points are only copied": the one at an input place
-abbrev pub pointIn : (Input → List Float) → Source → Float
-pointIn ins (from a i) = getD (ins a) i nan
+abbrev pub lentPoint : (Input → List Float) → Source → Float
+lentPoint ins (from a i) = getD (ins a) i nan
 
 -- the frame laid from three inputs
 abbrev pub fullPart : (Input → List Float) → List Float
-fullPart ins = upto (λ p. pointIn ins (sourceAt p)) frameSymbols
+fullPart ins = upto (λ p. lentPoint ins (sourceAt p)) frameSymbols
 
 -- "It also takes a full frame apart": what it holds for an input
 abbrev pub taken : Input → List Float → List Float

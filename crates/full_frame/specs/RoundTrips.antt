@@ -9,7 +9,7 @@ use Rattle.trellis.specs.Lists.{upto, laid}
 use Rattle.trellis.specs.ListLaws.{length-upto, getD-upto}
 use Rattle.trellis.specs.LaidLaws.{upto-cong}
 use Rattle.full_frame.specs.declared.Input.{Input}
-use Rattle.full_frame.specs.Places.{Source, from, pointsOf, InInput, sourceAt, placeIn, pointIn, fullPart, taken}
+use Rattle.full_frame.specs.Places.{Source, from, pointsOf, InInput, sourceAt, placeIn, lentPoint, fullPart, taken}
 use Rattle.full_frame.specs.PlaceLaws.{place-in, source-in, source-place, place-source}
 use Rattle.isdbs_frame.specs.Frame.{frameSymbols}
 
@@ -25,10 +25,10 @@ getD-laid d f n l i h = List·getD-append (upto f n) (drop (length (upto f n)) l
 
 -- ---- laying, then taking apart
 module _ (ins : Input → List Float) (out : List Float) where
-  laid-point : (s : Source) → InInput s → getD (laid (fullPart ins) out) (placeIn s) nan ≡ pointIn ins s
+  laid-point : (s : Source) → InInput s → getD (laid (fullPart ins) out) (placeIn s) nan ≡ lentPoint ins s
   laid-point s h =
-      getD-laid nan (λ p. pointIn ins (sourceAt p)) frameSymbols out (placeIn s) (place-in s h)
-      ∙ ap (λ (r : Source). pointIn ins r) (source-place s h)
+      getD-laid nan (λ p. lentPoint ins (sourceAt p)) frameSymbols out (placeIn s) (place-in s h)
+      ∙ ap (λ (r : Source). lentPoint ins r) (source-place s h)
 
   pub taken-laid : (a : Input) → pointsOf a ≤ length (ins a) → taken a (laid (fullPart ins) out) ≡ take (pointsOf a) (ins a)
   taken-laid a h =
@@ -37,24 +37,24 @@ module _ (ins : Input → List Float) (out : List Float) where
 
 -- ---- taking apart, then laying
 module _ (full : List Float) (ins outs : Input → List Float) (t : (a : Input) → ins a ≡ laid (taken a full) (outs a)) where
-  taken-point : (s : Source) → InInput s → pointIn ins s ≡ getD full (placeIn s) nan
+  taken-point : (s : Source) → InInput s → lentPoint ins s ≡ getD full (placeIn s) nan
   taken-point (from a i) h =
       ap (λ (l : List Float). getD l i nan) (t a)
       ∙ getD-laid nan (λ k. getD full (placeIn (from a k)) nan) (pointsOf a) (outs a) i h
 
   pub full-taken : frameSymbols ≤ length full → fullPart ins ≡ take frameSymbols full
   full-taken h =
-      upto-cong (λ p. pointIn ins (sourceAt p)) (λ p. getD full p nan) frameSymbols
+      upto-cong (λ p. lentPoint ins (sourceAt p)) (λ p. getD full p nan) frameSymbols
       (λ p l. taken-point (sourceAt p) (source-in p l) ∙ ap (λ (q : ℕ). getD full q nan) (place-source p l))
       ∙ upto-taken nan full frameSymbols h
 
 -- ---- points past an input's length are not read
-unread-point : (ins : Input → List Float) (s : Source) → InInput s → pointIn (λ a. take (pointsOf a) (ins a)) s ≡ pointIn ins s
+unread-point : (ins : Input → List Float) (s : Source) → InInput s → lentPoint (λ a. take (pointsOf a) (ins a)) s ≡ lentPoint ins s
 unread-point ins (from a i) h = getD-take (pointsOf a) (ins a) i nan h
 
 pub full-unread : (ins : Input → List Float) → fullPart (λ a. take (pointsOf a) (ins a)) ≡ fullPart ins
 full-unread ins =
-    upto-cong (λ p. pointIn (λ a. take (pointsOf a) (ins a)) (sourceAt p)) (λ p. pointIn ins (sourceAt p)) frameSymbols
+    upto-cong (λ p. lentPoint (λ a. take (pointsOf a) (ins a)) (sourceAt p)) (λ p. lentPoint ins (sourceAt p)) frameSymbols
     (λ p l. unread-point ins (sourceAt p) (source-in p l))
 
 pub taken-unread : (a : Input) (full : List Float) → taken a (take frameSymbols full) ≡ taken a full

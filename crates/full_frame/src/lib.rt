@@ -11,7 +11,7 @@ ghost use Prim.Native.Nat.{_<_, _≤_};
 ghost use lib.ListN.{length};
 ghost use Rattle.refusal.specs.Rows.{firstRow};
 ghost use Rattle.trellis.specs.Lists.{laid};
-ghost use Rattle.full_frame.specs.Places.{from, pointsOf, sourceAt, placeIn, inputs, pointIn, fullPart, taken};
+ghost use Rattle.full_frame.specs.Places.{from, pointsOf, sourceAt, placeIn, lentInputs, lentPoint, fullPart, taken};
 ghost use Rattle.full_frame.specs.Rows.{shortInputs, shortFrame, layRows, takeRows, leaves};
 ghost use Rattle.isdbs_frame.specs.Frame.{frameSymbols, mainSymbols, burstPoints, headerSymbols};
 
@@ -32,7 +32,7 @@ pub enum Input {
 // The point of place p of the frame.
 fn point_at(header: &[f64], signal: &[f64], bursts: &[f64], p: usize) -> f64
     requires { ⌜ (p < frameSymbols) × (headerSymbols ≤ length (now header)) × (mainSymbols ≤ length (now signal)) × (burstPoints ≤ length (now bursts)) ⌝ }
-    ensures { λ r. ⌜ r ≡ pointIn (inputs (now (header .entry)) (now (signal .entry)) (now (bursts .entry))) (sourceAt p) ⌝ }
+    ensures { λ r. ⌜ r ≡ lentPoint (lentInputs (now (header .entry)) (now (signal .entry)) (now (bursts .entry))) (sourceAt p) ⌝ }
 {
     if p < HEADER_SYMBOLS {
         return header[p];
@@ -48,7 +48,7 @@ fn point_at(header: &[f64], signal: &[f64], bursts: &[f64], p: usize) -> f64
 // One part of a frame from that part of the three inputs.
 fn lay_part(header: &[f64], signal: &[f64], bursts: &[f64], out: &mut [f64])
     requires { ⌜ (headerSymbols ≤ length (now header)) × (mainSymbols ≤ length (now signal)) × (burstPoints ≤ length (now bursts)) × (frameSymbols ≤ length (now out)) ⌝ }
-    ensures { λ _. ⌜ now (out .exit) ≡ laid (fullPart (inputs (now (header .entry)) (now (signal .entry)) (now (bursts .entry)))) (now (out .entry)) ⌝ }
+    ensures { λ _. ⌜ now (out .exit) ≡ laid (fullPart (lentInputs (now (header .entry)) (now (signal .entry)) (now (bursts .entry)))) (now (out .entry)) ⌝ }
 {
     for p in 0..FRAME_SYMBOLS {
         out[p] = point_at(header, signal, bursts, p);
@@ -141,9 +141,9 @@ pub fn lay(
     re: &mut [f64],
     im: &mut [f64],
 ) -> Answer
-    ensures answers { λ r. ⌜ r ≡ firstRow (layRows (inputs (now («header_re» .entry)) (now («main_re» .entry)) (now («burst_re» .entry))) (inputs (now («header_im» .entry)) (now («main_im» .entry)) (now («burst_im» .entry))) (now (re .entry)) (now (im .entry))) ⌝ }
-    ensures real { λ r. ⌜ now (re .exit) ≡ leaves r (fullPart (inputs (now («header_re» .entry)) (now («main_re» .entry)) (now («burst_re» .entry)))) (now (re .entry)) ⌝ }
-    ensures imaginary { λ r. ⌜ now (im .exit) ≡ leaves r (fullPart (inputs (now («header_im» .entry)) (now («main_im» .entry)) (now («burst_im» .entry)))) (now (im .entry)) ⌝ }
+    ensures answers { λ r. ⌜ r ≡ firstRow (layRows (lentInputs (now («header_re» .entry)) (now («main_re» .entry)) (now («burst_re» .entry))) (lentInputs (now («header_im» .entry)) (now («main_im» .entry)) (now («burst_im» .entry))) (now (re .entry)) (now (im .entry))) ⌝ }
+    ensures real { λ r. ⌜ now (re .exit) ≡ leaves r (fullPart (lentInputs (now («header_re» .entry)) (now («main_re» .entry)) (now («burst_re» .entry)))) (now (re .entry)) ⌝ }
+    ensures imaginary { λ r. ⌜ now (im .exit) ≡ leaves r (fullPart (lentInputs (now («header_im» .entry)) (now («main_im» .entry)) (now («burst_im» .entry)))) (now (im .entry)) ⌝ }
 {
     if short_inputs(header_re.len(), main_re.len(), burst_re.len()) {
         return Answer::Symbols;
@@ -170,7 +170,7 @@ pub fn take_apart(
     burst_re: &mut [f64],
     burst_im: &mut [f64],
 ) -> Answer
-    ensures answers { λ r. ⌜ r ≡ firstRow (takeRows (now (re .entry)) (now (im .entry)) (inputs (now («header_re» .entry)) (now («main_re» .entry)) (now («burst_re» .entry))) (inputs (now («header_im» .entry)) (now («main_im» .entry)) (now («burst_im» .entry)))) ⌝ }
+    ensures answers { λ r. ⌜ r ≡ firstRow (takeRows (now (re .entry)) (now (im .entry)) (lentInputs (now («header_re» .entry)) (now («main_re» .entry)) (now («burst_re» .entry))) (lentInputs (now («header_im» .entry)) (now («main_im» .entry)) (now («burst_im» .entry)))) ⌝ }
     ensures header_real { λ r. ⌜ now («header_re» .exit) ≡ leaves r (taken Input.Header (now (re .entry))) (now («header_re» .entry)) ⌝ }
     ensures header_imaginary { λ r. ⌜ now («header_im» .exit) ≡ leaves r (taken Input.Header (now (im .entry))) (now («header_im» .entry)) ⌝ }
     ensures main_real { λ r. ⌜ now («main_re» .exit) ≡ leaves r (taken Input.Main (now (re .entry))) (now («main_re» .entry)) ⌝ }

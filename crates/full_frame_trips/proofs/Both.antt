@@ -14,7 +14,7 @@ use Rattle.refusal.specs.RowLaws.{neither}
 use Rattle.trellis.specs.LaidLaws.{length-laid-upto}
 use Rattle.full_frame.specs.declared.Input.{Input}
 use Rattle.full_frame.specs.declared.Input.the-variants.{Header, Main, Burst}
-use Rattle.full_frame.specs.Places.{from, pointsOf, sourceAt, placeIn, inputs, pointIn, fullPart, taken}
+use Rattle.full_frame.specs.Places.{from, pointsOf, sourceAt, placeIn, lentInputs, lentPoint, fullPart, taken}
 use Rattle.full_frame.specs.Rows.{inputsShort, shortFrame, layRows, takeRows, leaves}
 use Rattle.full_frame.specs.RowLaws.{inputs-long, LongFrame, frame-long, no-row}
 use Rattle.full_frame.specs.RoundTrips.{taken-laid, full-taken}
@@ -58,7 +58,7 @@ abbrev Taken : Answer → List Float → (Input → List Float) → (Input → L
 Taken a full ins₀ ins = (i : Input) → ins i ≡ leaves a (taken i full) (ins₀ i)
 
 pub each-taken : (a : Answer) (full hs₀ ms₀ bs₀ : List Float) {hs ms bs : List Float} → hs ≡ leaves a (taken Header full) hs₀ → ms ≡ leaves a (taken Main full) ms₀ → bs ≡ leaves a (taken Burst full) bs₀
-    → Taken a full (inputs hs₀ ms₀ bs₀) (inputs hs ms bs)
+    → Taken a full (lentInputs hs₀ ms₀ bs₀) (lentInputs hs ms bs)
 each-taken a full hs₀ ms₀ bs₀ h m b Header = h
 each-taken a full hs₀ ms₀ bs₀ h m b Main = m
 each-taken a full hs₀ ms₀ bs₀ h m b Burst = b
@@ -66,7 +66,7 @@ each-taken a full hs₀ ms₀ bs₀ h m b Burst = b
 -- ---- laying, then taking apart: one part
 module _ (a : Answer) (z : numberOf a ≡ 0) (ins : Input → List Float) (out₀ out : List Float) (e : out ≡ leaves a (fullPart ins) out₀) where
   laid-same : 39936 ≤ length out₀ → length out ≡ length out₀
-  laid-same h = ap length (accepted-is a (fullPart ins) out₀ z e) ∙ length-laid-upto (λ p. pointIn ins (sourceAt p)) 39936 out₀ h
+  laid-same h = ap length (accepted-is a (fullPart ins) out₀ z e) ∙ length-laid-upto (λ p. lentPoint ins (sourceAt p)) 39936 out₀ h
 
   part-back : (b : Answer) (i : Input) (old : List Float) {x : List Float} → pointsOf i ≤ length (ins i) → x ≡ leaves b (taken i out) old → x ≡ leaves b (take (pointsOf i) (ins i)) old
   part-back b i old l h =

@@ -10,7 +10,7 @@ ghost use mathlib.Core.Bool.{_||_};
 ghost use lib.ListN.{take};
 ghost use Rattle.refusal.specs.Rows.{firstRow};
 ghost use Rattle.full_frame.specs.declared.Input.the-variants.{Header, Main, Burst};
-ghost use Rattle.full_frame.specs.Places.{inputs, fullPart, taken};
+ghost use Rattle.full_frame.specs.Places.{lentInputs, fullPart, taken};
 ghost use Rattle.full_frame.specs.Rows.{shortInputs, leaves};
 ghost use Rattle.full_frame_trips.specs.Rows.{layTakeRows, takeLayRows};
 ghost use Rattle.isdbs_frame.specs.Frame.{frameSymbols, mainSymbols, burstPoints, headerSymbols};
@@ -65,9 +65,9 @@ pub fn lay_then_take(
     out_burst_re: &mut [f64],
     out_burst_im: &mut [f64],
 ) -> Answer
-    ensures answers { λ r. ⌜ r ≡ firstRow (layTakeRows (inputs (now («header_re» .entry)) (now («main_re» .entry)) (now («burst_re» .entry))) (inputs (now («header_im» .entry)) (now («main_im» .entry)) (now («burst_im» .entry))) (now (re .entry)) (now (im .entry)) (inputs (now («out_header_re» .entry)) (now («out_main_re» .entry)) (now («out_burst_re» .entry))) (inputs (now («out_header_im» .entry)) (now («out_main_im» .entry)) (now («out_burst_im» .entry)))) ⌝ }
-    ensures real { λ r. ⌜ now (re .exit) ≡ leaves r (fullPart (inputs (now («header_re» .entry)) (now («main_re» .entry)) (now («burst_re» .entry)))) (now (re .entry)) ⌝ }
-    ensures imaginary { λ r. ⌜ now (im .exit) ≡ leaves r (fullPart (inputs (now («header_im» .entry)) (now («main_im» .entry)) (now («burst_im» .entry)))) (now (im .entry)) ⌝ }
+    ensures answers { λ r. ⌜ r ≡ firstRow (layTakeRows (lentInputs (now («header_re» .entry)) (now («main_re» .entry)) (now («burst_re» .entry))) (lentInputs (now («header_im» .entry)) (now («main_im» .entry)) (now («burst_im» .entry))) (now (re .entry)) (now (im .entry)) (lentInputs (now («out_header_re» .entry)) (now («out_main_re» .entry)) (now («out_burst_re» .entry))) (lentInputs (now («out_header_im» .entry)) (now («out_main_im» .entry)) (now («out_burst_im» .entry)))) ⌝ }
+    ensures real { λ r. ⌜ now (re .exit) ≡ leaves r (fullPart (lentInputs (now («header_re» .entry)) (now («main_re» .entry)) (now («burst_re» .entry)))) (now (re .entry)) ⌝ }
+    ensures imaginary { λ r. ⌜ now (im .exit) ≡ leaves r (fullPart (lentInputs (now («header_im» .entry)) (now («main_im» .entry)) (now («burst_im» .entry)))) (now (im .entry)) ⌝ }
     ensures header_real { λ r. ⌜ now («out_header_re» .exit) ≡ leaves r (take headerSymbols (now («header_re» .entry))) (now («out_header_re» .entry)) ⌝ }
     ensures header_imaginary { λ r. ⌜ now («out_header_im» .exit) ≡ leaves r (take headerSymbols (now («header_im» .entry))) (now («out_header_im» .entry)) ⌝ }
     ensures main_real { λ r. ⌜ now («out_main_re» .exit) ≡ leaves r (take mainSymbols (now («main_re» .entry))) (now («out_main_re» .entry)) ⌝ }
@@ -130,7 +130,7 @@ pub fn take_then_lay(
     out_re: &mut [f64],
     out_im: &mut [f64],
 ) -> Answer
-    ensures answers { λ r. ⌜ r ≡ firstRow (takeLayRows (now (re .entry)) (now (im .entry)) (inputs (now («header_re» .entry)) (now («main_re» .entry)) (now («burst_re» .entry))) (inputs (now («header_im» .entry)) (now («main_im» .entry)) (now («burst_im» .entry))) (now («out_re» .entry)) (now («out_im» .entry))) ⌝ }
+    ensures answers { λ r. ⌜ r ≡ firstRow (takeLayRows (now (re .entry)) (now (im .entry)) (lentInputs (now («header_re» .entry)) (now («main_re» .entry)) (now («burst_re» .entry))) (lentInputs (now («header_im» .entry)) (now («main_im» .entry)) (now («burst_im» .entry))) (now («out_re» .entry)) (now («out_im» .entry))) ⌝ }
     ensures real { λ r. ⌜ now («out_re» .exit) ≡ leaves r (take frameSymbols (now (re .entry))) (now («out_re» .entry)) ⌝ }
     ensures imaginary { λ r. ⌜ now («out_im» .exit) ≡ leaves r (take frameSymbols (now (im .entry))) (now («out_im» .entry)) ⌝ }
     ensures header_real { λ r. ⌜ now («header_re» .exit) ≡ leaves r (taken Header (now (re .entry))) (now («header_re» .entry)) ⌝ }

@@ -2,7 +2,7 @@
 ghost use mathlib.Core.Path.{_≡_};
 ghost use Rattle.trellis.specs.Lists.{laid};
 ghost use Rattle.full_frame.specs.declared.Input.the-variants.{Header, Main, Burst};
-ghost use Rattle.full_frame.specs.Places.{inputs, fullPart, taken};
+ghost use Rattle.full_frame.specs.Places.{lentInputs, fullPart, taken};
 ghost use Rattle.full_frame.specs.Rows.{layRows, takeRows};
 ghost use Rattle.answers_c.specs.Answers.{answered, left};
 
@@ -18,9 +18,9 @@ pub extern "C" fn isdbs_lay_frame(
     re: &mut [f64],
     im: &mut [f64],
 ) -> u32
-    ensures answers { λ r. ⌜ r ≡ answered (layRows (inputs (now («header_re» .entry)) (now («main_re» .entry)) (now («burst_re» .entry))) (inputs (now («header_im» .entry)) (now («main_im» .entry)) (now («burst_im» .entry))) (now (re .entry)) (now (im .entry))) ⌝ }
-    ensures real { λ r. ⌜ now (re .exit) ≡ left r (laid (fullPart (inputs (now («header_re» .entry)) (now («main_re» .entry)) (now («burst_re» .entry)))) (now (re .entry))) (now (re .entry)) ⌝ }
-    ensures imaginary { λ r. ⌜ now (im .exit) ≡ left r (laid (fullPart (inputs (now («header_im» .entry)) (now («main_im» .entry)) (now («burst_im» .entry)))) (now (im .entry))) (now (im .entry)) ⌝ }
+    ensures answers { λ r. ⌜ r ≡ answered (layRows (lentInputs (now («header_re» .entry)) (now («main_re» .entry)) (now («burst_re» .entry))) (lentInputs (now («header_im» .entry)) (now («main_im» .entry)) (now («burst_im» .entry))) (now (re .entry)) (now (im .entry))) ⌝ }
+    ensures real { λ r. ⌜ now (re .exit) ≡ left r (laid (fullPart (lentInputs (now («header_re» .entry)) (now («main_re» .entry)) (now («burst_re» .entry)))) (now (re .entry))) (now (re .entry)) ⌝ }
+    ensures imaginary { λ r. ⌜ now (im .exit) ≡ left r (laid (fullPart (lentInputs (now («header_im» .entry)) (now («main_im» .entry)) (now («burst_im» .entry)))) (now (im .entry))) (now (im .entry)) ⌝ }
 {
     let a = full_frame::lay(
         header_re,
@@ -47,7 +47,7 @@ pub extern "C" fn isdbs_take_frame(
     burst_re: &mut [f64],
     burst_im: &mut [f64],
 ) -> u32
-    ensures answers { λ r. ⌜ r ≡ answered (takeRows (now (re .entry)) (now (im .entry)) (inputs (now («header_re» .entry)) (now («main_re» .entry)) (now («burst_re» .entry))) (inputs (now («header_im» .entry)) (now («main_im» .entry)) (now («burst_im» .entry)))) ⌝ }
+    ensures answers { λ r. ⌜ r ≡ answered (takeRows (now (re .entry)) (now (im .entry)) (lentInputs (now («header_re» .entry)) (now («main_re» .entry)) (now («burst_re» .entry))) (lentInputs (now («header_im» .entry)) (now («main_im» .entry)) (now («burst_im» .entry)))) ⌝ }
     ensures header_real { λ r. ⌜ now («header_re» .exit) ≡ left r (laid (taken Header (now (re .entry))) (now («header_re» .entry))) (now («header_re» .entry)) ⌝ }
     ensures header_imaginary { λ r. ⌜ now («header_im» .exit) ≡ left r (laid (taken Header (now (im .entry))) (now («header_im» .entry))) (now («header_im» .entry)) ⌝ }
     ensures main_real { λ r. ⌜ now («main_re» .exit) ≡ left r (laid (taken Main (now (re .entry))) (now («main_re» .entry))) (now («main_re» .entry)) ⌝ }

@@ -5,7 +5,7 @@ ghost use mathlib.Core.Bool.{not};
 ghost use lib.Dec.{eqb};
 ghost use lib.ListN.{set};
 ghost use Rattle.strain_window.specs.Rows.{keptSums, pushRows};
-ghost use Rattle.strain_window.specs.Calls.{totalOf, greatestOf, placeOf, moved};
+ghost use Rattle.strain_window.specs.Calls.{totalOf, greatestOf, pushPlace, pushedState};
 ghost use Rattle.answers_c.specs.Answers.{answered, left};
 ghost use Rattle.isdb_c.specs.Windows.{windowOf};
 
@@ -22,11 +22,11 @@ pub extern "C" fn isdbs_window_push(
     greatest: &mut u32,
 ) -> u32
     ensures answers { λ r. ⌜ r ≡ answered (pushRows (windowOf window (now (fill .entry)) (now (next .entry))) sum (now (kept .entry))) ⌝ }
-    ensures filled { λ r. ⌜ now (fill .exit) ≡ left r (moved (not (eqb clear 0)) (windowOf window (now (fill .entry)) (now (next .entry))) .fill) (now (fill .entry)) ⌝ }
-    ensures follows { λ r. ⌜ now (next .exit) ≡ left r (moved (not (eqb clear 0)) (windowOf window (now (fill .entry)) (now (next .entry))) .next) (now (next .entry)) ⌝ }
-    ensures keeps { λ r. ⌜ now (kept .exit) ≡ left r (set (now (kept .entry)) (placeOf (not (eqb clear 0)) (windowOf window (now (fill .entry)) (now (next .entry)))) sum) (now (kept .entry)) ⌝ }
-    ensures sums { λ r. ⌜ now (total .exit) ≡ left r (totalOf (keptSums (moved (not (eqb clear 0)) (windowOf window (now (fill .entry)) (now (next .entry)))) (now (kept .exit)))) (now (total .entry)) ⌝ }
-    ensures tops { λ r. ⌜ now (greatest .exit) ≡ left r (greatestOf (keptSums (moved (not (eqb clear 0)) (windowOf window (now (fill .entry)) (now (next .entry)))) (now (kept .exit)))) (now (greatest .entry)) ⌝ }
+    ensures filled { λ r. ⌜ now (fill .exit) ≡ left r (pushedState (not (eqb clear 0)) (windowOf window (now (fill .entry)) (now (next .entry))) .fill) (now (fill .entry)) ⌝ }
+    ensures follows { λ r. ⌜ now (next .exit) ≡ left r (pushedState (not (eqb clear 0)) (windowOf window (now (fill .entry)) (now (next .entry))) .next) (now (next .entry)) ⌝ }
+    ensures keeps { λ r. ⌜ now (kept .exit) ≡ left r (set (now (kept .entry)) (pushPlace (not (eqb clear 0)) (windowOf window (now (fill .entry)) (now (next .entry)))) sum) (now (kept .entry)) ⌝ }
+    ensures sums { λ r. ⌜ now (total .exit) ≡ left r (totalOf (keptSums (pushedState (not (eqb clear 0)) (windowOf window (now (fill .entry)) (now (next .entry)))) (now (kept .exit)))) (now (total .entry)) ⌝ }
+    ensures tops { λ r. ⌜ now (greatest .exit) ≡ left r (greatestOf (keptSums (pushedState (not (eqb clear 0)) (windowOf window (now (fill .entry)) (now (next .entry)))) (now (kept .exit)))) (now (greatest .entry)) ⌝ }
 {
     let state = WindowState {
         window,

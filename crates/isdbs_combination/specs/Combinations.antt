@@ -112,10 +112,10 @@ abbrev pub punctureOf : Combination → MaybePuncture
 punctureOf c = figures c .punctured
 
 -- the word that a meaning has
-abbrev pub codeOf : CombinationWord → ℕ
-codeOf (Assigned c) = wordOf c
-codeOf Dummy = 15
-codeOf (Reserved w) = w
+abbrev pub wordValue : CombinationWord → ℕ
+wordValue (Assigned c) = wordOf c
+wordValue Dummy = 15
+wordValue (Reserved w) = w
 
 -- coded bits of a symbol
 abbrev pub symbolBits : Modulation → ℕ

@@ -2,7 +2,7 @@
 // note 3) and their punctured codes (BO.1408-1, Table 2; annexed table 49, note 4).
 ghost use mathlib.Core.Path.{_≡_};
 ghost use Prim.Native.Nat.{_*_};
-ghost use Rattle.isdbs_combination.specs.Combinations.{combinationOf, wordMeans, assignedOf, wordOf, codeOf, modulationOf, symbolBits, rateOf, efficiencyOf, rankOf, unitOf, slotSteps, slotSymbols, punctureOf, pairsFrom, fourPairs, periodOf};
+ghost use Rattle.isdbs_combination.specs.Combinations.{combinationOf, wordMeans, assignedOf, wordOf, wordValue, modulationOf, symbolBits, rateOf, efficiencyOf, rankOf, unitOf, slotSteps, slotSymbols, punctureOf, pairsFrom, fourPairs, periodOf};
 
 // A modulation-code combination of the main signal.
 pub enum Combination {
@@ -116,7 +116,7 @@ impl CombinationWord {
     }
 
     pub fn word(self) -> u8
-        ensures { λ r. ⌜ r ≡ codeOf self ⌝ }
+        ensures { λ r. ⌜ r ≡ wordValue self ⌝ }
     {
         match self {
             CombinationWord::Assigned(c) => c.word(),

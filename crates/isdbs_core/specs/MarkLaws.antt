@@ -13,7 +13,7 @@ use Rattle.isdbs_tables.specs.declared.Table as declared
 use Rattle.isdbs_tables.specs.declared.SlotMark.{SlotMark}
 use Rattle.isdbs_runs.specs.declared.Run.{Run}
 use Rattle.trellis.specs.Lists.{upto}
-use Rattle.isdbs_tables.specs.Tables.{entryCombination, slotSum, partOf, TableAccepted, marked, markIn, markAt, mark, marksOf}
+use Rattle.isdbs_tables.specs.Tables.{entryCombination, slotSum, unfilled, TableAccepted, marked, markIn, markAt, mark, marksOf}
 use Rattle.isdbs_runs.specs.RunsOf.{entryRuns, entrySymbols, runsFrom, validIn, validTotal}
 use Rattle.isdbs_tables.specs.TableLaws.{WholeUnits}
 use Rattle.isdbs_runs.specs.RunLaws.{no-part}
@@ -74,7 +74,7 @@ count-marked c (suc n) = by (marked c n) (count (markIn (Some c)) n) (markedBefo
     by true x y e = omega arith
     by false x y e = omega arith
 
-entry-marked : (m : MaybeCombination) (n slot symbol : ℕ) (rs : List Run) (k : ℕ) → partOf m n ≡ false → k ≡ validIn rs → count (markIn m) n + k ≡ validIn (entryRuns m n slot symbol ++ rs)
+entry-marked : (m : MaybeCombination) (n slot symbol : ℕ) (rs : List Run) (k : ℕ) → unfilled m n ≡ false → k ≡ validIn rs → count (markIn m) n + k ≡ validIn (entryRuns m n slot symbol ++ rs)
 unfolding validIn
 entry-marked (Some c) n slot symbol rs k w e =
     rw (count-marked c n, marked-whole c n (no-part c n w), e)

@@ -15,7 +15,7 @@ use Rattle.isdbs_tables.specs.declared.Table.{Table}
 use Rattle.isdbs_runs.specs.declared.Run.{Run}
 use Rattle.isdbs_frame.specs.Frame.{mainSymbols}
 use Rattle.isdbs_combination.specs.Combinations.{unitOf, slotSteps, slotBits, slotSymbols}
-use Rattle.isdbs_tables.specs.Tables.{slotSum, entryCombination, partOf, TableAccepted}
+use Rattle.isdbs_tables.specs.Tables.{slotSum, entryCombination, unfilled, TableAccepted}
 use Rattle.isdbs_tables.specs.TableLaws.{sum-fits, units-whole}
 use Rattle.isdbs_tables.specs.TableLaws.{WholeUnits}
 use Rattle.isdbs_runs.specs.RunLaws.{entry-units}
@@ -105,7 +105,7 @@ of-cons : (P : Segment → Type 0) {g h : Segment} {gs : List Segment} → P h �
 of-cons P p q here = p
 of-cons P p q (there m) = q m
 
-entry-whole : (c : MaybeCombination) (n slot symbol : ℕ) (rs : List Run) (s b : ℕ) (g : Segment) → partOf c n ≡ false → ((s b : ℕ) → In g (segmentsFrom rs s b) → Whole g)
+entry-whole : (c : MaybeCombination) (n slot symbol : ℕ) (rs : List Run) (s b : ℕ) (g : Segment) → unfilled c n ≡ false → ((s b : ℕ) → In g (segmentsFrom rs s b) → Whole g)
     → In g (segmentsFrom (entryRuns c n slot symbol ++ rs) s b) → Whole g
 unfolding segmentsFrom
 entry-whole (Some c) n slot symbol rs s b g p h m =

@@ -17,7 +17,7 @@ use Rattle.isdbs_tables.specs.declared.Table.{Table}
 use Rattle.isdbs_runs.specs.declared.Run.{Run}
 use Rattle.trellis.specs.Lists.{Each, padded}
 use Rattle.isdbs_combination.specs.Combinations.{unitOf, slotSteps, punctureOf, modulationOf, periodSteps, periodSymbols, stepBits, frameSlots, slotBits, slotSymbols}
-use Rattle.isdbs_tables.specs.Tables.{entryCombination, slotSum, partOf, partUnit}
+use Rattle.isdbs_tables.specs.Tables.{entryCombination, slotSum, unfilled, partUnit}
 use Rattle.isdbs_tables.specs.TableLaws.{WholeUnits}
 use Rattle.isdbs_runs.specs.RunsOf.{unitsIn, symbolsIn, runOf, entryRuns, entrySymbols, runsFrom, runsOf, validIn, validTotal, stepsOf, stepsIn, frameSteps, RunFits}
 use Rattle.trellis.specs.Isdb.{longestFrame}
@@ -114,11 +114,11 @@ module _ (P : Run → Type 0) where
   each-entry (Some c) n slot symbol rs p h = (p c, h)
   each-entry None n slot symbol rs p h = h
 
-pub no-part : (c : Combination) (n : ℕ) → partOf (Some c) n ≡ false → n % unitOf c .slots ≡ 0
+pub no-part : (c : Combination) (n : ℕ) → unfilled (Some c) n ≡ false → n % unitOf c .slots ≡ 0
 no-part c n p = eqb-true (n % unitOf c .slots) 0 (not-false (eqb (n % unitOf c .slots) 0) p)
 
 -- an entry of a combination that row 10 passes: its slots are those of its units
-pub entry-units : (c : Combination) (n : ℕ) → partOf (Some c) n ≡ false → n * slotSymbols ≡ unitsIn c n * (unitOf c .slots * slotSymbols)
+pub entry-units : (c : Combination) (n : ℕ) → unfilled (Some c) n ≡ false → n * slotSymbols ≡ unitsIn c n * (unitOf c .slots * slotSymbols)
 entry-units «Bpsk1_2» n p = let w = no-part «Bpsk1_2» n p in omega arith
 entry-units «Qpsk1_2» n p = let w = no-part «Qpsk1_2» n p in omega arith
 entry-units «Qpsk2_3» n p = let w = no-part «Qpsk2_3» n p in omega arith
@@ -127,7 +127,7 @@ entry-units «Qpsk5_6» n p = let w = no-part «Qpsk5_6» n p in omega arith
 entry-units «Qpsk7_8» n p = let w = no-part «Qpsk7_8» n p in omega arith
 entry-units «Tc8psk2_3» n p = let w = no-part «Tc8psk2_3» n p in omega arith
 
-whole-entry : (m : MaybeCombination) (n slot symbol : ℕ) (rs : List Run) → partOf m n ≡ false → Each Whole rs → Each Whole (entryRuns m n slot symbol ++ rs)
+whole-entry : (m : MaybeCombination) (n slot symbol : ℕ) (rs : List Run) → unfilled m n ≡ false → Each Whole rs → Each Whole (entryRuns m n slot symbol ++ rs)
 whole-entry (Some c) n slot symbol rs w h = (run-whole c n slot symbol (no-part c n w), h)
 whole-entry None n slot symbol rs w h = h
 

@@ -29,12 +29,12 @@ slotSum [] = 0
 slotSum (e ∷ es) = e .slots + slotSum es
 
 -- refusal 10: "an entry with slots that don't fill whole units"
-abbrev pub partOf : MaybeCombination → ℕ → Bool
-partOf (Some c) n = not (eqb (n % unitOf c .slots) 0)
-partOf None n = false
+abbrev pub unfilled : MaybeCombination → ℕ → Bool
+unfilled (Some c) n = not (eqb (n % unitOf c .slots) 0)
+unfilled None n = false
 
 abbrev pub partUnit : Entry → Bool
-partUnit e = partOf (entryCombination e) (e .slots)
+partUnit e = unfilled (entryCombination e) (e .slots)
 
 -- refusal 11: "a reserved word (0 or 8 to 14) with a nonzero slot count"
 abbrev pub slotsReserved : CombinationWord → ℕ → Bool

@@ -8,13 +8,13 @@ use Rattle.isdbt_table.specs.declared.CodeRate.{CodeRate}
 use Rattle.isdbt_c.specs.declared.MaybeRate.{MaybeRate}
 use Rattle.isdbt_c.specs.declared.MaybeRate.the-variants.{Rate, NoRate}
 use Rattle.answers_c.specs.Answers.{answered}
-use Rattle.isdbt_c.specs.Rates.{rateOf, rateRows, byRate}
+use Rattle.isdbt_c.specs.Rates.{rateBy, rateRows, byRate}
 
 -- none of 0 to 4
 abbrev pub Other : ℕ → Type 0
 Other n = (((((Unit × (n ≡ 0 → ⊥)) × (n ≡ 1 → ⊥)) × (n ≡ 2 → ⊥)) × (n ≡ 3 → ⊥)) × (n ≡ 4 → ⊥))
 
-pub other : (n : ℕ) → Other n → NoRate ≡ rateOf n
+pub other : (n : ℕ) → Other n → NoRate ≡ rateBy n
 other zero h = absurd (h .0 .0 .0 .0 .1 refl)
 other (suc zero) h = absurd (h .0 .0 .0 .1 refl)
 other (suc (suc zero)) h = absurd (h .0 .0 .1 refl)

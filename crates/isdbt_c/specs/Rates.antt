@@ -13,8 +13,8 @@ use Rattle.isdbt_c.specs.declared.MaybeRate.the-variants.{Rate, NoRate}
 abbrev pub rates : List MaybeRate
 rates = Rate «R1_2» ∷ Rate «R2_3» ∷ Rate «R3_4» ∷ Rate «R5_6» ∷ Rate «R7_8» ∷ []
 
-abbrev pub rateOf : ℕ → MaybeRate
-rateOf n = getD rates n NoRate
+abbrev pub rateBy : ℕ → MaybeRate
+rateBy n = getD rates n NoRate
 
 -- a call's rows, of which those above row 5 do not depend on the rate; 5: an unknown rate
 abbrev pub rateRows : List Row → MaybeRate → (CodeRate → List Row) → List Row

@@ -17,7 +17,7 @@ ghost use Rattle.isdbt_rows.specs.Rows.{encodeRows, depunctureRows, decodeRows}
 ghost use Rattle.isdbt_fec.specs.Calls.{decodedBits};
 ghost use Rattle.answers_c.specs.Answers.{answered, left};
 ghost use Rattle.answers_c.specs.Lengths.{untilLength};
-ghost use Rattle.isdbt_c.specs.Rates.{rateOf, rateRows, byRate};
+ghost use Rattle.isdbt_c.specs.Rates.{rateBy, rateRows, byRate};
 ghost use Rattle.trellis.specs.Isdb;
 
 // A code rate or none.
@@ -28,7 +28,7 @@ pub enum MaybeRate {
 
 // The rate of a number.
 fn rate_of(rate: u8) -> MaybeRate
-    ensures { λ r. ⌜ r ≡ rateOf rate ⌝ }
+    ensures { λ r. ⌜ r ≡ rateBy rate ⌝ }
 {
     match rate {
         0 => MaybeRate::Rate(CodeRate::R1_2),
@@ -69,10 +69,10 @@ pub extern "C" fn isdbt_encode_punctured(
     out: &mut [u8],
     count: &mut u64,
 ) -> u32
-    ensures answers { λ r. ⌜ r ≡ answered (rateRows (encoderRows (now (state .entry))) (rateOf rate) (λ c. encodeRows c (now (state .entry)) (length (now (bits .entry))) (length (now (out .entry))))) ⌝ }
+    ensures answers { λ r. ⌜ r ≡ answered (rateRows (encoderRows (now (state .entry))) (rateBy rate) (λ c. encodeRows c (now (state .entry)) (length (now (bits .entry))) (length (now (out .entry))))) ⌝ }
     ensures state { λ r. ⌜ now (state .exit) ≡ left r (stateAt Isdb.half (now (state .entry)) (lowBits (now (bits .entry))) (length (now (bits .entry)))) (now (state .entry)) ⌝ }
-    ensures leaves { λ r. ⌜ now (out .exit) ≡ left r (laid (byRate (rateOf rate) [] (λ c. punctured c (now (state .entry)) (now (bits .entry)))) (now (out .entry))) (now (out .entry)) ⌝ }
-    ensures counts { λ r. ⌜ now (count .exit) ≡ left r (byRate (rateOf rate) 0 (λ c. length (now (bits .entry)) / period c * sent c)) (now (count .entry)) ⌝ }
+    ensures leaves { λ r. ⌜ now (out .exit) ≡ left r (laid (byRate (rateBy rate) [] (λ c. punctured c (now (state .entry)) (now (bits .entry)))) (now (out .entry))) (now (out .entry)) ⌝ }
+    ensures counts { λ r. ⌜ now (count .exit) ≡ left r (byRate (rateBy rate) 0 (λ c. length (now (bits .entry)) / period c * sent c)) (now (count .entry)) ⌝ }
 {
     let m = rate_of(rate);
     let MaybeRate::Rate(c) = m else {
@@ -94,9 +94,9 @@ pub extern "C" fn isdbt_encode_punctured(
 // Puts soft values in whole periods back to their places among the mother code's, 0 at those that were not sent.
 #[no_mangle]
 pub extern "C" fn isdbt_depuncture(rate: u8, llrs: &[f32], out: &mut [f32], count: &mut u64) -> u32
-    ensures answers { λ r. ⌜ r ≡ answered (rateRows [] (rateOf rate) (λ c. depunctureRows c (length (now (llrs .entry))) (length (now (out .entry))))) ⌝ }
-    ensures leaves { λ r. ⌜ now (out .exit) ≡ left r (laid (byRate (rateOf rate) [] (λ c. depunctured c (now (llrs .entry)))) (now (out .entry))) (now (out .entry)) ⌝ }
-    ensures counts { λ r. ⌜ now (count .exit) ≡ left r (byRate (rateOf rate) 0 (λ c. length (now (llrs .entry)) / sent c * (2 * period c))) (now (count .entry)) ⌝ }
+    ensures answers { λ r. ⌜ r ≡ answered (rateRows [] (rateBy rate) (λ c. depunctureRows c (length (now (llrs .entry))) (length (now (out .entry))))) ⌝ }
+    ensures leaves { λ r. ⌜ now (out .exit) ≡ left r (laid (byRate (rateBy rate) [] (λ c. depunctured c (now (llrs .entry)))) (now (out .entry))) (now (out .entry)) ⌝ }
+    ensures counts { λ r. ⌜ now (count .exit) ≡ left r (byRate (rateBy rate) 0 (λ c. length (now (llrs .entry)) / sent c * (2 * period c))) (now (count .entry)) ⌝ }
 {
     let m = rate_of(rate);
     let MaybeRate::Rate(c) = m else {
@@ -122,10 +122,10 @@ pub extern "C" fn isdbt_decode_punctured(
     out: &mut [u8],
     count: &mut u64,
 ) -> u32
-    ensures answers { λ r. ⌜ r ≡ answered (rateRows (freshRows traceback) (rateOf rate) (λ c. decodeRows c (now (llrs .entry)) traceback (length (now (decisions .entry))) (length (now (out .entry))))) ⌝ }
+    ensures answers { λ r. ⌜ r ≡ answered (rateRows (freshRows traceback) (rateBy rate) (λ c. decodeRows c (now (llrs .entry)) traceback (length (now (decisions .entry))) (length (now (out .entry))))) ⌝ }
     ensures words { λ r. ⌜ now (decisions .exit) ≡ left r (laid (replicate (block + depth traceback) 0) (now (decisions .entry))) (now (decisions .entry)) ⌝ }
-    ensures leaves { λ r. ⌜ now (out .exit) ≡ left r (laid (byRate (rateOf rate) [] (λ c. decodedBits c (now (llrs .entry)) (depth traceback))) (now (out .entry))) (now (out .entry)) ⌝ }
-    ensures counts { λ r. ⌜ now (count .exit) ≡ left r (byRate (rateOf rate) 0 (λ c. length (now (llrs .entry)) / sent c * period c)) (now (count .entry)) ⌝ }
+    ensures leaves { λ r. ⌜ now (out .exit) ≡ left r (laid (byRate (rateBy rate) [] (λ c. decodedBits c (now (llrs .entry)) (depth traceback))) (now (out .entry))) (now (out .entry)) ⌝ }
+    ensures counts { λ r. ⌜ now (count .exit) ≡ left r (byRate (rateBy rate) 0 (λ c. length (now (llrs .entry)) / sent c * period c)) (now (count .entry)) ⌝ }
 {
     let m = rate_of(rate);
     let MaybeRate::Rate(c) = m else {

@@ -14,7 +14,7 @@ use Rattle.isdbt_table.specs.declared.CodeRate.{CodeRate}
 use Rattle.isdbt_table.specs.declared.CodeRate.the-variants.{R1_2, R2_3, R3_4, R5_6, R7_8}
 use Rattle.isdbt_table.specs.declared.Puncturing.{Puncturing}
 use Rattle.isdbt_table.specs.Table.{period, sent, compiled}
-use Rattle.isdbt_table.specs.Puncture.{mother, place, punctured}
+use Rattle.isdbt_table.specs.Puncture.{mother, bitPlace, punctured}
 use Rattle.trellis.specs.Encoded.{lowBits}
 use Rattle.trellis.specs.LaidLaws.{upto-cong}
 use Rattle.isdbt_table.specs.NumberLaws.{numbers}
@@ -98,7 +98,7 @@ placeBy p n ps j = 2 * p * (j / n) + getD ps (j % n) 0
 
 -- the bits that are sent go on with each period
 module _ (rate : CodeRate) (p : Puncturing) (e : p ≡ compiled rate) (s : ℕ) (bits : List ℕ) where
-  pub place-is : (j : ℕ) → placeBy (p .period) (p .n) (p .order) j ≡ place rate j
+  pub place-is : (j : ℕ) → placeBy (p .period) (p .n) (p .order) j ≡ bitPlace rate j
   place-is j =
       let z = sizes rate in
       let h : j % sent rate < sent rate = mod-lt j (omega arith) in
@@ -118,7 +118,7 @@ module _ (rate : CodeRate) (p : Puncturing) (e : p ≡ compiled rate) (s : ℕ) 
       em k g ∙ ap (λ (x : ℕ). mother x (lowBits (take (p .period) (drop (b * p .period) bits))) k) es
       ∙ part-mother s (b * p .period) (p .period) bits k g ∙ ap (λ (x : ℕ). mother s (lowBits bits) x) (sym there)
     where
-      placed : (i : ℕ) → i < p .n → place rate (b * p .n + i) ≡ 2 * (b * p .period) + getD (p .order) i 0
+      placed : (i : ℕ) → i < p .n → bitPlace rate (b * p .n + i) ≡ 2 * (b * p .period) + getD (p .order) i 0
       placed = rw e (λ (i : ℕ) (h : i < sent rate). place-in rate b i h ∙ ap (λ (x : ℕ). 2 * (b * period rate) + x) (sym (order-at rate i h)))
 
   -- and so does the state
@@ -146,7 +146,7 @@ module _ (rate : CodeRate) (p : Puncturing) (e : p ≡ compiled rate) (s : ℕ) 
       let z = numbers rate p e in
       let count : length bits / p .period * p .n ≡ length bits / period rate * sent rate = rw (z .n-is, z .period-is) refl in
       ap (λ (k : ℕ). upto (λ j. mother s (lowBits bits) (placeBy (p .period) (p .n) (p .order) j)) k) count
-      ∙ upto-cong (λ j. mother s (lowBits bits) (placeBy (p .period) (p .n) (p .order) j)) (λ j. mother s (lowBits bits) (place rate j)) (length bits / period rate * sent rate)
+      ∙ upto-cong (λ j. mother s (lowBits bits) (placeBy (p .period) (p .n) (p .order) j)) (λ j. mother s (lowBits bits) (bitPlace rate j)) (length bits / period rate * sent rate)
       (λ j h. ap (λ (k : ℕ). mother s (lowBits bits) k) (place-is j))
 
 -- the period b lies inside, with its bits and with what is sent for them

@@ -11,8 +11,8 @@ use borrow.Author.Tests.{eqb-true}
 use Rattle.trellis.specs.Lists.{upto}
 use Rattle.isdbt_table.specs.declared.CodeRate.{CodeRate}
 use Rattle.isdbt_table.specs.declared.CodeRate.the-variants.{R1_2, R2_3, R3_4, R5_6, R7_8}
-use Rattle.isdbt_table.specs.Table.{period, sent, order}
-use Rattle.isdbt_table.specs.Puncture.{place, spread, softAt, depunctured, kept}
+use Rattle.isdbt_table.specs.Table.{period, sent, bitOrder}
+use Rattle.isdbt_table.specs.Puncture.{bitPlace, spread, softAt, depunctured, kept}
 use Rattle.viterbi.specs.EachLaws.{all, each}
 use Rattle.trellis.specs.LaidLaws.{upto-cong}
 use Rattle.trellis.specs.ListLaws.{length-upto, getD-upto}
@@ -51,16 +51,16 @@ same-eq true false t = absurd t
 same-eq false true t = absurd t
 same-eq false false t = refl
 
-all-kept : (rate : CodeRate) → T (all (2 * period rate) (λ k. same (has (order rate) k) (kept rate k)))
+all-kept : (rate : CodeRate) → T (all (2 * period rate) (λ k. same (has (bitOrder rate) k) (kept rate k)))
 all-kept R1_2 = tt
 all-kept R2_3 = tt
 all-kept R3_4 = tt
 all-kept R5_6 = tt
 all-kept R7_8 = tt
 
-pub has-kept : (rate : CodeRate) (k : ℕ) → k < 2 * period rate → has (order rate) k ≡ kept rate k
+pub has-kept : (rate : CodeRate) (k : ℕ) → k < 2 * period rate → has (bitOrder rate) k ≡ kept rate k
 has-kept rate k h =
-    same-eq (has (order rate) k) (kept rate k) (each (2 * period rate) (λ k. same (has (order rate) k) (kept rate k)) (all-kept rate) k h)
+    same-eq (has (bitOrder rate) k) (kept rate k) (each (2 * period rate) (λ k. same (has (bitOrder rate) k) (kept rate k)) (all-kept rate) k h)
 
 -- the row's column repeats with the period
 kept-again : (rate : CodeRate) (k : ℕ) → kept rate (k % (2 * period rate)) ≡ kept rate k
@@ -99,7 +99,7 @@ whole R3_4 b = omega arith
 whole R5_6 b = omega arith
 whole R7_8 b = omega arith
 
-length-order : (rate : CodeRate) → length (order rate) ≡ sent rate
+length-order : (rate : CodeRate) → length (bitOrder rate) ≡ sent rate
 length-order R1_2 = refl
 length-order R2_3 = refl
 length-order R3_4 = refl
@@ -109,7 +109,7 @@ length-order R7_8 = refl
 -- The soft values f of the mother bits of b periods, punctured as bits are, and then depunctured
 module _ (rate : CodeRate) (f : ℕ → Float) (b : ℕ) where
   abbrev pub sentValues : List Float
-  sentValues = upto (λ j. f (place rate j)) (b * sent rate)
+  sentValues = upto (λ j. f (bitPlace rate j)) (b * sent rate)
 
   value-at : (k : ℕ) → k < b * (2 * period rate) → softAt rate sentValues k ≡ cond (kept rate k) (f k) (ofBits binary32 0)
   unfolding softAt
@@ -118,18 +118,18 @@ module _ (rate : CodeRate) (f : ℕ → Float) (b : ℕ) where
       let r = k % (2 * period rate) in
       let g : ℕ → Float = λ m. f (2 * (q * period rate) + m) in
       let turn : sent rate * q ≡ q * sent rate = omega arith in
-      let all-there : (i : ℕ) → i < length (order rate) → getD sentValues (sent rate * q + i) nan ≡ g (getD (order rate) i 0) =
+      let all-there : (i : ℕ) → i < length (bitOrder rate) → getD sentValues (sent rate * q + i) nan ≡ g (getD (bitOrder rate) i 0) =
       λ i l.
       let l′ : i < sent rate = rw (length-order rate) at l in
-      getD-upto (λ j. f (place rate j)) nan (b * sent rate) (sent rate * q + i) (below rate b k i h l′)
-      ∙ ap f (ap (λ (m : ℕ). place rate (m + i)) turn ∙ place-in rate q i l′) in
-      spread-has g (order rate) sentValues (sent rate * q) r all-there
+      getD-upto (λ j. f (bitPlace rate j)) nan (b * sent rate) (sent rate * q + i) (below rate b k i h l′)
+      ∙ ap f (ap (λ (m : ℕ). bitPlace rate (m + i)) turn ∙ place-in rate q i l′) in
+      spread-has g (bitOrder rate) sentValues (sent rate * q) r all-there
       ∙ ap (λ (t : Bool). cond t (f (2 * (q * period rate) + r)) (ofBits binary32 0)) (has-kept rate r (inside rate k) ∙ kept-again rate k)
       ∙ ap (λ (m : ℕ). cond (kept rate k) (f m) (ofBits binary32 0)) (split rate k)
 
   pub depunctured-kept : depunctured rate sentValues ≡ upto (λ k. cond (kept rate k) (f k) (ofBits binary32 0)) (b * (2 * period rate))
   unfolding depunctured
   depunctured-kept =
-      let n : length sentValues / sent rate ≡ b = ap (λ (m : ℕ). m / sent rate) (length-upto (λ j. f (place rate j)) (b * sent rate)) ∙ whole rate b in
+      let n : length sentValues / sent rate ≡ b = ap (λ (m : ℕ). m / sent rate) (length-upto (λ j. f (bitPlace rate j)) (b * sent rate)) ∙ whole rate b in
       ap (λ (m : ℕ). upto (softAt rate sentValues) (m * (2 * period rate))) n
       ∙ upto-cong (softAt rate sentValues) (λ k. cond (kept rate k) (f k) (ofBits binary32 0)) (b * (2 * period rate)) value-at

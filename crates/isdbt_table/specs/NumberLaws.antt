@@ -9,7 +9,7 @@ use borrow.Author.Tests.{lt-ltb, le-ltb, ltb-true, ltb-false}
 use Rattle.isdbt_table.specs.declared.CodeRate.{CodeRate}
 use Rattle.isdbt_table.specs.declared.CodeRate.the-variants.{R1_2, R2_3, R3_4, R5_6, R7_8}
 use Rattle.isdbt_table.specs.declared.Puncturing.{Puncturing}
-use Rattle.isdbt_table.specs.Table.{period, sent, order, compiled}
+use Rattle.isdbt_table.specs.Table.{period, sent, bitOrder, compiled}
 use Rattle.isdbt_table.specs.SizeLaws.{Sizes, sizes, in-order}
 
 pub record Numbers (rate : CodeRate) (p : Puncturing) : Type 0 where
@@ -17,7 +17,7 @@ pub record Numbers (rate : CodeRate) (p : Puncturing) : Type 0 where
   pub n-is : p .n ≡ sent rate
   pub order-is : p .order ≡ compiled rate .order
   pub long : length (p .order) ≡ 8
-  pub has-order : take (p .n) (p .order) ≡ order rate
+  pub has-order : take (p .n) (p .order) ≡ bitOrder rate
   pub ranges : Sizes (p .period) (p .n)
 
 eight : (rate : CodeRate) → length (compiled rate .order) ≡ 8

@@ -9,9 +9,9 @@ use Rattle.isdbt_table.specs.declared.PunctureSpec.{PunctureSpec}
 use Rattle.isdbt_table.specs.declared.Puncturing.{Puncturing}
 
 -- a bit of the mother code within a period: output X or Y for the input of that number, counted from 1
-pub data Coded : Type 0 where
-  X : ℕ → Coded
-  Y : ℕ → Coded
+pub data CodedBit : Type 0 where
+  X : ℕ → CodedBit
+  Y : ℕ → CodedBit
 
 -- the rows "X:" and "Y:": 1 where the bit is sent
 abbrev pub rowX : CodeRate → List ℕ
@@ -29,7 +29,7 @@ rowY R5_6 = 1 ∷ 1 ∷ 0 ∷ 1 ∷ 0 ∷ []
 rowY R7_8 = 1 ∷ 1 ∷ 1 ∷ 1 ∷ 0 ∷ 1 ∷ 0 ∷ []
 
 -- the transmission-signal sequence
-abbrev pub sequence : CodeRate → List Coded
+abbrev pub sequence : CodeRate → List CodedBit
 sequence R1_2 = X 1 ∷ Y 1 ∷ []
 sequence R2_3 = X 1 ∷ Y 1 ∷ Y 2 ∷ []
 sequence R3_4 = X 1 ∷ Y 1 ∷ Y 2 ∷ X 3 ∷ []
@@ -44,20 +44,20 @@ abbrev pub sent : CodeRate → ℕ
 sent rate = length (sequence rate)
 
 -- the mother code's bits of a period are numbered X1, Y1, X2, Y2, .. from 0
-abbrev pub letter : Coded → ℕ
+abbrev pub letter : CodedBit → ℕ
 letter (X i) = 0
 letter (Y i) = 1
 
-abbrev pub index : Coded → ℕ
+abbrev pub index : CodedBit → ℕ
 index (X i) = i
 index (Y i) = i
 
-abbrev pub number : Coded → ℕ
+abbrev pub number : CodedBit → ℕ
 number b = 2 * (index b - 1) + letter b
 
 -- the mother bits that are sent of a period, in their order
-abbrev pub order : CodeRate → List ℕ
-order rate = map number (sequence rate)
+abbrev pub bitOrder : CodeRate → List ℕ
+bitOrder rate = map number (sequence rate)
 
 -- the rates in the table's order
 abbrev pub rowOf : CodeRate → ℕ
@@ -82,4 +82,4 @@ specOf rate =
 
 -- the sequence compiled to mother bits
 abbrev pub compiled : CodeRate → Puncturing
-compiled rate = record { period = period rate; n = sent rate; order = padded 8 0 (order rate) }
+compiled rate = record { period = period rate; n = sent rate; order = padded 8 0 (bitOrder rate) }

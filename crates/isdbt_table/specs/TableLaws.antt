@@ -6,10 +6,10 @@ use Prim.Native.Nat.{ℕ, _+_}
 use lib.Dec.{eqb}
 use Rattle.isdbt_table.specs.declared.CodeRate.{CodeRate}
 use Rattle.isdbt_table.specs.declared.CodeRate.the-variants.{R1_2, R2_3, R3_4, R5_6, R7_8}
-use Rattle.isdbt_table.specs.Table.{Coded, X, Y, rowX, rowY, sequence}
+use Rattle.isdbt_table.specs.Table.{CodedBit, X, Y, rowX, rowY, sequence}
 
 -- the bits whose row has a 1, as X1, Y1, X2, Y2, ..; i is the number of the rows' first input
-abbrev pub marked : List ℕ → List ℕ → ℕ → List Coded
+abbrev pub marked : List ℕ → List ℕ → ℕ → List CodedBit
 marked [] ys i = []
 marked (x ∷ xs) [] i = []
 marked (x ∷ xs) (y ∷ ys) i =

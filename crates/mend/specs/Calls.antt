@@ -7,7 +7,7 @@ use lib.ListN.{length, replicate}
 use Rattle.refusal.specs.Rows.{firstRow, Either}
 use Rattle.refusal.specs.declared.Answer.the-variants.{Unmendable}
 use Rattle.trellis.specs.Lists.{laid}
-use Rattle.mend_distance.specs.Stretches.{sentFrom, changed, Within}
+use Rattle.mend_distance.specs.Stretches.{sentFrom, changed, WithinFour}
 use Rattle.mend.specs.declared.Mended.{Mended}
 use Rattle.mend.specs.Rows.{mendRows}
 use Rattle.trellis.specs.Isdb.{frameWords}
@@ -17,7 +17,7 @@ use Rattle.trellis.specs.Isdb
 -- list places past the changed positions are as before"
 pub record Mends (s e : ℕ) (bits : List ℕ) (r : Mended) (decisions₀ decisions out₀ out list₀ list : List ℕ) : Type 0 where
   pub inputs : List ℕ
-  pub within : Within (s % Isdb.states) (e % Isdb.states) bits inputs
+  pub within : WithinFour (s % Isdb.states) (e % Isdb.states) bits inputs
   pub out-is : out ≡ laid (sentFrom (s % Isdb.states) inputs) out₀
   pub count-is : r .count ≡ length (changed 0 (sentFrom (s % Isdb.states) inputs) bits)
   pub list-is : list ≡ laid (changed 0 (sentFrom (s % Isdb.states) inputs) bits) list₀
@@ -36,4 +36,4 @@ pub record Called (s e : ℕ) (bits : List ℕ) (r : Mended) (decisions₀ decis
   pub far : Bool
   pub answers : r .answer ≡ firstRow (mendRows bits (length decisions₀) (length out₀) (length list₀) far)
   pub leaves : Either (r .answer) (Mends s e bits r decisions₀ decisions out₀ out list₀ list) (Unchanged r decisions₀ decisions out₀ out list₀ list)
-  pub none : r .answer ≡ Unmendable → (us : List ℕ) → Within (s % Isdb.states) (e % Isdb.states) bits us → ⊥
+  pub none : r .answer ≡ Unmendable → (us : List ℕ) → WithinFour (s % Isdb.states) (e % Isdb.states) bits us → ⊥

@@ -18,7 +18,7 @@ use Rattle.trellis.specs.Encoded.{reached}
 use Rattle.trellis.specs.Stretch.{Bits}
 use Rattle.trellis.specs.Lists.{laid}
 use Rattle.trellis.specs.LaidLaws.{take-laid}
-use Rattle.mend_distance.specs.Stretches.{mostChanged, sentFrom, unlike, changed, Within}
+use Rattle.mend_distance.specs.Stretches.{mostChanged, sentFrom, unlike, changed, WithinFour}
 use Rattle.mend_distance.specs.StretchLaws.{unique, unlike-self, length-changed, length-sent, bits-sent}
 use Rattle.mend.specs.declared.Mended.{Mended}
 use Rattle.mend.specs.Rows.{mostSteps, places, mostBits, lentRows}
@@ -48,7 +48,7 @@ module _ (s e : ℕ) (bits : List ℕ) (r : Mended) (decisions₀ decisions out�
       (both-passed (lentRows bits (length decisions₀) (length out₀) (length list₀)) ((Unmendable, call .far) ∷ []) tt (sym (call .answers) ∙ ok) .0) .are-bits
 
   -- "No other within four exists, by P6": whatever coded stretch between the states lies within four is the one put out
-  pub only : r .answer ≡ Accepted → (us : List ℕ) → Within (s % 64) (e % 64) bits us → take (length bits) out ≡ sentFrom (s % 64) us
+  pub only : r .answer ≡ Accepted → (us : List ℕ) → WithinFour (s % 64) (e % 64) bits us → take (length bits) out ≡ sentFrom (s % 64) us
   only ok us w =
       let m = call .leaves .0 ok in
       let same : m .inputs ≡ us = unique (s % 64) (e % 64) bits (m .inputs) us start-below (bits-of ok) (m .within) w in
@@ -62,7 +62,7 @@ module _ (s e : ℕ) (bits : List ℕ) (r : Mended) (decisions₀ decisions out�
 
   -- "15 if and only if no coded stretch between those states lies within four bits, checked last": where rows 5 and 9 do not hold and there is none, the answer is 15. That there is
   -- none where the answer is 15 is `none` of the call
-  pub fifteen : firstRow (lentRows bits (length decisions₀) (length out₀) (length list₀)) ≡ Accepted → ((us : List ℕ) → Within (s % 64) (e % 64) bits us → ⊥) → r .answer ≡ Unmendable
+  pub fifteen : firstRow (lentRows bits (length decisions₀) (length out₀) (length list₀)) ≡ Accepted → ((us : List ℕ) → WithinFour (s % 64) (e % 64) bits us → ⊥) → r .answer ≡ Unmendable
   fifteen ok free =
       ⊎-elim
       (λ yes. let m = call .leaves .0 (last-row ok ∙ yes) in absurd (free (m .inputs) (m .within)))
@@ -80,7 +80,7 @@ module _ (s e : ℕ) (bits : List ℕ) (r : Mended) (decisions₀ decisions out�
     are-bits : Bits bits
     are-bits = rw coded (bits-sent us (s % 64))
 
-    itself : Within (s % 64) (e % 64) bits us
+    itself : WithinFour (s % 64) (e % 64) bits us
     itself =
         let z = unlike-self bits in
         record { count = long; inputs = inputs; ends = ends; four = subst (λ (l : List ℕ). unlike l bits ≤ mostChanged) coded (omega arith) }

@@ -13,7 +13,7 @@ use Rattle.trellis.specs.RunLaws.{label-under}
 use Rattle.trellis.specs.Stretch.{apart, Bits}
 use Rattle.trellis.specs.DistanceLaws.{bits-at}
 use Rattle.trellis.specs.LaidLaws.{length-laid}
-use Rattle.mend_distance.specs.Stretches.{mostChanged, unlike, sentFrom, Within}
+use Rattle.mend_distance.specs.Stretches.{mostChanged, unlike, sentFrom, WithinFour}
 use Rattle.mend_distance.specs.StretchLaws.{label-x, label-y, pair-apart, length-sent}
 use Rattle.mend_distance.specs.Distances.{pairAt, through, odd, word, nearest, wordAt}
 use Rattle.mend_distance.specs.DistanceLaws.{chosen, next-at, from-start}
@@ -30,7 +30,7 @@ pub record Tail (start e : ℕ) (bits out₀ : List ℕ) (t s : ℕ) (out : List
 -- what is written once it is traced: the coded stretch within four
 pub record Writes (start e : ℕ) (bits out₀ out : List ℕ) : Type 0 where
   pub inputs : List ℕ
-  pub within : Within start e bits inputs
+  pub within : WithinFour start e bits inputs
   pub out-is : out ≡ laid (sentFrom start inputs) out₀
 
 -- the words that are kept

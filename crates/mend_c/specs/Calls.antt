@@ -4,7 +4,7 @@ use mathlib.Core.Bool.{Bool}
 use mathlib.Core.List.{List}
 use Prim.Native.Nat.{ℕ, _%_}
 use Rattle.refusal.specs.declared.Answer.the-variants.{Accepted}
-use Rattle.mend_distance.specs.Stretches.{Within}
+use Rattle.mend_distance.specs.Stretches.{WithinFour}
 use Rattle.mend.specs.Rows.{mendRows}
 use Rattle.mend.specs.Calls.{Mends}
 use Rattle.answers_c.specs.Answers.{answered}
@@ -19,4 +19,4 @@ pub record Answers (bits : List ℕ) (decisions out list answer : ℕ) : Type 0 
 pub record Left (s e : ℕ) (bits : List ℕ) (answer count₀ count : ℕ) (decisions₀ decisions out₀ out list₀ list : List ℕ) : Type 0 where
   pub mends : answer ≡ 0 → Mends s e bits (record { answer = Accepted; count = count }) decisions₀ decisions out₀ out list₀ list
   pub keeps : (answer ≡ 0 → ⊥) → (count ≡ count₀) × (decisions ≡ decisions₀) × (out ≡ out₀) × (list ≡ list₀)
-  pub none : answer ≡ 15 → (us : List ℕ) → Within (s % Isdb.states) (e % Isdb.states) bits us → ⊥
+  pub none : answer ≡ 15 → (us : List ℕ) → WithinFour (s % Isdb.states) (e % Isdb.states) bits us → ⊥

@@ -15,7 +15,7 @@ use Rattle.trellis.specs.ListLaws.{length-upto, getD-upto}
 use Rattle.trellis.specs.Stretch.{apart, Bits}
 use Rattle.trellis.specs.DistanceLaws.{wrong, labelsOf, bits-at}
 use Rattle.trellis.specs.WrittenLaws.{lt-or-ge}
-use Rattle.mend_distance.specs.Stretches.{mostChanged, Within}
+use Rattle.mend_distance.specs.Stretches.{mostChanged, WithinFour}
 use Rattle.mend_distance.specs.StretchLaws.{by-labels}
 use Rattle.mend_distance.specs.Distances.{pairAt, far, through, next, nexts, odd, begun, nearest, Capped, least, unmendable}
 use Rattle.trellis.specs.Isdb
@@ -107,7 +107,7 @@ module _ (s : ℕ) (r : ℕ → ℕ) where
       omega arith
 
 -- where a coded stretch lies within four, the number of the end state is at most 4
-pub within-least : (s e : ℕ) (bits us : List ℕ) → s < 64 → Bits bits → Within s e bits us → least s e bits ≤ mostChanged
+pub within-least : (s e : ℕ) (bits us : List ℕ) → s < 64 → Bits bits → WithinFour s e bits us → least s e bits ≤ mostChanged
 within-least s e bits us hs hb w =
     let c : length bits / 2 ≡ length us = let a = w .count in omega arith in
     let a = at-most s (pairAt bits) hs us (w .inputs) (length us) in
@@ -118,7 +118,7 @@ within-least s e bits us hs hb w =
     rw c g
 
 -- "15 if .. no coded stretch between those states lies within four bits": where the table says so, there is none
-pub none-within : (s e : ℕ) (bits : List ℕ) → s < 64 → Bits bits → unmendable s e bits ≡ true → (us : List ℕ) → Within s e bits us → ⊥
+pub none-within : (s e : ℕ) (bits : List ℕ) → s < 64 → Bits bits → unmendable s e bits ≡ true → (us : List ℕ) → WithinFour s e bits us → ⊥
 unfolding unmendable
 none-within s e bits hs hb h us w =
     let a = ltb-true mostChanged (least s e bits) h in

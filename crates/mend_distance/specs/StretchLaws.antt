@@ -13,7 +13,7 @@ use Rattle.trellis.specs.EncodedLaws.{length-encoded, encoded-at}
 use Rattle.trellis.specs.RunLaws.{label-under}
 use Rattle.trellis.specs.Stretch.{apart, differing, Bits}
 use Rattle.trellis.specs.DistanceLaws.{same-or-ten, wrong, first-out, by-place, wrong-same, triangle, labelsOf}
-use Rattle.mend_distance.specs.Stretches.{unlike, changed, sentFrom, Within}
+use Rattle.mend_distance.specs.Stretches.{unlike, changed, sentFrom, WithinFour}
 use Rattle.mend_distance.specs.Distances.{pairAt}
 use Rattle.trellis.specs.Isdb
 
@@ -91,7 +91,7 @@ bits-sent [] s = tt
 bits-sent (u ∷ us) s = let h = label-under isdb u s in (omega arith, (omega arith, bits-sent us (moved 32 u s)))
 
 -- ---- "No other within four exists, by P6"
-pub unique : (s e : ℕ) (bits us vs : List ℕ) → s < 64 → Bits bits → Within s e bits us → Within s e bits vs → us ≡ vs
+pub unique : (s e : ℕ) (bits us vs : List ℕ) → s < 64 → Bits bits → WithinFour s e bits us → WithinFour s e bits vs → us ≡ vs
 unique s e bits us vs hs hb p q =
     let n : length us ≡ length vs = let a = p .count in let b = q .count in omega arith in
     let x = encoded isdb s us in

@@ -30,7 +30,7 @@ abbrev pub sentFrom : ℕ → List ℕ → List ℕ
 sentFrom s us = bitsOf (encoded isdb s us)
 
 -- "the coded stretch that differs in at most four bits", between the states s and e: that of the inputs us
-pub record Within (s e : ℕ) (bits us : List ℕ) : Type 0 where
+pub record WithinFour (s e : ℕ) (bits us : List ℕ) : Type 0 where
   pub count : length bits ≡ 2 * length us
   pub inputs : Bits us
   pub ends : reached isdb s us ≡ e

@@ -14,8 +14,8 @@ use Rattle.trellis.specs.EncodedLaws.{reached-is}
 use Rattle.isdbs_points.specs.Frame.{labelAt, codedBit}
 use Rattle.isdbt_table.specs.declared.CodeRate.{CodeRate}
 use Rattle.isdbt_table.specs.declared.CodeRate.the-variants.{R1_2, R2_3, R3_4, R5_6, R7_8}
-use Rattle.isdbt_table.specs.Table.{order, period, sent}
-use Rattle.isdbt_table.specs.Puncture.{mother, place, punctured}
+use Rattle.isdbt_table.specs.Table.{bitOrder, period, sent}
+use Rattle.isdbt_table.specs.Puncture.{mother, bitPlace, punctured}
 use Rattle.isdbt_table.specs.SizeLaws.{order-below}
 use Rattle.overlay.specs.Overlaid.{overlaid, chosen}
 use Rattle.overlay.specs.OverlaidLaws.{length-overlaid}
@@ -34,7 +34,7 @@ mother-is : (s : ℕ) (us : List ℕ) (k : ℕ) → mother s us k ≡ codedBit k
 unfolding mother
 mother-is s us k = pick (eqb (k % 2) 0) (getD us (k / 2) 0) (stateAt 32 s us (k / 2))
 
-place-below : (rate : CodeRate) (m j : ℕ) → getD (order rate) (j % sent rate) 0 < 2 * period rate → j < m / period rate * sent rate → place rate j < 2 * m
+place-below : (rate : CodeRate) (m j : ℕ) → getD (bitOrder rate) (j % sent rate) 0 < 2 * period rate → j < m / period rate * sent rate → bitPlace rate j < 2 * m
 place-below R1_2 m j b h = omega arith
 place-below R2_3 m j b h = omega arith
 place-below R3_4 m j b h = omega arith
@@ -50,13 +50,13 @@ turn R7_8 j = omega arith
 
 -- the places of the mother bits that are sent for n inputs
 abbrev pub sentPlaces : CodeRate → ℕ → List ℕ
-sentPlaces rate n = upto (place rate) (n / period rate * sent rate)
+sentPlaces rate n = upto (bitPlace rate) (n / period rate * sent rate)
 
 pub punctured-chosen : (rate : CodeRate) (s : ℕ) (us : List ℕ) → punctured rate s us ≡ chosen (sentPlaces rate (length us)) (codedBits isdb s us)
 unfolding punctured
 punctured-chosen rate s us =
-    kept-is s us (λ j. mother s (lowBits us) (place rate j)) (place rate) (length us / period rate * sent rate)
-    (λ j h. (place-below rate (length us) j (order-below rate (j % sent rate) (turn rate j)) h, mother-is s (lowBits us) (place rate j)))
+    kept-is s us (λ j. mother s (lowBits us) (bitPlace rate j)) (bitPlace rate) (length us / period rate * sent rate)
+    (λ j h. (place-below rate (length us) j (order-below rate (j % sent rate) (turn rate j)) h, mother-is s (lowBits us) (bitPlace rate j)))
 
 module _ (us vs : List ℕ) (e : length us ≡ length vs) (s r : ℕ) (hs : s < 64) (hr : r < 64) where
   -- THE THEOREM

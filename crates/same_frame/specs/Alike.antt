@@ -7,7 +7,7 @@ use lib.ListN.{getD}
 use lib.Ieee.{Float, nan, ne}
 use Rattle.isdbs_tables.specs.declared.Table.{Table}
 use Rattle.isdbs_points.specs.declared.Mapping.{Mapping}
-use Rattle.wanted.specs.Wanted.{Encodes}
+use Rattle.wanted.specs.Wanted.{EncodesTo}
 
 -- two f64 have the same bits; a NaN is not compared
 pub record Same (x y : Float) (r : Bool) : Type 0 where
@@ -21,5 +21,5 @@ pub record SameParts (xs ys : List Float) (n : ℕ) (r : Bool) : Type 0 where
 
 -- whether a load encodes to the frame
 pub record Matches (t : Table) (m : Mapping) (first : Bool) (re im : List Float) (load : List ℕ) (r : Bool) : Type 0 where
-  pub yes : r ≡ true → Encodes t m first re im load
-  pub no : r ≡ false → Encodes t m first re im load → ⊥
+  pub yes : r ≡ true → EncodesTo t m first re im load
+  pub no : r ≡ false → EncodesTo t m first re im load → ⊥

@@ -19,7 +19,7 @@ use Rattle.trellis.specs.Encoded.{lowBits, codedBits, lastState}
 use Rattle.trellis.specs.EncodedLaws.{reached-is}
 use Rattle.isdbt_table.specs.declared.CodeRate.the-variants.{R1_2}
 use Rattle.isdbt_fec.specs.declared.conv.Encoded as isdbt
-use Rattle.isdbt_table.specs.Puncture.{mother, place, punctured}
+use Rattle.isdbt_table.specs.Puncture.{mother, bitPlace, punctured}
 use Rattle.isdbt_rows.specs.Rows as isdbt-rows
 use Rattle.isdbt_fec.specs.Calls.{Encodes, Unencoded}
 use Rattle.short_code.specs.Codes.{codeOf}
@@ -41,7 +41,7 @@ either-bit zero h = refl
 either-bit (suc zero) h = refl
 either-bit (suc (suc r)) h = absurd (omega arith)
 
-place-is : (j : ℕ) → place R1_2 j ≡ j
+place-is : (j : ℕ) → bitPlace R1_2 j ≡ j
 place-is j = let e = either-bit (j % 2) (omega arith) in omega arith
 
 module _ (s : ℕ) (us : List ℕ) where
@@ -63,7 +63,7 @@ module _ (s : ℕ) (us : List ℕ) where
   pub coded-punctured : codedBits (codeOf isdbCode) s us ≡ punctured R1_2 s us
   unfolding punctured
   coded-punctured =
-      let f : ℕ → ℕ = λ j. mother s (lowBits us) (place R1_2 j) in
+      let f : ℕ → ℕ = λ j. mother s (lowBits us) (bitPlace R1_2 j) in
       let n : length us / 1 * 2 ≡ 2 * length us = omega arith in
       let l = length-coded isdbCode s us in
       sym

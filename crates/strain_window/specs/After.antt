@@ -11,26 +11,26 @@ use lib.ListN.{length, take, set, length-set}
 use lib.Seq.{take-suc-set, take-set-lt, length-take-le}
 use Rattle.refusal.specs.RowLaws.{neither}
 use Rattle.strain_window.specs.declared.WindowState.{WindowState}
-use Rattle.strain_window.specs.Rows.{mostSum, someAbove, badState, keptSums, outside}
-use Rattle.strain_window.specs.Calls.{placeOf, fillAfter, moved}
+use Rattle.strain_window.specs.Rows.{mostSum, sumAbove, badState, keptSums, badWindow}
+use Rattle.strain_window.specs.Calls.{pushPlace, fillAfter, pushedState}
 use Rattle.strain_window.specs.WindowLaws.{Sound, sound}
 
 -- what row 14 and row 9 leave of an accepted push
 pub record Allowed (v : WindowState) (sum : ℕ) (kept : List ℕ) : Type 0 where
   pub state-sound : Sound v
   pub sum-below : ltb mostSum sum ≡ false
-  pub kept-below : someAbove (keptSums v kept) ≡ false
+  pub kept-below : sumAbove (keptSums v kept) ≡ false
   pub room : v .window ≤ length kept
 
-pub allowed : (v : WindowState) (sum : ℕ) (kept : List ℕ) → outside v sum kept ≡ false → v .window ≤ length kept → Allowed v sum kept
+pub allowed : (v : WindowState) (sum : ℕ) (kept : List ℕ) → badWindow v sum kept ≡ false → v .window ≤ length kept → Allowed v sum kept
 allowed v sum kept e h =
-    let a = neither (badState v || ltb mostSum sum) (someAbove (keptSums v kept)) e in
+    let a = neither (badState v || ltb mostSum sum) (sumAbove (keptSums v kept)) e in
     let b = neither (badState v) (ltb mostSum sum) (a .0) in
     record { state-sound = sound v (b .0); sum-below = b .1; kept-below = a .1; room = h }
 
 -- the kept sums of the next state
 abbrev pub nextSums : Bool → WindowState → ℕ → List ℕ → List ℕ
-nextSums clear v sum kept = keptSums (moved clear v) (set kept (placeOf clear v) sum)
+nextSums clear v sum kept = keptSums (pushedState clear v) (set kept (pushPlace clear v) sum)
 
 -- ---- the three cases
 module _ (v : WindowState) (sum : ℕ) (kept : List ℕ) (s : Sound v) (room : v .window ≤ length kept) where
@@ -49,26 +49,26 @@ module _ (v : WindowState) (sum : ℕ) (kept : List ℕ) (s : Sound v) (room : v
       rw e (take-set-lt (v .fill) kept (v .next) sum (omega arith))
 
 -- ---- no sum is above the most
-above-append : (xs ys : List ℕ) → someAbove xs ≡ false → someAbove ys ≡ false → someAbove (xs ++ ys) ≡ false
-unfolding someAbove
+above-append : (xs ys : List ℕ) → sumAbove xs ≡ false → sumAbove ys ≡ false → sumAbove (xs ++ ys) ≡ false
+unfolding sumAbove
 above-append [] ys e f = f
 above-append (x ∷ xs) ys e f =
-    let n = neither (ltb mostSum x) (someAbove xs) e in
+    let n = neither (ltb mostSum x) (sumAbove xs) e in
     rw (n .0) (above-append xs ys (n .1) f)
 
-above-one : (x : ℕ) → ltb mostSum x ≡ false → someAbove (x ∷ []) ≡ false
-unfolding someAbove
+above-one : (x : ℕ) → ltb mostSum x ≡ false → sumAbove (x ∷ []) ≡ false
+unfolding sumAbove
 above-one x e = rw e refl
 
-above-set : (xs : List ℕ) (i x : ℕ) → someAbove xs ≡ false → ltb mostSum x ≡ false → someAbove (set xs i x) ≡ false
-unfolding someAbove
+above-set : (xs : List ℕ) (i x : ℕ) → sumAbove xs ≡ false → ltb mostSum x ≡ false → sumAbove (set xs i x) ≡ false
+unfolding sumAbove
 above-set [] i x e f = refl
-above-set (y ∷ xs) zero x e f = rw f (neither (ltb mostSum y) (someAbove xs) e .1)
+above-set (y ∷ xs) zero x e f = rw f (neither (ltb mostSum y) (sumAbove xs) e .1)
 above-set (y ∷ xs) (suc i) x e f =
-    let n = neither (ltb mostSum y) (someAbove xs) e in
+    let n = neither (ltb mostSum y) (sumAbove xs) e in
     rw (n .0) (above-set xs i x (n .1) f)
 
-pub next-below : (clear : Bool) (v : WindowState) (sum : ℕ) (kept : List ℕ) → Allowed v sum kept → someAbove (nextSums clear v sum kept) ≡ false
+pub next-below : (clear : Bool) (v : WindowState) (sum : ℕ) (kept : List ℕ) → Allowed v sum kept → sumAbove (nextSums clear v sum kept) ≡ false
 next-below true v sum kept a = rw (after-clear v sum kept (a .state-sound) (a .room)) (above-one sum (a .sum-below))
 next-below false v sum kept a =
     ⊎-elim
@@ -77,7 +77,7 @@ next-below false v sum kept a =
     (eq-or-lt-of-le (a .state-sound .filled))
 
 -- ---- the numbers of the next state
-pub place-below : (clear : Bool) (v : WindowState) → Sound v → placeOf clear v < v .window
+pub place-below : (clear : Bool) (v : WindowState) → Sound v → pushPlace clear v < v .window
 place-below true v s = s .least
 place-below false v s = s .below
 
@@ -92,9 +92,9 @@ pub record Written (clear : Bool) (v : WindowState) (sum : ℕ) (kept : List ℕ
   pub front-length : length (take n (set kept p sum)) ≡ n
   pub front-most : length (take n (set kept p sum)) ≤ 256
   pub front-is : take n (set kept p sum) ≡ nextSums clear v sum kept
-  pub front-below : someAbove (take n (set kept p sum)) ≡ false
+  pub front-below : sumAbove (take n (set kept p sum)) ≡ false
 
-pub written : {v : WindowState} {sum : ℕ} {kept : List ℕ} {p n : ℕ} (clear : Bool) → Allowed v sum kept → p ≡ placeOf clear v → n ≡ fillAfter clear v → Written clear v sum kept p n
+pub written : {v : WindowState} {sum : ℕ} {kept : List ℕ} {p n : ℕ} (clear : Bool) → Allowed v sum kept → p ≡ pushPlace clear v → n ≡ fillAfter clear v → Written clear v sum kept p n
 written {v} {sum} {kept} {p} {n} clear ok place-is fill-is =
     let place = place-below clear v (ok .state-sound) in
     let fill = fill-within clear v (ok .state-sound) in

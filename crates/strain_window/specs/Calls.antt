@@ -19,22 +19,22 @@ greatestOf [] = 0
 greatestOf (x ∷ xs) = max x (greatestOf xs)
 
 -- "kept at place 0" of a clearing push, else at the next place
-abbrev pub placeOf : Bool → WindowState → ℕ
-placeOf clear v = cond clear 0 (v .next)
+abbrev pub pushPlace : Bool → WindowState → ℕ
+pushPlace clear v = cond clear 0 (v .next)
 
 -- a clearing push "counts itself as the first"
 abbrev pub fillAfter : Bool → WindowState → ℕ
 fillAfter clear v = cond clear 1 (min (v .fill + 1) (v .window))
 
-abbrev pub moved : Bool → WindowState → WindowState
-moved clear v = record { window = v .window; fill = fillAfter clear v; next = (placeOf clear v + 1) % v .window }
+abbrev pub pushedState : Bool → WindowState → WindowState
+pushedState clear v = record { window = v .window; fill = fillAfter clear v; next = (pushPlace clear v + 1) % v .window }
 
 -- what an accepted push leaves: "A push writes no place but its own"
 pub record Pushes (v : WindowState) (clear : Bool) (sum : ℕ) (r : Pushed) (kept₀ kept : List ℕ) : Type 0 where
-  pub state-is : r .state ≡ moved clear v
-  pub kept-is : kept ≡ set kept₀ (placeOf clear v) sum
-  pub total-is : r .total ≡ totalOf (keptSums (moved clear v) kept)
-  pub greatest-is : r .greatest ≡ greatestOf (keptSums (moved clear v) kept)
+  pub state-is : r .state ≡ pushedState clear v
+  pub kept-is : kept ≡ set kept₀ (pushPlace clear v) sum
+  pub total-is : r .total ≡ totalOf (keptSums (pushedState clear v) kept)
+  pub greatest-is : r .greatest ≡ greatestOf (keptSums (pushedState clear v) kept)
 
 -- "states come back as given and no buffer changes"; total and greatest, which document 01 leaves free for a refused push, are 0
 pub record Unchanged (v : WindowState) (r : Pushed) (kept₀ kept : List ℕ) : Type 0 where

@@ -16,7 +16,7 @@ use Rattle.refusal.specs.declared.Answer.the-variants.{Accepted, Window, Space}
 use Rattle.strain_window.specs.declared.WindowState.{WindowState}
 use Rattle.strain_window.specs.declared.Pushed.{Pushed}
 use Rattle.strain_window.specs.Rows.{keptSums, pushRows}
-use Rattle.strain_window.specs.Calls.{totalOf, greatestOf, placeOf, fillAfter, moved, Pushes, Called}
+use Rattle.strain_window.specs.Calls.{totalOf, greatestOf, pushPlace, fillAfter, pushedState, Pushes, Called}
 use Rattle.strain_window.specs.WindowLaws.{Sound, total-append, greatest-append}
 use Rattle.strain_window.specs.After.{Allowed, allowed, nextSums, after-clear, after-room, after-full}
 use Rattle.strain_window.specs.History as history
@@ -79,7 +79,7 @@ call-allowed {v} {clear} {sum} {lent} c ok =
 
 -- the first push of a window: one sum is kept, at place 0
 alone : (clear : Bool) (v : WindowState) (sum : ℕ) (lent : List ℕ) → Starts clear v → Sound v → v .window ≤ length lent
-    → (fillAfter clear v ≡ 1) × (placeOf clear v ≡ 0) × (nextSums clear v sum lent ≡ sum ∷ [])
+    → (fillAfter clear v ≡ 1) × (pushPlace clear v ≡ 0) × (nextSums clear v sum lent ≡ sum ∷ [])
 alone true v sum lent st s room = (refl, refl, after-clear v sum lent s room)
 alone false v sum lent (inl e) s room = absurd (let z : _≡_ {A = ℕ} 0 1 = cc in omega arith)
 alone false v sum lent (inr z) s room =
@@ -87,11 +87,11 @@ alone false v sum lent (inr z) s room =
     (omega arith, z .1, after-room v sum lent s room (omega arith) ∙ rw (z .0) refl)
 
 begins : (w : ℕ) (clear : Bool) (v : WindowState) (sum : ℕ) (lent : List ℕ) → v .window ≡ w → Starts clear v → Allowed v sum lent
-    → Held w (moved clear v) (set lent (placeOf clear v) sum) (sum ∷ [])
+    → Held w (pushedState clear v) (set lent (pushPlace clear v) sum) (sum ∷ [])
 begins w clear v sum lent e st ok =
     let a = alone clear v sum lent st (ok .state-sound) (ok .room) in
     let one = ok .state-sound .least in
-    let n : (placeOf clear v + 1) % v .window ≡ 1 % w = rw (a .1, e) refl in
+    let n : (pushPlace clear v + 1) % v .window ≡ 1 % w = rw (a .1, e) refl in
     record {
       window-is = e;
       fill-is = a .0 ∙ omega arith;
@@ -140,7 +140,7 @@ module _ (w : ℕ) (v : WindowState) (sum : ℕ) (left lent h : List ℕ) (i : H
       (last-all w (h ++ (sum ∷ [])) (omega arith) ∙ ap (λ (l : List ℕ). l ++ (sum ∷ [])) all
       ∙ sym (rotated-mod (v .next + 1) w (keptSums v lent ++ (sum ∷ [])) one (omega arith) (λ z. l ∙ z) ∙ rotated-whole (v .next + 1) (keptSums v lent ++ (sum ∷ [])) (sym l)))
 
-  goes-on : Held w (moved false v) (set lent (v .next) sum) (h ++ (sum ∷ []))
+  goes-on : Held w (pushedState false v) (set lent (v .next) sum) (h ++ (sum ∷ []))
   goes-on =
       let f = i .fill-is in
       let n = i .window-is in

@@ -11,7 +11,7 @@ use lib.ListN.{length, getD, take}
 use lib.Seq.{take-suc, take-nil}
 use Rattle.refusal.specs.RowLaws.{neither}
 use Rattle.strain_window.specs.declared.WindowState.{WindowState}
-use Rattle.strain_window.specs.Rows.{mostSum, someAbove, badState}
+use Rattle.strain_window.specs.Rows.{mostSum, sumAbove, badState}
 use Rattle.strain_window.specs.Calls.{totalOf, greatestOf}
 
 pub total-append : (xs ys : List ℕ) → totalOf (xs ++ ys) ≡ totalOf xs + totalOf ys
@@ -40,11 +40,11 @@ pub greatest-next : (xs : List ℕ) (i : ℕ) → i < length xs → greatestOf (
 greatest-next xs i h = rw (take-suc xs i 0 h, greatest-append, greatest-one) refl
 
 -- each sum is at most 68,208
-pub none-above : (xs : List ℕ) → someAbove xs ≡ false → (i : ℕ) → getD xs i 0 ≤ mostSum
-unfolding someAbove
+pub none-above : (xs : List ℕ) → sumAbove xs ≡ false → (i : ℕ) → getD xs i 0 ≤ mostSum
+unfolding sumAbove
 none-above [] e i = omega arith
-none-above (x ∷ xs) e zero = ltb-false mostSum x (neither (ltb mostSum x) (someAbove xs) e .0)
-none-above (x ∷ xs) e (suc i) = none-above xs (neither (ltb mostSum x) (someAbove xs) e .1) i
+none-above (x ∷ xs) e zero = ltb-false mostSum x (neither (ltb mostSum x) (sumAbove xs) e .0)
+none-above (x ∷ xs) e (suc i) = none-above xs (neither (ltb mostSum x) (sumAbove xs) e .1) i
 
 -- the numbers of a state that row 14 allows
 pub record Sound (v : WindowState) : Type 0 where

@@ -31,7 +31,7 @@ use Rattle.table_c.specs.Forms.{tableOf, runNumbers, runNumber}
 use Rattle.table_c.proofs.Runs.{Small, small-number, runs-small, runs-count}
 use Rattle.isdbs_core.specs.Symbols.{symbolOfBit, bitRows, bitSymbol}
 use Rattle.answers_c.specs.Answers.{answered}
-use Rattle.table_c.specs.Rows.{placesRows, isNone, symbolBy}
+use Rattle.table_c.specs.Rows.{placesRows, isNone, symbolOrZero}
 
 -- ---- a call with a table that needs places
 
@@ -57,7 +57,7 @@ module _ (t : Table) (need space n : ℕ) (e : n ≡ numberOf (tableAnswer t)) w
 -- ---- a bit's symbol
 
 module _ (word bit : ℕ) (m : MaybeCombination) (c : Combination) (r : Position) (em : m ≡ Some c) (er : positionSaid r ≡ bitSymbol c bit) where
-  pub bit-found : (p : ℕ) → r ≡ At p → (0 ≡ numberOf (cond (isNone m) answer.Position (firstRow (bitRows bit)))) × (p ≡ symbolBy m bit)
+  pub bit-found : (p : ℕ) → r ≡ At p → (0 ≡ numberOf (cond (isNone m) answer.Position (firstRow (bitRows bit)))) × (p ≡ symbolOrZero m bit)
   bit-found p ep =
       let s = said-some (firstRow (bitRows bit)) (symbolOfBit c bit ∷ []) 0 p [] (sym (ap positionSaid ep) ∙ er) in
       rw em (sym (ap numberOf (s .0)), sym (ap (λ (l : List ℕ). getD l 0 0) (s .2)))

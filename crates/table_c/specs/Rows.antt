@@ -36,6 +36,6 @@ isNone None = true
 abbrev pub bitSymbolRows : ℕ → ℕ → List Row
 bitSymbolRows word bit = (Position, isNone (combinationOf word)) ∷ bitRows bit
 
-abbrev pub symbolBy : MaybeCombination → ℕ → ℕ
-symbolBy (Some c) bit = symbolOfBit c bit
-symbolBy None bit = 0
+abbrev pub symbolOrZero : MaybeCombination → ℕ → ℕ
+symbolOrZero (Some c) bit = symbolOfBit c bit
+symbolOrZero None bit = 0

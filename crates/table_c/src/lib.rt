@@ -15,7 +15,7 @@ ghost use Rattle.isdbs_combination.specs.Combinations.{combinationOf, wordOf, f
 ghost use Rattle.isdbs_runs.specs.RunsOf.{runsOf};
 ghost use Rattle.table_c.specs.Forms.{entryOf, tableOf, markWord, runNumbers};
 ghost use Rattle.answers_c.specs.Answers.{answered, left};
-ghost use Rattle.table_c.specs.Rows.{placesRows, slotWords, allNumbers, bitSymbolRows, symbolBy};
+ghost use Rattle.table_c.specs.Rows.{placesRows, slotWords, allNumbers, bitSymbolRows, symbolOrZero};
 
 fn entry_of(bits: u64) -> Entry
     ensures { λ r. ⌜ r ≡ entryOf bits ⌝ }
@@ -134,7 +134,7 @@ pub extern "C" fn isdbs_runs(table: u64, out: &mut [u32], count: &mut u32) -> u3
 #[no_mangle]
 pub extern "C" fn isdbs_bit_symbol(word: u8, bit: u64, out: &mut u64) -> u32
     ensures answers { λ r. ⌜ r ≡ answered (bitSymbolRows word bit) ⌝ }
-    ensures leaves { λ r. ⌜ now (out .exit) ≡ left r (symbolBy (combinationOf word) bit) (now (out .entry)) ⌝ }
+    ensures leaves { λ r. ⌜ now (out .exit) ≡ left r (symbolOrZero (combinationOf word) bit) (now (out .entry)) ⌝ }
 {
     match Combination::from_word(word) {
         MaybeCombination::Some(c) => match isdbs_core::slots::bit_symbol(c, bit as usize) {

@@ -35,7 +35,7 @@ use Rattle.isdbs_points.specs.InputLaws.{input-small}
 use Rattle.isdbs_metrics.specs.Reading.{partOf}
 use Rattle.wanted.specs.ReadOff.{shown, hard, psk8Label, which, bitAs, bitBy, inputFrom, readState, readInput}
 use Rattle.wanted.specs.Shown.{coded-input, hard-one, hard-part, label-back}
-use Rattle.wanted.specs.Wanted.{Encodes}
+use Rattle.wanted.specs.Wanted.{EncodesTo}
 use Rattle.trellis.specs.Isdb
 
 -- ---- the coded bit that is read is sent
@@ -62,7 +62,7 @@ which-sent g k kept = go (ltb (firstPlace (mother g k 0) o) n) (ltb→lt (firstP
     go false y x (inr h) = h
 
 -- ---- the points of a load that encodes to the frame: each part is the lent one
-module _ (t : Table) (m : Mapping) (first : Bool) (re im : List Float) (load : List ℕ) (e : Encodes t m first re im load) where
+module _ (t : Table) (m : Mapping) (first : Bool) (re im : List Float) (load : List ℕ) (e : EncodesTo t m first re im load) where
   pub re-at : (k : ℕ) → k < mainSymbols → getD re k nan ≡ pointAt t m load (startState first) k .re
   re-at k h =
       sym (getD-take mainSymbols re k nan h) ∙ ap (λ (x : List Float). getD x k nan) (sym (e .re-is))
@@ -73,7 +73,7 @@ module _ (t : Table) (m : Mapping) (first : Bool) (re im : List Float) (load : L
       sym (getD-take mainSymbols im k nan h) ∙ ap (λ (x : List Float). getD x k nan) (sym (e .im-is))
       ∙ getD-upto (λ k. pointAt t m load (startState first) k .im) nan mainSymbols k h
 
-module _ (t : Table) (ok : TableAccepted t) (m : Mapping) (first : Bool) (re im : List Float) (load : List ℕ) (e : Encodes t m first re im load) where
+module _ (t : Table) (ok : TableAccepted t) (m : Mapping) (first : Bool) (re im : List Float) (load : List ℕ) (e : EncodesTo t m first re im load) where
   abbrev us : List ℕ
   us = inputs t load
 

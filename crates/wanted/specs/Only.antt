@@ -28,7 +28,7 @@ use Rattle.isdbs_points.specs.BitLaws.{of-pair, bytes-are, bytes-full}
 use Rattle.isdbs_points.specs.InputLaws.{input-at}
 use Rattle.trellis.specs.LaidLaws.{front-upto}
 use Rattle.wanted.specs.ReadOff.{shown, psk8Label, which, bitBy, inputFrom, readState, readInput, readBy, readBit, readOff}
-use Rattle.wanted.specs.Wanted.{Encodes, Wants, Unwanted}
+use Rattle.wanted.specs.Wanted.{EncodesTo, Wants, Unwanted}
 use Rattle.wanted.specs.Shown.{label-small}
 use Rattle.wanted.specs.Inputs.{input-is, tc-uncoded}
 use Rattle.trellis.specs.Isdb
@@ -61,7 +61,7 @@ unfolding readOff
 read-off-full t m first re im = bytes-full (readBit m (shown m re im) t (startState first)) (bit-small m (shown m re im) t (startState first)) (loadBytes t)
 
 -- ---- the bits of a load that encodes to the frame
-module _ (t : Table) (ok : TableAccepted t) (m : Mapping) (first : Bool) (re im : List Float) (load : List ℕ) (e : Encodes t m first re im load) where
+module _ (t : Table) (ok : TableAccepted t) (m : Mapping) (first : Bool) (re im : List Float) (load : List ℕ) (e : EncodesTo t m first re im load) where
   abbrev z : ℕ → Cplx
   z = shown m re im
 
@@ -103,7 +103,7 @@ module _ (t : Table) (ok : TableAccepted t) (m : Mapping) (first : Bool) (re im 
 -- ---- the same, part by part: where 38,976 of each part are lent and each is that of the load's point, the load encodes to the frame (Inputs' re-at and im-at are the converse)
 pub encodes-parts : (t : Table) (m : Mapping) (first : Bool) (re im : List Float) (load : List ℕ) → mainSymbols ≤ length re → mainSymbols ≤ length im
     → ((k : ℕ) → k < mainSymbols → getD re k nan ≡ pointAt t m load (startState first) k .re) → ((k : ℕ) → k < mainSymbols → getD im k nan ≡ pointAt t m load (startState first) k .im)
-    → Encodes t m first re im load
+    → EncodesTo t m first re im load
 encodes-parts t m first re im load a b x y =
     record {
       re-is = front-upto nan (λ k. pointAt t m load (startState first) k .re) mainSymbols re a x;
@@ -121,20 +121,20 @@ pub wanted-only : (t : Table) → TableAccepted t → (m : Mapping) (first : Boo
 wanted-only t ok m first re im a b v w = sym (wanted-read t ok m first re im a v) ∙ wanted-read t ok m first re im b w
 
 -- where what is read off encodes to the frame, it is the wanted load
-pub read-wanted : (t : Table) (m : Mapping) (first : Bool) (re im : List Float) → Encodes t m first re im (readOff t m first re im) → Wants t m first re im (readOff t m first re im)
+pub read-wanted : (t : Table) (m : Mapping) (first : Bool) (re im : List Float) → EncodesTo t m first re im (readOff t m first re im) → Wants t m first re im (readOff t m first re im)
 read-wanted t m first re im e = record { full = read-off-full t m first re im; encodes = e }
 
 -- "13 precisely if no full load encodes to the frame": where some full load does, what is read off does
 pub wanted-encodes : (t : Table) → TableAccepted t → (m : Mapping) (first : Bool) (re im : List Float) (load : List ℕ)
-    → Wants t m first re im load → Encodes t m first re im (readOff t m first re im)
-wanted-encodes t ok m first re im load w = subst (Encodes t m first re im) (sym (wanted-read t ok m first re im load w)) (w .encodes)
+    → Wants t m first re im load → EncodesTo t m first re im (readOff t m first re im)
+wanted-encodes t ok m first re im load w = subst (EncodesTo t m first re im) (sym (wanted-read t ok m first re im load w)) (w .encodes)
 
 pub unwanted : (t : Table) → TableAccepted t → (m : Mapping) (first : Bool) (re im : List Float)
-    → (Encodes t m first re im (readOff t m first re im) → ⊥) → Unwanted t m first re im
+    → (EncodesTo t m first re im (readOff t m first re im) → ⊥) → Unwanted t m first re im
 unwanted t ok m first re im n load w = n (wanted-encodes t ok m first re im load w)
 
 pub unwanted-back : (t : Table) (m : Mapping) (first : Bool) (re im : List Float)
-    → Unwanted t m first re im → Encodes t m first re im (readOff t m first re im) → ⊥
+    → Unwanted t m first re im → EncodesTo t m first re im (readOff t m first re im) → ⊥
 unwanted-back t m first re im n e = n (readOff t m first re im) (read-wanted t m first re im e)
 
 -- a full load has 9,744 bytes at most

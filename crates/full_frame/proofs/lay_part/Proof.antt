@@ -3,13 +3,13 @@ use mathlib.Core.Path.{_≡_}
 use Prim.Native.Nat.{_-_, _≤_}
 use native.Mathlib.Omega.{arith}
 use borrow.Author.Needs.{needs}
-use Rattle.full_frame.specs.Places.{sourceAt, inputs, pointIn}
+use Rattle.full_frame.specs.Places.{sourceAt, lentInputs, lentPoint}
 use Rattle.full_frame.proofs.Front.{Front, front-none, front-more}
 use Rattle.full_frame.proofs.lay_part.Statement.{statement}
 use Rattle.full_frame.proofs.lay_part.Tie as tie
 
 abbrev Inv-loop : tie.InvT-loop
-Inv-loop header signal bursts out₀ p₀ out p = (p ≤ 39936) × Front (λ k. pointIn (inputs header signal bursts) (sourceAt k)) out₀ out p
+Inv-loop header signal bursts out₀ p₀ out p = (p ≤ 39936) × Front (λ k. lentPoint (lentInputs header signal bursts) (sourceAt k)) out₀ out p
 
 abbrev μ-loop : tie.MeasureT-loop
 μ-loop header signal bursts out₀ p₀ out p = 39936 - p

@@ -5,7 +5,7 @@ use Rattle.refusal.specs.Rows.{numberOf}
 use Rattle.refusal.specs.RowLaws.{zero-accepted}
 use Rattle.refusal.proofs.Told.{told}
 use Rattle.full_frame.specs.declared.Input.the-variants.{Header, Main, Burst}
-use Rattle.full_frame.specs.Places.{inputs, fullPart}
+use Rattle.full_frame.specs.Places.{lentInputs, fullPart}
 use Rattle.full_frame.specs.Rows.{inputsShort, shortFrame}
 use lib.ListN.{length, take}
 use borrow.Author.Needs.{needs}
@@ -31,10 +31,10 @@ enum-told c = search needs
 returns : tie.Need-returns
 returns c =
     let x = c .before .before .before .before .before .before .before .before .before .before .before .before .before .before .before .before .before .before .before .args in
-    let res = inputs (x .header-re .now) (x .main-re .now) (x .burst-re .now) in
-    let ims = inputs (x .header-im .now) (x .main-im .now) (x .burst-im .now) in
-    let outs = inputs (x .out-header-re .now) (x .out-main-re .now) (x .out-burst-re .now) in
-    let outs' = inputs (x .out-header-im .now) (x .out-main-im .now) (x .out-burst-im .now) in
+    let res = lentInputs (x .header-re .now) (x .main-re .now) (x .burst-re .now) in
+    let ims = lentInputs (x .header-im .now) (x .main-im .now) (x .burst-im .now) in
+    let outs = lentInputs (x .out-header-re .now) (x .out-main-re .now) (x .out-burst-re .now) in
+    let outs' = lentInputs (x .out-header-im .now) (x .out-main-im .now) (x .out-burst-im .now) in
     let a = c .before .first-row .result in
     let h = by-tests a (inputsShort res || inputsShort ims) (shortFrame (length (x .re .now)) (length (x .im .now))) (inputsShort outs || inputsShort outs') (c .before .before .before .before .short-parts .ensures) (c .before .before .short-frame .ensures) (c .before .before .before .short-parts2 .ensures) (c .before .first-row .ensures) in
     let n : numberOf a ≡ 0 → ⊥ = λ z. told a (c .match .keys2) (zero-accepted a z) in
@@ -73,10 +73,10 @@ same-length-8 c = search needs
 returns-2 : tie.Need-returns-2
 returns-2 c =
     let x = c .before .before .before .before .before .before .before .before .before .before .before .before .before .before .before .before .before .before .before .before .before .before .before .before .before .before .before .before .before .before .before .before .before .before .before .before .before .before .before .before .before .before .before .before .before .before .before .before .args in
-    let res = inputs (x .header-re .now) (x .main-re .now) (x .burst-re .now) in
-    let ims = inputs (x .header-im .now) (x .main-im .now) (x .burst-im .now) in
-    let outs = inputs (x .out-header-re .now) (x .out-main-re .now) (x .out-burst-re .now) in
-    let outs' = inputs (x .out-header-im .now) (x .out-main-im .now) (x .out-burst-im .now) in
+    let res = lentInputs (x .header-re .now) (x .main-re .now) (x .burst-re .now) in
+    let ims = lentInputs (x .header-im .now) (x .main-im .now) (x .burst-im .now) in
+    let outs = lentInputs (x .out-header-re .now) (x .out-main-re .now) (x .out-burst-re .now) in
+    let outs' = lentInputs (x .out-header-im .now) (x .out-main-im .now) (x .out-burst-im .now) in
     let a = c .before .before .before .before .before .before .before .before .before .before .before .before .before .before .before .before .before .before .before .before .before .before .before .before .before .before .before .before .before .before .first-row .result in
     let h = by-tests a (inputsShort res || inputsShort ims) (shortFrame (length (x .re .now)) (length (x .im .now))) (inputsShort outs || inputsShort outs') (c .before .before .before .before .before .before .before .before .before .before .before .before .before .before .before .before .before .before .before .before .before .before .before .before .before .before .before .before .before .before .before .before .before .short-parts .ensures) (c .before .before .before .before .before .before .before .before .before .before .before .before .before .before .before .before .before .before .before .before .before .before .before .before .before .before .before .before .before .before .before .short-frame .ensures) (c .before .before .before .before .before .before .before .before .before .before .before .before .before .before .before .before .before .before .before .before .before .before .before .before .before .before .before .before .before .before .before .before .short-parts2 .ensures) (c .before .before .before .before .before .before .before .before .before .before .before .before .before .before .before .before .before .before .before .before .before .before .before .before .before .before .before .before .before .before .first-row .ensures) in
     let z : numberOf a ≡ 0 = ap numberOf (c .before .before .before .before .before .before .before .before .before .before .before .before .before .before .before .before .before .before .before .before .before .before .before .before .before .before .before .before .enum-told .given .1) in

@@ -5,7 +5,7 @@ use Rattle.refusal.specs.Rows.{numberOf}
 use Rattle.refusal.specs.RowLaws.{zero-accepted}
 use Rattle.refusal.proofs.Told.{told}
 use Rattle.full_frame.specs.declared.Input.the-variants.{Header, Main, Burst}
-use Rattle.full_frame.specs.Places.{inputs, taken}
+use Rattle.full_frame.specs.Places.{lentInputs, taken}
 use Rattle.full_frame.specs.Rows.{inputsShort, shortFrame}
 use lib.ListN.{length, take}
 use borrow.Author.Needs.{needs}
@@ -31,8 +31,8 @@ enum-told c = search needs
 returns : tie.Need-returns
 returns c =
     let x = c .before .before .before .before .before .before .before .before .before .before .before .before .before .before .before .args in
-    let res = inputs (x .header-re .now) (x .main-re .now) (x .burst-re .now) in
-    let ims = inputs (x .header-im .now) (x .main-im .now) (x .burst-im .now) in
+    let res = lentInputs (x .header-re .now) (x .main-re .now) (x .burst-re .now) in
+    let ims = lentInputs (x .header-im .now) (x .main-im .now) (x .burst-im .now) in
     let a = c .before .first-row .result in
     let h = by-tests a (shortFrame (length (x .re .now)) (length (x .im .now))) (inputsShort res || inputsShort ims) (shortFrame (length (x .out-re .now)) (length (x .out-im .now))) (c .before .before .before .short-frame .ensures) (c .before .before .before .before .short-parts .ensures) (c .before .before .short-frame2 .ensures) (c .before .first-row .ensures) in
     let n : numberOf a ≡ 0 → ⊥ = λ z. told a (c .match .keys2) (zero-accepted a z) in
@@ -71,8 +71,8 @@ same-length-8 c = search needs
 returns-2 : tie.Need-returns-2
 returns-2 c =
     let x = c .before .before .before .before .before .before .before .before .before .before .before .before .before .before .before .before .before .before .before .before .before .before .before .before .before .before .before .before .before .before .before .before .before .before .before .before .before .before .before .before .before .before .before .before .before .before .before .before .args in
-    let res = inputs (x .header-re .now) (x .main-re .now) (x .burst-re .now) in
-    let ims = inputs (x .header-im .now) (x .main-im .now) (x .burst-im .now) in
+    let res = lentInputs (x .header-re .now) (x .main-re .now) (x .burst-re .now) in
+    let ims = lentInputs (x .header-im .now) (x .main-im .now) (x .burst-im .now) in
     let a = c .before .before .before .before .before .before .before .before .before .before .before .before .before .before .before .before .before .before .before .before .before .before .before .before .before .before .before .before .before .before .before .before .before .before .first-row .result in
     let h = by-tests a (shortFrame (length (x .re .now)) (length (x .im .now))) (inputsShort res || inputsShort ims) (shortFrame (length (x .out-re .now)) (length (x .out-im .now))) (c .before .before .before .before .before .before .before .before .before .before .before .before .before .before .before .before .before .before .before .before .before .before .before .before .before .before .before .before .before .before .before .before .before .before .before .before .short-frame .ensures) (c .before .before .before .before .before .before .before .before .before .before .before .before .before .before .before .before .before .before .before .before .before .before .before .before .before .before .before .before .before .before .before .before .before .before .before .before .before .short-parts .ensures) (c .before .before .before .before .before .before .before .before .before .before .before .before .before .before .before .before .before .before .before .before .before .before .before .before .before .before .before .before .before .before .before .before .before .before .before .short-frame2 .ensures) (c .before .before .before .before .before .before .before .before .before .before .before .before .before .before .before .before .before .before .before .before .before .before .before .before .before .before .before .before .before .before .before .before .before .before .first-row .ensures) in
     let z : numberOf a ≡ 0 = ap numberOf (c .before .before .before .before .before .before .before .before .before .before .before .before .before .before .before .before .before .before .before .before .before .before .before .before .before .before .before .before .before .before .before .before .enum-told .given .1) in

@@ -7,7 +7,7 @@ use Rattle.refusal.specs.Rows.{Row}
 use Rattle.trellis.specs.Lists.{laid}
 use Rattle.isdbt_table.specs.declared.CodeRate.{CodeRate}
 use Rattle.isdbt_c.specs.declared.MaybeRate.the-variants.{Rate, NoRate}
-use Rattle.isdbt_c.specs.Rates.{rateOf}
+use Rattle.isdbt_c.specs.Rates.{rateBy}
 use Rattle.answers_c.specs.AnswerLaws.{kept, refusing}
 use Rattle.answers_c.specs.LengthLaws.{refused-traceback}
 use Rattle.refusal.specs.RowLaws.{zero-accepted}
@@ -38,7 +38,7 @@ returns : tie.Need-returns
 returns c =
     let q = c .before .before .before in
     let a = q .before .before .before .before .args in
-    let em : rateOf (a .rate) ≡ NoRate = sym (q .rate-of .ensures) ∙ c .before .enum-told .given .1 in
+    let em : rateBy (a .rate) ≡ NoRate = sym (q .rate-of .ensures) ∙ c .before .enum-told .given .1 in
     let n = c .unknown-with-traceback .result in
     let e = c .unknown-with-traceback .ensures in
     let h = refused-traceback (ltb 1024 (a .traceback)) n e in
@@ -64,10 +64,10 @@ returns-2 c =
     let q = t .before .before in
     let a = q .before .before .before .before .args in
     let k = t .m .given .0 .0 in
-    let em : rateOf (a .rate) ≡ Rate k = sym (q .rate-of .ensures) ∙ t .m .given .1 in
+    let em : rateBy (a .rate) ≡ Rate k = sym (q .rate-of .ensures) ∙ t .m .given .1 in
     let e = n .number .ensures in
     let rows : CodeRate → List Row = λ x. decodeRows x (a .llrs .now) (a .traceback) (length (a .decisions .now)) (length (a .out .now)) in
-    let w = rate-answer (rateOf (a .rate)) k em (freshRows (a .traceback)) rows (n .number .result) (p .decode-punctured .result .answer) e (p .decode-punctured .ensures .0) in
+    let w = rate-answer (rateBy (a .rate)) k em (freshRows (a .traceback)) rows (n .number .result) (p .decode-punctured .result .answer) e (p .decode-punctured .ensures .0) in
     let h = c .if1 .taken in
     let l = p .decode-punctured .ensures .1 .1 (refusing (n .number .result) (p .decode-punctured .result .answer) e h) in
     (w, (l .words ∙ kept (n .number .result) _ _ h, (l .bits-are ∙ kept (n .number .result) _ _ h, kept (n .number .result) _ _ h)))
@@ -86,13 +86,13 @@ returns-3 c =
     let q = t .before .before in
     let a = q .before .before .before .before .args in
     let k = t .m .given .0 .0 in
-    let em : rateOf (a .rate) ≡ Rate k = sym (q .rate-of .ensures) ∙ t .m .given .1 in
+    let em : rateBy (a .rate) ≡ Rate k = sym (q .rate-of .ensures) ∙ t .m .given .1 in
     let e = n .number .ensures in
     let rows : CodeRate → List Row = λ x. decodeRows x (a .llrs .now) (a .traceback) (length (a .decisions .now)) (length (a .out .now)) in
-    let w = rate-answer (rateOf (a .rate)) k em (freshRows (a .traceback)) rows (n .number .result) (p .decode-punctured .result .answer) e (p .decode-punctured .ensures .0) in
+    let w = rate-answer (rateBy (a .rate)) k em (freshRows (a .traceback)) rows (n .number .result) (p .decode-punctured .result .answer) e (p .decode-punctured .ensures .0) in
     let z = c .if1 .left in
     let l = p .decode-punctured .ensures .1 .0 (zero-accepted (p .decode-punctured .result .answer) (sym e ∙ z)) in
-    (sym z ∙ w, (l .words, (l .bits-are ∙ ap (λ (x : List ℕ). laid x (a .out .now)) (rate-value (rateOf (a .rate)) k em [] (λ x. decodedBits x (a .llrs .now) (depth (a .traceback)))), l .count-is ∙ rate-value (rateOf (a .rate)) k em 0 (λ x. length (a .llrs .now) / sent x * period x))))
+    (sym z ∙ w, (l .words, (l .bits-are ∙ ap (λ (x : List ℕ). laid x (a .out .now)) (rate-value (rateBy (a .rate)) k em [] (λ x. decodedBits x (a .llrs .now) (depth (a .traceback)))), l .count-is ∙ rate-value (rateBy (a .rate)) k em 0 (λ x. length (a .llrs .now) / sent x * period x))))
 
 pub isdbt-decode-punctured-spec : {M : Type 1} → statement M
 isdbt-decode-punctured-spec =

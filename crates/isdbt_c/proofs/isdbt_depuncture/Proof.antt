@@ -6,7 +6,7 @@ use Rattle.refusal.specs.Rows.{Row}
 use Rattle.trellis.specs.Lists.{laid}
 use Rattle.isdbt_table.specs.declared.CodeRate.{CodeRate}
 use Rattle.isdbt_c.specs.declared.MaybeRate.the-variants.{Rate}
-use Rattle.isdbt_c.specs.Rates.{rateOf}
+use Rattle.isdbt_c.specs.Rates.{rateBy}
 use Rattle.answers_c.specs.AnswerLaws.{kept, refusing}
 use Rattle.refusal.specs.RowLaws.{zero-accepted}
 use Rattle.isdbt_c.proofs.Rates.{rate-answer, rate-value}
@@ -48,10 +48,10 @@ returns-2 c =
     let q = t .before .before in
     let a = q .before .before .before .args in
     let k = t .m .given .0 .0 in
-    let em : rateOf (a .rate) ≡ Rate k = sym (q .rate-of .ensures) ∙ t .m .given .1 in
+    let em : rateBy (a .rate) ≡ Rate k = sym (q .rate-of .ensures) ∙ t .m .given .1 in
     let e = n .number .ensures in
     let rows : CodeRate → List Row = λ x. depunctureRows x (length (a .llrs .now)) (length (a .out .now)) in
-    let w = rate-answer (rateOf (a .rate)) k em [] rows (n .number .result) (p .depuncture .result .answer) e (p .depuncture .ensures .0) in
+    let w = rate-answer (rateBy (a .rate)) k em [] rows (n .number .result) (p .depuncture .result .answer) e (p .depuncture .ensures .0) in
     let h = c .if1 .taken in
     let l = p .depuncture .ensures .1 .1 (refusing (n .number .result) (p .depuncture .result .answer) e h) in
     (w, (l .values ∙ kept (n .number .result) _ _ h, kept (n .number .result) _ _ h))
@@ -67,13 +67,13 @@ returns-3 c =
     let q = t .before .before in
     let a = q .before .before .before .args in
     let k = t .m .given .0 .0 in
-    let em : rateOf (a .rate) ≡ Rate k = sym (q .rate-of .ensures) ∙ t .m .given .1 in
+    let em : rateBy (a .rate) ≡ Rate k = sym (q .rate-of .ensures) ∙ t .m .given .1 in
     let e = n .number .ensures in
     let rows : CodeRate → List Row = λ x. depunctureRows x (length (a .llrs .now)) (length (a .out .now)) in
-    let w = rate-answer (rateOf (a .rate)) k em [] rows (n .number .result) (p .depuncture .result .answer) e (p .depuncture .ensures .0) in
+    let w = rate-answer (rateBy (a .rate)) k em [] rows (n .number .result) (p .depuncture .result .answer) e (p .depuncture .ensures .0) in
     let z = c .if1 .left in
     let l = p .depuncture .ensures .1 .0 (zero-accepted (p .depuncture .result .answer) (sym e ∙ z)) in
-    (sym z ∙ w, (l .values ∙ ap (λ (x : List Float). laid x (a .out .now)) (rate-value (rateOf (a .rate)) k em [] (λ x. depunctured x (a .llrs .now))), l .count-is ∙ rate-value (rateOf (a .rate)) k em 0 (λ x. length (a .llrs .now) / sent x * (2 * period x))))
+    (sym z ∙ w, (l .values ∙ ap (λ (x : List Float). laid x (a .out .now)) (rate-value (rateBy (a .rate)) k em [] (λ x. depunctured x (a .llrs .now))), l .count-is ∙ rate-value (rateBy (a .rate)) k em 0 (λ x. length (a .llrs .now) / sent x * (2 * period x))))
 
 pub isdbt-depuncture-spec : {M : Type 1} → statement M
 isdbt-depuncture-spec =

@@ -7,7 +7,7 @@ use Rattle.refusal.specs.Rows.{Row}
 use Rattle.trellis.specs.Lists.{laid}
 use Rattle.isdbt_table.specs.declared.CodeRate.{CodeRate}
 use Rattle.isdbt_c.specs.declared.MaybeRate.the-variants.{Rate, NoRate}
-use Rattle.isdbt_c.specs.Rates.{rateOf}
+use Rattle.isdbt_c.specs.Rates.{rateBy}
 use Rattle.answers_c.specs.AnswerLaws.{kept, refusing}
 use Rattle.answers_c.specs.LengthLaws.{refused-state}
 use Rattle.refusal.specs.RowLaws.{zero-accepted}
@@ -37,7 +37,7 @@ returns : tie.Need-returns
 returns c =
     let q = c .before .before .before .before in
     let a = q .before .before .before .args in
-    let em : rateOf (a .rate) ≡ NoRate = sym (q .rate-of .ensures) ∙ c .before .before .enum-told .given .1 in
+    let em : rateBy (a .rate) ≡ NoRate = sym (q .rate-of .ensures) ∙ c .before .before .enum-told .given .1 in
     let n = c .unknown-with-state .result in
     let e = c .unknown-with-state .ensures in
     let h = refused-state (ltb 63 (a .state .now)) n e in
@@ -60,10 +60,10 @@ returns-2 c =
     let q = t .before .before in
     let a = q .before .before .before .args in
     let k = t .m .given .0 .0 in
-    let em : rateOf (a .rate) ≡ Rate k = sym (q .rate-of .ensures) ∙ t .m .given .1 in
+    let em : rateBy (a .rate) ≡ Rate k = sym (q .rate-of .ensures) ∙ t .m .given .1 in
     let e = n .number .ensures in
     let rows : CodeRate → List Row = λ x. encodeRows x (a .state .now) (length (a .bits .now)) (length (a .out .now)) in
-    let w = rate-answer (rateOf (a .rate)) k em (encoderRows (a .state .now)) rows (n .number .result) (p .encode-punctured .result .answer) e (p .encode-punctured .ensures .0) in
+    let w = rate-answer (rateBy (a .rate)) k em (encoderRows (a .state .now)) rows (n .number .result) (p .encode-punctured .result .answer) e (p .encode-punctured .ensures .0) in
     let h = c .if1 .taken in
     let l = p .encode-punctured .ensures .1 .1 (refusing (n .number .result) (p .encode-punctured .result .answer) e h) in
     (w, (kept (n .number .result) _ _ h, (l .bits-are ∙ kept (n .number .result) _ _ h, kept (n .number .result) _ _ h)))
@@ -79,13 +79,13 @@ returns-3 c =
     let q = t .before .before in
     let a = q .before .before .before .args in
     let k = t .m .given .0 .0 in
-    let em : rateOf (a .rate) ≡ Rate k = sym (q .rate-of .ensures) ∙ t .m .given .1 in
+    let em : rateBy (a .rate) ≡ Rate k = sym (q .rate-of .ensures) ∙ t .m .given .1 in
     let e = n .number .ensures in
     let rows : CodeRate → List Row = λ x. encodeRows x (a .state .now) (length (a .bits .now)) (length (a .out .now)) in
-    let w = rate-answer (rateOf (a .rate)) k em (encoderRows (a .state .now)) rows (n .number .result) (p .encode-punctured .result .answer) e (p .encode-punctured .ensures .0) in
+    let w = rate-answer (rateBy (a .rate)) k em (encoderRows (a .state .now)) rows (n .number .result) (p .encode-punctured .result .answer) e (p .encode-punctured .ensures .0) in
     let z = c .before .if1 .left in
     let l = p .encode-punctured .ensures .1 .0 (zero-accepted (p .encode-punctured .result .answer) (sym e ∙ z)) in
-    (sym z ∙ w, (l .state-is, (l .bits-are ∙ ap (λ (x : List ℕ). laid x (a .out .now)) (rate-value (rateOf (a .rate)) k em [] (λ x. punctured x (a .state .now) (a .bits .now))), l .count-is ∙ rate-value (rateOf (a .rate)) k em 0 (λ x. length (a .bits .now) / period x * sent x))))
+    (sym z ∙ w, (l .state-is, (l .bits-are ∙ ap (λ (x : List ℕ). laid x (a .out .now)) (rate-value (rateBy (a .rate)) k em [] (λ x. punctured x (a .state .now) (a .bits .now))), l .count-is ∙ rate-value (rateBy (a .rate)) k em 0 (λ x. length (a .bits .now) / period x * sent x))))
 
 pub isdbt-encode-punctured-spec : {M : Type 1} → statement M
 isdbt-encode-punctured-spec =

@@ -5,8 +5,7 @@ use native.Mathlib.Omega.{arith}
 use borrow.Author.Needs.{needs}
 use lib.ListN.{take, drop}
 use Rattle.isdbt_steps.proofs.Spread.{spread-hit, spread-miss, spread-end}
-use Rattle.isdbt_table.specs.Table.{order}
-use Rattle.isdbt_table.specs.Puncture.{place, spread}
+use Rattle.isdbt_table.specs.Puncture.{spread}
 use Rattle.isdbt_steps.proofs.value_at.Statement.{statement}
 use Rattle.isdbt_steps.proofs.value_at.Tie as tie
 

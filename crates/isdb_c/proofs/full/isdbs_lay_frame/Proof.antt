@@ -1,7 +1,7 @@
 -- `isdbs_lay_frame` meets its contract. Assumes nothing.
 use mathlib.Core.Path.{_≡_, _∙_, ap}
 use Rattle.refusal.specs.Rows.{numberOf}
-use Rattle.full_frame.specs.Places.{inputs, fullPart}
+use Rattle.full_frame.specs.Places.{lentInputs, fullPart}
 use Rattle.isdb_c.proofs.FullFrames.{by-number}
 use borrow.Author.Needs.{needs}
 use Rattle.isdb_c.proofs.full.isdbs_lay_frame.Statement.{statement}
@@ -26,7 +26,7 @@ returns c =
     let e = c .before .before .before .before .before .lay .ensures in
     let n = c .number .result in
     let m : n ≡ numberOf a = c .number .ensures in
-    (m ∙ ap numberOf (e .0), (by-number n a m (fullPart (inputs (x .header-re .now) (x .main-re .now) (x .burst-re .now))) (x .re .now) (e .1 .0), by-number n a m (fullPart (inputs (x .header-im .now) (x .main-im .now) (x .burst-im .now))) (x .im .now) (e .1 .1)))
+    (m ∙ ap numberOf (e .0), (by-number n a m (fullPart (lentInputs (x .header-re .now) (x .main-re .now) (x .burst-re .now))) (x .re .now) (e .1 .0), by-number n a m (fullPart (lentInputs (x .header-im .now) (x .main-im .now) (x .burst-im .now))) (x .im .now) (e .1 .1)))
 
 pub isdbs-lay-frame-spec : {M : Type 1} → statement M
 isdbs-lay-frame-spec =
