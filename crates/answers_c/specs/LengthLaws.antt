@@ -10,6 +10,7 @@ use borrow.Author.Tests.{eq-eqb, ne-eqb}
 use Rattle.refusal.specs.declared.Answer.{Answer}
 use Rattle.refusal.specs.declared.Answer.the-variants.{Traceback, State, Length, Sample, Space}
 use Rattle.refusal.specs.Rows.{Row, numberOf, firstRow}
+use Rattle.trellis.specs.Lists.{firstPlace}
 use Rattle.answers_c.specs.Answers.{answered}
 use Rattle.answers_c.specs.Lengths.{aboveLength, withLength, withStates}
 
@@ -47,7 +48,9 @@ refused-traceback false n e z = absurd (omega arith)
 
 -- rows 3 and 4 stand above row 5, rows 7 and 9 below it
 pub above : (b : Bool) → (aboveLength (Traceback, b) ≡ true) × (aboveLength (State, b) ≡ true)
+unfolding firstPlace
 above b = (refl, refl)
 
 pub below : (b : Bool) → (aboveLength (Sample, b) ≡ false) × (aboveLength (Space, b) ≡ false)
+unfolding firstPlace
 below b = (refl, refl)
