@@ -12,10 +12,6 @@ use Rattle.margins.specs.Margins.{keeps}
 use Rattle.margins.specs.Clean.{clean-root, term-clean, conjugated-keeps}
 use Rattle.trellis.specs.Isdb
 
-pub label-small : (u s : ℕ) → Isdb.labels u s < 4
-unfolding label output
-label-small u s = omega arith
-
 -- ---- QPSK: the parts of a symbol that carry p1 and p0
 pub carries : (reverse conjugate : Bool) (p1 p0 : ℕ) (x y : Float) → T (keeps (qpskOf reverse p1 p0 .re) x)
     → T (keeps (conjugated conjugate (qpskOf reverse p1 p0 .im)) y) → (h : ℕ) → h < 2 → T (keeps (term (cond (eqb h 0) p1 p0) root64) (partOf reverse (point x (conjugated conjugate y)) h))

@@ -9,7 +9,7 @@ use lib.Dec.{T}
 use lib.ListN.{getD, length, drop, length-append, List·getD-append}
 use lib.Ieee.{Float, nan, binary64, fits, neg, eq, le, ofBits}
 use Rattle.trellis.specs.Lists.{upto}
-use Rattle.trellis.specs.Code.{stateAt}
+use Rattle.trellis.specs.Code.{stateAt, isdb}
 use Rattle.trellis.specs.ListLaws.{length-upto, getD-upto}
 use Rattle.isdbs_combination.specs.declared.Modulation.{Modulation}
 use Rattle.isdbs_combination.specs.declared.Modulation.the-variants.{Bpsk, Qpsk, Tc8psk}
@@ -27,11 +27,11 @@ use Rattle.margins.specs.Margins.{keeps, anyAccepted, holds, freeRe, freeIm, Wi
 use Rattle.margins.specs.Clean.{Clean, clean-zero, clean-minus-zero, clean-one, clean-minus-one, clean-root, clean-minus-root, conjugated-clean, term-clean, psk8-clean, lowEnd, highEnd, keeps-accepted, clean-within, Other}
 use Rattle.isdbs_points.specs.PlaceLaws.{among-all}
 use Rattle.isdbs_points.specs.BitLaws.{subset-small, load-bit-small}
-use Rattle.exact_frame.specs.Bits.{label-small}
 use Rattle.isdbs_encode.specs.Laid.{FrameLaid}
 use Rattle.exact_frame.specs.Exact.{decoded-load}
 use Rattle.isdbs_frame.specs.Frame.{mainSymbols}
 use Rattle.margin_ends.specs.Ends.{eight}
+use Rattle.trellis.specs.RunLaws.{label-under}
 
 -- ---- row 7, "not finite; beyond" 65,536: no part within the margins is so
 holds-accepted : (free : Bool) (clean x : Float) → T (holds free clean x) → T (anyAccepted x)
@@ -63,7 +63,7 @@ module _ (t : Table) (m : Mapping) (load : List ℕ) (s : ℕ) where
   by-clean Qpsk g j = qpsk-clean (m .«qpsk_p1_on_q») (sentBit at g (2 * j)) (sentBit at g (2 * j + 1))
   by-clean Tc8psk g j =
       let k = g .step + j in
-      let l = label-small (getD (inputs t load) k 0) (stateAt 32 s (inputs t load) k) in
+      let l = label-under isdb (getD (inputs t load) k 0) (stateAt 32 s (inputs t load) k) in
       psk8-clean (4 * loadBit load (g .bit + 2 * j) + subset (m .«tc8psk_c1_is_y») (at k))
       (omega (arith, load-bit-small load (g .bit + 2 * j), subset-small (m .«tc8psk_c1_is_y») (at k) l))
 

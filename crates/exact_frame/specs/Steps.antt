@@ -9,7 +9,7 @@ use native.Mathlib.Omega.{arith}
 use lib.Dec.{T, ltb, lt→ltb, ltb→lt, lit<}
 use lib.ListN.{getD, length}
 use lib.Ieee.{Float, nan, lt}
-use Rattle.trellis.specs.Code.{stateAt}
+use Rattle.trellis.specs.Code.{stateAt, isdb}
 use Rattle.trellis.specs.Lists.{bit, firstPlace}
 use Rattle.trellis.specs.Step.{term}
 use Rattle.lead.specs.Favour.{Favour}
@@ -36,7 +36,8 @@ use Rattle.margins.specs.Tc8psk.{tc-favours, tc-uncoded}
 use Rattle.isdbs_points.specs.SizeLaws.{table-whole, symbol-fits, at-symbol, at-step, find-step}
 use Rattle.isdbs_points.specs.OrderLaws.{Sends, Pairs, Kind, one, two, three, kind, Kept, mother, number, sent-at}
 use Rattle.isdbs_points.specs.BitLaws.{load-bit-small, coded-small, subset-small, of-pair}
-use Rattle.exact_frame.specs.Bits.{label-small, carries}
+use Rattle.exact_frame.specs.Bits.{carries}
+use Rattle.trellis.specs.RunLaws.{label-under}
 
 -- ---- a frame within the margins, as it is read at the scale 8
 module _ (t : Table) (fit : TableAccepted t) (m : Mapping) (first : Bool) (load : List ℕ) (re im : List Float) (within : Within re im load t m first) where
@@ -66,7 +67,7 @@ module _ (t : Table) (fit : TableAccepted t) (m : Mapping) (first : Bool) (load 
 
   -- ---- the bits that a BPSK or QPSK segment sends
   label-at-small : (k : ℕ) → at k < 4
-  label-at-small k = label-small (getD (inputs t load) k 0) (stateAt 32 (startState first) (inputs t load) k)
+  label-at-small k = label-under isdb (getD (inputs t load) k 0) (stateAt 32 (startState first) (inputs t load) k)
 
   sent-small : (g : Segment) (i : ℕ) → sentBit at g i < 2
   sent-small g i =

@@ -8,7 +8,7 @@ use lib.ListN.{getD, replicate, replicate-append-replicate}
 use lib.Ieee.{Float, nan, binary32, lt, ofBits}
 use Rattle.ieee.specs.Order.{lt→value, le→value}
 use Rattle.trellis.specs.Lists.{upto}
-use Rattle.trellis.specs.Code.{stateAt}
+use Rattle.trellis.specs.Code.{stateAt, isdb}
 use Rattle.lead.specs.Favour.{Favour}
 use Rattle.lead.specs.Ties.{false-of}
 use Rattle.isdbs_tables.specs.declared.Table.{Table}
@@ -21,11 +21,11 @@ use Rattle.isdbs_points.specs.Layout.{FullLoad}
 use Rattle.margins.specs.Margins.{Within}
 use Rattle.strain.specs.Strain.{strainedBy, strained, strainOf, strainCounts, strainSum}
 use Rattle.strain.specs.StrainLaws.{none-above, strain-none, strain-of-none}
-use Rattle.exact_frame.specs.Bits.{label-small}
 use Rattle.isdbs_points.specs.InputLaws.{label-alike}
 use Rattle.exact_frame.specs.Steps.{step-favours}
 use Rattle.exact_frame.specs.Exact.{sent-bits, decoded-load}
 use Rattle.margin_ends.specs.Ends.{eight}
+use Rattle.trellis.specs.RunLaws.{label-under}
 
 -- at a step that favours the pair c, none of the metrics is strictly greater than that of c
 favour-unstrained : (m : List Float) (c : ℕ) → c < 4 → Favour m c → strainedBy m c ≡ false
@@ -48,7 +48,7 @@ module _ (t : Table) (fit : TableAccepted t) (m : Mapping) (first : Bool) (load 
       let us = decodedBits t (received re im m eight) true first in
       let e : labelAt (startState first) us k ≡ labelAt (startState first) (inputs t load) k =
       label-alike (startState first) us (inputs t load) (frameSteps t) (sent-bits t fit m first load re im within) k l in
-      rw e (favour-unstrained (metricsAt t (received re im m eight) k) (labelAt (startState first) (inputs t load) k) (label-small (getD (inputs t load) k 0) (stateAt 32 (startState first) (inputs t load) k)) (step-favours t fit m first load re im within k l))
+      rw e (favour-unstrained (metricsAt t (received re im m eight) k) (labelAt (startState first) (inputs t load) k) (label-under isdb (getD (inputs t load) k 0) (stateAt 32 (startState first) (inputs t load) k)) (step-favours t fit m first load re im within k l))
 
   -- every count is zero, and so is their sum
   pub zero-counts : strainCounts t (received re im m eight) true first ≡ replicate (validTotal t) 0

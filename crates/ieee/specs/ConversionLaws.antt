@@ -14,7 +14,7 @@ use lib.Ieee.Scale.{round-same, overflow}
 use lib.Ieee.Exact.{HasValue}
 use Rattle.ieee.specs.Nearest.{rnd, near-is}
 use Rattle.ieee.specs.Value.{mag, hi, lo, Num, shape, hi-of, lo-of, hi-fix, finite-of, hi-under}
-use Rattle.ieee.specs.Order.{or-l, or-r, or-split, sum-test, num-between, le→value}
+use Rattle.ieee.specs.Order.{or-l, or-r, or-split, sum-test, num-between, le→value, le-test}
 use Rattle.ieee.specs.Rounding.{prec-pos, round-at, round-neg, Between}
 use Rattle.ieee.specs.Zero.{unique, plus-plain, round-zero}
 use Rattle.ieee.specs.Conversion.{rounded}
@@ -152,12 +152,6 @@ round-high f true a c =
     subst (λ (z : Float). T (le z (inf false))) (sym (round-neg f false a c)) (minus-le-plus (round f false a c) (inf false) (round-plus f a c) tt)
 
 -- ---- the order is kept
-at-most : (a b : ℕ) → T (ltb a b || (eqb a b && true)) → a ≤ b
-at-most a b t = elim (or-split (ltb a b) (eqb a b && true) t) [
-  | inl l ↦ le-of-lt (ltb→lt a b l)
-  | inr q ↦ le-of-eq (eqb→eq a b (and-l (eqb a b) true q))
-]
-
 no-part : (m k d : ℕ) → 0 < d → m * k * d ≡ 0 → m * k ≡ 0
 no-part m k d D e = elim (eq-zero-or-pos (m * k)) [ inl z ↦ z | inr p ↦ absurd (lt-irrefl 0 (subst (λ (x : ℕ). 0 < x) e (mul-pos p D))) ]
 
@@ -178,7 +172,7 @@ rounded-mono f (fin s m e) nan t = absurd t
 rounded-mono f (fin s m e) (inf true) t = absurd t
 rounded-mono f (fin s m e) (inf false) t = round-high f s (m * up e) (down e)
 rounded-mono f (fin false m e) (fin false n d) t =
-    round-mono f (m * up e) (down e) (n * up d) (down d) (down-pos e) (down-pos d) (at-most (m * up e * down d) (n * up d * down e) t)
+    round-mono f (m * up e) (down e) (n * up d) (down d) (down-pos e) (down-pos d) (le-test (m * up e * down d) (n * up d * down e) t)
 rounded-mono f (fin true m e) (fin false n d) t =
     subst (λ (z : Float). T (le z (round f false (n * up d) (down d)))) (sym (round-neg f false (m * up e) (down e)))
     (minus-le-plus (round f false (m * up e) (down e)) (round f false (n * up d) (down d)) (round-plus f (m * up e) (down e)) (round-plus f (n * up d) (down d)))
@@ -193,7 +187,7 @@ rounded-mono f (fin true m e) (fin true n d) t =
     (subst (λ (z : Float). T (le (neg (round f false (m * up e) (down e))) z)) (sym (round-neg f false (n * up d) (down d)))
     (le-neg (round f false (m * up e) (down e)) (round f false (n * up d) (down d))
     (round-mono f (n * up d) (down d) (m * up e) (down e) (down-pos d) (down-pos e)
-    (at-most (n * up d * down e) (m * up e * down d) (swapped (ltb (n * up d * down e) (m * up e * down d)) (m * up e * down d) (n * up d * down e) t)))))
+    (le-test (n * up d * down e) (m * up e * down d) (swapped (ltb (n * up d * down e) (m * up e * down d)) (m * up e * down d) (n * up d * down e) t)))))
 
 -- ---- between two values that the format holds
 pub rounded-between : (f : Format) (c x d : Float) → Num f c → Num f d → T (le c x) → T (le x d) → Between f c (rounded f x) d

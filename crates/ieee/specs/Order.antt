@@ -140,7 +140,7 @@ test-le a b h = of-le a b (eqb a b && true) (λ (e : a ≡ b). and-i (eqb a b) t
 test-ge : (a b : ℕ) → b ≤ a → T (ltb b a || (eqb a b && true))
 test-ge a b h = of-le b a (eqb a b && true) (λ (e : b ≡ a). and-i (eqb a b) true (eq→eqb (sym e)) tt) h
 
-le-test : (a b : ℕ) → T (ltb a b || (eqb a b && true)) → a ≤ b
+pub le-test : (a b : ℕ) → T (ltb a b || (eqb a b && true)) → a ≤ b
 le-test a b t = lt-or a b (eqb a b && true) (λ (u : T (eqb a b && true)). eqb→eq a b (and-l (eqb a b) true u)) t
 
 ge-test : (a b : ℕ) → T (ltb b a || (eqb a b && true)) → b ≤ a
@@ -251,7 +251,7 @@ eq→value f (fin true m e) (fin false n d) p q t = none-both (mag f (fin true m
 eq→value f (fin true m e) (fin true n d) p q t = lev' (mag f (fin true m e)) (mag f (fin true n d)) (level-to (m * up e * down d) (n * up d * down e) (mag f (fin true m e)) (mag f (fin true n d)) (cross f true m e true n d p q) t)
 
 -- ---- between two finite values
-finite-between : (lo x hi : Float) → T (finite lo) → T (finite hi) → T (le lo x) → T (le x hi) → T (finite x)
+pub finite-between : (lo x hi : Float) → T (finite lo) → T (finite hi) → T (le lo x) → T (le x hi) → T (finite x)
 unfolding le
 finite-between nan x hi p q h k = absurd p
 finite-between (inf s) x hi p q h k = absurd p

@@ -28,7 +28,7 @@ use Rattle.isdbs_metrics.specs.Steps.{qpskPart, pieceMetrics, Covers, LayoutOf}
 use Rattle.trellis.specs.Run.{fourSteps}
 use Rattle.strain.specs.Marks.{markOf}
 use Rattle.isdbs_blocks.specs.Blocks.{Periods, fours, runSteps, runMark, fourIn, BlockMade, stepSoft, spreadSoft, subsetParts}
-use Rattle.isdbs_blocks.specs.PeriodLaws.{short}
+use Rattle.isdbs_blocks.specs.PeriodLaws.{short, more-periods}
 use Rattle.isdbs_blocks.proofs.Laws.{fours-steps, fours-0, fours-1, fours-2, fours-3}
 
 never : {A : Type 0} → _≡_ {A = ℕ} 0 1 → A
@@ -148,18 +148,9 @@ parts-room «Qpsk5_6» k0 n len e p q g = omega arith
 parts-room «Qpsk7_8» k0 n len e p q g = omega arith
 parts-room «Tc8psk2_3» k0 n len e p q g = never (cc)
 
-periods-add : (c : Combination) (a b : ℕ) → Periods c a → Periods c b → Periods c (a + b)
-periods-add «Bpsk1_2» a b p q = omega arith
-periods-add «Qpsk1_2» a b p q = omega arith
-periods-add «Qpsk2_3» a b p q = omega arith
-periods-add «Qpsk3_4» a b p q = omega arith
-periods-add «Qpsk5_6» a b p q = omega arith
-periods-add «Qpsk7_8» a b p q = omega arith
-periods-add «Tc8psk2_3» a b p q = omega arith
-
 pub qpsk-room : (c : Combination) (k0 n len : ℕ) → modulationOf c ≡ Qpsk → Periods c k0 → Periods c n → Covers c (k0 + n) len
     → k0 / stepsPerPeriod c * (length (orderOf c) / 2) + n / stepsPerPeriod c * (length (orderOf c) / 2) ≤ len
-qpsk-room c k0 n len e p q g = parts-room c k0 n len e p q (whole-room c (k0 + n) len e (periods-add c k0 n p q) g)
+qpsk-room c k0 n len e p q g = parts-room c k0 n len e p q (whole-room c (k0 + n) len e (more-periods c k0 n p q) g)
 
 -- the sizes of a block
 pub block-sizes : (c : Combination) (n : ℕ) → Periods c n → n ≤ 64 * stepsPerPeriod c

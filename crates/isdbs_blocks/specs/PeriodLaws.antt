@@ -13,7 +13,7 @@ use Rattle.isdbs_combination.specs.declared.Combination.the-variants.{«Bpsk1_2
 use Rattle.isdbs_points.specs.Layout.{orderOf, stepsPerPeriod, sentOrder}
 use Rattle.trellis.specs.Lists.{firstPlace}
 use Rattle.isdbs_pack.specs.FrameRunLaws.{tail-is}
-use Rattle.isdbs_blocks.specs.Blocks.{spreadSoft}
+use Rattle.isdbs_blocks.specs.Blocks.{Periods, spreadSoft}
 
 -- a period is short
 pub short : (c : Combination) → (length (orderOf c) ≤ 8) × (stepsPerPeriod c ≤ 7) × (0 < stepsPerPeriod c)
@@ -35,6 +35,15 @@ one-more «Qpsk3_4» t = (omega arith, omega arith)
 one-more «Qpsk5_6» t = (omega arith, omega arith)
 one-more «Qpsk7_8» t = (omega arith, omega arith)
 one-more «Tc8psk2_3» t = (omega arith, omega arith)
+
+pub more-periods : (c : Combination) (a b : ℕ) → Periods c a → Periods c b → Periods c (a + b)
+more-periods «Bpsk1_2» a b p q = omega arith
+more-periods «Qpsk1_2» a b p q = omega arith
+more-periods «Qpsk2_3» a b p q = omega arith
+more-periods «Qpsk3_4» a b p q = omega arith
+more-periods «Qpsk5_6» a b p q = omega arith
+more-periods «Qpsk7_8» a b p q = omega arith
+more-periods «Tc8psk2_3» a b p q = omega arith
 
 -- mother bit a of period t
 pub place-at : (c : Combination) (t a : ℕ) → a < 2 * stepsPerPeriod c

@@ -11,7 +11,8 @@ use Rattle.isdbs_combination.specs.declared.MaybeCombination.{MaybeCombi
 use Rattle.isdbs_combination.specs.declared.MaybeCombination.the-variants.{Some, None}
 use Rattle.isdbs_combination.specs.declared.Puncture.{Puncture}
 use Rattle.isdbs_combination.specs.declared.Puncture.the-variants.{«R2_3», «R3_4», «R5_6», «R7_8»}
-use Rattle.isdbs_combination.specs.Combinations.{unassigned, assignedOf, combinationOf, wordOf, unitOf, efficiencyOf, periodOf, pairsOf}
+use Rattle.isdbs_combination.specs.declared.Modulation.the-variants.{Tc8psk}
+use Rattle.isdbs_combination.specs.Combinations.{unassigned, assignedOf, combinationOf, wordOf, modulationOf, unitOf, efficiencyOf, periodOf, pairsOf}
 
 neither : (b : Bool) (w : ℕ) → assignedOf (cond b Dummy (Reserved w)) ≡ None
 neither true w = refl
@@ -72,3 +73,13 @@ efficiency-fits «Qpsk3_4» = record { some = lit< tt; most = lit≤ tt }
 efficiency-fits «Qpsk5_6» = record { some = lit< tt; most = lit≤ tt }
 efficiency-fits «Qpsk7_8» = record { some = lit< tt; most = lit≤ tt }
 efficiency-fits «Tc8psk2_3» = record { some = lit< tt; most = lit≤ tt }
+
+-- TC8PSK is the modulation of one combination
+pub tc8psk-only : (c : Combination) → modulationOf c ≡ Tc8psk → c ≡ «Tc8psk2_3»
+tc8psk-only «Bpsk1_2» e = cc
+tc8psk-only «Qpsk1_2» e = cc
+tc8psk-only «Qpsk2_3» e = cc
+tc8psk-only «Qpsk3_4» e = cc
+tc8psk-only «Qpsk5_6» e = cc
+tc8psk-only «Qpsk7_8» e = cc
+tc8psk-only «Tc8psk2_3» e = refl

@@ -3,7 +3,3 @@ use Prim.Native.Nat.{ℕ, _<_}
 use native.Mathlib.Nat.{mod-lt}
 use lib.Dec.{lit<}
 use Rattle.trellis.specs.Code.{isdb, output}
-
-pub output-small : (g u s : ℕ) → output isdb g u s < 2
-unfolding output
-output-small g u s = mod-lt _ (lit< tt)

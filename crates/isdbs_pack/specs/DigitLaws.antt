@@ -21,6 +21,7 @@ use Rattle.isdbs_metrics.specs.Reading.{correlation, bitBy}
 use Rattle.isdbs_points.specs.Layout.{byteOf}
 use Rattle.isdbs_metrics.specs.Steps.{digits, pieceBit, Bits}
 use Rattle.trellis.specs.Isdb
+use Rattle.trellis.specs.RunLaws.{output-bit}
 
 pub digits-small : (f : ℕ → ℕ) (n : ℕ) → ((i : ℕ) → i < n → f i < 2) → digits f n < 2 ^ n
 unfolding digits
@@ -99,16 +100,12 @@ byte-cong f g h =
     rw (h 0 (omega arith), h 1 (omega arith), h 2 (omega arith), h 3 (omega arith), h 4 (omega arith), h 5 (omega arith), h 6 (omega arith), h 7 (omega arith))
 
 -- ---- a step of TC8PSK
-out-small : (g u s : ℕ) → output isdb g u s < 2
-unfolding output
-out-small g u s = mod-lt _ (lit< tt)
-
 label-is : (x y u s : ℕ) → x ≡ output isdb 0o171 u s → y ≡ output isdb 0o133 u s → 2 * x + y ≡ Isdb.labels u s
 unfolding label
 label-is x y u s p q = rw (p, q)
 
 pub outputs-small : {x y : ℕ} (u s : ℕ) → x ≡ output isdb 0o171 u s → y ≡ output isdb 0o133 u s → (x < 2) × (y < 2)
-outputs-small u s p q = (rw p (out-small 0o171 u s), rw q (out-small 0o133 u s))
+outputs-small u s p q = (rw p (output-bit isdb 0o171 u s), rw q (output-bit isdb 0o133 u s))
 
 -- the byte so far after i of 4 steps, and the state
 pub record Taken (re im : List Float) (m : Mapping) (s : ℕ) (us : List ℕ) (byte state i : ℕ) : Type 0 where

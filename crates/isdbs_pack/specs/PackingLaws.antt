@@ -97,12 +97,3 @@ qpsk-bytes c re im m s us n e = plain-bytes c re im m s us n (λ i. qpsk-bit c r
 
 never : {A : Type 0} → _≡_ {A = ℕ} 0 1 → A
 never h = absurd (omega arith)
-
-pub tc8psk-only : (c : Combination) → modulationOf c ≡ Tc8psk → c ≡ «Tc8psk2_3»
-tc8psk-only «Bpsk1_2» e = never (cc)
-tc8psk-only «Qpsk1_2» e = never (cc)
-tc8psk-only «Qpsk2_3» e = never (cc)
-tc8psk-only «Qpsk3_4» e = never (cc)
-tc8psk-only «Qpsk5_6» e = never (cc)
-tc8psk-only «Qpsk7_8» e = never (cc)
-tc8psk-only «Tc8psk2_3» e = refl

@@ -9,7 +9,7 @@ use lib.Ieee.{Float, nan, neg}
 use lib.ListN.{length, getD, take, drop, set, length-set, length-drop, drop-of-length-le}
 use lib.Seq.{take-all}
 use Rattle.trellis.specs.Lists.{upto, laid}
-use Rattle.trellis.specs.Code.{label, moved, stateAt}
+use Rattle.trellis.specs.Code.{label, moved, stateAt, isdb}
 use Rattle.trellis.specs.Step.{term}
 use Rattle.isdbs_combination.specs.declared.Combination.{Combination}
 use Rattle.isdbs_combination.specs.declared.Combination.the-variants.{«Bpsk1_2», «Qpsk1_2», «Qpsk2_3», «Qpsk3_4», «Qpsk5_6», «Qpsk7_8», «Tc8psk2_3»}
@@ -20,12 +20,12 @@ use Rattle.isdbs_points.specs.Points.{one64, bpskOf, psk8Of, subset}
 use Rattle.isdbs_points.specs.Layout.{loadBit}
 use Rattle.isdbs_points.specs.Frame.{coded, inputIn, labelAt, pointBy}
 use Rattle.isdbs_points.specs.Pieces.{piece, pieceInputs, pieceLabel, pieceSymbols, mapped}
-use Rattle.isdbs_load.specs.BitLaws.{output-small}
 use Rattle.isdbs_pieces.specs.Encoded.{piecePoint, PieceEncoded, registerAt}
 use Rattle.isdbs_points.specs.StateLaws.{Follow, state-shift, label-shift}
 use Rattle.trellis.specs.LaidLaws.{upto-cong, laid-upto, laid-part, length-laid-upto}
 use Rattle.trellis.specs.ListLaws.{getD-upto}
 use Rattle.trellis.specs.Isdb
+use Rattle.trellis.specs.RunLaws.{output-bit}
 
 -- a part from a on, written at its front and put back
 pub tail-back : {A : Type 0} (a : ℕ) (l f : List A) {p : List A} → a ≤ length l → p ≡ laid f (take (length l - a) (drop a l))
@@ -155,7 +155,7 @@ unfolding label
 label-small s us k =
     let u = getD us k 0 in
     let t = stateAt 32 s us k in
-    omega (arith, output-small 0o171 u t, output-small 0o133 u t)
+    omega (arith, output-bit isdb 0o171 u t, output-bit isdb 0o133 u t)
 
 -- ---- the points of BPSK and TC8PSK
 module _ (m : Mapping) (load : List ℕ) (bit n s k : ℕ) where
@@ -193,12 +193,3 @@ is-bpsk «Qpsk3_4» e = cc
 is-bpsk «Qpsk5_6» e = cc
 is-bpsk «Qpsk7_8» e = cc
 is-bpsk «Tc8psk2_3» e = cc
-
-pub is-tc8psk : (c : Combination) → modulationOf c ≡ Tc8psk → c ≡ «Tc8psk2_3»
-is-tc8psk «Bpsk1_2» e = cc
-is-tc8psk «Qpsk1_2» e = cc
-is-tc8psk «Qpsk2_3» e = cc
-is-tc8psk «Qpsk3_4» e = cc
-is-tc8psk «Qpsk5_6» e = cc
-is-tc8psk «Qpsk7_8» e = cc
-is-tc8psk «Tc8psk2_3» e = refl

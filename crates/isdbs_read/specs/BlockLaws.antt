@@ -41,15 +41,6 @@ most-periods «Tc8psk2_3» = refl
 pub block-periods : (c : Combination) (n k r : ℕ) → Periods c n → Periods c k → k ≤ n → (r ≡ n - k) ⊎ (r ≡ 64 * stepsPerPeriod c) → Periods c r
 block-periods c n k r p q h o = ⊎-elim (λ e. rw e (left-periods c n k p q h)) (λ e. rw e (most-periods c)) o
 
-pub more-periods : (c : Combination) (a b : ℕ) → Periods c a → Periods c b → Periods c (a + b)
-more-periods «Bpsk1_2» a b p q = omega arith
-more-periods «Qpsk1_2» a b p q = omega arith
-more-periods «Qpsk2_3» a b p q = omega arith
-more-periods «Qpsk3_4» a b p q = omega arith
-more-periods «Qpsk5_6» a b p q = omega arith
-more-periods «Qpsk7_8» a b p q = omega arith
-more-periods «Tc8psk2_3» a b p q = omega arith
-
 pub no-periods : (c : Combination) → Periods c 0
 no-periods «Bpsk1_2» = refl
 no-periods «Qpsk1_2» = refl

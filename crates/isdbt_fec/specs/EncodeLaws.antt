@@ -19,12 +19,7 @@ use Rattle.trellis.specs.Encoded.{lowBits}
 use Rattle.trellis.specs.LaidLaws.{upto-cong}
 use Rattle.isdbt_table.specs.NumberLaws.{numbers}
 use Rattle.isdbt_table.specs.SizeLaws.{sizes, order-at, order-below, place-in}
-
--- the low bit of a byte, past the end too
-pub input-at : (bits : List ℕ) (i : ℕ) → getD (lowBits bits) i 0 ≡ getD bits i 0 % 2
-input-at [] i = refl
-input-at (b ∷ bits) zero = refl
-input-at (b ∷ bits) (suc i) = input-at bits i
+use Rattle.trellis.specs.EncodedLaws.{low-at}
 
 pub state-next : (s : ℕ) (us : List ℕ) (n : ℕ) → stateAt 32 s us (n + 1) ≡ moved 32 (getD us n 0) (stateAt 32 s us n)
 unfolding stateAt
@@ -36,7 +31,7 @@ unfolding stateAt
 state-below s bits zero h = h
 state-below s bits (suc n) h =
     let g : stateAt 32 s (lowBits bits) n < 64 = state-below s bits n h in
-    let e = input-at bits n in
+    let e = low-at bits n in
     omega arith
 
 -- the part of m bytes from a on
@@ -46,7 +41,7 @@ module _ (s a m : ℕ) (bits : List ℕ) where
 
   part-input : (i : ℕ) → i < m → getD (lowBits part) i 0 ≡ getD (lowBits bits) (a + i) 0
   part-input i h =
-      input-at part i ∙ ap (λ (x : ℕ). x % 2) (getD-take m (drop a bits) i 0 h ∙ getD-drop a bits i 0) ∙ sym (input-at bits (a + i))
+      low-at part i ∙ ap (λ (x : ℕ). x % 2) (getD-take m (drop a bits) i 0 h ∙ getD-drop a bits i 0) ∙ sym (low-at bits (a + i))
 
   pub part-state : (n : ℕ) → n ≤ m → stateAt 32 (stateAt 32 s (lowBits bits) a) (lowBits part) n ≡ stateAt 32 s (lowBits bits) (a + n)
   unfolding stateAt

@@ -78,7 +78,7 @@ known-worth out pm c k b p =
 abbrev pub ruledOut : ℕ
 ruledOut = 15625000 * pow2 155
 
-out-num : Num binary32 (ofBits binary32 0xce6e_6b28)
+pub out-num : Num binary32 (ofBits binary32 0xce6e_6b28)
 unfolding fits ofBits
 out-num = record { fin-x = tt; fits-x = tt }
 

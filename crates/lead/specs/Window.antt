@@ -108,7 +108,7 @@ zero-num : Num binary32 (ofBits binary32 0)
 unfolding fits ofBits
 zero-num = record { fin-x = tt; fits-x = tt }
 
-far-num : Num binary32 (ofBits binary32 0xc974_2400)
+pub far-num : Num binary32 (ofBits binary32 0xc974_2400)
 unfolding fits ofBits
 far-num = record { fin-x = tt; fits-x = tt }
 

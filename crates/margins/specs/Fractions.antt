@@ -116,17 +116,6 @@ order→le (fin true m e) (fin true n d) p q h =
     le→test b a (eqb a b && true) (λ (z : b ≡ a). and-i (eqb a b) true (eq→eqb (sym z)) tt) (unpad' a b (down d) (down e) h)
 
 -- ---- between
-pub finite-between : (a x b : Float) → T (finite a) → T (finite b) → T (le a x) → T (le x b) → T (finite x)
-unfolding le
-finite-between nan x b p q h k = absurd p
-finite-between (inf s) x b p q h k = absurd p
-finite-between (fin s m e) nan b p q h k = absurd h
-finite-between (fin s m e) (inf true) b p q h k = absurd h
-finite-between (fin s m e) (inf false) nan p q h k = absurd q
-finite-between (fin s m e) (inf false) (inf t) p q h k = absurd q
-finite-between (fin s m e) (inf false) (fin t n d) p q h k = absurd k
-finite-between (fin s m e) (fin t n d) b p q h k = tt
-
 through : (P N D P' N' D' P'' N'' D'' : ℕ) → 0 < D' → P * D' + N' * D ≤ P' * D + N * D' → P' * D'' + N'' * D' ≤ P'' * D' + N' * D'' → P * D'' + N'' * D ≤ P'' * D + N * D''
 through P N D P' N' D' P'' N'' D'' C h k = le-of-mul-le-mul-right (omega (arith, mul-le-mul-right D'' h, mul-le-mul-right D k)) C
 

@@ -18,7 +18,7 @@ use Rattle.ieee.specs.Constants.{mul-neg}
 use Rattle.ieee.specs.Conversion.{rounded}
 use Rattle.ieee.specs.ConversionLaws.{rounded-mono, le-neg}
 use Rattle.isdbs_soft.specs.Soft.{softOf}
-use Rattle.margins.specs.Fractions.{finite-between, le-through, mul-keeps}
+use Rattle.margins.specs.Fractions.{le-through, mul-keeps}
 use Rattle.margin_ends.specs.Ends.{eight}
 
 pub record Inside (a b x : Float) : Type 0 where

@@ -9,7 +9,7 @@ use lib.Dec.{T, eqb, eqb-refl}
 use lib.ListN.{length, getD, take, drop}
 use Rattle.trellis.specs.Code.{isdb, output, label, moved}
 use Rattle.trellis.specs.Encoded.{encoded, bitsOf}
-use Rattle.trellis.specs.EncodedLaws.{length-encoded, encoded-at}
+use Rattle.trellis.specs.EncodedLaws.{length-encoded, encoded-at, length-bits}
 use Rattle.trellis.specs.RunLaws.{label-under}
 use Rattle.trellis.specs.Stretch.{apart, differing, Bits}
 use Rattle.trellis.specs.DistanceLaws.{same-or-ten, wrong, first-out, by-place, wrong-same, triangle, labelsOf}
@@ -18,10 +18,6 @@ use Rattle.mend_distance.specs.Distances.{pairAt}
 use Rattle.trellis.specs.Isdb
 
 -- ---- the two bits of a branch
-pub output-small : (g u s : ℕ) → output isdb g u s < 2
-unfolding output
-output-small g u s = omega arith
-
 pub label-x : (u s : ℕ) → Isdb.labels u s / 2 ≡ output isdb 0o171 u s
 unfolding label output
 label-x u s = omega arith
@@ -78,12 +74,8 @@ by-labels s us bits hb e =
     by-pairs us s bits hb e
     ∙ wrong-same (λ k. getD (encoded isdb s us) k 0) (pairAt bits) (labelsOf s us) (pairAt bits) (length us) (λ k h. encoded-at isdb s us k h) (λ k h. refl)
 
-pub length-coded : (ls : List ℕ) → length (bitsOf ls) ≡ 2 * length ls
-length-coded [] = refl
-length-coded (l ∷ ls) = let i = length-coded ls in omega arith
-
 pub length-sent : (s : ℕ) (us : List ℕ) → length (sentFrom s us) ≡ 2 * length us
-length-sent s us = length-coded (encoded isdb s us) ∙ ap (λ (k : ℕ). 2 * k) (length-encoded isdb s us)
+length-sent s us = length-bits (encoded isdb s us) ∙ ap (λ (k : ℕ). 2 * k) (length-encoded isdb s us)
 
 pub bits-sent : (us : List ℕ) (s : ℕ) → Bits (sentFrom s us)
 unfolding encoded

@@ -17,20 +17,9 @@ use Rattle.short_encode.specs.EncodingLaws.{length-coded}
 use Rattle.overlay.specs.Overlaid.{overlaid, chosen}
 use Rattle.overlay.specs.OverlaidLaws.{chosen-overlaid, parts-overlaid}
 use Rattle.overlay.specs.Coding.{Overlays}
+use Rattle.trellis.specs.RunLaws.{output-bit}
 
 -- ---- one input
-below-two : (c : trellis.Code) (g u s : ℕ) → output c g u s < 2
-unfolding output
-below-two c g u s = omega arith
-
--- a pair 2 X + Y
-pub pair-under : (c : trellis.Code) (u s : ℕ) → label c u s < 4
-unfolding label
-pair-under c u s =
-    let x = below-two c (c .g1) u s in
-    let y = below-two c (c .g2) u s in
-    omega arith
-
 -- the pair of the exclusive-or
 pub label-xor : (c : trellis.Code) (u v s r : ℕ) → label c ((u + v) % 2) (bitXor s r) ≡ bitXor (label c u s) (label c v r)
 unfolding label
@@ -39,10 +28,10 @@ label-xor c u v s r =
     let y = output c (c .g2) u s in
     let z = output c (c .g1) v r in
     let w = output c (c .g2) v r in
-    let hx : x < 2 = below-two c (c .g1) u s in
-    let hy : y < 2 = below-two c (c .g2) u s in
-    let hz : z < 2 = below-two c (c .g1) v r in
-    let hw : w < 2 = below-two c (c .g2) v r in
+    let hx : x < 2 = output-bit c (c .g1) u s in
+    let hy : y < 2 = output-bit c (c .g2) u s in
+    let hz : z < 2 = output-bit c (c .g1) v r in
+    let hw : w < 2 = output-bit c (c .g2) v r in
     let a : 2 * x ≡ x * 2 ^ 1 = omega arith in
     let b : 2 * z ≡ z * 2 ^ 1 = omega arith in
     let p = xor-bit x z hx hz in

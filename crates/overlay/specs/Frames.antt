@@ -18,8 +18,9 @@ use Rattle.isdbs_points.specs.Frame.{inputIn, inputs, labelAt, codedBit, sentBi
 use Rattle.isdbs_points.specs.Points.{subset}
 use Rattle.overlay.specs.Overlaid.{overlaid}
 use Rattle.overlay.specs.OverlaidLaws.{overlaid-at}
-use Rattle.overlay.specs.CodingLaws.{pair-under}
 use Rattle.overlay.specs.Places.{Sums, state-xor, pair-xor}
+use Rattle.trellis.specs.RunLaws.{label-under}
+use Rattle.isdbs_points.specs.BitLaws.{subset-small}
 
 -- ---- one coded bit
 pick : (w : Bool) (l m : ℕ) → cond w (bitXor l m / 2) (bitXor l m % 2) ≡ bitXor (cond w (l / 2) (l % 2)) (cond w (m / 2) (m % 2))
@@ -65,10 +66,6 @@ eight-xor p q l m hl hm =
     let y : q * 2 ^ 2 ≡ 4 * q = omega arith in
     let d = xor-block 2 p q l m hl hm in
     omega arith ∙ sym (rw (x, y) at d)
-
-subset-under : (w : Bool) (l : ℕ) → l < 4 → subset w l < 4
-subset-under true l h = omega arith
-subset-under false l h = h
 
 -- 4 C2 + 2 C1 + C0 of symbol j of a TC8PSK segment, as `pointBy` has it
 abbrev pub eighth : Bool → List ℕ → (ℕ → ℕ) → Segment → ℕ → ℕ
@@ -157,9 +154,9 @@ module _ (t : Table) (a b : List ℕ) (e : length a ≡ length b) where
         let m = labelAt r (inputs t b) k in
         let p = loadBit a (x .bit + 2 * j) in
         let q = loadBit b (x .bit + 2 * j) in
-        let hl : l < 4 = pair-under isdb (getD (inputs t a) k 0) (stateAt 32 s (inputs t a) k) in
-        let hm : m < 4 = pair-under isdb (getD (inputs t b) k 0) (stateAt 32 r (inputs t b) k) in
+        let hl : l < 4 = label-under isdb (getD (inputs t a) k 0) (stateAt 32 s (inputs t a) k) in
+        let hm : m < 4 = label-under isdb (getD (inputs t b) k 0) (stateAt 32 r (inputs t b) k) in
         ap (λ (i : ℕ). 4 * i + subset w (labelAt (bitXor s r) (inputs t (overlaid a b)) k)) (load-bit-xor a b e (x .bit + 2 * j))
         ∙ ap (λ (i : ℕ). 4 * bitXor p q + subset w i) (frame-pair k)
         ∙ ap (λ (i : ℕ). 4 * bitXor p q + i) (subset-xor w l m hl hm)
-        ∙ eight-xor p q (subset w l) (subset w m) (subset-under w l hl) (subset-under w m hm)
+        ∙ eight-xor p q (subset w l) (subset w m) (subset-small w l hl) (subset-small w m hm)

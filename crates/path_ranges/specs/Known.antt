@@ -17,18 +17,15 @@ use Rattle.path_ranges.specs.Bounds.{U, most, Above, Below, above-more, 
 use Rattle.path_ranges.specs.Steps.{known-moves, nexts-within, nexts-above}
 use Rattle.path_ranges.specs.Reach.{Reach}
 use Rattle.path_ranges.specs.Invariant.{Limits, depth, depth-least, depth-most, Bounded, bounded-within, led, led-under}
+use Rattle.lead.specs.Known.{out-num}
 
 -- -1.0e9 is 1,953,125 times -512
-ruled-num : Num binary32 (ofBits binary32 0xce6e_6b28)
-unfolding fits ofBits
-ruled-num = record { fin-x = tt; fits-x = tt }
-
 ruled-is : (hi binary32 (ofBits binary32 0xce6e_6b28) ≡ 0) × (lo binary32 (ofBits binary32 0xce6e_6b28) ≡ 1953125 * U)
 unfolding hi lo pow2 ofBits
 ruled-is = (refl, refl)
 
 ruled-within : Within (ofBits binary32 0xce6e_6b28) 1953125 0
-ruled-within = let v = ruled-is in record { num = ruled-num; low = omega arith; high = omega arith }
+ruled-within = let v = ruled-is in record { num = out-num; low = omega arith; high = omega arith }
 
 module _ {c d B : ℕ} (r : Limits c d B) (deep : 1953125 ≤ B) (out : ℕ → ℕ → ℕ) (labels : (u s : ℕ) → u < 2 → s < 64 → out u s < 4) (t : Tie) (pm : List Float) (b : ℕ) (i : Bounded c B 0 0 pm) where
   abbrev new : List Float

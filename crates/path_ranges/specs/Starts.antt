@@ -31,10 +31,6 @@ level {c} {B} pm e all b h a = record {
 }
 
 -- -1,000,000 is within 1,954 times 512
-far-num : Num binary32 (ofBits binary32 0xc974_2400)
-unfolding fits ofBits
-far-num = record { fin-x = tt; fits-x = tt }
-
 far-is : (hi binary32 (ofBits binary32 0xc974_2400) ≡ 0) × (lo binary32 (ofBits binary32 0xc974_2400) ≡ 1000000 * pow2 149)
 unfolding hi lo pow2 ofBits
 far-is = (refl, refl)

@@ -58,10 +58,6 @@ module _ (c : Code) (h u s : ℕ) (f : Fits c h) (hu : u < 2) (hs : s < 2 * h) w
   unfolding trellis.label
   label-is p q ep eq = (omega arith, rw (one-output (c .g1) p ep, one-output (c .g2) q eq) refl)
 
-output-bit : (c : trellis.Code) (g u s : ℕ) → output c g u s < 2
-unfolding output
-output-bit c g u s = omega arith
-
 -- X and Y of a label
 pub label-parts : (c : Code) (u s l : ℕ) → l ≡ labels c u s → (l / 2 ≡ output (codeOf c) (c .g1) u s) × (l % 2 ≡ output (codeOf c) (c .g2) u s)
 unfolding trellis.label

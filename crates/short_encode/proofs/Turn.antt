@@ -16,7 +16,7 @@ use Rattle.trellis.specs.EncodedLaws.{reached-is}
 use Rattle.trellis.specs.LaidLaws.{laid-next}
 use Rattle.short_code.specs.declared.Code.{Code}
 use Rattle.short_code.specs.Codes.{codeOf, halfOf}
-use Rattle.short_encode.specs.EncodingLaws.{low-at, length-low, length-coded, stateBefore, coded-x, coded-y}
+use Rattle.short_encode.specs.EncodingLaws.{length-low, length-coded, stateBefore, coded-x, coded-y}
 
 -- too few places, by a quotient
 pub few-is : (space n : ℕ) (t : Bool) → ltb space (2 * n) ≡ t → ltb (space / 2) n ≡ t

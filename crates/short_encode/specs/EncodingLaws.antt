@@ -8,24 +8,14 @@ use lib.ListN.{length, getD, length-map}
 use Rattle.trellis.specs.Code as trellis
 use Rattle.trellis.specs.Code.{output, stateAt}
 use Rattle.trellis.specs.Encoded.{encoded, lowBits, bitsOf, codedBits}
-use Rattle.trellis.specs.EncodedLaws.{length-encoded, encoded-at}
+use Rattle.trellis.specs.EncodedLaws.{length-encoded, encoded-at, length-bits}
 use Rattle.short_code.specs.declared.Code.{Code}
 use Rattle.short_code.specs.Codes.{codeOf, halfOf}
-
--- the low bit of a byte, past the end too
-pub low-at : (us : List ℕ) (k : ℕ) → getD (lowBits us) k 0 ≡ getD us k 0 % 2
-low-at [] k = refl
-low-at (u ∷ us) zero = refl
-low-at (u ∷ us) (suc k) = low-at us k
 
 pub length-low : (us : List ℕ) → length (lowBits us) ≡ length us
 length-low us = length-map us (λ u. u % 2)
 
 -- ---- the bits of pairs
-length-parts : (ls : List ℕ) → length (bitsOf ls) ≡ 2 * length ls
-length-parts [] = refl
-length-parts (l ∷ ls) = let e = length-parts ls in omega arith
-
 x-at : (ls : List ℕ) (k : ℕ) → k < length ls → getD (bitsOf ls) (2 * k) 0 ≡ getD ls k 0 / 2
 x-at [] k h = absurd (not-suc-le-zero h)
 x-at (l ∷ ls) zero h = refl
@@ -38,7 +28,7 @@ y-at (l ∷ ls) (suc k) h = let e : 2 * suc k + 1 ≡ suc (suc (2 * k + 1)) = om
 
 -- ---- the coded bits
 pub length-coded : (c : Code) (s : ℕ) (us : List ℕ) → length (codedBits (codeOf c) s us) ≡ 2 * length us
-length-coded c s us = length-parts (encoded (codeOf c) s (lowBits us)) ∙ ap (λ (n : ℕ). 2 * n) (length-encoded (codeOf c) s (lowBits us) ∙ length-low us)
+length-coded c s us = length-bits (encoded (codeOf c) s (lowBits us)) ∙ ap (λ (n : ℕ). 2 * n) (length-encoded (codeOf c) s (lowBits us) ∙ length-low us)
 
 -- the state before input k
 abbrev pub stateBefore : Code → ℕ → List ℕ → ℕ → ℕ

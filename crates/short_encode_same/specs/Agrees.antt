@@ -25,7 +25,7 @@ use Rattle.isdbt_fec.specs.Calls.{Encodes, Unencoded}
 use Rattle.short_code.specs.Codes.{codeOf}
 use Rattle.short_fec.specs.Rows as short-rows
 use Rattle.short_encode.specs.declared.Encoded as short
-use Rattle.short_encode.specs.EncodingLaws.{low-at, length-low, length-coded, coded-x, coded-y}
+use Rattle.short_encode.specs.EncodingLaws.{length-low, length-coded, coded-x, coded-y}
 use Rattle.short_same.specs.IsdbCode.{isdbCode}
 
 -- ---- the rows: every count is whole periods of one input, and two bits are sent for each

@@ -7,14 +7,14 @@ use native.Mathlib.Numerals.{add-one}
 use native.Mathlib.Omega.{arith}
 use lib.Dec.{lit<}
 use lib.ListN.{getD}
-use Rattle.trellis.specs.Code.{label, stateAt}
+use Rattle.trellis.specs.Code.{label, stateAt, isdb}
 use Rattle.isdbs_points.specs.Frame.{labelAt}
 use Rattle.strain.specs.Counts.{summed}
 use Rattle.strain.specs.CountsLaws.{summed-few}
 use Rattle.strain.specs.Marks.{marked}
-use Rattle.strain.specs.MarksLaws.{label-small}
 use Rattle.slot_strain.specs.declared.Slot.{Slot}
 use Rattle.slot_strain.specs.Counted.{Labels, Counted}
+use Rattle.trellis.specs.RunLaws.{label-under}
 
 abbrev pub slot : ℕ → ℕ → Slot
 slot count state = record { count = count; state = state }
@@ -41,7 +41,7 @@ module _ (ms us : List ℕ) (start : ℕ) where
         let u : k / 64 ≡ getD us i 0 = omega (arith, K) in
         let s : k % 64 ≡ state = omega (arith, K) in
         let e : getD ls k 0 ≡ labelAt start us i = L .are k place-small ∙ rw (u, s, h .state-is) in
-        (e, rw e (label-small (getD us i 0) (stateAt 32 start us i)))
+        (e, rw e (label-under isdb (getD us i 0) (stateAt 32 start us i)))
 
     pub counted-next : (x : ℕ) → x ≡ labelAt start us i → Counted ms us start (i + 1) (slot (count + getD ms i 0 / 2 ^ x % 2) (k / 2))
     unfolding summed stateAt

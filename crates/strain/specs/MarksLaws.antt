@@ -16,6 +16,7 @@ use Rattle.strain.specs.CountsLaws.{bit-few}
 use Rattle.strain.specs.Strain.{strainedBy, strainedAt}
 use Rattle.strain.specs.Marks.{markOf, frameMark, marked}
 use Rattle.trellis.specs.Isdb
+use Rattle.trellis.specs.RunLaws.{label-under}
 
 -- the digits of a number of four
 module _ (x y z w : ℕ) (X : x ≤ 1) (Y : y ≤ 1) (Z : z ≤ 1) (W : w ≤ 1) where
@@ -47,13 +48,6 @@ module _ (m : List Float) where
   mark-bit (suc (suc (suc zero))) l = digit-3 (at 0) (at 1) (at 2) (at 3) (few 0) (few 1) (few 2) (few 3)
   mark-bit (suc (suc (suc (suc c)))) l = absurd (omega arith)
 
-pub label-small : (u s : ℕ) → Isdb.labels u s < 4
-unfolding label output
-label-small u s =
-    let x : output isdb 0o171 u s < 2 = mod-lt _ (lit< tt) in
-    let y : output isdb 0o133 u s < 2 = mod-lt _ (lit< tt) in
-    omega arith
-
 -- step k of a frame whose marks are kept
 pub marked-is : (t : Table) (r : Received) (s : ℕ) (us ms : List ℕ) (k : ℕ) → getD ms k 0 ≡ frameMark t r k → marked ms s us k ≡ bit (strainedAt t r s us k)
-marked-is t r s us ms k e = rw e (mark-bit (metricsAt t r k) (labelAt s us k) (label-small (getD us k 0) (stateAt 32 s us k)))
+marked-is t r s us ms k e = rw e (mark-bit (metricsAt t r k) (labelAt s us k) (label-under isdb (getD us k 0) (stateAt 32 s us k)))

@@ -17,6 +17,7 @@ use Rattle.trellis.specs.EncodedLaws.{length-encoded, encoded-at}
 use Rattle.trellis.specs.ListLaws.{every, every-at}
 use Rattle.trellis.specs.LinearLaws.{output-xor, moved-xor}
 use Rattle.trellis.specs.Stretch.{apart, differing, Bits, Coded}
+use Rattle.trellis.specs.RunLaws.{output-bit}
 
 -- the ones of a branch
 weight : ℕ → ℕ → ℕ
@@ -47,10 +48,6 @@ no-less zero s h l = leb→le _ _ (and-l (falls 0 s) (falls 1 s) (every-at test 
 no-less (suc zero) s h l = leb→le _ _ (and-r (falls 0 s) (falls 1 s) (every-at test 64 passes s l))
 no-less (suc (suc u)) s h l = absurd (omega arith)
 
-small : (g u s : ℕ) → output isdb g u s < 2
-unfolding output
-small g u s = omega arith
-
 -- the two bits of a pair
 high : (x y : ℕ) → y < 2 → (2 * x + y) / 2 ≡ x
 high x y h = omega arith
@@ -66,7 +63,7 @@ apart-is u v s r =
     let y = output isdb 0o133 u s in
     let z = output isdb 0o171 v r in
     let w = output isdb 0o133 v r in
-    rw (high x y (small 0o133 u s), low x y (small 0o133 u s), high z w (small 0o133 v r), low z w (small 0o133 v r), output-xor isdb 0o171 u v s r, output-xor isdb 0o133 u v s r) refl
+    rw (high x y (output-bit isdb 0o133 u s), low x y (output-bit isdb 0o133 u s), high z w (output-bit isdb 0o133 v r), low z w (output-bit isdb 0o133 v r), output-xor isdb 0o171 u v s r, output-xor isdb 0o133 u v s r) refl
 
 -- two stretches that end in one state differ at least so much as the exclusive-or of their starts needs to come to 0
 ends-together : (us vs : List ℕ) (s r : ℕ) → s < 64 → r < 64 → Bits us → Bits vs → length us ≡ length vs → reached isdb s us ≡ reached isdb r vs

@@ -1,11 +1,22 @@
 -- Laws of encoding a list of inputs. Assumes nothing.
 use mathlib.Core.Path.{_≡_, refl, sym, _∙_, ap}
 use mathlib.Core.List.{List, [], _∷_, _++_}
-use Prim.Native.Nat.{ℕ, zero, suc, _<_}
+use Prim.Native.Nat.{ℕ, zero, suc, _*_, _%_, _<_}
 use native.Mathlib.Nat.{not-suc-le-zero, le-of-suc-le-suc}
+use native.Mathlib.Omega.{arith}
 use lib.ListN.{length, getD}
 use Rattle.trellis.specs.Code.{Code, half, label, moved, stateAt}
-use Rattle.trellis.specs.Encoded.{encoded, reached}
+use Rattle.trellis.specs.Encoded.{lowBits, bitsOf, encoded, reached}
+
+-- ---- the low bits of bytes, and the bits of coded pairs
+pub low-at : (us : List ℕ) (k : ℕ) → getD (lowBits us) k 0 ≡ getD us k 0 % 2
+low-at [] k = refl
+low-at (u ∷ us) zero = refl
+low-at (u ∷ us) (suc k) = low-at us k
+
+pub length-bits : (ls : List ℕ) → length (bitsOf ls) ≡ 2 * length ls
+length-bits [] = refl
+length-bits (l ∷ ls) = let e = length-bits ls in omega arith
 
 module _ (c : Code) where
   pub length-encoded : (s : ℕ) (us : List ℕ) → length (encoded c s us) ≡ length us

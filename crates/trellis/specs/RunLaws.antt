@@ -11,6 +11,11 @@ use Rattle.trellis.specs.Code.{Code, output, label}
 use Rattle.trellis.specs.Step.{Step, Tie, nexts, word}
 use Rattle.trellis.specs.Run.{Decoder, block, settled, valuesAt, decoded, released, stepped, after}
 
+-- a coded bit, and a pair 2 X + Y
+pub output-bit : (c : Code) (g u s : ℕ) → output c g u s < 2
+unfolding output
+output-bit c g u s = omega arith
+
 pub label-under : (c : Code) (u s : ℕ) → label c u s < 4
 unfolding label output
 label-under c u s = omega arith

@@ -1,5 +1,5 @@
 -- `pack_run` meets its contract. Assumes nothing.
-use Rattle.isdbs_pack.specs.PackingLaws.{bpsk-bytes, qpsk-bytes, tc8psk-only}
+use Rattle.isdbs_pack.specs.PackingLaws.{bpsk-bytes, qpsk-bytes}
 use Rattle.trellis.specs.Lists.{laid}
 use Prim.Native.Nat.{ℕ}
 use mathlib.Core.List.{List}

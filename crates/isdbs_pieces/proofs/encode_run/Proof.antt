@@ -3,10 +3,11 @@ use mathlib.Core.Path.{_≡_, sym, _∙_}
 use native.Mathlib.Omega.{arith}
 use Rattle.isdbs_combination.specs.declared.Modulation.the-variants.{Qpsk}
 use Rattle.isdbs_combination.specs.Combinations.{modulationOf}
-use Rattle.isdbs_pieces.specs.PieceLaws.{is-bpsk, is-tc8psk}
+use Rattle.isdbs_pieces.specs.PieceLaws.{is-bpsk}
 use borrow.Author.Needs.{needs}
 use Rattle.isdbs_pieces.proofs.encode_run.Statement.{statement}
 use Rattle.isdbs_pieces.proofs.encode_run.Tie as tie
+use Rattle.isdbs_combination.specs.CombinationLaws.{tc8psk-only}
 
 modulation-requires : tie.Need-modulation-requires
 modulation-requires c κs = search needs
@@ -32,7 +33,7 @@ enum-told-3 c = search needs
 
 encode-tc8psk-requires : tie.Need-encode-tc8psk-requires
 encode-tc8psk-requires c κs =
-    let e = is-tc8psk (c .before .before .before .before .before .before .before .before .args .c) (sym (c .before .before .before .before .modulation .ensures) ∙ c .before .before .enum-told3 .given .1) in
+    let e = tc8psk-only (c .before .before .before .before .before .before .before .before .args .c) (sym (c .before .before .before .before .modulation .ensures) ∙ c .before .before .enum-told3 .given .1) in
     (c .before .before .before .before .before .before .before .before .pre .0, c .before .before .before .before .before .before .before .before .pre .1, rw e at (c .before .before .before .before .before .before .before .before .pre .3), rw e at (c .before .before .before .before .before .before .before .before .pre .4), c .before .before .before .before .before .before .before .before .pre .5, c .before .before .before .before .before .before .before .before .pre .6)
 
 same-length : tie.Need-same-length
@@ -63,7 +64,7 @@ same-length-6 c = search needs
 
 returns-3 : tie.Need-returns-3
 returns-3 c =
-    let e = is-tc8psk (c .before .before .before .before .before .before .before .before .before .before .before .before .before .args .c) (sym (c .before .before .before .before .before .before .before .before .before .modulation .ensures) ∙ c .before .before .before .before .before .before .before .enum-told3 .given .1) in
+    let e = tc8psk-only (c .before .before .before .before .before .before .before .before .before .before .before .before .before .args .c) (sym (c .before .before .before .before .before .before .before .before .before .modulation .ensures) ∙ c .before .before .before .before .before .before .before .enum-told3 .given .1) in
     rw e (c .before .before .before .before .encode-tc8psk .ensures)
 
 pub encode-run-spec : {M : Type 1} → statement M

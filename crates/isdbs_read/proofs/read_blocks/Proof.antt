@@ -13,7 +13,7 @@ use Rattle.isdbs_pack.specs.FrameByteLaws.{written-tail}
 use Rattle.isdbs_blocks.specs.Blocks.{runSteps, runMark, Periods}
 use Rattle.isdbs_blocks.specs.PeriodLaws.{short}
 use Rattle.isdbs_read.specs.Carried.{Carried}
-use Rattle.isdbs_read.specs.BlockLaws.{block-periods, more-periods, no-periods, read-start, read-block}
+use Rattle.isdbs_read.specs.BlockLaws.{block-periods, no-periods, read-start, read-block}
 use Rattle.isdbs_read.proofs.read_blocks.Statement.{statement}
 use Rattle.isdbs_read.proofs.read_blocks.Tie as tie
 

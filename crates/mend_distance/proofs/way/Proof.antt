@@ -1,11 +1,12 @@
 -- `mend_distance::way` meets its contract. Assumes nothing.
 use Prim.Native.Nat.{_+_, _*_, _/_, _%_}
 use native.Mathlib.Omega.{arith}
-use Rattle.mend_distance.specs.StretchLaws.{output-small}
 use Rattle.mend_distance.proofs.Ways.{way-is}
 use borrow.Author.Needs.{needs}
 use Rattle.mend_distance.proofs.way.Statement.{statement}
 use Rattle.mend_distance.proofs.way.Tie as tie
+use Rattle.trellis.specs.RunLaws.{output-bit}
+use Rattle.trellis.specs.Code.{isdb}
 
 mul-from : tie.Need-mul-from
 mul-from c = search needs
@@ -26,13 +27,13 @@ element-copy-out-result : tie.Need-element-copy-out-result
 element-copy-out-result c = search needs
 
 add-result : tie.Need-add-result
-add-result c = let a = c .before .before .before .args in let s = output-small 0o171 (a .k / 32 % 2) (2 * (a .k % 32) + a .b) in omega arith
+add-result c = let a = c .before .before .before .args in let s = output-bit isdb 0o171 (a .k / 32 % 2) (2 * (a .k % 32) + a .b) in omega arith
 
 add-result-2 : tie.Need-add-result-2
 add-result-2 c = let a = c .before .before .before .args in let h = c .before .before .before .pre .4 (2 * (a .k % 32) + a .b) in omega arith
 
 add-result-3 : tie.Need-add-result-3
-add-result-3 c = let a = c .before .before .before .before .args in let s = output-small 0o133 (a .k / 32 % 2) (2 * (a .k % 32) + a .b) in omega arith
+add-result-3 c = let a = c .before .before .before .before .args in let s = output-bit isdb 0o133 (a .k / 32 % 2) (2 * (a .k % 32) + a .b) in omega arith
 
 add-result-4 : tie.Need-add-result-4
 add-result-4 c = let a = c .before .before .before .before .args in let h = c .before .before .before .before .pre .4 (2 * (a .k % 32) + a .b) in omega arith

@@ -8,9 +8,10 @@ use lib.ListN.{length, getD, set, length-set}
 use Rattle.trellis.specs.Code.{stateAt}
 use Rattle.isdbt_table.specs.Puncture.{mother}
 use Rattle.trellis.specs.Encoded.{lowBits}
-use Rattle.isdbt_fec.specs.EncodeLaws.{input-at, state-next, state-below, mother-x, mother-y, written-pair}
+use Rattle.isdbt_fec.specs.EncodeLaws.{state-next, state-below, mother-x, mother-y, written-pair}
 use Rattle.isdbt_fec.proofs.conv.encode_period.Statement.{statement}
 use Rattle.isdbt_fec.proofs.conv.encode_period.Tie as tie
+use Rattle.trellis.specs.EncodedLaws.{low-at}
 
 abbrev Inv-loop : tie.InvT-loop
 Inv-loop state bits s₀ m₀ i₀ i-end s m i = (i ≤ i-end) × (s ≡ stateAt 32 state (lowBits bits) i) × (length m ≡ 14) × ((k : ℕ) → k < 2 * i → getD m k 0 ≡ mother state (lowBits bits) k)
@@ -63,7 +64,7 @@ loop-again c =
     let x = c .encode-bit .result .x in
     let y = c .encode-bit .result .y in
     let e = c .encode-bit .ensures in
-    let u = sym (input-at (a .bits .now) i) in
+    let u = sym (low-at (a .bits .now) i) in
     let room : 2 * i + 1 < length m = omega arith in (
       omega arith,
       rw (inv .1, u) at (e .2) ∙ sym (state-next (a .state) us i),
