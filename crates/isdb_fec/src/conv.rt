@@ -17,7 +17,6 @@ pub use decoder_rows::STREAM_LIMIT;
 pub use decoder_rows::some_beyond;
 use refusal::Answer;
 pub use trellis::STATES;
-use trellis::STATES;
 pub use trellis::TRACEBACK_LIMIT;
 use viterbi::At;
 use viterbi::Step;

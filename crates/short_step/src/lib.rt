@@ -1,7 +1,7 @@
 // A trellis step of a code of constraint length 3 to 7 over its 2^(length-1) path values, and what is done with them between steps.
 ghost use mathlib.Core.Path.{_≡_};
 ghost use mathlib.Core.Bool.{cond};
-ghost use Prim.Native.Nat.{ℕ, _*_, _<_, _≤_, _%_};
+ghost use Prim.Native.Nat.{ℕ, _-_, _*_, _<_, _≤_, _%_};
 ghost use lib.Dec.{eqb};
 ghost use lib.ListN.{length, getD};
 ghost use lib.Ieee.{neg, nan, binary32, ofBits};
