@@ -14,7 +14,7 @@ use Rattle.wanted_load.specs.declared.LoadFound.the-variants.{Load, Refu
 use Rattle.wanted_load.specs.Rows.{earlierRows}
 use Rattle.wanted_load.specs.Found.{Outcome, found, none, Turned}
 use Rattle.wanted_load.proofs.Answers.{by-rows}
-use Rattle.wanted_load.specs.RowLaws.{passed}
+use Rattle.wanted_load.proofs.RowLaws.{passed}
 use Rattle.wanted_load.proofs.wanted_load.Statement.{statement}
 use Rattle.wanted_load.proofs.wanted_load.Tie as tie
 
