@@ -69,7 +69,7 @@ pub fn draw(
     let all = slots::runs(t);
     let rs = all.runs;
     let n = all.count;
-    let a = draw_head(sheet, name, f, counts, outside);
+    let a = draw_head(sheet, name, f, all, counts, outside);
     let b = panels(sheet, a, bins, rs, n, re, im, clean_re, clean_im);
     put(sheet, b, b"</svg>\n")
 }

@@ -6,7 +6,7 @@ use bench_sheet::Sheet;
 use bench_sheet::put;
 use isdbs_core::frame::MAIN_SYMBOLS;
 use isdbs_core::frame::SLOTS;
-use isdbs_core::slots;
+use isdbs_core::slots::FrameRuns;
 use isdbs_core::slots::Run;
 use isdbs_core::tmcc::Table;
 ghost use Prim.Native.Nat.{_≤_};
@@ -184,16 +184,15 @@ fn legend(sheet: &mut Sheet, at: usize) -> usize {
     )
 }
 
-// Draws the upper part on a sheet, and answers the place after it.
+// Draws the upper part on a sheet, and answers the place after it. `all` are the runs of the frame's table.
 pub fn draw_head(
     sheet: &mut Sheet,
     name: &[u8],
     f: Facts,
+    all: FrameRuns,
     counts: &[u32; SLOTS],
     outside: &[u32; SLOTS],
 ) -> usize {
-    let t = f.table;
-    let all = slots::runs(t);
     let rs = all.runs;
     let a = open(sheet, 0, all.count);
     let b = head(sheet, a, name, f);

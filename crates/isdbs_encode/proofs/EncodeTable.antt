@@ -16,7 +16,7 @@ use Rattle.isdbs_runs.specs.declared.Plan.{Plan}
 use Rattle.isdbs_tables.specs.declared.Entry.{Entry}
 use Rattle.isdbs_tables.specs.declared.Table.{Table}
 use Rattle.isdbs_tables.specs.Tables.{TableAccepted, entryCombination}
-use Rattle.isdbs_runs.specs.RunsOf.{runsOf, planOf, noRun, RunFits}
+use Rattle.isdbs_runs.specs.RunsOf.{runsOf, Planned, noRun, RunFits}
 use Rattle.isdbs_tables.specs.TableLaws.{sum-fits}
 use Rattle.isdbs_runs.specs.PlanLaws.{table-laid}
 use Rattle.isdbs_points.specs.declared.Cplx.{Cplx}
@@ -52,12 +52,12 @@ table-tiled t a =
     }
 
 -- ---- the plan of a table
-module _ (t : Table) (r : Plan) (e : r ≡ planOf t) where
-  pub runs-count : r .count ≡ length (runsOf t)
-  runs-count = rw e
+module _ (p : Plan) (planned : Planned p) where
+  pub runs-count : p .count ≡ length (runsOf (p .table))
+  runs-count = ap (λ (z : Plan). z .count) (planned .is)
 
-  pub runs-front : take (r .count) (r .runs) ≡ runsOf t
-  runs-front = rw e (take-append-seam (runsOf t) (replicate (4 - length (runsOf t)) noRun))
+  pub runs-front : take (p .count) (p .runs) ≡ runsOf (p .table)
+  runs-front = ap (λ (z : Plan). take (z .count) (z .runs)) (planned .is) ∙ take-append-seam (runsOf (p .table)) (replicate (4 - length (runsOf (p .table))) noRun)
 
 -- ---- the whole frame
 module _ (t : Table) (m : Mapping) (load : List ℕ) (s : ℕ) (tl : Tiled (runsOf t)) where

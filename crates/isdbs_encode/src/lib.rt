@@ -1,9 +1,8 @@
 // The encoder of a frame: bytes to points. No row is checked here. After demod.rs of isdbs-phy.
 use isdbs_core::frame::MAIN_SYMBOLS;
+use isdbs_core::slots::Plan;
 use isdbs_core::slots::Run;
 use isdbs_core::slots::SLOT_BITS;
-use isdbs_core::slots::plan_of;
-use isdbs_core::tmcc::Table;
 use isdbs_pieces::encode_run;
 use isdbs_points::Mapping;
 use isdbs_points::mirror;
@@ -12,7 +11,7 @@ ghost use Prim.Native.Nat.{_<_, _≤_};
 ghost use lib.ListN.{length, take};
 ghost use Rattle.trellis.specs.Lists.{upto, laid};
 ghost use Rattle.isdbs_frame.specs.Frame.{mainSymbols};
-ghost use Rattle.isdbs_tables.specs.Tables.{TableAccepted};
+ghost use Rattle.isdbs_runs.specs.RunsOf.{Planned};
 ghost use Rattle.isdbs_points.specs.Points.{zero64, conjugated};
 ghost use Rattle.isdbs_points.specs.Frame.{endState};
 ghost use Rattle.isdbs_encode.specs.Encoding.{Tiled, RunsMade};
@@ -79,20 +78,19 @@ fn encode_runs(
     RunsEncoded { state, end }
 }
 
-// The frame of an accepted table, encoded from the state `start`; the state after its last bit.
+// The frame of a plan, encoded from the state `start`; the state after its last bit.
 pub fn encode_main(
+    p: Plan,
     bytes: &[u8],
-    t: Table,
     start: u8,
     m: Mapping,
     re: &mut [f64],
     im: &mut [f64],
 ) -> u8
-    requires { ⌜ TableAccepted t × (start < Isdb.states) × (mainSymbols ≤ length (now re)) × (mainSymbols ≤ length (now im)) ⌝ }
-    ensures state { λ r. ⌜ r ≡ endState t (now (bytes .entry)) start ⌝ }
-    ensures frame { λ _. ⌜ FrameLaid t m (now (bytes .entry)) start (now (re .entry)) (now (re .exit)) (now (im .entry)) (now (im .exit)) ⌝ }
+    requires { ⌜ Planned p × (start < Isdb.states) × (mainSymbols ≤ length (now re)) × (mainSymbols ≤ length (now im)) ⌝ }
+    ensures state { λ r. ⌜ r ≡ endState (p .table) (now (bytes .entry)) start ⌝ }
+    ensures frame { λ _. ⌜ FrameLaid (p .table) m (now (bytes .entry)) start (now (re .entry)) (now (re .exit)) (now (im .entry)) (now (im .exit)) ⌝ }
 {
-    let p = plan_of(t);
     let list = p.runs;
     let made = encode_runs(bytes, list, p.count, start, m, re, im);
     let end = made.end;

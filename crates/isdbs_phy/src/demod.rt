@@ -65,7 +65,8 @@ pub fn encode_frame_with_state(
     let Answer::Accepted = answer else {
         return FrameEncoded { answer, enc };
     };
-    let end = encode_main(bytes, t, state, m, re, im);
+    let p = plan_of(t);
+    let end = encode_main(p, bytes, state, m, re, im);
     FrameEncoded {
         answer,
         enc: ConvEncoder { state: end },

@@ -68,8 +68,7 @@ fn judge_load(
     requires { ⌜ Planned p × (mainSymbols ≤ length (now re)) × (mainSymbols ≤ length (now im)) × (mainSymbols ≤ length (now xs)) × (mainSymbols ≤ length (now ys)) × (frameSlots ≤ length (now counts)) ⌝ }
     ensures { λ r. ⌜ CountsLaid (now (re .entry)) (now (im .entry)) (now (bytes .entry)) (p .table) m first (now (counts .entry)) (now (counts .exit)) r ⌝ }
 {
-    let t = p.table;
-    encode_main(bytes, t, start_state(first), m, xs, ys);
+    encode_main(p, bytes, start_state(first), m, xs, ys);
     count_outside(p, xs, ys, re, im, counts)
 }
 

@@ -1,13 +1,13 @@
 // Whether a load encodes to a lent frame: it is encoded and compared bit by bit.
 use isdbs_core::frame::MAIN_SYMBOLS;
-use isdbs_core::tmcc::Table;
+use isdbs_core::slots::Plan;
 use isdbs_encode::encode_main;
 use isdbs_points::Mapping;
 use isdbs_points::start_state;
 ghost use Prim.Native.Nat.{_≤_};
 ghost use lib.ListN.{length};
 ghost use Rattle.isdbs_frame.specs.Frame.{mainSymbols};
-ghost use Rattle.isdbs_tables.specs.Tables.{TableAccepted};
+ghost use Rattle.isdbs_runs.specs.RunsOf.{Planned};
 ghost use Rattle.same_frame.specs.Alike.{Same, SameParts, Matches};
 
 // Whether two parts have the same bits. A NaN has none to compare.
@@ -42,19 +42,19 @@ fn same_parts(xs: &[f64], ys: &[f64], n: usize) -> bool
 
 // Whether a load encodes to the frame, which is made in the lent xs and ys.
 pub fn matches(
+    p: Plan,
     re: &[f64],
     im: &[f64],
-    t: Table,
     m: Mapping,
     first: bool,
     load: &[u8],
     xs: &mut [f64],
     ys: &mut [f64],
 ) -> bool
-    requires { ⌜ TableAccepted t × (mainSymbols ≤ length (now re)) × (mainSymbols ≤ length (now im)) × (mainSymbols ≤ length (now xs)) × (mainSymbols ≤ length (now ys)) ⌝ }
-    ensures { λ r. ⌜ Matches t m first (now (re .entry)) (now (im .entry)) (now (load .entry)) r ⌝ }
+    requires { ⌜ Planned p × (mainSymbols ≤ length (now re)) × (mainSymbols ≤ length (now im)) × (mainSymbols ≤ length (now xs)) × (mainSymbols ≤ length (now ys)) ⌝ }
+    ensures { λ r. ⌜ Matches (p .table) m first (now (re .entry)) (now (im .entry)) (now (load .entry)) r ⌝ }
 {
-    encode_main(load, t, start_state(first), m, xs, ys);
+    encode_main(p, load, start_state(first), m, xs, ys);
     if same_parts(re, xs, MAIN_SYMBOLS) {
         same_parts(im, ys, MAIN_SYMBOLS)
     } else {

@@ -1,3 +1,4 @@
 pub mod Loads
 pub mod Answers
 pub mod Search
+pub mod RowLaws

@@ -18,7 +18,6 @@ ghost use lib.ListN.{length};
 ghost use Rattle.trellis.specs.Lists.{laid};
 ghost use Rattle.refusal.specs.Rows.{firstRow, Either};
 ghost use Rattle.isdbs_frame.specs.Frame.{mainSymbols};
-ghost use Rattle.isdbs_tables.specs.Tables.{TableAccepted};
 ghost use Rattle.isdbs_runs.specs.RunsOf.{planOf, Planned, loadBytes};
 ghost use Rattle.wanted_load.specs.Rows.{lentRows, earlierRows};
 ghost use Rattle.same_frame.specs.Alike.{Matches};
@@ -39,9 +38,9 @@ fn put(load: &[u8], bytes: &mut [u8])
 
 // Lays a load over the beginning of the lent bytes if it encodes to the frame.
 fn keep_load(
+    p: Plan,
     re: &[f64],
     im: &[f64],
-    t: Table,
     m: Mapping,
     first: bool,
     load: &[u8],
@@ -49,10 +48,10 @@ fn keep_load(
     ys: &mut [f64],
     bytes: &mut [u8],
 ) -> bool
-    requires { ⌜ TableAccepted t × (mainSymbols ≤ length (now re)) × (mainSymbols ≤ length (now im)) × (mainSymbols ≤ length (now xs)) × (mainSymbols ≤ length (now ys)) × (length (now load) ≤ length (now bytes)) ⌝ }
-    ensures { λ r. ⌜ Matches t m first (now (re .entry)) (now (im .entry)) (now (load .entry)) r × (now (bytes .exit) ≡ cond r (laid (now (load .entry)) (now (bytes .entry))) (now (bytes .entry))) ⌝ }
+    requires { ⌜ Planned p × (mainSymbols ≤ length (now re)) × (mainSymbols ≤ length (now im)) × (mainSymbols ≤ length (now xs)) × (mainSymbols ≤ length (now ys)) × (length (now load) ≤ length (now bytes)) ⌝ }
+    ensures { λ r. ⌜ Matches (p .table) m first (now (re .entry)) (now (im .entry)) (now (load .entry)) r × (now (bytes .exit) ≡ cond r (laid (now (load .entry)) (now (bytes .entry))) (now (bytes .entry))) ⌝ }
 {
-    if matches(re, im, t, m, first, load, xs, ys) {
+    if matches(p, re, im, m, first, load, xs, ys) {
         put(load, bytes);
         true
     } else {
@@ -77,9 +76,8 @@ fn search_load(
 {
     let start = start_state(first);
     read_load(p, m, start, re, im, load);
-    let t = p.table;
     let n = p.bytes;
-    keep_load(re, im, t, m, first, &load[0..n], xs, ys, bytes)
+    keep_load(p, re, im, m, first, &load[0..n], xs, ys, bytes)
 }
 
 // The same in lent arrays, of the size that any accepted table needs.

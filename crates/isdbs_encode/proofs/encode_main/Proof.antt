@@ -8,55 +8,51 @@ use borrow.Author.Needs.{needs}
 use Rattle.isdbs_encode.proofs.encode_main.Statement.{statement}
 use Rattle.isdbs_encode.proofs.encode_main.Tie as tie
 
-plan-of-requires : tie.Need-plan-of-requires
-plan-of-requires c κs = search needs
-
 encode-runs-requires : tie.Need-encode-runs-requires
 encode-runs-requires c κs =
-    let s = c .before .before .before .before .before .before .before in
-    let t = s .args .t in
-    let r = c .before .before .before .plan-of .result in
-    let front = runs-front t r (c .before .before .before .plan-of .ensures .0) in
-    (c .before .before .before .plan-of .ensures .1, ap length front ∙ sym (runs-count t r (c .before .before .before .plan-of .ensures .0)), rw front (table-tiled t (s .pre .0)), s .pre .1, s .pre .2, s .pre .3)
+    let s = c .before .before .before .before .before .before in
+    let p = s .args .p in
+    let front = runs-front p (s .pre .0) in
+    (s .pre .0 .few, ap length front ∙ sym (runs-count p (s .pre .0)), rw front (table-tiled (p .table) (s .pre .0 .accepted)), s .pre .1, s .pre .2, s .pre .3)
 
 sub-put-unused : tie.Need-sub-put-unused
 sub-put-unused c =
-    let s = c .before .before .before .before .before .before .before .before .before .before .before .before in
-    let tl = table-tiled (s .args .t) (s .pre .0) in
-    let made = rw (runs-front (s .args .t) (c .before .before .before .before .before .before .before .before .plan-of .result) (c .before .before .before .before .before .before .before .before .plan-of .ensures .0)) at (c .before .before .before .before .encode-runs .ensures) in
-    let small = end-small (s .args .t) (s .args .m) (s .args .bytes .now) (s .args .start) tl made (s .pre .2) (s .pre .3) in
-    let lr = re-length (s .args .t) (s .args .m) (s .args .bytes .now) (s .args .start) tl made (s .pre .2) (s .pre .3) in
-    let li = im-length (s .args .t) (s .args .m) (s .args .bytes .now) (s .args .start) tl made (s .pre .2) (s .pre .3) in
+    let s = c .before .before .before .before .before .before .before .before .before .before .before in
+    let tl = table-tiled (s .args .p .table) (s .pre .0 .accepted) in
+    let made = rw (runs-front (s .args .p) (s .pre .0)) at (c .before .before .before .before .encode-runs .ensures) in
+    let small = end-small (s .args .p .table) (s .args .m) (s .args .bytes .now) (s .args .start) tl made (s .pre .2) (s .pre .3) in
+    let lr = re-length (s .args .p .table) (s .args .m) (s .args .bytes .now) (s .args .start) tl made (s .pre .2) (s .pre .3) in
+    let li = im-length (s .args .p .table) (s .args .m) (s .args .bytes .now) (s .args .start) tl made (s .pre .2) (s .pre .3) in
     small
 
 mul-put-unused : tie.Need-mul-put-unused
 mul-put-unused c =
-    let s = c .before .before .before .before .before .before .before .before .before .before .before .before in
-    let tl = table-tiled (s .args .t) (s .pre .0) in
-    let made = rw (runs-front (s .args .t) (c .before .before .before .before .before .before .before .before .plan-of .result) (c .before .before .before .before .before .before .before .before .plan-of .ensures .0)) at (c .before .before .before .before .encode-runs .ensures) in
-    let small = end-small (s .args .t) (s .args .m) (s .args .bytes .now) (s .args .start) tl made (s .pre .2) (s .pre .3) in
-    let lr = re-length (s .args .t) (s .args .m) (s .args .bytes .now) (s .args .start) tl made (s .pre .2) (s .pre .3) in
-    let li = im-length (s .args .t) (s .args .m) (s .args .bytes .now) (s .args .start) tl made (s .pre .2) (s .pre .3) in
+    let s = c .before .before .before .before .before .before .before .before .before .before .before in
+    let tl = table-tiled (s .args .p .table) (s .pre .0 .accepted) in
+    let made = rw (runs-front (s .args .p) (s .pre .0)) at (c .before .before .before .before .encode-runs .ensures) in
+    let small = end-small (s .args .p .table) (s .args .m) (s .args .bytes .now) (s .args .start) tl made (s .pre .2) (s .pre .3) in
+    let lr = re-length (s .args .p .table) (s .args .m) (s .args .bytes .now) (s .args .start) tl made (s .pre .2) (s .pre .3) in
+    let li = im-length (s .args .p .table) (s .args .m) (s .args .bytes .now) (s .args .start) tl made (s .pre .2) (s .pre .3) in
     omega (arith, small, lr, li, s .pre .2, s .pre .3)
 
 sub-put-unused-2 : tie.Need-sub-put-unused-2
 sub-put-unused-2 c =
-    let s = c .before .before .before .before .before .before .before .before .before .before .before .before in
-    let tl = table-tiled (s .args .t) (s .pre .0) in
-    let made = rw (runs-front (s .args .t) (c .before .before .before .before .before .before .before .before .plan-of .result) (c .before .before .before .before .before .before .before .before .plan-of .ensures .0)) at (c .before .before .before .before .encode-runs .ensures) in
-    let small = end-small (s .args .t) (s .args .m) (s .args .bytes .now) (s .args .start) tl made (s .pre .2) (s .pre .3) in
-    let lr = re-length (s .args .t) (s .args .m) (s .args .bytes .now) (s .args .start) tl made (s .pre .2) (s .pre .3) in
-    let li = im-length (s .args .t) (s .args .m) (s .args .bytes .now) (s .args .start) tl made (s .pre .2) (s .pre .3) in
+    let s = c .before .before .before .before .before .before .before .before .before .before .before in
+    let tl = table-tiled (s .args .p .table) (s .pre .0 .accepted) in
+    let made = rw (runs-front (s .args .p) (s .pre .0)) at (c .before .before .before .before .encode-runs .ensures) in
+    let small = end-small (s .args .p .table) (s .args .m) (s .args .bytes .now) (s .args .start) tl made (s .pre .2) (s .pre .3) in
+    let lr = re-length (s .args .p .table) (s .args .m) (s .args .bytes .now) (s .args .start) tl made (s .pre .2) (s .pre .3) in
+    let li = im-length (s .args .p .table) (s .args .m) (s .args .bytes .now) (s .args .start) tl made (s .pre .2) (s .pre .3) in
     omega (arith, small, lr, li, s .pre .2, s .pre .3)
 
 part-put-unused-start : tie.Need-part-put-unused-start
 part-put-unused-start c =
-    let s = c .before .before .before .before .before .before .before .before .before .before .before .before in
-    let tl = table-tiled (s .args .t) (s .pre .0) in
-    let made = rw (runs-front (s .args .t) (c .before .before .before .before .before .before .before .before .plan-of .result) (c .before .before .before .before .before .before .before .before .plan-of .ensures .0)) at (c .before .before .before .before .encode-runs .ensures) in
-    let small = end-small (s .args .t) (s .args .m) (s .args .bytes .now) (s .args .start) tl made (s .pre .2) (s .pre .3) in
-    let lr = re-length (s .args .t) (s .args .m) (s .args .bytes .now) (s .args .start) tl made (s .pre .2) (s .pre .3) in
-    let li = im-length (s .args .t) (s .args .m) (s .args .bytes .now) (s .args .start) tl made (s .pre .2) (s .pre .3) in
+    let s = c .before .before .before .before .before .before .before .before .before .before .before in
+    let tl = table-tiled (s .args .p .table) (s .pre .0 .accepted) in
+    let made = rw (runs-front (s .args .p) (s .pre .0)) at (c .before .before .before .before .encode-runs .ensures) in
+    let small = end-small (s .args .p .table) (s .args .m) (s .args .bytes .now) (s .args .start) tl made (s .pre .2) (s .pre .3) in
+    let lr = re-length (s .args .p .table) (s .args .m) (s .args .bytes .now) (s .args .start) tl made (s .pre .2) (s .pre .3) in
+    let li = im-length (s .args .p .table) (s .args .m) (s .args .bytes .now) (s .args .start) tl made (s .pre .2) (s .pre .3) in
     omega (arith, small, lr, li, s .pre .2, s .pre .3)
 
 part-put-unused-end : tie.Need-part-put-unused-end
@@ -64,32 +60,32 @@ part-put-unused-end c = search needs
 
 mul-put-unused-2 : tie.Need-mul-put-unused-2
 mul-put-unused-2 c =
-    let s = c .before .before .before .before .before .before .before .before .before .before .before .before .before in
-    let tl = table-tiled (s .args .t) (s .pre .0) in
-    let made = rw (runs-front (s .args .t) (c .before .before .before .before .before .before .before .before .before .plan-of .result) (c .before .before .before .before .before .before .before .before .before .plan-of .ensures .0)) at (c .before .before .before .before .before .encode-runs .ensures) in
-    let small = end-small (s .args .t) (s .args .m) (s .args .bytes .now) (s .args .start) tl made (s .pre .2) (s .pre .3) in
-    let lr = re-length (s .args .t) (s .args .m) (s .args .bytes .now) (s .args .start) tl made (s .pre .2) (s .pre .3) in
-    let li = im-length (s .args .t) (s .args .m) (s .args .bytes .now) (s .args .start) tl made (s .pre .2) (s .pre .3) in
+    let s = c .before .before .before .before .before .before .before .before .before .before .before .before in
+    let tl = table-tiled (s .args .p .table) (s .pre .0 .accepted) in
+    let made = rw (runs-front (s .args .p) (s .pre .0)) at (c .before .before .before .before .before .encode-runs .ensures) in
+    let small = end-small (s .args .p .table) (s .args .m) (s .args .bytes .now) (s .args .start) tl made (s .pre .2) (s .pre .3) in
+    let lr = re-length (s .args .p .table) (s .args .m) (s .args .bytes .now) (s .args .start) tl made (s .pre .2) (s .pre .3) in
+    let li = im-length (s .args .p .table) (s .args .m) (s .args .bytes .now) (s .args .start) tl made (s .pre .2) (s .pre .3) in
     omega (arith, small, lr, li, s .pre .2, s .pre .3)
 
 sub-put-unused-3 : tie.Need-sub-put-unused-3
 sub-put-unused-3 c =
-    let s = c .before .before .before .before .before .before .before .before .before .before .before .before .before in
-    let tl = table-tiled (s .args .t) (s .pre .0) in
-    let made = rw (runs-front (s .args .t) (c .before .before .before .before .before .before .before .before .before .plan-of .result) (c .before .before .before .before .before .before .before .before .before .plan-of .ensures .0)) at (c .before .before .before .before .before .encode-runs .ensures) in
-    let small = end-small (s .args .t) (s .args .m) (s .args .bytes .now) (s .args .start) tl made (s .pre .2) (s .pre .3) in
-    let lr = re-length (s .args .t) (s .args .m) (s .args .bytes .now) (s .args .start) tl made (s .pre .2) (s .pre .3) in
-    let li = im-length (s .args .t) (s .args .m) (s .args .bytes .now) (s .args .start) tl made (s .pre .2) (s .pre .3) in
+    let s = c .before .before .before .before .before .before .before .before .before .before .before .before in
+    let tl = table-tiled (s .args .p .table) (s .pre .0 .accepted) in
+    let made = rw (runs-front (s .args .p) (s .pre .0)) at (c .before .before .before .before .before .encode-runs .ensures) in
+    let small = end-small (s .args .p .table) (s .args .m) (s .args .bytes .now) (s .args .start) tl made (s .pre .2) (s .pre .3) in
+    let lr = re-length (s .args .p .table) (s .args .m) (s .args .bytes .now) (s .args .start) tl made (s .pre .2) (s .pre .3) in
+    let li = im-length (s .args .p .table) (s .args .m) (s .args .bytes .now) (s .args .start) tl made (s .pre .2) (s .pre .3) in
     omega (arith, small, lr, li, s .pre .2, s .pre .3)
 
 part-put-unused-start-2 : tie.Need-part-put-unused-start-2
 part-put-unused-start-2 c =
-    let s = c .before .before .before .before .before .before .before .before .before .before .before .before .before in
-    let tl = table-tiled (s .args .t) (s .pre .0) in
-    let made = rw (runs-front (s .args .t) (c .before .before .before .before .before .before .before .before .before .plan-of .result) (c .before .before .before .before .before .before .before .before .before .plan-of .ensures .0)) at (c .before .before .before .before .before .encode-runs .ensures) in
-    let small = end-small (s .args .t) (s .args .m) (s .args .bytes .now) (s .args .start) tl made (s .pre .2) (s .pre .3) in
-    let lr = re-length (s .args .t) (s .args .m) (s .args .bytes .now) (s .args .start) tl made (s .pre .2) (s .pre .3) in
-    let li = im-length (s .args .t) (s .args .m) (s .args .bytes .now) (s .args .start) tl made (s .pre .2) (s .pre .3) in
+    let s = c .before .before .before .before .before .before .before .before .before .before .before .before in
+    let tl = table-tiled (s .args .p .table) (s .pre .0 .accepted) in
+    let made = rw (runs-front (s .args .p) (s .pre .0)) at (c .before .before .before .before .before .encode-runs .ensures) in
+    let small = end-small (s .args .p .table) (s .args .m) (s .args .bytes .now) (s .args .start) tl made (s .pre .2) (s .pre .3) in
+    let lr = re-length (s .args .p .table) (s .args .m) (s .args .bytes .now) (s .args .start) tl made (s .pre .2) (s .pre .3) in
+    let li = im-length (s .args .p .table) (s .args .m) (s .args .bytes .now) (s .args .start) tl made (s .pre .2) (s .pre .3) in
     omega (arith, small, lr, li, s .pre .2, s .pre .3)
 
 part-put-unused-end-2 : tie.Need-part-put-unused-end-2
@@ -106,21 +102,20 @@ same-length-2 c = search needs
 
 returns : tie.Need-returns
 returns c =
-    let s = c .before .before .before .before .before .before .before .before .before .before .before .before .before .before .before .before .before .before .before in
-    let tl = table-tiled (s .args .t) (s .pre .0) in
-    let made = rw (runs-front (s .args .t) (c .before .before .before .before .before .before .before .before .before .before .before .before .before .before .before .plan-of .result) (c .before .before .before .before .before .before .before .before .before .before .before .before .before .before .before .plan-of .ensures .0)) at (c .before .before .before .before .before .before .before .before .before .before .before .encode-runs .ensures) in
-    let small = end-small (s .args .t) (s .args .m) (s .args .bytes .now) (s .args .start) tl made (s .pre .2) (s .pre .3) in
-    let lr = re-length (s .args .t) (s .args .m) (s .args .bytes .now) (s .args .start) tl made (s .pre .2) (s .pre .3) in
-    let li = im-length (s .args .t) (s .args .m) (s .args .bytes .now) (s .args .start) tl made (s .pre .2) (s .pre .3) in (
-      runs-state (s .args .t) (s .args .m) (s .args .bytes .now) (s .args .start) tl made (s .pre .2) (s .pre .3),
-      frame-laid (s .args .t) (s .args .m) (s .args .bytes .now) (s .args .start) tl made (s .pre .2) (s .pre .3) (c .before .before .before .before .put-unused .ensures .0) (c .before .before .before .before .put-unused .ensures .1),
+    let s = c .before .before .before .before .before .before .before .before .before .before .before .before .before .before .before .before .before .before in
+    let tl = table-tiled (s .args .p .table) (s .pre .0 .accepted) in
+    let made = rw (runs-front (s .args .p) (s .pre .0)) at (c .before .before .before .before .before .before .before .before .before .before .before .encode-runs .ensures) in
+    let small = end-small (s .args .p .table) (s .args .m) (s .args .bytes .now) (s .args .start) tl made (s .pre .2) (s .pre .3) in
+    let lr = re-length (s .args .p .table) (s .args .m) (s .args .bytes .now) (s .args .start) tl made (s .pre .2) (s .pre .3) in
+    let li = im-length (s .args .p .table) (s .args .m) (s .args .bytes .now) (s .args .start) tl made (s .pre .2) (s .pre .3) in (
+      runs-state (s .args .p .table) (s .args .m) (s .args .bytes .now) (s .args .start) tl made (s .pre .2) (s .pre .3),
+      frame-laid (s .args .p .table) (s .args .m) (s .args .bytes .now) (s .args .start) tl made (s .pre .2) (s .pre .3) (c .before .before .before .before .put-unused .ensures .0) (c .before .before .before .before .put-unused .ensures .1),
     )
 
 pub encode-main-spec : {M : Type 1} → statement M
 encode-main-spec =
     tie.close
     (tie.spec
-    plan-of-requires
     encode-runs-requires
     sub-put-unused
     mul-put-unused

@@ -5,9 +5,8 @@ use lib.ListN.{length}
 use borrow.Author.Needs.{needs}
 use Rattle.refusal.specs.Rows.{firstRow}
 use Rattle.refusal.proofs.Told.{told}
-use Rattle.isdbs_runs.specs.declared.Plan.{Plan}
 use Rattle.isdbs_tables.specs.declared.Table.{Table}
-use Rattle.wanted_load.specs.RowLaws.{plan-is}
+use Rattle.isdbs_encode.specs.PlanLaws.{table-is, plan-is, planned}
 use Rattle.judge.specs.Rows.{judgeRows}
 use Rattle.judge.proofs.JudgedLaws.{passed}
 use Rattle.judge.proofs.Calls.{refused, done}
@@ -18,7 +17,7 @@ plan-of-requires : tie.Need-plan-of-requires
 plan-of-requires c κs = search needs
 
 judge-answer-requires : tie.Need-judge-answer-requires
-judge-answer-requires c κs = plan-is _ _ (c .plan-of .ensures .0)
+judge-answer-requires c κs = plan-is (c .plan-of .ensures .0)
 
 enum-told : tie.Need-enum-told
 enum-told c = search needs
@@ -26,7 +25,7 @@ enum-told c = search needs
 returns : tie.Need-returns
 returns c =
     let a = c .before .before .before .before .before .before .before .args in
-    let et = ap (λ (z : Plan). z .table) (c .before .before .plan-of .ensures .0) in
+    let et = table-is (c .before .before .plan-of .ensures .0) in
     let x = c .before .judge-answer in
     refused (a .re .now) (a .im .now) (a .bytes .now) (a .t) (a .m) (a .first) (a .counts .now) (x .result) (x .ensures ∙ ap (λ (z : Table). firstRow (judgeRows z (length (a .bytes .now)) (a .re .now) (a .im .now) (length (a .counts .now)))) et) (told (x .result) (c .match .keys2))
 
@@ -34,10 +33,10 @@ judge-frame-requires : tie.Need-judge-frame-requires
 judge-frame-requires c κs =
     let a = c .before .before .before .before .before .before .before .before .before .args in
     let pl = c .before .before .before .before .plan-of in
-    let et = ap (λ (z : Plan). z .table) (pl .ensures .0) in
+    let et = table-is (pl .ensures .0) in
     let ok = sym (c .before .enum-told .given .1) ∙ c .before .before .before .judge-answer .ensures ∙ ap (λ (z : Table). firstRow (judgeRows z (length (a .bytes .now)) (a .re .now) (a .im .now) (length (a .counts .now)))) et in
     let p = passed (a .t) (length (a .bytes .now)) (a .re .now) (a .im .now) (length (a .counts .now)) (sym ok) in
-    (record { is = plan-is (a .t) (pl .result) (pl .ensures .0); few = pl .ensures .1; accepted = rw et (p .table) }, p .real, p .imaginary, p .room)
+    (planned (pl .ensures .0) (pl .ensures .1) (p .table), p .real, p .imaginary, p .room)
 
 same-length : tie.Need-same-length
 same-length c = search needs
@@ -47,7 +46,7 @@ returns-2 c =
     let a = c .before .before .before .before .before .before .before .before .before .before .before .before .args in
     let bytes = c .before .before .before .before .before .before .before .before .before .shared-slice-known3 .given in
     let pl = c .before .before .before .before .before .before .before .plan-of in
-    let et = ap (λ (z : Plan). z .table) (pl .ensures .0) in
+    let et = table-is (pl .ensures .0) in
     let ok = sym (c .before .before .before .before .enum-told .given .1) ∙ c .before .before .before .before .before .before .judge-answer .ensures ∙ ap (λ (z : Table). firstRow (judgeRows z (length (a .bytes .now)) (a .re .now) (a .im .now) (length (a .counts .now)))) et in
     let made = c .before .before .judge-frame in
     done (a .re .now) (a .im .now) (a .bytes .now) (a .t) (a .m) (a .first) (a .counts .now) (made .last .1 .1 .1 .1 .1 .1 .0) (made .result) ok (rw et at (made .ensures)) (λ k. omega (arith, bytes k))

@@ -16,7 +16,7 @@ encode-main-requires c κs = search needs
 
 count-outside-requires : tie.Need-count-outside-requires
 count-outside-requires c κs =
-    let a = c .before .before .before .before .before .before .before .before .before .before .before .before .before .before .before .before .before .before in
+    let a = c .before .before .before .before .before .before .before .before .before .before .before .before .before .before .before .before .before in
     (four-runs (a .args .p) (a .pre .0), search needs, search needs, a .pre .1, a .pre .2, a .pre .5)
 
 same-length : tie.Need-same-length
@@ -30,7 +30,7 @@ same-length-3 c = search needs
 
 returns : tie.Need-returns
 returns c =
-    let st = c .before .before .before .before .before .before .before .before .before .before .before .before .before .before .before .before .before .before .before .before .before in
+    let st = c .before .before .before .before .before .before .before .before .before .before .before .before .before .before .before .before .before .before .before .before in
     let a = st .args in
     let made = c .before .before .before .before .before .before .before .before .before .before .encode-main in
     let s = c .before .before .before .before .before .before .before .before .before .before .before .before .before .start-state in

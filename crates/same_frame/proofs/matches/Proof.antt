@@ -36,9 +36,9 @@ returns c =
     let s = c .before .before .before .before .before .before .before .before .before .before .before .before .start-state in
     let xs = em .last .1 .1 .1 .1 .0 in
     let ys = em .last .1 .1 .1 .1 .1 .0 in
-    let made : FrameLaid (a .t) (a .m) (a .load .now) (startState (a .first)) (a .xs .now) xs (a .ys .now) ys =
-    subst (λ (z : ℕ). FrameLaid (a .t) (a .m) (a .load .now) z (a .xs .now) xs (a .ys .now) ys) (s .ensures .0) (em .ensures .1) in
-    both-compared (a .t) (a .m) (a .first) (a .re .now) (a .im .now) (a .load .now) (a .xs .now) xs (a .ys .now) ys made (st .pre .1) (st .pre .2) (c .before .before .before .same-parts .result) (c .same-parts2 .result) (c .before .before .if1 .taken) (c .before .before .before .same-parts .ensures) (c .same-parts2 .ensures)
+    let made : FrameLaid (a .p .table) (a .m) (a .load .now) (startState (a .first)) (a .xs .now) xs (a .ys .now) ys =
+    subst (λ (z : ℕ). FrameLaid (a .p .table) (a .m) (a .load .now) z (a .xs .now) xs (a .ys .now) ys) (s .ensures .0) (em .ensures .1) in
+    both-compared (a .p .table) (a .m) (a .first) (a .re .now) (a .im .now) (a .load .now) (a .xs .now) xs (a .ys .now) ys made (st .pre .1) (st .pre .2) (c .before .before .before .same-parts .result) (c .same-parts2 .result) (c .before .before .if1 .taken) (c .before .before .before .same-parts .ensures) (c .same-parts2 .ensures)
 
 same-length-3 : tie.Need-same-length-3
 same-length-3 c = search needs
@@ -54,9 +54,9 @@ returns-2 c =
     let s = c .before .before .before .before .before .before .before .before .before .before .start-state in
     let xs = em .last .1 .1 .1 .1 .0 in
     let ys = em .last .1 .1 .1 .1 .1 .0 in
-    let made : FrameLaid (a .t) (a .m) (a .load .now) (startState (a .first)) (a .xs .now) xs (a .ys .now) ys =
-    subst (λ (z : ℕ). FrameLaid (a .t) (a .m) (a .load .now) z (a .xs .now) xs (a .ys .now) ys) (s .ensures .0) (em .ensures .1) in
-    first-differs (a .t) (a .m) (a .first) (a .re .now) (a .im .now) (a .load .now) (a .xs .now) xs (a .ys .now) ys made (c .before .same-parts .result) (c .if1 .left) (c .before .same-parts .ensures)
+    let made : FrameLaid (a .p .table) (a .m) (a .load .now) (startState (a .first)) (a .xs .now) xs (a .ys .now) ys =
+    subst (λ (z : ℕ). FrameLaid (a .p .table) (a .m) (a .load .now) z (a .xs .now) xs (a .ys .now) ys) (s .ensures .0) (em .ensures .1) in
+    first-differs (a .p .table) (a .m) (a .first) (a .re .now) (a .im .now) (a .load .now) (a .xs .now) xs (a .ys .now) ys made (c .before .same-parts .result) (c .if1 .left) (c .before .same-parts .ensures)
 
 pub matches-spec : {M : Type 1} → statement M
 matches-spec =

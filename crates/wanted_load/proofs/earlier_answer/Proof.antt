@@ -6,7 +6,7 @@ use Rattle.refusal.specs.Rows.{firstRow}
 use Rattle.refusal.proofs.Told.{told}
 use Rattle.isdbs_runs.specs.declared.Plan.{Plan}
 use Rattle.wanted_load.specs.Rows.{lentRows}
-use Rattle.wanted_load.specs.RowLaws.{by-table, by-lengths}
+use Rattle.wanted_load.proofs.RowLaws.{by-table, by-lengths}
 use Rattle.wanted_load.proofs.earlier_answer.Statement.{statement}
 use Rattle.wanted_load.proofs.earlier_answer.Tie as tie
 

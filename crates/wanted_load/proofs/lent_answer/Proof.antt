@@ -1,7 +1,7 @@
 -- `lent_answer` meets its contract. Assumes nothing.
 use borrow.Author.Tests.{lt-ltb, le-ltb}
 use lib.Dec.{ltb}
-use Rattle.wanted_load.specs.RowLaws.{or-second}
+use Rattle.wanted_load.proofs.RowLaws.{or-second}
 use Rattle.wanted_load.proofs.lent_answer.Statement.{statement}
 use Rattle.wanted_load.proofs.lent_answer.Tie as tie
 

@@ -9,11 +9,12 @@ use Rattle.refusal.specs.RowLaws.{refused}
 use Rattle.refusal.proofs.Told.{told}
 use Rattle.isdbs_runs.specs.declared.Plan.{Plan}
 use Rattle.isdbs_tables.specs.declared.Table.{Table}
+use Rattle.isdbs_encode.specs.PlanLaws.{table-is, plan-is, planned}
 use Rattle.wanted_load.specs.declared.LoadFound.the-variants.{Load, Refused}
 use Rattle.wanted_load.specs.Rows.{earlierRows}
 use Rattle.wanted_load.specs.Found.{Outcome, found, none, Turned}
 use Rattle.wanted_load.proofs.Answers.{by-rows}
-use Rattle.wanted_load.specs.RowLaws.{passed, plan-is}
+use Rattle.wanted_load.proofs.RowLaws.{passed}
 use Rattle.wanted_load.proofs.wanted_load.Statement.{statement}
 use Rattle.wanted_load.proofs.wanted_load.Tie as tie
 
@@ -21,7 +22,7 @@ plan-of-requires : tie.Need-plan-of-requires
 plan-of-requires c κs = search needs
 
 earlier-answer-requires : tie.Need-earlier-answer-requires
-earlier-answer-requires c κs = plan-is _ _ (c .plan-of .ensures .0)
+earlier-answer-requires c κs = plan-is (c .plan-of .ensures .0)
 
 enum-told : tie.Need-enum-told
 enum-told c = search needs
@@ -29,7 +30,7 @@ enum-told c = search needs
 returns : tie.Need-returns
 returns c =
     let a = c .before .before .before .before .before .before in
-    let et = ap (λ (z : Plan). z .table) (c .before .before .plan-of .ensures .0) in
+    let et = table-is (c .before .before .plan-of .ensures .0) in
     let ans = c .before .earlier-answer in
     let ea = ans .ensures ∙ ap (λ (z : Table). firstRow (earlierRows z (length (a .args .re .now)) (length (a .args .im .now)) (length (a .args .bytes .now)))) et in
     let n = told (ans .result) (c .match .keys2) in
@@ -43,10 +44,10 @@ find-load-requires : tie.Need-find-load-requires
 find-load-requires c κs =
     let a = c .before .before .before .before .before .before .before .before in
     let pl = c .before .before .before .before .plan-of in
-    let et = ap (λ (z : Plan). z .table) (pl .ensures .0) in
+    let et = table-is (pl .ensures .0) in
     let ea = c .before .before .before .earlier-answer .ensures ∙ ap (λ (z : Table). firstRow (earlierRows z (length (a .args .re .now)) (length (a .args .im .now)) (length (a .args .bytes .now)))) et in
     let p = passed (a .args .t) (length (a .args .re .now)) (length (a .args .im .now)) (length (a .args .bytes .now)) (sym (c .before .enum-told .given .1) ∙ ea) in
-    (record { is = plan-is (a .args .t) (pl .result) (pl .ensures .0); few = pl .ensures .1; accepted = rw et (p .table) }, p .real, p .imaginary, rw et (p .room))
+    (planned (pl .ensures .0) (pl .ensures .1) (p .table), p .real, p .imaginary, rw et (p .room))
 
 same-length : tie.Need-same-length
 same-length c = search needs
@@ -58,7 +59,7 @@ returns-2 c =
     let re = a .args .re .now in
     let im = a .args .im .now in
     let pl = c .before .before .before .before .before .before .before .before .plan-of in
-    let et = ap (λ (z : Plan). z .table) (pl .ensures .0) in
+    let et = table-is (pl .ensures .0) in
     let ok = sym (c .before .before .before .before .before .enum-told .given .1) ∙ c .before .before .before .before .before .before .before .earlier-answer .ensures ∙ ap (λ (z : Table). firstRow (earlierRows z (length re) (length im) (length (a .args .bytes .now)))) et in
     let w = rw et at (c .before .before .before .find-load .ensures) in
     let bytes = c .before .before .before .find-load .last .1 .1 .1 .1 .1 .0 in
@@ -78,7 +79,7 @@ returns-3 c =
     let re = a .args .re .now in
     let im = a .args .im .now in
     let pl = c .before .before .before .before .before .before .before .before .plan-of in
-    let et = ap (λ (z : Plan). z .table) (pl .ensures .0) in
+    let et = table-is (pl .ensures .0) in
     let ok = sym (c .before .before .before .before .before .enum-told .given .1) ∙ c .before .before .before .before .before .before .before .earlier-answer .ensures ∙ ap (λ (z : Table). firstRow (earlierRows z (length re) (length im) (length (a .args .bytes .now)))) et in
     let w = rw et at (c .before .before .before .find-load .ensures) in
     let bytes = c .before .before .before .find-load .last .1 .1 .1 .1 .1 .0 in

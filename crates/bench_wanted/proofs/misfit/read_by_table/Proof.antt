@@ -1,9 +1,7 @@
 -- `read_by_table` meets its contract. Assumes nothing.
-use mathlib.Core.Path.{sym, _∙_, ap}
+use mathlib.Core.Path.{sym, _∙_}
 use borrow.Author.Needs.{needs}
-use Rattle.isdbs_runs.specs.declared.Plan.{Plan}
-use Rattle.isdbs_tables.specs.declared.Table.{Table}
-use Rattle.isdbs_runs.specs.RunsOf.{planOf}
+use Rattle.isdbs_encode.specs.PlanLaws.{planned}
 use Rattle.bench_wanted.proofs.misfit.read_by_table.Statement.{statement}
 use Rattle.bench_wanted.proofs.misfit.read_by_table.Tie as tie
 
@@ -22,9 +20,8 @@ returns c = search needs
 read-off-requires : tie.Need-read-off-requires
 read-off-requires c κs =
     let p = c .before .before .before .before .plan-of in
-    let e = ap (λ (z : Plan). z .table) (p .ensures .0) in
     let ok = sym (c .before .before .before .table-answer .ensures) ∙ c .before .enum-told .given .1 in
-    record { is = p .ensures .0 ∙ ap (λ (z : Table). planOf z) (sym e); few = p .ensures .1; accepted = rw e ok }
+    planned (p .ensures .0) (p .ensures .1) ok
 
 returns-2 : tie.Need-returns-2
 returns-2 c = search needs

@@ -2,9 +2,8 @@
 use Rattle.refusal.proofs.Told.{told}
 use Rattle.isdbs_phy.proofs.Rows.{passed, refused-answer}
 use Rattle.isdbs_phy.specs.DecodeRows.{someBad, decodeRows, frameAnswer}
-use Rattle.isdbs_runs.specs.declared.Plan.{Plan}
 use Rattle.isdbs_tables.specs.declared.Table.{Table}
-use Rattle.isdbs_runs.specs.RunsOf.{planOf}
+use Rattle.isdbs_encode.specs.PlanLaws.{table-is, plan-is, planned}
 use Rattle.refusal.specs.Rows.{firstRow}
 use Rattle.frame_read.specs.Scales.{receivedBy}
 use Rattle.strain.specs.Strain.{strainSum}
@@ -19,15 +18,11 @@ use borrow.Author.Needs.{needs}
 use Rattle.isdbs_phy.proofs.demod.decode_frame.Statement.{statement}
 use Rattle.isdbs_phy.proofs.demod.decode_frame.Tie as tie
 
--- a plan of a table is the plan of its own
-plan-is : (t : Table) (p : Plan) → p ≡ planOf t → p ≡ planOf (p .table)
-plan-is t p e = e ∙ ap (λ (z : Table). planOf z) (sym (ap (λ (z : Plan). z .table) e))
-
 plan-of-requires : tie.Need-plan-of-requires
 plan-of-requires c κs = search needs
 
 decode-answer-requires : tie.Need-decode-answer-requires
-decode-answer-requires c κs = (plan-is _ _ (c .before .plan-of .ensures .0), c .before .plan-of .ensures .1)
+decode-answer-requires c κs = (plan-is (c .before .plan-of .ensures .0), c .before .plan-of .ensures .1)
 
 enum-told : tie.Need-enum-told
 enum-told c = search needs
@@ -39,7 +34,7 @@ returns c =
     let rx = receivedBy (st .args .re .now) (st .args .im .now) (st .args .o .mapping) (st .args .o .scales) in
     let sum = strainSum t rx (st .args .o .«known_start») (st .args .first) in
     let pl = c .before .before .before .plan-of in
-    let et = ap (λ (z : Plan). z .table) (pl .ensures .0) in
+    let et = table-is (pl .ensures .0) in
     let da = c .before .decode-answer in
     let ea = da .ensures ∙ ap (λ (z : Table). firstRow (decodeRows z (st .args .re .now) (st .args .im .now) (st .args .o .scales) (length (st .args .decisions .now)) (length (st .args .bits .now)) (length (st .args .bytes .now)) (length (st .args .counts .now)))) et in
     let n = told (da .result) (c .match .keys2) in (
@@ -52,12 +47,12 @@ decode-strained-requires c κs =
     let st = c .before .before .before .before .before .before .before .before .before .before .before .before .before .before .before in
     let t = st .args .t in
     let pl = c .before .before .before .before .before .before .before .before .plan-of in
-    let et = ap (λ (z : Plan). z .table) (pl .ensures .0) in
+    let et = table-is (pl .ensures .0) in
     let da = c .before .before .before .before .before .before .decode-answer in
     let ea = da .ensures ∙ ap (λ (z : Table). firstRow (decodeRows z (st .args .re .now) (st .args .im .now) (st .args .o .scales) (length (st .args .decisions .now)) (length (st .args .bits .now)) (length (st .args .bytes .now)) (length (st .args .counts .now)))) et in
     let ok = sym (c .before .before .before .before .enum-told .given .1) ∙ ea in
     let p = passed t (st .args .re .now) (st .args .im .now) (someBad (st .args .o .scales)) (length (st .args .decisions .now)) (length (st .args .bits .now)) (length (st .args .bytes .now)) (length (st .args .counts .now)) ok in (
-      record { is = plan-is t (pl .result) (pl .ensures .0); few = pl .ensures .1; accepted = rw et (p .table) },
+      planned (pl .ensures .0) (pl .ensures .1) (p .table),
       p .real,
       p .imaginary,
       p .words,
@@ -85,7 +80,7 @@ returns-2 c =
     let rx = receivedBy (st .args .re .now) (st .args .im .now) (st .args .o .mapping) (st .args .o .scales) in
     let sum = strainSum t rx (st .args .o .«known_start») (st .args .first) in
     let pl = c .before .before .before .before .before .before .before .before .before .before .before .before .before .before .before .before .before .plan-of in
-    let et = ap (λ (z : Plan). z .table) (pl .ensures .0) in
+    let et = table-is (pl .ensures .0) in
     let da = c .before .before .before .before .before .before .before .before .before .before .before .before .before .before .before .decode-answer in
     let ea = da .ensures ∙ ap (λ (z : Table). firstRow (decodeRows z (st .args .re .now) (st .args .im .now) (st .args .o .scales) (length (st .args .decisions .now)) (length (st .args .bits .now)) (length (st .args .bytes .now)) (length (st .args .counts .now)))) et in
     let ok = sym (c .before .before .before .before .before .before .before .before .before .before .before .before .before .enum-told .given .1) ∙ ea in

@@ -6,6 +6,7 @@ use borrow.Author.Tests.{ltb-false}
 use lib.ListN.{length}
 use Rattle.isdb_fec.specs.AnswerLaws.{refused}
 use Rattle.refusal.proofs.Told.{told}
+use Rattle.isdbs_encode.specs.PlanLaws.{table-is, planned}
 use Rattle.isdbs_phy.proofs.EncodeAnswers.{rows-pass}
 use borrow.Author.Needs.{needs}
 use Rattle.isdbs_phy.proofs.demod.encode_frame_with_state.Statement.{statement}
@@ -23,12 +24,17 @@ returns c =
     let n = told a (c .match .keys2) in
     (c .before .encode-answer .ensures, (refused a n refl, refused a n (record { re-is = refl; im-is = refl })))
 
+plan-of-requires : tie.Need-plan-of-requires
+plan-of-requires c κs = search needs
+
 encode-main-requires : tie.Need-encode-main-requires
 encode-main-requires c κs =
-    let s = c .before .before .before .before .before .before .before .before in
-    let z = c .before .before .enum-told .given .1 in
-    let p = rows-pass (s .args .t) (s .args .enc .state) (length (s .args .re .now)) (length (s .args .im .now)) (c .before .before .before .before .encode-answer .result) (c .before .before .before .before .encode-answer .ensures) z in
-    (p .0, omega (arith, ltb-false 63 (s .args .enc .state) (p .1)), ltb-false (length (s .args .re .now)) mainSymbols (p .2), ltb-false (length (s .args .im .now)) mainSymbols (p .3))
+    let s = c .before .before .before .before .before .before .before .before .before in
+    let pl = c .before .before .plan-of in
+    let z = c .before .before .before .enum-told .given .1 in
+    let ea = c .before .before .before .before .before .encode-answer in
+    let p = rows-pass (s .args .t) (s .args .enc .state) (length (s .args .re .now)) (length (s .args .im .now)) (ea .result) (ea .ensures) z in
+    (planned (pl .ensures .0) (pl .ensures .1) (p .0), omega (arith, ltb-false 63 (s .args .enc .state) (p .1)), ltb-false (length (s .args .re .now)) mainSymbols (p .2), ltb-false (length (s .args .im .now)) mainSymbols (p .3))
 
 same-length : tie.Need-same-length
 same-length c = search needs
@@ -38,9 +44,11 @@ same-length-2 c = search needs
 
 returns-2 : tie.Need-returns-2
 returns-2 c =
-    let a = c .before .before .before .before .before .before .before .before .before .encode-answer .result in
-    let z = c .before .before .before .before .before .before .before .enum-told .given .1 in
-    (c .before .before .before .before .before .before .before .before .before .encode-answer .ensures, ((λ e. c .before .before .before .before .encode-main .ensures .0, λ n. absurd (n z)), (λ e. c .before .before .before .before .encode-main .ensures .1, λ n. absurd (n z))))
+    let a = c .before .before .before .before .before .before .before .before .before .before .encode-answer in
+    let z = c .before .before .before .before .before .before .before .before .enum-told .given .1 in
+    let et = table-is (c .before .before .before .before .before .before .before .plan-of .ensures .0) in
+    let made = rw et at (c .before .before .before .before .encode-main .ensures) in
+    (a .ensures, ((λ e. made .0, λ n. absurd (n z)), (λ e. made .1, λ n. absurd (n z))))
 
 pub encode-frame-with-state-spec : {M : Type 1} → statement M
 encode-frame-with-state-spec =
@@ -49,6 +57,7 @@ encode-frame-with-state-spec =
     encode-answer-requires
     enum-told
     returns
+    plan-of-requires
     encode-main-requires
     same-length
     same-length-2

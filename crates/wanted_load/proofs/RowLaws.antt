@@ -1,5 +1,5 @@
 -- The rows of `wanted_load` one after the other, and what passed rows tell. Assumes nothing.
-use mathlib.Core.Path.{_≡_, refl, sym, _∙_, ap}
+use mathlib.Core.Path.{_≡_, refl, sym}
 use mathlib.Core.Bool.{Bool, true, false, _||_}
 use mathlib.Core.List.{List}
 use Prim.Native.Nat.{ℕ, _≤_}
@@ -11,12 +11,11 @@ use Rattle.refusal.specs.RowLaws as row
 use Rattle.refusal.specs.RowLaws.{neither, refused-by, passed-by}
 use Rattle.refusal.specs.declared.Answer.{Answer}
 use Rattle.refusal.specs.declared.Answer.the-variants.{Accepted, Symbols, Space}
-use Rattle.isdbs_runs.specs.declared.Plan.{Plan}
 use Rattle.isdbs_tables.specs.declared.Table.{Table}
 use Rattle.isdbs_frame.specs.Frame.{mainSymbols}
 use Rattle.isdbs_tables.specs.Tables.{tableRows, tableAnswer, TableAccepted}
 use Rattle.isdbs_tables.specs.TableLaws.{table-refusing, then-accepted}
-use Rattle.isdbs_runs.specs.RunsOf.{planOf, Planned, loadBytes}
+use Rattle.isdbs_runs.specs.RunsOf.{loadBytes}
 use Rattle.wanted_load.specs.Rows.{lentRows, earlierRows}
 
 pub or-second : (a b : Bool) → b ≡ true → (a || b) ≡ true
@@ -49,7 +48,3 @@ module _ (t : Table) (re im bytes : ℕ) where
         imaginary = ltb-false im mainSymbols (s .1);
         room = ltb-false bytes (loadBytes t) (p Space);
       }
-
--- a plan of a table is the plan of its own
-pub plan-is : (t : Table) (p : Plan) → p ≡ planOf t → p ≡ planOf (p .table)
-plan-is t p e = e ∙ ap (λ (z : Table). planOf z) (sym (ap (λ (z : Plan). z .table) e))
