@@ -3,15 +3,16 @@ use mathlib.Core.Path.{_≡_, refl, sym, _∙_, ap}
 use mathlib.Core.Bool.{Bool, true, false}
 use mathlib.Core.List.{List}
 use Prim.Native.Nat.{ℕ}
+use lib.Dec.{T, lit<}
 use lib.ListN.{length}
 use lib.Ieee.{Float}
 use borrow.Author.Tests.{eq-eqb, ne-eqb}
 use Rattle.refusal.specs.declared.Answer.{Answer}
 use Rattle.refusal.specs.declared.Answer.the-variants.{Traceback, State, Length, Sample, Space}
 use Rattle.refusal.specs.Rows.{Row, numberOf, firstRow}
-use Rattle.refusal.specs.RowLaws.{placed-false}
+use Rattle.refusal.specs.RowLaws.{numbered, zero-accepted, refusing, placed-false, last-refuses}
 use Rattle.answers_c.specs.Answers.{answered}
-use Rattle.answers_c.specs.Lengths.{aboveLength, withLength, withStates}
+use Rattle.answers_c.specs.Lengths.{aboveLength, withLength, withStates, untilLength}
 
 module _ (pm : List Float) (rows : List Row) (n : ℕ) where
   -- path values that are not 64
@@ -21,6 +22,10 @@ module _ (pm : List Float) (rows : List Row) (n : ℕ) where
   -- and where they are 64 the other rows decide
   pub states-answer : (a : Answer) → length pm ≡ 64 → n ≡ numberOf a → a ≡ firstRow rows → n ≡ answered (withStates pm rows)
   states-answer a h e f = rw (eq-eqb (length pm) 64 h) (e ∙ ap numberOf (f ∙ sym (placed-false aboveLength Length rows)))
+
+-- rows that end with a row 5 that holds refuse
+pub until-refuses : (above : List Row) → T (refusing above) → (n : ℕ) → n ≡ answered (untilLength above) → n ≡ 0 → ⊥
+until-refuses above r n e z = last-refuses above Length r (numbered Length (lit< tt)) (zero-accepted (firstRow (untilLength above)) (sym e ∙ z))
 
 -- rows 3 and 4 stand above row 5, rows 7 and 9 below it
 pub above : (b : Bool) → (aboveLength (Traceback, b) ≡ true) × (aboveLength (State, b) ≡ true)

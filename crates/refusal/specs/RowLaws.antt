@@ -169,9 +169,6 @@ passed rows r e a = condition-false rows (none-holds rows r e) a
 pub holds : (rows : List Row) → T (refusing rows) → (a : Answer) → conditionOf a rows ≡ true → firstRow rows ≡ Accepted → ⊥
 holds rows r a h e = true≢false (sym h ∙ passed rows r e a)
 
-pub number-refuses : (rows : List Row) → T (refusing rows) → (a : Answer) → conditionOf a rows ≡ true → (n : ℕ) → n ≡ numberOf (firstRow rows) → n ≡ 0 → ⊥
-number-refuses rows r a h n e z = holds rows r a h (zero-accepted (firstRow rows) (sym e ∙ z))
-
 -- the rows without the first that has the answer a
 abbrev pub without : Answer → List Row → List Row
 without a [] = []
@@ -280,6 +277,10 @@ both-passed (row ∷ rows) below r e =
     let u = unless (row .0) (row .1) (firstRow (rows ++ below)) (s .0) e in
     let p = both-passed rows below (s .1) (u .1) in
     (rw (u .0) (p .0), p .1)
+
+-- so those that end with one that holds refuse
+pub last-refuses : (above : List Row) (a : Answer) → T (refusing above) → (a ≡ Accepted → ⊥) → firstRow (above ++ (a, true) ∷ []) ≡ Accepted → ⊥
+last-refuses above a r n e = n (both-passed above ((a, true) ∷ []) r e .1)
 
 -- ---- the order of the table
 
