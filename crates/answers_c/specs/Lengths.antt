@@ -1,11 +1,11 @@
 -- Row 5 of what only a C call can be handed: path values that are not 64, and lengths that the rows above do not depend on. Assumes nothing.
-use mathlib.Core.Bool.{Bool, true, cond, not}
+use mathlib.Core.Bool.{Bool, true, not}
 use mathlib.Core.List.{List, [], _∷_, _++_}
 use lib.Dec.{eqb, ltb}
 use lib.ListN.{length}
 use lib.Ieee.{Float}
 use Rattle.refusal.specs.declared.Answer.the-variants.{Length}
-use Rattle.refusal.specs.Rows.{Row, place}
+use Rattle.refusal.specs.Rows.{Row, place, placed}
 use Rattle.trellis.specs.Isdb
 
 -- a row that stands above row 5 in document 01's table
@@ -14,8 +14,7 @@ aboveLength row = ltb (place row) (place (Length, true))
 
 -- a row 5 at its place among a call's rows: below those that stand above it
 abbrev pub withLength : Bool → List Row → List Row
-withLength b [] = (Length, b) ∷ []
-withLength b (row ∷ rows) = cond (aboveLength row) (row ∷ withLength b rows) ((Length, b) ∷ row ∷ rows)
+withLength b rows = placed aboveLength (Length, b) rows
 
 -- 5: path values that are not 64
 abbrev pub withStates : List Float → List Row → List Row

@@ -1,11 +1,11 @@
 -- Which rows hold, and what a reading of whole quadruples is. Assumes nothing.
 use mathlib.Core.Path.{_≡_, refl, sym, ap, _∙_, subst}
-use mathlib.Core.Bool.{Bool, true, false, not, cond, _||_}
+use mathlib.Core.Bool.{Bool, true, false, not, _||_}
 use mathlib.Core.List.{List, []}
 use Prim.Native.Nat.{ℕ, zero, suc, _+_, _-_, _*_, _/_, _%_, _≤_, _<_}
 use native.Mathlib.Omega.{arith}
 use lib.IntN.{ℤ}
-use lib.Dec.{T, eqb, ltb, ltb→lt, lt→ltb, lit≤, lit<}
+use lib.Dec.{T, eqb, ltb, ltb→lt, lit≤, lit<}
 use lib.ListN.{length, getD}
 use lib.Ieee.{Float, nan, binary32, neg, le, ofBits, fits}
 use lib.Ieee.Fits.{and-i}
@@ -13,7 +13,7 @@ use Rattle.ieee.specs.Value.{hi, lo}
 use Rattle.ieee.specs.Rounding.{pow2}
 use Rattle.ieee.specs.Whole.{on-neg, hiZ, loZ}
 use Rattle.refusal.specs.Rows.{firstRow}
-use Rattle.refusal.specs.declared.Answer.the-variants.{Accepted, State, Length, Sample, Space}
+use Rattle.refusal.specs.declared.Answer.the-variants.{Accepted, Sample, Space}
 use Rattle.trellis.specs.Isdb
 use Rattle.trellis.specs.Step.{four}
 use Rattle.trellis.specs.Run.{Decoder, block, quadruple, releases, fourSteps}
@@ -22,15 +22,15 @@ use Rattle.best_path.specs.Exact.{Whole, le-from}
 use Rattle.best_path.specs.Calls.{readBits, isdb-given, isdb-unknown}
 use Rattle.best_path.specs.Integers.{integer-whole, hi-most, lo-most}
 use Rattle.refusal.specs.RowLaws as row
-use Rattle.refusal.specs.RowLaws.{neither}
-use borrow.Author.Tests.{ltb-false}
+use Rattle.refusal.specs.RowLaws.{neither, neither-holds}
+use borrow.Author.Tests.{ltb-false, lt-ltb}
 use Rattle.isdb_fec.specs.Values.{within, someBeyond, streamLimit}
-use Rattle.isdb_fec.specs.Rows.{badState, pushMetricsRows, flushRows, stepsShort, readingRows}
+use Rattle.isdb_fec.specs.Rows.{pushMetricsRows, flushRows, readingRows}
 use Rattle.isdb_fec.specs.Calls.{flush}
 use Rattle.viterbi.specs.CountLaws.{counted, releases-le}
 use Rattle.call_ranges.specs.Inside.{none-beyond}
 use Rattle.call_ranges.specs.Reached.{Reached, with-state, unknown-state}
-use Rattle.call_ranges.specs.Closed.{Fit, soft-fit, four-soft, values-inside, reached-fit, state-fit}
+use Rattle.call_ranges.specs.Closed.{Fit, soft-fit, four-soft, values-inside, reached-fit, state-fit, traceback-fit}
 use Rattle.call_ranges.specs.Answers.{stream-answer}
 use Rattle.best_path.specs.declared.Start.{Start}
 use Rattle.best_path.specs.declared.Start.the-variants.{Given, Unknown}
@@ -67,32 +67,28 @@ start-reached Unknown = unknown-state 128 refl (record { values = refl; held-is 
 
 -- ---- the rows of `push_metrics`
 module _ (start : Start) (xs : List Float) where
-  push-rows : (D O : ℕ) → firstRow (pushMetricsRows (fresh start) xs D O) ≡ cond (not (eqb (length xs % 4) 0)) Length (cond (someBeyond streamLimit xs) Sample (cond (stepsShort (length xs / 4) (fresh start) D O) Space Accepted))
-  push-rows D O = stream-answer (start-reached start) 4 xs D O
-
   -- with a place for each bit they are those of the reading
   pub same-rows : (D O : ℕ) → length xs / 4 ≤ O → firstRow (pushMetricsRows (fresh start) xs D O) ≡ firstRow (readingRows xs D O)
   same-rows D O h =
       let r = releases-le 128 0 (length xs / 4) (lit≤ tt) in
-      push-rows D O
-      ∙ ap (λ (w : Bool). cond (not (eqb (length xs % 4) 0)) Length (cond (someBeyond streamLimit xs) Sample (cond (w || ltb D (block + 128)) Space Accepted))) (not-less O (block * releases 128 0 (length xs / 4)) (omega arith) ∙ sym (not-less O (length xs / 4) h))
+      stream-answer (start-reached start) 4 xs D O
+      ∙ ap (λ (w : Bool). firstRow (row.replaced Space (w || ltb D (block + 128)) (readingRows xs D O))) (not-less O (block * releases 128 0 (length xs / 4)) (omega arith) ∙ sym (not-less O (length xs / 4) h))
 
   -- with too few they are those of `push_metrics` that is lent no decisions
+  space-short : (D O : ℕ) → O < length xs / 4 → (ltb O (length xs / 4) || ltb D (block + 128)) ≡ true
+  space-short D O h = rw (lt-ltb O (length xs / 4) h) refl
+
   pub short-rows : (D O : ℕ) → O < length xs / 4 → firstRow (pushMetricsRows (fresh start) xs 0 O) ≡ firstRow (readingRows xs D O)
   short-rows D O h =
-      push-rows 0 O
-      ∙ go (not (eqb (length xs % 4) 0)) (someBeyond streamLimit xs) (ltb O (block * releases 128 0 (length xs / 4))) (ltb O (length xs / 4)) (lt→ltb O (length xs / 4) h)
+      stream-answer (start-reached start) 4 xs 0 O
+      ∙ ap (λ (w : Bool). firstRow (row.replaced Space w (readingRows xs D O))) (second (ltb O (block * releases 128 0 (length xs / 4))) ∙ sym (space-short D O h))
     where
-      go : (l m a b : Bool) → T b → cond l Length (cond m Sample (cond (a || true) Space Accepted)) ≡ cond l Length (cond m Sample (cond (b || ltb D (block + 128)) Space Accepted))
-      go l m true true h = refl
-      go l m false true h = refl
-      go l m a false h = absurd h
+      second : (a : Bool) → (a || true) ≡ true
+      second true = refl
+      second false = refl
 
   pub short-refused : (D O : ℕ) → O < length xs / 4 → firstRow (readingRows xs D O) ≡ Accepted → ⊥
-  short-refused D O h e =
-      let q = neither (ltb O (length xs / 4)) (ltb D (block + 128)) (row.passed (readingRows xs D O) tt e Space) in
-      let l = ltb-false O (length xs / 4) (q .0) in
-      omega arith
+  short-refused D O h = row.holds (readingRows xs D O) tt Space (space-short D O h)
 
   -- what an accepted reading tells
   record Passed (D O : ℕ) : Type 0 where
@@ -126,11 +122,9 @@ module _ (start : Start) (xs : List Float) where
         let wl = c .words-left in
         let bo = c .bits-out in
         let d = read start xs in
-        go (badState (stateOf d)) (ltb (O - length (d .bits)) (length (d .words))) (ltb D (block + 128))
-        (state-fit (read-fit (p .sample))) (not-less (O - length (d .bits)) (length (d .words)) (omega arith)) (not-less D (block + 128) (p .words))
-      where
-        go : (a c d : Bool) → a ≡ false → c ≡ false → d ≡ false → cond a State (cond (c || d) Space Accepted) ≡ Accepted
-        go a c d ea ec ed = rw (ea, ec, ed) refl
+        let g = read-fit (p .sample) in
+        row.none-accepted (flushRows (stateOf d) D (O - length (d .bits)))
+        (traceback-fit g, (state-fit g, (neither-holds (ltb (O - length (d .bits)) (length (d .words))) (ltb D (block + 128)) (not-less (O - length (d .bits)) (length (d .words)) (omega arith)) (not-less D (block + 128) (p .words)), tt)))
 
 -- ---- whole quadruples
 module _ (start : Start) (xs : List Float) (n : ℕ) (m : ℕ → ℕ → ℤ) (count : length xs ≡ 4 * n) (few : n ≤ longest) (quads : Quadruples (quadruple xs) m n) where
@@ -150,10 +144,9 @@ module _ (start : Start) (xs : List Float) (n : ℕ) (m : ℕ → ℕ → ℤ) (
   in-fours = let e : length xs % 4 ≡ 0 = omega arith in rw e refl
 
   pub whole-accepts : (D O : ℕ) → block + 128 ≤ D → n ≤ O → firstRow (readingRows xs D O) ≡ Accepted
-  whole-accepts D O h k = go (not (eqb (length xs % 4) 0)) (someBeyond streamLimit xs) (ltb O (length xs / 4)) (ltb D (block + 128)) in-fours (none-beyond streamLimit xs metric-inside) (not-less O (length xs / 4) (omega arith)) (not-less D (block + 128) h)
-    where
-      go : (a b c d : Bool) → a ≡ false → b ≡ false → c ≡ false → d ≡ false → cond a Length (cond b Sample (cond (c || d) Space Accepted)) ≡ Accepted
-      go a b c d ea eb ec ed = rw (ea, eb, ec, ed) refl
+  whole-accepts D O h k =
+      row.none-accepted (readingRows xs D O)
+      (in-fours, (none-beyond streamLimit xs metric-inside, (neither-holds (ltb O (length xs / 4)) (ltb D (block + 128)) (not-less O (length xs / 4) (omega arith)) (not-less D (block + 128) h), tt)))
 
   bits-are : (start : Start) → Reading Isdb.half Isdb.labels Isdb.rule (StartsIn Isdb.states start) m n (readBits Isdb.half Isdb.labels Isdb.rule 128 (λ k. four (quadruple xs k)) (startValues Isdb.states start) n)
   bits-are (Given s) = isdb-given 128 (lit< tt) (quadruple xs) m n few quads s

@@ -30,7 +30,7 @@ use Rattle.isdb_fec.specs.Values.{someBeyond, pathLimit, streamLimit}
 use Rattle.isdb_fec.specs.Rows.{badTraceback, badState, freshRows, handedRows, streamRows}
 use Rattle.isdb_fec.specs.Calls.{call, steps, handed, Fresh, Leaves, Emits}
 use Rattle.viterbi.specs.CountLaws.{counted}
-use Rattle.refusal.specs.RowLaws.{passed}
+use Rattle.refusal.specs.RowLaws.{passed, none-accepted}
 use Rattle.call_ranges.specs.Inside.{inside-within, within-inside, none-beyond, all-inside}
 use Rattle.call_ranges.specs.Reached as reached
 use Rattle.call_ranges.specs.Reached.{Reached, Floats, with-state, unknown-state}
@@ -169,4 +169,4 @@ state-fit {v} i =
 
 -- the theorem: a state that comes from a fresh start by accepted calls is refused by none of the rows of a handed state
 pub reached-rows : {v : ViterbiDecoder} → Reached v → firstRow (handedRows v) ≡ Accepted
-reached-rows i = let g = reached-fit i in rw (traceback-fit g, state-fit g)
+reached-rows {v} i = let g = reached-fit i in none-accepted (handedRows v) (traceback-fit g, (state-fit g, tt))

@@ -1,9 +1,8 @@
 -- A call of a code's decoder as the C call hands it back: answered, and the lent places, from what the library's call leaves. Assumes nothing.
 use mathlib.Core.Path.{_≡_, refl, sym, _∙_, ap}
-use mathlib.Core.Bool.{Bool, true, false, cond}
+use mathlib.Core.Bool.{Bool, true, false}
 use mathlib.Core.List.{List}
 use Prim.Native.Nat.{ℕ}
-use native.Mathlib.Omega.{arith}
 use lib.Dec.{eqb}
 use lib.ListN.{length}
 use lib.Ieee.{Float}
@@ -27,13 +26,6 @@ use Rattle.answers_c.specs.AnswerLaws.{kept}
 use Rattle.answers_c.specs.Lengths.{withStates}
 use Rattle.answers_c.specs.LengthLaws.{states-answer}
 use Rattle.codes_c.specs.Stored.{Stored, Traced}
-
--- what ends with a row 5 that holds refuses
-pub refused-3 : (a b c : Bool) (n : ℕ) → n ≡ numberOf (cond a answer.Traceback (cond b answer.Code (cond c answer.State answer.Length))) → n ≡ 0 → ⊥
-refused-3 true b c n e z = absurd (omega arith)
-refused-3 false true c n e z = absurd (omega arith)
-refused-3 false false true n e z = absurd (omega arith)
-refused-3 false false false n e z = absurd (omega arith)
 
 -- ---- what is handed back
 -- where nothing is

@@ -1,12 +1,9 @@
 -- What follows from the tests of the rows. Assumes nothing.
-use mathlib.Core.Path.{_≡_, refl}
-use mathlib.Core.Bool.{Bool, true, false, cond, _||_}
+use mathlib.Core.Path.{_≡_}
+use mathlib.Core.Bool.{false, _||_}
 use Prim.Native.Nat.{ℕ, _≤_}
-use native.Mathlib.Omega.{arith}
 use lib.Dec.{ltb}
 use borrow.Author.Tests.{ltb-false}
-use Rattle.refusal.specs.declared.Answer.the-variants.{Accepted, Symbols, Space}
-use Rattle.refusal.specs.Rows.{numberOf}
 use Rattle.refusal.specs.RowLaws.{neither}
 use Rattle.full_frame.specs.Rows.{shortInputs, shortFrame}
 use Rattle.isdbs_frame.specs.Frame.{frameSymbols, mainSymbols, burstPoints, headerSymbols}
@@ -34,9 +31,3 @@ unfolding shortFrame
 frame-long re im e =
     let p = neither (ltb re frameSymbols) (ltb im frameSymbols) e in
     record { re-long = ltb-false re frameSymbols (p .0); im-long = ltb-false im frameSymbols (p .1) }
-
--- an accepted call: neither of its rows holds
-pub no-row : (s t : Bool) → numberOf (cond s Symbols (cond t Space Accepted)) ≡ 0 → (s ≡ false) × (t ≡ false)
-no-row true t e = absurd (omega arith)
-no-row false true e = absurd (omega arith)
-no-row false false e = (refl, refl)

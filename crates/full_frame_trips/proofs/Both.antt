@@ -1,6 +1,6 @@
 -- Two calls in a row: their answer, and what they give back. Assumes nothing.
 use mathlib.Core.Path.{_≡_, refl, sym, _∙_, ap}
-use mathlib.Core.Bool.{Bool, false, cond, _||_}
+use mathlib.Core.Bool.{Bool, false, _||_}
 use mathlib.Core.List.{List}
 use Prim.Native.Nat.{ℕ, _≤_}
 use lib.ListN.{length, getD, take}
@@ -10,32 +10,26 @@ use Rattle.refusal.specs.declared.Answer.{Answer}
 use Rattle.refusal.specs.declared.Answer.the-variants.{Accepted, Symbols, Space}
 use Rattle.refusal.specs.Rows.{numberOf, firstRow}
 use Rattle.trellis.specs.Lists.{laid}
-use Rattle.refusal.specs.RowLaws.{neither}
+use Rattle.refusal.specs.RowLaws.{neither, neither-holds, passed, none-accepted, zero-accepted}
 use Rattle.trellis.specs.LaidLaws.{length-laid-upto}
 use Rattle.full_frame.specs.declared.Input.{Input}
 use Rattle.full_frame.specs.declared.Input.the-variants.{Header, Main, Burst}
 use Rattle.full_frame.specs.Places.{from, pointsOf, sourceAt, placeIn, lentInputs, lentPoint, fullPart, taken}
 use Rattle.full_frame.specs.Rows.{inputsShort, shortFrame, layRows, takeRows, leaves}
-use Rattle.full_frame.specs.RowLaws.{inputs-long, LongFrame, frame-long, no-row}
+use Rattle.full_frame.specs.RowLaws.{inputs-long, LongFrame, frame-long}
 use Rattle.full_frame.specs.RoundTrips.{taken-laid, full-taken}
-use Rattle.full_frame_trips.specs.Rows.{layTakeRows, takeLayRows}
+use Rattle.full_frame_trips.specs.Rows.{bothRows, layTakeRows, takeLayRows}
 
--- ---- the answer by rows 6 and 9, the second of two tests
-abbrev answerBy : (s t u : Bool) → Answer
-answerBy s t u = cond s Symbols (cond (t || u) Space Accepted)
-
-pub by-tests : (a : Answer) {s t u : Bool} (s' t' u' : Bool) → s ≡ s' → t ≡ t' → u ≡ u' → a ≡ answerBy s t u → a ≡ answerBy s' t' u'
+-- ---- the answer by the tests of both calls
+pub by-tests : (a : Answer) {s t u : Bool} (s' t' u' : Bool) → s ≡ s' → t ≡ t' → u ≡ u' → a ≡ firstRow (bothRows s t u) → a ≡ firstRow (bothRows s' t' u')
 by-tests a {s} {t} {u} s' t' u' e f g h =
-    h ∙ ap (λ (x : Bool). answerBy x t u) e ∙ ap (λ (x : Bool). answerBy s' x u) f ∙ ap (λ (x : Bool). answerBy s' t' x) g
+    h ∙ ap (λ (x : Bool). firstRow (bothRows x t u)) e ∙ ap (λ (x : Bool). firstRow (bothRows s' x u)) f ∙ ap (λ (x : Bool). firstRow (bothRows s' t' x)) g
 
-pub none-short : (a : Answer) (s t u : Bool) → a ≡ answerBy s t u → numberOf a ≡ 0 → (s ≡ false) × (t ≡ false) × (u ≡ false)
-none-short a s t u e z = let p = no-row s (t || u) (sym (ap numberOf e) ∙ z) in let q = neither t u (p .1) in (p .0, q .0, q .1)
-
-none-held : (s t : Bool) → s ≡ false → t ≡ false → cond s Symbols (cond t Space Accepted) ≡ Accepted
-none-held s t e f = rw (e, f)
-
-neither-held : (t u : Bool) → t ≡ false → u ≡ false → (t || u) ≡ false
-neither-held t u e f = rw (e, f)
+pub none-short : (a : Answer) (s t u : Bool) → a ≡ firstRow (bothRows s t u) → numberOf a ≡ 0 → (s ≡ false) × (t ≡ false) × (u ≡ false)
+none-short a s t u e z =
+    let p = passed (bothRows s t u) tt (sym e ∙ zero-accepted a z) in
+    let q = neither t u (p Space) in
+    (p Symbols, q .0, q .1)
 
 -- ---- what a call leaves: refused, by an equal answer, accepted
 module _ (a : Answer) where
@@ -87,7 +81,7 @@ module _ (res ims : Input → List Float) (re₀ im₀ : List Float) (outs outs'
     (re im : List Float) (a : Answer) (ea : a ≡ firstRow (layRows res ims re₀ im₀)) (er : re ≡ leaves a (fullPart res) re₀) (ei : im ≡ leaves a (fullPart ims) im₀)
     (b : Answer) (eb : b ≡ firstRow (takeRows re im outs outs')) where
   laid-first : a ≡ Accepted
-  laid-first = ea ∙ none-held (inputsShort res || inputsShort ims) (shortFrame (length re₀) (length im₀)) (tests .0) (tests .1)
+  laid-first = ea ∙ none-accepted (layRows res ims re₀ im₀) (tests .0, (tests .1, tt))
 
   laid-number : numberOf a ≡ 0
   laid-number = ap numberOf laid-first
@@ -98,17 +92,19 @@ module _ (res ims : Input → List Float) (re₀ im₀ : List Float) (outs outs'
   laid-frame : LongFrame (length re₀) (length im₀)
   laid-frame = frame-long (length re₀) (length im₀) (tests .1)
 
+  frame-same : shortFrame (length re) (length im) ≡ false
+  frame-same =
+      ap (λ (n : ℕ). shortFrame n (length im)) (laid-same a laid-number res re₀ re er (laid-frame .re-long))
+      ∙ ap (λ (n : ℕ). shortFrame (length re₀) n) (laid-same a laid-number ims im₀ im ei (laid-frame .im-long))
+      ∙ tests .1
+
   taken-second : b ≡ Accepted
-  taken-second =
-      eb
-      ∙ ap (λ (n : ℕ). cond (shortFrame n (length im)) Symbols (cond (inputsShort outs || inputsShort outs') Space Accepted)) (laid-same a laid-number res re₀ re er (laid-frame .re-long))
-      ∙ ap (λ (n : ℕ). cond (shortFrame (length re₀) n) Symbols (cond (inputsShort outs || inputsShort outs') Space Accepted)) (laid-same a laid-number ims im₀ im ei (laid-frame .im-long))
-      ∙ none-held (shortFrame (length re₀) (length im₀)) (inputsShort outs || inputsShort outs') (tests .1) (tests .2)
+  taken-second = eb ∙ none-accepted (takeRows re im outs outs') (frame-same, (tests .2, tt))
 
   lay-take-answer : b ≡ firstRow (layTakeRows res ims re₀ im₀ outs outs')
   lay-take-answer =
       taken-second
-      ∙ sym (none-held (inputsShort res || inputsShort ims) (shortFrame (length re₀) (length im₀) || (inputsShort outs || inputsShort outs')) (tests .0) (neither-held (shortFrame (length re₀) (length im₀)) (inputsShort outs || inputsShort outs') (tests .1) (tests .2)))
+      ∙ sym (none-accepted (layTakeRows res ims re₀ im₀ outs outs') (tests .0, (neither-holds (shortFrame (length re₀) (length im₀)) (inputsShort outs || inputsShort outs') (tests .1) (tests .2), tt)))
 
   pub laid-taken : LaidTaken res ims re₀ im₀ re im outs outs' b
   laid-taken =
@@ -147,7 +143,7 @@ module _ (re im : List Float) (res₀ ims₀ : Input → List Float) (out out' :
     (res ims : Input → List Float) (a : Answer) (ea : a ≡ firstRow (takeRows re im res₀ ims₀)) (tr : Taken a re res₀ res) (ti : Taken a im ims₀ ims)
     (b : Answer) (eb : b ≡ firstRow (layRows res ims out out')) where
   taken-first : a ≡ Accepted
-  taken-first = ea ∙ none-held (shortFrame (length re) (length im)) (inputsShort res₀ || inputsShort ims₀) (tests .0) (tests .1)
+  taken-first = ea ∙ none-accepted (takeRows re im res₀ ims₀) (tests .0, (tests .1, tt))
 
   taken-number : numberOf a ≡ 0
   taken-number = ap numberOf taken-first
@@ -158,17 +154,19 @@ module _ (re im : List Float) (res₀ ims₀ : Input → List Float) (out out' :
   taken-frame : LongFrame (length re) (length im)
   taken-frame = frame-long (length re) (length im) (tests .0)
 
+  inputs-same : (inputsShort res || inputsShort ims) ≡ false
+  inputs-same =
+      ap (λ (t : Bool). t || inputsShort ims) (short-same a taken-number re res₀ res tr (taken-inputs .0))
+      ∙ ap (λ (t : Bool). inputsShort res₀ || t) (short-same a taken-number im ims₀ ims ti (taken-inputs .1))
+      ∙ tests .1
+
   laid-second : b ≡ Accepted
-  laid-second =
-      eb
-      ∙ ap (λ (t : Bool). cond (t || inputsShort ims) Symbols (cond (shortFrame (length out) (length out')) Space Accepted)) (short-same a taken-number re res₀ res tr (taken-inputs .0))
-      ∙ ap (λ (t : Bool). cond (inputsShort res₀ || t) Symbols (cond (shortFrame (length out) (length out')) Space Accepted)) (short-same a taken-number im ims₀ ims ti (taken-inputs .1))
-      ∙ none-held (inputsShort res₀ || inputsShort ims₀) (shortFrame (length out) (length out')) (tests .1) (tests .2)
+  laid-second = eb ∙ none-accepted (layRows res ims out out') (inputs-same, (tests .2, tt))
 
   take-lay-answer : b ≡ firstRow (takeLayRows re im res₀ ims₀ out out')
   take-lay-answer =
       laid-second
-      ∙ sym (none-held (shortFrame (length re) (length im)) ((inputsShort res₀ || inputsShort ims₀) || shortFrame (length out) (length out')) (tests .0) (neither-held (inputsShort res₀ || inputsShort ims₀) (shortFrame (length out) (length out')) (tests .1) (tests .2)))
+      ∙ sym (none-accepted (takeLayRows re im res₀ ims₀ out out') (tests .0, (neither-holds (inputsShort res₀ || inputsShort ims₀) (shortFrame (length out) (length out')) (tests .1) (tests .2), tt)))
 
   pub taken-laid-again : TakenLaid re im res₀ ims₀ res ims out out' b
   taken-laid-again =

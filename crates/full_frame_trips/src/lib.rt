@@ -5,14 +5,13 @@ use full_frame::short_inputs;
 use full_frame::take_apart;
 use refusal::Answer;
 ghost use mathlib.Core.Path.{_≡_};
-ghost use mathlib.Core.List.{[], _∷_};
 ghost use mathlib.Core.Bool.{_||_};
 ghost use lib.ListN.{take};
 ghost use Rattle.refusal.specs.Rows.{firstRow};
 ghost use Rattle.full_frame.specs.declared.Input.the-variants.{Header, Main, Burst};
 ghost use Rattle.full_frame.specs.Places.{lentInputs, fullPart, taken};
 ghost use Rattle.full_frame.specs.Rows.{shortInputs, leaves};
-ghost use Rattle.full_frame_trips.specs.Rows.{layTakeRows, takeLayRows};
+ghost use Rattle.full_frame_trips.specs.Rows.{bothRows, layTakeRows, takeLayRows};
 ghost use Rattle.isdbs_frame.specs.Frame.{frameSymbols, mainSymbols, burstPoints, headerSymbols};
 
 // Whether either part of header, main signal or bursts is short.
@@ -34,7 +33,7 @@ fn short_parts(
 
 // The rows of two calls: a short input, then a short output of the first or of the second.
 fn first_row(input: bool, output: bool, last: bool) -> Answer
-    ensures { λ r. ⌜ r ≡ firstRow ((Answer.Symbols, input) ∷ (Answer.Space, output || last) ∷ []) ⌝ }
+    ensures { λ r. ⌜ r ≡ firstRow (bothRows input output last) ⌝ }
 {
     if input {
         return Answer::Symbols;

@@ -5,12 +5,12 @@ use mathlib.Core.List.{List, [], _∷_}
 use Prim.Native.Nat.{ℕ, _+_, _/_, _%_, _≤_}
 use native.Mathlib.Omega.{arith}
 use borrow.Author.Tests.{ltb-false, le-ltb, eqb-false}
-use lib.Dec.{eqb, ltb, lit<, lit≤}
+use lib.Dec.{eqb, ltb, lit≤}
 use lib.ListN.{length, replicate}
 use lib.Ieee.{Float, binary32, neg, le, ofBits}
 use Rattle.refusal.specs.Rows.{firstRow, Either}
 use Rattle.refusal.specs.RowLaws as row
-use Rattle.refusal.specs.RowLaws.{neither, numbered}
+use Rattle.refusal.specs.RowLaws.{neither}
 use Rattle.refusal.specs.declared.Answer.{Answer}
 use Rattle.refusal.specs.declared.Answer.the-variants.{Accepted, Traceback, Length, Sample, Space}
 use Rattle.trellis.specs.Run.{block, startAt, depth}
@@ -44,7 +44,7 @@ fresh-is tb s a v e h = go (ltb 1024 tb) refl
     good f = let x = f .values in let y = f .held-is in let t = f .traceback-is in λ i. record { pm = x i; held = y i; traceback = t i }
 
     go : (w : Bool) → ltb 1024 tb ≡ w → v ≡ cond w (record { pm = replicate 64 (ofBits binary32 0); held = 0; traceback = 0 }) (started tb s)
-    go true t = zero (h .1 (λ y. numbered Traceback (lit< tt) (let q : Traceback ≡ Accepted = rw t at (sym e ∙ y) in q)))
+    go true t = zero (h .1 (λ y. row.holds (freshRows tb) tt Traceback t (sym e ∙ y)))
     go false t = good (h .0 (rw t at e))
 
 -- ---- a reading that passes
@@ -68,7 +68,7 @@ passed tb xs decisions out e =
     }
 
 pub fresh-passes : (tb : ℕ) → tb ≤ 1024 → Accepted ≡ firstRow (freshRows tb)
-fresh-passes tb h = rw (le-ltb 1024 tb h) refl
+fresh-passes tb h = sym (row.none-accepted (freshRows tb) (le-ltb 1024 tb h, tt))
 
 pub started-is : (tb s : ℕ) (a : Answer) (v : ViterbiDecoder) → tb ≤ 1024 → a ≡ firstRow (freshRows tb) → Either a (Fresh tb (startAt 64 s) v) (Zero v) → v ≡ started tb s
 started-is tb s a v h e m =

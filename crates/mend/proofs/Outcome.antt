@@ -1,16 +1,15 @@
 -- How a call's outcome follows from its rows and from what was written. Assumes nothing.
 use mathlib.Core.Path.{_≡_, refl, sym, ap, _∙_}
-use mathlib.Core.Bool.{Bool, true, false, cond, not, _||_}
+use mathlib.Core.Bool.{true, false}
 use mathlib.Core.List.{List, [], _∷_}
 use Prim.Native.Nat.{ℕ, _%_, _≤_, _<_}
 use native.Mathlib.Omega.{arith}
 use borrow.Author.Tests.{lt-ltb, le-ltb}
-use lib.Dec.{eqb, ltb}
 use lib.ListN.{length, take, replicate, length-replicate}
-use Rattle.refusal.specs.Rows.{numberOf, firstRow, Row}
-use Rattle.refusal.specs.RowLaws.{numbered, refused, refused-by, passed-by}
+use Rattle.refusal.specs.Rows.{firstRow, Row}
+use Rattle.refusal.specs.RowLaws.{numbered, refused, refused-by, passed-by, not-answered}
 use Rattle.refusal.specs.declared.Answer.{Answer}
-use Rattle.refusal.specs.declared.Answer.the-variants.{Accepted, Length, Space, Unmendable}
+use Rattle.refusal.specs.declared.Answer.the-variants.{Accepted, Unmendable}
 use Rattle.trellis.specs.Lists.{upto, laid}
 use Rattle.trellis.specs.ListLaws.{length-upto}
 use Rattle.trellis.specs.LaidLaws.{laid-laid, take-laid}
@@ -19,7 +18,7 @@ use Rattle.mend_distance.specs.StretchLaws.{length-sent}
 use Rattle.mend_distance.specs.Distances.{least, unmendable}
 use Rattle.mend_distance.specs.DistanceLaws.{none-within}
 use Rattle.mend.specs.declared.Mended.{Mended}
-use Rattle.mend.specs.Rows.{someNoBit, mostBits, places, lentRows}
+use Rattle.mend.specs.Rows.{lentRows}
 use Rattle.trellis.specs.Isdb.{frameWords}
 use Rattle.mend.specs.Allowed.{allowed}
 use Rattle.mend.specs.Tail.{Writes}
@@ -53,11 +52,6 @@ module _ (s e : ℕ) (bits decisions₀ out₀ list₀ : List ℕ) where
   abbrev last : List Row
   last = (Unmendable, unmendable (s % 64) (e % 64) bits) ∷ []
 
-  not-last : (a b : Bool) → cond a Length (cond b Space Accepted) ≡ Unmendable → ⊥
-  not-last true b h = let z : numberOf Length ≡ 15 = ap numberOf h in omega arith
-  not-last false true h = let z : numberOf Space ≡ 15 = ap numberOf h in omega arith
-  not-last false false h = let z : numberOf Accepted ≡ 15 = ap numberOf h in omega arith
-
   kept : (a : Answer) → Unchanged (record { answer = a; count = 0 }) decisions₀ decisions₀ out₀ out₀ list₀ list₀
   kept a = record { count-is = refl; decisions-is = refl; out-is = refl; list-is = refl }
 
@@ -67,7 +61,7 @@ module _ (s e : ℕ) (bits decisions₀ out₀ list₀ : List ℕ) where
         far = unmendable (s % 64) (e % 64) bits;
         answers = refused-by above last a q n;
         leaves = refused a n (kept a);
-        none = λ z. absurd (not-last (not (eqb (length bits % 2) 0) || ltb mostBits (length bits) || someNoBit bits) (ltb (length out₀) (length bits) || ltb (length list₀) places || ltb (length decisions₀) frameWords) (sym q ∙ z));
+        none = λ z. absurd (not-answered above Unmendable tt (numbered Unmendable (omega arith)) (sym q ∙ z));
       }
 
   pub unmended : firstRow above ≡ Accepted → mostChanged < least (s % 64) (e % 64) bits → Called s e bits (record { answer = Unmendable; count = 0 }) decisions₀ decisions₀ out₀ out₀ list₀ list₀

@@ -1,7 +1,7 @@
 -- The promises of request P13, as theorems about any call of `mend`. Assumes nothing.
 use mathlib.Core.Path.{_≡_, refl, sym, ap, _∙_, subst}
-use mathlib.Core.Bool.{Bool, true, false, not, cond, _||_}
-use mathlib.Core.Logic.{_⊎_, inl, inr, ⊎-elim}
+use mathlib.Core.Bool.{Bool, false, not, _||_}
+use mathlib.Core.Logic.{⊎-elim}
 use mathlib.Core.List.{List, [], _∷_}
 use Prim.Native.Nat.{ℕ, _*_, _%_, _≤_, _<_}
 use native.Mathlib.Omega.{arith}
@@ -10,9 +10,8 @@ use borrow.Author.Tests.{le-ltb, eq-eqb}
 use lib.Dec.{eqb, ltb}
 use lib.ListN.{length, getD, take}
 use Rattle.refusal.specs.Rows.{firstRow}
-use Rattle.refusal.specs.RowLaws.{both-passed, passed-above}
-use Rattle.refusal.specs.declared.Answer.{Answer}
-use Rattle.refusal.specs.declared.Answer.the-variants.{Accepted, Space, Unmendable}
+use Rattle.refusal.specs.RowLaws.{both-passed, passed-above, fails, last-silent, one-row}
+use Rattle.refusal.specs.declared.Answer.the-variants.{Accepted, Length, Space, Unmendable}
 use Rattle.trellis.specs.Code.{isdb}
 use Rattle.trellis.specs.Encoded.{reached}
 use Rattle.trellis.specs.Stretch.{Bits}
@@ -21,16 +20,11 @@ use Rattle.trellis.specs.LaidLaws.{take-laid}
 use Rattle.mend_distance.specs.Stretches.{mostChanged, sentFrom, unlike, changed, WithinFour}
 use Rattle.mend_distance.specs.StretchLaws.{unique, unlike-self, length-changed, length-sent, bits-sent}
 use Rattle.mend.specs.declared.Mended.{Mended}
-use Rattle.mend.specs.Rows.{mostSteps, places, mostBits, lentRows}
+use Rattle.mend.specs.Rows.{someNoBit, mostSteps, places, mostBits, lentRows, mendRows}
 use Rattle.trellis.specs.Isdb.{frameWords}
 use Rattle.mend.specs.Allowed.{allowed, no-other}
 use Rattle.mend.specs.Listed.{Rising, listed, changed-rising, changed-listed}
 use Rattle.mend.specs.Calls.{Called}
-
--- a row that does not hold decides nothing, and one that holds
-decided : (b : Bool) (a : Answer) → (cond b a Accepted ≡ Accepted) ⊎ (cond b a Accepted ≡ a)
-decided true a = inr refl
-decided false a = inl refl
 
 -- a list without a place
 none-listed : (l : List ℕ) → length l ≡ 0 → l ≡ []
@@ -57,7 +51,7 @@ module _ (s e : ℕ) (bits : List ℕ) (r : Mended) (decisions₀ decisions out�
       ap (λ (k : ℕ). take k out) (sym l) ∙ ap (take (length sent)) (m .out-is) ∙ take-laid sent out₀ ∙ ap (sentFrom (s % 64)) same
 
   -- where rows 5 and 9 do not hold, row 15 decides
-  last-row : firstRow (lentRows bits (length decisions₀) (length out₀) (length list₀)) ≡ Accepted → r .answer ≡ cond (call .far) Unmendable Accepted
+  last-row : firstRow (lentRows bits (length decisions₀) (length out₀) (length list₀)) ≡ Accepted → r .answer ≡ firstRow ((Unmendable, call .far) ∷ [])
   last-row ok = call .answers ∙ passed-above (lentRows bits (length decisions₀) (length out₀) (length list₀)) ((Unmendable, call .far) ∷ []) tt ok
 
   -- "15 if and only if no coded stretch between those states lies within four bits, checked last": where rows 5 and 9 do not hold and there is none, the answer is 15. That there is
@@ -67,7 +61,7 @@ module _ (s e : ℕ) (bits : List ℕ) (r : Mended) (decisions₀ decisions out�
       ⊎-elim
       (λ yes. let m = call .leaves .0 (last-row ok ∙ yes) in absurd (free (m .inputs) (m .within)))
       (λ h. last-row ok ∙ h)
-      (decided (call .far) Unmendable)
+      (one-row Unmendable (call .far))
 
   -- "A good stretch comes back as it went in, with an empty list": such a stretch is refused by 9 alone
   module _ (us : List ℕ) (few : length us ≤ mostSteps) (inputs : Bits us) (ends : reached isdb (s % 64) us ≡ e % 64) (coded : bits ≡ sentFrom (s % 64) us) where
@@ -86,7 +80,7 @@ module _ (s e : ℕ) (bits : List ℕ) (r : Mended) (decisions₀ decisions out�
         record { count = long; inputs = inputs; ends = ends; four = subst (λ (l : List ℕ). unlike l bits ≤ mostChanged) coded (omega arith) }
 
     pub good-answer : r .answer ≡ firstRow ((Space, Short) ∷ [])
-    good-answer = go Short refl (call .far) refl
+    good-answer = shorter ∙ last-silent ((Space, Short) ∷ []) Unmendable (call .far) tt (λ h. call .none (shorter ∙ h) us itself)
       where
         even : length bits % 2 ≡ 0
         even = let n = long in omega arith
@@ -94,13 +88,11 @@ module _ (s e : ℕ) (bits : List ℕ) (r : Mended) (decisions₀ decisions out�
         most : length bits ≤ mostBits
         most = let n = long in omega arith
 
-        below : (x b : Bool) → Short ≡ x → call .far ≡ b → r .answer ≡ cond x Space (cond b Unmendable Accepted)
-        below x b p q = call .answers ∙ rw (eq-eqb (length bits % 2) 0 even, le-ltb mostBits (length bits) most, no-other bits are-bits, p, q) refl
+        no-fault : (not (eqb (length bits % 2) 0) || ltb mostBits (length bits) || someNoBit bits) ≡ false
+        no-fault = rw (eq-eqb (length bits % 2) 0 even, le-ltb mostBits (length bits) most, no-other bits are-bits) refl
 
-        go : (x : Bool) → Short ≡ x → (b : Bool) → call .far ≡ b → r .answer ≡ firstRow ((Space, Short) ∷ [])
-        go true p b q = below true b p q ∙ rw p refl
-        go false p true q = absurd (call .none (below false true p q) us itself)
-        go false p false q = below false false p q ∙ rw p refl
+        shorter : r .answer ≡ firstRow ((Space, Short) ∷ (Unmendable, call .far) ∷ [])
+        shorter = call .answers ∙ fails Length (mendRows bits (length decisions₀) (length out₀) (length list₀) (call .far)) no-fault
 
     pub good-stretch : r .answer ≡ Accepted → (out ≡ laid bits out₀) × (r .count ≡ 0) × (list ≡ list₀)
     good-stretch ok =

@@ -1,7 +1,7 @@
 -- Laws of answers and of the rows of a call. Assumes nothing.
 use mathlib.Core.Path.{_≡_, refl, sym, _∙_, ap}
-use mathlib.Core.Logic.{_⊎_, inl, inr}
-use mathlib.Core.Bool.{Bool, true, false, cond, _||_}
+use mathlib.Core.Logic.{_⊎_, inl, inr, ⊎-elim}
+use mathlib.Core.Bool.{Bool, true, false, true≢false, cond, _||_}
 use mathlib.Core.List.{List, [], _∷_, _++_}
 use Prim.Native.Nat.{ℕ, _<_}
 use native.Mathlib.Omega.{arith}
@@ -12,7 +12,7 @@ use types.Run.{OneOf, miss}
 use Rattle.trellis.specs.Lists.{firstPlace}
 use Rattle.refusal.specs.declared.Answer.{Answer}
 use Rattle.refusal.specs.declared.Answer.the-variants.{Accepted, Table, Position, Traceback, State, Length, Symbols, Sample, Scale, Space, PartUnit, ReservedWord, Window, Code, NoLoad, Unmendable}
-use Rattle.refusal.specs.Rows.{numberOf, accepted, Row, firstRow, Either, Said, says, fromTop}
+use Rattle.refusal.specs.Rows.{numberOf, accepted, Row, firstRow, placed, Either, Said, says, fromTop}
 
 -- ---- answers
 
@@ -111,6 +111,9 @@ pub neither : (a b : Bool) → (a || b) ≡ false → (a ≡ false) × (b ≡ fa
 neither false b e = (refl, e)
 neither true b e = (e, absurd (let z : _≡_ {A = ℕ} 0 1 = cc in omega arith))
 
+pub neither-holds : (a b : Bool) → a ≡ false → b ≡ false → (a || b) ≡ false
+neither-holds a b e f = rw (e, f)
+
 -- ---- rows
 
 -- every row of a list refuses
@@ -161,6 +164,53 @@ condition-false (row ∷ rows) h a = either-false (eqb (numberOf a) (numberOf (r
 pub passed : (rows : List Row) → T (refusing rows) → firstRow rows ≡ Accepted → (a : Answer) → conditionOf a rows ≡ false
 passed rows r e a = condition-false rows (none-holds rows r e) a
 
+-- ---- one row of a list, by its answer
+
+-- so rows of which one holds refuse
+pub holds : (rows : List Row) → T (refusing rows) → (a : Answer) → conditionOf a rows ≡ true → firstRow rows ≡ Accepted → ⊥
+holds rows r a h e = true≢false (sym h ∙ passed rows r e a)
+
+-- the rows without the first that has the answer a
+abbrev pub without : Answer → List Row → List Row
+without a [] = []
+without a (row ∷ rows) = cond (eqb (numberOf a) (numberOf (row .0))) rows (row ∷ without a rows)
+
+-- and with b for its condition
+abbrev pub replaced : Answer → Bool → List Row → List Row
+replaced a b [] = []
+replaced a b (row ∷ rows) = cond (eqb (numberOf a) (numberOf (row .0))) ((row .0, b) ∷ rows) (row ∷ replaced a b rows)
+
+-- a row that does not hold decides nothing
+pub fails : (a : Answer) (rows : List Row) → conditionOf a rows ≡ false → firstRow rows ≡ firstRow (without a rows)
+fails a [] h = refl
+fails a (row ∷ rows) h = step (eqb (numberOf a) (numberOf (row .0))) (fails a rows) h
+  where
+    step : (b : Bool) → (conditionOf a rows ≡ false → firstRow rows ≡ firstRow (without a rows)) → cond b (row .1) (conditionOf a rows) ≡ false
+        → firstRow (row ∷ rows) ≡ firstRow (cond b rows (row ∷ without a rows))
+    step true f k = rw k refl
+    step false f k = rw (f k) refl
+
+-- rows none of which has the answer a
+abbrev pub lacking : Answer → List Row → Bool
+lacking a [] = true
+lacking a (row ∷ rows) = cond (eqb (numberOf a) (numberOf (row .0))) false (lacking a rows)
+
+-- do not answer it
+pub not-answered : (rows : List Row) (a : Answer) → T (lacking a rows) → (a ≡ Accepted → ⊥) → firstRow rows ≡ a → ⊥
+not-answered [] a l n e = n (sym e)
+not-answered (row ∷ rows) a l n e =
+    let s = first-refuses (eqb (numberOf a) (numberOf (row .0))) (lacking a rows) l in
+    step (row .1) (eqb-false (numberOf a) (numberOf (row .0)) (s .0)) (not-answered rows a (s .1) n) e
+  where
+    step : (b : Bool) → (numberOf a ≡ numberOf (row .0) → ⊥) → (firstRow rows ≡ a → ⊥) → cond b (row .0) (firstRow rows) ≡ a → ⊥
+    step true m f k = m (sym (ap numberOf k))
+    step false m f k = f k
+
+-- a list of one row accepts or gives its answer
+pub one-row : (a : Answer) (b : Bool) → (firstRow ((a, b) ∷ []) ≡ Accepted) ⊎ (firstRow ((a, b) ∷ []) ≡ a)
+one-row a true = inr refl
+one-row a false = inl refl
+
 -- ---- rows put behind others
 
 -- each of both lists refuses
@@ -181,9 +231,37 @@ none-above : (above below : List Row) → NoneHolds above → firstRow (above ++
 none-above [] below h = refl
 none-above (row ∷ rows) below h = rw (h .0) (none-above rows below (h .1))
 
+-- a row between them that does not hold changes nothing; those below one that holds change nothing
+pub row-false : (above below : List Row) (a : Answer) → firstRow (above ++ (a, false) ∷ below) ≡ firstRow (above ++ below)
+row-false [] below a = refl
+row-false (row ∷ rows) below a = rw (row-false rows below a)
+
+pub row-true : (above below : List Row) (a : Answer) → firstRow (above ++ (a, true) ∷ below) ≡ firstRow (above ++ (a, true) ∷ [])
+row-true [] below a = refl
+row-true (row ∷ rows) below a = rw (row-true rows below a)
+
+-- nor does one that is put at its place
+pub placed-false : (stands : Row → Bool) (a : Answer) (rows : List Row) → firstRow (placed stands (a, false) rows) ≡ firstRow rows
+placed-false stands a [] = refl
+placed-false stands a (row ∷ rows) = step (stands row) (placed-false stands a rows)
+  where
+    step : (b : Bool) → firstRow (placed stands (a, false) rows) ≡ firstRow rows → firstRow (cond b (row ∷ placed stands (a, false) rows) ((a, false) ∷ row ∷ rows)) ≡ firstRow (row ∷ rows)
+    step true e = rw e
+    step false e = refl
+
 -- where they pass, those below decide
 pub passed-above : (above below : List Row) → T (refusing above) → firstRow above ≡ Accepted → firstRow (above ++ below) ≡ firstRow below
 passed-above above below r e = none-above above below (none-holds above r e)
+
+-- a last row whose answer is not given changes nothing
+pub last-silent : (above : List Row) (a : Answer) (b : Bool) → T (refusing above) → (firstRow (above ++ (a, b) ∷ []) ≡ a → ⊥) → firstRow (above ++ (a, b) ∷ []) ≡ firstRow above
+last-silent above a b r n = by (decided (firstRow above))
+  where
+    by : (firstRow above ≡ Accepted) ⊎ (firstRow above ≡ Accepted → ⊥) → firstRow (above ++ (a, b) ∷ []) ≡ firstRow above
+    by (inl p) =
+        let e = passed-above above ((a, b) ∷ []) r p in
+        ⊎-elim (λ yes. e ∙ yes ∙ sym p) (λ h. absurd (n (e ∙ h))) (one-row a b)
+    by (inr p) = refused-above above ((a, b) ∷ []) p
 
 -- the same of a call that answers as the first ones do, and of one that goes on where they pass
 pub refused-by : (above below : List Row) (a : Answer) → a ≡ firstRow above → (a ≡ Accepted → ⊥) → a ≡ firstRow (above ++ below)
@@ -200,6 +278,10 @@ both-passed (row ∷ rows) below r e =
     let u = unless (row .0) (row .1) (firstRow (rows ++ below)) (s .0) e in
     let p = both-passed rows below (s .1) (u .1) in
     (rw (u .0) (p .0), p .1)
+
+-- so those that end with one that holds refuse
+pub last-refuses : (above : List Row) (a : Answer) → T (refusing above) → (a ≡ Accepted → ⊥) → firstRow (above ++ (a, true) ∷ []) ≡ Accepted → ⊥
+last-refuses above a r n e = n (both-passed above ((a, true) ∷ []) r e .1)
 
 -- ---- the order of the table
 

@@ -46,6 +46,11 @@ abbrev pub firstRow : List Row → Answer
 firstRow [] = Accepted
 firstRow (row ∷ rows) = cond (row .1) (row .0) (firstRow rows)
 
+-- a row put among others, below those of which `stands` says that they stand above it
+abbrev pub placed : (Row → Bool) → Row → List Row → List Row
+placed stands new [] = new ∷ []
+placed stands new (row ∷ rows) = cond (stands row) (row ∷ placed stands new rows) (new ∷ row ∷ rows)
+
 -- one thing where the call is accepted, another where it is refused
 abbrev pub Either : Answer → Type 0 → Type 0 → Type 0
 Either a done kept = (a ≡ Accepted → done) × ((a ≡ Accepted → ⊥) → kept)

@@ -1,12 +1,12 @@
 -- How a push's outcome follows from its answer, and its answer from its rows. Assumes nothing.
-use mathlib.Core.Path.{_≡_, refl, _∙_}
+use mathlib.Core.Path.{_≡_, refl, sym, _∙_}
 use mathlib.Core.Bool.{Bool, false}
 use mathlib.Core.List.{List}
 use Prim.Native.Nat.{ℕ, _<_, _≤_}
 use borrow.Author.Tests.{le-ltb}
 use lib.ListN.{length}
 use Rattle.refusal.specs.Rows.{numberOf, firstRow}
-use Rattle.refusal.specs.RowLaws.{numbered}
+use Rattle.refusal.specs.RowLaws.{numbered, none-accepted}
 use Rattle.refusal.specs.declared.Answer.{Answer}
 use Rattle.refusal.specs.declared.Answer.the-variants.{Accepted}
 use Rattle.strain_window.specs.declared.WindowState.{WindowState}
@@ -22,4 +22,4 @@ turned-back a v clear sum kept r e h row =
 pub carried-out : {v : WindowState} {clear : Bool} {sum : ℕ} {kept₀ kept : List ℕ} {r : Pushed} → badWindow v sum kept₀ ≡ false → v .window ≤ length kept₀
     → r .answer ≡ Accepted → Pushes v clear sum r kept₀ kept → Called v clear sum kept₀ r kept
 carried-out {v} {clear} {sum} {kept₀} {kept} {r} o room e p =
-    record { answers = e ∙ rw (o, le-ltb (length kept₀) (v .window) room) refl; leaves = ((λ g. p), (λ n. absurd (n e))) }
+    record { answers = e ∙ sym (none-accepted (pushRows v sum kept₀) (o, (le-ltb (length kept₀) (v .window) room, tt))); leaves = ((λ g. p), (λ n. absurd (n e))) }

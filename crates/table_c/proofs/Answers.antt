@@ -1,6 +1,6 @@
 -- A call's number from its rows, row by row. Assumes nothing.
 use mathlib.Core.Path.{_≡_, refl, sym, _∙_, ap}
-use mathlib.Core.Bool.{true, cond}
+use mathlib.Core.Bool.{true}
 use mathlib.Core.List.{List, [], _∷_}
 use Prim.Native.Nat.{ℕ, _*_, _/_, _%_, _≤_, _<_}
 use native.Mathlib.Omega.{arith}
@@ -57,12 +57,12 @@ module _ (t : Table) (need space n : ℕ) (e : n ≡ numberOf (tableAnswer t)) w
 -- ---- a bit's symbol
 
 module _ (word bit : ℕ) (m : MaybeCombination) (c : Combination) (r : Position) (em : m ≡ Some c) (er : positionSaid r ≡ bitSymbol c bit) where
-  pub bit-found : (p : ℕ) → r ≡ At p → (0 ≡ numberOf (cond (isNone m) answer.Position (firstRow (bitRows bit)))) × (p ≡ symbolOrZero m bit)
+  pub bit-found : (p : ℕ) → r ≡ At p → (0 ≡ answered ((answer.Position, isNone m) ∷ bitRows bit)) × (p ≡ symbolOrZero m bit)
   bit-found p ep =
       let s = said-some (firstRow (bitRows bit)) (symbolOfBit c bit ∷ []) 0 p [] (sym (ap positionSaid ep) ∙ er) in
       rw em (sym (ap numberOf (s .0)), sym (ap (λ (l : List ℕ). getD l 0 0) (s .2)))
 
-  pub bit-lost : (n : ℕ) (a : Answer) → r ≡ Refused a → n ≡ numberOf a → (n ≡ numberOf (cond (isNone m) answer.Position (firstRow (bitRows bit)))) × (n ≡ 0 → ⊥)
+  pub bit-lost : (n : ℕ) (a : Answer) → r ≡ Refused a → n ≡ numberOf a → (n ≡ answered ((answer.Position, isNone m) ∷ bitRows bit)) × (n ≡ 0 → ⊥)
   bit-lost n a ea en =
       let s = said-none (firstRow (bitRows bit)) (symbolOfBit c bit) [] (numberOf a) (sym (ap positionSaid ea) ∙ er) in
       rw em (en ∙ s .0, λ z. s .1 (zero-accepted (firstRow (bitRows bit)) (sym (en ∙ s .0) ∙ z)))

@@ -2,19 +2,16 @@
 use mathlib.Core.Path.{_≡_}
 use Prim.Native.Nat.{ℕ, _/_}
 use borrow.Author.Needs.{needs}
-use mathlib.Core.Bool.{not}
 use lib.ListN.{length}
 use Rattle.isdb_fec.specs.declared.conv.ViterbiDecoder.{ViterbiDecoder}
-use Rattle.isdb_fec.specs.Rows.{badTraceback}
 use Rattle.trellis.specs.Run.{fourSteps}
 use Rattle.short_code.specs.declared.Code.{Code}
-use Rattle.short_code.specs.Codes.{goodCode}
-use Rattle.short_fec.specs.Rows.{badState, streamRows}
+use Rattle.short_fec.specs.Rows.{handedRows, streamRows}
 use Rattle.short_fec.specs.Calls.{call, handed}
 use Rattle.decoder_c.specs.Decoders.{decoderOf}
 use Rattle.codes_c.specs.Stored.{codeFrom}
-use Rattle.answers_c.specs.LengthLaws.{not-states}
-use Rattle.codes_c.proofs.Laws.{refused-3, unstored, pushed}
+use Rattle.answers_c.specs.LengthLaws.{not-states, until-refuses}
+use Rattle.codes_c.proofs.Laws.{unstored, pushed}
 use Rattle.codes_c.proofs.isdb_code_push_metrics.Statement.{statement}
 use Rattle.codes_c.proofs.isdb_code_push_metrics.Tie as tie
 
@@ -34,7 +31,7 @@ returns c =
     let w : ViterbiDecoder = decoderOf (a .pm .now) (a .held .now) (a .traceback) in
     let n = c .not-states .result in
     let e = rw (c .before .before .before .before .code-from .ensures) at (c .not-states .ensures) in
-    let h = refused-3 (badTraceback w) (not (goodCode k)) (badState k w) n e in
+    let h = until-refuses (handedRows k w) tt n e in
     (not-states (a .pm .now) (streamRows k 4 w (a .metrics .now) (length (a .decisions .now)) (length (a .out .now))) n (c .before .before .before .if1 .taken) e, unstored n (a .traceback) (call k (a .traceback) (fourSteps (a .metrics .now)) (handed k w (a .decisions .now)) (length (a .metrics .now) / 4)) (a .pm .now) (a .held .now) (a .count .now) (a .decisions .now) (a .out .now) h)
 
 decoder-of-requires : tie.Need-decoder-of-requires

@@ -5,9 +5,9 @@ use borrow.Author.Needs.{needs}
 use lib.ListN.{length}
 use Rattle.isdb_fec.specs.declared.conv.ViterbiDecoder.{ViterbiDecoder}
 use Rattle.isdb_fec.specs.Calls.{flush, handed}
-use Rattle.isdb_fec.specs.Rows.{badTraceback, badState, flushRows}
+use Rattle.isdb_fec.specs.Rows.{handedRows, flushRows}
 use Rattle.decoder_c.specs.Decoders.{decoderOf}
-use Rattle.answers_c.specs.LengthLaws.{not-states, refused-2}
+use Rattle.answers_c.specs.LengthLaws.{not-states, until-refuses}
 use Rattle.conv_c.proofs.Decoders.{unflushed, flush-done}
 use Rattle.conv_c.proofs.isdb_flush.Statement.{statement}
 use Rattle.conv_c.proofs.isdb_flush.Tie as tie
@@ -23,7 +23,7 @@ returns c =
     let a = c .before .before .before .before .before .before .before .args in
     let w : ViterbiDecoder = decoderOf (a .pm .now) (a .held .now) (a .traceback) in
     let n = c .not-states .result in
-    let h = refused-2 (badTraceback w) (badState w) n (c .not-states .ensures) in
+    let h = until-refuses (handedRows w) tt n (c .not-states .ensures) in
     (not-states (a .pm .now) (flushRows w (length (a .decisions .now)) (length (a .out .now))) n (c .before .before .before .if1 .taken) (c .not-states .ensures), unflushed (flush (handed w (a .decisions .now)) .bits) n w (a .count .now) (a .decisions .now) (a .out .now) h)
 
 decoder-of-requires : tie.Need-decoder-of-requires

@@ -4,11 +4,11 @@ use Prim.Native.Nat.{ℕ, _/_}
 use borrow.Author.Needs.{needs}
 use lib.ListN.{length}
 use Rattle.isdb_fec.specs.declared.conv.ViterbiDecoder.{ViterbiDecoder}
-use Rattle.isdb_fec.specs.Rows.{badTraceback, badState, pushMetricsRows}
+use Rattle.isdb_fec.specs.Rows.{handedRows, pushMetricsRows}
 use Rattle.isdb_fec.specs.Calls.{call, handed}
 use Rattle.trellis.specs.Run.{fourSteps}
 use Rattle.decoder_c.specs.Decoders.{decoderOf}
-use Rattle.answers_c.specs.LengthLaws.{not-states, refused-2}
+use Rattle.answers_c.specs.LengthLaws.{not-states, until-refuses}
 use Rattle.conv_c.proofs.Decoders.{unstored, pushed}
 use Rattle.conv_c.proofs.isdb_push_metrics.Statement.{statement}
 use Rattle.conv_c.proofs.isdb_push_metrics.Tie as tie
@@ -24,7 +24,7 @@ returns c =
     let a = c .before .before .before .before .before .before .before .before .args in
     let w : ViterbiDecoder = decoderOf (a .pm .now) (a .held .now) (a .traceback) in
     let n = c .not-states .result in
-    let h = refused-2 (badTraceback w) (badState w) n (c .not-states .ensures) in
+    let h = until-refuses (handedRows w) tt n (c .not-states .ensures) in
     (not-states (a .pm .now) (pushMetricsRows w (a .metrics .now) (length (a .decisions .now)) (length (a .out .now))) n (c .before .before .before .if1 .taken) (c .not-states .ensures), unstored n (a .traceback) (call (a .traceback) (fourSteps (a .metrics .now)) (handed w (a .decisions .now)) (length (a .metrics .now) / 4)) (a .pm .now) (a .held .now) (a .count .now) (a .decisions .now) (a .out .now) h)
 
 decoder-of-requires : tie.Need-decoder-of-requires

@@ -1,7 +1,6 @@
 -- `isdbt_decode_punctured` meets its contract. Assumes nothing.
 use mathlib.Core.Path.{_≡_, sym, _∙_, ap}
 use mathlib.Core.List.{List, []}
-use lib.Dec.{ltb}
 use lib.ListN.{length}
 use Rattle.refusal.specs.Rows.{Row}
 use Rattle.trellis.specs.Lists.{laid}
@@ -9,7 +8,7 @@ use Rattle.isdbt_table.specs.declared.CodeRate.{CodeRate}
 use Rattle.isdbt_c.specs.declared.MaybeRate.the-variants.{Rate, NoRate}
 use Rattle.isdbt_c.specs.Rates.{rateBy}
 use Rattle.answers_c.specs.AnswerLaws.{kept, refusing}
-use Rattle.answers_c.specs.LengthLaws.{refused-traceback}
+use Rattle.answers_c.specs.LengthLaws.{until-refuses}
 use Rattle.refusal.specs.RowLaws.{zero-accepted}
 use Rattle.isdbt_c.proofs.Rates.{rate-answer, rate-value}
 use Prim.Native.Nat.{ℕ, _*_, _/_}
@@ -41,7 +40,7 @@ returns c =
     let em : rateBy (a .rate) ≡ NoRate = sym (q .rate-of .ensures) ∙ c .before .enum-told .given .1 in
     let n = c .unknown-with-traceback .result in
     let e = c .unknown-with-traceback .ensures in
-    let h = refused-traceback (ltb 1024 (a .traceback)) n e in
+    let h = until-refuses (freshRows (a .traceback)) tt n e in
     (rw em e, (kept n _ _ h, (kept n _ _ h, kept n _ _ h)))
 
 decode-punctured-requires : tie.Need-decode-punctured-requires

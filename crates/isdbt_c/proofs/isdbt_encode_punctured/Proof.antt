@@ -1,7 +1,6 @@
 -- `isdbt_encode_punctured` meets its contract. Assumes nothing.
 use mathlib.Core.Path.{_≡_, sym, _∙_, ap}
 use mathlib.Core.List.{List, []}
-use lib.Dec.{ltb}
 use lib.ListN.{length}
 use Rattle.refusal.specs.Rows.{Row}
 use Rattle.trellis.specs.Lists.{laid}
@@ -9,7 +8,7 @@ use Rattle.isdbt_table.specs.declared.CodeRate.{CodeRate}
 use Rattle.isdbt_c.specs.declared.MaybeRate.the-variants.{Rate, NoRate}
 use Rattle.isdbt_c.specs.Rates.{rateBy}
 use Rattle.answers_c.specs.AnswerLaws.{kept, refusing}
-use Rattle.answers_c.specs.LengthLaws.{refused-state}
+use Rattle.answers_c.specs.LengthLaws.{until-refuses}
 use Rattle.refusal.specs.RowLaws.{zero-accepted}
 use Rattle.isdbt_c.proofs.Rates.{rate-answer, rate-value}
 use Prim.Native.Nat.{ℕ, _*_, _/_}
@@ -40,7 +39,7 @@ returns c =
     let em : rateBy (a .rate) ≡ NoRate = sym (q .rate-of .ensures) ∙ c .before .before .enum-told .given .1 in
     let n = c .unknown-with-state .result in
     let e = c .unknown-with-state .ensures in
-    let h = refused-state (ltb 63 (a .state .now)) n e in
+    let h = until-refuses (encoderRows (a .state .now)) tt n e in
     (rw em e, (kept n _ _ h, (kept n _ _ h, kept n _ _ h)))
 
 encode-punctured-requires : tie.Need-encode-punctured-requires
