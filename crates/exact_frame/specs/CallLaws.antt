@@ -1,17 +1,18 @@
 -- Demand 3 about the call `decode_frame`: from its contract and the margins alone. Assumes nothing.
 use mathlib.Core.Path.{_≡_, refl, _∙_}
-use mathlib.Core.Bool.{Bool, true, false, cond, not, _||_}
-use mathlib.Core.List.{List, _++_}
+use mathlib.Core.Bool.{Bool, true, false, not, _||_}
+use mathlib.Core.List.{List, [], _∷_, _++_}
 use Prim.Native.Nat.{ℕ, zero, suc, _<_}
 use native.Mathlib.Omega.{arith}
-use lib.Dec.{T}
+use lib.Dec.{T, ltb}
 use lib.ListN.{length, getD, drop, replicate, length-replicate}
 use lib.Seq.{take-at}
 use lib.Ieee.{Float, nan, lt, ofBits}
 use borrow.Author.Tests.{le-ltb}
 use Rattle.refusal.specs.declared.Answer.{Answer}
-use Rattle.refusal.specs.declared.Answer.the-variants.{Accepted, Space}
+use Rattle.refusal.specs.declared.Answer.the-variants.{Scale, Space}
 use Rattle.refusal.specs.Rows.{firstRow, Either}
+use Rattle.refusal.specs.RowLaws.{neither-holds, none-accepted, passed-above, fails}
 use Rattle.isdbs_tables.specs.declared.Table.{Table}
 use Rattle.isdbs_tables.specs.Tables.{TableAccepted}
 use Rattle.isdbs_tables.specs.TableLaws.{then-rows}
@@ -47,16 +48,18 @@ eights-fine = refl
 
 -- within the margins, at the scales 8, only the last row can hold
 last-row : (t : Table) → TableAccepted t → (m : Mapping) (first : Bool) (load : List ℕ) (re im : List Float) → Within re im load t m first → (d b y n : ℕ)
-    → firstRow (decodeRows t re im eights d b y n) ≡ cond (shortSpace t d b y n) Space Accepted
+    → firstRow (decodeRows t re im eights d b y n) ≡ firstRow ((Space, shortSpace t d b y n) ∷ [])
 last-row t fit m first load re im w d b y n =
     then-rows t (pointRows re im ++ lastRows t (someBad eights) d b y n) fit
-    ∙ rw (
-      le-ltb (length re) mainSymbols (w .re-count),
-      le-ltb (length im) mainSymbols (w .im-count),
-      none-beyond re mainSymbols (re-accepted w),
-      none-beyond im mainSymbols (im-accepted w),
-      eights-fine,
-    )
+    ∙ passed-above (pointRows re im) (lastRows t (someBad eights) d b y n) tt (none-accepted (pointRows re im) (long, (inside, tt)))
+    ∙ fails Scale (lastRows t (someBad eights) d b y n) eights-fine
+  where
+    long : (ltb (length re) mainSymbols || ltb (length im) mainSymbols) ≡ false
+    long = neither-holds (ltb (length re) mainSymbols) (ltb (length im) mainSymbols) (le-ltb (length re) mainSymbols (w .re-count)) (le-ltb (length im) mainSymbols (w .im-count))
+
+    inside : (someOfBeyond partLimit re mainSymbols || someOfBeyond partLimit im mainSymbols) ≡ false
+    inside =
+        neither-holds (someOfBeyond partLimit re mainSymbols) (someOfBeyond partLimit im mainSymbols) (none-beyond re mainSymbols (re-accepted w)) (none-beyond im mainSymbols (im-accepted w))
 
 -- THE THEOREM about the call: whatever the lent slices held, the load comes back without strain, or a slice is too short
 module _ (t : Table) (fit : TableAccepted t) (m : Mapping) (first : Bool) (load : List ℕ) (full : FullLoad load (loadBytes t)) (re im : List Float) (w : Within re im load t m first)
@@ -70,7 +73,7 @@ module _ (t : Table) (fit : TableAccepted t) (m : Mapping) (first : Bool) (load 
   read-back answers leaves =
       go (shortSpace t (length decisions₀) (length bits₀) (length bytes₀) (length counts₀)) refl (last-row t fit m first load re im w (length decisions₀) (length bits₀) (length bytes₀) (length counts₀))
     where
-      go : (s : Bool) → shortSpace t (length decisions₀) (length bits₀) (length bytes₀) (length counts₀) ≡ s → a ≡ cond s Space Accepted → ReadsBack t load (length decisions₀) (length bits₀) (length bytes₀) (length counts₀) r bytes counts
+      go : (s : Bool) → shortSpace t (length decisions₀) (length bits₀) (length bytes₀) (length counts₀) ≡ s → a ≡ firstRow ((Space, s) ∷ []) → ReadsBack t load (length decisions₀) (length bits₀) (length bytes₀) (length counts₀) r bytes counts
       go true e h = short (rw h at answers) (rw e tt)
       go false e h =
           let f = leaves .0 h in

@@ -1,18 +1,16 @@
 -- The rows of the encoding calls. Assumes nothing.
-use mathlib.Core.Path.{_≡_, refl, sym, _∙_, ap}
-use mathlib.Core.Logic.{⊎-elim}
-use mathlib.Core.Bool.{Bool, true, false, _||_}
-use mathlib.Core.List.{List, [], _∷_, _++_}
+use mathlib.Core.Path.{_≡_, sym, _∙_}
+use mathlib.Core.Bool.{false}
+use mathlib.Core.List.{List, [], _∷_}
 use Prim.Native.Nat.{ℕ}
-use native.Mathlib.Omega.{arith}
 use lib.Dec.{ltb}
 use Rattle.refusal.specs.declared.Answer.{Answer}
 use Rattle.refusal.specs.declared.Answer.the-variants.{Accepted, State, Space}
 use Rattle.refusal.specs.Rows.{Row, firstRow}
-use Rattle.refusal.specs.RowLaws.{neither, decided, passed}
+use Rattle.refusal.specs.RowLaws.{neither, passed, row-false}
 use Rattle.isdbs_tables.specs.declared.Table.{Table}
-use Rattle.isdbs_tables.specs.Tables.{tableRows, tableAnswer, TableAccepted}
-use Rattle.isdbs_tables.specs.TableLaws.{table-refusing, then-rows, before-rows, then-accepted}
+use Rattle.isdbs_tables.specs.Tables.{tableRows, TableAccepted}
+use Rattle.isdbs_tables.specs.TableLaws.{then-accepted}
 use Rattle.isdbs_phy.specs.EncodeRows.{shortParts, encodeRows, encodeFrameRows}
 
 module _ (t : Table) (s a b : ℕ) where
@@ -29,7 +27,4 @@ module _ (t : Table) (s a b : ℕ) where
 
   -- a state up to 63 leaves the rows of `encode_frame`
   pub fewer-rows : ltb 63 s ≡ false → firstRow (encodeRows t s a b) ≡ firstRow (encodeFrameRows t a b)
-  fewer-rows h =
-      let few : List Row = (Space, shortParts a b) ∷ [] in
-      let e : firstRow rest ≡ firstRow few = rw h in
-      ⊎-elim (λ y. then-rows t rest y ∙ e ∙ sym (then-rows t few y)) (λ n. before-rows t rest n ∙ sym (before-rows t few n)) (decided (tableAnswer t))
+  fewer-rows h = rw h (row-false (tableRows t) ((Space, shortParts a b) ∷ []) State)

@@ -12,8 +12,10 @@ use Rattle.strain.specs.Strain.{strainSum}
 use Rattle.table_c.specs.Forms.{tableOf}
 use Rattle.answers_c.specs.Answers.{answered}
 use Rattle.answers_c.specs.Lengths.{untilLength}
+use Rattle.answers_c.specs.LengthLaws.{until-refuses}
+use Rattle.isdbs_tables.specs.TableLaws.{table-refusing}
 use Rattle.isdb_c.specs.Lengths.{scalesRows}
-use Rattle.isdb_c.specs.LengthLaws.{until-refuses, seven-rows, not-seven}
+use Rattle.isdb_c.specs.LengthLaws.{seven-rows, not-seven}
 use Rattle.isdb_c.specs.Mappings.{mappingOf, isSet}
 use Rattle.answers_c.specs.AnswerLaws.{kept}
 use Rattle.isdb_c.proofs.Frames.{decoded, refused}
@@ -33,7 +35,7 @@ returns c =
     let a = q .before .before .before .before .before .before .before .before .args in
     let n = c .not-scales .result in
     let e : n ≡ answered (untilLength (tableRows (tableOf (a .table)))) = c .not-scales .ensures ∙ rw (q .table-of .ensures) refl in
-    let h = until-refuses (tableOf (a .table)) n e in
+    let h = until-refuses (tableRows (tableOf (a .table))) (table-refusing (tableOf (a .table))) n e in
     let w = e ∙ ap numberOf (sym (not-seven (tableOf (a .table)) (a .re .now) (a .im .now) (a .scales .now) (length (a .decisions .now)) (length (a .bits .now)) (length (a .bytes .now)) (length (a .counts .now)) (c .before .if1 .taken))) in
     (w, (kept n _ _ h, (kept n _ _ h, (kept n _ _ h, (kept n _ _ h, kept n _ _ h)))))
 
