@@ -7,4 +7,4 @@ use lib.ListN.{getD}
 use Rattle.trellis.specs.Isdb
 
 pub record BranchNumbers (t : List (List (List ℕ))) : Type 0 where
-  pub number : (u b j : ℕ) → u < 2 → b < 2 → j < 32 → getD (getD (getD t u []) b []) j 0 ≡ Isdb.labels u (2 * j + b)
+  pub number : (u b j : ℕ) → u < 2 → b < 2 → j < Isdb.half → getD (getD (getD t u []) b []) j 0 ≡ Isdb.labels u (2 * j + b)

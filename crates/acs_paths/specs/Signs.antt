@@ -9,9 +9,9 @@ use Rattle.trellis.specs.Isdb
 
 -- the table of X, and of Y: the branch from the state 2 j + b on the input u
 pub record XSigns (t : List (List (List Float))) : Type 0 where
-  pub sign : (u b j : ℕ) → u < 2 → b < 2 → j < 32
+  pub sign : (u b j : ℕ) → u < 2 → b < 2 → j < Isdb.half
       → lt (getD (getD (getD t u []) b []) j nan) (ofBits binary32 0) ≡ eqb (Isdb.labels u (2 * j + b) / 2) 1
 
 pub record YSigns (t : List (List (List Float))) : Type 0 where
-  pub sign : (u b j : ℕ) → u < 2 → b < 2 → j < 32
+  pub sign : (u b j : ℕ) → u < 2 → b < 2 → j < Isdb.half
       → lt (getD (getD (getD t u []) b []) j nan) (ofBits binary32 0) ≡ eqb (Isdb.labels u (2 * j + b) % 2) 1

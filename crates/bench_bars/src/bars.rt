@@ -7,6 +7,7 @@ use bench_sheet::put;
 use bench_sheet::scale_unit;
 use isdbs_frame::SLOTS;
 ghost use Prim.Native.Nat.{_<_};
+ghost use Rattle.isdbs_combination.specs.Combinations.{frameSlots};
 
 fn wide(n: u32) -> usize {
     n as usize
@@ -43,7 +44,7 @@ fn scale(sheet: &mut Sheet, at: usize, most: usize) -> usize {
 
 // The bar of slot k, its count above it and its number below.
 fn bar(sheet: &mut Sheet, at: usize, k: usize, n: usize, most: usize) -> usize
-    requires { ⌜ k < 48 ⌝ }
+    requires { ⌜ k < frameSlots ⌝ }
 {
     let h = height(n, most);
     fill(
@@ -62,7 +63,7 @@ fn bar_at(
     k: usize,
     most: usize,
 ) -> usize
-    requires { ⌜ k < 48 ⌝ }
+    requires { ⌜ k < frameSlots ⌝ }
 {
     if k >= n {
         return at;

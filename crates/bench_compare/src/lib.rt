@@ -19,10 +19,11 @@ use isdbs_core::tmcc::Table;
 use refusal::Answer;
 ghost use Prim.Native.Nat.{_≤_, _*_};
 ghost use Rattle.isdbs_frame.specs.Frame.{slotBytes};
+ghost use Rattle.isdbs_combination.specs.Combinations.{frameSlots};
 
 // Compares slot by slot, and answers how many bytes agree.
 fn compare_slots(t: Table, v: usize, sent: &[u8], read: &[u8]) -> usize
-    requires { ⌜ v ≤ 48 ⌝ }
+    requires { ⌜ v ≤ frameSlots ⌝ }
     ensures { λ r. ⌜ r ≤ slotBytes * v ⌝ }
 {
     let mut n: usize = 0;

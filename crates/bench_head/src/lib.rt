@@ -10,6 +10,7 @@ use isdbs_core::slots::FrameRuns;
 use isdbs_core::slots::Run;
 use isdbs_core::tmcc::Table;
 ghost use Prim.Native.Nat.{_≤_};
+ghost use Rattle.isdbs_combination.specs.Combinations.{frameSlots};
 
 // The points of a slot of the frame.
 const SLOT_SYMBOLS: usize = MAIN_SYMBOLS / SLOTS;
@@ -95,7 +96,7 @@ fn bar_words(sheet: &mut Sheet, at: usize) -> usize {
 
 // The valid slot after those of a run whose first is `from`; at most the last one's end.
 fn after(from: usize, r: Run) -> usize
-    ensures { λ r. ⌜ r ≤ 48 ⌝ }
+    ensures { λ r. ⌜ r ≤ frameSlots ⌝ }
 {
     let n = r.valid_slots;
     if from > SLOTS {

@@ -7,6 +7,7 @@ use isdbs_core::slots;
 use isdbs_core::slots::Run;
 use isdbs_core::tmcc::Table;
 ghost use Prim.Native.Nat.{_≤_};
+ghost use Rattle.isdbs_combination.specs.Combinations.{frameSlots};
 
 fn wide(n: u32) -> usize {
     n as usize
@@ -28,8 +29,8 @@ fn slot_line(k: usize, r: Run, strained: u32) {
 
 // The line of slot v of a run, which is valid slot k of the frame, if there is such a slot; then the valid slot after it.
 fn slot_in(r: Run, v: usize, k: usize, counts: &[u32; SLOTS]) -> usize
-    requires { ⌜ k ≤ 48 ⌝ }
-    ensures { λ r. ⌜ r ≤ 48 ⌝ }
+    requires { ⌜ k ≤ frameSlots ⌝ }
+    ensures { λ r. ⌜ r ≤ frameSlots ⌝ }
 {
     if v >= r.valid_slots {
         return k;
@@ -43,8 +44,8 @@ fn slot_in(r: Run, v: usize, k: usize, counts: &[u32; SLOTS]) -> usize
 
 // The valid slots of a run, of which the first is valid slot `from` of the frame; then the first of the next run.
 fn run_lines(r: Run, from: usize, counts: &[u32; SLOTS]) -> usize
-    requires { ⌜ from ≤ 48 ⌝ }
-    ensures { λ r. ⌜ r ≤ 48 ⌝ }
+    requires { ⌜ from ≤ frameSlots ⌝ }
+    ensures { λ r. ⌜ r ≤ frameSlots ⌝ }
 {
     let mut k = from;
     for v in 0..SLOTS {

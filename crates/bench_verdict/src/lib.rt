@@ -4,6 +4,7 @@ use bench_words::text::say;
 use bench_words::text::text;
 use isdbs_frame::SLOTS;
 ghost use Prim.Native.Nat.{_≤_};
+ghost use Rattle.isdbs_combination.specs.Combinations.{frameSlots};
 
 // More slots than these are counted and not named.
 const NAMED: usize = 8;
@@ -16,7 +17,7 @@ fn tally(so: bool) -> usize
 
 // How many of the counts are not 0.
 fn counted(counts: &[u32; SLOTS]) -> usize
-    ensures { λ r. ⌜ r ≤ 48 ⌝ }
+    ensures { λ r. ⌜ r ≤ frameSlots ⌝ }
 {
     let mut n: usize = 0;
     for k in 0..SLOTS {

@@ -13,6 +13,7 @@ use Rattle.isdb_fec.specs.declared.conv.ViterbiDecoder.{ViterbiDecoder}
 use Rattle.isdb_fec.specs.declared.conv.Released.{Released}
 use Rattle.isdb_fec.specs.Rows.{freshRows, pushRows, pushMetricsRows, pushKnownRows, flushRows}
 use Rattle.isdb_fec.specs.Calls.{call, steps, handed, Fresh, Leaves, Flushes, FlushesAt}
+use Rattle.trellis.specs.Isdb
 
 -- every value of a lent f32 slice is one of the format's; the borrow checker tells it of each slice
 abbrev pub Floats : List Float → Type 0
@@ -20,8 +21,8 @@ Floats xs = (i : ℕ) → T (fits binary32 (getD xs i nan))
 
 pub data Reached : ViterbiDecoder → Type 0 where
   -- `new` is `with_state` at 0
-  with-state : {v : ViterbiDecoder} (traceback state : ℕ) → Accepted ≡ firstRow (freshRows traceback) → Fresh traceback (startAt 64 state) v → Reached v
-  unknown-state : {v : ViterbiDecoder} (traceback : ℕ) → Accepted ≡ firstRow (freshRows traceback) → Fresh traceback (startUnknown 64) v → Reached v
+  with-state : {v : ViterbiDecoder} (traceback state : ℕ) → Accepted ≡ firstRow (freshRows traceback) → Fresh traceback (startAt Isdb.states state) v → Reached v
+  unknown-state : {v : ViterbiDecoder} (traceback : ℕ) → Accepted ≡ firstRow (freshRows traceback) → Fresh traceback (startUnknown Isdb.states) v → Reached v
   push : {v : ViterbiDecoder} {r : Released} (pairs : List Float) (decisions₀ decisions out₀ out : List ℕ) → Reached v → Floats pairs
       → Accepted ≡ firstRow (pushRows v pairs (length decisions₀) (length out₀))
       → Leaves (v .traceback) (call (v .traceback) (pairSteps pairs) (handed v decisions₀) (length pairs / 2)) r decisions₀ decisions out₀ out

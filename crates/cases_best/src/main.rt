@@ -17,6 +17,7 @@ use cases_paths::scattered;
 use cases_paths::search_all;
 use isdb_fec::conv::G1;
 use isdb_fec::conv::G2;
+use trellis::FRAME_WORDS;
 
 // The inputs 00000000 and 10000000 from state 0 have the greatest sum: both end in state 0, by way of the states 0 and 1.
 const TWO: [u8; 32] = [
@@ -71,7 +72,12 @@ fn inputs_of(inputs: u32) -> [u8; 8] {
 }
 
 // The reading of eight quadruples: its number.
-fn read(metrics: &[u8; 32], start: Start, decisions: &mut [u64; 4224], out: &mut [u8; 8]) -> usize {
+fn read(
+    metrics: &[u8; 32],
+    start: Start,
+    decisions: &mut [u64; FRAME_WORDS],
+    out: &mut [u8; 8],
+) -> usize {
     let xs = floats(metrics);
     let r = best_reading::greatest_sum_reading(&xs, start, decisions, out);
     let answer = r.answer;
@@ -88,7 +94,7 @@ fn line(metrics: &[u8; 32], start: Start, from: u32, to: u32) {
     show(b"greatest $ paths $ first ", &found);
     let first = inputs_of(s.inputs);
     show_eight(&first);
-    let mut decisions = [0u64; 4224];
+    let mut decisions = [0u64; FRAME_WORDS];
     let mut out = [9u8; 8];
     let answer = read(metrics, start, &mut decisions, &mut out);
     show_one(b" answer $ bits ", answer);
@@ -108,7 +114,7 @@ fn agrees(
     n: usize,
     start: Start,
     inputs: u32,
-    decisions: &mut [u64; 4224],
+    decisions: &mut [u64; FRAME_WORDS],
     out: &mut [u8; 8],
 ) -> bool
     requires { ⌜ n ≤ 8 ⌝ }
@@ -131,7 +137,7 @@ fn tried(metrics: &[u8; 32], n: usize, start: Start, from: u32, to: u32) -> Tria
     ensures { λ r. ⌜ r .first ≤ 1 ⌝ }
 {
     let s = search(metrics, n, from, to);
-    let mut decisions = [0u64; 4224];
+    let mut decisions = [0u64; FRAME_WORDS];
     let mut out = [9u8; 8];
     let xs = floats(metrics);
     Trial {

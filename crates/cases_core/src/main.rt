@@ -254,7 +254,7 @@ fn main_places() {
     position(frame::main_symbol_position(202));
     position(frame::main_symbol_position(203));
     position(frame::main_symbol_position(38_975));
-    position(frame::main_symbol_position(38_976));
+    position(frame::main_symbol_position(frame::MAIN_SYMBOLS));
     end_line();
 }
 

@@ -17,6 +17,7 @@ use isdb_fec::conv::Made;
 use isdb_fec::conv::Released;
 use isdb_fec::conv::ViterbiDecoder;
 use isdb_fec::conv::branch_output;
+use trellis::FRAME_WORDS;
 
 const W1: u32 = 0x1b95;
 
@@ -78,8 +79,8 @@ fn count_known(
 
 // How many bits n steps release, of known zeros from the state 0.
 fn released(traceback: usize, n: usize) -> usize {
-    let bits = [0u8; 4224];
-    let mut decisions = [0u64; 4224];
+    let bits = [0u8; FRAME_WORDS];
+    let mut decisions = [0u64; FRAME_WORDS];
     let mut out = [0u8; 4096];
     count_known(traceback, &bits, n, &mut decisions, &mut out)
 }
@@ -94,21 +95,21 @@ fn handed(pm: [f32; 64]) -> ViterbiDecoder {
 
 // The path values after a call on space of its own.
 fn after_pairs(pm: [f32; 64], pairs: &[f32]) -> [f32; 64] {
-    let mut decisions = [0u64; 4224];
+    let mut decisions = [0u64; FRAME_WORDS];
     let mut out = [0u8; 4];
     let r = handed(pm).push(pairs, &mut decisions, &mut out);
     r.dec.pm
 }
 
 fn after_metrics(pm: [f32; 64], metrics: &[f32]) -> [f32; 64] {
-    let mut decisions = [0u64; 4224];
+    let mut decisions = [0u64; FRAME_WORDS];
     let mut out = [0u8; 4];
     let r = handed(pm).push_metrics(metrics, &mut decisions, &mut out);
     r.dec.pm
 }
 
 fn after_known(pm: [f32; 64], bits: &[u8]) -> [f32; 64] {
-    let mut decisions = [0u64; 4224];
+    let mut decisions = [0u64; FRAME_WORDS];
     let mut out = [0u8; 4];
     let r = handed(pm).push_known(bits, &mut decisions, &mut out);
     r.dec.pm
@@ -173,7 +174,7 @@ struct Left {
     second: u8,
 }
 
-fn flushed(pushed: Released, decisions: &mut [u64; 4224], out: &mut [u8; 4]) -> Left {
+fn flushed(pushed: Released, decisions: &mut [u64; FRAME_WORDS], out: &mut [u8; 4]) -> Left {
     let dec = pushed.dec;
     let pm = dec.pm;
     let word = decisions[0];
@@ -188,14 +189,14 @@ fn flushed(pushed: Released, decisions: &mut [u64; 4224], out: &mut [u8; 4]) -> 
 }
 
 fn known_and_flush(dec: ViterbiDecoder, bits: &[u8; 1]) -> Left {
-    let mut decisions = [0u64; 4224];
+    let mut decisions = [0u64; FRAME_WORDS];
     let mut out = [7u8; 4];
     let a = dec.push_known(bits, &mut decisions, &mut out);
     flushed(a, &mut decisions, &mut out)
 }
 
 fn metrics_and_flush(made: Made, metrics: &[f32; 4]) -> Left {
-    let mut decisions = [0u64; 4224];
+    let mut decisions = [0u64; FRAME_WORDS];
     let mut out = [7u8; 4];
     let a = made.dec.push_metrics(metrics, &mut decisions, &mut out);
     flushed(a, &mut decisions, &mut out)
@@ -231,7 +232,7 @@ fn number(r: Released) -> usize {
 }
 
 fn pushed(dec: ViterbiDecoder, pairs: &[f32]) -> usize {
-    let mut decisions = [0u64; 4224];
+    let mut decisions = [0u64; FRAME_WORDS];
     let mut out = [0u8; 4];
     number(dec.push(pairs, &mut decisions, &mut out))
 }
@@ -263,7 +264,7 @@ fn refusals() -> bool {
     let wider = [1048577.0f32, 0.0];
     let limit = 4294967296.0f32;
     let dec = handed([limit; 64]);
-    let a = (pushed_odd(not_a_number(), 0, 0) == 3) & (pushed_odd(0.0, 4224, 128) == 4);
+    let a = (pushed_odd(not_a_number(), 0, 0) == 3) & (pushed_odd(0.0, FRAME_WORDS, 128) == 4);
     let b = (pushed_odd(not_a_number(), 0, 128) == 4) & (pushed_odd(limit, 0, 128) == 5);
     let c = (pushed(dec, &wider) == 7) & (pushed_short(dec, &wide) == 9);
     a & b & c & (pushed(dec, &wide) == 0)
@@ -308,7 +309,7 @@ fn counted(case: usize, held: usize, n: usize)
         held,
         traceback: 128,
     };
-    let mut decisions = [0u64; 4224];
+    let mut decisions = [0u64; FRAME_WORDS];
     let mut out = [0u8; 4];
     let a = push_part(dec, &metrics, 0, n, &mut decisions, &mut out);
     let b = push_part(a.dec, &metrics, n, 512, &mut decisions, &mut out);
@@ -421,7 +422,7 @@ fn flush_sent(
 ) {
     let f = dec.flush(decisions, out);
     let same = alike(bits, 4096, out, 128);
-    let zeros = words_of(decisions, 0, 4224, 0);
+    let zeros = words_of(decisions, 0, FRAME_WORDS, 0);
     let g = f.dec.flush(decisions, out);
     let t = push_part(g.dec, metrics, 16896, 16904, decisions, out);
     let h = t.dec.flush(decisions, out);
@@ -431,7 +432,7 @@ fn flush_sent(
         zeros,
         g.count,
         h.count,
-        alike(bits, 4224, out, 2),
+        alike(bits, FRAME_WORDS, out, 2),
     ];
     show(
         b"flush: # bits, # as sent, # words are 0; again: # bits; two steps more: # bits, # as sent\n",
@@ -458,7 +459,7 @@ fn handed_words() {
         held: 16,
         traceback: 128,
     };
-    let mut decisions = [0u64; 4224];
+    let mut decisions = [0u64; FRAME_WORDS];
     let mut out = [7u8; 16];
     let r = dec.flush(&mut decisions, &mut out);
     let traced = [0u8, 0, 0, 0, 0, 0, 0, 0, 0, 0, 1, 1, 1, 1, 1, 1];
@@ -511,7 +512,7 @@ fn all_tracebacks() {
 fn cases() {
     let found = [
         released(128, 4223),
-        released(128, 4224),
+        released(128, FRAME_WORDS),
         released(1, 4096),
         released(0, 4097),
         one(empty_calls()),

@@ -2,6 +2,7 @@
 ghost use Prim.Native.Nat.{_≤_, _<_};
 use cases_lib::show;
 use cases_lib::text;
+use isdbs_core::frame::LOAD_BYTES;
 use isdbs_core::frame::SLOT_BYTES;
 use isdbs_core::frame::SLOTS;
 use isdbs_core::slots::runs;
@@ -77,7 +78,7 @@ pub fn mapping_of(bits: u64) -> Mapping {
 
 // The bytes of a table's load.
 pub fn load_bytes(table: u64) -> usize
-    ensures { λ r. ⌜ r ≤ 9744 ⌝ }
+    ensures { λ r. ⌜ r ≤ LOAD_BYTES ⌝ }
 {
     let r = runs(table_of(table));
     let valid = r.valid_slots;

@@ -9,6 +9,7 @@ use cases_lib::same_double;
 use cases_lib::show;
 use full_frame::lay;
 use full_frame::take_apart;
+use isdbs_frame::MAIN_SYMBOLS;
 
 // Point p of the frame holds p and -p.
 fn fill(re: &mut [f64; 39946], im: &mut [f64; 39946]) {
@@ -52,7 +53,7 @@ fn header_places(re: &[f64; 192], im: &[f64; 192]) -> [usize; 5] {
     at_places(re, im, [0, 191, 1, 2, 3], [0.0, 191.0, 1.0, 2.0, 3.0])
 }
 
-fn main_places(re: &[f64; 38976], im: &[f64; 38976]) -> [usize; 5] {
+fn main_places(re: &[f64; MAIN_SYMBOLS], im: &[f64; MAIN_SYMBOLS]) -> [usize; 5] {
     at_places(
         re,
         im,
@@ -75,8 +76,8 @@ fn show_apart(
     answer: usize,
     hr: &[f64; 192],
     hi: &[f64; 192],
-    mr: &[f64; 38976],
-    mi: &[f64; 38976],
+    mr: &[f64; MAIN_SYMBOLS],
+    mi: &[f64; MAIN_SYMBOLS],
     br: &[f64; 768],
     bi: &[f64; 768],
 ) {
@@ -146,8 +147,8 @@ fn lay_case(
     case: usize,
     hr: &[f64; 192],
     hi: &[f64; 192],
-    mr: &[f64; 38976],
-    mi: &[f64; 38976],
+    mr: &[f64; MAIN_SYMBOLS],
+    mi: &[f64; MAIN_SYMBOLS],
     br: &[f64; 768],
     bi: &[f64; 768],
     re: &mut [f64; 39946],
@@ -155,7 +156,7 @@ fn lay_case(
 ) -> usize {
     let h = 192 - one(case == 0);
     let g = 192 - one(case == 1);
-    let k = 38976 - one(case == 2);
+    let k = MAIN_SYMBOLS - one(case == 2);
     let q = 768 - one(case == 3);
     let o = 39936 + one(case == 6) * 10 - one((case == 0) | (case == 4));
     lay_parts(hr, hi, mr, mi, br, bi, re, im, h, g, k, q, o)
@@ -170,7 +171,7 @@ fn show_lay(found: [usize; 6]) {
 
 fn refused_lay(
     hs: &[f64; 192],
-    ms: &[f64; 38976],
+    ms: &[f64; MAIN_SYMBOLS],
     bs: &[f64; 768],
     re: &mut [f64; 39946],
     im: &mut [f64; 39946],
@@ -208,8 +209,8 @@ fn take_case(
     im: &[f64; 39946],
     hr: &mut [f64; 192],
     hi: &mut [f64; 192],
-    mr: &mut [f64; 38976],
-    mi: &mut [f64; 38976],
+    mr: &mut [f64; MAIN_SYMBOLS],
+    mi: &mut [f64; MAIN_SYMBOLS],
     br: &mut [f64; 768],
     bi: &mut [f64; 768],
 ) -> usize {
@@ -230,8 +231,8 @@ fn refused_take(
     im: &[f64; 39946],
     hr: &mut [f64; 192],
     hi: &mut [f64; 192],
-    mr: &mut [f64; 38976],
-    mi: &mut [f64; 38976],
+    mr: &mut [f64; MAIN_SYMBOLS],
+    mi: &mut [f64; MAIN_SYMBOLS],
     br: &mut [f64; 768],
     bi: &mut [f64; 768],
 ) {
@@ -250,8 +251,8 @@ fn main() {
     let mut out_im = [5.0f64; 39946];
     let mut hr = [7.0f64; 192];
     let mut hi = [7.0f64; 192];
-    let mut mr = [7.0f64; 38976];
-    let mut mi = [7.0f64; 38976];
+    let mut mr = [7.0f64; MAIN_SYMBOLS];
+    let mut mi = [7.0f64; MAIN_SYMBOLS];
     let mut br = [7.0f64; 768];
     let mut bi = [7.0f64; 768];
     fill(&mut re, &mut im);

@@ -15,6 +15,7 @@ use cases_lib::row;
 use cases_lib::show;
 use cases_lib::step;
 use cases_lib::wide;
+use isdbs_core::frame::LOAD_BYTES;
 use isdbs_core::frame::MAIN_SYMBOLS;
 use isdbs_core::frame::SLOTS;
 use isdbs_phy::demod::encode_frame;
@@ -93,7 +94,7 @@ fn spread(re: &mut [f64; 38980], im: &mut [f64; 38980], seed: u64, noisy: bool) 
 
 // A point of the first run.
 fn place(draw: u64, table: u64) -> usize
-    ensures { λ r. ⌜ r < 38976 ⌝ }
+    ensures { λ r. ⌜ r < MAIN_SYMBOLS ⌝ }
 {
     let slots = table / 256 % 256;
     if slots == 0 {
@@ -173,7 +174,7 @@ fn is_right(told: Told, w: Wanted, counts: &[u32; 50]) -> bool
 
 // Point k with its real (how below 4) or its imaginary part changed, or both negated (8).
 fn change(re: &mut [f64; 38980], im: &mut [f64; 38980], k: usize, how: u64)
-    requires { ⌜ k < 38976 ⌝ }
+    requires { ⌜ k < MAIN_SYMBOLS ⌝ }
 {
     if how < 4 {
         re[k] = changed(re[k], how);
@@ -337,23 +338,23 @@ fn frames(re: &mut [f64; 38980], im: &mut [f64; 38980], load: &[u8; 9750]) -> Ca
 
 // What is lent in each case, of bytes, real parts, imaginary parts and counts, and the number that must come back.
 const LENT: [[usize; 5]; 17] = [
-    [9744, 38976, 38976, 48, 0],
-    [9744, 38976, 38976, 48, 1],
-    [609, 38976, 38976, 48, 10],
-    [0, 38976, 38976, 48, 11],
-    [9743, 38976, 38976, 48, 5],
-    [9745, 38976, 38976, 48, 5],
-    [9744, 38975, 38976, 48, 6],
-    [9744, 38976, 38975, 48, 6],
-    [9744, 38976, 38976, 48, 7],
-    [9744, 38976, 38976, 48, 7],
-    [9744, 38976, 38976, 48, 7],
-    [9744, 38976, 38976, 48, 7],
-    [9744, 38976, 38976, 47, 9],
-    [9743, 38975, 38976, 47, 1],
-    [9743, 38975, 38976, 47, 5],
-    [9744, 38975, 38976, 47, 6],
-    [9744, 38976, 38976, 47, 7],
+    [LOAD_BYTES, MAIN_SYMBOLS, MAIN_SYMBOLS, 48, 0],
+    [LOAD_BYTES, MAIN_SYMBOLS, MAIN_SYMBOLS, 48, 1],
+    [609, MAIN_SYMBOLS, MAIN_SYMBOLS, 48, 10],
+    [0, MAIN_SYMBOLS, MAIN_SYMBOLS, 48, 11],
+    [9743, MAIN_SYMBOLS, MAIN_SYMBOLS, 48, 5],
+    [9745, MAIN_SYMBOLS, MAIN_SYMBOLS, 48, 5],
+    [LOAD_BYTES, 38975, MAIN_SYMBOLS, 48, 6],
+    [LOAD_BYTES, MAIN_SYMBOLS, 38975, 48, 6],
+    [LOAD_BYTES, MAIN_SYMBOLS, MAIN_SYMBOLS, 48, 7],
+    [LOAD_BYTES, MAIN_SYMBOLS, MAIN_SYMBOLS, 48, 7],
+    [LOAD_BYTES, MAIN_SYMBOLS, MAIN_SYMBOLS, 48, 7],
+    [LOAD_BYTES, MAIN_SYMBOLS, MAIN_SYMBOLS, 48, 7],
+    [LOAD_BYTES, MAIN_SYMBOLS, MAIN_SYMBOLS, 47, 9],
+    [9743, 38975, MAIN_SYMBOLS, 47, 1],
+    [9743, 38975, MAIN_SYMBOLS, 47, 5],
+    [LOAD_BYTES, 38975, MAIN_SYMBOLS, 47, 6],
+    [LOAD_BYTES, MAIN_SYMBOLS, MAIN_SYMBOLS, 47, 7],
 ];
 
 // Number j of case i.

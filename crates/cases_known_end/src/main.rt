@@ -7,6 +7,7 @@ use cases_lib::show_bits;
 use cases_lib::small;
 use cases_lib::wide;
 use isdb_fec::conv::ViterbiDecoder;
+use trellis::FRAME_WORDS;
 
 // The coded bits, X of step t at 2t and Y at 2t + 1, in which the inputs 1000000 differ from 0000000, as powers of 2: 0, 1, 2, 4, 5, 6, 7, 11, 12, 13. All
 // of them are 0x38f7.
@@ -91,7 +92,7 @@ fn survey(wanted: u32) {
 
 // The input 1 from state 0 with both bits wrong: what is read from the best state, and from the true end.
 fn one_step() {
-    let mut decisions = [7u64; 4224];
+    let mut decisions = [7u64; FRAME_WORDS];
     let mut out = [9u8; 2];
     let made = ViterbiDecoder::with_state(128, 0);
     let dec = made.dec;

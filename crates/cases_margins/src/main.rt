@@ -20,12 +20,15 @@ use cases_lib::show_one;
 use cases_lib::step;
 use cases_lib::text;
 use isdbs_core::combination::Combination;
+use isdbs_core::frame::FRAME_BITS;
+use isdbs_core::frame::LOAD_BYTES;
 use isdbs_core::frame::MAIN_SYMBOLS;
 use isdbs_core::frame::SLOTS;
 use isdbs_core::slots::Run;
 use isdbs_core::slots::runs;
 use isdbs_phy::demod::FrameDecoded;
 use isdbs_phy::demod::encode_frame;
+use trellis::FRAME_WORDS;
 
 // Table k: those that each program goes through, and the empty table. Frame k has the mapping k % 8.
 fn table(k: usize) -> u64
@@ -140,9 +143,9 @@ fn read(
     table: u64,
     re: &[f64; 38986],
     im: &[f64; 38986],
-    decisions: &mut [u64; 4224],
-    bits: &mut [u8; 68224],
-    bytes: &mut [u8; 9744],
+    decisions: &mut [u64; FRAME_WORDS],
+    bits: &mut [u8; FRAME_BITS],
+    bytes: &mut [u8; LOAD_BYTES],
 ) -> FrameDecoded {
     let t = table_of(table);
     let m = mapping_of(k);
@@ -166,7 +169,7 @@ fn make(
     count: usize,
     re: &mut [f64; 38986],
     im: &mut [f64; 38986],
-    load: &mut [u8; 9744],
+    load: &mut [u8; LOAD_BYTES],
 ) -> usize {
     let seed = step(k ^ 0x9e37_79b9_7f4a_7c15);
     draw(load, count, seed);
@@ -176,7 +179,7 @@ fn make(
 }
 
 // Lends words that are not 0, another one at each place.
-fn soil(decisions: &mut [u64; 4224], seed: u64) {
+fn soil(decisions: &mut [u64; FRAME_WORDS], seed: u64) {
     let mut x = seed;
     for t in 0..4224usize {
         x = step(x);
@@ -185,7 +188,7 @@ fn soil(decisions: &mut [u64; 4224], seed: u64) {
 }
 
 // How many of the first `count` bytes are the same.
-fn same_bytes(load: &[u8; 9744], bytes: &[u8; 9744], count: usize) -> usize {
+fn same_bytes(load: &[u8; LOAD_BYTES], bytes: &[u8; LOAD_BYTES], count: usize) -> usize {
     alike(load, 0, bytes, count)
 }
 
@@ -196,11 +199,11 @@ fn read_back(
     count: usize,
     re: &[f64; 38986],
     im: &[f64; 38986],
-    load: &[u8; 9744],
+    load: &[u8; LOAD_BYTES],
 ) -> usize {
-    let mut decisions = [0u64; 4224];
-    let mut bits = [0u8; 68224];
-    let mut bytes = [0u8; 9744];
+    let mut decisions = [0u64; FRAME_WORDS];
+    let mut bits = [0u8; FRAME_BITS];
+    let mut bytes = [0u8; LOAD_BYTES];
     soil(&mut decisions, k ^ 0x9e37_79b9_7f4a_7c15);
     let r = read(k, table, re, im, &mut decisions, &mut bits, &mut bytes);
     if told(r, count) {
@@ -229,7 +232,7 @@ fn show_frame(k: u64, table: u64, agree: usize, count: usize, free: usize) {
 fn passes(k: u64, table: u64) -> bool {
     let mut re = [100000.0f64; 38986];
     let mut im = [100000.0f64; 38986];
-    let mut load = [0u8; 9744];
+    let mut load = [0u8; LOAD_BYTES];
     let count = load_bytes(table);
     let free = make(k, table, count, &mut re, &mut im, &mut load);
     let agree = read_back(k, table, count, &re, &im, &load);

@@ -8,6 +8,7 @@ use cases_lib::wide;
 use cases_lib::words_of;
 use isdb_fec::conv::ConvEncoder;
 use mend::Mended;
+use trellis::FRAME_WORDS;
 
 // A coded stretch of up to 7 steps: its bits, the first of them at bit 0, and the state that it leads to.
 struct Sent {
@@ -385,16 +386,16 @@ fn rows_on(bits: &mut [u8; 8194], out: &mut [u8; 8194], decisions: &mut [u64; 42
     let places = [8194usize, 8194, 8192, 14, 13, 13, 14, 14, 1, 0];
     let positions = [4usize, 4, 4, 4, 3, 4, 3, 4, 4, 4];
     let words = [
-        4224usize,
-        4224,
-        4224,
-        4224,
+        FRAME_WORDS,
+        FRAME_WORDS,
+        FRAME_WORDS,
+        FRAME_WORDS,
         4223,
-        4224,
-        4224,
+        FRAME_WORDS,
+        FRAME_WORDS,
         4223,
-        4224,
-        4224,
+        FRAME_WORDS,
+        FRAME_WORDS,
     ];
     for k in 0..10usize {
         row_of(

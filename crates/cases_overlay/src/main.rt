@@ -14,6 +14,7 @@ use cases_lib::small;
 use cases_lib::step;
 use cases_lib::text;
 use isdb_fec::conv::ConvEncoder;
+use isdbs_core::frame::LOAD_BYTES;
 use isdbs_core::frame::MAIN_SYMBOLS;
 use isdbs_phy::demod::encode_frame_with_state;
 use isdbt_fec::conv::CodeRate;
@@ -31,10 +32,10 @@ const SECOND: u8 = 63;
 
 // Two loads, their exclusive-or, and their or.
 fn fill(
-    first: &mut [u8; 9744],
-    second: &mut [u8; 9744],
-    sum: &mut [u8; 9744],
-    either: &mut [u8; 9744],
+    first: &mut [u8; LOAD_BYTES],
+    second: &mut [u8; LOAD_BYTES],
+    sum: &mut [u8; LOAD_BYTES],
+    either: &mut [u8; LOAD_BYTES],
 ) {
     let mut x: u64 = 0x9e37_79b9_7f4a_7c15;
     for i in 0..9744usize {
@@ -99,7 +100,7 @@ fn lay(
 
 // The points of a load in a frame of one combination, from a state. The state after it; 255 where the call is refused.
 fn encode(
-    load: &[u8; 9744],
+    load: &[u8; LOAD_BYTES],
     word: u8,
     state: u8,
     re: &mut [f64; MAIN_SYMBOLS],
@@ -115,7 +116,7 @@ fn encode(
 }
 
 // The same with the bits of the points alone.
-fn frame(load: &[u8; 9744], word: u8, state: u8, bits: &mut [u8; MAIN_SYMBOLS]) -> u8 {
+fn frame(load: &[u8; LOAD_BYTES], word: u8, state: u8, bits: &mut [u8; MAIN_SYMBOLS]) -> u8 {
     let mut re = [0.0f64; MAIN_SYMBOLS];
     let mut im = [0.0f64; MAIN_SYMBOLS];
     let last = encode(load, word, state, &mut re, &mut im);
@@ -146,7 +147,7 @@ fn points(a: &[u8; MAIN_SYMBOLS], b: &[u8; MAIN_SYMBOLS], c: &[u8; MAIN_SYMBOLS]
 // A load in the place of the sum, from a state.
 fn third(
     word: u8,
-    load: &[u8; 9744],
+    load: &[u8; LOAD_BYTES],
     state: u8,
     end: u8,
     a: &[u8; MAIN_SYMBOLS],
@@ -162,10 +163,10 @@ fn third(
 
 fn combination(
     word: u8,
-    first: &[u8; 9744],
-    second: &[u8; 9744],
-    sum: &[u8; 9744],
-    either: &[u8; 9744],
+    first: &[u8; LOAD_BYTES],
+    second: &[u8; LOAD_BYTES],
+    sum: &[u8; LOAD_BYTES],
+    either: &[u8; LOAD_BYTES],
 ) {
     let mut a = [0u8; MAIN_SYMBOLS];
     let mut b = [0u8; MAIN_SYMBOLS];
@@ -189,7 +190,12 @@ fn combination(
     );
 }
 
-fn combinations(first: &[u8; 9744], second: &[u8; 9744], sum: &[u8; 9744], either: &[u8; 9744]) {
+fn combinations(
+    first: &[u8; LOAD_BYTES],
+    second: &[u8; LOAD_BYTES],
+    sum: &[u8; LOAD_BYTES],
+    either: &[u8; LOAD_BYTES],
+) {
     for word in 1..8u8 {
         combination(word, first, second, sum, either);
     }
@@ -232,7 +238,13 @@ fn places(a: &[u8; 420], b: &[u8; 420], c: &[u8; 420]) -> usize {
     overlaid(a, b, c)
 }
 
-fn third_sent(row: usize, sum: &[u8; 9744], state: u8, a: &[u8; 420], b: &[u8; 420]) -> SumSent {
+fn third_sent(
+    row: usize,
+    sum: &[u8; LOAD_BYTES],
+    state: u8,
+    a: &[u8; 420],
+    b: &[u8; 420],
+) -> SumSent {
     let mut c = [0u8; 420];
     let z = send(sum, row, state, &mut c);
     SumSent {
@@ -242,7 +254,7 @@ fn third_sent(row: usize, sum: &[u8; 9744], state: u8, a: &[u8; 420], b: &[u8; 4
     }
 }
 
-fn rate(row: usize, first: &[u8; 9744], second: &[u8; 9744], sum: &[u8; 9744]) {
+fn rate(row: usize, first: &[u8; LOAD_BYTES], second: &[u8; LOAD_BYTES], sum: &[u8; LOAD_BYTES]) {
     let mut a = [0u8; 420];
     let mut b = [0u8; 420];
     let end = last(send(first, row, FIRST, &mut a)) ^ last(send(second, row, SECOND, &mut b));
@@ -266,7 +278,7 @@ fn rate(row: usize, first: &[u8; 9744], second: &[u8; 9744], sum: &[u8; 9744]) {
 // ---- 2/3
 
 // The bits of 105 bytes, high bit first.
-fn unpack(load: &[u8; 9744], bits: &mut [u8; 840]) {
+fn unpack(load: &[u8; LOAD_BYTES], bits: &mut [u8; 840]) {
     for j in 0..840usize {
         bits[j] = (load[j / 8] >> (7 - j % 8)) % 2;
     }
@@ -288,7 +300,7 @@ fn send_bits(bits: &[u8; 840], sent: &mut [u8; 1260]) -> usize {
 }
 
 // 210 periods of ISDB-S QPSK 2/3, which are 420 of ISDB-T 2/3.
-fn two_thirds(load: &[u8; 9744]) {
+fn two_thirds(load: &[u8; LOAD_BYTES]) {
     let mut points = [0u8; MAIN_SYMBOLS];
     let mut bits = [0u8; 840];
     let mut sent = [9u8; 1260];
@@ -402,10 +414,10 @@ fn rows() {
 }
 
 fn main() {
-    let mut first = [0u8; 9744];
-    let mut second = [0u8; 9744];
-    let mut sum = [0u8; 9744];
-    let mut either = [0u8; 9744];
+    let mut first = [0u8; LOAD_BYTES];
+    let mut second = [0u8; LOAD_BYTES];
+    let mut sum = [0u8; LOAD_BYTES];
+    let mut either = [0u8; LOAD_BYTES];
     fill(&mut first, &mut second, &mut sum, &mut either);
     combinations(&first, &second, &sum, &either);
     for row in 0..5usize {

@@ -20,6 +20,7 @@ use isdb_fec::conv::Released;
 use isdb_fec::conv::ViterbiDecoder;
 use short_best::Start;
 use short_fec::Code;
+use trellis::FRAME_WORDS;
 
 fn code_of(constraint: u8, g1: u8, g2: u8) -> Code {
     Code { constraint, g1, g2 }
@@ -168,8 +169,8 @@ fn code_holds(k: usize) -> bool {
         11 => fresh_answer(code_of(2, 3, 2)) == 12,
         12 => fresh_answer(code_of(255, 255, 255)) == 12,
         13 => handed_answer(code_of(8, 128, 128), 0, 0) == 3,
-        14 => handed_answer(code_of(8, 128, 128), 4224, 128) == 12,
-        _ => handed_answer(code_of(7, 64, 64), 4224, 128) == 4,
+        14 => handed_answer(code_of(8, 128, 128), FRAME_WORDS, 128) == 12,
+        _ => handed_answer(code_of(7, 64, 64), FRAME_WORDS, 128) == 4,
     }
 }
 
@@ -191,7 +192,7 @@ fn read_once(
     xs: &[f32; 32],
     start: Start,
     inputs: u32,
-    decisions: &mut [u64; 4224],
+    decisions: &mut [u64; FRAME_WORDS],
 ) -> bool {
     let mut out = [9u8; 8];
     let r = short_best::greatest_sum_reading(code, xs, start, decisions, &mut out);
@@ -212,7 +213,7 @@ fn read_by_calls(
     xs: &[f32; 32],
     start: Start,
     inputs: u32,
-    decisions: &mut [u64; 4224],
+    decisions: &mut [u64; FRAME_WORDS],
 ) -> bool {
     let mut out = [9u8; 8];
     let made = fresh(code, start);
@@ -235,7 +236,7 @@ fn tried(code: Code, half: u32, metrics: &[u8; 32], start: Start, from: u32, to:
     ensures { λ r. ⌜ r .first ≤ 1 ⌝ }
 {
     let s = search_all(code.g1, code.g2, half, metrics, 8, from, to);
-    let mut decisions = [0u64; 4224];
+    let mut decisions = [0u64; FRAME_WORDS];
     let xs = floats(metrics);
     let once = read_once(code, &xs, start, s.inputs, &mut decisions);
     let calls = read_by_calls(code, &xs, start, s.inputs, &mut decisions);

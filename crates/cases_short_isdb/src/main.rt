@@ -13,6 +13,7 @@ use isdb_fec::conv::Made;
 use isdb_fec::conv::Released;
 use isdb_fec::conv::ViterbiDecoder;
 use short_fec::Code;
+use trellis::FRAME_WORDS;
 
 fn seven() -> Code {
     short_same::isdb_code()
@@ -153,7 +154,7 @@ fn expected(k: usize) -> usize {
 // Its decoder: that of the call before it; the last three are refused for traceback, words held and space.
 fn handed(k: usize, dec: ViterbiDecoder) -> ViterbiDecoder {
     let pm = dec.pm;
-    let held = if k == 9 { 4224 } else { 0 };
+    let held = if k == 9 { FRAME_WORDS } else { 0 };
     let traceback = match k {
         8 => 1025,
         9 => 128,

@@ -9,12 +9,15 @@ use cases_lib::show;
 use cases_lib::show_line;
 use cases_lib::show_one;
 use cases_lib::wide;
+use isdbs_core::frame::FRAME_BITS;
+use isdbs_core::frame::LOAD_BYTES;
 use isdbs_core::frame::MAIN_SYMBOLS;
 use isdbs_core::frame::SLOTS;
 use isdbs_phy::demod::DemodOptions;
 use isdbs_phy::demod::FrameDecoded;
 use isdbs_phy::demod::decode_frame;
 use isdbs_phy::demod::encode_frame;
+use trellis::FRAME_WORDS;
 
 // The tables: QPSK 1/2 in four slots, QPSK 5/6 in six, TC8PSK in two; TC8PSK and BPSK in all. Entry i has its word at bit 16 i and its slots at bit 16 i + 8; the other entries are not in use.
 const HALF: u64 = 0x000f_000f_000f_0402;
@@ -29,7 +32,7 @@ const ALL: u64 = 0x000f_000f_0401_2c07;
 const MAPPING: u64 = 4;
 
 // The load: 3, 10, 17 and so on, modulo 256.
-fn fill(load: &mut [u8; 9744]) {
+fn fill(load: &mut [u8; LOAD_BYTES]) {
     let mut b: u8 = 3;
     for i in 0..9744usize {
         load[i] = b;
@@ -78,9 +81,9 @@ fn decode(
     known_start: bool,
     re: &[f64; MAIN_SYMBOLS],
     im: &[f64; MAIN_SYMBOLS],
-    decisions: &mut [u64; 4224],
-    bits: &mut [u8; 68224],
-    bytes: &mut [u8; 9744],
+    decisions: &mut [u64; FRAME_WORDS],
+    bits: &mut [u8; FRAME_BITS],
+    bytes: &mut [u8; LOAD_BYTES],
     counts: &mut [u32],
 ) -> FrameDecoded {
     let o = DemodOptions {
@@ -112,9 +115,9 @@ fn read(
 )
     requires { ⌜ n ≤ 48 ⌝ }
 {
-    let mut decisions = [0u64; 4224];
-    let mut bits = [0u8; 68224];
-    let mut bytes = [0u8; 9744];
+    let mut decisions = [0u64; FRAME_WORDS];
+    let mut bits = [0u8; FRAME_BITS];
+    let mut bytes = [0u8; LOAD_BYTES];
     let mut counts = [7u32; SLOTS];
     let r = decode(
         table,
@@ -136,7 +139,7 @@ fn read(
 }
 
 fn encode(
-    load: &[u8; 9744],
+    load: &[u8; LOAD_BYTES],
     table: u64,
     first: bool,
     re: &mut [f64; MAIN_SYMBOLS],
@@ -147,20 +150,20 @@ fn encode(
 
 // The clean frame of the load.
 fn make(table: u64, first: bool, re: &mut [f64; MAIN_SYMBOLS], im: &mut [f64; MAIN_SYMBOLS]) {
-    let mut load = [0u8; 9744];
+    let mut load = [0u8; LOAD_BYTES];
     fill(&mut load);
     encode(&load, table, first, re, im);
 }
 
 fn negate(parts: &mut [f64; MAIN_SYMBOLS], k: usize)
-    requires { ⌜ k < 38976 ⌝ }
+    requires { ⌜ k < MAIN_SYMBOLS ⌝ }
 {
     parts[k] = -parts[k];
 }
 
 // Turns point k by 90 degrees.
 fn quarter(re: &mut [f64; MAIN_SYMBOLS], im: &mut [f64; MAIN_SYMBOLS], k: usize)
-    requires { ⌜ k < 38976 ⌝ }
+    requires { ⌜ k < MAIN_SYMBOLS ⌝ }
 {
     let x = re[k];
     re[k] = -im[k];

@@ -20,6 +20,7 @@ use cases_lib::same_double;
 use cases_lib::show;
 use cases_lib::show_one;
 use cases_lib::step;
+use isdbs_core::frame::LOAD_BYTES;
 use isdbs_core::frame::MAIN_SYMBOLS;
 use isdbs_phy::demod::encode_frame;
 use wanted_load::LoadFound;
@@ -78,15 +79,15 @@ fn ask(way: u64, table: u64, re: &[f64], im: &[f64], bytes: &mut [u8]) -> Told {
 }
 
 // Whether the first `count` bytes are the load and the others 165.
-fn is_laid(load: &[u8; 9744], bytes: &[u8; 9750], count: usize) -> bool
-    requires { ⌜ count ≤ 9744 ⌝ }
+fn is_laid(load: &[u8; LOAD_BYTES], bytes: &[u8; 9750], count: usize) -> bool
+    requires { ⌜ count ≤ LOAD_BYTES ⌝ }
 {
     (alike(load, 0, bytes, count) == count) & (bytes_of(bytes, count, 9750, 165) == 9750 - count)
 }
 
 // A symbol of the frame.
 fn place(x: u64) -> usize
-    ensures { λ r. ⌜ r < 38976 ⌝ }
+    ensures { λ r. ⌜ r < MAIN_SYMBOLS ⌝ }
 {
     (x % MAIN_SYMBOLS as u64) as usize
 }
@@ -112,7 +113,7 @@ fn changed(x: f64, how: u64) -> f64 {
 
 // Changes one part, the real one where `real` is true.
 fn change(re: &mut [f64; 38986], im: &mut [f64; 38986], real: bool, k: usize, how: u64)
-    requires { ⌜ k < 38976 ⌝ }
+    requires { ⌜ k < MAIN_SYMBOLS ⌝ }
 {
     if real {
         re[k] = changed(re[k], how);
@@ -171,9 +172,9 @@ fn judge(
     count: usize,
     re: &[f64; 38986],
     im: &[f64; 38986],
-    load: &[u8; 9744],
+    load: &[u8; LOAD_BYTES],
 ) -> Verdict
-    requires { ⌜ count ≤ 9744 ⌝ }
+    requires { ⌜ count ≤ LOAD_BYTES ⌝ }
 {
     let mut bytes = [165u8; 9750];
     let told = ask(way, table, re, im, &mut bytes);
@@ -230,9 +231,9 @@ fn one_change(
     how: u64,
     re: &mut [f64; 38986],
     im: &mut [f64; 38986],
-    load: &[u8; 9744],
+    load: &[u8; LOAD_BYTES],
 ) -> Verdict
-    requires { ⌜ count ≤ 9744 ⌝ }
+    requires { ⌜ count ≤ LOAD_BYTES ⌝ }
 {
     if encode(way, table, load, count, re, im) != 0 {
         return Verdict::Wrong;
@@ -249,9 +250,9 @@ fn comes_back(
     count: usize,
     re: &mut [f64; 38986],
     im: &mut [f64; 38986],
-    load: &[u8; 9744],
+    load: &[u8; LOAD_BYTES],
 ) -> bool
-    requires { ⌜ count ≤ 9744 ⌝ }
+    requires { ⌜ count ≤ LOAD_BYTES ⌝ }
 {
     let made = encode(way, table, load, count, re, im);
     let mut bytes = [165u8; 9750];
@@ -276,7 +277,7 @@ fn and_back(f: Found, back: bool) -> Found {
 fn one_way(f: Found, way: u64, table: u64) -> Found {
     let mut re = [nan(); 38986];
     let mut im = [nan(); 38986];
-    let mut load = [0u8; 9744];
+    let mut load = [0u8; LOAD_BYTES];
     let count = load_bytes(table);
     draw(&mut load, count, step(table ^ (way << 40) ^ 0x7f4a_7c15));
     let mut g = and_back(f, comes_back(way, table, count, &mut re, &mut im, &load));
@@ -342,7 +343,7 @@ fn answer(way: u64, table: u64, re: &[f64], im: &[f64], points: usize, room: usi
 fn refused_rows(re: &mut [f64; 38986], im: &[f64; 38986]) -> [usize; 6] {
     re[0] = nan();
     let tables = [0x3106u64, 0x0108_2f06, 0x0108_2806, 0x3006, 0x3006, 0x3006];
-    let points = [38975usize, 38975, 38975, 38975, 38976, 38976];
+    let points = [38975usize, 38975, 38975, 38975, MAIN_SYMBOLS, MAIN_SYMBOLS];
     let rooms = [8525usize, 8525, 8525, 8525, 8525, 8526];
     let mut found = [99usize; 6];
     for k in 0..6usize {
@@ -354,15 +355,15 @@ fn refused_rows(re: &mut [f64; 38986], im: &[f64; 38986]) -> [usize; 6] {
 
 // The answer to a frame without a valid slot.
 fn answer_without_slot(way: u64, re: &[f64; 38986], im: &[f64; 38986]) -> usize {
-    answer(way, 0x300f, re, im, 38976, 0)
+    answer(way, 0x300f, re, im, MAIN_SYMBOLS, 0)
 }
 
 // The rows; then frames without a valid slot, the last encoded with conjugation.
 fn rows() -> bool {
     let mut re = [nan(); 38986];
     let mut im = [nan(); 38986];
-    let mut load = [0u8; 9744];
-    draw(&mut load, 9744, 1);
+    let mut load = [0u8; LOAD_BYTES];
+    draw(&mut load, LOAD_BYTES, 1);
     let made = encode(4, 0x3006, &load, 8526, &mut re, &mut im);
     let r = refused_rows(&mut re, &im);
     let empty = encode(0, 0x300f, &load, 0, &mut re, &mut im);

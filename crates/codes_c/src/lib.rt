@@ -6,19 +6,19 @@ use isdb_fec::conv::ConvEncoder;
 use isdb_fec::conv::PATH_LIMIT;
 use isdb_fec::conv::TRACEBACK_LIMIT;
 use isdb_fec::conv::some_beyond;
-use short_code::good;
+use short_code::bad;
 use short_code::half;
 use short_fec::Code;
 use trellis::BLOCK;
 use trellis::STATES;
 ghost use mathlib.Core.Path.{_≡_};
 ghost use mathlib.Core.Bool.{not};
-ghost use Prim.Native.Nat.{ℕ, _/_};
+ghost use Prim.Native.Nat.{_/_};
 ghost use lib.ListN.{length, take};
 ghost use Rattle.trellis.specs.Lists.{laid};
 ghost use Rattle.trellis.specs.Encoded.{codedBits, lastState};
 ghost use Rattle.trellis.specs.Run.{pairSteps, fourSteps, knownSteps};
-ghost use Rattle.short_code.specs.Codes.{codeOf, goodCode};
+ghost use Rattle.short_code.specs.Codes.{codeOf};
 ghost use Rattle.short_fec.specs.Calls.{steps, call, handed, bestOf, endOf};
 ghost use Rattle.short_fec.specs.Rows.{encodeRows, handedRows, streamRows, knownRows, flushRows};
 ghost use Rattle.isdb_fec.specs.Values.{someBeyond, pathLimit};
@@ -35,13 +35,6 @@ fn code_from(constraint: u8, g1: u8, g2: u8) -> Code
     ensures { λ r. ⌜ r ≡ codeFrom constraint g1 g2 ⌝ }
 {
     Code { constraint, g1, g2 }
-}
-
-// Row 12.
-fn bad(code: Code) -> bool
-    ensures { λ r. ⌜ r ≡ not (goodCode code) ⌝ }
-{
-    if good(code) { false } else { true }
 }
 
 // Whether one of the first n path values is no number or beyond 2^32.

@@ -10,7 +10,7 @@ use Rattle.refusal.specs.declared.Answer.the-variants.{Symbols, Sample, Scale, 
 use Rattle.isdb_fec.specs.Values.{within}
 use Rattle.isdbs_tables.specs.declared.Table.{Table}
 use Rattle.isdbs_tables.specs.Tables.{tableRows}
-use Rattle.isdbs_frame.specs.Frame.{mainSymbols}
+use Rattle.isdbs_frame.specs.Frame.{mainSymbols, syncBits}
 use Rattle.isdbs_runs.specs.RunsOf.{validTotal, frameSteps, loadBytes}
 use Rattle.trellis.specs.Isdb.{frameWords}
 
@@ -41,7 +41,7 @@ someBad scales = someOf badScale scales 7
 -- 9: "a lent output or decision slice shorter than this call writes; decisions always need 4,096 + traceback".
 -- "A count slice shorter than the valid slots falls under 9" (document 02, P10)
 abbrev pub shortSpace : Table → ℕ → ℕ → ℕ → ℕ → Bool
-shortSpace t decisions bits bytes counts = ltb decisions frameWords || (ltb bits (frameSteps t + 16) || (ltb bytes (loadBytes t) || ltb counts (validTotal t)))
+shortSpace t decisions bits bytes counts = ltb decisions frameWords || (ltb bits (frameSteps t + syncBits) || (ltb bytes (loadBytes t) || ltb counts (validTotal t)))
 
 -- the rows of the points, then those below them, over row 8's test and the lengths of the lent outputs
 abbrev pub pointRows : List Float → List Float → List Row

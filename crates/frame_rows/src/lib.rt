@@ -1,5 +1,6 @@
 // The answers of the frame calls by their rows, in the order of the table.
 use isdbs_core::frame::MAIN_SYMBOLS;
+use isdbs_core::frame::SYNC_BITS;
 use isdbs_core::slots::Plan;
 use isdbs_core::tmcc::Table;
 use isdbs_core::tmcc::table_answer;
@@ -83,7 +84,7 @@ fn space_answer(p: Plan, decisions: usize, bits: usize, bytes: usize, counts: us
     if decisions < FRAME_WORDS {
         return Answer::Space;
     }
-    if bits < p.steps + 16 {
+    if bits < p.steps + SYNC_BITS {
         return Answer::Space;
     }
     if bytes < p.bytes {

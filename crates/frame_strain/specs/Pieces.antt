@@ -9,6 +9,7 @@ use Rattle.strain.specs.Counts.{summed}
 use Rattle.strain.specs.Slots.{bySlot}
 use Rattle.strain.specs.Marks.{marked}
 use Rattle.frame_strain.specs.declared.RunCount.{RunCount}
+use Rattle.trellis.specs.Isdb
 
 -- the strained steps of slot v of a run whose slots have w steps
 abbrev pub runStrain : ℕ → List ℕ → ℕ → List ℕ → ℕ → ℕ
@@ -16,8 +17,8 @@ runStrain w ms s us v = summed (λ i. marked ms s us (w * v + i)) w
 
 -- n slots of a run are counted
 pub record RunCounted (w : ℕ) (ms us : List ℕ) (s n : ℕ) (r : RunCount) (counts₀ counts : List ℕ) : Type 0 where
-  pub small : r .state < 64
-  pub state-is : r .state ≡ stateAt 32 s us (w * n)
+  pub small : r .state < Isdb.states
+  pub state-is : r .state ≡ stateAt Isdb.half s us (w * n)
   pub sum-is : r .sum ≡ summed (runStrain w ms s us) n
   pub counts-are : counts ≡ laid (upto (runStrain w ms s us) n) counts₀
 

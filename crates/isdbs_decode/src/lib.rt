@@ -1,6 +1,7 @@
 // The core of frame decoding: points to decoded bits. No row is checked here.
 use frame_end::read_end;
 use frame_read::read_runs;
+use isdbs_core::frame::SYNC_BITS;
 use isdbs_core::slots::Plan;
 use isdbs_pack::write_bytes;
 use isdbs_points::Mapping;
@@ -15,7 +16,7 @@ ghost use lib.ListN.{length, replicate};
 ghost use lib.Ieee.{binary32, ofBits};
 ghost use Rattle.trellis.specs.Lists.{upto, laid};
 ghost use Rattle.trellis.specs.Run.{startAt, startUnknown};
-ghost use Rattle.isdbs_frame.specs.Frame.{mainSymbols};
+ghost use Rattle.isdbs_frame.specs.Frame.{mainSymbols, syncBits};
 ghost use Rattle.isdbs_runs.specs.RunsOf.{frameSteps, loadBytes, Planned};
 ghost use Rattle.trellis.specs.Isdb.{frameWords};
 ghost use Rattle.strain.specs.Marks.{frameMark};
@@ -58,7 +59,7 @@ fn decode_bits(
     bits: &mut [u8],
     marks: &mut [u8],
 )
-    requires { ⌜ Planned p × (mainSymbols ≤ length (now re)) × (mainSymbols ≤ length (now im)) × (frameWords ≤ length (now decisions)) × (frameSteps (p .table) + 16 ≤ length (now bits)) × (frameSteps (p .table) ≤ length (now marks)) ⌝ }
+    requires { ⌜ Planned p × (mainSymbols ≤ length (now re)) × (mainSymbols ≤ length (now im)) × (frameWords ≤ length (now decisions)) × (frameSteps (p .table) + syncBits ≤ length (now bits)) × (frameSteps (p .table) ≤ length (now marks)) ⌝ }
     ensures read { λ _. ⌜ (now (bits .exit) ≡ laid (bitsFrom (p .table) (receivedBy (now (re .entry)) (now (im .entry)) m scales) start) (now (bits .entry))) × (now (decisions .exit) ≡ laid (replicate frameWords 0) (now (decisions .entry))) ⌝ }
     ensures marked { λ _. ⌜ now (marks .exit) ≡ laid (upto (frameMark (p .table) (receivedBy (now (re .entry)) (now (im .entry)) m scales)) (frameSteps (p .table))) (now (marks .entry)) ⌝ }
 {
@@ -90,7 +91,7 @@ pub fn decode(
     bytes: &mut [u8],
     marks: &mut [u8],
 )
-    requires { ⌜ Planned p × (mainSymbols ≤ length (now re)) × (mainSymbols ≤ length (now im)) × (frameWords ≤ length (now decisions)) × (frameSteps (p .table) + 16 ≤ length (now bits)) × (loadBytes (p .table) ≤ length (now bytes)) × (frameSteps (p .table) ≤ length (now marks)) ⌝ }
+    requires { ⌜ Planned p × (mainSymbols ≤ length (now re)) × (mainSymbols ≤ length (now im)) × (frameWords ≤ length (now decisions)) × (frameSteps (p .table) + syncBits ≤ length (now bits)) × (loadBytes (p .table) ≤ length (now bytes)) × (frameSteps (p .table) ≤ length (now marks)) ⌝ }
     ensures read { λ _. ⌜ FrameRead (p .table) (receivedBy (now (re .entry)) (now (im .entry)) (o .mapping) (o .scales)) (o .«known_start») first (now (decisions .entry)) (now (decisions .exit)) (now (bits .entry)) (now (bits .exit)) (now (bytes .entry)) (now (bytes .exit)) ⌝ }
     ensures marked { λ _. ⌜ now (marks .exit) ≡ laid (upto (frameMark (p .table) (receivedBy (now (re .entry)) (now (im .entry)) (o .mapping) (o .scales))) (frameSteps (p .table))) (now (marks .entry)) ⌝ }
 {
@@ -99,6 +100,6 @@ pub fn decode(
     let start = start_values(o.known_start, state);
     let scales = o.scales;
     decode_bits(p, m, scales, start, re, im, decisions, bits, marks);
-    let end = p.steps + 16;
+    let end = p.steps + SYNC_BITS;
     write_bytes(p, m, state, re, im, &bits[0..end], bytes);
 }

@@ -19,6 +19,7 @@ use Rattle.isdbs_points.specs.Frame.{inputIn, labelAt, pointIn}
 use Rattle.isdbs_points.specs.Pieces.{mapped}
 use Rattle.isdbs_points.specs.PlaceLaws.{Fill, before}
 use Rattle.isdbs_points.specs.SizeLaws.{Whole}
+use Rattle.trellis.specs.Isdb
 
 -- ---- the frame as a list of runs makes it: with the runs of a table it is the table's
 abbrev pub symbolsOf : List Run → ℕ
@@ -41,6 +42,6 @@ pub record Tiled (rs : List Run) : Type 0 where
 -- what encoding the runs leaves
 pub record RunsMade (rs : List Run) (m : Mapping) (load : List ℕ) (s : ℕ) (r : RunsEncoded) (re₀ re im₀ im : List Float) : Type 0 where
   pub end-is : r .end ≡ symbolsOf rs
-  pub state-is : r .state ≡ stateAt 32 s (inputsOf rs load) (stepsIn rs)
+  pub state-is : r .state ≡ stateAt Isdb.half s (inputsOf rs load) (stepsIn rs)
   pub re-is : re ≡ laid (upto (λ k. pointOf rs m load s k .re) (symbolsOf rs)) re₀
   pub im-is : im ≡ laid (upto (λ k. pointOf rs m load s k .im) (symbolsOf rs)) im₀

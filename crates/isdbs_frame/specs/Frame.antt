@@ -48,6 +48,10 @@ w2 = 0xa340
 abbrev pub w3 : ℕ
 w3 = 0x5cbf
 
+-- the bits of a sync word
+abbrev pub syncBits : ℕ
+syncBits = 16
+
 -- a symbol of the frame: one of the header, main-signal symbol k, or symbol j of burst b
 pub data Symbol : Type 0 where
   header : ℕ → Symbol

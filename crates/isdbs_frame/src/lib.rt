@@ -6,6 +6,7 @@
 //       192 x ( 203 main-signal symbols | 4 burst symbols )
 use isdbs_combination::FRAME_SLOTS;
 use refusal::Answer;
+use trellis::LONGEST_FRAME;
 ghost use mathlib.Core.Path.{_≡_};
 ghost use Prim.Native.Nat.{_<_};
 ghost use Rattle.isdbs_frame.specs.Answers.{positionSaid};
@@ -17,6 +18,8 @@ pub const SLOTS: usize = FRAME_SLOTS;
 pub const FRAMES: usize = 8;
 // Bytes per slot on air, B (item 3: the MPEG sync byte is not sent).
 pub const SLOT_BYTES: usize = 203;
+// Bytes of the longest load: every slot of a frame valid.
+pub const LOAD_BYTES: usize = SLOTS * SLOT_BYTES;
 // Bytes per slot with the sync byte, a codeword of RS(204,188).
 pub const PACKET_BYTES: usize = 204;
 // Main-signal symbols per frame, I_D (item 4).
@@ -46,6 +49,12 @@ pub const W1: u16 = 0x1B95;
 pub const W2: u16 = 0xA340;
 
 pub const W3: u16 = 0x5CBF;
+
+// The bits of a sync word (annexed table 45: two bytes).
+pub const SYNC_BITS: usize = 16;
+
+// The decoded bits of the longest frame: one for each step, then those of W1, which end every frame.
+pub const FRAME_BITS: usize = LONGEST_FRAME + SYNC_BITS;
 
 // The last 20 bits of W1, W2, W3 after the inner code (annexed table 45, note 1): the first six bits of a word flush the encoder, so these do not depend on its state (section 6.3).
 pub const W1_CODED_TAIL: u32 = 0xECD28;

@@ -22,7 +22,7 @@ use Rattle.isdbs_points.specs.Points.{point, zero64, psk8Of, subset, conjugated
 use Rattle.isdbs_points.specs.Layout.{Segment, orderOf, stepsPerPeriod, atStep, atBit, byteOf, wordBit}
 use Rattle.isdbs_points.specs.Frame.{labelAt, startState}
 use Rattle.trellis.specs.Isdb
-use Rattle.isdbs_frame.specs.Frame.{w1}
+use Rattle.isdbs_frame.specs.Frame.{w1, syncBits}
 
 -- a received frame as it is lent, its mapping, and the scale for each combination
 pub record Received : Type 0 where
@@ -109,7 +109,7 @@ unfoldable pub decodedBits : Table → Received → Bool → Bool → List ℕ
 decodedBits t r knownStart first =
     let d0 = freshFrom (startValues knownStart first) in
     let d1 = call frameTraceback (λ k. four (metricsAt t r k)) d0 (frameSteps t) in
-    let d2 = steps frameTraceback knownBits d1 16 in
+    let d2 = steps frameTraceback knownBits d1 syncBits in
     flush d2 .bits
 
 -- ---- bytes

@@ -94,6 +94,3 @@ bpsk-bytes c re im m s us n e = plain-bytes c re im m s us n (λ i. bpsk-bit c r
 pub qpsk-bytes : (c : Combination) (re im : List Float) (m : Mapping) (s : ℕ) (us : List ℕ) (n : ℕ) → modulationOf c ≡ Qpsk
     → upto (λ j. byteOf (λ i. getD us (8 * j + i) 0)) n ≡ upto (λ j. byteOf (λ i. pieceBit c re im m s us (8 * j + i))) n
 qpsk-bytes c re im m s us n e = plain-bytes c re im m s us n (λ i. qpsk-bit c re im m s us i e)
-
-never : {A : Type 0} → _≡_ {A = ℕ} 0 1 → A
-never h = absurd (omega arith)

@@ -37,7 +37,7 @@ pieceIm c m load bit n s = upto (λ j. piecePoint c m load bit n s j .im) (piece
 
 -- what encoding n steps of a run leaves: the state r, and the points over the beginning of the lent parts
 pub record PieceEncoded (c : Combination) (m : Mapping) (load : List ℕ) (bit n s r : ℕ) (re₀ re im₀ im : List Float) : Type 0 where
-  pub small : r < 64
+  pub small : r < Isdb.states
   pub state-is : r ≡ pieceState c load bit n s
   pub re-is : re ≡ laid (pieceRe c m load bit n s) re₀
   pub im-is : im ≡ laid (pieceIm c m load bit n s) im₀
@@ -58,7 +58,7 @@ psk8Label m l = mapped m (psk8Of (4 * (l / 4) + subset (m .«tc8psk_c1_is_y») (
 -- ---- the TC8PSK points by register
 -- the register of step k, encoding the inputs us from the state s: the state with its stages in the other order, then the input
 abbrev pub registerAt : ℕ → List ℕ → ℕ → ℕ
-registerAt s us k = 2 * backward (stateAt 32 s us k) + getD us k 0
+registerAt s us k = 2 * backward (stateAt Isdb.half s us k) + getD us k 0
 
 -- 4 C2 + 2 X + Y of 128 C2 + a register
 abbrev pub registerLabel : ℕ → ℕ
@@ -76,8 +76,8 @@ byteRegister byte s i = 128 * byteBit byte (2 * i) + registerAt s (byteInputs by
 
 -- what encoding a byte leaves: the state r, and its four points from the tables over the beginning of the lent parts. Both states have their stages in the other order
 pub record ByteEncoded (byte s r : ℕ) (xs ys re₀ re im₀ im : List Float) : Type 0 where
-  pub small : r < 64
-  pub state-is : backward r ≡ stateAt 32 (backward s) (byteInputs byte) 4
+  pub small : r < Isdb.states
+  pub state-is : backward r ≡ stateAt Isdb.half (backward s) (byteInputs byte) 4
   pub re-is : re ≡ laid (upto (λ i. getD xs (byteRegister byte (backward s) i) nan) 4) re₀
   pub im-is : im ≡ laid (upto (λ i. getD ys (byteRegister byte (backward s) i) nan) 4) im₀
 
@@ -105,8 +105,8 @@ IsOutput n i = (i % 16 < n) × (i < 32)
 
 -- a period of n steps: its outputs, and the state after it. Both states have their stages in the other order
 pub record PeriodEncoded (load : List ℕ) (bit n s : ℕ) (r : Period) : Type 0 where
-  pub small : r .state < 64
-  pub state-is : backward (r .state) ≡ stateAt 32 (backward s) (plainInputs load bit n) n
+  pub small : r .state < Isdb.states
+  pub state-is : backward (r .state) ≡ stateAt Isdb.half (backward s) (plainInputs load bit n) n
   pub bits-are : (i : ℕ) → IsOutput n i → wordBit (r .word) i ≡ outputBit (labelAt (backward s) (plainInputs load bit n)) n 0 i
 
 -- a pattern in the code's form: its steps, and its mother bits in pairs

@@ -10,7 +10,7 @@ use Rattle.trellis.specs.Code.{stateAt}
 use Rattle.isdbs_combination.specs.declared.Modulation.{Modulation}
 use Rattle.isdbs_combination.specs.declared.Modulation.the-variants.{Bpsk, Qpsk, Tc8psk}
 use Rattle.isdbs_tables.specs.declared.Table.{Table}
-use Rattle.isdbs_frame.specs.Frame.{mainSymbols, w2, w3}
+use Rattle.isdbs_frame.specs.Frame.{mainSymbols, w2, w3, syncBits}
 use Rattle.isdbs_combination.specs.Combinations.{modulationOf}
 use Rattle.isdbs_runs.specs.RunsOf.{frameSteps}
 use Rattle.isdbs_points.specs.declared.Cplx.{Cplx}
@@ -77,7 +77,7 @@ endState t load s = stateAt Isdb.half s (inputs t load) (frameSteps t)
 
 -- "The start state is `state_after(W2)` when `first`, else `state_after(W3)`": the state that a 16-bit word leaves
 unfoldable pub stateAfter : ℕ → ℕ
-stateAfter w = stateAt Isdb.half 0 (upto (wordBit w) 16) 16
+stateAfter w = stateAt Isdb.half 0 (upto (wordBit w) syncBits) syncBits
 
 abbrev pub startState : Bool → ℕ
 startState first = cond first (stateAfter w2) (stateAfter w3)

@@ -14,6 +14,7 @@ use Rattle.isdbs_points.specs.declared.Mapping.{Mapping}
 use Rattle.isdbs_points.specs.Points.{point, conjugated}
 use Rattle.isdbs_points.specs.Layout.{Segment, orderOf, stepsPerPeriod}
 use Rattle.isdbs_points.specs.Frame.{inputIn, labelAt}
+use Rattle.trellis.specs.Isdb
 
 -- a run whose first symbol and step are 0, and whose first bit of the load is `bit`
 abbrev pub piece : Combination → ℕ → Segment
@@ -29,7 +30,7 @@ pieceLabel c load bit n s = labelAt s (pieceInputs c load bit n)
 
 -- the state after them, from the state s
 abbrev pub pieceState : Combination → List ℕ → ℕ → ℕ → ℕ → ℕ
-pieceState c load bit n s = stateAt 32 s (pieceInputs c load bit n) n
+pieceState c load bit n s = stateAt Isdb.half s (pieceInputs c load bit n) n
 
 -- the symbols of n steps
 abbrev pub symbolsBy : Modulation → Combination → ℕ → ℕ

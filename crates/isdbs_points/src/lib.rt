@@ -1,5 +1,6 @@
 // Signal points by their bits (MIC Ordinance No. 87 of 2011, annexed table 46; ITU-R BO.1408-1, Fig. 15), how a mapping lays them, and the state that a
 // frame starts from. After demod.rs of isdbs-phy.
+use isdbs_core::frame::SYNC_BITS;
 use isdbs_core::frame::W2;
 use isdbs_core::frame::W3;
 use viterbi::encode_bit;
@@ -136,7 +137,7 @@ pub fn state_after(word: u16) -> u8
     ensures { λ r. ⌜ r ≡ stateAfter word ⌝ }
 {
     let mut state: u8 = 0;
-    for i in 0..16 {
+    for i in 0..SYNC_BITS {
         let c = encode_bit(state, word_bit(word, i));
         state = c.state;
     }

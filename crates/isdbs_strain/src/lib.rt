@@ -1,5 +1,6 @@
 // The strain of a frame: each step is marked as it is read, and the marks are counted by the final decoded bits. No row is checked here.
 use frame_strain::count_strain;
+use isdbs_core::frame::SYNC_BITS;
 use isdbs_core::slots::Plan;
 use isdbs_decode::DemodOptions;
 use isdbs_decode::decode;
@@ -7,7 +8,7 @@ use isdbs_points::start_state;
 use trellis::LONGEST_FRAME;
 ghost use Prim.Native.Nat.{_+_, _≤_};
 ghost use lib.ListN.{length};
-ghost use Rattle.isdbs_frame.specs.Frame.{mainSymbols};
+ghost use Rattle.isdbs_frame.specs.Frame.{mainSymbols, syncBits};
 ghost use Rattle.isdbs_runs.specs.RunsOf.{validTotal, frameSteps, loadBytes, Planned};
 ghost use Rattle.trellis.specs.Isdb.{frameWords};
 ghost use Rattle.frame_read.specs.Scales.{receivedBy};
@@ -28,12 +29,12 @@ fn decode_marked(
     counts: &mut [u32],
     marks: &mut [u8; LONGEST_FRAME],
 ) -> u32
-    requires { ⌜ Planned p × (mainSymbols ≤ length (now re)) × (mainSymbols ≤ length (now im)) × (frameWords ≤ length (now decisions)) × (frameSteps (p .table) + 16 ≤ length (now bits)) × (loadBytes (p .table) ≤ length (now bytes)) × (validTotal (p .table) ≤ length (now counts)) ⌝ }
+    requires { ⌜ Planned p × (mainSymbols ≤ length (now re)) × (mainSymbols ≤ length (now im)) × (frameWords ≤ length (now decisions)) × (frameSteps (p .table) + syncBits ≤ length (now bits)) × (loadBytes (p .table) ≤ length (now bytes)) × (validTotal (p .table) ≤ length (now counts)) ⌝ }
     ensures read { λ _. ⌜ FrameRead (p .table) (receivedBy (now (re .entry)) (now (im .entry)) (o .mapping) (o .scales)) (o .«known_start») first (now (decisions .entry)) (now (decisions .exit)) (now (bits .entry)) (now (bits .exit)) (now (bytes .entry)) (now (bytes .exit)) ⌝ }
     ensures counted { λ r. ⌜ FrameCounted (p .table) (receivedBy (now (re .entry)) (now (im .entry)) (o .mapping) (o .scales)) (o .«known_start») first (now (marks .exit)) (now (counts .entry)) (now (counts .exit)) r ⌝ }
 {
     decode(p, first, o, re, im, decisions, bits, bytes, marks);
-    let end = p.steps + 16;
+    let end = p.steps + SYNC_BITS;
     let state = start_state(first);
     count_strain(p, state as usize, marks, &bits[0..end], counts)
 }
@@ -50,7 +51,7 @@ pub fn decode_strained(
     bytes: &mut [u8],
     counts: &mut [u32],
 ) -> u32
-    requires { ⌜ Planned p × (mainSymbols ≤ length (now re)) × (mainSymbols ≤ length (now im)) × (frameWords ≤ length (now decisions)) × (frameSteps (p .table) + 16 ≤ length (now bits)) × (loadBytes (p .table) ≤ length (now bytes)) × (validTotal (p .table) ≤ length (now counts)) ⌝ }
+    requires { ⌜ Planned p × (mainSymbols ≤ length (now re)) × (mainSymbols ≤ length (now im)) × (frameWords ≤ length (now decisions)) × (frameSteps (p .table) + syncBits ≤ length (now bits)) × (loadBytes (p .table) ≤ length (now bytes)) × (validTotal (p .table) ≤ length (now counts)) ⌝ }
     ensures read { λ _. ⌜ FrameRead (p .table) (receivedBy (now (re .entry)) (now (im .entry)) (o .mapping) (o .scales)) (o .«known_start») first (now (decisions .entry)) (now (decisions .exit)) (now (bits .entry)) (now (bits .exit)) (now (bytes .entry)) (now (bytes .exit)) ⌝ }
     ensures strain { λ r. ⌜ StrainLaid (p .table) (receivedBy (now (re .entry)) (now (im .entry)) (o .mapping) (o .scales)) (o .«known_start») first (now (counts .entry)) (now (counts .exit)) r ⌝ }
 {

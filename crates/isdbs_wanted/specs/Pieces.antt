@@ -16,6 +16,7 @@ use Rattle.isdbs_points.specs.declared.Mapping.{Mapping}
 use Rattle.isdbs_points.specs.Layout.{Segment, byteOf}
 use Rattle.isdbs_metrics.specs.Steps.{Reaches}
 use Rattle.wanted.specs.ReadOff.{shown, psk8Label, inputFrom, readBit}
+use Rattle.trellis.specs.Isdb
 
 -- a run that starts at a symbol of the frame
 abbrev pub runAt : Combination → ℕ → Segment
@@ -55,9 +56,9 @@ module _ (m : Mapping) (z : ℕ → Cplx) where
   bitFrom Tc8psk s g i = cond (eqb (i % 2) 0) (psk8Label (z (g .symbol + i / 2)) / 4) (inputFrom m z s g (i / 2))
 
   unfoldable pub stateFrom : Modulation → ℕ → Segment → ℕ → ℕ
-  stateFrom Bpsk s g i = moved 32 (inputFrom m z s g i) s
-  stateFrom Qpsk s g i = moved 32 (inputFrom m z s g i) s
-  stateFrom Tc8psk s g i = cond (eqb (i % 2) 0) s (moved 32 (inputFrom m z s g (i / 2)) s)
+  stateFrom Bpsk s g i = moved Isdb.half (inputFrom m z s g i) s
+  stateFrom Qpsk s g i = moved Isdb.half (inputFrom m z s g i) s
+  stateFrom Tc8psk s g i = cond (eqb (i % 2) 0) s (moved Isdb.half (inputFrom m z s g (i / 2)) s)
 
   module _ (g : Segment) where
     abbrev pub nextBit : ℕ → ℕ → ℕ

@@ -11,7 +11,7 @@ use lib.Ieee.Fits.{mul-fits}
 use lib.Ieee.Scale.{finite}
 use Rattle.ieee.specs.Nearest.{near-mono}
 use Rattle.ieee.specs.Value.{hi, lo, Num}
-use Rattle.ieee.specs.Order.{le→value, value→le, num-between}
+use Rattle.ieee.specs.Order.{le→value, value→le, num-between, finite-between}
 use Rattle.ieee.specs.Rounding.{prec-pos, Fine, rounds-mono}
 use Rattle.ieee.specs.Sums.{add-rounds, add-fine}
 use Rattle.ieee.specs.Constants.{mul-neg}

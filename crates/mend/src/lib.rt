@@ -5,9 +5,9 @@ ghost use lib.ListN.{length};
 ghost use Rattle.refusal.specs.Rows.{firstRow};
 ghost use Rattle.trellis.specs.Lists.{upto, laid};
 ghost use Rattle.trellis.specs.Stretch.{Bits};
-ghost use Rattle.mend_distance.specs.Stretches.{unlike, changed};
+ghost use Rattle.mend_distance.specs.Stretches.{unlike, changed, mostChanged};
 ghost use Rattle.mend_distance.specs.Distances.{least, wordAt};
-ghost use Rattle.mend.specs.Rows.{someNoBit, lentRows};
+ghost use Rattle.mend.specs.Rows.{someNoBit, lentRows, mostBits, places};
 ghost use Rattle.mend.specs.Tail.{Writes};
 ghost use Rattle.mend.specs.Calls.{Mends, Called};
 ghost use Rattle.mend.specs.Allowed.{Allowed};
@@ -82,7 +82,7 @@ fn kept_predecessor(s: u8, w: u64) -> u8
 // Writes the coded stretch within four bits, traced back from `end` by the decision words, to the front of `out`. The words stay in `decisions`.
 fn write_stretch(bits: &[u8], start: u8, end: u8, decisions: &mut [u64], out: &mut [u8])
     requires { ⌜ Bits (now bits) × (length (now bits) % 2 ≡ 0) × (length (now bits) / 2 ≤ length (now decisions)) × (length (now bits) ≤ length (now out))
-        × (least (start % Isdb.states) (end % Isdb.states) (now bits) ≤ 4) ⌝ }
+        × (least (start % Isdb.states) (end % Isdb.states) (now bits) ≤ mostChanged) ⌝ }
     ensures words { λ _. ⌜ now (decisions .exit) ≡ laid (upto (wordAt (start % Isdb.states) (now (bits .entry))) (length (now (bits .entry)) / 2)) (now (decisions .entry)) ⌝ }
     ensures writes { λ _. ⌜ Writes (start % Isdb.states) (end % Isdb.states) (now (bits .entry)) (now (out .entry)) (now (out .exit)) ⌝ }
 {
@@ -101,7 +101,7 @@ fn write_stretch(bits: &[u8], start: u8, end: u8, decisions: &mut [u64], out: &m
 
 // The positions in which `mended` differs from `bits`, at the front of `list`. How many.
 fn list_changes(mended: &[u8], bits: &[u8], list: &mut [u32]) -> usize
-    requires { ⌜ (length (now mended) ≡ length (now bits)) × (length (now bits) ≤ 8192) × (unlike (now mended) (now bits) ≤ 4) × (4 ≤ length (now list)) ⌝ }
+    requires { ⌜ (length (now mended) ≡ length (now bits)) × (length (now bits) ≤ mostBits) × (unlike (now mended) (now bits) ≤ mostChanged) × (places ≤ length (now list)) ⌝ }
     ensures { λ r. ⌜ (r ≡ length (changed 0 (now (mended .entry)) (now (bits .entry)))) × (now (list .exit) ≡ laid (changed 0 (now (mended .entry)) (now (bits .entry))) (now (list .entry))) ⌝ }
 {
     let mut count: usize = 0;
@@ -123,7 +123,7 @@ fn mend_near(
     out: &mut [u8],
     list: &mut [u32],
 ) -> Mended
-    requires { ⌜ Allowed (now bits) (length (now decisions)) (length (now out)) (length (now list)) × (least (start % Isdb.states) (end % Isdb.states) (now bits) ≤ 4) ⌝ }
+    requires { ⌜ Allowed (now bits) (length (now decisions)) (length (now out)) (length (now list)) × (least (start % Isdb.states) (end % Isdb.states) (now bits) ≤ mostChanged) ⌝ }
     ensures { λ r. ⌜ (r .answer ≡ Answer.Accepted) × Mends start end (now (bits .entry)) r (now (decisions .entry)) (now (decisions .exit)) (now (out .entry)) (now (out .exit)) (now (list .entry)) (now (list .exit)) ⌝ }
 {
     let n = bits.len();

@@ -15,6 +15,7 @@ use Rattle.trellis.specs.Run.{startAt, startUnknown}
 use Rattle.path_ranges.specs.Bounds.{U, Above, above-more, Within, wider}
 use Rattle.path_ranges.specs.Steps.{zero-within}
 use Rattle.path_ranges.specs.Invariant.{Limits, depth, depth-least, Bounded}
+use Rattle.lead.specs.Window.{far-num}
 
 -- the bounds hold where no value is above 0 or below -512 B, and one is 0
 pub level : {c B : ℕ} (pm : List Float) → length pm ≡ 64 → ((s : ℕ) → s < 64 → Within (getD pm s nan) B 0) → (b : ℕ) → b < 64 → Above (getD pm b nan) 0 → Bounded c B 0 0 pm

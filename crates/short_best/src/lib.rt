@@ -1,13 +1,13 @@
 // The reading of metrics by a code of constraint length 3 to 7: the steps of a fresh decoder's call and a flush. What comes out are the inputs of the first
 // path of greatest sum.
 ghost use mathlib.Core.Path.{_≡_};
-ghost use mathlib.Core.Bool.{cond, not, _||_};
-ghost use Prim.Native.Nat.{ℕ, _+_, _*_, _<_, _≤_, _/_};
+ghost use mathlib.Core.Bool.{_||_};
+ghost use Prim.Native.Nat.{_+_, _*_, _<_, _≤_, _/_};
 ghost use lib.Dec.{ltb};
 ghost use lib.ListN.{length};
 ghost use Rattle.refusal.specs.Rows.{firstRow, Either};
 ghost use Rattle.trellis.specs.Run.{startUnknown};
-ghost use Rattle.short_code.specs.Codes.{goodCode, Fits};
+ghost use Rattle.short_code.specs.Codes.{Fits};
 ghost use Rattle.best_path.specs.Fresh.{startValues};
 ghost use Rattle.short_best.specs.Readings.{readingRows, Finished, Refused, GreatestSum};
 ghost use Rattle.trellis.specs.Isdb.{frameWords};
@@ -16,7 +16,7 @@ use isdb_fec::conv::STREAM_LIMIT;
 use isdb_fec::conv::some_beyond;
 use refusal::Answer;
 pub use short_code::Code;
-use short_code::good;
+use short_code::bad;
 use short_code::half;
 use short_step::best_state;
 use short_step::renormalise;
@@ -33,13 +33,6 @@ ghost use Rattle.trellis.specs.Isdb;
 pub struct Done {
     pub answer: Answer,
     pub count: usize,
-}
-
-// Row 12.
-fn bad(code: Code) -> bool
-    ensures { λ r. ⌜ r ≡ not (goodCode code) ⌝ }
-{
-    if good(code) { false } else { true }
 }
 
 // Whether the lent memory is too short for n bits.

@@ -16,6 +16,7 @@ use Rattle.short_code.specs.declared.Code.{Code}
 use Rattle.short_code.specs.Codes.{codeOf, labels, goodLength, goodGenerator, goodCode, Fits}
 use Rattle.short_code.specs.CodeLaws.{states-are}
 use Rattle.short_code.specs.RegisterLaws.{output-parity}
+use Rattle.trellis.specs.RunLaws.{output-bit}
 
 -- half of the states by a shift
 pub half-fits : (c : Code) (h : ℕ) → 3 ≤ c .constraint → c .constraint ≤ 7 → h ≡ (1 * 2 ^ (c .constraint - 2)) % 2 ^ 64 → (1 ≤ h) × (h ≤ 32) × Fits c h

@@ -1,6 +1,6 @@
 // The codes of constraint length 3 to 7 with two generators (document 02, P7): the test of a code, and one input of its encoder.
 ghost use mathlib.Core.Path.{_≡_};
-ghost use mathlib.Core.Bool.{_&&_};
+ghost use mathlib.Core.Bool.{not, _&&_};
 ghost use Prim.Native.Nat.{_*_, _<_, _≤_, _%_};
 ghost use lib.Dec.{leb, ltb};
 ghost use Rattle.trellis.specs.Code.{output, moved};
@@ -49,6 +49,13 @@ pub fn good(code: Code) -> bool
     } else {
         false
     }
+}
+
+// Row 12.
+pub fn bad(code: Code) -> bool
+    ensures { λ r. ⌜ r ≡ not (goodCode code) ⌝ }
+{
+    if good(code) { false } else { true }
 }
 
 // 2X + Y of the branch from the state s on the input u.

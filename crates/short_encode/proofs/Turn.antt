@@ -12,7 +12,7 @@ use lib.Seq.{take-all}
 use Rattle.trellis.specs.Lists.{laid}
 use Rattle.trellis.specs.Code.{output, moved, stateAt}
 use Rattle.trellis.specs.Encoded.{lowBits, codedBits, lastState}
-use Rattle.trellis.specs.EncodedLaws.{reached-is}
+use Rattle.trellis.specs.EncodedLaws.{reached-is, low-at}
 use Rattle.trellis.specs.LaidLaws.{laid-next}
 use Rattle.short_code.specs.declared.Code.{Code}
 use Rattle.short_code.specs.Codes.{codeOf, halfOf}

@@ -8,7 +8,7 @@ use lib.ListN.{length, getD, length-map}
 use Rattle.trellis.specs.Code as trellis
 use Rattle.trellis.specs.Code.{output, stateAt}
 use Rattle.trellis.specs.Encoded.{encoded, lowBits, bitsOf, codedBits}
-use Rattle.trellis.specs.EncodedLaws.{length-encoded, encoded-at, length-bits}
+use Rattle.trellis.specs.EncodedLaws.{length-encoded, encoded-at, length-bits, low-at}
 use Rattle.short_code.specs.declared.Code.{Code}
 use Rattle.short_code.specs.Codes.{codeOf, halfOf}
 

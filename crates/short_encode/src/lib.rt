@@ -1,19 +1,18 @@
 // The list encoder of a code of constraint length 3 to 7 with two generators: X then Y of each input bit, one in a byte.
 ghost use mathlib.Core.Path.{_≡_};
-ghost use mathlib.Core.Bool.{not};
 ghost use Prim.Native.Nat.{ℕ, _*_, _<_, _≤_};
 ghost use lib.Dec.{ltb};
 ghost use lib.ListN.{length};
 ghost use Rattle.refusal.specs.Rows.{firstRow, Either};
 ghost use Rattle.trellis.specs.Lists.{laid};
 ghost use Rattle.trellis.specs.Encoded.{codedBits, lastState};
-ghost use Rattle.short_code.specs.Codes.{codeOf, goodCode, Fits};
+ghost use Rattle.short_code.specs.Codes.{codeOf, Fits};
 ghost use Rattle.short_fec.specs.Rows.{encodeRows};
 use isdb_fec::conv::ConvEncoder;
 use refusal::Answer;
 pub use short_code::Code;
 use short_code::encode_bit;
-use short_code::good;
+use short_code::bad;
 use short_code::half;
 ghost use Rattle.trellis.specs.Isdb;
 
@@ -21,13 +20,6 @@ ghost use Rattle.trellis.specs.Isdb;
 pub struct Encoded {
     pub answer: Answer,
     pub enc: ConvEncoder,
-}
-
-// Row 12.
-fn bad(code: Code) -> bool
-    ensures { λ r. ⌜ r ≡ not (goodCode code) ⌝ }
-{
-    if good(code) { false } else { true }
 }
 
 // Whether `space` places are too few for X and Y of n inputs. Twice n may be past any number of the machine.

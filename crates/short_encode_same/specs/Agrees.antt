@@ -16,7 +16,7 @@ use Rattle.trellis.specs.Lists.{upto, laid}
 use Rattle.trellis.specs.ListLaws.{length-upto, getD-upto}
 use Rattle.trellis.specs.Code.{isdb, output, stateAt}
 use Rattle.trellis.specs.Encoded.{lowBits, codedBits, lastState}
-use Rattle.trellis.specs.EncodedLaws.{reached-is}
+use Rattle.trellis.specs.EncodedLaws.{reached-is, low-at}
 use Rattle.isdbt_table.specs.declared.CodeRate.the-variants.{R1_2}
 use Rattle.isdbt_fec.specs.declared.conv.Encoded as isdbt
 use Rattle.isdbt_table.specs.Puncture.{mother, bitPlace, punctured}

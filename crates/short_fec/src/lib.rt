@@ -2,8 +2,8 @@
 // first 2^(length-1) count, the held count and the traceback.
 ghost use mathlib.Core.Path.{_≡_};
 ghost use mathlib.Core.Logic.{_⊎_};
-ghost use mathlib.Core.Bool.{true, cond, not};
-ghost use Prim.Native.Nat.{ℕ, _+_, _*_, _<_, _≤_, _/_, _%_};
+ghost use mathlib.Core.Bool.{true, not};
+ghost use Prim.Native.Nat.{_+_, _*_, _<_, _≤_, _/_, _%_};
 ghost use lib.ListN.{length};
 ghost use Rattle.refusal.specs.Rows.{firstRow, Either};
 ghost use Rattle.trellis.specs.Code.{output, moved};
@@ -31,7 +31,7 @@ use short_rows::answer_encoder;
 use short_rows::answer_flush;
 use short_rows::answer_known;
 use short_rows::answer_stream;
-use short_rows::bad;
+use short_code::bad;
 use short_rows::places;
 use short_step::best_state;
 use short_step::renormalise;

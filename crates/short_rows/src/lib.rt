@@ -1,10 +1,9 @@
 // The answers to calls with a code of constraint length 3 to 7 by their rows: those of isdb_fec with row 12 right before 4. The calls are in short_fec.
 ghost use mathlib.Core.Path.{_≡_};
 ghost use mathlib.Core.Bool.{cond, not};
-ghost use Prim.Native.Nat.{ℕ, _+_, _<_, _≤_};
+ghost use Prim.Native.Nat.{_+_, _<_, _≤_};
 ghost use lib.ListN.{length};
 ghost use Rattle.refusal.specs.Rows.{firstRow};
-ghost use Rattle.short_code.specs.Codes.{goodCode};
 ghost use Rattle.trellis.specs.Run.{tracebackLimit, block};
 ghost use Rattle.isdb_fec.specs.Rows.{stepsShort};
 ghost use Rattle.short_rows.specs.Rows.{encoderRows, handedRows, streamRows, knownRows, flushRows};
@@ -15,19 +14,12 @@ use isdb_fec::conv::ViterbiDecoder;
 use isdb_fec::conv::some_beyond;
 use refusal::Answer;
 use short_code::Code;
-use short_code::good;
+use short_code::bad;
 use short_code::half;
 use trellis::BLOCK;
 use trellis::STATES;
 use viterbi::few_places;
 ghost use Rattle.trellis.specs.Isdb;
-
-// Row 12.
-pub fn bad(code: Code) -> bool
-    ensures { λ r. ⌜ r ≡ not (goodCode code) ⌝ }
-{
-    if good(code) { false } else { true }
-}
 
 // The rows of an encoder.
 pub fn answer_encoder(code: Code, state: u8) -> Answer

@@ -22,6 +22,8 @@ use cases_lib::show_bits;
 use cases_lib::show_one;
 use cases_lib::step;
 use cases_lib::words_of;
+use isdbs_core::frame::FRAME_BITS;
+use isdbs_core::frame::LOAD_BYTES;
 use isdbs_core::frame::MAIN_SYMBOLS;
 use isdbs_core::frame::SLOT_BYTES;
 use isdbs_core::frame::SLOTS;
@@ -29,6 +31,8 @@ use isdbs_phy::demod::DemodOptions;
 use isdbs_phy::demod::FrameDecoded;
 use isdbs_phy::demod::decode_frame;
 use isdbs_phy::demod::encode_frame;
+use trellis::FRAME_WORDS;
+use trellis::LONGEST_FRAME;
 
 const LINES: usize = 286;
 
@@ -110,7 +114,7 @@ fn is_first(line: &[u8; 166]) -> bool {
 
 // The clean frame of the line's load: the answer's number.
 fn clean(line: &[u8; 166], re: &mut [f64; MAIN_SYMBOLS], im: &mut [f64; MAIN_SYMBOLS]) -> usize {
-    let mut bytes = [0u8; 9744];
+    let mut bytes = [0u8; LOAD_BYTES];
     let count = (number(line, 129, 131) % 49) as usize * SLOT_BYTES;
     draw(&mut bytes, count, number(line, 83, 99));
     let t = table_of(number(line, 0, 16));
@@ -123,10 +127,10 @@ fn matches(
     line: &[u8; 166],
     count: usize,
     steps: usize,
-    bits: &[u8; 68224],
-    bytes: &[u8; 9744],
+    bits: &[u8; FRAME_BITS],
+    bytes: &[u8; LOAD_BYTES],
 ) -> bool {
-    if steps > 68_208 {
+    if steps > LONGEST_FRAME {
         return false;
     }
     (steps as u64 == number(line, 120, 128))
@@ -142,9 +146,9 @@ fn decode(
     o: DemodOptions,
     re: &[f64; MAIN_SYMBOLS],
     im: &[f64; MAIN_SYMBOLS],
-    decisions: &mut [u64; 4224],
-    bits: &mut [u8; 68224],
-    bytes: &mut [u8; 9744],
+    decisions: &mut [u64; FRAME_WORDS],
+    bits: &mut [u8; FRAME_BITS],
+    bytes: &mut [u8; LOAD_BYTES],
 ) -> FrameDecoded {
     let mut counts = [0u32; SLOTS];
     decode_frame(
@@ -162,9 +166,9 @@ fn decode(
 
 // Whether the points are decoded as the Rust decodes them. What is lent holds no zeros.
 fn decodes(line: &[u8; 166], re: &[f64; MAIN_SYMBOLS], im: &[f64; MAIN_SYMBOLS]) -> bool {
-    let mut decisions = [0xffff_ffff_ffff_ffffu64; 4224];
-    let mut bits = [7u8; 68224];
-    let mut bytes = [165u8; 9744];
+    let mut decisions = [0xffff_ffff_ffff_ffffu64; FRAME_WORDS];
+    let mut bits = [7u8; FRAME_BITS];
+    let mut bytes = [165u8; LOAD_BYTES];
     let r = decode(
         number(line, 0, 16),
         is_first(line),
@@ -271,8 +275,8 @@ fn show_empty(n: usize, steps: usize, bits: &[u8; 18], decisions: &[u64; 4230]) 
     show(b"empty table: bytes #, steps #, bits ", &counted);
     show_bits(bits);
     let words = [
-        words_of(decisions, 0, 4224, 0),
-        words_of(decisions, 4224, 4230, 0xffff_ffff_ffff_ffff),
+        words_of(decisions, 0, FRAME_WORDS, 0),
+        words_of(decisions, FRAME_WORDS, 4230, 0xffff_ffff_ffff_ffff),
     ];
     show(b", words 0 #, words kept #\n", &words);
 }
@@ -298,9 +302,9 @@ fn answer_at(table: u64, place: usize, scale: f32, x: f64) -> usize
     let mut re = [0.5f64; MAIN_SYMBOLS];
     re[MAIN_SYMBOLS - 1] = x;
     let im = [0.5f64; MAIN_SYMBOLS];
-    let mut decisions = [0u64; 4224];
-    let mut bits = [0u8; 68224];
-    let mut bytes = [0u8; 9744];
+    let mut decisions = [0u64; FRAME_WORDS];
+    let mut bits = [0u8; FRAME_BITS];
+    let mut bytes = [0u8; LOAD_BYTES];
     let o = DemodOptions {
         mapping: mapping_of(4),
         known_start: true,

@@ -1,7 +1,6 @@
 // Request P9: the bytes behind a wanted frame. What the frame shows is read off, encoded again and compared (`same_frame`); the lent bytes are written only then.
+use isdbs_core::frame::LOAD_BYTES;
 use isdbs_core::frame::MAIN_SYMBOLS;
-use isdbs_core::frame::SLOT_BYTES;
-use isdbs_core::frame::SLOTS;
 use isdbs_core::slots::Plan;
 use isdbs_core::slots::plan_of;
 use isdbs_core::tmcc::Table;
@@ -22,9 +21,6 @@ ghost use Rattle.isdbs_runs.specs.RunsOf.{planOf, Planned, loadBytes};
 ghost use Rattle.wanted_load.specs.Rows.{lentRows, earlierRows};
 ghost use Rattle.same_frame.specs.Alike.{Matches};
 ghost use Rattle.wanted_load.specs.Found.{Answered, Searched, Outcome, Turned};
-
-// The bytes of the longest load: every slot of a frame valid.
-const LOAD_BYTES: usize = SLOTS * SLOT_BYTES;
 
 // A load, laid over the beginning of the lent bytes.
 fn put(load: &[u8], bytes: &mut [u8])

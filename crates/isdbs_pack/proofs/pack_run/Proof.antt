@@ -7,6 +7,7 @@ use mathlib.Core.Path.{sym, _∙_, ap}
 use borrow.Author.Needs.{needs}
 use Rattle.isdbs_pack.proofs.pack_run.Statement.{statement}
 use Rattle.isdbs_pack.proofs.pack_run.Tie as tie
+use Rattle.isdbs_combination.specs.CombinationLaws.{tc8psk-only}
 
 modulation-requires : tie.Need-modulation-requires
 modulation-requires c κs = search needs

@@ -11,7 +11,7 @@ use Rattle.viterbi.specs.CountLaws.{releases-le}
 use Rattle.trellis.specs.LaidLaws.{laid-part, length-laid-upto}
 use Rattle.isdbs_pack.specs.FrameByteLaws.{written-tail}
 use Rattle.isdbs_blocks.specs.Blocks.{runSteps, runMark, Periods}
-use Rattle.isdbs_blocks.specs.PeriodLaws.{short}
+use Rattle.isdbs_blocks.specs.PeriodLaws.{short, more-periods}
 use Rattle.isdbs_read.specs.Carried.{Carried}
 use Rattle.isdbs_read.specs.BlockLaws.{block-periods, no-periods, read-start, read-block}
 use Rattle.isdbs_read.proofs.read_blocks.Statement.{statement}

@@ -1,8 +1,8 @@
--- `codes_c::bad` meets its contract, in either arm. Assumes nothing.
+-- `short_code::bad` meets its contract, in either arm. Assumes nothing.
 use mathlib.Core.Path.{refl, sym, _∙_}
 use borrow.Author.Needs.{needs}
-use Rattle.codes_c.proofs.bad.Statement.{statement}
-use Rattle.codes_c.proofs.bad.Tie as tie
+use Rattle.short_code.proofs.bad.Statement.{statement}
+use Rattle.short_code.proofs.bad.Tie as tie
 
 good-requires : tie.Need-good-requires
 good-requires c κs = search needs
