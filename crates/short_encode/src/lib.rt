@@ -11,8 +11,8 @@ ghost use Rattle.short_fec.specs.Rows.{encodeRows};
 use isdb_fec::conv::ConvEncoder;
 use refusal::Answer;
 pub use short_code::Code;
-use short_code::encode_bit;
 use short_code::bad;
+use short_code::encode_bit;
 use short_code::half;
 ghost use Rattle.trellis.specs.Isdb;
 
