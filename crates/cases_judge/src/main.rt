@@ -21,6 +21,7 @@ use isdbs_core::frame::SLOTS;
 use isdbs_phy::demod::encode_frame;
 use judge::FrameJudged;
 use judge::judge;
+ghost use Rattle.isdbs_frame.specs.Frame.{mainSymbols};
 
 // The tables. Entry i has its word at bit 16 i and its slots at bit 16 i + 8.
 const TABLES: [u64; 8] = [
@@ -94,7 +95,7 @@ fn spread(re: &mut [f64; 38980], im: &mut [f64; 38980], seed: u64, noisy: bool) 
 
 // A point of the first run.
 fn place(draw: u64, table: u64) -> usize
-    ensures { λ r. ⌜ r < MAIN_SYMBOLS ⌝ }
+    ensures { λ r. ⌜ r < mainSymbols ⌝ }
 {
     let slots = table / 256 % 256;
     if slots == 0 {
@@ -174,7 +175,7 @@ fn is_right(told: Told, w: Wanted, counts: &[u32; 50]) -> bool
 
 // Point k with its real (how below 4) or its imaginary part changed, or both negated (8).
 fn change(re: &mut [f64; 38980], im: &mut [f64; 38980], k: usize, how: u64)
-    requires { ⌜ k < MAIN_SYMBOLS ⌝ }
+    requires { ⌜ k < mainSymbols ⌝ }
 {
     if how < 4 {
         re[k] = changed(re[k], how);

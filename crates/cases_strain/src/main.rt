@@ -18,6 +18,7 @@ use isdbs_phy::demod::FrameDecoded;
 use isdbs_phy::demod::decode_frame;
 use isdbs_phy::demod::encode_frame;
 use trellis::FRAME_WORDS;
+ghost use Rattle.isdbs_frame.specs.Frame.{mainSymbols};
 
 // The tables: QPSK 1/2 in four slots, QPSK 5/6 in six, TC8PSK in two; TC8PSK and BPSK in all. Entry i has its word at bit 16 i and its slots at bit 16 i + 8; the other entries are not in use.
 const HALF: u64 = 0x000f_000f_000f_0402;
@@ -156,14 +157,14 @@ fn make(table: u64, first: bool, re: &mut [f64; MAIN_SYMBOLS], im: &mut [f64; MA
 }
 
 fn negate(parts: &mut [f64; MAIN_SYMBOLS], k: usize)
-    requires { ⌜ k < MAIN_SYMBOLS ⌝ }
+    requires { ⌜ k < mainSymbols ⌝ }
 {
     parts[k] = -parts[k];
 }
 
 // Turns point k by 90 degrees.
 fn quarter(re: &mut [f64; MAIN_SYMBOLS], im: &mut [f64; MAIN_SYMBOLS], k: usize)
-    requires { ⌜ k < MAIN_SYMBOLS ⌝ }
+    requires { ⌜ k < mainSymbols ⌝ }
 {
     let x = re[k];
     re[k] = -im[k];

@@ -2,7 +2,7 @@
 // load is drawn and encoded; `wanted_load` must give it back, count its bytes and leave the others. Then one part of one point, as drawn, is changed in four ways: its sign is turned, it is moved by
 // its last bit, the sign of an imaginary part of the last point is turned, and it is no number. A changed frame must be answered by 13 with no byte changed, or by a load that encodes to it.
 // The slices are ten points longer than a frame, and these hold no numbers.
-ghost use Prim.Native.Nat.{_≤_, _<_};
+ghost use Prim.Native.Nat.{_*_, _≤_, _<_};
 use cases_frames::TABLES;
 use cases_frames::load_bytes;
 use cases_frames::mapping_of;
@@ -25,6 +25,8 @@ use isdbs_core::frame::MAIN_SYMBOLS;
 use isdbs_phy::demod::encode_frame;
 use wanted_load::LoadFound;
 use wanted_load::wanted_load;
+ghost use Rattle.isdbs_frame.specs.Frame.{mainSymbols, slotBytes};
+ghost use Rattle.isdbs_combination.specs.Combinations.{frameSlots};
 
 // The tables: those that each program goes through, and one with no valid slot.
 fn table(i: usize) -> u64
@@ -80,14 +82,14 @@ fn ask(way: u64, table: u64, re: &[f64], im: &[f64], bytes: &mut [u8]) -> Told {
 
 // Whether the first `count` bytes are the load and the others 165.
 fn is_laid(load: &[u8; LOAD_BYTES], bytes: &[u8; 9750], count: usize) -> bool
-    requires { ⌜ count ≤ LOAD_BYTES ⌝ }
+    requires { ⌜ count ≤ frameSlots * slotBytes ⌝ }
 {
     (alike(load, 0, bytes, count) == count) & (bytes_of(bytes, count, 9750, 165) == 9750 - count)
 }
 
 // A symbol of the frame.
 fn place(x: u64) -> usize
-    ensures { λ r. ⌜ r < MAIN_SYMBOLS ⌝ }
+    ensures { λ r. ⌜ r < mainSymbols ⌝ }
 {
     (x % MAIN_SYMBOLS as u64) as usize
 }
@@ -113,7 +115,7 @@ fn changed(x: f64, how: u64) -> f64 {
 
 // Changes one part, the real one where `real` is true.
 fn change(re: &mut [f64; 38986], im: &mut [f64; 38986], real: bool, k: usize, how: u64)
-    requires { ⌜ k < MAIN_SYMBOLS ⌝ }
+    requires { ⌜ k < mainSymbols ⌝ }
 {
     if real {
         re[k] = changed(re[k], how);
@@ -174,7 +176,7 @@ fn judge(
     im: &[f64; 38986],
     load: &[u8; LOAD_BYTES],
 ) -> Verdict
-    requires { ⌜ count ≤ LOAD_BYTES ⌝ }
+    requires { ⌜ count ≤ frameSlots * slotBytes ⌝ }
 {
     let mut bytes = [165u8; 9750];
     let told = ask(way, table, re, im, &mut bytes);
@@ -233,7 +235,7 @@ fn one_change(
     im: &mut [f64; 38986],
     load: &[u8; LOAD_BYTES],
 ) -> Verdict
-    requires { ⌜ count ≤ LOAD_BYTES ⌝ }
+    requires { ⌜ count ≤ frameSlots * slotBytes ⌝ }
 {
     if encode(way, table, load, count, re, im) != 0 {
         return Verdict::Wrong;
@@ -252,7 +254,7 @@ fn comes_back(
     im: &mut [f64; 38986],
     load: &[u8; LOAD_BYTES],
 ) -> bool
-    requires { ⌜ count ≤ LOAD_BYTES ⌝ }
+    requires { ⌜ count ≤ frameSlots * slotBytes ⌝ }
 {
     let made = encode(way, table, load, count, re, im);
     let mut bytes = [165u8; 9750];

@@ -2,7 +2,7 @@
 use mathlib.Core.Bool.{Bool, _||_}
 use mathlib.Core.List.{List, [], _∷_, _++_}
 use Prim.Native.Nat.{ℕ}
-use lib.Dec.{leb}
+use lib.Dec.{leb, ltb}
 use Rattle.refusal.specs.declared.Answer.the-variants.{State, Space}
 use Rattle.refusal.specs.Rows.{Row}
 use Rattle.isdbs_tables.specs.declared.Table.{Table}
