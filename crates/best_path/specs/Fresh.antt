@@ -7,7 +7,7 @@ use Rattle.trellis.specs.Run.{startAt, startUnknown}
 use Rattle.best_path.specs.declared.Start.{Start}
 use Rattle.best_path.specs.declared.Start.the-variants.{Given, Unknown}
 
--- "given a start state or none"
+-- document 01: "Path values start 0 at the given state", and "Unknown start sets all 64 path values to 0"
 abbrev pub startValues : ℕ → Start → List Float
 startValues n (Given s) = startAt n s
 startValues n Unknown = startUnknown n
