@@ -2,6 +2,7 @@
 use mathlib.Core.Path.{_≡_}
 use borrow.Author.Needs.{needs}
 use lib.ListN.{length}
+use Rattle.trellis.specs.Lists.{firstPlace}
 use Rattle.isdb_fec.specs.declared.conv.ViterbiDecoder.{ViterbiDecoder}
 use Rattle.short_code.specs.declared.Code.{Code}
 use Rattle.short_fec.specs.Rows.{handedRows, flushRows}
@@ -23,6 +24,7 @@ same-length : tie.Need-same-length
 same-length c = search needs
 
 returns : tie.Need-returns
+unfolding firstPlace
 returns c =
     let a = c .before .before .before .before .before .before .before .before .args in
     let k = codeFrom (a .constraint) (a .g1) (a .g2) in

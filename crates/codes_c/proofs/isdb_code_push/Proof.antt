@@ -3,6 +3,7 @@ use mathlib.Core.Path.{_≡_}
 use Prim.Native.Nat.{ℕ, _/_}
 use borrow.Author.Needs.{needs}
 use lib.ListN.{length}
+use Rattle.trellis.specs.Lists.{firstPlace}
 use Rattle.isdb_fec.specs.declared.conv.ViterbiDecoder.{ViterbiDecoder}
 use Rattle.trellis.specs.Run.{pairSteps}
 use Rattle.short_code.specs.declared.Code.{Code}
@@ -25,6 +26,7 @@ same-length : tie.Need-same-length
 same-length c = search needs
 
 returns : tie.Need-returns
+unfolding firstPlace
 returns c =
     let a = c .before .before .before .before .before .before .before .before .before .args in
     let k = codeFrom (a .constraint) (a .g1) (a .g2) in
