@@ -1,7 +1,7 @@
 -- A slot counted by its marks. Assumes nothing.
 use mathlib.Core.Path.{_≡_}
 use mathlib.Core.List.{List}
-use Prim.Native.Nat.{ℕ, _/_, _%_, _<_}
+use Prim.Native.Nat.{ℕ, _*_, _/_, _%_, _<_}
 use lib.ListN.{getD}
 use Rattle.trellis.specs.Code.{stateAt}
 use Rattle.trellis.specs.Isdb
