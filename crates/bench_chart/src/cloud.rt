@@ -73,10 +73,8 @@ pub(crate) fn gather(
     let c = r.combination;
     let bpsk = is_bpsk(c);
     let to = r.symbol_end;
-    let mut k = r.symbol_start;
-    while k < to {
+    for k in r.symbol_start..to {
         mark_at(bins, k, bpsk, outside, re, im, clean_re, clean_im);
-        k = k + 1;
     }
 }
 

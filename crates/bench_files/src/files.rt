@@ -405,12 +405,10 @@ pub fn write_bytes(name: &[u8], bytes: &[u8]) -> bool {
 }
 
 fn pour(file: i32, narrow: bool, re: &[f64], im: &[f64]) -> bool {
-    let mut k: usize = 0;
-    while k < re.len() {
+    for k in 0..re.len() {
         if !points::write_point(file, narrow, get(re, k), get(im, k)) {
             return false;
         }
-        k = k + 1;
     }
     true
 }

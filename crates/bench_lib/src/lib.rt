@@ -14,14 +14,12 @@ pub fn put(dst: &mut [u8; LINE_BYTES], at: usize, src: &[u8]) -> usize {
 // Which part of a list a word is; the end of the list where it is none.
 fn place_of(list: &[u8], word: &[u8]) -> usize {
     let n = parts(list, b' ');
-    let mut i: usize = 0;
-    while i < n {
+    for i in 0..n {
         if same(part(list, b' ', i), word) {
-            break;
+            return i;
         }
-        i = i + 1;
     }
-    i
+    n
 }
 
 // The place of a command's word among all of them.

@@ -48,14 +48,12 @@ pub fn digits(s: &[u8]) -> Number
         return Number::Not;
     }
     let mut value: u32 = 0;
-    let mut i: usize = 0;
-    while i < s.len() {
+    for i in 0..s.len() {
         let d = digit(s[i]);
         if d > 9 {
             return Number::Not;
         }
         value = value * 10 + d;
-        i = i + 1;
     }
     Number::Is(value)
 }

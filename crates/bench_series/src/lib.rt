@@ -201,8 +201,7 @@ fn read_all(
     requires { ⌜ 5 < words ⌝ }
 {
     let mut state = fresh(s.window);
-    let mut i = BEFORE;
-    while i < words {
+    for i in BEFORE..words {
         let place = Place {
             read: i - BEFORE,
             all: words - BEFORE,
@@ -213,7 +212,6 @@ fn read_all(
             return;
         }
         state = went.state;
-        i = i + 1;
     }
     text(b"ok\n");
 }

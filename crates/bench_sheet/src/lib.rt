@@ -38,12 +38,10 @@ pub fn put(sheet: &mut Sheet, at: usize, s: &[u8]) -> usize
     if s.len() > n - at {
         return OVER;
     }
-    let mut i: usize = 0;
-    while i < s.len() {
+    for i in 0..s.len() {
         sheet[at + i] = s[i];
-        i = i + 1;
     }
-    at + i
+    at + s.len()
 }
 
 // Puts the decimal digits of n.

@@ -268,14 +268,12 @@ fn is_number(x: f64) -> bool {
 fn first_bad(re: &[f64; MAIN_SYMBOLS], im: &[f64; MAIN_SYMBOLS]) -> usize
     ensures { λ r. ⌜ r ≤ mainSymbols ⌝ }
 {
-    let mut k: usize = 0;
-    while k < MAIN_SYMBOLS {
+    for k in 0..MAIN_SYMBOLS {
         if is_bad(re[k]) || is_bad(im[k]) {
-            break;
+            return k;
         }
-        k = k + 1;
     }
-    k
+    MAIN_SYMBOLS
 }
 
 fn bad_part(k: usize, name: &[u8], x: f64) {

@@ -1,6 +1,6 @@
 // Readings of whole quadruples beside a search through all paths: the greatest sum, how many paths have it, the first of them, and what
 // the decoder reads.
-ghost use Prim.Native.Nat.{_≤_, _<_};
+ghost use Prim.Native.Nat.{_≤_};
 use best_reading::Start;
 use cases_lib::end_line;
 use cases_lib::one;
@@ -164,19 +164,29 @@ fn stretch(n: usize)
     show(b"steps $ first $ of 00032, equal paths up to $\n", &found);
 }
 
-fn main() {
+// Stretches of up to eight steps.
+fn stretches() {
     for n in 0..9usize {
         stretch(n);
     }
-    let two = TWO;
-    both(&two, 0);
-    // All equal.
-    let flat = [16u8; 32];
-    both(&flat, 5);
+}
+
+// Metrics that go by no rule.
+fn drawn() {
     for seed in 0..4 {
         let ms = scattered(seed, true);
         both(&ms, 63);
         let ns = scattered(seed + 100, false);
         both(&ns, 200);
     }
+}
+
+fn main() {
+    stretches();
+    let two = TWO;
+    both(&two, 0);
+    // All equal.
+    let flat = [16u8; 32];
+    both(&flat, 5);
+    drawn();
 }

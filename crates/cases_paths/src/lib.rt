@@ -103,10 +103,31 @@ fn seen(s: Survey, w: Walked, inputs: u32) -> Survey {
     }
 }
 
-fn search(g1: u8, g2: u8, half: u32, metrics: &[u8; 32], n: usize, from: u32, to: u32) -> Survey
+// What is known of the paths looked at, and all of n steps from one state.
+fn seen_from(
+    g1: u8,
+    g2: u8,
+    half: u32,
+    metrics: &[u8; 32],
+    n: usize,
+    start: u32,
+    before: Survey,
+) -> Survey
     requires { ⌜ (half ≤ 32) × (n ≤ 8) ⌝ }
 {
     let lists = 1u32 << n;
+    let mut s = before;
+    for inputs in 0..lists {
+        let w = walk(g1, g2, half, metrics, n, start, inputs);
+        let next = seen(s, w, inputs);
+        s = next;
+    }
+    s
+}
+
+fn search(g1: u8, g2: u8, half: u32, metrics: &[u8; 32], n: usize, from: u32, to: u32) -> Survey
+    requires { ⌜ (half ≤ 32) × (n ≤ 8) ⌝ }
+{
     let mut s = Survey {
         greatest: 0,
         count: 0,
@@ -114,11 +135,8 @@ fn search(g1: u8, g2: u8, half: u32, metrics: &[u8; 32], n: usize, from: u32, to
         inputs: 0,
     };
     for start in from..to {
-        for inputs in 0..lists {
-            let w = walk(g1, g2, half, metrics, n, start, inputs);
-            let next = seen(s, w, inputs);
-            s = next;
-        }
+        let next = seen_from(g1, g2, half, metrics, n, start, s);
+        s = next;
     }
     s
 }

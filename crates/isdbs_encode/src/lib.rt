@@ -24,11 +24,9 @@ fn put_unused(n: usize, m: Mapping, re: &mut [f64], im: &mut [f64])
     ensures { λ _. ⌜ (now (re .exit) ≡ laid (upto (λ i. zero64) n) (now (re .entry))) × (now (im .exit) ≡ laid (upto (λ i. conjugated (m .conjugate) zero64) n) (now (im .entry))) ⌝ }
 {
     let y = mirror(m.conjugate, 0.0);
-    let mut i: usize = 0;
-    while i < n {
+    for i in 0..n {
         re[i] = 0.0;
         im[i] = y;
-        i += 1;
     }
 }
 
@@ -54,8 +52,7 @@ fn encode_runs(
     let mut state = start;
     let mut bit: usize = 0;
     let mut end: usize = 0;
-    let mut i: usize = 0;
-    while i < count {
+    for i in 0..count {
         let r = list[i];
         let c = r.combination;
         let first = r.symbol_start;
@@ -73,7 +70,6 @@ fn encode_runs(
         );
         bit += SLOT_BITS * valid;
         end = r.symbol_end;
-        i += 1;
     }
     RunsEncoded { state, end }
 }

@@ -33,14 +33,12 @@ fn end_of(s: &[u8], stop: u8, from: usize) -> usize
     requires { ⌜ from ≤ length (now s) ⌝ }
     ensures { λ r. ⌜ ((from ≤ r) × (r ≤ length (now (s .entry)))) × (r - from ≡ length (until stop (drop from (now (s .entry))))) ⌝ }
 {
-    let mut j = from;
-    while j < s.len() {
+    for j in from..s.len() {
         if s[j] == stop {
-            break;
+            return j;
         }
-        j = j + 1;
     }
-    j
+    s.len()
 }
 
 // Part i of s.
@@ -71,10 +69,8 @@ pub fn parts(s: &[u8], stop: u8) -> usize
     ensures { λ r. ⌜ r ≡ partsOf stop (now (s .entry)) ⌝ }
 {
     let mut n: usize = 0;
-    let mut j: usize = 0;
-    while j < s.len() {
+    for j in 0..s.len() {
         n = n + tally(s[j] == stop);
-        j = j + 1;
     }
     n + 1
 }
@@ -86,12 +82,10 @@ pub fn same(a: &[u8], b: &[u8]) -> bool
     if a.len() != b.len() {
         return false;
     }
-    let mut i: usize = 0;
-    while i < a.len() {
+    for i in 0..a.len() {
         if a[i] != b[i] {
             return false;
         }
-        i = i + 1;
     }
     true
 }

@@ -47,8 +47,8 @@ place-of-spec =
     loop-holds
     part-requires
     same-requires
+    returns
     add-i
     loop-less
     loop-again
-    returns
     returns-2)

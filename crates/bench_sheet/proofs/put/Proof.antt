@@ -1,11 +1,9 @@
 use mathlib.Core.Path.{_≡_, refl}
-use mathlib.Core.Bool.{false, true}
 use mathlib.Core.List.{List}
 use Prim.Native.Nat.{ℕ, _-_, _+_, _≤_, _<_}
 use native.Mathlib.Numerals.{add-one}
 use native.Mathlib.Omega.{arith}
 use lib.ListN.{length, length-set}
-use lib.Dec.{leb}
 use lib.Seq.{paste, paste-zero, paste-suc, take-length}
 use borrow.Author.Tests.{le-leb, lt-leb}
 use Rattle.bench_sheet.specs.Sheet.{Put}
@@ -22,10 +20,10 @@ whole : (at : ℕ) (s old : List ℕ) → at + length s ≤ 327680 → Put at s 
 whole at s old h = let e = le-leb (at + length s) 327680 h in record { place = rw e; sheet = rw (e, take-length s) }
 
 abbrev Inv-loop : tie.InvT-loop
-Inv-loop sheet₀ at s n i₀ sheet i = (i ≤ length s) × ((length sheet ≡ 327680) × (sheet ≡ paste sheet₀ at s i))
+Inv-loop sheet₀ at s n i₀ i-end sheet i = (i-end ≡ length s) × (i ≤ length s) × ((length sheet ≡ 327680) × (sheet ≡ paste sheet₀ at s i))
 
 abbrev μ-loop : tie.MeasureT-loop
-μ-loop sheet₀ at s n i₀ sheet i = length s - i
+μ-loop sheet₀ at s n i₀ i-end sheet i = length s - i
 
 returns : tie.Need-returns Inv-loop μ-loop
 returns c = over _ _ _ (omega arith)
@@ -39,7 +37,7 @@ size-requires c κs = search needs
 loop-holds : tie.Need-loop-holds Inv-loop μ-loop
 loop-holds c =
     let a = c .before .before .before .before .before .args in
-    (omega arith, (c .before .before .size .ensures .1, paste-zero (a .sheet .now) (a .at) (a .s .now)))
+    (refl, omega arith, (c .before .before .size .ensures .1, paste-zero (a .sheet .now) (a .at) (a .s .now)))
 
 shared-slice-read-sheet : tie.Need-shared-slice-read-sheet Inv-loop μ-loop
 shared-slice-read-sheet c = search needs
@@ -62,7 +60,7 @@ loop-again c =
     let a = at .before .before .before .before .before .before .args in
     let inv = at .loop .inv in
     let known = at .before .before .before .size .ensures .1 in
-    (omega arith, (simp length-set (inv .1 .0), rw (inv .1 .1, add-one) (paste-suc (a .sheet .now) (a .at) (a .s .now) (at .loop .i) 0 (omega arith) (omega arith))))
+    (inv .0, omega arith, (simp length-set (inv .2 .0), rw (inv .2 .1, add-one) (paste-suc (a .sheet .now) (a .at) (a .s .now) (at .loop .i) 0 (omega arith) (omega arith))))
 
 add-result : tie.Need-add-result Inv-loop μ-loop
 add-result c = search needs
@@ -71,7 +69,7 @@ returns-3 : tie.Need-returns-3 Inv-loop μ-loop
 returns-3 c =
     let at = c .before in
     let end : at .loop .i ≡ length (at .before .before .before .before .before .before .args .s .now) = omega arith in
-    rw (at .loop .inv .1 .1, end) (whole _ _ _ (omega arith))
+    rw (at .loop .inv .2 .1, end) (whole _ _ _ (omega arith))
 
 pub put-spec : {M : Type 1} → statement M
 put-spec =

@@ -1,6 +1,5 @@
 -- `end_of` meets its contract. Assumes nothing.
-use mathlib.Core.Path.{_≡_, refl, sym, ap, _∙_}
-use mathlib.Core.Bool.{true, false, cond}
+use mathlib.Core.Path.{_≡_, refl}
 use native.Mathlib.Omega.{arith}
 use borrow.Author.Tests.{eq-eqb, ne-eqb}
 use borrow.Author.Needs.{needs}
@@ -12,16 +11,26 @@ use Rattle.line_parts.proofs.end_of.Statement.{statement}
 use Rattle.line_parts.proofs.end_of.Tie as tie
 
 abbrev Inv-loop : tie.InvT-loop
-Inv-loop s stop from j₀ j = ((from ≤ j) × (j ≤ length s)) × ((j - from) + length (until stop (drop j s)) ≡ length (until stop (drop from s)))
+Inv-loop s stop from j₀ j-end j = (j-end ≡ length s) × ((from ≤ j) × (j ≤ length s)) × ((j - from) + length (until stop (drop j s)) ≡ length (until stop (drop from s)))
 
 abbrev μ-loop : tie.MeasureT-loop
-μ-loop s stop from j₀ j = length s - j
+μ-loop s stop from j₀ j-end j = length s - j
 
 loop-holds : tie.Need-loop-holds Inv-loop μ-loop
-loop-holds c = (search needs, omega arith)
+loop-holds c = (refl, search needs, omega arith)
 
 shared-slice-read-if1 : tie.Need-shared-slice-read-if1 Inv-loop μ-loop
 shared-slice-read-if1 c = search needs
+
+returns : tie.Need-returns Inv-loop μ-loop
+returns c =
+    let at = c .before .before .before in
+    let a = at .before .args in
+    let h : at .loop .j < length (a .s .now) = search needs in
+    let e : length (until (a .stop) (drop (at .loop .j) (a .s .now))) ≡ 0 =
+    rw (until-next (a .stop) (a .s .now) (at .loop .j) h, eq-eqb _ _ (c .if1 .taken))
+    in
+    (search needs, omega arith)
 
 add-j : tie.Need-add-j Inv-loop μ-loop
 add-j c = search needs
@@ -37,25 +46,15 @@ loop-again c =
     let e : length (until (a .stop) (drop (at .loop .j) (a .s .now))) ≡ length (until (a .stop) (drop (at .loop .j + 1) (a .s .now))) + 1 =
     rw (until-next (a .stop) (a .s .now) (at .loop .j) h, ne-eqb _ _ (c .if1 .left)) (omega arith)
     in
-    (search needs, omega arith)
-
-returns : tie.Need-returns Inv-loop μ-loop
-unfolding until
-returns c =
-    let at = c .before in
-    let a = at .before .args in
-    let h : length (a .s .now) ≤ at .loop .j = search needs in
-    let e : length (until (a .stop) (drop (at .loop .j) (a .s .now))) ≡ 0 = rw (drop-of-length-le (a .s .now) h) in
-    (search needs, omega arith)
+    (at .loop .inv .0, search needs, omega arith)
 
 returns-2 : tie.Need-returns-2 Inv-loop μ-loop
+unfolding until
 returns-2 c =
-    let at = c .before .before .before in
+    let at = c .before in
     let a = at .before .args in
-    let h : at .loop .j < length (a .s .now) = search needs in
-    let e : length (until (a .stop) (drop (at .loop .j) (a .s .now))) ≡ 0 =
-    rw (until-next (a .stop) (a .s .now) (at .loop .j) h, eq-eqb _ _ (c .if1 .taken))
-    in
+    let h : length (a .s .now) ≤ at .loop .j = omega arith in
+    let e : length (until (a .stop) (drop (at .loop .j) (a .s .now))) ≡ 0 = rw (drop-of-length-le (a .s .now) h) in
     (search needs, omega arith)
 
 pub end-of-spec : {M : Type 1} → statement M
@@ -66,8 +65,8 @@ end-of-spec =
     μ-loop
     loop-holds
     shared-slice-read-if1
+    returns
     add-j
     loop-less
     loop-again
-    returns
     returns-2)

@@ -1,6 +1,5 @@
 -- `parts` meets its contract. Assumes nothing.
-use mathlib.Core.Path.{_≡_, refl, sym, ap, _∙_}
-use mathlib.Core.Bool.{true, false, cond}
+use mathlib.Core.Path.{_≡_, refl}
 use native.Mathlib.Omega.{arith}
 use borrow.Author.Needs.{needs}
 use Prim.Native.Nat.{_+_, _-_, _≤_, _<_}
@@ -11,13 +10,13 @@ use Rattle.line_parts.proofs.parts.Statement.{statement}
 use Rattle.line_parts.proofs.parts.Tie as tie
 
 abbrev Inv-loop : tie.InvT-loop
-Inv-loop s stop n₀ j₀ n j = ((n ≤ j) × (j ≤ length s)) × (n + stops stop (drop j s) ≡ stops stop s)
+Inv-loop s stop n₀ j₀ j-end n j = (j-end ≡ length s) × ((n ≤ j) × (j ≤ length s)) × (n + stops stop (drop j s) ≡ stops stop s)
 
 abbrev μ-loop : tie.MeasureT-loop
-μ-loop s stop n₀ j₀ n j = length s - j
+μ-loop s stop n₀ j₀ j-end n j = length s - j
 
 loop-holds : tie.Need-loop-holds Inv-loop μ-loop
-loop-holds c = (search needs, omega arith)
+loop-holds c = (refl, search needs, omega arith)
 
 shared-slice-read-tally : tie.Need-shared-slice-read-tally Inv-loop μ-loop
 shared-slice-read-tally c = search needs
@@ -40,7 +39,7 @@ loop-again c =
     let a = at .before .before .args in
     let h : at .loop .j < length (a .s .now) = search needs in
     let e = stops-next (a .stop) (a .s .now) (at .loop .j) h in
-    (search needs, omega (arith, c .tally .ensures .0))
+    (at .loop .inv .0, search needs, omega (arith, c .tally .ensures .0))
 
 add-result : tie.Need-add-result Inv-loop μ-loop
 add-result c = search needs

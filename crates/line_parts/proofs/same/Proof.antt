@@ -1,6 +1,5 @@
 -- `same` meets its contract. Assumes nothing.
-use mathlib.Core.Path.{_≡_, refl, sym, ap, _∙_}
-use mathlib.Core.Bool.{true, false, cond}
+use mathlib.Core.Path.{_≡_, refl, sym, ap}
 use native.Mathlib.Omega.{arith}
 use borrow.Author.Tests.{eq-eqb, ne-eqb}
 use borrow.Author.Needs.{needs}
@@ -12,16 +11,16 @@ use Rattle.line_parts.proofs.same.Statement.{statement}
 use Rattle.line_parts.proofs.same.Tie as tie
 
 abbrev Inv-loop : tie.InvT-loop
-Inv-loop a b i₀ i = (i ≤ length a) × (equal (drop i a) (drop i b) ≡ equal a b)
+Inv-loop a b i₀ i-end i = (i-end ≡ length a) × (i ≤ length a) × (equal (drop i a) (drop i b) ≡ equal a b)
 
 abbrev μ-loop : tie.MeasureT-loop
-μ-loop a b i₀ i = length a - i
+μ-loop a b i₀ i-end i = length a - i
 
 returns : tie.Need-returns Inv-loop μ-loop
 returns c = sym (equal-not (c .before .args .a .now) (c .before .args .b .now) (λ e. c .if1 .taken (ap length e)))
 
 loop-holds : tie.Need-loop-holds Inv-loop μ-loop
-loop-holds c = (omega arith, refl)
+loop-holds c = (refl, omega arith, refl)
 
 shared-slice-read-if2 : tie.Need-shared-slice-read-if2 Inv-loop μ-loop
 shared-slice-read-if2 c = search needs
@@ -36,7 +35,7 @@ returns-2 c =
     let b = at .before .before .args .b .now in
     let ha : at .loop .i < length a = omega arith in
     let hb : at .loop .i < length b = omega arith in
-    rw (← at .loop .inv .1, equal-next a b (at .loop .i) ha hb, ne-eqb _ _ (c .if2 .taken))
+    rw (← at .loop .inv .2, equal-next a b (at .loop .i) ha hb, ne-eqb _ _ (c .if2 .taken))
 
 add-i : tie.Need-add-i Inv-loop μ-loop
 add-i c = search needs
@@ -51,7 +50,7 @@ loop-again c =
     let b = at .before .before .args .b .now in
     let ha : at .loop .i < length a = omega arith in
     let hb : at .loop .i < length b = omega arith in
-    (omega arith, rw (← at .loop .inv .1, equal-next a b (at .loop .i) ha hb, eq-eqb _ _ (c .if2 .left)))
+    (at .loop .inv .0, omega arith, rw (← at .loop .inv .2, equal-next a b (at .loop .i) ha hb, eq-eqb _ _ (c .if2 .left)))
 
 returns-3 : tie.Need-returns-3 Inv-loop μ-loop
 unfolding equal
@@ -61,7 +60,7 @@ returns-3 c =
     let b = at .before .before .args .b .now in
     let ha : length a ≤ at .loop .i = omega arith in
     let hb : length b ≤ at .loop .i = omega arith in
-    rw (← at .loop .inv .1, drop-of-length-le a ha, drop-of-length-le b hb)
+    rw (← at .loop .inv .2, drop-of-length-le a ha, drop-of-length-le b hb)
 
 pub same-spec : {M : Type 1} → statement M
 same-spec =

@@ -1,3 +1,4 @@
+use mathlib.Core.Path.{_≡_}
 use Prim.Native.Nat.{_-_, _≤_}
 use lib.ListN.{length}
 use borrow.Author.Needs.{needs}
@@ -5,10 +6,10 @@ use Rattle.bench_files.proofs.files.pour.Statement.{statement}
 use Rattle.bench_files.proofs.files.pour.Tie as tie
 
 abbrev Inv-loop : tie.InvT-loop
-Inv-loop file narrow re im k₀ k = k ≤ length re
+Inv-loop file narrow re im k₀ k-end k = (k-end ≡ length re) × (k ≤ length re)
 
 abbrev μ-loop : tie.MeasureT-loop
-μ-loop file narrow re im k₀ k = length re - k
+μ-loop file narrow re im k₀ k-end k = length re - k
 
 loop-holds : tie.Need-loop-holds Inv-loop μ-loop
 loop-holds c = search needs

@@ -1,6 +1,6 @@
 -- `digits` meets its contract. Assumes nothing.
-use mathlib.Core.Path.{_≡_, refl, sym, ap, _∙_}
-use Prim.Native.Nat.{_+_, _-_, _*_, _≤_, _<_}
+use mathlib.Core.Path.{_≡_, refl}
+use Prim.Native.Nat.{_-_, _≤_, _<_}
 use native.Mathlib.Omega.{arith}
 use borrow.Author.Needs.{needs}
 use borrow.Author.Tests.{le-leb, lt-leb}
@@ -12,10 +12,10 @@ use Rattle.bench_line.proofs.words.digits.Statement.{statement}
 use Rattle.bench_line.proofs.words.digits.Tie as tie
 
 abbrev Inv-loop : tie.InvT-loop
-Inv-loop s value₀ i₀ value i = ((i ≤ length s) × (value < most i)) × (numberFrom value (drop i s) ≡ numberFrom 0 s)
+Inv-loop s value₀ i₀ i-end value i = (i-end ≡ length s) × ((i ≤ length s) × (value < most i)) × (numberFrom value (drop i s) ≡ numberFrom 0 s)
 
 abbrev μ-loop : tie.MeasureT-loop
-μ-loop s value₀ i₀ value i = length s - i
+μ-loop s value₀ i₀ i-end value i = length s - i
 
 returns : tie.Need-returns Inv-loop μ-loop
 unfolding digitsOf
@@ -27,7 +27,7 @@ returns-2 c = rw (lt-leb _ _ (c .if2 .taken))
 
 loop-holds : tie.Need-loop-holds Inv-loop μ-loop
 unfolding most
-loop-holds c = ((search needs, lit< tt), refl)
+loop-holds c = (refl, (search needs, lit< tt), refl)
 
 shared-slice-read-digit : tie.Need-shared-slice-read-digit Inv-loop μ-loop
 shared-slice-read-digit c = search needs
@@ -42,7 +42,7 @@ returns-3 c =
     let h : at .loop .i < length s = search needs in
     let p : 0 < length s = search needs in
     let q : length s ≤ 7 = search needs in
-    rw (digits-within s p q, ← at .loop .inv .1, number-next (at .loop .value) s (at .loop .i) h, ← c .before .digit .ensures .0, lt-leb _ _ (c .if3 .taken))
+    rw (digits-within s p q, ← at .loop .inv .2, number-next (at .loop .value) s (at .loop .i) h, ← c .before .digit .ensures .0, lt-leb _ _ (c .if3 .taken))
 
 mul-value : tie.Need-mul-value Inv-loop μ-loop
 mul-value c =
@@ -69,7 +69,7 @@ loop-again c =
     let h : at .loop .i < length s = search needs in
     let e = most-next (at .loop .i) in
     let low : c .before .digit .result ≤ 9 = search needs in
-    ((search needs, omega arith), rw (← at .loop .inv .1, number-next (at .loop .value) s (at .loop .i) h, ← c .before .digit .ensures .0, le-leb _ _ low))
+    (at .loop .inv .0, (search needs, omega arith), rw (← at .loop .inv .2, number-next (at .loop .value) s (at .loop .i) h, ← c .before .digit .ensures .0, le-leb _ _ low))
 
 returns-4 : tie.Need-returns-4 Inv-loop μ-loop
 unfolding numberFrom
@@ -79,7 +79,7 @@ returns-4 c =
     let h : length s ≤ at .loop .i = search needs in
     let p : 0 < length s = search needs in
     let q : length s ≤ 7 = search needs in
-    rw (digits-within s p q, ← at .loop .inv .1, drop-of-length-le s h)
+    rw (digits-within s p q, ← at .loop .inv .2, drop-of-length-le s h)
 
 pub digits-spec : {M : Type 1} → statement M
 digits-spec =

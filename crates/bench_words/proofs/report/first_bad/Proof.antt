@@ -58,8 +58,8 @@ first-bad-spec =
     mul-is-bad-2
     element-copy-out-is-bad-2
     is-bad-requires-2
+    returns
     add-k
     loop-less
     loop-again
-    returns
     returns-2)
