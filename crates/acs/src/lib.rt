@@ -23,7 +23,7 @@ use trellis::STATES;
 ghost use Rattle.trellis.specs.Isdb;
 
 // The number of states, which the type of the path values fixes.
-fn states(pm: &[f32; STATES]) -> usize
+pub fn states(pm: &[f32; STATES]) -> usize
     ensures { λ r. ⌜ (r ≡ Isdb.states) × (length (now (pm .entry)) ≡ Isdb.states) ⌝ }
 {
     let values: &[f32] = pm;

@@ -1,32 +1,22 @@
 -- The sign tables, as the source has them: an entry is below 0 exactly where the coded bit is 1. Each rule is a test of all 128 entries,
 -- which antt computes. Assumes nothing.
-use mathlib.Core.Path.{_≡_, refl}
-use mathlib.Core.Bool.{Bool, true, false}
+use mathlib.Core.Path.{_≡_}
+use mathlib.Core.Bool.{Bool}
 use mathlib.Core.List.{List, [], _∷_}
 use Prim.Native.Nat.{ℕ, _+_, _*_, _/_, _%_, _<_}
 use lib.Dec.{T, eqb}
 use lib.ListN.{getD}
 use lib.Ieee.{Float, nan, binary32, lt, ofBits}
 use Rattle.trellis.specs.Code.{label, output, tapped}
+use Rattle.trellis.specs.ListLaws.{alike, alike-eq}
 use Rattle.acs_paths.specs.Signs.{XSigns, YSigns}
 use Rattle.acs_paths.specs.TableLaws.{all, at}
 use Rattle.trellis.specs.Isdb
 
-abbrev same : Bool → Bool → Bool
-same true b = b
-same false true = false
-same false false = true
-
-same-eq : (a b : Bool) → T (same a b) → a ≡ b
-same-eq true true t = refl
-same-eq true false t = absurd t
-same-eq false true t = absurd t
-same-eq false false t = refl
-
 -- the test of an entry, of a row, of a pair of rows; g is the coded bit of a label
 module _ (g : ℕ → ℕ) where
   abbrev entry : ℕ → ℕ → ℕ → Float → Bool
-  entry u b j x = same (lt x (ofBits binary32 0)) (eqb (g (Isdb.labels u (2 * j + b))) 1)
+  entry u b j x = alike (lt x (ofBits binary32 0)) (eqb (g (Isdb.labels u (2 * j + b))) 1)
 
   abbrev row : ℕ → ℕ → List Float → Bool
   row u b xs = all 32 (entry u b) xs
@@ -37,7 +27,7 @@ module _ (g : ℕ → ℕ) where
   rule : (t : List (List (List Float))) → T (all 2 pair t) → (u b j : ℕ) → u < 2 → b < 2 → j < 32
       → lt (getD (getD (getD t u []) b []) j nan) (ofBits binary32 0) ≡ eqb (g (Isdb.labels u (2 * j + b))) 1
   rule t passes u b j hu hb hj =
-      same-eq _ _
+      alike-eq _ _
       (at 32 (entry u b) nan (getD (getD t u []) b [])
       (at 2 (row u) [] (getD t u [])
       (at 2 pair [] t passes u hu)

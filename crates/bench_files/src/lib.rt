@@ -1,3 +1,3 @@
 // The bench program's files, of bytes and of points.
 pub mod files;
-mod points;
+pub mod points;

@@ -1,5 +1,5 @@
 // Points in files: interleaved real and imaginary parts, the low byte first, of f64 (cf64_le) or f32 (cf32_le).
-ghost use Prim.Native.Nat.{_<_, _≤_};
+ghost use Prim.Native.Nat.{_<_};
 
 // A point read from a file, and how many of its bytes were there.
 pub struct Point {
@@ -94,7 +94,7 @@ pub fn read_point(file: i32, narrow: bool) -> Point {
 }
 
 // The pattern of an f64, one for every NaN.
-fn f64_bits(x: f64) -> u64 {
+pub fn f64_bits(x: f64) -> u64 {
     if x != x {
         return 0x7ff8_0000_0000_0000;
     }

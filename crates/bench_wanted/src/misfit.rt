@@ -1,4 +1,5 @@
 // The first point that fits no load: the load that the points show is read off and encoded again, and the frames are compared point by point.
+use bench_files::points::f64_bits;
 use bench_line::space::LOAD_SPACE;
 use bench_line::words::front;
 use bench_words::report;
@@ -19,17 +20,9 @@ ghost use Prim.Native.Nat.{_≤_};
 ghost use Rattle.isdbs_frame.specs.Frame.{mainSymbols};
 ghost use Rattle.isdbs_runs.specs.RunsOf.{Planned};
 
-// The bits of a part, one pattern for every NaN.
-fn bits(x: f64) -> u64 {
-    if x != x {
-        return 0x7ff8_0000_0000_0000;
-    }
-    f64::to_bits(x)
-}
-
 // Whether two parts have other bits.
 fn differ(x: f64, y: f64) -> bool {
-    bits(x) != bits(y)
+    f64_bits(x) != f64_bits(y)
 }
 
 // The first point in which two frames differ, or the end of the frames.
@@ -41,19 +34,17 @@ fn first_difference(
 ) -> usize
     ensures { λ r. ⌜ r ≤ mainSymbols ⌝ }
 {
-    let mut k: usize = 0;
-    while k < MAIN_SYMBOLS {
+    for k in 0..MAIN_SYMBOLS {
         if differ(re[k], xs[k]) || differ(im[k], ys[k]) {
-            break;
+            return k;
         }
-        k = k + 1;
     }
-    k
+    MAIN_SYMBOLS
 }
 
 // A part in words: those of a made frame as numbers, others by their bits.
 fn part(x: f64) {
-    let n = bits(x);
+    let n = f64_bits(x);
     match n {
         0 => text(b"0"),
         0x8000_0000_0000_0000 => text(b"-0"),

@@ -8,16 +8,16 @@ use native.Mathlib.Omega.{arith}
 use lib.IntN.{ℤ}
 use lib.Pow.{pow-pos}
 use lib.Dec.{T, eqb, leb, leb→le}
-use lib.ListN.{getD, length, take, drop, length-append, length-map}
-use lib.Ieee.{Float, nan, binary32, sub, ofBits}
+use lib.ListN.{getD, length, take, drop, length-append}
+use lib.Ieee.{Float, nan, binary32, ofBits}
 use Rattle.trellis.specs.Lists.{bit, upto}
 use Rattle.trellis.specs.Code.{Code, isdb, half, stateAt, label}
 use Rattle.trellis.specs.Isdb
-use Rattle.trellis.specs.Step.{Step, pair, four, Tie, nexts, next, word, top, best, renormalised, back, input, traced}
+use Rattle.trellis.specs.Step.{Step, pair, four, Tie, nexts, word, best, renormalised, back, input, traced}
 use Rattle.trellis.specs.Run.{Decoder, startAt, startUnknown, block, settled, valuesAt, wordAt, decoded, released, stepped, after, closed, pushed, flushed}
 use Rattle.best_path.specs.Paths.{longest, Path, Best, Reading, Any, This, Quadruples}
 use Rattle.trellis.specs.ListLaws.{length-upto, getD-upto}
-use Rattle.trellis.specs.RunLaws.{label-under}
+use Rattle.trellis.specs.RunLaws.{label-under, renormalised-length, nexts-length}
 use Rattle.best_path.specs.Tracks.{Adds, times, Follows}
 use Rattle.best_path.specs.Decoded.{Did, Ended}
 use Rattle.best_path.specs.Integers.{parts-of, quadruples, Pairs, signs, pairs}
@@ -69,18 +69,10 @@ module _ (half : ℕ) (out : ℕ → ℕ → ℕ) (t : Tie) where
   unfolding settled
   plain-pair lx ly i pm = sixty (eqb (i % 64) 63) pm
 
-  pub renormalised-length : (pm : List Float) → length (renormalised half pm) ≡ length pm
-  unfolding renormalised
-  renormalised-length pm = length-map pm (λ x. sub binary32 x (top pm (2 * half)))
-
   times-length : (j : ℕ) (pm : List Float) → length (times half j pm) ≡ length pm
   unfolding times
   times-length zero pm = refl
-  times-length (suc j) pm = renormalised-length (times half j pm) ∙ times-length j pm
-
-  nexts-length : (pm : List Float) (x : Step) → length (nexts half out t pm x) ≡ 2 * half
-  unfolding nexts
-  nexts-length pm x = length-upto (next half out t pm x) (2 * half)
+  times-length (suc j) pm = renormalised-length half (times half j pm) ∙ times-length j pm
 
   module _ (steps : ℕ → Step) (n : ℕ) (plain : (k : ℕ) → k < n → Plain (steps k)) (pm : List Float) (long : 2 * half ≤ length pm) where
     one-step : (k : ℕ) → k < n → valuesAt half out t steps pm (suc k) ≡ times half (bit (eqb (k % 64) 63)) (nexts half out t (valuesAt half out t steps pm k) (steps k))
@@ -90,7 +82,7 @@ module _ (half : ℕ) (out : ℕ → ℕ → ℕ) (t : Tie) where
     values-long : (k : ℕ) → k ≤ n → 2 * half ≤ length (valuesAt half out t steps pm k)
     unfolding valuesAt
     values-long zero h = long
-    values-long (suc k) h = le-of-eq (sym (ap length (one-step k h) ∙ times-length (bit (eqb (k % 64) 63)) (nexts half out t (valuesAt half out t steps pm k) (steps k)) ∙ nexts-length (valuesAt half out t steps pm k) (steps k)))
+    values-long (suc k) h = le-of-eq (sym (ap length (one-step k h) ∙ times-length (bit (eqb (k % 64) 63)) (nexts half out t (valuesAt half out t steps pm k) (steps k)) ∙ nexts-length half out t (valuesAt half out t steps pm k) (steps k)))
 
     pub follows : Follows half out t steps n (valuesAt half out t steps pm)
     follows = record {
@@ -128,7 +120,7 @@ module _ (half : ℕ) (out : ℕ → ℕ → ℕ) (t : Tie) (steps : ℕ → Ste
     unfolding times
     ended = record {
       last = endValues;
-      long = rw (renormalised-length half out t (valuesAt half out t steps pm n)) (values-long half out t steps n plain pm long n (omega arith));
+      long = rw (renormalised-length half (valuesAt half out t steps pm n)) (values-long half out t steps n plain pm long n (omega arith));
       again = 1;
       same = λ s l. refl;
       is-best = refl;

@@ -11,7 +11,7 @@ use lib.Dec.{T, eqb, eqb→eq, leb→le, lit≤, lit<}
 use lib.IntN.{ℤ, pos, negsuc}
 use lib.Signed.{leZ}
 use lib.ListN.{length, getD}
-use lib.Ieee.{Float, nan, binary32, eq, fits, ofInt, ofBits}
+use lib.Ieee.{nan, binary32, eq, fits, ofInt, ofBits}
 use Rattle.ieee.specs.Whole.{hiZ, loZ}
 use Rattle.trellis.specs.Isdb
 use Rattle.trellis.specs.Code.{isdb, stateAt}
@@ -22,7 +22,7 @@ use Rattle.trellis.specs.RunLaws.{label-under}
 use Rattle.trellis.specs.Step.{Step, Tie, traced}
 use Rattle.trellis.specs.Run.{Decoder, startAt, closed, pushed, flushedAt}
 use Rattle.trellis.specs.Stretch.{apart, differing, Bits, Coded}
-use Rattle.trellis.specs.DistanceLaws.{same-or-ten, wrong, wrong-same, wrong-turned, triangle, labelsOf, against, bits-at, bits-of, coded-at}
+use Rattle.trellis.specs.DistanceLaws.{same-or-ten, wrong, wrong-same, wrong-turned, triangle, against, bits-at, bits-of, coded-at}
 use Rattle.best_path.specs.Hard.{mostWrong, soft, softPairs, hard}
 use Rattle.best_path.specs.Paths.{longest, Path, sumℤ, Best, This, Integer}
 use Rattle.best_path.specs.Viterbi.{sum}
@@ -66,12 +66,12 @@ adds p c h l =
     rw (d, m) at (eqb→eq (hiZ (gain (i / 4) (i % 4)) + 2 * apart (i / 4) (i % 4)) (loZ (gain (i / 4) (i % 4)) + 2) (every-at test 16 passes i (omega arith)))
 
 sum-is : (r : ℕ → ℕ) (n : ℕ) → ((k : ℕ) → k < n → r k < 4) → (s : ℕ) (us : List ℕ) (k : ℕ) → k ≤ n
-    → sum Isdb.half Isdb.labels (mz Isdb.half Isdb.labels (metric r)) s us k .0 + 2 * wrong r (labelsOf s us) k ≡ sum Isdb.half Isdb.labels (mz Isdb.half Isdb.labels (metric r)) s us k .1 + 2 * k
+    → sum Isdb.half Isdb.labels (mz Isdb.half Isdb.labels (metric r)) s us k .0 + 2 * wrong r (Isdb.labelAt s us) k ≡ sum Isdb.half Isdb.labels (mz Isdb.half Isdb.labels (metric r)) s us k .1 + 2 * k
 unfolding sum wrong gain
 sum-is r n small s us zero h = refl
 sum-is r n small s us (suc k) h =
     let i = sum-is r n small s us k (omega arith) in
-    let a = adds (r k) (labelsOf s us k) (small k h) (label-under isdb (getD us k 0) (stateAt Isdb.half s us k)) in
+    let a = adds (r k) (Isdb.labelAt s us k) (small k h) (label-under isdb (getD us k 0) (stateAt Isdb.half s us k)) in
     omega arith
 
 below : (a b : ℤ) → T (leZ a b) → hiZ a + loZ b ≤ hiZ b + loZ a
@@ -82,7 +82,7 @@ below (negsuc a) (negsuc b) h = let x = leb→le b a h in omega arith
 
 -- ---- the inputs us are sent from s; r k are the received pairs, and the steps carry their soft values
 module _ (t : Tie) (s : ℕ) (us : List ℕ) (few : length us ≤ longest) (bits : Bits us) (r : ℕ → ℕ) (small : (k : ℕ) → k < length us → r k < 4)
-    (four : wrong r (labelsOf (s % 64) us) (length us) ≤ mostWrong) (steps : ℕ → Step) (are : (k : ℕ) → k < length us → steps k ≡ hard (r k)) where
+    (four : wrong r (Isdb.labelAt (s % 64) us) (length us) ≤ mostWrong) (steps : ℕ → Step) (are : (k : ℕ) → k < length us → steps k ≡ hard (r k)) where
   abbrev n : ℕ
   n = length us
 
@@ -116,7 +116,7 @@ module _ (t : Tie) (s : ℕ) (us : List ℕ) (few : length us ≤ longest) (bits
   long = best .path .count
 
   -- the traced path differs from what was received no more than the sent one
-  nearer : wrong r (labelsOf (s % 64) read) n ≤ mostWrong
+  nearer : wrong r (Isdb.labelAt (s % 64) read) n ≤ mostWrong
   nearer =
       let le = below (sumℤ Isdb.half Isdb.labels (metric r) (s % 64) us n) (sumℤ Isdb.half Isdb.labels (metric r) (s % 64) read n) (best .most (s % 64) us sent refl refl .le) in
       let a = sum-val Isdb.half Isdb.labels (metric r) (s % 64) us n in
@@ -128,11 +128,11 @@ module _ (t : Tie) (s : ℕ) (us : List ℕ) (few : length us ≤ longest) (bits
   close : differing (encoded isdb (s % 64) us) (encoded isdb (s % 64) read) ≤ 8
   close =
       let a = against (encoded isdb (s % 64) us) (s % 64) read (length-encoded isdb (s % 64) us ∙ sym long) in
-      let b : wrong (λ k. getD (encoded isdb (s % 64) us) k 0) (labelsOf (s % 64) read) n ≡ wrong (labelsOf (s % 64) us) (labelsOf (s % 64) read) n =
-      wrong-same (λ k. getD (encoded isdb (s % 64) us) k 0) (labelsOf (s % 64) read) (labelsOf (s % 64) us) (labelsOf (s % 64) read) n (encoded-at isdb (s % 64) us) (λ k h. refl) in
-      let d = triangle (labelsOf (s % 64) us) (labelsOf (s % 64) read) r n in
-      let x = wrong-turned r (labelsOf (s % 64) us) n in
-      let y = wrong-turned r (labelsOf (s % 64) read) n in
+      let b : wrong (λ k. getD (encoded isdb (s % 64) us) k 0) (Isdb.labelAt (s % 64) read) n ≡ wrong (Isdb.labelAt (s % 64) us) (Isdb.labelAt (s % 64) read) n =
+      wrong-same (λ k. getD (encoded isdb (s % 64) us) k 0) (Isdb.labelAt (s % 64) read) (Isdb.labelAt (s % 64) us) (Isdb.labelAt (s % 64) read) n (encoded-at isdb (s % 64) us) (λ k h. refl) in
+      let d = triangle (Isdb.labelAt (s % 64) us) (Isdb.labelAt (s % 64) read) r n in
+      let x = wrong-turned r (Isdb.labelAt (s % 64) us) n in
+      let y = wrong-turned r (Isdb.labelAt (s % 64) read) n in
       let z = nearer in
       omega (arith, rw long at a)
 
@@ -167,7 +167,7 @@ pub known-end : (t : Tie) (tb : ℕ) → 0 < tb → (s e : ℕ) (us ps : List �
 known-end t tb some s e us ps few bits coded count ends four steps are =
     let begun : Decoder = record { values = startAt 64 s; words = []; bits = [] } in
     let r : ℕ → ℕ = λ k. getD ps k 0 in
-    let near : wrong r (labelsOf (s % 64) us) (length us) ≤ mostWrong = subst (λ (k : ℕ). k ≤ mostWrong) (against ps (s % 64) us count) four in
+    let near : wrong r (Isdb.labelAt (s % 64) us) (length us) ≤ mostWrong = subst (λ (k : ℕ). k ≤ mostWrong) (against ps (s % 64) us count) four in
     let last : e % 64 ≡ stateAt Isdb.half (s % 64) us (length us) = sym ends ∙ reached-is isdb (s % 64) us in
     ap (λ (d : Decoder). flushedAt Isdb.half Isdb.labels t e (closed Isdb.half Isdb.labels t d) .bits) (after-held Isdb.half Isdb.labels t tb steps begun (length us) (omega arith))
     ∙ ap (traced Isdb.half (heldWords Isdb.half Isdb.labels t steps (startAt 64 s) (length us))) last

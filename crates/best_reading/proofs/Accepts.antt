@@ -1,64 +1,35 @@
 -- Which rows hold, and what a reading of whole quadruples is. Assumes nothing.
-use mathlib.Core.Path.{_≡_, refl, sym, ap, _∙_, subst}
+use mathlib.Core.Path.{_≡_, refl, sym, ap, _∙_}
 use mathlib.Core.Bool.{Bool, true, false, not, _||_}
 use mathlib.Core.List.{List, []}
-use Prim.Native.Nat.{ℕ, zero, suc, _+_, _-_, _*_, _/_, _%_, _≤_, _<_}
+use Prim.Native.Nat.{ℕ, _+_, _-_, _*_, _/_, _%_, _≤_, _<_}
 use native.Mathlib.Omega.{arith}
 use lib.IntN.{ℤ}
-use lib.Dec.{T, eqb, ltb, ltb→lt, lit≤, lit<}
+use lib.Dec.{T, eqb, ltb, lit≤, lit<}
 use lib.ListN.{length, getD}
-use lib.Ieee.{Float, nan, binary32, neg, le, ofBits, fits}
-use lib.Ieee.Fits.{and-i}
-use Rattle.ieee.specs.Value.{hi, lo}
-use Rattle.ieee.specs.Rounding.{pow2}
-use Rattle.ieee.specs.Whole.{on-neg, hiZ, loZ}
+use lib.Ieee.{Float, nan, binary32, le, fits}
 use Rattle.refusal.specs.Rows.{firstRow}
 use Rattle.refusal.specs.declared.Answer.the-variants.{Accepted, Sample, Space}
 use Rattle.trellis.specs.Isdb
 use Rattle.trellis.specs.Step.{four}
-use Rattle.trellis.specs.Run.{Decoder, block, quadruple, releases, fourSteps}
-use Rattle.best_path.specs.Paths.{longest, bound, Integer, Quadruples, Reading}
-use Rattle.best_path.specs.Exact.{Whole, le-from}
+use Rattle.trellis.specs.Run.{block, quadruple, releases, fourSteps, freshFrom}
+use Rattle.best_path.specs.Paths.{longest, Quadruples, Reading}
 use Rattle.best_path.specs.Calls.{readBits, isdb-given, isdb-unknown}
-use Rattle.best_path.specs.Integers.{integer-whole, hi-most, lo-most}
 use Rattle.refusal.specs.RowLaws as row
 use Rattle.refusal.specs.RowLaws.{neither, neither-holds}
-use borrow.Author.Tests.{ltb-false, lt-ltb}
-use Rattle.isdb_fec.specs.Values.{within, someBeyond, streamLimit}
+use borrow.Author.Tests.{ltb-false, lt-ltb, le-ltb}
+use Rattle.isdb_fec.specs.Values.{someBeyond, streamLimit}
 use Rattle.isdb_fec.specs.Rows.{pushMetricsRows, flushRows, readingRows}
 use Rattle.isdb_fec.specs.Calls.{flush}
 use Rattle.viterbi.specs.CountLaws.{counted, releases-le}
-use Rattle.call_ranges.specs.Inside.{none-beyond}
 use Rattle.call_ranges.specs.Reached.{Reached, with-state, unknown-state}
 use Rattle.call_ranges.specs.Closed.{Fit, soft-fit, four-soft, values-inside, reached-fit, state-fit, traceback-fit}
 use Rattle.call_ranges.specs.Answers.{stream-answer}
 use Rattle.best_path.specs.declared.Start.{Start}
 use Rattle.best_path.specs.declared.Start.the-variants.{Given, Unknown}
 use Rattle.best_path.specs.Fresh.{startValues, StartsIn}
+use Rattle.call_ranges.specs.MetricLaws.{metrics-inside}
 use Rattle.best_reading.specs.Calls.{fresh, read, stateOf}
-
--- ---- tests that fail
-is-false : (b : Bool) → (T b → ⊥) → b ≡ false
-is-false true h = absurd (h tt)
-is-false false h = refl
-
-not-less : (m n : ℕ) → n ≤ m → ltb m n ≡ false
-not-less m n h = is-false (ltb m n) (λ t. let l = ltb→lt m n t in omega arith)
-
--- ---- the limits as whole numbers
-stream-limit : Whole streamLimit 1048576 0
-unfolding ofBits fits hi lo pow2
-stream-limit = record { num = record { fin-x = tt; fits-x = tt }; hi-is = refl; lo-is = refl }
-
--- a whole number within the bound
-integer-inside : (x : Float) (z : ℤ) → Integer bound x z → T (within streamLimit x)
-integer-inside x z i =
-    let p = hi-most bound z (i .within) in
-    let n = lo-most bound z (i .within) in
-    let w = integer-whole bound x z (omega arith) i in
-    and-i (le (neg streamLimit) x) (le x streamLimit)
-    (le-from (neg streamLimit) x 0 1048576 (hiZ z) (loZ z) (on-neg stream-limit) w (omega arith))
-    (le-from x streamLimit (hiZ z) (loZ z) 1048576 0 w stream-limit (omega arith))
 
 -- ---- the start
 start-reached : (start : Start) → Reached (fresh start)
@@ -72,7 +43,7 @@ module _ (start : Start) (xs : List Float) where
   same-rows D O h =
       let r = releases-le 128 0 (length xs / 4) (lit≤ tt) in
       stream-answer (start-reached start) 4 xs D O
-      ∙ ap (λ (w : Bool). firstRow (row.replaced Space (w || ltb D (block + 128)) (readingRows xs D O))) (not-less O (block * releases 128 0 (length xs / 4)) (omega arith) ∙ sym (not-less O (length xs / 4) h))
+      ∙ ap (λ (w : Bool). firstRow (row.replaced Space (w || ltb D (block + 128)) (readingRows xs D O))) (le-ltb O (block * releases 128 0 (length xs / 4)) (omega arith) ∙ sym (le-ltb O (length xs / 4) h))
 
   -- with too few they are those of `push_metrics` that is lent no decisions
   space-short : (D O : ℕ) → O < length xs / 4 → (ltb O (length xs / 4) || ltb D (block + 128)) ≡ true
@@ -107,9 +78,6 @@ module _ (start : Start) (xs : List Float) where
     abbrev n : ℕ
     n = length xs / 4
 
-    abbrev begun : Decoder
-    begun = record { values = startValues Isdb.states start; words = []; bits = [] }
-
     read-fit : someBeyond streamLimit xs ≡ false → Fit (stateOf (read start xs))
     read-fit e = soft-fit (reached-fit (start-reached start)) (fourSteps xs) n (four-soft xs (values-inside xs fit e)) []
 
@@ -117,36 +85,24 @@ module _ (start : Start) (xs : List Float) where
     flush-accepts D O a =
         let p = passed D O a in
         let pl = p .places in
-        let c = counted Isdb.half Isdb.labels Isdb.rule 128 (fourSteps xs) begun (lit≤ tt) (lit≤ tt) (lit< tt) n in
+        let c = counted Isdb.half Isdb.labels Isdb.rule 128 (fourSteps xs) (freshFrom (startValues Isdb.states start)) (lit≤ tt) (lit≤ tt) (lit< tt) n in
         let f = c .few in
         let wl = c .words-left in
         let bo = c .bits-out in
         let d = read start xs in
         let g = read-fit (p .sample) in
         row.none-accepted (flushRows (stateOf d) D (O - length (d .bits)))
-        (traceback-fit g, (state-fit g, (neither-holds (ltb (O - length (d .bits)) (length (d .words))) (ltb D (block + 128)) (not-less (O - length (d .bits)) (length (d .words)) (omega arith)) (not-less D (block + 128) (p .words)), tt)))
+        (traceback-fit g, (state-fit g, (neither-holds (ltb (O - length (d .bits)) (length (d .words))) (ltb D (block + 128)) (le-ltb (O - length (d .bits)) (length (d .words)) (omega arith)) (le-ltb D (block + 128) (p .words)), tt)))
 
 -- ---- whole quadruples
 module _ (start : Start) (xs : List Float) (n : ℕ) (m : ℕ → ℕ → ℤ) (count : length xs ≡ 4 * n) (few : n ≤ longest) (quads : Quadruples (quadruple xs) m n) where
-  metric-inside : (i : ℕ) → i < length xs → T (within streamLimit (getD xs i nan))
-  metric-inside i h =
-      let k = i / 4 in
-      integer-inside (getD xs i nan) (m k (i % 4)) (subst (λ (x : Float). Integer bound x (m k (i % 4))) (go (i % 4) (omega arith) (omega arith)) (quads k (i % 4) (omega arith) (omega arith)))
-    where
-      go : (c : ℕ) → c < 4 → i ≡ 4 * (i / 4) + c → getD (quadruple xs (i / 4)) c nan ≡ getD xs i nan
-      go zero l e = let z : 4 * (i / 4) ≡ i = omega arith in ap (λ (j : ℕ). getD xs j nan) z
-      go (suc zero) l e = ap (λ (j : ℕ). getD xs j nan) (sym e)
-      go (suc (suc zero)) l e = ap (λ (j : ℕ). getD xs j nan) (sym e)
-      go (suc (suc (suc zero))) l e = ap (λ (j : ℕ). getD xs j nan) (sym e)
-      go (suc (suc (suc (suc c)))) l e = absurd (omega arith)
-
   in-fours : not (eqb (length xs % 4) 0) ≡ false
   in-fours = let e : length xs % 4 ≡ 0 = omega arith in rw e refl
 
   pub whole-accepts : (D O : ℕ) → block + 128 ≤ D → n ≤ O → firstRow (readingRows xs D O) ≡ Accepted
   whole-accepts D O h k =
       row.none-accepted (readingRows xs D O)
-      (in-fours, (none-beyond streamLimit xs metric-inside, (neither-holds (ltb O (length xs / 4)) (ltb D (block + 128)) (not-less O (length xs / 4) (omega arith)) (not-less D (block + 128) h), tt)))
+      (in-fours, (metrics-inside xs n m count quads, (neither-holds (ltb O (length xs / 4)) (ltb D (block + 128)) (le-ltb O (length xs / 4) (omega arith)) (le-ltb D (block + 128) h), tt)))
 
   bits-are : (start : Start) → Reading Isdb.half Isdb.labels Isdb.rule (StartsIn Isdb.states start) m n (readBits Isdb.half Isdb.labels Isdb.rule 128 (λ k. four (quadruple xs k)) (startValues Isdb.states start) n)
   bits-are (Given s) = isdb-given 128 (lit< tt) (quadruple xs) m n few quads s

@@ -1,9 +1,9 @@
 -- A decoder state that comes from a fresh start by accepted calls is never refused for its own sake: its path values stay within the row's limit, it holds fewer
 -- than 4,096 + traceback words, and its traceback stays. Assumes nothing.
 use mathlib.Core.Path.{_≡_, sym}
-use mathlib.Core.Bool.{Bool, true, false, cond}
+use mathlib.Core.Bool.{false}
 use mathlib.Core.List.{List, [], _∷_}
-use Prim.Native.Nat.{ℕ, zero, suc, _+_, _*_, _/_, _%_, _<_, _≤_}
+use Prim.Native.Nat.{ℕ, zero, suc, _+_, _*_, _/_, _<_, _≤_}
 use native.Mathlib.Nat.{min-le-left}
 use native.Mathlib.Omega.{arith}
 use borrow.Author.Tests.{ltb-false}
@@ -16,9 +16,9 @@ use Rattle.trellis.specs.Isdb
 use Rattle.trellis.specs.Step.{Step}
 use Rattle.trellis.specs.Run.{Decoder, block, tracebackLimit, pairSteps, fourSteps, knownSteps}
 use Rattle.lead.specs.Ties.{false-of}
-use Rattle.trellis.specs.RunLaws.{after-values}
+use Rattle.trellis.specs.RunLaws.{after-values, depth-range}
 use Rattle.lead.specs.Complement.{small}
-use Rattle.path_ranges.specs.Bounds.{Within, wider}
+use Rattle.path_ranges.specs.Bounds.{Within, wider, ruledOut}
 use Rattle.path_ranges.specs.Values.{nothing, from-least, to-most}
 use Rattle.path_ranges.specs.Steps.{Soft, two, quad, soft-falls}
 use Rattle.path_ranges.specs.Invariant.{Bounded, bounded-within}
@@ -34,7 +34,7 @@ use Rattle.refusal.specs.RowLaws.{passed, none-accepted}
 use Rattle.call_ranges.specs.Inside.{inside-within, within-inside, none-beyond, all-inside}
 use Rattle.call_ranges.specs.Reached as reached
 use Rattle.call_ranges.specs.Reached.{Reached, Floats, with-state, unknown-state}
-use Rattle.call_ranges.specs.Numbers.{ruledOut, stepMost, streamMost, deepest, leastPath, pathMost, stream-limits, stream-deep, path-limit, stream-limit, least-path}
+use Rattle.call_ranges.specs.Numbers.{stepMost, streamMost, deepest, leastPath, pathMost, stream-limits, path-limit, stream-limit, least-path}
 
 -- what holds of every such state
 pub record Fit (v : ViterbiDecoder) : Type 0 where
@@ -44,17 +44,9 @@ pub record Fit (v : ViterbiDecoder) : Type 0 where
   pub values : Bounded stepMost ruledOut 0 0 (v .pm)
 
 -- ---- the fresh start
-traceback-is : (b : Bool) (tb : ℕ) → (T b → tb ≡ 0) → (tb ≡ 0 → T b) → tb ≤ tracebackLimit → (1 ≤ cond b 1 tb) × (cond b 1 tb ≤ tracebackLimit)
-traceback-is true tb f g h = (lit≤ tt, lit≤ tt)
-traceback-is false tb f g h = (omega (arith, g), h)
-
-fresh-traceback : (tb : ℕ) → Accepted ≡ firstRow (freshRows tb) → (1 ≤ cond (eqb tb 0) 1 tb) × (cond (eqb tb 0) 1 tb ≤ tracebackLimit)
-fresh-traceback tb e =
-    traceback-is (eqb tb 0) tb (eqb→eq tb 0) (λ z. rw z tt) (ltb-false tracebackLimit tb (passed (freshRows tb) tt (sym e) Traceback))
-
 fresh-fit : {tb : ℕ} {pm : List Float} {v : ViterbiDecoder} → Accepted ≡ firstRow (freshRows tb) → Bounded stepMost ruledOut 0 0 pm → Fresh tb pm v → Fit v
 fresh-fit {tb} {pm} {v} e b f =
-    let t = fresh-traceback tb e in
+    let t = depth-range tb (ltb-false tracebackLimit tb (passed (freshRows tb) tt (sym e) Traceback)) in
     let h = f .held-is in
     let k = f .traceback-is in
     record { least = omega arith; most = omega arith; fewer = omega arith; values = rw (f .values) b }
@@ -98,7 +90,7 @@ known-fit {v} i bits n decisions₀ = record {
   least = i .least;
   most = i .most;
   fewer = held-fit i decisions₀ (knownSteps bits) n;
-  values = rw (after-values Isdb.half Isdb.labels Isdb.rule (v .traceback) (knownSteps bits) (handed v decisions₀) n) (known-call stream-limits Isdb.labels small Isdb.rule stream-deep (λ k. getD bits k 0) (v .pm) (i .values) n);
+  values = rw (after-values Isdb.half Isdb.labels Isdb.rule (v .traceback) (knownSteps bits) (handed v decisions₀) n) (known-call stream-limits Isdb.labels small Isdb.rule (lit≤ tt) (λ k. getD bits k 0) (v .pm) (i .values) n);
 }
 
 -- ---- the values of an accepted stream

@@ -1,11 +1,12 @@
 -- The bounds of a decoder's stream values and path values, in one place. All but the stream's limit itself are multiples of 512, which is the unit of
 -- crate path_ranges. Assumes nothing.
 use mathlib.Core.Path.{_≡_, refl}
-use Prim.Native.Nat.{ℕ, _+_, _*_, _≤_}
+use Prim.Native.Nat.{ℕ, _+_, _*_}
 use lib.Dec.{lit≤}
 use lib.Ieee.{Float, binary32, fits, ofBits}
 use Rattle.ieee.specs.Value.{hi, lo}
 use Rattle.ieee.specs.Rounding.{pow2}
+use Rattle.path_ranges.specs.Bounds.{ruledOut}
 use Rattle.path_ranges.specs.Values.{Is}
 use Rattle.path_ranges.specs.Invariant.{Limits}
 use Rattle.isdb_fec.specs.Values.{pathLimit, streamLimit}
@@ -17,10 +18,6 @@ streamMost = 2048
 -- 2,097,152: what a step adds at most, two soft values or one metric
 abbrev pub stepMost : ℕ
 stepMost = 4096
-
--- 1.0e9, the value that a ruled out state is set to, without its sign
-abbrev pub ruledOut : ℕ
-ruledOut = 1953125
 
 -- 1,025,165,824 = 1.0e9 + 12 * 2,097,152: how far below 0 a path value can be
 abbrev pub deepest : ℕ
@@ -36,10 +33,6 @@ pathMost = 8388608
 
 pub stream-limits : Limits stepMost stepMost ruledOut
 stream-limits = record { wide = lit≤ tt; start = lit≤ tt; fits = lit≤ tt }
-
--- room for -1.0e9
-pub stream-deep : 1953125 ≤ ruledOut
-stream-deep = lit≤ tt
 
 pub deepest-is : ruledOut + 12 * stepMost ≡ deepest
 deepest-is = refl

@@ -6,7 +6,7 @@ use Prim.Native.Nat.{ℕ}
 use lib.Dec.{eqb}
 use lib.ListN.{length}
 use lib.Ieee.{Float}
-use borrow.Author.Tests.{ne-eqb, eqb-true, eqb-false}
+use borrow.Author.Tests.{eqb-true, eqb-false}
 use Rattle.refusal.specs.declared.Answer.{Answer}
 use Rattle.refusal.specs.declared.Answer.the-variants as answer
 use Rattle.refusal.specs.Rows.{Row, numberOf, firstRow, Either}
@@ -28,17 +28,6 @@ use Rattle.answers_c.specs.LengthLaws.{states-answer}
 use Rattle.codes_c.specs.Stored.{Stored, Traced}
 
 -- ---- what is handed back
--- where nothing is
-pub unstored : (n tb : ℕ) (d : Decoder) (pm : List Float) (held count : ℕ) (decisions out : List ℕ) → (n ≡ 0 → ⊥) → Stored n tb d pm pm held held count count decisions decisions out out
-unstored n tb d pm held count decisions out h =
-    let e = ne-eqb n 0 h in
-    record { values = rw e; held-is = rw e; count-is = rw e; words = rw e; bits = rw e }
-
-pub unflushed : (c : Code) (s n : ℕ) (v : ViterbiDecoder) (count : ℕ) (decisions out : List ℕ) → (n ≡ 0 → ⊥) → Traced c s n v (v .pm) (v .held) count count decisions decisions out out
-unflushed c s n v count decisions out h =
-    let e = ne-eqb n 0 h in
-    record { values = refl; held-is = rw e; count-is = rw e; words = rw e; bits = rw e }
-
 module _ (v : ViterbiDecoder) (r : Released) (n : ℕ) (pm : List Float) (held count₀ count : ℕ) (decisions₀ decisions out₀ out : List ℕ)
     (en : n ≡ numberOf (r .answer)) (ep : pm ≡ left n (r .dec .pm) (v .pm)) (eh : held ≡ left n (r .dec .held) (v .held)) (ec : count ≡ left n (r .count) count₀) where
   refuses : (n ≡ 0 → ⊥) → r .answer ≡ answer.Accepted → ⊥

@@ -1,5 +1,6 @@
 // The C calls of a code of constraint length 3 to 7 with two generators. The caller holds the state: 64 path values at every length, how many decision words are
 // held, and the traceback.
+use decoder_c::HELD;
 use decoder_c::decoder_of;
 use decoder_c::store;
 use isdb_fec::conv::ConvEncoder;
@@ -9,10 +10,8 @@ use isdb_fec::conv::some_beyond;
 use short_code::bad;
 use short_code::half;
 use short_fec::Code;
-use trellis::BLOCK;
 use trellis::STATES;
 ghost use mathlib.Core.Path.{_≡_};
-ghost use mathlib.Core.Bool.{not};
 ghost use Prim.Native.Nat.{_/_};
 ghost use lib.ListN.{length, take};
 ghost use Rattle.trellis.specs.Lists.{laid};
@@ -26,9 +25,6 @@ ghost use Rattle.answers_c.specs.Answers.{answered, left};
 ghost use Rattle.answers_c.specs.Lengths.{untilLength, withStates};
 ghost use Rattle.decoder_c.specs.Decoders.{decoderOf};
 ghost use Rattle.codes_c.specs.Stored.{codeFrom, Stored, Traced};
-
-// The bits that leave at once: a state holds fewer words than these and its traceback.
-const HELD: u64 = BLOCK as u64;
 
 // The code of three numbers.
 fn code_from(constraint: u8, g1: u8, g2: u8) -> Code

@@ -1,14 +1,12 @@
 -- A call of the decoder as the C call hands it back: answered, and the lent places, from what the library's call leaves. Assumes nothing.
 use mathlib.Core.Path.{_≡_, refl, sym, _∙_, ap}
-use mathlib.Core.Bool.{Bool, true, false, cond, not}
-use mathlib.Core.List.{List, [], _∷_}
+use mathlib.Core.Bool.{Bool, true, false}
+use mathlib.Core.List.{List}
 use Prim.Native.Nat.{ℕ}
-use native.Mathlib.Omega.{arith}
 use lib.Dec.{eqb}
 use lib.ListN.{length}
 use lib.Ieee.{Float}
 use borrow.Author.Tests.{eq-eqb, ne-eqb, eqb-true, eqb-false}
-use Rattle.refusal.specs.declared.Answer.{Answer}
 use Rattle.refusal.specs.declared.Answer.the-variants.{Accepted}
 use Rattle.refusal.specs.Rows.{Row, numberOf, firstRow, Either}
 use Rattle.refusal.specs.RowLaws.{zero-accepted}
@@ -20,17 +18,6 @@ use Rattle.answers_c.specs.Answers.{answered, left}
 use Rattle.answers_c.specs.Lengths.{withStates}
 use Rattle.decoder_c.specs.Decoders.{Stored, Emitted}
 use Rattle.answers_c.specs.LengthLaws.{states-answer}
-
--- where nothing is stored
-pub unstored : (n tb : ℕ) (d : Decoder) (pm : List Float) (held count : ℕ) (decisions out : List ℕ) → (n ≡ 0 → ⊥) → Stored n tb d pm pm held held count count decisions decisions out out
-unstored n tb d pm held count decisions out h =
-    let e = ne-eqb n 0 h in
-    record { values = rw e; held-is = rw e; count-is = rw e; words = rw e; bits = rw e }
-
-pub unflushed : (emitted : List ℕ) (n : ℕ) (v : ViterbiDecoder) (count : ℕ) (decisions out : List ℕ) → (n ≡ 0 → ⊥) → Emitted emitted n v (v .pm) (v .held) count count decisions decisions out out
-unflushed emitted n v count decisions out h =
-    let e = ne-eqb n 0 h in
-    record { values = refl; held-is = rw e; count-is = rw e; words = rw e; bits = rw e }
 
 module _ (v : ViterbiDecoder) (r : Released) (n : ℕ) (pm : List Float) (held count₀ count : ℕ) (decisions₀ decisions out₀ out : List ℕ)
     (en : n ≡ numberOf (r .answer)) (ep : pm ≡ left n (r .dec .pm) (v .pm)) (eh : held ≡ left n (r .dec .held) (v .held)) (ec : count ≡ left n (r .count) count₀) where

@@ -1,1 +1,2 @@
 pub mod Decoders
+pub mod StoredLaws

@@ -1,4 +1,5 @@
 // A decoder whose state C holds: 64 path values, how many decision words are held, and the traceback. Taken from the lent places, and handed back.
+use acs::states;
 use isdb_fec::conv::PATH_LIMIT;
 use isdb_fec::conv::Released;
 use isdb_fec::conv::TRACEBACK_LIMIT;
@@ -15,7 +16,7 @@ ghost use Rattle.decoder_c.specs.Decoders.{decoderOf};
 ghost use Rattle.trellis.specs.Isdb;
 
 // The bits that leave at once: a state holds fewer words than these and its traceback.
-const HELD: u64 = BLOCK as u64;
+pub const HELD: u64 = BLOCK as u64;
 
 // The answer where the path values are not 64: rows 3 and 4 stand above 5.
 pub fn not_states(pm: &[f32], held: u64, traceback: u64) -> u32
@@ -50,14 +51,6 @@ pub fn decoder_of(pm: &[f32], held: u64, traceback: u64) -> ViterbiDecoder
         held: held as usize,
         traceback: traceback as usize,
     }
-}
-
-// The number of states, which the type of the path values fixes.
-fn states(values: &[f32; STATES]) -> usize
-    ensures { λ r. ⌜ (r ≡ Isdb.states) × (length (now (values .entry)) ≡ Isdb.states) ⌝ }
-{
-    let all: &[f32] = values;
-    all.len()
 }
 
 // Copies the path values back.

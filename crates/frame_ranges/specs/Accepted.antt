@@ -1,14 +1,14 @@
 -- The rows of `decode_frame` give the sizes of the parts and of the scale, and these give the ranges. Assumes nothing.
-use mathlib.Core.Path.{_≡_, refl, sym, ap, _∙_, subst}
+use mathlib.Core.Path.{_≡_, sym, subst}
 use mathlib.Core.Logic.{inl, inr}
-use mathlib.Core.Bool.{Bool, true, false, not, cond, _||_}
-use mathlib.Core.List.{List, [], _∷_, _++_}
+use mathlib.Core.Bool.{Bool, true, false, not}
+use mathlib.Core.List.{List, _++_}
 use Prim.Native.Nat.{ℕ, zero, suc, _+_, _-_, _*_, _<_, _≤_}
 use native.Mathlib.Nat.{not-suc-le-zero}
 use native.Mathlib.Omega.{arith}
 use borrow.Author.Count.{below-more}
-use lib.Dec.{T, ltb, lit≤, lit<}
-use lib.ListN.{getD, length}
+use lib.Dec.{T, lit≤, lit<}
+use lib.ListN.{getD}
 use lib.Ieee.{Float, nan, inf, fin, binary32, binary64, neg, lt, le, fits, ofBits}
 use lib.Ieee.Fits.{and-i, and-l, and-r}
 use Rattle.refusal.specs.Rows.{Row, firstRow}
@@ -20,7 +20,7 @@ use Rattle.trellis.specs.Step.{Tie, nexts, renormalised}
 use Rattle.trellis.specs.Run.{valuesAt, pushed, freshFrom}
 use Rattle.trellis.specs.RunLaws.{after-values}
 use Rattle.lead.specs.Complement.{small, complement}
-use Rattle.path_ranges.specs.Bounds.{Within, wider}
+use Rattle.path_ranges.specs.Bounds.{Within, wider, ruledOut}
 use Rattle.path_ranges.specs.Values.{nothing, from-least, to-most}
 use Rattle.path_ranges.specs.Steps.{Soft, quad, Falls, quad-falls}
 use Rattle.path_ranges.specs.Invariant.{Bounded, bounded-within}
@@ -42,7 +42,7 @@ use Rattle.frame_read.specs.Steps.{frameMetrics}
 use Rattle.frame_read.specs.ScaleLaws.{word-in}
 use Rattle.frame_read.specs.Scales.{scaleOf, receivedBy}
 use Rattle.isdb_fec.specs.Values.{within}
-use Rattle.frame_ranges.specs.NumberLaws.{part-limit, scale-limit, soft-limit, metric-limit, step-most, path-limits, known-limits, known-deep, under-ruled, least-path, most-path}
+use Rattle.frame_ranges.specs.NumberLaws.{part-limit, scale-limit, soft-limit, metric-limit, step-most, path-limits, known-limits, under-ruled, least-path, most-path}
 use Rattle.frame_ranges.specs.Size.{Size, two-lo, between-size, size-from, size-to}
 use Rattle.frame_ranges.specs.Rising.{Up, Rises}
 use Rattle.frame_ranges.specs.Metrics.{Sized, soft-in, metric-in, metric-rises}
@@ -51,7 +51,7 @@ use Rattle.isdbs_frame.specs.Frame.{mainSymbols, w1}
 use Rattle.trellis.specs.Isdb.{frameTraceback}
 use Rattle.trellis.specs.Isdb
 use Rattle.frame_ranges.specs.Limits.{softLimit, metricLimit, leastPath, mostPath}
-use Rattle.frame_ranges.specs.Numbers.{ruledOut, partPower, scalePower, metricPower, stepMost, floor}
+use Rattle.frame_ranges.specs.Numbers.{partPower, scalePower, metricPower, stepMost, floor}
 
 -- ---- a value within a power of two, as a test
 size-within : {t : ℕ} {x : Float} (limit : Float) → limit ≡ two-to t → t ≤ 127 → Size binary32 t x → T (within limit x)
@@ -188,7 +188,7 @@ module _ (e : Tie) (t : Table) (r : Received) (metrics : (k l : ℕ) → k < fra
       at-known = λ j.
           let d = pushed Isdb.half Isdb.labels e frameTraceback (frameMetrics t r) (freshFrom pm) (frameSteps t) in
           rw (after-values Isdb.half Isdb.labels e frameTraceback knownBits d j)
-          (below-zero (valuesAt Isdb.half Isdb.labels e knownBits (d .values) j) (known-call known-limits Isdb.labels small e known-deep (wordBit w1) (d .values) ended j));
+          (below-zero (valuesAt Isdb.half Isdb.labels e knownBits (d .values) j) (known-call known-limits Isdb.labels small e (lit≤ tt) (wordBit w1) (d .values) ended j));
     }
 
 start-bounded : (knownStart first : Bool) → Bounded stepMost floor 0 0 (startValues knownStart first)

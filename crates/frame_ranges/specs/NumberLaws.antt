@@ -6,12 +6,12 @@ use lib.Ieee.{binary32, fits, low, ofBits}
 use Rattle.ieee.specs.Value.{mag, hi, lo}
 use Rattle.ieee.specs.Rounding.{pow2, pow2-add}
 use Rattle.ieee.specs.Constants.{two-to}
-use Rattle.path_ranges.specs.Bounds.{U}
+use Rattle.path_ranges.specs.Bounds.{U, ruledOut}
 use Rattle.path_ranges.specs.Values.{Is}
 use Rattle.path_ranges.specs.Invariant.{Limits}
 use Rattle.isdbs_phy.specs.DecodeRows.{partLimit, scaleLimit}
 use Rattle.frame_ranges.specs.Limits.{softLimit, metricLimit, leastPath, mostPath}
-use Rattle.frame_ranges.specs.Numbers.{ruledOut, partPower, scalePower, softPower, metricPower, stepMost, floor}
+use Rattle.frame_ranges.specs.Numbers.{partPower, scalePower, softPower, metricPower, stepMost, floor}
 
 -- ---- that they belong together
 pub part-limit : partLimit ≡ two-to partPower
@@ -39,9 +39,6 @@ path-limits = record { wide = lit≤ tt; start = lit≤ tt; fits = lit≤ tt }
 -- once the frame's steps are done nothing is added
 pub known-limits : Limits 0 0 ruledOut
 known-limits = record { wide = lit≤ tt; start = lit≤ tt; fits = lit≤ tt }
-
-pub known-deep : 1953125 ≤ ruledOut
-known-deep = lit≤ tt
 
 -- how far down the frame's steps lead is above -1.0e9
 pub under-ruled : floor + 12 * stepMost ≤ ruledOut

@@ -23,7 +23,3 @@ stepMost = 16384
 -- 2 ^ 29, which is 64 steps: the best path value of a frame never falls
 abbrev pub floor : ℕ
 floor = 1048576
-
--- 1.0e9, what a ruled out state is set to, without its sign
-abbrev pub ruledOut : ℕ
-ruledOut = 1953125

@@ -92,10 +92,10 @@ pub or-split : (a b : Bool) → T (a || b) → T a ⊎ T b
 or-split true b t = inl tt
 or-split false b t = inr t
 
-of-le : (a b : ℕ) (c : Bool) → (a ≡ b → T c) → a ≤ b → T (ltb a b || c)
+pub of-le : (a b : ℕ) (c : Bool) → (a ≡ b → T c) → a ≤ b → T (ltb a b || c)
 of-le a b c k h = elim (eq-or-lt-of-le h) [ inl p ↦ or-r (ltb a b) c (k p) | inr q ↦ or-l (ltb a b) c (lt→ltb a b q) ]
 
-lt-or : (a b : ℕ) (c : Bool) → (T c → a ≡ b) → T (ltb a b || c) → a ≤ b
+pub lt-or : (a b : ℕ) (c : Bool) → (T c → a ≡ b) → T (ltb a b || c) → a ≤ b
 lt-or a b c k t = elim (or-split (ltb a b) c t) [ inl u ↦ le-of-lt (ltb→lt a b u) | inr u ↦ le-of-eq (k u) ]
 
 -- ---- the sum of a and b is 0 or above

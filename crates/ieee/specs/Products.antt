@@ -5,7 +5,7 @@ use mathlib.Core.Path.{_≡_, sym, ap, _∙_, subst}
 use mathlib.Core.Logic.{_⊎_, inl, inr}
 use mathlib.Core.Bool.{Bool, true, false}
 use Prim.Native.Nat.{ℕ, _+_, _-_, _*_, _^_, _≤_, _<_, zero-le}
-use native.Mathlib.Nat.{le-trans, le-of-eq, lt-of-le-of-lt, mul-assoc, mul-comm, mul-mul-mul-comm, zero-mul, mul-pos, mul-le-mul-right, mul-le-mul, mul-sub}
+use native.Mathlib.Nat.{le-trans, le-of-eq, lt-of-le-of-lt, mul-assoc, mul-mul-mul-comm, zero-mul, mul-pos, mul-le-mul-right, mul-le-mul}
 use native.Mathlib.Omega.{arith}
 use lib.IntN.{ℤ}
 use lib.Dec.{lit≤}
@@ -17,7 +17,7 @@ use lib.Ieee.Scale.{round-same, overflow}
 use Rattle.ieee.specs.Nearest.{rnd, rnd-mono, rnd-same, rnd-fix, near, near-is}
 use Rattle.ieee.specs.Value.{mag, hi, lo, Num, shape, hi-of, lo-of, finite-of, one-side, hi-fix, lo-fix, hi-under, lo-under, hi-neg, lo-neg, num-neg}
 use Rattle.ieee.specs.Order.{Le}
-use Rattle.ieee.specs.Rounding.{prec-pos, round-at, rounds-self, Between}
+use Rattle.ieee.specs.Rounding.{prec-pos, round-at, rounds-self, Between, sub-mul}
 
 -- ---- a value that is (P - N) / D units, rounded
 pub record RoundsBy (f : Format) (z : Float) (P N D : ℕ) : Type 0 where
@@ -114,9 +114,6 @@ mul-rounds f (fin true m e) (fin true n d) p q g =
     (up-by f (0 * 0 + A * B) (0 * B + A * 0) (A * B) g (small' A B) (big' A B))
 
 -- ---- the order, as in `Rounding`
-sub-mul : (a b u : ℕ) → a * u - b * u ≡ (a - b) * u
-sub-mul a b u = ap (λ (x : ℕ). x - b * u) (mul-comm a u) ∙ ap (λ (x : ℕ). u * a - x) (mul-comm b u) ∙ sym (mul-sub u a b) ∙ mul-comm u (a - b)
-
 -- (P - N) / D ≤ (P' - N') / D'
 scaled : (P N D P' N' D' : ℕ) → P * D' + N' * D ≤ P' * D + N * D' → (P - N) * D' ≤ (P' - N') * D
 scaled P N D P' N' D' h =

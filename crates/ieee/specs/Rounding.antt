@@ -210,7 +210,7 @@ pub record Exactly (f : Format) (z : Float) (p n u : ℕ) : Type 0 where
   pub hi-is : hi f z ≡ (p - n) * u
   pub lo-is : lo f z ≡ (n - p) * u
 
-sub-mul : (a b u : ℕ) → a * u - b * u ≡ (a - b) * u
+pub sub-mul : (a b u : ℕ) → a * u - b * u ≡ (a - b) * u
 sub-mul a b u = ap (λ (x : ℕ). x - b * u) (mul-comm a u) ∙ ap (λ (x : ℕ). u * a - x) (mul-comm b u) ∙ sym (mul-sub u a b) ∙ mul-comm u (a - b)
 
 pub rounds-exact : {f : Format} {z : Float} {P N : ℕ} (p n j : ℕ) → Rounds f z P N → P ≡ p * 2 ^ j → N ≡ n * 2 ^ j → p ≤ n + 2 ^ prec f → n ≤ p + 2 ^ prec f → Exactly f z p n (2 ^ j)

@@ -5,7 +5,7 @@
 // The figures have six stages. X sums the input and the stages 1, 2, 3 and 6, Y the input and the stages 2, 3, 5 and 6; with the input as the
 // highest of seven digits these are 171 and 133 octal.
 ghost use mathlib.Core.Path.{_≡_};
-ghost use Prim.Native.Nat.{ℕ, _+_, _*_, _<_, _≤_, _/_, _%_};
+ghost use Prim.Native.Nat.{_+_, _*_, _<_, _/_, _%_};
 ghost use lib.ListN.{length};
 ghost use Rattle.refusal.specs.Rows.{firstRow, Either};
 ghost use Rattle.trellis.specs.Code.{isdb, output, moved};
@@ -21,6 +21,7 @@ pub use trellis::TRACEBACK_LIMIT;
 use viterbi::At;
 use viterbi::Step;
 use viterbi::advance;
+use viterbi::depth_of;
 use viterbi::encode_bit;
 use viterbi::finish;
 use viterbi::finish_at;
@@ -149,7 +150,7 @@ fn fresh(traceback: usize, pm: [f32; STATES]) -> Made
             },
         };
     }
-    let depth = if traceback == 0 { 1 } else { traceback };
+    let depth = depth_of(traceback);
     Made {
         answer: Answer::Accepted,
         dec: ViterbiDecoder {

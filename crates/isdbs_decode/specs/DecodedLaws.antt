@@ -4,7 +4,7 @@ use mathlib.Core.Bool.{Bool, true, false, cond}
 use mathlib.Core.List.{List, [], _∷_, _++_}
 use Prim.Native.Nat.{ℕ, zero, suc, _+_, _-_, _/_, _%_, _^_, _<_, _≤_}
 use native.Mathlib.Omega.{arith}
-use native.Mathlib.Nat.{not-suc-le-zero, le-of-suc-le-suc, mod-lt}
+use native.Mathlib.Nat.{mod-lt}
 use lib.Dec.{leb, lit<, lit≤}
 use lib.ListN.{length, getD, take, drop, length-append}
 use lib.Ieee.{Float, nan}
@@ -23,31 +23,22 @@ use Rattle.isdbs_runs.specs.RunsOf.{frameSteps}
 use Rattle.isdbs_metrics.specs.Reading.{Received, startValues, decodedBits, knownBits}
 use Rattle.frame_end.specs.End.{endedBits}
 use Rattle.frame_read.specs.Steps.{frameMetrics}
+use Rattle.trellis.specs.Stretch.{Bits}
 use Rattle.isdbs_decode.specs.Runs.{bitsFrom}
 
--- each of a list is 0 or 1
-abbrev pub Binary : List ℕ → Type 0
-Binary [] = Unit
-Binary (b ∷ bs) = (b < 2) × Binary bs
-
-binary-append : (a b : List ℕ) → Binary a → Binary b → Binary (a ++ b)
+binary-append : (a b : List ℕ) → Bits a → Bits b → Bits (a ++ b)
 binary-append [] b p q = q
 binary-append (x ∷ a) b p q = (p .0, binary-append a b (p .1) q)
 
-binary-take : (n : ℕ) (a : List ℕ) → Binary a → Binary (take n a)
+binary-take : (n : ℕ) (a : List ℕ) → Bits a → Bits (take n a)
 binary-take zero a p = tt
 binary-take (suc n) [] p = tt
 binary-take (suc n) (x ∷ a) p = (p .0, binary-take n a (p .1))
 
-binary-upto : (f : ℕ → ℕ) (n : ℕ) → ((i : ℕ) → f i < 2) → Binary (upto f n)
+binary-upto : (f : ℕ → ℕ) (n : ℕ) → ((i : ℕ) → f i < 2) → Bits (upto f n)
 unfolding upto
 binary-upto f zero h = tt
 binary-upto f (suc n) h = binary-append (upto f n) (f n ∷ []) (binary-upto f n h) (h n, tt)
-
-pub binary-at : (bs : List ℕ) → Binary bs → (i : ℕ) → i < length bs → getD bs i 0 < 2
-binary-at [] p i h = absurd (not-suc-le-zero h)
-binary-at (b ∷ bs) p zero h = p .0
-binary-at (b ∷ bs) p (suc i) h = binary-at bs (p .1) i (le-of-suc-le-suc h)
 
 -- a traced path keeps to the 64 states
 kept-small : (w s : ℕ) → kept 32 w s < 64
@@ -70,20 +61,20 @@ unfolding step.best
 best-small pm zero = omega arith
 best-small pm (suc n) = chosen (takes Isdb.rule (getD pm (best pm n) nan) (getD pm (suc n) nan)) n (best pm n) (best-small pm n)
 
-traced-binary : (ws : List ℕ) (s : ℕ) → s < 64 → Binary (traced 32 ws s)
+traced-binary : (ws : List ℕ) (s : ℕ) → s < 64 → Bits (traced 32 ws s)
 unfolding traced input
 traced-binary ws s h =
     binary-upto (λ k. back 32 ws (length ws) s (length ws - (k + 1)) / 32) (length ws)
     (λ i. let b = back-small ws (length ws) s (length ws - (i + 1)) h in omega arith)
 
-best-traced : (ws : List ℕ) (pm : List Float) → Binary (traced 32 ws (best pm 63))
+best-traced : (ws : List ℕ) (pm : List Float) → Bits (traced 32 ws (best pm 63))
 best-traced ws pm = let b = best-small pm 63 in traced-binary ws (best pm 63) (omega arith)
 
-either : (t : Bool) (a b : Decoder) → Binary (a .bits) → Binary (b .bits) → Binary (cond t a b .bits)
+either : (t : Bool) (a b : Decoder) → Bits (a .bits) → Bits (b .bits) → Bits (cond t a b .bits)
 either true a b p q = p
 either false a b p q = q
 
-released-binary : (d : Decoder) → Binary (d .bits) → Binary (released frameTraceback d .bits)
+released-binary : (d : Decoder) → Bits (d .bits) → Bits (released frameTraceback d .bits)
 unfolding run.released
 released-binary d p =
     either (leb (block + frameTraceback) (length (d .words)))
@@ -92,7 +83,7 @@ released-binary d p =
     (binary-append (d .bits) (take block (traced 32 (d .words) (best (d .values) 63))) p (binary-take block (traced 32 (d .words) (best (d .values) 63)) (best-traced (d .words) (d .values))))
     p
 
-after-binary : (xs : ℕ → Step) (d : Decoder) (n : ℕ) → Binary (d .bits) → Binary (steps frameTraceback xs d n .bits)
+after-binary : (xs : ℕ → Step) (d : Decoder) (n : ℕ) → Bits (d .bits) → Bits (steps frameTraceback xs d n .bits)
 unfolding after stepped
 after-binary xs d zero p = p
 after-binary xs d (suc n) p =
@@ -102,7 +93,7 @@ after-binary xs d (suc n) p =
     (after-binary xs d n p)
 
 -- the first steps, the known bits, the flush
-ended-binary : (d : Decoder) → Binary (d .bits) → Binary (endedBits d)
+ended-binary : (d : Decoder) → Bits (d .bits) → Bits (endedBits d)
 ended-binary d p =
     let e = steps frameTraceback knownBits (closed d) 16 in
     binary-append (e .bits) (traced 32 (e .words) (best (e .values) 63)) (after-binary knownBits (closed d) 16 p) (best-traced (e .words) (e .values))
@@ -111,7 +102,7 @@ module _ (t : Table) (r : Received) (pm : List Float) where
   abbrev read : Decoder
   read = steps frameTraceback (frameMetrics t r) (freshFrom pm) (frameSteps t)
 
-  pub from-binary : Binary (bitsFrom t r pm)
+  pub from-binary : Bits (bitsFrom t r pm)
   from-binary = ended-binary read (after-binary (frameMetrics t r) (freshFrom pm) (frameSteps t) tt)
 
   pub from-count : length (bitsFrom t r pm) ≡ frameSteps t + 16
@@ -136,5 +127,5 @@ module _ (t : Table) (r : Received) (knownStart first : Bool) where
   pub decoded-count : length (decodedBits t r knownStart first) ≡ frameSteps t + 16
   decoded-count = rw decoded-from (from-count t r (startValues knownStart first))
 
-  pub decoded-binary : Binary (decodedBits t r knownStart first)
+  pub decoded-binary : Bits (decodedBits t r knownStart first)
   decoded-binary = rw decoded-from (from-binary t r (startValues knownStart first))

@@ -1,6 +1,6 @@
 -- The pattern of a punctured code as pairs of mother bits. Assumes nothing.
 use mathlib.Core.Path.{_≡_, refl}
-use mathlib.Core.Bool.{Bool, true, false, _&&_}
+use mathlib.Core.Bool.{Bool, true, _&&_}
 use mathlib.Core.List.{List, [], _∷_}
 use Prim.Native.Nat.{ℕ, zero, suc, _+_, _*_, _/_, _<_}
 use native.Mathlib.Nat.{not-suc-le-zero}
@@ -13,6 +13,7 @@ use Rattle.isdbs_combination.specs.declared.Puncture.{Puncture}
 use Rattle.isdbs_combination.specs.declared.Puncture.the-variants.{«R2_3», «R3_4», «R5_6», «R7_8»}
 use Rattle.isdbs_combination.specs.declared.MaybePuncture.the-variants.{Some, None}
 use Rattle.isdbs_combination.specs.Combinations.{periodOf, fourPairs, pairsOf}
+use mir.Facts.{and-yes}
 use Rattle.isdbs_pieces.specs.declared.Pattern.{Pattern}
 use Rattle.isdbs_points.specs.Layout.{sentOrder}
 use Rattle.isdbs_pieces.specs.Encoded.{PatternOf}
@@ -26,22 +27,18 @@ unfoldable all-within : ℕ → List ℕ → Bool
 all-within n [] = true
 all-within n (a ∷ l) = ltb (a / 2) n && all-within n l
 
-both-of : (a b : Bool) → T (a && b) → T a × T b
-both-of true b h = (tt, h)
-both-of false b h = absurd h
-
 each-same : (n : ℕ) (f g : ℕ → ℕ) → T (agree n f g) → (i : ℕ) → i < n → f i ≡ g i
 unfolding agree
 each-same zero f g h i l = absurd (not-suc-le-zero l)
 each-same (suc n) f g h i l =
-    let both = both-of (eqb (f n) (g n)) (agree n f g) h in
+    let both = and-yes (eqb (f n) (g n)) (agree n f g) h in
     below-more (λ x. f x ≡ g x) n (each-same n f g (both .1)) (eqb→eq (f n) (g n) (both .0)) i (omega arith)
 
 each-within : (n : ℕ) (l : List ℕ) → 0 < n → T (all-within n l) → (i : ℕ) → getD l i 0 / 2 < n
 unfolding all-within
 each-within n [] z h i = z
-each-within n (a ∷ l) z h zero = ltb→lt (a / 2) n (both-of (ltb (a / 2) n) (all-within n l) h .0)
-each-within n (a ∷ l) z h (suc i) = each-within n l z (both-of (ltb (a / 2) n) (all-within n l) h .1) i
+each-within n (a ∷ l) z h zero = ltb→lt (a / 2) n (and-yes (ltb (a / 2) n) (all-within n l) h .0)
+each-within n (a ∷ l) z h (suc i) = each-within n l z (and-yes (ltb (a / 2) n) (all-within n l) h .1) i
 
 abbrev noPair : BitPair
 noPair = record { p1 = 0; p0 = 0 }

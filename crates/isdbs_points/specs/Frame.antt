@@ -18,6 +18,7 @@ use Rattle.isdbs_points.specs.declared.Mapping.{Mapping}
 use Rattle.isdbs_points.specs.Points.{point, unused, bpskOf, qpskOf, psk8Of, subset, conjugated}
 use Rattle.isdbs_points.specs.Layout.{Segment, orderOf, stepsPerPeriod, atSymbol, atStep, loadBit, wordBit}
 use Rattle.trellis.specs.Isdb
+pub use Rattle.trellis.specs.Isdb.{labelAt}
 
 -- the load's bit that enters the code at step k of a segment: "TC8PSK takes C2 uncoded, then one coded bit"
 abbrev pub coded : Modulation → ℕ → ℕ
@@ -31,10 +32,6 @@ inputIn load g k = loadBit load (g .bit + coded (modulationOf (g .combination)) 
 -- the input bits of the whole frame: "The encoder state carries on through all runs"
 unfoldable pub inputs : Table → List ℕ → List ℕ
 inputs t load = upto (atStep 0 (inputIn load) t) (frameSteps t)
-
--- 2 X + Y at each step of encoding the inputs us from the state s
-abbrev pub labelAt : ℕ → List ℕ → ℕ → ℕ
-labelAt s us k = Isdb.labels (getD us k 0) (stateAt Isdb.half s us k)
 
 -- a coded bit by its mother bit's number: X at even ones, Y at odd ones
 abbrev pub codedBit : ℕ → ℕ → ℕ

@@ -2,7 +2,7 @@
 use mathlib.Core.Path.{_≡_, refl, sym, _∙_, ap}
 use mathlib.Core.Bool.{Bool, true, false, cond}
 use mathlib.Core.List.{List, [], _∷_}
-use Prim.Native.Nat.{ℕ, suc, _+_, _-_, _*_, _/_, _%_, _<_}
+use Prim.Native.Nat.{ℕ, suc, _+_, _*_, _/_, _%_, _<_}
 use native.Mathlib.Omega.{arith}
 use lib.Dec.{T, eqb}
 use lib.ListN.{length, getD}
@@ -15,7 +15,7 @@ use Rattle.isdbt_table.specs.Table.{period, sent, bitOrder}
 use Rattle.isdbt_table.specs.Puncture.{bitPlace, spread, softAt, depunctured, kept}
 use Rattle.viterbi.specs.EachLaws.{all, each}
 use Rattle.trellis.specs.LaidLaws.{upto-cong}
-use Rattle.trellis.specs.ListLaws.{length-upto, getD-upto}
+use Rattle.trellis.specs.ListLaws.{length-upto, getD-upto, alike, alike-eq}
 use Rattle.isdbt_table.specs.SizeLaws.{place-in}
 
 -- whether k is one of ps
@@ -40,18 +40,7 @@ spread-has f (p ∷ ps) xs j k h =
     spread-case (eqb k p) f p k (getD xs j nan) (spread ps xs (j + 1) k) (has ps k) refl first rest
 
 -- the order has exactly the bits whose row has a 1
-abbrev same : Bool → Bool → Bool
-same true b = b
-same false true = false
-same false false = true
-
-same-eq : (a b : Bool) → T (same a b) → a ≡ b
-same-eq true true t = refl
-same-eq true false t = absurd t
-same-eq false true t = absurd t
-same-eq false false t = refl
-
-all-kept : (rate : CodeRate) → T (all (2 * period rate) (λ k. same (has (bitOrder rate) k) (kept rate k)))
+all-kept : (rate : CodeRate) → T (all (2 * period rate) (λ k. alike (has (bitOrder rate) k) (kept rate k)))
 all-kept R1_2 = tt
 all-kept R2_3 = tt
 all-kept R3_4 = tt
@@ -60,7 +49,7 @@ all-kept R7_8 = tt
 
 pub has-kept : (rate : CodeRate) (k : ℕ) → k < 2 * period rate → has (bitOrder rate) k ≡ kept rate k
 has-kept rate k h =
-    same-eq (has (bitOrder rate) k) (kept rate k) (each (2 * period rate) (λ k. same (has (bitOrder rate) k) (kept rate k)) (all-kept rate) k h)
+    alike-eq (has (bitOrder rate) k) (kept rate k) (each (2 * period rate) (λ k. alike (has (bitOrder rate) k) (kept rate k)) (all-kept rate) k h)
 
 -- the row's column repeats with the period
 kept-again : (rate : CodeRate) (k : ℕ) → kept rate (k % (2 * period rate)) ≡ kept rate k

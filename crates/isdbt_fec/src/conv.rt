@@ -1,8 +1,8 @@
 // The punctured convolutional code of ISDB-T (ARIB STD-B31, section 3.8, Table 3-8): puncturing, and its inverse on soft values.
 // The mother code and its Viterbi decoder are those of isdb_fec::conv.
 ghost use mathlib.Core.Path.{_≡_};
-ghost use Prim.Native.Nat.{ℕ, _+_, _-_, _*_, _<_, _≤_, _/_, _%_, _^_};
-ghost use lib.ListN.{length, getD, take, replicate};
+ghost use Prim.Native.Nat.{ℕ, _+_, _-_, _*_, _<_, _≤_, _/_, _%_};
+ghost use lib.ListN.{length, getD, replicate};
 ghost use Rattle.refusal.specs.Rows.{firstRow, Either};
 ghost use Rattle.trellis.specs.Lists.{upto, laid};
 ghost use Rattle.trellis.specs.Code.{stateAt};
@@ -11,12 +11,11 @@ ghost use Rattle.isdbt_table.specs.Puncture.{mother, punctured, depunctured};
 ghost use Rattle.trellis.specs.Encoded.{lowBits};
 ghost use Rattle.isdbt_rows.specs.Rows.{encodeRows, depunctureRows, decodeRows};
 ghost use Rattle.isdbt_fec.specs.Calls.{Encodes, Unencoded, Depunctures, Untouched, decodedBits, Decodes, Undecoded};
-ghost use Rattle.trellis.specs.Run.{tracebackLimit, block, depth};
+ghost use Rattle.trellis.specs.Run.{tracebackLimit, block};
 use isdb_fec::conv::ConvEncoder;
 use isdbt_rows::answer_decode;
 use isdbt_rows::answer_depuncture;
 use isdbt_rows::answer_encode;
-use isdbt_rows::depth_of;
 use isdbt_steps::end_call;
 use isdbt_steps::soft_at;
 use isdbt_steps::soft_block;
@@ -27,6 +26,7 @@ pub use isdbt_table::TABLE_3_8;
 pub use isdbt_table::puncture_spec;
 use refusal::Answer;
 use viterbi::At;
+use viterbi::depth_of;
 use viterbi::encode_bit;
 use viterbi::run_pairs;
 use viterbi::start_at;

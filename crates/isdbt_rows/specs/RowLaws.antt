@@ -1,13 +1,13 @@
 -- What an accepted call may rely on. Assumes nothing.
-use mathlib.Core.Path.{_≡_, refl, sym}
-use mathlib.Core.Bool.{Bool, true, false, cond}
+use mathlib.Core.Path.{_≡_, sym}
+use mathlib.Core.Bool.{false}
 use mathlib.Core.List.{List}
 use Prim.Native.Nat.{ℕ, _+_, _*_, _/_, _%_, _<_, _≤_}
 use native.Mathlib.Omega.{arith}
 use lib.Dec.{eqb, ltb}
 use lib.ListN.{length}
 use lib.Ieee.{Float}
-use borrow.Author.Tests.{ltb-false, eqb-true, eqb-false, not-false}
+use borrow.Author.Tests.{ltb-false, eqb-true, not-false}
 use Rattle.refusal.specs.Rows.{firstRow}
 use Rattle.refusal.specs.declared.Answer.the-variants.{Accepted, Traceback, State, Length, Space}
 use Rattle.refusal.specs.RowLaws.{passed, neither}
@@ -36,10 +36,3 @@ decode-enough rate xs tb decisions out e =
     let p = passed (decodeRows rate xs tb decisions out) tt (sym e) in
     let q = neither (ltb out need) (ltb decisions (block + depth tb)) (p Space) in
     (ltb-false tracebackLimit tb (p Traceback), ltb-false decisions (block + depth tb) (q .1), ltb-false out need (q .0))
-
-depth-case : (tb : ℕ) (t : Bool) → eqb tb 0 ≡ t → tb ≤ tracebackLimit → (1 ≤ cond t 1 tb) × (cond t 1 tb ≤ tracebackLimit)
-depth-case tb true e h = (omega arith, omega arith)
-depth-case tb false e h = let n = eqb-false tb 0 e in (omega arith, h)
-
-pub depth-range : (tb : ℕ) → tb ≤ tracebackLimit → (1 ≤ depth tb) × (depth tb ≤ tracebackLimit)
-depth-range tb h = depth-case tb (eqb tb 0) refl h

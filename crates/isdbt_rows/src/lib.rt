@@ -4,7 +4,6 @@ ghost use Prim.Native.Nat.{_*_, _<_};
 ghost use lib.Dec.{ltb};
 ghost use Rattle.refusal.specs.Rows.{firstRow};
 ghost use Rattle.isdbt_rows.specs.Rows.{encodeRows, depunctureRows, decodeRows};
-ghost use Rattle.trellis.specs.Run.{depth};
 use isdb_fec::conv::STREAM_LIMIT;
 use isdb_fec::conv::TRACEBACK_LIMIT;
 use isdb_fec::conv::some_beyond;
@@ -12,6 +11,7 @@ use isdbt_table::CodeRate;
 use isdbt_table::Puncturing;
 use refusal::Answer;
 use trellis::BLOCK;
+use viterbi::depth_of;
 
 // Whether `space` places are too few for `blocks` blocks of `per` elements. The product may be past any number of the machine.
 fn few(space: usize, per: usize, blocks: usize) -> bool
@@ -50,13 +50,6 @@ pub fn answer_depuncture(rate: CodeRate, count: usize, space: usize) -> Answer
         return Answer::Space;
     }
     Answer::Accepted
-}
-
-// A traceback of 0 acts as 1.
-pub fn depth_of(traceback: usize) -> usize
-    ensures { λ r. ⌜ r ≡ depth traceback ⌝ }
-{
-    if traceback == 0 { 1 } else { traceback }
 }
 
 // The answer to a decoding with `decisions` words into `space` places.

@@ -35,9 +35,10 @@ use Rattle.call_ranges.specs.Reached.{Reached, Floats, with-state}
 use Rattle.call_ranges.specs.Handed.{push-hands}
 use Rattle.call_ranges.specs.Answers.{stream-answer, flush-answer}
 use Rattle.call_ranges.specs.Finished.{Finished}
+use Rattle.trellis.specs.RunLaws.{depth-range}
 use Rattle.known_end.specs.Calls.{read, betweenRows, Left, Corrects}
 use Rattle.known_end.specs.Behind.{Behind}
-use Rattle.known_end.proofs.Rows.{depth-small, started, Passed, passed, fresh-passes, fresh-is, started-is, soft-rows}
+use Rattle.known_end.proofs.Rows.{started, Passed, passed, fresh-passes, fresh-is, started-is, soft-rows}
 
 -- ---- the theorem follows from the rows and from what is left
 corrects : (tb s e : ℕ) (xs : List Float) (r : Released) (dec₀ dec out₀ out : List ℕ) → r .answer ≡ firstRow (betweenRows tb xs (length dec₀) (length out₀)) → Left tb s e xs r dec₀ dec out₀ out
@@ -46,7 +47,7 @@ corrects tb s e xs r dec₀ dec out₀ out a l us ps h few bits ends coded count
     let n : length xs / 2 ≡ length us = let k = ap length is ∙ length-soft ps in omega arith in
     let b : flushAt e (read tb s xs) .bits ≡ us =
     ap (λ (k : ℕ). flushAt e (call (depth tb) (pairSteps xs) (record { values = startAt 64 s; words = []; bits = [] }) k) .bits) n
-    ∙ known-end Isdb.rule (depth tb) (depth-small tb h .0) s e us ps few bits coded count ends four (pairSteps xs)
+    ∙ known-end Isdb.rule (depth tb) (depth-range tb h .0) s e us ps few bits coded count ends four (pairSteps xs)
     (λ k g. let p = soft-at ps k (omega arith) in rw (is, p .0, p .1) refl) in (
       a ∙ ap (λ (x : List Float). firstRow (betweenRows tb x (length dec₀) (length out₀))) is ∙ soft-rows tb ps (length dec₀) (length out₀) h
           ∙ ap (λ (k : ℕ). firstRow ((Space, ltb (length out₀) k || ltb (length dec₀) (block + depth tb)) ∷ [])) count,
@@ -122,7 +123,7 @@ module _ (tb s e : ℕ) (xs : List Float) (dec₀ dec₁ out₀ out₁ : List �
   pass = passed tb xs (length dec₀) (length out₀) ok
 
   small : (1 ≤ depth tb) × (depth tb ≤ 1024)
-  small = depth-small tb (pass .traceback)
+  small = depth-range tb (pass .traceback)
 
   says : Push (started tb s) xs p dec₀ dec₁ out₀ out₁
   says = subst (λ (v : ViterbiDecoder). Push v xs p dec₀ dec₁ out₀ out₁) (started-is tb s (m .answer) (m .dec) (pass .traceback) (made .0) (made .1)) pushes

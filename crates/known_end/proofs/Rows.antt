@@ -4,8 +4,8 @@ use mathlib.Core.Bool.{Bool, true, false, not, cond, _||_}
 use mathlib.Core.List.{List, [], _∷_}
 use Prim.Native.Nat.{ℕ, _+_, _/_, _%_, _≤_}
 use native.Mathlib.Omega.{arith}
-use borrow.Author.Tests.{ltb-false, le-ltb, eqb-false}
-use lib.Dec.{eqb, ltb, lit≤}
+use borrow.Author.Tests.{ltb-false, le-ltb}
+use lib.Dec.{eqb, ltb}
 use lib.ListN.{length, replicate}
 use lib.Ieee.{Float, binary32, neg, le, ofBits}
 use Rattle.refusal.specs.Rows.{firstRow, Either}
@@ -21,13 +21,6 @@ use Rattle.isdb_fec.specs.Values.{within, someBeyond, streamLimit}
 use Rattle.isdb_fec.specs.Rows.{freshRows}
 use Rattle.isdb_fec.specs.Calls.{Fresh, Zero}
 use Rattle.known_end.specs.Calls.{fresh, betweenRows}
-
-pub depth-small : (tb : ℕ) → tb ≤ 1024 → (1 ≤ depth tb) × (depth tb ≤ 1024)
-depth-small tb h = go (eqb tb 0) refl
-  where
-    go : (w : Bool) → eqb tb 0 ≡ w → (1 ≤ cond w 1 tb) × (cond w 1 tb ≤ 1024)
-    go true e = (lit≤ tt, lit≤ tt)
-    go false e = let n = eqb-false tb 0 e in (omega arith, h)
 
 -- ---- the fresh decoder
 -- of a traceback that is accepted

@@ -1,12 +1,11 @@
 // A stretch with a known end: a fresh decoder at the true start, one call of soft pairs, a flush from the true end. At most four wrong coded bits do no harm.
 ghost use mathlib.Core.Path.{_≡_};
-ghost use Prim.Native.Nat.{ℕ, _-_, _≤_};
+ghost use Prim.Native.Nat.{_-_, _≤_};
 ghost use lib.ListN.{length};
 ghost use Rattle.refusal.specs.Rows.{firstRow};
 ghost use Rattle.isdb_fec.specs.Rows.{flushRows};
 ghost use Rattle.known_end.specs.Behind.{Behind};
 ghost use Rattle.known_end.specs.Calls.{betweenRows, Left, Corrects};
-ghost use Rattle.trellis.specs.Run.{depth};
 use isdb_fec::conv::Released;
 use isdb_fec::conv::STREAM_LIMIT;
 use isdb_fec::conv::TRACEBACK_LIMIT;
@@ -14,13 +13,7 @@ use isdb_fec::conv::ViterbiDecoder;
 use isdb_fec::conv::some_beyond;
 use refusal::Answer;
 use trellis::BLOCK;
-
-// Traceback 0 acts as 1.
-fn depth_of(traceback: usize) -> usize
-    ensures { λ r. ⌜ r ≡ depth traceback ⌝ }
-{
-    if traceback == 0 { 1 } else { traceback }
-}
+use viterbi::depth_of;
 
 // The rows of a reading.
 fn answer_between(traceback: usize, pairs: &[f32], decisions: usize, out: usize) -> Answer

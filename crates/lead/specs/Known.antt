@@ -13,7 +13,7 @@ use lib.Ieee.{Float, nan, binary32, prec, add, neg, fits, ofBits}
 use Rattle.ieee.specs.Value.{hi, lo, Num, hi-neg, lo-neg, num-neg}
 use Rattle.ieee.specs.Order.{Lt}
 use Rattle.ieee.specs.Nearest.{near}
-use Rattle.ieee.specs.Rounding.{rounds-self, fine-between, pow2, pow2-add, pow2-pos}
+use Rattle.ieee.specs.Rounding.{rounds-self, fine-between, pow2, pow2-add}
 use Rattle.ieee.specs.Sums.{add-rounds}
 use Rattle.trellis.specs.Code.{moved}
 use Rattle.trellis.specs.Step.{known, Tie, term, branch, cand, wins, next, nexts, best, ruled, kept}
@@ -23,7 +23,7 @@ use Rattle.trellis.specs.ListLaws.{getD-upto}
 use Rattle.lead.specs.Lists.{getD-nexts}
 use Rattle.lead.specs.Ties.{pick, same, false-of, true-of, wins-is, next-is}
 use Rattle.lead.specs.Step.{Leads}
-use Rattle.lead.specs.Maximum.{ahead-of, best-is, leads-renormalised}
+use Rattle.lead.specs.Maximum.{ahead-of, best-is, leads-renormalised, some-lead}
 use Rattle.lead.specs.Sent.{moved-is, keeps}
 
 -- z is worth what x is
@@ -177,9 +177,6 @@ module _ (out : ℕ → ℕ → ℕ) (t : Tie) (w : ℕ → ℕ) (pm : List Floa
     small-at zero = S
     small-at (suc j) = rw (moves j) (moved-is (w j % 2) (f j) (mod-lt (w j) (lit< tt)) (small-at j) .0)
 
-    some-lead : 0 < a * pow2 134
-    some-lead = let m : 1 * pow2 134 ≤ a * pow2 134 = mul-le-mul-right (pow2 134) A in let o = pow2-pos 134 in omega arith
-
     few-lead : a * pow2 134 ≤ margin * pow2 149
     few-lead =
         let m : a * pow2 134 ≤ margin * 32768 * pow2 134 = mul-le-mul-right (pow2 134) A' in
@@ -195,14 +192,14 @@ module _ (out : ℕ → ℕ → ℕ) (t : Tie) (w : ℕ → ℕ) (pm : List Floa
         let m = small-at j in
         rw (moves j)
         (leads-renormalised (ruled 32 (w j) (nexts 32 out t pm' (known (w j)))) (moved 32 (w j % 2) (f j)) (rw (moves j) at (small-at (suc j))) (0 * pow2 148) ruledOut 155 15625000 a (lit< tt) (lit≤ tt) (omega arith) A (omega arith)
-        (leads-ruled out t pm' (f j) (w j) m (0 * pow2 148) (a * pow2 134) few-lead some-lead (leads-at j)))
+        (leads-ruled out t pm' (f j) (w j) m (0 * pow2 148) (a * pow2 134) few-lead (some-lead a A) (leads-at j)))
 
     pub known-best : (j : ℕ) → best t (valuesAt 32 out t (λ k. known (w k)) pm j) 63 ≡ f j
-    known-best j = best-is t (valuesAt 32 out t (λ k. known (w k)) pm j) (f j) (small-at j) (ahead-of some-lead (leads-at j))
+    known-best j = best-is t (valuesAt 32 out t (λ k. known (w k)) pm j) (f j) (small-at j) (ahead-of (some-lead a A) (leads-at j))
 
     pub known-kept : (j : ℕ) → kept 32 (wordAt 32 out t (λ k. known (w k)) pm j) (f (suc j)) ≡ f j
     known-kept j =
         let pm' = valuesAt 32 out t (λ k. known (w k)) pm j in
         rw (moves j)
         (keeps out t pm' (known (w j)) (w j % 2) (f j) (mod-lt (w j) (lit< tt)) (small-at j)
-        (known-decides out t pm' (f j) (w j) (small-at j) (0 * pow2 148) (a * pow2 134) few-lead some-lead (leads-at j)))
+        (known-decides out t pm' (f j) (w j) (small-at j) (0 * pow2 148) (a * pow2 134) few-lead (some-lead a A) (leads-at j)))

@@ -119,15 +119,15 @@ getD-renormalised pm r =
     ap (λ (d : Float). getD (map (λ (x : Float). sub binary32 x (top pm 64)) pm) r d) (sym (nan-less (top pm 64)))
     ∙ List·getD-map (λ (x : Float). sub binary32 x (top pm 64)) pm r nan
 
+pub some-lead : (a : ℕ) → 0 < a → 0 < a * pow2 134
+some-lead a A = let m : 1 * pow2 134 ≤ a * pow2 134 = mul-le-mul-right (pow2 134) A in let o = pow2-pos 134 in omega arith
+
 -- the values then go down to -p * 2 ^ g units at most
 module _ (pm : List Float) (s : ℕ) (S : s < 64) (M B g p a : ℕ) (G : g < 200) (P : p ≤ 16777216) (room : B + M ≤ p * pow2 g) (A : 0 < a) (A' : a ≤ 16777216)
     (i : Leads pm s M B (a * pow2 134))
   where
-    some-lead : 0 < a * pow2 134
-    some-lead = let m : 1 * pow2 134 ≤ a * pow2 134 = mul-le-mul-right (pow2 134) A in let o = pow2-pos 134 in omega arith
-
     renormalised-at : (r : ℕ) → getD (renormalised 32 pm) r nan ≡ sub binary32 (getD pm r nan) (getD pm s nan)
-    renormalised-at r = getD-renormalised pm r ∙ ap (λ (t : Float). sub binary32 (getD pm r nan) t) (top-is pm s S (ahead-of some-lead i) (i .plus))
+    renormalised-at r = getD-renormalised pm r ∙ ap (λ (t : Float). sub binary32 (getD pm r nan) t) (top-is pm s S (ahead-of (some-lead a A) i) (i .plus))
 
     deep : (r : ℕ) → r < 64 → lo binary32 (getD pm r nan) + hi binary32 (getD pm s nan) ≤ hi binary32 (getD pm r nan) + lo binary32 (getD pm s nan) + p * pow2 g
     deep r R =

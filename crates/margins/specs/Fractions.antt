@@ -2,18 +2,17 @@
 -- It goes through (`le-through`), and a product with a constant that is not negative keeps it (`mul-keeps`). So a received part need not fit its format here.
 -- Assumes nothing.
 use mathlib.Core.Path.{_≡_, refl, sym, ap, _∙_}
-use mathlib.Core.Logic.{inl, inr}
-use mathlib.Core.Bool.{Bool, true, false, _&&_, _||_}
+use mathlib.Core.Bool.{true, false, _&&_}
 use Prim.Native.Nat.{ℕ, suc, _+_, _*_, _^_, _≤_, _<_}
-use native.Mathlib.Nat.{le-of-eq, le-of-lt, eq-or-lt-of-le, mul-one, one-mul, suc-add, mul-le-mul-right, le-of-mul-le-mul-right}
+use native.Mathlib.Nat.{mul-one, one-mul, suc-add, mul-le-mul-right, le-of-mul-le-mul-right}
 use native.Mathlib.Omega.{arith}
 use lib.IntN.{ℤ, pos, negsuc}
-use lib.Dec.{T, ltb, eqb, ltb→lt, lt→ltb, eqb→eq}
+use lib.Dec.{T, eqb, eqb→eq}
 use lib.Pow.{pow-add}
 use lib.Ieee.{Float, nan, inf, fin, Format, up, down, round, mul, le}
 use lib.Ieee.Fits.{down-pos, and-l, and-r, and-i, eq→eqb}
 use lib.Ieee.Scale.{finite}
-use Rattle.ieee.specs.Order.{or-l, or-r, or-split, sum-test}
+use Rattle.ieee.specs.Order.{sum-test, of-le, lt-or}
 use Rattle.ieee.specs.Conversion.{rounded}
 use Rattle.ieee.specs.ConversionLaws.{rounded-mono}
 
@@ -44,12 +43,6 @@ abbrev pub Order : Float → Float → Type 0
 Order x y = above x * under y + below y * under x ≤ above y * under x + below x * under y
 
 -- ---- tests of two numbers
-test→le : (a b : ℕ) (c : Bool) → (T c → a ≡ b) → T (ltb a b || c) → a ≤ b
-test→le a b c k t = elim (or-split (ltb a b) c t) [ inl l ↦ le-of-lt (ltb→lt a b l) | inr q ↦ le-of-eq (k q) ]
-
-le→test : (a b : ℕ) (c : Bool) → (a ≡ b → T c) → a ≤ b → T (ltb a b || c)
-le→test a b c k h = elim (eq-or-lt-of-le h) [ inl p ↦ or-r (ltb a b) c (k p) | inr q ↦ or-l (ltb a b) c (lt→ltb a b q) ]
-
 none : (a b : ℕ) → T (eqb a b && eqb a 0) → a + b ≤ 0
 none a b t =
     let e : a ≡ b = eqb→eq a b (and-l (eqb a b) (eqb a 0) t) in
@@ -90,13 +83,13 @@ le→order (fin s m e) (inf u) p q t = absurd q
 le→order (fin false m e) (fin false n d) p q t =
     let a = m * up e * down d in
     let b = n * up d * down e in
-    pad a b (down e) (down d) (test→le a b (eqb a b && true) (λ (u : T (eqb a b && true)). eqb→eq a b (and-l (eqb a b) true u)) t)
+    pad a b (down e) (down d) (lt-or a b (eqb a b && true) (λ (u : T (eqb a b && true)). eqb→eq a b (and-l (eqb a b) true u)) t)
 le→order (fin false m e) (fin true n d) p q t = flat (m * up e * down d) (n * up d * down e) (down e) (down d) (none (m * up e * down d) (n * up d * down e) t)
 le→order (fin true m e) (fin false n d) p q t = wide (n * up d * down e) (m * up e * down d) (down d) (down e)
 le→order (fin true m e) (fin true n d) p q t =
     let a = m * up e * down d in
     let b = n * up d * down e in
-    pad' a b (down d) (down e) (test→le b a (eqb a b && true) (λ (u : T (eqb a b && true)). sym (eqb→eq a b (and-l (eqb a b) true u))) t)
+    pad' a b (down d) (down e) (lt-or b a (eqb a b && true) (λ (u : T (eqb a b && true)). sym (eqb→eq a b (and-l (eqb a b) true u))) t)
 
 pub order→le : (x y : Float) → T (finite x) → T (finite y) → Order x y → T (le x y)
 unfolding le
@@ -107,13 +100,13 @@ order→le (fin s m e) (inf u) p q h = absurd q
 order→le (fin false m e) (fin false n d) p q h =
     let a = m * up e * down d in
     let b = n * up d * down e in
-    le→test a b (eqb a b && true) (λ (z : a ≡ b). and-i (eqb a b) true (eq→eqb z) tt) (unpad a b (down e) (down d) h)
+    of-le a b (eqb a b && true) (λ (z : a ≡ b). and-i (eqb a b) true (eq→eqb z) tt) (unpad a b (down e) (down d) h)
 order→le (fin false m e) (fin true n d) p q h = none-back (m * up e * down d) (n * up d * down e) (unflat (m * up e * down d) (n * up d * down e) (down e) (down d) h)
 order→le (fin true m e) (fin false n d) p q h = sum-test (m * up e * down d) (n * up d * down e)
 order→le (fin true m e) (fin true n d) p q h =
     let a = m * up e * down d in
     let b = n * up d * down e in
-    le→test b a (eqb a b && true) (λ (z : b ≡ a). and-i (eqb a b) true (eq→eqb (sym z)) tt) (unpad' a b (down d) (down e) h)
+    of-le b a (eqb a b && true) (λ (z : b ≡ a). and-i (eqb a b) true (eq→eqb (sym z)) tt) (unpad' a b (down d) (down e) h)
 
 -- ---- between
 through : (P N D P' N' D' P'' N'' D'' : ℕ) → 0 < D' → P * D' + N' * D ≤ P' * D + N * D' → P' * D'' + N'' * D' ≤ P'' * D' + N' * D'' → P * D'' + N'' * D ≤ P'' * D + N * D''

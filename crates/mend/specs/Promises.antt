@@ -19,17 +19,13 @@ use Rattle.trellis.specs.Lists.{laid}
 use Rattle.trellis.specs.LaidLaws.{take-laid}
 use Rattle.mend_distance.specs.Stretches.{mostChanged, sentFrom, unlike, changed, WithinFour}
 use Rattle.mend_distance.specs.StretchLaws.{unique, unlike-self, length-changed, length-sent, bits-sent}
+use Rattle.trellis.specs.ListLaws.{none-listed}
 use Rattle.mend.specs.declared.Mended.{Mended}
 use Rattle.mend.specs.Rows.{someNoBit, mostSteps, places, mostBits, lentRows, mendRows}
 use Rattle.trellis.specs.Isdb.{frameWords}
 use Rattle.mend.specs.Allowed.{allowed, no-other}
 use Rattle.mend.specs.Listed.{Rising, listed, changed-rising, changed-listed}
 use Rattle.mend.specs.Calls.{Called}
-
--- a list without a place
-none-listed : (l : List ℕ) → length l ≡ 0 → l ≡ []
-none-listed [] e = refl
-none-listed (x ∷ xs) e = absurd (omega arith)
 
 module _ (s e : ℕ) (bits : List ℕ) (r : Mended) (decisions₀ decisions out₀ out list₀ list : List ℕ) (call : Called s e bits r decisions₀ decisions out₀ out list₀ list) where
   start-below : s % 64 < 64

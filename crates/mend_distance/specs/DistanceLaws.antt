@@ -13,7 +13,7 @@ use Rattle.trellis.specs.EncodedLaws.{reached-is}
 use Rattle.trellis.specs.Lists.{bit}
 use Rattle.trellis.specs.ListLaws.{length-upto, getD-upto}
 use Rattle.trellis.specs.Stretch.{apart, Bits}
-use Rattle.trellis.specs.DistanceLaws.{wrong, labelsOf, bits-at}
+use Rattle.trellis.specs.DistanceLaws.{wrong, bits-at}
 use Rattle.trellis.specs.WrittenLaws.{lt-or-ge}
 use Rattle.mend_distance.specs.Stretches.{mostChanged, WithinFour}
 use Rattle.mend_distance.specs.StretchLaws.{by-labels}
@@ -93,7 +93,7 @@ module _ (s : ℕ) (r : ℕ → ℕ) where
   at-start true t = omega arith
   at-start false t = absurd t
 
-  at-most : s < 64 → (us : List ℕ) → Bits us → (n : ℕ) → getD (nearest s r n) (stateAt 32 s us n) 0 ≤ wrong (labelsOf s us) r n
+  at-most : s < 64 → (us : List ℕ) → Bits us → (n : ℕ) → getD (nearest s r n) (stateAt 32 s us n) 0 ≤ wrong (Isdb.labelAt s us) r n
   unfolding stateAt wrong
   at-most hs us b zero = let a = start-at s hs in let c = at-start (eqb s s) (eqb-refl s) in omega arith
   at-most hs us b (suc n) =

@@ -20,24 +20,24 @@ far = 5
 
 -- the way to state k by the predecessor with the low bit b. `d` has the numbers before the step, whose pair is l
 unfoldable pub through : List ℕ → ℕ → ℕ → ℕ → ℕ
-through d l k b = getD d (2 * (k % 32) + b) 0 + apart (Isdb.labels (k / 32) (2 * (k % 32) + b)) l
+through d l k b = getD d (2 * (k % Isdb.half) + b) 0 + apart (Isdb.labels (k / Isdb.half) (2 * (k % Isdb.half) + b)) l
 
 unfoldable pub next : List ℕ → ℕ → ℕ → ℕ
 next d l k = min far (min (through d l k 0) (through d l k 1))
 
 unfoldable pub nexts : List ℕ → ℕ → List ℕ
-nexts d l = upto (next d l) 64
+nexts d l = upto (next d l) Isdb.states
 
 -- the step's decision word: bit k is 1 exactly when the way by the odd predecessor of state k differs less
 abbrev pub odd : List ℕ → ℕ → ℕ → Bool
 odd d l k = ltb (through d l k 1) (through d l k 0)
 
 unfoldable pub word : List ℕ → ℕ → ℕ
-word d l = packed (odd d l) 64
+word d l = packed (odd d l) Isdb.states
 
 -- before the first step: 0 at the start state, out of reach elsewhere
 unfoldable pub begun : ℕ → List ℕ
-begun s = upto (λ k. cond (eqb k s) 0 far) 64
+begun s = upto (λ k. cond (eqb k s) 0 far) Isdb.states
 
 -- after n steps of the pairs r
 unfoldable pub nearest : ℕ → (ℕ → ℕ) → ℕ → List ℕ

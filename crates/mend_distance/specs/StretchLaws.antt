@@ -12,7 +12,7 @@ use Rattle.trellis.specs.Encoded.{encoded, bitsOf}
 use Rattle.trellis.specs.EncodedLaws.{length-encoded, encoded-at, length-bits}
 use Rattle.trellis.specs.RunLaws.{label-under}
 use Rattle.trellis.specs.Stretch.{apart, differing, Bits}
-use Rattle.trellis.specs.DistanceLaws.{same-or-ten, wrong, first-out, by-place, wrong-same, triangle, labelsOf}
+use Rattle.trellis.specs.DistanceLaws.{same-or-ten, wrong, first-out, by-place, wrong-same, triangle}
 use Rattle.mend_distance.specs.Stretches.{unlike, changed, sentFrom, WithinFour}
 use Rattle.mend_distance.specs.Distances.{pairAt}
 use Rattle.trellis.specs.Isdb
@@ -69,10 +69,10 @@ by-pairs (u ∷ us) s (x ∷ y ∷ bits) h e =
     omega arith
 
 -- by the labels of the steps
-pub by-labels : (s : ℕ) (us bits : List ℕ) → Bits bits → length bits ≡ 2 * length us → unlike (sentFrom s us) bits ≡ wrong (labelsOf s us) (pairAt bits) (length us)
+pub by-labels : (s : ℕ) (us bits : List ℕ) → Bits bits → length bits ≡ 2 * length us → unlike (sentFrom s us) bits ≡ wrong (Isdb.labelAt s us) (pairAt bits) (length us)
 by-labels s us bits hb e =
     by-pairs us s bits hb e
-    ∙ wrong-same (λ k. getD (encoded isdb s us) k 0) (pairAt bits) (labelsOf s us) (pairAt bits) (length us) (λ k h. encoded-at isdb s us k h) (λ k h. refl)
+    ∙ wrong-same (λ k. getD (encoded isdb s us) k 0) (pairAt bits) (Isdb.labelAt s us) (pairAt bits) (length us) (λ k h. encoded-at isdb s us k h) (λ k h. refl)
 
 pub length-sent : (s : ℕ) (us : List ℕ) → length (sentFrom s us) ≡ 2 * length us
 length-sent s us = length-bits (encoded isdb s us) ∙ ap (λ (k : ℕ). 2 * k) (length-encoded isdb s us)

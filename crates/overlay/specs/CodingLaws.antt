@@ -11,8 +11,8 @@ use Rattle.trellis.specs.Code.{half, output, label, moved}
 use Rattle.trellis.specs.Encoded.{encoded, reached, lowBits, bitsOf, codedBits}
 use Rattle.trellis.specs.LinearLaws.{xor-low, xor-bit, output-xor, moved-xor}
 use Rattle.short_code.specs.declared.Code.{Code}
-use Rattle.short_code.specs.Codes.{codeOf, halfOf, statesOf, goodCode}
-use Rattle.short_code.specs.CodeLaws.{states-are, good-length}
+use Rattle.short_code.specs.Codes.{codeOf, statesOf, goodCode}
+use Rattle.short_code.specs.CodeLaws.{good-states}
 use Rattle.short_encode.specs.EncodingLaws.{length-coded}
 use Rattle.overlay.specs.Overlaid.{overlaid, chosen}
 use Rattle.overlay.specs.OverlaidLaws.{chosen-overlaid, parts-overlaid}
@@ -106,16 +106,13 @@ overlays-chosen c us vs s r e hs hr ps =
 
 -- "State it over every code of P7": its states are those below 2^(length-1)
 module _ (c : Code) (good : goodCode c ≡ true) (us vs : List ℕ) (s r : ℕ) (e : length us ≡ length vs) (hs : s < statesOf c) (hr : r < statesOf c) where
-  all-states : 2 * halfOf c ≡ statesOf c
-  all-states = let l = good-length c good in states-are c (halfOf c) (record { least = l .0; most = l .1; half-is = refl })
-
   -- the exclusive-or of two states is a state
   pub state-sum : bitXor s r < statesOf c
   state-sum = xor-lt (c .constraint - 1) s r hs hr
 
   pub code-overlays : Overlays (codeOf c) us vs s r
-  code-overlays = overlays (codeOf c) us vs s r e (rw all-states hs) (rw all-states hr)
+  code-overlays = overlays (codeOf c) us vs s r e (rw (good-states c good) hs) (rw (good-states c good) hr)
 
   pub code-chosen : (ps : List ℕ)
       → chosen ps (codedBits (codeOf c) (bitXor s r) (overlaid us vs)) ≡ overlaid (chosen ps (codedBits (codeOf c) s us)) (chosen ps (codedBits (codeOf c) r vs))
-  code-chosen = overlays-chosen (codeOf c) us vs s r e (rw all-states hs) (rw all-states hr)
+  code-chosen = overlays-chosen (codeOf c) us vs s r e (rw (good-states c good) hs) (rw (good-states c good) hr)

@@ -5,7 +5,7 @@ use mathlib.Core.List.{List, [], _∷_}
 use Prim.Native.Nat.{ℕ, _+_, _-_, _*_, _/_, _%_, _^_, _<_, _≤_}
 use native.Mathlib.Omega.{arith}
 use lib.Bits.{bitXor, xor-self, xor-block, xor-shr, xor-mod}
-use lib.Dec.{T, eqb, ltb, ltb→lt, nltb→le}
+use lib.Dec.{T, eqb, ltb, ltb→lt, nltb→le, lit<}
 use lib.ListN.{length, getD, List·getD-eq-default}
 use Rattle.trellis.specs.Lists.{upto}
 use Rattle.trellis.specs.ListLaws.{length-upto, getD-upto}
@@ -16,6 +16,7 @@ use Rattle.isdbs_runs.specs.RunsOf.{frameSteps}
 use Rattle.isdbs_points.specs.Layout.{Segment, orderOf, stepsPerPeriod, among, atStep, segments, loadBit}
 use Rattle.isdbs_points.specs.Frame.{inputIn, inputs, labelAt, codedBit, sentBit, endState}
 use Rattle.isdbs_points.specs.Points.{subset}
+use Rattle.isdbs_points.specs.PlaceLaws.{among-all}
 use Rattle.overlay.specs.Overlaid.{overlaid}
 use Rattle.overlay.specs.OverlaidLaws.{overlaid-at}
 use Rattle.overlay.specs.Places.{Sums, state-xor, pair-xor}
@@ -83,15 +84,6 @@ among-xor first size f g h e (x ∷ xs) k = go (ltb k (first x + size x)) (among
     go true m = e x (k - first x)
     go false m = m
 
-among-bit : (first size : Segment → ℕ) (f : Segment → ℕ → ℕ) → ((x : Segment) (k : ℕ) → f x k < 2) → (xs : List Segment) (k : ℕ) → among first size 0 f xs k < 2
-unfolding among
-among-bit first size f h [] k = omega arith
-among-bit first size f h (x ∷ xs) k = go (ltb k (first x + size x)) (h x (k - first x)) (among-bit first size f h xs k)
-  where
-    go : (w : Bool) {p q : ℕ} → p < 2 → q < 2 → cond w p q < 2
-    go true m n = m
-    go false m n = n
-
 -- the table t, and the loads a and b
 module _ (t : Table) (a b : List ℕ) (e : length a ≡ length b) where
   abbrev bitOf : List ℕ → ℕ → ℕ
@@ -101,7 +93,7 @@ module _ (t : Table) (a b : List ℕ) (e : length a ≡ length b) where
   bit-xor = among-xor (λ g. g .step) (λ g. g .steps) (inputIn (overlaid a b)) (inputIn a) (inputIn b) (λ x k. load-bit-xor a b e _) (segments t)
 
   bit-under : (load : List ℕ) (k : ℕ) → bitOf load k < 2
-  bit-under load = among-bit (λ g. g .step) (λ g. g .steps) (inputIn load) (λ x k. omega arith) (segments t)
+  bit-under load = among-all (λ x. x < 2) (λ g. g .step) (λ g. g .steps) 0 (inputIn load) (lit< tt) (λ x k. omega arith) (segments t)
 
   input-is : (load : List ℕ) (k : ℕ) → k < frameSteps t → getD (inputs t load) k 0 ≡ bitOf load k
   unfolding inputs

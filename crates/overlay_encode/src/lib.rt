@@ -1,8 +1,8 @@
 // Overlaying two test patterns: two strings of equal length and their exclusive-or, encoded beside each other by a code of constraint length 3 to 7.
 ghost use mathlib.Core.Path.{_≡_};
 ghost use mathlib.Core.Bool.{true};
-ghost use Prim.Native.Nat.{ℕ, _*_, _≤_};
-ghost use lib.Dec.{leb, ltb};
+ghost use Prim.Native.Nat.{_*_, _≤_};
+ghost use lib.Dec.{leb};
 ghost use lib.ListN.{length};
 ghost use Rattle.refusal.specs.Rows.{firstRow, Either};
 ghost use Rattle.trellis.specs.Lists.{laid};
@@ -16,6 +16,7 @@ use short_code::good;
 use short_code::half;
 pub use short_encode::Code;
 use short_encode::encode;
+use short_rows::few;
 
 // The answer, and the encoders of the first string, of the second and of their exclusive-or after the call.
 pub struct Encodings {
@@ -31,13 +32,6 @@ fn beyond(code: Code, state: u8) -> bool
     ensures { λ r. ⌜ r ≡ leb (statesOf code) state ⌝ }
 {
     2 * half(code) <= (state as usize)
-}
-
-// Whether `space` places are too few for X and Y of n inputs. Twice n may be past any number of the machine.
-fn few(space: usize, n: usize) -> bool
-    ensures { λ r. ⌜ r ≡ ltb space (2 * n) ⌝ }
-{
-    space / 2 < n
 }
 
 // Whether there are too few places for n inputs: `bits` for their exclusive-or, x, y and z for the outputs.

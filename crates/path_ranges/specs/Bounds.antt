@@ -19,6 +19,10 @@ U = pow2 158
 abbrev pub most : ℕ
 most = 16777216
 
+-- 1.0e9, the value that a ruled out state is set to, without its sign
+abbrev pub ruledOut : ℕ
+ruledOut = 1953125
+
 -- x is -512 a or more; 512 b or less
 abbrev pub Above : Float → ℕ → Type 0
 Above x a = lo binary32 x ≤ hi binary32 x + a * U

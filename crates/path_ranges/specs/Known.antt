@@ -13,21 +13,21 @@ use Rattle.ieee.specs.Rounding.{pow2}
 use Rattle.trellis.specs.ListLaws.{length-upto, getD-upto}
 use Rattle.lead.specs.Ties.{pick, true-of}
 use Rattle.trellis.specs.Step.{known, Tie, nexts, ruled}
-use Rattle.path_ranges.specs.Bounds.{U, most, Above, Below, above-more, Within}
+use Rattle.path_ranges.specs.Bounds.{U, most, Above, Below, above-more, Within, ruledOut}
 use Rattle.path_ranges.specs.Steps.{known-moves, nexts-within, nexts-above}
 use Rattle.path_ranges.specs.Reach.{Reach}
 use Rattle.path_ranges.specs.Invariant.{Limits, depth, depth-least, depth-most, Bounded, bounded-within, led, led-under}
 use Rattle.lead.specs.Known.{out-num}
 
--- -1.0e9 is 1,953,125 times -512
-ruled-is : (hi binary32 (ofBits binary32 0xce6e_6b28) ≡ 0) × (lo binary32 (ofBits binary32 0xce6e_6b28) ≡ 1953125 * U)
+-- -1.0e9 is so many times -512
+ruled-is : (hi binary32 (ofBits binary32 0xce6e_6b28) ≡ 0) × (lo binary32 (ofBits binary32 0xce6e_6b28) ≡ ruledOut * U)
 unfolding hi lo pow2 ofBits
 ruled-is = (refl, refl)
 
-ruled-within : Within (ofBits binary32 0xce6e_6b28) 1953125 0
+ruled-within : Within (ofBits binary32 0xce6e_6b28) ruledOut 0
 ruled-within = let v = ruled-is in record { num = out-num; low = omega arith; high = omega arith }
 
-module _ {c d B : ℕ} (r : Limits c d B) (deep : 1953125 ≤ B) (out : ℕ → ℕ → ℕ) (labels : (u s : ℕ) → u < 2 → s < 64 → out u s < 4) (t : Tie) (pm : List Float) (b : ℕ) (i : Bounded c B 0 0 pm) where
+module _ {c d B : ℕ} (r : Limits c d B) (deep : ruledOut ≤ B) (out : ℕ → ℕ → ℕ) (labels : (u s : ℕ) → u < 2 → s < 64 → out u s < 4) (t : Tie) (pm : List Float) (b : ℕ) (i : Bounded c B 0 0 pm) where
   abbrev new : List Float
   new = nexts 32 out t pm (known b)
 
@@ -49,7 +49,7 @@ module _ {c d B : ℕ} (r : Limits c d B) (deep : 1953125 ≤ B) (out : ℕ → 
   ruled-pick P s h p q = rw (ruled-at s h) (pick P (eqb (s / 32) (b % 2)) (getD new s nan) (ofBits binary32 0xce6e_6b28) p q)
 
   low-all : (q s : ℕ) → s < 64 → B ≤ q → Above (getD new s nan) q → Above (getD (ruled 32 b new) s nan) q
-  low-all q s h k w = ruled-pick (λ z. Above z q) s h w (above-more (ofBits binary32 0xce6e_6b28) 1953125 q (omega arith) (ruled-within .low))
+  low-all q s h k w = ruled-pick (λ z. Above z q) s h w (above-more (ofBits binary32 0xce6e_6b28) ruledOut q (omega arith) (ruled-within .low))
 
   -- where the best state goes
   abbrev kept : ℕ

@@ -10,7 +10,7 @@ use lib.ListN.{getD}
 use lib.Ieee.{Float, nan}
 use Rattle.trellis.specs.Step.{Step, known, Tie, nexts, renormalised, ruled}
 use Rattle.trellis.specs.Run.{settled, valuesAt}
-use Rattle.path_ranges.specs.Bounds.{Within, wider}
+use Rattle.path_ranges.specs.Bounds.{Within, wider, ruledOut}
 use Rattle.path_ranges.specs.Steps.{Soft, two, quad, soft-moves, Falls}
 use Rattle.path_ranges.specs.Invariant.{Limits, Bounded, same-bounds, bounded-within, step-bounded}
 use Rattle.path_ranges.specs.Maximum.{renormalised-bounded}
@@ -85,7 +85,7 @@ module _ {c d B : ℕ} (r : Limits c d B) (out : ℕ → ℕ → ℕ) (labels : 
     path-within-next i h = in-range (few c i) (stepped i h (values-bounded i (omega arith)))
 
   -- ---- a call of known bits
-  pub known-call : 1953125 ≤ B → (bs : ℕ → ℕ) (pm : List Float) → Bounded c B 0 0 pm → (n : ℕ) → Bounded c B 0 0 (valuesAt 32 out t (λ k. known (bs k)) pm n)
+  pub known-call : ruledOut ≤ B → (bs : ℕ → ℕ) (pm : List Float) → Bounded c B 0 0 pm → (n : ℕ) → Bounded c B 0 0 (valuesAt 32 out t (λ k. known (bs k)) pm n)
   unfolding valuesAt settled
   known-call deep bs pm start zero = start
   known-call deep bs pm start (suc n) =

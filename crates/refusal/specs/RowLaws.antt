@@ -1,7 +1,7 @@
 -- Laws of answers and of the rows of a call. Assumes nothing.
 use mathlib.Core.Path.{_≡_, refl, sym, _∙_, ap}
 use mathlib.Core.Logic.{_⊎_, inl, inr, ⊎-elim}
-use mathlib.Core.Bool.{Bool, true, false, true≢false, cond, _||_}
+use mathlib.Core.Bool.{Bool, true, false, true≢false, cond, not, _&&_, _||_}
 use mathlib.Core.List.{List, [], _∷_, _++_}
 use Prim.Native.Nat.{ℕ, _<_}
 use native.Mathlib.Omega.{arith}
@@ -110,6 +110,11 @@ said-none a v vs n = by (accepted a) refl
 pub neither : (a b : Bool) → (a || b) ≡ false → (a ≡ false) × (b ≡ false)
 neither false b e = (refl, e)
 neither true b e = (e, absurd (let z : _≡_ {A = ℕ} 0 1 = cc in omega arith))
+
+-- one of two tests fails
+pub either-fails : (a b : Bool) → (not a || not b) ≡ not (a && b)
+either-fails true b = refl
+either-fails false b = refl
 
 pub neither-holds : (a b : Bool) → a ≡ false → b ≡ false → (a || b) ≡ false
 neither-holds a b e f = rw (e, f)

@@ -1,16 +1,16 @@
 -- P7: "The best-path statement is established over the length": of the calls of short_fec in a row, a fresh decoder of traceback 128, `push_metrics` and `flush`. Of at most 4,096
 -- quadruples of whole numbers within 16, with memory enough lent, all accept, and the bits are those of the first path of greatest sum. Assumes nothing.
 use mathlib.Core.Path.{_≡_, refl, sym, ap, _∙_, subst}
-use mathlib.Core.Bool.{Bool, true, false, not, cond, _||_}
-use mathlib.Core.List.{List, [], _∷_, _++_}
-use Prim.Native.Nat.{ℕ, _+_, _-_, _*_, _/_, _%_, _^_, _≤_, _<_}
+use mathlib.Core.Bool.{true, false, cond}
+use mathlib.Core.List.{List, [], _++_}
+use Prim.Native.Nat.{ℕ, _-_, _*_, _/_, _%_, _≤_, _<_}
 use native.Mathlib.Omega.{arith}
 use native.Mathlib.Nat.{le-refl, le-of-eq}
 use borrow.Author.Tests.{le-ltb, lt-leb}
 use lib.IntN.{ℤ}
 use lib.Pow.{pow-pos}
-use lib.Dec.{T, eqb, ltb, leb, lit<, lit≤}
-use lib.ListN.{length, getD, take, drop, replicate}
+use lib.Dec.{eqb, lit<, lit≤}
+use lib.ListN.{length, getD, take, replicate}
 use lib.Ieee.{Float, nan, binary32, neg, le, ofBits, fits}
 use lib.Ieee.Fits.{and-i}
 use Rattle.ieee.specs.Value.{hi, lo}
@@ -21,23 +21,23 @@ use Rattle.refusal.specs.RowLaws.{passed}
 use Rattle.refusal.specs.declared.Answer.the-variants as answer
 use Rattle.trellis.specs.Isdb.{rule, frameTraceback, frameWords}
 use Rattle.trellis.specs.Lists.{laid}
-use Rattle.trellis.specs.ListLaws.{length-upto}
-use Rattle.trellis.specs.RunLaws.{label-under, after-values}
+use Rattle.trellis.specs.ListLaws.{length-upto, none-listed}
+use Rattle.trellis.specs.RunLaws.{label-under, after-values, renormalised-length}
 use Rattle.trellis.specs.Step.{Step, four, renormalised, traced, best}
-use Rattle.trellis.specs.Run.{Decoder, block, startAt, startUnknown, valuesAt, after, decisionsAfter, fourSteps, releases, quadruple}
+use Rattle.trellis.specs.Run.{Decoder, block, startAt, startUnknown, valuesAt, decisionsAfter, fourSteps, releases, quadruple}
 use Rattle.viterbi.specs.CountLaws.{counted, releases-is}
 use Rattle.trellis.specs.LaidLaws.{take-laid, length-laid}
-use Rattle.best_path.specs.Paths.{longest, bound, Quadruples, Reading}
+use Rattle.best_path.specs.Paths.{longest, Quadruples, Reading}
 use Rattle.best_path.specs.Viterbi.{Z, value}
 use Rattle.best_path.specs.Exact.{Whole, le-from}
 use Rattle.best_path.specs.Tracks.{Tracks, times, times-step, tracks}
 use Rattle.best_path.specs.Decoded.{Started, start-tracks}
 use Rattle.best_path.specs.Starts.{given, level, given-started, unknown-started}
 use Rattle.best_path.specs.Integers.{parts-of, quadruples}
-use Rattle.best_path.specs.Calls.{plain-four, follows, renormalised-length, start-given, start-unknown}
+use Rattle.best_path.specs.Calls.{plain-four, follows, start-given, start-unknown}
 use Rattle.isdb_fec.specs.declared.conv.ViterbiDecoder.{ViterbiDecoder}
 use Rattle.isdb_fec.specs.declared.conv.Released.{Released}
-use Rattle.isdb_fec.specs.Values.{within, someBeyond, pathLimit}
+use Rattle.isdb_fec.specs.Values.{someBeyond, pathLimit}
 use Rattle.isdb_fec.specs.declared.conv.Made.{Made}
 use Rattle.isdb_fec.specs.Calls.{Fresh, Zero, Unchanged}
 use Rattle.call_ranges.specs.Inside.{none-beyond}
@@ -135,7 +135,7 @@ module _ (c : Code) (start : Start) (xs : List Float) (n : ℕ) (m : ℕ → ℕ
       ap (λ (v : List Float). renormalised half v) (after-values half (labels c) rule frameTraceback (fourSteps xs) begun (length xs / 4) ∙ ap (λ (k : ℕ). valuesAt half (labels c) rule steps (startValues (statesOf c) start) k) e)
 
   renormalised-long : length (renormalised half last) ≡ 2 * half
-  renormalised-long = renormalised-length half (labels c) rule last ∙ last-length
+  renormalised-long = renormalised-length half last ∙ last-length
 
   read-length : length (read c start xs .values) ≡ statesOf c
   read-length = ap length read-values ∙ renormalised-long ∙ states
@@ -172,10 +172,6 @@ module _ (c : Code) (start : Start) (xs : List Float) (n : ℕ) (m : ℕ → ℕ
       let r : releases frameTraceback 0 (length xs / 4) ≡ 0 = releases-is frameTraceback 0 (length xs / 4) (lit≤ tt) ∙ omega arith in
       rw (good, front, start-inside, p answer.Length, p answer.Sample, le-ltb O (block * releases frameTraceback 0 (length xs / 4)) (omega arith), le-ltb D frameWords hd) refl
 
-  empty : (l : List ℕ) → length l ≡ 0 → l ≡ []
-  empty [] e = refl
-  empty (x ∷ l) e = absurd (omega arith)
-
   -- ---- the two calls on it
   module _ (p r : Released) (dec₀ dec₁ dec₂ out₀ out₁ out₂ : List ℕ) (hd : frameWords ≤ length dec₀) (ho : n ≤ length out₀)
       (pa : p .answer ≡ firstRow (short.streamRows c 4 fresh xs (length dec₀) (length out₀)))
@@ -200,7 +196,7 @@ module _ (c : Code) (start : Start) (xs : List Float) (n : ℕ) (m : ℕ → ℕ
         (omega arith, omega arith)
 
     none-out : d .bits ≡ []
-    none-out = empty (d .bits) (sizes .1)
+    none-out = none-listed (d .bits) (sizes .1)
 
     out-is : out₁ ≡ out₀
     out-is = left .bits ∙ ap (λ (b : List ℕ). laid b out₀) none-out

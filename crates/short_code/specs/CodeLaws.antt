@@ -7,7 +7,7 @@ use native.Mathlib.Nat.{pow-suc, mul-comm}
 use borrow.Author.Tests.{leb-true}
 use lib.Dec.{leb}
 use Rattle.short_code.specs.declared.Code.{Code}
-use Rattle.short_code.specs.Codes.{goodLength, goodGenerator, goodCode, Fits}
+use Rattle.short_code.specs.Codes.{goodLength, goodGenerator, goodCode, halfOf, statesOf, Fits}
 
 -- twice half of the states are all of them
 pub states-are : (c : Code) (h : ℕ) → Fits c h → 2 * h ≡ 2 ^ (c .constraint - 1)
@@ -27,3 +27,7 @@ good-length c e =
     let l = both (goodLength k) (goodGenerator k (c .g1) && goodGenerator k (c .g2)) e .0 in
     let t = both (leb 3 k) (leb k 7) l in
     (leb-true 3 k (t .0), leb-true k 7 (t .1))
+
+-- the states of a code that is not refused
+pub good-states : (c : Code) → goodCode c ≡ true → 2 * halfOf c ≡ statesOf c
+good-states c e = let l = good-length c e in states-are c (halfOf c) (record { least = l .0; most = l .1; half-is = refl })

@@ -1,12 +1,9 @@
 -- One turn of the list encoder: the front of the output grows by X and Y of an input. Assumes nothing.
-use mathlib.Core.Path.{_≡_, refl, sym, _∙_, ap}
-use mathlib.Core.Bool.{Bool, true, false}
+use mathlib.Core.Path.{_≡_, sym, _∙_, ap}
 use mathlib.Core.List.{List}
-use Prim.Native.Nat.{ℕ, suc, _+_, _*_, _/_, _%_, _<_, _≤_}
+use Prim.Native.Nat.{ℕ, suc, _+_, _*_, _%_, _<_, _≤_}
 use native.Mathlib.Omega.{arith}
 use native.Mathlib.Numerals.{add-one}
-use borrow.Author.Tests.{ltb-true, ltb-false, lt-ltb, le-ltb}
-use lib.Dec.{ltb}
 use lib.ListN.{length, getD, take, set}
 use lib.Seq.{take-all}
 use Rattle.trellis.specs.Lists.{laid}
@@ -17,11 +14,6 @@ use Rattle.trellis.specs.LaidLaws.{laid-next}
 use Rattle.short_code.specs.declared.Code.{Code}
 use Rattle.short_code.specs.Codes.{codeOf, halfOf}
 use Rattle.short_encode.specs.EncodingLaws.{length-low, length-coded, stateBefore, coded-x, coded-y}
-
--- too few places, by a quotient
-pub few-is : (space n : ℕ) (t : Bool) → ltb space (2 * n) ≡ t → ltb (space / 2) n ≡ t
-few-is space n true e = lt-ltb (space / 2) n (let h = ltb-true space (2 * n) e in omega arith)
-few-is space n false e = le-ltb (space / 2) n (let h = ltb-false space (2 * n) e in omega arith)
 
 -- the output with X and Y of the first k inputs at its front
 abbrev pub written : Code → ℕ → List ℕ → List ℕ → ℕ → List ℕ

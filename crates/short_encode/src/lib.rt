@@ -1,7 +1,6 @@
 // The list encoder of a code of constraint length 3 to 7 with two generators: X then Y of each input bit, one in a byte.
 ghost use mathlib.Core.Path.{_≡_};
-ghost use Prim.Native.Nat.{ℕ, _*_, _<_, _≤_};
-ghost use lib.Dec.{ltb};
+ghost use Prim.Native.Nat.{_*_, _<_, _≤_};
 ghost use lib.ListN.{length};
 ghost use Rattle.refusal.specs.Rows.{firstRow, Either};
 ghost use Rattle.trellis.specs.Lists.{laid};
@@ -14,19 +13,13 @@ pub use short_code::Code;
 use short_code::bad;
 use short_code::encode_bit;
 use short_code::half;
+use short_rows::few;
 ghost use Rattle.trellis.specs.Isdb;
 
 // The answer, and the encoder after the call.
 pub struct Encoded {
     pub answer: Answer,
     pub enc: ConvEncoder,
-}
-
-// Whether `space` places are too few for X and Y of n inputs. Twice n may be past any number of the machine.
-fn few(space: usize, n: usize) -> bool
-    ensures { λ r. ⌜ r ≡ ltb space (2 * n) ⌝ }
-{
-    space / 2 < n
 }
 
 // The answer to an encoding of n inputs into `space` places.

@@ -2,7 +2,7 @@
 // first 2^(length-1) count, the held count and the traceback.
 ghost use mathlib.Core.Path.{_≡_};
 ghost use mathlib.Core.Logic.{_⊎_};
-ghost use mathlib.Core.Bool.{true, not};
+ghost use mathlib.Core.Bool.{true};
 ghost use Prim.Native.Nat.{_+_, _*_, _<_, _≤_, _/_, _%_};
 ghost use lib.ListN.{length};
 ghost use Rattle.refusal.specs.Rows.{firstRow, Either};
@@ -16,6 +16,7 @@ ghost use Rattle.isdb_fec.specs.Calls.{Fresh, Zero, Unchanged};
 ghost use Rattle.isdb_fec.specs.AnswerLaws.{Enough};
 ghost use Rattle.short_fec.specs.Rows.{encoderRows, freshRows, streamRows, knownRows, flushRows};
 ghost use Rattle.short_fec.specs.Calls.{startValues, unknownValues, call, steps, handed, bestOf, endOf, Leaves, Flushes};
+use acs::states;
 use isdb_fec::conv::ConvEncoder;
 use isdb_fec::conv::Made;
 use isdb_fec::conv::Pushed;
@@ -32,7 +33,6 @@ use short_rows::answer_encoder;
 use short_rows::answer_flush;
 use short_rows::answer_known;
 use short_rows::answer_stream;
-use short_rows::places;
 use short_step::best_state;
 use short_step::renormalise;
 use short_step::start_at;
@@ -41,6 +41,7 @@ use short_viterbi::known_steps;
 use short_viterbi::soft_steps;
 use trellis::STATES;
 use viterbi::At;
+use viterbi::depth_of;
 ghost use Rattle.trellis.specs.Isdb;
 
 // Encodes one bit.
@@ -92,7 +93,7 @@ fn fresh(code: Code, traceback: usize, pm: [f32; STATES]) -> Made
             },
         };
     }
-    let depth = if traceback == 0 { 1 } else { traceback };
+    let depth = depth_of(traceback);
     Made {
         answer: Answer::Accepted,
         dec: ViterbiDecoder {
@@ -171,7 +172,7 @@ fn soft(
     let n = 2 * h;
     let traceback = dec.traceback;
     let mut pm = dec.pm;
-    let all = places(&pm);
+    let all = states(&pm);
     let at = At {
         held: dec.held,
         count: 0,
@@ -273,7 +274,7 @@ pub fn push_known(
     let n = 2 * h;
     let traceback = dec.traceback;
     let mut pm = dec.pm;
-    let all = places(&pm);
+    let all = states(&pm);
     let at = At {
         held: dec.held,
         count: 0,
@@ -334,7 +335,7 @@ pub fn flush(code: Code, dec: ViterbiDecoder, decisions: &mut [u64], out: &mut [
         };
     };
     let pm = dec.pm;
-    let all = places(&pm);
+    let all = states(&pm);
     let h = half(code);
     let n = 2 * h;
     let best = best_state(&pm[0..n], h);

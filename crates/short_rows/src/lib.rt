@@ -1,12 +1,13 @@
 // The answers to calls with a code of constraint length 3 to 7 by their rows: those of isdb_fec with row 12 right before 4. The calls are in short_fec.
 ghost use mathlib.Core.Path.{_≡_};
-ghost use mathlib.Core.Bool.{cond, not};
-ghost use Prim.Native.Nat.{_+_, _<_, _≤_};
-ghost use lib.ListN.{length};
+ghost use mathlib.Core.Bool.{cond};
+ghost use Prim.Native.Nat.{_+_, _*_, _<_, _≤_};
+ghost use lib.Dec.{ltb};
 ghost use Rattle.refusal.specs.Rows.{firstRow};
 ghost use Rattle.trellis.specs.Run.{tracebackLimit, block};
 ghost use Rattle.isdb_fec.specs.Rows.{stepsShort};
 ghost use Rattle.short_rows.specs.Rows.{encoderRows, handedRows, streamRows, knownRows, flushRows};
+use acs::states;
 use isdb_fec::conv::PATH_LIMIT;
 use isdb_fec::conv::STREAM_LIMIT;
 use isdb_fec::conv::TRACEBACK_LIMIT;
@@ -34,12 +35,11 @@ pub fn answer_encoder(code: Code, state: u8) -> Answer
     Answer::Accepted
 }
 
-// The places of an array of path values.
-pub fn places(pm: &[f32; STATES]) -> usize
-    ensures { λ r. ⌜ (r ≡ Isdb.states) × (length (now (pm .entry)) ≡ Isdb.states) ⌝ }
+// Whether `space` places are too few for X and Y of n inputs. Twice n may be past any number of the machine.
+pub fn few(space: usize, n: usize) -> bool
+    ensures { λ r. ⌜ r ≡ ltb space (2 * n) ⌝ }
 {
-    let values: &[f32] = pm;
-    values.len()
+    space / 2 < n
 }
 
 // The rows of a handed state.
@@ -60,7 +60,7 @@ fn answer_handed(code: Code, dec: ViterbiDecoder) -> Answer
         return Answer::State;
     }
     let pm = dec.pm;
-    let all = places(&pm);
+    let all = states(&pm);
     let n = 2 * half(code);
     if some_beyond(&pm[0..n], PATH_LIMIT) {
         return Answer::State;

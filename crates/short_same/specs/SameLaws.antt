@@ -3,21 +3,20 @@
 use mathlib.Core.Path.{_≡_, refl, sym, _∙_, ap}
 use mathlib.Core.Logic.{⊎-elim}
 use mathlib.Core.Bool.{Bool, true, false, cond}
-use mathlib.Core.List.{List, [], _∷_, _++_, append-nil}
+use mathlib.Core.List.{List, _++_, append-nil}
 use Prim.Native.Nat.{ℕ, zero, suc, _*_, _/_, _%_, _≤_}
 use native.Mathlib.Omega.{arith}
 use lib.Dec.{eqb}
-use lib.ListN.{length, getD, replicate, length-replicate, take, drop, length-map, drop-of-length-le}
+use lib.ListN.{length, getD, replicate, length-replicate, take, drop-of-length-le}
 use lib.Seq.{take-all}
-use lib.Ieee.{Float, nan, binary32, sub, ofBits}
+use lib.Ieee.{Float, nan, binary32, ofBits}
 use Rattle.refusal.specs.Rows.{firstRow, Either}
 use Rattle.refusal.specs.RowLaws.{decided}
-use Rattle.refusal.specs.declared.Answer.the-variants.{Accepted}
 use Rattle.trellis.specs.Lists.{laid}
 use Rattle.trellis.specs.ListLaws.{length-upto}
-use Rattle.trellis.specs.Step.{Step, Tie, pair, four, known, top, next, nexts, renormalised, ruled, traced}
+use Rattle.trellis.specs.Step.{Step, Tie, pair, four, known, nexts, renormalised, ruled, traced}
 use Rattle.trellis.specs.Run.{Decoder, settled, valuesAt, after, startAt, startUnknown, pairSteps, fourSteps, knownSteps, holding}
-use Rattle.trellis.specs.RunLaws.{after-values}
+use Rattle.trellis.specs.RunLaws.{after-values, renormalised-length, nexts-length}
 use Rattle.trellis.specs.Isdb as isdb
 use Rattle.isdb_fec.specs.declared.conv.ViterbiDecoder.{ViterbiDecoder}
 use Rattle.isdb_fec.specs.declared.conv.Released.{Released}
@@ -51,32 +50,24 @@ module _ (v : ViterbiDecoder) (long : length (v .pm) ≡ 64) where
 
 -- ---- the path values of a call keep their number
 module _ (half : ℕ) (out : ℕ → ℕ → ℕ) (t : Tie) where
-  renormalised-length : (pm : List Float) → length (renormalised half pm) ≡ length pm
-  unfolding renormalised
-  renormalised-length pm = length-map pm (λ x. sub binary32 x (top pm (2 * half)))
-
   ruled-length : (b : ℕ) (pm : List Float) → length (ruled half b pm) ≡ 2 * half
   unfolding ruled
   ruled-length b pm = length-upto (λ k. cond (eqb (k / half) (b % 2)) (getD pm k nan) (ofBits binary32 0xce6e_6b28)) (2 * half)
 
   either-length : (w : Bool) (pm : List Float) → length (cond w (renormalised half pm) pm) ≡ length pm
-  either-length true pm = renormalised-length pm
+  either-length true pm = renormalised-length half pm
   either-length false pm = refl
 
   settled-length : (i : ℕ) (x : Step) (pm : List Float) → length pm ≡ 2 * half → length (settled half out t i x pm) ≡ 2 * half
   unfolding settled
   settled-length i (pair lx ly) pm e = either-length (eqb (i % 64) 63) pm ∙ e
   settled-length i (four m) pm e = either-length (eqb (i % 64) 63) pm ∙ e
-  settled-length i (known b) pm e = renormalised-length (ruled half b pm) ∙ ruled-length b pm
-
-  nexts-length : (pm : List Float) (x : Step) → length (nexts half out t pm x) ≡ 2 * half
-  unfolding nexts
-  nexts-length pm x = length-upto (next half out t pm x) (2 * half)
+  settled-length i (known b) pm e = renormalised-length half (ruled half b pm) ∙ ruled-length b pm
 
   values-length : (steps : ℕ → Step) (pm : List Float) (n : ℕ) → length pm ≡ 2 * half → length (valuesAt half out t steps pm n) ≡ 2 * half
   unfolding valuesAt
   values-length steps pm zero e = e
-  values-length steps pm (suc n) e = settled-length n (steps n) (nexts half out t (valuesAt half out t steps pm n) (steps n)) (nexts-length (valuesAt half out t steps pm n) (steps n))
+  values-length steps pm (suc n) e = settled-length n (steps n) (nexts half out t (valuesAt half out t steps pm n) (steps n)) (nexts-length half out t (valuesAt half out t steps pm n) (steps n))
 
   pub after-length : (tb : ℕ) (steps : ℕ → Step) (d : Decoder) (n : ℕ) → length (d .values) ≡ 2 * half → length (after half out t tb steps d n .values) ≡ 2 * half
   after-length tb steps d n e = ap length (after-values half out t tb steps d n) ∙ values-length steps (d .values) n e
@@ -119,7 +110,7 @@ module _ (v : ViterbiDecoder) (long : length (v .pm) ≡ 64) (r r′ : Released)
   soft-agree per xs steps n a s a′ f =
       agree (short-calls.call isdbCode (v .traceback) steps (short-calls.handed isdbCode v dec₀) n) (isdb.call (v .traceback) steps (fec-calls.handed v dec₀) n)
       (ap (λ (y : List Float). isdb.call (v .traceback) steps (holding y (v .held) dec₀) n) (whole v long))
-      (renormalised-length isdb.half isdb.labels isdb.rule (isdb.steps (v .traceback) steps (fec-calls.handed v dec₀) n .values) ∙ after-length isdb.half isdb.labels isdb.rule (v .traceback) steps (fec-calls.handed v dec₀) n long)
+      (renormalised-length isdb.half (isdb.steps (v .traceback) steps (fec-calls.handed v dec₀) n .values) ∙ after-length isdb.half isdb.labels isdb.rule (v .traceback) steps (fec-calls.handed v dec₀) n long)
       (a ∙ stream-rows v long per xs (length dec₀) (length out₀) ∙ sym a′) s f
 
   -- `push` and `push_metrics`: the contracts of the two calls

@@ -1,7 +1,7 @@
 // A trellis step of a code of constraint length 3 to 7 over its 2^(length-1) path values, and what is done with them between steps.
 ghost use mathlib.Core.Path.{_≡_};
 ghost use mathlib.Core.Bool.{cond};
-ghost use Prim.Native.Nat.{ℕ, _-_, _*_, _<_, _≤_, _%_};
+ghost use Prim.Native.Nat.{_-_, _*_, _<_, _≤_, _%_};
 ghost use lib.Dec.{eqb};
 ghost use lib.ListN.{length, getD};
 ghost use lib.Ieee.{neg, nan, binary32, ofBits};
@@ -13,6 +13,7 @@ ghost use Rattle.trellis.specs.Isdb.{rule};
 ghost use Rattle.trellis.specs.WrittenLaws.{Written};
 ghost use Rattle.viterbi.specs.Calls.{stepOf};
 ghost use Rattle.short_code.specs.Codes.{labels, Fits, Settled};
+use acs::states;
 pub use path_choice::best_state;
 use path_choice::greater;
 use path_choice::larger;
@@ -61,19 +62,12 @@ fn beats(odd: f32, even: f32) -> u64
     path_choice::beats(odd, even) as u64
 }
 
-fn places(pm: &[f32; STATES]) -> usize
-    ensures { λ r. ⌜ (r ≡ Isdb.states) × (length (now (pm .entry)) ≡ Isdb.states) ⌝ }
-{
-    let values: &[f32] = pm;
-    values.len()
-}
-
 // The new path values of a step, at the front of `new`. The decision word.
 fn select(pm: &[f32], new: &mut [f32; STATES], code: Code, h: usize, x: Step) -> u64
     requires { ⌜ (1 ≤ h) × (h ≤ Isdb.half) × Fits code h × (length (now pm) ≡ 2 * h) ⌝ }
     ensures { λ r. ⌜ Written nan (next h (labels code) rule (now (pm .entry)) (stepOf x)) (2 * h) (now (new .exit)) × (r ≡ word h (labels code) rule (now (pm .entry)) (stepOf x)) ⌝ }
 {
-    let all = places(new);
+    let all = states(new);
     let mut w: u64 = 0;
     for k in 0..2 * h {
         let even = path(pm, code, h, k, 0, x);

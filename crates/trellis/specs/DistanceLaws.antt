@@ -4,13 +4,13 @@ use mathlib.Core.Path.{_≡_, refl, sym, ap, _∙_, subst}
 use mathlib.Core.Bool.{Bool, _&&_}
 use mathlib.Core.Logic.{_⊎_, inl, inr, ⊎-elim}
 use mathlib.Core.List.{List, [], _∷_}
-use Prim.Native.Nat.{ℕ, zero, suc, _+_, _-_, _*_, _/_, _%_, _≤_, _<_}
+use Prim.Native.Nat.{ℕ, zero, suc, _+_, _*_, _/_, _%_, _≤_, _<_}
 use native.Mathlib.Omega.{arith}
 use lib.Bits.{bitXor, xor-self, xor-lt}
 use lib.Dec.{T, leb, leb→le}
 use lib.Ieee.Fits.{and-l, and-r}
 use lib.ListN.{length, getD}
-use Rattle.trellis.specs.Code.{isdb, tapped, output, label, moved, stateAt}
+use Rattle.trellis.specs.Code.{isdb, tapped, output, label, moved}
 use Rattle.trellis.specs.Isdb
 use Rattle.trellis.specs.Encoded.{encoded, reached}
 use Rattle.trellis.specs.EncodedLaws.{length-encoded, encoded-at}
@@ -190,11 +190,8 @@ triangle f g r (suc n) =
     omega arith
 
 -- two encodings, by the labels of their steps
-abbrev pub labelsOf : ℕ → List ℕ → ℕ → ℕ
-labelsOf s us k = Isdb.labels (getD us k 0) (stateAt Isdb.half s us k)
-
-pub against : (ps : List ℕ) (s : ℕ) (us : List ℕ) → length ps ≡ length us → differing ps (encoded isdb s us) ≡ wrong (λ k. getD ps k 0) (labelsOf s us) (length us)
+pub against : (ps : List ℕ) (s : ℕ) (us : List ℕ) → length ps ≡ length us → differing ps (encoded isdb s us) ≡ wrong (λ k. getD ps k 0) (Isdb.labelAt s us) (length us)
 against ps s us e =
     by-place ps (encoded isdb s us) (e ∙ sym (length-encoded isdb s us))
     ∙ ap (wrong (λ k. getD ps k 0) (λ k. getD (encoded isdb s us) k 0)) e
-    ∙ wrong-same (λ k. getD ps k 0) (λ k. getD (encoded isdb s us) k 0) (λ k. getD ps k 0) (labelsOf s us) (length us) (λ k h. refl) (encoded-at isdb s us)
+    ∙ wrong-same (λ k. getD ps k 0) (λ k. getD (encoded isdb s us) k 0) (λ k. getD ps k 0) (Isdb.labelAt s us) (length us) (λ k h. refl) (encoded-at isdb s us)

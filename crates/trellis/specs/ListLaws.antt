@@ -28,6 +28,11 @@ getD-upto f d (suc n) i h =
     (getD-at (upto f n) (f n) [] d n (length-upto f n))
     i (omega arith)
 
+-- a list without a place
+pub none-listed : {A : Type 0} (l : List A) → length l ≡ 0 → l ≡ []
+none-listed [] e = refl
+none-listed (x ∷ l) e = absurd (omega arith)
+
 -- ---- computed tests
 -- f passes at each number below n
 unfoldable pub every : (ℕ → Bool) → ℕ → Bool
@@ -38,6 +43,18 @@ pub every-at : (f : ℕ → Bool) (n : ℕ) → T (every f n) → (k : ℕ) → 
 unfolding every
 every-at f zero t k h = absurd (not-suc-le-zero h)
 every-at f (suc n) t k h = below-more (λ i. T (f i)) n (every-at f n (and-r (f n) (every f n) t)) (and-l (f n) (every f n) t) k (omega arith)
+
+-- whether two tests say the same
+abbrev pub alike : Bool → Bool → Bool
+alike true b = b
+alike false true = false
+alike false false = true
+
+pub alike-eq : (a b : Bool) → T (alike a b) → a ≡ b
+alike-eq true true t = refl
+alike-eq true false t = absurd t
+alike-eq false true t = absurd t
+alike-eq false false t = refl
 
 -- ---- the bits of a packed number
 -- a multiple of 2 ^ k leaves each bit below k

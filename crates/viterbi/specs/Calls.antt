@@ -11,7 +11,8 @@ use Rattle.trellis.specs.Lists.{laid}
 use Rattle.trellis.specs.Step as trellis
 use Rattle.trellis.specs.Step.{pair, four, known, renormalised}
 pub use Rattle.trellis.specs.Isdb.{nexts, word, bestState, traced, settle, stepOnce, steps, call, flush, released}
-use Rattle.trellis.specs.Run.{Decoder, block, decisionsAfter, releases, pairSteps, fourSteps, knownSteps}
+use Rattle.trellis.specs.Isdb
+use Rattle.trellis.specs.Run.{Decoder, block, interval, decisionsAfter, releases, pairSteps, fourSteps, knownSteps}
 use Rattle.viterbi.specs.declared.Step.{Step}
 use Rattle.viterbi.specs.declared.Step.the-variants.{Pair, Four, Known}
 use Rattle.viterbi.specs.declared.At.{At}
@@ -67,7 +68,7 @@ pub record Carried (tb : ℕ) (ys : ℕ → trellis.Step) (i n : ℕ) (pm : List
 
 -- the decoder at the end of a block of steps, before step i of its call: the maximum is subtracted after each 64th step, and a release follows where it is due
 abbrev pub blockEnd : ℕ → ℕ → Decoder → Decoder
-blockEnd tb i d = released tb (record { values = cond (eqb (i % 64) 0) (renormalised 32 (d .values)) (d .values); words = d .words; bits = d .bits })
+blockEnd tb i d = released tb (record { values = cond (eqb (i % interval) 0) (renormalised Isdb.half (d .values)) (d .values); words = d .words; bits = d .bits })
 
 pub record Ended (tb i : ℕ) (pm : List Float) (at : At) (dec out : List ℕ) (r : At) (pm′ : List Float) (dec′ out′ : List ℕ) : Type 0 where
   pub counts : ((at .held < block + tb) × (r .held ≡ at .held) × (r .count ≡ at .count)) ⊎ ((at .held ≡ block + tb) × (r .held ≡ tb) × (r .count ≡ at .count + block))

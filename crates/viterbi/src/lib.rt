@@ -3,14 +3,14 @@
 ghost use mathlib.Core.Path.{_≡_};
 ghost use mathlib.Core.List.{_++_};
 ghost use mathlib.Core.Bool.{cond};
-ghost use Prim.Native.Nat.{ℕ, _+_, _*_, _<_, _≤_, _/_, _%_, _^_};
+ghost use Prim.Native.Nat.{_+_, _*_, _<_, _≤_, _/_, _%_, _^_};
 ghost use lib.Dec.{eqb, ltb};
-ghost use lib.ListN.{length, getD, take, drop, replicate};
+ghost use lib.ListN.{length, take, drop, replicate};
 ghost use Rattle.trellis.specs.Lists.{laid};
 ghost use Rattle.trellis.specs.Code.{isdb, output, moved};
 ghost use Rattle.trellis.specs.Parity.{ones};
 ghost use Rattle.trellis.specs.Step.{renormalised};
-ghost use Rattle.trellis.specs.Run.{startAt, startUnknown, interval, tracebackLimit, block, holding, releases, pairSteps, fourSteps};
+ghost use Rattle.trellis.specs.Run.{startAt, startUnknown, interval, depth, tracebackLimit, block, holding, releases, pairSteps, fourSteps};
 ghost use Rattle.viterbi.specs.Calls.{stepOf, nexts, word, bestState, traced, settle, stepOnce, Room, Stepped, Carried, Ended};
 pub use acs::renormalise;
 pub use release::clear;
@@ -225,6 +225,13 @@ pub fn run_fours(
         now_at = end_block(pm, grown, traceback, i + k, decisions, out);
     }
     now_at
+}
+
+// Traceback 0 acts as 1.
+pub fn depth_of(traceback: usize) -> usize
+    ensures { λ r. ⌜ r ≡ depth traceback ⌝ }
+{
+    if traceback == 0 { 1 } else { traceback }
 }
 
 // Whether `space` places are too few for the bits that n steps release.

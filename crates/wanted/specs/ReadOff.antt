@@ -64,7 +64,7 @@ module _ (m : Mapping) (z : ℕ → Cplx) where
     -- the state after n steps: "The encoder state carries on through all runs"
     unfoldable pub readState : ℕ → ℕ
     readState zero = s
-    readState (suc n) = moved 32 (atStep 0 (inputFrom (readState n)) t n) (readState n)
+    readState (suc n) = moved Isdb.half (atStep 0 (inputFrom (readState n)) t n) (readState n)
 
     -- the input of step n
     abbrev pub readInput : ℕ → ℕ

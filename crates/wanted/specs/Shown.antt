@@ -13,6 +13,7 @@ use Rattle.isdbs_points.specs.declared.Cplx.{Cplx}
 use Rattle.isdbs_points.specs.Points.{point, zero64, one64, root64, psk8Of, qpskOf, conjugated}
 use Rattle.isdbs_points.specs.Frame.{codedBit}
 use Rattle.isdbs_metrics.specs.Reading.{partOf}
+use Rattle.trellis.specs.RunLaws.{output-bit}
 use Rattle.wanted.specs.ReadOff.{hard, bySign, psk8Label}
 use Rattle.trellis.specs.Isdb
 
@@ -21,18 +22,14 @@ pub output-input : (c : Code) (g u s : ℕ) → stage c g 0 ≡ 1 → u < 2 → 
 unfolding output
 output-input c g u s e h = rw e (omega arith)
 
-output-small : (c : Code) (g u s : ℕ) → output c g u s < 2
-unfolding output
-output-small c g u s = omega arith
-
 -- X and Y of a label
 x-of : (u s : ℕ) → Isdb.labels u s / 2 ≡ output isdb (isdb .g1) u s
 unfolding label
-x-of u s = omega (arith, output-small isdb (isdb .g2) u s)
+x-of u s = omega (arith, output-bit isdb (isdb .g2) u s)
 
 y-of : (u s : ℕ) → Isdb.labels u s % 2 ≡ output isdb (isdb .g2) u s
 unfolding label
-y-of u s = omega (arith, output-small isdb (isdb .g2) u s)
+y-of u s = omega (arith, output-bit isdb (isdb .g2) u s)
 
 pub coded-input : (b u s : ℕ) → u < 2 → (codedBit b (Isdb.labels u s) + codedBit b (Isdb.labels 0 s)) % 2 ≡ u
 coded-input b u s h = go (eqb (b % 2) 0)

@@ -1,20 +1,13 @@
 -- `acs::greatest` meets its contract. The invariant: t is the greatest of the values below s. Assumes nothing.
 use mathlib.Core.Path.{_≡_, refl, _∙_}
-use mathlib.Core.Bool.{cond}
-use mathlib.Core.List.{List}
-use Prim.Native.Nat.{ℕ, suc, _+_, _-_, _≤_, _<_}
-use native.Mathlib.Numerals.{add-one}
+use Prim.Native.Nat.{_-_, _≤_}
 use native.Mathlib.Omega.{arith}
-use lib.ListN.{getD}
-use lib.Ieee.{Float, nan, lt, neg, ofBits}
+use lib.Ieee.{neg, ofBits}
 use borrow.Author.Needs.{needs}
 use Rattle.trellis.specs.Step.{top}
+use Rattle.trellis.specs.RunLaws.{top-more}
 use Rattle.acs.proofs.greatest.Statement.{statement}
 use Rattle.acs.proofs.greatest.Tie as tie
-
-more : (pm : List Float) (x : Float) (s : ℕ) → x ≡ top pm s → cond (lt x (getD pm s nan)) (getD pm s nan) x ≡ top pm (s + 1)
-unfolding top
-more pm x s is-x = rw (add-one s, is-x)
 
 abbrev Inv-loop : tie.InvT-loop
 Inv-loop pm t₀ s₀ t s = (s ≤ 64) × (t ≡ top pm s)
@@ -44,7 +37,7 @@ loop-less c = omega arith
 loop-again : tie.Need-loop-again Inv-loop μ-loop
 loop-again c =
     let at = c .before .before .before in
-    (omega arith, c .greater .ensures ∙ more (at .before .args .pm .now) (at .loop .t) (at .loop .s) (at .loop .inv .1))
+    (omega arith, c .greater .ensures ∙ top-more (at .before .args .pm .now) (at .loop .t) (at .loop .s) (at .loop .inv .1))
 
 returns : tie.Need-returns Inv-loop μ-loop
 returns c =

@@ -5,13 +5,13 @@ use lib.ListN.{length}
 use Rattle.trellis.specs.Lists.{firstPlace}
 use Rattle.isdb_fec.specs.declared.conv.ViterbiDecoder.{ViterbiDecoder}
 use Rattle.trellis.specs.Run.{knownSteps}
-use Rattle.short_code.specs.declared.Code.{Code}
 use Rattle.short_fec.specs.Rows.{handedRows, knownRows}
-use Rattle.short_fec.specs.Calls.{steps, handed}
+use Rattle.short_fec.specs.Calls.{steps, handed, over}
 use Rattle.decoder_c.specs.Decoders.{decoderOf}
+use Rattle.decoder_c.specs.StoredLaws.{unstored}
 use Rattle.codes_c.specs.Stored.{codeFrom}
 use Rattle.answers_c.specs.LengthLaws.{not-states, until-refuses}
-use Rattle.codes_c.proofs.Laws.{unstored, pushed}
+use Rattle.codes_c.proofs.Laws.{pushed}
 use Rattle.codes_c.proofs.isdb_code_push_known.Statement.{statement}
 use Rattle.codes_c.proofs.isdb_code_push_known.Tie as tie
 
@@ -33,7 +33,7 @@ returns c =
     let n = c .not-states .result in
     let e = rw (c .before .before .before .before .code-from .ensures) at (c .not-states .ensures) in
     let h = until-refuses (handedRows k w) tt n e in
-    (not-states (a .pm .now) (knownRows k w (length (a .bits .now)) (length (a .decisions .now)) (length (a .out .now))) n (c .before .before .before .if1 .taken) e, unstored n (a .traceback) (steps k (a .traceback) (knownSteps (a .bits .now)) (handed k w (a .decisions .now)) (length (a .bits .now))) (a .pm .now) (a .held .now) (a .count .now) (a .decisions .now) (a .out .now) h)
+    (not-states (a .pm .now) (knownRows k w (length (a .bits .now)) (length (a .decisions .now)) (length (a .out .now))) n (c .before .before .before .if1 .taken) e, unstored n (a .traceback) (over (a .pm .now) (steps k (a .traceback) (knownSteps (a .bits .now)) (handed k w (a .decisions .now)) (length (a .bits .now)))) (a .pm .now) (a .held .now) (a .count .now) (a .decisions .now) (a .out .now) h)
 
 decoder-of-requires : tie.Need-decoder-of-requires
 decoder-of-requires c κs = search needs

@@ -1,6 +1,5 @@
 -- `isdb_flush` meets its contract: the library's call on a copy of the state, handed back. Assumes nothing.
 use mathlib.Core.Path.{_≡_}
-use Prim.Native.Nat.{ℕ, _/_}
 use borrow.Author.Needs.{needs}
 use lib.ListN.{length}
 use Rattle.trellis.specs.Lists.{firstPlace}
@@ -9,7 +8,8 @@ use Rattle.isdb_fec.specs.Calls.{flush, handed}
 use Rattle.isdb_fec.specs.Rows.{handedRows, flushRows}
 use Rattle.decoder_c.specs.Decoders.{decoderOf}
 use Rattle.answers_c.specs.LengthLaws.{not-states, until-refuses}
-use Rattle.conv_c.proofs.Decoders.{unflushed, flush-done}
+use Rattle.decoder_c.specs.StoredLaws.{unflushed}
+use Rattle.conv_c.proofs.Decoders.{flush-done}
 use Rattle.conv_c.proofs.isdb_flush.Statement.{statement}
 use Rattle.conv_c.proofs.isdb_flush.Tie as tie
 

@@ -1,6 +1,5 @@
 -- `isdb_push_known` meets its contract: the library's call on a copy of the state, handed back. Assumes nothing.
 use mathlib.Core.Path.{_≡_}
-use Prim.Native.Nat.{ℕ, _/_}
 use borrow.Author.Needs.{needs}
 use lib.ListN.{length}
 use Rattle.trellis.specs.Lists.{firstPlace}
@@ -10,7 +9,8 @@ use Rattle.isdb_fec.specs.Calls.{steps, handed}
 use Rattle.trellis.specs.Run.{knownSteps}
 use Rattle.decoder_c.specs.Decoders.{decoderOf}
 use Rattle.answers_c.specs.LengthLaws.{not-states, until-refuses}
-use Rattle.conv_c.proofs.Decoders.{unstored, pushed}
+use Rattle.decoder_c.specs.StoredLaws.{unstored}
+use Rattle.conv_c.proofs.Decoders.{pushed}
 use Rattle.conv_c.proofs.isdb_push_known.Statement.{statement}
 use Rattle.conv_c.proofs.isdb_push_known.Tie as tie
 

@@ -1,6 +1,7 @@
 -- `decode` meets its contract. Assumes nothing.
 use Rattle.isdbs_pack.specs.FrameRunLaws.{front-is}
-use Rattle.isdbs_decode.specs.DecodedLaws.{from-count, from-binary, binary-at, decoded-from}
+use Rattle.trellis.specs.DistanceLaws.{bits-at}
+use Rattle.isdbs_decode.specs.DecodedLaws.{from-count, from-binary, decoded-from}
 use Rattle.isdbs_decode.specs.Runs.{bitsFrom}
 use Rattle.frame_read.specs.Scales.{scaleOf, receivedBy}
 use Rattle.isdbs_metrics.specs.Reading.{startValues, bytesFrom, decodedBits}
@@ -60,7 +61,7 @@ write-bytes-requires c κs =
       st .pre .1,
       st .pre .2,
       rw front (omega arith),
-      λ i l. rw front (binary-at (bitsFrom (st .args .p .table) rx pm) (from-binary (st .args .p .table) rx pm) i (omega arith)),
+      λ i l. rw front (bits-at (bitsFrom (st .args .p .table) rx pm) (from-binary (st .args .p .table) rx pm) i),
       search needs,
     )
 

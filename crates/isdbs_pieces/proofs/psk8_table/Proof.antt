@@ -9,7 +9,7 @@ use lib.ListN.{length, length-set}
 use Rattle.isdbs_points.specs.declared.Cplx.{Cplx}
 use Rattle.isdbs_points.specs.Points.{psk8Of, subset, conjugated}
 use Rattle.isdbs_pieces.specs.Encoded.{psk8Label}
-use Rattle.isdbs_pieces.proofs.Written.{Written, written-more}
+use Rattle.trellis.specs.WrittenLaws.{Written, written-more}
 use Rattle.isdbs_pieces.proofs.psk8_table.Statement.{statement}
 use Rattle.isdbs_pieces.proofs.psk8_table.Tie as tie
 

@@ -9,7 +9,7 @@ use lib.ListN.{length, length-set}
 use Rattle.isdbs_points.specs.declared.Cplx.{Cplx}
 use Rattle.isdbs_points.specs.Points.{qpskOf, conjugated}
 use Rattle.isdbs_pieces.specs.Encoded.{qpskLabel}
-use Rattle.isdbs_pieces.proofs.Written.{Written, written-more}
+use Rattle.trellis.specs.WrittenLaws.{Written, written-more}
 use Rattle.isdbs_pieces.proofs.qpsk_table.Statement.{statement}
 use Rattle.isdbs_pieces.proofs.qpsk_table.Tie as tie
 

@@ -10,7 +10,7 @@ use Rattle.code_windows.specs.Windows.{outputsIn}
 use Rattle.code_windows.specs.WindowLaws.{label-lowest}
 use Rattle.isdbs_load.specs.Bits.{wordBit}
 use Rattle.isdbs_pieces.specs.Encoded.{registerLabel}
-use Rattle.isdbs_pieces.proofs.Written.{Written, written-more}
+use Rattle.trellis.specs.WrittenLaws.{Written, written-more}
 use Rattle.isdbs_pieces.proofs.register_table.Statement.{statement}
 use Rattle.isdbs_pieces.proofs.register_table.Tie as tie
 

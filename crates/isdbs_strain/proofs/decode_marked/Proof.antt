@@ -4,7 +4,8 @@ use native.Mathlib.Omega.{arith}
 use Rattle.isdbs_points.specs.SizeLaws.{few-steps}
 use Rattle.isdbs_metrics.specs.Reading.{decodedBits}
 use Rattle.frame_read.specs.Scales.{receivedBy}
-use Rattle.isdbs_decode.specs.DecodedLaws.{decoded-count, decoded-binary, binary-at}
+use Rattle.isdbs_decode.specs.DecodedLaws.{decoded-count, decoded-binary}
+use Rattle.trellis.specs.DistanceLaws.{bits-at}
 use Rattle.isdbs_strain.proofs.Whole.{steps-are, front, final-is, marks-are}
 use borrow.Author.Needs.{needs}
 use Rattle.isdbs_strain.proofs.decode_marked.Statement.{statement}
@@ -54,7 +55,7 @@ count-strain-requires c κs =
       st .pre .0,
       search needs,
       rw f (omega arith),
-      λ i l. rw f (binary-at us (decoded-binary (p .table) rx (st .args .o .«known_start») (st .args .first)) i (omega arith)),
+      λ i l. rw f (bits-at us (decoded-binary (p .table) rx (st .args .o .«known_start») (st .args .first)) i),
       search needs,
     )
 

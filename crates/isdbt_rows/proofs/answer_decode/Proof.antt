@@ -4,9 +4,7 @@ use mathlib.Core.Bool.{true, false}
 use native.Mathlib.Omega.{arith}
 use borrow.Author.Needs.{needs}
 use borrow.Author.Tests.{lt-ltb, le-ltb, eq-eqb, ne-eqb}
-use Prim.Native.Nat.{_+_}
-use Rattle.trellis.specs.Run.{depth}
-use Rattle.isdbt_rows.specs.RowLaws.{depth-range}
+use Rattle.trellis.specs.RunLaws.{depth-range}
 use Rattle.isdbt_table.specs.NumberLaws.{numbers}
 use Rattle.isdbt_rows.proofs.Refusals.{decode-answer}
 use Rattle.isdbt_rows.proofs.answer_decode.Statement.{statement}

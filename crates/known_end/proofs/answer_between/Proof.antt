@@ -1,12 +1,11 @@
 -- `known_end::answer_between` meets its contract. Assumes nothing.
-use mathlib.Core.Path.{_≡_, refl, sym, _∙_}
-use Prim.Native.Nat.{ℕ, _+_, _/_, _%_}
-use native.Mathlib.Omega.{arith}
+use mathlib.Core.Path.{refl, sym, _∙_}
+use Prim.Native.Nat.{_+_, _/_, _%_}
 use borrow.Author.Needs.{needs}
 use borrow.Author.Tests.{lt-ltb, le-ltb, eq-eqb, ne-eqb}
 use lib.ListN.{length}
 use Rattle.trellis.specs.Run.{depth}
-use Rattle.known_end.proofs.Rows.{depth-small}
+use Rattle.trellis.specs.RunLaws.{depth-range}
 use Rattle.known_end.proofs.answer_between.Statement.{statement}
 use Rattle.known_end.proofs.answer_between.Tie as tie
 
@@ -42,7 +41,7 @@ depth-of-requires c κs = search needs
 add-if5 : tie.Need-add-if5
 add-if5 c =
     let d = c .depth-of .ensures in
-    let s = depth-small (c .before .before .before .before .before .before .before .args .traceback) (c .before .before .before .before .before .if1 .left) in
+    let s = depth-range (c .before .before .before .before .before .before .before .args .traceback) (c .before .before .before .before .before .if1 .left) in
     search needs
 
 returns-5 : tie.Need-returns-5

@@ -1,32 +1,14 @@
 -- `release::release` meets its contract. Assumes nothing.
-use mathlib.Core.Path.{_≡_, refl, sym, _∙_, ap}
-use Prim.Native.Nat.{ℕ, suc, _+_, _-_, _*_, _/_, _%_, _<_, _≤_}
-use native.Mathlib.Omega.{arith}
+use mathlib.Core.Path.{_∙_, ap}
+use Prim.Native.Nat.{ℕ, _+_}
 use borrow.Author.Needs.{needs}
-use mathlib.Core.List.{List, [], _∷_, _++_}
-use lib.ListN.{length, take, drop, replicate, length-drop}
-use lib.Seq.{length-take-le}
-use borrow.Rule.Slice.PartMut.{midOf, putMid}
+use lib.ListN.{take}
 use Rattle.trellis.specs.Lists.{laid}
 use Rattle.trellis.specs.Isdb.{traced}
-use Rattle.trellis.specs.LaidLaws.{laid-after, laid-freed, length-laid}
-use Rattle.release.specs.PartLaws.{written-tail}
 use borrow.Author.Needs.{needs}
+use Rattle.release.specs.PartLaws.{shifted}
 use Rattle.release.proofs.release.Statement.{statement}
 use Rattle.release.proofs.release.Tie as tie
-
--- the words that are moved down, and those that are cleared after them
-shifted : (d m p : List ℕ) (b n : ℕ) → b + n ≤ length d → m ≡ laid (take n (drop b d)) d → p ≡ laid (replicate b 0) (midOf n (length m - n) m) → putMid n (length m - n) m p ≡ laid (drop b (take (b + n) d)) (laid (replicate (b + n) 0) d)
-shifted d m p b n h em ep =
-    let s = take n (drop b d) in
-    let r : List ℕ = replicate b 0 in
-    let ls : length s ≡ n = length-take-le n (drop b d) (rw (length-drop b d) (omega arith)) in
-    let lm : length m ≡ length d = ap length em ∙ length-laid s d (omega arith) in
-    written-tail n m p r (omega arith) ep
-    ∙ ap (λ (x : List ℕ). take n x ++ laid r (drop n x)) em
-    ∙ ap (λ (k : ℕ). take k (laid s d) ++ laid r (drop k (laid s d))) (sym ls)
-    ∙ laid-after s r d
-    ∙ laid-freed d b n 0 h
 
 best-state-requires : tie.Need-best-state-requires
 best-state-requires c κs = search needs

@@ -1,40 +1,19 @@
 -- `release::trace` meets its contract. The invariant: s is the state after t steps, the bits from t on are in their places, and the
 -- places from `count` on are as they were. Assumes nothing.
-use mathlib.Core.Path.{_≡_, refl, sym, _∙_, ap}
+use mathlib.Core.Path.{_≡_, refl}
 use mathlib.Core.Logic.{⊎-elim}
-use mathlib.Core.List.{List}
-use Prim.Native.Nat.{ℕ, suc, _+_, _-_, _*_, _/_, _%_, _^_, _≤_, _<_}
+use Prim.Native.Nat.{_+_, _-_, _/_, _≤_, _<_}
 use native.Mathlib.Omega.{arith}
-use native.Mathlib.Nat.{sub-self, min-eq-left}
-use lib.ListN.{length, getD, take, length-set, length-take}
-use lib.Seq.{getD-take}
+use native.Mathlib.Nat.{sub-self}
+use lib.ListN.{length, take, length-set}
+use lib.Seq.{length-take-le}
 use borrow.Author.Needs.{needs}
-use Rattle.trellis.specs.Lists.{upto}
 use Rattle.trellis.specs.Step as trellis
 use Rattle.trellis.specs.Step.{back, input}
 use Rattle.trellis.specs.WrittenLaws.{Between, Kept, between-more, kept-set, laid-whole}
+use Rattle.trellis.specs.RunLaws.{back-more, input-read}
 use Rattle.release.proofs.trace.Statement.{statement}
 use Rattle.release.proofs.trace.Tie as tie
-
-long : (d : List ℕ) (n : ℕ) → n ≤ length d → length (take n d) ≡ n
-long d n h = length-take n d ∙ min-eq-left h
-
--- one step further back
-further : (d : List ℕ) (n state t s : ℕ) → 0 < t → t ≤ n → s ≡ back 32 (take n d) n state (n - t)
-    → trellis.kept 32 (getD d (t - 1) 0) s ≡ back 32 (take n d) n state (n - (t - 1))
-unfolding back
-further d n state t s ht hn is-s =
-    let e : n - (t - 1) ≡ suc (n - t) = omega arith in
-    let j : n - suc (n - t) ≡ t - 1 = omega arith in
-    let g : getD (take n d) (t - 1) 0 ≡ getD d (t - 1) 0 = getD-take n d (t - 1) 0 (omega arith) in
-    rw e (cc)
-
--- the bit that is read off the state after t steps
-read : (ws : List ℕ) (n state t s : ℕ) → 0 < t → s ≡ back 32 ws n state (n - t) → s / 32 ≡ input 32 ws n state (t - 1)
-unfolding input
-read ws n state t s ht is-s =
-    let j : t - 1 + 1 ≡ t = omega arith in
-    rw j (ap (λ (x : ℕ). x / 32) is-s)
 
 abbrev Inv-loop : tie.InvT-loop
 Inv-loop decisions n state count out₀ s₀ t₀ out s t = (t ≤ n) × (length out ≡ length out₀) × (s < 64) × (s ≡ back 32 (take n decisions) n state (n - t)) × Between 0 (input 32 (take n decisions) n state) t count out × Kept 0 out₀ count out
@@ -90,7 +69,7 @@ loop-again c =
     let out = at .loop .out in
     let inv = at .loop .inv in
     let pos : 0 < t = omega arith in
-    let older = further d n state t s pos (inv .0) (inv .3) in
+    let older = back-more 32 d n state t s pos (inv .0) (inv .3) in
     let j : t ≡ t - 1 + 1 = omega arith in
     ⊎-elim
     (λ w.
@@ -100,7 +79,7 @@ loop-again c =
       simp length-set (inv .1),
       omega arith,
       older,
-      between-more 0 f (t - 1) count out (s / 32) h (rw j at (inv .4)) (read (take n d) n state t s pos (inv .3)),
+      between-more 0 f (t - 1) count out (s / 32) h (rw j at (inv .4)) (input-read 32 (take n d) n state t s pos (inv .3)),
       kept-set 0 out₀ count (t - 1) out (s / 32) (w .0 .taken) (inv .5),
     ))
     (λ w. rw (w .1) (omega arith, inv .1, omega arith, older, λ i a b. absurd (omega arith), inv .5))
@@ -117,7 +96,7 @@ returns c =
     let d = at .before .args .decisions .now in
     let n = at .before .args .n in
     let hn : n ≤ length d = search needs in
-    rw (long d n hn)
+    rw (length-take-le n d hn)
     (laid-whole 0 (input 32 (take n d) n (at .before .args .state)) n (at .before .args .count) (at .before .args .out .now) (at .loop .out) (search needs) (search needs) (inv .1)
     (λ i h. inv .4 i (omega arith) h) (inv .5))
 

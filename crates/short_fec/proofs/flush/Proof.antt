@@ -3,17 +3,15 @@ use Rattle.short_fec.specs.Calls.{bestOf}
 use Rattle.trellis.specs.Step.{best}
 use Rattle.trellis.specs.Isdb.{rule}
 use lib.ListN.{take}
-use Rattle.short_code.specs.Codes.{labels, halfOf, statesOf}
+use Rattle.short_code.specs.Codes.{statesOf}
 use Rattle.short_code.specs.CodeLaws.{states-are, good-length}
-use mathlib.Core.Path.{_≡_, refl, sym, _∙_, ap}
+use mathlib.Core.Path.{_≡_, sym, _∙_, ap}
 use native.Mathlib.Omega.{arith}
-use Prim.Native.Nat.{ℕ, suc, _+_, _-_, _*_, _/_, _%_, _^_, _<_, _≤_}
-use Rattle.refusal.specs.RowLaws.{done, refused}
+use Prim.Native.Nat.{ℕ, _-_, _*_}
 use Rattle.isdb_fec.specs.WholeLaws.{as-given}
 use Rattle.refusal.proofs.Told.{told}
-use Rattle.short_rows.specs.RowLaws.{stream-enough, known-enough, flush-enough}
+use Rattle.short_rows.specs.RowLaws.{flush-enough}
 use lib.ListN.{length}
-use mathlib.Core.Logic.{inl, inr}
 use borrow.Author.Needs.{needs}
 use Rattle.short_fec.proofs.flush.Statement.{statement}
 use Rattle.short_fec.proofs.flush.Tie as tie
@@ -29,8 +27,8 @@ returns c =
     let a = c .before .before .before .before .args in
     (c .before .answer-flush .ensures, as-given (a .dec) (c .before .answer-flush .result) (a .decisions .now) (a .out .now) (told (c .before .answer-flush .result) (c .match .keys2)))
 
-places-requires : tie.Need-places-requires
-places-requires c κs = search needs
+states-requires : tie.Need-states-requires
+states-requires c κs = search needs
 
 half-requires : tie.Need-half-requires
 half-requires c κs =
@@ -91,7 +89,7 @@ flush-spec =
     answer-flush-requires
     enum-told
     returns
-    places-requires
+    states-requires
     half-requires
     mul-n
     sub-best-state

@@ -1,7 +1,7 @@
 -- `short_fec::fresh` meets its contract. Assumes nothing.
-use mathlib.Core.Path.{_≡_, refl, sym, _∙_, ap}
+use mathlib.Core.Path.{refl, sym, _∙_}
 use native.Mathlib.Omega.{arith}
-use borrow.Author.Tests.{lt-ltb, le-ltb, le-leb, lt-leb, eq-eqb, ne-eqb}
+use borrow.Author.Tests.{lt-ltb, le-ltb}
 use Rattle.refusal.specs.RowLaws.{done, refused, numbered}
 use Rattle.refusal.specs.declared.Answer.the-variants as answer
 use borrow.Author.Needs.{needs}
@@ -19,19 +19,15 @@ returns-2 c =
     let tb = c .before .before .before .args .traceback in
     (rw (le-ltb 1024 tb (c .before .before .if1 .left), sym (c .before .bad .ensures) ∙ c .if2 .taken) refl, refused answer.Code (numbered answer.Code (omega arith)) (record { values = refl; held-is = refl; traceback-is = refl }))
 
+depth-of-requires : tie.Need-depth-of-requires
+depth-of-requires c κs = search needs
+
 returns-3 : tie.Need-returns-3
 returns-3 c =
     let tb = c .before .before .before .before .args .traceback in (
       rw (le-ltb 1024 tb (c .before .before .before .if1 .left), sym (c .before .before .bad .ensures) ∙ c .before .if2 .left) refl,
-      done (record { values = refl; held-is = refl; traceback-is = rw (eq-eqb tb 0 (c .if3 .taken)) refl }),
-    )
-
-returns-4 : tie.Need-returns-4
-returns-4 c =
-    let tb = c .before .before .before .before .args .traceback in (
-      rw (le-ltb 1024 tb (c .before .before .before .if1 .left), sym (c .before .before .bad .ensures) ∙ c .before .if2 .left) refl,
-      done (record { values = refl; held-is = refl; traceback-is = rw (ne-eqb tb 0 (c .if3 .left)) refl }),
+      done (record { values = refl; held-is = refl; traceback-is = c .depth-of .ensures }),
     )
 
 pub fresh-spec : {M : Type 1} → statement M
-fresh-spec = tie.close (tie.spec returns bad-requires returns-2 returns-3 returns-4)
+fresh-spec = tie.close (tie.spec returns bad-requires returns-2 depth-of-requires returns-3)

@@ -1,22 +1,19 @@
 -- `short_fec::push_known` meets its contract. Assumes nothing.
-use Rattle.short_code.specs.Codes.{labels, halfOf, statesOf, goodCode}
-use Rattle.short_code.specs.CodeLaws.{states-are, good-length}
-use Rattle.short_fec.proofs.Whole.{left, started, unknown}
-use mathlib.Core.Logic.{⊎-elim}
+use Rattle.short_code.specs.Codes.{labels}
+use Rattle.short_code.specs.CodeLaws.{good-length}
+use Rattle.short_fec.proofs.Whole.{left}
 use lib.ListN.{length, take}
 use lib.Seq.{length-take-le}
-use Rattle.trellis.specs.Run.{after, pushed, holding, knownSteps}
+use Rattle.trellis.specs.Run.{after, holding, knownSteps}
 use Rattle.trellis.specs.Isdb.{rule}
-use Rattle.short_viterbi.specs.Soft.{softSteps}
-use mathlib.Core.Path.{_≡_, refl, sym, _∙_, ap}
+use mathlib.Core.Path.{_≡_, refl, sym, _∙_}
 use native.Mathlib.Omega.{arith}
-use Prim.Native.Nat.{ℕ, suc, _+_, _-_, _*_, _/_, _%_, _^_, _<_, _≤_}
-use Rattle.refusal.specs.RowLaws.{done, refused}
+use Prim.Native.Nat.{_-_, _*_}
+use Rattle.refusal.specs.RowLaws.{done}
 use Rattle.isdb_fec.specs.WholeLaws.{as-given}
 use Rattle.refusal.proofs.Told.{told}
-use Rattle.short_rows.specs.RowLaws.{stream-enough, known-enough, flush-enough}
+use Rattle.short_rows.specs.RowLaws.{known-enough}
 use lib.ListN.{length}
-use mathlib.Core.Logic.{inl, inr}
 use borrow.Author.Needs.{needs}
 use Rattle.short_fec.proofs.push_known.Statement.{statement}
 use Rattle.short_fec.proofs.push_known.Tie as tie
@@ -40,8 +37,8 @@ half-requires c κs =
 mul-n : tie.Need-mul-n
 mul-n c = search needs
 
-places-requires : tie.Need-places-requires
-places-requires c κs = search needs
+states-requires : tie.Need-states-requires
+states-requires c κs = search needs
 
 sub-known-steps : tie.Need-sub-known-steps
 sub-known-steps c = search needs
@@ -59,7 +56,7 @@ known-steps-requires c κs =
     let half = c .before .before .before .before .before .before .half in
     let n = half .ensures .1 in
     let e = known-enough (a .code) (a .dec) (length (a .bits .now)) (length (a .decisions .now)) (length (a .out .now)) (sym (t .enum-told .given .1) ∙ t .before .before .answer-known .ensures) .1 in
-    let long = c .before .before .before .places .ensures .1 in
+    let long = c .before .before .before .states .ensures .1 in
     let taken : length (take (2 * half .result - 0) (a .dec .pm)) ≡ 2 * half .result = length-take-le (2 * half .result - 0) (a .dec .pm) (omega arith) ∙ omega arith in
     (half .ensures .0, n, half .ensures .2, taken, e .least, e .most, e .fewer, refl, e .fits, e .room)
 
@@ -76,7 +73,7 @@ returns-2 c =
     let half = c .before .before .before .before .before .before .before .before .before .before .before .before .half in
     let end = c .before .before .before .before .before .known-steps in
     let n = half .ensures .1 in
-    let long = c .before .before .before .before .before .before .before .before .before .places .ensures .1 in
+    let long = c .before .before .before .before .before .before .before .before .before .states .ensures .1 in
     let taken = length-take-le (2 * half .result - 0) (a .dec .pm) (omega arith) in (
       (sym (t .enum-told .given .1) ∙ t .before .before .answer-known .ensures),
       done (left (a .code) (half .result) (2 * half .result - 0) (a .dec) (λ h m. after h (labels (a .code)) rule (a .dec .traceback) (knownSteps (a .bits .now)) (holding (take m (a .dec .pm)) (a .dec .held) (a .decisions .now)) (length (a .bits .now)))
@@ -92,7 +89,7 @@ push-known-spec =
     returns
     half-requires
     mul-n
-    places-requires
+    states-requires
     sub-known-steps
     part-pm-start
     part-pm-end

@@ -1,14 +1,14 @@
 -- `short_fec::soft` meets its contract. Assumes nothing.
-use mathlib.Core.Path.{_≡_, refl, sym, _∙_, ap}
+use mathlib.Core.Path.{_≡_, refl, _∙_}
 use native.Mathlib.Omega.{arith}
-use Prim.Native.Nat.{ℕ, suc, _+_, _-_, _*_, _/_, _%_, _^_, _<_, _≤_}
-use Rattle.short_code.specs.Codes.{labels, halfOf, statesOf, goodCode}
-use Rattle.short_code.specs.CodeLaws.{states-are, good-length}
-use Rattle.short_fec.proofs.Whole.{left, started, unknown}
+use Prim.Native.Nat.{_-_, _*_, _/_, _≤_}
+use Rattle.short_code.specs.Codes.{labels}
+use Rattle.short_code.specs.CodeLaws.{good-length}
+use Rattle.short_fec.proofs.Whole.{left}
 use mathlib.Core.Logic.{⊎-elim}
 use lib.ListN.{length, take}
 use lib.Seq.{length-take-le}
-use Rattle.trellis.specs.Run.{after, pushed, holding, knownSteps}
+use Rattle.trellis.specs.Run.{pushed, holding}
 use Rattle.trellis.specs.Isdb.{rule}
 use Rattle.short_viterbi.specs.Soft.{softSteps}
 use borrow.Author.Needs.{needs}
@@ -21,8 +21,8 @@ half-requires c κs = good-length (c .before .before .before .args .code) (c .be
 mul-n : tie.Need-mul-n
 mul-n c = search needs
 
-places-requires : tie.Need-places-requires
-places-requires c κs = search needs
+states-requires : tie.Need-states-requires
+states-requires c κs = search needs
 
 div-count : tie.Need-div-count
 div-count c = ⊎-elim (λ e. rw e (omega arith)) (λ e. rw e (omega arith)) (c .before .before .before .before .before .before .before .pre .0)
@@ -43,7 +43,7 @@ soft-run-requires c κs =
     let half = c .before .before .before .before .before .before .half in
     let n = half .ensures .1 in
     let e = start .pre .2 in
-    let long = c .before .before .before .places .ensures .1 in
+    let long = c .before .before .before .states .ensures .1 in
     let taken : length (take (2 * half .result - 0) (a .dec .pm)) ≡ 2 * half .result = length-take-le (2 * half .result - 0) (a .dec .pm) (omega arith) ∙ omega arith in
     let whole : a .per * (length (a .values .now) / a .per) ≤ length (a .values .now) = ⊎-elim (λ e. rw e (omega arith)) (λ e. rw e (omega arith)) (start .pre .0) in
     (half .ensures .0, n, half .ensures .2, taken, start .pre .0, whole, e .least, e .most, e .fewer, refl, e .fits, e .room)
@@ -60,7 +60,7 @@ returns c =
     let half = c .before .before .before .before .before .before .before .before .before .before .before .before .half in
     let end = c .before .before .before .before .before .soft-run in
     let n = half .ensures .1 in
-    let long = c .before .before .before .before .before .before .before .before .before .places .ensures .1 in
+    let long = c .before .before .before .before .before .before .before .before .before .states .ensures .1 in
     let taken = length-take-le (2 * half .result - 0) (a .dec .pm) (omega arith) in (
       refl,
       left (a .code) (half .result) (2 * half .result - 0) (a .dec) (λ h m. pushed h (labels (a .code)) rule (a .dec .traceback) (softSteps (a .per) (a .values .now)) (holding (take m (a .dec .pm)) (a .dec .held) (a .decisions .now)) (length (a .values .now) / a .per))
@@ -73,7 +73,7 @@ soft-spec =
     (tie.spec
     half-requires
     mul-n
-    places-requires
+    states-requires
     div-count
     sub-soft-run
     part-pm-start

@@ -6,7 +6,7 @@ use native.Mathlib.Omega.{arith}
 use borrow.Author.Tests.{lt-ltb, le-ltb, le-leb, lt-leb, eq-eqb, ne-eqb}
 use Rattle.short_code.specs.Codes.{statesOf}
 use Rattle.short_code.specs.CodeLaws.{states-are, good-length}
-use Prim.Native.Nat.{ℕ, _+_, _-_, _*_, _≤_, _<_}
+use Prim.Native.Nat.{ℕ, _+_, _-_, _*_}
 use lib.ListN.{take}
 use Rattle.isdb_fec.specs.Values.{someBeyond, pathLimit}
 use borrow.Author.Needs.{needs}
@@ -35,8 +35,8 @@ returns-4 c =
     let v = c .before .before .before .before .before .before .args .dec in
     rw (ne-eqb (v .traceback) 0 (search needs), le-ltb 1024 (v .traceback) (search needs), sym (c .before .before .before .bad .ensures) ∙ c .before .before .if3 .left, le-leb (4096 + v .traceback) (v .held) (search needs)) refl
 
-places-requires : tie.Need-places-requires
-places-requires c κs = search needs
+states-requires : tie.Need-states-requires
+states-requires c κs = search needs
 
 half-requires : tie.Need-half-requires
 half-requires c κs = good-length (c .before .before .before .before .before .before .before .before .before .args .code) (not-false (goodCode (c .before .before .before .before .before .before .before .before .before .args .code)) (sym (c .before .before .before .before .before .before .bad .ensures) ∙ c .before .before .before .before .before .if3 .left))
@@ -96,7 +96,7 @@ answer-handed-spec =
     returns-3
     add-if4
     returns-4
-    places-requires
+    states-requires
     half-requires
     mul-n
     sub-some-beyond

@@ -1,20 +1,14 @@
 -- `short_step::greatest` meets its contract. The invariant: t is the greatest of the values below s. Assumes nothing.
-use mathlib.Core.Path.{_≡_, refl, sym, _∙_, ap}
-use mathlib.Core.Bool.{cond}
-use mathlib.Core.List.{List}
-use Prim.Native.Nat.{ℕ, suc, _+_, _-_, _*_, _/_, _%_, _^_, _<_, _≤_}
+use mathlib.Core.Path.{_≡_, refl, _∙_}
+use Prim.Native.Nat.{_-_, _≤_}
 use native.Mathlib.Omega.{arith}
-use native.Mathlib.Numerals.{add-one}
-use lib.ListN.{length, getD, length-set}
-use lib.Ieee.{Float, nan, binary32, lt, neg, add, sub, ofBits}
+use lib.ListN.{length}
+use lib.Ieee.{neg, ofBits}
 use borrow.Author.Needs.{needs}
 use Rattle.trellis.specs.Step.{top}
+use Rattle.trellis.specs.RunLaws.{top-more}
 use Rattle.short_step.proofs.greatest.Statement.{statement}
 use Rattle.short_step.proofs.greatest.Tie as tie
-
-more : (pm : List Float) (x : Float) (s : ℕ) → x ≡ top pm s → cond (lt x (getD pm s nan)) (getD pm s nan) x ≡ top pm (s + 1)
-unfolding top
-more pm x s is-x = rw (add-one s, is-x)
 
 abbrev Inv-loop : tie.InvT-loop
 Inv-loop pm t₀ s₀ s-end t s = (s-end ≡ length pm) × (s ≤ length pm) × (t ≡ top pm s)
@@ -44,7 +38,7 @@ loop-less c = omega arith
 loop-again : tie.Need-loop-again Inv-loop μ-loop
 loop-again c =
     let at = c .before .before .before in
-    (at .loop .inv .0, omega arith, c .greater .ensures ∙ more (at .before .before .args .pm .now) (at .loop .t) (at .loop .s) (at .loop .inv .2))
+    (at .loop .inv .0, omega arith, c .greater .ensures ∙ top-more (at .before .before .args .pm .now) (at .loop .t) (at .loop .s) (at .loop .inv .2))
 
 returns : tie.Need-returns Inv-loop μ-loop
 returns c =

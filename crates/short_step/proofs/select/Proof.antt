@@ -1,20 +1,19 @@
 -- `short_step::select` meets its contract. The invariant: the states below k are written, and their decisions are in w. Assumes nothing.
-use mathlib.Core.Path.{_≡_, refl, sym, _∙_, ap}
+use mathlib.Core.Path.{_≡_, refl}
 use mathlib.Core.Bool.{cond}
 use mathlib.Core.List.{List}
-use Prim.Native.Nat.{ℕ, suc, _+_, _-_, _*_, _/_, _%_, _^_, _<_, _≤_}
+use Prim.Native.Nat.{ℕ, _-_, _*_, _<_, _≤_}
 use native.Mathlib.Omega.{arith}
-use lib.ListN.{length, getD, length-set}
-use lib.Ieee.{Float, nan, binary32, lt, neg, add, sub, ofBits}
+use lib.ListN.{length, length-set}
+use lib.Ieee.{Float, nan}
 use borrow.Author.Needs.{needs}
-use lib.Bits.{bitOr}
 use Rattle.trellis.specs.Lists.{bit, packed}
 use Rattle.trellis.specs.Step.{Step, takes, cand, wins, next, word}
 use Rattle.trellis.specs.Isdb.{rule}
 use Rattle.acs.specs.PackedLaws.{packed-more}
 use Rattle.viterbi.specs.Calls.{stepOf}
 use Rattle.short_code.specs.Codes.{labels}
-use Rattle.trellis.specs.WrittenLaws.{Written, Kept, written-none, written-more, written-skip, kept-more, kept-skip, written-whole}
+use Rattle.trellis.specs.WrittenLaws.{Written, written-none, written-more}
 use Rattle.short_step.proofs.select.Statement.{statement}
 use Rattle.short_step.proofs.select.Tie as tie
 
@@ -34,8 +33,8 @@ Inv-loop pm new₀ code h x all w₀ k₀ k-end new w k = (k-end ≡ 2 * h) × (
 abbrev μ-loop : tie.MeasureT-loop
 μ-loop pm new₀ code h x all w₀ k₀ k-end new w k = 2 * h - k
 
-places-requires : tie.Need-places-requires Inv-loop μ-loop
-places-requires c κs = search needs
+states-requires : tie.Need-states-requires Inv-loop μ-loop
+states-requires c κs = search needs
 
 mul-k-end : tie.Need-mul-k-end Inv-loop μ-loop
 mul-k-end c = omega arith
@@ -44,7 +43,7 @@ loop-holds : tie.Need-loop-holds Inv-loop μ-loop
 unfolding packed
 loop-holds c =
     let a = c .before .before .before .args in
-    (refl, omega arith, c .places .ensures .1, written-none nan (next (a .h) (labels (a .code)) rule (a .pm .now) (stepOf (a .x))) (a .new .now), refl)
+    (refl, omega arith, c .states .ensures .1, written-none nan (next (a .h) (labels (a .code)) rule (a .pm .now) (stepOf (a .x))) (a .new .now), refl)
 
 path-requires : tie.Need-path-requires Inv-loop μ-loop
 path-requires c κs = search needs
@@ -106,7 +105,7 @@ select-spec =
     (tie.spec
     Inv-loop
     μ-loop
-    places-requires
+    states-requires
     mul-k-end
     loop-holds
     path-requires

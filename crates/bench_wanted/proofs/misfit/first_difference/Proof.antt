@@ -74,8 +74,8 @@ first-difference-spec =
     mul-differ-4
     element-copy-out-differ-4
     differ-requires-2
+    returns
     add-k
     loop-less
     loop-again
-    returns
     returns-2)

@@ -1,9 +1,8 @@
 -- `conv::fresh` meets its contract. Assumes nothing.
-use mathlib.Core.Path.{_≡_, refl, sym, _∙_, ap}
-use Prim.Native.Nat.{ℕ, suc, _+_, _-_, _*_, _/_, _%_, _<_, _≤_}
+use mathlib.Core.Path.{refl}
 use native.Mathlib.Omega.{arith}
 use borrow.Author.Needs.{needs}
-use borrow.Author.Tests.{lt-ltb, le-ltb, eq-eqb, ne-eqb}
+use borrow.Author.Tests.{lt-ltb, le-ltb}
 use Rattle.refusal.specs.declared.Answer.the-variants.{Traceback}
 use Rattle.isdb_fec.specs.AnswerLaws.{accepted, refused, numbered}
 use Rattle.isdb_fec.proofs.conv.fresh.Statement.{statement}
@@ -12,19 +11,15 @@ use Rattle.isdb_fec.proofs.conv.fresh.Tie as tie
 returns : tie.Need-returns
 returns c = (rw (lt-ltb 1024 (c .before .args .traceback) (c .if1 .taken)) refl, refused Traceback (numbered Traceback (omega arith)) (record { values = refl; held-is = refl; traceback-is = refl }))
 
+depth-of-requires : tie.Need-depth-of-requires
+depth-of-requires c κs = search needs
+
 returns-2 : tie.Need-returns-2
 returns-2 c =
     let tb = c .before .before .args .traceback in (
       rw (le-ltb 1024 tb (c .before .if1 .left)) refl,
-      accepted (record { values = refl; held-is = refl; traceback-is = rw (eq-eqb tb 0 (c .if2 .taken)) refl }),
-    )
-
-returns-3 : tie.Need-returns-3
-returns-3 c =
-    let tb = c .before .before .args .traceback in (
-      rw (le-ltb 1024 tb (c .before .if1 .left)) refl,
-      accepted (record { values = refl; held-is = refl; traceback-is = rw (ne-eqb tb 0 (c .if2 .left)) refl }),
+      accepted (record { values = refl; held-is = refl; traceback-is = c .depth-of .ensures }),
     )
 
 pub fresh-spec : {M : Type 1} → statement M
-fresh-spec = tie.close (tie.spec returns returns-2 returns-3)
+fresh-spec = tie.close (tie.spec returns depth-of-requires returns-2)

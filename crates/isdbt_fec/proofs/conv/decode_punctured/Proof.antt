@@ -3,7 +3,7 @@ use mathlib.Core.Path.{refl, sym, _∙_}
 use borrow.Author.Needs.{needs}
 use lib.ListN.{length}
 use Rattle.isdbt_rows.specs.RowLaws.{decode-enough}
-use Rattle.isdbt_rows.specs.RowLaws.{depth-range}
+use Rattle.trellis.specs.RunLaws.{depth-range}
 use Rattle.isdb_fec.specs.AnswerLaws.{accepted, refused}
 use Rattle.refusal.proofs.Told.{told}
 use Rattle.isdbt_fec.proofs.conv.decode_punctured.Statement.{statement}

@@ -1,8 +1,8 @@
--- `depth_of` meets its contract. Assumes nothing.
+-- `viterbi::depth_of` meets its contract. Assumes nothing.
 use mathlib.Core.Path.{refl}
 use borrow.Author.Tests.{eq-eqb, ne-eqb}
-use Rattle.isdbt_rows.proofs.depth_of.Statement.{statement}
-use Rattle.isdbt_rows.proofs.depth_of.Tie as tie
+use Rattle.viterbi.proofs.depth_of.Statement.{statement}
+use Rattle.viterbi.proofs.depth_of.Tie as tie
 
 returns : tie.Need-returns
 returns c = rw (eq-eqb (c .before .args .traceback) 0 (c .if1 .taken)) refl
