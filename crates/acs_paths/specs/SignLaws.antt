@@ -8,7 +8,7 @@ use lib.Dec.{T, eqb}
 use lib.ListN.{getD}
 use lib.Ieee.{Float, nan, binary32, lt, ofBits}
 use Rattle.trellis.specs.Code.{label, output, tapped}
-use Rattle.trellis.specs.ListLaws.{alike, alike-eq}
+use Rattle.trellis.specs.ListLaws.{equalTests, equal-tests}
 use Rattle.acs_paths.specs.Signs.{XSigns, YSigns}
 use Rattle.acs_paths.specs.TableLaws.{all, at}
 use Rattle.trellis.specs.Isdb
@@ -16,7 +16,7 @@ use Rattle.trellis.specs.Isdb
 -- the test of an entry, of a row, of a pair of rows; g is the coded bit of a label
 module _ (g : ℕ → ℕ) where
   abbrev entry : ℕ → ℕ → ℕ → Float → Bool
-  entry u b j x = alike (lt x (ofBits binary32 0)) (eqb (g (Isdb.labels u (2 * j + b))) 1)
+  entry u b j x = equalTests (lt x (ofBits binary32 0)) (eqb (g (Isdb.labels u (2 * j + b))) 1)
 
   abbrev row : ℕ → ℕ → List Float → Bool
   row u b xs = all 32 (entry u b) xs
@@ -27,7 +27,7 @@ module _ (g : ℕ → ℕ) where
   rule : (t : List (List (List Float))) → T (all 2 pair t) → (u b j : ℕ) → u < 2 → b < 2 → j < 32
       → lt (getD (getD (getD t u []) b []) j nan) (ofBits binary32 0) ≡ eqb (g (Isdb.labels u (2 * j + b))) 1
   rule t passes u b j hu hb hj =
-      alike-eq _ _
+      equal-tests _ _
       (at 32 (entry u b) nan (getD (getD t u []) b [])
       (at 2 (row u) [] (getD t u [])
       (at 2 pair [] t passes u hu)

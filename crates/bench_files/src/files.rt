@@ -274,22 +274,22 @@ fn get(s: &[f64], k: usize) -> f64 {
 
 // Reads up to n points until the file ends.
 fn fill(file: i32, narrow: bool, n: usize, re: &mut [f64], im: &mut [f64]) -> Got {
-    let mut k: usize = 0;
-    let mut over: usize = 0;
-    while k < n {
+    for k in 0..n {
         let p = points::read_point(file, narrow);
         if p.got < points::size(narrow) {
-            over = p.got;
-            break;
+            return Got {
+                well: true,
+                count: k,
+                over: p.got,
+            };
         }
         set(re, k, p.re);
         set(im, k, p.im);
-        k = k + 1;
     }
     Got {
         well: true,
-        count: k,
-        over,
+        count: n,
+        over: 0,
     }
 }
 

@@ -1,3 +1,5 @@
 // The bench program's files, of bytes and of points.
 pub mod files;
-pub mod points;
+mod points;
+
+pub use points::f64_bits;

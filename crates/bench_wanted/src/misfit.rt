@@ -1,5 +1,5 @@
 // The first point that fits no load: the load that the points show is read off and encoded again, and the frames are compared point by point.
-use bench_files::points::f64_bits;
+use bench_files::f64_bits;
 use bench_line::space::LOAD_SPACE;
 use bench_line::words::front;
 use bench_words::report;

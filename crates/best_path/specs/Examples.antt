@@ -2,18 +2,18 @@
 use mathlib.Core.Path.{_≡_, refl}
 use mathlib.Core.Logic.{inl, inr}
 use mathlib.Core.List.{List, [], _∷_}
-use Prim.Native.Nat.{ℕ, zero, suc, _≤_, _<_}
+use Prim.Native.Nat.{ℕ, zero, suc, _<_}
 use native.Mathlib.Omega.{arith}
 use lib.IntN.{pos, negsuc}
 use lib.Dec.{T, lit≤, lit<}
 use lib.ListN.{getD}
 use lib.Ieee.{Float, nan, binary32, add, sub, lt, le, eq, fits, ofInt, ofBits}
 use Rattle.trellis.specs.Lists.{upto, packed}
-use Rattle.trellis.specs.Code.{output, tapped, label, stateAt}
+use Rattle.trellis.specs.Code.{output, tapped, label, stateAt, labelAt}
 use Rattle.trellis.specs.Isdb
 use Rattle.trellis.specs.Step.{four, Tie, lower, upper, branch, cand, wins, next, nexts, word, top, best, renormalised, kept, back, input, traced}
 use Rattle.trellis.specs.Run.{startAt, settled, released, stepped, after}
-use Rattle.best_path.specs.Paths.{Path, Tail, First, labelAt, sumℤ, Reading, This, Integer, Quadruples}
+use Rattle.best_path.specs.Paths.{Path, Tail, First, sumℤ, Reading, This, Integer, Quadruples}
 use Rattle.best_path.specs.Calls.{readBits, isdb-given}
 
 -- ---- 0.0, -0.0, 16.0 and -16.0 are whole numbers within 16; one half is none

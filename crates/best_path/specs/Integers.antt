@@ -3,7 +3,7 @@ use mathlib.Core.Path.{_≡_, refl, ap}
 use mathlib.Core.Logic.{_⊎_, inl, inr}
 use mathlib.Core.Bool.{Bool, true, false, cond}
 use mathlib.Core.List.{List}
-use Prim.Native.Nat.{ℕ, zero, suc, _+_, _-_, _*_, _/_, _%_, _≤_, _<_}
+use Prim.Native.Nat.{ℕ, zero, suc, _+_, _*_, _/_, _%_, _≤_, _<_}
 use native.Mathlib.Omega.{arith}
 use lib.IntN.{ℤ, pos, negsuc, natAbs, negℤ, _+ℤ_}
 use lib.Signed.{_≤ℤ_, leZ, leZ-yes}
@@ -16,7 +16,8 @@ use Rattle.ieee.specs.Order.{eq→value}
 use Rattle.ieee.specs.Rounding.{pow2}
 use Rattle.ieee.specs.Whole.{hiZ, loZ, ofInt-on, parts}
 use Rattle.trellis.specs.Step.{pair, four}
-use Rattle.best_path.specs.Paths.{bound, labelAt, sumℤ, Integer, Quadruples}
+use Rattle.trellis.specs.Code.{labelAt}
+use Rattle.best_path.specs.Paths.{bound, sumℤ, Integer, Quadruples}
 use Rattle.best_path.specs.Viterbi.{Z, plus, Le, sum}
 use Rattle.best_path.specs.Exact.{Whole}
 use Rattle.best_path.specs.Tracks.{Adds}

@@ -3,13 +3,13 @@
 use mathlib.Core.Path.{_≡_}
 use mathlib.Core.Logic.{_⊎_}
 use mathlib.Core.List.{List}
-use Prim.Native.Nat.{ℕ, zero, suc, _+_, _*_, _%_, _≤_, _<_}
+use Prim.Native.Nat.{ℕ, zero, suc, _*_, _%_, _≤_, _<_}
 use lib.IntN.{ℤ, pos, natAbs, _+ℤ_}
 use lib.Signed.{_≤ℤ_}
 use lib.Dec.{T}
 use lib.ListN.{getD, length}
 use lib.Ieee.{Float, nan, binary32, eq, fits, ofInt}
-use Rattle.trellis.specs.Code.{stateAt}
+use Rattle.trellis.specs.Code.{stateAt, labelAt}
 use Rattle.trellis.specs.Step.{Tie, lower, upper}
 
 -- the theorem's numbers: at most 4,096 quadruples, of whole numbers within 16 of 0
@@ -53,14 +53,10 @@ module _ (half : ℕ) where
   First t s us r vs n = Ahead t (stateAt half s us n) (stateAt half r vs n) ⊎ ((stateAt half s us n ≡ stateAt half r vs n) × Tail t s us r vs n)
 
 module _ (half : ℕ) (out : ℕ → ℕ → ℕ) where
-  -- the coded pair of step k, 2 X + Y
-  abbrev pub labelAt : ℕ → List ℕ → ℕ → ℕ
-  labelAt s us k = out (getD us k 0) (stateAt half s us k)
-
   -- the sum of the first k steps: step i adds the metric `m i` of its coded pair
   unfoldable pub sumℤ : (ℕ → ℕ → ℤ) → ℕ → List ℕ → ℕ → ℤ
   sumℤ m s us zero = pos 0
-  sumℤ m s us (suc k) = sumℤ m s us k +ℤ m k (labelAt s us k)
+  sumℤ m s us (suc k) = sumℤ m s us k +ℤ m k (labelAt half out s us k)
 
   -- Of the paths of n steps whose start is in `from` and whose end is in `to`, the path from s on us has the greatest sum (`most`), and
   -- it is the first of those that have that sum (`first`).

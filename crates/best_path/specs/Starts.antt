@@ -3,10 +3,9 @@ use mathlib.Core.Path.{_≡_, refl, sym, ap, subst}
 use mathlib.Core.Logic.{_⊎_, inl, inr, ⊎-elim}
 use mathlib.Core.Bool.{Bool, true, false, cond}
 use mathlib.Core.List.{List}
-use Prim.Native.Nat.{ℕ, zero, suc, _-_, _*_, _≤_, _<_}
+use Prim.Native.Nat.{ℕ, zero, suc, _*_, _≤_, _<_}
 use native.Mathlib.Omega.{arith}
 use lib.IntN.{ℤ}
-use lib.Signed.{_≤ℤ_}
 use lib.Dec.{T, eqb, eqb→eq, eqb-refl, lit≤}
 use lib.ListN.{getD, length, replicate, getD-replicate}
 use lib.Ieee.{Float, nan, binary32, fits, ofBits}
@@ -14,9 +13,9 @@ use Rattle.ieee.specs.Value.{hi, lo}
 use Rattle.ieee.specs.Rounding.{pow2}
 use Rattle.ieee.specs.Whole.{hiZ, loZ}
 use Rattle.ieee.specs.Whole.{hiZ, loZ}
-use Rattle.trellis.specs.Code.{stateAt}
+use Rattle.trellis.specs.Code.{stateAt, labelAt}
 use Rattle.trellis.specs.Step.{Step, Tie, back}
-use Rattle.best_path.specs.Paths.{bound, longest, Walk, Path, labelAt, sumℤ, Best, Any, This, Reading}
+use Rattle.best_path.specs.Paths.{bound, longest, Walk, Path, sumℤ, Best, Any, This, Reading}
 use Rattle.best_path.specs.Viterbi.{Z, sum}
 use Rattle.best_path.specs.Greatest.{Greatest, one-first}
 use Rattle.best_path.specs.Exact.{Whole}

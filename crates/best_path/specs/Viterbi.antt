@@ -5,7 +5,7 @@ use Prim.Native.Nat.{ℕ, zero, suc, _+_, _*_, _/_, _%_, _≤_}
 use lib.Dec.{ltb, leb}
 use Rattle.trellis.specs.Lists.{bit}
 use Rattle.trellis.specs.Step.{Tie, lower, upper}
-use Rattle.best_path.specs.Paths.{labelAt}
+use Rattle.trellis.specs.Code.{labelAt}
 
 -- ---- whole numbers: (a, b) is a - b
 abbrev pub Z : Type 0

@@ -18,7 +18,7 @@ use Rattle.trellis.specs.Run.{Decoder, block, tracebackLimit, pairSteps, fourSt
 use Rattle.lead.specs.Ties.{false-of}
 use Rattle.trellis.specs.RunLaws.{after-values, depth-range}
 use Rattle.lead.specs.Complement.{small}
-use Rattle.path_ranges.specs.Bounds.{Within, wider, ruledOut}
+use Rattle.path_ranges.specs.Bounds.{Within, wider}
 use Rattle.path_ranges.specs.Values.{nothing, from-least, to-most}
 use Rattle.path_ranges.specs.Steps.{Soft, two, quad, soft-falls}
 use Rattle.path_ranges.specs.Invariant.{Bounded, bounded-within}
@@ -34,17 +34,17 @@ use Rattle.refusal.specs.RowLaws.{passed, none-accepted}
 use Rattle.call_ranges.specs.Inside.{inside-within, within-inside, none-beyond, all-inside}
 use Rattle.call_ranges.specs.Reached as reached
 use Rattle.call_ranges.specs.Reached.{Reached, Floats, with-state, unknown-state}
-use Rattle.call_ranges.specs.Numbers.{stepMost, streamMost, deepest, leastPath, pathMost, stream-limits, path-limit, stream-limit, least-path}
+use Rattle.call_ranges.specs.Numbers.{stepMost, streamMost, deepest, leastPath, pathMost, stream-limits, path-limit, stream-limit, least-path, room, room-enough}
 
 -- what holds of every such state
 pub record Fit (v : ViterbiDecoder) : Type 0 where
   pub least : 1 ≤ v .traceback
   pub most : v .traceback ≤ tracebackLimit
   pub fewer : v .held < block + v .traceback
-  pub values : Bounded stepMost ruledOut 0 0 (v .pm)
+  pub values : Bounded stepMost room 0 0 (v .pm)
 
 -- ---- the fresh start
-fresh-fit : {tb : ℕ} {pm : List Float} {v : ViterbiDecoder} → Accepted ≡ firstRow (freshRows tb) → Bounded stepMost ruledOut 0 0 pm → Fresh tb pm v → Fit v
+fresh-fit : {tb : ℕ} {pm : List Float} {v : ViterbiDecoder} → Accepted ≡ firstRow (freshRows tb) → Bounded stepMost room 0 0 pm → Fresh tb pm v → Fit v
 fresh-fit {tb} {pm} {v} e b f =
     let t = depth-range tb (ltb-false tracebackLimit tb (passed (freshRows tb) tt (sym e) Traceback)) in
     let h = f .held-is in
@@ -90,7 +90,7 @@ known-fit {v} i bits n decisions₀ = record {
   least = i .least;
   most = i .most;
   fewer = held-fit i decisions₀ (knownSteps bits) n;
-  values = rw (after-values Isdb.half Isdb.labels Isdb.rule (v .traceback) (knownSteps bits) (handed v decisions₀) n) (known-call stream-limits Isdb.labels small Isdb.rule (lit≤ tt) (λ k. getD bits k 0) (v .pm) (i .values) n);
+  values = rw (after-values Isdb.half Isdb.labels Isdb.rule (v .traceback) (knownSteps bits) (handed v decisions₀) n) (known-call stream-limits Isdb.labels small Isdb.rule room-enough (λ k. getD bits k 0) (v .pm) (i .values) n);
 }
 
 -- ---- the values of an accepted stream

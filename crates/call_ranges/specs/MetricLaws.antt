@@ -20,9 +20,9 @@ use Rattle.isdb_fec.specs.Values.{within, someBeyond, streamLimit}
 use Rattle.call_ranges.specs.Inside.{none-beyond}
 
 -- the limit as a whole number
-stream-limit : Whole streamLimit 1048576 0
+limit-whole : Whole streamLimit 1048576 0
 unfolding ofBits fits hi lo pow2
-stream-limit = record { num = record { fin-x = tt; fits-x = tt }; hi-is = refl; lo-is = refl }
+limit-whole = record { num = record { fin-x = tt; fits-x = tt }; hi-is = refl; lo-is = refl }
 
 -- a whole number within the bound
 integer-inside : (x : Float) (z : ℤ) → Integer bound x z → T (within streamLimit x)
@@ -31,8 +31,8 @@ integer-inside x z i =
     let n = lo-most bound z (i .within) in
     let w = integer-whole bound x z (omega arith) i in
     and-i (le (neg streamLimit) x) (le x streamLimit)
-    (le-from (neg streamLimit) x 0 1048576 (hiZ z) (loZ z) (on-neg stream-limit) w (omega arith))
-    (le-from x streamLimit (hiZ z) (loZ z) 1048576 0 w stream-limit (omega arith))
+    (le-from (neg streamLimit) x 0 1048576 (hiZ z) (loZ z) (on-neg limit-whole) w (omega arith))
+    (le-from x streamLimit (hiZ z) (loZ z) 1048576 0 w limit-whole (omega arith))
 
 -- no metric of n whole quadruples is beyond the limit
 pub metrics-inside : (xs : List Float) (n : ℕ) (m : ℕ → ℕ → ℤ) → length xs ≡ 4 * n → Quadruples (quadruple xs) m n → someBeyond streamLimit xs ≡ false

@@ -1,7 +1,7 @@
 -- The bounds of a decoder's stream values and path values, in one place. All but the stream's limit itself are multiples of 512, which is the unit of
 -- crate path_ranges. Assumes nothing.
 use mathlib.Core.Path.{_≡_, refl}
-use Prim.Native.Nat.{ℕ, _+_, _*_}
+use Prim.Native.Nat.{ℕ, _+_, _*_, _≤_}
 use lib.Dec.{lit≤}
 use lib.Ieee.{Float, binary32, fits, ofBits}
 use Rattle.ieee.specs.Value.{hi, lo}
@@ -19,6 +19,10 @@ streamMost = 2048
 abbrev pub stepMost : ℕ
 stepMost = 4096
 
+-- how far down the bounds between calls reach: to the value of a ruled out state
+abbrev pub room : ℕ
+room = ruledOut
+
 -- 1,025,165,824 = 1.0e9 + 12 * 2,097,152: how far below 0 a path value can be
 abbrev pub deepest : ℕ
 deepest = 2002277
@@ -31,10 +35,14 @@ leastPath = ofBits binary32 0xce74_6b28
 abbrev pub pathMost : ℕ
 pathMost = 8388608
 
-pub stream-limits : Limits stepMost stepMost ruledOut
+pub stream-limits : Limits stepMost stepMost room
 stream-limits = record { wide = lit≤ tt; start = lit≤ tt; fits = lit≤ tt }
 
-pub deepest-is : ruledOut + 12 * stepMost ≡ deepest
+-- -1.0e9 is within them
+pub room-enough : ruledOut ≤ room
+room-enough = lit≤ tt
+
+pub deepest-is : room + 12 * stepMost ≡ deepest
 deepest-is = refl
 
 -- ---- the limits in units

@@ -6,7 +6,7 @@ use mathlib.Core.List.{List, _++_}
 use Prim.Native.Nat.{ℕ, zero, suc, _+_, _*_, _/_, _%_, _<_, _≤_}
 use native.Mathlib.Omega.{arith}
 use native.Mathlib.Nat.{le-refl}
-use lib.Dec.{T, eqb, lit≤}
+use lib.Dec.{T, eqb}
 use lib.ListN.{getD, length, take, drop}
 use lib.Ieee.{Float, nan, binary32, ofBits}
 use Rattle.ieee.specs.Zero.{plain}
@@ -32,12 +32,11 @@ use Rattle.isdb_fec.specs.Calls.{steps, call, handed, Leaves}
 use Rattle.viterbi.specs.Calls.{pairCall, fourCall}
 use Rattle.isdb_fec.specs.TwoCallLaws as calls
 use Rattle.isdb_fec.specs.TwoCallLaws.{both}
-use Rattle.path_ranges.specs.Bounds.{ruledOut}
 use Rattle.call_ranges.specs.Normalised.{Normalised, normalised-start, renormalised-twice}
 use Rattle.call_ranges.specs.Reached as reached
 use Rattle.call_ranges.specs.Reached.{Reached, Floats, with-state, unknown-state}
 use Rattle.call_ranges.specs.Closed.{Fit, reached-fit, stream-inside, pair-soft, four-soft}
-use Rattle.call_ranges.specs.Numbers.{stepMost, stream-limits}
+use Rattle.call_ranges.specs.Numbers.{stepMost, stream-limits, room, room-enough}
 
 -- ---- the steps of a call
 module _ {v : ViterbiDecoder} (i : Fit v) (start : Normalised (v .pm)) (decisions₀ : List ℕ) where
@@ -52,10 +51,10 @@ module _ {v : ViterbiDecoder} (i : Fit v) (start : Normalised (v .pm)) (decision
     falls : (k : ℕ) → k < n → (s : ℕ) → s < 64 → Falls stepMost stepMost Isdb.labels (xs k) s
     falls k h = soft-falls Isdb.labels small (soft k h)
 
-    bounded : (k : ℕ) → k ≤ n → Bounded stepMost ruledOut (k % 64 * stepMost) (k % 64 * stepMost) (values k)
+    bounded : (k : ℕ) → k ≤ n → Bounded stepMost room (k % 64 * stepMost) (k % 64 * stepMost) (values k)
     bounded = values-bounded stream-limits Isdb.labels small Isdb.rule xs n soft falls (v .pm) (i .values)
 
-    new-bounded : (k : ℕ) → k < n → Bounded stepMost ruledOut (k % 64 * stepMost + stepMost) (k % 64 * stepMost + stepMost) (new k)
+    new-bounded : (k : ℕ) → k < n → Bounded stepMost room (k % 64 * stepMost + stepMost) (k % 64 * stepMost + stepMost) (new k)
     new-bounded k h =
         step-bounded stream-limits Isdb.labels small Isdb.rule (values k) (xs k) (soft-moves (soft k h)) (falls k h) (k % 64 * stepMost) (k % 64 * stepMost) (omega arith) (omega arith) (bounded k (omega arith))
 
@@ -84,7 +83,7 @@ module _ {v : ViterbiDecoder} (i : Fit v) (start : Normalised (v .pm)) (decision
       let pm = valuesAt (knownSteps bits) (v .pm) n in
       let b = getD bits n 0 in
       renormalised-twice stream-limits (ruled 32 b (nexts pm (known b))) 0 (omega arith)
-      (known-bounded stream-limits (lit≤ tt) Isdb.labels small Isdb.rule pm b (known-call stream-limits Isdb.labels small Isdb.rule (lit≤ tt) (λ k. getD bits k 0) (v .pm) (i .values) n))
+      (known-bounded stream-limits room-enough Isdb.labels small Isdb.rule pm b (known-call stream-limits Isdb.labels small Isdb.rule room-enough (λ k. getD bits k 0) (v .pm) (i .values) n))
 
   normalised-known : (bits : List ℕ) (n : ℕ) → Normalised (steps (v .traceback) (knownSteps bits) (handed v decisions₀) n .values)
   normalised-known bits n = rw (after-values Isdb.half Isdb.labels Isdb.rule (v .traceback) (knownSteps bits) (handed v decisions₀) n) (known-values bits n)

@@ -20,7 +20,7 @@ use Rattle.trellis.specs.Step.{Tie, nexts, renormalised}
 use Rattle.trellis.specs.Run.{valuesAt, pushed, freshFrom}
 use Rattle.trellis.specs.RunLaws.{after-values}
 use Rattle.lead.specs.Complement.{small, complement}
-use Rattle.path_ranges.specs.Bounds.{Within, wider, ruledOut}
+use Rattle.path_ranges.specs.Bounds.{Within, wider}
 use Rattle.path_ranges.specs.Values.{nothing, from-least, to-most}
 use Rattle.path_ranges.specs.Steps.{Soft, quad, Falls, quad-falls}
 use Rattle.path_ranges.specs.Invariant.{Bounded, bounded-within}
@@ -42,7 +42,7 @@ use Rattle.frame_read.specs.Steps.{frameMetrics}
 use Rattle.frame_read.specs.ScaleLaws.{word-in}
 use Rattle.frame_read.specs.Scales.{scaleOf, receivedBy}
 use Rattle.isdb_fec.specs.Values.{within}
-use Rattle.frame_ranges.specs.NumberLaws.{part-limit, scale-limit, soft-limit, metric-limit, step-most, path-limits, known-limits, under-ruled, least-path, most-path}
+use Rattle.frame_ranges.specs.NumberLaws.{part-limit, scale-limit, soft-limit, metric-limit, step-most, path-limits, known-limits, under-ruled, least-path, most-path, room-enough}
 use Rattle.frame_ranges.specs.Size.{Size, two-lo, between-size, size-from, size-to}
 use Rattle.frame_ranges.specs.Rising.{Up, Rises}
 use Rattle.frame_ranges.specs.Metrics.{Sized, soft-in, metric-in, metric-rises}
@@ -51,7 +51,7 @@ use Rattle.isdbs_frame.specs.Frame.{mainSymbols, w1}
 use Rattle.trellis.specs.Isdb.{frameTraceback}
 use Rattle.trellis.specs.Isdb
 use Rattle.frame_ranges.specs.Limits.{softLimit, metricLimit, leastPath, mostPath}
-use Rattle.frame_ranges.specs.Numbers.{partPower, scalePower, metricPower, stepMost, floor}
+use Rattle.frame_ranges.specs.Numbers.{partPower, scalePower, metricPower, stepMost, floor, room}
 
 -- ---- a value within a power of two, as a test
 size-within : {t : ℕ} {x : Float} (limit : Float) → limit ≡ two-to t → t ≤ 127 → Size binary32 t x → T (within limit x)
@@ -161,23 +161,23 @@ module _ (e : Tie) (t : Table) (r : Received) (metrics : (k l : ℕ) → k < fra
     in-between vs i s h =
         let w = i s h in
         let x = getD vs s nan in
-        (from-least leastPath x (floor + 12 * stepMost) (64 * stepMost) ruledOut least-path under-ruled w, to-most mostPath x (floor + 12 * stepMost) (64 * stepMost) (64 * stepMost) most-path (lit≤ tt) w)
+        (from-least leastPath x (floor + 12 * stepMost) (64 * stepMost) room least-path under-ruled w, to-most mostPath x (floor + 12 * stepMost) (64 * stepMost) (64 * stepMost) most-path (lit≤ tt) w)
 
-    below-zero : (vs : List Float) → Bounded 0 ruledOut 0 0 vs → Between leastPath (ofBits binary32 0) vs
+    below-zero : (vs : List Float) → Bounded 0 room 0 0 vs → Between leastPath (ofBits binary32 0) vs
     below-zero vs i s h =
-        let w : Within (getD vs s nan) ruledOut 0 = bounded-within i s h in
+        let w : Within (getD vs s nan) room 0 = bounded-within i s h in
         let x = getD vs s nan in
-        (from-least leastPath x ruledOut 0 ruledOut least-path (lit≤ tt) w, to-most (ofBits binary32 0) x ruledOut 0 0 nothing (lit≤ tt) w)
+        (from-least leastPath x room 0 room least-path (lit≤ tt) w, to-most (ofBits binary32 0) x room 0 0 nothing (lit≤ tt) w)
 
     values-are : (i : ℕ) → frameAt e t r pm i .values ≡ valuesAt Isdb.half Isdb.labels e (frameMetrics t r) pm i
     values-are = after-values Isdb.half Isdb.labels e frameTraceback (frameMetrics t r) (freshFrom pm)
 
     -- the call's end, as the known bits find it
-    ended : Bounded 0 ruledOut 0 0 (renormalised 32 (frameAt e t r pm (frameSteps t) .values))
+    ended : Bounded 0 room 0 0 (renormalised 32 (frameAt e t r pm (frameSteps t) .values))
     ended = rw (values-are (frameSteps t)) (go (soft-call path-limits Isdb.labels small e (frameMetrics t r) (frameSteps t) soft-step falls pm start))
       where
-        go : {vs : List Float} → Bounded stepMost floor 0 0 vs → Bounded 0 ruledOut 0 0 vs
-        go {vs} i = level vs (i .count) (λ s h. wider (getD vs s nan) (floor + 12 * stepMost - 0) 0 ruledOut 0 under-ruled (lit≤ tt) (bounded-within i s h)) (i .best) (i .best-under) (i .best-above)
+        go : {vs : List Float} → Bounded stepMost floor 0 0 vs → Bounded 0 room 0 0 vs
+        go {vs} i = level vs (i .count) (λ s h. wider (getD vs s nan) (floor + 12 * stepMost - 0) 0 room 0 under-ruled (lit≤ tt) (bounded-within i s h)) (i .best) (i .best-under) (i .best-above)
 
     pub paths-in : pathRange e t r pm
     paths-in = record {
@@ -188,7 +188,7 @@ module _ (e : Tie) (t : Table) (r : Received) (metrics : (k l : ℕ) → k < fra
       at-known = λ j.
           let d = pushed Isdb.half Isdb.labels e frameTraceback (frameMetrics t r) (freshFrom pm) (frameSteps t) in
           rw (after-values Isdb.half Isdb.labels e frameTraceback knownBits d j)
-          (below-zero (valuesAt Isdb.half Isdb.labels e knownBits (d .values) j) (known-call known-limits Isdb.labels small e (lit≤ tt) (wordBit w1) (d .values) ended j));
+          (below-zero (valuesAt Isdb.half Isdb.labels e knownBits (d .values) j) (known-call known-limits Isdb.labels small e room-enough (wordBit w1) (d .values) ended j));
     }
 
 start-bounded : (knownStart first : Bool) → Bounded stepMost floor 0 0 (startValues knownStart first)

@@ -11,7 +11,7 @@ use Rattle.path_ranges.specs.Values.{Is}
 use Rattle.path_ranges.specs.Invariant.{Limits}
 use Rattle.isdbs_phy.specs.DecodeRows.{partLimit, scaleLimit}
 use Rattle.frame_ranges.specs.Limits.{softLimit, metricLimit, leastPath, mostPath}
-use Rattle.frame_ranges.specs.Numbers.{partPower, scalePower, softPower, metricPower, stepMost, floor}
+use Rattle.frame_ranges.specs.Numbers.{partPower, scalePower, softPower, metricPower, stepMost, floor, room}
 
 -- ---- that they belong together
 pub part-limit : partLimit ≡ two-to partPower
@@ -37,14 +37,18 @@ pub path-limits : Limits stepMost 0 floor
 path-limits = record { wide = lit≤ tt; start = lit≤ tt; fits = lit≤ tt }
 
 -- once the frame's steps are done nothing is added
-pub known-limits : Limits 0 0 ruledOut
+pub known-limits : Limits 0 0 room
 known-limits = record { wide = lit≤ tt; start = lit≤ tt; fits = lit≤ tt }
 
+-- -1.0e9 is within them
+pub room-enough : ruledOut ≤ room
+room-enough = lit≤ tt
+
 -- how far down the frame's steps lead is above -1.0e9
-pub under-ruled : floor + 12 * stepMost ≤ ruledOut
+pub under-ruled : floor + 12 * stepMost ≤ room
 under-ruled = lit≤ tt
 
-pub least-path : Is leastPath 0 ruledOut
+pub least-path : Is leastPath 0 room
 unfolding ofBits fits hi lo mag pow2
 least-path = record { num = record { fin-x = tt; fits-x = tt }; hi-is = refl; lo-is = refl }
 

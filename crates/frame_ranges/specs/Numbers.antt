@@ -1,5 +1,6 @@
 -- The numbers of the ranges, in one place, as exponents and in units: the limits of the rows give the rest. Units of path values are 512, as in crate path_ranges. Assumes nothing.
 use Prim.Native.Nat.{ℕ, suc, _+_}
+use Rattle.path_ranges.specs.Bounds.{ruledOut}
 
 -- 2 ^ 16 is 65,536, the limit of a frame part; 2 ^ 6 is 64, that of a scale
 abbrev pub partPower : ℕ
@@ -23,3 +24,7 @@ stepMost = 16384
 -- 2 ^ 29, which is 64 steps: the best path value of a frame never falls
 abbrev pub floor : ℕ
 floor = 1048576
+
+-- how far down the path values reach once the frame's steps are done: to the value of a ruled out state
+abbrev pub room : ℕ
+room = ruledOut

@@ -4,3 +4,4 @@ pub mod Calls
 pub mod AnswerLaws
 pub mod WholeLaws
 pub mod TwoCallLaws
+pub mod OneCall

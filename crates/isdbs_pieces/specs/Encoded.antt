@@ -7,7 +7,7 @@ use lib.Dec.{eqb, ltb}
 use lib.ListN.{length, getD}
 use lib.Ieee.{Float, nan}
 use Rattle.trellis.specs.Lists.{upto, laid}
-use Rattle.trellis.specs.Code.{label, stateAt}
+use Rattle.trellis.specs.Code.{stateAt}
 use Rattle.code_windows.specs.Windows.{backward}
 use Rattle.isdbs_combination.specs.declared.Combination.{Combination}
 use Rattle.isdbs_combination.specs.declared.MaybePuncture.{MaybePuncture}
@@ -62,7 +62,7 @@ registerAt s us k = 2 * backward (stateAt Isdb.half s us k) + getD us k 0
 
 -- 4 C2 + 2 X + Y of 128 C2 + a register
 abbrev pub registerLabel : ℕ → ℕ
-registerLabel w = 4 * (w / 128) + Isdb.labels (w % 2) (backward (w / 2 % 64))
+registerLabel w = 4 * (w / 128) + Isdb.labels (w % 2) (backward (w / 2 % Isdb.states))
 
 -- a table that has the points there
 pub record ByRegister (m : Mapping) (t : RegisterTable) : Type 0 where

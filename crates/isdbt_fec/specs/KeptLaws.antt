@@ -15,7 +15,7 @@ use Rattle.isdbt_table.specs.Table.{period, sent, bitOrder}
 use Rattle.isdbt_table.specs.Puncture.{bitPlace, spread, softAt, depunctured, kept}
 use Rattle.viterbi.specs.EachLaws.{all, each}
 use Rattle.trellis.specs.LaidLaws.{upto-cong}
-use Rattle.trellis.specs.ListLaws.{length-upto, getD-upto, alike, alike-eq}
+use Rattle.trellis.specs.ListLaws.{length-upto, getD-upto, equalTests, equal-tests}
 use Rattle.isdbt_table.specs.SizeLaws.{place-in}
 
 -- whether k is one of ps
@@ -40,7 +40,7 @@ spread-has f (p ∷ ps) xs j k h =
     spread-case (eqb k p) f p k (getD xs j nan) (spread ps xs (j + 1) k) (has ps k) refl first rest
 
 -- the order has exactly the bits whose row has a 1
-all-kept : (rate : CodeRate) → T (all (2 * period rate) (λ k. alike (has (bitOrder rate) k) (kept rate k)))
+all-kept : (rate : CodeRate) → T (all (2 * period rate) (λ k. equalTests (has (bitOrder rate) k) (kept rate k)))
 all-kept R1_2 = tt
 all-kept R2_3 = tt
 all-kept R3_4 = tt
@@ -49,7 +49,7 @@ all-kept R7_8 = tt
 
 pub has-kept : (rate : CodeRate) (k : ℕ) → k < 2 * period rate → has (bitOrder rate) k ≡ kept rate k
 has-kept rate k h =
-    alike-eq (has (bitOrder rate) k) (kept rate k) (each (2 * period rate) (λ k. alike (has (bitOrder rate) k) (kept rate k)) (all-kept rate) k h)
+    equal-tests (has (bitOrder rate) k) (kept rate k) (each (2 * period rate) (λ k. equalTests (has (bitOrder rate) k) (kept rate k)) (all-kept rate) k h)
 
 -- the row's column repeats with the period
 kept-again : (rate : CodeRate) (k : ℕ) → kept rate (k % (2 * period rate)) ≡ kept rate k

@@ -24,7 +24,7 @@ use Rattle.trellis.specs.Lists.{laid}
 use Rattle.trellis.specs.ListLaws.{length-upto, none-listed}
 use Rattle.trellis.specs.RunLaws.{label-under, after-values, renormalised-length}
 use Rattle.trellis.specs.Step.{Step, four, renormalised, traced, best}
-use Rattle.trellis.specs.Run.{Decoder, block, startAt, startUnknown, valuesAt, decisionsAfter, fourSteps, releases, quadruple}
+use Rattle.trellis.specs.Run.{Decoder, block, startAt, startUnknown, valuesAt, decisionsAfter, fourSteps, releases, quadruple, freshFrom}
 use Rattle.viterbi.specs.CountLaws.{counted, releases-is}
 use Rattle.trellis.specs.LaidLaws.{take-laid, length-laid}
 use Rattle.best_path.specs.Paths.{longest, Quadruples, Reading}
@@ -43,7 +43,7 @@ use Rattle.isdb_fec.specs.Calls.{Fresh, Zero, Unchanged}
 use Rattle.call_ranges.specs.Inside.{none-beyond}
 use Rattle.short_code.specs.declared.Code.{Code}
 use Rattle.short_code.specs.Codes.{codeOf, labels, halfOf, statesOf, goodCode}
-use Rattle.short_code.specs.CodeLaws.{states-are, good-length}
+use Rattle.short_code.specs.CodeLaws.{good-states}
 use Rattle.short_fec.specs.Rows as short
 use Rattle.short_fec.specs.Calls.{call, handed, bestOf, Leaves, Flushes}
 use Rattle.best_path.specs.declared.Start.{Start}
@@ -95,19 +95,14 @@ module _ (c : Code) (start : Start) (xs : List Float) (n : ℕ) (m : ℕ → ℕ
   some : 0 < half
   some = pow-pos (c .constraint - 2)
 
-  states : 2 * half ≡ statesOf c
-  states =
-      let l = good-length c good in
-      states-are c half (record { least = l .0; most = l .1; half-is = refl })
-
   abbrev begun : Decoder
-  begun = record { values = startValues (statesOf c) start; words = []; bits = [] }
+  begun = freshFrom (startValues (statesOf c) start)
 
   start-tracked : Tracks half (startValues (statesOf c) start) (wholeStart (2 * half) start) (0, 0) 0
-  start-tracked = subst (λ (k : ℕ). Tracks half (startValues k start) (wholeStart (2 * half) start) (0, 0) 0) states (start-tracks half (startValues (2 * half) start) (wholeStart (2 * half) start) (begins half some start))
+  start-tracked = subst (λ (k : ℕ). Tracks half (startValues k start) (wholeStart (2 * half) start) (0, 0) 0) (good-states c good) (start-tracks half (startValues (2 * half) start) (wholeStart (2 * half) start) (begins half some start))
 
   long : length (startValues (statesOf c) start) ≡ 2 * half
-  long = start-length (statesOf c) start ∙ sym states
+  long = start-length (statesOf c) start ∙ sym (good-states c good)
 
   start-inside : someBeyond pathLimit (startValues (statesOf c) start) ≡ false
   start-inside = inside half (startValues (statesOf c) start) (wholeStart (2 * half) start) (0, 0) 0 start-tracked (lit≤ tt) long
@@ -138,7 +133,7 @@ module _ (c : Code) (start : Start) (xs : List Float) (n : ℕ) (m : ℕ → ℕ
   renormalised-long = renormalised-length half last ∙ last-length
 
   read-length : length (read c start xs .values) ≡ statesOf c
-  read-length = ap length read-values ∙ renormalised-long ∙ states
+  read-length = ap length read-values ∙ renormalised-long ∙ good-states c good
 
   end-inside : someBeyond pathLimit (read c start xs .values) ≡ false
   end-inside = ap (λ (v : List Float). someBeyond pathLimit v) read-values ∙ inside half (renormalised half last) (value half (labels c) rule (wholeStart (2 * half) start) (λ k l. parts-of (m k l)) n) (end-tracked .0) n (end-tracked .1) few renormalised-long
@@ -224,7 +219,7 @@ module _ (c : Code) (start : Start) (xs : List Float) (n : ℕ) (m : ℕ → ℕ
         let w : take (p .dec .held) dec₁ ≡ d .words = ap (λ (k : ℕ). take k dec₁) (left .held-is) ∙ ap (λ (l : List ℕ). take (length (d .words)) l) dec-is ∙ take-laid (d .words) dec₀ in
         ap (λ (l : List ℕ). traced half l (bestOf c (p .dec))) w
         ∙ ap (λ (v : List Float). traced half (d .words) (best rule v (statesOf c - 1))) pm-is
-        ∙ ap (λ (k : ℕ). traced half (d .words) (best rule (d .values) (k - 1))) (sym states)
+        ∙ ap (λ (k : ℕ). traced half (d .words) (best rule (d .values) (k - 1))) (sym (good-states c good))
         ∙ ap (λ (b : List ℕ). b ++ traced half (d .words) (best rule (d .values) (2 * half - 1))) (sym none-out)
 
     -- all bits come with the flush: they are the inputs of the first path of greatest sum

@@ -1,4 +1,5 @@
 // The answers to calls with a code of constraint length 3 to 7 by their rows: those of isdb_fec with row 12 right before 4. The calls are in short_fec.
+// `few` is a test of the rows of encodings (short_encode, overlay_encode).
 ghost use mathlib.Core.Path.{_≡_};
 ghost use mathlib.Core.Bool.{cond};
 ghost use Prim.Native.Nat.{_+_, _*_, _<_, _≤_};
@@ -18,9 +19,7 @@ use short_code::Code;
 use short_code::bad;
 use short_code::half;
 use trellis::BLOCK;
-use trellis::STATES;
 use viterbi::few_places;
-ghost use Rattle.trellis.specs.Isdb;
 
 // The rows of an encoder.
 pub fn answer_encoder(code: Code, state: u8) -> Answer

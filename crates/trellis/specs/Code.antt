@@ -44,3 +44,7 @@ moved h u s = h * u + s / 2
 unfoldable pub stateAt : ℕ → ℕ → List ℕ → ℕ → ℕ
 stateAt h s us zero = s
 stateAt h s us (suc n) = moved h (getD us n 0) (stateAt h s us n)
+
+-- the coded pair 2 X + Y of each step of encoding the inputs us from the state s, where `out` is that of a branch
+abbrev pub labelAt : ℕ → (ℕ → ℕ → ℕ) → ℕ → List ℕ → ℕ → ℕ
+labelAt h out s us k = out (getD us k 0) (stateAt h s us k)

@@ -1,10 +1,10 @@
--- The trellis of ISDB and the rule for equals, named once: the decoder of Step and Run at them. Assumes nothing.
+-- The trellis of ISDB and the rule for equals, named once: the encoder of Code and the decoder of Step and Run at them. Assumes nothing.
 use mathlib.Core.Bool.{Bool}
 use mathlib.Core.List.{List}
 use Prim.Native.Nat.{ℕ, _+_, _-_}
-use lib.ListN.{getD}
 use lib.Ieee.{Float}
-use Rattle.trellis.specs.Code.{isdb, label, stateAt}
+use Rattle.trellis.specs.Code as code
+use Rattle.trellis.specs.Code.{isdb, label}
 use Rattle.trellis.specs.Step as step
 use Rattle.trellis.specs.Step.{Step, Tie, upper}
 use Rattle.trellis.specs.Run as run
@@ -20,9 +20,9 @@ half = 32
 abbrev pub labels : ℕ → ℕ → ℕ
 labels = label isdb
 
--- 2 X + Y at each step of encoding the inputs us from the state s
+-- those of an encoding
 abbrev pub labelAt : ℕ → List ℕ → ℕ → ℕ
-labelAt s us k = labels (getD us k 0) (stateAt half s us k)
+labelAt s us k = code.labelAt half labels s us k
 
 -- "traceback 128": of a frame's reading and of the calls of demand 2; the decision words that it needs, "4,096 + traceback"
 abbrev pub frameTraceback : ℕ

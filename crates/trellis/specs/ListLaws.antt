@@ -1,4 +1,4 @@
--- Laws of the first n values of a function, of a test that is computed at each number, of the number whose bits are a test's, and of padded lists. Assumes nothing.
+-- Laws of the first n values of a function, of lists without a place, of tests that are computed, of the number whose bits are a test's, and of padded lists. Assumes nothing.
 use mathlib.Core.Path.{_≡_, refl, sym, _∙_, ap}
 use mathlib.Core.Bool.{Bool, true, false, cond, _&&_}
 use mathlib.Core.List.{List, [], _∷_, _++_, append-assoc}
@@ -45,16 +45,16 @@ every-at f zero t k h = absurd (not-suc-le-zero h)
 every-at f (suc n) t k h = below-more (λ i. T (f i)) n (every-at f n (and-r (f n) (every f n) t)) (and-l (f n) (every f n) t) k (omega arith)
 
 -- whether two tests say the same
-abbrev pub alike : Bool → Bool → Bool
-alike true b = b
-alike false true = false
-alike false false = true
+abbrev pub equalTests : Bool → Bool → Bool
+equalTests true b = b
+equalTests false true = false
+equalTests false false = true
 
-pub alike-eq : (a b : Bool) → T (alike a b) → a ≡ b
-alike-eq true true t = refl
-alike-eq true false t = absurd t
-alike-eq false true t = absurd t
-alike-eq false false t = refl
+pub equal-tests : (a b : Bool) → T (equalTests a b) → a ≡ b
+equal-tests true true t = refl
+equal-tests true false t = absurd t
+equal-tests false true t = absurd t
+equal-tests false false t = refl
 
 -- ---- the bits of a packed number
 -- a multiple of 2 ^ k leaves each bit below k

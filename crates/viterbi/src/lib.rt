@@ -1,4 +1,4 @@
-// The core of the Viterbi decoder: a trellis step with the release that may follow, and tracing; and the code's one input at a time. Every call of a
+// The core of the Viterbi decoder: a trellis step with the release that may follow, and tracing; the code's one input at a time; and the depth that a traceback acts as. Every call of a
 // decoder or an encoder runs on this. The calls check what these functions ask.
 ghost use mathlib.Core.Path.{_≡_};
 ghost use mathlib.Core.List.{_++_};

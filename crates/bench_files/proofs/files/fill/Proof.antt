@@ -6,10 +6,10 @@ use Rattle.bench_files.proofs.files.fill.Statement.{statement}
 use Rattle.bench_files.proofs.files.fill.Tie as tie
 
 abbrev Inv-loop : tie.InvT-loop
-Inv-loop file narrow n re₀ im₀ k₀ over₀ re im k over = (k ≤ n) × (length re ≡ length re₀) × (length im ≡ length im₀)
+Inv-loop file narrow n re₀ im₀ k₀ re im k = (k ≤ n) × (length re ≡ length re₀) × (length im ≡ length im₀)
 
 abbrev μ-loop : tie.MeasureT-loop
-μ-loop file narrow n re₀ im₀ k₀ over₀ re im k over = n - k
+μ-loop file narrow n re₀ im₀ k₀ re im k = n - k
 
 loop-holds : tie.Need-loop-holds Inv-loop μ-loop
 loop-holds c = search needs
@@ -62,14 +62,14 @@ fill-spec =
     loop-holds
     read-point-requires
     size-requires
+    same-length
+    same-length-2
+    returns
     set-requires
     set-requires-2
     add-k
     loop-less
     loop-again
-    same-length
-    same-length-2
-    returns
     same-length-3
     same-length-4
     returns-2)
