@@ -1,19 +1,18 @@
 // Add-compare-select: one step of the Viterbi decoder over its 64 path values, and what is done with them between steps.
+mod four;
+
+pub use four::acs4;
 ghost use mathlib.Core.Path.{_≡_};
 ghost use Prim.Native.Nat.{_+_, _*_, _<_};
 ghost use lib.ListN.{length};
-ghost use Rattle.trellis.specs.Step.{pair, four, renormalised, ruled, top};
+ghost use Rattle.trellis.specs.Step.{pair, known, renormalised, ruled, top};
 ghost use Rattle.trellis.specs.Isdb.{nexts, word, bestState};
 ghost use Rattle.acs_paths.specs.Signs.{XSigns, YSigns};
-ghost use Rattle.acs_paths.specs.Branches.{BranchNumbers};
 ghost use Rattle.acs.specs.Half.{Half};
-use acs_paths::BRANCH;
-use acs_paths::Numbers;
 use acs_paths::SX;
 use acs_paths::SY;
 use acs_paths::Table;
 pub use acs_paths::branch_number;
-use acs_paths::four_path;
 use acs_paths::pair_path;
 use path_choice::beats;
 use path_choice::greater;
@@ -45,7 +44,7 @@ fn join(low: u32, high: u32) -> u64
 
 // The states 32u + j of a pair step, and their decisions.
 fn pair_half(
-    old: &[f32; STATES],
+    old: [f32; STATES],
     new: &mut [f32; STATES],
     x: &Table,
     y: &Table,
@@ -54,62 +53,55 @@ fn pair_half(
     ly: f32,
 ) -> u32
     requires { ⌜ (u < 2) × XSigns (now x) × YSigns (now y) ⌝ }
-    ensures { λ r. ⌜ Half (now (old .entry)) (pair lx ly) u (now (new .entry)) Isdb.half (now (new .exit)) r ⌝ }
+    ensures { λ r. ⌜ Half old (pair lx ly) u (now (new .entry)) Isdb.half (now (new .exit)) r ⌝ }
 {
     let n = states(new);
     let mut w: u32 = 0;
     for j in 0..n / 2 {
-        let even = pair_path(old, x, y, u, 0, j, lx, ly);
-        let odd = pair_path(old, x, y, u, 1, j, lx, ly);
+        let even = pair_path(&old, x, y, u, 0, j, lx, ly);
+        let odd = pair_path(&old, x, y, u, 1, j, lx, ly);
         new[HALF * u + j] = larger(even, odd);
         w = w | (beats(odd, even) << j);
     }
     w
 }
 
-// The add-compare-select of a pair of soft values. The decision word.
-pub fn acs(pm: &mut [f32; STATES], lx: f32, ly: f32) -> u64
-    ensures { λ r. ⌜ (now (pm .exit) ≡ nexts (now (pm .entry)) (pair lx ly)) × (r ≡ word (now (pm .entry)) (pair lx ly)) ⌝ }
+// The path values after a step, and its decision word.
+pub struct Stepped {
+    pub values: [f32; STATES],
+    pub word: u64,
+}
+
+// The add-compare-select of a pair of soft values.
+pub fn acs(pm: [f32; STATES], lx: f32, ly: f32) -> Stepped
+    ensures { λ r. ⌜ (r .values ≡ nexts pm (pair lx ly)) × (r .word ≡ word pm (pair lx ly)) ⌝ }
 {
-    let old = *pm;
     let x = SX;
     let y = SY;
-    let low = pair_half(&old, pm, &x, &y, 0, lx, ly);
-    let high = pair_half(&old, pm, &x, &y, 1, lx, ly);
-    join(low, high)
-}
-
-// The states 32u + j of a step of four metrics, and their decisions.
-fn four_half(
-    old: &[f32; STATES],
-    new: &mut [f32; STATES],
-    t: &Numbers,
-    u: usize,
-    m: [f32; 4],
-) -> u32
-    requires { ⌜ (u < 2) × BranchNumbers (now t) ⌝ }
-    ensures { λ r. ⌜ Half (now (old .entry)) (four m) u (now (new .entry)) Isdb.half (now (new .exit)) r ⌝ }
-{
-    let n = states(new);
-    let mut w: u32 = 0;
-    for j in 0..n / 2 {
-        let even = four_path(old, t, u, 0, j, m);
-        let odd = four_path(old, t, u, 1, j, m);
-        new[HALF * u + j] = larger(even, odd);
-        w = w | (beats(odd, even) << j);
+    let mut values = pm;
+    let low = pair_half(pm, &mut values, &x, &y, 0, lx, ly);
+    let high = pair_half(pm, &mut values, &x, &y, 1, lx, ly);
+    Stepped {
+        values,
+        word: join(low, high),
     }
-    w
 }
 
-// The add-compare-select of four metrics, that of the branches with the outputs (X, Y) at 2X + Y. The decision word.
-pub fn acs4(pm: &mut [f32; STATES], m: [f32; 4]) -> u64
-    ensures { λ r. ⌜ (now (pm .exit) ≡ nexts (now (pm .entry)) (four m)) × (r ≡ word (now (pm .entry)) (four m)) ⌝ }
+// The step of a known bit: a pair step of two zeros, the states that the bit rules out are set, and the maximum is subtracted.
+pub fn acs_known(pm: [f32; STATES], b: u8) -> Stepped
+    ensures { λ r. ⌜ (r .values ≡ renormalised Isdb.half (ruled Isdb.half b (nexts pm (known b)))) × (r .word ≡ word pm (known b)) ⌝ }
 {
-    let old = *pm;
-    let t = BRANCH;
-    let low = four_half(&old, pm, &t, 0, m);
-    let high = four_half(&old, pm, &t, 1, m);
-    join(low, high)
+    let x = SX;
+    let y = SY;
+    let mut values = pm;
+    let low = pair_half(pm, &mut values, &x, &y, 0, 0.0, 0.0);
+    let high = pair_half(pm, &mut values, &x, &y, 1, 0.0, 0.0);
+    rule_out(&mut values, b);
+    renormalise(&mut values);
+    Stepped {
+        values,
+        word: join(low, high),
+    }
 }
 
 // The greatest path value; of equals the first. It begins at the least f32, as the Rust does.

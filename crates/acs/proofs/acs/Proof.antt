@@ -20,8 +20,10 @@ join-requires c κs = search needs
 
 returns : tie.Need-returns
 returns c =
-    let lower = c .before .before .before .before .before .before .pair-half .ensures in
-    let upper = c .before .pair-half2 .ensures in
+    let high = c .before in
+    let low = high .before .before .before .before in
+    let lower = low .pair-half .ensures in
+    let upper = high .pair-half2 .ensures in
     (new-values _ _ _ _ _ _ _ lower upper, c .join .ensures ∙ new-word _ _ _ _ _ _ _ lower upper)
 
 pub acs-spec : {M : Type 1} → statement M

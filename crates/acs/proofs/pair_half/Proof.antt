@@ -10,10 +10,10 @@ use Rattle.acs.proofs.pair_half.Statement.{statement}
 use Rattle.acs.proofs.pair_half.Tie as tie
 
 abbrev Inv-loop : tie.InvT-loop
-Inv-loop old new₀ x y u lx ly n w₀ j₀ j-end new w j = (j-end ≡ 32) × (j ≤ 32) × Half old (pair lx ly) u new₀ j new w
+Inv-loop new₀ x y u lx ly old n w₀ j₀ j-end new w j = (j-end ≡ 32) × (j ≤ 32) × Half old (pair lx ly) u new₀ j new w
 
 abbrev μ-loop : tie.MeasureT-loop
-μ-loop old new₀ x y u lx ly n w₀ j₀ j-end new w j = 32 - j
+μ-loop new₀ x y u lx ly old n w₀ j₀ j-end new w j = 32 - j
 
 states-requires : tie.Need-states-requires Inv-loop μ-loop
 states-requires c κs = search needs
@@ -21,7 +21,7 @@ states-requires c κs = search needs
 loop-holds : tie.Need-loop-holds Inv-loop μ-loop
 loop-holds c =
     let start = c .before .before in
-    (omega arith, omega arith, half-none (start .args .old .now) (pair (start .args .lx) (start .args .ly)) (start .args .u) (start .args .new .now) (c .states .ensures .1))
+    (omega arith, omega arith, half-none (start .args .t1) (pair (start .args .lx) (start .args .ly)) (start .args .u) (start .args .new .now) (c .states .ensures .1))
 
 pair-path-requires : tie.Need-pair-path-requires Inv-loop μ-loop
 pair-path-requires c κs = search needs
@@ -61,7 +61,10 @@ loop-less c = omega arith
 
 loop-again : tie.Need-loop-again Inv-loop μ-loop
 loop-again c =
-    let turn = c .before .before .before .before in
+    let chosen = c .before in
+    let upper = chosen .before in
+    let lower = upper .before .before in
+    let turn = lower .before .before in
     let at = turn .before in
     let start = at .before .before .before in
     let j = at .loop .j in
@@ -69,8 +72,8 @@ loop-again c =
     let h : j < 32 = rw (inv .0) at (turn .loop-test .taken) in (
       inv .0,
       omega arith,
-      half-more (start .args .old .now) (pair (start .args .lx) (start .args .ly)) (start .args .u) (start .args .new .now) j (at .loop .new) (at .loop .w) (inv .2) (start .pre .0) h _ _ _ _
-          (c .before .before .before .pair-path .ensures) (c .before .before .pair-path2 .ensures) (c .before .larger .ensures) (c .beats .ensures),
+      half-more (start .args .t1) (pair (start .args .lx) (start .args .ly)) (start .args .u) (start .args .new .now) j (at .loop .new) (at .loop .w) (inv .2) (start .pre .0) h _ _ _ _
+          (lower .pair-path .ensures) (upper .pair-path2 .ensures) (chosen .larger .ensures) (c .beats .ensures),
     )
 
 returns : tie.Need-returns Inv-loop μ-loop

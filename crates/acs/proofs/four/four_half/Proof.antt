@@ -6,14 +6,14 @@ use borrow.Author.Needs.{needs}
 use Rattle.trellis.specs.Step.{four}
 use Rattle.acs.specs.Half.{Half}
 use Rattle.acs.proofs.Turn.{half-none, half-more}
-use Rattle.acs.proofs.four_half.Statement.{statement}
-use Rattle.acs.proofs.four_half.Tie as tie
+use Rattle.acs.proofs.four.four_half.Statement.{statement}
+use Rattle.acs.proofs.four.four_half.Tie as tie
 
 abbrev Inv-loop : tie.InvT-loop
-Inv-loop old new₀ t u m n w₀ j₀ j-end new w j = (j-end ≡ 32) × (j ≤ 32) × Half old (four m) u new₀ j new w
+Inv-loop new₀ t u m old n w₀ j₀ j-end new w j = (j-end ≡ 32) × (j ≤ 32) × Half old (four m) u new₀ j new w
 
 abbrev μ-loop : tie.MeasureT-loop
-μ-loop old new₀ t u m n w₀ j₀ j-end new w j = 32 - j
+μ-loop new₀ t u m old n w₀ j₀ j-end new w j = 32 - j
 
 states-requires : tie.Need-states-requires Inv-loop μ-loop
 states-requires c κs = search needs
@@ -21,7 +21,7 @@ states-requires c κs = search needs
 loop-holds : tie.Need-loop-holds Inv-loop μ-loop
 loop-holds c =
     let start = c .before .before in
-    (omega arith, omega arith, half-none (start .args .old .now) (four (start .args .m)) (start .args .u) (start .args .new .now) (c .states .ensures .1))
+    (omega arith, omega arith, half-none (start .args .t1) (four (start .args .m)) (start .args .u) (start .args .new .now) (c .states .ensures .1))
 
 four-path-requires : tie.Need-four-path-requires Inv-loop μ-loop
 four-path-requires c κs = search needs
@@ -61,7 +61,10 @@ loop-less c = omega arith
 
 loop-again : tie.Need-loop-again Inv-loop μ-loop
 loop-again c =
-    let turn = c .before .before .before .before in
+    let chosen = c .before in
+    let upper = chosen .before in
+    let lower = upper .before .before in
+    let turn = lower .before .before in
     let at = turn .before in
     let start = at .before .before .before in
     let j = at .loop .j in
@@ -69,8 +72,8 @@ loop-again c =
     let h : j < 32 = rw (inv .0) at (turn .loop-test .taken) in (
       inv .0,
       omega arith,
-      half-more (start .args .old .now) (four (start .args .m)) (start .args .u) (start .args .new .now) j (at .loop .new) (at .loop .w) (inv .2) (start .pre .0) h _ _ _ _
-          (c .before .before .before .four-path .ensures) (c .before .before .four-path2 .ensures) (c .before .larger .ensures) (c .beats .ensures),
+      half-more (start .args .t1) (four (start .args .m)) (start .args .u) (start .args .new .now) j (at .loop .new) (at .loop .w) (inv .2) (start .pre .0) h _ _ _ _
+          (lower .four-path .ensures) (upper .four-path2 .ensures) (chosen .larger .ensures) (c .beats .ensures),
     )
 
 returns : tie.Need-returns Inv-loop μ-loop

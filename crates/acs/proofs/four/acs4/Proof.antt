@@ -5,8 +5,8 @@ use borrow.Author.Needs.{needs}
 use Rattle.trellis.specs.Code.{label, output, tapped}
 use Rattle.acs_paths.specs.BranchLaws.{branch-numbers}
 use Rattle.acs.proofs.Turn.{new-values, new-word}
-use Rattle.acs.proofs.acs4.Statement.{statement}
-use Rattle.acs.proofs.acs4.Tie as tie
+use Rattle.acs.proofs.four.acs4.Statement.{statement}
+use Rattle.acs.proofs.four.acs4.Tie as tie
 
 four-half-requires : tie.Need-four-half-requires
 unfolding label output tapped
@@ -21,8 +21,10 @@ join-requires c κs = search needs
 
 returns : tie.Need-returns
 returns c =
-    let lower = c .before .before .before .before .before .four-half .ensures in
-    let upper = c .before .four-half2 .ensures in
+    let high = c .before in
+    let low = high .before .before .before in
+    let lower = low .four-half .ensures in
+    let upper = high .four-half2 .ensures in
     (new-values _ _ _ _ _ _ _ lower upper, c .join .ensures ∙ new-word _ _ _ _ _ _ _ lower upper)
 
 pub acs4-spec : {M : Type 1} → statement M
