@@ -1,69 +1,96 @@
-// Steps of add-compare-select in a row, their decision words to the front of a lent slice. The path values are a local of the loop, and each kind of step is called
-// from its loop alone: so the compiler keeps a step in one piece.
+// The trellis step, and steps in a row, their decision words to the front of a lent slice. The path values are a local of the loop, the step has one call, and each kind of step is
+// made by a function of its own: so the compiler makes a loop for each kind, with the step in one piece.
+use acs::Stepped;
 use trellis::INTERVAL;
 use trellis::STATES;
 ghost use mathlib.Core.Path.{_≡_};
-ghost use mathlib.Core.List.{[], _∷_};
-ghost use Prim.Native.Nat.{_+_, _*_, _%_, _<_, _≤_};
+ghost use Prim.Native.Nat.{_+_, _*_, _%_, _^_, _<_, _≤_};
 ghost use lib.ListN.{length};
 ghost use Rattle.trellis.specs.Lists.{laid};
-ghost use Rattle.trellis.specs.Step.{pair, four};
-ghost use Rattle.trellis.specs.Isdb.{nexts, word};
-ghost use Rattle.acs_runs.specs.Runs.{runValues, runWords};
 ghost use Rattle.trellis.specs.Run.{interval, pairSteps, fourSteps};
+ghost use Rattle.trellis.specs.Isdb.{word};
+ghost use Rattle.acs_runs.specs.Runs.{stepOf, stepsOf, lentSteps, stepValues, runValues, runWords};
 
-// n steps of a pair of soft values each.
-pub fn run2(pm: &mut [f32; STATES], pairs: &[f32], n: usize, words: &mut [u64])
-    requires { ⌜ (2 * n ≤ length (now pairs)) × (n ≤ length (now words)) ⌝ }
-    ensures { λ _. ⌜ (now (pm .exit) ≡ runValues (pairSteps (now (pairs .entry))) (now (pm .entry)) n)
-        × (now (words .exit) ≡ laid (runWords (pairSteps (now (pairs .entry))) (now (pm .entry)) n) (now (words .entry))) ⌝ }
+// What a trellis step carries.
+pub enum Step {
+    Pair(f32, f32),
+    Four(f32, f32, f32, f32),
+    Known(u8),
+}
+
+// What the steps of a call carry.
+pub enum Kind {
+    Pairs,
+    Fours,
+    Knowns,
+}
+
+// The trellis step: every step of a decoder is this.
+fn trellis_step(pm: [f32; STATES], x: Step) -> Stepped
+    ensures { λ r. ⌜ (r .values ≡ stepValues pm (stepOf x)) × (r .word ≡ word pm (stepOf x)) ⌝ }
 {
-    let mut values = *pm;
-    for k in 0..n {
-        let w = acs::acs(&mut values, pairs[2 * k], pairs[2 * k + 1]);
-        words[k] = w;
+    match x {
+        Step::Pair(lx, ly) => acs::acs(pm, lx, ly),
+        Step::Four(a, b, c, d) => acs::acs4(pm, [a, b, c, d]),
+        Step::Known(b) => acs::acs_known(pm, b),
     }
-    *pm = values;
 }
 
-// n steps of four metrics each.
-pub fn run4(pm: &mut [f32; STATES], metrics: &[f32], n: usize, words: &mut [u64])
-    requires { ⌜ (4 * n ≤ length (now metrics)) × (n ≤ length (now words)) ⌝ }
-    ensures { λ _. ⌜ (now (pm .exit) ≡ runValues (fourSteps (now (metrics .entry))) (now (pm .entry)) n)
-        × (now (words .exit) ≡ laid (runWords (fourSteps (now (metrics .entry))) (now (pm .entry)) n) (now (words .entry))) ⌝ }
+// Step k of soft values.
+fn pair_at(values: &[f32], k: usize) -> Step
+    requires { ⌜ 2 * k + 1 < length (now values) ⌝ }
+    ensures { λ r. ⌜ stepOf r ≡ pairSteps (now (values .entry)) k ⌝ }
 {
-    let mut values = *pm;
-    for k in 0..n {
-        let m = [
-            metrics[4 * k],
-            metrics[4 * k + 1],
-            metrics[4 * k + 2],
-            metrics[4 * k + 3],
-        ];
-        let w = acs::acs4(&mut values, m);
-        words[k] = w;
+    Step::Pair(values[2 * k], values[2 * k + 1])
+}
+
+// Step k of metrics.
+fn four_at(values: &[f32], k: usize) -> Step
+    requires { ⌜ 4 * k + 3 < length (now values) ⌝ }
+    ensures { λ r. ⌜ stepOf r ≡ fourSteps (now (values .entry)) k ⌝ }
+{
+    Step::Four(
+        values[4 * k],
+        values[4 * k + 1],
+        values[4 * k + 2],
+        values[4 * k + 3],
+    )
+}
+
+// Step k of what is lent: of the soft values or metrics, or of the known bits.
+fn step_at(kind: Kind, values: &[f32], bits: &[u8], k: usize) -> Step
+    requires { ⌜ k < lentSteps kind (now values) (now bits) ⌝ }
+    ensures { λ r. ⌜ stepOf r ≡ stepsOf kind (now (values .entry)) (now (bits .entry)) k ⌝ }
+{
+    match kind {
+        Kind::Pairs => pair_at(values, k),
+        Kind::Fours => four_at(values, k),
+        Kind::Knowns => Step::Known(bits[k]),
     }
-    *pm = values;
 }
 
-// One step of a pair.
-pub fn step2(pm: &mut [f32; STATES], lx: f32, ly: f32) -> u64
-    ensures { λ r. ⌜ (now (pm .exit) ≡ nexts (now (pm .entry)) (pair lx ly)) × (r ≡ word (now (pm .entry)) (pair lx ly)) ⌝ }
+// n steps in a row, the first of which is step `from` of what is lent.
+pub fn run(
+    pm: &mut [f32; STATES],
+    kind: Kind,
+    values: &[f32],
+    bits: &[u8],
+    from: usize,
+    n: usize,
+    words: &mut [u64],
+)
+    requires { ⌜ (from + n < 2 ^ 64) × (from + n ≤ lentSteps kind (now values) (now bits)) × (n ≤ length (now words)) ⌝ }
+    ensures { λ _. ⌜ (now (pm .exit) ≡ runValues (λ k. stepsOf kind (now (values .entry)) (now (bits .entry)) (from + k)) (now (pm .entry)) n)
+        × (now (words .exit) ≡ laid (runWords (λ k. stepsOf kind (now (values .entry)) (now (bits .entry)) (from + k)) (now (pm .entry)) n) (now (words .entry))) ⌝ }
 {
-    let values = [lx, ly];
-    let mut words = [0u64; 1];
-    run2(pm, &values, 1, &mut words);
-    words[0]
-}
-
-// One step of four metrics.
-pub fn step4(pm: &mut [f32; STATES], a: f32, b: f32, c: f32, d: f32) -> u64
-    ensures { λ r. ⌜ (now (pm .exit) ≡ nexts (now (pm .entry)) (four (a ∷ b ∷ c ∷ d ∷ []))) × (r ≡ word (now (pm .entry)) (four (a ∷ b ∷ c ∷ d ∷ []))) ⌝ }
-{
-    let values = [a, b, c, d];
-    let mut words = [0u64; 1];
-    run4(pm, &values, 1, &mut words);
-    words[0]
+    let mut paths = *pm;
+    for k in 0..n {
+        let x = step_at(kind, values, bits, from + k);
+        let s = trellis_step(paths, x);
+        paths = s.values;
+        words[k] = s.word;
+    }
+    *pm = paths;
 }
 
 fn least(a: usize, b: usize) -> usize
