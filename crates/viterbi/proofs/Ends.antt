@@ -5,7 +5,7 @@ use mathlib.Core.Logic.{inl, inr}
 use mathlib.Core.List.{List, [], _∷_, _++_}
 use Prim.Native.Nat.{ℕ, _+_, _-_, _*_, _%_, _<_, _≤_}
 use native.Mathlib.Omega.{arith}
-use lib.Dec.{eqb, leb, ltb}
+use lib.Dec.{leb, ltb}
 use lib.ListN.{length, take, drop, replicate, length-append, length-drop}
 use lib.Seq.{length-take-le}
 use lib.Ieee.{Float}
@@ -16,8 +16,9 @@ use Rattle.trellis.specs.Run as run
 use Rattle.trellis.specs.Run.{Decoder, block, decisionsAfter}
 use Rattle.trellis.specs.Isdb.{bestState, traced, released}
 use Rattle.acs_runs.specs.Runs.{runValues, runWords}
+use Rattle.acs_runs.specs.declared.Kind.{Kind}
 use Rattle.viterbi.specs.declared.At.{At}
-use Rattle.viterbi.specs.Calls.{Holds, Ended, blockEnd}
+use Rattle.viterbi.specs.Calls.{Holds, Ended, due, blockEnd}
 use Rattle.trellis.specs.LaidLaws.{laid-after}
 use Rattle.viterbi.specs.TracedLaws.{length-traced}
 use Rattle.viterbi.specs.HoldingLaws.{holding-is, over-full}
@@ -42,12 +43,12 @@ module _ (tb : ℕ) (dec₀ out₀ : List ℕ) (d : Decoder) (pm : List Float) (
         bits = h .bits;
       }
 
-  module _ (i : ℕ) (pm′ : List Float) (settled : pm′ ≡ cond (eqb (i % 64) 0) (renormalised 32 pm) pm) where
-    values-end : pm′ ≡ cond (eqb (i % 64) 0) (renormalised 32 (d .values)) (d .values)
-    values-end = settled ∙ ap (λ (v : List Float). cond (eqb (i % 64) 0) (renormalised 32 v) v) (h .values)
+  module _ (kind : Kind) (i : ℕ) (pm′ : List Float) (settled : pm′ ≡ cond (due kind i) (renormalised 32 pm) pm) where
+    values-end : pm′ ≡ cond (due kind i) (renormalised 32 (d .values)) (d .values)
+    values-end = settled ∙ ap (λ (v : List Float). cond (due kind i) (renormalised 32 v) v) (h .values)
 
     -- the end of a block that releases nothing
-    pub holds-kept : held < 4096 + tb → Holds tb dec₀ out₀ (blockEnd tb i d) pm′ held count dec out
+    pub holds-kept : held < 4096 + tb → Holds tb dec₀ out₀ (blockEnd tb kind i d) pm′ held count dec out
     unfolding run.released
     holds-kept g =
         let eh = h .held-is in
@@ -57,11 +58,11 @@ module _ (tb : ℕ) (dec₀ out₀ : List ℕ) (d : Decoder) (pm : List Float) (
     pub holds-let-go : (dec′ out′ : List ℕ) → held ≡ 4096 + tb
         → dec′ ≡ laid (drop 4096 (take (4096 + tb) dec)) (laid (replicate (4096 + tb) 0) dec)
         → out′ ≡ take count out ++ laid (take 4096 (traced (take (4096 + tb) dec) (bestState pm′))) (drop count out)
-        → Holds tb dec₀ out₀ (blockEnd tb i d) pm′ tb (count + 4096) dec′ out′
+        → Holds tb dec₀ out₀ (blockEnd tb kind i d) pm′ tb (count + 4096) dec′ out′
     unfolding run.released
     holds-let-go dec′ out′ full ed eo =
         let ws = d .words in
-        let end = cond (eqb (i % 64) 0) (renormalised 32 (d .values)) (d .values) in
+        let end = cond (due kind i) (renormalised 32 (d .values)) (d .values) in
         let new = take 4096 (traced ws (bestState end)) in
         let eh = h .held-is in
         let front : take (4096 + tb) dec ≡ ws = ap (λ (k : ℕ). take k dec) (sym full) ∙ ap (λ (y : Decoder). y .words) (holding-is tb d dec₀ out₀ pm held count dec out h) in
@@ -85,13 +86,13 @@ module _ (tb : ℕ) (dec₀ out₀ : List ℕ) (d : Decoder) (pm : List Float) (
               ∙ laid-after (d .bits) new out₀;
         })
 
-module _ (tb i : ℕ) (pm : List Float) (at : At) (dec out : List ℕ) (pm′ : List Float) (settled : pm′ ≡ cond (eqb (i % 64) 0) (renormalised 32 pm) pm) where
-  pub kept-end : at .held < 4096 + tb → Ended tb i pm at dec out (record { held = at .held; count = at .count }) pm′ dec out
-  kept-end g = record { counts = inl (g, refl, refl); ends = λ d dec₀ out₀ h. holds-kept tb dec₀ out₀ d pm (at .held) (at .count) dec out h i pm′ settled g }
+module _ (tb : ℕ) (kind : Kind) (i : ℕ) (pm : List Float) (at : At) (dec out : List ℕ) (pm′ : List Float) (settled : pm′ ≡ cond (due kind i) (renormalised 32 pm) pm) where
+  pub kept-end : at .held < 4096 + tb → Ended tb kind i pm at dec out (record { held = at .held; count = at .count }) pm′ dec out
+  kept-end g = record { counts = inl (g, refl, refl); ends = λ d dec₀ out₀ h. holds-kept tb dec₀ out₀ d pm (at .held) (at .count) dec out h kind i pm′ settled g }
 
   pub let-go-end : (dec′ out′ : List ℕ) → at .held ≡ 4096 + tb
       → dec′ ≡ laid (drop 4096 (take (4096 + tb) dec)) (laid (replicate (4096 + tb) 0) dec)
       → out′ ≡ take (at .count) out ++ laid (take 4096 (traced (take (4096 + tb) dec) (bestState pm′))) (drop (at .count) out)
-      → Ended tb i pm at dec out (record { held = tb; count = at .count + 4096 }) pm′ dec′ out′
+      → Ended tb kind i pm at dec out (record { held = tb; count = at .count + 4096 }) pm′ dec′ out′
   let-go-end dec′ out′ full ed eo =
-      record { counts = inr (full, refl, refl); ends = λ d dec₀ out₀ h. holds-let-go tb dec₀ out₀ d pm (at .held) (at .count) dec out h i pm′ settled dec′ out′ full ed eo }
+      record { counts = inr (full, refl, refl); ends = λ d dec₀ out₀ h. holds-let-go tb dec₀ out₀ d pm (at .held) (at .count) dec out h kind i pm′ settled dec′ out′ full ed eo }

@@ -1,45 +1,28 @@
 -- One block more of a run of steps. Assumes nothing.
-use mathlib.Core.Path.{_≡_, refl, sym, _∙_, ap, fun-ext}
+use mathlib.Core.Path.{_≡_, refl, sym, _∙_, ap}
 use mathlib.Core.Logic.{⊎-elim}
 use mathlib.Core.List.{List, [], _∷_, _++_}
 use Prim.Native.Nat.{ℕ, _+_, _-_, _*_, _/_, _%_, _<_, _≤_}
 use native.Mathlib.Omega.{arith}
-use native.Mathlib.Nat.{add-zero}
-use lib.ListN.{length, getD, take, drop}
-use lib.Seq.{getD-drop}
+use lib.ListN.{length, take, drop}
 use borrow.Rule.Slice.PartMut.{midOf, putMid, same-len-mid, mid-len}
-use lib.Ieee.{Float, nan}
+use lib.Ieee.{Float}
 use Rattle.trellis.specs.Lists.{laid}
 use Rattle.trellis.specs.ListLaws.{length-upto}
-use Rattle.trellis.specs.Step.{Step, pair, four}
-use Rattle.trellis.specs.Isdb
-use Rattle.trellis.specs.Run.{Decoder, pairSteps, fourSteps, releases}
-use Rattle.acs_runs.specs.Runs.{wordAfter, runValues, runWords}
+use Rattle.trellis.specs.Step.{Step}
+use Rattle.trellis.specs.Run.{Decoder, releases}
+use Rattle.acs_runs.specs.Runs.{runWord, runValues, runWords}
+use Rattle.acs_runs.specs.declared.Kind.{Kind}
 use Rattle.viterbi.specs.declared.At.{At}
 use Rattle.viterbi.specs.Calls.{stepsFrom, Carried, Ended, Holds, blockEnd}
 use Rattle.viterbi.specs.CountLaws.{releases-is}
 use Rattle.trellis.specs.LaidLaws.{length-laid}
-use Rattle.viterbi.specs.BlockLaws.{Soft, ran, block-is, from-more}
+use Rattle.viterbi.specs.BlockLaws.{Settles, ran, block-is, from-more}
 use Rattle.viterbi.proofs.Ends.{holds-ran}
-
--- ---- the steps of a lent part
-pub pairs-from : (xs : List Float) (k : ℕ) → pairSteps (drop (2 * k) xs) ≡ (λ j. pairSteps xs (k + j))
-pairs-from xs k = fun-ext (λ j.
-    let a : 2 * k + 2 * j ≡ 2 * (k + j) = omega arith in
-    let b : 2 * k + (2 * j + 1) ≡ 2 * (k + j) + 1 = omega arith in
-    rw (getD-drop (2 * k) xs (2 * j) nan, getD-drop (2 * k) xs (2 * j + 1) nan, a, b) refl)
-
-pub fours-from : (xs : List Float) (k : ℕ) → fourSteps (drop (4 * k) xs) ≡ (λ j. fourSteps xs (k + j))
-fours-from xs k = fun-ext (λ j.
-    let a : 4 * k + 4 * j ≡ 4 * (k + j) = omega arith in
-    let b : 4 * k + (4 * j + 1) ≡ 4 * (k + j) + 1 = omega arith in
-    let c : 4 * k + (4 * j + 2) ≡ 4 * (k + j) + 2 = omega arith in
-    let e : 4 * k + (4 * j + 3) ≡ 4 * (k + j) + 3 = omega arith in
-    rw (getD-drop (4 * k) xs (4 * j) nan, getD-drop (4 * k) xs (4 * j + 1) nan, getD-drop (4 * k) xs (4 * j + 2) nan, getD-drop (4 * k) xs (4 * j + 3) nan, a, b, c, e) refl)
 
 -- ---- the words of a block
 pub length-words : (ys : ℕ → Step) (pm : List Float) (n : ℕ) → length (runWords ys pm n) ≡ n
-length-words ys pm n = length-upto (wordAfter Isdb.half Isdb.labels Isdb.rule ys pm) n
+length-words ys pm n = length-upto (runWord ys pm) n
 
 -- the decisions keep their length as n words are laid from place a on
 pub length-put : (a n : ℕ) (ys : ℕ → Step) (pm : List Float) (l p : List ℕ) → a + n ≤ length l → p ≡ laid (runWords ys pm n) (midOf a (length l - a) l) → length (putMid a (length l - a) l p) ≡ length l
@@ -65,7 +48,7 @@ module _ (tb : ℕ) (most : tb ≤ 1024) (ys : ℕ → Step) (i : ℕ) (pm₀ : 
       let r = releases-is tb (at₀ .held) 0 most in
       record { few = h; left = omega arith; gone = omega arith; carries = λ d dec out z. z }
 
-  module _ (soft : Soft ys) (k len : ℕ) (at : At) (pm : List Float) (dec out : List ℕ) (z : Carried tb ys i k pm₀ at₀ dec₀ out₀ at pm dec out)
+  module _ (kind : Kind) (of : Settles kind ys) (k len : ℕ) (at : At) (pm : List Float) (dec out : List ℕ) (z : Carried tb ys i k pm₀ at₀ dec₀ out₀ at pm dec out)
       (some : 0 < len) (inside : (i + k) % 64 + len ≤ 64) (fits : at .held + len ≤ 4096 + tb) where
     -- where the block ends with a release, there is room if there is for the releases of all steps
     pub block-room : (n space : ℕ) → k + len ≤ n → at₀ .count + 4096 * releases tb (at₀ .held) n ≤ space → at .held + len ≡ 4096 + tb → at .count + 4096 ≤ space
@@ -84,11 +67,11 @@ module _ (tb : ℕ) (most : tb ≤ 1024) (ys : ℕ → Step) (i : ℕ) (pm₀ : 
         let q = releases-is tb (at₀ .held) n most in
         omega arith
 
-    pub carried-more : (zs : ℕ → Step) (pm₁ pm′ : List Float) (dec₁ dec′ out′ : List ℕ) (r : At) → zs ≡ (λ j. ys (k + j))
-        → pm₁ ≡ runValues zs pm len → dec₁ ≡ take (at .held) dec ++ laid (runWords zs pm len) (drop (at .held) dec)
-        → Ended tb (i + (k + len)) pm₁ (record { held = at .held + len; count = at .count }) dec₁ out r pm′ dec′ out′
+    pub carried-more : (pm₁ pm′ : List Float) (dec₁ dec′ out′ : List ℕ) (r : At)
+        → pm₁ ≡ runValues (λ j. ys (k + j)) pm len → dec₁ ≡ take (at .held) dec ++ laid (runWords (λ j. ys (k + j)) pm len) (drop (at .held) dec)
+        → Ended tb kind (i + (k + len)) pm₁ (record { held = at .held + len; count = at .count }) dec₁ out r pm′ dec′ out′
         → Carried tb ys i (k + len) pm₀ at₀ dec₀ out₀ r pm′ dec′ out′
-    carried-more zs pm₁ pm′ dec₁ dec′ out′ r es ev ed e =
+    carried-more pm₁ pm′ dec₁ dec′ out′ r ev ed e =
         let a = z .left in
         let b = z .gone in
         let next : ℕ → Step = λ j. ys (k + j) in
@@ -98,8 +81,8 @@ module _ (tb : ℕ) (most : tb ≤ 1024) (ys : ℕ → Step) (i : ℕ) (pm₀ : 
         let here = stepsFrom tb i ys d k in
         let eh = before .held-is in
         let there : i + k + len ≡ i + (k + len) = omega arith in
-        let on = e .ends (ran next here len) decs outs (holds-ran tb decs outs here pm (at .held) (at .count) dec out before next len pm₁ dec₁ (rw es at ev) (rw es at ed)) in
-        rw (from-more tb i ys d k len, block-is tb (i + k) next (λ j m v. soft j (k + m) v) here len some inside (omega arith), there) on in
+        let on = e .ends (ran next here len) decs outs (holds-ran tb decs outs here pm (at .held) (at .count) dec out before next len pm₁ dec₁ ev ed) in
+        rw (from-more tb i ys d k len, block-is tb (i + k) kind next (λ j m v. of j (k + m) v) here len some inside (omega arith), there) on in
         ⊎-elim
         (λ kept.
         let s = same-releases tb (at₀ .held) k len (at .held) most (z .left) (kept .0) in

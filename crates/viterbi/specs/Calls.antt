@@ -1,6 +1,6 @@
 -- What a step of a call leaves in the state and in the lent slices, and the steps that a call is made of. Assumes nothing.
 use mathlib.Core.Path.{_≡_}
-use mathlib.Core.Bool.{cond}
+use mathlib.Core.Bool.{Bool, false, cond}
 use mathlib.Core.Logic.{_⊎_}
 use mathlib.Core.List.{List, [], _∷_, _++_}
 use Prim.Native.Nat.{ℕ, zero, suc, _+_, _*_, _/_, _%_, _<_, _≤_}
@@ -9,19 +9,14 @@ use lib.ListN.{length, take, drop}
 use lib.Ieee.{Float}
 use Rattle.trellis.specs.Lists.{laid}
 use Rattle.trellis.specs.Step as trellis
-use Rattle.trellis.specs.Step.{pair, four, known, renormalised}
+use Rattle.trellis.specs.Step.{renormalised}
 pub use Rattle.trellis.specs.Isdb.{nexts, word, bestState, traced, settle, stepOnce, steps, call, flush, released}
 use Rattle.trellis.specs.Isdb
 use Rattle.trellis.specs.Run.{Decoder, block, interval, decisionsAfter, releases, pairSteps, fourSteps, knownSteps}
-use Rattle.viterbi.specs.declared.Step.{Step}
-use Rattle.viterbi.specs.declared.Step.the-variants.{Pair, Four, Known}
+pub use Rattle.acs_runs.specs.Runs.{stepOf, stepsOf, lentSteps}
+use Rattle.acs_runs.specs.declared.Kind.{Kind}
+use Rattle.acs_runs.specs.declared.Kind.the-variants.{Pairs, Fours, Knowns}
 use Rattle.viterbi.specs.declared.At.{At}
-
--- "A trellis step carries two soft values, four branch metrics, or one known bit"
-abbrev pub stepOf : Step → trellis.Step
-stepOf (Pair lx ly) = pair lx ly
-stepOf (Four a b c d) = four (a ∷ b ∷ c ∷ d ∷ [])
-stepOf (Known b) = known b
 
 -- calls as functions of a decoder: those of `push_known`, `push` and `push_metrics`
 abbrev pub knownCall : ℕ → List ℕ → Decoder → Decoder
@@ -66,10 +61,16 @@ pub record Carried (tb : ℕ) (ys : ℕ → trellis.Step) (i n : ℕ) (pm : List
   pub carries : (d : Decoder) (dec₀ out₀ : List ℕ) → Holds tb dec₀ out₀ d pm (at .held) (at .count) dec out
       → Holds tb dec₀ out₀ (stepsFrom tb i ys d n) pm′ (r .held) (r .count) dec′ out′
 
--- the decoder at the end of a block of steps, before step i of its call: the maximum is subtracted after each 64th step, and a release follows where it is due
-abbrev pub blockEnd : ℕ → ℕ → Decoder → Decoder
-blockEnd tb i d = released tb (record { values = cond (eqb (i % interval) 0) (renormalised Isdb.half (d .values)) (d .values); words = d .words; bits = d .bits })
+-- whether the maximum is to be subtracted before step i of a call, after a 64th step; a known bit has subtracted it
+abbrev pub due : Kind → ℕ → Bool
+due Pairs i = eqb (i % interval) 0
+due Fours i = eqb (i % interval) 0
+due Knowns i = false
 
-pub record Ended (tb i : ℕ) (pm : List Float) (at : At) (dec out : List ℕ) (r : At) (pm′ : List Float) (dec′ out′ : List ℕ) : Type 0 where
+-- the decoder at the end of a block of steps, before step i of its call: the maximum is subtracted where it is due, and a release follows where it is
+abbrev pub blockEnd : ℕ → Kind → ℕ → Decoder → Decoder
+blockEnd tb kind i d = released tb (record { values = cond (due kind i) (renormalised Isdb.half (d .values)) (d .values); words = d .words; bits = d .bits })
+
+pub record Ended (tb : ℕ) (kind : Kind) (i : ℕ) (pm : List Float) (at : At) (dec out : List ℕ) (r : At) (pm′ : List Float) (dec′ out′ : List ℕ) : Type 0 where
   pub counts : ((at .held < block + tb) × (r .held ≡ at .held) × (r .count ≡ at .count)) ⊎ ((at .held ≡ block + tb) × (r .held ≡ tb) × (r .count ≡ at .count + block))
-  pub ends : (d : Decoder) (dec₀ out₀ : List ℕ) → Holds tb dec₀ out₀ d pm (at .held) (at .count) dec out → Holds tb dec₀ out₀ (blockEnd tb i d) pm′ (r .held) (r .count) dec′ out′
+  pub ends : (d : Decoder) (dec₀ out₀ : List ℕ) → Holds tb dec₀ out₀ d pm (at .held) (at .count) dec out → Holds tb dec₀ out₀ (blockEnd tb kind i d) pm′ (r .held) (r .count) dec′ out′

@@ -1,18 +1,20 @@
-// The core of the Viterbi decoder: a trellis step with the release that may follow, and tracing; the code's one input at a time; and the depth that a traceback acts as. Every call of a
+// The core of the Viterbi decoder: the steps of a call with the releases that may follow, and tracing; the code's one input at a time; and the depth that a traceback acts as. Every call of a
 // decoder or an encoder runs on this. The calls check what these functions ask.
 ghost use mathlib.Core.Path.{_≡_};
 ghost use mathlib.Core.List.{_++_};
 ghost use mathlib.Core.Bool.{cond};
-ghost use Prim.Native.Nat.{_+_, _*_, _<_, _≤_, _/_, _%_, _^_};
-ghost use lib.Dec.{eqb, ltb};
+ghost use Prim.Native.Nat.{_+_, _*_, _<_, _≤_, _%_, _^_};
+ghost use lib.Dec.{ltb};
 ghost use lib.ListN.{length, take, drop, replicate};
 ghost use Rattle.trellis.specs.Lists.{laid};
 ghost use Rattle.trellis.specs.Code.{isdb, output, moved};
 ghost use Rattle.trellis.specs.Parity.{ones};
 ghost use Rattle.trellis.specs.Step.{renormalised};
-ghost use Rattle.trellis.specs.Run.{startAt, startUnknown, interval, depth, tracebackLimit, block, holding, releases, pairSteps, fourSteps};
-ghost use Rattle.viterbi.specs.Calls.{stepOf, nexts, word, bestState, traced, settle, stepOnce, Room, Stepped, Carried, Ended};
+ghost use Rattle.trellis.specs.Run.{startAt, startUnknown, depth, tracebackLimit, block, releases};
+ghost use Rattle.viterbi.specs.Calls.{stepsOf, lentSteps, due, bestState, traced, Carried, Ended};
 pub use acs::renormalise;
+pub use acs_runs::Kind;
+pub use acs_runs::Step;
 pub use release::clear;
 pub use release::move_down;
 use release::release;
@@ -57,85 +59,28 @@ pub fn encode_bit(state: u8, u: u8) -> Coded
     }
 }
 
-// What a trellis step carries.
-pub enum Step {
-    Pair(f32, f32),
-    Four(f32, f32, f32, f32),
-    Known(u8),
-}
-
-// The last step before the maximum is subtracted.
-const LAST_STEP: usize = INTERVAL - 1;
-
-// Step i of a call: adds, compares and selects, then subtracts the maximum where the step calls for it. The decision word.
-fn trellis_step(pm: &mut [f32; STATES], i: usize, x: Step) -> u64
-    ensures { λ r. ⌜ (now (pm .exit) ≡ settle i (stepOf x) (nexts (now (pm .entry)) (stepOf x))) × (r ≡ word (now (pm .entry)) (stepOf x)) ⌝ }
-{
-    match x {
-        Step::Pair(lx, ly) => {
-            let w = acs_runs::step2(pm, lx, ly);
-            if i % INTERVAL == LAST_STEP {
-                renormalise(pm);
-            }
-            w
-        }
-        Step::Four(a, b, c, d) => {
-            let w = acs_runs::step4(pm, a, b, c, d);
-            if i % INTERVAL == LAST_STEP {
-                renormalise(pm);
-            }
-            w
-        }
-        Step::Known(b) => {
-            let w = acs_runs::step2(pm, 0.0, 0.0);
-            acs::rule_out(pm, b);
-            renormalise(pm);
-            w
-        }
-    }
-}
-
 // How far a call has come: the held words, and the bits put out.
 pub struct At {
     pub held: usize,
     pub count: usize,
 }
 
-// Step i of a call with the release that may follow it: every call of a decoder runs on this.
-pub fn advance(
-    pm: &mut [f32; STATES],
-    at: At,
-    traceback: usize,
-    i: usize,
-    x: Step,
-    decisions: &mut [u64],
-    out: &mut [u8],
-) -> At
-    requires { ⌜ (1 ≤ traceback) × (traceback ≤ tracebackLimit) × (at .held < block + traceback) × (block + traceback ≤ length (now decisions)) × (at .count ≤ length (now out)) × Room traceback (at .held) (at .count) (length (now out)) ⌝ }
-    ensures { λ r. ⌜ Stepped traceback (stepOnce traceback i (stepOf x) (holding (now (pm .entry)) (at .held) (now (decisions .entry)))) (at .count) r (now (pm .exit)) (now (decisions .entry)) (now (decisions .exit)) (now (out .entry)) (now (out .exit)) ⌝ }
+// Whether the maximum is to be subtracted before step i of a call: 64 steps are done; a known bit has subtracted it.
+fn is_due(kind: Kind, i: usize) -> bool
+    ensures { λ r. ⌜ r ≡ due kind i ⌝ }
 {
-    let held = at.held;
-    let count = at.count;
-    let w = trellis_step(pm, i, x);
-    decisions[held] = w;
-    if held + 1 < BLOCK + traceback {
-        return At {
-            held: held + 1,
-            count,
-        };
-    }
-    release(pm, traceback, decisions, &mut out[count..]);
-    At {
-        held: traceback,
-        count: count + BLOCK,
+    match kind {
+        Kind::Pairs => i % INTERVAL == 0,
+        Kind::Fours => i % INTERVAL == 0,
+        Kind::Knowns => false,
     }
 }
 
-// Subtracts the maximum where 64 steps of the call are done, before its step i.
-fn settle_block(pm: &mut [f32; STATES], i: usize)
-    ensures { λ _. ⌜ now (pm .exit) ≡ cond (eqb (i % interval) 0) (renormalised Isdb.half (now (pm .entry))) (now (pm .entry)) ⌝ }
+// Subtracts the maximum where that is due before step i of the call.
+fn settle_block(pm: &mut [f32; STATES], kind: Kind, i: usize)
+    ensures { λ _. ⌜ now (pm .exit) ≡ cond (due kind i) (renormalised Isdb.half (now (pm .entry))) (now (pm .entry)) ⌝ }
 {
-    if i % INTERVAL == 0 {
+    if is_due(kind, i) {
         renormalise(pm);
     }
 }
@@ -145,16 +90,17 @@ fn end_block(
     pm: &mut [f32; STATES],
     at: At,
     traceback: usize,
+    kind: Kind,
     i: usize,
     decisions: &mut [u64],
     out: &mut [u8],
 ) -> At
     requires { ⌜ (1 ≤ traceback) × (traceback ≤ tracebackLimit) × (at .held ≤ block + traceback) × (block + traceback ≤ length (now decisions)) × (at .count ≤ length (now out)) × (at .held ≡ block + traceback → at .count + block ≤ length (now out)) ⌝ }
-    ensures { λ r. ⌜ Ended traceback i (now (pm .entry)) at (now (decisions .entry)) (now (out .entry)) r (now (pm .exit)) (now (decisions .exit)) (now (out .exit)) ⌝ }
+    ensures { λ r. ⌜ Ended traceback kind i (now (pm .entry)) at (now (decisions .entry)) (now (out .entry)) r (now (pm .exit)) (now (decisions .exit)) (now (out .exit)) ⌝ }
 {
     let held = at.held;
     let count = at.count;
-    settle_block(pm, i);
+    settle_block(pm, kind, i);
     if held < BLOCK + traceback {
         return At { held, count };
     }
@@ -165,64 +111,34 @@ fn end_block(
     }
 }
 
-// n steps of a pair of soft values each, the first of which is step i of the call, in blocks that end where the maximum is subtracted or bits are released.
-pub fn run_pairs(
+// n steps of what is lent, the first of which is step i of the call, in blocks that end where the maximum is subtracted or bits are released: every call of a decoder runs on this.
+pub fn run_steps(
     pm: &mut [f32; STATES],
     at: At,
     traceback: usize,
     i: usize,
     n: usize,
-    pairs: &[f32],
+    kind: Kind,
+    values: &[f32],
+    known: &[u8],
     decisions: &mut [u64],
     out: &mut [u8],
 ) -> At
-    requires { ⌜ (1 ≤ traceback) × (traceback ≤ tracebackLimit) × (at .held < block + traceback) × (block + traceback ≤ length (now decisions)) × (at .count + block * releases traceback (at .held) n ≤ length (now out)) × (i + n < 2 ^ 64) × (2 * n ≤ length (now pairs)) ⌝ }
-    ensures { λ r. ⌜ Carried traceback (pairSteps (now (pairs .entry))) i n (now (pm .entry)) at (now (decisions .entry)) (now (out .entry)) r (now (pm .exit)) (now (decisions .exit)) (now (out .exit)) ⌝ }
+    requires { ⌜ (1 ≤ traceback) × (traceback ≤ tracebackLimit) × (at .held < block + traceback) × (block + traceback ≤ length (now decisions)) × (at .count + block * releases traceback (at .held) n ≤ length (now out)) × (i + n < 2 ^ 64) × (n ≤ lentSteps kind (now values) (now known)) ⌝ }
+    ensures { λ r. ⌜ Carried traceback (stepsOf kind (now (values .entry)) (now (known .entry))) i n (now (pm .entry)) at (now (decisions .entry)) (now (out .entry)) r (now (pm .exit)) (now (decisions .exit)) (now (out .exit)) ⌝ }
 {
     let mut now_at = at;
     let mut k: usize = 0;
     while k < n {
         let held = now_at.held;
         let len = acs_runs::block_steps(i + k, n - k, BLOCK + traceback - held);
-        let from = 2 * k;
-        acs_runs::run2(pm, &pairs[from..], len, &mut decisions[held..]);
+        acs_runs::run(pm, kind, values, known, k, len, &mut decisions[held..]);
         let grown = At {
             held: held + len,
             count: now_at.count,
         };
         k = k + len;
-        now_at = end_block(pm, grown, traceback, i + k, decisions, out);
-    }
-    now_at
-}
-
-// The same of four metrics each.
-pub fn run_fours(
-    pm: &mut [f32; STATES],
-    at: At,
-    traceback: usize,
-    i: usize,
-    n: usize,
-    metrics: &[f32],
-    decisions: &mut [u64],
-    out: &mut [u8],
-) -> At
-    requires { ⌜ (1 ≤ traceback) × (traceback ≤ tracebackLimit) × (at .held < block + traceback) × (block + traceback ≤ length (now decisions)) × (at .count + block * releases traceback (at .held) n ≤ length (now out)) × (i + n < 2 ^ 64) × (4 * n ≤ length (now metrics)) ⌝ }
-    ensures { λ r. ⌜ Carried traceback (fourSteps (now (metrics .entry))) i n (now (pm .entry)) at (now (decisions .entry)) (now (out .entry)) r (now (pm .exit)) (now (decisions .exit)) (now (out .exit)) ⌝ }
-{
-    let mut now_at = at;
-    let mut k: usize = 0;
-    while k < n {
-        let held = now_at.held;
-        let len = acs_runs::block_steps(i + k, n - k, BLOCK + traceback - held);
-        let from = 4 * k;
-        acs_runs::run4(pm, &metrics[from..], len, &mut decisions[held..]);
-        let grown = At {
-            held: held + len,
-            count: now_at.count,
-        };
-        k = k + len;
-        now_at = end_block(pm, grown, traceback, i + k, decisions, out);
+        now_at = end_block(pm, grown, traceback, kind, i + k, decisions, out);
     }
     now_at
 }

@@ -20,7 +20,7 @@ add-if1 c = search needs
 returns : tie.Need-returns
 returns c =
     let a = c .before .before .before .before .before .args in
-    kept-end (a .traceback) (a .i) (a .pm .now) (a .at) (a .decisions .now) (a .out .now) (c .before .settle-block .last .0) (c .before .settle-block .ensures) (c .if1 .taken)
+    kept-end (a .traceback) (a .kind) (a .i) (a .pm .now) (a .at) (a .decisions .now) (a .out .now) (c .before .settle-block .last .0) (c .before .settle-block .ensures) (c .if1 .taken)
 
 sub-release : tie.Need-sub-release
 sub-release c = search needs
@@ -40,8 +40,8 @@ release-requires c κs =
     let room = start .pre .5 full in
     (start .pre .1, start .pre .3, rw (tail-whole (a .at .count) out out out (start .pre .4), length-drop (a .at .count) out) (omega arith))
 
-add-t11 : tie.Need-add-t11
-add-t11 c = search needs
+add-t12 : tie.Need-add-t12
+add-t12 c = search needs
 
 same-length : tie.Need-same-length
 same-length c = search needs
@@ -56,7 +56,7 @@ returns-2 c =
     let start = c .before .before .before .before .before .before .before .before .before .before .before .before .before in
     let a = start .args in
     let out = a .out .now in
-    let-go-end (a .traceback) (a .i) (a .pm .now) (a .at) (a .decisions .now) out (settled .last .0) (settled .ensures) (freed .release .last .1 .1 .0) _ (omega arith) (freed .release .ensures .1)
+    let-go-end (a .traceback) (a .kind) (a .i) (a .pm .now) (a .at) (a .decisions .now) out (settled .last .0) (settled .ensures) (freed .release .last .1 .1 .0) _ (omega arith) (freed .release .ensures .1)
     (written-tail (a .at .count) out (freed .release .last .1 .1 .1 .0) (take 4096 (traced (take (4096 + a .traceback) (a .decisions .now)) (bestState (settled .last .0)))) (start .pre .4) (freed .release .ensures .0))
 
 pub end-block-spec : {M : Type 1} → statement M
@@ -70,7 +70,7 @@ end-block-spec =
     part-release-start
     part-release-end
     release-requires
-    add-t11
+    add-t12
     same-length
     same-length-2
     returns-2)
