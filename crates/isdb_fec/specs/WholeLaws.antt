@@ -1,4 +1,4 @@
--- A whole call of n steps on a handed decoder: how it begins, what each step asks and leaves, and what it leaves. Assumes nothing.
+-- A whole call of n steps on a handed decoder: how it begins and what it leaves. Assumes nothing.
 use mathlib.Core.Path.{_≡_, refl, sym, _∙_, ap}
 use mathlib.Core.List.{List}
 use Prim.Native.Nat.{ℕ, _+_, _*_, _<_, _≤_}
@@ -12,15 +12,15 @@ use Rattle.refusal.specs.declared.Answer.the-variants.{Accepted}
 use Rattle.trellis.specs.Isdb
 use Rattle.trellis.specs.Step as trellis
 use Rattle.trellis.specs.Step.{renormalised}
-use Rattle.trellis.specs.Run.{after, block, tracebackLimit, releases, holding}
+use Rattle.trellis.specs.Run.{after, block, releases}
 use Rattle.viterbi.specs.declared.At.{At}
 use Rattle.isdb_fec.specs.declared.conv.ViterbiDecoder.{ViterbiDecoder}
-use Rattle.isdb_fec.specs.Calls.{stepOnce, steps, call, handed, Holds, Stepped, Room, Leaves, Unchanged}
+use Rattle.isdb_fec.specs.Calls.{steps, call, handed, Holds, Leaves, Unchanged}
 use Rattle.refusal.specs.Rows.{Either}
 use Rattle.isdb_fec.specs.AnswerLaws.{Enough, refused}
 use Rattle.viterbi.specs.Calls.{stepsFrom, Carried}
 use Rattle.viterbi.specs.BlockLaws.{from-steps}
-use Rattle.viterbi.specs.HoldingLaws.{holds-start, steps-lengths, steps-ready, steps-next}
+use Rattle.viterbi.specs.HoldingLaws.{holds-start, steps-lengths}
 
 -- the words that a handed decoder holds
 pub taken : {v : ViterbiDecoder} {n space : ℕ} (dec₀ : List ℕ) → Enough v n (length dec₀) space → length (take (v .held) dec₀) ≡ v .held
@@ -41,14 +41,7 @@ module _ (v : ViterbiDecoder) (xs : ℕ → trellis.Step) (n : ℕ) (dec₀ out�
     pub lengths : i ≤ n → (length dec ≡ length dec₀) × (length out ≡ length out₀)
     lengths = steps-lengths Isdb.half Isdb.labels Isdb.rule (v .traceback) xs (handed v dec₀) dec₀ out₀ n (e .least) (e .most) (few dec₀ e) (e .fits) space pm (at .held) (at .count) dec out i h
 
-    pub ready : i < n → (1 ≤ v .traceback) × (v .traceback ≤ tracebackLimit) × (at .held < block + v .traceback) × (block + v .traceback ≤ length dec) × (at .count ≤ length out) × Room (v .traceback) (at .held) (at .count) (length out)
-    ready = steps-ready Isdb.half Isdb.labels Isdb.rule (v .traceback) xs (handed v dec₀) dec₀ out₀ n (e .least) (e .most) (few dec₀ e) (e .fits) space pm (at .held) (at .count) dec out i h
-
-    pub goes-on : (r : At) (pm′ : List Float) (dec′ out′ : List ℕ) → Stepped (v .traceback) (stepOnce (v .traceback) i (xs i) (holding pm (at .held) dec)) (at .count) r pm′ dec dec′ out out′
-        → Holds (v .traceback) dec₀ out₀ (steps (v .traceback) xs (handed v dec₀) (i + 1)) pm′ (r .held) (r .count) dec′ out′
-    goes-on = steps-next Isdb.half Isdb.labels Isdb.rule (v .traceback) xs (handed v dec₀) dec₀ out₀ n (e .least) (e .most) (few dec₀ e) (e .fits) space pm (at .held) (at .count) dec out i h
-
-  -- all steps at once, as `run_pairs` and `run_fours` take them
+  -- all steps at once, as `run_steps` takes them
   pub runs : (r : At) (pm : List Float) (dec out : List ℕ) → Carried (v .traceback) xs 0 n (v .pm) (record { held = v .held; count = 0 }) dec₀ out₀ r pm dec out
       → Holds (v .traceback) dec₀ out₀ (steps (v .traceback) xs (handed v dec₀) n) pm (r .held) (r .count) dec out
   runs r pm dec out c =

@@ -12,6 +12,7 @@ ghost use Rattle.trellis.specs.Code.{isdb, output, moved};
 ghost use Rattle.trellis.specs.Run.{startAt, startUnknown, pairSteps, fourSteps, knownSteps};
 ghost use Rattle.isdb_fec.specs.Rows.{encoderRows, freshRows, streamRows, pushRows, pushMetricsRows, pushKnownRows, flushRows};
 ghost use Rattle.isdb_fec.specs.Calls.{steps, call, handed, Leaves, Flushes, FlushesAt, Unchanged, Fresh, Zero};
+use acs_runs::Kind;
 pub use decoder_rows::PATH_LIMIT;
 pub use decoder_rows::STREAM_LIMIT;
 pub use decoder_rows::some_beyond;
@@ -19,16 +20,13 @@ use refusal::Answer;
 pub use trellis::STATES;
 pub use trellis::TRACEBACK_LIMIT;
 use viterbi::At;
-use viterbi::Step;
-use viterbi::advance;
 use viterbi::depth_of;
 use viterbi::encode_bit;
 use viterbi::finish;
 use viterbi::finish_at;
 use viterbi::parity;
 pub use viterbi::renormalise;
-use viterbi::run_fours;
-use viterbi::run_pairs;
+use viterbi::run_steps;
 use viterbi::start_at;
 use viterbi::start_unknown;
 ghost use Rattle.trellis.specs.Isdb;
@@ -246,7 +244,18 @@ impl ViterbiDecoder {
             count: 0,
         };
         let n = pairs.len() / 2;
-        let at = run_pairs(&mut pm, start, traceback, 0, n, pairs, decisions, out);
+        let at = run_steps(
+            &mut pm,
+            start,
+            traceback,
+            0,
+            n,
+            Kind::Pairs,
+            pairs,
+            &[0u8; 0],
+            decisions,
+            out,
+        );
         renormalise(&mut pm);
         Released {
             answer: Answer::Accepted,
@@ -281,7 +290,18 @@ impl ViterbiDecoder {
             count: 0,
         };
         let n = metrics.len() / 4;
-        let at = run_fours(&mut pm, start, traceback, 0, n, metrics, decisions, out);
+        let at = run_steps(
+            &mut pm,
+            start,
+            traceback,
+            0,
+            n,
+            Kind::Fours,
+            metrics,
+            &[0u8; 0],
+            decisions,
+            out,
+        );
         renormalise(&mut pm);
         Released {
             answer: Answer::Accepted,
@@ -311,14 +331,23 @@ impl ViterbiDecoder {
         };
         let traceback = self.traceback;
         let mut pm = self.pm;
-        let mut at = At {
+        let start = At {
             held: self.held,
             count: 0,
         };
-        for i in 0..bits.len() {
-            let known = Step::Known(bits[i]);
-            at = advance(&mut pm, at, traceback, i, known, decisions, out);
-        }
+        let n = bits.len();
+        let at = run_steps(
+            &mut pm,
+            start,
+            traceback,
+            0,
+            n,
+            Kind::Knowns,
+            &[0.0f32; 0],
+            bits,
+            decisions,
+            out,
+        );
         Released {
             answer: Answer::Accepted,
             dec: ViterbiDecoder {

@@ -1,4 +1,5 @@
 // The steps of a run, read in blocks of at most 64 periods.
+use acs_runs::Kind;
 use isdbs_blocks::make_block;
 use isdbs_core::combination::Combination;
 use isdbs_metrics::PeriodLayout;
@@ -7,7 +8,7 @@ use isdbs_points::Mapping;
 use trellis::FRAME_TRACEBACK;
 use trellis::STATES;
 use viterbi::At;
-use viterbi::run_fours;
+use viterbi::run_steps;
 ghost use mathlib.Core.Path.{_≡_};
 ghost use mathlib.Core.Logic.{_⊎_};
 ghost use Prim.Native.Nat.{_+_, _*_, _<_, _≤_, _^_};
@@ -71,13 +72,15 @@ fn read_blocks(
             block,
             &mut marks[k..],
         );
-        now_at = run_fours(
+        now_at = run_steps(
             pm,
             now_at,
             FRAME_TRACEBACK,
             i0 + k,
             len,
+            Kind::Fours,
             block,
+            &[0u8; 0],
             decisions,
             bits,
         );

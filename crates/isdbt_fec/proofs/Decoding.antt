@@ -65,7 +65,7 @@ module _ (tb : ℕ) (xs : ℕ → trellis.Step) (n : ℕ) (pm₀ : List Float) (
 
 module _ {tb : ℕ} {xs : ℕ → trellis.Step} {n : ℕ} {pm₀ : List Float} {dec₀ out₀ : List ℕ} {i : ℕ} {pm : List Float} {at : At} {dec out : List ℕ}
     (d : Decoding tb xs n pm₀ dec₀ out₀ i pm at dec out) where
-  -- what `run_pairs` asks of a block of steps
+  -- what `run_steps` asks of a block of steps
   pub decoding-ready : (len : ℕ) → i + len ≤ n
       → (1 ≤ tb) × (tb ≤ 1024) × (at .held < 4096 + tb) × (4096 + tb ≤ length dec) × (at .count + 4096 * releases tb (at .held) len ≤ length out)
   decoding-ready len h =

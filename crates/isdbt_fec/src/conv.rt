@@ -12,6 +12,7 @@ ghost use Rattle.trellis.specs.Encoded.{lowBits};
 ghost use Rattle.isdbt_rows.specs.Rows.{encodeRows, depunctureRows, decodeRows};
 ghost use Rattle.isdbt_fec.specs.Calls.{Encodes, Unencoded, Depunctures, Untouched, decodedBits, Decodes, Undecoded};
 ghost use Rattle.trellis.specs.Run.{tracebackLimit, block};
+use acs_runs::Kind;
 use isdb_fec::conv::ConvEncoder;
 use isdbt_rows::answer_decode;
 use isdbt_rows::answer_depuncture;
@@ -28,7 +29,7 @@ use refusal::Answer;
 use viterbi::At;
 use viterbi::depth_of;
 use viterbi::encode_bit;
-use viterbi::run_pairs;
+use viterbi::run_steps;
 use viterbi::start_at;
 ghost use Rattle.trellis.specs.Isdb;
 
@@ -198,7 +199,18 @@ fn decode_periods(
     while i < count {
         let len = block_of(count - i);
         soft_block(&order, n, period, llrs, i, len, &mut pairs);
-        at = run_pairs(&mut pm, at, traceback, i, len, &pairs, decisions, out);
+        at = run_steps(
+            &mut pm,
+            at,
+            traceback,
+            i,
+            len,
+            Kind::Pairs,
+            &pairs,
+            &[0u8; 0],
+            decisions,
+            out,
+        );
         i = i + len;
     }
     end_call(&mut pm, at, traceback, decisions, out)

@@ -14,6 +14,7 @@ ghost use Rattle.trellis.specs.WrittenLaws.{Written};
 ghost use Rattle.viterbi.specs.Calls.{stepOf};
 ghost use Rattle.short_code.specs.Codes.{labels, Fits, Settled};
 use acs::states;
+use acs_runs::Step;
 pub use path_choice::best_state;
 use path_choice::greater;
 use path_choice::larger;
@@ -21,7 +22,6 @@ use short_code::Code;
 use short_code::label;
 use trellis::INTERVAL;
 use trellis::STATES;
-use viterbi::Step;
 ghost use Rattle.trellis.specs.Isdb;
 
 // The term of a soft value x for a coded bit.

@@ -89,11 +89,14 @@ make-block-requires c κs =
       simp (length-take, length-drop) (omega arith),
     )
 
-add-run-fours : tie.Need-add-run-fours Inv-loop μ-loop
-add-run-fours c = search needs
+add-run-steps : tie.Need-add-run-steps Inv-loop μ-loop
+add-run-steps c = search needs
 
-run-fours-requires : tie.Need-run-fours-requires Inv-loop μ-loop
-run-fours-requires c κs =
+slice-aggregate-run-steps : tie.Need-slice-aggregate-run-steps Inv-loop μ-loop
+slice-aggregate-run-steps c = search needs
+
+run-steps-requires : tie.Need-run-steps-requires Inv-loop μ-loop
+run-steps-requires c κs =
     let st = c .before .before .before .before .before .before .before .before .before .before .before .before .before .before .before .before .before .before .before .before .before .before .before .before .before .before .before .before .before .before .before .before in
     let at = c .before .before .before .before .before .before .before .before .before .before .before .before .before .before .before .before .before .before .before .before .before .before .loop in
     let inside = c .before .before .before .before .before .before .before .before .before .before .before .before .before .before .before .before .before .before .before .before .before .loop-test .taken in
@@ -109,7 +112,7 @@ run-fours-requires c κs =
     let room = st .pre .4 in
     let fits = st .pre .6 in
     let long = c .before .before .before .before .before .before .before .before .before .before .before .before .before .before .make-block .ensures .0 .long in
-    (lit≤ tt, lit≤ tt, held, omega arith, omega arith, omega arith, long)
+    (lit≤ tt, lit≤ tt, held, omega arith, omega arith, omega arith, omega arith)
 
 add-k : tie.Need-add-k Inv-loop μ-loop
 add-k c =
@@ -135,7 +138,7 @@ loop-again c =
     let le = bo .ensures .0 in
     let called = c .before .before .before .before .before .before .before .before .before .before .before .before .before .before .before .before .before .before .before .make-block in
     let mb = called .ensures in
-    let rf = c .before .before .before .before .run-fours .ensures in
+    let rf = c .before .before .before .before .run-steps .ensures in
     let k = at .k in
     let h = at .inv in
     let lm = h .5 in
@@ -200,8 +203,9 @@ read-blocks-spec =
     part-make-block-start
     part-make-block-end
     make-block-requires
-    add-run-fours
-    run-fours-requires
+    add-run-steps
+    slice-aggregate-run-steps
+    run-steps-requires
     add-k
     loop-less
     loop-again

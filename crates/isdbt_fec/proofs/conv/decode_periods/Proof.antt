@@ -62,11 +62,14 @@ soft-block-requires c κs =
     let inside = c .before .before .before .loop-test .taken in
     (r .eight, r .in-order, r .least, r .most, len .1, omega arith, λ k h. r .there k (omega arith))
 
-slice-aggregate-run-pairs : tie.Need-slice-aggregate-run-pairs Inv-loop μ-loop
-slice-aggregate-run-pairs c = search needs
+slice-aggregate-run-steps : tie.Need-slice-aggregate-run-steps Inv-loop μ-loop
+slice-aggregate-run-steps c = search needs
 
-run-pairs-requires : tie.Need-run-pairs-requires Inv-loop μ-loop
-run-pairs-requires c κs =
+slice-aggregate-run-steps-2 : tie.Need-slice-aggregate-run-steps-2 Inv-loop μ-loop
+slice-aggregate-run-steps-2 c = search needs
+
+run-steps-requires : tie.Need-run-steps-requires Inv-loop μ-loop
+run-steps-requires c κs =
     let inv = c .before .before .before .before .before .before .before .before .before .loop .inv in
     let len = c .before .before .before .before .before .before .before .block-of in
     let bound = len .ensures in
@@ -95,7 +98,7 @@ loop-again c =
     let len = c .before .before .before .before .before .before .before .before .before .before .before .before .block-of .ensures in
     let inside = c .before .before .before .before .before .before .before .before .before .before .before .before .before .loop-test .taken in
     let soft = c .before .before .before .before .before .before .before .before .before .soft-block .ensures in
-    (omega arith, inv .1, inv .2, decoding-block (inv .3) (omega arith) (soft .1) (c .before .before .before .before .run-pairs .ensures))
+    (omega arith, inv .1, inv .2, decoding-block (inv .3) (omega arith) (soft .1) (c .before .before .before .before .run-steps .ensures))
 
 end-call-requires : tie.Need-end-call-requires Inv-loop μ-loop
 end-call-requires c κs =
@@ -138,8 +141,9 @@ decode-periods-spec =
     sub-block-of
     block-of-requires
     soft-block-requires
-    slice-aggregate-run-pairs
-    run-pairs-requires
+    slice-aggregate-run-steps
+    slice-aggregate-run-steps-2
+    run-steps-requires
     add-i
     loop-less
     loop-again
