@@ -1,83 +1,77 @@
 -- `read_end` meets its contract. Assumes nothing.
-use Rattle.isdbs_read.specs.BlockLaws.{read-start}
-use Rattle.frame_end.proofs.Ending.{read-next, ended}
-use Rattle.trellis.specs.Step.{known}
-use native.Mathlib.Nat.{zero-add}
-use borrow.Author.Needs.{needs}
-use Rattle.isdbs_read.specs.Carried.{Carried}
-use Rattle.isdbs_metrics.specs.Reading.{knownBits}
-use lib.ListN.{length}
+use mathlib.Core.Path.{_≡_, _∙_, ap}
+use Prim.Native.Nat.{ℕ, _+_, _*_, _<_, _≤_}
 use native.Mathlib.Omega.{arith}
-use Prim.Native.Nat.{_-_, _≤_}
-use mathlib.Core.Path.{_≡_, refl, ap}
+use borrow.Author.Needs.{needs}
+use lib.Dec.{lit≤}
+use lib.ListN.{length}
+use Rattle.trellis.specs.ListLaws.{length-upto}
+use Rattle.isdbs_frame.specs.Frame.{w1}
+use Rattle.isdbs_points.specs.Layout.{wordBit}
+use Rattle.viterbi.specs.CountLaws.{releases-le}
+use Rattle.frame_end.proofs.Ending.{ended}
 use Rattle.frame_end.proofs.read_end.Statement.{statement}
 use Rattle.frame_end.proofs.read_end.Tie as tie
 
-abbrev Inv-loop : tie.InvT-loop
-Inv-loop pm₀ decisions₀ bits₀ now-at₀ i₀ pm decisions bits now-at i = (i ≤ 16) × (length decisions ≡ length decisions₀) × (length bits ≡ length bits₀) × Carried knownBits 0 i pm₀ now-at₀ decisions₀ bits₀ now-at pm decisions bits
-
-abbrev μ-loop : tie.MeasureT-loop
-μ-loop pm₀ decisions₀ bits₀ now-at₀ i₀ pm decisions bits now-at i = 16 - i
-
-renormalise-requires : tie.Need-renormalise-requires Inv-loop μ-loop
+renormalise-requires : tie.Need-renormalise-requires
 renormalise-requires c κs = search needs
 
-loop-holds : tie.Need-loop-holds Inv-loop μ-loop
-loop-holds c = (search needs, refl, refl, read-start _ _ _ _ _ _ (c .before .before .before .before .pre .0))
+known-bits-requires : tie.Need-known-bits-requires
+known-bits-requires c κs = search needs
 
-word-bit-requires : tie.Need-word-bit-requires Inv-loop μ-loop
-word-bit-requires c κs = search needs
+slice-aggregate-run-steps : tie.Need-slice-aggregate-run-steps
+slice-aggregate-run-steps c = search needs
 
-advance-requires : tie.Need-advance-requires Inv-loop μ-loop
-advance-requires c κs = search needs
+slice-aggregate-run-steps-2 : tie.Need-slice-aggregate-run-steps-2
+slice-aggregate-run-steps-2 c = search needs
 
-add-i : tie.Need-add-i Inv-loop μ-loop
-add-i c = search needs
+run-steps-requires : tie.Need-run-steps-requires
+run-steps-requires c κs =
+    let made = c .before .before .before .before .before in
+    let start = made .before .before .before .before .before in
+    let a = start .args in
+    let most = releases-le 128 (a .at .held) 16 (lit≤ tt) in
+    let room = start .pre .2 in
+    let long : length (made .known-bits .result) ≡ 16 = ap length (made .known-bits .ensures) ∙ length-upto (wordBit w1) 16 in
+    (lit≤ tt, lit≤ tt, start .pre .0, start .pre .1, omega arith, lit≤ tt, omega arith)
 
-loop-less : tie.Need-loop-less Inv-loop μ-loop
-loop-less c = search needs
+finish-requires : tie.Need-finish-requires
+finish-requires c κs =
+    let ran = c .before .before .before .before .before .before .before in
+    let start = ran .before .before .before .before .before .before .before .before .before .before .before in
+    let fits = start .pre .1 in
+    let room = start .pre .2 in
+    let few = ran .run-steps .ensures .few in
+    let left = ran .run-steps .ensures .left in
+    let gone = ran .run-steps .ensures .gone in
+    (omega arith, omega arith)
 
-loop-again : tie.Need-loop-again Inv-loop μ-loop
-loop-again c =
-    let h = c .before .before .before .before .before .before .before .before .before .before .loop .inv in
-    let fits = c .before .before .before .before .before .before .before .before .before .before .before .before .before .before .before .pre .1 in
-    let ld = h .1 in (
-      omega arith,
-      search needs,
-      search needs,
-      read-next _ _ _ _ _ _ (c .before .before .before .before .before .before .before .before .before .before .loop .i) _ _ _ _ _ _ _ _ _ (omega arith) (h .3) (ap known (c .before .before .before .before .before .before .before .before .word-bit .ensures)) (rw (zero-add (c .before .before .before .before .before .before .before .before .before .before .loop .i)) (c .before .before .before .before .advance .ensures)),
-    )
-
-finish-requires : tie.Need-finish-requires Inv-loop μ-loop
-finish-requires c κs = search needs
-
-clear-requires : tie.Need-clear-requires Inv-loop μ-loop
+clear-requires : tie.Need-clear-requires
 clear-requires c κs = search needs
 
-same-length : tie.Need-same-length Inv-loop μ-loop
+same-length : tie.Need-same-length
 same-length c = search needs
 
-same-length-2 : tie.Need-same-length-2 Inv-loop μ-loop
+same-length-2 : tie.Need-same-length-2
 same-length-2 c = search needs
 
-returns : tie.Need-returns Inv-loop μ-loop
+returns : tie.Need-returns
 returns c =
-    let e : c .before .before .before .before .before .before .before .before .before .before .before .before .before .loop .i ≡ 16 = omega arith in
-    ended _ _ _ _ _ _ _ _ _ _ _ _ (c .before .before .before .before .before .before .before .before .before .before .before .before .before .before .renormalise .ensures) (rw e at (c .before .before .before .before .before .before .before .before .before .before .before .before .before .loop .inv .3)) (c .before .before .before .before .before .before .before .before .finish .ensures .1) (c .before .before .before .before .before .before .before .before .finish .ensures .2) (c .before .before .clear .ensures)
+    let clearing = c .before .before in
+    let done = clearing .before .before .before .before .before .before in
+    let ran = done .before .before .before .before .before .before .before .before in
+    let made = ran .before .before .before .before .before .before in
+    ended _ _ _ _ _ _ _ _ _ _ _ _ _ (made .before .renormalise .ensures) (made .known-bits .ensures) (ran .run-steps .ensures) (done .finish .ensures .1) (done .finish .ensures .2) (clearing .clear .ensures)
 
 pub read-end-spec : {M : Type 1} → statement M
 read-end-spec =
     tie.close
     (tie.spec
-    Inv-loop
-    μ-loop
     renormalise-requires
-    loop-holds
-    word-bit-requires
-    advance-requires
-    add-i
-    loop-less
-    loop-again
+    known-bits-requires
+    slice-aggregate-run-steps
+    slice-aggregate-run-steps-2
+    run-steps-requires
     finish-requires
     clear-requires
     same-length

@@ -18,7 +18,7 @@ use Rattle.isdbs_read.proofs.read_blocks.Statement.{statement}
 use Rattle.isdbs_read.proofs.read_blocks.Tie as tie
 
 abbrev Inv-loop : tie.InvT-loop
-Inv-loop pm₀ i0 n layout m scale re im parts₀ softs₀ pairs₀ block₀ decisions₀ bits₀ marks₀ now-at₀ k₀ pm parts softs pairs block decisions bits marks now-at k =
+Inv-loop pm₀ i0 n layout m scale re im parts₀ softs₀ pairs₀ block₀ decisions₀ bits₀ marks₀ now-at₀ k₀ none pm parts softs pairs block decisions bits marks now-at k =
     (k ≤ n)
     × Periods (layout .combination) k
     × (length decisions ≡ length decisions₀)
@@ -32,7 +32,7 @@ Inv-loop pm₀ i0 n layout m scale re im parts₀ softs₀ pairs₀ block₀ dec
     × (length block ≡ length block₀)
 
 abbrev μ-loop : tie.MeasureT-loop
-μ-loop pm₀ i0 n layout m scale re im parts₀ softs₀ pairs₀ block₀ decisions₀ bits₀ marks₀ now-at₀ k₀ pm parts softs pairs block decisions bits marks now-at k = n - k
+μ-loop pm₀ i0 n layout m scale re im parts₀ softs₀ pairs₀ block₀ decisions₀ bits₀ marks₀ now-at₀ k₀ none pm parts softs pairs block decisions bits marks now-at k = n - k
 
 loop-holds : tie.Need-loop-holds Inv-loop μ-loop
 unfolding upto
@@ -97,10 +97,13 @@ slice-aggregate-run-steps c = search needs
 
 run-steps-requires : tie.Need-run-steps-requires Inv-loop μ-loop
 run-steps-requires c κs =
-    let st = c .before .before .before .before .before .before .before .before .before .before .before .before .before .before .before .before .before .before .before .before .before .before .before .before .before .before .before .before .before .before .before .before in
-    let at = c .before .before .before .before .before .before .before .before .before .before .before .before .before .before .before .before .before .before .before .before .before .before .loop in
-    let inside = c .before .before .before .before .before .before .before .before .before .before .before .before .before .before .before .before .before .before .before .before .before .loop-test .taken in
-    let bo = c .before .before .before .before .before .before .before .before .before .before .before .before .before .before .before .before .before .before .before .before .block-of in
+    let made = c .before .before .before .before .before .before .before .before .before .before .before .before .before .before .before in
+    let blocked = made .before .before .before .before .before .before in
+    let looped = blocked .before .before in
+    let st = looped .before .before .before .before .before .before .before .before .before .before in
+    let at = looped .loop in
+    let inside = blocked .before .loop-test .taken in
+    let bo = blocked .block-of in
     let le = bo .ensures .0 in
     let z = at .inv .4 in
     let held = z .few in
@@ -111,34 +114,40 @@ run-steps-requires c κs =
     let enough = st .pre .3 in
     let room = st .pre .4 in
     let fits = st .pre .6 in
-    let long = c .before .before .before .before .before .before .before .before .before .before .before .before .before .before .make-block .ensures .0 .long in
+    let long = made .make-block .ensures .0 .long in
     (lit≤ tt, lit≤ tt, held, omega arith, omega arith, omega arith, omega arith)
 
 add-k : tie.Need-add-k Inv-loop μ-loop
 add-k c =
-    let inside = c .before .before .before .before .before .before .before .before .before .before .before .before .before .before .before .before .before .before .before .before .before .before .before .before .before .before .loop-test .taken in
-    let le = c .before .before .before .before .before .before .before .before .before .before .before .before .before .before .before .before .before .before .before .before .before .before .before .before .before .block-of .ensures .0 in
-    let fits = c .before .before .before .before .before .before .before .before .before .before .before .before .before .before .before .before .before .before .before .before .before .before .before .before .before .before .before .before .before .before .before .before .before .before .before .before .before .pre .6 in
+    let blocked = c .before .before .before .before .before .before .before .before .before .before .before .before .before .before .before .before .before .before .before .before .before .before .before .before .before .before in
+    let inside = blocked .before .loop-test .taken in
+    let le = blocked .block-of .ensures .0 in
+    let fits = blocked .before .before .before .before .before .before .before .before .before .before .before .before .pre .6 in
     omega arith
 
 loop-less : tie.Need-loop-less Inv-loop μ-loop
 loop-less c =
-    let bo = c .before .before .before .before .before .before .before .before .before .before .before .before .before .before .before .before .before .before .before .before .before .before .before .before .before .block-of in
+    let blocked = c .before .before .before .before .before .before .before .before .before .before .before .before .before .before .before .before .before .before .before .before .before .before .before .before .before .before in
+    let bo = blocked .block-of in
     let le = bo .ensures .0 in
-    let inside = c .before .before .before .before .before .before .before .before .before .before .before .before .before .before .before .before .before .before .before .before .before .before .before .before .before .before .loop-test .taken in
+    let inside = blocked .before .loop-test .taken in
     let some : 0 < bo .result = bo .ensures .2 (omega arith) in
     omega arith
 
 loop-again : tie.Need-loop-again Inv-loop μ-loop
 loop-again c =
-    let st = c .before .before .before .before .before .before .before .before .before .before .before .before .before .before .before .before .before .before .before .before .before .before .before .before .before .before .before .before .before .before .before .before .before .before .before .before .before in
-    let at = c .before .before .before .before .before .before .before .before .before .before .before .before .before .before .before .before .before .before .before .before .before .before .before .before .before .before .before .loop in
-    let inside = c .before .before .before .before .before .before .before .before .before .before .before .before .before .before .before .before .before .before .before .before .before .before .before .before .before .before .loop-test .taken in
-    let bo = c .before .before .before .before .before .before .before .before .before .before .before .before .before .before .before .before .before .before .before .before .before .before .before .before .before .block-of in
+    let ran = c .before .before .before .before in
+    let made = ran .before .before .before .before .before .before .before .before .before .before .before .before .before .before .before .before in
+    let blocked = made .before .before .before .before .before .before in
+    let looped = blocked .before .before in
+    let st = looped .before .before .before .before .before .before .before .before .before .before in
+    let at = looped .loop in
+    let inside = blocked .before .loop-test .taken in
+    let bo = blocked .block-of in
     let le = bo .ensures .0 in
-    let called = c .before .before .before .before .before .before .before .before .before .before .before .before .before .before .before .before .before .before .before .make-block in
+    let called = made .make-block in
     let mb = called .ensures in
-    let rf = c .before .before .before .before .run-steps .ensures in
+    let rf = ran .run-steps .ensures in
     let k = at .k in
     let h = at .inv in
     let lm = h .5 in
@@ -152,8 +161,8 @@ loop-again c =
     ∙ laid-part g (λ i. g (k + i)) k (bo .result) (st .args .marks .now) (λ i l. refl) in (
       omega arith,
       more-periods co k (bo .result) (h .1) (block-periods co (st .args .n) k (bo .result) (st .pre .1) (h .1) (h .0) (rw (st .pre .0 .period) at (bo .ensures .3))),
-      search needs,
-      search needs,
+      ran .run-steps .kept .1 .1 .1 .1 .1 .1 .1 .1 .0 ∙ h .2,
+      ran .run-steps .kept .1 .1 .1 .1 .1 .1 .1 .1 .1 .0 ∙ h .3,
       read-block ys (st .args .i0) _ (st .args .at) _ _ k (bo .result) _ _ _ _ _ _ _ _ _ (h .4) (mb .0) rf,
       ap length marked ∙ length-laid-upto g (k + bo .result) (st .args .marks .now) (omega arith),
       marked,

@@ -13,11 +13,11 @@ use Rattle.isdbt_fec.proofs.conv.decode_periods.Statement.{statement}
 use Rattle.isdbt_fec.proofs.conv.decode_periods.Tie as tie
 
 abbrev Inv-loop : tie.InvT-loop
-Inv-loop llrs traceback decisions₀ out₀ period n order pm₀ at₀ count pairs₀ i₀ decisions out pm at pairs i =
+Inv-loop llrs traceback decisions₀ out₀ period n order pm₀ at₀ count pairs₀ i₀ none decisions out pm at pairs i =
     (i ≤ count) × (2 * count < 18446744073709551616) × Readable (length llrs) period n (length order) (2 * count) × Decoding traceback (stepsBy period n order llrs) count pm₀ decisions₀ out₀ i pm at decisions out
 
 abbrev μ-loop : tie.MeasureT-loop
-μ-loop llrs traceback decisions₀ out₀ period n order pm₀ at₀ count pairs₀ i₀ decisions out pm at pairs i =
+μ-loop llrs traceback decisions₀ out₀ period n order pm₀ at₀ count pairs₀ i₀ none decisions out pm at pairs i =
     count - i
 
 new-requires : tie.Need-new-requires Inv-loop μ-loop
@@ -70,34 +70,39 @@ slice-aggregate-run-steps-2 c = search needs
 
 run-steps-requires : tie.Need-run-steps-requires Inv-loop μ-loop
 run-steps-requires c κs =
-    let inv = c .before .before .before .before .before .before .before .before .before .loop .inv in
-    let len = c .before .before .before .before .before .before .before .block-of in
+    let made = c .before .before .before .before .before in
+    let blocked = made .before .before .before in
+    let inv = blocked .before .before .loop .inv in
+    let len = blocked .block-of in
     let bound = len .ensures in
-    let inside = c .before .before .before .before .before .before .before .before .loop-test .taken in
-    let long = c .before .before .before .before .soft-block .ensures .0 in
+    let inside = blocked .before .loop-test .taken in
+    let long = made .soft-block .ensures .0 in
     let d = decoding-ready (inv .3) (len .result) (omega arith) in
     (d .0, d .1, d .2, d .3, d .4, omega arith, omega arith)
 
 add-i : tie.Need-add-i Inv-loop μ-loop
 add-i c =
-    let inv = c .before .before .before .before .before .before .before .before .before .before .before .before .before .before .loop .inv in
-    let len = c .before .before .before .before .before .before .before .before .before .before .before .before .block-of .ensures in
-    let inside = c .before .before .before .before .before .before .before .before .before .before .before .before .before .loop-test .taken in
+    let blocked = c .before .before .before .before .before .before .before .before .before .before .before .before .before in
+    let inv = blocked .before .before .loop .inv in
+    let len = blocked .block-of .ensures in
+    let inside = blocked .before .loop-test .taken in
     omega arith
 
 loop-less : tie.Need-loop-less Inv-loop μ-loop
 loop-less c =
-    let len = c .before .before .before .before .before .before .before .before .before .before .before .before .block-of .ensures in
-    let inside = c .before .before .before .before .before .before .before .before .before .before .before .before .before .loop-test .taken in
-    let some : 0 < c .before .before .before .before .before .before .before .before .before .before .before .before .block-of .result = len .2 (omega arith) in
+    let blocked = c .before .before .before .before .before .before .before .before .before .before .before .before .before in
+    let len = blocked .block-of .ensures in
+    let inside = blocked .before .loop-test .taken in
+    let some : 0 < blocked .block-of .result = len .2 (omega arith) in
     omega arith
 
 loop-again : tie.Need-loop-again Inv-loop μ-loop
 loop-again c =
-    let inv = c .before .before .before .before .before .before .before .before .before .before .before .before .before .before .loop .inv in
-    let len = c .before .before .before .before .before .before .before .before .before .before .before .before .block-of .ensures in
-    let inside = c .before .before .before .before .before .before .before .before .before .before .before .before .before .loop-test .taken in
-    let soft = c .before .before .before .before .before .before .before .before .before .soft-block .ensures in
+    let blocked = c .before .before .before .before .before .before .before .before .before .before .before .before .before in
+    let inv = blocked .before .before .loop .inv in
+    let len = blocked .block-of .ensures in
+    let inside = blocked .before .loop-test .taken in
+    let soft = c .before .before .before .before .before .before .before .before .before .before .soft-block .ensures in
     (omega arith, inv .1, inv .2, decoding-block (inv .3) (omega arith) (soft .1) (c .before .before .before .before .run-steps .ensures))
 
 end-call-requires : tie.Need-end-call-requires Inv-loop μ-loop
