@@ -22,6 +22,14 @@ use trellis::HALF;
 use trellis::STATES;
 ghost use Rattle.trellis.specs.Isdb;
 
+mod four;
+
+// What a step leaves: the path values, and the decision word.
+pub struct Stepped {
+    pub values: [f32; STATES],
+    pub word: u64,
+}
+
 // The number of states, which the type of the path values fixes.
 pub fn states(pm: &[f32; STATES]) -> usize
     ensures { λ r. ⌜ (r ≡ Isdb.states) × (length (now (pm .entry)) ≡ Isdb.states) ⌝ }

@@ -76,6 +76,14 @@ fn metric(m: [f32; 4], n: u8) -> f32
     }
 }
 
+// The metric of the branch from the state 2j + b on the input u.
+pub fn metric_of(t: &Numbers, u: usize, b: usize, j: usize, m: [f32; 4]) -> f32
+    requires { ⌜ (u < 2) × (b < 2) × (j < Isdb.half) × BranchNumbers (now t) ⌝ }
+    ensures { λ r. ⌜ r ≡ getD m (Isdb.labels u (2 * j + b)) nan ⌝ }
+{
+    metric(m, number(t, u, b, j))
+}
+
 // The path of a step of four metrics into the state 32u + j from its predecessor 2j + b.
 pub fn four_path(old: &[f32; STATES], t: &Numbers, u: usize, b: usize, j: usize, m: [f32; 4]) -> f32
     requires { ⌜ (u < 2) × (b < 2) × (j < Isdb.half) × BranchNumbers (now t) ⌝ }
