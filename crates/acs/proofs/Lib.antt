@@ -1,2 +1,4 @@
 pub mod Turn
 pub mod Known
+pub mod RowLaws
+pub mod BothHalves

@@ -20,11 +20,11 @@ use Rattle.acs.specs.PackedLaws.{packed-more, packed-both}
 use Rattle.acs.specs.Half.{Half}
 
 module _ (pm : List Float) (x : Step) where
-  beats-wins : (k : ℕ) (e o : Float) (b : ℕ) → e ≡ cand pm x k 0 → o ≡ cand pm x k 1 → b ≡ bit (trellis.takes rule e o) → b ≡ bit (wins pm x k)
+  pub beats-wins : (k : ℕ) (e o : Float) (b : ℕ) → e ≡ cand pm x k 0 → o ≡ cand pm x k 1 → b ≡ bit (trellis.takes rule e o) → b ≡ bit (wins pm x k)
   unfolding trellis.wins
   beats-wins k e o b is-e is-o is-b = rw (is-b, is-e, is-o)
 
-  larger-next : (k : ℕ) (e o v : Float) → e ≡ cand pm x k 0 → o ≡ cand pm x k 1 → v ≡ cond (trellis.takes rule e o) o e → v ≡ next pm x k
+  pub larger-next : (k : ℕ) (e o v : Float) → e ≡ cand pm x k 0 → o ≡ cand pm x k 1 → v ≡ cond (trellis.takes rule e o) o e → v ≡ next pm x k
   unfolding trellis.next trellis.wins
   larger-next k e o v is-e is-o is-v = rw (is-v, is-e, is-o)
 

@@ -1,2 +1,3 @@
 pub mod PackedLaws
 pub mod Half
+pub mod Rows

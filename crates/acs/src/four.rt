@@ -1,46 +1,86 @@
-// The step of four metrics.
+// The step of four metrics: the metrics of the branches in rows, one for each input and low state bit, and both halves of the states in one loop.
 ghost use mathlib.Core.Path.{_≡_};
-ghost use Prim.Native.Nat.{_<_};
 ghost use Rattle.trellis.specs.Step.{four};
 ghost use Rattle.trellis.specs.Isdb.{nexts, word};
-ghost use Rattle.acs_paths.specs.Branches.{BranchNumbers};
-ghost use Rattle.acs.specs.Half.{Half};
+ghost use Rattle.acs.specs.Rows.{metricRow};
 use crate::Stepped;
 use crate::join;
-use crate::states;
 use acs_paths::BRANCH;
-use acs_paths::Numbers;
-use acs_paths::four_path;
+use acs_paths::metric_of;
 use path_choice::beats;
 use path_choice::larger;
 use trellis::HALF;
 use trellis::STATES;
-ghost use Rattle.trellis.specs.Isdb;
 
-// The states 32u + j of a step of four metrics, and their decisions.
-fn four_half(old: [f32; STATES], new: &mut [f32; STATES], t: &Numbers, u: usize, m: [f32; 4]) -> u32
-    requires { ⌜ (u < 2) × BranchNumbers (now t) ⌝ }
-    ensures { λ r. ⌜ Half old (four m) u (now (new .entry)) Isdb.half (now (new .exit)) r ⌝ }
+// The metrics of the branches on the input 0 from the even states. Each row names the constant for itself, so that the compiler folds it.
+fn row00(m: [f32; 4]) -> [f32; HALF]
+    ensures { λ r. ⌜ r ≡ metricRow m 0 0 ⌝ }
 {
-    let n = states(new);
-    let mut w: u32 = 0;
-    for j in 0..n / 2 {
-        let even = four_path(&old, t, u, 0, j, m);
-        let odd = four_path(&old, t, u, 1, j, m);
-        new[HALF * u + j] = larger(even, odd);
-        w = w | (beats(odd, even) << j);
+    let t = BRANCH;
+    let mut r = [0.0f32; HALF];
+    for j in 0..HALF {
+        r[j] = metric_of(&t, 0, 0, j, m);
     }
-    w
+    r
+}
+
+// On the input 0 from the odd states.
+fn row01(m: [f32; 4]) -> [f32; HALF]
+    ensures { λ r. ⌜ r ≡ metricRow m 0 1 ⌝ }
+{
+    let t = BRANCH;
+    let mut r = [0.0f32; HALF];
+    for j in 0..HALF {
+        r[j] = metric_of(&t, 0, 1, j, m);
+    }
+    r
+}
+
+// On the input 1 from the even states.
+fn row10(m: [f32; 4]) -> [f32; HALF]
+    ensures { λ r. ⌜ r ≡ metricRow m 1 0 ⌝ }
+{
+    let t = BRANCH;
+    let mut r = [0.0f32; HALF];
+    for j in 0..HALF {
+        r[j] = metric_of(&t, 1, 0, j, m);
+    }
+    r
+}
+
+// On the input 1 from the odd states.
+fn row11(m: [f32; 4]) -> [f32; HALF]
+    ensures { λ r. ⌜ r ≡ metricRow m 1 1 ⌝ }
+{
+    let t = BRANCH;
+    let mut r = [0.0f32; HALF];
+    for j in 0..HALF {
+        r[j] = metric_of(&t, 1, 1, j, m);
+    }
+    r
 }
 
 // The add-compare-select of four metrics, that of the branches with the outputs (X, Y) at 2X + Y.
 pub fn acs4(pm: [f32; STATES], m: [f32; 4]) -> Stepped
     ensures { λ r. ⌜ (r .values ≡ nexts pm (four m)) × (r .word ≡ word pm (four m)) ⌝ }
 {
-    let t = BRANCH;
+    let p = row00(m);
+    let q = row01(m);
+    let r = row10(m);
+    let s = row11(m);
     let mut values = pm;
-    let low = four_half(pm, &mut values, &t, 0, m);
-    let high = four_half(pm, &mut values, &t, 1, m);
+    let mut low: u32 = 0;
+    let mut high: u32 = 0;
+    for j in 0..HALF {
+        let even = pm[2 * j] + p[j];
+        let odd = pm[2 * j + 1] + q[j];
+        values[j] = larger(even, odd);
+        low = low | (beats(odd, even) << j);
+        let even1 = pm[2 * j] + r[j];
+        let odd1 = pm[2 * j + 1] + s[j];
+        values[HALF + j] = larger(even1, odd1);
+        high = high | (beats(odd1, even1) << j);
+    }
     Stepped {
         values,
         word: join(low, high),

@@ -1,4 +1,4 @@
--- A path is the candidate of its state, by the signs of its branch or by its number. Assumes nothing.
+-- A path is the candidate of its state, by the signs of its branch.
 use mathlib.Core.Path.{_≡_}
 use mathlib.Core.Bool.{cond}
 use mathlib.Core.List.{List}
@@ -8,7 +8,7 @@ use lib.Dec.{eqb}
 use lib.ListN.{getD}
 use lib.Ieee.{Float, nan, binary32, add, neg, lt, ofBits}
 use Rattle.trellis.specs.Step as trellis
-use Rattle.trellis.specs.Step.{pair, four}
+use Rattle.trellis.specs.Step.{pair}
 use Rattle.trellis.specs.Isdb.{cand}
 use Rattle.trellis.specs.Isdb
 
@@ -29,9 +29,3 @@ module _ (pm : List Float) (u b j : ℕ) (h : j < 32) where
       → add binary32 (add binary32 (getD pm (2 * j + b) nan) p) q ≡ cand pm (pair lx ly) (32 * u + j) b
   unfolding trellis.cand trellis.branch
   pair-cand x y is-x is-y lx ly p q is-p is-q = rw (is-p, is-q, at-j, at-u, is-x, is-y)
-
-  -- by the number n of its branch
-  pub four-cand : (m : List Float) (n : ℕ) (p : Float) → n ≡ Isdb.labels u (2 * j + b) → p ≡ getD m n nan
-      → add binary32 (getD pm (2 * j + b) nan) p ≡ cand pm (four m) (32 * u + j) b
-  unfolding trellis.cand trellis.branch
-  four-cand m n p is-n is-p = rw (is-p, is-n, at-j, at-u)

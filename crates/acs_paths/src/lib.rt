@@ -4,7 +4,7 @@ ghost use mathlib.Core.Bool.{cond};
 ghost use Prim.Native.Nat.{_+_, _*_, _%_, _<_};
 ghost use lib.ListN.{getD};
 ghost use lib.Ieee.{lt, neg, nan, binary32, ofBits};
-ghost use Rattle.trellis.specs.Step.{pair, four};
+ghost use Rattle.trellis.specs.Step.{pair};
 ghost use Rattle.trellis.specs.Isdb.{cand};
 ghost use Rattle.acs_paths.specs.Signs.{XSigns, YSigns};
 ghost use Rattle.acs_paths.specs.Branches.{BranchNumbers};
@@ -76,10 +76,10 @@ fn metric(m: [f32; 4], n: u8) -> f32
     }
 }
 
-// The path of a step of four metrics into the state 32u + j from its predecessor 2j + b.
-pub fn four_path(old: &[f32; STATES], t: &Numbers, u: usize, b: usize, j: usize, m: [f32; 4]) -> f32
+// The metric of the branch from the state 2j + b on the input u.
+pub fn metric_of(t: &Numbers, u: usize, b: usize, j: usize, m: [f32; 4]) -> f32
     requires { ⌜ (u < 2) × (b < 2) × (j < Isdb.half) × BranchNumbers (now t) ⌝ }
-    ensures { λ r. ⌜ r ≡ cand (now (old .entry)) (four m) (Isdb.half * u + j) b ⌝ }
+    ensures { λ r. ⌜ r ≡ getD m (Isdb.labels u (2 * j + b)) nan ⌝ }
 {
-    old[2 * j + b] + metric(m, number(t, u, b, j))
+    metric(m, number(t, u, b, j))
 }

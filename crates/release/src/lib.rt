@@ -3,27 +3,57 @@ use trellis::BLOCK;
 use trellis::HALF;
 use trellis::STATES;
 ghost use mathlib.Core.Path.{_≡_};
-ghost use Prim.Native.Nat.{_+_, _<_, _≤_};
+ghost use Prim.Native.Nat.{_+_, _-_, _<_, _≤_};
 ghost use lib.ListN.{length, take, drop, replicate};
 ghost use Rattle.trellis.specs.Lists.{laid};
+ghost use Rattle.trellis.specs.Step.{kept, back};
 ghost use Rattle.trellis.specs.Isdb.{bestState, traced};
 ghost use Rattle.trellis.specs.Run.{block, tracebackLimit};
 ghost use Rattle.trellis.specs.Isdb;
+
+// The state before the one in which a step ends, as its decision word has it.
+fn step_back(word: u64, s: usize) -> usize
+    requires { ⌜ s < Isdb.states ⌝ }
+    ensures { λ r. ⌜ (r ≡ kept Isdb.half word s) × (r < Isdb.states) ⌝ }
+{
+    2 * (s % HALF) + ((word >> s) % 2) as usize
+}
+
+// The state after `count` of n steps on the way back from `state`, the last one.
+fn state_after(decisions: &[u64], n: usize, state: usize, count: usize) -> usize
+    requires { ⌜ (state < Isdb.states) × (n ≤ length (now decisions)) × (count ≤ n) ⌝ }
+    ensures { λ r. ⌜ (r < Isdb.states) × (r ≡ back Isdb.half (take n (now (decisions .entry))) n state (n - count)) ⌝ }
+{
+    let mut s = state;
+    let mut t = n;
+    while t > count {
+        t -= 1;
+        s = step_back(decisions[t], s);
+    }
+    s
+}
+
+// Traces the first n decision words back from `state`, and writes their bits to the front of `out`.
+fn trace_all(decisions: &[u64], n: usize, state: usize, out: &mut [u8])
+    requires { ⌜ (state < Isdb.states) × (n ≤ length (now decisions)) × (n ≤ length (now out)) ⌝ }
+    ensures { λ _. ⌜ now (out .exit) ≡ laid (traced (take n (now (decisions .entry))) state) (now (out .entry)) ⌝ }
+{
+    let mut s = state;
+    let mut t = n;
+    while t > 0 {
+        t -= 1;
+        out[t] = (s / HALF) as u8;
+        s = step_back(decisions[t], s);
+    }
+}
 
 // Traces the first n decision words back from `state`, and writes the oldest `count` of the n bits to the front of `out`.
 pub fn trace(decisions: &[u64], n: usize, state: usize, count: usize, out: &mut [u8])
     requires { ⌜ (state < Isdb.states) × (n ≤ length (now decisions)) × (count ≤ n) × (count ≤ length (now out)) ⌝ }
     ensures { λ _. ⌜ now (out .exit) ≡ laid (take count (traced (take n (now (decisions .entry))) state)) (now (out .entry)) ⌝ }
 {
-    let mut s = state;
-    let mut t = n;
-    while t > 0 {
-        t -= 1;
-        if t < count {
-            out[t] = (s / HALF) as u8;
-        }
-        s = 2 * (s % HALF) + ((decisions[t] >> s) % 2) as usize;
-    }
+    let s = state_after(decisions, n, state, count);
+    trace_all(decisions, count, s, out);
 }
 
 // Moves n words down by the words of a release.
