@@ -4,6 +4,8 @@
  *
  * A slice is a pointer and a length, in elements. A pointer must be aligned and good for that many elements, and not NULL also where the length is 0 (it is then not read).
  * A pointer to a number must be good for that number. Slices and numbers that a call writes must not overlap other slices or numbers that are lent to it.
+ * Floats of the calling thread must round to nearest, and subnormals must count: the default. A program linked with -ffast-math, a flush to zero or fesetround breaks this, and then answers and
+ * outputs can be others. isdb_environment_ok tests it: assert it once in each thread that calls.
  *
  * Every call but isdbs_soft returns 0 where it accepts, else the number of the first row of this table that holds, from the top. Refused, every lent
  * number and slice is as before. Accepted, what is not said to be written is as before.
@@ -60,12 +62,22 @@
 #ifndef ISDB_H
 #define ISDB_H
 
+#include <float.h>
 #include <stddef.h>
 #include <stdint.h>
 
 #ifdef __cplusplus
 extern "C" {
 #endif
+
+/* Whether floats of this thread are computed as every call here needs it: rounded to nearest, subnormals kept. It computes, so it sees the setting that is in force (fegetround need not), and volatile
+ * keeps the compiler from knowing the result. */
+static inline int isdb_environment_ok(void) {
+    volatile float one = 1.0f, little = 1.0e-8f, least = FLT_MIN;
+    volatile float above = one + little, below = one - little, half = least * 0.5f;
+    volatile float twice = half * 2.0f;
+    return above == one && below == one && twice == least;
+}
 
 /* The f32 nearest to x, ties to even, small values included. Any x. */
 float isdbs_soft(double x);

@@ -52,7 +52,7 @@ fn verdict(sheet: &mut Sheet, at: usize, f: Facts) -> usize {
         return put(
             sheet,
             at,
-            b"certain: every part lies within the margins of the bytes that were read: no other bytes fit",
+            b"certain: every part is within the margins: for these words, this cut and this phase no other bytes fit",
         );
     }
     fill(

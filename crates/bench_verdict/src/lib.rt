@@ -95,7 +95,9 @@ pub fn tell(size: usize, sum: u32, outside: &[u32; SLOTS], strained: u32, counts
         return;
     }
     if sum == 0 {
-        text(b"certain: every part lies within the margins of these bytes: no other bytes fit\n");
+        text(
+            b"certain: every part lies within the margins of these bytes: for these words, this cut and this phase no other bytes fit\n",
+        );
         return;
     }
     text(b"not certain: ");

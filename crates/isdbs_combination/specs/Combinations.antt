@@ -1,4 +1,5 @@
--- The combinations of modulation and code of STD-B20 (ITU-R BO.1408-1, Tables 1 and 2), as document 01, "Runs and points", lists them. Assumes nothing.
+-- The combinations of modulation and code, as document 01, "Runs and points", lists them. The Rust cites ITU-R BO.1408-1 and MIC Ordinance No. 87 of 2011 for them: at each table which.
+-- Assumes nothing.
 use mathlib.Core.Bool.{cond}
 use mathlib.Core.List.{List, [], _∷_}
 use Prim.Native.Nat.{ℕ, suc, _+_, _-_, _*_, _/_, _%_}
@@ -22,7 +23,7 @@ use Rattle.isdbs_combination.specs.declared.BitPair.{BitPair}
 use Rattle.isdbs_combination.specs.declared.BitPairs.{BitPairs}
 use Rattle.trellis.specs.Lists.{padded}
 
--- "words 1 to 7 are BPSK 1/2, QPSK 1/2, 2/3, 3/4, 5/6, 7/8, TC8PSK 2/3"; no other word has a combination
+-- "words 1 to 7 are BPSK 1/2, QPSK 1/2, 2/3, 3/4, 5/6, 7/8, TC8PSK 2/3" (BO.1408-1, Table 1); no other word has a combination
 abbrev pub words : List MaybeCombination
 words =
     None
@@ -80,7 +81,8 @@ pub record Figures : Type 0 where
   pub steps : ℕ
   pub punctured : MaybePuncture
 
--- "words 1 to 7 are BPSK 1/2, QPSK 1/2, 2/3, 3/4, 5/6, 7/8, TC8PSK 2/3; (slots, valid slots) per unit (4,1) (2,1) (3,2) (4,3) (6,5) (8,7) (1,1)"
+-- "words 1 to 7 are BPSK 1/2, QPSK 1/2, 2/3, 3/4, 5/6, 7/8, TC8PSK 2/3, with (slots, valid slots) per unit (4,1) (2,1) (3,2) (4,3) (6,5) (8,7) (1,1)" (words: BO.1408-1, Table 1;
+-- units: the ordinance, annexed table 48, appended note 3; efficiency: BO.1408-1, section 3.2, equation (1))
 abbrev pub figures : Combination → Figures
 figures «Bpsk1_2» = record { word = 1; modulation = Bpsk; rate = ratio 1 2; efficiency = ratio 1 2; slotUnit = unit 4 1; steps = slotBits; punctured = puncture.None }
 figures «Qpsk1_2» = record { word = 2; modulation = Qpsk; rate = ratio 1 2; efficiency = ratio 2 2; slotUnit = unit 2 1; steps = slotBits; punctured = puncture.None }
@@ -147,6 +149,7 @@ abbrev pair : ℕ → ℕ → BitPair
 pair a b = record { p1 = a; p0 = b }
 
 -- "Punctured QPSK pairs per period: 2/3, period 4: X1Y1 Y2X3 Y3Y4; 3/4: X1Y1 Y2X3; 5/6: X1Y1 Y2X3 Y4X5; 7/8: X1Y1 Y2Y3 Y4X5 Y6X7"
+-- (BO.1408-1, Table 2; the ordinance, annexed table 49, note 4)
 abbrev pub pairsOf : Puncture → List BitPair
 pairsOf «R2_3» = pair (X 1) (Y 1) ∷ pair (Y 2) (X 3) ∷ pair (Y 3) (Y 4) ∷ []
 pairsOf «R3_4» = pair (X 1) (Y 1) ∷ pair (Y 2) (X 3) ∷ []

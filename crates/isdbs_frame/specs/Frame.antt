@@ -1,4 +1,5 @@
--- The frame of STD-B20: a header of 192 symbols, then 192 times 203 main-signal symbols and a burst of 4. Assumes nothing.
+-- The frame: a header of 192 symbols, then 192 times 203 main-signal symbols and a burst of 4. Document 01, P1 and its examples; for the numbers the Rust cites ITU-R BO.1408-1, Appendix 1,
+-- Table 3, and section 7 (bursts), for the layout MIC Ordinance No. 87 of 2011, annexed tables 45, 50 and 51. Assumes nothing.
 use mathlib.Core.Bool.{cond, _||_}
 use mathlib.Core.List.{List, [], _∷_}
 use Prim.Native.Nat.{ℕ, _+_, _-_, _*_, _/_, _%_, _^_}
@@ -38,7 +39,7 @@ mainSymbols = 38976
 abbrev pub slotBytes : ℕ
 slotBytes = 203
 
--- the sync words of a header (STD-B20 and ITU-R BO.1408-1, section 6.3): W1 begins every one, W2 ends that of the first frame of a superframe, W3 the others
+-- the sync words of a header (document 01, example A; BO.1408-1, section 6.3): W1 begins every one, W2 ends that of the first frame of a superframe, W3 the others
 abbrev pub w1 : ℕ
 w1 = 0x1b95
 

@@ -1,5 +1,5 @@
 // Frame and superframe geometry, and the frame sync words: the numbers of ITU-R BO.1408-1, Appendix 1, Table 3, and the layout of MIC Ordinance
-// No. 87 of 2011, annexed tables 45, 50 and 51, which ARIB STD-B20 follows.
+// No. 87 of 2011, annexed tables 45, 50 and 51, as the Rust cites them.
 //
 //     frame (39,936 symbols)
 //       header, 192 BPSK symbols

@@ -36,7 +36,7 @@ pub struct Mapping {
 }
 
 impl Mapping {
-    // The reading of STD-B20 (annexed table 46; BO.1408-1, Fig. 15).
+    // The usual reading (annexed table 46; BO.1408-1, Fig. 15).
     pub fn default() -> Self
         ensures { λ r. ⌜ (r .conjugate ≡ false) × (r .«qpsk_p1_on_q» ≡ false) × (r .«tc8psk_c1_is_y» ≡ true) ⌝ }
     {

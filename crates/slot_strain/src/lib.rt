@@ -6,7 +6,7 @@ ghost use Rattle.isdbs_metrics.specs.Steps.{Bits};
 ghost use Rattle.slot_strain.specs.Counted.{Labels, Counted};
 ghost use Rattle.trellis.specs.Isdb;
 
-// 2 X + Y of the input u at the state s, at 64 u + s: the code of STD-B20 with the generators 171 and 133 octal (`labels`, crates/trellis/specs/Isdb.antt); acs_paths has the same by branches.
+// 2 X + Y of the input u at the state s, at 64 u + s: the code with the generators 171 and 133 octal (`labels`, crates/trellis/specs/Isdb.antt); acs_paths has the same by branches.
 const LABELS: [u8; 128] = [
     0,
     3,

@@ -9,8 +9,8 @@ pub record Code : Type 0 where
   pub g1 : ℕ
   pub g2 : ℕ
 
--- the inner code of every ISDB system (ITU-R BO.1408-1, section 9, Fig. 13, as STD-B20; ARIB STD-B31, section 3.8, Fig. 3-10): constraint length 7,
--- generators 171 (X) and 133 (Y) octal
+-- the inner code of every ISDB system: constraint length 7, generators 171 (X) and 133 (Y) octal (document 01; the Rust cites ITU-R BO.1408-1, section 9, Fig. 13, and ARIB STD-B31,
+-- section 3.8, Fig. 3-10)
 abbrev pub isdb : Code
 isdb = record { constraint = 7; g1 = 0o171; g2 = 0o133 }
 
