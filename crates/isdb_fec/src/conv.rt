@@ -14,7 +14,6 @@ ghost use Rattle.isdb_fec.specs.Rows.{encoderRows, freshRows, streamRows
 ghost use Rattle.isdb_fec.specs.Calls.{steps, call, handed, Leaves, Flushes, FlushesAt, Unchanged, Fresh, Zero};
 pub use decoder_rows::PATH_LIMIT;
 pub use decoder_rows::STREAM_LIMIT;
-pub use decoder_rows::some_beyond;
 use refusal::Answer;
 pub use trellis::STATES;
 pub use trellis::TRACEBACK_LIMIT;
@@ -26,7 +25,7 @@ use viterbi::encode_bit;
 use viterbi::finish;
 use viterbi::finish_at;
 use viterbi::parity;
-pub use viterbi::renormalise;
+use viterbi::renormalise;
 use viterbi::run_fours;
 use viterbi::run_pairs;
 use viterbi::start_at;
