@@ -153,7 +153,7 @@ uint32_t isdbs_window_push(uint32_t window, uint32_t *fill, uint32_t *next, uint
  * state and -1,000,000 elsewhere, or all 0), how many decision words are held (0) and the traceback (1 to 1,024). The held words are the first of
  * `decisions`. A call takes its steps one by one; as 4,096 + traceback words are held, 4,096 bits leave to `out`, one in a byte. *count is how many.
  * Accepted, a push writes `pm`, *held, the held words at the front of `decisions` and *count places of `out`; where bits left, the words past the held ones up to
- * 4,096 + traceback become 0. A flush sets *held and the words that were held to 0 and keeps `pm`.
+ * 4,096 + traceback become 0. A flush sets *held and the words that were held to 0 and keeps `pm`. Where `pm` is not 64 long, row 4 speaks of its first 64.
  *
  * isdb_push          two soft values a step, above 0 for bit 0.   Rows 3, 4, 5, 7, 9.
  * isdb_push_metrics  four metrics a step, that of the outputs (X, Y) at 2X + Y.   Rows 3, 4, 5, 7, 9.
@@ -178,8 +178,7 @@ uint32_t isdb_flush_at(float *pm, size_t pm_len, uint64_t *held, uint64_t traceb
 
 /* Codes of constraint length 3 to 7 with two generators, each below 2^length with its top bit set: the encoder, and the decoder's calls as above. `length`, `g1` and
  * `g2` stand first; `pm` is 64 long at every length. The first 2^(length-1) path values are those of the states, the others do not count, also not in
- * row 4, and are as before (a NaN's bits are free). Row 12: any other length or generator, right before 4. Where `pm` is 64 long, length 7 with 0171 and 0133 answers and leaves what the
- * calls above do. (Another `pm` is refused by all; there row 4 of the calls above looks at every path value that is lent, here at those of the states.)
+ * row 4, and are as before (a NaN's bits are free). Row 12: any other length or generator, right before 4. Length 7 with 0171 and 0133 answers and leaves what the calls above do.
  *
  * isdb_code_encode  X then Y of the low bit of each byte, one in a byte, from *state, which becomes the state after the last.   Rows 12, 4 (*state is 2^(length-1) or
  *                   more), 9 (fewer than two places for each input).

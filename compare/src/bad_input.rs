@@ -136,7 +136,7 @@ fn feed_row(code: Option<calls::Code>, pm: &[f32], held: u64, traceback: u64, x:
     if code.is_some_and(later::bad_code) {
         return 12;
     }
-    let states = code.map_or(pm.len(), later::states_of).min(pm.len());
+    let states = code.map_or(64, later::states_of).min(pm.len());
     if held >= 4096 + traceback || pm[..states].iter().any(|&p| beyond(p, 4_294_967_296.0)) {
         return 4;
     }

@@ -4,16 +4,13 @@ use bench_bars::form;
 use bench_bars::form::fill;
 use bench_sheet::Sheet;
 use bench_sheet::put;
-use isdbs_core::frame::MAIN_SYMBOLS;
+use isdbs_combination::SLOT_SYMBOLS;
 use isdbs_core::frame::SLOTS;
 use isdbs_core::slots::FrameRuns;
 use isdbs_core::slots::Run;
 use isdbs_core::tmcc::Table;
 ghost use Prim.Native.Nat.{_≤_};
 ghost use Rattle.isdbs_combination.specs.Combinations.{frameSlots};
-
-// The points of a slot of the frame.
-const SLOT_SYMBOLS: usize = MAIN_SYMBOLS / SLOTS;
 
 // How high the picture of n runs is.
 fn page(n: usize) -> usize {

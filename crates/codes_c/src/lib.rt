@@ -1,26 +1,21 @@
 // The C calls of a code of constraint length 3 to 7 with two generators. The caller holds the state: 64 path values at every length, how many decision words are
 // held, and the traceback.
-use decoder_c::HELD;
+use answers_c::or_length;
 use decoder_c::decoder_of;
 use decoder_c::store;
 use isdb_fec::conv::ConvEncoder;
-use isdb_fec::conv::PATH_LIMIT;
-use isdb_fec::conv::TRACEBACK_LIMIT;
-use isdb_fec::conv::some_beyond;
-use short_code::bad;
-use short_code::half;
 use short_fec::Code;
+use short_rows::answer_lent;
 use trellis::STATES;
 ghost use mathlib.Core.Path.{_≡_};
 ghost use Prim.Native.Nat.{_/_};
-ghost use lib.ListN.{length, take};
+ghost use lib.ListN.{length};
 ghost use Rattle.trellis.specs.Lists.{laid};
 ghost use Rattle.trellis.specs.Encoded.{codedBits, lastState};
 ghost use Rattle.trellis.specs.Run.{pairSteps, fourSteps, knownSteps};
 ghost use Rattle.short_code.specs.Codes.{codeOf};
 ghost use Rattle.short_fec.specs.Calls.{steps, call, handed, bestOf, endOf};
 ghost use Rattle.short_fec.specs.Rows.{encodeRows, handedRows, streamRows, knownRows, flushRows};
-ghost use Rattle.isdb_fec.specs.Values.{someBeyond, pathLimit};
 ghost use Rattle.answers_c.specs.Answers.{answered, left};
 ghost use Rattle.answers_c.specs.Lengths.{untilLength, withStates};
 ghost use Rattle.decoder_c.specs.Decoders.{decoderOf};
@@ -33,37 +28,11 @@ fn code_from(constraint: u8, g1: u8, g2: u8) -> Code
     Code { constraint, g1, g2 }
 }
 
-// Whether one of the first n path values is no number or beyond 2^32.
-fn first_beyond(pm: &[f32], n: usize) -> bool
-    ensures { λ r. ⌜ r ≡ someBeyond pathLimit (take n (now (pm .entry))) ⌝ }
-{
-    if pm.len() < n {
-        some_beyond(pm, PATH_LIMIT)
-    } else {
-        some_beyond(&pm[0..n], PATH_LIMIT)
-    }
-}
-
-// The answer where the path values are not 64: rows 3, 12 and 4 stand above 5.
+// The answer where the path values are not 64: rows 3, 12 and 4 stand above 5, and row 4 speaks of the first 2^(length-1).
 fn not_states(code: Code, pm: &[f32], held: u64, traceback: u64) -> u32
     ensures { λ r. ⌜ r ≡ answered (untilLength (handedRows code (decoderOf (now (pm .entry)) held traceback))) ⌝ }
 {
-    if traceback == 0 {
-        return 3;
-    }
-    if traceback > TRACEBACK_LIMIT as u64 {
-        return 3;
-    }
-    if bad(code) {
-        return 12;
-    }
-    if held >= HELD + traceback {
-        return 4;
-    }
-    if first_beyond(pm, 2 * half(code)) {
-        return 4;
-    }
-    5
+    or_length(answer_lent(code, pm, held as usize, traceback as usize))
 }
 
 // Encodes the low bit of each byte: X then Y of each at the front of `out`.

@@ -3,8 +3,10 @@ use mathlib.Core.Path.{_≡_, refl, sym, _∙_, ap}
 use mathlib.Core.Bool.{Bool, true, false}
 use mathlib.Core.List.{List}
 use Prim.Native.Nat.{ℕ}
+use native.Mathlib.Omega.{arith}
 use lib.Dec.{eqb}
-use lib.ListN.{length}
+use lib.ListN.{length, take}
+use lib.Seq.{take-all}
 use lib.Ieee.{Float}
 use borrow.Author.Tests.{eq-eqb, ne-eqb, eqb-true, eqb-false}
 use Rattle.refusal.specs.declared.Answer.the-variants.{Accepted}
@@ -16,7 +18,7 @@ use Rattle.isdb_fec.specs.declared.conv.Released.{Released}
 use Rattle.isdb_fec.specs.Calls.{Leaves, Emits, Unchanged}
 use Rattle.answers_c.specs.Answers.{answered, left}
 use Rattle.answers_c.specs.Lengths.{withStates}
-use Rattle.decoder_c.specs.Decoders.{Stored, Emitted}
+use Rattle.decoder_c.specs.Decoders.{decoderOf, Stored, Emitted}
 use Rattle.answers_c.specs.LengthLaws.{states-answer}
 
 module _ (v : ViterbiDecoder) (r : Released) (n : ℕ) (pm : List Float) (held count₀ count : ℕ) (decisions₀ decisions out₀ out : List ℕ)
@@ -79,14 +81,18 @@ module _ (v : ViterbiDecoder) (r : Released) (n : ℕ) (pm : List Float) (held c
 module _ (v w : ViterbiDecoder) (ev : v ≡ w) (rows : ViterbiDecoder → List Row) (r : Released) (n : ℕ) (pm : List Float) (held count₀ count : ℕ) (decisions₀ decisions out₀ out : List ℕ)
     (states : length (w .pm) ≡ 64) (en : n ≡ numberOf (r .answer)) (ep : pm ≡ left n (r .dec .pm) (w .pm)) (eh : held ≡ left n (r .dec .held) (w .held)) (ec : count ≡ left n (r .count) count₀)
     (ea : r .answer ≡ firstRow (rows v)) where
-  number : n ≡ answered (withStates (w .pm) (rows w))
-  number = states-answer (w .pm) (rows w) n (r .answer) states en (rw ev at ea)
+  -- the first 64 of the 64 path values
+  first : decoderOf (take 64 (w .pm)) (w .held) (w .traceback) ≡ w
+  first = ap (λ (l : List Float). decoderOf l (w .held) (w .traceback)) (take-all 64 (w .pm) (omega arith))
+
+  number : n ≡ answered (withStates (w .pm) (rows (decoderOf (take 64 (w .pm)) (w .held) (w .traceback))))
+  number = states-answer (w .pm) (rows (decoderOf (take 64 (w .pm)) (w .held) (w .traceback))) n (r .answer) states en (ea ∙ ap (λ (x : ViterbiDecoder). firstRow (rows x)) (ev ∙ sym first))
 
   -- a call on the decoder w, of which v is a copy
   pub pushed : (d : ViterbiDecoder → Decoder) → Either (r .answer) (Leaves (v .traceback) (d v) r decisions₀ decisions out₀ out) (Unchanged v r decisions₀ decisions out₀ out)
-      → (n ≡ answered (withStates (w .pm) (rows w))) × Stored n (w .traceback) (d w) (w .pm) pm (w .held) held count₀ count decisions₀ decisions out₀ out
+      → (n ≡ answered (withStates (w .pm) (rows (decoderOf (take 64 (w .pm)) (w .held) (w .traceback))))) × Stored n (w .traceback) (d w) (w .pm) pm (w .held) held count₀ count decisions₀ decisions out₀ out
   pushed d l = (number, stored w r n pm held count₀ count decisions₀ decisions out₀ out en ep eh ec (d w) (rw ev at l))
 
   pub flush-done : (emitted : ViterbiDecoder → List ℕ) → Either (r .answer) (Emits (emitted v) v r decisions₀ decisions out₀ out) (Unchanged v r decisions₀ decisions out₀ out)
-      → (n ≡ answered (withStates (w .pm) (rows w))) × Emitted (emitted w) n w pm held count₀ count decisions₀ decisions out₀ out
+      → (n ≡ answered (withStates (w .pm) (rows (decoderOf (take 64 (w .pm)) (w .held) (w .traceback))))) × Emitted (emitted w) n w pm held count₀ count decisions₀ decisions out₀ out
   flush-done emitted l = (number, flushed w r n pm held count₀ count decisions₀ decisions out₀ out en ep eh ec (emitted w) (rw ev at l))

@@ -5,13 +5,14 @@ use decoder_c::store;
 use trellis::STATES;
 ghost use Prim.Native.Nat.{ℕ, _/_};
 ghost use mathlib.Core.Path.{_≡_};
-ghost use lib.ListN.{length};
+ghost use lib.ListN.{length, take};
 ghost use Rattle.isdb_fec.specs.Calls.{steps, call, handed};
 ghost use Rattle.trellis.specs.Run.{pairSteps, fourSteps, knownSteps};
 ghost use Rattle.isdb_fec.specs.Rows.{pushRows, pushMetricsRows, pushKnownRows, flushRows};
 ghost use Rattle.answers_c.specs.Answers.{answered};
 ghost use Rattle.answers_c.specs.Lengths.{withStates};
 ghost use Rattle.decoder_c.specs.Decoders.{decoderOf, Stored, Flushed, FlushedAt};
+ghost use Rattle.trellis.specs.Isdb;
 
 // Feeds soft values, two for each step.
 #[no_mangle]
@@ -24,7 +25,7 @@ pub extern "C" fn isdb_push(
     out: &mut [u8],
     count: &mut u64,
 ) -> u32
-    ensures answers { λ r. ⌜ r ≡ answered (withStates (now (pm .entry)) (pushRows (decoderOf (now (pm .entry)) (now (held .entry)) traceback) (now (pairs .entry)) (length (now (decisions .entry))) (length (now (out .entry))))) ⌝ }
+    ensures answers { λ r. ⌜ r ≡ answered (withStates (now (pm .entry)) (pushRows (decoderOf (take Isdb.states (now (pm .entry))) (now (held .entry)) traceback) (now (pairs .entry)) (length (now (decisions .entry))) (length (now (out .entry))))) ⌝ }
     ensures leaves { λ r. ⌜ Stored r traceback (call traceback (pairSteps (now (pairs .entry))) (handed (decoderOf (now (pm .entry)) (now (held .entry)) traceback) (now (decisions .entry))) (length (now (pairs .entry)) / 2))
         (now (pm .entry)) (now (pm .exit)) (now (held .entry)) (now (held .exit)) (now (count .entry)) (now (count .exit)) (now (decisions .entry)) (now (decisions .exit)) (now (out .entry)) (now (out .exit)) ⌝ }
 {
@@ -47,7 +48,7 @@ pub extern "C" fn isdb_push_metrics(
     out: &mut [u8],
     count: &mut u64,
 ) -> u32
-    ensures answers { λ r. ⌜ r ≡ answered (withStates (now (pm .entry)) (pushMetricsRows (decoderOf (now (pm .entry)) (now (held .entry)) traceback) (now (metrics .entry)) (length (now (decisions .entry))) (length (now (out .entry))))) ⌝ }
+    ensures answers { λ r. ⌜ r ≡ answered (withStates (now (pm .entry)) (pushMetricsRows (decoderOf (take Isdb.states (now (pm .entry))) (now (held .entry)) traceback) (now (metrics .entry)) (length (now (decisions .entry))) (length (now (out .entry))))) ⌝ }
     ensures leaves { λ r. ⌜ Stored r traceback (call traceback (fourSteps (now (metrics .entry))) (handed (decoderOf (now (pm .entry)) (now (held .entry)) traceback) (now (decisions .entry))) (length (now (metrics .entry)) / 4))
         (now (pm .entry)) (now (pm .exit)) (now (held .entry)) (now (held .exit)) (now (count .entry)) (now (count .exit)) (now (decisions .entry)) (now (decisions .exit)) (now (out .entry)) (now (out .exit)) ⌝ }
 {
@@ -70,7 +71,7 @@ pub extern "C" fn isdb_push_known(
     out: &mut [u8],
     count: &mut u64,
 ) -> u32
-    ensures answers { λ r. ⌜ r ≡ answered (withStates (now (pm .entry)) (pushKnownRows (decoderOf (now (pm .entry)) (now (held .entry)) traceback) (length (now (bits .entry))) (length (now (decisions .entry))) (length (now (out .entry))))) ⌝ }
+    ensures answers { λ r. ⌜ r ≡ answered (withStates (now (pm .entry)) (pushKnownRows (decoderOf (take Isdb.states (now (pm .entry))) (now (held .entry)) traceback) (length (now (bits .entry))) (length (now (decisions .entry))) (length (now (out .entry))))) ⌝ }
     ensures leaves { λ r. ⌜ Stored r traceback (steps traceback (knownSteps (now (bits .entry))) (handed (decoderOf (now (pm .entry)) (now (held .entry)) traceback) (now (decisions .entry))) (length (now (bits .entry))))
         (now (pm .entry)) (now (pm .exit)) (now (held .entry)) (now (held .exit)) (now (count .entry)) (now (count .exit)) (now (decisions .entry)) (now (decisions .exit)) (now (out .entry)) (now (out .exit)) ⌝ }
 {
@@ -92,7 +93,7 @@ pub extern "C" fn isdb_flush(
     out: &mut [u8],
     count: &mut u64,
 ) -> u32
-    ensures answers { λ r. ⌜ r ≡ answered (withStates (now (pm .entry)) (flushRows (decoderOf (now (pm .entry)) (now (held .entry)) traceback) (length (now (decisions .entry))) (length (now (out .entry))))) ⌝ }
+    ensures answers { λ r. ⌜ r ≡ answered (withStates (now (pm .entry)) (flushRows (decoderOf (take Isdb.states (now (pm .entry))) (now (held .entry)) traceback) (length (now (decisions .entry))) (length (now (out .entry))))) ⌝ }
     ensures leaves { λ r. ⌜ Flushed r (decoderOf (now (pm .entry)) (now (held .entry)) traceback)
         (now (pm .exit)) (now (held .exit)) (now (count .entry)) (now (count .exit)) (now (decisions .entry)) (now (decisions .exit)) (now (out .entry)) (now (out .exit)) ⌝ }
 {
@@ -115,7 +116,7 @@ pub extern "C" fn isdb_flush_at(
     out: &mut [u8],
     count: &mut u64,
 ) -> u32
-    ensures answers { λ r. ⌜ r ≡ answered (withStates (now (pm .entry)) (flushRows (decoderOf (now (pm .entry)) (now (held .entry)) traceback) (length (now (decisions .entry))) (length (now (out .entry))))) ⌝ }
+    ensures answers { λ r. ⌜ r ≡ answered (withStates (now (pm .entry)) (flushRows (decoderOf (take Isdb.states (now (pm .entry))) (now (held .entry)) traceback) (length (now (decisions .entry))) (length (now (out .entry))))) ⌝ }
     ensures leaves { λ r. ⌜ FlushedAt end r (decoderOf (now (pm .entry)) (now (held .entry)) traceback)
         (now (pm .exit)) (now (held .exit)) (now (count .entry)) (now (count .exit)) (now (decisions .entry)) (now (decisions .exit)) (now (out .entry)) (now (out .exit)) ⌝ }
 {

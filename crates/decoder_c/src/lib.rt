@@ -1,13 +1,12 @@
 // A decoder whose state C holds: 64 path values, how many decision words are held, and the traceback. Taken from the lent places, and handed back.
 use acs::states;
-use isdb_fec::conv::PATH_LIMIT;
+use answers_c::or_length;
+use decoder_rows::answer_lent;
 use isdb_fec::conv::Released;
-use isdb_fec::conv::TRACEBACK_LIMIT;
 use isdb_fec::conv::ViterbiDecoder;
-use trellis::BLOCK;
 use trellis::STATES;
 ghost use mathlib.Core.Path.{_≡_};
-ghost use lib.ListN.{length};
+ghost use lib.ListN.{length, take};
 ghost use Rattle.refusal.specs.Rows.{numberOf};
 ghost use Rattle.isdb_fec.specs.Rows.{handedRows};
 ghost use Rattle.answers_c.specs.Answers.{answered, left};
@@ -15,26 +14,11 @@ ghost use Rattle.answers_c.specs.Lengths.{untilLength};
 ghost use Rattle.decoder_c.specs.Decoders.{decoderOf};
 ghost use Rattle.trellis.specs.Isdb;
 
-// The bits that leave at once: a state holds fewer words than these and its traceback.
-pub const HELD: u64 = BLOCK as u64;
-
-// The answer where the path values are not 64: rows 3 and 4 stand above 5.
+// The answer where the path values are not 64: rows 3 and 4 stand above 5, and row 4 speaks of the first 64.
 pub fn not_states(pm: &[f32], held: u64, traceback: u64) -> u32
-    ensures { λ r. ⌜ r ≡ answered (untilLength (handedRows (decoderOf (now (pm .entry)) held traceback))) ⌝ }
+    ensures { λ r. ⌜ r ≡ answered (untilLength (handedRows (decoderOf (take Isdb.states (now (pm .entry))) held traceback))) ⌝ }
 {
-    if traceback == 0 {
-        return 3;
-    }
-    if traceback > TRACEBACK_LIMIT as u64 {
-        return 3;
-    }
-    if held >= HELD + traceback {
-        return 4;
-    }
-    if isdb_fec::conv::some_beyond(pm, PATH_LIMIT) {
-        return 4;
-    }
-    5
+    or_length(answer_lent(pm, held as usize, traceback as usize))
 }
 
 // The decoder with these path values.

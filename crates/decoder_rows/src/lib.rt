@@ -2,12 +2,15 @@
 ghost use mathlib.Core.Path.{_≡_};
 ghost use mathlib.Core.Bool.{cond, not};
 ghost use Prim.Native.Nat.{ℕ, _+_, _<_, _≤_};
+ghost use lib.ListN.{take};
 ghost use Rattle.refusal.specs.Rows.{firstRow};
+ghost use Rattle.trellis.specs.Isdb;
 ghost use Rattle.decoder_rows.specs.Values.{within, someBeyond};
 ghost use Rattle.trellis.specs.Run.{tracebackLimit, block};
 ghost use Rattle.decoder_rows.specs.Rows.{handedRows, streamRows, knownRows, flushRows, stepsShort};
 use refusal::Answer;
 use trellis::BLOCK;
+use trellis::STATES;
 use trellis::TRACEBACK_LIMIT;
 use viterbi::few_places;
 
@@ -51,6 +54,17 @@ pub fn answer_handed(pm: &[f32], held: usize, traceback: usize) -> Answer
         return Answer::State;
     }
     Answer::Accepted
+}
+
+// The same of a state whose path values need not be 64: the first 64 of what is lent.
+pub fn answer_lent(pm: &[f32], held: usize, traceback: usize) -> Answer
+    ensures { λ r. ⌜ r ≡ firstRow (handedRows (take Isdb.states (now (pm .entry))) held traceback) ⌝ }
+{
+    if pm.len() < STATES {
+        answer_handed(pm, held, traceback)
+    } else {
+        answer_handed(&pm[0..STATES], held, traceback)
+    }
 }
 
 // The answer to a call of n steps on a state that is not refused: is there space?

@@ -15,7 +15,6 @@ ghost use Rattle.isdb_fec.specs.Calls.{steps, call, handed, Leaves, Flus
 use acs_runs::Kind;
 pub use decoder_rows::PATH_LIMIT;
 pub use decoder_rows::STREAM_LIMIT;
-pub use decoder_rows::some_beyond;
 use refusal::Answer;
 pub use trellis::STATES;
 pub use trellis::TRACEBACK_LIMIT;
@@ -25,7 +24,7 @@ use viterbi::encode_bit;
 use viterbi::finish;
 use viterbi::finish_at;
 use viterbi::parity;
-pub use viterbi::renormalise;
+use viterbi::renormalise;
 use viterbi::run_steps;
 use viterbi::start_at;
 use viterbi::start_unknown;

@@ -27,6 +27,7 @@ use Rattle.short_fec.specs.Rows as short-rows
 use Rattle.short_encode.specs.declared.Encoded as short
 use Rattle.short_encode.specs.EncodingLaws.{length-low, length-coded, coded-x, coded-y}
 use Rattle.short_same.specs.IsdbCode.{isdbCode}
+use Rattle.short_encode_same.specs.Alike.{Alike}
 
 -- ---- the rows: every count is whole periods of one input, and two bits are sent for each
 pub encode-rows : (s n out : ℕ) → firstRow (short-rows.encodeRows isdbCode s n out) ≡ firstRow (isdbt-rows.encodeRows R1_2 s n out)
@@ -83,7 +84,7 @@ pub encode-agrees : (s : ℕ) (us out₀ out out′ : List ℕ) (r : short.Encod
     → Either (r .answer) (out ≡ laid (codedBits (codeOf isdbCode) s us) out₀) (out ≡ out₀)
     → r′ .answer ≡ firstRow (isdbt-rows.encodeRows R1_2 s (length us) (length out₀))
     → Either (r′ .answer) (Encodes R1_2 s us r′ out₀ out′) (Unencoded s r′ out₀ out′)
-    → (r .answer ≡ r′ .answer) × (r .enc .state ≡ r′ .enc .state) × (out ≡ out′)
+    → Alike r r′ out out′
 encode-agrees s us out₀ out out′ r r′ a st co a′ f =
     let same : r .answer ≡ r′ .answer = a ∙ encode-rows s (length us) (length out₀) ∙ sym a′ in
     ⊎-elim

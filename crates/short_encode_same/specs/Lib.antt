@@ -1,1 +1,2 @@
 pub mod Agrees
+pub mod Alike

@@ -4,16 +4,17 @@ ghost use mathlib.Core.Path.{_≡_};
 ghost use mathlib.Core.Bool.{cond};
 ghost use Prim.Native.Nat.{_+_, _*_, _<_, _≤_};
 ghost use lib.Dec.{ltb};
+ghost use lib.ListN.{take};
 ghost use Rattle.refusal.specs.Rows.{firstRow};
 ghost use Rattle.trellis.specs.Run.{tracebackLimit, block};
+ghost use Rattle.decoder_rows.specs.Values.{someBeyond, pathLimit};
 ghost use Rattle.isdb_fec.specs.Rows.{stepsShort};
 ghost use Rattle.short_rows.specs.Rows.{encoderRows, handedRows, streamRows, knownRows, flushRows};
-use acs::states;
-use isdb_fec::conv::PATH_LIMIT;
-use isdb_fec::conv::STREAM_LIMIT;
+use decoder_rows::PATH_LIMIT;
+use decoder_rows::STREAM_LIMIT;
+use decoder_rows::some_beyond;
 use isdb_fec::conv::TRACEBACK_LIMIT;
 use isdb_fec::conv::ViterbiDecoder;
-use isdb_fec::conv::some_beyond;
 use refusal::Answer;
 use short_code::Code;
 use short_code::bad;
@@ -41,11 +42,21 @@ pub fn few(space: usize, n: usize) -> bool
     space / 2 < n
 }
 
-// The rows of a handed state.
-fn answer_handed(code: Code, dec: ViterbiDecoder) -> Answer
-    ensures { λ r. ⌜ r ≡ firstRow (handedRows code dec) ⌝ }
+// Whether one of the first n path values is no number or beyond 2^32.
+fn first_beyond(pm: &[f32], n: usize) -> bool
+    ensures { λ r. ⌜ r ≡ someBeyond pathLimit (take n (now (pm .entry))) ⌝ }
 {
-    let traceback = dec.traceback;
+    if pm.len() < n {
+        some_beyond(pm, PATH_LIMIT)
+    } else {
+        some_beyond(&pm[0..n], PATH_LIMIT)
+    }
+}
+
+// The rows of a handed state, whose path values need not be 64: those of states are looked at, of what is lent.
+pub fn answer_lent(code: Code, pm: &[f32], held: usize, traceback: usize) -> Answer
+    ensures { λ r. ⌜ r ≡ firstRow (handedRows code (record { pm = now (pm .entry); held = held; traceback = traceback })) ⌝ }
+{
     if traceback == 0 {
         return Answer::Traceback;
     }
@@ -55,16 +66,21 @@ fn answer_handed(code: Code, dec: ViterbiDecoder) -> Answer
     if bad(code) {
         return Answer::Code;
     }
-    if dec.held >= BLOCK + traceback {
+    if held >= BLOCK + traceback {
         return Answer::State;
     }
-    let pm = dec.pm;
-    let all = states(&pm);
-    let n = 2 * half(code);
-    if some_beyond(&pm[0..n], PATH_LIMIT) {
+    if first_beyond(pm, 2 * half(code)) {
         return Answer::State;
     }
     Answer::Accepted
+}
+
+// The rows of a handed state.
+fn answer_handed(code: Code, dec: ViterbiDecoder) -> Answer
+    ensures { λ r. ⌜ r ≡ firstRow (handedRows code dec) ⌝ }
+{
+    let pm = dec.pm;
+    answer_lent(code, &pm, dec.held, dec.traceback)
 }
 
 // The answer to a call of n steps on a state that is not refused: is there space?

@@ -33,6 +33,7 @@ use Rattle.short_code.specs.Codes.{codeOf, halfOf}
 use Rattle.short_fec.specs.Rows as short
 use Rattle.short_fec.specs.Calls as short-calls
 use Rattle.short_same.specs.IsdbCode.{isdbCode}
+use Rattle.short_same.specs.Agree.{Agree, MadeAlike, SentAlike}
 
 -- ---- the rows
 module _ (v : ViterbiDecoder) (long : length (v .pm) ≡ 64) where
@@ -73,10 +74,6 @@ module _ (half : ℕ) (out : ℕ → ℕ → ℕ) (t : Tie) where
   after-length tb steps d n e = ap length (after-values half out t tb steps d n) ∙ values-length steps (d .values) n e
 
 -- ---- what both calls leave
--- the answer, the state, the count and both lent slices
-abbrev pub Agree : Released → Released → List ℕ → List ℕ → List ℕ → List ℕ → Type 0
-Agree r r′ dec dec′ out out′ = (r .answer ≡ r′ .answer) × (r .dec ≡ r′ .dec) × (r .count ≡ r′ .count) × (dec ≡ dec′) × (out ≡ out′)
-
 module _ (v : ViterbiDecoder) (long : length (v .pm) ≡ 64) (r r′ : Released) (dec₀ dec dec′ out₀ out out′ : List ℕ) where
   all-laid : (front : List Float) → length front ≡ 64 → laid front (v .pm) ≡ front
   all-laid front e = ap (λ (y : List Float). front ++ y) (drop-of-length-le (v .pm) {i = length front} (omega arith)) ∙ append-nil front
@@ -208,7 +205,7 @@ module _ (tb : ℕ) (r r′ : Made) where
   fresh-agree : (pm pm′ : List Float) → pm ≡ pm′
       → r .answer ≡ firstRow (short.freshRows isdbCode tb) → Either (r .answer) (Fresh tb pm (r .dec)) (Zero (r .dec))
       → r′ .answer ≡ firstRow (fec.freshRows tb) → Either (r′ .answer) (Fresh tb pm′ (r′ .dec)) (Zero (r′ .dec))
-      → (r .answer ≡ r′ .answer) × (r .dec ≡ r′ .dec)
+      → MadeAlike r r′
   fresh-agree pm pm′ e a s a′ f =
       let same : r .answer ≡ r′ .answer = a ∙ sym a′ in (
         same,
@@ -234,13 +231,13 @@ module _ (tb : ℕ) (r r′ : Made) where
   pub with-state-agrees : (s : ℕ)
       → r .answer ≡ firstRow (short.freshRows isdbCode tb) → Either (r .answer) (Fresh tb (short-calls.startValues isdbCode s) (r .dec)) (Zero (r .dec))
       → r′ .answer ≡ firstRow (fec.freshRows tb) → Either (r′ .answer) (Fresh tb (startAt 64 s) (r′ .dec)) (Zero (r′ .dec))
-      → (r .answer ≡ r′ .answer) × (r .dec ≡ r′ .dec)
+      → MadeAlike r r′
   with-state-agrees s = fresh-agree (short-calls.startValues isdbCode s) (startAt 64 s) (start-same s)
 
   pub unknown-state-agrees :
       r .answer ≡ firstRow (short.freshRows isdbCode tb) → Either (r .answer) (Fresh tb (short-calls.unknownValues isdbCode) (r .dec)) (Zero (r .dec))
       → r′ .answer ≡ firstRow (fec.freshRows tb) → Either (r′ .answer) (Fresh tb (startUnknown 64) (r′ .dec)) (Zero (r′ .dec))
-      → (r .answer ≡ r′ .answer) × (r .dec ≡ r′ .dec)
+      → MadeAlike r r′
   unknown-state-agrees = fresh-agree (short-calls.unknownValues isdbCode) (startUnknown 64) unknown-same
 
 -- ---- the encoder
@@ -254,7 +251,7 @@ Coded c h s u r =
 pub bit-agrees : (s u : ℕ) (r r′ : Pushed)
     → r .answer ≡ firstRow (short.encoderRows isdbCode s) → Coded (codeOf isdbCode) (halfOf isdbCode) s u r
     → r′ .answer ≡ firstRow (fec.encoderRows s) → Coded trellis.isdb 32 s u r′
-    → (r .answer ≡ r′ .answer) × (r .x ≡ r′ .x) × (r .y ≡ r′ .y) × (r .enc .state ≡ r′ .enc .state)
+    → SentAlike r r′
 bit-agrees s u r r′ a k a′ l =
     let same : r .answer ≡ r′ .answer = a ∙ sym a′ in
     ⊎-elim

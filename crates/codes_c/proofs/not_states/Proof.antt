@@ -1,89 +1,21 @@
 -- `not_states` meets its contract. Assumes nothing.
-use mathlib.Core.Path.{_≡_, refl, sym, _∙_, ap}
-use mathlib.Core.Bool.{true, false}
-use Prim.Native.Nat.{ℕ, _+_, _*_}
-use lib.ListN.{take}
 use borrow.Author.Needs.{needs}
-use borrow.Author.Tests.{lt-ltb, le-ltb, le-leb, lt-leb, eq-eqb, ne-eqb, not-false}
-use Rattle.isdb_fec.specs.Values.{someBeyond, pathLimit}
-use Rattle.short_code.specs.Codes.{goodCode, statesOf}
-use Rattle.short_code.specs.CodeLaws.{states-are, good-length}
+use Rattle.short_fec.specs.Rows.{handedRows}
+use Rattle.answers_c.specs.LengthLaws.{until-length}
+use Rattle.decoder_c.specs.Decoders.{decoderOf}
 use Rattle.codes_c.proofs.not_states.Statement.{statement}
 use Rattle.codes_c.proofs.not_states.Tie as tie
 
+answer-lent-requires : tie.Need-answer-lent-requires
+answer-lent-requires c κs = search needs
+
+or-length-requires : tie.Need-or-length-requires
+or-length-requires c κs = search needs
+
 returns : tie.Need-returns
-returns c = rw (eq-eqb (c .before .before .args .traceback) 0 (c .if1 .taken)) refl
-
-returns-2 : tie.Need-returns-2
-returns-2 c =
+returns c =
     let a = c .before .before .before .args in
-    rw (ne-eqb (a .traceback) 0 (search needs), lt-ltb 1024 (a .traceback) (c .if2 .taken)) refl
-
-bad-requires : tie.Need-bad-requires
-bad-requires c κs = search needs
-
-returns-3 : tie.Need-returns-3
-returns-3 c =
-    let a = c .before .before .before .before .before .args in
-    rw (ne-eqb (a .traceback) 0 (search needs), le-ltb 1024 (a .traceback) (search needs), sym (c .before .bad .ensures) ∙ c .if3 .taken) refl
-
-add-if4 : tie.Need-add-if4
-add-if4 c = search needs
-
-returns-4 : tie.Need-returns-4
-returns-4 c =
-    let a = c .before .before .before .before .before .before .args in
-    rw (
-      ne-eqb (a .traceback) 0 (search needs),
-      le-ltb 1024 (a .traceback) (search needs),
-      sym (c .before .before .bad .ensures) ∙ c .before .if3 .left,
-      le-leb (4096 + a .traceback) (a .held) (search needs),
-    ) refl
-
-half-requires : tie.Need-half-requires
-half-requires c κs =
-    let code = c .before .before .before .before .before .before .args .code in
-    good-length code (not-false (goodCode code) (sym (c .before .before .bad .ensures) ∙ c .before .if3 .left))
-
-mul-first-beyond : tie.Need-mul-first-beyond
-mul-first-beyond c = search needs
-
-first-beyond-requires : tie.Need-first-beyond-requires
-first-beyond-requires c κs = search needs
-
-returns-5 : tie.Need-returns-5
-returns-5 c =
-    let a = c .before .before .before .before .before .before .before .before .before .args in
-    let half = c .before .before .half in
-    let fewer = c .before .before .before in
-    let all = states-are (a .code) (half .result) (half .ensures .2) in
-    let beyond : someBeyond pathLimit (take (statesOf (a .code)) (a .pm .now)) ≡ true =
-    sym (ap (λ (k : ℕ). someBeyond pathLimit (take k (a .pm .now))) all) ∙ sym (c .before .first-beyond .ensures) ∙ c .if5 .taken in
-    rw (
-      ne-eqb (a .traceback) 0 (search needs),
-      le-ltb 1024 (a .traceback) (search needs),
-      sym (fewer .before .before .bad .ensures) ∙ fewer .before .if3 .left,
-      lt-leb (4096 + a .traceback) (a .held) (search needs),
-      beyond,
-    ) refl
-
-returns-6 : tie.Need-returns-6
-returns-6 c =
-    let a = c .before .before .before .before .before .before .before .before .before .args in
-    let half = c .before .before .half in
-    let fewer = c .before .before .before in
-    let all = states-are (a .code) (half .result) (half .ensures .2) in
-    let beyond : someBeyond pathLimit (take (statesOf (a .code)) (a .pm .now)) ≡ false =
-    sym (ap (λ (k : ℕ). someBeyond pathLimit (take k (a .pm .now))) all) ∙ sym (c .before .first-beyond .ensures) ∙ c .if5 .left in
-    rw (
-      ne-eqb (a .traceback) 0 (search needs),
-      le-ltb 1024 (a .traceback) (search needs),
-      sym (fewer .before .before .bad .ensures) ∙ fewer .before .if3 .left,
-      lt-leb (4096 + a .traceback) (a .held) (search needs),
-      beyond,
-    ) refl
+    until-length (handedRows (a .code) (decoderOf (a .pm .now) (a .held) (a .traceback))) tt (c .before .answer-lent .result) (c .before .answer-lent .ensures) (c .or-length .result) (c .or-length .ensures)
 
 pub not-states-spec : {M : Type 1} → statement M
-not-states-spec =
-    tie.close
-    (tie.spec returns returns-2 bad-requires returns-3 add-if4 returns-4 half-requires mul-first-beyond first-beyond-requires returns-5 returns-6)
+not-states-spec = tie.close (tie.spec answer-lent-requires or-length-requires returns)

@@ -7,9 +7,9 @@ use lib.ListN.{length, take}
 use lib.Seq.{take-all}
 use lib.Ieee.{Float}
 use borrow.Author.Needs.{needs}
-use Rattle.isdb_fec.specs.Values.{someBeyond, pathLimit}
-use Rattle.codes_c.proofs.first_beyond.Statement.{statement}
-use Rattle.codes_c.proofs.first_beyond.Tie as tie
+use Rattle.decoder_rows.specs.Values.{someBeyond, pathLimit}
+use Rattle.short_rows.proofs.first_beyond.Statement.{statement}
+use Rattle.short_rows.proofs.first_beyond.Tie as tie
 
 some-beyond-requires : tie.Need-some-beyond-requires
 some-beyond-requires c κs = search needs

@@ -1,0 +1,28 @@
+-- What the three calls in a row read. Definitions only. Assumes nothing.
+use mathlib.Core.Path.{_≡_}
+use mathlib.Core.Bool.{true}
+use mathlib.Core.List.{List}
+use Prim.Native.Nat.{ℕ, _*_, _≤_}
+use lib.IntN.{ℤ}
+use lib.ListN.{length, take, replicate}
+use lib.Ieee.{Float, binary32, ofBits}
+use Rattle.refusal.specs.declared.Answer.the-variants.{Accepted}
+use Rattle.trellis.specs.Isdb.{rule, states, frameWords}
+use Rattle.trellis.specs.Lists.{laid}
+use Rattle.trellis.specs.Run.{quadruple}
+use Rattle.best_path.specs.Paths.{longest, Quadruples, Reading}
+use Rattle.best_path.specs.declared.Start.{Start}
+use Rattle.best_path.specs.Fresh.{startValues, StartsIn}
+use Rattle.short_code.specs.declared.Code.{Code}
+use Rattle.short_code.specs.Codes.{labels, halfOf, statesOf, goodCode}
+use Rattle.short_calls.specs.declared.Three.{Three}
+
+-- the path values of a fresh decoder: those of the states, and 0 past them
+abbrev pub freshValues : Code → Start → List Float
+freshValues c start = laid (startValues (statesOf c) start) (replicate states (ofBits binary32 0))
+
+-- of at most 4,096 quadruples of whole numbers within 16, with memory enough lent, all accept, and the bits are those of the first path of greatest sum
+pub record ThreeRead (c : Code) (start : Start) (xs : List Float) (r : Three) (decisions out : ℕ) (bits : List ℕ) : Type 0 where
+  pub reads : (n : ℕ) (m : ℕ → ℕ → ℤ) → goodCode c ≡ true → length xs ≡ 4 * n → n ≤ longest → Quadruples (quadruple xs) m n → frameWords ≤ decisions → n ≤ out
+      → (r .made .answer ≡ Accepted) × (r .pushed .answer ≡ Accepted) × (r .pushed .count ≡ 0) × (r .flushed .answer ≡ Accepted) × (r .flushed .count ≡ n)
+      × Reading (halfOf c) (labels c) rule (StartsIn (statesOf c) start) m n (take n bits)

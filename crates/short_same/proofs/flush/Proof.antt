@@ -1,0 +1,53 @@
+-- `flush` meets its contract: what the two calls promise is equal. Assumes nothing.
+use mathlib.Core.Path.{_≡_, sym}
+use borrow.Author.Needs.{needs}
+use Rattle.short_same.specs.SameLaws.{flush-agrees}
+use Rattle.short_same.proofs.flush.Statement.{statement}
+use Rattle.short_same.proofs.flush.Tie as tie
+
+states-requires : tie.Need-states-requires
+states-requires c κs = search needs
+
+isdb-code-requires : tie.Need-isdb-code-requires
+isdb-code-requires c κs = search needs
+
+flush-requires : tie.Need-flush-requires
+flush-requires c κs = search needs
+
+flush-requires-2 : tie.Need-flush-requires-2
+flush-requires-2 c κs = search needs
+
+same-length : tie.Need-same-length
+same-length c = search needs
+
+same-length-2 : tie.Need-same-length-2
+same-length-2 c = search needs
+
+same-length-3 : tie.Need-same-length-3
+same-length-3 c = search needs
+
+same-length-4 : tie.Need-same-length-4
+same-length-4 c = search needs
+
+returns : tie.Need-returns
+returns c =
+    let isdb = c .before .before .before .before .flush2 in
+    let short = c .before .before .before .before .before .before .before .before .before .before .before .flush in
+    let code = c .before .before .before .before .before .before .before .before .before .before .before .before .before .before .isdb-code .ensures in
+    let a = c .before .before .before .before .before .before .before .before .before .before .before .before .before .before .before .before .before .before .before .before .before .before .args in
+    λ e f.
+    flush-agrees (a .dec) (c .before .before .before .before .before .before .before .before .before .before .before .before .before .before .before .states .ensures .1) (short .result) (isdb .result) (a .decisions .now) (short .last .1 .1 .0) (isdb .last .1 .0) (a .out .now) (short .last .1 .1 .1 .0) (isdb .last .1 .1 .0) (rw code at (short .ensures .0)) (rw code at (short .ensures .1)) (rw (sym e, sym f) at (isdb .ensures .0)) (rw (sym e, sym f) at (isdb .ensures .1))
+
+pub flush-spec : {M : Type 1} → statement M
+flush-spec =
+    tie.close
+    (tie.spec
+    states-requires
+    isdb-code-requires
+    flush-requires
+    flush-requires-2
+    same-length
+    same-length-2
+    same-length-3
+    same-length-4
+    returns)

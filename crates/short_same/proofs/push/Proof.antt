@@ -1,0 +1,53 @@
+-- `push` meets its contract: what the two calls promise is equal. Assumes nothing.
+use mathlib.Core.Path.{_≡_, sym}
+use borrow.Author.Needs.{needs}
+use Rattle.short_same.specs.SameLaws.{push-agrees}
+use Rattle.short_same.proofs.push.Statement.{statement}
+use Rattle.short_same.proofs.push.Tie as tie
+
+states-requires : tie.Need-states-requires
+states-requires c κs = search needs
+
+isdb-code-requires : tie.Need-isdb-code-requires
+isdb-code-requires c κs = search needs
+
+push-requires : tie.Need-push-requires
+push-requires c κs = search needs
+
+push-requires-2 : tie.Need-push-requires-2
+push-requires-2 c κs = search needs
+
+same-length : tie.Need-same-length
+same-length c = search needs
+
+same-length-2 : tie.Need-same-length-2
+same-length-2 c = search needs
+
+same-length-3 : tie.Need-same-length-3
+same-length-3 c = search needs
+
+same-length-4 : tie.Need-same-length-4
+same-length-4 c = search needs
+
+returns : tie.Need-returns
+returns c =
+    let isdb = c .before .before .before .before .push2 in
+    let short = c .before .before .before .before .before .before .before .before .before .before .before .push in
+    let code = c .before .before .before .before .before .before .before .before .before .before .before .before .before .before .isdb-code .ensures in
+    let a = c .before .before .before .before .before .before .before .before .before .before .before .before .before .before .before .before .before .before .before .before .before .before .before .args in
+    λ e f.
+    push-agrees (a .dec) (c .before .before .before .before .before .before .before .before .before .before .before .before .before .before .before .states .ensures .1) (short .result) (isdb .result) (a .decisions .now) (short .last .1 .1 .1 .0) (isdb .last .1 .1 .0) (a .out .now) (short .last .1 .1 .1 .1 .0) (isdb .last .1 .1 .1 .0) (a .pairs .now) (rw code at (short .ensures .0)) (rw code at (short .ensures .1)) (rw (sym e, sym f) at (isdb .ensures .0)) (rw (sym e, sym f) at (isdb .ensures .1))
+
+pub push-spec : {M : Type 1} → statement M
+push-spec =
+    tie.close
+    (tie.spec
+    states-requires
+    isdb-code-requires
+    push-requires
+    push-requires-2
+    same-length
+    same-length-2
+    same-length-3
+    same-length-4
+    returns)

@@ -1,0 +1,53 @@
+-- `push_metrics` meets its contract: what the two calls promise is equal. Assumes nothing.
+use mathlib.Core.Path.{_≡_, sym}
+use borrow.Author.Needs.{needs}
+use Rattle.short_same.specs.SameLaws.{push-metrics-agrees}
+use Rattle.short_same.proofs.push_metrics.Statement.{statement}
+use Rattle.short_same.proofs.push_metrics.Tie as tie
+
+states-requires : tie.Need-states-requires
+states-requires c κs = search needs
+
+isdb-code-requires : tie.Need-isdb-code-requires
+isdb-code-requires c κs = search needs
+
+push-metrics-requires : tie.Need-push-metrics-requires
+push-metrics-requires c κs = search needs
+
+push-metrics-requires-2 : tie.Need-push-metrics-requires-2
+push-metrics-requires-2 c κs = search needs
+
+same-length : tie.Need-same-length
+same-length c = search needs
+
+same-length-2 : tie.Need-same-length-2
+same-length-2 c = search needs
+
+same-length-3 : tie.Need-same-length-3
+same-length-3 c = search needs
+
+same-length-4 : tie.Need-same-length-4
+same-length-4 c = search needs
+
+returns : tie.Need-returns
+returns c =
+    let isdb = c .before .before .before .before .push-metrics2 in
+    let short = c .before .before .before .before .before .before .before .before .before .before .before .push-metrics in
+    let code = c .before .before .before .before .before .before .before .before .before .before .before .before .before .before .isdb-code .ensures in
+    let a = c .before .before .before .before .before .before .before .before .before .before .before .before .before .before .before .before .before .before .before .before .before .before .before .args in
+    λ e f.
+    push-metrics-agrees (a .dec) (c .before .before .before .before .before .before .before .before .before .before .before .before .before .before .before .states .ensures .1) (short .result) (isdb .result) (a .decisions .now) (short .last .1 .1 .1 .0) (isdb .last .1 .1 .0) (a .out .now) (short .last .1 .1 .1 .1 .0) (isdb .last .1 .1 .1 .0) (a .metrics .now) (rw code at (short .ensures .0)) (rw code at (short .ensures .1)) (rw (sym e, sym f) at (isdb .ensures .0)) (rw (sym e, sym f) at (isdb .ensures .1))
+
+pub push-metrics-spec : {M : Type 1} → statement M
+push-metrics-spec =
+    tie.close
+    (tie.spec
+    states-requires
+    isdb-code-requires
+    push-metrics-requires
+    push-metrics-requires-2
+    same-length
+    same-length-2
+    same-length-3
+    same-length-4
+    returns)
