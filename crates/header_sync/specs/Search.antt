@@ -1,12 +1,11 @@
 -- The first place at which a frame fits best. Assumes nothing.
-use mathlib.Core.Bool.{Bool, true, false, cond}
+use mathlib.Core.Bool.{cond}
 use mathlib.Core.List.{List}
 use Prim.Native.Nat.{ℕ, zero, suc, _+_, _-_, _*_}
 use lib.Dec.{ltb}
 use lib.ListN.{length}
 use lib.Ieee.{Float}
 use Rattle.isdbs_frame.specs.Frame.{frameSymbols}
-use Rattle.header_sync.specs.declared.Best.{Best}
 use Rattle.header_sync.specs.Signs.{tail1, tail2, spread, smaller}
 use Rattle.header_sync.specs.Fits.{fitBy}
 
@@ -24,10 +23,6 @@ peakAt re im at = peakBy tail1 tail2 re im at
 unfoldable pub foundBy : (ℕ → ℕ) → ℕ → ℕ → ℕ
 foundBy f from zero = from
 foundBy f from (suc n) = cond (ltb (f (foundBy f from n)) (f (from + suc n))) (from + suc n) (foundBy f from n)
-
--- the better of the best place so far and a later one
-unfoldable pub better : Best → ℕ → ℕ → Best
-better b place peak = cond (ltb (b .peak) peak) (record { place = place; peak = peak }) b
 
 -- "of all places from `from` on at which a frame still fits": so many after the first, by the lengths of the two parts
 abbrev pub furtherOf : ℕ → ℕ → ℕ → ℕ

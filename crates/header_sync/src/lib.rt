@@ -14,7 +14,8 @@ ghost use lib.Dec.{ltb};
 ghost use Rattle.isdbs_frame.specs.Frame.{frameSymbols};
 ghost use Rattle.header_sync.specs.Signs.{side, mark, marks, spread, smaller};
 ghost use Rattle.header_sync.specs.Fits.{joined, fitOf, fitBy, fitAt, noFrame};
-ghost use Rattle.header_sync.specs.Search.{squares, peakBy, peakAt, better, foundBy, furtherOf};
+ghost use Rattle.header_sync.specs.Search.{squares, peakBy, peakAt, foundBy, furtherOf};
+ghost use Rattle.header_sync.specs.SearchLaws.{better};
 
 // How a frame's header fits: first frame of a superframe or another one, and the sums A and B of the two parts, each with 40 more.
 pub struct Fit {

@@ -6,3 +6,4 @@ pub mod Sent
 pub mod SentLaws
 pub mod FrameLaws
 pub mod Examples
+pub mod AxesLaws

@@ -14,7 +14,7 @@ use Rattle.header_mean.specs.Means.{tangent, powerOf, sizeOf, nearAxis, bySign,
 use Rattle.header_turns.specs.Turning.{quarterTurn}
 use Rattle.header_turns.specs.SignLaws.{Alike, same, zeros, neg-neg, above-neg, below-neg, not-both, alike-by, alike-sym, alike-above, zero-above, zero-below, add-either, mul-alike, square-alike, square-neg, le-alike-left, le-alike-right, zero-le-round, some}
 
-clash : true ≡ false → ⊥
+pub clash : true ≡ false → ⊥
 clash e = let z : _≡_ {A = ℕ} 0 1 = cc in absurd (omega arith)
 
 -- ---- a value that is not 0 and no NaN is above 0 or below it
@@ -50,7 +50,7 @@ unfolding sizeOf
 size-alike same = same
 size-alike (zeros {s} {t} {e}) = rw (zero-below s e, zero-below t e) zeros
 
-size-some : (s : Bool) (m : ℕ) (e : ℤ) → sizeOf (fin s (suc m) e) ≡ fin false (suc m) e
+pub size-some : (s : Bool) (m : ℕ) (e : ℤ) → sizeOf (fin s (suc m) e) ≡ fin false (suc m) e
 unfolding sizeOf neg lt ofBits ofFields odd
 size-some true m e = rw (some-side true m e) refl
 size-some false m e =
@@ -87,7 +87,7 @@ zero-le-mul s e m n c d = zero-le-round binary64 s e (m * up c * (n * up d)) (do
 times-tangent : (s : Bool) (e : ℤ) (n : ℕ) (d : ℤ) → le (fin s 0 e) (mul binary64 tangent (fin false n d)) ≡ true
 times-tangent s e n d = ap (λ (t : Float). le (fin s 0 e) (mul binary64 t (fin false n d))) tangent-is ∙ zero-le-mul s e 3730904090310553 n (negsuc 52) d
 
-zero-size : (s : Bool) (e : ℤ) → sizeOf (fin s 0 e) ≡ fin s 0 e
+pub zero-size : (s : Bool) (e : ℤ) → sizeOf (fin s 0 e) ≡ fin s 0 e
 unfolding sizeOf
 zero-size s e = rw (zero-below s e) refl
 
@@ -118,7 +118,7 @@ add-nan nan = refl
 add-nan (inf s) = refl
 add-nan (fin s m e) = refl
 
-no-nan-left : (y : Float) → lt zero64 (powerOf nan y) ≡ false
+pub no-nan-left : (y : Float) → lt zero64 (powerOf nan y) ≡ false
 unfolding powerOf mul add lt ofBits ofFields odd
 no-nan-left y = refl
 
@@ -130,7 +130,7 @@ above-nan : lt zero64 nan ≡ false
 unfolding lt ofBits ofFields odd
 above-nan = refl
 
-no-nan-right : (x : Float) → lt zero64 (powerOf x nan) ≡ false
+pub no-nan-right : (x : Float) → lt zero64 (powerOf x nan) ≡ false
 no-nan-right x = ap (lt zero64) (power-nan x) ∙ above-nan
 
 pub power-quarter : (x y z : Float) → Alike (neg y) z → powerOf z x ≡ powerOf x y
@@ -162,7 +162,7 @@ told false false true false c e h = rw (h refl) refl
 told false false false true c e h = rw (h refl) refl
 told false false false false c e h = rw (h refl) refl
 
--- (x, y) turned by a quarter is (-y, x), up to the sign of 0; not where it lies near both axes, as two infinities do
+-- (x, y) turned by a quarter is (-y, x), up to the sign of 0; not where it lies near both axes, as only two infinities do (AxesLaws)
 pub turn-quarter : (x y z : Float) → Alike (neg y) z → lt zero64 (powerOf x y) ≡ true → nearAxis x y && nearAxis y x ≡ false → turnBy z x ≡ quarterTurn (turnBy x y)
 unfolding turnBy bySign
 turn-quarter x y z a h k =

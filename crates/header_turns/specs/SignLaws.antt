@@ -129,7 +129,7 @@ module _ (f : Format) where
   sum-turned false true a b c l = difference a b c false (ltb a b) (ltb b a) refl refl l
   sum-turned true false a b c l = difference a b c true (ltb a b) (ltb b a) refl refl l
 
-  nothing : (e d : ℤ) → 0 * up e * down d ≡ 0
+  pub nothing : (e d : ℤ) → 0 * up e * down d ≡ 0
   nothing e d = ap (λ (k : ℕ). k * down d) (zero-mul (up e)) ∙ zero-mul (down d)
 
   pub add-alike : {a b : Float} → Alike a b → (x : Float) → Alike (add f a x) (add f b x)
@@ -312,7 +312,7 @@ left-zero true false (suc b) = rw (lt-ltb 0 (0 + suc b) (omega arith)) refl
 left-zero true true zero = refl
 left-zero true true (suc b) = rw (some-below b, none-some b) refl
 
-right-zero : (u s : Bool) (b : ℕ) → (below u b s 0 || level u b s 0) ≡ cond u true (eqb b 0)
+pub right-zero : (u s : Bool) (b : ℕ) → (below u b s 0 || level u b s 0) ≡ cond u true (eqb b 0)
 right-zero false false zero = refl
 right-zero false false (suc b) = rw (some-below b, some b) refl
 right-zero false true zero = refl

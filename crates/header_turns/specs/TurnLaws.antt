@@ -1,13 +1,15 @@
 -- The header of any capture, turned by quarters of a turn, is the header turned so: whatever the points are. Assumes nothing.
 use mathlib.Core.Path.{_≡_, refl, sym, _∙_, ap}
 use mathlib.Core.Bool.{Bool, true, false, cond, _&&_}
+use mathlib.Core.Logic.{_⊎_}
 use mathlib.Core.List.{List}
 use Prim.Native.Nat.{ℕ, zero, suc, _+_, _-_, _*_, _<_, _≤_}
 use native.Mathlib.Nat.{mul-add, add-mul, add-comm}
 use native.Mathlib.Omega.{arith}
-use lib.Dec.{eqb, ltb}
+use lib.Dec.{T, eqb, ltb}
 use lib.ListN.{getD}
 use lib.Ieee.{Float, nan, binary64, add, div, neg, lt, ofBits, ofFields, odd}
+use lib.Ieee.Scale.{finite}
 use Rattle.trellis.specs.Step.{term}
 use Rattle.header_sync.specs.declared.Fit.{Fit}
 use Rattle.header_sync.specs.Signs.{tail1, tail2, place1, place2, zero64, spread, side, mark, marks}
@@ -20,6 +22,7 @@ use Rattle.header_find.specs.declared.Header.{Header}
 use Rattle.header_find.specs.Headers.{headerOf, headerAt}
 use Rattle.header_turns.specs.Turning.{Quarter, quarterFit, quarterTurn, quarterHeader, turnedHeader, bothAxes, Quarters, none, more}
 use Rattle.header_turns.specs.SignLaws.{same-test, above-neg, below-neg, not-both, Alike, same, zeros, alike-by, alike-trans, add-alike, add-turned, div-alike, div-turned}
+use Rattle.header_turns.specs.AxesLaws.{finite-mean}
 use Rattle.header_turns.specs.MeanLaws.{near-left, near-right, near-neg-left, near-neg-right, power-quarter, turn-quarter}
 
 -- ---- one part: its negative scores the other way
@@ -225,3 +228,8 @@ header-quarters re im at h none = (refl, h)
 header-quarters re im at h (more {n} {x} {y} {u} {v} r q) =
     let b = header-quarters re im at h r in
     (header-turned x y u v q at (b .1) ∙ ap quarterHeader (b .0), axes-turned x y u v q at ∙ b .1)
+
+-- so of every capture whose header has a mean with a finite part
+pub finite-quarters : (re im : List Float) (at : ℕ) → (T (finite (meanAt re im at .re)) ⊎ T (finite (meanAt re im at .im)))
+    → {n : ℕ} {x y : List Float} → Quarters re im n x y → headerAt x y at ≡ turnedHeader n (headerAt re im at)
+finite-quarters re im at h q = header-quarters re im at (finite-mean re im at h) q .0

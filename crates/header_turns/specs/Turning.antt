@@ -28,7 +28,7 @@ quarterTurn t = cond (ltb t 8) ((t + 2) % 8) t
 abbrev pub quarterHeader : Header → Header
 quarterHeader h = record { first = h .first; turn = quarterTurn (h .turn); re = 80 - h .im; im = h .re }
 
--- a mean with a turn that lies near both axes, as one of two infinities does: (inf, inf) has the turn 0, and turned by a quarter 4
+-- a mean with a turn that lies near both axes: one of two infinities, and no other (`one-finite`); (inf, inf) has the turn 0, and turned by a quarter 4
 unfoldable pub bothAxes : Mean → Bool
 bothAxes c = lt zero64 (c .power) && (nearAxis (c .re) (c .im) && nearAxis (c .im) (c .re))
 
