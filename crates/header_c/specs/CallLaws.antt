@@ -1,11 +1,11 @@
 -- The sums as 32-bit numbers, and what an answer of `header_at` or `find_frame` tells. Assumes nothing.
-use mathlib.Core.Path.{_≡_, refl, sym, _∙_, ap}
+use mathlib.Core.Path.{_≡_, refl}
 use mathlib.Core.Bool.{Bool, true, false, cond}
-use mathlib.Core.List.{List, [], _∷_}
-use Prim.Native.Nat.{ℕ, _<_, _≤_, _^_}
+use mathlib.Core.List.{List}
+use Prim.Native.Nat.{ℕ, _≤_, _^_}
 use native.Mathlib.Omega.{arith}
 use lib.Dec.{T, ltb}
-use lib.IntN.{ℤ, pos, _-ℤ_}
+use lib.IntN.{pos}
 use lib.Signed.{mag}
 use lib.Ieee.{Float}
 use mir.Syntax.{w32}
@@ -14,8 +14,7 @@ use mir.Facts.{toZ-ofZ}
 use borrow.Author.Tests.{lt-ltb, ltb-true}
 use Rattle.trellis.specs.ListLaws.{every, every-at}
 use Rattle.refusal.specs.declared.Answer.{Answer}
-use Rattle.refusal.specs.declared.Answer.the-variants.{Accepted, Symbols}
-use Rattle.refusal.specs.Rows.{numberOf, firstRow}
+use Rattle.refusal.specs.declared.Answer.the-variants.{Symbols}
 use Rattle.header_sync.specs.FitLaws.{fit-most}
 use Rattle.header_find.specs.declared.Header.{Header}
 use Rattle.header_find.specs.declared.HeaderAnswer.{HeaderAnswer}

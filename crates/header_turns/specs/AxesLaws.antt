@@ -1,22 +1,22 @@
 -- A mean with a finite part does not lie near both axes: t |x| is less than |x|, rounded too. Assumes nothing.
-use mathlib.Core.Path.{_≡_, refl, sym, _∙_, ap, subst}
+use mathlib.Core.Path.{_≡_, refl, sym, _∙_, ap}
 use mathlib.Core.Logic.{_⊎_, inl, inr}
-use mathlib.Core.Bool.{Bool, true, false, cond, _&&_}
+use mathlib.Core.Bool.{Bool, true, false, _&&_}
 use mathlib.Core.List.{List}
 use Prim.Native.Nat.{ℕ, zero, suc, _+_, _-_, _*_, _/_, _^_, _<_, _≤_}
-use native.Mathlib.Nat.{le-trans, le-of-eq, lt-of-le-of-lt, lt-irrefl, lt-trans, zero-mul, mul-zero, mul-pos, mul-comm, mul-assoc, mul-le-mul-right, mul-le-mul-left}
+use native.Mathlib.Nat.{le-trans, le-of-eq, lt-of-le-of-lt, lt-irrefl, lt-trans, zero-mul, mul-pos, mul-comm, mul-assoc, mul-le-mul-right}
 use native.Mathlib.Omega.{arith}
-use lib.Dec.{T, ltb, eqb, lit≤}
+use lib.Dec.{T, lit≤}
 use lib.IntN.{ℤ, pos, negsuc}
 use lib.Pow.{pow-pos, pow-add}
 use borrow.Author.Tests.{ne-eqb}
-use lib.Ieee.{Float, nan, inf, fin, Format, binary64, prec, low, up, down, unlike, size, round, add, mul, neg, lt, le, eq, fits, ofBits, ofFields, odd}
+use lib.Ieee.{Float, nan, inf, fin, binary64, up, down, unlike, size, round, add, mul, neg, lt, le, eq, fits, ofBits, ofFields, odd}
 use lib.Ieee.Fits.{up-pos, down-pos, div-fits}
-use lib.Ieee.Scale.{finite, overflow}
+use lib.Ieee.Scale.{finite}
 use Rattle.ieee.specs.Nearest.{rnd, rnd-mono, rnd-fix}
 use Rattle.ieee.specs.Value.{mag, hi, lo, Num, Shape, shape}
-use Rattle.ieee.specs.Order.{Le, le→value}
-use Rattle.ieee.specs.Products.{RoundsBy, FineBy, fine-by, mul-rounds, rnd-zero}
+use Rattle.ieee.specs.Order.{le→value}
+use Rattle.ieee.specs.Products.{RoundsBy, FineBy, fine-by, mul-rounds}
 use Rattle.header_sync.specs.Signs.{zero64}
 use Rattle.header_mean.specs.Means.{tangent, meanPart, meanOf, meanAt, powerOf, sizeOf, nearAxis}
 use Rattle.ieee.specs.Zero.{round-zero}
@@ -89,9 +89,6 @@ module _ (m : ℕ) (e : ℤ) (fit : T (fits binary64 (fin false (suc m) e))) whe
   x-shape : Shape binary64 (suc m) e (hi binary64 x)
   unfolding hi
   x-shape = shape binary64 false (suc m) e fit
-
-  pub some-units : 0 < hi binary64 x
-  some-units = rw (x-shape .is) (mul-pos (omega arith) (pow-pos (x-shape .power)))
 
   half-units : rnd 53 (hi binary64 x) 2 < hi binary64 x
   half-units = rw (x-shape .is) (half-less (suc m) (x-shape .power) (omega arith) (x-shape .few))

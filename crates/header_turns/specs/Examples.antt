@@ -4,16 +4,14 @@ use mathlib.Core.Bool.{true, false}
 use mathlib.Core.List.{List, [], _∷_}
 use Prim.Native.Nat.{ℕ}
 use lib.ListN.{getD}
-use lib.Ieee.{Float, nan, inf, mul, neg, lt, le, ofBits, ofFields, odd}
+use lib.Ieee.{nan, inf, mul, neg, lt, le, ofBits, ofFields, odd}
 use Rattle.trellis.specs.Lists.{upto}
 use Rattle.isdbs_points.specs.Points.{one64, root64}
 use Rattle.refusal.specs.declared.Answer.the-variants.{Symbols}
 use Rattle.header_sync.specs.Signs.{tail1, tail2, tail3, zero64, side, mark, marks}
 use Rattle.header_sync.specs.Fits.{isFirst, joined, fitOf, fitBy, noFrame}
 use Rattle.header_sync.specs.Search.{squares, foundBy}
-use Rattle.header_mean.specs.declared.Mean.{Mean}
 use Rattle.header_mean.specs.Means.{sizeOf, nearAxis, bySign, turnBy, turnOf}
-use Rattle.header_find.specs.declared.Header.{Header}
 use Rattle.header_find.specs.declared.HeaderAnswer.the-variants.{Refused}
 use Rattle.header_find.specs.Headers.{headerOf, headerAt, headerSays, doubted}
 

@@ -1,14 +1,13 @@
 -- The header of a frame that is laid by P1 and stands anywhere in a capture, turned by quarters; and where the search finds it. Assumes nothing.
-use mathlib.Core.Path.{_≡_, refl, sym, _∙_, ap}
-use mathlib.Core.Bool.{Bool, true, false, cond}
+use mathlib.Core.Path.{_≡_, refl, _∙_, ap}
+use mathlib.Core.Bool.{Bool}
 use mathlib.Core.List.{List}
-use Prim.Native.Nat.{ℕ, zero, suc, _+_, _-_, _*_, _<_, _≤_}
+use Prim.Native.Nat.{ℕ, zero, suc, _+_, _<_, _≤_}
 use native.Mathlib.Omega.{arith}
-use lib.Dec.{ltb, leb}
 use lib.ListN.{length, getD}
 use lib.Ieee.{Float, nan}
 use borrow.Author.Tests.{lt-ltb}
-use Rattle.trellis.specs.Lists.{upto, laid}
+use Rattle.trellis.specs.Lists.{laid}
 use Rattle.trellis.specs.LaidLaws.{laid-at}
 use Rattle.isdbs_frame.specs.Frame.{frameSymbols, headerSymbols}
 use Rattle.full_frame.specs.declared.Input.{Input}

@@ -1,18 +1,17 @@
 -- The turn by a mean that is turned by a quarter: two eighths more. Assumes nothing.
 use mathlib.Core.Path.{_≡_, refl, sym, _∙_, ap}
-use mathlib.Core.Bool.{Bool, true, false, cond, not, _&&_, _||_}
-use Prim.Native.Nat.{ℕ, zero, suc, _+_, _*_, _%_, _<_, _≤_}
+use mathlib.Core.Bool.{Bool, true, false, cond, not, _&&_}
+use Prim.Native.Nat.{ℕ, zero, suc, _+_, _*_}
 use native.Mathlib.Nat.{zero-mul, mul-pos}
 use native.Mathlib.Omega.{arith}
-use lib.Dec.{ltb}
 use lib.IntN.{ℤ, negsuc}
-use lib.Ieee.{Float, nan, inf, fin, binary64, up, down, below, round, add, mul, neg, lt, le, eq, ofBits, ofFields, odd}
+use lib.Ieee.{Float, nan, inf, fin, binary64, up, down, add, mul, neg, lt, le, eq, ofBits, ofFields, odd}
 use lib.Ieee.Fits.{up-pos}
 use borrow.Author.Tests.{lt-ltb, le-ltb}
 use Rattle.header_sync.specs.Signs.{zero64}
 use Rattle.header_mean.specs.Means.{tangent, powerOf, sizeOf, nearAxis, bySign, turnBy}
 use Rattle.header_turns.specs.Turning.{quarterTurn}
-use Rattle.header_turns.specs.SignLaws.{Alike, same, zeros, neg-neg, above-neg, below-neg, not-both, alike-by, alike-sym, alike-above, zero-above, zero-below, add-either, mul-alike, square-alike, square-neg, le-alike-left, le-alike-right, zero-le-round, some}
+use Rattle.header_turns.specs.SignLaws.{Alike, same, zeros, neg-neg, above-neg, below-neg, not-both, alike-above, zero-below, add-either, mul-alike, square-alike, square-neg, le-alike-left, le-alike-right, zero-le-round}
 
 pub clash : true ≡ false → ⊥
 clash e = let z : _≡_ {A = ℕ} 0 1 = cc in absurd (omega arith)

@@ -2,13 +2,13 @@
 use mathlib.Core.Path.{_≡_, refl, sym, _∙_, ap}
 use mathlib.Core.Bool.{Bool, true, false, cond, _&&_}
 use mathlib.Core.List.{List, [], _∷_, _++_}
-use Prim.Native.Nat.{ℕ, zero, suc, _+_, _-_, _*_, _/_, _%_, _<_}
+use Prim.Native.Nat.{ℕ, zero, suc, _+_, _*_, _/_, _%_, _<_}
 use native.Mathlib.Nat.{zero-mul, suc-mul}
 use native.Mathlib.Omega.{arith}
-use lib.Dec.{T, eqb, eqb→eq, leb, ltb}
+use lib.Dec.{T, eqb, eqb→eq}
 use lib.Ieee.{Float, nan, binary64, neg, add, mul, div, lt, le, ofBits, ofFields, odd}
 use lib.Ieee.Fits.{and-l, and-r}
-use lib.ListN.{length, getD, take, drop, length-append, List·getD-append}
+use lib.ListN.{length, getD, take, drop, List·getD-append}
 use lib.Seq.{getD-append-add, getD-take, getD-drop}
 use Rattle.trellis.specs.Code.{isdb, half, label, output, tapped, moved}
 use Rattle.trellis.specs.Lists.{upto}
@@ -16,7 +16,7 @@ use Rattle.trellis.specs.Step.{term}
 use Rattle.trellis.specs.Encoded.{bitsOf, encoded, reached}
 use Rattle.trellis.specs.EncodedLaws.{length-bits, length-encoded, encoded-append}
 use Rattle.trellis.specs.ListLaws.{every, every-at, length-upto, getD-upto}
-use Rattle.isdbs_frame.specs.Frame.{w1, w2, w3, headerSymbols}
+use Rattle.isdbs_frame.specs.Frame.{w1, w2, w3}
 use Rattle.isdbs_points.specs.Layout.{wordBit, loadBit}
 use Rattle.isdbs_points.specs.Points.{one64, bpskOf}
 use Rattle.header_sync.specs.declared.Fit.{Fit}
@@ -25,11 +25,10 @@ use Rattle.header_sync.specs.Fits.{isFirst, joined, fitOf, fitBy, fitAt}
 use Rattle.header_sync.specs.Search.{squares}
 use Rattle.header_mean.specs.declared.Mean.{Mean}
 use Rattle.header_mean.specs.Means.{lastTail, sumFrom, forty64, meanPart, powerOf, meanOf, meanAt, nearAxis, sizeOf, bySign, turnBy, turnOf}
-use Rattle.header_find.specs.declared.Header.{Header}
 use Rattle.header_find.specs.Headers.{headerOf, headerAt}
 use Rattle.header_turns.specs.SignLaws.{neg-neg}
 use Rattle.header_turns.specs.Turning.{bothAxes}
-use Rattle.header_turns.specs.Sent.{wordBits, tmccBits, lastWord, headerBits, codedHeader, sentRe, sentIm, Begins}
+use Rattle.header_turns.specs.Sent.{wordBits, tmccBits, lastWord, codedHeader, Begins}
 
 -- ---- the coded tails of the sync words: one computed test over the 64 states for each word
 alike : List ℕ → List ℕ → Bool

@@ -1,15 +1,15 @@
 -- Sums, products and tests of floats whose signs are turned. A sum that is exactly 0 is +0 whichever way its terms are turned, so turned values are alike
 -- up to the sign of 0, which no test sees. Assumes nothing.
 use mathlib.Core.Path.{_≡_, refl, sym, _∙_, ap}
-use mathlib.Core.Bool.{Bool, true, false, cond, not, _&&_, _||_, Bool·beq}
+use mathlib.Core.Bool.{Bool, true, false, cond, not, _&&_, _||_}
 use Prim.Native.Nat.{ℕ, zero, suc, _+_, _-_, _*_, _^_, _<_, _≤_}
 use native.Mathlib.Nat.{zero-mul, mul-zero, mul-pos, mul-comm, add-comm}
 use native.Mathlib.Omega.{arith}
-use lib.Dec.{eqb, ltb, leb}
-use lib.IntN.{ℤ, pos, negsuc}
+use lib.Dec.{eqb, ltb}
+use lib.IntN.{ℤ, pos}
 use lib.Ieee.{Float, Format, nan, inf, fin, binary64, up, down, unlike, prec, emax, low, units, round, sum, add, mul, div, neg, lt, eq, le, below, level, ofBits, ofFields, odd}
 use lib.Ieee.Fits.{up-pos, down-pos}
-use borrow.Author.Tests.{lt-ltb, le-ltb, ltb-true, ltb-false, eq-eqb, ne-eqb}
+use borrow.Author.Tests.{lt-ltb, le-ltb, ltb-true, ltb-false, ne-eqb}
 use Rattle.ieee.specs.Rounding.{round-neg}
 use Rattle.ieee.specs.Zero.{round-zero}
 use Rattle.header_sync.specs.Signs.{zero64}
@@ -74,11 +74,6 @@ pub alike-trans : {x y z : Float} → Alike x y → Alike y z → Alike x z
 alike-trans same b = b
 alike-trans zeros same = zeros
 alike-trans zeros zeros = zeros
-
-pub alike-neg : {x y : Float} → Alike x y → Alike (neg x) (neg y)
-unfolding neg
-alike-neg same = same
-alike-neg zeros = zeros
 
 pub some : (n : ℕ) → eqb (suc n) 0 ≡ false
 some n = ne-eqb (suc n) 0 (λ e. omega arith)
@@ -288,10 +283,6 @@ zero-above s e = none-above s (0 * down e) (0 * up e * 1) (zero-mul (down e)) (l
 pub alike-above : {x y : Float} → Alike x y → lt zero64 x ≡ lt zero64 y
 alike-above same = refl
 alike-above (zeros {s} {t} {e}) = zero-above s e ∙ sym (zero-above t e)
-
-pub alike-below : {x y : Float} → Alike x y → lt x zero64 ≡ lt y zero64
-alike-below same = refl
-alike-below (zeros {s} {t} {e}) = zero-below s e ∙ sym (zero-below t e)
 
 none-some : (n : ℕ) → eqb 0 (suc n) ≡ false
 none-some n = ne-eqb 0 (suc n) (λ e. omega arith)

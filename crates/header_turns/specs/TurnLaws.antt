@@ -3,12 +3,12 @@ use mathlib.Core.Path.{_≡_, refl, sym, _∙_, ap}
 use mathlib.Core.Bool.{Bool, true, false, cond, _&&_}
 use mathlib.Core.Logic.{_⊎_}
 use mathlib.Core.List.{List}
-use Prim.Native.Nat.{ℕ, zero, suc, _+_, _-_, _*_, _<_, _≤_}
+use Prim.Native.Nat.{ℕ, zero, suc, _+_, _-_, _*_, _≤_}
 use native.Mathlib.Nat.{mul-add, add-mul, add-comm}
 use native.Mathlib.Omega.{arith}
 use lib.Dec.{T, eqb, ltb}
 use lib.ListN.{getD}
-use lib.Ieee.{Float, nan, binary64, add, div, neg, lt, ofBits, ofFields, odd}
+use lib.Ieee.{Float, nan, binary64, neg, lt, ofBits, ofFields, odd}
 use lib.Ieee.Scale.{finite}
 use Rattle.trellis.specs.Step.{term}
 use Rattle.header_sync.specs.declared.Fit.{Fit}
@@ -16,12 +16,11 @@ use Rattle.header_sync.specs.Signs.{tail1, tail2, place1, place2, zero64, sprea
 use Rattle.header_sync.specs.Fits.{isFirst, joined, fitOf, fitBy, fitAt}
 use Rattle.header_sync.specs.FitLaws.{side-most, mark-most, marks-most, fit-most}
 use Rattle.header_sync.specs.Search.{squares}
-use Rattle.header_mean.specs.declared.Mean.{Mean}
 use Rattle.header_mean.specs.Means.{sumFrom, lastTail, forty64, meanPart, powerOf, meanOf, meanAt, nearAxis, turnBy, turnOf}
 use Rattle.header_find.specs.declared.Header.{Header}
 use Rattle.header_find.specs.Headers.{headerOf, headerAt}
 use Rattle.header_turns.specs.Turning.{Quarter, quarterFit, quarterTurn, quarterHeader, turnedHeader, bothAxes, Quarters, none, more}
-use Rattle.header_turns.specs.SignLaws.{same-test, above-neg, below-neg, not-both, Alike, same, zeros, alike-by, alike-trans, add-alike, add-turned, div-alike, div-turned}
+use Rattle.header_turns.specs.SignLaws.{same-test, above-neg, below-neg, not-both, Alike, zeros, alike-by, alike-trans, add-alike, add-turned, div-alike, div-turned}
 use Rattle.header_turns.specs.AxesLaws.{finite-mean}
 use Rattle.header_turns.specs.MeanLaws.{near-left, near-right, near-neg-left, near-neg-right, power-quarter, turn-quarter}
 

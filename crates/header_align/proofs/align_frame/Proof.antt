@@ -4,18 +4,11 @@ use Rattle.header_sync.specs.Fits.{noFrame}
 use lib.ListN.{length}
 use mathlib.Core.Bool.{true, false}
 use native.Mathlib.Omega.{arith}
-use mathlib.Core.Path.{_≡_, refl, sym, _∙_, ap}
+use mathlib.Core.Path.{_≡_, refl, sym, _∙_}
 use borrow.Author.Needs.{needs}
 use Rattle.header_align.proofs.align_frame.Statement.{statement}
 use Rattle.header_align.proofs.align_frame.Tie as tie
-use Rattle.header_align.proofs.align_frame.Reads as reads
-use Rattle.header_align.proofs.align_frame.Lts as lts
-use Rattle.header_align.proofs.align_front.Reads as align-front-reads
-use Rattle.header_mean.proofs.mean_at.Reads as mean-at-reads
-use Rattle.header_sync.proofs.fit_here.Reads as fit-here-reads
-use Rattle.header_sync.proofs.no_frame.Reads as no-frame-reads
 
--- src/lib.rt:163:8
 no-frame-requires : tie.Need-no-frame-requires
 no-frame-requires c κs = search needs
 

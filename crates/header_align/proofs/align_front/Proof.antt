@@ -4,33 +4,23 @@ use Rattle.full_frame.specs.Rows.{shortFrame}
 use lib.ListN.{length}
 use mathlib.Core.Bool.{true, false}
 use native.Mathlib.Omega.{arith}
-use mathlib.Core.Path.{_≡_, refl, sym, _∙_, ap}
+use mathlib.Core.Path.{_≡_, refl, sym, _∙_}
 use borrow.Author.Needs.{needs}
 use Rattle.header_align.proofs.align_front.Statement.{statement}
 use Rattle.header_align.proofs.align_front.Tie as tie
-use Rattle.header_align.proofs.align_front.Reads as reads
-use Rattle.header_align.proofs.align_front.Lts as lts
-use Rattle.header_align.proofs.bad_points.Reads as bad-points-reads
-use Rattle.header_align.proofs.lay_im.Reads as lay-im-reads
-use Rattle.header_align.proofs.lay_re.Reads as lay-re-reads
-use Rattle.full_frame.proofs.short_frame.Reads as short-frame-reads
 
--- src/lib.rt:146:8
 bad-points-requires : tie.Need-bad-points-requires
 bad-points-requires c κs = search needs
 
--- src/lib.rt:81:9
 returns : tie.Need-returns
 returns c =
     let x = c .before .before .before .before .before .before .args in
     let e : badPoints (x .re .now) (x .im .now) (x .mean .power) ≡ true = sym (c .before .bad-points .ensures) ∙ c .if1 .taken in
     (rw e refl, (refl, refl))
 
--- src/lib.rt:83:8
 short-frame-requires : tie.Need-short-frame-requires
 short-frame-requires c κs = search needs
 
--- src/lib.rt:84:9
 returns-2 : tie.Need-returns-2
 returns-2 c =
     let good = c .before .before in
@@ -39,7 +29,6 @@ returns-2 c =
     let f : shortFrame (length (x .out-re .now)) (length (x .out-im .now)) ≡ true = sym (c .before .short-frame .ensures) ∙ c .if2 .taken in
     (rw (e, f) refl, (refl, refl))
 
--- src/lib.rt:86:5
 lay-re-requires : tie.Need-lay-re-requires
 lay-re-requires c κs =
     let long = c .before in
@@ -48,7 +37,6 @@ lay-re-requires c κs =
     let l = frame-long (length (x .out-re .now)) (length (x .out-im .now)) f in
     (omega arith, omega arith, omega arith)
 
--- src/lib.rt:87:5
 lay-im-requires : tie.Need-lay-im-requires
 lay-im-requires c κs =
     let long = c .before .before .before .before .before in
@@ -57,15 +45,12 @@ lay-im-requires c κs =
     let l = frame-long (length (x .out-re .now)) (length (x .out-im .now)) f in
     (omega arith, omega arith, omega arith)
 
--- src/lib.rt:66:1
 same-length : tie.Need-same-length
 same-length c = search needs
 
--- src/lib.rt:66:1
 same-length-2 : tie.Need-same-length-2
 same-length-2 c = search needs
 
--- src/lib.rt:66:1
 returns-3 : tie.Need-returns-3
 returns-3 c =
     let long = c .before .before .before .before .before .before .before .before in

@@ -5,12 +5,9 @@ use Rattle.full_frame.specs.FrontLaws.{Front, front-none, front-more}
 use Rattle.header_align.specs.Align.{turnedIm}
 use native.Mathlib.Omega.{arith}
 use borrow.Author.Needs.{needs}
-use mathlib.Core.Path.{_≡_, refl, sym, _∙_, ap}
+use mathlib.Core.Path.{_≡_}
 use Rattle.header_align.proofs.lay_im.Statement.{statement}
 use Rattle.header_align.proofs.lay_im.Tie as tie
-use Rattle.header_align.proofs.lay_im.Reads as reads
-use Rattle.header_align.proofs.lay_im.Lts as lts
-use Rattle.header_align.proofs.turned_im.Reads as turned-im-reads
 
 abbrev Inv-loop : tie.InvT-loop
 Inv-loop mean re im out₀ i₀ out i = (i ≤ 39936) × Front (λ k. turnedIm mean (getD re k nan) (getD im k nan)) out₀ out i
@@ -18,55 +15,42 @@ Inv-loop mean re im out₀ i₀ out i = (i ≤ 39936) × Front (λ k. turnedIm m
 abbrev μ-loop : tie.MeasureT-loop
 μ-loop mean re im out₀ i₀ out i = 39936 - i
 
--- src/lib.rt:117:5
 loop-holds : tie.Need-loop-holds Inv-loop μ-loop
 loop-holds c = (omega arith, front-none _ _)
 
--- src/lib.rt:118:34
 mul-turned-im : tie.Need-mul-turned-im Inv-loop μ-loop
 mul-turned-im c = search needs
 
--- src/lib.rt:118:34
 shared-slice-read-turned-im : tie.Need-shared-slice-read-turned-im Inv-loop μ-loop
 shared-slice-read-turned-im c = search needs
 
--- src/lib.rt:118:41
 mul-turned-im-2 : tie.Need-mul-turned-im-2 Inv-loop μ-loop
 mul-turned-im-2 c = search needs
 
--- src/lib.rt:118:41
 shared-slice-read-turned-im-2 : tie.Need-shared-slice-read-turned-im-2 Inv-loop μ-loop
 shared-slice-read-turned-im-2 c = search needs
 
--- src/lib.rt:118:18
 turned-im-requires : tie.Need-turned-im-requires Inv-loop μ-loop
 turned-im-requires c κs = search needs
 
--- src/lib.rt:118:9
 mul-out : tie.Need-mul-out Inv-loop μ-loop
 mul-out c = search needs
 
--- src/lib.rt:118:9
 slice-write-out : tie.Need-slice-write-out Inv-loop μ-loop
 slice-write-out c = search needs
 
--- src/lib.rt:117:9
 add-i : tie.Need-add-i Inv-loop μ-loop
 add-i c = search needs
 
--- src/lib.rt:117:5
 loop-less : tie.Need-loop-less Inv-loop μ-loop
 loop-less c = search needs
 
--- src/lib.rt:117:5
 loop-again : tie.Need-loop-again Inv-loop μ-loop
 loop-again c = (omega arith, front-more (c .before .before .before .before .loop .inv .1) (c .turned-im .result) (omega arith) (c .turned-im .ensures))
 
--- src/lib.rt:113:1
 same-length : tie.Need-same-length Inv-loop μ-loop
 same-length c = search needs
 
--- src/lib.rt:113:1
 returns : tie.Need-returns Inv-loop μ-loop
 returns c =
     let e : c .before .loop .i ≡ 39936 = omega arith in

@@ -1,11 +1,8 @@
 use Rattle.header_align.specs.Align.{turnedIm}
-use mathlib.Core.Path.{_≡_, refl, sym, _∙_, ap}
+use mathlib.Core.Path.{refl}
 use Rattle.header_align.proofs.turned_im.Statement.{statement}
 use Rattle.header_align.proofs.turned_im.Tie as tie
-use Rattle.header_align.proofs.turned_im.Reads as reads
-use Rattle.header_align.proofs.turned_im.Lts as lts
 
--- src/lib.rt:98:1
 returns : tie.Need-returns
 unfolding turnedIm
 returns c = refl

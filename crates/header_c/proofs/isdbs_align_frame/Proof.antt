@@ -1,4 +1,4 @@
-use mathlib.Core.Path.{_≡_, refl, sym, _∙_, ap}
+use mathlib.Core.Path.{_≡_, sym, _∙_, ap}
 use Prim.Native.Nat.{ℕ}
 use Rattle.refusal.specs.Rows.{numberOf}
 use Rattle.trellis.specs.Lists.{laid}
@@ -7,28 +7,19 @@ use Rattle.header_align.specs.Align.{alignedRe, alignedIm}
 use borrow.Author.Needs.{needs}
 use Rattle.header_c.proofs.isdbs_align_frame.Statement.{statement}
 use Rattle.header_c.proofs.isdbs_align_frame.Tie as tie
-use Rattle.header_c.proofs.isdbs_align_frame.Reads as reads
-use Rattle.header_c.proofs.isdbs_align_frame.Lts as lts
-use Rattle.header_align.proofs.align_frame.Reads as align-frame-reads
-use Rattle.refusal.proofs.number.Reads as number-reads
 
--- src/lib.rt:116:9
 align-frame-requires : tie.Need-align-frame-requires
 align-frame-requires c κs = search needs
 
--- src/lib.rt:117:5
 number-requires : tie.Need-number-requires
 number-requires c κs = search needs
 
--- src/lib.rt:104:1
 same-length : tie.Need-same-length
 same-length c = search needs
 
--- src/lib.rt:104:1
 same-length-2 : tie.Need-same-length-2
 same-length-2 c = search needs
 
--- src/lib.rt:104:1
 returns : tie.Need-returns
 returns c =
     let x = c .before .before .before .before .before .before .before .before .before .before .before .before .args in

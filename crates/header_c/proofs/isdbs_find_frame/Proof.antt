@@ -9,29 +9,19 @@ use Rattle.header_c.specs.CallLaws.{found-told, unfound-told, header-mos
 use borrow.Author.Needs.{needs}
 use Rattle.header_c.proofs.isdbs_find_frame.Statement.{statement}
 use Rattle.header_c.proofs.isdbs_find_frame.Tie as tie
-use Rattle.header_c.proofs.isdbs_find_frame.Reads as reads
-use Rattle.header_c.proofs.isdbs_find_frame.Lts as lts
-use Rattle.header_c.proofs.put_header.Reads as put-header-reads
-use Rattle.header_find.proofs.find_frame.Reads as find-frame-reads
-use Rattle.refusal.proofs.number.Reads as number-reads
 
--- src/lib.rt:92:9
 find-frame-requires : tie.Need-find-frame-requires
 find-frame-requires c κs = search needs
 
--- src/lib.rt:94:30
 enum-known-answer : tie.Need-enum-known-answer
 enum-known-answer c = search needs
 
--- src/lib.rt:94:36
 number-requires : tie.Need-number-requires
 number-requires c κs = search needs
 
--- src/lib.rt:95:28
 enum-known-answer-2 : tie.Need-enum-known-answer-2
 enum-known-answer-2 c = search needs
 
--- src/lib.rt:97:13
 put-header-requires : tie.Need-put-header-requires
 put-header-requires c κs =
     let at = c .before .before .before .before .before in
@@ -42,7 +32,6 @@ put-header-requires c κs =
     let m = doubted-most (headerAt (x .re .now) (x .im .now) q) (header-most (x .re .now) (x .im .now) q) in
     (rw (t .2) (m .0), rw (t .2) (m .1))
 
--- src/lib.rt:74:1
 returns : tie.Need-returns
 returns c =
     let at = c .before .before in
@@ -53,7 +42,6 @@ returns c =
     let n : c .number .result ≡ 6 = c .number .ensures ∙ ap numberOf (t .1) in
     (rw (t .0) n, (rw n refl, (rw n refl, (rw n refl, (rw n refl, rw n refl)))))
 
--- src/lib.rt:74:1
 returns-2 : tie.Need-returns-2
 returns-2 c =
     let at = c .before .before .before .before .before .before in

@@ -8,29 +8,19 @@ use Rattle.header_c.specs.CallLaws.{read-told, unread-told, header-most}
 use borrow.Author.Needs.{needs}
 use Rattle.header_c.proofs.isdbs_header.Statement.{statement}
 use Rattle.header_c.proofs.isdbs_header.Tie as tie
-use Rattle.header_c.proofs.isdbs_header.Reads as reads
-use Rattle.header_c.proofs.isdbs_header.Lts as lts
-use Rattle.header_c.proofs.put_header.Reads as put-header-reads
-use Rattle.header_find.proofs.header_at.Reads as header-at-reads
-use Rattle.refusal.proofs.number.Reads as number-reads
 
--- src/lib.rt:63:9
 header-at-requires : tie.Need-header-at-requires
 header-at-requires c κs = search needs
 
--- src/lib.rt:65:31
 enum-known-answer : tie.Need-enum-known-answer
 enum-known-answer c = search needs
 
--- src/lib.rt:65:37
 number-requires : tie.Need-number-requires
 number-requires c κs = search needs
 
--- src/lib.rt:66:28
 enum-known-answer-2 : tie.Need-enum-known-answer-2
 enum-known-answer-2 c = search needs
 
--- src/lib.rt:67:13
 put-header-requires : tie.Need-put-header-requires
 put-header-requires c κs =
     let at = c .before .before .before .before .before in
@@ -40,7 +30,6 @@ put-header-requires c κs =
     let m = header-most (x .re .now) (x .im .now) (x .at) in
     (rw (t .1) (m .0), rw (t .1) (m .1))
 
--- src/lib.rt:47:1
 returns : tie.Need-returns
 returns c =
     let at = c .before .before in
@@ -50,7 +39,6 @@ returns c =
     let n : c .number .result ≡ 6 = c .number .ensures ∙ ap numberOf (t .1) in
     (rw (t .0) n, (rw n refl, (rw n refl, (rw n refl, rw n refl))))
 
--- src/lib.rt:47:1
 returns-2 : tie.Need-returns-2
 returns-2 c =
     let at = c .before .before .before .before .before .before in

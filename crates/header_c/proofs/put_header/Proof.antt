@@ -1,26 +1,18 @@
-use mathlib.Core.Path.{_≡_, refl, sym, _∙_, ap}
+use mathlib.Core.Path.{refl}
 use Rattle.header_c.specs.CallLaws.{stored}
 use borrow.Author.Needs.{needs}
 use Rattle.header_c.proofs.put_header.Statement.{statement}
 use Rattle.header_c.proofs.put_header.Tie as tie
-use Rattle.header_c.proofs.put_header.Reads as reads
-use Rattle.header_c.proofs.put_header.Lts as lts
-use Rattle.header_c.proofs.kind_of.Reads as kind-of-reads
-use Rattle.header_c.proofs.sum_of.Reads as sum-of-reads
 
--- src/lib.rt:40:13
 kind-of-requires : tie.Need-kind-of-requires
 kind-of-requires c κs = search needs
 
--- src/lib.rt:42:15
 sum-of-requires : tie.Need-sum-of-requires
 sum-of-requires c κs = search needs
 
--- src/lib.rt:43:15
 sum-of-requires-2 : tie.Need-sum-of-requires-2
 sum-of-requires-2 c κs = search needs
 
--- src/lib.rt:33:1
 returns : tie.Need-returns
 returns c =
     let st = c .before .before .before in (

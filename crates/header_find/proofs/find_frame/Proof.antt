@@ -1,4 +1,4 @@
-use mathlib.Core.Path.{_≡_, refl, sym, _∙_, ap}
+use mathlib.Core.Path.{_≡_, refl, sym, _∙_}
 use Rattle.header_sync.specs.FitLaws.{frame-there}
 use Rattle.header_sync.specs.Fits.{noFrame}
 use lib.ListN.{length}
@@ -7,19 +7,10 @@ use native.Mathlib.Omega.{arith}
 use borrow.Author.Needs.{needs}
 use Rattle.header_find.proofs.find_frame.Statement.{statement}
 use Rattle.header_find.proofs.find_frame.Tie as tie
-use Rattle.header_find.proofs.find_frame.Reads as reads
-use Rattle.header_find.proofs.find_frame.Lts as lts
-use Rattle.header_find.proofs.doubted_of.Reads as doubted-of-reads
-use Rattle.header_find.proofs.header_here.Reads as header-here-reads
-use Rattle.header_sync.proofs.best_here.Reads as best-here-reads
-use Rattle.header_sync.proofs.further_of.Reads as further-of-reads
-use Rattle.header_sync.proofs.no_frame.Reads as no-frame-reads
 
--- src/lib.rt:84:8
 no-frame-requires : tie.Need-no-frame-requires
 no-frame-requires c κs = search needs
 
--- src/lib.rt:85:9
 returns : tie.Need-returns
 returns c =
     let at = c in
@@ -27,7 +18,6 @@ returns c =
     let e : noFrame (length (x .re .now)) (length (x .im .now)) (x .from) ≡ true = sym (at .before .no-frame .ensures) ∙ at .if1 .taken in
     rw e refl
 
--- src/lib.rt:87:9
 further-of-requires : tie.Need-further-of-requires
 further-of-requires c κs =
     let at = c in
@@ -36,7 +26,6 @@ further-of-requires c κs =
     let t = frame-there (length (x .re .now)) (length (x .im .now)) (x .from) e in
     (t .0, t .1)
 
--- src/lib.rt:88:9
 best-here-requires : tie.Need-best-here-requires
 best-here-requires c κs =
     let at = c .before in
@@ -46,7 +35,6 @@ best-here-requires c κs =
     let f = c .further-of .ensures in
     (omega arith, omega arith)
 
--- src/lib.rt:89:9
 header-here-requires : tie.Need-header-here-requires
 header-here-requires c κs =
     let at = c .before .before in
@@ -57,11 +45,9 @@ header-here-requires c κs =
     let p = c .best-here .ensures .1 in
     (omega arith, omega arith)
 
--- src/lib.rt:90:31
 doubted-of-requires : tie.Need-doubted-of-requires
 doubted-of-requires c κs = search needs
 
--- src/lib.rt:81:1
 returns-2 : tie.Need-returns-2
 returns-2 c =
     let at = c .before .before .before .before in

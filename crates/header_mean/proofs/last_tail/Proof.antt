@@ -1,24 +1,16 @@
-use mathlib.Core.Path.{_≡_, refl, sym, _∙_, ap}
 use borrow.Author.Needs.{needs}
 use Rattle.header_mean.proofs.last_tail.Statement.{statement}
 use Rattle.header_mean.proofs.last_tail.Tie as tie
-use Rattle.header_mean.proofs.last_tail.Reads as reads
-use Rattle.header_mean.proofs.last_tail.Lts as lts
-use Rattle.isdbs_frame.proofs.tail_bits.Reads as tail-bits-reads
 
--- src/lib.rt:59:9
 tail-bits-requires : tie.Need-tail-bits-requires
 tail-bits-requires c κs = search needs
 
--- src/lib.rt:61:9
 tail-bits-requires-2 : tie.Need-tail-bits-requires-2
 tail-bits-requires-2 c κs = search needs
 
--- src/lib.rt:55:1
 returns : tie.Need-returns
 returns c = rw (c .before .if1 .taken) (c .tail-bits .ensures)
 
--- src/lib.rt:55:1
 returns-2 : tie.Need-returns-2
 returns-2 c = rw (c .before .if1 .left) (c .tail-bits2 .ensures)
 

@@ -1,21 +1,15 @@
 use Rattle.header_mean.specs.Means.{meanOf, powerOf}
-use mathlib.Core.Path.{_≡_, refl, sym, _∙_, ap}
+use mathlib.Core.Path.{refl}
 use borrow.Author.Needs.{needs}
 use Rattle.header_mean.proofs.mean_at.Statement.{statement}
 use Rattle.header_mean.proofs.mean_at.Tie as tie
-use Rattle.header_mean.proofs.mean_at.Reads as reads
-use Rattle.header_mean.proofs.mean_at.Lts as lts
-use Rattle.header_mean.proofs.mean_part.Reads as mean-part-reads
 
--- src/lib.rt:81:9
 mean-part-requires : tie.Need-mean-part-requires
 mean-part-requires c κs = search needs
 
--- src/lib.rt:82:9
 mean-part-requires-2 : tie.Need-mean-part-requires-2
 mean-part-requires-2 c κs = search needs
 
--- src/lib.rt:77:1
 returns : tie.Need-returns
 unfolding meanOf powerOf
 returns c = rw (c .before .mean-part .ensures, c .mean-part2 .ensures) refl

@@ -1,37 +1,27 @@
 use Rattle.header_mean.specs.Means.{meanPart}
-use mathlib.Core.Path.{_≡_, refl, sym, _∙_, ap}
+use mathlib.Core.Path.{refl}
 use borrow.Author.Needs.{needs}
 use Rattle.header_mean.proofs.mean_part.Statement.{statement}
 use Rattle.header_mean.proofs.mean_part.Tie as tie
-use Rattle.header_mean.proofs.mean_part.Reads as reads
-use Rattle.header_mean.proofs.mean_part.Lts as lts
-use Rattle.header_mean.proofs.last_tail.Reads as last-tail-reads
-use Rattle.header_mean.proofs.sum_from.Reads as sum-from-reads
-use Rattle.isdbs_frame.proofs.tail_bits.Reads as tail-bits-reads
 
--- src/lib.rt:70:17
 tail-bits-requires : tie.Need-tail-bits-requires
 tail-bits-requires c κs = search needs
 
--- src/lib.rt:71:17
 last-tail-requires : tie.Need-last-tail-requires
 last-tail-requires c κs = search needs
 
 add-sum-from : tie.Need-add-sum-from
 add-sum-from c = search needs
 
--- src/lib.rt:72:9
 sum-from-requires : tie.Need-sum-from-requires
 sum-from-requires c κs = search needs
 
 add-sum-from-2 : tie.Need-add-sum-from-2
 add-sum-from-2 c = search needs
 
--- src/lib.rt:73:9
 sum-from-requires-2 : tie.Need-sum-from-requires-2
 sum-from-requires-2 c κs = search needs
 
--- src/lib.rt:66:1
 returns : tie.Need-returns
 unfolding meanPart
 returns c = rw (c .sum-from2 .ensures, c .before .before .sum-from .ensures, c .before .before .before .before .before .tail-bits .ensures, c .before .before .before .before .last-tail .ensures) refl

@@ -3,12 +3,9 @@ use native.Mathlib.Numerals.{add-one}
 use Rattle.header_mean.specs.Means.{sumFrom}
 use native.Mathlib.Omega.{arith}
 use borrow.Author.Needs.{needs}
-use mathlib.Core.Path.{_≡_, refl, sym, _∙_, ap}
+use mathlib.Core.Path.{_≡_, refl}
 use Rattle.header_mean.proofs.sum_from.Statement.{statement}
 use Rattle.header_mean.proofs.sum_from.Tie as tie
-use Rattle.header_mean.proofs.sum_from.Reads as reads
-use Rattle.header_mean.proofs.sum_from.Lts as lts
-use Rattle.header_mean.proofs.signed.Reads as signed-reads
 
 abbrev Inv-loop : tie.InvT-loop
 Inv-loop start tail part at sum₀ i₀ sum i = (i ≤ 20) × (sum ≡ sumFrom start tail part at i)
@@ -16,47 +13,37 @@ Inv-loop start tail part at sum₀ i₀ sum i = (i ≤ 20) × (sum ≡ sumFrom s
 abbrev μ-loop : tie.MeasureT-loop
 μ-loop start tail part at sum₀ i₀ sum i = 20 - i
 
--- src/lib.rt:48:5
 loop-holds : tie.Need-loop-holds Inv-loop μ-loop
 unfolding sumFrom
 loop-holds c = (omega arith, refl)
 
--- src/lib.rt:49:28
 element-copy-out-signed : tie.Need-element-copy-out-signed Inv-loop μ-loop
 element-copy-out-signed c = search needs
 
--- src/lib.rt:49:42
 add-signed : tie.Need-add-signed Inv-loop μ-loop
 add-signed c = search needs
 
--- src/lib.rt:49:37
 mul-signed : tie.Need-mul-signed Inv-loop μ-loop
 mul-signed c = search needs
 
--- src/lib.rt:49:37
 shared-slice-read-signed : tie.Need-shared-slice-read-signed Inv-loop μ-loop
 shared-slice-read-signed c = search needs
 
--- src/lib.rt:49:21
 signed-requires : tie.Need-signed-requires Inv-loop μ-loop
 signed-requires c κs = search needs
 
--- src/lib.rt:48:9
 add-i : tie.Need-add-i Inv-loop μ-loop
 add-i c = search needs
 
--- src/lib.rt:48:5
 loop-less : tie.Need-loop-less Inv-loop μ-loop
 loop-less c = search needs
 
--- src/lib.rt:48:5
 loop-again : tie.Need-loop-again Inv-loop μ-loop
 unfolding sumFrom
 loop-again c =
     let at = c .before .before .before .before in
     (omega arith, rw (add-one (at .loop .i), at .loop .inv .1, c .signed .ensures) refl)
 
--- src/lib.rt:43:1
 returns : tie.Need-returns Inv-loop μ-loop
 returns c =
     let at = c .before in

@@ -4,14 +4,9 @@ use Rattle.header_sync.specs.SearchLaws.{bestAt, best-next, first-greate
 use Rattle.header_sync.specs.Search.{peakBy, foundBy}
 use native.Mathlib.Omega.{arith}
 use borrow.Author.Needs.{needs}
-use mathlib.Core.Path.{_≡_, refl, sym, _∙_, ap}
+use mathlib.Core.Path.{_≡_, refl, _∙_}
 use Rattle.header_sync.proofs.best_of.Statement.{statement}
 use Rattle.header_sync.proofs.best_of.Tie as tie
-use Rattle.header_sync.proofs.best_of.Reads as reads
-use Rattle.header_sync.proofs.best_of.Lts as lts
-use Rattle.header_sync.proofs.better_of.Reads as better-of-reads
-use Rattle.header_sync.proofs.fit_at.Reads as fit-at-reads
-use Rattle.header_sync.proofs.squares_of.Reads as squares-of-reads
 
 abbrev Inv-loop : tie.InvT-loop
 Inv-loop tail1 tail2 re im from count peak best₀ k₀ best k = (k ≤ count) × (best ≡ bestAt (peakBy tail1 tail2 re im) from k) × (best .place ≤ from + k)
@@ -19,49 +14,38 @@ Inv-loop tail1 tail2 re im from count peak best₀ k₀ best k = (k ≤ count) �
 abbrev μ-loop : tie.MeasureT-loop
 μ-loop tail1 tail2 re im from count peak best₀ k₀ best k = count - k
 
--- src/lib.rt:258:9
 fit-at-requires : tie.Need-fit-at-requires Inv-loop μ-loop
 fit-at-requires c κs = search needs
 
--- src/lib.rt:259:9
 squares-of-requires : tie.Need-squares-of-requires Inv-loop μ-loop
 squares-of-requires c κs = search needs
 
--- src/lib.rt:264:5
 loop-holds : tie.Need-loop-holds Inv-loop μ-loop
 unfolding foundBy
 loop-holds c =
     (omega arith, rw (c .squares-of .ensures, c .before .fit-at .ensures .0) refl, omega arith)
 
--- src/lib.rt:265:21
 add-place : tie.Need-add-place Inv-loop μ-loop
 add-place c = search needs
 
--- src/lib.rt:265:21
 add-place-2 : tie.Need-add-place-2 Inv-loop μ-loop
 add-place-2 c = search needs
 
--- src/lib.rt:266:13
 fit-at-requires-2 : tie.Need-fit-at-requires-2 Inv-loop μ-loop
 fit-at-requires-2 c κs = search needs
 
--- src/lib.rt:267:13
 squares-of-requires-2 : tie.Need-squares-of-requires-2 Inv-loop μ-loop
 squares-of-requires-2 c κs = search needs
 
--- src/lib.rt:268:9
 better-of-requires : tie.Need-better-of-requires Inv-loop μ-loop
 better-of-requires c κs = search needs
 
--- src/lib.rt:264:9
 add-k : tie.Need-add-k Inv-loop μ-loop
 add-k c = search needs
 
--- src/lib.rt:264:5
 loop-less : tie.Need-loop-less Inv-loop μ-loop
 loop-less c = search needs
 
--- src/lib.rt:264:5
 loop-again : tie.Need-loop-again Inv-loop μ-loop
 loop-again c =
     let at = c .before .before .before .before in
@@ -73,7 +57,6 @@ loop-again c =
     c .better-of .ensures ∙ rw (at .loop .inv .1, c .before .squares-of2 .ensures, c .before .before .fit-at2 .ensures .0, e, add-one k) (best-next f (x .from) k) in
     (omega arith, b, rw b (first-greatest f (x .from) (k + 1) .early))
 
--- src/lib.rt:254:1
 returns : tie.Need-returns Inv-loop μ-loop
 returns c =
     let at = c .before in

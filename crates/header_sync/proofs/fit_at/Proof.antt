@@ -1,51 +1,36 @@
 use Rattle.header_sync.specs.Fits.{fitBy}
-use native.Mathlib.Omega.{arith}
-use mathlib.Core.Path.{_≡_, refl, sym, _∙_, ap}
+use mathlib.Core.Path.{refl, _∙_}
 use borrow.Author.Needs.{needs}
 use Rattle.header_sync.proofs.fit_at.Statement.{statement}
 use Rattle.header_sync.proofs.fit_at.Tie as tie
-use Rattle.header_sync.proofs.fit_at.Reads as reads
-use Rattle.header_sync.proofs.fit_at.Lts as lts
-use Rattle.header_sync.proofs.fit_of.Reads as fit-of-reads
-use Rattle.header_sync.proofs.marks_of.Reads as marks-of-reads
 
--- src/lib.rt:125:35
 add-marks-of : tie.Need-add-marks-of
 add-marks-of c = search needs
 
--- src/lib.rt:125:9
 marks-of-requires : tie.Need-marks-of-requires
 marks-of-requires c κs = search needs
 
--- src/lib.rt:126:35
 add-marks-of-2 : tie.Need-add-marks-of-2
 add-marks-of-2 c = search needs
 
--- src/lib.rt:126:9
 marks-of-requires-2 : tie.Need-marks-of-requires-2
 marks-of-requires-2 c κs = search needs
 
--- src/lib.rt:127:35
 add-marks-of-3 : tie.Need-add-marks-of-3
 add-marks-of-3 c = search needs
 
--- src/lib.rt:127:9
 marks-of-requires-3 : tie.Need-marks-of-requires-3
 marks-of-requires-3 c κs = search needs
 
--- src/lib.rt:128:35
 add-marks-of-4 : tie.Need-add-marks-of-4
 add-marks-of-4 c = search needs
 
--- src/lib.rt:128:9
 marks-of-requires-4 : tie.Need-marks-of-requires-4
 marks-of-requires-4 c κs = search needs
 
--- src/lib.rt:129:5
 fit-of-requires : tie.Need-fit-of-requires
 fit-of-requires c κs = search needs
 
--- src/lib.rt:121:1
 returns : tie.Need-returns
 unfolding fitBy
 returns c =

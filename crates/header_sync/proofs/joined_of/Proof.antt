@@ -1,30 +1,22 @@
 use Rattle.header_sync.specs.Fits.{joined}
 use native.Mathlib.Omega.{arith}
-use mathlib.Core.Path.{_≡_, refl, sym, _∙_, ap}
 use borrow.Author.Needs.{needs}
 use Rattle.header_sync.proofs.joined_of.Statement.{statement}
 use Rattle.header_sync.proofs.joined_of.Tie as tie
-use Rattle.header_sync.proofs.joined_of.Reads as reads
-use Rattle.header_sync.proofs.joined_of.Lts as lts
 
--- src/lib.rt:102:16
 add-result : tie.Need-add-result
 add-result c = search needs
 
--- src/lib.rt:102:42
 sub-result : tie.Need-sub-result
 sub-result c = search needs
 
--- src/lib.rt:102:35
 add-result-2 : tie.Need-add-result-2
 add-result-2 c = search needs
 
--- src/lib.rt:98:1
 returns : tie.Need-returns
 unfolding joined
 returns c = (rw (c .if1 .taken), omega arith)
 
--- src/lib.rt:98:1
 returns-2 : tie.Need-returns-2
 unfolding joined
 returns-2 c = (rw (c .if1 .left), omega arith)
