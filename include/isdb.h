@@ -1,4 +1,4 @@
-/* ISDB-S frames and the inner code of ISDB: the calls of the crates of C calls (conv_c, isdbt_c, table_c, isdb_c, codes_c, wanted_c, mend_c, judge_c).
+/* ISDB-S frames and the inner code of ISDB: the calls of the crates of C calls (conv_c, isdbt_c, table_c, isdb_c, codes_c, wanted_c, mend_c, judge_c, header_c).
  *
  * Link target/staticlib/libisdb.a, which `tools/archive` writes (x86-64 Linux). No call allocates, keeps anything or prints.
  *
@@ -21,8 +21,9 @@
  *   5 length     metrics not in fours, soft values not in twos, stream not whole periods; path values not 64; scales not seven; an unknown rate; a
  *                stretch to be mended not in twos, above 8,192 bits, or with a byte above 1; bytes that are not exactly
  *                the load (isdbs_judge)
- *   6 symbols    under 38,976 of either part; for a full frame an input shorter than its length (isdbs_lay_frame, isdbs_take_frame)
- *   7 sample     not finite; beyond 65,536 for a frame part, 1,048,576 for a stream value
+ *   6 symbols    under 38,976 of either part; for a full frame an input shorter than its length (isdbs_lay_frame, isdbs_take_frame); for a frame in a capture fewer than its
+ *                place + 39,936 points (isdbs_header, isdbs_find_frame, isdbs_align_frame)
+ *   7 sample     not finite; beyond 65,536 for a frame part, 1,048,576 for a stream value; a header whose mean has no size above 0 (isdbs_align_frame)
  *   8 scale      a scale not above 0, or above 64
  *   9 space      an output or decision slice shorter than the call writes; decisions always need 4,096 + traceback
  *  13 no load    no full load encodes to the frame (isdbs_wanted_load)
@@ -140,6 +141,27 @@ uint32_t isdbs_take_frame(const double *re, size_t re_len, const double *im, siz
                           double *header_re, size_t header_re_len, double *header_im, size_t header_im_len,
                           double *main_re, size_t main_re_len, double *main_im, size_t main_im_len,
                           double *burst_re, size_t burst_re_len, double *burst_im, size_t burst_im_len);
+
+/* Whole frames in a capture, by the 40 header symbols that every frame has: symbols 12 to 31 carry W1's coded tail ECD28h, 172 to 191 W2's 0B677h (first frame of a superframe) or its
+ * complement F4988h (W3, the others), high bit first, +1 for bit 0 and -1 for bit 1. A part scores +1 where its sign is that of the symbol, -1 where it is the other, 0 where it is 0 or a
+ * NaN. a1 and b1 are the scores of the real and the imaginary parts over W1's symbols, a2 and b2 over W2's; k is 1 where a1 a2 + b1 b2 is above 0, else -1. A = a1 + k a2 (*re_sum) and
+ * B = b1 + k b2 (*im_sum) are from -40 to 40; *kind is 1 where k is 1 (first frame), else 0. The mean c is the sum of the 40 symbols, each times its sign (those of W2 times k), begun at 0
+ * and in order, divided by 40, each operation rounded; d = c.re c.re + c.im c.im. *turn is in eighths of a turn by the nearest axis or diagonal of c, t being tan(22.5 degrees): 0 or 4 where
+ * |c.im| <= t |c.re|, else 2 or 6 where |c.re| <= t |c.im|, else 1, 3, 5 or 7; 8 (none) where A A + B B is below 784 or d is not above 0. A carrier that drifts by more than a quarter of a
+ * turn from W1 to W2 (45 kHz at 28.86 MBd) gives the other kind.
+ *
+ * isdbs_header       what the header says of the frame that begins at point `at`.   Row 6.
+ * isdbs_find_frame   of all places from `from` on at which a frame still fits, the first with the greatest A A + B B, to *place, and what isdbs_header says there; *turn is 8 (no frame)
+ *                    where that greatest is below 1,296.   Row 6.
+ * isdbs_align_frame  the 39,936 points from `at` on, turned right and of the size that they were sent with: ((re c.re + im c.im) / d, (im c.re - re c.im) / d), each operation rounded.
+ *                    Points past the outputs' 39,936 places are not written. Rows 6, 7 (of the 39,936 points, or d not above 0), 9.
+ */
+uint32_t isdbs_header(const double *re, size_t re_len, const double *im, size_t im_len, uint64_t at, uint8_t *kind, uint8_t *turn,
+                      int32_t *re_sum, int32_t *im_sum);
+uint32_t isdbs_find_frame(const double *re, size_t re_len, const double *im, size_t im_len, uint64_t from, uint64_t *place, uint8_t *kind,
+                          uint8_t *turn, int32_t *re_sum, int32_t *im_sum);
+uint32_t isdbs_align_frame(const double *re, size_t re_len, const double *im, size_t im_len, uint64_t at, double *out_re, size_t out_re_len,
+                           double *out_im, size_t out_im_len);
 
 /* The last sums of a run of frames, `window` of them at most (1 to 256), with their total and greatest. The state is the caller's: how many sums are
  * kept (*fill) and the place of the next one (*next), both 0 at first; `kept` has the sums, the first *fill places. A push keeps `sum` at the next

@@ -3,74 +3,11 @@
 // nothing inside either. Accepted calls are among them, so that no row is a row too much.
 mod calls;
 mod draws;
+mod fence;
 mod later;
 use calls::Feed;
 use draws::*;
-use std::ffi::c_void;
-
-unsafe extern "C" {
-    fn mmap(addr: *mut c_void, len: usize, prot: i32, flags: i32, fd: i32, offset: i64) -> *mut c_void;
-    fn mprotect(addr: *mut c_void, len: usize, prot: i32) -> i32;
-}
-
-const PAGE: usize = 4096;
-
-/// Memory between two pages that cannot be touched. What is lent lies at its end or at its beginning; the bytes beside it are watched.
-struct Fence<T: Copy> {
-    data: *mut T,
-    room: usize,
-    from: usize,
-    len: usize,
-    before: Vec<T>,
-}
-
-const WATCHED: usize = 512;
-
-impl<T: Copy> Fence<T> {
-    fn new(room: usize) -> Self {
-        let bytes = (room * size_of::<T>()).next_multiple_of(PAGE);
-        unsafe {
-            let all = mmap(std::ptr::null_mut(), bytes + 2 * PAGE, 3, 0x22, -1, 0);
-            assert!(all as isize != -1);
-            let data = all.byte_add(PAGE);
-            assert!(mprotect(all, PAGE, 0) == 0 && mprotect(data.byte_add(bytes), PAGE, 0) == 0);
-            Self { data: data.cast(), room: bytes / size_of::<T>(), from: 0, len: 0, before: Vec::new() }
-        }
-    }
-
-    /// Lends `len` places, filled by `f`.
-    fn lend(&mut self, draws: &mut Draws, len: usize, mut f: impl FnMut(&mut Draws) -> T) {
-        let len = len.min(self.room);
-        self.from = if draws.below(2) == 0 { self.room - len } else { 0 };
-        self.len = len;
-        for i in self.watched() {
-            let x = f(draws);
-            unsafe { self.data.add(i).write(x) };
-        }
-        self.before = self.watched().map(|i| unsafe { self.data.add(i).read() }).collect();
-    }
-
-    fn watched(&self) -> std::ops::Range<usize> {
-        self.from.saturating_sub(WATCHED)..(self.from + self.len + WATCHED).min(self.room)
-    }
-
-    fn slice(&mut self) -> &'static mut [T] {
-        unsafe { std::slice::from_raw_parts_mut(self.data.add(self.from), self.len) }
-    }
-
-    /// Whether all is as it was but, where `written`, the lent places.
-    fn kept(&self, written: bool) -> bool {
-        let w = self.watched();
-        w.clone().all(|i| {
-            let inside = i >= self.from && i < self.from + self.len;
-            let same = unsafe {
-                let (a, b) = (self.data.add(i).cast::<u8>(), (&raw const self.before[i - w.start]).cast::<u8>());
-                (0..size_of::<T>()).all(|k| *a.add(k) == *b.add(k))
-            };
-            same || written && inside
-        })
-    }
-}
+use fence::Fence;
 
 /// An f32 of any class, the limits of the rows among them.
 fn wild(draws: &mut Draws) -> f32 {

@@ -28,7 +28,7 @@ fn beyond(x: f64, limit: f64) -> bool
 }
 
 // Whether any of the first n values is. All are looked at, so that the loop goes by vectors.
-fn some_beyond(xs: &[f64], n: usize, limit: f64) -> bool
+pub fn some_beyond(xs: &[f64], n: usize, limit: f64) -> bool
     requires { ⌜ n ≤ length (now xs) ⌝ }
     ensures { λ r. ⌜ r ≡ someOfBeyond limit (now (xs .entry)) n ⌝ }
 {

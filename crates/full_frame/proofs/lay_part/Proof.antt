@@ -4,7 +4,7 @@ use Prim.Native.Nat.{_-_, _≤_}
 use native.Mathlib.Omega.{arith}
 use borrow.Author.Needs.{needs}
 use Rattle.full_frame.specs.Places.{sourceAt, lentInputs, lentPoint}
-use Rattle.full_frame.proofs.Front.{Front, front-none, front-more}
+use Rattle.full_frame.specs.FrontLaws.{Front, front-none, front-more}
 use Rattle.full_frame.proofs.lay_part.Statement.{statement}
 use Rattle.full_frame.proofs.lay_part.Tie as tie
 

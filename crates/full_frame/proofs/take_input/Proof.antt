@@ -1,5 +1,5 @@
 -- `take_input` meets its contract. Assumes nothing.
-use Rattle.full_frame.proofs.Front.{Front, front-none, front-more}
+use Rattle.full_frame.specs.FrontLaws.{Front, front-none, front-more}
 use Rattle.full_frame.specs.Places.{from, pointsOf, placeIn}
 use lib.Ieee.{nan}
 use lib.ListN.{getD}
