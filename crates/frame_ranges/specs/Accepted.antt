@@ -206,7 +206,7 @@ module _ (e : Tie) (t : Table) (re im : List Float) (m : Mapping) (scales : List
     p : Passed t re im scales
     p = passed t re im scales decisions bits bytes counts yes
 
-    sized : Sized partPower scalePower r
+    pub sized : Sized partPower scalePower r
     sized = record {
       re-in = λ k h. part-size (getD re k nan) (re-fits k) (parts-in re mainSymbols (p .re-fine) k h);
       im-in = λ k h. part-size (getD im k nan) (im-fits k) (parts-in im mainSymbols (p .im-fine) k h);
