@@ -4,7 +4,6 @@ use mathlib.Core.Bool.{Bool, true, false, cond}
 use mathlib.Core.List.{List, []}
 use Prim.Native.Nat.{ℕ, zero, suc, _+_, _*_, _/_, _%_, _^_, _≤_, _<_}
 use native.Mathlib.Omega.{arith}
-use borrow.Author.Tests.{le-leb}
 use lib.Dec.{eqb, leb}
 use lib.IntN.{ℤ, pos, negℤ, _+ℤ_}
 use lib.ListN.{getD, length}
@@ -27,7 +26,7 @@ use Rattle.isdbs_points.specs.BitLaws.{load-bit-small}
 use Rattle.isdbs_points.specs.InputLaws.{input-small}
 use Rattle.isdbs_metrics.specs.Reading.{Received, metricsBy, metricsIn, metricsAt}
 use Rattle.best_sides.specs.FrameSides.{frameMetrics, frameSides, betterIn, sideBy, sideIn, sideAt}
-use Rattle.best_sides.specs.FrameLaws.{quadruple-is, side-is, side-bit}
+use Rattle.best_sides.specs.FrameLaws.{quadruple-is, side-is, side-bit, has-side}
 use Rattle.best_grid.specs.Grid.{grid}
 use Rattle.best_grid.specs.Sides.{two, worthAt}
 use Rattle.best_grid.specs.Contents.{Content, worth}
@@ -35,22 +34,18 @@ use Rattle.best_loads.specs.Fit.{stepFit, fitIn, fitAt, fitTo, fit}
 use Rattle.best_loads.specs.Held.{besideBy, besideIn, besides}
 
 -- ---- a step
-sixteen : (r : Received) (g : Segment) (k : ℕ) → leb 16 (sideBy Tc8psk r g k) ≡ true
-unfolding sideBy
-sixteen r g k = le-leb 16 (16 + (betterIn r g k 0 + 2 * betterIn r g k 1 + 4 * betterIn r g k 2 + 8 * betterIn r g k 3)) (omega arith)
-
 worth-by : (md : Modulation) (r : Received) (g : Segment) (k z l : ℕ) → l < 4 → (side : ℕ) → side ≡ sideBy md r g k → (x : Float) → x ≡ getD (metricsBy md r g k) l nan
     → cond (leb 16 side) (cond (eqb z (side / 2 ^ l % 2)) (grid x) (negℤ (grid x))) (grid x) ≡ stepFit md r g k z l
 unfolding sideBy stepFit
 worth-by Bpsk r g k z l h side e x f = rw (e, f) refl
 worth-by Qpsk r g k z l h side e x f = rw (e, f) refl
-worth-by Tc8psk r g k z l h side e x f = rw (f, e, sixteen r g k, side-bit r g k l h) refl
+worth-by Tc8psk r g k z l h side e x f = rw (f, e, has-side r g k, side-bit r g k l h) refl
 
 -- the uncoded bit of a load is at most what the step may have
 beside-small : (md : Modulation) (r : Received) (load : List ℕ) (g : Segment) (k : ℕ) → besideBy md load g k ≤ bit (leb 16 (sideBy md r g k))
 beside-small Bpsk r load g k = omega arith
 beside-small Qpsk r load g k = omega arith
-beside-small Tc8psk r load g k = let h = load-bit-small load (g .bit + 2 * k) in rw (sixteen r g k) (omega arith)
+beside-small Tc8psk r load g k = let h = load-bit-small load (g .bit + 2 * k) in rw (has-side r g k) (omega arith)
 
 beside-fit : (md : Modulation) (r : Received) (load : List ℕ) (g : Segment) (k l : ℕ) → stepFit md r g k (besideBy md load g k) l ≡ stepFit md r g k (loadBit load (g .bit + 2 * k)) l
 unfolding stepFit
