@@ -26,12 +26,12 @@ use Rattle.isdbs_points.specs.SizeLaws.{find-step}
 use Rattle.isdbs_metrics.specs.Reading.{Received}
 use Rattle.best_sides.specs.FrameSides.{betterIn}
 use Rattle.best_loads.specs.Fit.{fit, DifferIn, Sent, LeadsIn, BestReading}
-use Rattle.best_loads.specs.Held.{besideBy, besideIn, besides}
+use Rattle.best_loads.specs.Held.{uncodedBy, uncodedIn, uncodedBits}
 use Rattle.best_loads.specs.FitLaws.{beside-at, load-content}
 use Rattle.best_loads.specs.HeldLaws.{load-only}
 
 -- ---- whole numbers
-le-parts : (a b : ℤ) → a ≤ℤ b → hiZ a + loZ b ≤ hiZ b + loZ a
+pub le-parts : (a b : ℤ) → a ≤ℤ b → hiZ a + loZ b ≤ hiZ b + loZ a
 le-parts a b h = go a b (h .le)
   where
     go : (a b : ℤ) → T (leZ a b) → hiZ a + loZ b ≤ hiZ b + loZ a
@@ -61,8 +61,20 @@ plus-none a =
     (le-val (a +ℤ pos 0) a (parts-of (a +ℤ pos 0)) (parts-of a) (omega arith) (omega arith) (omega arith))
     (le-val a (a +ℤ pos 0) (parts-of a) (parts-of (a +ℤ pos 0)) (omega arith) (omega arith) (omega arith))
 
+pub no-gain : (a : ℤ) (d : ℕ) → (a +ℤ pos d) ≤ℤ a → d ≡ 0
+no-gain a d h =
+    let l = le-parts (a +ℤ pos d) a h in
+    let x = parts a (pos d) in
+    omega arith
+
+pub ≤ℤ-trans : (a b c : ℤ) → a ≤ℤ b → b ≤ℤ c → a ≤ℤ c
+≤ℤ-trans a b c h k =
+    let x = le-parts a b h in
+    let y = le-parts b c k in
+    le-val a c (parts-of a) (parts-of c) (omega arith) (omega arith) (omega arith)
+
 -- ---- a content by its modulation
-beside-same : (md : Modulation) (a b : List ℕ) (g : Segment) (k : ℕ) → (md ≡ Tc8psk → loadBit a (g .bit + 2 * k) ≡ loadBit b (g .bit + 2 * k)) → besideBy md a g k ≡ besideBy md b g k
+beside-same : (md : Modulation) (a b : List ℕ) (g : Segment) (k : ℕ) → (md ≡ Tc8psk → loadBit a (g .bit + 2 * k) ≡ loadBit b (g .bit + 2 * k)) → uncodedBy md a g k ≡ uncodedBy md b g k
 beside-same Bpsk a b g k h = refl
 beside-same Qpsk a b g k h = refl
 beside-same Tc8psk a b g k h = h refl
@@ -86,19 +98,19 @@ module _ (t : Table) (accepted : TableAccepted t) (r : Received) (from : ℕ →
       ∙ ap (λ (us : List ℕ). betterIn r g k (labelAt (y .s) us (g .step + k))) (paths .1)
       ∙ sym (y .uncoded g m e k h)
 
-  beside-only : (k : ℕ) → k < frameSteps t → getD (besides t a) k 0 ≡ getD (besides t b) k 0
+  beside-only : (k : ℕ) → k < frameSteps t → getD (uncodedBits t a) k 0 ≡ getD (uncodedBits t b) k 0
   beside-only k h =
       let f = find-step t k h in
       let g = f .segment in
       let p = f .place in
       rw (f .place-is) (beside-at t a g (f .member) p (f .small) ∙ beside-same (modulationOf (g .combination)) a b g p (λ e. twos g (f .member) e p (f .small)) ∙ sym (beside-at t b g (f .member) p (f .small)))
 
-  besides-only : besides t a ≡ besides t b
-  unfolding besides
+  besides-only : uncodedBits t a ≡ uncodedBits t b
+  unfolding uncodedBits
   besides-only =
-      let n : length (besides t a) ≡ frameSteps t = length-upto (atStep 0 (besideIn a) t) (frameSteps t) in
-      let m : length (besides t b) ≡ frameSteps t = length-upto (atStep 0 (besideIn b) t) (frameSteps t) in
-      ext-getD 0 (besides t a) (besides t b) (n ∙ sym m) (λ k l. beside-only k (rw n at l))
+      let n : length (uncodedBits t a) ≡ frameSteps t = length-upto (atStep 0 (uncodedIn a) t) (frameSteps t) in
+      let m : length (uncodedBits t b) ≡ frameSteps t = length-upto (atStep 0 (uncodedIn b) t) (frameSteps t) in
+      ext-getD 0 (uncodedBits t a) (uncodedBits t b) (n ∙ sym m) (λ k l. beside-only k (rw n at l))
 
   -- ONE LOAD
   pub best-only : a ≡ b

@@ -27,11 +27,8 @@ pub record Written (m : Mapping) (scales re im xs₀ : List Float) (count : ℕ)
   pub filled : Filled (fours (listed (take count list) (receivedBy re im m scales))) xs₀ xs (4 * step)
 
 module _ {m : Mapping} {scales re im xs₀ : List Float} {count : ℕ} {list : List Run} where
-  abbrev ms : ℕ → List Float
-  ms = listed (take count list) (receivedBy re im m scales)
-
   pub written-first : {t : Table} → Listed t count list → 4 * frameSteps t ≤ length xs₀ → Written m scales re im xs₀ count list xs₀ 0 0
-  written-first l g = record { run = run-first (l .runs); fits = rw (l .listed) g; filled = filled-none (fours ms) xs₀ }
+  written-first l g = record { run = run-first (l .runs); fits = rw (l .listed) g; filled = filled-none (fours (listed (take count list) (receivedBy re im m scales))) xs₀ }
 
   pub written-next : {xs p : List Float} {step i n : ℕ} → Written m scales re im xs₀ count list xs step i → i < count → n ≡ stepsOf (getD list i noRun)
       → (x : Float) → x ≡ scaleOf scales (getD list i noRun .combination)
@@ -43,6 +40,7 @@ module _ {m : Mapping} {scales re im xs₀ : List Float} {count : ℕ} {list : L
       let g = w .fits in
       let r = getD list i noRun in
       let own = pieceMetrics (r .combination) (take (length re - r .«symbol_start») (drop (r .«symbol_start») re)) (take (length im - r .«symbol_start») (drop (r .«symbol_start») im)) m (scaleOf scales (r .combination)) in
+      let ms = listed (take count list) (receivedBy re im m scales) in
       let s : 4 * step + 4 * n ≡ 4 * (step + n) = omega arith in
       let same : (k : ℕ) → k < 4 * n → fours own k ≡ fours ms (4 * step + k) = λ k l.
       let q : (4 * step + k) / 4 ≡ step + k / 4 = omega arith in

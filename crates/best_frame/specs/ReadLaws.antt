@@ -24,14 +24,17 @@ use Rattle.isdbs_blocks.specs.Blocks.{fours}
 use Rattle.frame_ranges.specs.Metrics.{Sized}
 use Rattle.best_sides.specs.FrameSides.{frameMetrics, frameSides, sideAt}
 use Rattle.best_sides.specs.FrameLaws.{frame-upright}
-use Rattle.best_content.specs.Slots.{Marked, Lent}
+use Rattle.best_content.specs.Slots as content
+use Rattle.best_content.specs.Slots.{Marked}
 use Rattle.best_content.specs.Found.{Found}
 use Rattle.best_loads.specs.Marks.{markAt, frameMarks}
 use Rattle.best_loads.specs.MarkLaws.{marked-of}
 use Rattle.best_loads.specs.Held.{loadOf, heldBit}
-use Rattle.best_loads.specs.HeldLaws.{content-inputs, content-besides, content-bits, content-twos}
+use Rattle.best_loads.specs.HeldLaws.{content-inputs, content-uncoded, content-bits, content-twos}
 use Rattle.best_loads.specs.LoadLaws.{best-reading}
-use Rattle.best_core.specs.Left.{Sizes, Reads, Room}
+use Rattle.best_frame.specs.declared.Lengths.{Lengths}
+use Rattle.best_frame.specs.Lent.{Lent, lent, lengths}
+use Rattle.best_frame.specs.Left.{Room, Just, Reads, Left}
 
 -- a front as long as the list is all of it
 laid-whole : {A : Type 0} (a w : List A) → length w ≤ length a → laid a w ≡ a
@@ -39,13 +42,12 @@ laid-whole {A} a w h = ap (λ (x : List A). a ++ x) (drop-of-length-le w {i = le
 
 module _ (t : Table) (accepted : TableAccepted t) (r : Received) (start : Start) where
   -- the metrics, the sides and the marks as they are written
-  pub metrics-whole : (metrics₀ metrics : List Float) → metrics ≡ laid (upto (fours (metricsAt t r)) (4 * frameSteps t)) metrics₀ → length metrics₀ ≡ 4 * frameSteps t → metrics ≡ frameMetrics t r
-  unfolding frameMetrics
-  metrics-whole metrics₀ metrics e n = e ∙ laid-whole (upto (fours (metricsAt t r)) (4 * frameSteps t)) metrics₀ (let l = length-upto (fours (metricsAt t r)) (4 * frameSteps t) in omega arith)
-
   pub metrics-long : length (frameMetrics t r) ≡ 4 * frameSteps t
   unfolding frameMetrics
   metrics-long = length-upto (fours (metricsAt t r)) (4 * frameSteps t)
+
+  pub metrics-whole : (metrics₀ metrics : List Float) → metrics ≡ laid (frameMetrics t r) metrics₀ → length metrics₀ ≡ 4 * frameSteps t → metrics ≡ frameMetrics t r
+  metrics-whole metrics₀ metrics e n = e ∙ laid-whole (frameMetrics t r) metrics₀ (let l = metrics-long in omega arith)
 
   pub sides-long : length (frameSides t r) ≡ frameSteps t
   unfolding frameSides
@@ -61,10 +63,10 @@ module _ (t : Table) (accepted : TableAccepted t) (r : Received) (start : Start)
   marks-long marks₀ marks e h = let l = ap length e ∙ length-laid-upto (markAt t) (validTotal t + 1) marks₀ (omega arith) in omega arith
 
   -- what the reading of the whole is lent
-  pub lent : (v : ℕ) → v ≡ validTotal t → (z : Sized 16 6 r) (metrics : List Float) (sides marks tables words bits uncoded leads : List ℕ) → metrics ≡ frameMetrics t r → sides ≡ frameSides t r
+  pub content-lent : (v : ℕ) → v ≡ validTotal t → (z : Sized 16 6 r) (metrics : List Float) (sides marks tables words bits uncoded leads : List ℕ) → metrics ≡ frameMetrics t r → sides ≡ frameSides t r
       → validTotal t + 1 ≤ length marks → ((k : ℕ) → k ≤ validTotal t → getD marks k 0 ≡ markAt t k) → Isdb.states * validTotal t ≤ length tables → frameSteps t ≤ length words
-      → length bits ≡ frameSteps t → length uncoded ≡ frameSteps t → validTotal t ≤ length leads → Lent metrics sides marks v tables words bits uncoded leads
-  lent v ev z metrics sides marks tables words bits uncoded leads em es ml ma ht hw hb hu hl =
+      → length bits ≡ frameSteps t → length uncoded ≡ frameSteps t → validTotal t ≤ length leads → content.Lent metrics sides marks v tables words bits uncoded leads
+  content-lent v ev z metrics sides marks tables words bits uncoded leads em es ml ma ht hw hb hu hl =
       let n = steps em in
       let s : length sides ≡ frameSteps t = ap length es ∙ sides-long in
       rw (em, es, ev) (record {
@@ -114,7 +116,7 @@ module _ (t : Table) (accepted : TableAccepted t) (r : Received) (start : Start)
         rw b (record {
           best = best-reading t accepted r start marks bits uncoded leads ma found';
           bits-are = sym (content-inputs t accepted r (found' .s) bits uncoded (found' .content));
-          uncoded-are = sym (content-besides t accepted r (found' .s) bits uncoded (found' .content));
+          uncoded-are = sym (content-uncoded t accepted r (found' .s) bits uncoded (found' .content));
         })
 
 -- ---- slices whose fronts are lent
@@ -152,38 +154,99 @@ counted p h = record {
   valid-few = table-laid (p .table) (h .accepted) .valid;
 }
 
-pub sizes-of : (p : Plan) → Counted p → (metrics : List Float) (sides tables words bits uncoded bytes leads : List ℕ)
-    → Room (p .table) (length metrics) (length sides) (length tables) (length words) (length bits) (length uncoded) (length bytes) (length leads)
-    → Sizes (p .table) (length (take (4 * p .steps) metrics)) (length (take (p .steps) sides)) 49 (length (take (64 * p .«valid_slots») tables)) (length (take (p .steps) words)) (length (take (p .steps) bits)) (length (take (p .steps) uncoded)) (length (take (p .bytes) bytes)) (length (take (p .«valid_slots») leads))
-sizes-of p c metrics sides tables words bits uncoded bytes leads o =
+pub four-few : (p : Plan) → Planned p → 4 * p .steps ≤ 272832
+four-few p h = let c = counted p h in let s = c .steps-are in let f = c .steps-few in omega arith
+
+pub kept-few : (p : Plan) → Planned p → 64 * p .«valid_slots» ≤ 3072
+kept-few p h = let c = counted p h in let v = c .valid-are in let f = c .valid-few in omega arith
+
+-- the fronts that are lent on
+pub record Fronts (p : Plan) (l : Lengths) : Type 0 where
+  pub metrics : 4 * p .steps ≤ l .metrics
+  pub sides : p .steps ≤ l .sides
+  pub words : p .steps ≤ l .words
+  pub tables : 64 * p .«valid_slots» ≤ l .tables
+  pub bits : p .steps ≤ l .bits
+  pub uncoded : p .steps ≤ l .uncoded
+  pub bytes : p .bytes ≤ l .bytes
+  pub leads : p .«valid_slots» ≤ l .leads
+
+pub fronts : (p : Plan) (l : Lengths) → Planned p → Room (p .table) l → Fronts p l
+fronts p l h o =
+    let c = counted p h in
     let s = c .steps-are in
     let v = c .valid-are in
     let b = c .bytes-are in
-    let f = c .valid-few in
-    let o1 = o .metrics-fit in
-    let o2 = o .sides-fit in
-    let o3 = o .tables-fit in
-    let o4 = o .words-fit in
-    let o5 = o .bits-fit in
-    let o6 = o .uncoded-fit in
-    let o7 = o .bytes-fit in
-    let o8 = o .leads-fit in
-    let l1 = length-take-le (4 * p .steps) metrics (omega arith) in
-    let l2 = length-take-le (p .steps) sides (omega arith) in
-    let l3 = length-take-le (64 * p .«valid_slots») tables (omega arith) in
-    let l4 = length-take-le (p .steps) words (omega arith) in
-    let l5 = length-take-le (p .steps) bits (omega arith) in
-    let l6 = length-take-le (p .steps) uncoded (omega arith) in
-    let l7 = length-take-le (p .bytes) bytes (omega arith) in
-    let l8 = length-take-le (p .«valid_slots») leads (omega arith) in
     record {
-      metrics-are = omega arith;
-      sides-are = omega arith;
-      marks-fit = omega arith;
-      tables-fit = omega arith;
-      words-fit = omega arith;
-      bits-are = omega arith;
-      uncoded-are = omega arith;
-      bytes-are = omega arith;
-      leads-fit = omega arith;
+      metrics = omega (arith, o .metrics-fit);
+      sides = omega (arith, o .sides-fit);
+      words = omega (arith, o .words-fit);
+      tables = omega (arith, o .tables-fit);
+      bits = omega (arith, o .bits-fit);
+      uncoded = omega (arith, o .uncoded-fit);
+      bytes = omega (arith, o .bytes-fit);
+      leads = omega (arith, o .leads-fit);
+    }
+
+-- the fronts of lent memory, and other fronts laid over it
+abbrev pub taken : Plan → Lent → Lent
+taken p l =
+    lent (take (4 * p .steps) (l .metrics)) (take (p .steps) (l .sides)) (take (p .steps) (l .words)) (take (64 * p .«valid_slots») (l .tables)) (take (p .steps) (l .bits)) (take (p .steps) (l .uncoded))
+    (take (p .bytes) (l .bytes)) (take (p .«valid_slots») (l .leads))
+
+abbrev pub over : Plan → Lent → Lent → Lent
+over p new l =
+    lent (new .metrics ++ drop (4 * p .steps) (l .metrics)) (new .sides ++ drop (p .steps) (l .sides)) (new .words ++ drop (p .steps) (l .words)) (new .tables ++ drop (64 * p .«valid_slots») (l .tables))
+    (new .bits ++ drop (p .steps) (l .bits)) (new .uncoded ++ drop (p .steps) (l .uncoded)) (new .bytes ++ drop (p .bytes) (l .bytes)) (new .leads ++ drop (p .«valid_slots») (l .leads))
+
+-- of one length
+pub record Same (a b : Lent) : Type 0 where
+  pub metrics : length (a .metrics) ≡ length (b .metrics)
+  pub sides : length (a .sides) ≡ length (b .sides)
+  pub words : length (a .words) ≡ length (b .words)
+  pub tables : length (a .tables) ≡ length (b .tables)
+  pub bits : length (a .bits) ≡ length (b .bits)
+  pub uncoded : length (a .uncoded) ≡ length (b .uncoded)
+  pub bytes : length (a .bytes) ≡ length (b .bytes)
+  pub leads : length (a .leads) ≡ length (b .leads)
+
+pub just : (p : Plan) (l : Lent) → Planned p → Fronts p (lengths l) → Just (p .table) (lengths (taken p l))
+just p l h f =
+    let c = counted p h in
+    let s = c .steps-are in
+    let v = c .valid-are in
+    let b = c .bytes-are in
+    record {
+      metrics-are = omega (arith, length-take-le (4 * p .steps) (l .metrics) (f .metrics));
+      sides-are = length-take-le (p .steps) (l .sides) (f .sides) ∙ s;
+      words-are = length-take-le (p .steps) (l .words) (f .words) ∙ s;
+      tables-are = omega (arith, length-take-le (64 * p .«valid_slots») (l .tables) (f .tables));
+      bits-are = length-take-le (p .steps) (l .bits) (f .bits) ∙ s;
+      uncoded-are = length-take-le (p .steps) (l .uncoded) (f .uncoded) ∙ s;
+      bytes-are = length-take-le (p .bytes) (l .bytes) (f .bytes) ∙ b;
+      leads-are = length-take-le (p .«valid_slots») (l .leads) (f .leads) ∙ v;
+    }
+
+-- a reading in the fronts
+pub left-of : (p : Plan) (l new : Lent) → Planned p → Fronts p (lengths l) → Same new (taken p l) → (r : Received) (start : Start) → Reads (p .table) r start (new .bits) (new .uncoded) (new .bytes) (new .leads)
+    → Left (p .table) r start l (over p new l)
+left-of p l new h f g r start x =
+    let t = p .table in
+    let c = counted p h in
+    let s = c .steps-are in
+    let v = c .valid-are in
+    let b = c .bytes-are in
+    let four : 4 * p .steps ≡ 4 * frameSteps t = omega arith in
+    let kept : 64 * p .«valid_slots» ≡ 64 * validTotal t = omega arith in
+    record {
+      reads = reads-from (front-of (frameSteps t) (p .steps) (new .bits) (l .bits) s (f .bits) (g .bits)) (front-of (frameSteps t) (p .steps) (new .uncoded) (l .uncoded) s (f .uncoded) (g .uncoded))
+          (front-of (loadBytes t) (p .bytes) (new .bytes) (l .bytes) b (f .bytes) (g .bytes)) (front-of (validTotal t) (p .«valid_slots») (new .leads) (l .leads) v (f .leads) (g .leads)) x;
+      metrics-past = past-of (4 * frameSteps t) (4 * p .steps) (new .metrics) (l .metrics) four (f .metrics) (g .metrics);
+      sides-past = past-of (frameSteps t) (p .steps) (new .sides) (l .sides) s (f .sides) (g .sides);
+      words-past = past-of (frameSteps t) (p .steps) (new .words) (l .words) s (f .words) (g .words);
+      tables-past = past-of (64 * validTotal t) (64 * p .«valid_slots») (new .tables) (l .tables) kept (f .tables) (g .tables);
+      bits-past = past-of (frameSteps t) (p .steps) (new .bits) (l .bits) s (f .bits) (g .bits);
+      uncoded-past = past-of (frameSteps t) (p .steps) (new .uncoded) (l .uncoded) s (f .uncoded) (g .uncoded);
+      bytes-past = past-of (loadBytes t) (p .bytes) (new .bytes) (l .bytes) b (f .bytes) (g .bytes);
+      leads-past = past-of (validTotal t) (p .«valid_slots») (new .leads) (l .leads) v (f .leads) (g .leads);
     }
