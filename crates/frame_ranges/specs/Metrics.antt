@@ -213,6 +213,11 @@ module _ (p s : ℕ) (room : p + s + 2 ≤ 127) (t : Table) (fit : TableAccepted
         go Qpsk e = pair-rises few (soft-in (not-three e qpsk-not) k 0 K) (soft-in (not-three e qpsk-not) k 1 K) l h
         go Tc8psk e = inl (subset-up k e K l h)
 
+    -- those of TC8PSK are not below 0
+    pub metrics-up : (k : ℕ) → k < g .steps → modulationOf (g .combination) ≡ Tc8psk → (l : ℕ) → l < 4 → Up binary32 (getD (metricsIn r g k) l nan)
+    unfolding metricsBy
+    metrics-up k K e l h = rw e (subset-up k e K l h)
+
   -- ---- a step of the frame
   pub metric-in : (k : ℕ) → k < frameSteps t → (l : ℕ) → l < 4 → Size binary32 (suc (p + s)) (getD (metricsAt t r k) l nan)
   unfolding metricsAt
