@@ -1,14 +1,13 @@
--- Prices as the code works them out, and the run of steps back. Assumes nothing.
+-- Prices as the code works them out, and the run of steps back.
 use mathlib.Core.Path.{_≡_, refl, sym, ap, _∙_}
 use mathlib.Core.Logic.{⊎-elim}
 use mathlib.Core.Bool.{Bool, true, false, cond}
 use mathlib.Core.List.{List, [], _∷_}
 use Prim.Native.Nat.{ℕ, zero, suc, _+_, _-_, _*_, _/_, _%_, _^_, _≤_, _<_, min}
 use native.Mathlib.Omega.{arith}
-use native.Mathlib.Numerals.{add-one}
 use borrow.Author.Tests.{lt-leb, le-leb, eq-eqb, ne-eqb}
 use lib.Dec.{eqb, leb}
-use lib.ListN.{length, getD, List·getD-eq-default}
+use lib.ListN.{getD, List·getD-eq-default}
 use lib.Ieee.{Float, nan}
 use Rattle.trellis.specs.Lists.{upto, bit}
 use Rattle.trellis.specs.ListLaws.{length-upto, getD-upto}
@@ -18,14 +17,15 @@ use Rattle.trellis.specs.Run.{quadruple}
 use Rattle.trellis.specs.RunLaws.{label-under}
 use Rattle.trellis.specs.Code.{isdb, moved}
 use Rattle.trellis.specs.Isdb
-use Rattle.best_grid.specs.Grid.{level, most, dearest, above, below, cost}
+use Rattle.best_grid.specs.Grid.{level, dearest, cost}
 use Rattle.best_grid.specs.GridLaws.{cost-bounds, above-most, below-most}
 use Rattle.best_grid.specs.Sides.{mirror, two, better, priceAt}
 use Rattle.best_grid.specs.SideLaws.{mirror-small}
 use Rattle.best_grid.specs.Backward.{far, low, turned, onward, backs, others, backRun, otherRun}
 use Rattle.best_grid.specs.RunLaws.{low-both}
 use Rattle.best_grid.specs.Leading.{seq}
-use Rattle.best_backward.specs.Prices.{Halved, BackRoom, listed, priceOf, turnedOf, keptAt, turnedAt, Four, Lower, Asked}
+use Rattle.best_backward.specs.Prices.{Halved, BackRoom, priceOf, turnedOf, keptAt, turnedAt, Four, Lower}
+use Rattle.best_forward.specs.Room.{listed}
 
 pub mirror-cost : (x : Float) → 2 * level - cost x ≡ mirror x
 unfolding cost mirror

@@ -1,4 +1,4 @@
--- Prices of four labels as lists, and sums that fit. Assumes nothing.
+-- Prices of four labels as lists, and sums that fit.
 use mathlib.Core.Path.{_≡_}
 use mathlib.Core.Bool.{cond}
 use mathlib.Core.List.{List}
@@ -11,10 +11,6 @@ use Rattle.trellis.specs.Lists.{bit as bitOf}
 use Rattle.best_grid.specs.Grid.{cost, dearest}
 use Rattle.best_grid.specs.Sides.{mirror}
 use Rattle.best_grid.specs.Backward.{far}
-
--- the cost of the label l
-abbrev pub listed : List ℕ → ℕ → ℕ
-listed m l = getD m l 0
 
 -- two numbers of such lists can be added in 64 bits
 abbrev pub Halved : List ℕ → Type 0

@@ -1,11 +1,11 @@
--- The uncoded bits of a path as the code works them out. Assumes nothing.
-use mathlib.Core.Path.{_≡_, refl, sym, ap, _∙_}
+-- The uncoded bits of a path as the code works them out.
+use mathlib.Core.Path.{_≡_, refl, ap, _∙_}
 use mathlib.Core.List.{List}
 use Prim.Native.Nat.{ℕ, _+_, _-_, _*_, _/_, _%_, _^_, _≤_, _<_, min}
 use native.Mathlib.Omega.{arith}
 use native.Mathlib.Numerals.{add-one}
 use mathlib.Core.Logic.{⊎-elim}
-use lib.ListN.{getD, length, replicate, List·getD-eq-default}
+use lib.ListN.{getD, replicate, List·getD-eq-default}
 use Rattle.trellis.specs.Lists.{upto}
 use Rattle.trellis.specs.ListLaws.{length-upto, getD-upto}
 use Rattle.trellis.specs.WrittenLaws.{lt-or-ge}
@@ -14,7 +14,7 @@ use Rattle.trellis.specs.Code.{stateAt}
 use Rattle.trellis.specs.Isdb
 use Rattle.best_grid.specs.Backward.{leastOf, far, fars}
 use borrow.Author.Tests.{lt-leb, le-leb}
-use Rattle.best_content.specs.Chosen.{chosenAt, chosen}
+use Rattle.best_grid.specs.Sides.{chosenAt, chosen}
 
 pub coded : (side l : ℕ) → side < 16 → chosenAt side l ≡ 0
 coded side l h = rw (lt-leb 16 side h) refl

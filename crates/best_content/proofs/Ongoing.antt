@@ -1,46 +1,24 @@
--- A pass that goes on: the steps of a part of the metrics, and the words and tables behind those that are there. Assumes nothing.
+-- A pass that goes on: the steps of a part of the metrics, and the words and tables behind those that are there.
 use mathlib.Core.Path.{_≡_, refl, sym, ap, _∙_, subst}
 use mathlib.Core.Logic.{⊎-elim}
-use mathlib.Core.Bool.{Bool}
-use mathlib.Core.List.{List, [], _∷_, _++_}
-use Prim.Native.Nat.{ℕ, zero, suc, _+_, _-_, _*_, _/_, _%_, _≤_, _<_, min}
+use mathlib.Core.List.{List, _++_}
+use Prim.Native.Nat.{ℕ, zero, suc, _+_, _-_, _*_, _/_, _≤_, _<_}
 use native.Mathlib.Omega.{arith}
-use native.Mathlib.Numerals.{add-one}
-use lib.ListN.{length, getD, take, drop, List·getD-append, List·getD-eq-default, length-append, length-drop}
+use lib.ListN.{length, getD, take, drop, List·getD-append, length-append, length-drop}
 use lib.Seq.{getD-take, getD-drop, getD-append-add, length-take-le}
 use lib.Ieee.{Float, nan}
-use Rattle.trellis.specs.Lists.{upto, laid, packed}
+use Rattle.trellis.specs.Lists.{upto, laid}
 use Rattle.trellis.specs.ListLaws.{length-upto, getD-upto}
-use Rattle.trellis.specs.LaidLaws.{upto-cong, laid-part, length-laid}
+use Rattle.trellis.specs.LaidLaws.{laid-part, length-laid}
 use Rattle.trellis.specs.WrittenLaws.{lt-or-ge}
 use Rattle.trellis.specs.Run.{quadruple}
-use Rattle.trellis.specs.RunLaws.{label-under}
-use Rattle.trellis.specs.Code.{isdb}
 use Rattle.trellis.specs.Isdb
-use Rattle.best_grid.specs.Grid.{cost, costAt, dearest}
-use Rattle.best_grid.specs.GridLaws.{cost-bounds}
-use Rattle.best_grid.specs.Costs.{through, next, nexts, odd, word, tableAt, wordAt}
+use Rattle.best_grid.specs.Grid.{cost, costAt}
+use Rattle.best_grid.specs.TableLaws.{nexts-alike, word-alike, cost-small, room-at}
+use Rattle.best_grid.specs.Costs.{nexts, word, tableAt, wordAt}
 use Rattle.best_forward.specs.Room.{RoomFor}
 use Rattle.best_grid.specs.Leading.{seq}
-use Rattle.best_content.specs.Slots.{Marked, Saved}
-
--- ---- costs that agree on the labels
-through-alike : (d : List ℕ) (c c' : ℕ → ℕ) → ((l : ℕ) → l < 4 → c l ≡ c' l) → (k b : ℕ) → through d c k b ≡ through d c' k b
-unfolding through
-through-alike d c c' h k b = let from = 2 * (k % 32) + b in ap (λ (x : ℕ). getD d from 0 + x) (h (Isdb.labels (k / 32) from) (label-under isdb (k / 32) from))
-
-packed-alike : (f g : ℕ → Bool) → ((k : ℕ) → f k ≡ g k) → (n : ℕ) → packed f n ≡ packed g n
-unfolding packed
-packed-alike f g h zero = refl
-packed-alike f g h (suc n) = rw (packed-alike f g h n, h n) refl
-
-nexts-alike : (d : List ℕ) (c c' : ℕ → ℕ) → ((l : ℕ) → l < 4 → c l ≡ c' l) → nexts d c ≡ nexts d c'
-unfolding nexts next
-nexts-alike d c c' h = upto-cong (next d c) (next d c') 64 (λ k l. rw (through-alike d c c' h k 0, through-alike d c c' h k 1) refl)
-
-word-alike : (d : List ℕ) (c c' : ℕ → ℕ) → ((l : ℕ) → l < 4 → c l ≡ c' l) → word d c ≡ word d c'
-unfolding word
-word-alike d c c' h = packed-alike (odd d c) (odd d c') (λ k. rw (through-alike d c c' h k 0, through-alike d c c' h k 1) refl) 64
+use Rattle.best_content.specs.Slots.{Saved}
 
 -- ---- the steps from a on
 module _ (d : List ℕ) (c c' : ℕ → ℕ → ℕ) (a r : ℕ) (alike : (k l : ℕ) → k < r → l < 4 → c' k l ≡ c (a + k) l) where
@@ -103,32 +81,9 @@ module _ (d₀ : List ℕ) (xs : List Float) (a b : ℕ) (h : a ≤ b) (k : 4 * 
       ∙ ap (λ (n : ℕ). laid (upto (wordAt d₀ whole) n) ds₀) s
 
 -- ---- room
-cost-small : (x : Float) → cost x ≤ dearest
-cost-small x = cost-bounds x .1
-
-next-bound : (d : List ℕ) (c : ℕ → ℕ) (r : ℕ) → ((k : ℕ) → getD d k 0 + (dearest + r) ≤ 0xffff_ffff_ffff_ffff) → ((l : ℕ) → l < 4 → c l ≤ dearest) → (k : ℕ) → next d c k + r ≤ 0xffff_ffff_ffff_ffff
-unfolding next through
-next-bound d c r h s k =
-    let from = 2 * (k % 32) + 0 in
-    let a = h from in
-    let b = s (Isdb.labels (k / 32) from) (label-under isdb (k / 32) from) in
-    omega arith
-
-room-at : (n : ℕ) (d : List ℕ) (c : ℕ → ℕ → ℕ) → RoomFor n d → ((t l : ℕ) → l < 4 → c t l ≤ dearest) → (t : ℕ) → t ≤ n → (k : ℕ) → getD (tableAt d c t) k 0 + (n - t) * dearest ≤ 0xffff_ffff_ffff_ffff
-unfolding tableAt nexts
-room-at n d c h s zero l k = let a = h k in omega arith
-room-at n d c h s (suc t) l k =
-    ⊎-elim
-    (λ u. rw (getD-upto (next (tableAt d c t) (c t)) 0 64 k u) (next-bound (tableAt d c t) (c t) ((n - suc t) * dearest) (λ j. let i = room-at n d c h s t (omega arith) j in omega arith) (s t) k))
-    (λ past.
-    let z = List·getD-eq-default (upto (next (tableAt d c t) (c t)) 64) 0 {n = k} (rw (length-upto (next (tableAt d c t) (c t)) 64) past) in
-    let a = h 0 in
-    rw z (omega arith))
-    (lt-or-ge k 64)
-
 pub room-on : (n : ℕ) (d : List ℕ) (xs : List Float) (a b : ℕ) (x : List ℕ) → RoomFor n d → a ≤ b → b ≤ n → x ≡ tableAt d (costAt (quadruple xs)) a → RoomFor (b - a) x
 room-on n d xs a b x h le few e k =
-    let i = room-at n d (costAt (quadruple xs)) h (λ t l u. cost-small (getD (quadruple xs t) l nan)) a (omega arith) k in
+    let i = room-at 0xffff_ffff_ffff_ffff n d (costAt (quadruple xs)) h (λ t l u. cost-small (getD (quadruple xs t) l nan)) a (omega arith) k in
     rw e (omega arith)
 
 -- ---- the kept tables

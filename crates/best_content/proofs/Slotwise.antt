@@ -1,28 +1,25 @@
--- The backward pass, slot by slot. Assumes nothing.
-use mathlib.Core.Path.{_≡_, refl, sym, ap, _∙_, subst}
+-- The backward pass, slot by slot.
+use mathlib.Core.Path.{_≡_, refl, sym, ap, _∙_}
 use mathlib.Core.Logic.{⊎-elim}
 use mathlib.Core.List.{List}
-use Prim.Native.Nat.{ℕ, zero, suc, _+_, _-_, _*_, _/_, _%_, _≤_, _<_, min}
+use Prim.Native.Nat.{ℕ, zero, suc, _+_, _-_, _*_, _≤_, _<_, min}
 use native.Mathlib.Omega.{arith}
 use lib.ListN.{length, getD, take, drop, replicate, List·getD-eq-default, length-drop}
-use lib.Seq.{getD-take, getD-drop, length-take-le}
-use mathlib.Core.Bool.{Bool, true, false, cond}
-use lib.Dec.{eqb}
-use lib.Ieee.{Float, nan}
+use lib.Seq.{length-take-le}
+use lib.Ieee.{Float}
 use Rattle.trellis.specs.Run.{quadruple}
 use Rattle.best_path.specs.declared.Start.{Start}
-use Rattle.best_path.specs.declared.Start.the-variants.{Given, Unknown}
 use Rattle.best_grid.specs.Grid.{costAt}
-use Rattle.best_grid.specs.Costs.{tableAt, ruled, begun}
-use Rattle.best_grid.specs.Readings.{anywhere-zero}
+use Rattle.best_grid.specs.Costs.{tableAt}
+use Rattle.best_grid.specs.TableLaws.{small-start}
+use Rattle.best_content.specs.FoundLaws.{piece-at}
 use Rattle.best_grid.specs.Best.{startTable}
 use Rattle.best_forward.specs.Room.{RoomFor}
 use Rattle.best_content.proofs.Ongoing.{room-on}
 use Rattle.trellis.specs.Lists.{upto}
-use Rattle.trellis.specs.ListLaws.{length-upto, getD-upto}
+use Rattle.trellis.specs.ListLaws.{length-upto}
 use Rattle.trellis.specs.WrittenLaws.{lt-or-ge}
 use Rattle.trellis.specs.Isdb
-use Rattle.best_grid.specs.Grid.{dearest}
 use Rattle.best_grid.specs.Sides.{two, priceAt}
 use Rattle.best_grid.specs.SideLaws.{price-small}
 use Rattle.best_grid.specs.Backward.{low, onward, backs, backAt, backRun, otherRun, leastOf, fars}
@@ -59,9 +56,6 @@ back-room xs sides t j r b e h k =
 pub piece-length : (tables : List ℕ) (k : ℕ) → 64 * k + 64 ≤ length tables → length (take (64 * k + 64 - 64 * k) (drop (64 * k) tables)) ≡ 64
 piece-length tables k h = length-take-le (64 * k + 64 - 64 * k) (drop (64 * k) tables) (rw (length-drop (64 * k) tables) (omega arith)) ∙ omega arith
 
-pub piece-at : (tables : List ℕ) (k s : ℕ) → s < 64 → getD (take (64 * k + 64 - 64 * k) (drop (64 * k) tables)) s 0 ≡ getD tables (64 * k + s) 0
-piece-at tables k s h = getD-take (64 * k + 64 - 64 * k) (drop (64 * k) tables) s 0 (omega arith) ∙ getD-drop (64 * k) tables s 0
-
 pub piece-halved : (slots : ℕ) (tables : List ℕ) (k : ℕ) → k < slots → 64 * k + 64 ≤ length tables → Lowered slots tables → Halved (take (64 * k + 64 - 64 * k) (drop (64 * k) tables))
 piece-halved slots tables k h l low s =
     ⊎-elim (λ (u : s < 64). rw (piece-at tables k s u) (low k s h u))
@@ -89,19 +83,6 @@ unfolding backAt upto
 nothing-left m t n e = let z : n - t ≡ 0 = omega arith in rw z refl
 
 -- ---- the start has room for more than a frame
-small-start : (start : Start) (k : ℕ) → getD (startTable start) k 0 ≤ ruled
-unfolding begun
-small-start (Given s) k =
-    ⊎-elim
-    (λ (h : k < 64). rw (getD-upto (λ j. cond (eqb j (s % 64)) 0 ruled) 0 64 k h) (either (eqb k (s % 64))))
-    (λ (past : 64 ≤ k). rw (List·getD-eq-default (upto (λ j. cond (eqb j (s % 64)) 0 ruled) 64) 0 {n = k} (rw (length-upto (λ j. cond (eqb j (s % 64)) 0 ruled) 64) past)) (omega arith))
-    (lt-or-ge k 64)
-  where
-    either : (w : Bool) → cond w 0 ruled ≤ ruled
-    either true = omega arith
-    either false = omega arith
-small-start Unknown k = rw (anywhere-zero k) (omega arith)
-
 pub start-room : (start : Start) (n : ℕ) (d : List ℕ) → n ≤ 417734 → d ≡ startTable start → RoomFor n d
 start-room start n d h e k = let s = small-start start k in rw e (omega arith)
 

@@ -1,11 +1,9 @@
--- The whole reading, from what its parts leave. Assumes nothing.
-use mathlib.Core.Path.{_≡_, refl, sym, ap, _∙_, subst}
+-- The whole reading, from what its parts leave.
+use mathlib.Core.Path.{_≡_, sym, ap, _∙_, subst}
 use mathlib.Core.Logic.{⊎-elim}
-use mathlib.Core.Bool.{Bool, true, false, cond}
 use mathlib.Core.List.{List, [], _++_, append-nil}
-use Prim.Native.Nat.{ℕ, zero, suc, _+_, _-_, _*_, _/_, _%_, _≤_, _<_}
+use Prim.Native.Nat.{ℕ, _*_, _≤_, _<_}
 use native.Mathlib.Omega.{arith}
-use lib.Dec.{leb}
 use lib.ListN.{length, getD, take, drop, List·getD-eq-default, drop-of-length-le}
 use lib.Seq.{take-all}
 use lib.Ieee.{Float}
@@ -21,12 +19,12 @@ use Rattle.best_grid.specs.Grid.{costAt}
 use Rattle.best_grid.specs.Costs.{tableAt, wordAt, cheapest}
 use Rattle.best_grid.specs.Best.{startTable, bestWords, bestEnd, bestBits, bestStart}
 use Rattle.best_grid.specs.BestLaws.{best-found}
-use Rattle.best_grid.specs.SideLaws.{Upright}
+use Rattle.best_grid.specs.SideLaws.{Upright, chosen-small}
 use Rattle.best_backward.specs.Prices.{Asked}
-use Rattle.best_content.specs.Chosen.{chosenAt, chosen}
-use Rattle.best_content.specs.Slots.{Marked, Saved, Lent, leadAt}
+use Rattle.best_grid.specs.Sides.{chosen}
+use Rattle.best_content.specs.Slots.{Marked, Saved, leadAt}
 use Rattle.best_content.specs.Found.{Found}
-use Rattle.best_content.specs.FoundLaws.{found, own-is, chosen-small}
+use Rattle.best_content.specs.FoundLaws.{found, own-is}
 
 -- written over the whole of a list
 over : (x w : List ℕ) → length w ≡ length x → laid x w ≡ x

@@ -1,9 +1,9 @@
--- What the best content of a stretch is, and its leads. Definitions only. Assumes nothing.
+-- What the best content of a stretch is, and its leads. Definitions only.
 use mathlib.Core.Path.{_≡_}
 use mathlib.Core.List.{List}
-use Prim.Native.Nat.{ℕ, _+_, _/_, _<_}
+use Prim.Native.Nat.{ℕ, _+_, _<_}
 use lib.Signed.{_≤ℤ_}
-use lib.ListN.{length, getD}
+use lib.ListN.{getD}
 use lib.Ieee.{Float}
 use Rattle.trellis.specs.Isdb
 use Rattle.best_path.specs.Paths.{First}

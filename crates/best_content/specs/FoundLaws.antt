@@ -1,96 +1,46 @@
--- The best bits with the better uncoded bits are the best content, and their leads are those of the two passes. Assumes nothing.
+-- The best bits with the better uncoded bits are the best content, and their leads are those of the two passes.
 use mathlib.Core.Path.{_≡_, refl, sym, ap, _∙_, subst}
-use mathlib.Core.Logic.{_⊎_, inl, inr, ⊎-elim}
-use mathlib.Core.Bool.{Bool, true, false, cond}
 use mathlib.Core.List.{List}
-use Prim.Native.Nat.{ℕ, zero, suc, _+_, _-_, _*_, _/_, _%_, _^_, _≤_, _<_, min}
+use Prim.Native.Nat.{ℕ, zero, suc, _+_, _-_, _*_, _≤_, _<_}
 use native.Mathlib.Omega.{arith}
-use native.Mathlib.Nat.{mod-lt}
-use borrow.Author.Tests.{leb-true, leb-false, eq-eqb}
-use lib.Dec.{eqb, leb}
 use lib.IntN.{ℤ}
 use lib.Signed.{_≤ℤ_}
-use lib.ListN.{length, getD, take, drop}
+use lib.ListN.{getD, drop}
 use lib.Seq.{getD-take, getD-drop, ext-getD}
-use lib.Ieee.{Float, nan}
-use Rattle.trellis.specs.Lists.{bit, upto}
+use lib.Ieee.{Float}
+use Rattle.trellis.specs.Lists.{upto}
 use Rattle.trellis.specs.ListLaws.{length-upto, getD-upto}
-use Rattle.trellis.specs.LaidLaws.{upto-cong}
 use Rattle.trellis.specs.Run.{quadruple}
-use Rattle.trellis.specs.RunLaws.{label-under}
-use Rattle.trellis.specs.Code.{isdb, stateAt}
 use Rattle.trellis.specs.Isdb
 use Rattle.best_path.specs.Paths.{First, sumℤ}
 use Rattle.best_path.specs.Greatest.{one-first}
 use Rattle.best_path.specs.Integers.{≤ℤ-antisymm}
 use Rattle.best_path.specs.Fresh.{StartsIn}
 use Rattle.best_path.specs.declared.Start.{Start}
-use Rattle.best_grid.specs.Grid.{dearest, cost, gridAt, costAt}
-use Rattle.best_grid.specs.Costs.{through, next, nexts, tableAt, cheapest, paid}
+use Rattle.best_grid.specs.Grid.{gridAt, costAt}
+use Rattle.best_grid.specs.Costs.{tableAt, paid}
 use Rattle.best_grid.specs.Best.{startTable, bestEnd, bestBits, bestStart}
 use Rattle.best_grid.specs.BestLaws.{best-found, best-paid, starts-zero, starts-only}
 use Rattle.best_grid.specs.Contents.{Content, worth, Leads}
-use Rattle.best_grid.specs.Sides.{two, better, mirror, worthAt, priceAt}
-use Rattle.best_grid.specs.SideLaws.{priced, price-small, Upright, low-is, worth-total, worth-under}
+use Rattle.best_grid.specs.Sides.{two, worthAt, priceAt, chosen}
+use Rattle.best_grid.specs.SideLaws.{priced, price-small, Upright, low-is, worth-total, worth-under, chosen-small, price-chosen}
+use Rattle.best_grid.specs.TableLaws.{table-alike, cheapest-least}
 use Rattle.best_grid.specs.Backward.{low, backAt, otherAt, otherRun, fars, leastOf}
 use Rattle.best_grid.specs.RunLaws.{other-split}
-use Rattle.best_grid.specs.Sequences.{stateF, spent}
+use Rattle.best_grid.specs.Sequences.{spent}
 use Rattle.best_grid.specs.Leading.{seq, state-same, greatest, leads}
-use Rattle.best_content.specs.Chosen.{chosenAt, chosen}
 use Rattle.best_content.specs.Slots.{Marked, Saved, leadAt, piece}
 use Rattle.best_content.specs.Found.{Found}
 
--- ---- the cheapest state is
-pub cheapest-least : (d : List ℕ) (n k : ℕ) → k ≤ n → getD d (cheapest d n) 0 ≤ getD d k 0
-unfolding cheapest
-cheapest-least d zero k h = let e : k ≡ 0 = omega arith in rw e (omega arith)
-cheapest-least d (suc n) k h = go (leb (getD d (suc n) 0) (getD d (cheapest d n) 0)) refl (cases k n h) (cheapest-least d n k)
-  where
-    cases : (k n : ℕ) → k ≤ suc n → (k ≡ suc n) ⊎ (k ≤ n)
-    cases zero n h = inr (omega arith)
-    cases (suc k) zero h = inl (omega arith)
-    cases (suc k) (suc n) h = ⊎-elim (λ (e : k ≡ suc n). inl (ap suc e)) (λ (l : k ≤ n). inr (omega arith)) (cases k n (omega arith))
-
-    go : (w : Bool) → leb (getD d (suc n) 0) (getD d (cheapest d n) 0) ≡ w → (k ≡ suc n) ⊎ (k ≤ n) → (k ≤ n → getD d (cheapest d n) 0 ≤ getD d k 0) → getD d (cond w (suc n) (cheapest d n)) 0 ≤ getD d k 0
-    go true e (inl q) ih = rw q (omega arith)
-    go true e (inr q) ih = let a = leb-true (getD d (suc n) 0) (getD d (cheapest d n) 0) e in let i = ih q in omega arith
-    go false e (inl q) ih = let a = leb-false (getD d (suc n) 0) (getD d (cheapest d n) 0) e in rw q (omega arith)
-    go false e (inr q) ih = ih q
-
 -- ---- tables of costs that agree
-through-alike : (d : List ℕ) (c c' : ℕ → ℕ) → ((l : ℕ) → l < 4 → c l ≡ c' l) → (k b : ℕ) → through d c k b ≡ through d c' k b
-unfolding through
-through-alike d c c' h k b = let from = 2 * (k % 32) + b in ap (λ (x : ℕ). getD d from 0 + x) (h (Isdb.labels (k / 32) from) (label-under isdb (k / 32) from))
-
-nexts-alike : (d : List ℕ) (c c' : ℕ → ℕ) → ((l : ℕ) → l < 4 → c l ≡ c' l) → nexts d c ≡ nexts d c'
-unfolding nexts next
-nexts-alike d c c' h = upto-cong (next d c) (next d c') 64 (λ k l. rw (through-alike d c c' h k 0, through-alike d c c' h k 1) refl)
-
-table-alike : (d : List ℕ) (c c' : ℕ → ℕ → ℕ) (n : ℕ) → ((t l : ℕ) → t < n → l < 4 → c t l ≡ c' t l) → (t : ℕ) → t ≤ n → tableAt d c t ≡ tableAt d c' t
-unfolding tableAt
-table-alike d c c' n h zero l = refl
-table-alike d c c' n h (suc t) l = nexts-alike (tableAt d c t) (c t) (c' t) (λ i u. h t i l u) ∙ ap (λ (x : List ℕ). nexts x (c' t)) (table-alike d c c' n h t (omega arith))
-
 least-alike : (a a' d : List ℕ) (n : ℕ) → ((s : ℕ) → s < n → getD a s 0 ≡ getD a' s 0) → leastOf a d n ≡ leastOf a' d n
 unfolding leastOf
 least-alike a a' d zero h = refl
 least-alike a a' d (suc n) h = rw (least-alike a a' d n (λ s l. h s (omega arith)), h n (omega arith)) refl
 
--- ---- the better uncoded bit costs the metric
-pub chosen-small : (side l : ℕ) → chosenAt side l ≤ bit (leb 16 side)
-chosen-small side l = go (leb 16 side) (mod-lt (side / 2 ^ l) (omega arith))
-  where
-    go : (w : Bool) → side / 2 ^ l % 2 < 2 → cond w (side / 2 ^ l % 2) 0 ≤ bit w
-    go true h = omega arith
-    go false h = omega arith
-
-price-chosen : (xs : List Float) (sides : List ℕ) (t l : ℕ) → priceAt xs sides t (chosenAt (getD sides t 0) l) l ≡ costAt (quadruple xs) t l
-unfolding priceAt
-price-chosen xs sides t l = go (leb 16 (getD sides t 0)) (getD (quadruple xs t) l nan)
-  where
-    go : (w : Bool) (x : Float) → cond w (cond (eqb (cond w (getD sides t 0 / 2 ^ l % 2) 0) (getD sides t 0 / 2 ^ l % 2)) (cost x) (mirror x)) (cost x) ≡ cost x
-    go true x = rw (eq-eqb (getD sides t 0 / 2 ^ l % 2) (getD sides t 0 / 2 ^ l % 2) refl) refl
-    go false x = refl
+-- ---- the table kept for slot k
+pub piece-at : (tables : List ℕ) (k s : ℕ) → s < 64 → getD (piece (64 * k) (64 * k + 64) tables) s 0 ≡ getD tables (64 * k + s) 0
+piece-at tables k s h = getD-take (64 * k + 64 - 64 * k) (drop (64 * k) tables) s 0 (omega arith) ∙ getD-drop (64 * k) tables s 0
 
 -- ---- the theorem
 module _ (start : Start) (xs : List Float) (sides marks : List ℕ) (slots n : ℕ) (few : n ≤ Isdb.longestFrame) (up : Upright xs sides n) (marked : Marked marks slots n) (tables : List ℕ)
@@ -163,9 +113,6 @@ module _ (start : Start) (xs : List Float) (sides marks : List ℕ) (slots n : �
       least-alike (piece (64 * k) (64 * k + 64) tables) (tableAt (startTable start) cheap a) (otherRun (two xs sides) (priceAt xs sides) (seq us) (seq zs) fars (backAt cheap b (n - b)) a (b - a)) 64
       (λ i hi. piece-at tables k i hi ∙ saved k i h hi ∙ ap (λ (x : List ℕ). getD x i 0) (sym (tables-same a (omega arith))))
       ∙ ap (λ (x : List ℕ). leastOf (tableAt (startTable start) cheap a) x 64) (sym d)
-    where
-      piece-at : (tables : List ℕ) (k s : ℕ) → s < 64 → getD (piece (64 * k) (64 * k + 64) tables) s 0 ≡ getD tables (64 * k + s) 0
-      piece-at tables k s h = getD-take (64 * k + 64 - 64 * k) (drop (64 * k) tables) s 0 (omega arith) ∙ getD-drop (64 * k) tables s 0
 
   -- ---- of equals it is the first
   zs-chosen : (k : ℕ) → k < n → getD zs k 0 ≡ chosen sides us s k

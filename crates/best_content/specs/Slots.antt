@@ -1,4 +1,4 @@
--- The slots of a stretch of n steps, by their marks: slot k has the steps from mark k up to mark k + 1. Assumes nothing.
+-- The slots of a stretch of n steps, by their marks: slot k has the steps from mark k up to mark k + 1.
 use mathlib.Core.Path.{_≡_}
 use mathlib.Core.List.{List, _++_}
 use Prim.Native.Nat.{ℕ, _+_, _-_, _*_, _/_, _≤_, _<_}
@@ -33,6 +33,10 @@ Saved d c marks slots tables = (k s : ℕ) → k < slots → s < 64 → getD tab
 -- no kept number is too large for a sum
 abbrev pub Lowered : ℕ → List ℕ → Type 0
 Lowered slots tables = (k s : ℕ) → k < slots → s < 64 → getD tables (64 * k + s) 0 ≤ 0x7fff_ffff_ffff_ffff
+
+-- the sums of two tables fit
+abbrev pub Summable : List ℕ → List ℕ → Type 0
+Summable a d = (k : ℕ) → k < 64 → getD a k 0 + getD d k 0 ≤ 0xffff_ffff_ffff_ffff
 
 -- the lead of slot k: the least cost of a content that differs in it, from the table kept before it, less what the reading costs
 abbrev pub leadAt : List Float → List ℕ → List ℕ → List ℕ → List ℕ → List ℕ → ℕ → ℕ → ℕ → ℕ

@@ -1,13 +1,12 @@
 -- The tables of the backward pass. Of each state: the least cost from there to the end, and the least cost from there to the end of a content that differs from the reading within the rest of
--- its slot. Assumes nothing.
+-- its slot.
 use mathlib.Core.Bool.{Bool, cond}
 use mathlib.Core.List.{List}
-use Prim.Native.Nat.{ℕ, zero, suc, _+_, _-_, _*_, _/_, _≤_, min}
+use Prim.Native.Nat.{ℕ, zero, suc, _+_, _-_, min}
 use lib.ListN.{getD}
 use Rattle.trellis.specs.Lists.{upto}
 use Rattle.trellis.specs.Code.{moved}
 use Rattle.trellis.specs.Isdb
-use Rattle.best_grid.specs.Costs.{tableAt}
 
 -- no content: 2 ^ 62, more than any content of a frame costs
 abbrev pub far : ℕ

@@ -1,6 +1,6 @@
--- The best reading of n quadruples of metrics: the bits that the decision words give, traced from the cheapest end. Assumes nothing.
+-- The best reading of n quadruples of metrics: the bits that the decision words give, traced from the cheapest end.
 use mathlib.Core.List.{List}
-use Prim.Native.Nat.{ℕ, _-_, _%_, _≤_}
+use Prim.Native.Nat.{ℕ, _-_, _%_}
 use lib.Ieee.{Float}
 use Rattle.trellis.specs.Lists.{upto}
 use Rattle.trellis.specs.Step.{input, back}

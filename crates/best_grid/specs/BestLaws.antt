@@ -1,4 +1,4 @@
--- The best reading is that of greatest sum on the grid, and the grid hides little. Assumes nothing.
+-- The best reading is that of greatest sum on the grid, and the grid hides little.
 use mathlib.Core.Path.{_≡_}
 use mathlib.Core.List.{List}
 use Prim.Native.Nat.{ℕ, _+_, _%_, _≤_, _<_}

@@ -1,13 +1,12 @@
--- The definitions computed on small cases. Assumes nothing.
+-- The definitions computed on small cases.
 use mathlib.Core.Path.{_≡_, refl}
 use mathlib.Core.List.{List, [], _∷_}
-use Prim.Native.Nat.{ℕ, _-_}
-use lib.IntN.{ℤ, pos, negsuc}
-use lib.Ieee.{Float, binary32, ofBits, nan}
+use Prim.Native.Nat.{ℕ}
+use lib.IntN.{pos, negsuc}
+use lib.Ieee.{Float, binary32, ofBits}
 use Rattle.ieee.specs.Value.{hi, lo, mag}
 use Rattle.trellis.specs.Code.{output, tapped, label, stateAt}
-use Rattle.trellis.specs.Lists.{upto}
-use Rattle.best_grid.specs.Grid.{above, below, grid, cost, level, most}
+use Rattle.best_grid.specs.Grid.{above, below, grid, cost, most}
 use Rattle.best_grid.specs.Contents.{worth}
 use Rattle.best_grid.specs.Sides.{worthAt, mirror}
 

@@ -1,5 +1,5 @@
--- The least cost of a content that differs from the reading in given steps: both tables together have it, at the steps' beginning. Assumes nothing.
-use mathlib.Core.Path.{_≡_, refl, sym, ap, _∙_}
+-- The least cost of a content that differs from the reading in given steps: both tables together have it, at the steps' beginning.
+use mathlib.Core.Path.{_≡_, refl, ap, _∙_}
 use mathlib.Core.Logic.{_⊎_, inl, inr, ⊎-elim}
 use mathlib.Core.Bool.{Bool, true, false, cond}
 use mathlib.Core.List.{List}
@@ -9,12 +9,11 @@ use borrow.Author.Tests.{lt-ltb, le-ltb}
 use lib.Dec.{ltb}
 use lib.ListN.{getD}
 use Rattle.trellis.specs.Lists.{bit}
-use Rattle.trellis.specs.Code.{moved}
 use Rattle.trellis.specs.Isdb
 use Rattle.best_grid.specs.Grid.{dearest}
 use Rattle.best_grid.specs.Costs.{tableAt}
 use Rattle.best_grid.specs.Backward.{far, low, otherAt, leastOf}
-use Rattle.best_grid.specs.Sequences.{stateF, Fine, state-under, put, put-here, put-fine, spent, ahead, split, other-least, other-met, table-least, table-met, ahead-alike, spent-alike, state-alike}
+use Rattle.best_grid.specs.Sequences.{le-or, stateF, Fine, state-under, put, put-here, put-fine, spent, ahead, split, other-least, other-met, table-least, table-met, ahead-alike, spent-alike, state-alike}
 
 -- ---- the least of a list of sums
 pub least-under : (a d : List ℕ) (n s : ℕ) → s < n → leastOf a d n ≤ getD a s 0 + getD d s 0
@@ -36,13 +35,8 @@ record At (a d : List ℕ) (n v : ℕ) : Type 0 where
 least-at : (a d : List ℕ) (n : ℕ) → (leastOf a d n ≡ far + far) ⊎ At a d n (leastOf a d n)
 unfolding leastOf
 least-at a d zero = inl refl
-least-at a d (suc n) = go (leastOf a d n) (getD a n 0 + getD d n 0) refl refl (less (leastOf a d n) (getD a n 0 + getD d n 0)) (least-at a d n)
+least-at a d (suc n) = go (leastOf a d n) (getD a n 0 + getD d n 0) refl refl (le-or (leastOf a d n) (getD a n 0 + getD d n 0)) (least-at a d n)
   where
-    less : (x y : ℕ) → (x ≤ y) ⊎ (y ≤ x)
-    less zero y = inl (omega arith)
-    less (suc x) zero = inr (omega arith)
-    less (suc x) (suc y) = ⊎-elim (λ (h : x ≤ y). inl (omega arith)) (λ (h : y ≤ x). inr (omega arith)) (less x y)
-
     go : (x y : ℕ) → leastOf a d n ≡ x → getD a n 0 + getD d n 0 ≡ y → (x ≤ y) ⊎ (y ≤ x) → (leastOf a d n ≡ far + far) ⊎ At a d n (leastOf a d n) → (min x y ≡ far + far) ⊎ At a d (suc n) (min x y)
     go x y ex ey (inl h) (inl k) = inl (omega arith)
     go x y ex ey (inl h) (inr k) = inr (record { s = k .s; under = let q = k .under in omega arith; is = let q = k .is in omega arith })

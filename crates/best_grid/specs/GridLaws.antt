@@ -1,21 +1,20 @@
--- Laws of the grid: costs are levels less grid numbers, and what a bit pattern has on the grid. Assumes nothing.
+-- Laws of the grid: costs are levels less grid numbers, and what a bit pattern has on the grid.
 use mathlib.Core.Path.{_≡_, refl, sym, ap, _∙_, subst}
-use mathlib.Core.Logic.{_⊎_, inl, inr}
-use mathlib.Core.Bool.{Bool, true, false, not, cond}
+use mathlib.Core.Logic.{inl, inr}
+use mathlib.Core.Bool.{Bool, true, false, cond}
 use mathlib.Core.List.{List}
-use Prim.Native.Nat.{ℕ, zero, suc, _+_, _-_, _*_, _/_, _%_, _^_, _≤_, _<_, min}
-use native.Mathlib.Nat.{mul-one, lt-of-lt-of-le}
+use Prim.Native.Nat.{ℕ, _+_, _-_, _*_, _/_, _%_, _^_, _≤_, _<_, min}
+use native.Mathlib.Nat.{lt-of-lt-of-le}
 use native.Mathlib.Omega.{arith}
 use borrow.Author.Tests.{leb-true, leb-false, ltb-true, ltb-false}
 use lib.IntN.{ℤ}
-use lib.Dec.{T, leb, ltb, nltb→le, lit≤}
+use lib.Dec.{leb, ltb, lit≤}
 use lib.ListN.{getD}
 use lib.Pow.{pow-mono, shl-lt}
-use lib.Ieee.{Float, nan, inf, fin, binary32, minus, isNan, fits, ofBits, toBits, units}
-use lib.Ieee.Bits.{ofBits-toBits, toBits-lt, nanBits-is, nanBits-above}
+use lib.Ieee.{Float, nan, binary32, minus, ofBits}
 use lib.Ieee.Exact.{HasValue, units-val}
-use Rattle.ieee.specs.Bits.{units-bits, inf-bits}
-use Rattle.ieee.specs.Value.{hi, lo, hi-of, lo-of}
+use Rattle.ieee.specs.Bits.{units-bits}
+use Rattle.ieee.specs.Value.{hi, lo}
 use Rattle.ieee.specs.Whole.{hiZ, loZ}
 use Rattle.best_grid.specs.Grid.{unit, most, level, above, below, grid, cost, gridAt, costAt}
 use Rattle.best_grid.specs.Readings.{Costed}

@@ -1,14 +1,14 @@
--- The grid hides little: no path's exact sum of metrics is above that of the best reading by more than two units of 2 ^ -20 a step. Assumes nothing.
-use mathlib.Core.Path.{_≡_, refl, sym, ap, _∙_}
+-- The grid hides little: no path's exact sum of metrics is above that of the best reading by more than two units of 2 ^ -20 a step.
+use mathlib.Core.Path.{_≡_, refl}
 use mathlib.Core.List.{List}
-use Prim.Native.Nat.{ℕ, zero, suc, _+_, _-_, _*_, _/_, _^_, _≤_, _<_, min}
+use Prim.Native.Nat.{ℕ, zero, suc, _+_, _*_, _/_, _≤_, _<_, min}
 use native.Mathlib.Nat.{div-mul-le-self, lt-div-mul-add, add-mul, mul-le-mul-right}
 use native.Mathlib.Omega.{arith}
 use lib.IntN.{ℤ, pos, negsuc, _+ℤ_}
-use lib.Signed.{_≤ℤ_, leZ}
-use lib.Dec.{T, leb→le, ltb→lt}
+use lib.Signed.{leZ}
+use lib.Dec.{T, leb→le}
 use lib.Pow.{pow-pos}
-use lib.ListN.{getD, length}
+use lib.ListN.{getD}
 use lib.Ieee.{Float, nan, binary32}
 use Rattle.ieee.specs.Value.{hi, lo}
 use Rattle.ieee.specs.Whole.{hiZ, loZ, parts}

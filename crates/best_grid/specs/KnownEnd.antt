@@ -3,7 +3,7 @@
 use mathlib.Core.Path.{_≡_, refl, sym, ap, _∙_}
 use mathlib.Core.Logic.{_⊎_, inl, inr, ⊎-elim}
 use mathlib.Core.List.{List, _++_}
-use Prim.Native.Nat.{ℕ, zero, suc, _+_, _-_, _*_, _/_, _%_, _≤_, _<_}
+use Prim.Native.Nat.{ℕ, zero, suc, _+_, _*_, _/_, _%_, _≤_, _<_}
 use native.Mathlib.Omega.{arith}
 use native.Mathlib.Nat.{add-zero, add-suc, mod-lt}
 use lib.IntN.{ℤ, pos, +ℤ-idr}
@@ -12,7 +12,7 @@ use lib.Seq.{getD-append-add}
 use Rattle.trellis.specs.Code.{stateAt, labelAt}
 use Rattle.trellis.specs.Step.{upper}
 use Rattle.trellis.specs.Isdb
-use Rattle.best_path.specs.Paths.{Ahead, Path, Tail, First, sumℤ}
+use Rattle.best_path.specs.Paths.{Path, Tail, First, sumℤ}
 use Rattle.best_path.specs.Greatest.{at-more, at-under}
 
 -- ---- sums
@@ -201,7 +201,7 @@ module _ (s : ℕ) (us : List ℕ) (r : ℕ) (vs ks : List ℕ) (n : ℕ) (p : P
       let hc : c < 2 = rw (← is-c) (mod-lt (x k) (omega arith)) in
       let hd : d < 2 = rw (← is-d) (mod-lt (y k) (omega arith)) in
       let g : (d < c) ⊎ ((c ≡ d) × ((w < v) ⊎ ((v ≡ w) × T 0))) =
-          ⊎-elim (λ (l : y k % 2 < x k % 2). inl (rw (is-c, is-d) at l)) (λ (m : (x k % 2 ≡ y k % 2) × T k). inr (sym is-c ∙ m .0 ∙ is-d, rest (m .1))) (opened k t) in
+      ⊎-elim (λ (l : y k % 2 < x k % 2). inl (rw (is-c, is-d) at l)) (λ (m : (x k % 2 ≡ y k % 2) × T k). inr (sym is-c ∙ m .0 ∙ is-d, rest (m .1))) (opened k t) in
       rw (is-a, is-e) at (digit-more b c d v w (T 0) hc hd hv hw g)
 
   raised : (k b c d a e v w : ℕ) → x k % 2 ≡ c → y k % 2 ≡ d → v < b → w < b → b * c + v ≡ a → b * d + w ≡ e → ((w < v) ⊎ ((v ≡ w) × T 0) → T k) → (e < a) ⊎ ((a ≡ e) × T 0) → T (suc k)

@@ -1,26 +1,25 @@
--- By how much a reading leads in given steps: the least cost of a content that differs there, less its own. Assumes nothing.
+-- By how much a reading leads in given steps: the least cost of a content that differs there, less its own.
 use mathlib.Core.Path.{_≡_, refl, sym, ap, _∙_, subst}
-use mathlib.Core.Logic.{_⊎_, inl, inr, ⊎-elim}
-use mathlib.Core.Bool.{Bool, true, false, cond}
+use mathlib.Core.Logic.{⊎-elim}
+use mathlib.Core.Bool.{Bool}
 use mathlib.Core.List.{List}
-use Prim.Native.Nat.{ℕ, zero, suc, _+_, _-_, _*_, _≤_, _<_, min}
+use Prim.Native.Nat.{ℕ, zero, suc, _+_, _-_, _*_, _≤_, _<_}
 use native.Mathlib.Omega.{arith}
 use lib.IntN.{ℤ, pos, _+ℤ_}
 use lib.Signed.{_≤ℤ_}
-use lib.ListN.{getD, length, List·getD-eq-default}
+use lib.ListN.{getD, List·getD-eq-default}
 use Rattle.ieee.specs.Whole.{hiZ, loZ, parts}
-use Rattle.trellis.specs.Lists.{bit, upto}
+use Rattle.trellis.specs.Lists.{upto}
 use Rattle.trellis.specs.ListLaws.{length-upto, getD-upto}
 use Rattle.trellis.specs.WrittenLaws.{lt-or-ge}
 use Rattle.trellis.specs.Code.{moved, stateAt}
 use Rattle.trellis.specs.Isdb
-use Rattle.best_path.specs.Paths.{Path, Walk}
 use Rattle.best_path.specs.Viterbi.{Z}
 use Rattle.best_path.specs.Integers.{Val, le-val, ≤ℤ-antisymm}
 use Rattle.best_grid.specs.Grid.{level, dearest}
 use Rattle.best_grid.specs.Costs.{tableAt, ruled}
-use Rattle.best_grid.specs.Backward.{far, low, otherAt, leastOf}
-use Rattle.best_grid.specs.Contents.{Content, worth, Differ, Leads}
+use Rattle.best_grid.specs.Backward.{low}
+use Rattle.best_grid.specs.Contents.{Content, worth, Leads}
 use Rattle.best_grid.specs.Sequences.{stateF, Fine, state-under, spent, spent-alike, table-least}
 use Rattle.best_grid.specs.Gaps.{rival, rival-least, rival-met, rival-bound}
 

@@ -1,12 +1,12 @@
--- What an f32 has on the grid, from its bit pattern: digits of it, moved up or down. Assumes nothing.
+-- What an f32 has on the grid, from its bit pattern: digits of it, moved up or down.
 use mathlib.Core.Path.{_≡_, refl, sym, ap, _∙_, subst}
 use mathlib.Core.Bool.{Bool, true, false, not, cond}
-use Prim.Native.Nat.{ℕ, suc, _+_, _-_, _*_, _/_, _%_, _^_, _≤_, _<_, min}
-use native.Mathlib.Nat.{mul-div-mul-right, mul-div-cancel, mul-assoc, div-eq-of-lt, le-div-iff-mul-le, zero-div, le-trans, le-of-eq, mul-le-mul-right, lt-of-lt-of-le, lt-of-le-of-lt}
+use Prim.Native.Nat.{ℕ, _+_, _-_, _*_, _/_, _%_, _^_, _≤_, _<_, min}
+use native.Mathlib.Nat.{mul-div-mul-right, mul-div-cancel, mul-assoc, div-eq-of-lt, zero-div, le-trans, mul-le-mul-right, lt-of-lt-of-le}
 use native.Mathlib.Omega.{arith}
 use borrow.Author.Tests.{ltb-true, ltb-false, lt-ltb, le-ltb}
 use lib.Dec.{T, ltb, nltb→le, lit≤}
-use lib.Pow.{pow-add, pow-pos, pow-mono, shl-lt, shr-le, shl-exact}
+use lib.Pow.{pow-add, pow-pos, pow-mono, shl-lt, shr-le}
 use lib.Ieee.{Float, nan, inf, binary32, isNan, fits, ofBits, toBits}
 use lib.Ieee.Bits.{ofBits-toBits, toBits-lt, nanBits-is, nanBits-above}
 use Rattle.ieee.specs.Bits.{inf-bits}

@@ -1,4 +1,4 @@
--- What the decision words of costs give, traced from the cheapest end: the inputs of the first path of greatest sum on the grid. Assumes nothing.
+-- What the decision words of costs give, traced from the cheapest end: the inputs of the first path of greatest sum on the grid.
 use mathlib.Core.Path.{_≡_, refl, sym, ap, _∙_, subst}
 use mathlib.Core.Logic.{_⊎_, inl, inr, ⊎-elim}
 use mathlib.Core.Bool.{Bool, true, false, cond}
@@ -7,7 +7,7 @@ use Prim.Native.Nat.{ℕ, zero, suc, _+_, _*_, _/_, _%_, _^_, _≤_, _<_}
 use native.Mathlib.Omega.{arith}
 use lib.IntN.{ℤ}
 use lib.Dec.{T, eqb, eqb→eq, eqb-refl, lit≤}
-use lib.ListN.{getD, length, replicate, getD-replicate, List·getD-eq-default}
+use lib.ListN.{getD, replicate, getD-replicate, List·getD-eq-default}
 use Rattle.trellis.specs.WrittenLaws.{lt-or-ge}
 use lib.Seq.{ext-getD}
 use Rattle.ieee.specs.Whole.{hiZ, loZ}
@@ -17,7 +17,7 @@ use Rattle.trellis.specs.RunLaws.{label-under}
 use Rattle.trellis.specs.Code.{isdb, stateAt, labelAt}
 use Rattle.trellis.specs.Step.{upper, input, back}
 use Rattle.trellis.specs.Isdb
-use Rattle.best_path.specs.Paths.{Walk, Path, sumℤ, Best, Any, This, Reading}
+use Rattle.best_path.specs.Paths.{Walk, sumℤ, Best, Any, This, Reading}
 use Rattle.best_path.specs.Viterbi.{Z, sum, decision, inputs, origin}
 use Rattle.best_path.specs.Greatest.{Greatest, greatest, end, end-under, inputs-length, traced}
 use Rattle.best_path.specs.Decoded.{back-start, back-input}

@@ -1,11 +1,10 @@
--- The tables of the backward pass, some steps at a time. Assumes nothing.
-use mathlib.Core.Path.{_≡_, refl, sym, ap, _∙_}
+-- The tables of the backward pass, some steps at a time.
+use mathlib.Core.Path.{_≡_, refl, ap, _∙_}
 use mathlib.Core.Bool.{Bool, true, false, cond}
 use mathlib.Core.List.{List}
-use Prim.Native.Nat.{ℕ, zero, suc, _+_, _-_, _≤_, _<_, min}
+use Prim.Native.Nat.{ℕ, zero, suc, _+_, _-_, _≤_, min}
 use native.Mathlib.Omega.{arith}
-use lib.ListN.{getD}
-use Rattle.trellis.specs.Lists.{bit, upto}
+use Rattle.trellis.specs.Lists.{bit}
 use Rattle.best_grid.specs.Backward.{far, low, turned, backs, backAt, others, otherAt, backRun, otherRun, fars}
 
 -- the steps of a slot, and those after it

@@ -1,22 +1,25 @@
--- Laws of the passes over sequences of inputs and uncoded bits: what the tables have is least, and some sequence attains it. Assumes nothing.
+-- Laws of the passes over sequences of inputs and uncoded bits: what the tables have is least, and some sequence attains it.
 use mathlib.Core.Path.{_≡_, refl, sym, ap, _∙_}
 use mathlib.Core.Logic.{_⊎_, inl, inr, ⊎-elim}
 use mathlib.Core.Bool.{Bool, true, false, cond}
 use mathlib.Core.List.{List}
 use Prim.Native.Nat.{ℕ, zero, suc, _+_, _-_, _*_, _/_, _%_, _≤_, _<_, min}
 use native.Mathlib.Omega.{arith}
-use native.Mathlib.Nat.{not-suc-le-zero}
 use borrow.Author.Tests.{eqb-true, eqb-false, eq-eqb, ne-eqb}
 use lib.Dec.{eqb}
-use lib.ListN.{getD, length}
-use Rattle.trellis.specs.Lists.{bit, upto}
+use lib.ListN.{getD}
+use Rattle.trellis.specs.Lists.{bit}
+use Rattle.trellis.specs.WrittenLaws.{lt-or-ge}
 use Rattle.trellis.specs.ListLaws.{getD-upto}
-use Rattle.trellis.specs.RunLaws.{label-under}
-use Rattle.trellis.specs.Code.{isdb, moved}
+use Rattle.trellis.specs.Code.{moved}
 use Rattle.trellis.specs.Isdb
 use Rattle.best_grid.specs.Grid.{dearest}
 use Rattle.best_grid.specs.Costs.{through, next, nexts, tableAt}
-use Rattle.best_grid.specs.Backward.{far, low, turned, onward, backs, backAt, others, otherAt, leastOf}
+use Rattle.best_grid.specs.Backward.{far, low, turned, onward, backs, backAt, others, otherAt}
+
+-- ---- of two numbers one is not the greater
+pub le-or : (x y : ℕ) → (x ≤ y) ⊎ (y ≤ x)
+le-or x y = ⊎-elim (λ h. inr (omega arith)) (λ h. inl h) (lt-or-ge y x)
 
 -- the state after n steps
 unfoldable pub stateF : ℕ → (ℕ → ℕ) → ℕ → ℕ
@@ -128,11 +131,6 @@ module _ (two : ℕ → Bool) (c : ℕ → ℕ → ℕ → ℕ) where
     where
       pick : (x y : ℕ) → (min x y ≡ x) ⊎ (min x y ≡ y)
       pick x y = ⊎-elim (λ (h : x ≤ y). inl (omega arith)) (λ (h : y ≤ x). inr (omega arith)) (le-or x y)
-        where
-          le-or : (x y : ℕ) → (x ≤ y) ⊎ (y ≤ x)
-          le-or zero y = inl (omega arith)
-          le-or (suc x) zero = inr (omega arith)
-          le-or (suc x) (suc y) = ⊎-elim (λ (h : x ≤ y). inl (omega arith)) (λ (h : y ≤ x). inr (omega arith)) (le-or x y)
 
       go : (w : Bool) → two t ≡ w → Cheaper t l
       go false e = record { z = 0; small = omega arith; is = rw e refl }
@@ -166,11 +164,6 @@ module _ (two : ℕ → Bool) (c : ℕ → ℕ → ℕ → ℕ) where
 
   least-of : (f : ℕ → ℕ) → Least f
   least-of f = ⊎-elim (λ (h : f 0 ≤ f 1). record { x = 0; small = omega arith; is = omega arith }) (λ (h : f 1 ≤ f 0). record { x = 1; small = omega arith; is = omega arith }) (le-or (f 0) (f 1))
-    where
-      le-or : (x y : ℕ) → (x ≤ y) ⊎ (y ≤ x)
-      le-or zero y = inl (omega arith)
-      le-or (suc x) zero = inr (omega arith)
-      le-or (suc x) (suc y) = ⊎-elim (λ (h : x ≤ y). inl (omega arith)) (λ (h : y ≤ x). inr (omega arith)) (le-or x y)
 
   pub back-least : (t j s : ℕ) (u z : ℕ → ℕ) → s < 64 → Fine two u z → getD (backAt (low two c) t j) s 0 ≤ ahead t s u z j
   unfolding ahead
@@ -312,11 +305,6 @@ module _ (two : ℕ → Bool) (c : ℕ → ℕ → ℕ → ℕ) where
       ways x y z v e =
           ⊎-elim (λ (h : z ≤ x). ⊎-elim (λ (k : z ≤ y). inr (inr (omega arith))) (λ (k : y ≤ z). inr (inl (omega arith, k))) (le-or z y))
           (λ (h : x ≤ z). ⊎-elim (λ (k : x ≤ y). inl (omega arith, h)) (λ (k : y ≤ x). inr (inl (omega arith, omega arith))) (le-or x y)) (le-or z x)
-        where
-          le-or : (x y : ℕ) → (x ≤ y) ⊎ (y ≤ x)
-          le-or zero y = inl (omega arith)
-          le-or (suc x) zero = inr (omega arith)
-          le-or (suc x) (suc y) = ⊎-elim (λ (h : x ≤ y). inl (omega arith)) (λ (h : y ≤ x). inr (omega arith)) (le-or x y)
 
       -- from a sequence of the next step's, with the content x, y at this one
       differs-here : (t r j s x y v : ℕ) → x < 2 → y ≤ bit (two t) → ((us t ≡ x) × (zs t ≡ y) → ⊥) → Attained (suc t) j (moved 32 x s) v → Apart t (suc r) (suc j) s (c t y (Isdb.labels x s) + v)

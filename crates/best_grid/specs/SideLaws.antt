@@ -1,12 +1,11 @@
--- Laws of metrics with sides: prices are levels less worths; where no metric with an uncoded bit is negative, the cheaper uncoded bit is the better one. Assumes nothing.
-use mathlib.Core.Path.{_≡_, refl, sym, ap, _∙_}
-use mathlib.Core.Logic.{_⊎_, inl, inr, ⊎-elim}
+-- Laws of metrics with sides: prices are levels less worths; where no metric with an uncoded bit is negative, the cheaper uncoded bit is the better one.
+use mathlib.Core.Path.{_≡_, refl, ap}
 use mathlib.Core.Bool.{Bool, true, false, cond}
 use mathlib.Core.List.{List}
-use Prim.Native.Nat.{ℕ, zero, suc, _+_, _-_, _*_, _/_, _%_, _^_, _≤_, _<_, min}
+use Prim.Native.Nat.{ℕ, zero, suc, _+_, _/_, _%_, _^_, _≤_, _<_, min}
 use native.Mathlib.Omega.{arith}
 use native.Mathlib.Nat.{mod-lt}
-use borrow.Author.Tests.{eqb-true, eqb-false, eq-eqb, ne-eqb}
+use borrow.Author.Tests.{eq-eqb}
 use lib.Dec.{eqb, leb}
 use lib.IntN.{ℤ, pos, negsuc, negℤ, _+ℤ_}
 use lib.Signed.{_≤ℤ_}
@@ -15,12 +14,13 @@ use lib.Ieee.{Float, nan}
 use Rattle.ieee.specs.Whole.{hiZ, loZ, parts}
 use Rattle.trellis.specs.Code.{isdb, stateAt}
 use Rattle.trellis.specs.Isdb
+use Rattle.trellis.specs.Lists.{bit}
 use Rattle.trellis.specs.Run.{quadruple}
 use Rattle.trellis.specs.RunLaws.{label-under}
 use Rattle.best_path.specs.Paths.{sumℤ}
 use Rattle.best_path.specs.Viterbi.{Le}
 use Rattle.best_path.specs.Integers.{parts-of, le-val}
-use Rattle.best_grid.specs.Grid.{most, level, dearest, above, below, grid, cost, gridAt, costAt}
+use Rattle.best_grid.specs.Grid.{level, dearest, below, grid, cost, gridAt, costAt}
 use Rattle.best_grid.specs.GridLaws.{cost-is, cost-bounds, above-most, below-most, grid-parts}
 use Rattle.best_grid.specs.Backward.{low}
 use Rattle.best_grid.specs.Contents.{worth}
@@ -137,3 +137,19 @@ module _ (xs : List Float) (sides : List ℕ) where
       let x = worth (worthAt xs sides) s us zs n in
       let y = total s us n in
       le-val x y (parts-of x) (parts-of y) (omega arith) (omega arith) (total-over n up s us zs n (omega arith))
+
+-- ---- the better uncoded bit costs the metric
+pub chosen-small : (side l : ℕ) → chosenAt side l ≤ bit (leb 16 side)
+chosen-small side l = go (leb 16 side) (mod-lt (side / 2 ^ l) (omega arith))
+  where
+    go : (w : Bool) → side / 2 ^ l % 2 < 2 → cond w (side / 2 ^ l % 2) 0 ≤ bit w
+    go true h = omega arith
+    go false h = omega arith
+
+pub price-chosen : (xs : List Float) (sides : List ℕ) (t l : ℕ) → priceAt xs sides t (chosenAt (getD sides t 0) l) l ≡ costAt (quadruple xs) t l
+unfolding priceAt
+price-chosen xs sides t l = go (leb 16 (getD sides t 0)) (getD (quadruple xs t) l nan)
+  where
+    go : (w : Bool) (x : Float) → cond w (cond (eqb (cond w (getD sides t 0 / 2 ^ l % 2) 0) (getD sides t 0 / 2 ^ l % 2)) (cost x) (mirror x)) (cost x) ≡ cost x
+    go true x = rw (eq-eqb (getD sides t 0 / 2 ^ l % 2) (getD sides t 0 / 2 ^ l % 2) refl) refl
+    go false x = refl

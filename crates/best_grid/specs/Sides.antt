@@ -1,8 +1,8 @@
 -- Metrics with sides: what a step is worth, and costs, by its uncoded bit and its coded pair. A step's side is 0 where it has no uncoded bit; else 16 and, in bit l, the better uncoded bit at the pair
--- l, which is the sign of the correlation in TC8PSK. The metric is the better one's; the other one's is its negative. Assumes nothing.
+-- l, which is the sign of the correlation in TC8PSK. The metric is the better one's; the other one's is its negative.
 use mathlib.Core.Bool.{Bool, cond}
 use mathlib.Core.List.{List}
-use Prim.Native.Nat.{ℕ, _+_, _-_, _*_, _/_, _%_, _^_}
+use Prim.Native.Nat.{ℕ, _+_, _-_, _/_, _%_, _^_}
 use lib.Dec.{eqb, leb}
 use lib.IntN.{ℤ, negℤ}
 use lib.ListN.{getD}

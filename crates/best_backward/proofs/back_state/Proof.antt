@@ -1,6 +1,6 @@
 use mathlib.Core.Path.{refl, _∙_}
 use Prim.Native.Nat.{_+_, _*_}
-use Rattle.best_backward.specs.Prices.{listed}
+use Rattle.best_forward.specs.Room.{listed}
 use Rattle.best_backward.proofs.Steps.{least-either}
 use borrow.Author.Needs.{needs}
 use Rattle.best_backward.proofs.back_state.Statement.{statement}

@@ -1,8 +1,8 @@
 use mathlib.Core.Path.{_≡_, refl}
-use Prim.Native.Nat.{_+_, _-_, _*_, _/_, _≤_, _<_}
+use Prim.Native.Nat.{_+_, _-_, _*_, _≤_}
 use native.Mathlib.Omega.{arith}
 use native.Mathlib.Nat.{add-zero}
-use Rattle.best_backward.specs.Prices.{listed}
+use Rattle.best_forward.specs.Room.{listed}
 use Rattle.best_backward.proofs.Steps.{Stepped, stepped-none, stepped-more, stepped-whole}
 use borrow.Author.Needs.{needs}
 use Rattle.best_backward.proofs.back_step.Statement.{statement}

@@ -5,7 +5,7 @@ use Rattle.acs_paths.specs.BranchLaws.{branch-numbers}
 use Rattle.trellis.specs.Code.{label, output, tapped}
 use Rattle.best_backward.proofs.Priced.{run-none, run-more, less-halved, back-halved, rivals-halved}
 use mathlib.Core.Path.{_≡_, refl}
-use Prim.Native.Nat.{_+_, _-_, _*_, _≤_, _<_}
+use Prim.Native.Nat.{_+_, _-_, _≤_, _<_}
 use native.Mathlib.Omega.{arith}
 use borrow.Author.Needs.{needs}
 use Rattle.best_grid.specs.Sides.{two, priceAt}

@@ -2,7 +2,7 @@ use native.Mathlib.Omega.{arith}
 use Prim.Native.Nat.{_/_}
 use lib.ListN.{length}
 use Rattle.trellis.specs.Run.{quadruple}
-use Rattle.best_content.specs.Chosen.{chosen}
+use Rattle.best_grid.specs.Sides.{chosen}
 use Rattle.best_content.proofs.Slotwise.{lowered}
 use Rattle.best_content.proofs.Whole.{bits-long, bits-small, uncoded-whole, asked, whole-found}
 use borrow.Author.Needs.{needs}

@@ -1,11 +1,11 @@
+use mathlib.Core.List.{[]}
 use Rattle.trellis.specs.Lists.{upto}
 use Rattle.trellis.specs.Run.{quadruple}
 use Rattle.best_grid.specs.Grid.{costAt}
 use Rattle.best_grid.specs.Costs.{wordAt}
 use Rattle.best_grid.specs.Leading.{seq}
 use Rattle.best_content.specs.Slots.{piece}
-use mathlib.Core.List.{[]}
-use Prim.Native.Nat.{_+_, _-_, _*_, _≤_}
+use Prim.Native.Nat.{_-_, _*_}
 use native.Mathlib.Omega.{arith}
 use lib.ListN.{length-drop}
 use Rattle.release.specs.PartLaws.{tail-whole, written-tail}

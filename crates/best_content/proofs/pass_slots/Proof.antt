@@ -1,8 +1,7 @@
 use Rattle.trellis.specs.LaidLaws.{length-laid-upto}
 use Rattle.best_content.proofs.Ongoing.{room-on, saved-more, slot-table, slot-words}
-use mathlib.Core.Path.{_≡_, refl, sym, ap, _∙_}
-use mathlib.Core.List.{List}
-use Prim.Native.Nat.{ℕ, _+_, _-_, _*_, _/_, _≤_, _<_}
+use mathlib.Core.Path.{_≡_, refl, _∙_}
+use Prim.Native.Nat.{_+_, _-_, _/_, _≤_, _<_}
 use native.Mathlib.Omega.{arith}
 use borrow.Author.Needs.{needs}
 use lib.ListN.{length, getD}
@@ -10,7 +9,7 @@ use Rattle.trellis.specs.Lists.{upto, laid}
 use Rattle.trellis.specs.Run.{quadruple}
 use Rattle.best_grid.specs.Grid.{costAt}
 use Rattle.best_grid.specs.Costs.{tableAt, wordAt}
-use Rattle.best_content.specs.Slots.{Marked, Saved}
+use Rattle.best_content.specs.Slots.{Saved}
 use Rattle.best_content.proofs.pass_slots.Statement.{statement}
 use Rattle.best_content.proofs.pass_slots.Tie as tie
 use Rattle.best_content.proofs.pass_slots.Reads as reads

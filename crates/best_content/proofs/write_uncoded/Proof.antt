@@ -1,7 +1,7 @@
 use Rattle.best_content.proofs.Choices.{chosen-is, state-more}
-use mathlib.Core.Path.{_≡_, refl, sym, ap, _∙_}
+use mathlib.Core.Path.{_≡_, refl, ap, _∙_}
 use mathlib.Core.List.{List}
-use Prim.Native.Nat.{ℕ, _+_, _-_, _*_, _/_, _%_, _≤_, _<_}
+use Prim.Native.Nat.{ℕ, _-_, _%_, _≤_, _<_}
 use native.Mathlib.Omega.{arith}
 use borrow.Author.Needs.{needs}
 use lib.ListN.{length, getD, set}
@@ -10,7 +10,7 @@ use Rattle.trellis.specs.LaidLaws.{laid-upto, length-laid-upto}
 use Rattle.trellis.specs.Code.{isdb, stateAt}
 use Rattle.trellis.specs.RunLaws.{label-under}
 use Rattle.trellis.specs.Isdb
-use Rattle.best_content.specs.Chosen.{chosenAt, chosen}
+use Rattle.best_grid.specs.Sides.{chosen}
 use Rattle.best_content.proofs.write_uncoded.Statement.{statement}
 use Rattle.best_content.proofs.write_uncoded.Tie as tie
 use Rattle.best_content.proofs.write_uncoded.Reads as reads

@@ -7,7 +7,7 @@ use Rattle.acs_paths.specs.BranchLaws.{branch-numbers}
 use Rattle.trellis.specs.Code.{label, output, tapped}
 use Rattle.best_forward.proofs.Passes.{roomy, table-more, word-is}
 use mathlib.Core.Path.{_≡_, refl}
-use Prim.Native.Nat.{_+_, _-_, _*_, _/_, _≤_, _<_}
+use Prim.Native.Nat.{_-_, _/_, _≤_, _<_}
 use native.Mathlib.Omega.{arith}
 use borrow.Author.Needs.{needs}
 use lib.ListN.{length}
