@@ -1,6 +1,6 @@
 // `isdbs_best_reading` beside a second program, written from the definitions: its own metrics by document 01, its own grid and search over i64 sums, and the lead of a slot by forbidding the slot's content and
 // searching again. Bytes, bits, uncoded bits and leads must be equal. Also: the clean leads, the times beside isdbs_decode_frame.
-// best [SCALE]: SCALE (default 1) multiplies the number of frames.   best clean: the leads of clean frames.   best speed [ROUNDS]: times.
+// best [SCALE]: SCALE (default 1) multiplies the number of frames.   best clean: the leads of clean frames.   best speed [ROUNDS]: times.   best stack [KB]: the call on a small stack.
 mod calls;
 mod common;
 use calls::{Lent, Settings};
@@ -505,11 +505,24 @@ fn speed(rounds: u64) {
     }
 }
 
+/// The call, with all that it is lent made before, in a thread with a stack of so many kB (what the thread itself takes is among them).
+fn on_small_stack(kb: usize) {
+    let draws = &mut Draws(0x57ac);
+    for t in some_tables() {
+        let mut case = case_of(t, draws);
+        case.points = noisy(&case.points, 6.0, draws);
+        let row = std::thread::Builder::new().stack_size(kb * 1024).spawn(move || called(&case, 1).row).unwrap().join().unwrap();
+        assert_eq!(row, 0);
+    }
+    println!("every table read on a stack of {kb} kB");
+}
+
 fn main() {
     let words: Vec<String> = std::env::args().skip(1).collect();
     match words.first().map(String::as_str) {
         Some("clean") => clean_leads(),
         Some("speed") => speed(words.get(1).map_or(20, |w| w.parse().unwrap())),
+        Some("stack") => on_small_stack(words.get(1).map_or(96, |w| w.parse().unwrap())),
         Some(scale) => compare(scale.parse().unwrap()),
         None => compare(1),
     }
