@@ -1,4 +1,4 @@
-// The bytes of a frame from its decoded bits and its uncoded bits, one of each for each step. No row is checked here.
+// Between the steps of a frame and its load: the step at which each valid slot begins, and the bytes from the decoded bits and the uncoded ones, one of each for each step. No row is checked here.
 use isdbs_core::combination::Combination;
 use isdbs_core::combination::Modulation;
 use isdbs_core::frame::SLOT_BYTES;
@@ -7,10 +7,49 @@ ghost use mathlib.Core.Path.{_≡_};
 ghost use Prim.Native.Nat.{_+_, _*_, _<_, _≤_, _^_};
 ghost use lib.ListN.{length, getD};
 ghost use Rattle.trellis.specs.Lists.{upto, laid};
-ghost use Rattle.isdbs_runs.specs.RunsOf.{frameSteps, loadBytes, Planned};
+ghost use Rattle.trellis.specs.Isdb;
+ghost use Rattle.isdbs_runs.specs.RunsOf.{frameSteps, loadBytes, validTotal, Planned};
 ghost use Rattle.isdbs_points.specs.Layout.{byteOf};
+ghost use Rattle.best_loads.specs.Marks.{frameMarks};
 ghost use Rattle.best_loads.specs.Held.{loadOf};
 ghost use Rattle.best_bytes.specs.Packed.{AllBits, heldWith, pairBit, PackSteps};
+
+// ---- where the valid slots begin
+
+// The marks of a run of n slots that begins at a step, to the front of `marks`.
+fn run_marks(step: usize, steps: usize, n: usize, marks: &mut [u32])
+    requires { ⌜ (step + steps * n ≤ Isdb.longestFrame) × (steps ≤ 1624) × (n ≤ length (now marks)) ⌝ }
+    ensures { λ _. ⌜ now (marks .exit) ≡ laid (upto (λ k. step + steps * k) n) (now (marks .entry)) ⌝ }
+{
+    let mut at = step;
+    for k in 0..n {
+        marks[k] = at as u32;
+        at = at + steps;
+    }
+}
+
+// The marks of all valid slots, and the end, to the front of `marks`.
+pub fn slot_marks(p: Plan, marks: &mut [u32])
+    requires { ⌜ Planned p × (validTotal (p .table) < length (now marks)) ⌝ }
+    ensures { λ _. ⌜ now (marks .exit) ≡ laid (frameMarks (p .table)) (now (marks .entry)) ⌝ }
+{
+    let count = p.count;
+    let list = p.runs;
+    let mut step: usize = 0;
+    let mut done: usize = 0;
+    for i in 0..count {
+        let r = list[i];
+        let c = r.combination;
+        let steps = c.steps_per_slot();
+        let n = r.valid_slots;
+        run_marks(step, steps, n, &mut marks[done..]);
+        step = step + steps * n;
+        done = done + n;
+    }
+    marks[done] = step as u32;
+}
+
+// ---- the bytes
 
 // The byte of 8 bits, high bit first.
 fn byte_of(a: u8, b: u8, c: u8, d: u8, e: u8, f: u8, g: u8, h: u8) -> u8
@@ -87,8 +126,8 @@ fn pack_run(c: Combination, bits: &[u8], uncoded: &[u8], n: usize, bytes: &mut [
     }
 }
 
-// The bytes of a frame.
-pub fn content_bytes(p: Plan, bits: &[u8], uncoded: &[u8], bytes: &mut [u8])
+// The bytes of the frame, to the front of `bytes`.
+pub fn write_load(p: Plan, bits: &[u8], uncoded: &[u8], bytes: &mut [u8])
     requires { ⌜ Planned p × (frameSteps (p .table) ≤ length (now bits)) × (frameSteps (p .table) ≤ length (now uncoded)) × AllBits (now bits) × AllBits (now uncoded) × (loadBytes (p .table) ≤ length (now bytes)) ⌝ }
     ensures { λ _. ⌜ now (bytes .exit) ≡ laid (loadOf (p .table) (now (bits .entry)) (now (uncoded .entry))) (now (bytes .entry)) ⌝ }
 {

@@ -8,8 +8,10 @@ use native.Mathlib.Omega.{arith}
 use native.Mathlib.Nat.{mod-lt}
 use borrow.Author.Tests.{leb-true, leb-false, eq-eqb}
 use lib.Dec.{eqb, leb}
+use lib.IntN.{ℤ}
+use lib.Signed.{_≤ℤ_}
 use lib.ListN.{length, getD, take, drop}
-use lib.Seq.{getD-take, getD-drop}
+use lib.Seq.{getD-take, getD-drop, ext-getD}
 use lib.Ieee.{Float, nan}
 use Rattle.trellis.specs.Lists.{bit, upto}
 use Rattle.trellis.specs.ListLaws.{length-upto, getD-upto}
@@ -18,15 +20,18 @@ use Rattle.trellis.specs.Run.{quadruple}
 use Rattle.trellis.specs.RunLaws.{label-under}
 use Rattle.trellis.specs.Code.{isdb, stateAt}
 use Rattle.trellis.specs.Isdb
+use Rattle.best_path.specs.Paths.{First, sumℤ}
+use Rattle.best_path.specs.Greatest.{one-first}
+use Rattle.best_path.specs.Integers.{≤ℤ-antisymm}
 use Rattle.best_path.specs.Fresh.{StartsIn}
 use Rattle.best_path.specs.declared.Start.{Start}
-use Rattle.best_grid.specs.Grid.{dearest, cost, costAt}
+use Rattle.best_grid.specs.Grid.{dearest, cost, gridAt, costAt}
 use Rattle.best_grid.specs.Costs.{through, next, nexts, tableAt, cheapest, paid}
 use Rattle.best_grid.specs.Best.{startTable, bestEnd, bestBits, bestStart}
 use Rattle.best_grid.specs.BestLaws.{best-found, best-paid, starts-zero, starts-only}
-use Rattle.best_grid.specs.Contents.{Content, Leads}
+use Rattle.best_grid.specs.Contents.{Content, worth, Leads}
 use Rattle.best_grid.specs.Sides.{two, better, mirror, worthAt, priceAt}
-use Rattle.best_grid.specs.SideLaws.{priced, price-small, Upright, low-is}
+use Rattle.best_grid.specs.SideLaws.{priced, price-small, Upright, low-is, worth-total, worth-under}
 use Rattle.best_grid.specs.Backward.{low, backAt, otherAt, otherRun, fars, leastOf}
 use Rattle.best_grid.specs.RunLaws.{other-split}
 use Rattle.best_grid.specs.Sequences.{stateF, spent}
@@ -162,12 +167,28 @@ module _ (start : Start) (xs : List Float) (sides marks : List ℕ) (slots n : �
       piece-at : (tables : List ℕ) (k s : ℕ) → s < 64 → getD (piece (64 * k) (64 * k + 64) tables) s 0 ≡ getD tables (64 * k + s) 0
       piece-at tables k s h = getD-take (64 * k + 64 - 64 * k) (drop (64 * k) tables) s 0 (omega arith) ∙ getD-drop (64 * k) tables s 0
 
+  -- ---- of equals it is the first
+  zs-chosen : (k : ℕ) → k < n → getD zs k 0 ≡ chosen sides us s k
+  zs-chosen k h = getD-upto (chosen sides us s) 0 n k h
+
+  abbrev total : ℕ → List ℕ → ℤ
+  total r vs = sumℤ Isdb.half Isdb.labels (gridAt (quadruple xs)) r vs n
+
+  first : (r : ℕ) (vs ys : List ℕ) → Content (two xs sides) n r vs ys → StartsIn Isdb.states start r → worth (worthAt xs sides) r vs ys n ≡ worth (worthAt xs sides) s us zs n → First Isdb.half Isdb.rule s us r vs n
+  first r vs ys ct fr e =
+      let b = best-found start (quadruple xs) n few in
+      let own : worth (worthAt xs sides) s us zs n ≡ total s us = worth-total xs sides n s us zs zs-chosen n (omega arith) in
+      let over : total s us ≤ℤ total r vs = subst (λ (x : ℤ). x ≤ℤ total r vs) (e ∙ own) (worth-under xs sides n up r vs ys) in
+      b .first r vs (ct .path) fr tt (≤ℤ-antisymm {a = total r vs} {b = total s us} (b .most r vs (ct .path) fr tt) over)
+
   pub found : (ls : List ℕ) → ((k : ℕ) → k < slots → getD ls k 0 ≡ leadAt xs sides us zs marks tables own n k) → Found start xs sides marks slots n us zs ls
   found ls is = record {
     s = s;
     content = mine;
     begins = begins;
     greatest = greatest (two xs sides) (worthAt xs sides) (priceAt xs sides) (priced xs sides) (price-small xs sides) (StartsIn Isdb.states start) (startTable start) (starts-zero start) (starts-only start) n s us zs mine begins few lowest;
+    first = first;
+    uncoded = zs-chosen;
     leads = λ k h.
         let a = getD marks k 0 in
         let b = getD marks (k + 1) 0 in
@@ -192,3 +213,13 @@ module _ (start : Start) (xs : List Float) (sides marks : List ℕ) (slots n : �
 
       up-to : (a b : ℕ) → a < b → a + (b - a) ≡ b
       up-to a b h = omega arith
+
+-- ---- there is no other: two readings of the same metrics have the same start, inputs and uncoded bits
+pub found-only : (start : Start) (xs : List Float) (sides marks : List ℕ) (slots n : ℕ) (us zs ls vs ys ms : List ℕ) (f : Found start xs sides marks slots n us zs ls) (g : Found start xs sides marks slots n vs ys ms)
+    → (f .s ≡ g .s) × (us ≡ vs) × (zs ≡ ys)
+found-only start xs sides marks slots n us zs ls vs ys ms f g =
+    let w = worthAt xs sides in
+    let e : worth w (g .s) vs ys n ≡ worth w (f .s) us zs n = ≤ℤ-antisymm {a = worth w (g .s) vs ys n} {b = worth w (f .s) us zs n} (f .greatest (g .s) vs ys (g .content) (g .begins)) (g .greatest (f .s) us zs (f .content) (f .begins)) in
+    let o = one-first Isdb.half Isdb.rule (f .s) us (g .s) vs n (f .content .path) (g .content .path) (f .first (g .s) vs ys (g .content) (g .begins) e) (g .first (f .s) us zs (f .content) (f .begins) (sym e)) in
+    let z : zs ≡ ys = ext-getD 0 zs ys (f .content .count ∙ sym (g .content .count)) (λ k h. let l : k < n = rw (f .content .count) at h in f .uncoded k l ∙ rw (o .0, o .1) refl ∙ sym (g .uncoded k l)) in
+    (o .0, o .1, z)

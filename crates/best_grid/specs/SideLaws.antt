@@ -8,15 +8,23 @@ use native.Mathlib.Omega.{arith}
 use native.Mathlib.Nat.{mod-lt}
 use borrow.Author.Tests.{eqb-true, eqb-false, eq-eqb, ne-eqb}
 use lib.Dec.{eqb, leb}
-use lib.IntN.{ℤ, pos, negsuc, negℤ}
+use lib.IntN.{ℤ, pos, negsuc, negℤ, _+ℤ_}
+use lib.Signed.{_≤ℤ_}
 use lib.ListN.{getD}
 use lib.Ieee.{Float, nan}
-use Rattle.ieee.specs.Whole.{hiZ, loZ}
+use Rattle.ieee.specs.Whole.{hiZ, loZ, parts}
+use Rattle.trellis.specs.Code.{isdb, stateAt}
+use Rattle.trellis.specs.Isdb
 use Rattle.trellis.specs.Run.{quadruple}
-use Rattle.best_grid.specs.Grid.{most, level, dearest, above, below, grid, cost, costAt}
+use Rattle.trellis.specs.RunLaws.{label-under}
+use Rattle.best_path.specs.Paths.{sumℤ}
+use Rattle.best_path.specs.Viterbi.{Le}
+use Rattle.best_path.specs.Integers.{parts-of, le-val}
+use Rattle.best_grid.specs.Grid.{most, level, dearest, above, below, grid, cost, gridAt, costAt}
 use Rattle.best_grid.specs.GridLaws.{cost-is, cost-bounds, above-most, below-most, grid-parts}
 use Rattle.best_grid.specs.Backward.{low}
-use Rattle.best_grid.specs.Sides.{mirror, two, better, worthAt, priceAt}
+use Rattle.best_grid.specs.Contents.{worth}
+use Rattle.best_grid.specs.Sides.{mirror, two, better, worthAt, priceAt, chosenAt, chosen}
 
 neg-parts : (z : ℤ) → (hiZ (negℤ z) ≡ loZ z) × (loZ (negℤ z) ≡ hiZ z)
 neg-parts (pos zero) = (refl, refl)
@@ -78,3 +86,54 @@ module _ (xs : List Float) (sides : List ℕ) where
       go true e zero hb = let q = cheaper (up t l h k e) in omega arith
       go true e (suc zero) hb = let q = cheaper (up t l h k e) in omega arith
       go true e (suc (suc b)) hb = absurd (omega arith)
+
+  -- ---- the sum of a content and that of its path: the same with the better uncoded bits, else no more
+  abbrev total : ℕ → List ℕ → ℕ → ℤ
+  total s us k = sumℤ Isdb.half Isdb.labels (gridAt (quadruple xs)) s us k
+
+  worth-chosen : (t l : ℕ) → worthAt xs sides t (chosenAt (getD sides t 0) l) l ≡ gridAt (quadruple xs) t l
+  unfolding worthAt
+  worth-chosen t l = go (leb 16 (getD sides t 0)) (getD (quadruple xs t) l nan)
+    where
+      go : (w : Bool) (x : Float) → cond w (cond (eqb (cond w (getD sides t 0 / 2 ^ l % 2) 0) (getD sides t 0 / 2 ^ l % 2)) (grid x) (negℤ (grid x))) (grid x) ≡ grid x
+      go true x = rw (eq-eqb (getD sides t 0 / 2 ^ l % 2) (getD sides t 0 / 2 ^ l % 2) refl) refl
+      go false x = refl
+
+  pub worth-total : (n s : ℕ) (us zs : List ℕ) → ((k : ℕ) → k < n → getD zs k 0 ≡ chosen sides us s k) → (k : ℕ) → k ≤ n → worth (worthAt xs sides) s us zs k ≡ total s us k
+  unfolding worth sumℤ
+  worth-total n s us zs is zero h = refl
+  worth-total n s us zs is (suc k) h = rw (worth-total n s us zs is k (omega arith), is k h) (ap (λ (x : ℤ). total s us k +ℤ x) (worth-chosen k (Isdb.labelAt s us k)))
+
+  worth-least : (n : ℕ) → Upright n → (t z l : ℕ) → t < n → l < 4 → Le (parts-of (worthAt xs sides t z l)) (parts-of (gridAt (quadruple xs) t l))
+  unfolding worthAt
+  worth-least n up t z l h k = go (two xs sides t) refl (eqb z (better xs sides t l))
+    where
+      x : Float
+      x = getD (quadruple xs t) l nan
+
+      turned : below x ≡ 0 → Le (parts-of (negℤ (grid x))) (parts-of (grid x))
+      turned e = let p = neg-parts (grid x) in let g = grid-parts x in omega arith
+
+      go : (v : Bool) → two xs sides t ≡ v → (w : Bool) → Le (parts-of (cond v (cond w (grid x) (negℤ (grid x))) (grid x))) (parts-of (grid x))
+      go true e true = omega arith
+      go true e false = turned (up t l h k e)
+      go false e w = omega arith
+
+  total-over : (n : ℕ) → Upright n → (s : ℕ) (us zs : List ℕ) (k : ℕ) → k ≤ n → Le (parts-of (worth (worthAt xs sides) s us zs k)) (parts-of (total s us k))
+  unfolding worth sumℤ
+  total-over n up s us zs zero h = omega arith
+  total-over n up s us zs (suc k) h =
+      let l = Isdb.labelAt s us k in
+      let x = worthAt xs sides k (getD zs k 0) l in
+      let y = gridAt (quadruple xs) k l in
+      let i = total-over n up s us zs k (omega arith) in
+      let j = worth-least n up k (getD zs k 0) l h (label-under isdb (getD us k 0) (stateAt 32 s us k)) in
+      let p = parts (worth (worthAt xs sides) s us zs k) x in
+      let q = parts (total s us k) y in
+      omega arith
+
+  pub worth-under : (n : ℕ) → Upright n → (s : ℕ) (us zs : List ℕ) → worth (worthAt xs sides) s us zs n ≤ℤ total s us n
+  worth-under n up s us zs =
+      let x = worth (worthAt xs sides) s us zs n in
+      let y = total s us n in
+      le-val x y (parts-of x) (parts-of y) (omega arith) (omega arith) (total-over n up s us zs n (omega arith))

@@ -9,13 +9,14 @@ use lib.Signed.{_≤ℤ_}
 use lib.ListN.{getD}
 use lib.Ieee.{nan}
 use Rattle.trellis.specs.Isdb
+use Rattle.best_path.specs.Paths.{First}
 use Rattle.isdbs_combination.specs.declared.Modulation.{Modulation}
 use Rattle.isdbs_combination.specs.declared.Modulation.the-variants.{Bpsk, Qpsk, Tc8psk}
 use Rattle.isdbs_combination.specs.Combinations.{modulationOf}
 use Rattle.isdbs_tables.specs.declared.Table.{Table}
 use Rattle.isdbs_frame.specs.Frame.{slotBytes}
 use Rattle.isdbs_runs.specs.RunsOf.{frameSteps, loadBytes, validTotal}
-use Rattle.isdbs_points.specs.Layout.{Segment, atStep, loadBit, FullLoad}
+use Rattle.isdbs_points.specs.Layout.{Segment, segments, In, atStep, loadBit, FullLoad}
 use Rattle.isdbs_points.specs.Frame.{inputs, labelAt}
 use Rattle.isdbs_metrics.specs.Reading.{Received, metricsBy}
 use Rattle.best_sides.specs.FrameSides.{betterIn}
@@ -68,9 +69,12 @@ pub record LeadsIn (t : Table) (r : Received) (from : ℕ → Type 0) (s : ℕ) 
   pub differ : DifferIn k load rival
   pub exactly : fit t r rival start +ℤ pos d ≡ fit t r load s
 
--- THE BEST READING: a full load that no full load fits better than, and its lead in each valid slot
+-- THE BEST READING: a full load that no full load fits better than (`best`); "of equals the first path by P2 and P12" (`first`), "and of two C2 that fit alike document 01's (1 exactly when the
+-- correlation is below 0)" (`uncoded`); and its lead in each valid slot (`leads`). Laws of it: `best-only`, `leads-only` (there is no other) in OnlyLaws
 pub record BestReading (t : Table) (r : Received) (from : ℕ → Type 0) (load ls : List ℕ) : Type 0 where
   pub s : ℕ
   pub sent : Sent t from s load
   pub best : (q : ℕ) (other : List ℕ) → Sent t from q other → fit t r other q ≤ℤ fit t r load s
+  pub first : (q : ℕ) (other : List ℕ) → Sent t from q other → fit t r other q ≡ fit t r load s → First Isdb.half Isdb.rule s (inputs t load) q (inputs t other) (frameSteps t)
+  pub uncoded : (g : Segment) → In g (segments t) → modulationOf (g .combination) ≡ Tc8psk → (k : ℕ) → k < g .steps → loadBit load (g .bit + 2 * k) ≡ betterIn r g k (labelAt s (inputs t load) (g .step + k))
   pub leads : (k : ℕ) → k < validTotal t → LeadsIn t r from s load k (getD ls k 0)

@@ -32,7 +32,7 @@ use Rattle.best_sides.specs.FrameSides.{frameMetrics, frameSides, sideBy, sideI
 use Rattle.best_grid.specs.Sides as sided
 use Rattle.best_grid.specs.Contents.{Content, worth}
 use Rattle.best_loads.specs.Fit.{fit}
-use Rattle.best_loads.specs.Held.{besideBy, besideIn, besides, heldBy, heldIn, heldBit, loadOf}
+use Rattle.best_loads.specs.Held.{uncodedBy, uncodedIn, uncodedBits, heldBy, heldIn, heldBit, loadOf}
 use Rattle.best_loads.specs.FitLaws.{beside-at, none-beside, load-worth}
 
 -- ---- the bits of a byte made of bits
@@ -103,7 +103,7 @@ held-beside us zs g k =
     rw (e, f) refl
 
 -- no uncoded bit outside TC8PSK
-no-beside : (md : Modulation) (r : Received) (load : List ℕ) (g : Segment) (k z : ℕ) → z ≤ bit (leb 16 (sideBy md r g k)) → (md ≡ Tc8psk → loadBit load (g .bit + 2 * k) ≡ z) → besideBy md load g k ≡ z
+no-beside : (md : Modulation) (r : Received) (load : List ℕ) (g : Segment) (k z : ℕ) → z ≤ bit (leb 16 (sideBy md r g k)) → (md ≡ Tc8psk → loadBit load (g .bit + 2 * k) ≡ z) → uncodedBy md load g k ≡ z
 unfolding sideBy
 no-beside Bpsk r load g k z h f = omega arith
 no-beside Qpsk r load g k z h f = omega arith
@@ -138,33 +138,33 @@ module _ (t : Table) (fit-table : TableAccepted t) where
         go (three e s) = let p = half s in omega arith
 
     -- what a load holds of its inputs and uncoded bits is its own bit
-    held-in : (load : List ℕ) (k : ℕ) → k < g .bits → heldIn (inputs t load) (besides t load) g k ≡ loadBit load (g .bit + k)
+    held-in : (load : List ℕ) (k : ℕ) → k < g .bits → heldIn (inputs t load) (uncodedBits t load) g k ≡ loadBit load (g .bit + k)
     unfolding heldBy
     held-in load k h = go (kind (g .combination))
       where
-        go : Kind (g .combination) → heldBy (modulationOf (g .combination)) (inputs t load) (besides t load) g k ≡ loadBit load (g .bit + k)
+        go : Kind (g .combination) → heldBy (modulationOf (g .combination)) (inputs t load) (uncodedBits t load) g k ≡ loadBit load (g .bit + k)
         go (one e s) = let p = plain (s .steps) in rw e (input-at t load g m k (omega arith) ∙ ap (λ (x : Modulation). loadBit load (g .bit + coded x k)) e)
         go (two e s) = let p = plain (s .steps) in rw e (input-at t load g m k (omega arith) ∙ ap (λ (x : Modulation). loadBit load (g .bit + coded x k)) e)
         go (three e s) =
             let p = half s in
             let l : k / 2 < g .steps = omega arith in
-            let c2 : getD (besides t load) (g .step + k / 2) 0 ≡ loadBit load (g .bit + 2 * (k / 2)) = beside-at t load g m (k / 2) l ∙ ap (λ (x : Modulation). besideBy x load g (k / 2)) e in
+            let c2 : getD (uncodedBits t load) (g .step + k / 2) 0 ≡ loadBit load (g .bit + 2 * (k / 2)) = beside-at t load g m (k / 2) l ∙ ap (λ (x : Modulation). uncodedBy x load g (k / 2)) e in
             let u : getD (inputs t load) (g .step + k / 2) 0 ≡ loadBit load (g .bit + (2 * (k / 2) + 1)) = input-at t load g m (k / 2) l ∙ ap (λ (x : Modulation). loadBit load (g .bit + coded x (k / 2))) e in
             rw e (rw (c2, u) (of-pair (λ n. loadBit load (g .bit + n)) k))
 
-  pub held-bit : (load : List ℕ) (n : ℕ) → n < 8 * loadBytes t → heldBit t (inputs t load) (besides t load) n ≡ loadBit load n
+  pub held-bit : (load : List ℕ) (n : ℕ) → n < 8 * loadBytes t → heldBit t (inputs t load) (uncodedBits t load) n ≡ loadBit load n
   held-bit load n l =
       let f = find-bit t n l in
-      rw (f .place-is, at-bit t 0 (heldIn (inputs t load) (besides t load)) (f .segment) (f .member) (f .place) (f .small)) (held-in (f .segment) (f .member) load (f .place) (f .small))
+      rw (f .place-is, at-bit t 0 (heldIn (inputs t load) (uncodedBits t load)) (f .segment) (f .member) (f .place) (f .small)) (held-in (f .segment) (f .member) load (f .place) (f .small))
 
   -- A FULL LOAD is the load of its inputs and uncoded bits
-  pub load-back : (load : List ℕ) → FullLoad load (loadBytes t) → loadOf t (inputs t load) (besides t load) ≡ load
+  pub load-back : (load : List ℕ) → FullLoad load (loadBytes t) → loadOf t (inputs t load) (uncodedBits t load) ≡ load
   unfolding loadOf
-  load-back load full = bytes-are load (loadBytes t) (heldBit t (inputs t load) (besides t load)) full (held-bit load)
+  load-back load full = bytes-are load (loadBytes t) (heldBit t (inputs t load) (uncodedBits t load)) full (held-bit load)
 
   -- so two full loads of one content are one
-  pub load-only : (a b : List ℕ) → FullLoad a (loadBytes t) → FullLoad b (loadBytes t) → inputs t a ≡ inputs t b → besides t a ≡ besides t b → a ≡ b
-  load-only a b fa fb e f = sym (load-back a fa) ∙ ap (λ (x : List ℕ). loadOf t x (besides t a)) e ∙ ap (λ (x : List ℕ). loadOf t (inputs t b) x) f ∙ load-back b fb
+  pub load-only : (a b : List ℕ) → FullLoad a (loadBytes t) → FullLoad b (loadBytes t) → inputs t a ≡ inputs t b → uncodedBits t a ≡ uncodedBits t b → a ≡ b
+  load-only a b fa fb e f = sym (load-back a fa) ∙ ap (λ (x : List ℕ). loadOf t x (uncodedBits t a)) e ∙ ap (λ (x : List ℕ). loadOf t (inputs t b) x) f ∙ load-back b fb
 
   -- ---- a content is the inputs and the uncoded bits of its load
   module _ (r : Received) (s : ℕ) (us zs : List ℕ) (c : Content (sided.two (frameMetrics t r) (frameSides t r)) (frameSteps t) s us zs) where
@@ -200,7 +200,7 @@ module _ (t : Table) (fit-table : TableAccepted t) where
         let md = modulationOf (g .combination) in
         rw (f .place-is) (input-at t load g (f .member) p (f .small) ∙ bit-in g (f .member) (coded md p) (coded-in g (f .member) p (f .small)) ∙ held-coded md us zs g p)
 
-    beside-back : (k : ℕ) → k < frameSteps t → getD (besides t load) k 0 ≡ getD zs k 0
+    beside-back : (k : ℕ) → k < frameSteps t → getD (uncodedBits t load) k 0 ≡ getD zs k 0
     beside-back k h =
         let f = find-step t k h in
         let g = f .segment in
@@ -216,18 +216,18 @@ module _ (t : Table) (fit-table : TableAccepted t) where
         let n : length (inputs t load) ≡ frameSteps t = length-upto (atStep 0 (inputIn load) t) (frameSteps t) in
         ext-getD 0 (inputs t load) us (n ∙ sym (c .path .count)) (λ k l. input-back k (rw n at l))
 
-    pub content-besides : besides t load ≡ zs
-    unfolding besides
-    content-besides =
-        let n : length (besides t load) ≡ frameSteps t = length-upto (atStep 0 (besideIn load) t) (frameSteps t) in
-        ext-getD 0 (besides t load) zs (n ∙ sym (c .count)) (λ k l. beside-back k (rw n at l))
+    pub content-uncoded : uncodedBits t load ≡ zs
+    unfolding uncodedBits
+    content-uncoded =
+        let n : length (uncodedBits t load) ≡ frameSteps t = length-upto (atStep 0 (uncodedIn load) t) (frameSteps t) in
+        ext-getD 0 (uncodedBits t load) zs (n ∙ sym (c .count)) (λ k l. beside-back k (rw n at l))
 
     -- THE WORTH of a content is the fit of its load
     pub content-fit : fit t r load s ≡ worth (sided.worthAt (frameMetrics t r) (frameSides t r)) s us zs (frameSteps t)
     content-fit =
         sym (load-worth t r load s)
-        ∙ ap (λ (x : List ℕ). worth (sided.worthAt (frameMetrics t r) (frameSides t r)) s x (besides t load) (frameSteps t)) content-inputs
-        ∙ ap (λ (x : List ℕ). worth (sided.worthAt (frameMetrics t r) (frameSides t r)) s us x (frameSteps t)) content-besides
+        ∙ ap (λ (x : List ℕ). worth (sided.worthAt (frameMetrics t r) (frameSides t r)) s x (uncodedBits t load) (frameSteps t)) content-inputs
+        ∙ ap (λ (x : List ℕ). worth (sided.worthAt (frameMetrics t r) (frameSides t r)) s us x (frameSteps t)) content-uncoded
 
     -- its inputs and its uncoded bits are bits, at every place
     pub content-bits : (k : ℕ) → getD us k 0 < 2

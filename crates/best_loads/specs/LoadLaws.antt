@@ -1,28 +1,35 @@
 -- What `best_content` finds, said of loads: its bits with its uncoded bits are a full load that no full load fits better than, and its leads are those of the load in the valid slots. Assumes nothing.
 use mathlib.Core.Path.{_≡_, refl, sym, ap, _∙_, subst}
 use mathlib.Core.List.{List}
-use Prim.Native.Nat.{ℕ, _+_, _≤_, _<_}
+use Prim.Native.Nat.{ℕ, _+_, _*_, _≤_, _<_}
 use native.Mathlib.Omega.{arith}
 use lib.IntN.{ℤ, pos, _+ℤ_}
 use lib.Signed.{_≤ℤ_}
 use lib.ListN.{getD}
 use Rattle.trellis.specs.Isdb
+use Rattle.best_path.specs.Paths.{First}
 use Rattle.best_path.specs.Fresh.{StartsIn}
 use Rattle.best_path.specs.declared.Start.{Start}
 use Rattle.isdbs_tables.specs.declared.Table.{Table}
 use Rattle.isdbs_tables.specs.Tables.{TableAccepted}
 use Rattle.isdbs_runs.specs.RunsOf.{frameSteps, validTotal}
-use Rattle.isdbs_points.specs.Frame.{inputs}
+use Rattle.isdbs_combination.specs.declared.Modulation.{Modulation}
+use Rattle.isdbs_combination.specs.declared.Modulation.the-variants.{Tc8psk}
+use Rattle.isdbs_combination.specs.Combinations.{modulationOf}
+use Rattle.isdbs_points.specs.Layout.{Segment, segments, In, loadBit}
+use Rattle.isdbs_points.specs.Frame.{inputs, labelAt}
+use Rattle.isdbs_points.specs.SizeLaws.{step-fits}
 use Rattle.isdbs_metrics.specs.Reading.{Received}
-use Rattle.best_sides.specs.FrameSides.{frameMetrics, frameSides}
+use Rattle.best_sides.specs.FrameSides.{frameMetrics, frameSides, betterIn}
+use Rattle.best_sides.specs.FrameLaws.{chosen-uncoded}
 use Rattle.best_grid.specs.Sides.{two, worthAt}
 use Rattle.best_grid.specs.Contents.{Content, worth, Differ, Leads}
 use Rattle.best_content.specs.Found.{Found}
 use Rattle.best_loads.specs.Fit.{fit, DifferIn, Sent, LeadsIn, BestReading}
 use Rattle.best_loads.specs.Marks.{markAt}
-use Rattle.best_loads.specs.Held.{besides, loadOf}
-use Rattle.best_loads.specs.FitLaws.{load-worth, load-content}
-use Rattle.best_loads.specs.HeldLaws.{content-full, content-inputs, content-besides, content-fit}
+use Rattle.best_loads.specs.Held.{uncodedBy, uncodedBits, loadOf}
+use Rattle.best_loads.specs.FitLaws.{beside-at, load-worth, load-content}
+use Rattle.best_loads.specs.HeldLaws.{content-full, content-inputs, content-uncoded, content-fit}
 use Rattle.best_loads.specs.SlotLaws.{slot-steps, slot-bytes}
 
 -- ---- differences, with other names for the same
@@ -58,8 +65,8 @@ module _ (t : Table) (accepted : TableAccepted t) (r : Received) (start : Start)
   pub best-load : (q : ℕ) (other : List ℕ) → Sent t from q other → fit t r other q ≤ℤ fit t r load s
   best-load q other o =
       subst (λ (x : ℤ). x ≤ℤ fit t r load s) (load-worth t r other q)
-      (subst (λ (x : ℤ). worth w q (inputs t other) (besides t other) (frameSteps t) ≤ℤ x) (sym own)
-      (found .greatest q (inputs t other) (besides t other) (load-content t r other q (o .state)) (o .begins)))
+      (subst (λ (x : ℤ). worth w q (inputs t other) (uncodedBits t other) (frameSteps t) ≤ℤ x) (sym own)
+      (found .greatest q (inputs t other) (uncodedBits t other) (load-content t r other q (o .state)) (o .begins)))
 
   module _ (k : ℕ) (h : k < validTotal t) where
     abbrev low : getD marks k 0 ≡ markAt t k
@@ -74,11 +81,11 @@ module _ (t : Table) (accepted : TableAccepted t) (r : Received) (start : Start)
     over : (q : ℕ) (other : List ℕ) → Sent t from q other → DifferIn k load other → (fit t r other q +ℤ pos d) ≤ℤ fit t r load s
     over q other o x =
         let c = found .content in
-        let y = differ-as (content-inputs t accepted r s us zs c) (content-besides t accepted r s us zs c) refl refl (sym low) (sym high)
+        let y = differ-as (content-inputs t accepted r s us zs c) (content-uncoded t accepted r s us zs c) refl refl (sym low) (sym high)
         (slot-steps t accepted load other (content-full t accepted r s us zs c) (o .full) k h x) in
         subst (λ (z : ℤ). (z +ℤ pos d) ≤ℤ fit t r load s) (load-worth t r other q)
-        (subst (λ (z : ℤ). (worth w q (inputs t other) (besides t other) (frameSteps t) +ℤ pos d) ≤ℤ z) (sym own)
-        (found .leads k h .over q (inputs t other) (besides t other) (load-content t r other q (o .state)) (o .begins) y))
+        (subst (λ (z : ℤ). (worth w q (inputs t other) (uncodedBits t other) (frameSteps t) +ℤ pos d) ≤ℤ z) (sym own)
+        (found .leads k h .over q (inputs t other) (uncodedBits t other) (load-content t r other q (o .state)) (o .begins) y))
 
     pub lead-load : LeadsIn t r from s load k d
     lead-load =
@@ -93,11 +100,28 @@ module _ (t : Table) (accepted : TableAccepted t) (r : Received) (start : Start)
           rival = loadOf t vs ys;
           sent = sent-of q vs ys (l .content) (l .begins);
           differ = slot-bytes t accepted load (loadOf t vs ys) k h
-              (differ-as (sym (content-inputs t accepted r s us zs c)) (sym (content-besides t accepted r s us zs c)) (sym (content-inputs t accepted r q vs ys (l .content)))
-              (sym (content-besides t accepted r q vs ys (l .content))) low high (l .differ));
+              (differ-as (sym (content-inputs t accepted r s us zs c)) (sym (content-uncoded t accepted r s us zs c)) (sym (content-inputs t accepted r q vs ys (l .content)))
+              (sym (content-uncoded t accepted r q vs ys (l .content))) low high (l .differ));
           exactly = ap (λ (z : ℤ). z +ℤ pos d) (content-fit t accepted r q vs ys (l .content)) ∙ l .other ∙ sym own;
         }
 
+  pub first-load : (q : ℕ) (other : List ℕ) → Sent t from q other → fit t r other q ≡ fit t r load s → First Isdb.half Isdb.rule s (inputs t load) q (inputs t other) (frameSteps t)
+  first-load q other o e =
+      subst (λ (x : List ℕ). First Isdb.half Isdb.rule s x q (inputs t other) (frameSteps t)) (sym (content-inputs t accepted r s us zs (found .content)))
+      (found .first q (inputs t other) (uncodedBits t other) (load-content t r other q (o .state)) (o .begins) (load-worth t r other q ∙ e ∙ own))
+
+  pub better-load : (g : Segment) → In g (segments t) → modulationOf (g .combination) ≡ Tc8psk → (k : ℕ) → k < g .steps → loadBit load (g .bit + 2 * k) ≡ betterIn r g k (labelAt s (inputs t load) (g .step + k))
+  better-load g m e k h =
+      let c = found .content in
+      let i = g .step + k in
+      let n = step-fits t g m k h in
+      ap (λ (x : Modulation). uncodedBy x load g k) (sym e)
+      ∙ sym (beside-at t load g m k h)
+      ∙ ap (λ (x : List ℕ). getD x i 0) (content-uncoded t accepted r s us zs c)
+      ∙ found .uncoded i n
+      ∙ chosen-uncoded t r us s g m e k h n
+      ∙ ap (λ (x : List ℕ). betterIn r g k (labelAt s x i)) (sym (content-inputs t accepted r s us zs c))
+
   -- THE THEOREM
   pub best-reading : BestReading t r from load ls
-  best-reading = record { s = s; sent = sent-of s us zs (found .content) (found .begins); best = best-load; leads = lead-load }
+  best-reading = record { s = s; sent = sent-of s us zs (found .content) (found .begins); best = best-load; first = first-load; uncoded = better-load; leads = lead-load }

@@ -24,7 +24,7 @@ use Rattle.best_grid.specs.Contents.{Differ}
 use Rattle.best_loads.specs.Fit.{DifferIn}
 use Rattle.best_loads.specs.Marks.{markAt}
 use Rattle.best_loads.specs.MarkLaws.{stepOf, slot, in-slot, only-slot, mark-up, mark-last}
-use Rattle.best_loads.specs.Held.{besideBy, besides, heldBy, heldIn, heldBit}
+use Rattle.best_loads.specs.Held.{uncodedBy, uncodedBits, heldBy, heldIn, heldBit}
 use Rattle.best_loads.specs.FitLaws.{beside-at}
 use Rattle.best_loads.specs.HeldLaws.{held-bit, coded-in, beside-in}
 use Rattle.isdbs_runs.specs.RunsOf.{runsOf}
@@ -71,15 +71,15 @@ coded-step Tc8psk k = omega arith
 module _ (t : Table) (accepted : TableAccepted t) (a b : List ℕ) where
   -- ---- from bytes to steps
   module _ (g : Segment) (m : In g (segments t)) (p : ℕ) (l : p < g .bits) (n : ℕ) (e : n ≡ g .bit + p) (h : n < 8 * loadBytes t) where
-    held-of : (load : List ℕ) → heldIn (inputs t load) (besides t load) g p ≡ loadBit load n
-    held-of load = sym (at-bit t 0 (heldIn (inputs t load) (besides t load)) g m p l) ∙ ap (heldBit t (inputs t load) (besides t load)) (sym e) ∙ held-bit t accepted load n h
+    held-of : (load : List ℕ) → heldIn (inputs t load) (uncodedBits t load) g p ≡ loadBit load n
+    held-of load = sym (at-bit t 0 (heldIn (inputs t load) (uncodedBits t load)) g m p l) ∙ ap (heldBit t (inputs t load) (uncodedBits t load)) (sym e) ∙ held-bit t accepted load n h
 
-    bits-alike : (getD (inputs t a) (stepOf g p) 0 ≡ getD (inputs t b) (stepOf g p) 0) × (getD (besides t a) (stepOf g p) 0 ≡ getD (besides t b) (stepOf g p) 0) → loadBit a n ≡ loadBit b n
+    bits-alike : (getD (inputs t a) (stepOf g p) 0 ≡ getD (inputs t b) (stepOf g p) 0) × (getD (uncodedBits t a) (stepOf g p) 0 ≡ getD (uncodedBits t b) (stepOf g p) 0) → loadBit a n ≡ loadBit b n
     bits-alike q =
-        sym (held-of a) ∙ held-alike (modulationOf (g .combination)) (inputs t a) (besides t a) (inputs t b) (besides t b) g p (q .0) (q .1) ∙ held-of b
+        sym (held-of a) ∙ held-alike (modulationOf (g .combination)) (inputs t a) (uncodedBits t a) (inputs t b) (uncodedBits t b) g p (q .0) (q .1) ∙ held-of b
 
     step-differs : (k : ℕ) → slotBits * k ≤ n → n < slotBits * (k + 1) → (loadBit a n ≡ loadBit b n → ⊥)
-        → Differ (inputs t a) (besides t a) (inputs t b) (besides t b) (markAt t k) (markAt t (k + 1))
+        → Differ (inputs t a) (uncodedBits t a) (inputs t b) (uncodedBits t b) (markAt t k) (markAt t (k + 1))
     step-differs k from under unlike =
         let s : slot t g m p l ≡ k = omega arith in
         let i = in-slot t g m p l in
@@ -91,7 +91,7 @@ module _ (t : Table) (accepted : TableAccepted t) (a b : List ℕ) where
         }
 
   -- full loads that differ in the bytes of slot k differ in its steps
-  pub slot-steps : FullLoad a (loadBytes t) → FullLoad b (loadBytes t) → (k : ℕ) → k < validTotal t → DifferIn k a b → Differ (inputs t a) (besides t a) (inputs t b) (besides t b) (markAt t k) (markAt t (k + 1))
+  pub slot-steps : FullLoad a (loadBytes t) → FullLoad b (loadBytes t) → (k : ℕ) → k < validTotal t → DifferIn k a b → Differ (inputs t a) (uncodedBits t a) (inputs t b) (uncodedBits t b) (markAt t k) (markAt t (k + 1))
   slot-steps fa fb k h d =
       let j = d .byte in
       let f = d .from in
@@ -122,13 +122,13 @@ module _ (t : Table) (accepted : TableAccepted t) (a b : List ℕ) where
         let md = modulationOf (g .combination) in
         bit-differs (coded md q) (coded-in t accepted g m q l) (coded-step md q) (λ e. h (input-at t a g m q l ∙ e ∙ sym (input-at t b g m q l)))
 
-    beside-differs : (md : Modulation) → modulationOf (g .combination) ≡ md → (besideBy md a g q ≡ besideBy md b g q → ⊥) → DifferIn k a b
+    beside-differs : (md : Modulation) → modulationOf (g .combination) ≡ md → (uncodedBy md a g q ≡ uncodedBy md b g q → ⊥) → DifferIn k a b
     beside-differs Bpsk e h = absurd (h refl)
     beside-differs Qpsk e h = absurd (h refl)
     beside-differs Tc8psk e h =
         bit-differs (2 * q) (beside-in t accepted g m q l e) (rw e (omega arith)) h
 
-    at-differs : ((getD (inputs t a) (g .step + q) 0 ≡ getD (inputs t b) (g .step + q) 0) × (getD (besides t a) (g .step + q) 0 ≡ getD (besides t b) (g .step + q) 0) → ⊥) → DifferIn k a b
+    at-differs : ((getD (inputs t a) (g .step + q) 0 ≡ getD (inputs t b) (g .step + q) 0) × (getD (uncodedBits t a) (g .step + q) 0 ≡ getD (uncodedBits t b) (g .step + q) 0) → ⊥) → DifferIn k a b
     at-differs h = go (eqb (getD (inputs t a) (g .step + q) 0) (getD (inputs t b) (g .step + q) 0)) refl
       where
         go : (w : Bool) → eqb (getD (inputs t a) (g .step + q) 0) (getD (inputs t b) (g .step + q) 0) ≡ w → DifferIn k a b
@@ -138,7 +138,7 @@ module _ (t : Table) (accepted : TableAccepted t) (a b : List ℕ) where
         go false e = input-differs (eqb-false (getD (inputs t a) (g .step + q) 0) (getD (inputs t b) (g .step + q) 0) e)
 
   -- loads that differ in the steps of slot k differ in its bytes
-  pub slot-bytes : (k : ℕ) → k < validTotal t → Differ (inputs t a) (besides t a) (inputs t b) (besides t b) (markAt t k) (markAt t (k + 1)) → DifferIn k a b
+  pub slot-bytes : (k : ℕ) → k < validTotal t → Differ (inputs t a) (uncodedBits t a) (inputs t b) (uncodedBits t b) (markAt t k) (markAt t (k + 1)) → DifferIn k a b
   slot-bytes k h d =
       let last = mark-up (runsOf t) (k + 1) (validTotal t) (omega arith) in
       let whole = mark-last (runsOf t) in

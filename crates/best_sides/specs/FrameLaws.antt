@@ -75,9 +75,9 @@ side-bit r g k l h = go (betterIn r g k) (λ i. bit-is (lt _ _) .0) l h
     go b s (suc (suc (suc zero))) h = let x = s 0 in let y = s 1 in let z = s 2 in let w = s 3 in omega arith
     go b s (suc (suc (suc (suc l)))) h = absurd (omega arith)
 
-at-least : (r : Received) (g : Segment) (k : ℕ) → 16 ≤ sideBy Tc8psk r g k
+pub has-side : (r : Received) (g : Segment) (k : ℕ) → leb 16 (sideBy Tc8psk r g k) ≡ true
 unfolding sideBy
-at-least r g k = omega arith
+has-side r g k = le-leb 16 (16 + (betterIn r g k 0 + 2 * betterIn r g k 1 + 4 * betterIn r g k 2 + 8 * betterIn r g k 3)) (omega arith)
 
 -- ---- what is not below 0 has no part below
 not-below : (x : Float) → Up binary32 x → below x ≡ 0
@@ -128,7 +128,4 @@ chosen-uncoded t r us s g m e k h u =
     let i = g .step + k in
     let l = labelAt s us i in
     let side : getD (frameSides t r) i 0 ≡ sideBy Tc8psk r g k = side-is t r i u ∙ at-step t 0 (sideIn r) g m k h ∙ ap (λ (x : Modulation). sideBy x r g k) e in
-    ap (λ (n : ℕ). chosenAt n l) side ∙ ap (λ (b : Bool). cond b (sideBy Tc8psk r g k / 2 ^ l % 2) 0) (sixteen r g k) ∙ side-bit r g k l (label-under isdb (getD us i 0) (stateAt 32 s us i))
-  where
-    sixteen : (r : Received) (g : Segment) (k : ℕ) → leb 16 (sideBy Tc8psk r g k) ≡ true
-    sixteen r g k = le-leb 16 (sideBy Tc8psk r g k) (at-least r g k)
+    ap (λ (n : ℕ). chosenAt n l) side ∙ ap (λ (b : Bool). cond b (sideBy Tc8psk r g k / 2 ^ l % 2) 0) (has-side r g k) ∙ side-bit r g k l (label-under isdb (getD us i 0) (stateAt 32 s us i))

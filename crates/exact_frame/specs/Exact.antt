@@ -32,7 +32,7 @@ use Rattle.exact_frame.specs.Steps.{step-favours, tc-bit}
 use Rattle.margin_ends.specs.Ends.{eight}
 use Rattle.isdbs_frame.specs.Frame.{w1}
 
-start-small : (first : Bool) → startState first < 64
+pub start-small : (first : Bool) → startState first < 64
 unfolding stateAfter stateAt upto
 start-small true = lit< tt
 start-small false = lit< tt

@@ -195,6 +195,16 @@ start-bounded : (knownStart first : Bool) → Bounded stepMost floor 0 0 (startV
 start-bounded true first = given-bounded path-limits (startState first)
 start-bounded false first = unknown-bounded path-limits
 
+-- the sizes that rows 7 and 8 give
+pub sized-by : (re im : List Float) (m : Mapping) (scales : List Float) → ((i : ℕ) → T (fits binary64 (getD re i nan))) → ((i : ℕ) → T (fits binary64 (getD im i nan))) → ((i : ℕ) → T (fits binary32 (getD scales i nan)))
+    → someOfBeyond partLimit re mainSymbols ≡ false → someOfBeyond partLimit im mainSymbols ≡ false → someBad scales ≡ false → Sized partPower scalePower (receivedBy re im m scales)
+sized-by re im m scales re-fits im-fits scale-fits re-fine im-fine scales-fine = record {
+  re-in = λ k h. part-size (getD re k nan) (re-fits k) (parts-in re mainSymbols re-fine k h);
+  im-in = λ k h. part-size (getD im k nan) (im-fits k) (parts-in im mainSymbols im-fine k h);
+  scale-in = λ c. scales-in scales scale-fits scales-fine c .0;
+  scale-up = λ c. scales-in scales scale-fits scales-fine c .1;
+}
+
 -- ---- the theorem: an accepted call keeps to the ranges. Every value of a lent slice and a scale is one of its format, which the borrow checker tells
 module _ (e : Tie) (t : Table) (re im : List Float) (m : Mapping) (scales : List Float) (decisions bits bytes counts : ℕ) (knownStart first : Bool)
     (re-fits : (i : ℕ) → T (fits binary64 (getD re i nan))) (im-fits : (i : ℕ) → T (fits binary64 (getD im i nan))) (scale-fits : (i : ℕ) → T (fits binary32 (getD scales i nan)))
@@ -206,13 +216,8 @@ module _ (e : Tie) (t : Table) (re im : List Float) (m : Mapping) (scales : List
     p : Passed t re im scales
     p = passed t re im scales decisions bits bytes counts yes
 
-    pub sized : Sized partPower scalePower r
-    sized = record {
-      re-in = λ k h. part-size (getD re k nan) (re-fits k) (parts-in re mainSymbols (p .re-fine) k h);
-      im-in = λ k h. part-size (getD im k nan) (im-fits k) (parts-in im mainSymbols (p .im-fine) k h);
-      scale-in = λ c. scales-in scales scale-fits (p .scales-fine) c .0;
-      scale-up = λ c. scales-in scales scale-fits (p .scales-fine) c .1;
-    }
+    sized : Sized partPower scalePower r
+    sized = sized-by re im m scales re-fits im-fits scale-fits (p .re-fine) (p .im-fine) (p .scales-fine)
 
     metrics-sized : (k l : ℕ) → k < frameSteps t → l < 4 → Size binary32 metricPower (getD (metricsAt t r k) l nan)
     metrics-sized k l h g = metric-in partPower scalePower (lit≤ tt) t (p .fit) r sized k h l g

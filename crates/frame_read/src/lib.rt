@@ -18,7 +18,7 @@ ghost use Rattle.frame_read.specs.Scales.{receivedBy};
 ghost use Rattle.frame_read.specs.Steps.{RunsRead};
 
 // The place of a combination's scale.
-fn scale_place(c: Combination) -> usize
+pub fn scale_place(c: Combination) -> usize
     ensures { λ r. ⌜ (r ≡ wordOf c - 1) × (r < 7) ⌝ }
 {
     let word = c.word() as usize;

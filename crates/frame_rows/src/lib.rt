@@ -46,8 +46,8 @@ fn bad_scale(s: f32) -> bool
     !(s > 0.0) | (s > SCALE_LIMIT)
 }
 
-// Whether any of the seven is.
-fn some_bad(scales: [f32; 7]) -> bool
+// Row 8: whether any of the seven is.
+pub fn some_bad(scales: [f32; 7]) -> bool
     ensures { λ r. ⌜ r ≡ someBad scales ⌝ }
 {
     let mut some = false;

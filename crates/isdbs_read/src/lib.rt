@@ -19,7 +19,7 @@ ghost use Rattle.isdbs_blocks.specs.Blocks.{runSteps, runMark, Periods};
 ghost use Rattle.isdbs_read.specs.Carried.{Carried};
 
 // How many of the steps left are taken at once.
-fn block_of(left: usize, period: usize) -> usize
+pub fn block_of(left: usize, period: usize) -> usize
     requires { ⌜ (0 < period) × (period ≤ 7) ⌝ }
     ensures { λ r. ⌜ (r ≤ left) × (r ≤ 64 * period) × (0 < left → 0 < r) × ((r ≡ left) ⊎ (r ≡ 64 * period)) ⌝ }
 {

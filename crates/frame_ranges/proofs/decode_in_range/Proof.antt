@@ -2,30 +2,14 @@
 use borrow.Author.Needs.{needs}
 use denote.Ref.{now}
 use lib.Dec.{T}
-use mathlib.Core.Path.{subst}
-use mathlib.Core.List.{List, [], _∷_, map, map-id}
-use Prim.Native.Nat.{ℕ, zero, suc}
+use Prim.Native.Nat.{ℕ}
 use lib.Ieee.{Float, nan, binary32, fits}
-use mir.Val.{Val}
-use denote.Array.{each}
-use denote.Floats.{FloatOf, passes}
-use denote.Shadow.{shadow}
 use lib.ListN.{length, getD}
 use Rattle.trellis.specs.Isdb.{rule}
 use Rattle.frame_ranges.specs.Accepted.{frame-ranges}
+use Rattle.frame_ranges.proofs.Elements.{elem-fits}
 use Rattle.frame_ranges.proofs.decode_in_range.Statement.{statement}
 use Rattle.frame_ranges.proofs.decode_in_range.Tie as tie
-
--- the elements of an array of f32 are of that format, as those of a lent slice are
-each-fits : (xs : List Float) (us : List Val) (i : ℕ) → shadow (each Float (FloatOf binary32 .own) xs us) → T (fits binary32 (getD xs i nan))
-unfolding fits
-each-fits [] us i p = tt
-each-fits (x ∷ xs) [] i p = absurd p
-each-fits (x ∷ xs) (u ∷ us) zero p = passes (fits binary32 x) (p .0 .1)
-each-fits (x ∷ xs) (u ∷ us) (suc i) p = each-fits xs us i (p .1)
-
-elem-fits : (xs : List Float) (us : List Val) (i : ℕ) → shadow (each Float (FloatOf binary32 .own) (map (λ (v : Float). v) xs) us) → T (fits binary32 (getD xs i nan))
-elem-fits xs us i p = each-fits xs us i (subst (λ (ys : List Float). shadow (each Float (FloatOf binary32 .own) ys us)) (map-id xs) p)
 
 decode-frame-requires : tie.Need-decode-frame-requires
 decode-frame-requires c κs = search needs

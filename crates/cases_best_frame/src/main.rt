@@ -1,0 +1,436 @@
+// `best_reading` on twelve frames, two of each of six tables: clean, from a known and from an unknown start; with noise all over; with noise in one stretch of symbols. Of each are shown how many of
+// its valid slots are read wrong, in how many `decode_frame` reads otherwise, and the least, the greatest and the last lead, in whole units of a metric. Then rows 1, 6, 8 and 9.
+ghost use Prim.Native.Nat.{_≤_, _<_};
+use best_frame::best_reading;
+use cases_frames::load_bytes;
+use cases_frames::mapping_of;
+use cases_frames::show_table;
+use cases_frames::table_of;
+use cases_lib::alike;
+use cases_lib::draw;
+use cases_lib::front;
+use cases_lib::least;
+use cases_lib::one;
+use cases_lib::row;
+use cases_lib::show;
+use cases_lib::step;
+use cases_lib::text;
+use isdbs_core::frame::FRAME_BITS;
+use isdbs_core::frame::LOAD_BYTES;
+use isdbs_core::frame::MAIN_SYMBOLS;
+use isdbs_core::frame::SLOTS;
+use isdbs_phy::demod::DemodOptions;
+use isdbs_phy::demod::FrameDecoded;
+use isdbs_phy::demod::decode_frame;
+use isdbs_phy::demod::encode_frame;
+use refusal::Answer;
+use trellis::FRAME_WORDS;
+
+// Each combination alone but QPSK 2/3, 3/4 and 5/6; four in all slots; one twice.
+const TABLES: [u64; 6] = [
+    0x3006,
+    0x3007,
+    0x3002,
+    0x3001,
+    0x0801_0c05_0806_1407,
+    0x0c02_0d07_0c01_0b07,
+];
+
+// The most steps of a frame, and the metrics of so many.
+const STEPS: usize = 68208;
+
+const METRICS: usize = 272832;
+
+const TABLE_WORDS: usize = 3072;
+
+// What is read: the table, the way (mapping and kind of frame), and whether the start is known.
+struct Case {
+    table: u64,
+    way: u64,
+    known: bool,
+}
+
+fn options(c: Case, scale: f32) -> DemodOptions {
+    DemodOptions {
+        mapping: mapping_of(c.way),
+        known_start: c.known,
+        scales: [scale; 7],
+    }
+}
+
+fn is_first(way: u64) -> bool {
+    way / 8 % 2 == 1
+}
+
+fn read_best(
+    c: Case,
+    scale: f32,
+    re: &[f64],
+    im: &[f64],
+    metrics: &mut [f32; METRICS],
+    sides: &mut [u8; STEPS],
+    words: &mut [u64; STEPS],
+    tables: &mut [u64],
+    bits: &mut [u8; STEPS],
+    uncoded: &mut [u8; STEPS],
+    bytes: &mut [u8; LOAD_BYTES],
+    leads: &mut [u64],
+) -> usize {
+    let a = best_reading(
+        re,
+        im,
+        table_of(c.table),
+        is_first(c.way),
+        options(c, scale),
+        metrics,
+        sides,
+        words,
+        tables,
+        bits,
+        uncoded,
+        bytes,
+        leads,
+    );
+    row(a)
+}
+
+fn read_plain(
+    c: Case,
+    re: &[f64; MAIN_SYMBOLS],
+    im: &[f64; MAIN_SYMBOLS],
+    decisions: &mut [u64; FRAME_WORDS],
+    bits: &mut [u8; FRAME_BITS],
+    bytes: &mut [u8; LOAD_BYTES],
+) -> usize {
+    let mut counts = [0u32; SLOTS];
+    let r = decode_frame(
+        re,
+        im,
+        table_of(c.table),
+        is_first(c.way),
+        options(c, 8.0),
+        decisions,
+        bits,
+        bytes,
+        &mut counts,
+    );
+    match r {
+        FrameDecoded::Decoded(_, _, _) => 0,
+        FrameDecoded::Refused(a) => row(a),
+    }
+}
+
+// ---- noise
+
+// A part between -1 and 1, the mean of two draws.
+fn drawn(x: u64) -> f64 {
+    let a = (x / 0x1_0000_0000) as u32;
+    let b = (x % 0x1_0000_0000) as u32;
+    a as f64 / 4294967296.0 + b as f64 / 4294967296.0 - 1.0
+}
+
+// Noise of a size on the symbols from a place up to another.
+fn damage(
+    re: &mut [f64; MAIN_SYMBOLS],
+    im: &mut [f64; MAIN_SYMBOLS],
+    from: usize,
+    to: usize,
+    size: f64,
+    seed: u64,
+) {
+    let end = least(to, MAIN_SYMBOLS);
+    let mut x = seed;
+    for k in from..end {
+        x = step(x);
+        re[k] = re[k] + size * drawn(x);
+        x = step(x);
+        im[k] = im[k] + size * drawn(x);
+    }
+}
+
+// ---- what is shown
+
+// In how many slots of 203 bytes two loads differ.
+fn slots_apart(a: &[u8; LOAD_BYTES], b: &[u8; LOAD_BYTES], slots: usize) -> usize {
+    let end = least(slots, SLOTS);
+    let mut n: usize = 0;
+    for k in 0..end {
+        let mut same = true;
+        for j in 0..203usize {
+            same = same & (a[203 * k + j] == b[203 * k + j]);
+        }
+        n += one(!same);
+    }
+    n
+}
+
+// The least and the greatest of the leads but the last.
+struct Ends {
+    low: u64,
+    high: u64,
+    last: u64,
+}
+
+fn ends_of(leads: &[u64; SLOTS], slots: usize) -> Ends {
+    let end = least(slots, SLOTS);
+    let mut low: u64 = 0xffff_ffff_ffff_ffff;
+    let mut high: u64 = 0;
+    let mut last: u64 = 0;
+    for k in 0..end {
+        let d = leads[k];
+        last = d;
+        if k + 1 < end {
+            low = if d < low { d } else { low };
+            high = if d > high { d } else { high };
+        }
+    }
+    Ends { low, high, last }
+}
+
+// A lead in whole units of a metric, and its tenths.
+fn units(d: u64) -> usize {
+    (d / 1048576) as usize
+}
+
+fn tenths(d: u64) -> usize {
+    (d % 1048576 * 10 / 1048576) as usize
+}
+
+fn show_leads(e: Ends) {
+    let found = [
+        units(e.low),
+        tenths(e.low),
+        units(e.high),
+        tenths(e.high),
+        units(e.last),
+        tenths(e.last),
+    ];
+    show(b"; leads #.# to #.#, last #.#\n", &found);
+}
+
+// ---- one reading of each kind
+
+fn shown(
+    how: usize,
+    c: Case,
+    answers: usize,
+    load: &[u8; LOAD_BYTES],
+    bytes: &[u8; LOAD_BYTES],
+    plain: &[u8; LOAD_BYTES],
+    leads: &[u64; SLOTS],
+) {
+    let slots = load_bytes(c.table) / 203;
+    let found = [
+        how,
+        answers,
+        slots_apart(load, bytes, slots),
+        slots,
+        slots_apart(bytes, plain, slots),
+    ];
+    show(b"  case #: answers #, # of # slots wrong, # read otherwise", &found);
+    show_leads(ends_of(leads, slots));
+}
+
+fn both(
+    how: usize,
+    c: Case,
+    load: &[u8; LOAD_BYTES],
+    re: &[f64; MAIN_SYMBOLS],
+    im: &[f64; MAIN_SYMBOLS],
+    metrics: &mut [f32; METRICS],
+    sides: &mut [u8; STEPS],
+    words: &mut [u64; STEPS],
+    bits: &mut [u8; STEPS],
+    uncoded: &mut [u8; STEPS],
+) {
+    let mut decisions = [0u64; FRAME_WORDS];
+    let mut kept = [0u8; FRAME_BITS];
+    let mut tables = [0u64; TABLE_WORDS];
+    let mut bytes = [0u8; LOAD_BYTES];
+    let mut plain = [0u8; LOAD_BYTES];
+    let mut leads = [0u64; SLOTS];
+    let a = read_best(
+        c,
+        8.0,
+        re,
+        im,
+        metrics,
+        sides,
+        words,
+        &mut tables,
+        bits,
+        uncoded,
+        &mut bytes,
+        &mut leads,
+    );
+    let b = read_plain(c, re, im, &mut decisions, &mut kept, &mut plain);
+    shown(how, c, 10 * a + b, load, &bytes, &plain, &leads);
+}
+
+// The frames of a table: clean, from an unknown start, with noise all over, with noise in one stretch.
+fn one_table(
+    k: u64,
+    table: u64,
+    re: &mut [f64; MAIN_SYMBOLS],
+    im: &mut [f64; MAIN_SYMBOLS],
+    metrics: &mut [f32; METRICS],
+    sides: &mut [u8; STEPS],
+    words: &mut [u64; STEPS],
+    bits: &mut [u8; STEPS],
+    uncoded: &mut [u8; STEPS],
+) {
+    let mut load = [0u8; LOAD_BYTES];
+    let n = load_bytes(table);
+    draw(&mut load, n, 0x9e37_79b9 + k % 64);
+    show_table(table);
+    text(b"\n");
+    let known = Case {
+        table,
+        way: k,
+        known: true,
+    };
+    let unknown = Case {
+        table,
+        way: k,
+        known: false,
+    };
+    make(&load, known, re, im);
+    both(
+        1, known, &load, re, im, metrics, sides, words, bits, uncoded,
+    );
+    both(
+        2, unknown, &load, re, im, metrics, sides, words, bits, uncoded,
+    );
+    damage(re, im, 0, MAIN_SYMBOLS, noise_of(table), 77);
+    both(
+        3, known, &load, re, im, metrics, sides, words, bits, uncoded,
+    );
+    damage(re, im, 9000, 12000, 2.0, 78);
+    both(
+        4, known, &load, re, im, metrics, sides, words, bits, uncoded,
+    );
+    both(
+        5, unknown, &load, re, im, metrics, sides, words, bits, uncoded,
+    );
+}
+
+// Noise that a table's weakest combination stands.
+fn noise_of(table: u64) -> f64 {
+    match table {
+        0x3001 => 1.5,
+        0x3002 => 1.0,
+        _ => 0.5,
+    }
+}
+
+fn make(load: &[u8; LOAD_BYTES], c: Case, re: &mut [f64; MAIN_SYMBOLS], im: &mut [f64; MAIN_SYMBOLS]) {
+    encode_frame(
+        load,
+        table_of(c.table),
+        is_first(c.way),
+        mapping_of(c.way),
+        re,
+        im,
+    );
+}
+
+fn all_tables(
+    re: &mut [f64; MAIN_SYMBOLS],
+    im: &mut [f64; MAIN_SYMBOLS],
+    metrics: &mut [f32; METRICS],
+    sides: &mut [u8; STEPS],
+    words: &mut [u64; STEPS],
+    bits: &mut [u8; STEPS],
+    uncoded: &mut [u8; STEPS],
+) {
+    let tables = TABLES;
+    for k in 0..6usize {
+        one_table(
+            3 * k as u64 + 1,
+            tables[k],
+            re,
+            im,
+            metrics,
+            sides,
+            words,
+            bits,
+            uncoded,
+        );
+    }
+}
+
+// ---- rows
+
+// Refused: a table of 49 slots, 38,975 points, a scale of 0, a word too few for the tables, a place too few for the leads.
+fn rows(
+    re: &[f64; MAIN_SYMBOLS],
+    im: &[f64; MAIN_SYMBOLS],
+    metrics: &mut [f32; METRICS],
+    sides: &mut [u8; STEPS],
+    words: &mut [u64; STEPS],
+    bits: &mut [u8; STEPS],
+    uncoded: &mut [u8; STEPS],
+) {
+    let mut tables = [7u64; TABLE_WORDS];
+    let mut bytes = [7u8; LOAD_BYTES];
+    let mut leads = [7u64; SLOTS];
+    let c = Case {
+        table: 0x3007,
+        way: 4,
+        known: true,
+    };
+    let long = Case {
+        table: 0x3107,
+        way: 4,
+        known: true,
+    };
+    let a = read_best(
+        long, 8.0, re, im, metrics, sides, words, &mut tables, bits, uncoded, &mut bytes, &mut leads,
+    );
+    let b = read_best(
+        c, 8.0, &re[0..38975], im, metrics, sides, words, &mut tables, bits, uncoded, &mut bytes, &mut leads,
+    );
+    let d = read_best(
+        c, 0.0, re, im, metrics, sides, words, &mut tables, bits, uncoded, &mut bytes, &mut leads,
+    );
+    let e = read_best(
+        c, 8.0, re, im, metrics, sides, words, &mut tables[0..3071], bits, uncoded, &mut bytes, &mut leads,
+    );
+    let f = read_best(
+        c, 8.0, re, im, metrics, sides, words, &mut tables, bits, uncoded, &mut bytes, &mut leads[0..47],
+    );
+    let found = [a, b, d, e, f, bytes[0] as usize, leads[47] as usize, tables[0] as usize];
+    show(b"rows # # # # #; as lent # # #\n", &found);
+}
+
+fn more(metrics: &mut [f32; METRICS], words: &mut [u64; STEPS], re: &mut [f64; MAIN_SYMBOLS], im: &mut [f64; MAIN_SYMBOLS]) {
+    let mut sides = [0u8; STEPS];
+    let mut bits = [0u8; STEPS];
+    let mut uncoded = [0u8; STEPS];
+    all_tables(
+        re,
+        im,
+        metrics,
+        &mut sides,
+        words,
+        &mut bits,
+        &mut uncoded,
+    );
+    rows(
+        re,
+        im,
+        metrics,
+        &mut sides,
+        words,
+        &mut bits,
+        &mut uncoded,
+    );
+}
+
+fn main() {
+    let mut metrics = [0.0f32; METRICS];
+    let mut words = [0u64; STEPS];
+    let mut re = [0.0f64; MAIN_SYMBOLS];
+    let mut im = [0.0f64; MAIN_SYMBOLS];
+    more(&mut metrics, &mut words, &mut re, &mut im);
+}
