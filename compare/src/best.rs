@@ -358,19 +358,20 @@ fn small_table(draws: &mut Draws) -> u64 {
     table(&entries)
 }
 
-fn compare(scale: u64) {
+fn compare(scale: f64) {
+    let many = |n: u64| (n as f64 * scale).ceil() as u64;
     let mut all = (0, 0);
     let draws = &mut Draws(0xbe57);
     let full = some_tables();
     let mut tally = Tally::default();
-    for turn in 0..1_200 * scale {
+    for turn in 0..many(1_200) {
         let mut case = case_of(full[turn as usize % full.len()], draws);
         case.points = noisy(&case.points, 2.0 + 18.0 * unit(draws), draws);
         tally.frame(&case, false, draws);
     }
     tally.done("tables of every kind, noise at 2 to 20 dB", &mut all);
     let mut tally = Tally::default();
-    for turn in 0..200 * scale {
+    for turn in 0..many(200) {
         let mut case = case_of(full[turn as usize % full.len()], draws);
         case.points = noisy(&case.points, 15.0, draws);
         bursts(&mut case.points, draws);
@@ -378,7 +379,7 @@ fn compare(scale: u64) {
     }
     tally.done("tables of every kind, 15 dB and bursts", &mut all);
     let mut tally = Tally::default();
-    for turn in 0..200 * scale {
+    for turn in 0..many(200) {
         let mut case = case_of(full[turn as usize % full.len()], draws);
         case.points = noisy(&case.points, 2.0 + 10.0 * unit(draws), draws);
         coarse(&mut case.points, draws.pick(&[0.25, 0.5, 1.0]));
@@ -386,7 +387,7 @@ fn compare(scale: u64) {
     }
     tally.done("tables of every kind, coarse values (ties)", &mut all);
     let mut tally = Tally::default();
-    for turn in 0..120 * scale {
+    for turn in 0..many(120) {
         let mut case = case_of(full[turn as usize % full.len()], draws);
         let share = draws.pick(&[4, 2, 1]);
         case.points = noisy(&case.points, 10.0, draws).into_iter().map(|p| if draws.below(share) == 0 { Cplx::new(0.0, -0.0) } else { p }).collect();
@@ -394,7 +395,7 @@ fn compare(scale: u64) {
     }
     tally.done("tables of every kind, a quarter, a half or all of the points 0", &mut all);
     let mut tally = Tally::default();
-    for turn in 0..120 * scale {
+    for turn in 0..many(120) {
         let mut case = case_of(full[turn as usize % full.len()], draws);
         case.points = match turn % 3 {
             0 => noisy(&case.points, 12.0, draws).into_iter().map(|p| Cplx::new(p.re * 16_384.0, p.im * 16_384.0)).collect(),
@@ -404,7 +405,7 @@ fn compare(scale: u64) {
     }
     tally.done("tables of every kind, values to 65,536, subnormal ones, zeros of both signs", &mut all);
     let mut tally = Tally::default();
-    for turn in 0..800 * scale {
+    for turn in 0..many(800) {
         let mut case = case_of(small_table(draws), draws);
         case.points = noisy(&case.points, 1.0 + 12.0 * unit(draws), draws);
         match turn % 4 {
@@ -416,7 +417,7 @@ fn compare(scale: u64) {
     }
     tally.done("small tables made up, every slot's lead", &mut all);
     let mut tally = Tally::default();
-    for turn in 0..24 * scale {
+    for turn in 0..many(24) {
         let mut case = case_of(full[turn as usize % 12], draws);
         case.points = noisy(&case.points, 2.0 + 10.0 * unit(draws), draws);
         tally.frame(&case, true, draws);
@@ -524,6 +525,6 @@ fn main() {
         Some("speed") => speed(words.get(1).map_or(20, |w| w.parse().unwrap())),
         Some("stack") => on_small_stack(words.get(1).map_or(96, |w| w.parse().unwrap())),
         Some(scale) => compare(scale.parse().unwrap()),
-        None => compare(1),
+        None => compare(1.0),
     }
 }
