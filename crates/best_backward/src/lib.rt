@@ -6,53 +6,63 @@ ghost use lib.Ieee.{nan};
 ghost use Rattle.acs_paths.specs.Branches.{BranchNumbers};
 ghost use Rattle.best_grid.specs.Grid.{cost, dearest};
 ghost use Rattle.best_grid.specs.Sides.{mirror, two, priceAt};
-ghost use Rattle.best_grid.specs.Backward.{far, low, turned, onward, backs, others, backRun, otherRun, leastOf};
+ghost use Rattle.best_grid.specs.Backward.{far, low, turned, onward, leastAt, otherOf, backs, others, backRun, otherRun};
 ghost use Rattle.best_grid.specs.Leading.{seq};
 ghost use Rattle.best_backward.specs.Prices.{Halved, BackRoom, listed, priceOf, turnedOf, keptAt, turnedAt, Four, Lower, Asked};
 ghost use Rattle.trellis.specs.Isdb;
 use acs_paths::BRANCH;
 use acs_paths::Numbers;
 use best_forward::cost_of;
+use best_forward::number;
+use best_forward::smaller;
+use best_forward::states;
 use best_grid::FAR;
 use best_grid::LEVEL;
 use trellis::HALF;
 use trellis::STATES;
 
-fn smaller(a: u64, b: u64) -> u64
-    ensures { λ r. ⌜ r ≡ min a b ⌝ }
+// From the state 2j + b on the input u, where the labels cost m, and `after` has the costs after the step.
+fn ahead(after: &[u64; STATES], t: &Numbers, m: &[u64; 4], u: usize, b: usize, j: usize) -> u64
+    requires { ⌜ (u < 2) × (b < 2) × (j < Isdb.half) × BranchNumbers (now t) × Halved (now after) × Halved (now m) ⌝ }
+    ensures { λ r. ⌜ r ≡ onward (now (after .entry)) (listed (now (m .entry))) u (2 * j + b) ⌝ }
 {
-    if a < b { a } else { b }
+    let n = number(t, u, b, j) as usize;
+    m[n] + after[HALF * u + j]
 }
 
-// The number of states, which the type of the table fixes.
-fn states(d: &[u64; STATES]) -> usize
-    ensures { λ r. ⌜ (r ≡ Isdb.states) × (length (now (d .entry)) ≡ Isdb.states) ⌝ }
-{
-    let numbers: &[u64] = d;
-    numbers.len()
+// The least cost from a state to the end, and that of a content which differs.
+struct Onward {
+    least: u64,
+    other: u64,
 }
 
-// The number 2X + Y of the branch from the state s on the input u.
-fn number(t: &Numbers, u: usize, s: usize) -> u8
-    requires { ⌜ (u < 2) × (s < Isdb.states) × BranchNumbers (now t) ⌝ }
-    ensures { λ r. ⌜ (r < 4) × (r ≡ Isdb.labels u s) ⌝ }
+// Both of the state 2j + b, from the tables after the step. The reading has the input u and costs `kept`, with the other uncoded bit `turned`.
+fn back_state(
+    after: &[u64; STATES],
+    differing: &[u64; STATES],
+    t: &Numbers,
+    low: &[u64; 4],
+    kept: &[u64; 4],
+    turned: &[u64; 4],
+    u: usize,
+    b: usize,
+    j: usize,
+) -> Onward
+    requires { ⌜ (u < 2) × (b < 2) × (j < Isdb.half) × BranchNumbers (now t) × Halved (now after) × Halved (now differing) × Halved (now low) × Halved (now kept) × Halved (now turned) ⌝ }
+    ensures { λ r. ⌜ (r .least ≡ leastAt (now (after .entry)) (listed (now (low .entry))) (2 * j + b))
+        × (r .other ≡ otherOf (now (after .entry)) (now (differing .entry)) (listed (now (low .entry))) (listed (now (kept .entry))) (listed (now (turned .entry))) u (2 * j + b)) ⌝ }
 {
-    let b = s % 2;
-    let j = s / 2;
-    t[u][b][j]
+    let same = ahead(after, t, low, u, b, j);
+    let other = ahead(after, t, low, 1 - u, b, j);
+    let later = ahead(differing, t, kept, u, b, j);
+    let aside = ahead(after, t, turned, u, b, j);
+    Onward {
+        least: smaller(same, other),
+        other: smaller(later, smaller(aside, other)),
+    }
 }
 
-// From the state s on the input u, where the labels cost m, and `after` has the costs after the step.
-fn ahead(after: &[u64; STATES], t: &Numbers, m: &[u64; 4], u: usize, s: usize) -> u64
-    requires { ⌜ (u < 2) × (s < Isdb.states) × BranchNumbers (now t) × Halved (now after) × Halved (now m) ⌝ }
-    ensures { λ r. ⌜ r ≡ onward (now (after .entry)) (listed (now (m .entry))) u s ⌝ }
-{
-    let n = number(t, u, s) as usize;
-    let next = HALF * u + s / 2;
-    m[n] + after[next]
-}
-
-// A step back of both tables: the reading has the input u and costs `kept`, with the other uncoded bit `turned`.
+// A step back of both tables, a butterfly a turn: the states 2j and 2j + 1.
 fn back_step(
     b: &mut [u64; STATES],
     d: &mut [u64; STATES],
@@ -70,13 +80,13 @@ fn back_step(
     let differing = *d;
     let n = states(b);
     states(d);
-    for s in 0..n {
-        let same = ahead(&after, t, low, u, s);
-        let other = ahead(&after, t, low, 1 - u, s);
-        let later = ahead(&differing, t, kept, u, s);
-        let aside = ahead(&after, t, turned, u, s);
-        b[s] = smaller(same, other);
-        d[s] = smaller(later, smaller(aside, other));
+    for j in 0..n / 2 {
+        let even = back_state(&after, &differing, t, low, kept, turned, u, 0, j);
+        let odd = back_state(&after, &differing, t, low, kept, turned, u, 1, j);
+        b[2 * j] = even.least;
+        d[2 * j] = even.other;
+        b[2 * j + 1] = odd.least;
+        d[2 * j + 1] = odd.other;
     }
 }
 

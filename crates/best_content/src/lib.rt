@@ -21,18 +21,13 @@ use acs::branch_number;
 use best_backward::back_steps;
 use best_forward::cheapest_state;
 use best_forward::pass;
+use best_forward::smaller;
 use best_forward::start_table;
 use best_grid::FAR;
 use best_path::Start;
 use release::trace;
 use trellis::HALF;
 use trellis::STATES;
-
-fn smaller(a: u64, b: u64) -> u64
-    ensures { λ r. ⌜ r ≡ min a b ⌝ }
-{
-    if a < b { a } else { b }
-}
 
 // The state from which the first n decision words lead to `state`.
 fn traced_start(decisions: &[u64], n: usize, state: usize) -> usize

@@ -70,17 +70,17 @@ pub fn cost_of(x: f32) -> u64
 }
 
 // The number of states, which the type of the table fixes.
-fn states(d: &[u64; STATES]) -> usize
+pub fn states(d: &[u64; STATES]) -> usize
     ensures { λ r. ⌜ (r ≡ Isdb.states) × (length (now (d .entry)) ≡ Isdb.states) ⌝ }
 {
     let numbers: &[u64] = d;
     numbers.len()
 }
 
-fn smaller(a: u64, b: u64) -> u64
+pub fn smaller(a: u64, b: u64) -> u64
     ensures { λ r. ⌜ r ≡ min a b ⌝ }
 {
-    if a < b { a } else { b }
+    if b <= a { b } else { a }
 }
 
 // Whether the odd way costs no more, as a bit.
@@ -90,41 +90,51 @@ fn beats(odd: u64, even: u64) -> u64
     (odd <= even) as u64
 }
 
-// The number 2X + Y of the branch into the state k from its predecessor with the low bit b.
-fn number(t: &Numbers, k: usize, b: usize) -> u8
-    requires { ⌜ (k < Isdb.states) × (b < 2) × BranchNumbers (now t) ⌝ }
-    ensures { λ r. ⌜ (r < 4) × (r ≡ Isdb.labels (k / Isdb.half) (2 * (k % Isdb.half) + b)) ⌝ }
+// The number 2X + Y of the branch from the state 2j + b on the input u. The sum of u and b tells it, so both halves of a step read the same entries.
+pub fn number(t: &Numbers, u: usize, b: usize, j: usize) -> u8
+    requires { ⌜ (u < 2) × (b < 2) × (j < Isdb.half) × BranchNumbers (now t) ⌝ }
+    ensures { λ r. ⌜ (r < 4) × (r ≡ Isdb.labels u (2 * j + b)) ⌝ }
 {
-    let u = k / HALF;
-    let j = k % HALF;
-    t[u][b][j]
+    t[0][(u + b) % 2][j]
 }
 
-// The cost of the way to the state k by its predecessor with the low bit b, where the four labels cost m.
-fn way(d: &[u64; STATES], t: &Numbers, m: &[u64; 4], k: usize, b: usize) -> u64
-    requires { ⌜ (k < Isdb.states) × (b < 2) × BranchNumbers (now t) × Roomy (now d) × Small (now m) ⌝ }
-    ensures { λ r. ⌜ r ≡ through (now (d .entry)) (listed (now (m .entry))) k b ⌝ }
+// The cost of the way to the state 32u + j by its predecessor 2j + b, where the four labels cost m.
+fn way(d: &[u64; STATES], t: &Numbers, m: &[u64; 4], u: usize, b: usize, j: usize) -> u64
+    requires { ⌜ (u < 2) × (b < 2) × (j < Isdb.half) × BranchNumbers (now t) × Roomy (now d) × Small (now m) ⌝ }
+    ensures { λ r. ⌜ r ≡ through (now (d .entry)) (listed (now (m .entry))) (Isdb.half * u + j) b ⌝ }
 {
-    let from = 2 * (k % HALF) + b;
-    let n = number(t, k, b) as usize;
-    d[from] + m[n]
+    let n = number(t, u, b, j) as usize;
+    d[2 * j + b] + m[n]
 }
 
-// A step of the table. The decision word.
+// The word of both halves.
+fn join(low: u64, high: u64) -> u64
+    requires { ⌜ (low < 0x1_0000_0000) × (high < 0x1_0000_0000) ⌝ }
+    ensures { λ r. ⌜ r ≡ low + high * 0x1_0000_0000 ⌝ }
+{
+    low + high * 0x1_0000_0000
+}
+
+// A step of the table, a butterfly a turn: the states j and 32 + j, whose predecessors are 2j and 2j + 1. The decision word.
 fn cost_step(d: &mut [u64; STATES], t: &Numbers, m: &[u64; 4]) -> u64
     requires { ⌜ BranchNumbers (now t) × Roomy (now d) × Small (now m) ⌝ }
     ensures { λ r. ⌜ (now (d .exit) ≡ nexts (now (d .entry)) (listed (now (m .entry)))) × (r ≡ word (now (d .entry)) (listed (now (m .entry)))) ⌝ }
 {
     let old = *d;
     let n = states(d);
-    let mut w: u64 = 0;
-    for k in 0..n {
-        let even = way(&old, t, m, k, 0);
-        let odd = way(&old, t, m, k, 1);
-        d[k] = smaller(even, odd);
-        w = w | (beats(odd, even) << k);
+    let mut low: u64 = 0;
+    let mut high: u64 = 0;
+    for j in 0..n / 2 {
+        let even = way(&old, t, m, 0, 0, j);
+        let odd = way(&old, t, m, 0, 1, j);
+        let even_above = way(&old, t, m, 1, 0, j);
+        let odd_above = way(&old, t, m, 1, 1, j);
+        d[j] = smaller(even, odd);
+        d[HALF + j] = smaller(even_above, odd_above);
+        low = low | (beats(odd, even) << j);
+        high = high | (beats(odd_above, even_above) << j);
     }
-    w
+    join(low, high)
 }
 
 // The costs of step k of metrics in fours.

@@ -27,17 +27,24 @@ module _ (two : ℕ → Bool) (c : ℕ → ℕ → ℕ → ℕ) where
 abbrev pub onward : List ℕ → (ℕ → ℕ) → ℕ → ℕ → ℕ
 onward b m u s = m (Isdb.labels u s) + getD b (moved Isdb.half u s) 0
 
--- the least cost from each state to the end, j steps from step t on
-unfoldable pub backs : List ℕ → (ℕ → ℕ) → List ℕ
-backs b m = upto (λ s. min (onward b m 0 s) (onward b m 1 s)) Isdb.states
+-- the least cost from the state s to the end, by either input; from each state
+abbrev pub leastAt : List ℕ → (ℕ → ℕ) → ℕ → ℕ
+leastAt b m s = min (onward b m 0 s) (onward b m 1 s)
 
+unfoldable pub backs : List ℕ → (ℕ → ℕ) → List ℕ
+backs b m = upto (leastAt b m) Isdb.states
+
+-- the table of j steps from step t on
 unfoldable pub backAt : (ℕ → ℕ → ℕ) → ℕ → ℕ → List ℕ
 backAt m t zero = upto (λ s. 0) Isdb.states
 backAt m t (suc j) = backs (backAt m (suc t) j) (m t)
 
--- a step back of the second table: the reading has the input u, and costs `kept`; with the other uncoded bit `turned`; `d` and `b` are the tables after the step
+-- the least cost from the state s of a content that differs: the reading has the input u, and costs `kept`; with the other uncoded bit `turned`; `b` and `d` are the tables after the step. From each state
+abbrev pub otherOf : List ℕ → List ℕ → (ℕ → ℕ) → (ℕ → ℕ) → (ℕ → ℕ) → ℕ → ℕ → ℕ
+otherOf b d low kept turned u s = min (onward d kept u s) (min (onward b turned u s) (onward b low (1 - u) s))
+
 unfoldable pub others : List ℕ → List ℕ → (ℕ → ℕ) → (ℕ → ℕ) → (ℕ → ℕ) → ℕ → List ℕ
-others d b kept turned low u = upto (λ s. min (onward d kept u s) (min (onward b turned u s) (onward b low (1 - u) s))) Isdb.states
+others d b kept turned low u = upto (otherOf b d low kept turned u) Isdb.states
 
 -- the least cost of j steps from step t on that differ from the inputs us and the uncoded bits zs in one of the first r
 module _ (two : ℕ → Bool) (c : ℕ → ℕ → ℕ → ℕ) (us zs : ℕ → ℕ) where

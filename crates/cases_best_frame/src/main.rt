@@ -227,7 +227,10 @@ fn shown(
         slots,
         slots_apart(bytes, plain, slots),
     ];
-    show(b"  case #: answers #, # of # slots wrong, # read otherwise", &found);
+    show(
+        b"  case #: answers #, # of # slots wrong, # read otherwise",
+        &found,
+    );
     show_leads(ends_of(leads, slots));
 }
 
@@ -296,21 +299,66 @@ fn one_table(
     };
     make(&load, known, re, im);
     both(
-        1, known, &load, re, im, metrics, sides, words, bits, uncoded,
+        1,
+        known,
+        &load,
+        re,
+        im,
+        metrics,
+        sides,
+        words,
+        bits,
+        uncoded,
     );
     both(
-        2, unknown, &load, re, im, metrics, sides, words, bits, uncoded,
+        2,
+        unknown,
+        &load,
+        re,
+        im,
+        metrics,
+        sides,
+        words,
+        bits,
+        uncoded,
     );
     damage(re, im, 0, MAIN_SYMBOLS, noise_of(table), 77);
     both(
-        3, known, &load, re, im, metrics, sides, words, bits, uncoded,
+        3,
+        known,
+        &load,
+        re,
+        im,
+        metrics,
+        sides,
+        words,
+        bits,
+        uncoded,
     );
     damage(re, im, 9000, 12000, 2.0, 78);
     both(
-        4, known, &load, re, im, metrics, sides, words, bits, uncoded,
+        4,
+        known,
+        &load,
+        re,
+        im,
+        metrics,
+        sides,
+        words,
+        bits,
+        uncoded,
     );
     both(
-        5, unknown, &load, re, im, metrics, sides, words, bits, uncoded,
+        5,
+        unknown,
+        &load,
+        re,
+        im,
+        metrics,
+        sides,
+        words,
+        bits,
+        uncoded,
     );
 }
 
@@ -323,7 +371,12 @@ fn noise_of(table: u64) -> f64 {
     }
 }
 
-fn make(load: &[u8; LOAD_BYTES], c: Case, re: &mut [f64; MAIN_SYMBOLS], im: &mut [f64; MAIN_SYMBOLS]) {
+fn make(
+    load: &[u8; LOAD_BYTES],
+    c: Case,
+    re: &mut [f64; MAIN_SYMBOLS],
+    im: &mut [f64; MAIN_SYMBOLS],
+) {
     encode_frame(
         load,
         table_of(c.table),
@@ -385,46 +438,99 @@ fn rows(
         known: true,
     };
     let a = read_best(
-        long, 8.0, re, im, metrics, sides, words, &mut tables, bits, uncoded, &mut bytes, &mut leads,
+        long,
+        8.0,
+        re,
+        im,
+        metrics,
+        sides,
+        words,
+        &mut tables,
+        bits,
+        uncoded,
+        &mut bytes,
+        &mut leads,
     );
     let b = read_best(
-        c, 8.0, &re[0..38975], im, metrics, sides, words, &mut tables, bits, uncoded, &mut bytes, &mut leads,
+        c,
+        8.0,
+        &re[0..38975],
+        im,
+        metrics,
+        sides,
+        words,
+        &mut tables,
+        bits,
+        uncoded,
+        &mut bytes,
+        &mut leads,
     );
     let d = read_best(
-        c, 0.0, re, im, metrics, sides, words, &mut tables, bits, uncoded, &mut bytes, &mut leads,
+        c,
+        0.0,
+        re,
+        im,
+        metrics,
+        sides,
+        words,
+        &mut tables,
+        bits,
+        uncoded,
+        &mut bytes,
+        &mut leads,
     );
     let e = read_best(
-        c, 8.0, re, im, metrics, sides, words, &mut tables[0..3071], bits, uncoded, &mut bytes, &mut leads,
+        c,
+        8.0,
+        re,
+        im,
+        metrics,
+        sides,
+        words,
+        &mut tables[0..3071],
+        bits,
+        uncoded,
+        &mut bytes,
+        &mut leads,
     );
     let f = read_best(
-        c, 8.0, re, im, metrics, sides, words, &mut tables, bits, uncoded, &mut bytes, &mut leads[0..47],
+        c,
+        8.0,
+        re,
+        im,
+        metrics,
+        sides,
+        words,
+        &mut tables,
+        bits,
+        uncoded,
+        &mut bytes,
+        &mut leads[0..47],
     );
-    let found = [a, b, d, e, f, bytes[0] as usize, leads[47] as usize, tables[0] as usize];
+    let found = [
+        a,
+        b,
+        d,
+        e,
+        f,
+        bytes[0] as usize,
+        leads[47] as usize,
+        tables[0] as usize,
+    ];
     show(b"rows # # # # #; as lent # # #\n", &found);
 }
 
-fn more(metrics: &mut [f32; METRICS], words: &mut [u64; STEPS], re: &mut [f64; MAIN_SYMBOLS], im: &mut [f64; MAIN_SYMBOLS]) {
+fn more(
+    metrics: &mut [f32; METRICS],
+    words: &mut [u64; STEPS],
+    re: &mut [f64; MAIN_SYMBOLS],
+    im: &mut [f64; MAIN_SYMBOLS],
+) {
     let mut sides = [0u8; STEPS];
     let mut bits = [0u8; STEPS];
     let mut uncoded = [0u8; STEPS];
-    all_tables(
-        re,
-        im,
-        metrics,
-        &mut sides,
-        words,
-        &mut bits,
-        &mut uncoded,
-    );
-    rows(
-        re,
-        im,
-        metrics,
-        &mut sides,
-        words,
-        &mut bits,
-        &mut uncoded,
-    );
+    all_tables(re, im, metrics, &mut sides, words, &mut bits, &mut uncoded);
+    rows(re, im, metrics, &mut sides, words, &mut bits, &mut uncoded);
 }
 
 fn main() {

@@ -4,7 +4,7 @@ use Rattle.best_backward.proofs.low_prices.Statement.{statement}
 use Rattle.best_backward.proofs.low_prices.Tie as tie
 use Rattle.best_backward.proofs.low_prices.Reads as reads
 use Rattle.best_backward.proofs.low_prices.Lts as lts
-use Rattle.best_backward.proofs.smaller.Reads as smaller-reads
+use Rattle.best_forward.proofs.smaller.Reads as smaller-reads
 
 -- src/lib.rt:143:21
 element-copy-out-smaller : tie.Need-element-copy-out-smaller

@@ -8,7 +8,7 @@ use Rattle.best_content.proofs.least_sum.Statement.{statement}
 use Rattle.best_content.proofs.least_sum.Tie as tie
 use Rattle.best_content.proofs.least_sum.Reads as reads
 use Rattle.best_content.proofs.least_sum.Lts as lts
-use Rattle.best_content.proofs.smaller.Reads as smaller-reads
+use Rattle.best_forward.proofs.smaller.Reads as smaller-reads
 
 abbrev Inv-loop : tie.InvT-loop
 Inv-loop table d m₀ s₀ m s = (s ≤ 64) × (m ≡ leastOf table d s)
