@@ -1,4 +1,4 @@
-/* ISDB-S frames and the inner code of ISDB: the calls of the crates of C calls (conv_c, isdbt_c, table_c, isdb_c, codes_c, wanted_c, mend_c, judge_c, header_c).
+/* ISDB-S frames and the inner code of ISDB: the calls of the crates of C calls (conv_c, isdbt_c, table_c, isdb_c, codes_c, wanted_c, mend_c, judge_c, header_c, best_c).
  *
  * Link target/staticlib/libisdb.a, which `tools/archive` writes (x86-64 Linux). No call allocates, keeps anything or prints.
  *
@@ -125,6 +125,31 @@ uint32_t isdbs_wanted_load(const double *re, size_t re_len, const double *im, si
  * may still be right. Points past 38,976 are not read, counts past 48 not written. Takes about 630 kB of stack. Rows 1, 10, 11, 5 (bytes not exactly the load), 6, 7, 9. Crate judge_c. */
 uint32_t isdbs_judge(const double *re, size_t re_len, const double *im, size_t im_len, uint64_t table, uint8_t mapping,
                      uint8_t first, const uint8_t *bytes, size_t bytes_len, uint32_t *counts, size_t counts_len, uint32_t *sum);
+
+/* The best reading of a frame: the full load (203 bytes for each valid slot) that fits the 38,976 points best of all, and by how much it leads in each valid slot. `re` to `scales` as in
+ * isdbs_decode_frame, whose metrics count here too: four to a trellis step, as whole numbers of units of 2^-20, cut toward zero. A load fits by the sum, over its steps, of the metric at the coded
+ * pair that it sends there; at a TC8PSK step the metric counts negative where the load's C2 is not the better one. With a known start the load is sent from that frame's start state, else from whichever
+ * of the 64 states serves it best. The frame's end is open. No full load fits better than `bytes`; of equals it is the first by the decoder's ties (the odd predecessor, the highest end
+ * state), and of two C2 that fit alike the one that isdbs_decode_frame takes. leads[k], in units of 2^-20: every full load that differs in slot k fits worse by this much at least, and
+ * one by exactly this much; 0 exactly where another content of slot k fits as well. A lead is a distance between readings and no proof: a short strong burst can move the best reading and lead well.
+ * Afterwards `bits` begins with the input of each trellis step, `uncoded` with its C2 (0 outside TC8PSK), `bytes` with the load, `leads` with the leads. `metrics` (4 a step), `sides`, `words`
+ * (one a step) and `tables` (64 a valid slot) are worked in: free in that front. At most 68,208 steps, 48 slots, 9,744 bytes. Takes about 20 kB of stack. Rows 1, 10, 11, 5, 6, 7, 8, 9. Crate best_c.
+ *
+ * Leads of a clean frame at scale 8 (at another scale nearly in proportion), by word; the last slot's is smaller because the end is open, and so is the first slot's where the start is not known:
+ *
+ *                            1            2            3           4           5           6           7
+ *   a slot           167772160    118632830     71179696    59316411    47453128    35589846    16777216     (160, 113.1, 67.9, 56.6, 45.3, 33.9, 16)
+ *   the last          33554432     23726566     11863282    11863282    11863282    11863282     8388608     (32, 22.6, 11.3, 11.3, 11.3, 11.3, 8)
+ *   the first, start
+ *   not known         83886080     59316415     35589847    23726565    23726564    11863282     8388608     (80, 56.6, 33.9, 22.6, 22.6, 11.3, 8)
+ *
+ * A slot beside a run of another combination can have a smaller one too (56684842 of a BPSK slot before TC8PSK). What to compare a capture's leads with is best had from the clean frame of the
+ * same bytes (isdbs_encode_frame, then this call). */
+uint32_t isdbs_best_reading(const double *re, size_t re_len, const double *im, size_t im_len, uint64_t table, uint8_t mapping,
+                            uint8_t first, uint8_t known_start, const float *scales, size_t scales_len,
+                            float *metrics, size_t metrics_len, uint8_t *sides, size_t sides_len, uint64_t *words, size_t words_len,
+                            uint64_t *tables, size_t tables_len, uint8_t *bits, size_t bits_len, uint8_t *uncoded, size_t uncoded_len,
+                            uint8_t *bytes, size_t bytes_len, uint64_t *leads, size_t leads_len);
 
 /* Full frames of 39,936 symbols, as real and imaginary parts: 192 header points at places 0 to 191, then 192 times 203 main points and a burst of 4.
  * Symbol j of burst b is point 4b + j of the burst's 768. Points are only copied, NaN and infinities too (a NaN's bits are free); those past 192, 38,976,

@@ -519,6 +519,87 @@ fn judging(all: &mut (u64, u64), draws: &mut Draws) {
     count.done(all);
 }
 
+#[cfg(best)]
+fn best(all: &mut (u64, u64), draws: &mut Draws) {
+    let (mut re, mut im, mut scales) = (Fence::<f64>::new(MAIN + 16), Fence::<f64>::new(MAIN + 16), Fence::<f32>::new(32));
+    let (mut metrics, mut sides, mut words, mut tables) = (Fence::<f32>::new(274_432), Fence::<u8>::new(69_632), Fence::<u64>::new(69_632), Fence::<u64>::new(4_096));
+    let (mut bits, mut uncoded, mut bytes, mut leads) = (Fence::<u8>::new(69_632), Fence::<u8>::new(69_632), Fence::<u8>::new(12_288), Fence::<u64>::new(1024));
+    let mut count = Count::new("best_reading");
+    let above = f64::from_bits(65_536f64.to_bits() + 1);
+    for _ in 0..1_500 {
+        let t = any_table(draws);
+        let (valid, steps) = load_of(t);
+        let places = |d: &mut Draws| if d.below(6) == 0 { near(d, &[MAIN as u64, 0, 38_000]) as usize % 40_000 } else { MAIN + d.below(3) as usize };
+        let (a, b) = (places(draws), places(draws));
+        re.lend(draws, a, |_| 0.5);
+        im.lend(draws, b, |_| -0.25);
+        for part in [&mut re, &mut im] {
+            if part.len > 0 && draws.below(3) == 0 {
+                let at = near(draws, &[0, MAIN as u64 - 1, 20_000]) as usize % part.len;
+                part.slice()[at] = draws.pick(&[f64::NAN, f64::INFINITY, -f64::INFINITY, above, -above, 65_536.0, -65_536.0, -0.0, f64::from_bits(1)]);
+                part.before = part.watched().map(|i| unsafe { part.data.add(i).read() }).collect();
+            }
+        }
+        let count_of = if draws.below(8) == 0 { near(draws, &[7, 0]) as usize % 32 } else { 7 };
+        scales.lend(draws, count_of, |_| 8.0);
+        if scales.len > 0 && draws.below(3) == 0 {
+            let at = draws.below(scales.len as u64) as usize;
+            scales.slice()[at] = draws.pick(&[0.0, -0.0, -1.0, f32::NAN, f32::INFINITY, f32::from_bits(64f32.to_bits() + 1), 64.0, f32::from_bits(1), 63.0]);
+            scales.before = scales.watched().map(|i| unsafe { scales.data.add(i).read() }).collect();
+        }
+        // one of the eight outputs is one short or wholly missing in a third of the calls, some are longer than is needed
+        let mut need = [4 * steps, steps, steps, 64 * valid, steps, steps, 203 * valid, valid];
+        let exact = need;
+        if draws.below(3) == 0 {
+            let k = draws.below(8) as usize;
+            need[k] = if draws.below(4) == 0 { 0 } else { need[k].saturating_sub(1) };
+        } else if draws.below(2) == 0 {
+            need[draws.below(8) as usize] += 1;
+        }
+        metrics.lend(draws, need[0], |_| 7.5);
+        sides.lend(draws, need[1], |d| d.next() as u8);
+        words.lend(draws, need[2], Draws::next);
+        tables.lend(draws, need[3], Draws::next);
+        bits.lend(draws, need[4], |d| d.next() as u8);
+        uncoded.lend(draws, need[5], |d| d.next() as u8);
+        bytes.lend(draws, need[6], |d| d.next() as u8);
+        leads.lend(draws, need[7], Draws::next);
+        let out = |x: &f64| !x.is_finite() || x.abs() > 65_536.0;
+        let row = if table_row(t) != 0 {
+            table_row(t)
+        } else if scales.len != 7 {
+            5
+        } else if re.len < MAIN || im.len < MAIN {
+            6
+        } else if re.slice()[..MAIN].iter().any(out) || im.slice()[..MAIN].iter().any(out) {
+            7
+        } else if scales.slice().iter().any(|x| x.is_nan() || *x <= 0.0 || *x > 64.0) {
+            8
+        } else if need.iter().zip(exact).any(|(&n, e)| n < e) {
+            9
+        } else {
+            0
+        };
+        let s = calls::Settings { table: t, mapping: draws.next() as u8, first: draws.below(256) as u8, known: draws.below(256) as u8, scales: scales.slice() };
+        let lent = calls::Lent {
+            metrics: metrics.slice(),
+            sides: sides.slice(),
+            words: words.slice(),
+            tables: tables.slice(),
+            bits: bits.slice(),
+            uncoded: uncoded.slice(),
+            bytes: bytes.slice(),
+            leads: leads.slice(),
+        };
+        let answer = calls::best_reading(re.slice(), im.slice(), &s, lent);
+        let ok = answer == 0;
+        let free = metrics.kept(ok) && sides.kept(ok) && words.kept(ok) && tables.kept(ok);
+        let kept = free && re.kept(false) && im.kept(false) && scales.kept(false) && bits.kept(ok) && uncoded.kept(ok) && bytes.kept(ok) && leads.kept(ok);
+        count.call(answer, row, kept, || format!("table {t:016x} re {a} im {b} scales {:?} lengths {need:?}", s.scales));
+    }
+    count.done(all);
+}
+
 fn main() {
     let mut all = (0, 0);
     let mut draws = Draws(0xbad_1_4907);
@@ -539,6 +620,8 @@ fn main() {
     later::wanting(&mut all, &mut draws);
     #[cfg(judge)]
     judging(&mut all, &mut draws);
+    #[cfg(best)]
+    best(&mut all, &mut draws);
     println!("{} calls, {} wrong", all.0, all.1);
     if all.1 != 0 {
         std::process::exit(1);

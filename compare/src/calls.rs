@@ -54,6 +54,9 @@ mod c {
         #[cfg(wanted)]
         #[rustfmt::skip]
         pub fn isdbs_wanted_load(re: *const f64, re_len: usize, im: *const f64, im_len: usize, table: u64, mapping: u8, first: u8, bytes: *mut u8, bytes_len: usize) -> u32;
+        #[cfg(best)]
+        #[rustfmt::skip]
+        pub fn isdbs_best_reading(re: *const f64, re_len: usize, im: *const f64, im_len: usize, table: u64, mapping: u8, first: u8, known_start: u8, scales: *const f32, scales_len: usize, metrics: *mut f32, metrics_len: usize, sides: *mut u8, sides_len: usize, words: *mut u64, words_len: usize, tables: *mut u64, tables_len: usize, bits: *mut u8, bits_len: usize, uncoded: *mut u8, uncoded_len: usize, bytes: *mut u8, bytes_len: usize, leads: *mut u64, leads_len: usize) -> u32;
         #[cfg(judge)]
         #[rustfmt::skip]
         pub fn isdbs_judge(re: *const f64, re_len: usize, im: *const f64, im_len: usize, table: u64, mapping: u8, first: u8, bytes: *const u8, bytes_len: usize, counts: *mut u32, counts_len: usize, sum: *mut u32) -> u32;
@@ -200,6 +203,31 @@ pub fn decode_frame(re: &[f64], im: &[f64], s: &Settings, decisions: &mut [u64],
             re.as_ptr(), re.len(), im.as_ptr(), im.len(), s.table, s.mapping, s.first, s.known, s.scales.as_ptr(), s.scales.len(),
             decisions.as_mut_ptr(), decisions.len(), bits.as_mut_ptr(), bits.len(), bytes.as_mut_ptr(), bytes.len(),
             counts.as_mut_ptr(), counts.len(), sum,
+        )
+    }
+}
+
+/// What `isdbs_best_reading` is lent.
+#[cfg(best)]
+pub struct Lent<'a> {
+    pub metrics: &'a mut [f32],
+    pub sides: &'a mut [u8],
+    pub words: &'a mut [u64],
+    pub tables: &'a mut [u64],
+    pub bits: &'a mut [u8],
+    pub uncoded: &'a mut [u8],
+    pub bytes: &'a mut [u8],
+    pub leads: &'a mut [u64],
+}
+
+#[cfg(best)]
+#[rustfmt::skip]
+pub fn best_reading(re: &[f64], im: &[f64], s: &Settings, l: Lent) -> u32 {
+    unsafe {
+        c::isdbs_best_reading(
+            re.as_ptr(), re.len(), im.as_ptr(), im.len(), s.table, s.mapping, s.first, s.known, s.scales.as_ptr(), s.scales.len(),
+            l.metrics.as_mut_ptr(), l.metrics.len(), l.sides.as_mut_ptr(), l.sides.len(), l.words.as_mut_ptr(), l.words.len(), l.tables.as_mut_ptr(), l.tables.len(),
+            l.bits.as_mut_ptr(), l.bits.len(), l.uncoded.as_mut_ptr(), l.uncoded.len(), l.bytes.as_mut_ptr(), l.bytes.len(), l.leads.as_mut_ptr(), l.leads.len(),
         )
     }
 }

@@ -25,7 +25,7 @@ fn place_of(list: &[u8], word: &[u8]) -> usize {
 // The place of a command's word among all of them.
 fn command_of(word: &[u8]) -> usize {
     place_of(
-        b"make read judge compare lay part bytes series mend overlay version help --help -h",
+        b"make read judge compare lay part bytes series mend overlay best version help --help -h",
         word,
     )
 }
@@ -44,8 +44,9 @@ pub fn run(line: &[u8]) {
         7 => bench_series::series(line),
         8 => bench_mend::mend(line),
         9 => bench_overlay::overlay(line),
-        10 => usage::version(),
-        11..=13 => usage::help(),
+        10 => bench_best::best(line),
+        11 => usage::version(),
+        12..=14 => usage::help(),
         _ => usage::misused(b"there is no command", word),
     }
 }

@@ -1,4 +1,4 @@
-// The words of read.
+// The words of read and best.
 use crate::setting::Setting;
 use crate::setting::no_setting;
 use crate::setting::setting_at;
@@ -48,7 +48,7 @@ fn at_eight(is_good: bool, known_start: bool) -> Choice {
 
 fn bad_choice(word: &[u8]) -> Choice {
     misused(
-        b"after BYTES comes [unknown] [SCALES] [chart FILE], not",
+        b"after BYTES comes [unknown] [SCALES], of read also [chart FILE], not",
         word,
     );
     at_eight(false, false)
@@ -94,7 +94,7 @@ fn scale_at(line: &[u8], i: usize, known_start: bool) -> Choice
     bad_choice(word)
 }
 
-// The words of `read` from the sixth on, of which there are n in all.
+// The words from the sixth on, of which there are n in all.
 fn choice_of(line: &[u8], n: usize) -> Choice {
     if n == 6 {
         return at_eight(true, true);
@@ -133,12 +133,9 @@ pub fn picture_of<'a>(line: &'a [u8]) -> &'a [u8] {
 }
 
 // TABLE, MAPPING and KIND, where there are as many words as there may be.
-fn setting_for(line: &[u8], n: usize) -> Setting {
+fn setting_for(line: &[u8], n: usize, form: &[u8]) -> Setting {
     if n < 6 || n > 9 {
-        misused(
-            b"read takes TABLE MAPPING KIND FRAME BYTES [unknown] [SCALES] [chart FILE]",
-            b"",
-        );
+        misused(form, b"");
         return no_setting();
     }
     setting_at(line)
@@ -166,10 +163,27 @@ fn reading_by(s: Setting, c: Choice) -> Reading {
     }
 }
 
-// read TABLE MAPPING KIND FRAME BYTES [unknown] [SCALES] [chart FILE]
-pub fn reading_of(line: &[u8]) -> Reading {
-    let n = words_before(line);
-    let s = setting_for(line, n);
+// The reading by the first n words.
+fn reading_for(line: &[u8], n: usize, form: &[u8]) -> Reading {
+    let s = setting_for(line, n, form);
     let c = choice_after(s.is_good, line, n);
     reading_by(s, c)
+}
+
+// read TABLE MAPPING KIND FRAME BYTES [unknown] [SCALES] [chart FILE]
+pub fn reading_of(line: &[u8]) -> Reading {
+    reading_for(
+        line,
+        words_before(line),
+        b"read takes TABLE MAPPING KIND FRAME BYTES [unknown] [SCALES] [chart FILE]",
+    )
+}
+
+// best TABLE MAPPING KIND FRAME BYTES [unknown] [SCALES]
+pub fn best_reading_of(line: &[u8]) -> Reading {
+    reading_for(
+        line,
+        parts(line, 0),
+        b"best takes TABLE MAPPING KIND FRAME BYTES [unknown] [SCALES]",
+    )
 }

@@ -9,6 +9,7 @@ fn usage_commands() {
         bench make TABLE MAPPING KIND LOAD FRAME                         bytes of LOAD to points in FRAME\n  \
         bench read TABLE MAPPING KIND FRAME BYTES [unknown] [SCALES] [chart FILE]\n                                                                   \
         points of FRAME to bytes in BYTES, and to a picture in FILE\n  \
+        bench best TABLE MAPPING KIND FRAME BYTES [unknown] [SCALES]     the best reading of the points of FRAME to BYTES, and its strength in each slot\n  \
         bench judge TABLE MAPPING KIND FRAME BYTES                       whether the points of FRAME prove the bytes of BYTES\n  \
         bench compare TABLE SENT READ                                    how many bytes agree\n  \
         bench lay HEADER MAIN BURST FULL                                 header, main and burst points to the points of FULL\n  \

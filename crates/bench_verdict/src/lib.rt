@@ -53,7 +53,7 @@ fn slot_names(counts: &[u32; SLOTS], n: usize) {
 }
 
 // In which slots the counts are not 0.
-fn places(counts: &[u32; SLOTS], kind: &[u8]) {
+pub fn places(counts: &[u32; SLOTS], kind: &[u8]) {
     let n = counted(counts);
     if n == 0 {
         return;

@@ -4,24 +4,20 @@ use mathlib.Core.List.{List, _++_}
 use Prim.Native.Nat.{ℕ}
 use lib.ListN.{length}
 use lib.Ieee.{Float}
-use borrow.Author.Tests.{eq-eqb, ne-eqb}
-use Rattle.refusal.specs.declared.Answer.the-variants.{Length}
 use Rattle.refusal.specs.Rows.{Row, firstRow}
-use Rattle.refusal.specs.RowLaws.{row-false, row-true}
 use Rattle.isdbs_tables.specs.declared.Table.{Table}
 use Rattle.isdbs_tables.specs.Tables.{tableRows}
 use Rattle.isdbs_phy.specs.DecodeRows.{someBad, pointRows, lastRows, decodeRows}
 use Rattle.answers_c.specs.Lengths.{untilLength}
+use Rattle.scales_c.specs.ScaleLaws as scales-c
 use Rattle.isdb_c.specs.Lengths.{scalesRows}
 
 module _ (t : Table) (re im scales : List Float) (decisions bits bytes counts : ℕ) where
   abbrev rest : List Row
   rest = pointRows re im ++ lastRows t (someBad scales) decisions bits bytes counts
 
-  -- seven scales: the other rows decide
   pub seven-rows : length scales ≡ 7 → firstRow (scalesRows t re im scales decisions bits bytes counts) ≡ firstRow (decodeRows t re im scales decisions bits bytes counts)
-  seven-rows h = rw (eq-eqb (length scales) 7 h) (row-false (tableRows t) rest Length)
+  seven-rows h = scales-c.seven-rows t scales rest h
 
-  -- not seven: the table's rows, then 5
   pub not-seven : (length scales ≡ 7 → ⊥) → firstRow (scalesRows t re im scales decisions bits bytes counts) ≡ firstRow (untilLength (tableRows t))
-  not-seven h = rw (ne-eqb (length scales) 7 h) (row-true (tableRows t) rest Length)
+  not-seven h = scales-c.not-seven t scales rest h

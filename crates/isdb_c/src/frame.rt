@@ -1,10 +1,10 @@
 // Calls on whole frames, and `soft`.
 use isdb_fec::conv::ConvEncoder;
-use isdbs_core::tmcc::Table;
-use isdbs_core::tmcc::table_answer;
 use isdbs_phy::demod::DemodOptions;
 use isdbs_phy::demod::FrameDecoded;
 use isdbs_phy::demod::Mapping;
+use scales_c::not_scales;
+use scales_c::scales_of;
 use table_c::table_of;
 ghost use mathlib.Core.Path.{_≡_};
 ghost use lib.ListN.{length, replicate};
@@ -13,7 +13,6 @@ ghost use Rattle.ieee.specs.Conversion.{rounded};
 ghost use Rattle.trellis.specs.Lists.{laid};
 ghost use Rattle.isdbs_points.specs.Frame.{endState, frameRe, frameIm};
 ghost use Rattle.isdbs_phy.specs.EncodeRows.{encodeRows};
-ghost use Rattle.isdbs_tables.specs.Tables.{tableRows};
 ghost use Rattle.frame_read.specs.Scales.{receivedBy};
 ghost use Rattle.isdbs_metrics.specs.Reading.{decodedBits, decodedBytes};
 ghost use Rattle.trellis.specs.Isdb.{frameWords};
@@ -21,7 +20,6 @@ ghost use Rattle.strain.specs.Strain.{strainCounts, strainSum};
 ghost use Rattle.table_c.specs.Forms.{tableOf};
 ghost use Rattle.isdb_c.specs.Mappings.{mappingOf, isSet};
 ghost use Rattle.answers_c.specs.Answers.{answered, left};
-ghost use Rattle.answers_c.specs.Lengths.{untilLength};
 ghost use Rattle.isdb_c.specs.Lengths.{scalesRows};
 
 // The mapping of a number.
@@ -63,30 +61,6 @@ pub extern "C" fn isdbs_encode_frame(
     let after = made.enc;
     *end = after.state;
     0
-}
-
-// The answer where the scales are not seven: the table's rows stand above 5.
-fn not_scales(t: Table) -> u32
-    ensures { λ r. ⌜ r ≡ answered (untilLength (tableRows t)) ⌝ }
-{
-    let a = table_answer(t);
-    let answer = refusal::number(a);
-    if answer != 0 {
-        return answer;
-    }
-    5
-}
-
-// Seven scales.
-fn scales_of(scales: &[f32]) -> [f32; 7]
-    requires { ⌜ length (now scales) ≡ 7 ⌝ }
-    ensures { λ r. ⌜ r ≡ now (scales .entry) ⌝ }
-{
-    let mut all = [0.0f32; 7];
-    for i in 0..7 {
-        all[i] = scales[i];
-    }
-    all
 }
 
 // The bytes of a frame from its 38,976 points. `first` and `known_start` are true unless 0. `scales` has one for each combination, in the order of words 1

@@ -9,8 +9,8 @@ use borrow.Author.Needs.{needs}
 use lib.ListN.{length, getD, length-set}
 use lib.Ieee.{Float, nan}
 use Rattle.answers_c.specs.AnswerLaws.{copied}
-use Rattle.isdb_c.proofs.frame.scales_of.Statement.{statement}
-use Rattle.isdb_c.proofs.frame.scales_of.Tie as tie
+use Rattle.scales_c.proofs.scales_of.Statement.{statement}
+use Rattle.scales_c.proofs.scales_of.Tie as tie
 
 abbrev at : List Float → ℕ → Float
 at l k = getD l k nan

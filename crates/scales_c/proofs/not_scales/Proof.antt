@@ -7,8 +7,8 @@ use Rattle.refusal.specs.Rows.{numberOf}
 use Rattle.refusal.specs.RowLaws.{zero-accepted}
 use Rattle.isdbs_tables.specs.TableLaws.{then-rows, before-rows}
 use borrow.Author.Needs.{needs}
-use Rattle.isdb_c.proofs.frame.not_scales.Statement.{statement}
-use Rattle.isdb_c.proofs.frame.not_scales.Tie as tie
+use Rattle.scales_c.proofs.not_scales.Statement.{statement}
+use Rattle.scales_c.proofs.not_scales.Tie as tie
 
 table-answer-requires : tie.Need-table-answer-requires
 table-answer-requires c κs = search needs
