@@ -13,7 +13,6 @@ pub use isdbs_runs::FrameRuns;
 pub use isdbs_runs::NO_RUN;
 pub use isdbs_runs::Plan;
 pub use isdbs_runs::Run;
-pub use isdbs_runs::plan_of;
 pub use isdbs_runs::runs;
 use isdbs_tables::Table;
 use isdbs_tables::is_marked;

@@ -25,7 +25,7 @@ pub fn slot_part_answer(bytes: &[u8], t: Table, k: usize) -> Answer
     Answer::Accepted
 }
 
-// The 203 bytes of valid slot k, a part of the load; empty where the call is turned back.
+// The 203 bytes of valid slot k, a part of the load; empty where the call is turned back. Where two slots hold the same bytes the contract leaves free which of the two parts it is (D10).
 pub fn slot_part<'a>(bytes: &'a [u8], t: Table, k: usize) -> &'a [u8]
     ensures { λ r. ⌜ now r ≡ slotPart (now (bytes .entry)) t k ⌝ }
 {

@@ -2,7 +2,6 @@
 use frame_rows::points_answer;
 use isdbs_core::frame::MAIN_SYMBOLS;
 use isdbs_core::slots::Plan;
-use isdbs_core::slots::plan_of;
 use isdbs_core::tmcc::Table;
 use isdbs_core::tmcc::table_answer;
 use isdbs_encode::encode_main;
@@ -11,6 +10,7 @@ pub use isdbs_judge::SLOT_SYMBOLS;
 use isdbs_judge::count_outside;
 pub use isdbs_points::Mapping;
 use isdbs_points::start_state;
+use isdbs_runs::plan_of;
 use refusal::Answer;
 ghost use mathlib.Core.Path.{_≡_};
 ghost use Prim.Native.Nat.{_≤_};

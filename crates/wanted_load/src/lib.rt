@@ -2,11 +2,11 @@
 use isdbs_core::frame::LOAD_BYTES;
 use isdbs_core::frame::MAIN_SYMBOLS;
 use isdbs_core::slots::Plan;
-use isdbs_core::slots::plan_of;
 use isdbs_core::tmcc::Table;
 use isdbs_core::tmcc::table_answer;
 pub use isdbs_points::Mapping;
 use isdbs_points::start_state;
+use isdbs_runs::plan_of;
 use isdbs_wanted::read_load;
 use refusal::Answer;
 use same_frame::matches;
