@@ -56,7 +56,9 @@ fn conclude(
     let t = s.table;
     let mut apart = [0u32; SLOTS];
     differing(t, v, best, read, &mut apart);
-    text(b"the best of all readings; the strength of a slot is its lead in percent of a clean one's:\n");
+    text(
+        b"the best of all readings; the strength of a slot is its lead in percent of a clean one's:\n",
+    );
     by_slot(t, leads, clean, &apart);
     tell_apart(&apart, bench_line::words::same(best, read));
     keep(part(line, 0, 5), best);
