@@ -78,7 +78,7 @@ module _ (t : Table) (ok : TableAccepted t) (m : Mapping) (first : Bool) (load :
         best = λ l g.
             rw (quadruple-is t r k l h g, quadruple-is t r k c h small)
             (grid-ordered (getD (metricsAt t r k) c nan) (getD (metricsAt t r k) l nan) (le→value binary32 (getD (metricsAt t r k) l nan) (getD (metricsAt t r k) c nan) (f .numbers l g) (f .numbers c small) (f .best l g)));
-        clear = 
+        clear =
             let x = held c h small in
             let y = held (3 - c) h far in
             rw (quadruple-is t r k (3 - c) h far, quadruple-is t r k c h small)

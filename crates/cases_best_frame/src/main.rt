@@ -508,56 +508,11 @@ fn rows(
     bits: &mut [u8; STEPS],
     uncoded: &mut [u8; STEPS],
 ) {
-    one_row(
-        lent_in(0),
-        re,
-        im,
-        metrics,
-        sides,
-        words,
-        bits,
-        uncoded,
-    );
-    one_row(
-        lent_in(1),
-        re,
-        im,
-        metrics,
-        sides,
-        words,
-        bits,
-        uncoded,
-    );
-    one_row(
-        lent_in(2),
-        re,
-        im,
-        metrics,
-        sides,
-        words,
-        bits,
-        uncoded,
-    );
-    one_row(
-        lent_in(3),
-        re,
-        im,
-        metrics,
-        sides,
-        words,
-        bits,
-        uncoded,
-    );
-    one_row(
-        lent_in(4),
-        re,
-        im,
-        metrics,
-        sides,
-        words,
-        bits,
-        uncoded,
-    );
+    one_row(lent_in(0), re, im, metrics, sides, words, bits, uncoded);
+    one_row(lent_in(1), re, im, metrics, sides, words, bits, uncoded);
+    one_row(lent_in(2), re, im, metrics, sides, words, bits, uncoded);
+    one_row(lent_in(3), re, im, metrics, sides, words, bits, uncoded);
+    one_row(lent_in(4), re, im, metrics, sides, words, bits, uncoded);
 }
 
 fn more(
