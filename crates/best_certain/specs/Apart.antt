@@ -183,11 +183,14 @@ module _ (xs : List Float) (sides : List ℕ) where
 
       goes : Alike k → getD us k 0 ≡ getD vs k 0 → getD zs k 0 ≡ getD ys k 0 → Alike (suc k)
       goes a e f = record {
-        same = below-more (a .same) (e, f);
+        same = λ i l. grown i (omega arith);
         level =
             more 0 0 (a .level)
             (subst (λ (l : ℕ). Less (stepZ k (getD ys k 0) l) (above (metric k c), below (metric k c)) 0) (same-label a e) (any-step n up k c h (label-small us k) (ahead k h) c (label-small us k) (getD ys k 0)));
       }
+        where
+          grown : (i : ℕ) → i < k + 1 → (getD us i 0 ≡ getD vs i 0) × (getD zs i 0 ≡ getD ys i 0)
+          grown = below-more (λ i. (getD us i 0 ≡ getD vs i 0) × (getD zs i 0 ≡ getD ys i 0)) k (a .same) (e, f)
 
       next : Alike k ⊎ Behind k → Alike (suc k) ⊎ Behind (suc k)
       next (inr b) = inr (stays b)

@@ -86,28 +86,28 @@ module _ (t : Table) (ok : TableAccepted t) (m : Mapping) (first : Bool) (load :
       }
 
   -- its C2 is the better one
+  side-at : (g : Segment) → In g (segments t) → (p : ℕ) → p < g .steps → sided.two xs sides (g .step + p) ≡ true → leb 16 (sideBy (modulationOf (g .combination)) r g p) ≡ true
+  side-at g i p l q = sym (none-beside t r g i p l) ∙ q
+
+  own-at : (g : Segment) → In g (segments t) → (p : ℕ) → p < g .steps
+      → sided.two xs sides (g .step + p) ≡ true → getD (uncodedBits t load) (g .step + p) 0 ≡ sided.better xs sides (g .step + p) (Isdb.labelAt s (inputs t load) (g .step + p))
+  unfolding sideBy
+  own-at g i p l q = go (kind (g .combination))
+    where
+      go : Kind (g .combination) → getD (uncodedBits t load) (g .step + p) 0 ≡ sided.better xs sides (g .step + p) (Isdb.labelAt s (inputs t load) (g .step + p))
+      go (one e d) = absurd (true≢false (sym (side-at g i p l q) ∙ ap (λ (x : Modulation). leb 16 (sideBy x r g p)) e))
+      go (two e d) = absurd (true≢false (sym (side-at g i p l q) ∙ ap (λ (x : Modulation). leb 16 (sideBy x r g p)) e))
+      go (three e d) =
+          beside-at t load g i p l
+          ∙ ap (λ (x : Modulation). uncodedBy x load g p) e
+          ∙ sym (tc-bit t ok m first load re im within g i e d p l)
+          ∙ sym (chosen-uncoded t r (inputs t load) s g i e p l (step-fits t g i p l))
+          ∙ ap (λ (w : Bool). cond w (sided.better xs sides (g .step + p) (Isdb.labelAt s (inputs t load) (g .step + p))) 0) q
+
   own : (k : ℕ) → k < n → sided.two xs sides k ≡ true → getD (uncodedBits t load) k 0 ≡ sided.better xs sides k (Isdb.labelAt s (inputs t load) k)
   own k h =
       let f = find-step t k h in
-      subst (λ (i : ℕ). sided.two xs sides i ≡ true → getD (uncodedBits t load) i 0 ≡ sided.better xs sides i (Isdb.labelAt s (inputs t load) i)) (sym (f .place-is)) (at-place (f .segment) (f .member) (f .place) (f .small))
-    where
-      at-place : (g : Segment) → In g (segments t) → (p : ℕ) → p < g .steps
-          → sided.two xs sides (g .step + p) ≡ true → getD (uncodedBits t load) (g .step + p) 0 ≡ sided.better xs sides (g .step + p) (Isdb.labelAt s (inputs t load) (g .step + p))
-      unfolding sideBy
-      at-place g i p l q = go (kind (g .combination))
-        where
-          side : leb 16 (sideBy (modulationOf (g .combination)) r g p) ≡ true
-          side = sym (none-beside t r g i p l) ∙ q
-
-          go : Kind (g .combination) → getD (uncodedBits t load) (g .step + p) 0 ≡ sided.better xs sides (g .step + p) (Isdb.labelAt s (inputs t load) (g .step + p))
-          go (one e d) = absurd (true≢false (sym side ∙ ap (λ (x : Modulation). leb 16 (sideBy x r g p)) e))
-          go (two e d) = absurd (true≢false (sym side ∙ ap (λ (x : Modulation). leb 16 (sideBy x r g p)) e))
-          go (three e d) =
-              beside-at t load g i p l
-              ∙ ap (λ (x : Modulation). uncodedBy x load g p) e
-              ∙ sym (tc-bit t ok m first load re im within g i e d p l)
-              ∙ sym (chosen-uncoded t r (inputs t load) s g i e p l (step-fits t g i p l))
-              ∙ ap (λ (w : Bool). cond w (sided.better xs sides (g .step + p) (Isdb.labelAt s (inputs t load) (g .step + p))) 0) q
+      subst (λ (i : ℕ). sided.two xs sides i ≡ true → getD (uncodedBits t load) i 0 ≡ sided.better xs sides i (Isdb.labelAt s (inputs t load) i)) (sym (f .place-is)) (own-at (f .segment) (f .member) (f .place) (f .small))
 
   -- every other full load is behind
   pub behind : (other : List ℕ) → FullLoad other (loadBytes t) → (load ≡ other) ⊎ ((fit t r other s +ℤ pos least) ≤ℤ fit t r load s)

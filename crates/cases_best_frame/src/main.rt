@@ -1,20 +1,19 @@
-// `best_reading` on twelve frames, two of each of six tables: clean, from a known and from an unknown start; with noise all over; with noise in one stretch of symbols. Of each are shown how many of
-// its valid slots are read wrong, in how many `decode_frame` reads otherwise, and the least, the greatest and the last lead, in whole units of a metric. Then rows 1, 6, 8 and 9.
-ghost use Prim.Native.Nat.{_≤_, _<_};
+// `best_reading` on frames of six tables: clean, from a known (case 1) and from an unknown start (2); with noise all over (3); with more noise in one stretch of symbols (4, 5). Of each are shown how many of
+// its bytes are read wrong, how many `decode_frame` reads otherwise, and the least, the greatest and the last lead, in whole units of a metric. Then rows 1, 6, 8 and 9.
 use best_frame::best_reading;
 use cases_frames::load_bytes;
 use cases_frames::mapping_of;
 use cases_frames::show_table;
 use cases_frames::table_of;
 use cases_lib::alike;
+use cases_lib::bytes_of;
 use cases_lib::draw;
-use cases_lib::front;
 use cases_lib::least;
-use cases_lib::one;
 use cases_lib::row;
 use cases_lib::show;
 use cases_lib::step;
 use cases_lib::text;
+use cases_lib::words_of;
 use isdbs_core::frame::FRAME_BITS;
 use isdbs_core::frame::LOAD_BYTES;
 use isdbs_core::frame::MAIN_SYMBOLS;
@@ -23,7 +22,6 @@ use isdbs_phy::demod::DemodOptions;
 use isdbs_phy::demod::FrameDecoded;
 use isdbs_phy::demod::decode_frame;
 use isdbs_phy::demod::encode_frame;
-use refusal::Answer;
 use trellis::FRAME_WORDS;
 
 // Each combination alone but QPSK 2/3, 3/4 and 5/6; four in all slots; one twice.
@@ -150,20 +148,6 @@ fn damage(
 
 // ---- what is shown
 
-// In how many slots of 203 bytes two loads differ.
-fn slots_apart(a: &[u8; LOAD_BYTES], b: &[u8; LOAD_BYTES], slots: usize) -> usize {
-    let end = least(slots, SLOTS);
-    let mut n: usize = 0;
-    for k in 0..end {
-        let mut same = true;
-        for j in 0..203usize {
-            same = same & (a[203 * k + j] == b[203 * k + j]);
-        }
-        n += one(!same);
-    }
-    n
-}
-
 // The least and the greatest of the leads but the last.
 struct Ends {
     low: u64,
@@ -213,25 +197,22 @@ fn show_leads(e: Ends) {
 fn shown(
     how: usize,
     c: Case,
-    answers: usize,
+    best: usize,
+    other: usize,
     load: &[u8; LOAD_BYTES],
     bytes: &[u8; LOAD_BYTES],
     plain: &[u8; LOAD_BYTES],
     leads: &[u64; SLOTS],
 ) {
-    let slots = load_bytes(c.table) / 203;
-    let found = [
-        how,
-        answers,
-        slots_apart(load, bytes, slots),
-        slots,
-        slots_apart(bytes, plain, slots),
-    ];
+    let n = load_bytes(c.table);
+    let right = alike(load, 0, bytes, n);
+    let same = alike(plain, 0, bytes, n);
+    let found = [how, best, other, n - right, n, n - same];
     show(
-        b"  case #: answers #, # of # slots wrong, # read otherwise",
+        b"  case #: answers # and #, # of # bytes wrong, # read otherwise",
         &found,
     );
-    show_leads(ends_of(leads, slots));
+    show_leads(ends_of(leads, n / 203));
 }
 
 fn both(
@@ -267,7 +248,7 @@ fn both(
         &mut leads,
     );
     let b = read_plain(c, re, im, &mut decisions, &mut kept, &mut plain);
-    shown(how, c, 10 * a + b, load, &bytes, &plain, &leads);
+    shown(how, c, a, b, load, &bytes, &plain, &leads);
 }
 
 // The frames of a table: clean, from an unknown start, with noise all over, with noise in one stretch.
@@ -414,8 +395,58 @@ fn all_tables(
 
 // ---- rows
 
-// Refused: a table of 49 slots, 38,975 points, a scale of 0, a word too few for the tables, a place too few for the leads.
-fn rows(
+// The first n parts, or none where there are fewer.
+fn front_parts<'a>(s: &'a [f64], n: usize) -> &'a [f64] {
+    if n <= s.len() { &s[0..n] } else { &s[0..0] }
+}
+
+// A reading with the first places of the tables and of the leads.
+fn read_front(
+    c: Case,
+    scale: f32,
+    re: &[f64],
+    im: &[f64],
+    metrics: &mut [f32; METRICS],
+    sides: &mut [u8; STEPS],
+    words: &mut [u64; STEPS],
+    tables: &mut [u64],
+    few: usize,
+    bits: &mut [u8; STEPS],
+    uncoded: &mut [u8; STEPS],
+    bytes: &mut [u8; LOAD_BYTES],
+    leads: &mut [u64],
+    places: usize,
+) -> usize {
+    let a = least(few, tables.len());
+    let b = least(places, leads.len());
+    read_best(
+        c,
+        scale,
+        re,
+        im,
+        metrics,
+        sides,
+        words,
+        &mut tables[0..a],
+        bits,
+        uncoded,
+        bytes,
+        &mut leads[0..b],
+    )
+}
+
+// What is lent in each case: the table, the points, whether the scale is 0, the places of the tables and of the leads.
+struct Lent {
+    table: u64,
+    points: usize,
+    silent: bool,
+    few: usize,
+    places: usize,
+}
+
+// Refused: a table of 49 slots, 38,975 points, a scale of 0, a word too few for the tables, a place too few for the leads. All is lent as 7s, and so it stays.
+fn one_row(
+    l: Lent,
     re: &[f64; MAIN_SYMBOLS],
     im: &[f64; MAIN_SYMBOLS],
     metrics: &mut [f32; METRICS],
@@ -428,96 +459,105 @@ fn rows(
     let mut bytes = [7u8; LOAD_BYTES];
     let mut leads = [7u64; SLOTS];
     let c = Case {
-        table: 0x3007,
+        table: l.table,
         way: 4,
         known: true,
     };
-    let long = Case {
-        table: 0x3107,
-        way: 4,
-        known: true,
-    };
-    let a = read_best(
-        long,
-        8.0,
-        re,
+    let scale: f32 = if l.silent { 0.0 } else { 8.0 };
+    let a = read_front(
+        c,
+        scale,
+        front_parts(re, l.points),
         im,
         metrics,
         sides,
         words,
         &mut tables,
+        l.few,
         bits,
         uncoded,
         &mut bytes,
         &mut leads,
-    );
-    let b = read_best(
-        c,
-        8.0,
-        &re[0..38975],
-        im,
-        metrics,
-        sides,
-        words,
-        &mut tables,
-        bits,
-        uncoded,
-        &mut bytes,
-        &mut leads,
-    );
-    let d = read_best(
-        c,
-        0.0,
-        re,
-        im,
-        metrics,
-        sides,
-        words,
-        &mut tables,
-        bits,
-        uncoded,
-        &mut bytes,
-        &mut leads,
-    );
-    let e = read_best(
-        c,
-        8.0,
-        re,
-        im,
-        metrics,
-        sides,
-        words,
-        &mut tables[0..3071],
-        bits,
-        uncoded,
-        &mut bytes,
-        &mut leads,
-    );
-    let f = read_best(
-        c,
-        8.0,
-        re,
-        im,
-        metrics,
-        sides,
-        words,
-        &mut tables,
-        bits,
-        uncoded,
-        &mut bytes,
-        &mut leads[0..47],
+        l.places,
     );
     let found = [
         a,
-        b,
-        d,
-        e,
-        f,
-        bytes[0] as usize,
-        leads[47] as usize,
-        tables[0] as usize,
+        words_of(&tables, 0, TABLE_WORDS, 7),
+        bytes_of(&bytes, 0, LOAD_BYTES, 7),
+        words_of(&leads, 0, SLOTS, 7),
     ];
-    show(b"rows # # # # #; as lent # # #\n", &found);
+    show(b"row #: # words, # bytes and # leads as lent\n", &found);
+}
+
+fn lent_in(i: usize) -> Lent {
+    Lent {
+        table: if i == 0 { 0x3107 } else { 0x3007 },
+        points: if i == 1 { 38975 } else { MAIN_SYMBOLS },
+        silent: i == 2,
+        few: if i == 3 { 3071 } else { TABLE_WORDS },
+        places: if i == 4 { 47 } else { SLOTS },
+    }
+}
+
+fn rows(
+    re: &[f64; MAIN_SYMBOLS],
+    im: &[f64; MAIN_SYMBOLS],
+    metrics: &mut [f32; METRICS],
+    sides: &mut [u8; STEPS],
+    words: &mut [u64; STEPS],
+    bits: &mut [u8; STEPS],
+    uncoded: &mut [u8; STEPS],
+) {
+    one_row(
+        lent_in(0),
+        re,
+        im,
+        metrics,
+        sides,
+        words,
+        bits,
+        uncoded,
+    );
+    one_row(
+        lent_in(1),
+        re,
+        im,
+        metrics,
+        sides,
+        words,
+        bits,
+        uncoded,
+    );
+    one_row(
+        lent_in(2),
+        re,
+        im,
+        metrics,
+        sides,
+        words,
+        bits,
+        uncoded,
+    );
+    one_row(
+        lent_in(3),
+        re,
+        im,
+        metrics,
+        sides,
+        words,
+        bits,
+        uncoded,
+    );
+    one_row(
+        lent_in(4),
+        re,
+        im,
+        metrics,
+        sides,
+        words,
+        bits,
+        uncoded,
+    );
 }
 
 fn more(
