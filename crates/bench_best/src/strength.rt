@@ -103,18 +103,19 @@ pub fn by_slot(t: Table, leads: &[u64; SLOTS], clean: &[u64; SLOTS], apart: &[u3
     run_lines(rs[3], c, leads, clean, apart);
 }
 
-// 1 where two slots' bytes differ.
-fn is_apart(a: &[u8], b: &[u8]) -> u32 {
+// 1 where the loads differ in valid slot k, of which there are v.
+fn is_apart(t: Table, v: usize, best: &[u8], read: &[u8], k: usize) -> u32 {
+    if k >= v {
+        return 0;
+    }
+    let a = slots::slot_part(best, t, k);
+    let b = slots::slot_part(read, t, k);
     if agreeing(a, b) == SLOT_BYTES { 0 } else { 1 }
 }
 
 // In which of the v valid slots two loads differ.
 pub fn differing(t: Table, v: usize, best: &[u8], read: &[u8], apart: &mut [u32; SLOTS]) {
     for k in 0..SLOTS {
-        if k < v {
-            let a = slots::slot_part(best, t, k);
-            let b = slots::slot_part(read, t, k);
-            apart[k] = is_apart(a, b);
-        }
+        apart[k] = is_apart(t, v, best, read, k);
     }
 }
