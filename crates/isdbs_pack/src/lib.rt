@@ -10,7 +10,7 @@ use isdbs_points::psk8_point;
 use isdbs_points::subset_of;
 use viterbi::encode_bit;
 ghost use mathlib.Core.Path.{_≡_};
-ghost use Prim.Native.Nat.{_+_, _*_, _<_, _≤_, _^_};
+ghost use Prim.Native.Nat.{ℕ, _+_, _*_, _<_, _≤_, _^_};
 ghost use lib.ListN.{length, getD};
 ghost use lib.Ieee.{Float, nan, lt};
 ghost use Rattle.trellis.specs.Lists.{upto, laid, bit};
@@ -32,19 +32,43 @@ pub struct Packed {
     pub state: u8,
 }
 
-// The byte of 8 decoded bits, high bit first.
-fn plain_byte(bits: &[u8], start: u8) -> Packed
-    requires { ⌜ (start < Isdb.states) × (8 ≤ length (now bits)) × Bits (now bits) 8 ⌝ }
-    ensures { λ r. ⌜ (r .byte ≡ byteOf (λ i. getD (now (bits .entry)) i 0)) × (r .state ≡ stateAt Isdb.half start (now (bits .entry)) 8) × (r .state < Isdb.states) ⌝ }
+// Four bits as a number, the first highest: by a product in which no two digits meet.
+fn nibble(a: u8, b: u8, c: u8, d: u8) -> u8
+    requires { ⌜ (a < 2) × (b < 2) × (c < 2) × (d < 2) ⌝ }
+    ensures { λ r. ⌜ r ≡ a * 8 + b * 4 + c * 2 + d ⌝ }
 {
-    let mut byte: u8 = 0;
-    let mut state = start;
-    for i in 0..8 {
-        let u = bits[i];
-        byte = 2 * byte + u;
-        state = 32 * u + state / 2;
+    let w = a as u64 + 0x100 * (b as u64) + 0x1_0000 * (c as u64) + 0x100_0000 * (d as u64);
+    ((w * 0x0804_0201 >> 24) % 16) as u8
+}
+
+// The byte of 8 decoded bits, high bit first.
+fn plain_byte(bits: &[u8]) -> u8
+    requires { ⌜ (8 ≤ length (now bits)) × Bits (now bits) 8 ⌝ }
+    ensures { λ r. ⌜ r ≡ byteOf (λ i. getD (now (bits .entry)) i 0) ⌝ }
+{
+    let high = nibble(bits[0], bits[1], bits[2], bits[3]);
+    let low = nibble(bits[4], bits[5], bits[6], bits[7]);
+    16 * high + low
+}
+
+// The encoder's state after 8 bits, whatever it was before: the last six, the newest highest.
+fn byte_state(bits: &[u8]) -> u8
+    requires { ⌜ (8 ≤ length (now bits)) × Bits (now bits) 8 ⌝ }
+    ensures { λ r. ⌜ (r < Isdb.states) × ((s : ℕ) → s < Isdb.states → r ≡ stateAt Isdb.half s (now (bits .entry)) 8) ⌝ }
+{
+    32 * bits[7] + 16 * bits[6] + 8 * bits[5] + 4 * bits[4] + 2 * bits[3] + bits[2]
+}
+
+// The state after the bits of n bytes.
+fn last_state(bits: &[u8], n: usize, start: u8) -> u8
+    requires { ⌜ (start < Isdb.states) × (n < 2 ^ 16) × (8 * n ≤ length (now bits)) × Bits (now bits) (8 * n) ⌝ }
+    ensures { λ r. ⌜ (r ≡ stateAt Isdb.half start (now (bits .entry)) (8 * n)) × (r < Isdb.states) ⌝ }
+{
+    if n == 0 {
+        return start;
     }
-    Packed { byte, state }
+    let from = 8 * n - 8;
+    byte_state(&bits[from..])
 }
 
 // C2 of symbol k: on which side of 0 it lies along the point of C2 = 0 whose subset 2 X + Y names.
@@ -79,14 +103,11 @@ fn pack_plain(bits: &[u8], n: usize, start: u8, bytes: &mut [u8]) -> u8
     requires { ⌜ (start < Isdb.states) × (n < 2 ^ 16) × (8 * n ≤ length (now bits)) × Bits (now bits) (8 * n) × (n ≤ length (now bytes)) ⌝ }
     ensures { λ r. ⌜ (now (bytes .exit) ≡ laid (upto (λ j. byteOf (λ i. getD (now (bits .entry)) (8 * j + i) 0)) n) (now (bytes .entry))) × (r ≡ stateAt Isdb.half start (now (bits .entry)) (8 * n)) × (r < Isdb.states) ⌝ }
 {
-    let mut state = start;
     for j in 0..n {
         let from = 8 * j;
-        let b = plain_byte(&bits[from..], state);
-        bytes[j] = b.byte;
-        state = b.state;
+        bytes[j] = plain_byte(&bits[from..]);
     }
-    state
+    last_state(bits, n, start)
 }
 
 // The bytes of a run of TC8PSK.
