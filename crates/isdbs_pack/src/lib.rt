@@ -5,6 +5,7 @@ use isdbs_core::frame::SLOT_BYTES;
 use isdbs_core::slots::Plan;
 use isdbs_metrics::correlation;
 use isdbs_metrics::symbol;
+use isdbs_points::Cplx;
 use isdbs_points::Mapping;
 use isdbs_points::psk8_point;
 use isdbs_points::subset_of;
@@ -19,11 +20,12 @@ ghost use Rattle.isdbs_combination.specs.declared.Combination.{Combination};
 ghost use Rattle.isdbs_combination.specs.declared.Combination.the-variants.{«Tc8psk2_3»};
 ghost use Rattle.isdbs_frame.specs.Frame.{mainSymbols};
 ghost use Rattle.isdbs_runs.specs.RunsOf.{frameSteps, loadBytes, Planned};
-ghost use Rattle.isdbs_points.specs.Points.{zero64, point, conjugated, psk8Of, subset};
+ghost use Rattle.isdbs_points.specs.Points.{zero64, point, conjugated};
 ghost use Rattle.isdbs_points.specs.Layout.{byteOf};
 ghost use Rattle.isdbs_metrics.specs.Reading.{correlation};
 ghost use Rattle.isdbs_metrics.specs.Steps.{Bits, pieceBit, stepsOfBytes, PackRoom};
 ghost use Rattle.isdbs_pack.specs.Bytes.{receivedWith, byteAt};
+ghost use Rattle.isdbs_pack.specs.Registers.{ByRegister};
 ghost use Rattle.trellis.specs.Isdb;
 
 // A byte, and the encoder's state after its bits.
@@ -71,29 +73,71 @@ fn last_state(bits: &[u8], n: usize, start: u8) -> u8
     byte_state(&bits[from..])
 }
 
-// C2 of symbol k: on which side of 0 it lies along the point of C2 = 0 whose subset 2 X + Y names.
-fn uncoded_bit(re: &[f64], im: &[f64], m: Mapping, label: u8, k: usize) -> u8
-    requires { ⌜ (label < 4) × (k < length (now re)) × (k < length (now im)) ⌝ }
-    ensures { λ r. ⌜ r ≡ bit (lt (correlation (point (getD (now (re .entry)) k nan) (conjugated (m .conjugate) (getD (now (im .entry)) k nan))) (psk8Of (subset (m .«tc8psk_c1_is_y») label))) zero64) ⌝ }
+// The points of C2 = 0 by the register 64u + state of a step, so that no outputs are worked out for a step.
+pub struct RegisterPoints {
+    pub re: [f64; 128],
+    pub im: [f64; 128],
+}
+
+// Those under the mapping of C1.
+fn register_points(c1_is_y: bool) -> RegisterPoints
+    ensures { λ r. ⌜ ByRegister «c1_is_y» (r .re) (r .im) ⌝ }
 {
-    let v = symbol(re, im, m.conjugate, k);
-    let p = psk8_point(subset_of(m.tc8psk_c1_is_y, label));
+    let mut re = [0.0; 128];
+    let mut im = [0.0; 128];
+    for k in 0..128 {
+        let register = k as u8;
+        let c = encode_bit(register % 64, register / 64);
+        let p = psk8_point(subset_of(c1_is_y, 2 * c.x + c.y));
+        re[k] = p.re;
+        im[k] = p.im;
+    }
+    RegisterPoints { re, im }
+}
+
+// C2 of symbol k: on which side of 0 it lies along the point of C2 = 0 at the register.
+fn uncoded_bit(
+    xs: &[f64; 128],
+    ys: &[f64; 128],
+    re: &[f64],
+    im: &[f64],
+    conjugate: bool,
+    register: u8,
+    k: usize,
+) -> u8
+    requires { ⌜ (register < 128) × (k < length (now re)) × (k < length (now im)) ⌝ }
+    ensures { λ r. ⌜ r ≡ bit (lt (correlation (point (getD (now (re .entry)) k nan) (conjugated conjugate (getD (now (im .entry)) k nan))) (point (getD (now (xs .entry)) register nan) (getD (now (ys .entry)) register nan))) zero64) ⌝ }
+{
+    let v = symbol(re, im, conjugate, k);
+    let at = register as usize;
+    let p = Cplx {
+        re: xs[at],
+        im: ys[at],
+    };
     (correlation(v, p) < 0.0) as u8
 }
 
 // The byte of 4 steps of TC8PSK: C2, then the decoded bit, of each.
-fn tc8psk_byte(re: &[f64], im: &[f64], m: Mapping, bits: &[u8], start: u8) -> Packed
-    requires { ⌜ (start < Isdb.states) × (4 ≤ length (now re)) × (4 ≤ length (now im)) × (4 ≤ length (now bits)) × Bits (now bits) 4 ⌝ }
+fn tc8psk_byte(
+    xs: &[f64; 128],
+    ys: &[f64; 128],
+    re: &[f64],
+    im: &[f64],
+    m: Mapping,
+    bits: &[u8],
+    start: u8,
+) -> Packed
+    requires { ⌜ ByRegister (m .«tc8psk_c1_is_y») (now xs) (now ys) × (start < Isdb.states) × (4 ≤ length (now re)) × (4 ≤ length (now im)) × (4 ≤ length (now bits)) × Bits (now bits) 4 ⌝ }
     ensures { λ r. ⌜ (r .byte ≡ byteOf (pieceBit «Tc8psk2_3» (now (re .entry)) (now (im .entry)) m start (now (bits .entry)))) × (r .state ≡ stateAt Isdb.half start (now (bits .entry)) 4) × (r .state < Isdb.states) ⌝ }
 {
     let mut byte: u8 = 0;
     let mut state = start;
     for i in 0..4 {
         let u = bits[i];
-        let c = encode_bit(state, u);
-        let c2 = uncoded_bit(re, im, m, 2 * c.x + c.y, i);
+        let register = 64 * u + state;
+        let c2 = uncoded_bit(xs, ys, re, im, m.conjugate, register, i);
         byte = 2 * (2 * byte + c2) + u;
-        state = c.state;
+        state = register / 2;
     }
     Packed { byte, state }
 }
@@ -123,10 +167,13 @@ fn pack_tc8psk(
     requires { ⌜ (start < Isdb.states) × (n < 2 ^ 16) × (4 * n ≤ length (now re)) × (4 * n ≤ length (now im)) × (4 * n ≤ length (now bits)) × Bits (now bits) (4 * n) × (n ≤ length (now bytes)) ⌝ }
     ensures { λ r. ⌜ (now (bytes .exit) ≡ laid (upto (λ j. byteOf (λ i. pieceBit «Tc8psk2_3» (now (re .entry)) (now (im .entry)) m start (now (bits .entry)) (8 * j + i))) n) (now (bytes .entry))) × (r ≡ stateAt Isdb.half start (now (bits .entry)) (4 * n)) × (r < Isdb.states) ⌝ }
 {
+    let points = register_points(m.tc8psk_c1_is_y);
+    let xs = points.re;
+    let ys = points.im;
     let mut state = start;
     for j in 0..n {
         let from = 4 * j;
-        let b = tc8psk_byte(&re[from..], &im[from..], m, &bits[from..], state);
+        let b = tc8psk_byte(&xs, &ys, &re[from..], &im[from..], m, &bits[from..], state);
         bytes[j] = b.byte;
         state = b.state;
     }
