@@ -13,7 +13,7 @@ use Rattle.isdbs_points.specs.declared.Mapping.{Mapping}
 use Rattle.isdbs_points.specs.Points.{point, conjugated, psk8Of, subset}
 use Rattle.isdbs_points.specs.Layout.{orderOf, stepsPerPeriod}
 use Rattle.isdbs_points.specs.Pieces.{piece}
-use Rattle.isdbs_metrics.specs.Reading.{softAt, correlation, received}
+use Rattle.isdbs_metrics.specs.Reading.{softAt, correlation, pairMetrics, received}
 use Rattle.isdbs_metrics.specs.Steps.{pieceMetrics}
 use Rattle.trellis.specs.Run.{fourSteps}
 use Rattle.strain.specs.Marks.{markOf}
@@ -43,6 +43,10 @@ pub record BlockMade (ys : ℕ → Step) (k0 n : ℕ) (block : List Float) : Typ
 -- the metrics of steps one after the other
 abbrev pub fours : (ℕ → List Float) → ℕ → Float
 fours ms i = getD (ms (i / 4)) (i % 4) nan
+
+-- those of step s from the soft values of the steps, X and Y of each by turns
+abbrev pub pairsAt : List Float → ℕ → List Float
+pairsAt pairs s = pairMetrics (getD pairs (2 * s) nan) (getD pairs (2 * s + 1) nan)
 
 -- the soft values of the steps from step k0 on, X and Y of each by turns
 abbrev pub stepSoft : Combination → List Float → List Float → Mapping → Float → ℕ → ℕ → Float

@@ -24,10 +24,9 @@ ghost use Rattle.isdbs_combination.specs.Combinations.{modulationOf};
 ghost use Rattle.isdbs_combination.specs.declared.Modulation.the-variants.{Bpsk, Qpsk, Tc8psk};
 ghost use Rattle.isdbs_points.specs.Points.{psk8Of, subset};
 ghost use Rattle.isdbs_points.specs.Layout.{stepsPerPeriod};
-ghost use Rattle.isdbs_metrics.specs.Reading.{pairMetrics};
 ghost use Rattle.isdbs_metrics.specs.Steps.{LayoutOf, Covers};
 ghost use Rattle.strain.specs.Marks.{markOf};
-ghost use Rattle.isdbs_blocks.specs.Blocks.{runSteps, runMark, fourIn, Periods, BlockMade, fours, stepSoft, spreadSoft, subsetParts};
+ghost use Rattle.isdbs_blocks.specs.Blocks.{runSteps, runMark, fourIn, Periods, BlockMade, fours, pairsAt, stepSoft, spreadSoft, subsetParts};
 
 // The soft value at a place of a period; 0 where the mother bit is erased.
 fn sent(softs: &[f32], place: usize, count: usize) -> f32
@@ -102,18 +101,24 @@ fn qpsk_softs(
     spread(softs, layout, periods, pairs);
 }
 
-// The four metrics of n steps from their soft values.
-fn lay_pairs(pairs: &[f32], n: usize, block: &mut [f32])
-    requires { ⌜ (2 * n ≤ length (now pairs)) × (4 * n ≤ length (now block)) ⌝ }
-    ensures { λ _. ⌜ now (block .exit) ≡ laid (upto (fours (λ s. pairMetrics (getD (now (pairs .entry)) (2 * s) nan) (getD (now (pairs .entry)) (2 * s + 1) nan))) (4 * n)) (now (block .entry)) ⌝ }
+// The four metrics of n steps from their soft values, and their marks.
+fn lay_pairs(pairs: &[f32], n: usize, block: &mut [f32], marks: &mut [u8])
+    requires { ⌜ (2 * n ≤ length (now pairs)) × (4 * n ≤ length (now block)) × (n ≤ length (now marks)) ⌝ }
+    ensures { λ _. ⌜ (now (block .exit) ≡ laid (upto (fours (pairsAt (now (pairs .entry)))) (4 * n)) (now (block .entry)))
+        × (now (marks .exit) ≡ laid (upto (λ s. markOf (pairsAt (now (pairs .entry)) s)) n) (now (marks .entry))) ⌝ }
 {
     for s in 0..n {
         let lx = pairs[2 * s];
         let ly = pairs[2 * s + 1];
-        block[4 * s] = lx + ly;
-        block[4 * s + 1] = lx - ly;
-        block[4 * s + 2] = -lx + ly;
-        block[4 * s + 3] = -lx - ly;
+        let a = lx + ly;
+        let b = lx - ly;
+        let c = -lx + ly;
+        let d = -lx - ly;
+        block[4 * s] = a;
+        block[4 * s + 1] = b;
+        block[4 * s + 2] = c;
+        block[4 * s + 3] = d;
+        marks[s] = mark(a, b, c, d);
     }
 }
 
@@ -155,42 +160,6 @@ fn subset_parts(re: &[f64], im: &[f64], m: Mapping, k0: usize, n: usize, parts: 
     }
 }
 
-// The metrics of n steps from step k0 on.
-fn fill(
-    re: &[f64],
-    im: &[f64],
-    m: Mapping,
-    scale: f32,
-    layout: PeriodLayout,
-    k0: usize,
-    n: usize,
-    parts: &mut [f64],
-    softs: &mut [f32],
-    pairs: &mut [f32],
-    block: &mut [f32],
-)
-    requires { ⌜ LayoutOf layout × Periods (layout .combination) k0 × Periods (layout .combination) n × (n ≤ 64 * stepsPerPeriod (layout .combination)) × (k0 + n < 2 ^ 30)
-        × Covers (layout .combination) (k0 + n) (length (now re)) × Covers (layout .combination) (k0 + n) (length (now im))
-        × (512 ≤ length (now parts)) × (512 ≤ length (now softs)) × (896 ≤ length (now pairs)) × (1792 ≤ length (now block)) ⌝ }
-    ensures { λ _. ⌜ BlockMade (runSteps (layout .combination) (now (re .entry)) (now (im .entry)) m scale) k0 n (now (block .exit)) ⌝ }
-{
-    let modulation = layout.modulation;
-    match modulation {
-        Modulation::Bpsk => {
-            bpsk_softs(re, scale, k0, n, pairs);
-            lay_pairs(pairs, n, block);
-        }
-        Modulation::Qpsk => {
-            qpsk_softs(re, im, m, scale, layout, k0, n, parts, softs, pairs);
-            lay_pairs(pairs, n, block);
-        }
-        Modulation::Tc8psk => {
-            subset_parts(re, im, m, k0, n, parts);
-            magnitude_block(parts, 4 * n, scale, block);
-        }
-    }
-}
-
 // The marks of n steps of four metrics.
 fn mark_block(block: &[f32], n: usize, marks: &mut [u8])
     requires { ⌜ (4 * n ≤ length (now block)) × (n ≤ length (now marks)) ⌝ }
@@ -227,6 +196,20 @@ pub fn make_block(
     ensures made { λ _. ⌜ BlockMade (runSteps (layout .combination) (now (re .entry)) (now (im .entry)) m scale) k0 n (now (block .exit)) ⌝ }
     ensures marked { λ _. ⌜ now (marks .exit) ≡ laid (upto (λ i. runMark (layout .combination) (now (re .entry)) (now (im .entry)) m scale (k0 + i)) n) (now (marks .entry)) ⌝ }
 {
-    fill(re, im, m, scale, layout, k0, n, parts, softs, pairs, block);
-    mark_block(block, n, marks);
+    let modulation = layout.modulation;
+    match modulation {
+        Modulation::Bpsk => {
+            bpsk_softs(re, scale, k0, n, pairs);
+            lay_pairs(pairs, n, block, marks);
+        }
+        Modulation::Qpsk => {
+            qpsk_softs(re, im, m, scale, layout, k0, n, parts, softs, pairs);
+            lay_pairs(pairs, n, block, marks);
+        }
+        Modulation::Tc8psk => {
+            subset_parts(re, im, m, k0, n, parts);
+            magnitude_block(parts, 4 * n, scale, block);
+            mark_block(block, n, marks);
+        }
+    }
 }
