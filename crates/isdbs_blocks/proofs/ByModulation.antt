@@ -325,3 +325,10 @@ pub pair-marks : (pairs block : List Float) (n : ℕ) (w2 : List Float) (w : Lis
 pair-marks pairs block n w2 w e =
     ap (λ (z : List ℕ). laid z w)
     (upto-cong (λ s. markOf (pairsAt pairs s)) (λ i. markOf (fourIn (fourSteps block i))) n (λ i l. ap (λ (x : Step). markOf (fourIn x)) (sym (fours-steps (pairsAt pairs) n block w2 e i l))))
+
+-- ---- not QPSK
+pub not-bpsk : modulationOf «Bpsk1_2» ≡ Qpsk → ⊥
+not-bpsk h = never (cc)
+
+pub not-tc8psk : modulationOf «Tc8psk2_3» ≡ Qpsk → ⊥
+not-tc8psk h = never (cc)

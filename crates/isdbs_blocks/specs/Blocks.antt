@@ -59,6 +59,10 @@ spreadSoft c softs j =
     let i = firstPlace (2 * (j / 2 % stepsPerPeriod c) + j % 2) (orderOf c) in
     cond (ltb i n) (getD softs (j / 2 / stepsPerPeriod c * n + i) nan) (ofBits binary32 0)
 
+-- those of one period, from the soft values that it sent
+abbrev pub periodSoft : Combination → List Float → ℕ → Float
+periodSoft c softs a = cond (ltb (firstPlace a (orderOf c)) (length (orderOf c))) (getD softs (firstPlace a (orderOf c)) nan) (ofBits binary32 0)
+
 -- what a TC8PSK symbol k gives with the four points of C2 = 0, in the order of the labels 2 X + Y
 abbrev pub subsetParts : List Float → List Float → Mapping → ℕ → List Float
 subsetParts re im m k = upto (λ l. correlation (point (getD re k nan) (conjugated (m .conjugate) (getD im k nan))) (psk8Of (subset (m .«tc8psk_c1_is_y») l))) 4
