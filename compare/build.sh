@@ -2,6 +2,7 @@
 # Builds the given Rust and the stub crates around it: target/compare/lib/*.rlib. Three comparisons of its decoder are altered, since ties are broken
 # as the chassis does (docs/changes/P12.md): on equality the odd predecessor, in both kinds of step, and the highest best state. With GIVEN_TIES=1 nothing is
 # altered: for times, since the altered step compiles to slower code.
+# With RUST_CPU=native it is compiled for this machine's processor, to target/compare/native.
 #   compare/build.sh [DIR]     DIR holds crates/isdb-fec/.. (default: $ISDB_RUST, else ../shared/docs/src)
 set -eu
 cd "$(dirname "$0")/.."
@@ -9,7 +10,7 @@ given=${1:-${ISDB_RUST:-../shared/docs/src}}/crates
 [ -f "$given/isdb-fec/src/conv.rs" ] || { echo "no given Rust in $given" >&2; exit 2; }
 given=$(cd "$given" && pwd)
 stubs=$PWD/compare/stubs
-out=$PWD/target/compare
+out=$PWD/target/compare${RUST_CPU:+/$RUST_CPU}
 mkdir -p "$out/src/isdb_fec" "$out/src/isdbs_core" "$out/src/isdbs_phy" "$out/src/isdbt_fec" "$out/lib" "$out/bin"
 
 if [ "${GIVEN_TIES:-}" = 1 ]; then
@@ -32,7 +33,7 @@ ln -sf "$stubs/isdbt_fec.rs" "$out/src/isdbt_fec/lib.rs"
 lib() {
     name=$1 source=$2
     shift 2
-    rustc --edition 2024 --crate-type rlib --crate-name "$name" -C opt-level=3 -C codegen-units=1 --cap-lints allow \
+    rustc --edition 2024 --crate-type rlib --crate-name "$name" -C opt-level=3 -C codegen-units=1 ${RUST_CPU:+-C "target-cpu=$RUST_CPU"} --cap-lints allow \
         -L "$out/lib" "$@" -o "$out/lib/lib$name.rlib" "$source"
 }
 rustc --edition 2024 --crate-type proc-macro --crate-name thiserror --cap-lints allow -o "$out/lib/libthiserror.so" "$stubs/thiserror.rs"

@@ -1,16 +1,22 @@
 #!/bin/sh
 # Compiles compare/src/NAME.rs over the reference and the static library of the C calls: target/compare/bin/NAME.
+# With KEEP_ARCHIVE=1 the library is taken as it is.
 #   compare/linked.sh NAME
 set -eu
 cd "$(dirname "$0")/.."
 archive=target/staticlib/libisdb.a
 mkdir -p target/compare
-tools/archive >/dev/null
+[ "${KEEP_ARCHIVE:-}" = 1 ] || tools/archive >/dev/null
 calls=
 for pair in isdbt:isdbt_depuncture encode:isdbs_encode_frame decode:isdbs_decode_frame wanted:isdbs_wanted_load judge:isdbs_judge best:isdbs_best_reading; do
     if nm "$archive" 2>/dev/null | grep -q " T ${pair#*:}\$"; then calls="$calls --cfg ${pair%%:*}"; fi
 done
 peer=target/compare/peer/usr/lib/x86_64-linux-gnu
-if [ "$1" = speed ] && [ -f "$peer/libfec.a" ]; then calls="$calls --cfg peer -L $peer -l static=fec"; fi
+if [ "$1" = speed ]; then
+    if [ -f "$peer/libfec.a" ]; then calls="$calls --cfg libfec -L $peer -l static=fec"; fi
+    for pair in libosmocore:libosmocore.so.19 volk:libvolk.so.2.5; do
+        if [ -f "$peer/${pair#*:}" ]; then calls="$calls --cfg ${pair%%:*} -C link-arg=$peer/${pair#*:} -C link-arg=-Wl,--allow-shlib-undefined"; fi
+    done
+fi
 # shellcheck disable=SC2086
 compare/program.sh "$1" -A unexpected_cfgs $calls -L target/staticlib -l static=isdb

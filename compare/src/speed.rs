@@ -1,7 +1,8 @@
 // Times beside the given Rust, from one run: each piece of work on both sides in turn, the least processor time of each over the rounds.
-// speed [ROUNDS] (default 15). Prints a table for docs/PERFORMANCE.md.
+// speed [ROUNDS [all]] (default 15). Prints lines of columns parted by tabs, which compare/speed.sh makes tables of; with `all` also frames held to real time, and the peers.
 mod calls;
 mod common;
+mod peers;
 use calls::Feed;
 use common::*;
 use isdb_fec::ViterbiDecoder;
@@ -20,6 +21,20 @@ unsafe impl GlobalAlloc for Counting {
         let now = NOW.fetch_add(l.size(), Relaxed) + l.size();
         MOST.fetch_max(now, Relaxed);
         unsafe { System.alloc(l) }
+    }
+
+    unsafe fn alloc_zeroed(&self, l: Layout) -> *mut u8 {
+        let now = NOW.fetch_add(l.size(), Relaxed) + l.size();
+        MOST.fetch_max(now, Relaxed);
+        unsafe { System.alloc_zeroed(l) }
+    }
+
+    /// Passed on, as it would be without the count: the default copies.
+    unsafe fn realloc(&self, p: *mut u8, l: Layout, size: usize) -> *mut u8 {
+        let now = NOW.fetch_add(size, Relaxed) + size;
+        MOST.fetch_max(now, Relaxed);
+        NOW.fetch_sub(l.size(), Relaxed);
+        unsafe { System.realloc(p, l, size) }
     }
 
     unsafe fn dealloc(&self, p: *mut u8, l: Layout) {
@@ -41,6 +56,7 @@ fn held_by(f: impl FnOnce()) -> usize {
 
 unsafe extern "C" {
     fn clock_gettime(clock: i32, time: *mut [i64; 2]) -> i32;
+    fn mallopt(what: i32, value: i32) -> i32;
 }
 
 /// The processor time of this thread in nanoseconds: what other programs take is not in it.
@@ -50,27 +66,24 @@ fn processor_time() -> i64 {
     time[0] * 1_000_000_000 + time[1]
 }
 
+fn time(f: &mut impl FnMut()) -> f64 {
+    let from = processor_time();
+    f();
+    (processor_time() - from) as f64
+}
+
+/// The least time in nanoseconds.
+pub fn least(rounds: usize, mut f: impl FnMut()) -> f64 {
+    (0..rounds).fold(f64::MAX, |a, _| a.min(time(&mut f)))
+}
+
 /// The least time of either side in nanoseconds, in turn.
 fn beside(rounds: usize, mut rust: impl FnMut(), mut here: impl FnMut()) -> (f64, f64) {
-    let time = |f: &mut dyn FnMut()| {
-        let from = processor_time();
-        f();
-        (processor_time() - from) as f64
-    };
     (0..rounds).fold((f64::MAX, f64::MAX), |(a, b), _| (a.min(time(&mut rust)), b.min(time(&mut here))))
 }
 
-fn row(name: &str, unit: &str, count: usize, (rust, here): (f64, f64), memory: (usize, usize)) {
-    println!(
-        "| {name} | {:.3} ms | {:.3} ms | {:.1} ns | {:.1} ns per {unit} | **{:.2}** | {} kB | {} kB |",
-        rust / 1e6,
-        here / 1e6,
-        rust / count as f64,
-        here / count as f64,
-        rust / here,
-        memory.0.div_ceil(1024),
-        memory.1.div_ceil(1024),
-    );
+fn row(name: &str, count: usize, (rust, here): (f64, f64), memory: (usize, usize)) {
+    println!("beside\t{name}\t{}\t{}\t{}\t{}", rust / count as f64, here / count as f64, memory.0.div_ceil(1024), memory.1.div_ceil(1024));
 }
 
 fn decoder(rounds: usize) {
@@ -101,7 +114,7 @@ fn decoder(rounds: usize) {
             assert_eq!(calls::feed(&mut pm, &mut held, 128, Feed::Flush, &mut decisions, &mut out[65_536..], &mut count), 0);
             black_box(&out);
         });
-        row(name, "step", n, times, (most, 4224 * 8 + n));
+        row(name, n, times, (most, 4224 * 8 + n));
     }
 }
 
@@ -142,7 +155,7 @@ fn decoding(rounds: usize) {
             };
             let most = held_by(rust);
             let times = beside(rounds, rust, || assert_eq!(calls::decode_frame(&re, &im, &s, &mut decisions, &mut bits, &mut out, &mut counts, &mut sum), 0));
-            row(&format!("{work}, {name}"), "step", steps(t), times, (most, 4224 * 8 + bits.len() + out.len() + 4 * counts.len()));
+            row(&format!("{work}, {name}"), steps(t), times, (most, 4224 * 8 + bits.len() + out.len() + 4 * counts.len()));
         }
     }
 }
@@ -168,7 +181,7 @@ fn isdbt(rounds: usize) {
         };
         let most = held_by(rust);
         let times = beside(rounds, rust, || assert_eq!(calls::decode_punctured(number, &llrs, 128, &mut decisions, &mut out, &mut count), 0));
-        row(&format!("decode_punctured, rate {name}"), "step", n, times, (most, 4224 * 8 + n));
+        row(&format!("decode_punctured, rate {name}"), n, times, (most, 4224 * 8 + n));
     }
 }
 
@@ -185,73 +198,35 @@ fn encoding(rounds: usize) {
         };
         let most = held_by(rust);
         let times = beside(rounds, rust, || assert_eq!(calls::encode_frame(&bytes, t, 4, 0, &mut re, &mut im, &mut end), 0));
-        row(&format!("encode a frame, {name}"), "step", steps(t), times, (most, 16 * MAIN));
+        row(&format!("encode a frame, {name}"), steps(t), times, (most, 16 * MAIN));
     }
 }
 
-/// The same code in libfec (viterbi27): 8-bit soft values, one traceback over the whole block. Context, no reference.
-#[cfg(peer)]
-mod peer {
-    use super::*;
-    use std::ffi::c_void;
-
-    unsafe extern "C" {
-        fn create_viterbi27(len: i32) -> *mut c_void;
-        fn set_viterbi27_polynomial(polys: *const i32);
-        fn init_viterbi27(v: *mut c_void, start: i32) -> i32;
-        fn update_viterbi27_blk(v: *mut c_void, symbols: *const u8, pairs: i32) -> i32;
-        fn chainback_viterbi27(v: *mut c_void, data: *mut u8, bits: u32, end: u32) -> i32;
-    }
-
-    pub fn row(rounds: usize) {
-        let n = 65_536;
-        let mut draws = Draws(0x9ee4);
-        let mut enc = isdb_fec::ConvEncoder::new();
-        // the last six bits lead back to state 0
-        let bits: Vec<u8> = (0..n).map(|i| if i < n - 6 { (draws.next() >> 63) as u8 } else { 0 }).collect();
-        let mut pairs: Vec<f32> = Vec::new();
-        for &b in &bits {
-            let (x, y) = enc.push(b);
-            for c in [x, y] {
-                let noise = (draws.next() >> 40) as f32 / 16_777_216.0 - 0.5;
-                pairs.push(1.0 - 2.0 * f32::from(c) + 1.5 * noise);
-            }
-        }
-        let symbols: Vec<u8> = pairs.iter().map(|x| (127.5 - 60.0 * x) as u8).collect();
-        let mut packed = vec![0u8; n / 8];
+/// Each combination alone in 48 slots, with noise: the worst of the eight mappings, to be held to the time that a frame is sent in.
+#[cfg(decode)]
+fn real_time(rounds: usize) {
+    for (name, word) in [("BPSK 1/2", 1), ("QPSK 1/2", 2), ("QPSK 2/3", 3), ("QPSK 3/4", 4), ("QPSK 5/6", 5), ("QPSK 7/8", 6), ("TC8PSK 2/3", 7)] {
+        let t = table(&[(word, 48)]);
+        let bytes = load(0x10ad, valid_slots(t) * 203);
         let mut decisions = vec![0u64; 4224];
-        let mut out = vec![0u8; n + 4096];
-        let fresh = *ViterbiDecoder::new(128).path_values();
-        // 171 and 133 octal, with the newest input as the low bit
-        let v = unsafe {
-            set_viterbi27_polynomial([0x4f, 0x6d].as_ptr());
-            create_viterbi27(n as i32)
-        };
-        let (peer, here) = beside(
-            rounds,
-            || unsafe {
-                init_viterbi27(v, 0);
-                update_viterbi27_blk(v, symbols.as_ptr(), n as i32);
-                chainback_viterbi27(v, packed.as_mut_ptr(), n as u32 - 6, 0);
-            },
-            || {
-                let mut pm = fresh;
-                let (mut held, mut count) = (0, 0);
-                assert_eq!(calls::feed(&mut pm, &mut held, 128, Feed::Pairs(&pairs), &mut decisions, &mut out, &mut count), 0);
-                let released = count as usize;
-                assert_eq!(calls::feed(&mut pm, &mut held, 128, Feed::Flush, &mut decisions, &mut out[released..], &mut count), 0);
-            },
-        );
-        let wrong = |bit: &dyn Fn(usize) -> u8| (0..n - 6).filter(|&i| bit(i) != bits[i]).count();
-        println!();
-        println!("libfec viterbi27 (8-bit soft values): {:.1} ns per step, {} wrong bits; push here (f32): {:.1} ns per step, {} wrong bits", peer / n as f64, wrong(&|i| packed[i / 8] >> (7 - i % 8) & 1), here / n as f64, wrong(&|i| out[i]));
+        let mut bits = vec![0u8; steps(t) + 16];
+        let mut out = vec![0u8; bytes.len()];
+        let mut counts = vec![0u32; valid_slots(t)];
+        let mut sum = 0;
+        let worst = (0..8).map(|m| {
+            let (clean, _) = reference_frame(&bytes, t, m, start(true)).unwrap();
+            let (re, im): (Vec<f64>, Vec<f64>) = received(&clean, 0x5eed, 0, 0.8).iter().map(|v| (v.re, v.im)).unzip();
+            let s = calls::Settings { table: t, mapping: m, first: 1, known: 1, scales: &[8.0; 7] };
+            least(rounds, || assert_eq!(calls::decode_frame(&re, &im, &s, &mut decisions, &mut bits, &mut out, &mut counts, &mut sum), 0))
+        });
+        println!("time\t{name}\t{}\t{}", worst.fold(0.0, f64::max) / 1e6, steps(t));
     }
 }
 
 fn main() {
     let rounds = std::env::args().nth(1).map_or(15, |s| s.parse().expect("a number"));
-    println!("| work | Rust | here | Rust | here | ratio | Rust holds | lent here |");
-    println!("|---|---|---|---|---|---|---|---|");
+    // M_MMAP_MAX 0, M_TRIM_THRESHOLD the greatest: what is freed stays with the program
+    assert_eq!(unsafe { (mallopt(-4, 0), mallopt(-1, i32::MAX)) }, (1, 1));
     #[cfg(decode)]
     decoding(rounds);
     #[cfg(encode)]
@@ -259,6 +234,9 @@ fn main() {
     decoder(rounds);
     #[cfg(isdbt)]
     isdbt(rounds);
-    #[cfg(peer)]
-    peer::row(rounds);
+    if std::env::args().nth(2).is_some() {
+        #[cfg(decode)]
+        real_time(rounds);
+        peers::rows(rounds);
+    }
 }

@@ -27,7 +27,7 @@ use Rattle.isdbs_metrics.specs.declared.PeriodLayout.{PeriodLayout}
 use Rattle.isdbs_metrics.specs.Steps.{qpskPart, pieceMetrics, Covers, LayoutOf}
 use Rattle.trellis.specs.Run.{fourSteps}
 use Rattle.strain.specs.Marks.{markOf}
-use Rattle.isdbs_blocks.specs.Blocks.{Periods, fours, runSteps, runMark, fourIn, BlockMade, stepSoft, spreadSoft, subsetParts}
+use Rattle.isdbs_blocks.specs.Blocks.{Periods, fours, runSteps, runMark, fourIn, BlockMade, pairsAt, stepSoft, spreadSoft, subsetParts}
 use Rattle.isdbs_blocks.specs.PeriodLaws.{short, more-periods}
 use Rattle.isdbs_blocks.proofs.Laws.{fours-steps, fours-0, fours-1, fours-2, fours-3}
 
@@ -318,3 +318,17 @@ pub marks-made : (c : Combination) (re im : List Float) (m : Mapping) (scale : F
 marks-made c re im m scale k0 n block w b =
     ap (λ (z : List ℕ). laid z w)
     (upto-cong (λ i. markOf (fourIn (fourSteps block i))) (λ i. runMark c re im m scale (k0 + i)) n (λ i l. ap (λ (x : Step). markOf (fourIn x)) (b .made i l)))
+
+-- made with the metrics of pairs
+pub pair-marks : (pairs block : List Float) (n : ℕ) (w2 : List Float) (w : List ℕ) → block ≡ laid (upto (fours (pairsAt pairs)) (4 * n)) w2
+    → laid (upto (λ s. markOf (pairsAt pairs s)) n) w ≡ laid (upto (λ i. markOf (fourIn (fourSteps block i))) n) w
+pair-marks pairs block n w2 w e =
+    ap (λ (z : List ℕ). laid z w)
+    (upto-cong (λ s. markOf (pairsAt pairs s)) (λ i. markOf (fourIn (fourSteps block i))) n (λ i l. ap (λ (x : Step). markOf (fourIn x)) (sym (fours-steps (pairsAt pairs) n block w2 e i l))))
+
+-- ---- not QPSK
+pub not-bpsk : modulationOf «Bpsk1_2» ≡ Qpsk → ⊥
+not-bpsk h = never (cc)
+
+pub not-tc8psk : modulationOf «Tc8psk2_3» ≡ Qpsk → ⊥
+not-tc8psk h = never (cc)

@@ -1,2 +1,3 @@
 pub mod ByModulation
 pub mod Laws
+pub mod PeriodPlaces

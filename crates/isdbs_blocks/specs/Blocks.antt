@@ -13,7 +13,7 @@ use Rattle.isdbs_points.specs.declared.Mapping.{Mapping}
 use Rattle.isdbs_points.specs.Points.{point, conjugated, psk8Of, subset}
 use Rattle.isdbs_points.specs.Layout.{orderOf, stepsPerPeriod}
 use Rattle.isdbs_points.specs.Pieces.{piece}
-use Rattle.isdbs_metrics.specs.Reading.{softAt, correlation, received}
+use Rattle.isdbs_metrics.specs.Reading.{softAt, correlation, pairMetrics, received}
 use Rattle.isdbs_metrics.specs.Steps.{pieceMetrics}
 use Rattle.trellis.specs.Run.{fourSteps}
 use Rattle.strain.specs.Marks.{markOf}
@@ -44,6 +44,10 @@ pub record BlockMade (ys : ℕ → Step) (k0 n : ℕ) (block : List Float) : Typ
 abbrev pub fours : (ℕ → List Float) → ℕ → Float
 fours ms i = getD (ms (i / 4)) (i % 4) nan
 
+-- those of step s from the soft values of the steps, X and Y of each by turns
+abbrev pub pairsAt : List Float → ℕ → List Float
+pairsAt pairs s = pairMetrics (getD pairs (2 * s) nan) (getD pairs (2 * s + 1) nan)
+
 -- the soft values of the steps from step k0 on, X and Y of each by turns
 abbrev pub stepSoft : Combination → List Float → List Float → Mapping → Float → ℕ → ℕ → Float
 stepSoft c re im m scale k0 j = softAt (received re im m scale) (piece c 0) (k0 + j / 2) (j % 2)
@@ -54,6 +58,10 @@ spreadSoft c softs j =
     let n = length (orderOf c) in
     let i = firstPlace (2 * (j / 2 % stepsPerPeriod c) + j % 2) (orderOf c) in
     cond (ltb i n) (getD softs (j / 2 / stepsPerPeriod c * n + i) nan) (ofBits binary32 0)
+
+-- those of one period, from the soft values that it sent
+abbrev pub periodSoft : Combination → List Float → ℕ → Float
+periodSoft c softs a = cond (ltb (firstPlace a (orderOf c)) (length (orderOf c))) (getD softs (firstPlace a (orderOf c)) nan) (ofBits binary32 0)
 
 -- what a TC8PSK symbol k gives with the four points of C2 = 0, in the order of the labels 2 X + Y
 abbrev pub subsetParts : List Float → List Float → Mapping → ℕ → List Float

@@ -13,7 +13,7 @@ use Rattle.isdbs_combination.specs.declared.Combination.the-variants.{«Bpsk1_2
 use Rattle.isdbs_points.specs.Layout.{orderOf, stepsPerPeriod, sentOrder}
 use Rattle.trellis.specs.Lists.{firstPlace}
 use Rattle.isdbs_pack.specs.FrameRunLaws.{tail-is}
-use Rattle.isdbs_blocks.specs.Blocks.{Periods, spreadSoft}
+use Rattle.isdbs_blocks.specs.Blocks.{Periods, periodSoft, spreadSoft}
 
 -- a period is short
 pub short : (c : Combination) → (length (orderOf c) ≤ 8) × (stepsPerPeriod c ≤ 7) × (0 < stepsPerPeriod c)
@@ -56,9 +56,8 @@ place-at «Qpsk5_6» t a h = (omega arith, omega arith)
 place-at «Qpsk7_8» t a h = (omega arith, omega arith)
 place-at «Tc8psk2_3» t a h = (omega arith, omega arith)
 
-pub spread-at : (c : Combination) (softs : List Float) (places : List ℕ) (count from to t a : ℕ) → count ≡ length (orderOf c) → from ≡ t * length (orderOf c) → to ≡ t * (2 * stepsPerPeriod c)
-    → getD places a 0 ≡ firstPlace a (orderOf c) → a < 2 * stepsPerPeriod c
-    → cond (ltb (getD places a 0) count) (getD (take (length softs - from) (drop from softs)) (getD places a 0) nan) (ofBits binary32 0) ≡ spreadSoft c softs (to + a)
-spread-at c softs places count from to t a ec ef et ep h =
+pub spread-at : (c : Combination) (softs : List Float) (from to t a : ℕ) → from ≡ t * length (orderOf c) → to ≡ t * (2 * stepsPerPeriod c) → a < 2 * stepsPerPeriod c
+    → periodSoft c (take (length softs - from) (drop from softs)) a ≡ spreadSoft c softs (to + a)
+spread-at c softs from to t a ef et h =
     let q = place-at c t a h in
-    rw (ec, ep, tail-is from softs, getD-drop from softs (firstPlace a (orderOf c)) nan, et, q .0, q .1, ef)
+    rw (tail-is from softs, getD-drop from softs (firstPlace a (orderOf c)) nan, et, q .0, q .1, ef)

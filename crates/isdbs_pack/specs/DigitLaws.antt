@@ -100,7 +100,7 @@ byte-cong f g h =
     rw (h 0 (omega arith), h 1 (omega arith), h 2 (omega arith), h 3 (omega arith), h 4 (omega arith), h 5 (omega arith), h 6 (omega arith), h 7 (omega arith))
 
 -- ---- a step of TC8PSK
-label-is : (x y u s : ℕ) → x ≡ output isdb 0o171 u s → y ≡ output isdb 0o133 u s → 2 * x + y ≡ Isdb.labels u s
+pub label-is : (x y u s : ℕ) → x ≡ output isdb 0o171 u s → y ≡ output isdb 0o133 u s → 2 * x + y ≡ Isdb.labels u s
 unfolding label
 label-is x y u s p q = rw (p, q)
 
@@ -120,28 +120,24 @@ module _ (re im : List Float) (m : Mapping) (s : ℕ) (us : List ℕ) where
   unfolding digits stateAt
   taken-first h b = record { done = omega arith; bits = b; byte-is = refl; state-is = refl; small = h }
 
-  pub taken-next : (byte state i x y z c2 : ℕ) → Taken re im m s us byte state i → i < 4
-      → (x ≡ output isdb 0o171 (getD us i 0 % 2) state) × (y ≡ output isdb 0o133 (getD us i 0 % 2) state) × (z ≡ moved 32 (getD us i 0 % 2) state)
-      → c2 ≡ bit (lt (correlation (point (getD re i nan) (conjugated (m .conjugate) (getD im i nan))) (psk8Of (subset (m .«tc8psk_c1_is_y») (2 * x + y)))) zero64)
+  pub taken-next : (byte state i z c2 : ℕ) → Taken re im m s us byte state i → i < 4 → z ≡ moved 32 (getD us i 0) state
+      → c2 ≡ bit (lt (correlation (point (getD re i nan) (conjugated (m .conjugate) (getD im i nan))) (psk8Of (subset (m .«tc8psk_c1_is_y») (Isdb.labels (getD us i 0) state)))) zero64)
       → (2 * (2 * byte + c2) + getD us i 0 < 256) × Taken re im m s us (2 * (2 * byte + c2) + getD us i 0) z (i + 1)
   unfolding stateAt
-  taken-next byte state i x y z c2 t h en ec =
+  taken-next byte state i z c2 t h z-is ec =
       let u = getD us i 0 in
       let b = t .bits i h in
-      let v : u % 2 ≡ u = omega arith in
       let f = pieceBit «Tc8psk2_3» re im m s us in
       let d = digits-six f (2 * i) (omega arith) (λ j l. piece-small re im m s us 4 (t .bits) j (omega arith)) in
       let ed = t .byte-is in
-      let lab = label-is x y (u % 2) state (en .0) (en .1) ∙ ap (λ (a : ℕ). Isdb.labels a state) v in
-      let z-is = en .2 in
       let hs = t .small in
-      let c2-small : c2 < 2 = rw ec (bit-small (lt (correlation (point (getD re i nan) (conjugated (m .conjugate) (getD im i nan))) (psk8Of (subset (m .«tc8psk_c1_is_y») (2 * x + y)))) zero64)) in (
+      let c2-small : c2 < 2 = rw ec (bit-small (lt (correlation (point (getD re i nan) (conjugated (m .conjugate) (getD im i nan))) (psk8Of (subset (m .«tc8psk_c1_is_y») (Isdb.labels u state)))) zero64)) in (
         omega arith,
         record {
           done = omega arith;
           bits = t .bits;
-          byte-is = rw (digits-two f i, even-bit re im m s us i, odd-bit re im m s us i, ← t .byte-is, ← t .state-is) (rw (ec, lab) refl);
-          state-is = rw (add-one i, ← t .state-is) (z-is ∙ ap (λ (a : ℕ). moved 32 a state) v);
+          byte-is = rw (digits-two f i, even-bit re im m s us i, odd-bit re im m s us i, ← t .byte-is, ← t .state-is) (rw ec refl);
+          state-is = rw (add-one i, ← t .state-is) z-is;
           small = omega arith;
         },
       )

@@ -5,12 +5,13 @@ use isdbs_core::frame::SLOT_BYTES;
 use isdbs_core::slots::Plan;
 use isdbs_metrics::correlation;
 use isdbs_metrics::symbol;
+use isdbs_points::Cplx;
 use isdbs_points::Mapping;
 use isdbs_points::psk8_point;
 use isdbs_points::subset_of;
 use viterbi::encode_bit;
 ghost use mathlib.Core.Path.{_≡_};
-ghost use Prim.Native.Nat.{_+_, _*_, _<_, _≤_, _^_};
+ghost use Prim.Native.Nat.{ℕ, _+_, _*_, _<_, _≤_, _^_};
 ghost use lib.ListN.{length, getD};
 ghost use lib.Ieee.{Float, nan, lt};
 ghost use Rattle.trellis.specs.Lists.{upto, laid, bit};
@@ -19,11 +20,12 @@ ghost use Rattle.isdbs_combination.specs.declared.Combination.{Combination};
 ghost use Rattle.isdbs_combination.specs.declared.Combination.the-variants.{«Tc8psk2_3»};
 ghost use Rattle.isdbs_frame.specs.Frame.{mainSymbols};
 ghost use Rattle.isdbs_runs.specs.RunsOf.{frameSteps, loadBytes, Planned};
-ghost use Rattle.isdbs_points.specs.Points.{zero64, point, conjugated, psk8Of, subset};
+ghost use Rattle.isdbs_points.specs.Points.{zero64, point, conjugated};
 ghost use Rattle.isdbs_points.specs.Layout.{byteOf};
 ghost use Rattle.isdbs_metrics.specs.Reading.{correlation};
 ghost use Rattle.isdbs_metrics.specs.Steps.{Bits, pieceBit, stepsOfBytes, PackRoom};
 ghost use Rattle.isdbs_pack.specs.Bytes.{receivedWith, byteAt};
+ghost use Rattle.isdbs_pack.specs.Registers.{ByRegister};
 ghost use Rattle.trellis.specs.Isdb;
 
 // A byte, and the encoder's state after its bits.
@@ -32,44 +34,110 @@ pub struct Packed {
     pub state: u8,
 }
 
-// The byte of 8 decoded bits, high bit first.
-fn plain_byte(bits: &[u8], start: u8) -> Packed
-    requires { ⌜ (start < Isdb.states) × (8 ≤ length (now bits)) × Bits (now bits) 8 ⌝ }
-    ensures { λ r. ⌜ (r .byte ≡ byteOf (λ i. getD (now (bits .entry)) i 0)) × (r .state ≡ stateAt Isdb.half start (now (bits .entry)) 8) × (r .state < Isdb.states) ⌝ }
+// Four bits as a number, the first highest: by a product in which no two digits meet.
+fn nibble(a: u8, b: u8, c: u8, d: u8) -> u8
+    requires { ⌜ (a < 2) × (b < 2) × (c < 2) × (d < 2) ⌝ }
+    ensures { λ r. ⌜ r ≡ a * 8 + b * 4 + c * 2 + d ⌝ }
 {
-    let mut byte: u8 = 0;
-    let mut state = start;
-    for i in 0..8 {
-        let u = bits[i];
-        byte = 2 * byte + u;
-        state = 32 * u + state / 2;
-    }
-    Packed { byte, state }
+    let w = a as u64 + 0x100 * (b as u64) + 0x1_0000 * (c as u64) + 0x100_0000 * (d as u64);
+    ((w * 0x0804_0201 >> 24) % 16) as u8
 }
 
-// C2 of symbol k: on which side of 0 it lies along the point of C2 = 0 whose subset 2 X + Y names.
-fn uncoded_bit(re: &[f64], im: &[f64], m: Mapping, label: u8, k: usize) -> u8
-    requires { ⌜ (label < 4) × (k < length (now re)) × (k < length (now im)) ⌝ }
-    ensures { λ r. ⌜ r ≡ bit (lt (correlation (point (getD (now (re .entry)) k nan) (conjugated (m .conjugate) (getD (now (im .entry)) k nan))) (psk8Of (subset (m .«tc8psk_c1_is_y») label))) zero64) ⌝ }
+// The byte of 8 decoded bits, high bit first.
+fn plain_byte(bits: &[u8]) -> u8
+    requires { ⌜ (8 ≤ length (now bits)) × Bits (now bits) 8 ⌝ }
+    ensures { λ r. ⌜ r ≡ byteOf (λ i. getD (now (bits .entry)) i 0) ⌝ }
 {
-    let v = symbol(re, im, m.conjugate, k);
-    let p = psk8_point(subset_of(m.tc8psk_c1_is_y, label));
+    let high = nibble(bits[0], bits[1], bits[2], bits[3]);
+    let low = nibble(bits[4], bits[5], bits[6], bits[7]);
+    16 * high + low
+}
+
+// The encoder's state after 8 bits, whatever it was before: the last six, the newest highest.
+fn byte_state(bits: &[u8]) -> u8
+    requires { ⌜ (8 ≤ length (now bits)) × Bits (now bits) 8 ⌝ }
+    ensures { λ r. ⌜ (r < Isdb.states) × ((s : ℕ) → s < Isdb.states → r ≡ stateAt Isdb.half s (now (bits .entry)) 8) ⌝ }
+{
+    32 * bits[7] + 16 * bits[6] + 8 * bits[5] + 4 * bits[4] + 2 * bits[3] + bits[2]
+}
+
+// The state after the bits of n bytes.
+fn last_state(bits: &[u8], n: usize, start: u8) -> u8
+    requires { ⌜ (start < Isdb.states) × (n < 2 ^ 16) × (8 * n ≤ length (now bits)) × Bits (now bits) (8 * n) ⌝ }
+    ensures { λ r. ⌜ (r ≡ stateAt Isdb.half start (now (bits .entry)) (8 * n)) × (r < Isdb.states) ⌝ }
+{
+    if n == 0 {
+        return start;
+    }
+    let from = 8 * n - 8;
+    byte_state(&bits[from..])
+}
+
+// The points of C2 = 0 by the register 64u + state of a step, so that no outputs are worked out for a step.
+pub struct RegisterPoints {
+    pub re: [f64; 128],
+    pub im: [f64; 128],
+}
+
+// Those under the mapping of C1.
+fn register_points(c1_is_y: bool) -> RegisterPoints
+    ensures { λ r. ⌜ ByRegister «c1_is_y» (r .re) (r .im) ⌝ }
+{
+    let mut re = [0.0; 128];
+    let mut im = [0.0; 128];
+    for k in 0..128 {
+        let register = k as u8;
+        let c = encode_bit(register % 64, register / 64);
+        let p = psk8_point(subset_of(c1_is_y, 2 * c.x + c.y));
+        re[k] = p.re;
+        im[k] = p.im;
+    }
+    RegisterPoints { re, im }
+}
+
+// C2 of symbol k: on which side of 0 it lies along the point of C2 = 0 at the register.
+fn uncoded_bit(
+    xs: &[f64; 128],
+    ys: &[f64; 128],
+    re: &[f64],
+    im: &[f64],
+    conjugate: bool,
+    register: u8,
+    k: usize,
+) -> u8
+    requires { ⌜ (register < 128) × (k < length (now re)) × (k < length (now im)) ⌝ }
+    ensures { λ r. ⌜ r ≡ bit (lt (correlation (point (getD (now (re .entry)) k nan) (conjugated conjugate (getD (now (im .entry)) k nan))) (point (getD (now (xs .entry)) register nan) (getD (now (ys .entry)) register nan))) zero64) ⌝ }
+{
+    let v = symbol(re, im, conjugate, k);
+    let at = register as usize;
+    let p = Cplx {
+        re: xs[at],
+        im: ys[at],
+    };
     (correlation(v, p) < 0.0) as u8
 }
 
 // The byte of 4 steps of TC8PSK: C2, then the decoded bit, of each.
-fn tc8psk_byte(re: &[f64], im: &[f64], m: Mapping, bits: &[u8], start: u8) -> Packed
-    requires { ⌜ (start < Isdb.states) × (4 ≤ length (now re)) × (4 ≤ length (now im)) × (4 ≤ length (now bits)) × Bits (now bits) 4 ⌝ }
+fn tc8psk_byte(
+    xs: &[f64; 128],
+    ys: &[f64; 128],
+    re: &[f64],
+    im: &[f64],
+    m: Mapping,
+    bits: &[u8],
+    start: u8,
+) -> Packed
+    requires { ⌜ ByRegister (m .«tc8psk_c1_is_y») (now xs) (now ys) × (start < Isdb.states) × (4 ≤ length (now re)) × (4 ≤ length (now im)) × (4 ≤ length (now bits)) × Bits (now bits) 4 ⌝ }
     ensures { λ r. ⌜ (r .byte ≡ byteOf (pieceBit «Tc8psk2_3» (now (re .entry)) (now (im .entry)) m start (now (bits .entry)))) × (r .state ≡ stateAt Isdb.half start (now (bits .entry)) 4) × (r .state < Isdb.states) ⌝ }
 {
     let mut byte: u8 = 0;
     let mut state = start;
     for i in 0..4 {
         let u = bits[i];
-        let c = encode_bit(state, u);
-        let c2 = uncoded_bit(re, im, m, 2 * c.x + c.y, i);
+        let register = 64 * u + state;
+        let c2 = uncoded_bit(xs, ys, re, im, m.conjugate, register, i);
         byte = 2 * (2 * byte + c2) + u;
-        state = c.state;
+        state = register / 2;
     }
     Packed { byte, state }
 }
@@ -79,14 +147,11 @@ fn pack_plain(bits: &[u8], n: usize, start: u8, bytes: &mut [u8]) -> u8
     requires { ⌜ (start < Isdb.states) × (n < 2 ^ 16) × (8 * n ≤ length (now bits)) × Bits (now bits) (8 * n) × (n ≤ length (now bytes)) ⌝ }
     ensures { λ r. ⌜ (now (bytes .exit) ≡ laid (upto (λ j. byteOf (λ i. getD (now (bits .entry)) (8 * j + i) 0)) n) (now (bytes .entry))) × (r ≡ stateAt Isdb.half start (now (bits .entry)) (8 * n)) × (r < Isdb.states) ⌝ }
 {
-    let mut state = start;
     for j in 0..n {
         let from = 8 * j;
-        let b = plain_byte(&bits[from..], state);
-        bytes[j] = b.byte;
-        state = b.state;
+        bytes[j] = plain_byte(&bits[from..]);
     }
-    state
+    last_state(bits, n, start)
 }
 
 // The bytes of a run of TC8PSK.
@@ -102,10 +167,13 @@ fn pack_tc8psk(
     requires { ⌜ (start < Isdb.states) × (n < 2 ^ 16) × (4 * n ≤ length (now re)) × (4 * n ≤ length (now im)) × (4 * n ≤ length (now bits)) × Bits (now bits) (4 * n) × (n ≤ length (now bytes)) ⌝ }
     ensures { λ r. ⌜ (now (bytes .exit) ≡ laid (upto (λ j. byteOf (λ i. pieceBit «Tc8psk2_3» (now (re .entry)) (now (im .entry)) m start (now (bits .entry)) (8 * j + i))) n) (now (bytes .entry))) × (r ≡ stateAt Isdb.half start (now (bits .entry)) (4 * n)) × (r < Isdb.states) ⌝ }
 {
+    let points = register_points(m.tc8psk_c1_is_y);
+    let xs = points.re;
+    let ys = points.im;
     let mut state = start;
     for j in 0..n {
         let from = 4 * j;
-        let b = tc8psk_byte(&re[from..], &im[from..], m, &bits[from..], state);
+        let b = tc8psk_byte(&xs, &ys, &re[from..], &im[from..], m, &bits[from..], state);
         bytes[j] = b.byte;
         state = b.state;
     }

@@ -7,21 +7,27 @@ use native.Mathlib.Omega.{arith}
 use lib.ListN.{length, getD, set, length-set}
 use lib.Ieee.{Float, nan}
 use Rattle.trellis.specs.Lists.{upto, laid}
-use Rattle.isdbs_metrics.specs.Reading.{pairMetrics}
-use Rattle.isdbs_blocks.specs.Blocks.{fours}
+use Rattle.strain.specs.Marks.{markOf}
+use Rattle.block_parts.specs.FilledLaws.{put-one}
+use Rattle.isdbs_blocks.specs.Blocks.{fours, pairsAt}
 use Rattle.isdbs_blocks.proofs.Laws.{put-four, length-four, fours-0, fours-1, fours-2, fours-3}
 use Rattle.isdbs_blocks.proofs.lay_pairs.Statement.{statement}
 use Rattle.isdbs_blocks.proofs.lay_pairs.Tie as tie
 
 abbrev Inv-loop : tie.InvT-loop
-Inv-loop pairs n block₀ s₀ block s = (s ≤ n) × (length block ≡ length block₀) × (block ≡ laid (upto (fours (λ s. pairMetrics (getD pairs (2 * s) nan) (getD pairs (2 * s + 1) nan))) (4 * s)) block₀)
+Inv-loop pairs n block₀ marks₀ s₀ block marks s =
+    (s ≤ n)
+    × (length block ≡ length block₀)
+    × (length marks ≡ length marks₀)
+    × (block ≡ laid (upto (fours (pairsAt pairs)) (4 * s)) block₀)
+    × (marks ≡ laid (upto (λ i. markOf (pairsAt pairs i)) s) marks₀)
 
 abbrev μ-loop : tie.MeasureT-loop
-μ-loop pairs n block₀ s₀ block s = n - s
+μ-loop pairs n block₀ marks₀ s₀ block marks s = n - s
 
 loop-holds : tie.Need-loop-holds Inv-loop μ-loop
 unfolding upto
-loop-holds c = (search needs, refl, refl)
+loop-holds c = (search needs, refl, refl, refl, refl)
 
 mul-lx : tie.Need-mul-lx Inv-loop μ-loop
 mul-lx c = search needs
@@ -89,6 +95,12 @@ mul-block-8 c = search needs
 slice-write-block-4 : tie.Need-slice-write-block-4 Inv-loop μ-loop
 slice-write-block-4 c = simp (length-set) (omega arith)
 
+mark-requires : tie.Need-mark-requires Inv-loop μ-loop
+mark-requires c κs = search needs
+
+slice-write-marks : tie.Need-slice-write-marks Inv-loop μ-loop
+slice-write-marks c = search needs
+
 add-s : tie.Need-add-s Inv-loop μ-loop
 add-s c = search needs
 
@@ -97,24 +109,33 @@ loop-less c = search needs
 
 loop-again : tie.Need-loop-again Inv-loop μ-loop
 loop-again c =
-    let st = c .before .before .before .before in
-    let at = c .before .before .before .loop in
-    let h = at .inv in
-    let room = st .pre .1 in
-    let inside = c .before .before .loop-test .taken in
-    let ms : ℕ → List Float = λ s. pairMetrics (getD (st .args .pairs .now) (2 * s) nan) (getD (st .args .pairs .now) (2 * s + 1) nan) in (
+    let turn = c .before .before .before in
+    let at = turn .before in
+    let st = at .before .before .before .before in
+    let s = at .loop .s in
+    let h = at .loop .inv in
+    let inside = turn .loop-test .taken in
+    let pairs = st .args .pairs .now in
+    let ms = pairsAt pairs in (
       omega arith,
-      length-four (at .block) (4 * at .s) (4 * at .s + 1) (4 * at .s + 2) (4 * at .s + 3) _ _ _ _ ∙ h .1,
-      put-four (fours ms) (at .s) _ _ _ _ (at .block) (st .args .block .now) (omega arith) (h .2) (sym (fours-0 ms (at .s))) (sym (fours-1 ms (at .s))) (sym (fours-2 ms (at .s))) (sym (fours-3 ms (at .s))),
+      length-four (at .loop .block) (4 * s) (4 * s + 1) (4 * s + 2) (4 * s + 3) _ _ _ _ ∙ h .1,
+      length-set (at .loop .marks) s (c .mark .result) ∙ h .2,
+      put-four (fours ms) s _ _ _ _ (at .loop .block) (st .args .block .now) (omega arith) (h .3) (sym (fours-0 ms s)) (sym (fours-1 ms s)) (sym (fours-2 ms s)) (sym (fours-3 ms s)),
+      put-one (λ i. markOf (pairsAt pairs i)) s (c .mark .result) (at .loop .marks) (st .args .marks .now) (omega arith) (h .4) (c .mark .ensures),
     )
 
 same-length : tie.Need-same-length Inv-loop μ-loop
 same-length c = search needs
 
+same-length-2 : tie.Need-same-length-2 Inv-loop μ-loop
+same-length-2 c = search needs
+
 returns : tie.Need-returns Inv-loop μ-loop
 returns c =
-    let e : c .before .loop .s ≡ c .before .before .args .n = omega arith in
-    rw e at (c .before .loop .inv .2)
+    let at = c .before in
+    let e : at .loop .s ≡ at .before .before .before .before .args .n = omega arith in
+    let h = rw e at (at .loop .inv) in
+    (h .3, h .4)
 
 pub lay-pairs-spec : {M : Type 1} → statement M
 lay-pairs-spec =
@@ -145,8 +166,11 @@ lay-pairs-spec =
     add-block-3
     mul-block-8
     slice-write-block-4
+    mark-requires
+    slice-write-marks
     add-s
     loop-less
     loop-again
     same-length
+    same-length-2
     returns)

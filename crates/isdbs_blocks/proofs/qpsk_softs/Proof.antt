@@ -69,7 +69,7 @@ spread-requires c κs =
     let z = sizes (st .args .layout) (st .args .k0) (st .args .n) (length (st .args .re .now)) (length (st .args .im .now)) (st .pre .0) (st .pre .1) (st .pre .2) (st .pre .3) (st .pre .4) (st .pre .6) (st .pre .7) in
     let few = z .sent-few in
     let same = laid-long _ _ _ (st .args .softs .now) (c .before .before .before .before .soft-block .ensures) (omega arith) in
-    (st .pre .0, z .count-few, z .period-few, z .few, omega arith, omega arith)
+    (st .pre .0, st .pre .1, z .count-few, z .period-few, z .few, omega arith, omega arith)
 
 same-length : tie.Need-same-length
 same-length c = search needs

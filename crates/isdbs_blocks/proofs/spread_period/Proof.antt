@@ -1,85 +1,129 @@
--- `spread_period` meets its contract. Assumes nothing.
+-- `spread_period` meets its contract, at each rate. Assumes nothing.
 use borrow.Author.Needs.{needs}
-use mathlib.Core.Path.{_≡_, refl, _∙_}
-use Prim.Native.Nat.{ℕ, _-_, _≤_}
-use native.Mathlib.Omega.{arith}
-use lib.ListN.{length, getD, set, length-set}
-use lib.Ieee.{Float, nan}
-use Rattle.trellis.specs.Lists.{upto, laid}
-use mathlib.Core.Bool.{cond}
-use lib.Dec.{ltb}
-use lib.Ieee.{binary32, ofBits}
-use Rattle.block_parts.specs.FilledLaws.{put-one}
+use mathlib.Core.Path.{_≡_}
+use Rattle.isdbs_combination.specs.Combinations.{modulationOf}
+use Rattle.isdbs_points.specs.Layout.{sentOrder}
+use Rattle.isdbs_blocks.proofs.ByModulation.{not-bpsk, not-tc8psk}
 use Rattle.isdbs_blocks.proofs.spread_period.Statement.{statement}
 use Rattle.isdbs_blocks.proofs.spread_period.Tie as tie
 
-abbrev Inv-loop : tie.InvT-loop
-Inv-loop softs places count bits pairs₀ a₀ pairs a = (a ≤ bits) × (length pairs ≡ length pairs₀) × (pairs ≡ laid (upto (λ j. cond (ltb (getD places j 0) count) (getD softs (getD places j 0) nan) (ofBits binary32 0)) a) pairs₀)
+enum-told : tie.Need-enum-told
+enum-told c = search needs
 
-abbrev μ-loop : tie.MeasureT-loop
-μ-loop softs places count bits pairs₀ a₀ pairs a = bits - a
+period-1-2-requires : tie.Need-period-1-2-requires
+unfolding sentOrder
+period-1-2-requires c κs =
+    let st = c .before .before .before .before .before in
+    let e = c .before .enum-told .given .1 in
+    (rw e at (st .pre .1), rw e at (st .pre .2))
 
-places-of-requires : tie.Need-places-of-requires Inv-loop μ-loop
-places-of-requires c κs = search needs
+enum-told-2 : tie.Need-enum-told-2
+enum-told-2 c = search needs
 
-loop-holds : tie.Need-loop-holds Inv-loop μ-loop
-unfolding upto
-loop-holds c = (search needs, refl, refl)
+period-2-3-requires : tie.Need-period-2-3-requires
+unfolding sentOrder
+period-2-3-requires c κs =
+    let st = c .before .before .before .before .before in
+    let e = c .before .enum-told2 .given .1 in
+    (rw e at (st .pre .1), rw e at (st .pre .2))
 
-mul-sent : tie.Need-mul-sent Inv-loop μ-loop
-mul-sent c = search needs
+enum-told-3 : tie.Need-enum-told-3
+enum-told-3 c = search needs
 
-element-copy-out-sent : tie.Need-element-copy-out-sent Inv-loop μ-loop
-element-copy-out-sent c = search needs
+period-3-4-requires : tie.Need-period-3-4-requires
+unfolding sentOrder
+period-3-4-requires c κs =
+    let st = c .before .before .before .before .before in
+    let e = c .before .enum-told3 .given .1 in
+    (rw e at (st .pre .1), rw e at (st .pre .2))
 
-sent-requires : tie.Need-sent-requires Inv-loop μ-loop
-sent-requires c κs = search needs
+enum-told-4 : tie.Need-enum-told-4
+enum-told-4 c = search needs
 
-mul-pairs : tie.Need-mul-pairs Inv-loop μ-loop
-mul-pairs c = search needs
+period-5-6-requires : tie.Need-period-5-6-requires
+unfolding sentOrder
+period-5-6-requires c κs =
+    let st = c .before .before .before .before .before in
+    let e = c .before .enum-told4 .given .1 in
+    (rw e at (st .pre .1), rw e at (st .pre .2))
 
-slice-write-pairs : tie.Need-slice-write-pairs Inv-loop μ-loop
-slice-write-pairs c = search needs
+enum-told-5 : tie.Need-enum-told-5
+enum-told-5 c = search needs
 
-add-a : tie.Need-add-a Inv-loop μ-loop
-add-a c = search needs
+period-7-8-requires : tie.Need-period-7-8-requires
+unfolding sentOrder
+period-7-8-requires c κs =
+    let st = c .before .before .before .before .before in
+    let e = c .before .enum-told5 .given .1 in
+    (rw e at (st .pre .1), rw e at (st .pre .2))
 
-loop-less : tie.Need-loop-less Inv-loop μ-loop
-loop-less c = search needs
+enum-told-6 : tie.Need-enum-told-6
+enum-told-6 c = search needs
 
-loop-again : tie.Need-loop-again Inv-loop μ-loop
-loop-again c =
-    let st = c .before .before .before .before .before .before .before in
-    let at = c .before .before .before .loop in
-    let h = at .inv in
-    let room = st .pre .2 in
-    let inside = c .before .before .loop-test .taken in
-    let f : ℕ → Float = λ j. cond (ltb (getD (st .args .places .now) j 0) (st .args .count)) (getD (st .args .softs .now) (getD (st .args .places .now) j 0) nan) (ofBits binary32 0) in
-    (omega arith, length-set (at .pairs) (at .a) (c .sent .result) ∙ h .1, put-one f (at .a) (c .sent .result) (at .pairs) (st .args .pairs .now) (omega arith) (h .2) (c .sent .ensures))
+enum-told-7 : tie.Need-enum-told-7
+enum-told-7 c = search needs
 
-same-length : tie.Need-same-length Inv-loop μ-loop
+same-length : tie.Need-same-length
 same-length c = search needs
 
-returns : tie.Need-returns Inv-loop μ-loop
-returns c =
-    let e : c .before .loop .a ≡ c .before .before .before .before .before .args .bits = omega arith in
-    rw e at (c .before .loop .inv .2)
+returns : tie.Need-returns
+returns c = rw (c .before .before .before .before .enum-told .given .1) (c .before .before .period-1-2 .ensures)
+
+same-length-2 : tie.Need-same-length-2
+same-length-2 c = search needs
+
+returns-2 : tie.Need-returns-2
+returns-2 c = rw (c .before .before .before .before .enum-told2 .given .1) (c .before .before .period-2-3 .ensures)
+
+same-length-3 : tie.Need-same-length-3
+same-length-3 c = search needs
+
+returns-3 : tie.Need-returns-3
+returns-3 c = rw (c .before .before .before .before .enum-told3 .given .1) (c .before .before .period-3-4 .ensures)
+
+same-length-4 : tie.Need-same-length-4
+same-length-4 c = search needs
+
+returns-4 : tie.Need-returns-4
+returns-4 c = rw (c .before .before .before .before .enum-told4 .given .1) (c .before .before .period-5-6 .ensures)
+
+same-length-5 : tie.Need-same-length-5
+same-length-5 c = search needs
+
+returns-5 : tie.Need-returns-5
+returns-5 c = rw (c .before .before .before .before .enum-told5 .given .1) (c .before .before .period-7-8 .ensures)
+
+returns-6 : tie.Need-returns-6
+returns-6 c = absurd (not-bpsk (rw (c .enum-told6 .given .1) at (c .before .before .before .before .pre .0)))
+
+returns-7 : tie.Need-returns-7
+returns-7 c = absurd (not-tc8psk (rw (c .enum-told7 .given .1) at (c .before .before .before .before .pre .0)))
 
 pub spread-period-spec : {M : Type 1} → statement M
 spread-period-spec =
     tie.close
     (tie.spec
-    Inv-loop
-    μ-loop
-    places-of-requires
-    loop-holds
-    mul-sent
-    element-copy-out-sent
-    sent-requires
-    mul-pairs
-    slice-write-pairs
-    add-a
-    loop-less
-    loop-again
+    enum-told
+    period-1-2-requires
+    enum-told-2
+    period-2-3-requires
+    enum-told-3
+    period-3-4-requires
+    enum-told-4
+    period-5-6-requires
+    enum-told-5
+    period-7-8-requires
+    enum-told-6
+    enum-told-7
     same-length
-    returns)
+    returns
+    same-length-2
+    returns-2
+    same-length-3
+    returns-3
+    same-length-4
+    returns-4
+    same-length-5
+    returns-5
+    returns-6
+    returns-7)

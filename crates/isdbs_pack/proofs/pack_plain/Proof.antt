@@ -1,12 +1,11 @@
 -- `pack_plain` meets its contract. Assumes nothing.
-use Rattle.isdbs_pack.specs.PackingLaws.{state-more, byte-more, plain-is}
+use Rattle.isdbs_pack.specs.PackingLaws.{byte-more, plain-is}
 use Rattle.isdbs_pack.specs.FrameRunLaws.{tail-is}
 use Rattle.trellis.specs.LaidLaws.{length-laid-upto}
 use lib.Seq.{getD-drop}
 use lib.ListN.{length-drop, length, getD}
 use borrow.Author.Needs.{needs}
 use Rattle.isdbs_points.specs.Layout.{byteOf}
-use Rattle.trellis.specs.Code.{stateAt}
 use Rattle.trellis.specs.Lists.{upto, laid}
 use native.Mathlib.Omega.{arith}
 use Prim.Native.Nat.{_+_, _-_, _*_, _<_, _≤_}
@@ -15,14 +14,14 @@ use Rattle.isdbs_pack.proofs.pack_plain.Statement.{statement}
 use Rattle.isdbs_pack.proofs.pack_plain.Tie as tie
 
 abbrev Inv-loop : tie.InvT-loop
-Inv-loop bits n start bytes₀ state₀ j₀ bytes state j = (j ≤ n) × (state < 64) × (state ≡ stateAt 32 start bits (8 * j)) × (bytes ≡ laid (upto (λ h. byteOf (λ i. getD bits (8 * h + i) 0)) j) bytes₀)
+Inv-loop bits n start bytes₀ j₀ bytes j = (j ≤ n) × (bytes ≡ laid (upto (λ h. byteOf (λ i. getD bits (8 * h + i) 0)) j) bytes₀)
 
 abbrev μ-loop : tie.MeasureT-loop
-μ-loop bits n start bytes₀ state₀ j₀ bytes state j = n - j
+μ-loop bits n start bytes₀ j₀ bytes j = n - j
 
 loop-holds : tie.Need-loop-holds Inv-loop μ-loop
-unfolding upto stateAt
-loop-holds c = (search needs, search needs, refl, refl)
+unfolding upto
+loop-holds c = (search needs, refl)
 
 mul-from : tie.Need-mul-from Inv-loop μ-loop
 mul-from c = search needs
@@ -43,13 +42,13 @@ plain-byte-requires c κs =
     let us = st .args .bits .now in
     let t = c .before .loop-test .taken in
     let e = length-drop (8 * j) us in
-    rw (tail-is (8 * j) us) (c .before .before .loop .inv .1, omega arith, λ i l. rw (getD-drop (8 * j) us i 0) (st .pre .3 (8 * j + i) (omega arith)))
+    rw (tail-is (8 * j) us) (omega arith, λ i l. rw (getD-drop (8 * j) us i 0) (st .pre .3 (8 * j + i) (omega arith)))
 
 slice-write-bytes : tie.Need-slice-write-bytes Inv-loop μ-loop
 slice-write-bytes c =
     let st = c .before .before .before .before .before .before in
     let j = c .before .before .before .loop .j in
-    let e = ap length (c .before .before .before .loop .inv .3) ∙ length-laid-upto (λ h. byteOf (λ i. getD (st .args .bits .now) (8 * h + i) 0)) j (st .args .bytes .now) (omega arith) in
+    let e = ap length (c .before .before .before .loop .inv .1) ∙ length-laid-upto (λ h. byteOf (λ i. getD (st .args .bits .now) (8 * h + i) 0)) j (st .args .bytes .now) (omega arith) in
     omega arith
 
 add-j : tie.Need-add-j Inv-loop μ-loop
@@ -64,24 +63,27 @@ loop-again c =
     let j = c .before .before .before .loop .j in
     let us = st .args .bits .now in
     let h = c .before .before .before .loop .inv in
-    let n = rw (tail-is (8 * j) us) at (c .plain-byte .ensures) in (
-      omega arith,
-      n .2,
-      state-more (st .args .start) us (8 * j) 8 (8 * (j + 1)) _ _ (omega arith) (h .2) (n .1),
-      byte-more (λ h. byteOf (λ i. getD (st .args .bits .now) (8 * h + i) 0)) j _ _ (st .args .bytes .now) (omega arith) (h .3) (plain-is us j _ (n .0)),
-    )
+    let n = rw (tail-is (8 * j) us) at (c .plain-byte .ensures) in
+    (omega arith, byte-more (λ h. byteOf (λ i. getD (st .args .bits .now) (8 * h + i) 0)) j _ _ (st .args .bytes .now) (omega arith) (h .1) (plain-is us j _ n))
+
+last-state-requires : tie.Need-last-state-requires Inv-loop μ-loop
+last-state-requires c κs =
+    let st = c .before .before .before .before in
+    (st .pre .0, st .pre .1, st .pre .2, st .pre .3)
 
 same-length : tie.Need-same-length Inv-loop μ-loop
 same-length c =
-    let st = c .before .before .before .before in
-    ap length (c .before .loop .inv .3) ∙ length-laid-upto (λ h. byteOf (λ i. getD (st .args .bits .now) (8 * h + i) 0)) (c .before .loop .j) (st .args .bytes .now) (omega arith)
+    let at = c .before .before in
+    let st = at .before .before .before in
+    ap length (at .loop .inv .1) ∙ length-laid-upto (λ h. byteOf (λ i. getD (st .args .bits .now) (8 * h + i) 0)) (at .loop .j) (st .args .bytes .now) (omega arith)
 
 returns : tie.Need-returns Inv-loop μ-loop
 returns c =
-    let st = c .before .before .before .before in
-    let e : c .before .loop .j ≡ st .args .n = omega arith in
-    let h = rw e at (c .before .loop .inv) in
-    (h .3, h .2, h .1)
+    let at = c .before .before in
+    let st = at .before .before .before in
+    let e : at .loop .j ≡ st .args .n = omega arith in
+    let h = rw e at (at .loop .inv) in
+    (h .1, c .last-state .ensures .0, c .last-state .ensures .1)
 
 pub pack-plain-spec : {M : Type 1} → statement M
 pack-plain-spec =
@@ -99,5 +101,6 @@ pack-plain-spec =
     add-j
     loop-less
     loop-again
+    last-state-requires
     same-length
     returns)

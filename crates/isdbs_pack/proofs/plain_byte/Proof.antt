@@ -1,94 +1,105 @@
--- `plain_byte` meets its contract. Assumes nothing.
-use borrow.Author.Needs.{needs}
-use Rattle.isdbs_pack.specs.DigitLaws.{digits-seven, byte-digits}
-use Rattle.isdbs_metrics.specs.Steps.{digits}
-use Rattle.trellis.specs.Code.{stateAt}
-use lib.ListN.{getD}
-use native.Mathlib.Numerals.{add-one}
+-- `isdbs_pack::plain_byte` meets its contract. Assumes nothing.
 use native.Mathlib.Omega.{arith}
-use Prim.Native.Nat.{ℕ, _+_, _-_, _*_, _/_, _<_, _≤_}
-use mathlib.Core.Path.{_≡_, refl, sym, _∙_, ap}
+use borrow.Author.Needs.{needs}
 use Rattle.isdbs_pack.proofs.plain_byte.Statement.{statement}
 use Rattle.isdbs_pack.proofs.plain_byte.Tie as tie
 
-abbrev Inv-loop : tie.InvT-loop
-Inv-loop bits start byte₀ state₀ i₀ byte state i = (i ≤ 8) × (byte ≡ digits (λ j. getD bits j 0) i) × (state ≡ stateAt 32 start bits i) × (state < 64)
+shared-slice-read-nibble : tie.Need-shared-slice-read-nibble
+shared-slice-read-nibble c = search needs
 
-abbrev μ-loop : tie.MeasureT-loop
-μ-loop bits start byte₀ state₀ i₀ byte state i = 8 - i
+shared-slice-read-nibble-2 : tie.Need-shared-slice-read-nibble-2
+shared-slice-read-nibble-2 c = search needs
 
-loop-holds : tie.Need-loop-holds Inv-loop μ-loop
-unfolding digits stateAt
-loop-holds c = (search needs, refl, refl, search needs)
+shared-slice-read-nibble-3 : tie.Need-shared-slice-read-nibble-3
+shared-slice-read-nibble-3 c = search needs
 
-shared-slice-read-u : tie.Need-shared-slice-read-u Inv-loop μ-loop
-shared-slice-read-u c = search needs
+shared-slice-read-nibble-4 : tie.Need-shared-slice-read-nibble-4
+shared-slice-read-nibble-4 c = search needs
 
-add-byte : tie.Need-add-byte Inv-loop μ-loop
-add-byte c =
-    let st = c .before .before .before in
-    let i = c .before .before .loop .i in
-    let b = st .pre .2 i (omega arith) in
-    let d = digits-seven (λ j. getD (st .args .bits .now) j 0) i (omega arith) (λ j l. st .pre .2 j (omega arith)) in
-    let e = c .before .before .loop .inv .1 in
+nibble-requires : tie.Need-nibble-requires
+nibble-requires c κs =
+    let p = c .before .before .before .before .before .pre .1 in
+    (p 0 (omega arith), p 1 (omega arith), p 2 (omega arith), p 3 (omega arith))
+
+shared-slice-read-nibble-5 : tie.Need-shared-slice-read-nibble-5
+shared-slice-read-nibble-5 c = search needs
+
+shared-slice-read-nibble-6 : tie.Need-shared-slice-read-nibble-6
+shared-slice-read-nibble-6 c = search needs
+
+shared-slice-read-nibble-7 : tie.Need-shared-slice-read-nibble-7
+shared-slice-read-nibble-7 c = search needs
+
+shared-slice-read-nibble-8 : tie.Need-shared-slice-read-nibble-8
+shared-slice-read-nibble-8 c = search needs
+
+nibble-requires-2 : tie.Need-nibble-requires-2
+nibble-requires-2 c κs =
+    let p = c .before .before .before .before .before .before .before .before .before .before .pre .1 in
+    (p 4 (omega arith), p 5 (omega arith), p 6 (omega arith), p 7 (omega arith))
+
+mul-result : tie.Need-mul-result
+mul-result c =
+    let st = c .before .before .before .before .before .before .before .before .before .before .before in
+    let p = st .pre .1 in
+    let b0 = p 0 (omega arith) in
+    let b1 = p 1 (omega arith) in
+    let b2 = p 2 (omega arith) in
+    let b3 = p 3 (omega arith) in
+    let b4 = p 4 (omega arith) in
+    let b5 = p 5 (omega arith) in
+    let b6 = p 6 (omega arith) in
+    let b7 = p 7 (omega arith) in
+    let high = c .before .before .before .before .before .nibble .ensures in
+    let low = c .nibble2 .ensures in
     record { fits = omega arith }
 
-mul-byte : tie.Need-mul-byte Inv-loop μ-loop
-mul-byte c =
-    let f = add-byte c .fits in
+add-result : tie.Need-add-result
+add-result c =
+    let st = c .before .before .before .before .before .before .before .before .before .before .before in
+    let p = st .pre .1 in
+    let b0 = p 0 (omega arith) in
+    let b1 = p 1 (omega arith) in
+    let b2 = p 2 (omega arith) in
+    let b3 = p 3 (omega arith) in
+    let b4 = p 4 (omega arith) in
+    let b5 = p 5 (omega arith) in
+    let b6 = p 6 (omega arith) in
+    let b7 = p 7 (omega arith) in
+    let high = c .before .before .before .before .before .nibble .ensures in
+    let low = c .nibble2 .ensures in
     record { fits = omega arith }
 
-add-state : tie.Need-add-state Inv-loop μ-loop
-add-state c =
-    let st = c .before .before .before in
-    let i = c .before .before .loop .i in
-    let b = st .pre .2 i (omega arith) in
-    record { fits = omega arith }
-
-mul-state : tie.Need-mul-state Inv-loop μ-loop
-mul-state c =
-    let f = add-state c .fits in
-    record { fits = omega arith }
-
-add-i : tie.Need-add-i Inv-loop μ-loop
-add-i c = search needs
-
-loop-less : tie.Need-loop-less Inv-loop μ-loop
-loop-less c = search needs
-
-loop-again : tie.Need-loop-again Inv-loop μ-loop
-unfolding digits stateAt
-loop-again c =
-    let st = c .before .before .before in
-    let i = c .before .before .loop .i in
-    let b = st .pre .2 i (omega arith) in
-    let u = getD (st .args .bits .now) i 0 in
-    let h = c .before .before .loop .inv in (
-      omega arith,
-      rw (add-one i) (ap (λ (x : ℕ). 2 * x + u) (h .1)),
-      rw (add-one i) (ap (λ (x : ℕ). 32 * u + x / 2) (h .2)),
-      omega arith,
-    )
-
-returns : tie.Need-returns Inv-loop μ-loop
+returns : tie.Need-returns
 returns c =
-    let e : c .before .loop .i ≡ 8 = omega arith in
-    let h = rw e at (c .before .loop .inv) in
-    (h .1 ∙ sym (byte-digits (λ i. getD (c .before .before .args .bits .now) i 0)), h .2, h .3)
+    let st = c .before .before .before .before .before .before .before .before .before .before .before in
+    let p = st .pre .1 in
+    let b0 = p 0 (omega arith) in
+    let b1 = p 1 (omega arith) in
+    let b2 = p 2 (omega arith) in
+    let b3 = p 3 (omega arith) in
+    let b4 = p 4 (omega arith) in
+    let b5 = p 5 (omega arith) in
+    let b6 = p 6 (omega arith) in
+    let b7 = p 7 (omega arith) in
+    let high = c .before .before .before .before .before .nibble .ensures in
+    let low = c .nibble2 .ensures in
+    omega arith
 
 pub plain-byte-spec : {M : Type 1} → statement M
 plain-byte-spec =
     tie.close
     (tie.spec
-    Inv-loop
-    μ-loop
-    loop-holds
-    shared-slice-read-u
-    mul-byte
-    add-byte
-    mul-state
-    add-state
-    add-i
-    loop-less
-    loop-again
+    shared-slice-read-nibble
+    shared-slice-read-nibble-2
+    shared-slice-read-nibble-3
+    shared-slice-read-nibble-4
+    nibble-requires
+    shared-slice-read-nibble-5
+    shared-slice-read-nibble-6
+    shared-slice-read-nibble-7
+    shared-slice-read-nibble-8
+    nibble-requires-2
+    mul-result
+    add-result
     returns)

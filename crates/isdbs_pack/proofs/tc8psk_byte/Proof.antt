@@ -1,52 +1,65 @@
 -- `tc8psk_byte` meets its contract. Assumes nothing.
 use borrow.Author.Needs.{needs}
-use Rattle.isdbs_pack.specs.DigitLaws.{outputs-small, Taken, taken-first, taken-next, taken-all}
+use mathlib.Core.Path.{_≡_, _∙_, ap}
+use Prim.Native.Nat.{ℕ, _+_, _-_, _*_, _/_}
+use lib.ListN.{getD}
+use lib.Ieee.{nan, lt}
+use Rattle.trellis.specs.Lists.{bit}
+use Rattle.isdbs_points.specs.declared.Cplx.{Cplx}
+use Rattle.isdbs_points.specs.Points.{zero64, point, conjugated}
+use Rattle.isdbs_metrics.specs.Reading.{correlation}
 use native.Mathlib.Omega.{arith}
-use Prim.Native.Nat.{_-_}
+use Rattle.isdbs_pack.specs.DigitLaws.{Taken, taken-first, taken-next, taken-all}
+use Rattle.isdbs_pack.proofs.RegisterLaws.{point-read}
 use Rattle.isdbs_pack.proofs.tc8psk_byte.Statement.{statement}
 use Rattle.isdbs_pack.proofs.tc8psk_byte.Tie as tie
 
 abbrev Inv-loop : tie.InvT-loop
-Inv-loop re im m bits start byte₀ state₀ i₀ byte state i = Taken re im m start bits byte state i
+Inv-loop xs ys re im m bits start byte₀ state₀ i₀ byte state i = Taken re im m start bits byte state i
 
 abbrev μ-loop : tie.MeasureT-loop
-μ-loop re im m bits start byte₀ state₀ i₀ byte state i = 4 - i
+μ-loop xs ys re im m bits start byte₀ state₀ i₀ byte state i = 4 - i
 
 loop-holds : tie.Need-loop-holds Inv-loop μ-loop
 loop-holds c =
     let st = c .before .before .before in
-    taken-first (st .args .re .now) (st .args .im .now) (st .args .m) (st .args .start) (st .args .bits .now) (st .pre .0) (st .pre .4)
+    taken-first (st .args .re .now) (st .args .im .now) (st .args .m) (st .args .start) (st .args .bits .now) (st .pre .1) (st .pre .5)
 
 shared-slice-read-u : tie.Need-shared-slice-read-u Inv-loop μ-loop
 shared-slice-read-u c = search needs
 
-encode-bit-requires : tie.Need-encode-bit-requires Inv-loop μ-loop
-encode-bit-requires c κs = search needs
-
-mul-uncoded-bit : tie.Need-mul-uncoded-bit Inv-loop μ-loop
-mul-uncoded-bit c =
-    let en = c .before .encode-bit .ensures in
-    let l = outputs-small _ _ (en .0) (en .1) in
+mul-register : tie.Need-mul-register Inv-loop μ-loop
+mul-register c =
+    let at = c .before .before .loop in
+    let hs = at .inv .small in
+    let b = at .inv .bits (at .i) (omega arith) in
     record { fits = omega arith }
 
-add-uncoded-bit : tie.Need-add-uncoded-bit Inv-loop μ-loop
-add-uncoded-bit c =
-    let en = c .before .before .encode-bit .ensures in
-    let l = outputs-small _ _ (en .0) (en .1) in
+add-register : tie.Need-add-register Inv-loop μ-loop
+add-register c =
+    let at = c .before .before .loop in
+    let hs = at .inv .small in
+    let b = at .inv .bits (at .i) (omega arith) in
     record { fits = omega arith }
 
 uncoded-bit-requires : tie.Need-uncoded-bit-requires Inv-loop μ-loop
 uncoded-bit-requires c κs =
-    let en = c .before .before .encode-bit .ensures in
-    let l = outputs-small _ _ (en .0) (en .1) in
+    let at = c .before .before .loop in
+    let hs = at .inv .small in
+    let b = at .inv .bits (at .i) (omega arith) in
     (omega arith, omega arith, omega arith)
 
 add-byte-2 : tie.Need-add-byte-2 Inv-loop μ-loop
 add-byte-2 c =
-    let st = c .before .before .before .before .before .before .before .before .before .before in
-    let enc = c .before .before .before .encode-bit in
-    let at = c .before .before .before .before .before .before .loop in
-    record { fits = (taken-next (st .args .re .now) (st .args .im .now) (st .args .m) (st .args .start) (st .args .bits .now) (at .byte) (at .state) (at .i) _ _ _ _ (at .inv) (c .before .before .before .before .before .loop-test .taken) (enc .ensures) (c .uncoded-bit .ensures)) .0 }
+    let turn = c .before .before in
+    let at = turn .before in
+    let st = at .before .before .before .before in
+    let u = getD (st .args .bits .now) (at .loop .i) 0 in
+    let s = at .loop .state in
+    let b = at .loop .inv .bits (at .loop .i) (turn .loop-test .taken) in
+    let read = point-read (st .args .m .«tc8psk_c1_is_y») (st .args .xs .now) (st .args .ys .now) (st .pre .0) u s b (at .loop .inv .small) in
+    let moves : (64 * u + s) / 2 ≡ 32 * u + s / 2 = omega arith in
+    record { fits = (taken-next (st .args .re .now) (st .args .im .now) (st .args .m) (st .args .start) (st .args .bits .now) (at .loop .byte) s (at .loop .i) _ _ (at .loop .inv) (turn .loop-test .taken) moves (c .uncoded-bit .ensures ∙ ap (λ (p : Cplx). bit (lt (correlation (point (getD (st .args .re .now) (at .loop .i) nan) (conjugated (st .args .m .conjugate) (getD (st .args .im .now) (at .loop .i) nan))) p) zero64)) read)) .0 }
 
 mul-byte : tie.Need-mul-byte Inv-loop μ-loop
 mul-byte c =
@@ -71,10 +84,15 @@ loop-less c = search needs
 
 loop-again : tie.Need-loop-again Inv-loop μ-loop
 loop-again c =
-    let st = c .before .before .before .before .before .before .before .before .before .before in
-    let enc = c .before .before .before .encode-bit in
-    let at = c .before .before .before .before .before .before .loop in
-    (taken-next (st .args .re .now) (st .args .im .now) (st .args .m) (st .args .start) (st .args .bits .now) (at .byte) (at .state) (at .i) _ _ _ _ (at .inv) (c .before .before .before .before .before .loop-test .taken) (enc .ensures) (c .uncoded-bit .ensures)) .1
+    let turn = c .before .before in
+    let at = turn .before in
+    let st = at .before .before .before .before in
+    let u = getD (st .args .bits .now) (at .loop .i) 0 in
+    let s = at .loop .state in
+    let b = at .loop .inv .bits (at .loop .i) (turn .loop-test .taken) in
+    let read = point-read (st .args .m .«tc8psk_c1_is_y») (st .args .xs .now) (st .args .ys .now) (st .pre .0) u s b (at .loop .inv .small) in
+    let moves : (64 * u + s) / 2 ≡ 32 * u + s / 2 = omega arith in
+    (taken-next (st .args .re .now) (st .args .im .now) (st .args .m) (st .args .start) (st .args .bits .now) (at .loop .byte) s (at .loop .i) _ _ (at .loop .inv) (turn .loop-test .taken) moves (c .uncoded-bit .ensures ∙ ap (λ (p : Cplx). bit (lt (correlation (point (getD (st .args .re .now) (at .loop .i) nan) (conjugated (st .args .m .conjugate) (getD (st .args .im .now) (at .loop .i) nan))) p) zero64)) read)) .1
 
 returns : tie.Need-returns Inv-loop μ-loop
 returns c =
@@ -89,9 +107,8 @@ tc8psk-byte-spec =
     μ-loop
     loop-holds
     shared-slice-read-u
-    encode-bit-requires
-    mul-uncoded-bit
-    add-uncoded-bit
+    mul-register
+    add-register
     uncoded-bit-requires
     mul-byte
     add-byte

@@ -1,0 +1,2 @@
+pub mod ByteState
+pub mod RegisterLaws
