@@ -7,8 +7,7 @@ use Rattle.trellis.specs.Lists.{laid}
 use lib.Ieee.{Float}
 use Rattle.best_grid.specs.Costs.{tableAt}
 use Rattle.best_grid.specs.Backward.{low, backAt, otherRun, fars, leastOf}
-use Rattle.best_grid.specs.Sides.{two, priceAt}
-use Rattle.best_grid.specs.SideLaws.{Upright}
+use Rattle.best_grid.specs.Sides.{two, priceAt, Upright}
 use Rattle.trellis.specs.Isdb
 use Rattle.best_grid.specs.Leading.{seq}
 

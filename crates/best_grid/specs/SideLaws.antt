@@ -25,6 +25,7 @@ use Rattle.best_grid.specs.GridLaws.{cost-is, cost-bounds, above-most, b
 use Rattle.best_grid.specs.Backward.{low}
 use Rattle.best_grid.specs.Contents.{worth}
 use Rattle.best_grid.specs.Sides.{mirror, two, better, worthAt, priceAt, chosenAt, chosen}
+pub use Rattle.best_grid.specs.Sides.{Upright}
 
 neg-parts : (z : ℤ) → (hiZ (negℤ z) ≡ loZ z) × (loZ (negℤ z) ≡ hiZ z)
 neg-parts (pos zero) = (refl, refl)
@@ -66,11 +67,7 @@ module _ (xs : List Float) (sides : List ℕ) where
       go true false x = mirror-small x
       go false w x = cost-bounds x .1
 
-  -- no metric of a step with an uncoded bit is negative
-  abbrev pub Upright : ℕ → Type 0
-  Upright n = (t l : ℕ) → t < n → l < 4 → two xs sides t ≡ true → below (getD (quadruple xs t) l nan) ≡ 0
-
-  pub low-is : (n : ℕ) → Upright n → (t l : ℕ) → t < n → l < 4 → low (two xs sides) (priceAt xs sides) t l ≡ costAt (quadruple xs) t l
+  pub low-is : (n : ℕ) → Upright xs sides n → (t l : ℕ) → t < n → l < 4 → low (two xs sides) (priceAt xs sides) t l ≡ costAt (quadruple xs) t l
   unfolding low priceAt
   low-is n up t l h k = go (two xs sides t) refl (better xs sides t l) (mod-lt (getD sides t 0 / 2 ^ l) (omega arith))
     where
@@ -104,7 +101,7 @@ module _ (xs : List Float) (sides : List ℕ) where
   worth-total n s us zs is zero h = refl
   worth-total n s us zs is (suc k) h = rw (worth-total n s us zs is k (omega arith), is k h) (ap (λ (x : ℤ). total s us k +ℤ x) (worth-chosen k (Isdb.labelAt s us k)))
 
-  worth-least : (n : ℕ) → Upright n → (t z l : ℕ) → t < n → l < 4 → Le (parts-of (worthAt xs sides t z l)) (parts-of (gridAt (quadruple xs) t l))
+  worth-least : (n : ℕ) → Upright xs sides n → (t z l : ℕ) → t < n → l < 4 → Le (parts-of (worthAt xs sides t z l)) (parts-of (gridAt (quadruple xs) t l))
   unfolding worthAt
   worth-least n up t z l h k = go (two xs sides t) refl (eqb z (better xs sides t l))
     where
@@ -119,7 +116,7 @@ module _ (xs : List Float) (sides : List ℕ) where
       go true e false = turned (up t l h k e)
       go false e w = omega arith
 
-  total-over : (n : ℕ) → Upright n → (s : ℕ) (us zs : List ℕ) (k : ℕ) → k ≤ n → Le (parts-of (worth (worthAt xs sides) s us zs k)) (parts-of (total s us k))
+  total-over : (n : ℕ) → Upright xs sides n → (s : ℕ) (us zs : List ℕ) (k : ℕ) → k ≤ n → Le (parts-of (worth (worthAt xs sides) s us zs k)) (parts-of (total s us k))
   unfolding worth sumℤ
   total-over n up s us zs zero h = omega arith
   total-over n up s us zs (suc k) h =
@@ -132,7 +129,7 @@ module _ (xs : List Float) (sides : List ℕ) where
       let q = parts (total s us k) y in
       omega arith
 
-  pub worth-under : (n : ℕ) → Upright n → (s : ℕ) (us zs : List ℕ) → worth (worthAt xs sides) s us zs n ≤ℤ total s us n
+  pub worth-under : (n : ℕ) → Upright xs sides n → (s : ℕ) (us zs : List ℕ) → worth (worthAt xs sides) s us zs n ≤ℤ total s us n
   worth-under n up s us zs =
       let x = worth (worthAt xs sides) s us zs n in
       let y = total s us n in

@@ -1,8 +1,10 @@
--- Metrics with sides: what a step is worth, and costs, by its uncoded bit and its coded pair. A step's side is 0 where it has no uncoded bit; else 16 and, in bit l, the better uncoded bit at the pair
+-- "The fit of a full load: the sum over its steps of the grid metric at the coded pair that the load sends there, for TC8PSK with the sign that its C2 gives (the quadruple is that of the better C2; the
+-- other one counts negative)": what a step adds, and costs, by its uncoded bit and its coded pair. A step's side is 0 where it has no uncoded bit; else 16 and, in bit l, the better uncoded bit at the pair
 -- l, which is the sign of the correlation in TC8PSK. The metric is the better one's; the other one's is its negative.
-use mathlib.Core.Bool.{Bool, cond}
+use mathlib.Core.Path.{_≡_}
+use mathlib.Core.Bool.{Bool, true, cond}
 use mathlib.Core.List.{List}
-use Prim.Native.Nat.{ℕ, _+_, _-_, _/_, _%_, _^_}
+use Prim.Native.Nat.{ℕ, _+_, _-_, _/_, _%_, _^_, _<_}
 use lib.Dec.{eqb, leb}
 use lib.IntN.{ℤ, negℤ}
 use lib.ListN.{getD}
@@ -32,7 +34,11 @@ module _ (xs : List Float) (sides : List ℕ) where
   unfoldable pub priceAt : ℕ → ℕ → ℕ → ℕ
   priceAt t z l = cond (two t) (cond (eqb z (better t l)) (cost (metric t l)) (mirror (metric t l))) (cost (metric t l))
 
--- ---- the uncoded bits of a path: at each step the better one at its coded pair, 0 where it has none
+  -- no metric of a step with an uncoded bit is negative: it is the greater of a number and its negative
+  abbrev pub Upright : ℕ → Type 0
+  Upright n = (t l : ℕ) → t < n → l < 4 → two t ≡ true → below (metric t l) ≡ 0
+
+-- ---- "of two C2 that fit alike document 01's (1 exactly when the correlation is below 0)": the uncoded bits of a path, at each step the better one at its coded pair, 0 where it has none
 abbrev pub chosenAt : ℕ → ℕ → ℕ
 chosenAt side l = cond (leb 16 side) (side / 2 ^ l % 2) 0
 
