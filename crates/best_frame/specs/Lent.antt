@@ -20,13 +20,5 @@ lent metrics sides words tables bits uncoded bytes leads =
     record { metrics = metrics; sides = sides; words = words; tables = tables; bits = bits; uncoded = uncoded; bytes = bytes; leads = leads }
 
 abbrev pub lengths : Lent → Lengths
-lengths l = record {
-  metrics = length (l .metrics);
-  sides = length (l .sides);
-  words = length (l .words);
-  tables = length (l .tables);
-  bits = length (l .bits);
-  uncoded = length (l .uncoded);
-  bytes = length (l .bytes);
-  leads = length (l .leads);
-}
+lengths l =
+    record { metrics = length (l .metrics); sides = length (l .sides); words = length (l .words); tables = length (l .tables); bits = length (l .bits); uncoded = length (l .uncoded); bytes = length (l .bytes); leads = length (l .leads) }
