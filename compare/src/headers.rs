@@ -6,14 +6,20 @@ use draws::Draws;
 use fence::Fence;
 use header_calls::*;
 
-/// A capture of n points: noise, or noise and frames of any gain and turn; some with values of other classes.
-fn capture(noise: &mut Noise, n: usize, places: usize) -> (Vec<f64>, Vec<f64>) {
+/// A capture of n points: noise, or noise and frames of any gain and turn, some of their symbols negated; some with values of other classes. And where the last frame was laid.
+fn capture_at(noise: &mut Noise, n: usize, places: usize) -> (Vec<f64>, Vec<f64>, u64) {
+    let mut last = 0;
     let level = [0.0, 0.05, 0.3, 1.0][noise.below(4) as usize];
     let mut draw = |s: f64| s * noise.normal();
     let (mut re, mut im): (Vec<f64>, Vec<f64>) = (0..n).map(|_| (draw(1.0), draw(1.0))).unzip();
     for _ in 0..noise.below(3) {
         let (at, first) = (noise.below(places as u64) as usize, noise.below(2) == 0);
-        let sent = noise.sent_header(first);
+        let mut sent = noise.sent_header(first);
+        for _ in 0..noise.below(10) {
+            let i = noise.below(40) as usize;
+            sent[if i < 20 { 12 + i } else { 152 + i }] *= -1.0;
+        }
+        last = at as u64;
         let angle = std::f64::consts::TAU * noise.uniform();
         let gain = 10f64.powf(2.0 * noise.uniform() - 1.0);
         let (x, y) = match noise.below(3) {
@@ -33,6 +39,11 @@ fn capture(noise: &mut Noise, n: usize, places: usize) -> (Vec<f64>, Vec<f64>) {
             if noise.below(2) == 0 { re[at] = x } else { im[at] = x }
         }
     }
+    (re, im, last)
+}
+
+fn capture(noise: &mut Noise, n: usize, places: usize) -> (Vec<f64>, Vec<f64>) {
+    let (re, im, _) = capture_at(noise, n, places);
     (re, im)
 }
 
@@ -46,10 +57,10 @@ const UNSET: Header = Header { kind: 77, turn: 78, a: -1_000_001, b: 1_000_002 }
 fn headers(noise: &mut Noise, cases: usize) -> usize {
     let mut differ = 0;
     let mut told = [0; 9];
-    for _ in 0..cases / 20 {
-        let (re, im) = capture(noise, FRAME + 300, 300);
-        for _ in 0..20 {
-            let at = noise.below(302);
+    for _ in 0..cases / 5 {
+        let (re, im, last) = capture_at(noise, FRAME + 300, 300);
+        for _ in 0..5 {
+            let at = if noise.below(3) == 0 { last } else { noise.below(302) };
             let (mut h, want) = (UNSET, header_model(&re, &im, at));
             let row = header(&re, &im, at, &mut h);
             differ += usize::from(want != if row == 0 { Ok(h) } else { Err(row) } || row != 0 && h != UNSET);
@@ -64,7 +75,7 @@ fn headers(noise: &mut Noise, cases: usize) -> usize {
         differ += usize::from(header(&re, &im, place, &mut g) != 0 || header_model(&re, &im, place) != Ok(g));
         told[g.turn as usize] += 1;
     }
-    println!("headers: {} cases, turns told {told:?}, {differ} different", cases / 20 * 21);
+    println!("headers: {} cases, turns told {told:?}, {differ} different", cases / 5 * 6);
     differ
 }
 
@@ -165,7 +176,7 @@ fn main() {
     let scale: usize = std::env::args().nth(1).map_or(1, |s| s.parse().expect("a number"));
     let mut noise = Noise::new(88_172_645_463_325_252);
     let noise = &mut noise;
-    let differ = headers(noise, 20_000 * scale) + finds(noise, 1_500 * scale, 300) + finds(noise, 20 * scale, FRAME + 1) + aligns(noise, 300 * scale) + bad_input(noise, 1_500 * scale);
+    let differ = headers(noise, 15_000 * scale) + finds(noise, 1_500 * scale, 300) + finds(noise, 20 * scale, FRAME + 1) + aligns(noise, 300 * scale) + bad_input(noise, 1_500 * scale);
     println!("{differ} different in all");
     std::process::exit(i32::from(differ != 0));
 }
