@@ -1,4 +1,4 @@
--- "The first row that holds, from the top, gives the number returned": the rows of every call stand in the table's order. Assumes nothing.
+-- "The first row that holds, from the top, gives the number returned": the rows of every call stand in the table's order.
 use mathlib.Core.Bool.{Bool, true, false, cond}
 use mathlib.Core.List.{List, [], _∷_}
 use Prim.Native.Nat.{ℕ}
@@ -26,6 +26,11 @@ use Rattle.full_frame.specs.Rows.{layRows, takeRows}
 use Rattle.full_frame_trips.specs.Rows.{layTakeRows, takeLayRows}
 use Rattle.wanted_load.specs.Rows.{wantedRows}
 use Rattle.judge.specs.Rows.{judgeRows}
+use Rattle.best_frame.specs.declared.Lengths.{Lengths}
+use Rattle.best_frame.specs.BestRows.{bestRows}
+use Rattle.best_c.specs.Calls.{bestScalesRows}
+use Rattle.header_align.specs.Align.{alignRows}
+use Rattle.header_c.specs.Calls.{headerRows}
 use Rattle.mend.specs.Rows.{mendRows}
 use Rattle.strain_window.specs.declared.WindowState.{WindowState}
 use Rattle.strain_window.specs.Rows as window
@@ -41,7 +46,7 @@ eachFromTop [] = true
 eachFromTop (rows ∷ lists) = cond (fromTop rows) (eachFromTop lists) false
 
 -- what the calls are lent
-module _ (t : Table) (v : ViterbiDecoder) (c : Code) (w : WindowState) (parts : Input → List Float) (rate : CodeRate) (xs re im : List Float) (scale : Float) (bytes : List ℕ) (i j k l : ℕ) where
+module _ (t : Table) (v : ViterbiDecoder) (c : Code) (w : WindowState) (n : Lengths) (parts : Input → List Float) (rate : CodeRate) (xs re im : List Float) (scale : Float) (bytes : List ℕ) (i j k l : ℕ) where
   -- every row list of a call
   abbrev pub rowLists : List (List Row)
   rowLists =
@@ -99,6 +104,11 @@ module _ (t : Table) (v : ViterbiDecoder) (c : Code) (w : WindowState) (parts : 
       ∷ wantedRows t i j k true
       -- judge
       ∷ judgeRows t i re im j
+      -- best_frame
+      ∷ bestRows t re im xs n
+      -- header_find: `header_at`, `find_frame`; header_align
+      ∷ headerRows re im i
+      ∷ alignRows re im i xs xs
       -- strain_window
       ∷ window.pushRows w i bytes
       -- mend: a coded stretch lies within four bits, or none does
@@ -119,6 +129,7 @@ module _ (t : Table) (v : ViterbiDecoder) (c : Code) (w : WindowState) (parts : 
       ∷ withStates xs (short.flushRows c v i j)
       -- with a row 5 for scales that are not seven
       ∷ scalesRows t re im xs i j k l
+      ∷ bestScalesRows t re im xs n
       -- with a rate that is unknown: where it is known, they are those of isdbt_fec
       ∷ rateRows (encoderRows i) NoRate (λ c. isdbt.encodeRows c i j k)
       ∷ rateRows [] NoRate (λ c. isdbt.depunctureRows c i j)
