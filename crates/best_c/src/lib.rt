@@ -40,10 +40,10 @@ pub extern "C" fn isdbs_best_reading(
         (lengths (lent (now (metrics .entry)) (now (sides .entry)) (now (words .entry)) (now (tables .entry)) (now (bits .entry)) (now (uncoded .entry)) (now (bytes .entry)) (now (leads .entry))))) ⌝ }
     ensures leaves { λ r. ⌜ EitherBy r
         (Left (tableOf table) (receivedBy (now (re .entry)) (now (im .entry)) (mappingOf mapping) (now (scales .entry))) (startOf (isSet «known_start») (isSet first))
-            (lent (now (metrics .entry)) (now (sides .entry)) (now (words .entry)) (now (tables .entry)) (now (bits .entry)) (now (uncoded .entry)) (now (bytes .entry)) (now (leads .entry)))
-            (lent (now (metrics .exit)) (now (sides .exit)) (now (words .exit)) (now (tables .exit)) (now (bits .exit)) (now (uncoded .exit)) (now (bytes .exit)) (now (leads .exit))))
+        (lent (now (metrics .entry)) (now (sides .entry)) (now (words .entry)) (now (tables .entry)) (now (bits .entry)) (now (uncoded .entry)) (now (bytes .entry)) (now (leads .entry)))
+        (lent (now (metrics .exit)) (now (sides .exit)) (now (words .exit)) (now (tables .exit)) (now (bits .exit)) (now (uncoded .exit)) (now (bytes .exit)) (now (leads .exit))))
         (lent (now (metrics .exit)) (now (sides .exit)) (now (words .exit)) (now (tables .exit)) (now (bits .exit)) (now (uncoded .exit)) (now (bytes .exit)) (now (leads .exit))
-            ≡ lent (now (metrics .entry)) (now (sides .entry)) (now (words .entry)) (now (tables .entry)) (now (bits .entry)) (now (uncoded .entry)) (now (bytes .entry)) (now (leads .entry))) ⌝ }
+        ≡ lent (now (metrics .entry)) (now (sides .entry)) (now (words .entry)) (now (tables .entry)) (now (bits .entry)) (now (uncoded .entry)) (now (bytes .entry)) (now (leads .entry))) ⌝ }
 {
     let t = table_of(table);
     if scales.len() != 7 {
