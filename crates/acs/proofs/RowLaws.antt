@@ -6,7 +6,7 @@ use native.Mathlib.Omega.{arith}
 use lib.ListN.{length, getD, set, length-set}
 use lib.Ieee.{Float, nan, binary32, add}
 use Rattle.trellis.specs.ListLaws.{getD-upto}
-use Rattle.trellis.specs.WrittenLaws.{Written, written-none, written-more, written-whole}
+use Rattle.trellis.specs.WrittenLaws.{Written, written-more, written-whole}
 use Rattle.trellis.specs.Step as trellis
 use Rattle.trellis.specs.Step.{four}
 use Rattle.trellis.specs.Isdb.{cand}
@@ -16,9 +16,6 @@ module _ (m : List Float) (u b : ℕ) where
   -- j metrics of the row are written
   abbrev pub Row : ℕ → List Float → Type 0
   Row j r = (j ≤ 32) × (length r ≡ 32) × Written nan (branchMetric m u b) j r
-
-  pub row-none : (r : List Float) → length r ≡ 32 → Row 0 r
-  row-none r long = (omega arith, long, written-none nan (branchMetric m u b) r)
 
   pub row-more : (j : ℕ) (r : List Float) (v : Float) → Row j r → j < 32 → v ≡ branchMetric m u b j → Row (j + 1) (set r j v)
   row-more j r v t h e =

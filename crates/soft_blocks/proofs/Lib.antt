@@ -2,3 +2,4 @@ pub mod Fill
 pub mod Bits
 pub mod ShortRounding
 pub mod Range
+pub mod Widened

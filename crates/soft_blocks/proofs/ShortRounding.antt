@@ -1,4 +1,4 @@
--- The short rounding: one sum and one shift give what `closest` says, and of a zero the pattern is 0. Assumes nothing.
+-- The short rounding: one sum and one shift give what `closest` says. Of a zero the pattern is 0. Assumes nothing.
 use mathlib.Core.Path.{_≡_, refl, sym, ap, _∙_, subst}
 use mathlib.Core.Bool.{Bool, true, false, not, cond, _||_, Bool·beq, true≢false}
 use Prim.Native.Nat.{ℕ, _+_, _-_, _*_, _/_, _%_, _^_, _≤_, _<_}
@@ -52,9 +52,10 @@ same-digit b h =
 pub near-is : (b s : ℕ) → Between b → s ≡ b - 4035225266123964416 + 268435455 + b / 536870912 % 2 → Narrowed b (s / 536870912)
 near-is b s h e =
     let q = b - 4035225266123964416 in
+    let l = h .1 in
     subst (λ (r : ℕ). Narrowed b r)
     (sym (ap (λ (n : ℕ). n / 536870912) e ∙ ap (λ (n : ℕ). (q + 268435455 + n) / 536870912) (same-digit b (h .0)) ∙ sum-closest q))
-    (normal b (h .0) (h .1))
+    (normal b (h .0) (omega arith))
 
 -- ---- what equals zero has the pattern 0 without the sign
 clear : (s : Bool) (n : ℕ) → n ≡ 0 → (cond s 9223372036854775808 0 + (size n - 53) * 4503599627370496 + n / 2 ^ (size n - 53)) % 9223372036854775808 ≡ 0
@@ -70,19 +71,3 @@ zero-bits (fin s m x) e =
     let z : m * up x * 1 ≡ 0 * 1 * down x = eqb→eq (m * up x * 1) (0 * 1 * down x) (and-l (eqb (m * up x * 1) (0 * 1 * down x)) (Bool·beq s false || eqb (m * up x * 1) 0) (subst T (sym e) tt)) in
     let y : m * up x ≡ 0 = sym (mul-one (m * up x)) ∙ z ∙ zero-mul (down x) in
     clear s (m * up x * 2 ^ 1074 / down x) (ap (λ (k : ℕ). k * 2 ^ 1074 / down x) y ∙ ap (λ (k : ℕ). k / down x) (zero-mul (2 ^ 1074)) ∙ zero-div (down x))
-
-pub zero-is : (x : Float) (b : ℕ) → b ≡ toBits binary64 x % 9223372036854775808 → eq x (ofBits binary64 0) ≡ true → Narrowed b 0
-zero-is x b e z = subst (λ (n : ℕ). Narrowed n 0) (sym (e ∙ zero-bits x z)) (tiny 0 (lit< tt))
-
--- ---- the magnitude's f32
-pub magnitude-ok : (r : ℕ) → r ≤ 2139095040 → T (not (nanBits binary32 r))
-magnitude-ok r h = subst (λ (n : ℕ). T (not (nanBits binary32 n))) (zero-add r) (pattern-ok 0 r h)
-
-pub magnitude-is : (x : Float) (r : ℕ) → T (fits binary64 x) → Narrowed (toBits binary64 x % 9223372036854775808) r → ofBits binary32 r ≡ softOf (absolute x)
-unfolding softOf
-magnitude-is x r t n =
-    let b = toBits binary64 x % 9223372036854775808 in
-    ap (λ (k : ℕ). ofBits binary32 k) (sym (zero-add r))
-    ∙ n .nearest false
-    ∙ ap (λ (k : ℕ). rounded binary32 (ofBits binary64 k)) (zero-add b)
-    ∙ ap (λ (y : Float). rounded binary32 y) (unsigned-is x t)

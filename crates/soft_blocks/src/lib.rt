@@ -4,12 +4,11 @@ ghost use mathlib.Core.Path.{_≡_};
 ghost use mathlib.Core.Bool.{true};
 ghost use Prim.Native.Nat.{_%_, _≤_, _<_};
 ghost use lib.ListN.{length, getD};
-ghost use lib.Ieee.{nan, mul, binary32, binary64, toBits};
+ghost use lib.Ieee.{nan, mul, binary32};
 ghost use Rattle.trellis.specs.Lists.{upto, laid};
-ghost use Rattle.isdbs_soft.specs.Narrowed.{Narrowed};
 ghost use Rattle.isdbs_soft.specs.Soft.{softOf};
 ghost use Rattle.isdbs_metrics.specs.Reading.{absolute};
-ghost use Rattle.soft_blocks.specs.Range.{Between, InRange, AllInRange};
+ghost use Rattle.soft_blocks.specs.Range.{Between, InRange, AllInRange, shortened};
 
 // The pattern of |x|; of a zero that of 2^-126, and 0 of a NaN.
 fn range_bits(x: f64) -> u64
@@ -28,12 +27,12 @@ fn either(a: u64, b: u64) -> u64
     a | b
 }
 
-// A word whose highest bit is set where x is out of the range: the sum's from 2^128 on, the difference's below 2^-126.
+// A word whose highest bit is set where x is out of the range: the sum's from where x rounds to 2^128 on, the difference's below 2^-126.
 fn outside(x: f64) -> u64
     ensures { λ r. ⌜ (r < 0x8000_0000_0000_0000 → InRange x) ⌝ }
 {
     let bits = range_bits(x);
-    either(bits + 0x3810_0000_0000_0000, 0xb80f_ffff_ffff_ffff - bits)
+    either(bits + 0x3810_0000_1000_0000, 0xb80f_ffff_ffff_ffff - bits)
 }
 
 // Whether the first n values are all in the range.
@@ -48,30 +47,20 @@ fn all_in_range(xs: &[f64], n: usize) -> bool
     some < 0x8000_0000_0000_0000
 }
 
-// The pattern of the f32 nearest to the f64 of this pattern, both without the sign: the 29 digits dropped are rounded by a sum that carries above a half, and at a half where the last digit kept is odd.
-fn near(bits: u64) -> u64
-    requires { ⌜ Between bits ⌝ }
-    ensures { λ r. ⌜ Narrowed bits r ⌝ }
+// The pattern with the 29 digits rounded away that an f32 has no room for: a sum that carries above a half, and at a half where the last digit kept is odd.
+fn rounded(bits: u64) -> u64
+    requires { ⌜ bits < 0xfff0_0000_0000_0000 ⌝ }
+    ensures { λ r. ⌜ r ≡ shortened bits ⌝ }
 {
-    (bits - 0x37ff_ffff_f000_0001 + (bits >> 29) % 2) >> 29
+    ((bits + 0x0fff_ffff + (bits >> 29) % 2) >> 29) * 0x2000_0000
 }
 
-// The same of x, whose pattern without the sign this is.
-fn near_or_zero(x: f64, bits: u64) -> u64
-    requires { ⌜ InRange x × (bits ≡ toBits binary64 x % 0x8000_0000_0000_0000) ⌝ }
-    ensures { λ r. ⌜ Narrowed bits r ⌝ }
-{
-    if x == 0.0 { 0 } else { near(bits) }
-}
-
-// soft of a value in the range.
+// soft of a value in the range: the rounded one is an f32 number.
 fn near_signed(x: f64) -> f32
     requires { ⌜ InRange x ⌝ }
     ensures { λ r. ⌜ r ≡ softOf x ⌝ }
 {
-    let bits = f64::to_bits(x);
-    let magnitude = near_or_zero(x, bits % 0x8000_0000_0000_0000);
-    f32::from_bits(((bits >> 63) * 0x8000_0000 + magnitude) as u32)
+    f64::from_bits(rounded(f64::to_bits(x))) as f32
 }
 
 // soft of its magnitude.
@@ -79,8 +68,7 @@ fn near_magnitude(x: f64) -> f32
     requires { ⌜ InRange x ⌝ }
     ensures { λ r. ⌜ r ≡ softOf (absolute x) ⌝ }
 {
-    let magnitude = near_or_zero(x, f64::to_bits(x) % 0x8000_0000_0000_0000);
-    f32::from_bits(magnitude as u32)
+    f64::from_bits(rounded(f64::to_bits(x) % 0x8000_0000_0000_0000)) as f32
 }
 
 // soft of each of the first n values, all in the range.

@@ -1,32 +1,50 @@
 -- `near_magnitude` meets its contract. Assumes nothing.
-use mathlib.Core.Path.{sym, subst}
 use borrow.Author.Needs.{needs}
+use mathlib.Core.Path.{_≡_, sym, ap, _∙_, subst}
+use Prim.Native.Nat.{ℕ, _%_, _<_}
+use native.Mathlib.Omega.{arith}
 use lib.Dec.{T}
-use Rattle.soft_blocks.proofs.ShortRounding.{magnitude-ok, magnitude-is}
+use lib.Ieee.{Float, binary64, fits, toBits}
+use Rattle.isdbs_metrics.specs.Reading.{absolute}
+use Rattle.soft_blocks.specs.Range.{shortened}
+use lib.Ieee.Bits.{toBits-lt}
+use Rattle.soft_blocks.proofs.Widened.{in-range, short-ok, once, exact, near-absolute}
 use Rattle.soft_blocks.proofs.near_magnitude.Statement.{statement}
 use Rattle.soft_blocks.proofs.near_magnitude.Tie as tie
 
-float-to-bits-near-or-zero : tie.Need-float-to-bits-near-or-zero
-float-to-bits-near-or-zero c = search needs
+float-to-bits-rounded : tie.Need-float-to-bits-rounded
+float-to-bits-rounded c = search needs
 
-near-or-zero-requires : tie.Need-near-or-zero-requires
-near-or-zero-requires c κs = search needs
-
-cast-result : tie.Need-cast-result
-cast-result c = search needs
+rounded-requires : tie.Need-rounded-requires
+rounded-requires c κs = search needs
 
 float-from-bits-result : tie.Need-float-from-bits-result
-float-from-bits-result c = magnitude-ok (c .near-or-zero .result) (c .near-or-zero .ensures .small)
+float-from-bits-result c =
+    let st = c .before in
+    let x = st .args .x in
+    let t : T (fits binary64 x) = subst T (sym (st .good .0 .1)) tt in
+    rw (c .rounded .ensures) (short-ok (toBits binary64 x % 9223372036854775808) (omega arith) (once (toBits binary64 x) (in-range x (st .pre))))
+
+float-to-float-result : tie.Need-float-to-float-result
+float-to-float-result c =
+    let st = c .before .before in
+    let x = st .args .x in
+    let t : T (fits binary64 x) = subst T (sym (st .good .0 .1)) tt in
+    rw (c .before .rounded .ensures) (exact (absolute x) (shortened (toBits binary64 x % 9223372036854775808)) (near-absolute x t (st .pre)) (short-ok (toBits binary64 x % 9223372036854775808) (omega arith) (once (toBits binary64 x) (in-range x (st .pre)))))
 
 returns : tie.Need-returns
-returns c = magnitude-is (c .before .args .x) (c .near-or-zero .result) (subst T (sym (c .before .good .0 .1)) tt) (c .near-or-zero .ensures)
+returns c =
+    let st = c .before .before in
+    let x = st .args .x in
+    let t : T (fits binary64 x) = subst T (sym (st .good .0 .1)) tt in
+    rw (c .before .rounded .ensures) (near-absolute x t (st .pre))
 
 pub near-magnitude-spec : {M : Type 1} → statement M
 near-magnitude-spec =
     tie.close
     (tie.spec
-    float-to-bits-near-or-zero
-    near-or-zero-requires
-    cast-result
+    float-to-bits-rounded
+    rounded-requires
     float-from-bits-result
+    float-to-float-result
     returns)

@@ -1,45 +1,52 @@
 -- `near_signed` meets its contract. Assumes nothing.
-use mathlib.Core.Path.{sym, subst}
-use Prim.Native.Nat.{_/_}
-use native.Mathlib.Omega.{arith}
 use borrow.Author.Needs.{needs}
+use mathlib.Core.Path.{_≡_, sym, ap, _∙_, subst}
+use Prim.Native.Nat.{ℕ, _%_, _<_}
+use native.Mathlib.Omega.{arith}
 use lib.Dec.{T}
-use lib.Ieee.{binary64, toBits}
-use Rattle.isdbs_soft.specs.Soft.{softOf}
-use Rattle.isdbs_soft.specs.SignLaws.{pattern-ok, sign-lt, whole}
+use lib.Ieee.{Float, binary64, fits, toBits}
+use Rattle.soft_blocks.specs.Range.{shortened}
+use lib.Ieee.Bits.{toBits-lt}
+use Rattle.soft_blocks.proofs.Widened.{in-range, short-ok, short-few, exact, near-soft}
 use Rattle.soft_blocks.proofs.near_signed.Statement.{statement}
 use Rattle.soft_blocks.proofs.near_signed.Tie as tie
 
-float-to-bits-bits : tie.Need-float-to-bits-bits
-float-to-bits-bits c = search needs
+float-to-bits-rounded : tie.Need-float-to-bits-rounded
+float-to-bits-rounded c = search needs
 
-near-or-zero-requires : tie.Need-near-or-zero-requires
-near-or-zero-requires c κs = search needs
-
-mul-result : tie.Need-mul-result
-mul-result c = let s = sign-lt (c .before .args .x) (subst T (sym (c .before .good .0 .1)) tt) in record { fits = omega arith }
-
-add-result : tie.Need-add-result
-add-result c = let s = sign-lt (c .before .args .x) (subst T (sym (c .before .good .0 .1)) tt) in let n = c .near-or-zero .ensures .small in record { fits = omega arith }
-
-cast-result : tie.Need-cast-result
-cast-result c = let s = sign-lt (c .before .args .x) (subst T (sym (c .before .good .0 .1)) tt) in let n = c .near-or-zero .ensures .small in record { fits = omega arith }
+rounded-requires : tie.Need-rounded-requires
+rounded-requires c κs =
+    let x = c .args .x in
+    let t : T (fits binary64 x) = subst T (sym (c .good .0 .1)) tt in
+    short-few (toBits binary64 x) (toBits-lt binary64 x t) (in-range x (c .pre))
 
 float-from-bits-result : tie.Need-float-from-bits-result
-float-from-bits-result c = pattern-ok (toBits binary64 (c .before .args .x) / 9223372036854775808) (c .near-or-zero .result) (c .near-or-zero .ensures .small)
+float-from-bits-result c =
+    let st = c .before in
+    let x = st .args .x in
+    let t : T (fits binary64 x) = subst T (sym (st .good .0 .1)) tt in
+    rw (c .rounded .ensures) (short-ok (toBits binary64 x) (toBits-lt binary64 x t) (in-range x (st .pre)))
+
+float-to-float-result : tie.Need-float-to-float-result
+float-to-float-result c =
+    let st = c .before .before in
+    let x = st .args .x in
+    let t : T (fits binary64 x) = subst T (sym (st .good .0 .1)) tt in
+    rw (c .before .rounded .ensures) (exact x (shortened (toBits binary64 x)) (near-soft x t (st .pre)) (short-ok (toBits binary64 x) (toBits-lt binary64 x t) (in-range x (st .pre))))
 
 returns : tie.Need-returns
-unfolding softOf
-returns c = whole (c .before .args .x) (c .near-or-zero .result) (subst T (sym (c .before .good .0 .1)) tt) (c .near-or-zero .ensures)
+returns c =
+    let st = c .before .before in
+    let x = st .args .x in
+    let t : T (fits binary64 x) = subst T (sym (st .good .0 .1)) tt in
+    rw (c .before .rounded .ensures) (near-soft x t (st .pre))
 
 pub near-signed-spec : {M : Type 1} → statement M
 near-signed-spec =
     tie.close
     (tie.spec
-    float-to-bits-bits
-    near-or-zero-requires
-    mul-result
-    add-result
-    cast-result
+    float-to-bits-rounded
+    rounded-requires
     float-from-bits-result
+    float-to-float-result
     returns)

@@ -5,7 +5,7 @@ use native.Mathlib.Omega.{arith}
 use borrow.Author.Needs.{needs}
 use Rattle.trellis.specs.Code.{label, output, tapped}
 use Rattle.acs_paths.specs.BranchLaws.{branch-numbers}
-use Rattle.acs.proofs.RowLaws.{Row, row-none, row-more, row-whole}
+use Rattle.acs.proofs.RowLaws.{Row, row-more, row-whole}
 use Rattle.acs.proofs.four.row11.Statement.{statement}
 use Rattle.acs.proofs.four.row11.Tie as tie
 
