@@ -25,7 +25,7 @@ pub enum Kind {
     Knowns,
 }
 
-// The trellis step: every step of a decoder is this.
+// The trellis step: every step of ISDB's decoders is this.
 fn trellis_step(pm: [f32; STATES], x: Step) -> Stepped
     ensures { λ r. ⌜ (r .values ≡ stepValues pm (stepOf x)) × (r .word ≡ word pm (stepOf x)) ⌝ }
 {

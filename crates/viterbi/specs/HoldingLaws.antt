@@ -159,7 +159,7 @@ module _ (half : ℕ) (label : ℕ → ℕ → ℕ) (rule : Tie) where
           let rn = releases-is tb (length (d .words)) n most in
           holds-lengths tb (after half label rule tb xs d i) dec₀ out₀ pm held count dec out (c .few) fits (omega arith) h
 
-      -- what `advance` asks at step i
+      -- what step i asks
       pub steps-ready : i < n → (1 ≤ tb) × (tb ≤ tracebackLimit) × (held < block + tb) × (block + tb ≤ length dec) × (count ≤ length out) × Room tb held count (length out)
       steps-ready g =
           let c = counted half label rule tb xs d least most few i in

@@ -110,7 +110,7 @@ fn end_block(
     }
 }
 
-// n steps of what is lent, the first of which is step i of the call, in blocks that end where the maximum is subtracted or bits are released: every call of a decoder runs on this.
+// n steps of what is lent, the first of which is step i of the call, in blocks that end where the maximum is subtracted or bits are released: every call of ISDB's decoders runs on this.
 pub fn run_steps(
     pm: &mut [f32; STATES],
     at: At,
