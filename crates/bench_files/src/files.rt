@@ -293,18 +293,23 @@ fn fill(file: i32, narrow: bool, n: usize, re: &mut [f64], im: &mut [f64]) -> Go
     }
 }
 
-// Reads an open file's points, as many as the slices hold, and closes it.
-pub fn read_points(file: i32, name: &[u8], re: &mut [f64], im: &mut [f64]) -> Got {
+// Reads an open file's next points, as many as the slices hold, and leaves it open.
+pub fn read_next(file: i32, name: &[u8], re: &mut [f64], im: &mut [f64]) -> Got {
     let all = re.len();
     let got = fill(file, is_narrow(name), all, re, im);
-    let n = got.count;
-    let well = n == all || has_ended(file, name);
-    libc::close(file);
+    let well = got.count == all || has_ended(file, name);
     Got {
         well,
-        count: n,
+        count: got.count,
         over: got.over,
     }
+}
+
+// Reads an open file's points, as many as the slices hold, and closes it.
+pub fn read_points(file: i32, name: &[u8], re: &mut [f64], im: &mut [f64]) -> Got {
+    let got = read_next(file, name, re, im);
+    libc::close(file);
+    got
 }
 
 // The last 5 bytes of a name; all of a shorter one.

@@ -1,0 +1,176 @@
+// frames: every frame of a capture.
+use crate::PIECE;
+use crate::words;
+use bench_files::files;
+use bench_line::words::front_parts;
+use bench_words::report;
+use bench_words::text::file;
+use bench_words::text::say;
+use bench_words::text::text;
+use header_find::FrameAnswer;
+use header_find::find_frame;
+use isdbs_frame::FRAME_SYMBOLS;
+use refusal::Answer;
+
+// The points that are held: how many, and which of the capture the first one is; the frames found; whether the capture was read well so far, and how many bytes of one
+// more point it has.
+struct Held {
+    count: usize,
+    start: usize,
+    frames: usize,
+    well: bool,
+    over: usize,
+}
+
+// a + b, or a where that is too large.
+fn plus(a: usize, b: usize) -> usize {
+    if b <= 0xffff_ffff_ffff_ffff - a {
+        return a + b;
+    }
+    a
+}
+
+// a - b, or 0.
+pub(crate) fn minus(a: usize, b: usize) -> usize {
+    if b <= a { a - b } else { 0 }
+}
+
+// Puts what stands at place j to place i, where both are.
+fn copy_down(s: &mut [f64], i: usize, j: usize) {
+    if i < s.len() {
+        if j < s.len() {
+            s[i] = s[j];
+        }
+    }
+}
+
+// Moves the points from a place on to the front.
+fn move_down(s: &mut [f64; PIECE], by: usize) {
+    for i in 0..PIECE {
+        copy_down(s, i, plus(i, by));
+    }
+}
+
+// Reads on into the slices, from a place on.
+pub(crate) fn read_from(
+    opened: i32,
+    name: &[u8],
+    from: usize,
+    re: &mut [f64],
+    im: &mut [f64],
+) -> files::Got {
+    if from > re.len() {
+        return files::nothing();
+    }
+    if from > im.len() {
+        return files::nothing();
+    }
+    files::read_next(opened, name, &mut re[from..], &mut im[from..])
+}
+
+// Reads on behind the points that are held.
+fn read_on(
+    opened: i32,
+    name: &[u8],
+    held: Held,
+    re: &mut [f64; PIECE],
+    im: &mut [f64; PIECE],
+) -> Held {
+    let got = read_from(opened, name, held.count, re, im);
+    Held {
+        count: plus(held.count, got.count),
+        start: held.start,
+        frames: held.frames,
+        well: got.well,
+        over: got.over,
+    }
+}
+
+// Forgets the first points.
+fn forget(
+    held: Held,
+    by: usize,
+    frames: usize,
+    re: &mut [f64; PIECE],
+    im: &mut [f64; PIECE],
+) -> Held {
+    move_down(re, by);
+    move_down(im, by);
+    Held {
+        count: minus(held.count, by),
+        start: plus(held.start, by),
+        frames: frames,
+        well: held.well,
+        over: held.over,
+    }
+}
+
+// Looks for a frame among the points that are held, says it, and forgets the points up to its end; where there is none, all places that were looked at.
+fn look(held: Held, re: &mut [f64; PIECE], im: &mut [f64; PIECE]) -> Held {
+    let answer = find_frame(front_parts(re, held.count), front_parts(im, held.count), 0);
+    match answer {
+        FrameAnswer::Refused(_) => held,
+        FrameAnswer::Found(p, h) => {
+            if h.turn > 7 {
+                let past = plus(minus(held.count, FRAME_SYMBOLS), 1);
+                return forget(held, past, held.frames, re, im);
+            }
+            say(b"frame at point $", &[plus(held.start, p)]);
+            words::header(h);
+            forget(held, plus(p, FRAME_SYMBOLS), plus(held.frames, 1), re, im)
+        }
+    }
+}
+
+// The most pieces that are read.
+const PIECES: usize = 1_000_000;
+
+// All pieces.
+fn all(opened: i32, name: &[u8], re: &mut [f64; PIECE], im: &mut [f64; PIECE]) -> Held {
+    let mut held = Held {
+        count: 0,
+        start: 0,
+        frames: 0,
+        well: true,
+        over: 0,
+    };
+    for _ in 0..PIECES {
+        held = read_on(opened, name, held, re, im);
+        if !held.well || held.count < FRAME_SYMBOLS {
+            return held;
+        }
+        held = look(held, re, im);
+    }
+    held
+}
+
+// The last lines.
+fn end(name: &[u8], held: Held) {
+    file(b"capture", name, plus(held.start, held.count), b" points");
+    if held.over > 0 {
+        say(b" and $ bytes over", &[held.over]);
+    }
+    say(b"; frames found: $\n", &[held.frames]);
+    if plus(held.start, held.count) < FRAME_SYMBOLS {
+        report::refused(Answer::Symbols);
+        text(b"a whole frame has 39,936 points\n");
+        return;
+    }
+    if held.frames == 0 {
+        text(b"doubtful: no frame was found\n");
+        return;
+    }
+    text(b"ok\n");
+}
+
+pub(crate) fn frames(name: &[u8], re: &mut [f64; PIECE], im: &mut [f64; PIECE]) {
+    let opened = files::open(name);
+    if opened < 0 {
+        return;
+    }
+    let held = all(opened, name, re, im);
+    libc::close(opened);
+    if held.well {
+        end(name, held);
+    }
+}
