@@ -5,7 +5,7 @@ ghost use Rattle.refusal.specs.Rows.{firstRow, Either};
 ghost use Rattle.trellis.specs.Isdb.{frameTraceback};
 ghost use Rattle.isdb_fec.specs.Calls.{Fresh, Zero};
 ghost use Rattle.short_fec.specs.Rows.{freshRows};
-ghost use Rattle.short_calls.specs.Calls.{freshValues, ThreeRead};
+ghost use Rattle.short_calls.specs.Calls.{freshValues, PushedFlushed, ThreeRead};
 pub use best_path::Start;
 use isdb_fec::conv::Made;
 use isdb_fec::conv::Released;
@@ -34,7 +34,7 @@ pub struct Three {
     pub flushed: Released,
 }
 
-// The three calls, each on what the one before it left.
+// The three calls, each on what the one before it left, also where it refused.
 pub fn three_calls(
     code: Code,
     start: Start,
@@ -42,7 +42,10 @@ pub fn three_calls(
     decisions: &mut [u64],
     out: &mut [u8],
 ) -> Three
-    ensures { λ r. ⌜ ThreeRead code start (now (metrics .entry)) r (length (now (decisions .entry))) (length (now (out .entry))) (now (out .exit)) ⌝ }
+    ensures answers { λ r. ⌜ r .made .answer ≡ firstRow (freshRows code frameTraceback) ⌝ }
+    ensures made { λ r. ⌜ Either (r .made .answer) (Fresh frameTraceback (freshValues code start) (r .made .dec)) (Zero (r .made .dec)) ⌝ }
+    ensures leaves { λ r. ⌜ PushedFlushed code (now (metrics .entry)) r (now (decisions .entry)) (now (decisions .exit)) (now (out .entry)) (now (out .exit)) ⌝ }
+    ensures reads { λ r. ⌜ ThreeRead code start (now (metrics .entry)) r (length (now (decisions .entry))) (length (now (out .entry))) (now (out .exit)) ⌝ }
 {
     let made = started(code, start);
     let pushed = push_metrics(code, made.dec, metrics, decisions, out);

@@ -95,3 +95,11 @@ encode-agrees s us out₀ out out′ r r′ a st co a′ f =
     let k = f .1 (λ y. n (same ∙ y)) in
     (same, st .1 n ∙ sym (k .state-is), co .1 n ∙ sym (k .bits-are)))
     (decided (r .answer))
+
+-- the count of `encode_punctured` is that of the bits which the code sends
+pub counts-coded : (s : ℕ) (us out₀ out : List ℕ) (r : isdbt.Encoded)
+    → Either (r .answer) (Encodes R1_2 s us r out₀ out) (Unencoded s r out₀ out)
+    → Either (r .answer) (r .count ≡ length (codedBits (codeOf isdbCode) s us)) (r .count ≡ 0)
+counts-coded s us out₀ out r f =
+    let l = length-coded isdbCode s us in
+    (λ y. let k = f .0 y .count-is in let e : length us / 1 * 2 ≡ 2 * length us = omega arith in k ∙ e ∙ sym l, λ n. f .1 n .count-is)

@@ -1,6 +1,18 @@
-// Length 7 with 171 and 133 octal agrees with the decoder of ISDB: for each call one function that makes both calls, the second on copies of the lent slices, and
-// promises that they leave the same. The laws are in specs/.
+// Length 7 with 171 and 133 octal agrees with the decoder of ISDB: for each call one function that makes both calls, the second on copies of the lent slices. It
+// promises all that each of the two calls promises, and that they leave the same. The laws are in specs/.
 ghost use mathlib.Core.Path.{_≡_};
+ghost use Prim.Native.Nat.{_/_, _%_};
+ghost use lib.ListN.{length};
+ghost use Rattle.refusal.specs.Rows.{firstRow, Either};
+ghost use Rattle.trellis.specs.Code.{isdb, output, moved};
+ghost use Rattle.trellis.specs.Run.{startAt, startUnknown, pairSteps, fourSteps, knownSteps};
+ghost use Rattle.trellis.specs.Isdb;
+ghost use Rattle.isdb_fec.specs.Rows as isdbRows;
+ghost use Rattle.isdb_fec.specs.Calls as isdbCalls;
+ghost use Rattle.isdb_fec.specs.Calls.{Fresh, Zero, Unchanged};
+ghost use Rattle.short_code.specs.Codes.{codeOf, halfOf};
+ghost use Rattle.short_fec.specs.Rows as shortRows;
+ghost use Rattle.short_fec.specs.Calls as shortCalls;
 ghost use Rattle.short_same.specs.IsdbCode.{isdbCode};
 ghost use Rattle.short_same.specs.Agree.{Agree, MadeAlike, SentAlike};
 use acs::states;
@@ -22,7 +34,7 @@ pub fn isdb_code() -> Code
     }
 }
 
-// What the call of the code leaves, and that of ISDB.
+// What the call of the code returns, and that of ISDB.
 pub struct Both {
     pub short: Released,
     pub isdb: Released,
@@ -42,7 +54,15 @@ pub struct BothSent {
 
 // One input of the encoder.
 pub fn push_bit(enc: ConvEncoder, u: u8) -> BothSent
-    ensures { λ r. ⌜ SentAlike (r .short) (r .isdb) ⌝ }
+    ensures short_answers { λ r. ⌜ r .short .answer ≡ firstRow (shortRows.encoderRows isdbCode (enc .state)) ⌝ }
+    ensures short_outputs { λ r. ⌜ Either (r .short .answer)
+        ((r .short .x ≡ output (codeOf isdbCode) (isdbCode .g1) (u % 2) (enc .state)) × (r .short .y ≡ output (codeOf isdbCode) (isdbCode .g2) (u % 2) (enc .state)) × (r .short .enc .state ≡ moved (halfOf isdbCode) (u % 2) (enc .state)))
+        ((r .short .x ≡ 0) × (r .short .y ≡ 0) × (r .short .enc .state ≡ enc .state)) ⌝ }
+    ensures isdb_answers { λ r. ⌜ r .isdb .answer ≡ firstRow (isdbRows.encoderRows (enc .state)) ⌝ }
+    ensures isdb_outputs { λ r. ⌜ Either (r .isdb .answer)
+        ((r .isdb .x ≡ output isdb 0o171 (u % 2) (enc .state)) × (r .isdb .y ≡ output isdb 0o133 (u % 2) (enc .state)) × (r .isdb .enc .state ≡ moved Isdb.half (u % 2) (enc .state)))
+        ((r .isdb .x ≡ 0) × (r .isdb .y ≡ 0) × (r .isdb .enc .state ≡ enc .state)) ⌝ }
+    ensures agree { λ r. ⌜ SentAlike (r .short) (r .isdb) ⌝ }
 {
     let short = short_fec::push_bit(isdb_code(), enc, u);
     let isdb = enc.push(u);
@@ -51,7 +71,11 @@ pub fn push_bit(enc: ConvEncoder, u: u8) -> BothSent
 
 // A decoder that starts in the given state.
 pub fn with_state(traceback: usize, state: u8) -> BothMade
-    ensures { λ r. ⌜ MadeAlike (r .short) (r .isdb) ⌝ }
+    ensures short_answers { λ r. ⌜ r .short .answer ≡ firstRow (shortRows.freshRows isdbCode traceback) ⌝ }
+    ensures short_made { λ r. ⌜ Either (r .short .answer) (Fresh traceback (shortCalls.startValues isdbCode state) (r .short .dec)) (Zero (r .short .dec)) ⌝ }
+    ensures isdb_answers { λ r. ⌜ r .isdb .answer ≡ firstRow (isdbRows.freshRows traceback) ⌝ }
+    ensures isdb_made { λ r. ⌜ Either (r .isdb .answer) (Fresh traceback (startAt Isdb.states state) (r .isdb .dec)) (Zero (r .isdb .dec)) ⌝ }
+    ensures agree { λ r. ⌜ MadeAlike (r .short) (r .isdb) ⌝ }
 {
     let short = short_fec::with_state(isdb_code(), traceback, state);
     let isdb = ViterbiDecoder::with_state(traceback, state);
@@ -60,7 +84,11 @@ pub fn with_state(traceback: usize, state: u8) -> BothMade
 
 // A decoder whose start state is not known.
 pub fn new_unknown_state(traceback: usize) -> BothMade
-    ensures { λ r. ⌜ MadeAlike (r .short) (r .isdb) ⌝ }
+    ensures short_answers { λ r. ⌜ r .short .answer ≡ firstRow (shortRows.freshRows isdbCode traceback) ⌝ }
+    ensures short_made { λ r. ⌜ Either (r .short .answer) (Fresh traceback (shortCalls.unknownValues isdbCode) (r .short .dec)) (Zero (r .short .dec)) ⌝ }
+    ensures isdb_answers { λ r. ⌜ r .isdb .answer ≡ firstRow (isdbRows.freshRows traceback) ⌝ }
+    ensures isdb_made { λ r. ⌜ Either (r .isdb .answer) (Fresh traceback (startUnknown Isdb.states) (r .isdb .dec)) (Zero (r .isdb .dec)) ⌝ }
+    ensures agree { λ r. ⌜ MadeAlike (r .short) (r .isdb) ⌝ }
 {
     let short = short_fec::new_unknown_state(isdb_code(), traceback);
     let isdb = ViterbiDecoder::new_unknown_state(traceback);
@@ -76,7 +104,15 @@ pub fn push(
     decisions2: &mut [u64],
     out2: &mut [u8],
 ) -> Both
-    ensures { λ r. ⌜ ((now (decisions .entry) ≡ now (decisions2 .entry)) → (now (out .entry) ≡ now (out2 .entry))
+    ensures short_answers { λ r. ⌜ r .short .answer ≡ firstRow (shortRows.streamRows isdbCode 2 dec (now (pairs .entry)) (length (now (decisions .entry))) (length (now (out .entry)))) ⌝ }
+    ensures short_leaves { λ r. ⌜ Either (r .short .answer)
+        (shortCalls.Leaves dec (shortCalls.call isdbCode (dec .traceback) (pairSteps (now (pairs .entry))) (shortCalls.handed isdbCode dec (now (decisions .entry))) (length (now (pairs .entry)) / 2)) (r .short) (now (decisions .entry)) (now (decisions .exit)) (now (out .entry)) (now (out .exit)))
+        (Unchanged dec (r .short) (now (decisions .entry)) (now (decisions .exit)) (now (out .entry)) (now (out .exit))) ⌝ }
+    ensures isdb_answers { λ r. ⌜ r .isdb .answer ≡ firstRow (isdbRows.pushRows dec (now (pairs .entry)) (length (now (decisions2 .entry))) (length (now (out2 .entry)))) ⌝ }
+    ensures isdb_leaves { λ r. ⌜ Either (r .isdb .answer)
+        (isdbCalls.Leaves (dec .traceback) (isdbCalls.call (dec .traceback) (pairSteps (now (pairs .entry))) (isdbCalls.handed dec (now (decisions2 .entry))) (length (now (pairs .entry)) / 2)) (r .isdb) (now (decisions2 .entry)) (now (decisions2 .exit)) (now (out2 .entry)) (now (out2 .exit)))
+        (Unchanged dec (r .isdb) (now (decisions2 .entry)) (now (decisions2 .exit)) (now (out2 .entry)) (now (out2 .exit))) ⌝ }
+    ensures agree { λ r. ⌜ ((now (decisions .entry) ≡ now (decisions2 .entry)) → (now (out .entry) ≡ now (out2 .entry))
         → Agree (r .short) (r .isdb) (now (decisions .exit)) (now (decisions2 .exit)) (now (out .exit)) (now (out2 .exit))) ⌝ }
 {
     let pm = dec.pm;
@@ -95,7 +131,15 @@ pub fn push_metrics(
     decisions2: &mut [u64],
     out2: &mut [u8],
 ) -> Both
-    ensures { λ r. ⌜ ((now (decisions .entry) ≡ now (decisions2 .entry)) → (now (out .entry) ≡ now (out2 .entry))
+    ensures short_answers { λ r. ⌜ r .short .answer ≡ firstRow (shortRows.streamRows isdbCode 4 dec (now (metrics .entry)) (length (now (decisions .entry))) (length (now (out .entry)))) ⌝ }
+    ensures short_leaves { λ r. ⌜ Either (r .short .answer)
+        (shortCalls.Leaves dec (shortCalls.call isdbCode (dec .traceback) (fourSteps (now (metrics .entry))) (shortCalls.handed isdbCode dec (now (decisions .entry))) (length (now (metrics .entry)) / 4)) (r .short) (now (decisions .entry)) (now (decisions .exit)) (now (out .entry)) (now (out .exit)))
+        (Unchanged dec (r .short) (now (decisions .entry)) (now (decisions .exit)) (now (out .entry)) (now (out .exit))) ⌝ }
+    ensures isdb_answers { λ r. ⌜ r .isdb .answer ≡ firstRow (isdbRows.pushMetricsRows dec (now (metrics .entry)) (length (now (decisions2 .entry))) (length (now (out2 .entry)))) ⌝ }
+    ensures isdb_leaves { λ r. ⌜ Either (r .isdb .answer)
+        (isdbCalls.Leaves (dec .traceback) (isdbCalls.call (dec .traceback) (fourSteps (now (metrics .entry))) (isdbCalls.handed dec (now (decisions2 .entry))) (length (now (metrics .entry)) / 4)) (r .isdb) (now (decisions2 .entry)) (now (decisions2 .exit)) (now (out2 .entry)) (now (out2 .exit)))
+        (Unchanged dec (r .isdb) (now (decisions2 .entry)) (now (decisions2 .exit)) (now (out2 .entry)) (now (out2 .exit))) ⌝ }
+    ensures agree { λ r. ⌜ ((now (decisions .entry) ≡ now (decisions2 .entry)) → (now (out .entry) ≡ now (out2 .entry))
         → Agree (r .short) (r .isdb) (now (decisions .exit)) (now (decisions2 .exit)) (now (out .exit)) (now (out2 .exit))) ⌝ }
 {
     let pm = dec.pm;
@@ -114,7 +158,15 @@ pub fn push_known(
     decisions2: &mut [u64],
     out2: &mut [u8],
 ) -> Both
-    ensures { λ r. ⌜ ((now (decisions .entry) ≡ now (decisions2 .entry)) → (now (out .entry) ≡ now (out2 .entry))
+    ensures short_answers { λ r. ⌜ r .short .answer ≡ firstRow (shortRows.knownRows isdbCode dec (length (now (bits .entry))) (length (now (decisions .entry))) (length (now (out .entry)))) ⌝ }
+    ensures short_leaves { λ r. ⌜ Either (r .short .answer)
+        (shortCalls.Leaves dec (shortCalls.steps isdbCode (dec .traceback) (knownSteps (now (bits .entry))) (shortCalls.handed isdbCode dec (now (decisions .entry))) (length (now (bits .entry)))) (r .short) (now (decisions .entry)) (now (decisions .exit)) (now (out .entry)) (now (out .exit)))
+        (Unchanged dec (r .short) (now (decisions .entry)) (now (decisions .exit)) (now (out .entry)) (now (out .exit))) ⌝ }
+    ensures isdb_answers { λ r. ⌜ r .isdb .answer ≡ firstRow (isdbRows.pushKnownRows dec (length (now (bits .entry))) (length (now (decisions2 .entry))) (length (now (out2 .entry)))) ⌝ }
+    ensures isdb_leaves { λ r. ⌜ Either (r .isdb .answer)
+        (isdbCalls.Leaves (dec .traceback) (isdbCalls.steps (dec .traceback) (knownSteps (now (bits .entry))) (isdbCalls.handed dec (now (decisions2 .entry))) (length (now (bits .entry)))) (r .isdb) (now (decisions2 .entry)) (now (decisions2 .exit)) (now (out2 .entry)) (now (out2 .exit)))
+        (Unchanged dec (r .isdb) (now (decisions2 .entry)) (now (decisions2 .exit)) (now (out2 .entry)) (now (out2 .exit))) ⌝ }
+    ensures agree { λ r. ⌜ ((now (decisions .entry) ≡ now (decisions2 .entry)) → (now (out .entry) ≡ now (out2 .entry))
         → Agree (r .short) (r .isdb) (now (decisions .exit)) (now (decisions2 .exit)) (now (out .exit)) (now (out2 .exit))) ⌝ }
 {
     let pm = dec.pm;
@@ -132,7 +184,15 @@ pub fn flush(
     decisions2: &mut [u64],
     out2: &mut [u8],
 ) -> Both
-    ensures { λ r. ⌜ ((now (decisions .entry) ≡ now (decisions2 .entry)) → (now (out .entry) ≡ now (out2 .entry))
+    ensures short_answers { λ r. ⌜ r .short .answer ≡ firstRow (shortRows.flushRows isdbCode dec (length (now (decisions .entry))) (length (now (out .entry)))) ⌝ }
+    ensures short_leaves { λ r. ⌜ Either (r .short .answer)
+        (shortCalls.Flushes isdbCode dec (shortCalls.bestOf isdbCode dec) (r .short) (now (decisions .entry)) (now (decisions .exit)) (now (out .entry)) (now (out .exit)))
+        (Unchanged dec (r .short) (now (decisions .entry)) (now (decisions .exit)) (now (out .entry)) (now (out .exit))) ⌝ }
+    ensures isdb_answers { λ r. ⌜ r .isdb .answer ≡ firstRow (isdbRows.flushRows dec (length (now (decisions2 .entry))) (length (now (out2 .entry)))) ⌝ }
+    ensures isdb_leaves { λ r. ⌜ Either (r .isdb .answer)
+        (isdbCalls.Flushes dec (r .isdb) (now (decisions2 .entry)) (now (decisions2 .exit)) (now (out2 .entry)) (now (out2 .exit)))
+        (Unchanged dec (r .isdb) (now (decisions2 .entry)) (now (decisions2 .exit)) (now (out2 .entry)) (now (out2 .exit))) ⌝ }
+    ensures agree { λ r. ⌜ ((now (decisions .entry) ≡ now (decisions2 .entry)) → (now (out .entry) ≡ now (out2 .entry))
         → Agree (r .short) (r .isdb) (now (decisions .exit)) (now (decisions2 .exit)) (now (out .exit)) (now (out2 .exit))) ⌝ }
 {
     let pm = dec.pm;
@@ -151,7 +211,15 @@ pub fn flush_at(
     decisions2: &mut [u64],
     out2: &mut [u8],
 ) -> Both
-    ensures { λ r. ⌜ ((now (decisions .entry) ≡ now (decisions2 .entry)) → (now (out .entry) ≡ now (out2 .entry))
+    ensures short_answers { λ r. ⌜ r .short .answer ≡ firstRow (shortRows.flushRows isdbCode dec (length (now (decisions .entry))) (length (now (out .entry)))) ⌝ }
+    ensures short_leaves { λ r. ⌜ Either (r .short .answer)
+        (shortCalls.Flushes isdbCode dec (shortCalls.endOf isdbCode end) (r .short) (now (decisions .entry)) (now (decisions .exit)) (now (out .entry)) (now (out .exit)))
+        (Unchanged dec (r .short) (now (decisions .entry)) (now (decisions .exit)) (now (out .entry)) (now (out .exit))) ⌝ }
+    ensures isdb_answers { λ r. ⌜ r .isdb .answer ≡ firstRow (isdbRows.flushRows dec (length (now (decisions2 .entry))) (length (now (out2 .entry)))) ⌝ }
+    ensures isdb_leaves { λ r. ⌜ Either (r .isdb .answer)
+        (isdbCalls.FlushesAt end dec (r .isdb) (now (decisions2 .entry)) (now (decisions2 .exit)) (now (out2 .entry)) (now (out2 .exit)))
+        (Unchanged dec (r .isdb) (now (decisions2 .entry)) (now (decisions2 .exit)) (now (out2 .entry)) (now (out2 .exit))) ⌝ }
+    ensures agree { λ r. ⌜ ((now (decisions .entry) ≡ now (decisions2 .entry)) → (now (out .entry) ≡ now (out2 .entry))
         → Agree (r .short) (r .isdb) (now (decisions .exit)) (now (decisions2 .exit)) (now (out .exit)) (now (out2 .exit))) ⌝ }
 {
     let pm = dec.pm;

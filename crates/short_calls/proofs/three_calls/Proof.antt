@@ -1,4 +1,4 @@
--- `three_calls` meets its contract: `three-calls` of what the calls promise. Assumes nothing.
+-- `three_calls` meets its contract: it is what the calls promise, and `three-calls` of it. Assumes nothing.
 use mathlib.Core.Path.{_≡_}
 use borrow.Author.Needs.{needs}
 use Rattle.short_calls.specs.Three.{made-is, three-calls}
@@ -25,13 +25,21 @@ returns c =
     let f = c .before .before .before .before .flush in
     let p = c .before .before .before .before .before .before .before .before .before .before .before .push-metrics in
     let s = c .before .before .before .before .before .before .before .before .before .before .before .before .before .before .started in
-    let a = c .before .before .before .before .before .before .before .before .before .before .before .before .before .before .before .before .before .before .args in
-    record {
-      reads = λ n m good count few quads hd ho.
-          let made = made-is (a .code) (a .start) (a .metrics .now) n m good count few quads (s .result) (s .ensures .0) (s .ensures .1) in
-          let t = three-calls (a .code) (a .start) (a .metrics .now) n m good count few quads (p .result) (f .result) (a .decisions .now) (p .last .1 .1 .1 .0) (f .last .1 .1 .0) (a .out .now) (p .last .1 .1 .1 .1 .0) (f .last .1 .1 .1 .0) hd ho (rw (made .1) at (p .ensures .0)) (rw (made .1) at (p .ensures .1)) (f .ensures .0) (f .ensures .1) in
-          (made .0, t .0, t .1, t .2, t .3, t .4);
-    }
+    let a = c .before .before .before .before .before .before .before .before .before .before .before .before .before .before .before .before .before .before .args in (
+      s .ensures .0,
+      (
+        s .ensures .1,
+        (
+          record { words = p .last .1 .1 .1 .0; sent = p .last .1 .1 .1 .1 .0; push-answers = p .ensures .0; push-leaves = p .ensures .1; flush-answers = f .ensures .0; flush-leaves = f .ensures .1 },
+          record {
+            reads = λ n m good count few quads hd ho.
+                let made = made-is (a .code) (a .start) (a .metrics .now) n m good count few quads (s .result) (s .ensures .0) (s .ensures .1) in
+                let t = three-calls (a .code) (a .start) (a .metrics .now) n m good count few quads (p .result) (f .result) (a .decisions .now) (p .last .1 .1 .1 .0) (f .last .1 .1 .0) (a .out .now) (p .last .1 .1 .1 .1 .0) (f .last .1 .1 .1 .0) hd ho (rw (made .1) at (p .ensures .0)) (rw (made .1) at (p .ensures .1)) (f .ensures .0) (f .ensures .1) in
+                (made .0, t .0, t .1, t .2, t .3, t .4);
+          },
+        ),
+      ),
+    )
 
 pub three-calls-spec : {M : Type 1} → statement M
 three-calls-spec =

@@ -1,7 +1,7 @@
--- `encode` meets its contract: what the two calls promise is equal. Assumes nothing.
+-- `encode` meets its contract: it is what the two calls promise, which is equal. Assumes nothing.
 use mathlib.Core.Path.{_≡_, sym}
 use borrow.Author.Needs.{needs}
-use Rattle.short_encode_same.specs.Agrees.{encode-agrees}
+use Rattle.short_encode_same.specs.Agrees.{encode-agrees, counts-coded}
 use Rattle.short_encode_same.proofs.encode.Statement.{statement}
 use Rattle.short_encode_same.proofs.encode.Tie as tie
 
@@ -26,8 +26,10 @@ returns c =
     let short = c .before .before .before .before .before .before .encode in
     let code = c .before .before .before .before .before .before .before .before .isdb-code .ensures in
     let a = c .before .before .before .before .before .before .before .before .before .before .before .before .args in
-    λ e.
-    encode-agrees (a .enc .state) (a .bits .now) (a .out .now) (short .last .1 .1 .1 .0) (isdbt .last .1 .1 .1 .0) (short .result) (isdbt .result) (rw code at (short .ensures .0)) (rw code at (short .ensures .1 .0)) (rw code at (short .ensures .1 .1)) (rw (sym e) at (isdbt .ensures .0)) (rw (sym e) at (isdbt .ensures .1))
+    let sa = rw code at (short .ensures .0) in
+    let ss = rw code at (short .ensures .1 .0) in
+    let sc = rw code at (short .ensures .1 .1) in
+    (sa, (ss, (sc, (isdbt .ensures .0, (isdbt .ensures .1, (counts-coded (a .enc .state) (a .bits .now) (a .out2 .now) (isdbt .last .1 .1 .1 .0) (isdbt .result) (isdbt .ensures .1), λ e. encode-agrees (a .enc .state) (a .bits .now) (a .out .now) (short .last .1 .1 .1 .0) (isdbt .last .1 .1 .1 .0) (short .result) (isdbt .result) sa ss sc (rw (sym e) at (isdbt .ensures .0)) (rw (sym e) at (isdbt .ensures .1))))))))
 
 pub encode-spec : {M : Type 1} → statement M
 encode-spec =

@@ -1,4 +1,4 @@
--- `flush` meets its contract: what the two calls promise is equal. Assumes nothing.
+-- `flush` meets its contract: it is what the two calls promise, which is equal. Assumes nothing.
 use mathlib.Core.Path.{_≡_, sym}
 use borrow.Author.Needs.{needs}
 use Rattle.short_same.specs.SameLaws.{flush-agrees}
@@ -35,8 +35,9 @@ returns c =
     let short = c .before .before .before .before .before .before .before .before .before .before .before .flush in
     let code = c .before .before .before .before .before .before .before .before .before .before .before .before .before .before .isdb-code .ensures in
     let a = c .before .before .before .before .before .before .before .before .before .before .before .before .before .before .before .before .before .before .before .before .before .before .args in
-    λ e f.
-    flush-agrees (a .dec) (c .before .before .before .before .before .before .before .before .before .before .before .before .before .before .before .states .ensures .1) (short .result) (isdb .result) (a .decisions .now) (short .last .1 .1 .0) (isdb .last .1 .0) (a .out .now) (short .last .1 .1 .1 .0) (isdb .last .1 .1 .0) (rw code at (short .ensures .0)) (rw code at (short .ensures .1)) (rw (sym e, sym f) at (isdb .ensures .0)) (rw (sym e, sym f) at (isdb .ensures .1))
+    let sa = rw code at (short .ensures .0) in
+    let sl = rw code at (short .ensures .1) in
+    (sa, (sl, (isdb .ensures .0, (isdb .ensures .1, λ e f. flush-agrees (a .dec) (c .before .before .before .before .before .before .before .before .before .before .before .before .before .before .before .states .ensures .1) (short .result) (isdb .result) (a .decisions .now) (short .last .1 .1 .0) (isdb .last .1 .0) (a .out .now) (short .last .1 .1 .1 .0) (isdb .last .1 .1 .0) sa sl (rw (sym e, sym f) at (isdb .ensures .0)) (rw (sym e, sym f) at (isdb .ensures .1))))))
 
 pub flush-spec : {M : Type 1} → statement M
 flush-spec =

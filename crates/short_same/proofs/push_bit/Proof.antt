@@ -1,4 +1,4 @@
--- `push_bit` meets its contract: what the two calls promise is equal. Assumes nothing.
+-- `push_bit` meets its contract: it is what the two calls promise, which is equal. Assumes nothing.
 use mathlib.Core.Path.{_≡_, sym}
 use borrow.Author.Needs.{needs}
 use Rattle.short_same.specs.SameLaws.{bit-agrees}
@@ -20,7 +20,9 @@ returns c =
     let code = c .before .before .isdb-code in
     let a = c .before .before .before .args in
     let e = code .ensures in
-    bit-agrees (a .enc .state) (a .u) (short .result) (c .push .result) (rw e at (short .ensures .0)) (rw e at (short .ensures .1)) (c .push .ensures .0) (c .push .ensures .1)
+    let sa = rw e at (short .ensures .0) in
+    let sl = rw e at (short .ensures .1) in
+    (sa, (sl, (c .push .ensures .0, (c .push .ensures .1, bit-agrees (a .enc .state) (a .u) (short .result) (c .push .result) sa sl (c .push .ensures .0) (c .push .ensures .1)))))
 
 pub push-bit-spec : {M : Type 1} → statement M
 push-bit-spec = tie.close (tie.spec isdb-code-requires push-bit-requires push-requires returns)

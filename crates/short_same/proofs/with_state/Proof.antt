@@ -1,4 +1,4 @@
--- `with_state` meets its contract: what the two calls promise is equal. Assumes nothing.
+-- `with_state` meets its contract: it is what the two calls promise, which is equal. Assumes nothing.
 use mathlib.Core.Path.{_≡_, sym}
 use borrow.Author.Needs.{needs}
 use Rattle.short_same.specs.SameLaws.{with-state-agrees}
@@ -19,7 +19,9 @@ returns c =
     let short = c .before .with-state in
     let a = c .before .before .before .args in
     let e = c .before .before .isdb-code .ensures in
-    with-state-agrees (a .traceback) (short .result) (c .with-state2 .result) (a .state) (rw e at (short .ensures .0)) (rw e at (short .ensures .1)) (c .with-state2 .ensures .0) (c .with-state2 .ensures .1)
+    let sa = rw e at (short .ensures .0) in
+    let sl = rw e at (short .ensures .1) in
+    (sa, (sl, (c .with-state2 .ensures .0, (c .with-state2 .ensures .1, with-state-agrees (a .traceback) (short .result) (c .with-state2 .result) (a .state) sa sl (c .with-state2 .ensures .0) (c .with-state2 .ensures .1)))))
 
 pub with-state-spec : {M : Type 1} → statement M
 with-state-spec = tie.close (tie.spec isdb-code-requires with-state-requires with-state-requires-2 returns)
