@@ -19,7 +19,7 @@ use Rattle.header_sync.specs.Search.{squares}
 use Rattle.header_mean.specs.Means.{sumFrom, lastTail, forty64, meanPart, powerOf, meanOf, meanAt, nearAxis, turnBy, turnOf}
 use Rattle.header_find.specs.declared.Header.{Header}
 use Rattle.header_find.specs.Headers.{headerOf, headerAt}
-use Rattle.header_turns.specs.Turning.{Quarter, quarterFit, quarterTurn, quarterHeader, turnedHeader, bothAxes, Quarters, none, more}
+use Rattle.header_turns.specs.Turning.{Quarter, quarterFit, quarterTurn, quarterHeader, turnedFit, turnedHeader, bothAxes, Quarters, none, more}
 use Rattle.header_turns.specs.SignLaws.{same-test, above-neg, below-neg, not-both, Alike, zeros, alike-by, alike-trans, add-alike, add-turned, div-alike, div-turned}
 use Rattle.header_turns.specs.AxesLaws.{finite-mean}
 use Rattle.header_turns.specs.MeanLaws.{near-left, near-right, near-neg-left, near-neg-right, power-quarter, turn-quarter}
@@ -220,6 +220,13 @@ module _ (re im x y : List Float) (q : Quarter re im x y) (at : ℕ) where
   unfolding headerOf
   header-turned h = headers (fitAt x y at) (quarterFit (fitAt re im at)) (headerAt x y at .turn) (quarterTurn (headerAt re im at .turn)) fit-turned (turn-turned h)
 
+-- "any capture turned by quarters, noise included, has the same kind, (A, B) turned": of kind and sums with no condition
+pub fit-quarters : (re im : List Float) (at : ℕ) → {n : ℕ} {x y : List Float} → Quarters re im n x y → fitAt x y at ≡ turnedFit n (fitAt re im at)
+unfolding turnedFit
+fit-quarters re im at none = refl
+fit-quarters re im at (more {n} {x} {y} {u} {v} r q) = fit-turned x y u v q at ∙ ap quarterFit (fit-quarters re im at r)
+
+-- "and a turn of two eighths more for each": of all that a header says
 pub header-quarters : (re im : List Float) (at : ℕ) → bothAxes (meanAt re im at) ≡ false
     → {n : ℕ} {x y : List Float} → Quarters re im n x y → (headerAt x y at ≡ turnedHeader n (headerAt re im at)) × (bothAxes (meanAt x y at) ≡ false)
 unfolding turnedHeader

@@ -32,7 +32,11 @@ quarterHeader h = record { first = h .first; turn = quarterTurn (h .turn); re = 
 unfoldable pub bothAxes : Mean → Bool
 bothAxes c = lt zero64 (c .power) && (nearAxis (c .re) (c .im) && nearAxis (c .im) (c .re))
 
--- n quarters
+-- n quarters, of kind and sums, and of all that a header says
+unfoldable pub turnedFit : ℕ → Fit → Fit
+turnedFit zero f = f
+turnedFit (suc n) f = quarterFit (turnedFit n f)
+
 unfoldable pub turnedHeader : ℕ → Header → Header
 turnedHeader zero h = h
 turnedHeader (suc n) h = quarterHeader (turnedHeader n h)
