@@ -435,6 +435,11 @@ fn read_front(
     )
 }
 
+// How many bytes are 7.
+fn kept(bytes: &[u8; LOAD_BYTES]) -> usize {
+    bytes_of(bytes, 0, LOAD_BYTES, 7)
+}
+
 // What is lent in each case: the table, the points, whether the scale is 0, the places of the tables and of the leads.
 struct Lent {
     table: u64,
@@ -483,7 +488,7 @@ fn one_row(
     let found = [
         a,
         words_of(&tables, 0, TABLE_WORDS, 7),
-        bytes_of(&bytes, 0, LOAD_BYTES, 7),
+        kept(&bytes),
         words_of(&leads, 0, SLOTS, 7),
     ];
     show(b"row #: # words, # bytes and # leads as lent\n", &found);
