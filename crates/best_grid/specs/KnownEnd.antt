@@ -201,7 +201,7 @@ module _ (s : ℕ) (us : List ℕ) (r : ℕ) (vs ks : List ℕ) (n : ℕ) (p : P
       let hc : c < 2 = rw (← is-c) (mod-lt (x k) (omega arith)) in
       let hd : d < 2 = rw (← is-d) (mod-lt (y k) (omega arith)) in
       let g : (d < c) ⊎ ((c ≡ d) × ((w < v) ⊎ ((v ≡ w) × T 0))) =
-          ⊎-elim (λ (l : y k % 2 < x k % 2). inl (rw (is-c, is-d) at l)) (λ (m : (x k % 2 ≡ y k % 2) × T k). inr (sym is-c ∙ m .0 ∙ is-d, rest (m .1))) (opened k t) in
+      ⊎-elim (λ (l : y k % 2 < x k % 2). inl (rw (is-c, is-d) at l)) (λ (m : (x k % 2 ≡ y k % 2) × T k). inr (sym is-c ∙ m .0 ∙ is-d, rest (m .1))) (opened k t) in
       rw (is-a, is-e) at (digit-more b c d v w (T 0) hc hd hv hw g)
 
   raised : (k b c d a e v w : ℕ) → x k % 2 ≡ c → y k % 2 ≡ d → v < b → w < b → b * c + v ≡ a → b * d + w ≡ e → ((w < v) ⊎ ((v ≡ w) × T 0) → T k) → (e < a) ⊎ ((a ≡ e) × T 0) → T (suc k)
