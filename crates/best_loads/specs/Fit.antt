@@ -1,4 +1,4 @@
--- How well a full load fits a received frame, which loads differ in a valid slot, and what the best reading of a frame is. No algorithm is named here. Assumes nothing.
+-- How well a full load fits a received frame, which loads differ in a valid slot, and what the best reading of a frame is. No algorithm is named here.
 use mathlib.Core.Path.{_≡_}
 use mathlib.Core.Bool.{Bool, cond}
 use mathlib.Core.List.{List}
@@ -42,7 +42,8 @@ unfoldable pub fitTo : Table → Received → List ℕ → ℕ → ℕ → ℤ
 fitTo t r load s zero = pos 0
 fitTo t r load s (suc k) = fitTo t r load s k +ℤ fitAt t r load s k
 
--- THE FIT of a load that is encoded from the state s
+-- THE FIT of a load that is encoded from the state s. With an unknown start the start is part of what is read: the fit of a load is then the greatest over the 64 starts (`Fits` of OnlyLaws); what is said
+-- below of every load from every start in `from` is said of that greatest.
 abbrev pub fit : Table → Received → List ℕ → ℕ → ℤ
 fit t r load s = fitTo t r load s (frameSteps t)
 
