@@ -157,14 +157,5 @@ pub fn read_of(
     let mut decisions = [0u64; FRAME_WORDS];
     let mut bits = [0u8; BIT_SPACE];
     let mut counts = [0u32; SLOTS];
-    read_over(
-        s,
-        n,
-        re,
-        im,
-        &mut decisions,
-        &mut bits,
-        bytes,
-        &mut counts,
-    )
+    read_over(s, n, re, im, &mut decisions, &mut bits, bytes, &mut counts)
 }
