@@ -7,14 +7,16 @@ use scales_c::not_scales;
 use scales_c::scales_of;
 use table_c::table_of;
 ghost use mathlib.Core.Path.{_≡_};
+ghost use mathlib.Core.List.{_++_};
+ghost use Rattle.frame_rows.specs.DecodeRows.{pointRows};
 ghost use Rattle.frame_read.specs.Scales.{receivedBy};
 ghost use Rattle.table_c.specs.Forms.{tableOf};
 ghost use Rattle.isdb_c.specs.Mappings.{mappingOf, isSet};
 ghost use Rattle.answers_c.specs.Answers.{answered};
+ghost use Rattle.scales_c.specs.Scales.{withScales};
 ghost use Rattle.best_frame.specs.Lent.{lent, lengths};
 ghost use Rattle.best_frame.specs.Left.{Left};
-ghost use Rattle.best_frame.specs.BestRows.{startOf};
-ghost use Rattle.best_c.specs.Calls.{bestScalesRows, EitherBy};
+ghost use Rattle.best_frame.specs.BestRows.{lastRows, startOf};
 
 // The best reading of the 38,976 points of a frame, and by how much it leads in each valid slot. `first` and `known_start` are true unless 0. `scales` has one for each combination, in the order of words 1
 // to 7. `metrics`, `sides`, `words` and `tables` are what it works in.
@@ -36,13 +38,12 @@ pub extern "C" fn isdbs_best_reading(
     bytes: &mut [u8],
     leads: &mut [u64],
 ) -> u32
-    ensures answers { λ r. ⌜ r ≡ answered (bestScalesRows (tableOf table) (now (re .entry)) (now (im .entry)) (now (scales .entry))
-        (lengths (lent (now (metrics .entry)) (now (sides .entry)) (now (words .entry)) (now (tables .entry)) (now (bits .entry)) (now (uncoded .entry)) (now (bytes .entry)) (now (leads .entry))))) ⌝ }
-    ensures leaves { λ r. ⌜ EitherBy r
-        (Left (tableOf table) (receivedBy (now (re .entry)) (now (im .entry)) (mappingOf mapping) (now (scales .entry))) (startOf (isSet «known_start») (isSet first))
+    ensures answers { λ r. ⌜ r ≡ answered (withScales (tableOf table) (now (scales .entry)) (pointRows (now (re .entry)) (now (im .entry)) ++ lastRows (tableOf table) (now (scales .entry))
+        (lengths (lent (now (metrics .entry)) (now (sides .entry)) (now (words .entry)) (now (tables .entry)) (now (bits .entry)) (now (uncoded .entry)) (now (bytes .entry)) (now (leads .entry)))))) ⌝ }
+    ensures leaves { λ r. ⌜ (r ≡ 0 → Left (tableOf table) (receivedBy (now (re .entry)) (now (im .entry)) (mappingOf mapping) (now (scales .entry))) (startOf (isSet «known_start») (isSet first))
         (lent (now (metrics .entry)) (now (sides .entry)) (now (words .entry)) (now (tables .entry)) (now (bits .entry)) (now (uncoded .entry)) (now (bytes .entry)) (now (leads .entry)))
-        (lent (now (metrics .exit)) (now (sides .exit)) (now (words .exit)) (now (tables .exit)) (now (bits .exit)) (now (uncoded .exit)) (now (bytes .exit)) (now (leads .exit))))
-        (lent (now (metrics .exit)) (now (sides .exit)) (now (words .exit)) (now (tables .exit)) (now (bits .exit)) (now (uncoded .exit)) (now (bytes .exit)) (now (leads .exit))
+        (lent (now (metrics .exit)) (now (sides .exit)) (now (words .exit)) (now (tables .exit)) (now (bits .exit)) (now (uncoded .exit)) (now (bytes .exit)) (now (leads .exit)))) ⌝ }
+    ensures keeps { λ r. ⌜ ((r ≡ 0 → ⊥) → lent (now (metrics .exit)) (now (sides .exit)) (now (words .exit)) (now (tables .exit)) (now (bits .exit)) (now (uncoded .exit)) (now (bytes .exit)) (now (leads .exit))
         ≡ lent (now (metrics .entry)) (now (sides .entry)) (now (words .entry)) (now (tables .entry)) (now (bits .entry)) (now (uncoded .entry)) (now (bytes .entry)) (now (leads .entry))) ⌝ }
 {
     let t = table_of(table);
