@@ -121,7 +121,7 @@ uint32_t isdbs_wanted_load(const double *re, size_t re_len, const double *im, si
 /* The verdict: the points of a frame with a part outside the margins of a full load. `bytes` is exactly the load (203 for each valid slot), `first` as above. A margin, per part as lent, is
  * from -1/32 to 1/32 where the encoded part is 0, from 31/32 to 33/32 where it is 1 and from 87/128 to 94/128 where it is 1/sqrt(2), negatives mirrored, ends included; imaginary parts of
  * BPSK and points outside every run may hold anything that row 7 accepts. `counts` begins with the points outside in each of the frame's 48 slots, slot j being points 812j to 812j + 811
- * (whatever the table has there), and *sum is their sum, at most 38,976. Where *sum is 0 the frame is certain: no other full load has the points within its margins. Where it is not, the bytes
+ * (whatever the table has there), and *sum is their sum, at most 38,976. Where *sum is 0 the frame is certain: under this table, mapping and kind no other full load has the points within its margins. Where it is not, the bytes
  * may still be right. Points past 38,976 are not read, counts past 48 not written. Takes about 630 kB of stack. Rows 1, 10, 11, 5 (bytes not exactly the load), 6, 7, 9. Crate judge_c. */
 uint32_t isdbs_judge(const double *re, size_t re_len, const double *im, size_t im_len, uint64_t table, uint8_t mapping,
                      uint8_t first, const uint8_t *bytes, size_t bytes_len, uint32_t *counts, size_t counts_len, uint32_t *sum);
@@ -129,8 +129,8 @@ uint32_t isdbs_judge(const double *re, size_t re_len, const double *im, size_t i
 /* The best reading of a frame: the full load (203 bytes for each valid slot) that fits the 38,976 points best of all, and by how much it leads in each valid slot. `re` to `scales` as in
  * isdbs_decode_frame, whose metrics count here too: four to a trellis step, as whole numbers of units of 2^-20, cut toward zero. A load fits by the sum, over its steps, of the metric at the coded
  * pair that it sends there; at a TC8PSK step the metric counts negative where the load's C2 is not the better one. With a known start the load is sent from that frame's start state, else from whichever
- * of the 64 states serves it best. The frame's end is open. No full load fits better than `bytes`; of equals it is the first by the decoder's ties (the odd predecessor, the highest end
- * state), and of two C2 that fit alike the one that isdbs_decode_frame takes. leads[k], in units of 2^-20: every full load that differs in slot k fits worse by this much at least, and
+ * of the 64 states serves it best. The frame's end is open. No full load fits better than `bytes`; of equals it is the first by the decoder's ties (the highest end state, then the odd
+ * predecessor), and of two C2 that fit alike the one that isdbs_decode_frame takes. leads[k], in units of 2^-20: every full load that differs in slot k fits worse by this much at least, and
  * one by exactly this much; 0 exactly where another content of slot k fits as well. A lead is a distance between readings and no proof: a short strong burst can move the best reading and lead well.
  * Afterwards `bits` begins with the input of each trellis step, `uncoded` with its C2 (0 outside TC8PSK), `bytes` with the load, `leads` with the leads. `metrics` (4 a step), `sides`, `words`
  * (one a step) and `tables` (64 a valid slot) are worked in: free in that front. At most 68,208 steps, 48 slots, 9,744 bytes. Takes about 20 kB of stack. Rows 1, 10, 11, 5, 6, 7, 8, 9. Crate best_c.
@@ -171,8 +171,8 @@ uint32_t isdbs_take_frame(const double *re, size_t re_len, const double *im, siz
  * complement F4988h (W3, the others), high bit first, +1 for bit 0 and -1 for bit 1. A part scores +1 where its sign is that of the symbol, -1 where it is the other, 0 where it is 0 or a
  * NaN. a1 and b1 are the scores of the real and the imaginary parts over W1's symbols, a2 and b2 over W2's; k is 1 where a1 a2 + b1 b2 is above 0, else -1. A = a1 + k a2 (*re_sum) and
  * B = b1 + k b2 (*im_sum) are from -40 to 40; *kind is 1 where k is 1 (first frame), else 0. The mean c is the sum of the 40 symbols, each times its sign (those of W2 times k), begun at 0
- * and in order, divided by 40, each operation rounded; d = c.re c.re + c.im c.im. *turn is in eighths of a turn by the nearest axis or diagonal of c, t being tan(22.5 degrees): 0 or 4 where
- * |c.im| <= t |c.re|, else 2 or 6 where |c.re| <= t |c.im|, else 1, 3, 5 or 7; 8 (none) where A A + B B is below 784 or d is not above 0. A carrier that drifts by more than a quarter of a
+ * and in order, divided by 40, each operation rounded; d = c.re c.re + c.im c.im. *turn is in eighths of a turn by the nearest axis or diagonal of c, t being tan(22.5 degrees): 0 or 4
+ * by the sign of c.re where |c.im| <= t |c.re|, else 2 or 6 by the sign of c.im where |c.re| <= t |c.im|, else 1 (both above 0), 3 (c.re below), 5 (both below) or 7; 8 (none) where A A + B B is below 784 or d is not above 0. A carrier that drifts by more than a quarter of a
  * turn from W1 to W2 (45 kHz at 28.86 MBd) gives the other kind.
  *
  * isdbs_header       what the header says of the frame that begins at point `at`.   Row 6.

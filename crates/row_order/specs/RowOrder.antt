@@ -1,6 +1,6 @@
 -- "The first row that holds, from the top, gives the number returned": the rows of every call stand in the table's order.
 use mathlib.Core.Bool.{Bool, true, false, cond}
-use mathlib.Core.List.{List, [], _∷_}
+use mathlib.Core.List.{List, [], _∷_, _++_}
 use Prim.Native.Nat.{ℕ}
 use lib.Dec.{T}
 use lib.Ieee.{Float}
@@ -27,8 +27,9 @@ use Rattle.full_frame_trips.specs.Rows.{layTakeRows, takeLayRows}
 use Rattle.wanted_load.specs.Rows.{wantedRows}
 use Rattle.judge.specs.Rows.{judgeRows}
 use Rattle.best_frame.specs.declared.Lengths.{Lengths}
-use Rattle.best_frame.specs.BestRows.{bestRows}
-use Rattle.best_c.specs.Calls.{bestScalesRows}
+use Rattle.best_frame.specs.BestRows.{bestRows, lastRows}
+use Rattle.scales_c.specs.Scales.{withScales}
+use Rattle.frame_rows.specs.DecodeRows.{pointRows}
 use Rattle.header_align.specs.Align.{alignRows}
 use Rattle.header_c.specs.Calls.{headerRows}
 use Rattle.mend.specs.Rows.{mendRows}
@@ -129,7 +130,7 @@ module _ (t : Table) (v : ViterbiDecoder) (c : Code) (w : WindowState) (n : Leng
       ∷ withStates xs (short.flushRows c v i j)
       -- with a row 5 for scales that are not seven
       ∷ scalesRows t re im xs i j k l
-      ∷ bestScalesRows t re im xs n
+      ∷ withScales t xs (pointRows re im ++ lastRows t xs n)
       -- with a rate that is unknown: where it is known, they are those of isdbt_fec
       ∷ rateRows (encoderRows i) NoRate (λ c. isdbt.encodeRows c i j k)
       ∷ rateRows [] NoRate (λ c. isdbt.depunctureRows c i j)

@@ -50,7 +50,7 @@ fn release(pm: &[f32], h: usize, traceback: usize, decisions: &mut [u64], out: &
     clear(&mut decisions[traceback..], BLOCK);
 }
 
-// Step i of a call with the release that may follow it: every call of a decoder runs on this.
+// Step i of a call with the release that may follow it: every call of a short code's decoder runs on this.
 pub fn advance(
     pm: &mut [f32],
     code: Code,
