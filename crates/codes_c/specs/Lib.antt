@@ -1,2 +1,3 @@
 pub mod SameAnswers
+pub mod SameLeft
 pub mod Stored

@@ -8,29 +8,34 @@ use lib.Ieee.{Float}
 use Rattle.trellis.specs.Lists.{firstPlace}
 use Rattle.trellis.specs.Isdb
 use Rattle.isdb_fec.specs.Rows as isdb
-use Rattle.short_code.specs.declared.Code.{Code}
 use Rattle.short_fec.specs.Rows as short
+use Rattle.short_same.specs.IsdbCode.{isdbCode}
 use Rattle.answers_c.specs.Answers.{answered}
 use Rattle.answers_c.specs.Lengths.{withStates}
 use Rattle.decoder_c.specs.Decoders.{decoderOf}
 use Rattle.codes_c.specs.Stored.{codeFrom}
 
-abbrev isdbCode : Code
-isdbCode = codeFrom 7 0o171 0o133
+-- the code of ISDB by its three numbers
+pub code-is : codeFrom 7 0o171 0o133 ≡ isdbCode
+code-is = refl
 
 -- path values, the held count and the traceback as C lends them; the lengths of the lent decisions and output
 module _ (pm : List Float) (held tb : ℕ) (decisions out : ℕ) where
+  -- soft values or metrics, `per` for each step
+  pub stream-answers : (per : ℕ) (xs : List Float)
+      → answered (withStates pm (short.streamRows isdbCode per (decoderOf pm held tb) xs decisions out)) ≡ answered (withStates pm (isdb.streamRows per (decoderOf (take Isdb.states pm) held tb) xs decisions out))
+  unfolding firstPlace
+  stream-answers per xs = refl
+
   -- `isdb_code_push` and `isdb_push`
   pub push-answers : (xs : List Float)
       → answered (withStates pm (short.streamRows isdbCode 2 (decoderOf pm held tb) xs decisions out)) ≡ answered (withStates pm (isdb.pushRows (decoderOf (take Isdb.states pm) held tb) xs decisions out))
-  unfolding firstPlace
-  push-answers xs = refl
+  push-answers = stream-answers 2
 
   -- `isdb_code_push_metrics` and `isdb_push_metrics`
   pub push-metrics-answers : (xs : List Float)
       → answered (withStates pm (short.streamRows isdbCode 4 (decoderOf pm held tb) xs decisions out)) ≡ answered (withStates pm (isdb.pushMetricsRows (decoderOf (take Isdb.states pm) held tb) xs decisions out))
-  unfolding firstPlace
-  push-metrics-answers xs = refl
+  push-metrics-answers = stream-answers 4
 
   -- `isdb_code_push_known` and `isdb_push_known`, of n bits
   pub push-known-answers : (n : ℕ)
