@@ -1,5 +1,5 @@
 #!/bin/sh
-# The C calls that the given Rust has, beside it: how many cases of each kind ran, and how many differ.
+# The C calls that the given Rust has, beside it: how many cases of each kind ran, and how many differ. With SHARED=1 over the shared library (compare/linked.sh).
 #   compare/agree.sh [DIR [SCALE]]
 set -eu
 cd "$(dirname "$0")/.."

@@ -1,6 +1,6 @@
 #!/bin/sh
 # Compiles compare/src/NAME.rs over the reference and the static library of the C calls: target/compare/bin/NAME.
-# With KEEP_ARCHIVE=1 the library is taken as it is.
+# With KEEP_ARCHIVE=1 the library is taken as it is. With SHARED=1 it is the shared one (libisdb.so) in place of the static one.
 #   compare/linked.sh NAME
 set -eu
 cd "$(dirname "$0")/.."
@@ -19,4 +19,9 @@ if [ "$1" = speed ]; then
     done
 fi
 # shellcheck disable=SC2086
-compare/program.sh "$1" -A unexpected_cfgs $calls -L target/staticlib -l static=isdb
+if [ "${SHARED:-}" = 1 ]; then
+    compare/program.sh "$1" -A unexpected_cfgs $calls -L target/staticlib -l dylib=isdb -C link-arg=-Wl,-rpath,"$PWD/target/staticlib"
+    readelf -d "target/compare/bin/$1" | grep -q 'NEEDED.*libisdb\.so' || { echo "compare/linked.sh: $1 is not linked with libisdb.so" >&2; exit 2; }
+else
+    compare/program.sh "$1" -A unexpected_cfgs $calls -L target/staticlib -l static=isdb
+fi

@@ -1,6 +1,7 @@
-/* ISDB-S frames and the inner code of ISDB: the calls of the crates of C calls (conv_c, isdbt_c, table_c, isdb_c, codes_c, wanted_c, mend_c, judge_c, header_c, best_c).
+/* ISDB-S frames and the inner code of ISDB: the calls of the crates of C calls (conv_c, isdbt_c, table_c, isdb_c, codes_c, wanted_c, mend_c, judge_c, header_c, best_c, version_c).
  *
- * Link target/staticlib/libisdb.a, which `tools/archive` writes (x86-64 Linux). No call allocates, keeps anything or prints.
+ * `tools/archive` writes libisdb.a and libisdb.so, `tools/install PREFIX` installs them with this header and isdb.pc (x86-64 Linux); then `pkg-config --cflags --libs isdb` says how to build.
+ * No call allocates, keeps anything or prints. C11 and C++17.
  *
  * A slice is a pointer and a length, in elements. A pointer must be aligned and good for that many elements, and not NULL also where the length is 0 (it is then not read).
  * A pointer to a number must be good for that number. Slices and numbers that a call writes must not overlap other slices or numbers that are lent to it.
@@ -58,7 +59,24 @@
  *       return 0;
  *   }
  *
- *   cc -I include example.c target/staticlib/libisdb.a
+ *   cc example.c $(pkg-config --cflags --libs isdb)
+ *
+ * Buffers, in elements, that serve every table (a call asks only for what its own table needs; row 9 says that one is too short):
+ *
+ *   re, im            double    ISDBS_MAIN_SYMBOLS    points of a frame without header and bursts; of a full frame ISDBS_FRAME_SYMBOLS
+ *   bytes             uint8_t   ISDBS_BYTES           the load: ISDBS_SLOT_BYTES for each valid slot, in order
+ *   decisions         uint64_t  ISDBS_WORDS           isdbs_decode_frame, isdb_mend; of a decoder with traceback T: ISDB_RELEASED + T
+ *   bits              uint8_t   ISDBS_BITS            isdbs_decode_frame; isdbs_best_reading ISDBS_STEPS
+ *   counts            uint32_t  ISDBS_SLOTS           isdbs_decode_frame (valid slots), isdbs_judge (all slots)
+ *   metrics           float     4 * ISDBS_STEPS       isdbs_best_reading
+ *   sides, uncoded    uint8_t   ISDBS_STEPS           isdbs_best_reading
+ *   words             uint64_t  ISDBS_STEPS           isdbs_best_reading
+ *   tables            uint64_t  64 * ISDBS_SLOTS      isdbs_best_reading
+ *   leads             uint64_t  ISDBS_SLOTS           isdbs_best_reading
+ *   scales            float     ISDBS_SCALES          exactly
+ *   pm                float     ISDB_PATH_VALUES      exactly
+ *   places            uint32_t  ISDB_MEND_PLACES      isdb_mend
+ *   kept              uint32_t  ISDBS_WINDOW          isdbs_window_push
  */
 #ifndef ISDB_H
 #define ISDB_H
@@ -67,9 +85,88 @@
 #include <stddef.h>
 #include <stdint.h>
 
+/* The version. isdb_version() says that of the library that is linked: 10,000 times the first number, 100 times the second, and the third. The first changes where a caller must change; the shared
+ * library's name has it (libisdb.so.1). */
+#define ISDB_VERSION_MAJOR 1
+#define ISDB_VERSION_MINOR 0
+#define ISDB_VERSION_PATCH 0
+#define ISDB_VERSION (10000 * ISDB_VERSION_MAJOR + 100 * ISDB_VERSION_MINOR + ISDB_VERSION_PATCH)
+#define ISDB_VERSION_STRING "1.0.0"
+
+/* A frame. */
+#define ISDBS_SLOTS 48           /* slots */
+#define ISDBS_SLOT_SYMBOLS 812   /* points of a slot */
+#define ISDBS_SLOT_BYTES 203     /* bytes of a valid slot */
+#define ISDBS_MAIN_SYMBOLS 38976 /* points of the main signal: 48 slots */
+#define ISDBS_HEADER_SYMBOLS 192 /* points of the header */
+#define ISDBS_BURST_SYMBOLS 768  /* points of the 192 bursts */
+#define ISDBS_FRAME_SYMBOLS 39936 /* points of a full frame: header, main and burst points */
+#define ISDBS_BYTES 9744         /* bytes of a load, at most */
+#define ISDBS_STEPS 68208        /* trellis steps, at most */
+#define ISDBS_BITS 68224         /* decoded bits, at most: steps and 16 */
+#define ISDBS_WORDS 4224         /* decision words: 4,096 and a traceback of 128 */
+#define ISDBS_SCALES 7           /* scales, of words 1 to 7 */
+#define ISDBS_RUNS 4             /* runs, at most */
+#define ISDBS_RUN_NUMBERS 6      /* numbers of a run */
+#define ISDBS_WINDOW 256         /* sums of a window, at most */
+#define ISDBS_NO_TURN 8          /* *turn where there is no frame */
+
+/* The decoder. */
+#define ISDB_PATH_VALUES 64      /* path values, at every constraint length */
+#define ISDB_RELEASED 4096       /* bits that leave at once; a decoder holds fewer than 4,096 + traceback words */
+#define ISDB_TRACEBACK 1024      /* traceback, at most */
+#define ISDB_MEND_BITS 8192      /* bits of a stretch to be mended, at most */
+#define ISDB_MEND_PLACES 4       /* wrong bits that are mended, at most */
+
+/* The answers. */
+enum isdb_answer {
+    ISDB_ANSWER_ACCEPTED = 0,
+    ISDB_ANSWER_TABLE = 1,
+    ISDB_ANSWER_POSITION = 2,
+    ISDB_ANSWER_TRACEBACK = 3,
+    ISDB_ANSWER_STATE = 4,
+    ISDB_ANSWER_LENGTH = 5,
+    ISDB_ANSWER_SYMBOLS = 6,
+    ISDB_ANSWER_SAMPLE = 7,
+    ISDB_ANSWER_SCALE = 8,
+    ISDB_ANSWER_SPACE = 9,
+    ISDB_ANSWER_PART_UNIT = 10,
+    ISDB_ANSWER_RESERVED_WORD = 11,
+    ISDB_ANSWER_CODE = 12,
+    ISDB_ANSWER_NO_LOAD = 13,
+    ISDB_ANSWER_WINDOW = 14,
+    ISDB_ANSWER_UNMENDABLE = 15
+};
+
 #ifdef __cplusplus
 extern "C" {
 #endif
+
+/* An answer in words. */
+static inline const char *isdb_answer_text(uint32_t answer) {
+    switch (answer) {
+    case ISDB_ANSWER_ACCEPTED: return "accepted";
+    case ISDB_ANSWER_TABLE: return "the table takes more than 48 slots";
+    case ISDB_ANSWER_POSITION: return "a bit is above 1,000,000, or a word is outside 1 to 7";
+    case ISDB_ANSWER_TRACEBACK: return "the traceback is 0 or above 1,024";
+    case ISDB_ANSWER_STATE: return "a state is out of its range";
+    case ISDB_ANSWER_LENGTH: return "a length does not fit";
+    case ISDB_ANSWER_SYMBOLS: return "there are fewer points than the call reads";
+    case ISDB_ANSWER_SAMPLE: return "a sample is not a finite number or is beyond its limit, or a header has no size";
+    case ISDB_ANSWER_SCALE: return "a scale is not above 0, or is above 64";
+    case ISDB_ANSWER_SPACE: return "the space for what is written is too short";
+    case ISDB_ANSWER_PART_UNIT: return "the slots of an entry do not fill whole units";
+    case ISDB_ANSWER_RESERVED_WORD: return "an entry gives slots to a reserved word";
+    case ISDB_ANSWER_CODE: return "a code has a length of 3 to 7 and two generators of that length";
+    case ISDB_ANSWER_NO_LOAD: return "no full load has exactly these points";
+    case ISDB_ANSWER_WINDOW: return "a window is of 1 to 256 frames, and its state and sums are within their ranges";
+    case ISDB_ANSWER_UNMENDABLE: return "no coded stretch between these states lies within four bits";
+    default: return "no such answer";
+    }
+}
+
+/* The version of the library that is linked, as ISDB_VERSION has it. Crate version_c. */
+uint32_t isdb_version(void);
 
 /* Whether floats of this thread are computed as every call here needs it: rounded to nearest, subnormals kept. It computes, so it sees the setting that is in force (fegetround need not), and volatile
  * keeps the compiler from knowing the result. */
@@ -80,26 +177,26 @@ static inline int isdb_environment_ok(void) {
     return above == one && below == one && twice == least;
 }
 
-/* The f32 nearest to x, ties to even, small values included. Any x. */
+/* A soft value from a double, rounded as the decoder does it: the f32 nearest to x, ties to even, small values included. Any x. */
 float isdbs_soft(double x);
 
-/* The words of the 48 slots, 0 for a slot without a mark; as many are marked as are valid. Writes 48 places. Rows 1, 10, 11, 9. */
+/* Which combination each slot has: the words of the 48 slots, 0 for a slot without a mark; as many are marked as are valid. Writes 48 places. Rows 1, 10, 11, 9. */
 uint32_t isdbs_slot_combinations(uint64_t table, uint8_t *out, size_t out_len);
 
-/* The runs of the frame, in order. For each: word, slot start, slot end, valid slots, symbol start, symbol end; an end is one past the last.
+/* Where each combination stands in a frame: its runs, in order. For each: word, slot start, slot end, valid slots, symbol start, symbol end; an end is one past the last.
  * Writes 6 numbers for each run, of which there are at most 4, and how many runs there are to *count. Rows 1, 10, 11, 9. */
 uint32_t isdbs_runs(uint64_t table, uint32_t *out, size_t out_len, uint32_t *count);
 
-/* The symbol, from the start of its run, that carries the first coded bit of information bit `bit`. Row 2. */
+/* Where an information bit is sent: the symbol, from the start of its run, that carries the first coded bit of information bit `bit`. Row 2. */
 uint32_t isdbs_bit_symbol(uint8_t word, uint64_t bit, uint64_t *out);
 
-/* The 38,976 points of a frame as real and imaginary parts, from its bytes (203 for each valid slot; missing bits are 0, surplus ones ignored), the
+/* Makes a frame: its 38,976 points as real and imaginary parts, from its bytes (203 for each valid slot; missing bits are 0, surplus ones ignored), the
  * encoder starting at `state`: 0 for the first frame of a superframe and 63 for the others. *end is its state after the last bit. Points outside
  * every run are (0, 0), (0, -0.0) where the mapping conjugates. Needs 38,976 places of either part and writes as many. Rows 1, 10, 11, 4, 9. */
 uint32_t isdbs_encode_frame(const uint8_t *bytes, size_t bytes_len, uint64_t table, uint8_t mapping, uint8_t state,
                             double *re, size_t re_len, double *im, size_t im_len, uint8_t *end);
 
-/* The bytes of a frame from its 38,976 points; points past them are not read. `first`: the first frame of a superframe (any number but 0).
+/* Reads a frame: its bytes from its 38,976 points; points past them are not read. `first`: the first frame of a superframe (any number but 0).
  * `known_start`: the decoder starts in that frame's start state (any number but 0), else in no known one. `scales` (usually all 8) has seven scales of the
  * soft values in the order of words 1 to 7: a run is read with the scale of its combination. Row 5: they are not seven; row 8 is of any of them, used or not.
  * Afterwards `bits` begins with steps + 16 decoded bits, one in a byte, the first 4,224 words of `decisions` are 0, and `bytes` begins with 203 bytes
@@ -151,7 +248,7 @@ uint32_t isdbs_best_reading(const double *re, size_t re_len, const double *im, s
                             uint64_t *tables, size_t tables_len, uint8_t *bits, size_t bits_len, uint8_t *uncoded, size_t uncoded_len,
                             uint8_t *bytes, size_t bytes_len, uint64_t *leads, size_t leads_len);
 
-/* Full frames of 39,936 symbols, as real and imaginary parts: 192 header points at places 0 to 191, then 192 times 203 main points and a burst of 4.
+/* Puts a frame's header, main and burst points together and takes them apart: full frames of 39,936 symbols, as real and imaginary parts: 192 header points at places 0 to 191, then 192 times 203 main points and a burst of 4.
  * Symbol j of burst b is point 4b + j of the burst's 768. Points are only copied, NaN and infinities too (a NaN's bits are free); those past 192, 38,976,
  * 768 and 39,936 are neither read nor written.
  *
@@ -167,7 +264,7 @@ uint32_t isdbs_take_frame(const double *re, size_t re_len, const double *im, siz
                           double *main_re, size_t main_re_len, double *main_im, size_t main_im_len,
                           double *burst_re, size_t burst_re_len, double *burst_im, size_t burst_im_len);
 
-/* Whole frames in a capture, by the 40 header symbols that every frame has: symbols 12 to 31 carry W1's coded tail ECD28h, 172 to 191 W2's 0B677h (first frame of a superframe) or its
+/* Finds whole frames in a capture and turns them right, by the 40 header symbols that every frame has: symbols 12 to 31 carry W1's coded tail ECD28h, 172 to 191 W2's 0B677h (first frame of a superframe) or its
  * complement F4988h (W3, the others), high bit first, +1 for bit 0 and -1 for bit 1. A part scores +1 where its sign is that of the symbol, -1 where it is the other, 0 where it is 0 or a
  * NaN. a1 and b1 are the scores of the real and the imaginary parts over W1's symbols, a2 and b2 over W2's; k is 1 where a1 a2 + b1 b2 is above 0, else -1. A = a1 + k a2 (*re_sum) and
  * B = b1 + k b2 (*im_sum) are from -40 to 40; *kind is 1 where k is 1 (first frame), else 0. The mean c is the sum of the 40 symbols, each times its sign (those of W2 times k), begun at 0
@@ -188,7 +285,7 @@ uint32_t isdbs_find_frame(const double *re, size_t re_len, const double *im, siz
 uint32_t isdbs_align_frame(const double *re, size_t re_len, const double *im, size_t im_len, uint64_t at, double *out_re, size_t out_re_len,
                            double *out_im, size_t out_im_len);
 
-/* The last sums of a run of frames, `window` of them at most (1 to 256), with their total and greatest. The state is the caller's: how many sums are
+/* Watches a run of frames: the last sums of strained steps, `window` of them at most (1 to 256), with their total and greatest. The state is the caller's: how many sums are
  * kept (*fill) and the place of the next one (*next), both 0 at first; `kept` has the sums, the first *fill places. A push keeps `sum` at the next
  * place, or, where `clear` is not 0, forgets all earlier sums and keeps it at place 0; no other place is written. *fill becomes one more, at most `window` (1 after a
  * clearing push), and *next the place after that of the sum, 0 after the last. *total and *greatest are written and
@@ -196,7 +293,7 @@ uint32_t isdbs_align_frame(const double *re, size_t re_len, const double *im, si
 uint32_t isdbs_window_push(uint32_t window, uint32_t *fill, uint32_t *next, uint8_t clear, uint32_t sum, uint32_t *kept, size_t kept_len,
                            uint32_t *total, uint32_t *greatest);
 
-/* The decoder of the code of constraint length 7 with generators 171 and 133 octal. Its state is the caller's: 64 path values (0 at a known start
+/* Decodes a stream piece by piece: the decoder of the code of constraint length 7 with generators 171 and 133 octal. Its state is the caller's: 64 path values (0 at a known start
  * state and -1,000,000 elsewhere, or all 0), how many decision words are held (0) and the traceback (1 to 1,024). The held words are the first of
  * `decisions`. A call takes its steps one by one; as 4,096 + traceback words are held, 4,096 bits leave to `out`, one in a byte. *count is how many.
  * Accepted, a push writes `pm`, *held, the held words at the front of `decisions` and *count places of `out`; where bits left, the words past the held ones up to
@@ -223,7 +320,7 @@ uint32_t isdb_flush(float *pm, size_t pm_len, uint64_t *held, uint64_t traceback
 uint32_t isdb_flush_at(float *pm, size_t pm_len, uint64_t *held, uint64_t traceback, uint8_t end,
                        uint64_t *decisions, size_t decisions_len, uint8_t *out, size_t out_len, uint64_t *count);
 
-/* Codes of constraint length 3 to 7 with two generators, each below 2^length with its top bit set: the encoder, and the decoder's calls as above. `length`, `g1` and
+/* Encodes and decodes other short codes: constraint length 3 to 7 with two generators, each below 2^length with its top bit set: the encoder, and the decoder's calls as above. `length`, `g1` and
  * `g2` stand first; `pm` is 64 long at every length. The first 2^(length-1) path values are those of the states, the others do not count, also not in
  * row 4, and are as before (a NaN's bits are free). Row 12: any other length or generator, right before 4. Length 7 with 0171 and 0133 answers and leaves what the calls above do.
  *
@@ -245,7 +342,7 @@ uint32_t isdb_code_flush(uint8_t length, uint8_t g1, uint8_t g2, float *pm, size
 uint32_t isdb_code_flush_at(uint8_t length, uint8_t g1, uint8_t g2, float *pm, size_t pm_len, uint64_t *held, uint64_t traceback, uint8_t end,
                             uint64_t *decisions, size_t decisions_len, uint8_t *out, size_t out_len, uint64_t *count);
 
-/* The punctured code of ISDB-T. Rates 0 to 4: 1/2, 2/3, 3/4, 5/6, 7/8. A period is 1, 2, 3, 5, 7 bits and 2, 3, 4, 6, 8 sent ones.
+/* Encodes and decodes the punctured code of ISDB-T. Rates 0 to 4: 1/2, 2/3, 3/4, 5/6, 7/8. A period is 1, 2, 3, 5, 7 bits and 2, 3, 4, 6, 8 sent ones.
  *
  * isdbt_encode_punctured  encodes bits, the low bit of each byte, from *state on and leaves the state there. Rows 4, 5, 9.
  * isdbt_depuncture        puts soft values back to their places among the mother code's, 0 at those not sent. Rows 5, 9.
@@ -258,7 +355,7 @@ uint32_t isdbt_depuncture(uint8_t rate, const float *llrs, size_t llrs_len, floa
 uint32_t isdbt_decode_punctured(uint8_t rate, const float *llrs, size_t llrs_len, uint64_t traceback,
                                 uint64_t *decisions, size_t decisions_len, uint8_t *out, size_t out_len, uint64_t *count);
 
-/* A stored stretch of coded bits, X then Y of each step, one in a byte, between the states `start` and `end` (mod 64), with at most four wrong bits. `out` begins with the coded
+/* Mends a stored stretch of coded bits, X then Y of each step, one in a byte, between the states `start` and `end` (mod 64), with at most four wrong bits. `out` begins with the coded
  * stretch between those states that differs from `bits` in at most four bits (there is only one), as long as `bits`; `places` with the positions in which it differs, rising, X of
  * step t at 2t and Y at 2t + 1, and *count is how many. `places` needs four places and `decisions` 4,224 words, which are 0 afterwards. Answer 15: there is no such stretch. Rows 5 (an odd
  * number of bits, more than 8,192, a byte above 1), 9, 15. Crate mend_c. */
