@@ -28,7 +28,7 @@ clang=$(command -v clang || true)
 clangxx=$(command -v clang++ || true)
 for compiler in "${CC:-cc} -std=c11" "${CXX:-c++} -x c++ -std=c++17" "${clang:+clang -std=c11}" "${clangxx:+clang++ -x c++ -std=c++17}"; do
     [ -n "$compiler" ] || continue
-    for name in example version; do
+    for name in example families version; do
         for library in "$shared" "$static"; do
             # shellcheck disable=SC2086
             $compiler $strict $flags -o "$out/bin/$name" "compare/c/$name.c" -x none $library
@@ -37,6 +37,7 @@ for compiler in "${CC:-cc} -std=c11" "${CXX:-c++} -x c++ -std=c++17" "${clang:+c
     done
     cat "$out/example.txt"
     grep -q '^answers 0 and 0, 1421 of 1421 bytes the same, 0 steps strained$' "$out/example.txt" || fail "the example ($compiler) says something else"
+    diff compare/c/families.txt "$out/families.txt" || fail "the examples ($compiler) say something else"
     echo "ok: $compiler, shared and static"
 done
 

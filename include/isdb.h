@@ -36,7 +36,7 @@
  *
  * A mapping is one byte: bit 0 conjugate, bit 1 qpsk_p1_on_q, bit 2 tc8psk_c1_is_y (4 is the usual one). Its other bits do not count.
  *
- * Example (compare/c/example.c):
+ * Example (compare/c/example.c; compare/c/families.c has one for each family of calls):
  *
  *   #include <stdio.h>
  *   #include "isdb.h"
