@@ -6,8 +6,9 @@ mod words;
 use bench_line::words::part;
 use bench_line::words::parts;
 use bench_line::words::same;
-use bench_setting::usage::misused;
 use isdbs_frame::FRAME_SYMBOLS;
+use words::misused;
+pub use words::show_usage;
 
 // The points that are held at once: a frame at each of 39,936 places.
 const PIECE: usize = 2 * FRAME_SYMBOLS - 1;

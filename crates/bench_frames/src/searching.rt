@@ -12,14 +12,20 @@ use header_find::find_frame;
 use isdbs_frame::FRAME_SYMBOLS;
 use refusal::Answer;
 
-// The points that are held: how many, and which of the capture the first one is; the frames found; whether the capture was read well so far, and how many bytes of one
-// more point it has.
+// The frames found: how many, how many of them begin within the one before, and the place after the last.
+struct Found {
+    frames: usize,
+    within: usize,
+    end: usize,
+}
+
+// The points that are held: how many, and which of the capture the first one is; whether the capture was read well so far, and how many bytes of one more point it has.
 struct Held {
     count: usize,
     start: usize,
-    frames: usize,
     well: bool,
     over: usize,
+    found: Found,
 }
 
 // a + b, or a where that is too large.
@@ -77,12 +83,13 @@ fn read_on(
     im: &mut [f64; PIECE],
 ) -> Held {
     let got = read_from(opened, name, held.count, re, im);
+    let found = held.found;
     Held {
         count: plus(held.count, got.count),
         start: held.start,
-        frames: held.frames,
         well: got.well,
-        over: got.over,
+        over: plus(held.over, got.over),
+        found: found,
     }
 }
 
@@ -90,7 +97,7 @@ fn read_on(
 fn forget(
     held: Held,
     by: usize,
-    frames: usize,
+    found: Found,
     re: &mut [f64; PIECE],
     im: &mut [f64; PIECE],
 ) -> Held {
@@ -99,25 +106,51 @@ fn forget(
     Held {
         count: minus(held.count, by),
         start: plus(held.start, by),
-        frames: frames,
         well: held.well,
         over: held.over,
+        found: found,
     }
 }
 
-// Looks for a frame among the points that are held, says it, and forgets the points up to its end; where there is none, all places that were looked at.
+// What lies between the end of the frame before and a frame, and the frames with this one.
+fn next_found(found: Found, place: usize) -> Found {
+    if place < found.end {
+        text(b"  it begins within the frame before it\n");
+    }
+    if place > found.end {
+        say(
+            b"  before it $ points in no frame\n",
+            &[minus(place, found.end)],
+        );
+    }
+    Found {
+        frames: plus(found.frames, 1),
+        within: if place < found.end {
+            plus(found.within, 1)
+        } else {
+            found.within
+        },
+        end: plus(place, FRAME_SYMBOLS),
+    }
+}
+
+// Looks for a frame among the points that are held, says it, and forgets the points up to its first; where there is none, all places that were looked at.
 fn look(held: Held, re: &mut [f64; PIECE], im: &mut [f64; PIECE]) -> Held {
-    let answer = find_frame(front_parts(re, held.count), front_parts(im, held.count), 0);
+    let count = held.count;
+    let found = held.found;
+    let answer = find_frame(front_parts(re, count), front_parts(im, count), 0);
     match answer {
         FrameAnswer::Refused(_) => held,
         FrameAnswer::Found(p, h) => {
             if h.turn > 7 {
-                let past = plus(minus(held.count, FRAME_SYMBOLS), 1);
-                return forget(held, past, held.frames, re, im);
+                let past = plus(minus(count, FRAME_SYMBOLS), 1);
+                return forget(held, past, found, re, im);
             }
-            say(b"frame at point $", &[plus(held.start, p)]);
-            words::header(h);
-            forget(held, plus(p, FRAME_SYMBOLS), plus(held.frames, 1), re, im)
+            let place = plus(held.start, p);
+            say(b"frame at point $", &[place]);
+            words::header(h, front_parts(re, count), front_parts(im, count), p);
+            let more = next_found(found, place);
+            forget(held, plus(p, 1), more, re, im)
         }
     }
 }
@@ -130,9 +163,13 @@ fn all(opened: i32, name: &[u8], re: &mut [f64; PIECE], im: &mut [f64; PIECE]) -
     let mut held = Held {
         count: 0,
         start: 0,
-        frames: 0,
         well: true,
         over: 0,
+        found: Found {
+            frames: 0,
+            within: 0,
+            end: 0,
+        },
     };
     for _ in 0..PIECES {
         held = read_on(opened, name, held, re, im);
@@ -144,23 +181,41 @@ fn all(opened: i32, name: &[u8], re: &mut [f64; PIECE], im: &mut [f64; PIECE]) -
     held
 }
 
-// The last lines.
-fn end(name: &[u8], held: Held) {
-    file(b"capture", name, plus(held.start, held.count), b" points");
-    if held.over > 0 {
-        say(b" and $ bytes over", &[held.over]);
-    }
-    say(b"; frames found: $\n", &[held.frames]);
-    if plus(held.start, held.count) < FRAME_SYMBOLS {
+// The last line, by the points of the capture.
+fn verdict(points: usize, found: Found) {
+    if points < FRAME_SYMBOLS {
         report::refused(Answer::Symbols);
         text(b"a whole frame has 39,936 points\n");
         return;
     }
-    if held.frames == 0 {
+    if found.frames == 0 {
         text(b"doubtful: no frame was found\n");
         return;
     }
+    if found.within > 0 {
+        text(b"doubtful: a frame begins within another\n");
+        return;
+    }
     text(b"ok\n");
+}
+
+// The last lines.
+fn end(name: &[u8], held: Held) {
+    let points = plus(held.start, held.count);
+    let found = held.found;
+    file(b"capture", name, points, b" points");
+    if held.over > 0 {
+        say(b" and $ bytes over", &[held.over]);
+    }
+    say(b"; frames found: $", &[found.frames]);
+    if points > found.end {
+        say(
+            b"; in no frame at the end: $ points",
+            &[minus(points, found.end)],
+        );
+    }
+    text(b"\n");
+    verdict(points, found);
 }
 
 pub(crate) fn frames(name: &[u8], re: &mut [f64; PIECE], im: &mut [f64; PIECE]) {

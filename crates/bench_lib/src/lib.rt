@@ -25,9 +25,21 @@ fn place_of(list: &[u8], word: &[u8]) -> usize {
 // The place of a command's word among all of them.
 fn command_of(word: &[u8]) -> usize {
     place_of(
-        b"make read judge compare lay part bytes series mend overlay best version help --help -h",
+        b"make read judge compare lay part bytes series mend overlay best frames cut version help --help -h",
         word,
     )
+}
+
+// bench help
+fn help() {
+    bench_frames::show_usage();
+    usage::help();
+}
+
+// A word that is no command.
+fn unknown(word: &[u8]) {
+    bench_frames::show_usage();
+    usage::misused(b"there is no command", word);
 }
 
 // Runs the command of a line, by its place.
@@ -45,9 +57,11 @@ pub fn run(line: &[u8]) {
         8 => bench_mend::mend(line),
         9 => bench_overlay::overlay(line),
         10 => bench_best::best(line),
-        11 => usage::version(),
-        12..=14 => usage::help(),
-        _ => usage::misused(b"there is no command", word),
+        11 => bench_frames::frames(line),
+        12 => bench_frames::cut(line),
+        13 => usage::version(),
+        14..=16 => help(),
+        _ => unknown(word),
     }
 }
 

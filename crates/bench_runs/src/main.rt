@@ -1,6 +1,6 @@
 // The bench program's commands, run one after another on files of this folder: what is written is held to the file stdout.
 // The file data/lines has a line for each step: $ and a command of bench; # and words that are shown; or what is done to a file by hand:
-// show NAME, cut NAME SIZE, patch NAME PLACE BYTES (in hexadecimal digits), noise NAME.
+// show NAME, cut NAME SIZE, patch NAME PLACE BYTES (in hexadecimal digits), noise NAME, join NAME NAME OUT, turn NAME OUT.
 use bench_line::space::LINE_BYTES;
 use bench_line::words::Number;
 use bench_line::words::digits;
@@ -105,18 +105,18 @@ fn cut(line: &[u8]) {
     libc::close(file);
 }
 
-// Shows some of an open file, and answers whether there may be more.
-fn show_some(file: i32) -> bool {
+// Copies some of an open file to another, and answers whether there may be more.
+fn copy_some(from: i32, to: i32) -> bool {
     let mut buffer = io::buffer();
-    let n = io::read_full(file, &mut buffer);
-    io::write_all(STDOUT_FILENO, &buffer[..n]);
+    let n = io::read_full(from, &mut buffer);
+    io::write_all(to, &buffer[..n]);
     n == LINE_BYTES
 }
 
-// Shows an open file of up to 100 buffers.
-fn show_all(file: i32) {
-    let mut turns: usize = 100;
-    while turns > 0 && show_some(file) {
+// Copies an open file of up to 1,000 buffers.
+fn copy_all(from: i32, to: i32) {
+    let mut turns: usize = 1_000;
+    while turns > 0 && copy_some(from, to) {
         turns = turns - 1;
     }
 }
@@ -131,9 +131,57 @@ fn show(name: &[u8]) {
         text(b"there is none\n\n");
         return;
     }
-    show_all(file);
+    copy_all(file, STDOUT_FILENO);
     libc::close(file);
     text(b"\n");
+}
+
+// Adds a file to an open one.
+fn add(name: &[u8], to: i32) {
+    let file = os::open_read(name);
+    if file < 0 {
+        text(b"no such file to join\n");
+        return;
+    }
+    copy_all(file, to);
+    libc::close(file);
+}
+
+// join NAME NAME OUT: one file after another.
+fn join(line: &[u8]) {
+    let out = os::open_overwrite(part(line, b' ', 3));
+    if out < 0 {
+        text(b"no file to join in\n");
+        return;
+    }
+    add(part(line, b' ', 1), out);
+    add(part(line, b' ', 2), out);
+    libc::close(out);
+}
+
+// Copies a part with its other sign, and answers whether there may be more.
+fn turn_part(from: i32, to: i32) -> bool {
+    let mut bytes = [0u8; 8];
+    let n = io::read_full(from, &mut bytes);
+    bytes[7] = bytes[7] ^ 0x80;
+    n == 8 && io::write_all(to, &bytes)
+}
+
+// Copies the points of an open file, of up to ten frames, turned by 180 degrees.
+fn turn_all(from: i32, to: i32) {
+    let mut turns: usize = 10 * PARTS;
+    while turns > 0 && turn_part(from, to) {
+        turns = turns - 1;
+    }
+}
+
+// turn NAME OUT: the points of a file turned by 180 degrees.
+fn turn(line: &[u8]) {
+    let file = os::open_read(part(line, b' ', 1));
+    let out = os::open_overwrite(part(line, b' ', 2));
+    turn_all(file, out);
+    libc::close(file);
+    libc::close(out);
 }
 
 // The next number of a sequence without order.
@@ -202,6 +250,14 @@ fn by_hand(line: &[u8]) {
     }
     if same(what, b"noise") {
         noise(part(line, b' ', 1));
+        return;
+    }
+    if same(what, b"join") {
+        join(line);
+        return;
+    }
+    if same(what, b"turn") {
+        turn(line);
         return;
     }
     text(b"no step: ");
