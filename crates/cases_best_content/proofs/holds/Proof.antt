@@ -1,0 +1,50 @@
+-- `holds` is safe and ends. Assumes nothing.
+use Prim.Native.Nat.{_-_, _≤_}
+use borrow.Author.Needs.{needs}
+use Rattle.cases_best_content.proofs.holds.Statement.{statement}
+use Rattle.cases_best_content.proofs.holds.Tie as tie
+
+abbrev Inv-loop : tie.InvT-loop
+Inv-loop out n bits left₀ k₀ left k = k ≤ 10
+
+abbrev μ-loop : tie.MeasureT-loop
+μ-loop out n bits left₀ k₀ left k = 10 - k
+
+loop-holds : tie.Need-loop-holds Inv-loop μ-loop
+loop-holds c = search needs
+
+cast-wanted : tie.Need-cast-wanted Inv-loop μ-loop
+cast-wanted c = search needs
+
+element-copy-out-if2 : tie.Need-element-copy-out-if2 Inv-loop μ-loop
+element-copy-out-if2 c = search needs
+
+returns : tie.Need-returns Inv-loop μ-loop
+returns c = search needs
+
+add-k : tie.Need-add-k Inv-loop μ-loop
+add-k c = search needs
+
+loop-less : tie.Need-loop-less Inv-loop μ-loop
+loop-less c = search needs
+
+loop-again : tie.Need-loop-again Inv-loop μ-loop
+loop-again c = search needs
+
+returns-2 : tie.Need-returns-2 Inv-loop μ-loop
+returns-2 c = search needs
+
+pub holds-spec : {M : Type 1} → statement M
+holds-spec =
+    tie.close
+    (tie.spec
+    Inv-loop
+    μ-loop
+    loop-holds
+    cast-wanted
+    element-copy-out-if2
+    returns
+    add-k
+    loop-less
+    loop-again
+    returns-2)
