@@ -1,3 +1,5 @@
 pub mod Laid
 pub mod Encoding
 pub mod PlanLaws
+pub mod RunLaws
+pub mod TableLaws

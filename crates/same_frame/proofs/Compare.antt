@@ -1,6 +1,6 @@
 -- Two f64 are equal exactly when their bits are, where neither is a NaN; and so are two lists of them. Assumes nothing.
 use mathlib.Core.Path.{_≡_, refl, sym, _∙_, ap, subst}
-use mathlib.Core.Bool.{true, false, true≢false}
+use mathlib.Core.Bool.{Bool, true, false, true≢false}
 use mathlib.Core.List.{List}
 use Prim.Native.Nat.{ℕ, _+_, _<_}
 use native.Mathlib.Omega.{arith}
@@ -10,7 +10,7 @@ use lib.Dec.{T, eqb, eqb→eq}
 use lib.ListN.{getD}
 use lib.Ieee.{Float, nan, ne, eq, binary64, fits, toBits, ofBits}
 use lib.Ieee.Bits.{ofBits-toBits}
-use Rattle.same_frame.specs.Alike.{Same, SameParts}
+use Rattle.same_frame.specs.Alike.{Same, SameParts, SamePoints}
 
 pub same-nan : (x y : Float) → ne x x ≡ true → Same x y false
 same-nan x y e = record { yes = λ q. absurd (true≢false (sym q)); no = λ q h. subst (λ (z : Float). ne z z ≡ true) h e }
@@ -32,16 +32,35 @@ pub same-unequal : (x y : Float) → eq x y ≡ false → Same x y false
 unfolding ne
 same-unequal x y e = record { yes = λ q. absurd (true≢false (sym q)); no = λ q h. rw (subst (λ (z : Float). eq z y ≡ false) h e) }
 
--- ---- lists
-pub parts-differ : (xs ys : List Float) (n i : ℕ) → i < n → Same (getD xs i nan) (getD ys i nan) false → SameParts xs ys n false
-parts-differ xs ys n i h s =
-    record {
-      yes = λ q. absurd (true≢false (sym q));
-      no = λ q numbers e. true≢false (sym (s .no refl (e i h)) ∙ numbers i h);
-    }
+-- ---- parts from number `from` on
+module _ (xs : List Float) (from : ℕ) (f : ℕ → Float) where
+  pub parts-differ : (n i : ℕ) → i < n → Same (getD xs (from + i) nan) (f i) false → SameParts xs from f n false
+  parts-differ n i h s =
+      record {
+        yes = λ q. absurd (true≢false (sym q));
+        no = λ q numbers e. true≢false (sym (s .no refl (e i h)) ∙ numbers i h);
+      }
 
-pub parts-same : (xs ys : List Float) (n : ℕ) → ((k : ℕ) → k < n → getD xs k nan ≡ getD ys k nan) → SameParts xs ys n true
-parts-same xs ys n h = record { yes = λ q. h; no = λ q. absurd (true≢false q) }
+  pub parts-same : (n : ℕ) → ((k : ℕ) → k < n → getD xs (from + k) nan ≡ f k) → SameParts xs from f n true
+  parts-same n h = record { yes = λ q. h; no = λ q. absurd (true≢false q) }
 
-pub parts-more : (xs ys : List Float) (i : ℕ) → ((k : ℕ) → k < i → getD xs k nan ≡ getD ys k nan) → getD xs i nan ≡ getD ys i nan → (k : ℕ) → k < i + 1 → getD xs k nan ≡ getD ys k nan
-parts-more xs ys i h e k l = below-more (λ j. getD xs j nan ≡ getD ys j nan) i h e k (omega arith)
+  pub parts-more : (i : ℕ) → ((k : ℕ) → k < i → getD xs (from + k) nan ≡ f k) → getD xs (from + i) nan ≡ f i → (k : ℕ) → k < i + 1 → getD xs (from + k) nan ≡ f k
+  parts-more i h e k l = below-more (λ j. getD xs (from + j) nan ≡ f j) i h e k (omega arith)
+
+-- ---- points, by the answers of the two comparisons
+module _ (re im : List Float) (from : ℕ) (f g : ℕ → Float) (n : ℕ) where
+  pub both-compared : (a b : Bool) → a ≡ true → SameParts re from f n a → SameParts im from g n b → SamePoints re im from f g n b
+  both-compared a b e x y =
+      record {
+        re-yes = λ q. x .yes e;
+        im-yes = λ q. y .yes q;
+        no = λ q numbers h. y .no q (λ k l. numbers k l .1) (λ k l. h k l .1);
+      }
+
+  pub first-differs : (a : Bool) → a ≡ false → SameParts re from f n a → SamePoints re im from f g n false
+  first-differs a e x =
+      record {
+        re-yes = λ q. absurd (true≢false (sym q));
+        im-yes = λ q. absurd (true≢false (sym q));
+        no = λ q numbers h. x .no e (λ k l. numbers k l .0) (λ k l. h k l .0);
+      }

@@ -2,7 +2,7 @@
 use mathlib.Core.Path.{_≡_}
 use mathlib.Core.Bool.{Bool, true, false}
 use mathlib.Core.List.{List}
-use Prim.Native.Nat.{ℕ, _<_}
+use Prim.Native.Nat.{ℕ, _+_, _<_}
 use lib.ListN.{getD}
 use lib.Ieee.{Float, nan, ne}
 use Rattle.isdbs_tables.specs.declared.Table.{Table}
@@ -14,10 +14,16 @@ pub record Same (x y : Float) (r : Bool) : Type 0 where
   pub yes : r ≡ true → x ≡ y
   pub no : r ≡ false → x ≡ y → ne y y ≡ true
 
--- the first n of two lists have, none of the second being a NaN
-pub record SameParts (xs ys : List Float) (n : ℕ) (r : Bool) : Type 0 where
-  pub yes : r ≡ true → (k : ℕ) → k < n → getD xs k nan ≡ getD ys k nan
-  pub no : r ≡ false → ((k : ℕ) → k < n → ne (getD ys k nan) (getD ys k nan) ≡ false) → ((k : ℕ) → k < n → getD xs k nan ≡ getD ys k nan) → ⊥
+-- the n parts from number `from` on are f's first n, none of which is a NaN
+pub record SameParts (xs : List Float) (from : ℕ) (f : ℕ → Float) (n : ℕ) (r : Bool) : Type 0 where
+  pub yes : r ≡ true → (k : ℕ) → k < n → getD xs (from + k) nan ≡ f k
+  pub no : r ≡ false → ((k : ℕ) → k < n → ne (f k) (f k) ≡ false) → ((k : ℕ) → k < n → getD xs (from + k) nan ≡ f k) → ⊥
+
+-- and both parts of points
+pub record SamePoints (re im : List Float) (from : ℕ) (f g : ℕ → Float) (n : ℕ) (r : Bool) : Type 0 where
+  pub re-yes : r ≡ true → (k : ℕ) → k < n → getD re (from + k) nan ≡ f k
+  pub im-yes : r ≡ true → (k : ℕ) → k < n → getD im (from + k) nan ≡ g k
+  pub no : r ≡ false → ((k : ℕ) → k < n → (ne (f k) (f k) ≡ false) × (ne (g k) (g k) ≡ false)) → ((k : ℕ) → k < n → (getD re (from + k) nan ≡ f k) × (getD im (from + k) nan ≡ g k)) → ⊥
 
 -- whether a load encodes to the frame
 pub record Matches (t : Table) (m : Mapping) (first : Bool) (re im : List Float) (load : List ℕ) (r : Bool) : Type 0 where

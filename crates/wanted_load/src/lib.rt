@@ -1,4 +1,5 @@
 // Request P9: the bytes behind a wanted frame. What the frame shows is read off, encoded again and compared (`same_frame`); the lent bytes are written only then.
+use frame_blocks::BLOCK_SYMBOLS;
 use isdbs_core::frame::LOAD_BYTES;
 use isdbs_core::frame::MAIN_SYMBOLS;
 use isdbs_core::slots::Plan;
@@ -44,7 +45,7 @@ fn keep_load(
     ys: &mut [f64],
     bytes: &mut [u8],
 ) -> bool
-    requires { ⌜ Planned p × (mainSymbols ≤ length (now re)) × (mainSymbols ≤ length (now im)) × (mainSymbols ≤ length (now xs)) × (mainSymbols ≤ length (now ys)) × (length (now load) ≤ length (now bytes)) ⌝ }
+    requires { ⌜ Planned p × (mainSymbols ≤ length (now re)) × (mainSymbols ≤ length (now im)) × (2048 ≤ length (now xs)) × (2048 ≤ length (now ys)) × (length (now load) ≤ length (now bytes)) ⌝ }
     ensures { λ r. ⌜ Matches (p .table) m first (now (re .entry)) (now (im .entry)) (now (load .entry)) r × (now (bytes .exit) ≡ cond r (laid (now (load .entry)) (now (bytes .entry))) (now (bytes .entry))) ⌝ }
 {
     if matches(p, re, im, m, first, load, xs, ys) {
@@ -67,7 +68,7 @@ fn search_load(
     ys: &mut [f64],
     bytes: &mut [u8],
 ) -> bool
-    requires { ⌜ Planned p × (mainSymbols ≤ length (now re)) × (mainSymbols ≤ length (now im)) × (loadBytes (p .table) ≤ length (now load)) × (mainSymbols ≤ length (now xs)) × (mainSymbols ≤ length (now ys)) × (loadBytes (p .table) ≤ length (now bytes)) ⌝ }
+    requires { ⌜ Planned p × (mainSymbols ≤ length (now re)) × (mainSymbols ≤ length (now im)) × (loadBytes (p .table) ≤ length (now load)) × (2048 ≤ length (now xs)) × (2048 ≤ length (now ys)) × (loadBytes (p .table) ≤ length (now bytes)) ⌝ }
     ensures { λ r. ⌜ Searched (p .table) m first (now (re .entry)) (now (im .entry)) r (now (bytes .entry)) (now (bytes .exit)) ⌝ }
 {
     let start = start_state(first);
@@ -76,7 +77,7 @@ fn search_load(
     keep_load(p, re, im, m, first, &load[0..n], xs, ys, bytes)
 }
 
-// The same in lent arrays, of the size that any accepted table needs.
+// The same in lent arrays: the load of any accepted table, and one block of points.
 fn search_arrays(
     p: Plan,
     re: &[f64],
@@ -84,8 +85,8 @@ fn search_arrays(
     m: Mapping,
     first: bool,
     load: &mut [u8; LOAD_BYTES],
-    xs: &mut [f64; MAIN_SYMBOLS],
-    ys: &mut [f64; MAIN_SYMBOLS],
+    xs: &mut [f64; BLOCK_SYMBOLS],
+    ys: &mut [f64; BLOCK_SYMBOLS],
     bytes: &mut [u8],
 ) -> bool
     requires { ⌜ Planned p × (mainSymbols ≤ length (now re)) × (mainSymbols ≤ length (now im)) × (loadBytes (p .table) ≤ length (now bytes)) ⌝ }
@@ -100,8 +101,8 @@ fn find_load(p: Plan, re: &[f64], im: &[f64], m: Mapping, first: bool, bytes: &m
     ensures { λ r. ⌜ Searched (p .table) m first (now (re .entry)) (now (im .entry)) r (now (bytes .entry)) (now (bytes .exit)) ⌝ }
 {
     let mut load = [0u8; LOAD_BYTES];
-    let mut xs = [0.0f64; MAIN_SYMBOLS];
-    let mut ys = [0.0f64; MAIN_SYMBOLS];
+    let mut xs = [0.0f64; BLOCK_SYMBOLS];
+    let mut ys = [0.0f64; BLOCK_SYMBOLS];
     search_arrays(p, re, im, m, first, &mut load, &mut xs, &mut ys, bytes)
 }
 

@@ -3,7 +3,7 @@ use mathlib.Core.Path.{_≡_, refl, sym, _∙_, ap}
 use Prim.Native.Nat.{ℕ, _+_, _*_, _-_, _<_, _≤_}
 use native.Mathlib.Omega.{arith}
 use lib.ListN.{length}
-use Rattle.isdbs_encode.proofs.EncodeTable.{table-tiled, runs-count, runs-front, end-small, re-length, im-length, runs-state, frame-laid}
+use Rattle.isdbs_encode.specs.TableLaws.{table-tiled, runs-count, runs-front, end-small, re-length, im-length, runs-state, frame-laid}
 use borrow.Author.Needs.{needs}
 use Rattle.isdbs_encode.proofs.encode_main.Statement.{statement}
 use Rattle.isdbs_encode.proofs.encode_main.Tie as tie

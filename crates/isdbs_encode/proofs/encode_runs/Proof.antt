@@ -3,7 +3,7 @@ use lib.ListN.{length-take, length-drop}
 use Rattle.isdbs_runs.specs.RunsOf.{stepsIn}
 use Rattle.isdbs_points.specs.PlaceLaws.{before-zero, fill-last}
 use Rattle.isdbs_points.specs.SizeLaws.{fill-steps}
-use Rattle.isdbs_encode.proofs.EncodeFrame.{length-segments, run-in, run-more, runs-end, slot-steps-four}
+use Rattle.isdbs_encode.specs.RunLaws.{length-segments, run-in, run-more, runs-end, slot-steps-four}
 use borrow.Author.Needs.{needs}
 use mathlib.Core.Path.{_≡_, refl, sym, _∙_, ap}
 use Prim.Native.Nat.{ℕ, _+_, _*_, _-_, _/_, _%_, _<_, _≤_}

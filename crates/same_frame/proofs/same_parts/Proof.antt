@@ -5,19 +5,22 @@ use Rattle.same_frame.specs.Alike.{Same}
 use lib.ListN.{getD}
 use lib.Ieee.{nan}
 use native.Mathlib.Omega.{arith}
-use Prim.Native.Nat.{ℕ, _-_, _<_, _≤_}
+use Prim.Native.Nat.{ℕ, _+_, _-_, _<_, _≤_}
 use mathlib.Core.Path.{_≡_, subst}
 use Rattle.same_frame.proofs.same_parts.Statement.{statement}
 use Rattle.same_frame.proofs.same_parts.Tie as tie
 
 abbrev Inv-loop : tie.InvT-loop
-Inv-loop xs ys n i₀ i = (i ≤ n) × ((k : ℕ) → k < i → getD xs k nan ≡ getD ys k nan)
+Inv-loop xs from ys n i₀ i = (i ≤ n) × ((k : ℕ) → k < i → getD xs (from + k) nan ≡ getD ys k nan)
 
 abbrev μ-loop : tie.MeasureT-loop
-μ-loop xs ys n i₀ i = n - i
+μ-loop xs from ys n i₀ i = n - i
 
 loop-holds : tie.Need-loop-holds Inv-loop μ-loop
 loop-holds c = (search needs, λ k l. absurd (omega arith))
+
+add-same-bits : tie.Need-add-same-bits Inv-loop μ-loop
+add-same-bits c = search needs
 
 mul-same-bits : tie.Need-mul-same-bits Inv-loop μ-loop
 mul-same-bits c = search needs
@@ -36,9 +39,9 @@ same-bits-requires c κs = search needs
 
 returns : tie.Need-returns Inv-loop μ-loop
 returns c =
-    let st = c .before .before .before .before .before .before .before .before in
+    let a = c .before .before .before .before .before .before .before .before .args in
     let i = c .before .before .before .before .before .loop .i in
-    parts-differ (st .args .xs .now) (st .args .ys .now) (st .args .n) i (omega arith) (subst (Same (getD (st .args .xs .now) i nan) (getD (st .args .ys .now) i nan)) (c .if1 .left) (c .before .same-bits .ensures))
+    parts-differ (a .xs .now) (a .from) (λ k. getD (a .ys .now) k nan) (a .n) i (omega arith) (subst (Same (getD (a .xs .now) (a .from + i) nan) (getD (a .ys .now) i nan)) (c .if1 .left) (c .before .same-bits .ensures))
 
 add-i : tie.Need-add-i Inv-loop μ-loop
 add-i c = search needs
@@ -48,15 +51,15 @@ loop-less c = search needs
 
 loop-again : tie.Need-loop-again Inv-loop μ-loop
 loop-again c =
-    let st = c .before .before .before .before .before .before .before .before in
+    let a = c .before .before .before .before .before .before .before .before .args in
     let i = c .before .before .before .before .before .loop .i in
-    (omega arith, parts-more (st .args .xs .now) (st .args .ys .now) i (c .before .before .before .before .before .loop .inv .1) (c .before .same-bits .ensures .yes (c .if1 .taken)))
+    (omega arith, parts-more (a .xs .now) (a .from) (λ k. getD (a .ys .now) k nan) i (c .before .before .before .before .before .loop .inv .1) (c .before .same-bits .ensures .yes (c .if1 .taken)))
 
 returns-2 : tie.Need-returns-2 Inv-loop μ-loop
 returns-2 c =
-    let st = c .before .before .before .before in
-    let e : c .before .loop .i ≡ st .args .n = omega arith in
-    parts-same (st .args .xs .now) (st .args .ys .now) (st .args .n) (λ k l. c .before .loop .inv .1 k (omega arith))
+    let a = c .before .before .before .before .args in
+    let e : c .before .loop .i ≡ a .n = omega arith in
+    parts-same (a .xs .now) (a .from) (λ k. getD (a .ys .now) k nan) (a .n) (λ k l. c .before .loop .inv .1 k (omega arith))
 
 pub same-parts-spec : {M : Type 1} → statement M
 same-parts-spec =
@@ -65,6 +68,7 @@ same-parts-spec =
     Inv-loop
     μ-loop
     loop-holds
+    add-same-bits
     mul-same-bits
     shared-slice-read-same-bits
     mul-same-bits-2

@@ -64,7 +64,7 @@ module _ (t : Table) (m : Mapping) (load : List ℕ) (s : ℕ) (tl : Tiled (runs
   abbrev rs : List Run
   rs = runsOf t
 
-  past : (k : ℕ) → symbolsOf rs ≤ k → pointAt t m load s k ≡ record { re = zero64; im = conjugated (m .conjugate) zero64 }
+  pub past : (k : ℕ) → symbolsOf rs ≤ k → pointAt t m load s k ≡ record { re = zero64; im = conjugated (m .conjugate) zero64 }
   unfolding pointAt inputs
   past k h =
       rw (among-past (λ g. g .symbol) (λ g. g .symbols) unused (pointIn m load (labelAt s (inputsOf rs load))) (segmentsFrom rs 0 0) 0 (symbolsOf rs) (tl .fill) k h)

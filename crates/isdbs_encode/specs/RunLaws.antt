@@ -39,11 +39,11 @@ within-period : (p : MaybePuncture) (k : ℕ) → getD (orderIn p) k 0 / 2 < per
 within-period (Some p) k = rw (← pattern-some p .period-is) (pattern-some p .within k)
 within-period None k = pattern-none .within k
 
-some-order : (p : MaybePuncture) → 0 < length (orderIn p)
+pub some-order : (p : MaybePuncture) → 0 < length (orderIn p)
 some-order (Some p) = omega (arith, pattern-some p .count-is, pattern-some p .pairs-many)
 some-order None = omega (arith, pattern-none .count-is, pattern-none .pairs-many)
 
-sent-step : (c : Combination) (n i : ℕ) → i < n / stepsPerPeriod c * length (orderOf c)
+pub sent-step : (c : Combination) (n i : ℕ) → i < n / stepsPerPeriod c * length (orderOf c)
     → i / length (orderOf c) * stepsPerPeriod c + getD (orderOf c) (i % length (orderOf c)) 0 / 2 < n
 sent-step c n i h =
     let p = stepsPerPeriod c in
@@ -66,12 +66,12 @@ slot-steps-four «Qpsk7_8» v = omega arith
 slot-steps-four «Tc8psk2_3» v = omega arith
 
 -- symbol j is one of n steps
-abbrev InRange : Modulation → Combination → ℕ → ℕ → Type 0
+abbrev pub InRange : Modulation → Combination → ℕ → ℕ → Type 0
 InRange Bpsk c n j = j < n / stepsPerPeriod c * length (orderOf c)
 InRange Qpsk c n j = 2 * j + 1 < n / stepsPerPeriod c * length (orderOf c)
 InRange Tc8psk c n j = j < n
 
-in-range : (c : Combination) (n j : ℕ) → j < pieceSymbols c n → InRange (modulationOf c) c n j
+pub in-range : (c : Combination) (n j : ℕ) → j < pieceSymbols c n → InRange (modulationOf c) c n j
 unfolding sentOrder
 in-range «Bpsk1_2» n j h = omega arith
 in-range «Qpsk1_2» n j h = omega arith
@@ -149,7 +149,7 @@ module _ (rs : List Run) (m : Mapping) (load : List ℕ) (s : ℕ) (tl : Tiled r
   abbrev pub runsIm : ℕ → Float
   runsIm = λ k. pointOf rs m load s k .im
 
-  follow : (g : Segment) → In g segs → Follow (inputsOf rs load) (g .step) (pieceInputs (g .combination) load (g .bit) (g .steps)) (g .steps)
+  pub follow : (g : Segment) → In g segs → Follow (inputsOf rs load) (g .step) (pieceInputs (g .combination) load (g .bit) (g .steps)) (g .steps)
   follow g i k l =
       let f = fill-steps rs 0 0 in
       let r = fill-member (λ g. g .step) (λ g. g .steps) g segs 0 (0 + stepsIn rs) i f .1 in
@@ -194,13 +194,13 @@ module _ (rs : List Run) (m : Mapping) (load : List ℕ) (s : ℕ) (tl : Tiled r
       }
 
 -- ---- run i of a list
-abbrev symbolsAt : List Run → ℕ → ℕ
+abbrev pub symbolsAt : List Run → ℕ → ℕ
 symbolsAt rs i = before (λ g. g .symbols) (segmentsFrom rs 0 0) i
 
-abbrev stepsAt : List Run → ℕ → ℕ
+abbrev pub stepsAt : List Run → ℕ → ℕ
 stepsAt rs i = before (λ g. g .steps) (segmentsFrom rs 0 0) i
 
-abbrev bitsAt : List Run → ℕ → ℕ
+abbrev pub bitsAt : List Run → ℕ → ℕ
 bitsAt rs i = before (λ g. g .bits) (segmentsFrom rs 0 0) i
 
 pub record RunAt (rs : List Run) (i : ℕ) (r : Run) : Type 0 where

@@ -1,0 +1,4 @@
+pub mod BlockLaws
+pub mod Blocks
+pub mod PlaceLaws
+pub mod FrameLaws

@@ -1,2 +1,0 @@
-pub mod EncodeFrame
-pub mod EncodeTable
