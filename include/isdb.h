@@ -211,7 +211,7 @@ uint32_t isdbs_decode_frame(const double *re, size_t re_len, const double *im, s
 
 /* The bytes behind a wanted frame: the full load (203 bytes for each valid slot) that encodes, from the start state for `first` (any number but 0 for the first
  * frame of a superframe), to exactly the f64 bits of the first 38,976 points, unused points included. There is at most one. Points past them are not read, and
- * a NaN is in no frame. Row 13: no full load encodes to the frame; `bytes` is as it was. Takes about 640 kB of stack. Rows 1, 10, 11, 6, 9, 13. */
+ * a NaN is in no frame. Row 13: no full load encodes to the frame; `bytes` is as it was. Takes about 52 kB of stack. Rows 1, 10, 11, 6, 9, 13. */
 uint32_t isdbs_wanted_load(const double *re, size_t re_len, const double *im, size_t im_len, uint64_t table, uint8_t mapping,
                            uint8_t first, uint8_t *bytes, size_t bytes_len);
 
