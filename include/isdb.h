@@ -203,7 +203,7 @@ uint32_t isdbs_encode_frame(const uint8_t *bytes, size_t bytes_len, uint64_t tab
  * for each valid slot. A trellis step is an information bit; TC8PSK takes two bits a step. At most 68,224 bits and 9,744 bytes.
  * `counts` begins with the strained steps of each valid slot (812 steps to a TC8PSK slot, 1,624 to another; at most 48 slots), and *sum is their sum, at most
  * 68,208. A step is strained if one of its four branch metrics is greater than that of the coded bits that the decoded ones give again. 0 does not mean that the
- * frame is good. Takes about 90 kB of stack (tools/stack). Rows 1, 10, 11, 5, 6, 7, 8, 9. */
+ * frame is good. Takes about 87 kB of stack (tools/stack). Rows 1, 10, 11, 5, 6, 7, 8, 9. */
 uint32_t isdbs_decode_frame(const double *re, size_t re_len, const double *im, size_t im_len, uint64_t table, uint8_t mapping,
                             uint8_t first, uint8_t known_start, const float *scales, size_t scales_len,
                             uint64_t *decisions, size_t decisions_len, uint8_t *bits, size_t bits_len, uint8_t *bytes, size_t bytes_len,
