@@ -1,4 +1,4 @@
-/* ISDB-S frames and the inner code of ISDB: the calls of the crates of C calls (conv_c, isdbt_c, table_c, isdb_c, codes_c, wanted_c, mend_c, judge_c, header_c, best_c, version_c).
+/* ISDB-S frames and the inner code of ISDB: the calls of the crates of C calls (c_fec, c_isdbt, c_table, c_frame, c_short, c_wanted, c_mend, c_judge, c_header, c_best, c_version).
  *
  * `tools/archive` writes libisdb.a and libisdb.so, `tools/install PREFIX` installs them with this header and isdb.pc (x86-64 Linux); then `pkg-config --cflags --libs isdb` says how to build.
  * No call allocates, keeps anything or prints. C11 and C++17.
@@ -165,7 +165,7 @@ static inline const char *isdb_answer_text(uint32_t answer) {
     }
 }
 
-/* The version of the library that is linked, as ISDB_VERSION has it. Crate version_c. */
+/* The version of the library that is linked, as ISDB_VERSION has it. Crate c_version. */
 uint32_t isdb_version(void);
 
 /* Whether floats of this thread are computed as every call here needs it: rounded to nearest, subnormals kept. It computes, so it sees the setting that is in force (fegetround need not), and volatile
@@ -219,7 +219,7 @@ uint32_t isdbs_wanted_load(const double *re, size_t re_len, const double *im, si
  * from -1/32 to 1/32 where the encoded part is 0, from 31/32 to 33/32 where it is 1 and from 87/128 to 94/128 where it is 1/sqrt(2), negatives mirrored, ends included; imaginary parts of
  * BPSK and points outside every run may hold anything that row 7 accepts. `counts` begins with the points outside in each of the frame's 48 slots, slot j being points 812j to 812j + 811
  * (whatever the table has there), and *sum is their sum, at most 38,976. Where *sum is 0 the frame is certain: under this table, mapping and kind no other full load has the points within its margins. Where it is not, the bytes
- * may still be right. Points past 38,976 are not read, counts past 48 not written. Takes about 630 kB of stack. Rows 1, 10, 11, 5 (bytes not exactly the load), 6, 7, 9. Crate judge_c. */
+ * may still be right. Points past 38,976 are not read, counts past 48 not written. Takes about 630 kB of stack. Rows 1, 10, 11, 5 (bytes not exactly the load), 6, 7, 9. Crate c_judge. */
 uint32_t isdbs_judge(const double *re, size_t re_len, const double *im, size_t im_len, uint64_t table, uint8_t mapping,
                      uint8_t first, const uint8_t *bytes, size_t bytes_len, uint32_t *counts, size_t counts_len, uint32_t *sum);
 
@@ -230,7 +230,7 @@ uint32_t isdbs_judge(const double *re, size_t re_len, const double *im, size_t i
  * predecessor), and of two C2 that fit alike the one that isdbs_decode_frame takes. leads[k], in units of 2^-20: every full load that differs in slot k fits worse by this much at least, and
  * one by exactly this much; 0 exactly where another content of slot k fits as well. A lead is a distance between readings and no proof: a short strong burst can move the best reading and lead well.
  * Afterwards `bits` begins with the input of each trellis step, `uncoded` with its C2 (0 outside TC8PSK), `bytes` with the load, `leads` with the leads. `metrics` (4 a step), `sides`, `words`
- * (one a step) and `tables` (64 a valid slot) are worked in: free in that front. At most 68,208 steps, 48 slots, 9,744 bytes. Takes about 20 kB of stack. Rows 1, 10, 11, 5, 6, 7, 8, 9. Crate best_c.
+ * (one a step) and `tables` (64 a valid slot) are worked in: free in that front. At most 68,208 steps, 48 slots, 9,744 bytes. Takes about 20 kB of stack. Rows 1, 10, 11, 5, 6, 7, 8, 9. Crate c_best.
  *
  * Leads of a clean frame at scale 8 (at another scale nearly in proportion), by word; the last slot's is smaller because the end is open, and so is the first slot's where the start is not known:
  *
@@ -358,7 +358,7 @@ uint32_t isdbt_decode_punctured(uint8_t rate, const float *llrs, size_t llrs_len
 /* Mends a stored stretch of coded bits, X then Y of each step, one in a byte, between the states `start` and `end` (mod 64), with at most four wrong bits. `out` begins with the coded
  * stretch between those states that differs from `bits` in at most four bits (there is only one), as long as `bits`; `places` with the positions in which it differs, rising, X of
  * step t at 2t and Y at 2t + 1, and *count is how many. `places` needs four places and `decisions` 4,224 words, which are 0 afterwards. Answer 15: there is no such stretch. Rows 5 (an odd
- * number of bits, more than 8,192, a byte above 1), 9, 15. Crate mend_c. */
+ * number of bits, more than 8,192, a byte above 1), 9, 15. Crate c_mend. */
 uint32_t isdb_mend(const uint8_t *bits, size_t bits_len, uint8_t start, uint8_t end, uint64_t *decisions, size_t decisions_len,
                    uint8_t *out, size_t out_len, uint32_t *places, size_t places_len, uint64_t *count);
 

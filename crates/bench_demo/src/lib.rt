@@ -120,7 +120,7 @@ fn read(
     match done {
         FrameDecoded::Decoded(_, steps, strained) => {
             read_line(steps);
-            bench_strain::in_all(steps, strained);
+            bench_verdict::in_all(steps, strained);
             verdict(front(load, CARRIED), front(bytes, CARRIED));
         }
         FrameDecoded::Refused(answer) => report::refuse(answer),

@@ -103,7 +103,7 @@ pub fn f64_bits(x: f64) -> u64 {
 
 // The pattern of the f32 nearest to x.
 fn f32_bits(x: f64) -> u64 {
-    let y = isdbs_soft::soft(x);
+    let y = ieee_cast::soft(x);
     if y != y {
         return 0x7fc0_0000;
     }

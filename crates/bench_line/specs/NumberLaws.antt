@@ -1,4 +1,4 @@
--- Laws of written numbers. Assumes nothing.
+-- Laws of written numbers.
 use mathlib.Core.Path.{_≡_, refl, subst, sym, ap, _∙_}
 use mathlib.Core.Bool.{Bool, true, false, cond, _&&_}
 use mathlib.Core.List.{List, [], _∷_}

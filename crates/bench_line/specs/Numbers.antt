@@ -1,4 +1,4 @@
--- Numbers as they are written: decimal digits, the high one first, and a scale with a point. Bytes are ASCII codes. Assumes nothing.
+-- Numbers as they are written: decimal digits, the high one first, and a scale with a point. Bytes are ASCII codes.
 use mathlib.Core.Bool.{Bool, true, false, cond, _&&_}
 use mathlib.Core.List.{List, [], _∷_}
 use Prim.Native.Nat.{ℕ, _+_, _-_, _*_, _^_}
@@ -9,7 +9,7 @@ use Rattle.bench_line.specs.declared.words.Number.{Number}
 use Rattle.bench_line.specs.declared.words.Number.the-variants as number
 use Rattle.bench_line.specs.declared.words.MaybeScale.{MaybeScale}
 use Rattle.bench_line.specs.declared.words.MaybeScale.the-variants as scale
-use Rattle.line_parts.specs.Parts.{partOf, partsOf}
+use Rattle.bench_split.specs.Parts.{partOf, partsOf}
 
 -- the digits '0' to '9' are 48 to 57; 10 for any other byte
 unfoldable pub digitOf : ℕ → ℕ

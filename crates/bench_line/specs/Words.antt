@@ -1,4 +1,4 @@
--- TABLE, MAPPING and a file's name, as docs/BENCH.md describes them. Bytes are ASCII codes: ',' is 44, ':' 58, '0' 48 and '1' 49. Assumes nothing.
+-- TABLE, MAPPING and a file's name, as docs/BENCH.md describes them. Bytes are ASCII codes: ',' is 44, ':' 58, '0' 48 and '1' 49.
 use mathlib.Core.Bool.{Bool, true, false, cond, _||_}
 use mathlib.Core.List.{List, [], _∷_}
 use Prim.Native.Nat.{ℕ, _-_}
@@ -12,7 +12,7 @@ use Rattle.bench_line.specs.declared.words.MaybeEntry.the-variants as en
 use Rattle.bench_line.specs.declared.words.MaybeTable.{MaybeTable}
 use Rattle.bench_line.specs.declared.words.MaybeMapping.{MaybeMapping}
 use Rattle.bench_line.specs.declared.words.MaybeMapping.the-variants as mapping
-use Rattle.line_parts.specs.Parts.{partOf, partsOf, equal}
+use Rattle.bench_split.specs.Parts.{partOf, partsOf, equal}
 use Rattle.bench_line.specs.Numbers.{digitsOf}
 
 -- "Other words up to 15"; a slot count has 8 bits

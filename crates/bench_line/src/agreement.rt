@@ -1,2 +1,2 @@
 // How many bytes of two slices agree.
-pub use line_parts::agreeing;
+pub use bench_split::agreeing;

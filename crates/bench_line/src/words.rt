@@ -1,13 +1,13 @@
 // The words of a command: parts of a line, and what they mean.
+pub use bench_split::front;
+pub use bench_split::front_parts;
+pub use bench_split::part;
+pub use bench_split::parts;
+pub use bench_split::same;
 use isdbs_core::tmcc;
 use isdbs_core::tmcc::Entry;
 use isdbs_core::tmcc::Table;
 use isdbs_points::Mapping;
-pub use line_parts::front;
-pub use line_parts::front_parts;
-pub use line_parts::part;
-pub use line_parts::parts;
-pub use line_parts::same;
 ghost use mathlib.Core.Path.{_≡_};
 ghost use mathlib.Core.Bool.{false};
 ghost use Prim.Native.Nat.{_+_, _-_, _*_, _^_, _<_, _≤_};

@@ -60,7 +60,7 @@ fn overlay_read(
         refuse(Answer::Length, b"a load has at most 9,744 bytes");
         return;
     }
-    let answer = overlay_encode::overlay(front(first, n), front(second, m), sum);
+    let answer = overlay::overlay(front(first, n), front(second, m), sum);
     match answer {
         Answer::Accepted => keep(output, front(sum, n)),
         Answer::Length => refuse(answer, b"the two files do not have equally many bytes"),

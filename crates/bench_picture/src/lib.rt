@@ -1,20 +1,20 @@
 // What the command read keeps: the bytes, and beside them a picture where one is asked for.
-use bench_chart::Facts;
-use bench_chart::draw;
 use bench_files::files;
 use bench_line::words::front;
 use bench_line::words::part;
 use bench_setting::choice::Reading;
 use bench_setting::choice::picture_of;
-use bench_sheet::BINS;
-use bench_sheet::SHEET_BYTES;
-use bench_sheet::Sheet;
 use bench_words::report;
 use bench_words::text::file;
 use bench_words::text::text;
 use isdbs_core::frame::MAIN_SYMBOLS;
 use isdbs_core::frame::SLOTS;
 use isdbs_phy::demod::encode_frame;
+use picture_chart::Facts;
+use picture_chart::draw;
+use picture_sheet::BINS;
+use picture_sheet::SHEET_BYTES;
+use picture_sheet::Sheet;
 use refusal::Answer;
 
 // Whether the bytes and the picture can be staged side by side; else says why not. No name: no picture.

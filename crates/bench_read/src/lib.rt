@@ -1,5 +1,4 @@
 // The bench program's command read: points of a frame to bytes, with the verdict on them, and to a picture where one is asked for.
-use bench_chart::Facts;
 use bench_files::files;
 use bench_files::files::Got;
 use bench_line::space::BIT_SPACE;
@@ -25,6 +24,7 @@ use isdbs_phy::demod::FrameDecoded;
 use isdbs_phy::demod::decode_frame;
 use judge::FrameJudged;
 use judge::judge;
+use picture_chart::Facts;
 use trellis::FRAME_WORDS;
 
 fn is_eight(x: f32) -> bool {
@@ -43,8 +43,8 @@ fn is_plain(s: Reading) -> bool {
 fn tell(s: Reading, f: Facts, counts: &[u32; SLOTS], outside: &[u32; SLOTS]) {
     let t = f.table;
     say(b"decoded: $ trellis steps\n", &[f.steps]);
-    bench_strain::by_slot(t, counts);
-    bench_strain::in_all(f.steps, f.strained);
+    bench_verdict::by_slot(t, counts);
+    bench_verdict::in_all(f.steps, f.strained);
     if !is_plain(s) {
         text(
             b"read by other settings than a known start and all scales at 8; judged are the bytes that they gave\n",

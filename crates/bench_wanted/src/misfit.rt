@@ -10,15 +10,15 @@ use isdbs_core::slots::Plan;
 use isdbs_core::tmcc::Table;
 use isdbs_core::tmcc::table_answer;
 use isdbs_phy::demod::encode_frame;
+use isdbs_plan::plan_of;
 use isdbs_points::Mapping;
 use isdbs_points::start_state;
-use isdbs_runs::plan_of;
-use isdbs_wanted::read_load;
 use libc::STDOUT_FILENO;
 use refusal::Answer;
+use wanted_read::read_load;
 ghost use Prim.Native.Nat.{_≤_};
 ghost use Rattle.isdbs_frame.specs.Frame.{mainSymbols};
-ghost use Rattle.isdbs_runs.specs.RunsOf.{Planned};
+ghost use Rattle.isdbs_plan.specs.RunsOf.{Planned};
 
 // Whether two parts have other bits.
 fn differ(x: f64, y: f64) -> bool {

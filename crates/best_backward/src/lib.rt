@@ -3,7 +3,7 @@ ghost use mathlib.Core.Path.{_≡_};
 ghost use Prim.Native.Nat.{_+_, _-_, _*_, _/_, _%_, _<_, _≤_, min};
 ghost use lib.ListN.{length, getD};
 ghost use lib.Ieee.{nan};
-ghost use Rattle.acs_paths.specs.Branches.{BranchNumbers};
+ghost use Rattle.viterbi_branches.specs.Branches.{BranchNumbers};
 ghost use Rattle.best_grid.specs.Grid.{cost, dearest};
 ghost use Rattle.best_grid.specs.Sides.{mirror, two, priceAt};
 ghost use Rattle.best_grid.specs.Backward.{far, low, turned, onward, leastAt, otherOf, backs, others, backRun, otherRun};
@@ -11,8 +11,6 @@ ghost use Rattle.best_grid.specs.Leading.{seq};
 ghost use Rattle.best_backward.specs.Prices.{Halved, BackRoom, priceOf, turnedOf, keptAt, turnedAt, Four, Lower, Asked};
 ghost use Rattle.best_forward.specs.Room.{listed};
 ghost use Rattle.trellis.specs.Isdb;
-use acs_paths::BRANCH;
-use acs_paths::Numbers;
 use best_forward::cost_of;
 use best_forward::number;
 use best_forward::smaller;
@@ -21,6 +19,8 @@ use best_grid::FAR;
 use best_grid::LEVEL;
 use trellis::HALF;
 use trellis::STATES;
+use viterbi_branches::BRANCH;
+use viterbi_branches::Numbers;
 
 // From the state 2j + b on the input u, where the labels cost m, and `after` has the costs after the step.
 fn ahead(after: &[u64; STATES], t: &Numbers, m: &[u64; 4], u: usize, b: usize, j: usize) -> u64

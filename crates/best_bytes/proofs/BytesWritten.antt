@@ -1,4 +1,4 @@
--- The bytes of a frame run by run. Assumes nothing.
+-- The bytes of a frame run by run.
 use mathlib.Core.Path.{_≡_, refl, sym, _∙_, ap}
 use mathlib.Core.List.{List}
 use Prim.Native.Nat.{ℕ, _+_, _-_, _*_, _<_, _≤_}
@@ -6,12 +6,12 @@ use native.Mathlib.Omega.{arith}
 use lib.ListN.{length, getD, take, drop}
 use borrow.Rule.Slice.PartMut.{midOf, putMid}
 use Rattle.trellis.specs.Lists.{upto, laid}
-use Rattle.isdbs_runs.specs.declared.Run.{Run}
+use Rattle.isdbs_plan.specs.declared.Run.{Run}
 use Rattle.isdbs_tables.specs.declared.Table.{Table}
-use Rattle.isdbs_runs.specs.RunsOf.{stepsOf, stepsIn, frameSteps, validIn, validTotal, loadBytes, noRun}
+use Rattle.isdbs_plan.specs.RunsOf.{stepsOf, stepsIn, frameSteps, validIn, validTotal, loadBytes, noRun}
 use Rattle.isdbs_points.specs.Layout.{byteOf}
-use Rattle.isdbs_pack.specs.AmongLaws.{stepsTo, validTo}
-use Rattle.isdbs_pack.specs.FrameRunLaws.{RunAt, Listed, run-first, run-next, next-valid, valid-fit, all-valid}
+use Rattle.isdbs_points.specs.AmongLaws.{stepsTo, validTo}
+use Rattle.isdbs_metrics.specs.FrameRunLaws.{RunAt, Listed, run-first, run-next, next-valid, valid-fit, all-valid}
 use Rattle.best_sides.specs.Filled.{Filled, filled-none, filled-more}
 use Rattle.best_loads.specs.Held.{loadOf}
 use Rattle.best_bytes.specs.Packed.{heldWith, listedByte, byte-is}

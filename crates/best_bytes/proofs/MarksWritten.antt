@@ -1,4 +1,4 @@
--- The marks of a frame run by run. Assumes nothing.
+-- The marks of a frame run by run.
 use mathlib.Core.Path.{_≡_, refl, sym, _∙_, ap}
 use mathlib.Core.List.{List, [], _∷_}
 use Prim.Native.Nat.{ℕ, zero, suc, _+_, _-_, _*_, _<_, _≤_}
@@ -11,11 +11,11 @@ use Rattle.trellis.specs.LaidLaws.{laid-upto}
 use Rattle.isdbs_combination.specs.declared.Combination.{Combination}
 use Rattle.isdbs_combination.specs.declared.Combination.the-variants.{«Bpsk1_2», «Qpsk1_2», «Qpsk2_3», «Qpsk3_4», «Qpsk5_6», «Qpsk7_8», «Tc8psk2_3»}
 use Rattle.isdbs_combination.specs.Combinations.{slotSteps}
-use Rattle.isdbs_runs.specs.declared.Run.{Run}
+use Rattle.isdbs_plan.specs.declared.Run.{Run}
 use Rattle.isdbs_tables.specs.declared.Table.{Table}
-use Rattle.isdbs_runs.specs.RunsOf.{runsOf, stepsOf, stepsIn, frameSteps, validIn, validTotal, noRun}
-use Rattle.isdbs_pack.specs.AmongLaws.{stepsTo, validTo}
-use Rattle.isdbs_pack.specs.FrameRunLaws.{RunAt, Listed, run-first, run-next, run-last, next-valid, valid-fit, all-valid}
+use Rattle.isdbs_plan.specs.RunsOf.{runsOf, stepsOf, stepsIn, frameSteps, validIn, validTotal, noRun}
+use Rattle.isdbs_points.specs.AmongLaws.{stepsTo, validTo}
+use Rattle.isdbs_metrics.specs.FrameRunLaws.{RunAt, Listed, run-first, run-next, run-last, next-valid, valid-fit, all-valid}
 use Rattle.best_sides.specs.Filled.{Filled, filled-none, filled-more}
 use Rattle.best_loads.specs.Marks.{markIn, markAt, frameMarks}
 use Rattle.best_loads.specs.MarkLaws.{mark-own, mark-later, mark-last}

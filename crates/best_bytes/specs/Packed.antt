@@ -1,4 +1,4 @@
--- The bytes of a run from its own bits and uncoded bits, and of a frame run by run. Assumes nothing.
+-- The bytes of a run from its own bits and uncoded bits, and of a frame run by run.
 use mathlib.Core.Path.{_≡_, refl, sym, ap, _∙_}
 use mathlib.Core.Bool.{Bool, true, false, cond}
 use mathlib.Core.List.{List}
@@ -14,12 +14,12 @@ use Rattle.isdbs_combination.specs.declared.Combination.the-variants.{«Bpsk1_2
 use Rattle.isdbs_combination.specs.declared.Modulation.{Modulation}
 use Rattle.isdbs_combination.specs.declared.Modulation.the-variants.{Bpsk, Qpsk, Tc8psk}
 use Rattle.isdbs_combination.specs.Combinations.{modulationOf, slotSteps, slotBits}
-use Rattle.isdbs_runs.specs.declared.Run.{Run}
-use Rattle.isdbs_runs.specs.RunsOf.{stepsOf, noRun}
+use Rattle.isdbs_plan.specs.declared.Run.{Run}
+use Rattle.isdbs_plan.specs.RunsOf.{stepsOf, noRun}
 use Rattle.isdbs_points.specs.Layout.{Segment, segmentOf, segmentsFrom, among, byteOf}
-use Rattle.isdbs_pack.specs.AmongLaws.{stepsTo, validTo, among-bit}
-use Rattle.isdbs_pack.specs.DigitLaws.{byte-cong}
-use Rattle.isdbs_pack.specs.FrameRunLaws.{RunList, tail-is}
+use Rattle.isdbs_points.specs.AmongLaws.{stepsTo, validTo, among-bit}
+use Rattle.isdbs_metrics.specs.DigitLaws.{byte-cong}
+use Rattle.isdbs_metrics.specs.FrameRunLaws.{RunList, tail-is}
 use Rattle.best_loads.specs.Held.{heldBy, heldIn}
 
 abbrev pub AllBits : List ℕ → Type 0

@@ -8,7 +8,7 @@ ghost use Prim.Native.Nat.{_+_, _*_, _<_, _≤_, _^_};
 ghost use lib.ListN.{length, getD};
 ghost use Rattle.trellis.specs.Lists.{upto, laid};
 ghost use Rattle.trellis.specs.Isdb;
-ghost use Rattle.isdbs_runs.specs.RunsOf.{frameSteps, loadBytes, validTotal, Planned};
+ghost use Rattle.isdbs_plan.specs.RunsOf.{frameSteps, loadBytes, validTotal, Planned};
 ghost use Rattle.isdbs_points.specs.Layout.{byteOf};
 ghost use Rattle.best_loads.specs.Marks.{frameMarks};
 ghost use Rattle.best_loads.specs.Held.{loadOf};

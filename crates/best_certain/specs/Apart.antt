@@ -1,4 +1,4 @@
--- Where at each step the pair that a content sends is the greatest, and its complement is far below, every other content from the same start is behind. Assumes nothing.
+-- Where at each step the pair that a content sends is the greatest, and its complement is far below, every other content from the same start is behind.
 use mathlib.Core.Path.{_≡_, refl, sym, ap, _∙_, subst}
 use mathlib.Core.Logic.{_⊎_, inl, inr, ⊎-elim}
 use mathlib.Core.Bool.{Bool, true, false, cond}
@@ -18,10 +18,10 @@ use Rattle.trellis.specs.Run.{quadruple}
 use Rattle.trellis.specs.Code.{stateAt, isdb}
 use Rattle.trellis.specs.RunLaws.{label-under}
 use Rattle.trellis.specs.Isdb
-use Rattle.lead.specs.Complement.{complement}
-use Rattle.best_path.specs.Greatest.{at-under}
-use Rattle.best_path.specs.Viterbi.{Z, plus}
-use Rattle.best_path.specs.Integers.{Val, le-val}
+use Rattle.path_lead.specs.Complement.{complement}
+use Rattle.path_greatest.specs.Greatest.{at-under}
+use Rattle.path_greatest.specs.Viterbi.{Z, plus}
+use Rattle.path_greatest.specs.Integers.{Val, le-val}
 use Rattle.best_grid.specs.Grid.{above, below, grid}
 use Rattle.best_grid.specs.GridLaws.{grid-parts}
 use Rattle.best_grid.specs.Sides.{two, better, worthAt}

@@ -1,4 +1,4 @@
--- Certain implies best: where the points lie within the margins of a full load, that load is the best reading, each of its leads is above 0, and `decode_frame` reads it too. Assumes nothing.
+-- Certain implies best: where the points lie within the margins of a full load, that load is the best reading, each of its leads is above 0, and `decode_frame` reads it too.
 use mathlib.Core.Path.{_≡_, refl, sym, ap, _∙_, subst}
 use mathlib.Core.Logic.{_⊎_, inl, inr, ⊎-elim}
 use mathlib.Core.Bool.{Bool, true, false, true≢false, cond}
@@ -17,15 +17,15 @@ use Rattle.trellis.specs.Run.{quadruple}
 use Rattle.trellis.specs.Code.{stateAt, isdb}
 use Rattle.trellis.specs.RunLaws.{label-under}
 use Rattle.trellis.specs.Isdb
-use Rattle.lead.specs.Favour.{Favour}
-use Rattle.best_path.specs.Fresh.{StartsIn}
-use Rattle.best_path.specs.declared.Start.the-variants.{Given}
+use Rattle.path_lead.specs.Favour.{Favour}
+use Rattle.path_greatest.specs.Fresh.{StartsIn}
+use Rattle.path_greatest.specs.declared.Start.the-variants.{Given}
 use Rattle.isdbs_combination.specs.declared.Modulation.{Modulation}
 use Rattle.isdbs_combination.specs.declared.Modulation.the-variants.{Bpsk, Qpsk, Tc8psk}
 use Rattle.isdbs_combination.specs.Combinations.{modulationOf}
 use Rattle.isdbs_tables.specs.declared.Table.{Table}
 use Rattle.isdbs_tables.specs.Tables.{TableAccepted}
-use Rattle.isdbs_runs.specs.RunsOf.{frameSteps, loadBytes, validTotal}
+use Rattle.isdbs_plan.specs.RunsOf.{frameSteps, loadBytes, validTotal}
 use Rattle.isdbs_points.specs.declared.Mapping.{Mapping}
 use Rattle.isdbs_points.specs.Layout.{Segment, segments, In, atStep, loadBit, FullLoad}
 use Rattle.isdbs_points.specs.Frame.{inputs, inputIn, labelAt, startState}
@@ -34,7 +34,7 @@ use Rattle.isdbs_points.specs.OrderLaws.{Kind, one, two, three, kind}
 use Rattle.isdbs_metrics.specs.Reading.{Received, metricsAt, decodedBytes, received}
 use Rattle.margins.specs.Margins.{Within}
 use Rattle.margin_ends.specs.Ends.{eight}
-use Rattle.frame_ranges.specs.Metrics.{Sized}
+use Rattle.range_frames.specs.Metrics.{Sized}
 use Rattle.exact_frame.specs.Steps.{step-favours, tc-bit}
 use Rattle.exact_frame.specs.Exact.{decoded-load, start-small}
 use Rattle.best_grid.specs.Sides as sided

@@ -1,4 +1,4 @@
--- Metrics in order, and metrics that are apart, on the grid. Assumes nothing.
+-- Metrics in order, and metrics that are apart, on the grid.
 use mathlib.Core.Path.{_≡_, ap, _∙_, subst}
 use mathlib.Core.Logic.{_⊎_, inl, inr}
 use Prim.Native.Nat.{ℕ, _+_, _*_, _/_, _^_, _≤_, _<_, min}
@@ -9,7 +9,7 @@ use lib.Ieee.{Float, binary32}
 use Rattle.ieee.specs.Value.{hi, lo, one-side}
 use Rattle.ieee.specs.Order.{Le}
 use Rattle.ieee.specs.Rounding.{pow2, pow2-is, pow2-add}
-use Rattle.lead.specs.Favour.{Above, margin}
+use Rattle.path_lead.specs.Favour.{Above, margin}
 use Rattle.best_grid.specs.Grid.{unit, most, above, below}
 
 -- by how much a load leads within its margins, at least: the margin of 7 in units of 2 ^ -20, less one for the cuts

@@ -8,7 +8,7 @@ use lib.ListN.{length, getD, take, drop, replicate, List·getD-eq-default, lengt
 use lib.Seq.{length-take-le}
 use lib.Ieee.{Float}
 use Rattle.trellis.specs.Run.{quadruple}
-use Rattle.best_path.specs.declared.Start.{Start}
+use Rattle.path_greatest.specs.declared.Start.{Start}
 use Rattle.best_grid.specs.Grid.{costAt}
 use Rattle.best_grid.specs.Costs.{tableAt}
 use Rattle.best_grid.specs.TableLaws.{small-start}

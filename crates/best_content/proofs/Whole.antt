@@ -14,7 +14,7 @@ use Rattle.trellis.specs.WrittenLaws.{lt-or-ge}
 use Rattle.trellis.specs.Step.{back, input, traced}
 use Rattle.trellis.specs.Run.{quadruple}
 use Rattle.trellis.specs.Isdb
-use Rattle.best_path.specs.declared.Start.{Start}
+use Rattle.path_greatest.specs.declared.Start.{Start}
 use Rattle.best_grid.specs.Grid.{costAt}
 use Rattle.best_grid.specs.Costs.{tableAt, wordAt, cheapest}
 use Rattle.best_grid.specs.Best.{startTable, bestWords, bestEnd, bestBits, bestStart}

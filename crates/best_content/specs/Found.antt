@@ -6,9 +6,9 @@ use lib.Signed.{_≤ℤ_}
 use lib.ListN.{getD}
 use lib.Ieee.{Float}
 use Rattle.trellis.specs.Isdb
-use Rattle.best_path.specs.Paths.{First}
-use Rattle.best_path.specs.Fresh.{StartsIn}
-use Rattle.best_path.specs.declared.Start.{Start}
+use Rattle.path_greatest.specs.Paths.{First}
+use Rattle.path_greatest.specs.Fresh.{StartsIn}
+use Rattle.path_greatest.specs.declared.Start.{Start}
 use Rattle.best_grid.specs.Contents.{Content, worth, Leads}
 use Rattle.best_grid.specs.Sides.{two, worthAt, chosen}
 

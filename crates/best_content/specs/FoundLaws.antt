@@ -12,11 +12,11 @@ use Rattle.trellis.specs.Lists.{upto}
 use Rattle.trellis.specs.ListLaws.{length-upto, getD-upto}
 use Rattle.trellis.specs.Run.{quadruple}
 use Rattle.trellis.specs.Isdb
-use Rattle.best_path.specs.Paths.{First, sumℤ}
-use Rattle.best_path.specs.Greatest.{one-first}
-use Rattle.best_path.specs.Integers.{≤ℤ-antisymm}
-use Rattle.best_path.specs.Fresh.{StartsIn}
-use Rattle.best_path.specs.declared.Start.{Start}
+use Rattle.path_greatest.specs.Paths.{First, sumℤ}
+use Rattle.path_greatest.specs.Greatest.{one-first}
+use Rattle.path_greatest.specs.Integers.{≤ℤ-antisymm}
+use Rattle.path_greatest.specs.Fresh.{StartsIn}
+use Rattle.path_greatest.specs.declared.Start.{Start}
 use Rattle.best_grid.specs.Grid.{gridAt, costAt}
 use Rattle.best_grid.specs.Costs.{tableAt, paid}
 use Rattle.best_grid.specs.Best.{startTable, bestEnd, bestBits, bestStart}

@@ -16,17 +16,17 @@ ghost use Rattle.best_content.specs.Slots.{Marked, Saved, Lowered, Summa
 ghost use Rattle.best_content.specs.Found.{Found};
 ghost use Rattle.best_grid.specs.Best.{startTable, bestBits, bestStart, bestEnd};
 ghost use Rattle.trellis.specs.Isdb;
-use acs::branch_number;
 use best_backward::back_steps;
 use best_forward::cheapest_state;
 use best_forward::pass;
 use best_forward::smaller;
 use best_forward::start_table;
 use best_grid::FAR;
-use best_path::Start;
-use release::trace;
+use path_greatest::Start;
 use trellis::HALF;
 use trellis::STATES;
+use viterbi_release::trace;
+use viterbi_step::branch_number;
 
 // The state from which the first n decision words lead to `state`.
 fn traced_start(decisions: &[u64], n: usize, state: usize) -> usize

@@ -11,7 +11,7 @@ use Rattle.trellis.specs.Lists.{upto, laid}
 use Rattle.trellis.specs.ListLaws.{length-upto}
 use Rattle.trellis.specs.LaidLaws.{take-laid}
 use Rattle.trellis.specs.Step.{input, traced}
-use Rattle.best_path.specs.declared.Start.{Start}
+use Rattle.path_greatest.specs.declared.Start.{Start}
 use Rattle.best_grid.specs.Best.{startTable, bestBits}
 use Rattle.trellis.specs.Run.{quadruple}
 use Rattle.trellis.specs.Isdb

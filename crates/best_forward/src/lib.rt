@@ -5,24 +5,24 @@ ghost use lib.Dec.{leb};
 ghost use lib.ListN.{length, getD};
 ghost use Rattle.trellis.specs.Lists.{bit, upto, laid};
 ghost use Rattle.trellis.specs.Run.{quadruple};
-ghost use Rattle.acs_paths.specs.Branches.{BranchNumbers};
+ghost use Rattle.viterbi_branches.specs.Branches.{BranchNumbers};
 ghost use Rattle.best_grid.specs.Grid.{cost, costAt};
 ghost use Rattle.best_grid.specs.Patterns.{unitsOf};
 ghost use Rattle.best_grid.specs.Costs.{through, nexts, word, tableAt, wordAt, cheapest, begun, anywhere};
 ghost use Rattle.best_grid.specs.Best.{startTable, bestBits};
 ghost use Rattle.best_grid.specs.Grid.{gridAt};
-ghost use Rattle.best_path.specs.Paths.{Reading};
-ghost use Rattle.best_path.specs.Fresh.{StartsIn};
+ghost use Rattle.path_greatest.specs.Paths.{Reading};
+ghost use Rattle.path_greatest.specs.Fresh.{StartsIn};
 ghost use Rattle.best_forward.specs.Room.{Roomy, RoomFor, Small, Holds, listed};
 ghost use Rattle.trellis.specs.Isdb;
-use acs_paths::BRANCH;
-use acs_paths::Numbers;
 use best_grid::LEVEL;
 use best_grid::RULED;
-use best_path::Start;
-use release::trace;
+use path_greatest::Start;
 use trellis::HALF;
 use trellis::STATES;
+use viterbi_branches::BRANCH;
+use viterbi_branches::Numbers;
+use viterbi_release::trace;
 
 fn wide(x: u32) -> u64
     ensures { λ r. ⌜ r ≡ x ⌝ }

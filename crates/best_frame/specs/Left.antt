@@ -1,13 +1,13 @@
--- What `best_reading` needs of the lent memory, and what it leaves there. Definitions only. Assumes nothing.
+-- What `best_reading` needs of the lent memory, and what it leaves there. Definitions only.
 use mathlib.Core.Path.{_≡_}
 use mathlib.Core.List.{List}
 use Prim.Native.Nat.{ℕ, _*_, _≤_, _<_}
 use lib.ListN.{length, take, drop}
 use Rattle.trellis.specs.Isdb
-use Rattle.best_path.specs.Fresh.{StartsIn}
-use Rattle.best_path.specs.declared.Start.{Start}
+use Rattle.path_greatest.specs.Fresh.{StartsIn}
+use Rattle.path_greatest.specs.declared.Start.{Start}
 use Rattle.isdbs_tables.specs.declared.Table.{Table}
-use Rattle.isdbs_runs.specs.RunsOf.{frameSteps, loadBytes, validTotal}
+use Rattle.isdbs_plan.specs.RunsOf.{frameSteps, loadBytes, validTotal}
 use Rattle.isdbs_points.specs.Frame.{inputs}
 use Rattle.isdbs_metrics.specs.Reading.{Received}
 use Rattle.best_loads.specs.Fit.{BestReading}

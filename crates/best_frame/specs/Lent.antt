@@ -1,4 +1,4 @@
--- The memory that `best_reading` is lent, as it was or as it is, and its lengths. Assumes nothing.
+-- The memory that `best_reading` is lent, as it was or as it is, and its lengths.
 use mathlib.Core.List.{List}
 use Prim.Native.Nat.{ℕ}
 use lib.ListN.{length}

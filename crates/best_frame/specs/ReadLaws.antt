@@ -1,4 +1,4 @@
--- From what the parts of a reading leave to the reading. Assumes nothing.
+-- From what the parts of a reading leave to the reading.
 use mathlib.Core.Path.{_≡_, refl, sym, ap, _∙_, subst}
 use mathlib.Core.List.{List, _++_, append-nil}
 use Prim.Native.Nat.{ℕ, _+_, _*_, _/_, _≤_, _<_}
@@ -10,18 +10,18 @@ use Rattle.trellis.specs.Lists.{upto, laid}
 use Rattle.trellis.specs.ListLaws.{length-upto, getD-upto}
 use Rattle.trellis.specs.LaidLaws.{laid-at, length-laid-upto}
 use Rattle.trellis.specs.Isdb
-use Rattle.best_path.specs.Fresh.{StartsIn}
-use Rattle.best_path.specs.declared.Start.{Start}
+use Rattle.path_greatest.specs.Fresh.{StartsIn}
+use Rattle.path_greatest.specs.declared.Start.{Start}
 use Rattle.isdbs_tables.specs.declared.Table.{Table}
 use Rattle.isdbs_tables.specs.Tables.{TableAccepted}
-use Rattle.isdbs_runs.specs.declared.Plan.{Plan}
-use Rattle.isdbs_runs.specs.PlanLaws.{table-laid}
-use Rattle.isdbs_runs.specs.RunsOf.{frameSteps, loadBytes, validTotal, Planned}
+use Rattle.isdbs_plan.specs.declared.Plan.{Plan}
+use Rattle.isdbs_plan.specs.PlanLaws.{table-laid}
+use Rattle.isdbs_plan.specs.RunsOf.{frameSteps, loadBytes, validTotal, Planned}
 use Rattle.isdbs_points.specs.SizeLaws.{few-steps}
 use Rattle.isdbs_points.specs.Layout.{byteOf}
 use Rattle.isdbs_metrics.specs.Reading.{Received, metricsAt}
-use Rattle.isdbs_blocks.specs.Blocks.{fours}
-use Rattle.frame_ranges.specs.Metrics.{Sized}
+use Rattle.decode_block.specs.Blocks.{fours}
+use Rattle.range_frames.specs.Metrics.{Sized}
 use Rattle.best_sides.specs.FrameSides.{frameMetrics, frameSides, sideAt}
 use Rattle.best_sides.specs.FrameLaws.{frame-upright}
 use Rattle.best_content.specs.Slots as content

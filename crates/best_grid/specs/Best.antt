@@ -5,8 +5,8 @@ use lib.Ieee.{Float}
 use Rattle.trellis.specs.Lists.{upto}
 use Rattle.trellis.specs.Step.{input, back}
 use Rattle.trellis.specs.Isdb
-use Rattle.best_path.specs.declared.Start.{Start}
-use Rattle.best_path.specs.declared.Start.the-variants.{Given, Unknown}
+use Rattle.path_greatest.specs.declared.Start.{Start}
+use Rattle.path_greatest.specs.declared.Start.the-variants.{Given, Unknown}
 use Rattle.best_grid.specs.Grid.{costAt}
 use Rattle.best_grid.specs.Costs.{tableAt, wordAt, cheapest, begun, anywhere}
 

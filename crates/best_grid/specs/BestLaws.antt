@@ -8,10 +8,10 @@ use lib.Ieee.{Float}
 use Rattle.trellis.specs.ListLaws.{getD-upto}
 use Rattle.trellis.specs.Isdb
 use lib.ListN.{getD}
-use Rattle.best_path.specs.Paths.{Reading, Best, Any}
-use Rattle.best_path.specs.Fresh.{StartsIn}
-use Rattle.best_path.specs.declared.Start.{Start}
-use Rattle.best_path.specs.declared.Start.the-variants.{Given, Unknown}
+use Rattle.path_greatest.specs.Paths.{Reading, Best, Any}
+use Rattle.path_greatest.specs.Fresh.{StartsIn}
+use Rattle.path_greatest.specs.declared.Start.{Start}
+use Rattle.path_greatest.specs.declared.Start.the-variants.{Given, Unknown}
 use Rattle.best_grid.specs.Grid.{gridAt, costAt}
 use Rattle.best_grid.specs.GridLaws.{costed}
 use Rattle.best_grid.specs.Costs.{tableAt, wordAt, begun, anywhere, ruled, paid}

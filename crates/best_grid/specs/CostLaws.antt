@@ -1,4 +1,4 @@
--- The table of costs is Viterbi's algorithm of crate best_path: each cost is so many levels less the value there, and the decisions are the same.
+-- The table of costs is Viterbi's algorithm of crate path_greatest: each cost is so many levels less the value there, and the decisions are the same.
 use mathlib.Core.Path.{_≡_, refl, sym, ap, _∙_}
 use mathlib.Core.Bool.{Bool, true, false, cond}
 use mathlib.Core.List.{List}
@@ -13,8 +13,8 @@ use Rattle.trellis.specs.RunLaws.{label-under}
 use Rattle.trellis.specs.Code.{isdb}
 use Rattle.trellis.specs.Step.{upper}
 use Rattle.trellis.specs.Isdb
-use Rattle.best_path.specs.Viterbi.{Z, candZ, winsZ, nextZ, value, decision, bestZ}
-use Rattle.best_path.specs.Greatest.{best-under}
+use Rattle.path_greatest.specs.Viterbi.{Z, candZ, winsZ, nextZ, value, decision, bestZ}
+use Rattle.path_greatest.specs.Greatest.{best-under}
 use Rattle.best_grid.specs.Grid.{level}
 use Rattle.best_grid.specs.Costs.{through, next, nexts, odd, word, tableAt, wordAt, cheapest}
 

@@ -16,9 +16,9 @@ use Rattle.trellis.specs.Code.{labelAt, stateAt}
 use Rattle.trellis.specs.RunLaws.{label-under}
 use Rattle.trellis.specs.Code.{isdb}
 use Rattle.trellis.specs.Isdb
-use Rattle.best_path.specs.Paths.{Path, sumℤ, Reading}
-use Rattle.best_path.specs.Viterbi.{Z, plus, Le, sum}
-use Rattle.best_path.specs.Integers.{Val}
+use Rattle.path_greatest.specs.Paths.{Path, sumℤ, Reading}
+use Rattle.path_greatest.specs.Viterbi.{Z, plus, Le, sum}
+use Rattle.path_greatest.specs.Integers.{Val}
 use Rattle.best_grid.specs.Grid.{unit, most, above, below, grid, gridAt}
 use Rattle.best_grid.specs.GridLaws.{grid-parts}
 

@@ -12,8 +12,8 @@ use lib.Seq.{getD-append-add}
 use Rattle.trellis.specs.Code.{stateAt, labelAt}
 use Rattle.trellis.specs.Step.{upper}
 use Rattle.trellis.specs.Isdb
-use Rattle.best_path.specs.Paths.{Path, Tail, First, sumℤ}
-use Rattle.best_path.specs.Greatest.{at-more, at-under}
+use Rattle.path_greatest.specs.Paths.{Path, Tail, First, sumℤ}
+use Rattle.path_greatest.specs.Greatest.{at-more, at-under}
 
 -- ---- sums
 sum-front : (m : ℕ → ℕ → ℤ) (s : ℕ) (us ks : List ℕ) (k : ℕ) → k ≤ length us → sumℤ 32 Isdb.labels m s (us ++ ks) k ≡ sumℤ 32 Isdb.labels m s us k

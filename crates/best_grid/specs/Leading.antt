@@ -14,8 +14,8 @@ use Rattle.trellis.specs.ListLaws.{length-upto, getD-upto}
 use Rattle.trellis.specs.WrittenLaws.{lt-or-ge}
 use Rattle.trellis.specs.Code.{moved, stateAt}
 use Rattle.trellis.specs.Isdb
-use Rattle.best_path.specs.Viterbi.{Z}
-use Rattle.best_path.specs.Integers.{Val, le-val, ≤ℤ-antisymm}
+use Rattle.path_greatest.specs.Viterbi.{Z}
+use Rattle.path_greatest.specs.Integers.{Val, le-val, ≤ℤ-antisymm}
 use Rattle.best_grid.specs.Grid.{level, dearest}
 use Rattle.best_grid.specs.Costs.{tableAt, ruled}
 use Rattle.best_grid.specs.Backward.{low}

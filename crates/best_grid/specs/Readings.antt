@@ -17,12 +17,12 @@ use Rattle.trellis.specs.RunLaws.{label-under}
 use Rattle.trellis.specs.Code.{isdb, stateAt, labelAt}
 use Rattle.trellis.specs.Step.{upper, input, back}
 use Rattle.trellis.specs.Isdb
-use Rattle.best_path.specs.Paths.{Walk, sumℤ, Best, Any, This, Reading}
-use Rattle.best_path.specs.Viterbi.{Z, sum, decision, inputs, origin}
-use Rattle.best_path.specs.Greatest.{Greatest, greatest, end, end-under, inputs-length, traced}
-use Rattle.best_path.specs.Decoded.{back-start, back-input}
-use Rattle.best_path.specs.Integers.{parts-of, sum-val, le-val, same-val}
-use Rattle.best_path.specs.Starts.{the-reading}
+use Rattle.path_greatest.specs.Paths.{Walk, sumℤ, Best, Any, This, Reading}
+use Rattle.path_greatest.specs.Viterbi.{Z, sum, decision, inputs, origin}
+use Rattle.path_greatest.specs.Greatest.{Greatest, greatest, end, end-under, inputs-length, traced}
+use Rattle.path_greatest.specs.Decoded.{back-start, back-input}
+use Rattle.path_greatest.specs.Integers.{parts-of, sum-val, le-val, same-val}
+use Rattle.path_greatest.specs.Starts.{the-reading}
 use Rattle.best_grid.specs.Grid.{level, most}
 use Rattle.best_grid.specs.Costs.{tableAt, wordAt, cheapest, ruled, begun, anywhere, paid}
 use Rattle.best_grid.specs.CostLaws.{tracks, said, ends}

@@ -17,9 +17,9 @@ use Rattle.trellis.specs.Isdb
 use Rattle.trellis.specs.Lists.{bit}
 use Rattle.trellis.specs.Run.{quadruple}
 use Rattle.trellis.specs.RunLaws.{label-under}
-use Rattle.best_path.specs.Paths.{sumℤ}
-use Rattle.best_path.specs.Viterbi.{Le}
-use Rattle.best_path.specs.Integers.{parts-of, le-val}
+use Rattle.path_greatest.specs.Paths.{sumℤ}
+use Rattle.path_greatest.specs.Viterbi.{Le}
+use Rattle.path_greatest.specs.Integers.{parts-of, le-val}
 use Rattle.best_grid.specs.Grid.{level, dearest, below, grid, cost, gridAt, costAt}
 use Rattle.best_grid.specs.GridLaws.{cost-is, cost-bounds, above-most, below-most, grid-parts}
 use Rattle.best_grid.specs.Backward.{low}

@@ -17,8 +17,8 @@ use Rattle.trellis.specs.WrittenLaws.{lt-or-ge}
 use Rattle.trellis.specs.RunLaws.{label-under}
 use Rattle.trellis.specs.Code.{isdb}
 use Rattle.trellis.specs.Isdb
-use Rattle.best_path.specs.declared.Start.{Start}
-use Rattle.best_path.specs.declared.Start.the-variants.{Given, Unknown}
+use Rattle.path_greatest.specs.declared.Start.{Start}
+use Rattle.path_greatest.specs.declared.Start.the-variants.{Given, Unknown}
 use Rattle.best_grid.specs.Grid.{dearest, cost}
 use Rattle.best_grid.specs.GridLaws.{cost-bounds}
 use Rattle.best_grid.specs.Costs.{through, next, nexts, odd, word, tableAt, cheapest, ruled, begun}

@@ -1,4 +1,4 @@
--- The sum of a load's metrics with no grid: as they are in f32, added exactly, in units of 2 ^ -149. Definitions only. Assumes nothing.
+-- The sum of a load's metrics with no grid: as they are in f32, added exactly, in units of 2 ^ -149. Definitions only.
 use mathlib.Core.Bool.{Bool, cond}
 use mathlib.Core.List.{List}
 use Prim.Native.Nat.{ℕ, zero, suc, _+_, _*_}
@@ -6,12 +6,12 @@ use lib.Dec.{eqb}
 use lib.ListN.{getD}
 use lib.Ieee.{Float, nan, binary32}
 use Rattle.ieee.specs.Value.{hi, lo}
-use Rattle.best_path.specs.Viterbi.{Z, plus}
+use Rattle.path_greatest.specs.Viterbi.{Z, plus}
 use Rattle.isdbs_combination.specs.declared.Modulation.{Modulation}
 use Rattle.isdbs_combination.specs.declared.Modulation.the-variants.{Bpsk, Qpsk, Tc8psk}
 use Rattle.isdbs_combination.specs.Combinations.{modulationOf}
 use Rattle.isdbs_tables.specs.declared.Table.{Table}
-use Rattle.isdbs_runs.specs.RunsOf.{frameSteps}
+use Rattle.isdbs_plan.specs.RunsOf.{frameSteps}
 use Rattle.isdbs_points.specs.Layout.{Segment, atStep, loadBit}
 use Rattle.isdbs_points.specs.Frame.{inputs, labelAt}
 use Rattle.isdbs_metrics.specs.Reading.{Received, metricsBy}

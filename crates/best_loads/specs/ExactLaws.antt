@@ -1,4 +1,4 @@
--- THE GRID HIDES LITTLE: no full load's exact sum of f32 metrics exceeds that of the best reading by more than two units of 2 ^ -20 a step. Assumes nothing.
+-- THE GRID HIDES LITTLE: no full load's exact sum of f32 metrics exceeds that of the best reading by more than two units of 2 ^ -20 a step.
 use mathlib.Core.Path.{_≡_, refl, sym, ap, _∙_, subst}
 use mathlib.Core.Bool.{Bool, true, false, cond}
 use mathlib.Core.List.{List}
@@ -16,18 +16,18 @@ use Rattle.ieee.specs.Whole.{hiZ, loZ, parts}
 use Rattle.trellis.specs.Run.{quadruple}
 use Rattle.trellis.specs.Code.{isdb, stateAt}
 use Rattle.trellis.specs.RunLaws.{label-under}
-use Rattle.best_path.specs.Viterbi.{Z, plus, Le}
+use Rattle.path_greatest.specs.Viterbi.{Z, plus, Le}
 use Rattle.isdbs_combination.specs.declared.Modulation.{Modulation}
 use Rattle.isdbs_combination.specs.declared.Modulation.the-variants.{Bpsk, Qpsk, Tc8psk}
 use Rattle.isdbs_combination.specs.Combinations.{modulationOf}
 use Rattle.isdbs_tables.specs.declared.Table.{Table}
 use Rattle.isdbs_tables.specs.Tables.{TableAccepted}
-use Rattle.isdbs_runs.specs.RunsOf.{frameSteps}
+use Rattle.isdbs_plan.specs.RunsOf.{frameSteps}
 use Rattle.isdbs_points.specs.Layout.{Segment, segments, In, atStep, loadBit}
 use Rattle.isdbs_points.specs.Frame.{inputs, labelAt}
 use Rattle.isdbs_points.specs.SizeLaws.{at-step, find-step, step-fits}
 use Rattle.isdbs_metrics.specs.Reading.{Received, metricsBy, metricsIn}
-use Rattle.frame_ranges.specs.Metrics.{Sized}
+use Rattle.range_frames.specs.Metrics.{Sized}
 use Rattle.best_grid.specs.Grid.{unit, most, above, below, grid}
 use Rattle.best_grid.specs.GridLaws.{grid-parts}
 use Rattle.best_sides.specs.FrameSides.{frameMetrics, betterIn}

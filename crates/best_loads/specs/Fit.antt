@@ -9,13 +9,13 @@ use lib.Signed.{_≤ℤ_}
 use lib.ListN.{getD}
 use lib.Ieee.{nan}
 use Rattle.trellis.specs.Isdb
-use Rattle.best_path.specs.Paths.{First}
+use Rattle.path_greatest.specs.Paths.{First}
 use Rattle.isdbs_combination.specs.declared.Modulation.{Modulation}
 use Rattle.isdbs_combination.specs.declared.Modulation.the-variants.{Bpsk, Qpsk, Tc8psk}
 use Rattle.isdbs_combination.specs.Combinations.{modulationOf}
 use Rattle.isdbs_tables.specs.declared.Table.{Table}
 use Rattle.isdbs_frame.specs.Frame.{slotBytes}
-use Rattle.isdbs_runs.specs.RunsOf.{frameSteps, loadBytes, validTotal}
+use Rattle.isdbs_plan.specs.RunsOf.{frameSteps, loadBytes, validTotal}
 use Rattle.isdbs_points.specs.Layout.{Segment, segments, In, atStep, loadBit, FullLoad}
 use Rattle.isdbs_points.specs.Frame.{inputs, labelAt}
 use Rattle.isdbs_metrics.specs.Reading.{Received, metricsBy}

@@ -1,4 +1,4 @@
--- The fit of a load is the worth of its inputs and uncoded bits. Assumes nothing.
+-- The fit of a load is the worth of its inputs and uncoded bits.
 use mathlib.Core.Path.{_≡_, refl, sym, ap, _∙_, subst}
 use mathlib.Core.Bool.{Bool, true, false, cond}
 use mathlib.Core.List.{List, []}
@@ -18,7 +18,7 @@ use Rattle.isdbs_combination.specs.declared.Modulation.{Modulation}
 use Rattle.isdbs_combination.specs.declared.Modulation.the-variants.{Bpsk, Qpsk, Tc8psk}
 use Rattle.isdbs_combination.specs.Combinations.{modulationOf}
 use Rattle.isdbs_tables.specs.declared.Table.{Table}
-use Rattle.isdbs_runs.specs.RunsOf.{frameSteps}
+use Rattle.isdbs_plan.specs.RunsOf.{frameSteps}
 use Rattle.isdbs_points.specs.Layout.{Segment, segments, In, atStep, loadBit}
 use Rattle.isdbs_points.specs.Frame.{inputIn, inputs, labelAt}
 use Rattle.isdbs_points.specs.SizeLaws.{at-step, find-step, step-fits}

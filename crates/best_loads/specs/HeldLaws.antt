@@ -1,4 +1,4 @@
--- A load and its inputs with its uncoded bits are the same thing: each full load gives a content, each content a full load, and there and back is nothing. Assumes nothing.
+-- A load and its inputs with its uncoded bits are the same thing: each full load gives a content, each content a full load, and there and back is nothing.
 use mathlib.Core.Path.{_≡_, refl, sym, ap, _∙_, subst}
 use mathlib.Core.Bool.{Bool, true, false, cond}
 use mathlib.Core.List.{List}
@@ -19,7 +19,7 @@ use Rattle.isdbs_combination.specs.declared.Modulation.the-variants.{Bpsk, Qpsk
 use Rattle.isdbs_combination.specs.Combinations.{modulationOf, unitOf, slotSteps, slotBits}
 use Rattle.isdbs_tables.specs.declared.Table.{Table}
 use Rattle.isdbs_tables.specs.Tables.{TableAccepted}
-use Rattle.isdbs_runs.specs.RunsOf.{runsOf, frameSteps, loadBytes, validTotal}
+use Rattle.isdbs_plan.specs.RunsOf.{runsOf, frameSteps, loadBytes, validTotal}
 use Rattle.isdbs_points.specs.Layout.{Segment, segments, In, among, atStep, atBit, loadBit, byteOf, FullLoad}
 use Rattle.isdbs_points.specs.Frame.{coded, inputIn, inputs}
 use Rattle.isdbs_points.specs.PlaceLaws.{fill-member, among-all}

@@ -15,10 +15,10 @@ use Rattle.trellis.specs.Lists.{upto}
 use Rattle.trellis.specs.ListLaws.{length-upto}
 use Rattle.trellis.specs.Step.{term}
 use Rattle.trellis.specs.Isdb
-use Rattle.best_path.specs.Paths.{First, sumℤ}
+use Rattle.path_greatest.specs.Paths.{First, sumℤ}
 use Rattle.isdbs_frame.specs.Frame.{w1, syncBits}
 use Rattle.isdbs_tables.specs.declared.Table.{Table}
-use Rattle.isdbs_runs.specs.RunsOf.{frameSteps}
+use Rattle.isdbs_plan.specs.RunsOf.{frameSteps}
 use Rattle.isdbs_points.specs.Layout.{atStep, wordBit}
 use Rattle.isdbs_points.specs.Frame.{inputIn, inputs}
 use Rattle.isdbs_metrics.specs.Reading.{Received}

@@ -1,4 +1,4 @@
--- What `best_content` finds, said of loads: its bits with its uncoded bits are a full load that no full load fits better than, and its leads are those of the load in the valid slots. Assumes nothing.
+-- What `best_content` finds, said of loads: its bits with its uncoded bits are a full load that no full load fits better than, and its leads are those of the load in the valid slots.
 use mathlib.Core.Path.{_≡_, refl, sym, ap, _∙_, subst}
 use mathlib.Core.List.{List}
 use Prim.Native.Nat.{ℕ, _+_, _*_, _≤_, _<_}
@@ -7,12 +7,12 @@ use lib.IntN.{ℤ, pos, _+ℤ_}
 use lib.Signed.{_≤ℤ_}
 use lib.ListN.{getD}
 use Rattle.trellis.specs.Isdb
-use Rattle.best_path.specs.Paths.{First}
-use Rattle.best_path.specs.Fresh.{StartsIn}
-use Rattle.best_path.specs.declared.Start.{Start}
+use Rattle.path_greatest.specs.Paths.{First}
+use Rattle.path_greatest.specs.Fresh.{StartsIn}
+use Rattle.path_greatest.specs.declared.Start.{Start}
 use Rattle.isdbs_tables.specs.declared.Table.{Table}
 use Rattle.isdbs_tables.specs.Tables.{TableAccepted}
-use Rattle.isdbs_runs.specs.RunsOf.{frameSteps, validTotal}
+use Rattle.isdbs_plan.specs.RunsOf.{frameSteps, validTotal}
 use Rattle.isdbs_combination.specs.declared.Modulation.{Modulation}
 use Rattle.isdbs_combination.specs.declared.Modulation.the-variants.{Tc8psk}
 use Rattle.isdbs_combination.specs.Combinations.{modulationOf}

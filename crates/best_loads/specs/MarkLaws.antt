@@ -1,4 +1,4 @@
--- The marks of the valid slots: they rise from 0 to the frame's steps, and the steps of a slot are those of its bits. Assumes nothing.
+-- The marks of the valid slots: they rise from 0 to the frame's steps, and the steps of a slot are those of its bits.
 use mathlib.Core.Path.{_≡_, refl, sym, ap, _∙_, subst}
 use mathlib.Core.Logic.{_⊎_, inl, inr}
 use mathlib.Core.Bool.{Bool, true, false, cond}
@@ -15,8 +15,8 @@ use Rattle.isdbs_combination.specs.declared.Combination.{Combination}
 use Rattle.isdbs_combination.specs.declared.Combination.the-variants.{«Bpsk1_2», «Qpsk1_2», «Qpsk2_3», «Qpsk3_4», «Qpsk5_6», «Qpsk7_8», «Tc8psk2_3»}
 use Rattle.isdbs_combination.specs.Combinations.{modulationOf, slotSteps, slotBits, stepBits}
 use Rattle.isdbs_tables.specs.declared.Table.{Table}
-use Rattle.isdbs_runs.specs.declared.Run.{Run}
-use Rattle.isdbs_runs.specs.RunsOf.{runsOf, stepsOf, stepsIn, frameSteps, validIn, validTotal}
+use Rattle.isdbs_plan.specs.declared.Run.{Run}
+use Rattle.isdbs_plan.specs.RunsOf.{runsOf, stepsOf, stepsIn, frameSteps, validIn, validTotal}
 use Rattle.isdbs_points.specs.Layout.{Segment, In, here, there, segmentOf, segmentsFrom, segments}
 use Rattle.best_content.specs.Slots.{Marked}
 use Rattle.best_loads.specs.Marks.{markIn, markAt, frameMarks}

@@ -1,4 +1,4 @@
--- There is one best reading of a table, a capture and its start: the load and the leads are determined. With an unknown start the fit of a load is the greatest over the 64 starts. Assumes nothing.
+-- There is one best reading of a table, a capture and its start: the load and the leads are determined. With an unknown start the fit of a load is the greatest over the 64 starts.
 use mathlib.Core.Path.{_≡_, refl, sym, ap, _∙_, subst}
 use mathlib.Core.List.{List}
 use Prim.Native.Nat.{ℕ, _+_, _*_, _≤_, _<_}
@@ -11,15 +11,15 @@ use lib.Seq.{ext-getD}
 use Rattle.ieee.specs.Whole.{hiZ, loZ, parts}
 use Rattle.trellis.specs.ListLaws.{length-upto}
 use Rattle.trellis.specs.Isdb
-use Rattle.best_path.specs.Paths.{First}
-use Rattle.best_path.specs.Greatest.{one-first}
-use Rattle.best_path.specs.Integers.{parts-of, le-val, ≤ℤ-antisymm}
+use Rattle.path_greatest.specs.Paths.{First}
+use Rattle.path_greatest.specs.Greatest.{one-first}
+use Rattle.path_greatest.specs.Integers.{parts-of, le-val, ≤ℤ-antisymm}
 use Rattle.isdbs_combination.specs.declared.Modulation.{Modulation}
 use Rattle.isdbs_combination.specs.declared.Modulation.the-variants.{Bpsk, Qpsk, Tc8psk}
 use Rattle.isdbs_combination.specs.Combinations.{modulationOf}
 use Rattle.isdbs_tables.specs.declared.Table.{Table}
 use Rattle.isdbs_tables.specs.Tables.{TableAccepted}
-use Rattle.isdbs_runs.specs.RunsOf.{frameSteps, loadBytes, validTotal}
+use Rattle.isdbs_plan.specs.RunsOf.{frameSteps, loadBytes, validTotal}
 use Rattle.isdbs_points.specs.Layout.{Segment, segments, In, atStep, loadBit, FullLoad}
 use Rattle.isdbs_points.specs.Frame.{inputs, labelAt}
 use Rattle.isdbs_points.specs.SizeLaws.{find-step}

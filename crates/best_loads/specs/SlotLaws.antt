@@ -1,4 +1,4 @@
--- Two loads differ in the bytes of a valid slot exactly where their inputs or uncoded bits differ in a step of the slot. Assumes nothing.
+-- Two loads differ in the bytes of a valid slot exactly where their inputs or uncoded bits differ in a step of the slot.
 use mathlib.Core.Path.{_≡_, refl, sym, ap, _∙_, subst}
 use mathlib.Core.Bool.{Bool, true, false, cond}
 use mathlib.Core.List.{List}
@@ -14,7 +14,7 @@ use Rattle.isdbs_combination.specs.Combinations.{modulationOf, slotBits, stepBi
 use Rattle.isdbs_frame.specs.Frame.{slotBytes}
 use Rattle.isdbs_tables.specs.declared.Table.{Table}
 use Rattle.isdbs_tables.specs.Tables.{TableAccepted}
-use Rattle.isdbs_runs.specs.RunsOf.{loadBytes, validTotal, frameSteps}
+use Rattle.isdbs_plan.specs.RunsOf.{loadBytes, validTotal, frameSteps}
 use Rattle.isdbs_points.specs.Layout.{Segment, segments, In, loadBit, byteOf, FullLoad}
 use Rattle.isdbs_points.specs.Frame.{coded, inputs}
 use Rattle.isdbs_points.specs.SizeLaws.{at-bit, find-bit, find-step}
@@ -27,7 +27,7 @@ use Rattle.best_loads.specs.MarkLaws.{stepOf, slot, in-slot, only-slot, 
 use Rattle.best_loads.specs.Held.{uncodedBy, uncodedBits, heldBy, heldIn, heldBit}
 use Rattle.best_loads.specs.FitLaws.{beside-at}
 use Rattle.best_loads.specs.HeldLaws.{held-bit, coded-in, beside-in}
-use Rattle.isdbs_runs.specs.RunsOf.{runsOf}
+use Rattle.isdbs_plan.specs.RunsOf.{runsOf}
 
 -- ---- bytes that differ have a bit that does
 record Apart (f g : ℕ → ℕ) (n : ℕ) : Type 0 where

@@ -1,4 +1,4 @@
--- A block's numbers are the metrics of its steps. Assumes nothing.
+-- A block's numbers are the metrics of its steps.
 use mathlib.Core.Path.{_≡_, refl, sym, ap, _∙_}
 use mathlib.Core.List.{List, [], _∷_, _++_}
 use Prim.Native.Nat.{ℕ, zero, suc, _+_, _-_, _*_, _/_, _%_, _≤_, _<_}
@@ -9,7 +9,7 @@ use Rattle.trellis.specs.Lists.{upto, laid}
 use Rattle.trellis.specs.LaidLaws.{upto-cong, laid-part}
 use Rattle.trellis.specs.Step.{Step, four}
 use Rattle.trellis.specs.Run.{quadruple, fourSteps}
-use Rattle.isdbs_blocks.specs.Blocks.{BlockMade, fours}
+use Rattle.decode_block.specs.Blocks.{BlockMade, fours}
 use Rattle.best_metrics.specs.Floats.{floats}
 
 four-same : (a b : List Float) → four a ≡ four b → a ≡ b

@@ -1,4 +1,4 @@
--- The metrics of a frame run by run. Assumes nothing.
+-- The metrics of a frame run by run.
 use mathlib.Core.Path.{_≡_, sym, _∙_, ap, subst}
 use mathlib.Core.List.{List}
 use Prim.Native.Nat.{ℕ, _+_, _-_, _*_, _/_, _%_, _<_, _≤_}
@@ -7,16 +7,16 @@ use lib.ListN.{length, getD, take, drop}
 use lib.Ieee.{Float, nan}
 use borrow.Rule.Slice.PartMut.{midOf, putMid}
 use Rattle.trellis.specs.Lists.{upto, laid}
-use Rattle.isdbs_runs.specs.declared.Run.{Run}
+use Rattle.isdbs_plan.specs.declared.Run.{Run}
 use Rattle.isdbs_tables.specs.declared.Table.{Table}
-use Rattle.isdbs_runs.specs.RunsOf.{stepsOf, stepsIn, frameSteps, noRun}
+use Rattle.isdbs_plan.specs.RunsOf.{stepsOf, stepsIn, frameSteps, noRun}
 use Rattle.isdbs_points.specs.declared.Mapping.{Mapping}
 use Rattle.isdbs_metrics.specs.Reading.{metricsAt}
 use Rattle.isdbs_metrics.specs.Steps.{pieceMetrics}
-use Rattle.isdbs_pack.specs.FrameRunLaws.{RunAt, Listed, run-first, run-next, run-last}
-use Rattle.isdbs_blocks.specs.Blocks.{fours}
-use Rattle.frame_read.specs.Scales.{scaleOf, receivedBy}
-use Rattle.frame_read.proofs.FrameSteps.{listed, metrics-are}
+use Rattle.isdbs_metrics.specs.FrameRunLaws.{RunAt, Listed, run-first, run-next, run-last}
+use Rattle.decode_block.specs.Blocks.{fours}
+use Rattle.isdbs_metrics.specs.Scales.{scaleOf, receivedBy}
+use Rattle.decode_all.proofs.FrameSteps.{listed, metrics-are}
 use Rattle.best_sides.specs.FrameSides.{frameMetrics}
 use Rattle.best_sides.specs.Filled.{Filled, filled-none, filled-more}
 

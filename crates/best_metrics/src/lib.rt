@@ -1,21 +1,21 @@
 // The metrics of all steps of a frame, four to a step, run after run, each with the scale of its combination. No row is checked here.
-use frame_read::scale_place;
-use isdbs_blocks::make_block;
+use decode_all::scale_place;
+use decode_block::make_block;
+use decode_run::block_of;
 use isdbs_core::combination::Combination;
 use isdbs_core::slots::Plan;
 use isdbs_metrics::PeriodLayout;
 use isdbs_metrics::layout_of;
 use isdbs_points::Mapping;
-use isdbs_read::block_of;
 ghost use mathlib.Core.Path.{_≡_};
 ghost use Prim.Native.Nat.{_+_, _*_, _<_, _≤_, _^_};
 ghost use lib.ListN.{length};
 ghost use Rattle.trellis.specs.Lists.{upto, laid};
 ghost use Rattle.isdbs_frame.specs.Frame.{mainSymbols};
-ghost use Rattle.isdbs_runs.specs.RunsOf.{frameSteps, Planned};
+ghost use Rattle.isdbs_plan.specs.RunsOf.{frameSteps, Planned};
 ghost use Rattle.isdbs_metrics.specs.Steps.{LayoutOf, Covers, pieceMetrics};
-ghost use Rattle.isdbs_blocks.specs.Blocks.{Periods, fours};
-ghost use Rattle.frame_read.specs.Scales.{receivedBy};
+ghost use Rattle.decode_block.specs.Blocks.{Periods, fours};
+ghost use Rattle.isdbs_metrics.specs.Scales.{receivedBy};
 ghost use Rattle.best_sides.specs.FrameSides.{frameMetrics};
 ghost use Rattle.best_metrics.specs.Floats.{floats};
 

@@ -1,4 +1,4 @@
--- The sides of a frame run by run. Assumes nothing.
+-- The sides of a frame run by run.
 use mathlib.Core.Path.{_≡_, sym}
 use mathlib.Core.List.{List}
 use Prim.Native.Nat.{ℕ, _+_, _-_, _<_, _≤_}
@@ -8,12 +8,12 @@ use lib.Ieee.{Float, nan}
 use borrow.Rule.Slice.PartMut.{midOf, putMid}
 use Rattle.trellis.specs.Lists.{upto, laid}
 use Rattle.isdbs_combination.specs.declared.Combination.{Combination}
-use Rattle.isdbs_runs.specs.declared.Run.{Run}
+use Rattle.isdbs_plan.specs.declared.Run.{Run}
 use Rattle.isdbs_tables.specs.declared.Table.{Table}
-use Rattle.isdbs_runs.specs.RunsOf.{stepsOf, stepsIn, frameSteps, noRun}
+use Rattle.isdbs_plan.specs.RunsOf.{stepsOf, stepsIn, frameSteps, noRun}
 use Rattle.isdbs_points.specs.declared.Mapping.{Mapping}
-use Rattle.isdbs_pack.specs.FrameRunLaws.{RunAt, Listed, run-first, run-next, run-last}
-use Rattle.isdbs_pack.specs.Bytes.{receivedWith}
+use Rattle.isdbs_metrics.specs.FrameRunLaws.{RunAt, Listed, run-first, run-next, run-last}
+use Rattle.decode_bytes.specs.Bytes.{receivedWith}
 use Rattle.best_sides.specs.FrameSides.{sideAt, frameSides}
 use Rattle.best_sides.specs.Filled.{Filled, filled-none, filled-more}
 use Rattle.best_sides.specs.RunSides.{sideAs, listedSides, sides-are}

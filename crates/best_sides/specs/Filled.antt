@@ -1,4 +1,4 @@
--- A slice that is filled part after part from its front, over any function. Assumes nothing.
+-- A slice that is filled part after part from its front, over any function.
 use mathlib.Core.Path.{_≡_, refl, _∙_, ap}
 use mathlib.Core.List.{List, _++_}
 use Prim.Native.Nat.{ℕ, _+_, _-_, _<_, _≤_}
@@ -7,7 +7,7 @@ use lib.ListN.{length, take, drop}
 use borrow.Rule.Slice.PartMut.{midOf, putMid}
 use Rattle.trellis.specs.Lists.{upto, laid}
 use Rattle.trellis.specs.LaidLaws.{laid-part, length-laid-upto}
-use Rattle.release.specs.PartLaws.{written-tail}
+use Rattle.viterbi_release.specs.PartLaws.{written-tail}
 
 -- the first `done` elements are f's, the others as before
 pub record Filled {A : Type 0} (f : ℕ → A) (xs₀ xs : List A) (done : ℕ) : Type 0 where

@@ -1,4 +1,4 @@
--- The metrics of an accepted frame are within 2 ^ 23, and those of its TC8PSK steps not below 0: what the best content asks; and the better C2 that a side holds. Assumes nothing.
+-- The metrics of an accepted frame are within 2 ^ 23, and those of its TC8PSK steps not below 0: what the best content asks; and the better C2 that a side holds.
 use mathlib.Core.Path.{_≡_, refl, sym, ap, _∙_, subst}
 use mathlib.Core.Logic.{_⊎_, inl, inr, ⊎-elim}
 use mathlib.Core.Bool.{Bool, true, false, cond}
@@ -20,13 +20,13 @@ use Rattle.isdbs_combination.specs.declared.Modulation.the-variants.{Bpsk, Qpsk
 use Rattle.isdbs_combination.specs.Combinations.{modulationOf}
 use Rattle.isdbs_tables.specs.declared.Table.{Table}
 use Rattle.isdbs_tables.specs.Tables.{TableAccepted}
-use Rattle.isdbs_runs.specs.RunsOf.{frameSteps}
+use Rattle.isdbs_plan.specs.RunsOf.{frameSteps}
 use Rattle.isdbs_points.specs.Layout.{Segment, segments, In, atStep}
 use Rattle.isdbs_points.specs.SizeLaws.{at-step, find-step}
 use Rattle.isdbs_metrics.specs.Reading.{Received, metricsIn, metricsAt, uncoded}
-use Rattle.frame_ranges.specs.Metrics.{Sized, metric-in, metrics-up}
-use Rattle.frame_ranges.specs.Rising.{Up}
-use Rattle.frame_ranges.specs.Size.{Size}
+use Rattle.range_frames.specs.Metrics.{Sized, metric-in, metrics-up}
+use Rattle.range_frames.specs.Rising.{Up}
+use Rattle.range_frames.specs.Size.{Size}
 use Rattle.best_grid.specs.Grid.{unit, most, below}
 use Rattle.best_grid.specs.Hides.{Held}
 use Rattle.best_grid.specs.Sides.{two, chosenAt, chosen}

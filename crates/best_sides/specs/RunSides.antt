@@ -1,4 +1,4 @@
--- The sides of a run by itself, its slices starting at the run's first symbol, and of a frame run by run. Assumes nothing.
+-- The sides of a run by itself, its slices starting at the run's first symbol, and of a frame run by run.
 use mathlib.Core.Path.{_≡_, refl, sym, ap, _∙_}
 use mathlib.Core.List.{List}
 use Prim.Native.Nat.{ℕ, zero, suc, _+_, _-_, _*_, _<_, _≤_}
@@ -13,16 +13,16 @@ use Rattle.isdbs_combination.specs.declared.Combination.the-variants.{«Bpsk1_2
 use Rattle.isdbs_combination.specs.declared.Modulation.{Modulation}
 use Rattle.isdbs_combination.specs.declared.Modulation.the-variants.{Bpsk, Qpsk, Tc8psk}
 use Rattle.isdbs_combination.specs.Combinations.{modulationOf}
-use Rattle.isdbs_runs.specs.declared.Run.{Run}
-use Rattle.isdbs_runs.specs.RunsOf.{stepsOf, noRun}
+use Rattle.isdbs_plan.specs.declared.Run.{Run}
+use Rattle.isdbs_plan.specs.RunsOf.{stepsOf, noRun}
 use Rattle.isdbs_points.specs.declared.Mapping.{Mapping}
 use Rattle.isdbs_points.specs.Points.{zero64, point, conjugated, psk8Of, subset}
 use Rattle.isdbs_points.specs.Layout.{Segment, segmentOf, segmentsFrom, among}
 use Rattle.isdbs_metrics.specs.Reading.{Received, correlation}
 use Rattle.isdbs_metrics.specs.Steps.{Covers}
-use Rattle.isdbs_pack.specs.AmongLaws.{stepsTo, validTo, among-step}
-use Rattle.isdbs_pack.specs.FrameRunLaws.{RunList, tail-is}
-use Rattle.isdbs_pack.specs.Bytes.{receivedWith}
+use Rattle.isdbs_points.specs.AmongLaws.{stepsTo, validTo, among-step}
+use Rattle.isdbs_metrics.specs.FrameRunLaws.{RunList, tail-is}
+use Rattle.decode_bytes.specs.Bytes.{receivedWith}
 use Rattle.best_sides.specs.FrameSides.{sideBy, sideIn}
 
 abbrev pub betterOf : List Float → List Float → Mapping → ℕ → ℕ → ℕ

@@ -1,7 +1,6 @@
 // Readings of whole quadruples beside a search through all paths: the greatest sum, how many paths have it, the first of them, and what
 // the decoder reads.
 ghost use Prim.Native.Nat.{_≤_};
-use best_reading::Start;
 use cases_lib::end_line;
 use cases_lib::one;
 use cases_lib::row;
@@ -17,6 +16,7 @@ use cases_paths::scattered;
 use cases_paths::search_all;
 use isdb_fec::conv::G1;
 use isdb_fec::conv::G2;
+use path_reading::Start;
 use trellis::FRAME_WORDS;
 
 // The inputs 00000000 and 10000000 from state 0 have the greatest sum: both end in state 0, by way of the states 0 and 1.
@@ -79,7 +79,7 @@ fn read(
     out: &mut [u8; 8],
 ) -> usize {
     let xs = floats(metrics);
-    let r = best_reading::greatest_sum_reading(&xs, start, decisions, out);
+    let r = path_reading::greatest_sum_reading(&xs, start, decisions, out);
     let answer = r.answer;
     row(answer)
 }
@@ -121,7 +121,7 @@ fn agrees(
 {
     let all: &[f32] = xs;
     let end = 4 * n;
-    let r = best_reading::greatest_sum_reading(&all[..end], start, decisions, out);
+    let r = path_reading::greatest_sum_reading(&all[..end], start, decisions, out);
     let answer = r.answer;
     (row(answer) == 0) & (r.count == n) & has_inputs(out, n, inputs)
 }

@@ -1,4 +1,4 @@
--- What a reading of a stretch asks, of the values that are made here. Assumes nothing.
+-- What a reading of a stretch asks, of the values that are made here.
 use mathlib.Core.Path.{_≡_, refl, sym, ap, _∙_, subst}
 use mathlib.Core.Bool.{true}
 use mathlib.Core.List.{List, [], _∷_}

@@ -8,7 +8,6 @@ ghost use lib.ListN.{length};
 ghost use Rattle.best_grid.specs.Grid.{below};
 ghost use Rattle.best_grid.specs.Sides.{Upright};
 use best_content::best_content;
-use best_path::Start;
 use cases_lib::one;
 use cases_lib::show;
 use cases_lib::text;
@@ -16,6 +15,7 @@ use cases_lib::wide;
 use cases_paths::isdb_label;
 use cases_paths::larger;
 use cases_paths::next;
+use path_greatest::Start;
 
 // The lowest k bits.
 fn lowest(k: u32) -> u32 {

@@ -2,7 +2,6 @@
 // places where a decoder is easily wrong. `stdout` has the values of document 01.
 ghost use Prim.Native.Nat.{_≤_, _<_};
 ghost use lib.ListN.{length};
-use acs::branch_number;
 use cases_lib::alike;
 use cases_lib::one;
 use cases_lib::row;
@@ -18,6 +17,7 @@ use isdb_fec::conv::Released;
 use isdb_fec::conv::ViterbiDecoder;
 use isdb_fec::conv::branch_output;
 use trellis::FRAME_WORDS;
+use viterbi_step::branch_number;
 
 const W1: u32 = 0x1b95;
 

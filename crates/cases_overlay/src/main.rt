@@ -20,9 +20,9 @@ use isdbs_phy::demod::encode_frame_with_state;
 use isdbt_fec::conv::CodeRate;
 use isdbt_fec::conv::Encoded;
 use isdbt_fec::conv::encode_punctured;
-use overlay_encode::Code;
-use overlay_encode::encode_overlaid;
-use overlay_encode::overlay;
+use overlay::Code;
+use overlay::encode_overlaid;
+use overlay::overlay;
 use refusal::Answer;
 
 // The start states of the first load and of the second; their exclusive-or is 58.

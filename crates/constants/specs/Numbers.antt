@@ -1,5 +1,5 @@
 -- Each bit pattern in a definition that a public contract reaches, as the number that document 01 or 02 writes; the ends of the margins have theirs in crate margin_ends.
--- `HasValue x s a b` says that x is finite, has the sign s (true: minus), and is a / b in size. Every law is computed. Assumes nothing.
+-- `HasValue x s a b` says that x is finite, has the sign s (true: minus), and is a / b in size. Every law is computed.
 use mathlib.Core.Path.{_≡_, refl}
 use mathlib.Core.Bool.{true, false, not, _||_}
 use mathlib.Core.List.{[]}
@@ -12,12 +12,12 @@ use lib.Ieee.Exact.{HasValue}
 use Rattle.trellis.specs.Lists.{upto}
 use Rattle.trellis.specs.Step.{top, ruled}
 use Rattle.trellis.specs.Run.{startAt, startUnknown}
-use Rattle.best_path.specs.Hard.{soft}
+use Rattle.path_greatest.specs.Hard.{soft}
 use Rattle.isdb_fec.specs.Values.{pathLimit, streamLimit}
 use Rattle.isdbs_points.specs.Points.{zero64, one64, root64}
 use Rattle.isdbs_phy.specs.DecodeRows.{partLimit, badScale}
-use Rattle.call_ranges.specs.Numbers as calls
-use Rattle.frame_ranges.specs.Limits as frames
+use Rattle.range_calls.specs.Numbers as calls
+use Rattle.range_frames.specs.Limits as frames
 use Rattle.margin_ends.specs.Ends.{eight}
 
 -- ---- the decoder

@@ -1,5 +1,5 @@
 -- The coded tail of a sync word: its last 10 bits after the inner code, X then Y of each. The 6 bits before them fix the state, so the start does not matter.
--- Assumes nothing.
+--
 use Prim.Native.Nat.{ℕ, zero, suc, _+_, _*_}
 use Rattle.trellis.specs.Lists.{upto}
 use Rattle.isdbs_points.specs.Layout.{wordBit}

@@ -1,4 +1,4 @@
--- Labels are below 4, and which part of a QPSK symbol carries which bit. Assumes nothing.
+-- Labels are below 4, and which part of a QPSK symbol carries which bit.
 use mathlib.Core.Bool.{Bool, true, false, cond}
 use Prim.Native.Nat.{ℕ, zero, suc, _<_}
 use native.Mathlib.Omega.{arith}

@@ -1,4 +1,4 @@
--- Demand 3 of one call of `decode_frame`. Assumes nothing.
+-- Demand 3 of one call of `decode_frame`.
 use mathlib.Core.Path.{_≡_}
 use mathlib.Core.Bool.{Bool}
 use mathlib.Core.List.{List, [], _∷_}
@@ -10,7 +10,7 @@ use Rattle.refusal.specs.declared.Answer.the-variants.{Space}
 use Rattle.refusal.specs.Rows.{numberOf}
 use Rattle.isdbs_tables.specs.declared.Table.{Table}
 use Rattle.isdbs_tables.specs.Tables.{TableAccepted}
-use Rattle.isdbs_runs.specs.RunsOf.{validTotal, frameSteps, loadBytes}
+use Rattle.isdbs_plan.specs.RunsOf.{validTotal, frameSteps, loadBytes}
 use Rattle.isdbs_points.specs.declared.Mapping.{Mapping}
 use Rattle.isdbs_phy.specs.declared.demod.FrameDecoded.{FrameDecoded}
 use Rattle.isdbs_phy.specs.DecodeRows.{shortSpace, frameSaid}

@@ -1,4 +1,4 @@
--- Demand 3 about the call `decode_frame`: from its contract and the margins alone. Assumes nothing.
+-- Demand 3 about the call `decode_frame`: from its contract and the margins alone.
 use mathlib.Core.Path.{_≡_, refl, _∙_}
 use mathlib.Core.Bool.{Bool, true, false, not, _||_}
 use mathlib.Core.List.{List, [], _∷_, _++_}
@@ -16,14 +16,14 @@ use Rattle.refusal.specs.RowLaws.{neither-holds, none-accepted, passed-above, f
 use Rattle.isdbs_tables.specs.declared.Table.{Table}
 use Rattle.isdbs_tables.specs.Tables.{TableAccepted}
 use Rattle.isdbs_tables.specs.TableLaws.{then-rows}
-use Rattle.isdbs_runs.specs.RunsOf.{validTotal, loadBytes}
+use Rattle.isdbs_plan.specs.RunsOf.{validTotal, loadBytes}
 use Rattle.isdbs_points.specs.declared.Mapping.{Mapping}
 use Rattle.isdbs_phy.specs.declared.demod.FrameDecoded.{FrameDecoded}
 use Rattle.isdbs_phy.specs.DecodeRows.{someOf, partLimit, someBad, shortSpace, pointRows, lastRows, decodeRows, frameSaid, frameAnswer, Kept, FrameLeft, someOfBeyond}
 use Rattle.isdb_fec.specs.Values.{within}
-use Rattle.strain.specs.Strain.{strainSum}
-use Rattle.frame_read.specs.ScaleLaws.{equal-scales}
-use Rattle.frame_read.specs.Scales.{receivedBy}
+use Rattle.strain_marks.specs.Strain.{strainSum}
+use Rattle.isdbs_metrics.specs.ScaleLaws.{equal-scales}
+use Rattle.isdbs_metrics.specs.Scales.{receivedBy}
 use Rattle.isdbs_points.specs.Layout.{FullLoad}
 use Rattle.margins.specs.Margins.{anyAccepted, Within}
 use Rattle.exact_frame.specs.StrainLaws.{decoded-exactly}

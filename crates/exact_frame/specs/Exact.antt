@@ -1,6 +1,6 @@
 -- Demand 3 for the whole frame: the bytes that decoding reads from points within the margins of a full load are that load. "This is a single claim about the whole
 -- frame with all its runs": for every accepted table, every `Mapping`, both values of `first`, a known start and the scale 8 for every combination.
--- Assumes nothing.
+--
 use mathlib.Core.Path.{_≡_, sym, _∙_, ap}
 use mathlib.Core.Bool.{Bool, true, false}
 use mathlib.Core.List.{List}
@@ -12,13 +12,13 @@ use lib.Ieee.{Float, binary32, ofBits}
 use Rattle.trellis.specs.Lists.{upto}
 use Rattle.trellis.specs.Code.{stateAt}
 use Rattle.trellis.specs.Isdb.{rule, frameTraceback}
-use Rattle.lead.specs.Favour.{Favours}
-use Rattle.lead.specs.Frame.{decoded-sent}
+use Rattle.path_lead.specs.Favour.{Favours}
+use Rattle.path_lead.specs.Frame.{decoded-sent}
 use Rattle.isdbs_combination.specs.declared.Modulation.{Modulation}
 use Rattle.isdbs_tables.specs.declared.Table.{Table}
 use Rattle.isdbs_combination.specs.Combinations.{modulationOf, unitOf, slotSteps, slotBits}
 use Rattle.isdbs_tables.specs.Tables.{TableAccepted}
-use Rattle.isdbs_runs.specs.RunsOf.{frameSteps, loadBytes}
+use Rattle.isdbs_plan.specs.RunsOf.{frameSteps, loadBytes}
 use Rattle.isdbs_points.specs.declared.Mapping.{Mapping}
 use Rattle.isdbs_points.specs.Layout.{Segment, segments, atBit, loadBit, FullLoad, wordBit, In}
 use Rattle.isdbs_points.specs.Frame.{coded, inputIn, inputs, labelAt, stateAfter, startState}

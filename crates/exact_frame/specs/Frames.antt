@@ -1,5 +1,5 @@
 -- Which frames lie within the margins. Each part of such a frame is one that decoding accepts; the encoded frame is one, whatever is lent past it; and so are
--- the frames with each part at an end of its margin, in which every part is another one. Assumes nothing.
+-- the frames with each part at an end of its margin, in which every part is another one.
 use mathlib.Core.Path.{_≡_, _∙_}
 use mathlib.Core.Bool.{Bool, true, false, not}
 use mathlib.Core.List.{List, _++_}
@@ -16,7 +16,7 @@ use Rattle.isdbs_combination.specs.declared.Modulation.the-variants.{Bpsk, Qpsk
 use Rattle.isdbs_tables.specs.declared.Table.{Table}
 use Rattle.isdbs_combination.specs.Combinations.{modulationOf}
 use Rattle.isdbs_tables.specs.Tables.{TableAccepted}
-use Rattle.isdbs_runs.specs.RunsOf.{loadBytes}
+use Rattle.isdbs_plan.specs.RunsOf.{loadBytes}
 use Rattle.isdbs_points.specs.declared.Cplx.{Cplx}
 use Rattle.isdbs_points.specs.declared.Mapping.{Mapping}
 use Rattle.isdbs_points.specs.Points.{unused, zero64, one64, root64, qpskOf, subset}
@@ -27,7 +27,7 @@ use Rattle.margins.specs.Margins.{keeps, anyAccepted, holds, freeRe, freeIm, Wi
 use Rattle.margins.specs.Clean.{Clean, clean-zero, clean-minus-zero, clean-one, clean-minus-one, clean-root, clean-minus-root, conjugated-clean, term-clean, psk8-clean, lowEnd, highEnd, keeps-accepted, clean-within, Other}
 use Rattle.isdbs_points.specs.PlaceLaws.{among-all}
 use Rattle.isdbs_points.specs.BitLaws.{subset-small, load-bit-small}
-use Rattle.isdbs_encode.specs.Laid.{FrameLaid}
+use Rattle.encode_main.specs.Laid.{FrameLaid}
 use Rattle.exact_frame.specs.Exact.{decoded-load}
 use Rattle.isdbs_frame.specs.Frame.{mainSymbols}
 use Rattle.margin_ends.specs.Ends.{eight}

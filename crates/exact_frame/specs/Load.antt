@@ -1,4 +1,4 @@
--- The frame of a load depends on the bits of its first 203 bytes for each valid slot, and on nothing else of it. Assumes nothing.
+-- The frame of a load depends on the bits of its first 203 bytes for each valid slot, and on nothing else of it.
 use mathlib.Core.Path.{_≡_, refl, _∙_, ap}
 use mathlib.Core.Bool.{Bool, true, false, not, cond}
 use mathlib.Core.List.{List, [], _∷_}
@@ -15,7 +15,7 @@ use Rattle.isdbs_combination.specs.declared.Modulation.the-variants.{Bpsk, Qpsk
 use Rattle.isdbs_tables.specs.declared.Table.{Table}
 use Rattle.isdbs_combination.specs.Combinations.{modulationOf, unitOf, slotSteps, slotBits, slotSymbols}
 use Rattle.isdbs_tables.specs.Tables.{TableAccepted}
-use Rattle.isdbs_runs.specs.RunsOf.{runsOf, validTotal, loadBytes, frameSteps}
+use Rattle.isdbs_plan.specs.RunsOf.{runsOf, validTotal, loadBytes, frameSteps}
 use Rattle.isdbs_points.specs.declared.Cplx.{Cplx}
 use Rattle.isdbs_points.specs.declared.Mapping.{Mapping}
 use Rattle.isdbs_points.specs.Points.{point, unused, conjugated}

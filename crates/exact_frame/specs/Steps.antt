@@ -1,4 +1,4 @@
--- Each step of a frame that lies within the margins favours the pair that the encoder sends there. Assumes nothing.
+-- Each step of a frame that lies within the margins favours the pair that the encoder sends there.
 use mathlib.Core.Path.{_≡_, refl, sym, ap, subst}
 use mathlib.Core.Logic.{_⊎_, inl, inr}
 use mathlib.Core.Bool.{Bool, true, false}
@@ -12,15 +12,15 @@ use lib.Ieee.{Float, nan, lt}
 use Rattle.trellis.specs.Code.{stateAt, isdb}
 use Rattle.trellis.specs.Lists.{bit, firstPlace}
 use Rattle.trellis.specs.Step.{term}
-use Rattle.lead.specs.Favour.{Favour}
-use Rattle.lead.specs.Ties.{true-of}
+use Rattle.path_lead.specs.Favour.{Favour}
+use Rattle.path_lead.specs.Ties.{true-of}
 use Rattle.isdbs_combination.specs.declared.Combination.{Combination}
 use Rattle.isdbs_combination.specs.declared.Modulation.{Modulation}
 use Rattle.isdbs_combination.specs.declared.Modulation.the-variants.{Bpsk, Qpsk, Tc8psk}
 use Rattle.isdbs_tables.specs.declared.Table.{Table}
 use Rattle.isdbs_combination.specs.Combinations.{modulationOf}
 use Rattle.isdbs_tables.specs.Tables.{TableAccepted}
-use Rattle.isdbs_runs.specs.RunsOf.{frameSteps}
+use Rattle.isdbs_plan.specs.RunsOf.{frameSteps}
 use Rattle.isdbs_points.specs.declared.Cplx.{Cplx}
 use Rattle.isdbs_points.specs.declared.Mapping.{Mapping}
 use Rattle.isdbs_points.specs.Points.{point, unused, zero64, root64, psk8Of, subset, conjugated, qpskOf}

@@ -1,4 +1,4 @@
--- P10: "A received frame within a load's margins, decoded as demand 3 says, has every count zero": a known start and the scale 8. Assumes nothing.
+-- P10: "A received frame within a load's margins, decoded as demand 3 says, has every count zero": a known start and the scale 8.
 use mathlib.Core.Path.{_≡_, refl, sym, _∙_, ap}
 use mathlib.Core.Bool.{Bool, true, false}
 use mathlib.Core.List.{List, [], _∷_, _++_}
@@ -9,18 +9,18 @@ use lib.Ieee.{Float, nan, binary32, lt, ofBits}
 use Rattle.ieee.specs.Order.{lt→value, le→value}
 use Rattle.trellis.specs.Lists.{upto}
 use Rattle.trellis.specs.Code.{stateAt, isdb}
-use Rattle.lead.specs.Favour.{Favour}
-use Rattle.lead.specs.Ties.{false-of}
+use Rattle.path_lead.specs.Favour.{Favour}
+use Rattle.path_lead.specs.Ties.{false-of}
 use Rattle.isdbs_tables.specs.declared.Table.{Table}
 use Rattle.isdbs_tables.specs.Tables.{TableAccepted}
-use Rattle.isdbs_runs.specs.RunsOf.{validTotal, frameSteps, loadBytes}
+use Rattle.isdbs_plan.specs.RunsOf.{validTotal, frameSteps, loadBytes}
 use Rattle.isdbs_points.specs.declared.Mapping.{Mapping}
 use Rattle.isdbs_points.specs.Frame.{inputs, labelAt, startState}
 use Rattle.isdbs_metrics.specs.Reading.{Received, metricsAt, decodedBits, decodedBytes, received}
 use Rattle.isdbs_points.specs.Layout.{FullLoad}
 use Rattle.margins.specs.Margins.{Within}
-use Rattle.strain.specs.Strain.{strainedBy, strained, strainOf, strainCounts, strainSum}
-use Rattle.strain.specs.StrainLaws.{none-above, strain-none, strain-of-none}
+use Rattle.strain_marks.specs.Strain.{strainedBy, strained, strainOf, strainCounts, strainSum}
+use Rattle.strain_marks.specs.StrainLaws.{none-above, strain-none, strain-of-none}
 use Rattle.isdbs_points.specs.InputLaws.{label-alike}
 use Rattle.exact_frame.specs.Steps.{step-favours}
 use Rattle.exact_frame.specs.Exact.{sent-bits, decoded-load}

@@ -1,4 +1,4 @@
--- The lettered examples of document 01: one list, and one theorem that all of it holds, over the definitions that the contracts cite. Assumes nothing.
+-- The lettered examples of document 01: one list, and one theorem that all of it holds, over the definitions that the contracts cite.
 use mathlib.Core.Path.{_≡_, refl}
 use mathlib.Core.Bool.{false}
 use mathlib.Core.List.{List, [], _∷_}
@@ -9,10 +9,10 @@ use Rattle.isdbs_combination.specs.declared.Combination.the-variants.{«Bpsk1_2
 use Rattle.refusal.specs.Rows.{numberOf, Said}
 use Rattle.isdbs_tables.specs.declared.Entry.{Entry}
 use Rattle.isdbs_tables.specs.declared.Table.{Table}
-use Rattle.isdbs_runs.specs.declared.Run.{Run}
+use Rattle.isdbs_plan.specs.declared.Run.{Run}
 use Rattle.isdbs_frame.specs.Frame.{mainSymbolPosition, burstSymbolPosition}
 use Rattle.isdbs_tables.specs.Tables.{slotSum, some, tableRows, tableAnswer}
-use Rattle.isdbs_runs.specs.RunsOf.{runsFrom, runsOf, validIn, validTotal}
+use Rattle.isdbs_plan.specs.RunsOf.{runsFrom, runsOf, validIn, validTotal}
 use Rattle.isdbs_core.specs.Symbols.{firstPair, bitSymbol}
 use lib.IntN.{pos, negsuc}
 use lib.Ieee.{Float, fin, binary32, add, sub, neg, lt, ofBits}
@@ -23,7 +23,7 @@ use Rattle.trellis.specs.Encoded.{encoded}
 use Rattle.trellis.specs.Step.{four, branch, cand, wins, next, nexts, word, top, best, renormalised, kept, back, input, traced}
 use Rattle.trellis.specs.Run.{startAt, settled, released, stepped, after}
 use Rattle.ieee.specs.Conversion.{rounded}
-use Rattle.isdbs_soft.specs.Soft.{softOf}
+use Rattle.ieee_cast.specs.Soft.{softOf}
 use Rattle.isdbs_points.specs.Frame.{stateAfter}
 
 -- entry of a word and its slots; a table of two, the others not in use

@@ -1,4 +1,4 @@
--- Each place of the frame takes its point from exactly one place of the three inputs, and each input place is used exactly once. Assumes nothing.
+-- Each place of the frame takes its point from exactly one place of the three inputs, and each input place is used exactly once.
 use mathlib.Core.List.{[], _∷_}
 use mathlib.Core.Path.{_≡_, refl, sym, _∙_, ap}
 use Prim.Native.Nat.{ℕ, _+_, _*_, _/_, _%_, _<_}

@@ -1,4 +1,4 @@
--- Document 02, P1: the full frame, and from which place of the three inputs each of its 39,936 places takes its point. Assumes nothing.
+-- Document 02, P1: the full frame, and from which place of the three inputs each of its 39,936 places takes its point.
 use mathlib.Core.List.{List}
 use Prim.Native.Nat.{ℕ, _+_, _*_, _/_, _%_, _<_}
 use lib.ListN.{getD}

@@ -1,4 +1,4 @@
--- "Laying and taking apart undo each other", and points past an input's length do not enter. Assumes nothing.
+-- "Laying and taking apart undo each other", and points past an input's length do not enter.
 use mathlib.Core.Path.{_≡_, refl, sym, _∙_, ap}
 use mathlib.Core.List.{List}
 use Prim.Native.Nat.{ℕ, _<_, _≤_}

@@ -1,4 +1,4 @@
--- What follows from the tests of the rows. Assumes nothing.
+-- What follows from the tests of the rows.
 use mathlib.Core.Path.{_≡_}
 use mathlib.Core.Bool.{false, _||_}
 use Prim.Native.Nat.{ℕ, _≤_}

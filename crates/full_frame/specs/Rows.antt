@@ -1,4 +1,4 @@
--- Document 02, P1: the rows of laying and of taking apart, and what a call leaves in a lent slice. Assumes nothing.
+-- Document 02, P1: the rows of laying and of taking apart, and what a call leaves in a lent slice.
 use mathlib.Core.Bool.{Bool, cond, _||_}
 use mathlib.Core.List.{List, [], _∷_}
 use Prim.Native.Nat.{ℕ}

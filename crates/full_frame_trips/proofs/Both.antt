@@ -1,4 +1,4 @@
--- Two calls in a row: their answer, and what they give back. Assumes nothing.
+-- Two calls in a row: their answer, and what they give back.
 use mathlib.Core.Path.{_≡_, refl, sym, _∙_, ap}
 use mathlib.Core.Bool.{Bool, false, _||_}
 use mathlib.Core.List.{List}

@@ -1,4 +1,4 @@
--- The rows of laying and taking apart in a row, each way: those of both calls, tested before the first. Assumes nothing.
+-- The rows of laying and taking apart in a row, each way: those of both calls, tested before the first.
 use mathlib.Core.Bool.{Bool, _||_}
 use mathlib.Core.List.{List, [], _∷_}
 use lib.ListN.{length}

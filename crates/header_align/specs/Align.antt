@@ -1,4 +1,4 @@
--- The aligned frame. Assumes nothing.
+-- The aligned frame.
 use mathlib.Core.Bool.{Bool, not, _||_}
 use mathlib.Core.List.{List, [], _∷_}
 use Prim.Native.Nat.{ℕ}
@@ -9,7 +9,7 @@ use Rattle.refusal.specs.Rows.{Row}
 use Rattle.trellis.specs.Lists.{upto}
 use Rattle.isdbs_frame.specs.Frame.{frameSymbols}
 use Rattle.full_frame.specs.Rows.{shortFrame}
-use Rattle.frame_rows.specs.DecodeRows.{partLimit, someOfBeyond}
+use Rattle.isdbs_rows.specs.DecodeRows.{partLimit, someOfBeyond}
 use Rattle.header_sync.specs.Signs.{zero64}
 use Rattle.header_sync.specs.Fits.{shortAt}
 use Rattle.header_mean.specs.declared.Mean.{Mean}

@@ -1,6 +1,5 @@
 // A frame turned right and brought to the size it was sent with, by the mean of its 40 known header symbols. Every part is an equation in f64
 // operations, each rounded once; nothing is promised of what it improves.
-use frame_rows::some_beyond;
 use full_frame::short_frame;
 use header_mean::Mean;
 use header_mean::mean_at;
@@ -8,6 +7,7 @@ use header_sync::fit_here;
 use header_sync::no_frame;
 use isdbs_core::frame::FRAME_SYMBOLS;
 use isdbs_points::PART_LIMIT;
+use isdbs_rows::some_beyond;
 use refusal::Answer;
 ghost use mathlib.Core.Path.{_≡_};
 ghost use Prim.Native.Nat.{_+_, _<_, _≤_};

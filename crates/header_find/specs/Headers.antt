@@ -1,4 +1,4 @@
--- What the header of a frame says, and of the frame that a search finds. Assumes nothing.
+-- What the header of a frame says, and of the frame that a search finds.
 use mathlib.Core.Bool.{cond}
 use mathlib.Core.List.{List}
 use Prim.Native.Nat.{ℕ}

@@ -1,4 +1,4 @@
--- The mean of the known header symbols, and the turn by it. Assumes nothing.
+-- The mean of the known header symbols, and the turn by it.
 use mathlib.Core.Bool.{Bool, cond}
 use mathlib.Core.List.{List}
 use Prim.Native.Nat.{ℕ, zero, suc, _+_}

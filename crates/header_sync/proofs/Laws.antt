@@ -1,4 +1,4 @@
--- Laws of tests and of counts that the proofs share. Assumes nothing.
+-- Laws of tests and of counts that the proofs share.
 use mathlib.Core.Path.{_≡_, refl, sym, _∙_}
 use mathlib.Core.Bool.{Bool, true, false}
 use Prim.Native.Nat.{ℕ, _*_, _<_, _≤_}

@@ -1,4 +1,4 @@
--- What follows from the test of row 6, and how large scores and sums are. Assumes nothing.
+-- What follows from the test of row 6, and how large scores and sums are.
 use mathlib.Core.Path.{_≡_}
 use mathlib.Core.Bool.{Bool, true, false, cond}
 use mathlib.Core.List.{List}

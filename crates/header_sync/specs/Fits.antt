@@ -1,4 +1,4 @@
--- The kind of a frame and the sums of its header. Assumes nothing.
+-- The kind of a frame and the sums of its header.
 use mathlib.Core.Bool.{Bool, cond, _||_}
 use mathlib.Core.List.{List}
 use Prim.Native.Nat.{ℕ, _+_, _-_, _*_}

@@ -1,4 +1,4 @@
--- The first place at which a frame fits best. Assumes nothing.
+-- The first place at which a frame fits best.
 use mathlib.Core.Bool.{cond}
 use mathlib.Core.List.{List}
 use Prim.Native.Nat.{ℕ, zero, suc, _+_, _-_, _*_}

@@ -1,5 +1,5 @@
 -- The signs of the header symbols that every frame has, and the scores of received parts against them. A score is counted with what keeps it from
--- going below 0: 1 more for one symbol, 20 more for 20, 40 more for 40. Assumes nothing.
+-- going below 0: 1 more for one symbol, 20 more for 20, 40 more for 40.
 use mathlib.Core.Bool.{cond}
 use mathlib.Core.List.{List}
 use Prim.Native.Nat.{ℕ, zero, suc, _+_, _-_}

@@ -1,4 +1,4 @@
--- A mean with a finite part does not lie near both axes: t |x| is less than |x|, rounded too. Assumes nothing.
+-- A mean with a finite part does not lie near both axes: t |x| is less than |x|, rounded too.
 use mathlib.Core.Path.{_≡_, refl, sym, _∙_, ap}
 use mathlib.Core.Logic.{_⊎_, inl, inr}
 use mathlib.Core.Bool.{Bool, true, false, _&&_}

@@ -1,4 +1,4 @@
--- Worked examples, computed. Assumes nothing.
+-- Worked examples, computed.
 use mathlib.Core.Path.{_≡_, refl}
 use mathlib.Core.Bool.{true, false}
 use mathlib.Core.List.{List, [], _∷_}

@@ -1,4 +1,4 @@
--- The header of a frame that is laid by P1 and stands anywhere in a capture, turned by quarters; and where the search finds it. Assumes nothing.
+-- The header of a frame that is laid by P1 and stands anywhere in a capture, turned by quarters; and where the search finds it.
 use mathlib.Core.Path.{_≡_, refl, _∙_, ap}
 use mathlib.Core.Bool.{Bool}
 use mathlib.Core.List.{List}

@@ -1,4 +1,4 @@
--- The turn by a mean that is turned by a quarter: two eighths more. Assumes nothing.
+-- The turn by a mean that is turned by a quarter: two eighths more.
 use mathlib.Core.Path.{_≡_, refl, sym, _∙_, ap}
 use mathlib.Core.Bool.{Bool, true, false, cond, not, _&&_}
 use Prim.Native.Nat.{ℕ, zero, suc, _+_, _*_}

@@ -1,4 +1,4 @@
--- "the header that W1, any TMCC bytes and W2 or W3 encode to, from any state, has turn 0, the right kind and |A| = 40". Assumes nothing.
+-- "the header that W1, any TMCC bytes and W2 or W3 encode to, from any state, has turn 0, the right kind and |A| = 40".
 use mathlib.Core.Path.{_≡_, refl, sym, _∙_, ap}
 use mathlib.Core.Bool.{Bool, true, false, cond, _&&_}
 use mathlib.Core.List.{List, [], _∷_, _++_}

@@ -1,5 +1,5 @@
 -- Sums, products and tests of floats whose signs are turned. A sum that is exactly 0 is +0 whichever way its terms are turned, so turned values are alike
--- up to the sign of 0, which no test sees. Assumes nothing.
+-- up to the sign of 0, which no test sees.
 use mathlib.Core.Path.{_≡_, refl, sym, _∙_, ap}
 use mathlib.Core.Bool.{Bool, true, false, cond, not, _&&_, _||_}
 use Prim.Native.Nat.{ℕ, zero, suc, _+_, _-_, _*_, _^_, _<_, _≤_}

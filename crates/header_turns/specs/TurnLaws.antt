@@ -1,4 +1,4 @@
--- The header of any capture, turned by quarters of a turn, is the header turned so: whatever the points are. Assumes nothing.
+-- The header of any capture, turned by quarters of a turn, is the header turned so: whatever the points are.
 use mathlib.Core.Path.{_≡_, refl, sym, _∙_, ap}
 use mathlib.Core.Bool.{Bool, true, false, cond, _&&_}
 use mathlib.Core.Logic.{_⊎_}

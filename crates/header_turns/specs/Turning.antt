@@ -1,4 +1,4 @@
--- A capture turned by quarters of a turn, and what a header says of it. Assumes nothing.
+-- A capture turned by quarters of a turn, and what a header says of it.
 use mathlib.Core.Path.{_≡_}
 use mathlib.Core.Bool.{Bool, cond, _&&_}
 use mathlib.Core.List.{List}

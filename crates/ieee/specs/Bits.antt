@@ -1,6 +1,6 @@
 -- Bit patterns. q * 2 ^ k units, q having at most prec digits, and all of them where k is above 0, have the pattern k * hid + q with the sign before it (`units-bits`):
 -- the leading digit adds one to the exponent's field, and a carry out of the digits gives the next field, up to the infinity's (`inf-bits`).
--- So the pattern of a fraction's rounded value is one sum (`round-bits`), up to overflow (`round-over`). Assumes nothing.
+-- So the pattern of a fraction's rounded value is one sum (`round-bits`), up to overflow (`round-over`).
 use mathlib.Core.Path.{_≡_, refl, sym, ap, _∙_, subst}
 use mathlib.Core.Logic.{_⊎_, inl, inr}
 use mathlib.Core.Bool.{Bool, true, false, not, cond, true≢false}

@@ -1,5 +1,5 @@
 -- What a rounded P - N keeps: bounds q * 2 ^ j that the format's digits hold pass through the rounding, and a result is off by half a last digit
--- at most from every bound of P - N, held by the format or not. `pow2 j` is 2 ^ j kept shut. Assumes nothing.
+-- at most from every bound of P - N, held by the format or not. `pow2 j` is 2 ^ j kept shut.
 use mathlib.Core.Path.{_≡_, sym, ap, _∙_}
 use mathlib.Core.Logic.{_⊎_, inl, inr}
 use Prim.Native.Nat.{ℕ, suc, _+_, _-_, _*_, _^_, _≤_, _<_}

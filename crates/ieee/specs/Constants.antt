@@ -1,4 +1,4 @@
--- 2 ^ t as a number of a format (`two-to`), and a product with a negative constant: it turns the sign (`mul-neg`). Assumes nothing.
+-- 2 ^ t as a number of a format (`two-to`), and a product with a negative constant: it turns the sign (`mul-neg`).
 use mathlib.Core.Path.{_≡_, refl, sym, ap, _∙_}
 use mathlib.Core.Bool.{Bool, true, false, not, cond, _&&_}
 use Prim.Native.Nat.{ℕ, suc, _*_, _^_, _≤_, suc-le-suc}

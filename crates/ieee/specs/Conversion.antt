@@ -1,4 +1,4 @@
--- A float rounded to a format, as a cast from the wider format has it: `rounded f x` is the value of f nearest to x, ties to even, subnormal results included. Assumes nothing.
+-- A float rounded to a format, as a cast from the wider format has it: `rounded f x` is the value of f nearest to x, ties to even, subnormal results included.
 use Prim.Native.Nat.{_*_}
 use lib.Ieee.{Float, nan, inf, fin, Format, up, down, round}
 

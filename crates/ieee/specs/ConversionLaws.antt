@@ -1,5 +1,5 @@
 -- Laws of `rounded`. It keeps the order of all floats, infinities too (`rounded-mono`), and leaves what the format holds as it is (`rounded-self`).
--- So a value between two that the format holds stays between them, and is then finite (`rounded-between`). Assumes nothing.
+-- So a value between two that the format holds stays between them, and is then finite (`rounded-between`).
 use mathlib.Core.Path.{_≡_, refl, sym, ap, _∙_, subst}
 use mathlib.Core.Logic.{inl, inr}
 use mathlib.Core.Bool.{Bool, true, false, not, _&&_, _||_, cond}

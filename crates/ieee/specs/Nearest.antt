@@ -1,6 +1,6 @@
 -- Rounding to p binary digits, among natural numbers: `rnd p n d` is the multiple of a power of two nearest to n / d that p digits hold, `near p n` that of n.
 -- It keeps the order (`-mono`), changes nothing that has p digits (`-fix`), and is off by half of the last kept digit at most (`-err`). Nothing here is about floats.
--- Assumes nothing.
+--
 use mathlib.Core.Path.{_≡_, sym, ap, _∙_, subst}
 use mathlib.Core.Logic.{_⊎_, inl, inr}
 use mathlib.Core.Bool.{not}

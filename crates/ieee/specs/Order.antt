@@ -1,5 +1,5 @@
 -- Order: the tests `le`, `lt` and `eq` of two finite floats say the same as `Le`, `Lt` and `Same`, the order of their values, both ways (`le→value`, `value→le`, ..).
--- A test that failed says the order the other way round, and what lies between two finite floats is finite (`num-between`). Assumes nothing.
+-- A test that failed says the order the other way round, and what lies between two finite floats is finite (`num-between`).
 use mathlib.Core.Path.{_≡_, sym, ap, _∙_, subst}
 use mathlib.Core.Logic.{_⊎_, inl, inr}
 use mathlib.Core.Bool.{Bool, true, false, not, _&&_, _||_}

@@ -1,6 +1,6 @@
 -- Products of finite floats. With P = hi x * hi y + lo x * lo y and N = hi x * lo y + lo x * hi y the exact product is (P - N) / 2 ^ low units, and the float product is that,
 -- rounded (`mul-rounds`). `RoundsBy f z P N D` is `Rounds` for a fraction, (P - N) / D units: it keeps the order (`by-mono`) and never crosses a held value (`by-le`, `by-ge`, `by-between`).
--- Bounds on the factors bound the product, which is then finite (`mul-bound`). Assumes nothing.
+-- Bounds on the factors bound the product, which is then finite (`mul-bound`).
 use mathlib.Core.Path.{_≡_, sym, ap, _∙_, subst}
 use mathlib.Core.Logic.{_⊎_, inl, inr}
 use mathlib.Core.Bool.{Bool, true, false}

@@ -2,7 +2,7 @@
 -- Such a z keeps the order (`rounds-mono`), never crosses a value that the format holds (`rounds-le`, `rounds-ge`, `rounds-between`),
 -- is off by half of the last digit at most (`rounds-err`, `rounds-near`), and is exact where the format has the digits (`rounds-exact`).
 -- All of it is linear in hi, lo, P, N and one power of two, for `omega`. `pow2 j` is 2 ^ j kept shut, since `omega` reads no numeral of 40 digits:
--- in binary32 `pow2 149` units are 1, and `pow2 134` are 2 ^ -15. Assumes nothing.
+-- in binary32 `pow2 149` units are 1, and `pow2 134` are 2 ^ -15.
 use mathlib.Core.Path.{_≡_, refl, sym, ap, _∙_, subst}
 use mathlib.Core.Logic.{_⊎_, inl, inr}
 use mathlib.Core.Bool.{Bool, true, false, not, cond}

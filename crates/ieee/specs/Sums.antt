@@ -1,6 +1,6 @@
 -- Sums and differences of finite floats. With P = hi x + hi y and N = lo x + lo y the exact sum is P - N units, and the float sum is that, rounded (`add-rounds`, `sub-rounds`);
 -- a finite one did not overflow (`add-fine`). So it never crosses a held value (`add-between`, which gives finiteness too).
--- The same for `sub`. Assumes nothing.
+-- The same for `sub`.
 use mathlib.Core.Path.{_≡_, sym, ap, _∙_, subst}
 use mathlib.Core.Bool.{Bool, true, false, not, cond}
 use Prim.Native.Nat.{ℕ, suc, _+_, _-_, _*_, _^_, _≤_, _<_, zero-le}

@@ -1,6 +1,6 @@
 -- A finite float as two natural numbers: its value is hi - lo of its format's smallest unit, 2 ^ -low, and one of the two is 0 (`one-side`).
 -- `Num f x`: x is finite and the format f holds it. `Digits f n`: n units are prec f digits and a power of two. `neg` changes hi and lo over.
--- Assumes nothing.
+--
 use mathlib.Core.Path.{_≡_, refl, sym, ap, _∙_, subst}
 use mathlib.Core.Logic.{_⊎_, inl, inr}
 use mathlib.Core.Bool.{Bool, true, false, _&&_, cond}

@@ -1,5 +1,5 @@
 -- Whole numbers, and multiples of any power of two: their sums are exact where the format has the digits, up to 2 ^ prec of them (`add-on`, `sub-on`).
--- `On f x j p n`: x is p - n times 2 ^ j units. A whole number is on 2 ^ low units (`ofInt-on`). Assumes nothing.
+-- `On f x j p n`: x is p - n times 2 ^ j units. A whole number is on 2 ^ low units (`ofInt-on`).
 use mathlib.Core.Path.{_≡_, sym, ap, _∙_}
 use mathlib.Core.Bool.{Bool, true, false, not, cond}
 use Prim.Native.Nat.{ℕ, suc, _+_, _-_, _*_, _^_, _≤_, _<_}

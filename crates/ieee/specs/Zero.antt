@@ -1,5 +1,5 @@
 -- When equal values are equal floats: two finite floats of one format with the same value are the same float, unless one is -0 and the other +0 (`unique`).
--- `plain x`: x is not -0. A sum is -0 only where both operands are (`add-plain`). x + 0 is x (`add-neutral`), and x - x is +0 (`sub-self`). Assumes nothing.
+-- `plain x`: x is not -0. A sum is -0 only where both operands are (`add-plain`). x + 0 is x (`add-neutral`), and x - x is +0 (`sub-self`).
 use mathlib.Core.Path.{_≡_, refl, sym, ap, _∙_, subst}
 use mathlib.Core.Bool.{Bool, true, false, not, _&&_, cond, true≢false, Bool·beq}
 use Prim.Native.Nat.{ℕ, zero, suc, _+_, _-_, _*_, _/_, _%_, _^_, _≤_, _<_, zero-le}

@@ -1,4 +1,4 @@
--- How a call's outcome follows from its answer, and its answer from its rows. Assumes nothing.
+-- How a call's outcome follows from its answer, and its answer from its rows.
 use mathlib.Core.Path.{_≡_, sym}
 use mathlib.Core.Bool.{false}
 use mathlib.Core.List.{List, [], _∷_}
@@ -12,7 +12,7 @@ pub use Rattle.refusal.specs.RowLaws.{refused, numbered, neither}
 use Rattle.refusal.specs.RowLaws.{done, passed, both-passed}
 use Rattle.refusal.specs.declared.Answer.the-variants.{Accepted, Space}
 use Rattle.trellis.specs.Run.{tracebackLimit, block, releases}
-use Rattle.decoder_rows.specs.RowLaws as handed
+use Rattle.viterbi_rows.specs.RowLaws as handed
 use Rattle.isdb_fec.specs.declared.conv.ViterbiDecoder.{ViterbiDecoder}
 use Rattle.isdb_fec.specs.Rows.{shortOf, stepsShort, handedRows, streamRest, streamRows, pushKnownRows, flushRows}
 

@@ -1,4 +1,4 @@
--- What each call leaves: the decoder of crate trellis at the code of ISDB. Assumes nothing.
+-- What each call leaves: the decoder of crate trellis at the code of ISDB.
 use mathlib.Core.Path.{_≡_}
 use mathlib.Core.List.{List}
 use Prim.Native.Nat.{ℕ}
@@ -7,7 +7,7 @@ use lib.Ieee.{Float, binary32, ofBits}
 use Rattle.trellis.specs.Isdb.{flushAt}
 use Rattle.trellis.specs.Lists.{laid}
 use Rattle.trellis.specs.Run.{Decoder, decisionsAfter, depth, holding}
-pub use Rattle.viterbi.specs.Calls.{nexts, word, bestState, traced, settle, stepOnce, steps, call, flush, Holds}
+pub use Rattle.viterbi_core.specs.Calls.{nexts, word, bestState, traced, settle, stepOnce, steps, call, flush, Holds}
 use Rattle.isdb_fec.specs.declared.conv.ViterbiDecoder.{ViterbiDecoder}
 use Rattle.isdb_fec.specs.declared.conv.Released.{Released}
 use Rattle.trellis.specs.Isdb

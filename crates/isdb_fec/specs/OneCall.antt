@@ -1,5 +1,5 @@
 -- A run over two lists in one call: where two calls are accepted, the second handed what the first leaves and the output behind the first one's bits, one call over both lists
--- is accepted too. Assumes nothing.
+-- is accepted too.
 use mathlib.Core.Path.{_≡_, refl, sym, _∙_, ap}
 use mathlib.Core.Bool.{false, not}
 use mathlib.Core.List.{List, [], _∷_, _++_}
@@ -21,9 +21,9 @@ use Rattle.isdb_fec.specs.Rows.{stepsShort, handedRows, streamRest, stre
 use Rattle.isdb_fec.specs.Calls.{handed, Leaves}
 use Rattle.trellis.specs.LaidLaws.{length-laid}
 use Rattle.isdb_fec.specs.AnswerLaws.{neither, Enough, stream-enough, known-enough}
-use Rattle.viterbi.specs.CountLaws.{Counted, releases-is}
+use Rattle.viterbi_core.specs.CountLaws.{Counted, releases-is}
 use Rattle.isdb_fec.specs.WholeLaws.{taken, few}
-use Rattle.viterbi.specs.Calls.{knownCall, pairCall, fourCall}
+use Rattle.viterbi_core.specs.Calls.{knownCall, pairCall, fourCall}
 use Rattle.isdb_fec.specs.TwoCallLaws.{CallOf, known-call, soft-call}
 
 -- the releases of n steps that leave l words, and of m more

@@ -1,4 +1,4 @@
--- The refusal rows of each call, in document 01's order. Assumes nothing.
+-- The refusal rows of each call, in document 01's order.
 use mathlib.Core.Bool.{Bool, not, _||_}
 use mathlib.Core.List.{List, [], _∷_}
 use Prim.Native.Nat.{ℕ, _/_, _%_}
@@ -9,8 +9,8 @@ use Rattle.refusal.specs.Rows.{Row}
 use Rattle.refusal.specs.declared.Answer.the-variants.{Traceback, State, Length, Sample, Space}
 use Rattle.trellis.specs.Isdb.{frameWords}
 use Rattle.trellis.specs.Run.{tracebackLimit}
-use Rattle.decoder_rows.specs.Values.{someBeyond, streamLimit}
-use Rattle.decoder_rows.specs.Rows as handed
+use Rattle.viterbi_rows.specs.Values.{someBeyond, streamLimit}
+use Rattle.viterbi_rows.specs.Rows as handed
 use Rattle.isdb_fec.specs.declared.conv.ViterbiDecoder.{ViterbiDecoder}
 use Rattle.trellis.specs.Isdb
 

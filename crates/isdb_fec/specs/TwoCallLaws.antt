@@ -1,5 +1,5 @@
 -- A run over two lists in two calls, as the contracts of `push_known`, `push` and `push_metrics` speak of them. The second call is handed the state and the decisions that the
--- first leaves, and the output behind the first one's bits: together they leave what one call over both lists leaves, state, count and both lent slices. Assumes nothing.
+-- first leaves, and the output behind the first one's bits: together they leave what one call over both lists leaves, state, count and both lent slices.
 use mathlib.Core.Path.{_≡_, refl, sym, _∙_, ap}
 use mathlib.Core.List.{List, [], _∷_, _++_, append-nil}
 use Prim.Native.Nat.{ℕ, _+_, _*_, _/_, _%_, _<_, _≤_}
@@ -19,11 +19,11 @@ use Rattle.isdb_fec.specs.Rows.{pushRows, pushMetricsRows, pushKnownRows
 use Rattle.isdb_fec.specs.Calls.{steps, call, handed, Leaves}
 use Rattle.trellis.specs.LaidLaws.{laid-after}
 use Rattle.isdb_fec.specs.AnswerLaws.{Enough, stream-enough, known-enough}
-use Rattle.viterbi.specs.CountLaws.{Counted, counted}
-use Rattle.viterbi.specs.HoldingLaws.{bare, holding-is, over-kept, over-released}
+use Rattle.viterbi_core.specs.CountLaws.{Counted, counted}
+use Rattle.viterbi_core.specs.HoldingLaws.{bare, holding-is, over-kept, over-released}
 use Rattle.isdb_fec.specs.WholeLaws.{few}
-use Rattle.viterbi.specs.Calls.{knownCall, pairCall, fourCall}
-use Rattle.viterbi.specs.RunLaws.{then, known-run, pair-run, four-run}
+use Rattle.viterbi_core.specs.Calls.{knownCall, pairCall, fourCall}
+use Rattle.viterbi_core.specs.RunLaws.{then, known-run, pair-run, four-run}
 
 -- the result of two calls: the state of the second, and how many bits both put out
 abbrev pub both : Released → Released → Released

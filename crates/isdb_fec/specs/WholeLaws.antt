@@ -1,4 +1,4 @@
--- A whole call of n steps on a handed decoder: how it begins and what it leaves. Assumes nothing.
+-- A whole call of n steps on a handed decoder: how it begins and what it leaves.
 use mathlib.Core.Path.{_≡_, refl, sym, _∙_, ap}
 use mathlib.Core.List.{List}
 use Prim.Native.Nat.{ℕ, _+_, _*_, _<_, _≤_}
@@ -13,14 +13,14 @@ use Rattle.trellis.specs.Isdb
 use Rattle.trellis.specs.Step as trellis
 use Rattle.trellis.specs.Step.{renormalised}
 use Rattle.trellis.specs.Run.{after, block, releases}
-use Rattle.viterbi.specs.declared.At.{At}
+use Rattle.viterbi_core.specs.declared.At.{At}
 use Rattle.isdb_fec.specs.declared.conv.ViterbiDecoder.{ViterbiDecoder}
 use Rattle.isdb_fec.specs.Calls.{steps, call, handed, Holds, Leaves, Unchanged}
 use Rattle.refusal.specs.Rows.{Either}
 use Rattle.isdb_fec.specs.AnswerLaws.{Enough, refused}
-use Rattle.viterbi.specs.Calls.{stepsFrom, Carried}
-use Rattle.viterbi.specs.BlockLaws.{from-steps}
-use Rattle.viterbi.specs.HoldingLaws.{holds-start, steps-lengths}
+use Rattle.viterbi_core.specs.Calls.{stepsFrom, Carried}
+use Rattle.viterbi_core.specs.BlockLaws.{from-steps}
+use Rattle.viterbi_core.specs.HoldingLaws.{holds-start, steps-lengths}
 
 -- the words that a handed decoder holds
 pub taken : {v : ViterbiDecoder} {n space : ℕ} (dec₀ : List ℕ) → Enough v n (length dec₀) space → length (take (v .held) dec₀) ≡ v .held

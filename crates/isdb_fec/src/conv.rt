@@ -12,22 +12,22 @@ ghost use Rattle.trellis.specs.Code.{isdb, output, moved};
 ghost use Rattle.trellis.specs.Run.{startAt, startUnknown, pairSteps, fourSteps, knownSteps};
 ghost use Rattle.isdb_fec.specs.Rows.{encoderRows, freshRows, streamRows, pushRows, pushMetricsRows, pushKnownRows, flushRows};
 ghost use Rattle.isdb_fec.specs.Calls.{steps, call, handed, Leaves, Flushes, FlushesAt, Unchanged, Fresh, Zero};
-use acs_runs::Kind;
-pub use decoder_rows::PATH_LIMIT;
-pub use decoder_rows::STREAM_LIMIT;
 use refusal::Answer;
 pub use trellis::STATES;
 pub use trellis::TRACEBACK_LIMIT;
-use viterbi::At;
-use viterbi::depth_of;
-use viterbi::encode_bit;
-use viterbi::finish;
-use viterbi::finish_at;
-use viterbi::parity;
-use viterbi::renormalise;
-use viterbi::run_steps;
-use viterbi::start_at;
-use viterbi::start_unknown;
+use viterbi_core::At;
+use viterbi_core::depth_of;
+use viterbi_core::encode_bit;
+use viterbi_core::finish;
+use viterbi_core::finish_at;
+use viterbi_core::parity;
+use viterbi_core::renormalise;
+use viterbi_core::run_steps;
+use viterbi_core::start_at;
+use viterbi_core::start_unknown;
+pub use viterbi_rows::PATH_LIMIT;
+pub use viterbi_rows::STREAM_LIMIT;
+use viterbi_steps::Kind;
 ghost use Rattle.trellis.specs.Isdb;
 
 // k of the mother code (BO.1408-1, Fig. 13; STD-B31, section 3.8).
@@ -210,7 +210,7 @@ impl ViterbiDecoder {
         ensures { λ r. ⌜ r ≡ firstRow (streamRows per self (now (values .entry)) decisions out) ⌝ }
     {
         let pm = self.pm;
-        decoder_rows::answer_stream(&pm, self.held, self.traceback, values, per, decisions, out)
+        viterbi_rows::answer_stream(&pm, self.held, self.traceback, values, per, decisions, out)
     }
 
     // The answer to a call of n known bits.
@@ -218,7 +218,7 @@ impl ViterbiDecoder {
         ensures { λ r. ⌜ r ≡ firstRow (pushKnownRows self n decisions out) ⌝ }
     {
         let pm = self.pm;
-        decoder_rows::answer_known(&pm, self.held, self.traceback, n, decisions, out)
+        viterbi_rows::answer_known(&pm, self.held, self.traceback, n, decisions, out)
     }
 
     // Feeds soft-value pairs.
@@ -427,6 +427,6 @@ impl ViterbiDecoder {
         ensures { λ r. ⌜ r ≡ firstRow (flushRows self decisions out) ⌝ }
     {
         let pm = self.pm;
-        decoder_rows::answer_flush(&pm, self.held, self.traceback, decisions, out)
+        viterbi_rows::answer_flush(&pm, self.held, self.traceback, decisions, out)
     }
 }

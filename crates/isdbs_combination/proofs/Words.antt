@@ -1,4 +1,4 @@
--- Words without a combination. Assumes nothing.
+-- Words without a combination.
 use mathlib.Core.Path.{_≡_, refl}
 use mathlib.Core.Bool.{cond}
 use Prim.Native.Nat.{ℕ, zero, suc}

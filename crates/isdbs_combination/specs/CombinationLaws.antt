@@ -1,4 +1,4 @@
--- Laws of the combinations' tables. Assumes nothing.
+-- Laws of the combinations' tables.
 use mathlib.Core.Path.{_≡_, refl}
 use mathlib.Core.Bool.{Bool, true, false, cond}
 use Prim.Native.Nat.{ℕ, _≤_, _<_}

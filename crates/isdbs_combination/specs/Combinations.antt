@@ -1,5 +1,5 @@
 -- The combinations of modulation and code, as document 01, "Runs and points", lists them. The Rust cites ITU-R BO.1408-1 and MIC Ordinance No. 87 of 2011 for them: at each table which.
--- Assumes nothing.
+--
 use mathlib.Core.Bool.{cond}
 use mathlib.Core.List.{List, [], _∷_}
 use Prim.Native.Nat.{ℕ, suc, _+_, _-_, _*_, _/_, _%_}

@@ -1,4 +1,4 @@
--- Tests of a run's slots, and bytes that no slot has. Assumes nothing.
+-- Tests of a run's slots, and bytes that no slot has.
 use mathlib.Core.Path.{_≡_, refl, sym, _∙_}
 use mathlib.Core.Bool.{Bool, true, false, cond, _&&_}
 use mathlib.Core.List.{List, [], _∷_}
@@ -6,7 +6,7 @@ use Prim.Native.Nat.{ℕ, _-_, _≤_, _<_}
 use native.Mathlib.Omega.{arith}
 use lib.Dec.{leb, ltb}
 use borrow.Author.Tests.{leb-true, ltb-true}
-use Rattle.isdbs_runs.specs.declared.Run.{Run}
+use Rattle.isdbs_plan.specs.declared.Run.{Run}
 use Rattle.isdbs_frame.specs.Frame.{slotBytes}
 use Rattle.isdbs_tables.specs.Tables.{marked}
 use Rattle.isdbs_core.specs.declared.slots.SlotByte.{SlotByte}

@@ -1,4 +1,4 @@
--- The pairs of a period as four records and a count. Assumes nothing.
+-- The pairs of a period as four records and a count.
 use mathlib.Core.Path.{_≡_, refl, sym, _∙_, ap}
 use mathlib.Core.Bool.{Bool, true, false}
 use mathlib.Core.List.{List, [], _∷_}

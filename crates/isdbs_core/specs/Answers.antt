@@ -1,4 +1,4 @@
--- Document 01's number and values for each case of the place of a byte. Assumes nothing.
+-- Document 01's number and values for each case of the place of a byte.
 use mathlib.Core.List.{[], _∷_}
 use Rattle.refusal.specs.Rows.{numberOf, Said}
 use Rattle.isdbs_core.specs.declared.slots.SlotByte.{SlotByte}

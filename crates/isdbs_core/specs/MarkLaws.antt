@@ -1,4 +1,4 @@
--- The marked slots of an accepted table are as many as its valid slots. Assumes nothing.
+-- The marked slots of an accepted table are as many as its valid slots.
 use mathlib.Core.Path.{_≡_, refl, sym, _∙_, ap}
 use mathlib.Core.Bool.{Bool, true, false, cond}
 use mathlib.Core.List.{List, [], _∷_, _++_}
@@ -11,12 +11,12 @@ use Rattle.isdbs_combination.specs.declared.MaybeCombination.the-variants.{Some
 use Rattle.isdbs_tables.specs.declared.Entry.{Entry}
 use Rattle.isdbs_tables.specs.declared.Table as declared
 use Rattle.isdbs_tables.specs.declared.SlotMark.{SlotMark}
-use Rattle.isdbs_runs.specs.declared.Run.{Run}
+use Rattle.isdbs_plan.specs.declared.Run.{Run}
 use Rattle.trellis.specs.Lists.{upto}
 use Rattle.isdbs_tables.specs.Tables.{entryCombination, slotSum, unfilled, TableAccepted, marked, markIn, markAt, mark, marksOf}
-use Rattle.isdbs_runs.specs.RunsOf.{entryRuns, entrySymbols, runsFrom, validIn, validTotal}
+use Rattle.isdbs_plan.specs.RunsOf.{entryRuns, entrySymbols, runsFrom, validIn, validTotal}
 use Rattle.isdbs_tables.specs.TableLaws.{WholeUnits}
-use Rattle.isdbs_runs.specs.RunLaws.{no-part}
+use Rattle.isdbs_plan.specs.RunLaws.{no-part}
 use Rattle.isdbs_tables.specs.TableLaws.{sum-fits, units-whole}
 use Rattle.isdbs_core.specs.Symbols.{markedBefore}
 use Rattle.isdbs_core.specs.SymbolLaws.{marked-whole}

@@ -1,4 +1,4 @@
--- Laws of bits and bytes in a run. Assumes nothing.
+-- Laws of bits and bytes in a run.
 use mathlib.Core.Path.{_≡_, refl, _∙_}
 use mathlib.Core.Bool.{Bool, true, false, cond}
 use mathlib.Core.List.{List, [], _∷_, _++_}
@@ -16,15 +16,15 @@ use Rattle.isdbs_combination.specs.declared.Combination.the-variants.{«Bpsk1_2
 use Rattle.isdbs_combination.specs.declared.Puncture.{Puncture}
 use Rattle.isdbs_combination.specs.declared.Puncture.the-variants.{«R2_3», «R3_4», «R5_6», «R7_8»}
 use Rattle.isdbs_combination.specs.declared.BitPair.{BitPair}
-use Rattle.isdbs_runs.specs.declared.Run.{Run}
+use Rattle.isdbs_plan.specs.declared.Run.{Run}
 use Rattle.isdbs_core.specs.declared.slots.SlotByte.{SlotByte}
 use Rattle.isdbs_core.specs.declared.slots.SlotByte.the-variants.{Nothing, Refused}
 use Rattle.trellis.specs.Lists.{padded}
 use Rattle.isdbs_combination.specs.Combinations.{pairsOf, periodOf, unitOf, slotBits, slotSymbols}
 use Rattle.isdbs_tables.specs.declared.Table.{Table}
 use Rattle.isdbs_tables.specs.Tables.{tableAnswer, marked}
-use Rattle.isdbs_runs.specs.RunsOf.{noRun, runsOf}
-use Rattle.isdbs_runs.specs.RunLaws.{Whole}
+use Rattle.isdbs_plan.specs.RunsOf.{noRun, runsOf}
+use Rattle.isdbs_plan.specs.RunLaws.{Whole}
 use Rattle.isdbs_core.specs.Symbols.{pairHolds, firstPair, symbolOfBit, markedBefore, hasSlot, runByte, byteIn, slotByteSymbol, slotByteSaid}
 use Rattle.isdbs_core.specs.Answers.{byteSaid}
 use Rattle.isdbs_frame.specs.Frame.{slotBytes}

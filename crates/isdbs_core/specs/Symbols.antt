@@ -1,4 +1,4 @@
--- Where the bits of a run and the bytes of a slot lie in the frame, as slots.rs has them. Assumes nothing.
+-- Where the bits of a run and the bytes of a slot lie in the frame, as slots.rs has them.
 use mathlib.Core.Bool.{Bool, cond, _&&_, _||_}
 use mathlib.Core.List.{List, [], _∷_}
 use Prim.Native.Nat.{ℕ, zero, suc, _+_, _-_, _*_, _/_, _%_}
@@ -12,14 +12,14 @@ use Rattle.isdbs_combination.specs.declared.MaybePuncture.the-variants.{Some, N
 use Rattle.isdbs_combination.specs.declared.Ratio.{Ratio}
 use Rattle.isdbs_combination.specs.declared.BitPair.{BitPair}
 use Rattle.isdbs_tables.specs.declared.Table.{Table}
-use Rattle.isdbs_runs.specs.declared.Run.{Run}
+use Rattle.isdbs_plan.specs.declared.Run.{Run}
 use Rattle.isdbs_core.specs.declared.slots.SlotByte.{SlotByte}
 use Rattle.isdbs_core.specs.declared.slots.SlotByte.the-variants.{At, Nothing, Refused}
 use Rattle.isdbs_core.specs.Answers.{byteSaid}
 use Rattle.isdbs_frame.specs.Frame.{slotBytes, main, placeOf}
 use Rattle.isdbs_combination.specs.Combinations.{efficiencyOf, punctureOf, pairsOf, periodOf, slotBits}
 use Rattle.isdbs_tables.specs.Tables.{tableAnswer, marked}
-use Rattle.isdbs_runs.specs.RunsOf.{runsOf}
+use Rattle.isdbs_plan.specs.RunsOf.{runsOf}
 
 -- a pair holds X or Y of input i of a period, from 0
 abbrev pub pairHolds : ℕ → BitPair → Bool

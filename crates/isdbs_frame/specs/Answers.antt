@@ -1,4 +1,4 @@
--- Document 01's number and values for each case of a position. Assumes nothing.
+-- Document 01's number and values for each case of a position.
 use mathlib.Core.List.{[], _∷_}
 use Rattle.refusal.specs.Rows.{numberOf, Said}
 use Rattle.isdbs_frame.specs.declared.Position.{Position}

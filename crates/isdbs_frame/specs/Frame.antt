@@ -1,5 +1,5 @@
 -- The frame: a header of 192 symbols, then 192 times 203 main-signal symbols and a burst of 4. Document 01, P1 and its examples; for the numbers the Rust cites ITU-R BO.1408-1, Appendix 1,
--- Table 3, and section 7 (bursts), for the layout MIC Ordinance No. 87 of 2011, annexed tables 45, 50 and 51. Assumes nothing.
+-- Table 3, and section 7 (bursts), for the layout MIC Ordinance No. 87 of 2011, annexed tables 45, 50 and 51.
 use mathlib.Core.Bool.{cond, _||_}
 use mathlib.Core.List.{List, [], _∷_}
 use Prim.Native.Nat.{ℕ, _+_, _-_, _*_, _/_, _%_, _^_}

@@ -1,4 +1,4 @@
--- The places of a frame: each of the 39,936 holds exactly one symbol of the header, the main signal or the bursts. Assumes nothing.
+-- The places of a frame: each of the 39,936 holds exactly one symbol of the header, the main signal or the bursts.
 use mathlib.Core.Path.{_≡_, refl, sym, _∙_, ap}
 use mathlib.Core.Bool.{Bool, true, false, cond}
 use Prim.Native.Nat.{ℕ, _+_, _-_, _*_, _/_, _%_, _<_}

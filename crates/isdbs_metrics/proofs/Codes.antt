@@ -1,4 +1,4 @@
--- The tables of places: one computed test each. Assumes nothing.
+-- The tables of places: one computed test each.
 use mathlib.Core.Path.{_≡_, refl}
 use mathlib.Core.Bool.{Bool, true, false, _&&_}
 use mathlib.Core.List.{List, [], _∷_}

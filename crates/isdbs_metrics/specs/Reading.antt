@@ -1,4 +1,4 @@
--- The reading of a received frame. Document 01, "A capture enters `decode_frame`" and "Runs and points". Assumes nothing.
+-- The reading of a received frame. Document 01, "A capture enters `decode_frame`" and "Runs and points".
 use mathlib.Core.Bool.{Bool, false, cond}
 use mathlib.Core.List.{List, [], _∷_}
 use Prim.Native.Nat.{ℕ, _+_, _*_, _/_, _%_}
@@ -14,10 +14,10 @@ use Rattle.isdbs_combination.specs.declared.Modulation.{Modulation}
 use Rattle.isdbs_combination.specs.declared.Modulation.the-variants.{Bpsk, Qpsk, Tc8psk}
 use Rattle.isdbs_tables.specs.declared.Table.{Table}
 use Rattle.isdbs_combination.specs.Combinations.{modulationOf}
-use Rattle.isdbs_runs.specs.RunsOf.{frameSteps, loadBytes}
+use Rattle.isdbs_plan.specs.RunsOf.{frameSteps, loadBytes}
 use Rattle.isdbs_points.specs.declared.Cplx.{Cplx}
 use Rattle.isdbs_points.specs.declared.Mapping.{Mapping}
-use Rattle.isdbs_soft.specs.Soft.{softOf}
+use Rattle.ieee_cast.specs.Soft.{softOf}
 use Rattle.isdbs_points.specs.Points.{point, zero64, psk8Of, subset, conjugated}
 use Rattle.isdbs_points.specs.Layout.{Segment, orderOf, stepsPerPeriod, atStep, atBit, byteOf, wordBit}
 use Rattle.isdbs_points.specs.Frame.{labelAt, startState}

@@ -1,4 +1,4 @@
--- The points that a step reads, and the places of a period. Assumes nothing.
+-- The points that a step reads, and the places of a period.
 use mathlib.Core.Path.{_≡_}
 use Prim.Native.Nat.{ℕ, _+_, _*_, _/_, _%_, _<_, _≤_}
 use native.Mathlib.Omega.{arith}

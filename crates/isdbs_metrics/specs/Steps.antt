@@ -1,5 +1,5 @@
 -- A run by itself: what the functions that make its metrics and its bytes give. Slices start at the run's first symbol, step and byte.
--- Assumes nothing.
+--
 use mathlib.Core.Path.{_≡_}
 use mathlib.Core.List.{List}
 use Prim.Native.Nat.{ℕ, zero, suc, _+_, _*_, _/_, _%_, _<_, _≤_}

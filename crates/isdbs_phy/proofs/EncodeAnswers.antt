@@ -1,4 +1,4 @@
--- The rows of the encoding calls. Assumes nothing.
+-- The rows of the encoding calls.
 use mathlib.Core.Path.{_≡_, sym, _∙_}
 use mathlib.Core.Bool.{false}
 use mathlib.Core.List.{List, [], _∷_}

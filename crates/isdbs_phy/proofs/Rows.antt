@@ -1,4 +1,4 @@
--- What a passed row of `decode_frame` tells. Assumes nothing.
+-- What a passed row of `decode_frame` tells.
 use mathlib.Core.Path.{_≡_, sym}
 use mathlib.Core.Bool.{Bool, _||_}
 use mathlib.Core.List.{List, _++_}
@@ -17,7 +17,7 @@ use Rattle.isdbs_tables.specs.declared.Table.{Table}
 use Rattle.isdbs_tables.specs.Tables.{TableAccepted}
 use Rattle.isdbs_tables.specs.TableLaws.{then-accepted}
 use Rattle.isdbs_frame.specs.Frame.{mainSymbols}
-use Rattle.isdbs_runs.specs.RunsOf.{validTotal, frameSteps, loadBytes}
+use Rattle.isdbs_plan.specs.RunsOf.{validTotal, frameSteps, loadBytes}
 use Rattle.trellis.specs.Isdb.{frameWords}
 use Rattle.isdbs_phy.specs.DecodeRows.{pointRows, lastRows, frameRows, frameSaid, frameAnswer}
 

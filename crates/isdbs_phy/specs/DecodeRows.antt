@@ -1,4 +1,4 @@
--- The refusal rows of `decode_frame`, its answer, and what a call leaves. Document 01, "Where a call is turned back". Assumes nothing.
+-- The refusal rows of `decode_frame`, its answer, and what a call leaves. Document 01, "Where a call is turned back".
 use mathlib.Core.Path.{_≡_}
 use mathlib.Core.Bool.{Bool}
 use mathlib.Core.List.{List, [], _∷_}
@@ -8,14 +8,14 @@ use Rattle.refusal.specs.declared.Answer.{Answer}
 use Rattle.isdbs_phy.specs.declared.demod.FrameDecoded.{FrameDecoded}
 use Rattle.isdbs_phy.specs.declared.demod.FrameDecoded.the-variants.{Decoded, Refused}
 use Rattle.isdbs_tables.specs.declared.Table.{Table}
-use Rattle.isdbs_runs.specs.RunsOf.{frameSteps, loadBytes}
+use Rattle.isdbs_plan.specs.RunsOf.{frameSteps, loadBytes}
 use Rattle.trellis.specs.Lists.{laid}
 use Rattle.isdbs_metrics.specs.Reading.{Received}
-use Rattle.isdbs_decode.specs.Runs.{FrameRead}
-use Rattle.strain.specs.Strain.{strainCounts}
--- the rows, which crates/frame_rows defines
-unfoldable pub use Rattle.frame_rows.specs.DecodeRows.{someOf}
-pub use Rattle.frame_rows.specs.DecodeRows.{someOfBeyond, partLimit, scaleLimit, badScale, someBad, shortSpace, pointRows, lastRows, frameRows, decodeRows, oneScaleRows}
+use Rattle.decode_main.specs.Runs.{FrameRead}
+use Rattle.strain_marks.specs.Strain.{strainCounts}
+-- the rows, which crates/isdbs_rows defines
+unfoldable pub use Rattle.isdbs_rows.specs.DecodeRows.{someOf}
+pub use Rattle.isdbs_rows.specs.DecodeRows.{someOfBeyond, partLimit, scaleLimit, badScale, someBad, shortSpace, pointRows, lastRows, frameRows, decodeRows, oneScaleRows}
 
 -- document 01's number and values for each case of its answer
 abbrev pub frameSaid : FrameDecoded → Said

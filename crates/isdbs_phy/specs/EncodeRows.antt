@@ -1,9 +1,9 @@
--- The rows of the encoding calls, and what a refused call leaves. Assumes nothing.
+-- The rows of the encoding calls, and what a refused call leaves.
 use mathlib.Core.Path.{_≡_}
 use mathlib.Core.List.{List}
 use lib.Ieee.{Float}
--- the rows, which crates/frame_rows defines
-pub use Rattle.frame_rows.specs.EncodeRows.{shortParts, encodeFrameRows, encodeRows}
+-- the rows, which crates/isdbs_rows defines
+pub use Rattle.isdbs_rows.specs.EncodeRows.{shortParts, encodeFrameRows, encodeRows}
 
 -- refused: "no buffer changes"
 pub record PartsKept (re₀ re im₀ im : List Float) : Type 0 where

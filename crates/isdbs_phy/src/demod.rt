@@ -14,21 +14,21 @@
 // metrics for each coded bit, then the 16 bits of the next frame's W1, which it knows, and puts out all bits. For each (C1, C0) the two points of TC8PSK
 // lie opposite each other: the metric is the magnitude of the correlation with the one of C2 = 0, and C2 is read from its sign once the bits are known,
 // which are encoded again for it.
-pub use frame_rows::SCALE_LIMIT;
-use frame_rows::decode_answer;
-use frame_rows::encode_answer;
+pub use decode_main::DemodOptions;
+use decode_main::decode_strained;
+use encode_main::encode_main;
 use isdb_fec::conv::ConvEncoder;
 use isdbs_core::tmcc::Table;
-pub use isdbs_decode::DemodOptions;
-use isdbs_encode::encode_main;
+use isdbs_plan::plan_of;
 pub use isdbs_points::Mapping;
 pub use isdbs_points::PART_LIMIT;
 pub use isdbs_points::psk8_point;
 pub use isdbs_points::qpsk_point;
 pub use isdbs_points::start_state;
 pub use isdbs_points::state_after;
-use isdbs_runs::plan_of;
-use isdbs_strain::decode_strained;
+pub use isdbs_rows::SCALE_LIMIT;
+use isdbs_rows::decode_answer;
+use isdbs_rows::encode_answer;
 use refusal::Answer;
 ghost use mathlib.Core.Path.{_≡_};
 ghost use lib.ListN.{length};
@@ -37,9 +37,9 @@ ghost use Rattle.isdbs_points.specs.Frame.{startState, endState};
 ghost use Rattle.isdbs_phy.specs.DecodeRows.{decodeRows, oneScaleRows, frameSaid, frameAnswer, Kept, FrameLeft};
 ghost use Rattle.isdbs_phy.specs.EncodeRows.{encodeRows, encodeFrameRows, PartsKept};
 ghost use Rattle.isdbs_metrics.specs.Reading.{received};
-ghost use Rattle.isdbs_encode.specs.Laid.{FrameLaid};
-ghost use Rattle.frame_read.specs.Scales.{receivedBy};
-ghost use Rattle.strain.specs.Strain.{strainSum};
+ghost use Rattle.encode_main.specs.Laid.{FrameLaid};
+ghost use Rattle.isdbs_metrics.specs.Scales.{receivedBy};
+ghost use Rattle.strain_marks.specs.Strain.{strainSum};
 
 // What encoding a frame answers: the encoder after the last bit, or as it was given.
 pub struct FrameEncoded {

@@ -1,4 +1,4 @@
--- The two start states. Assumes nothing.
+-- The two start states.
 use Prim.Native.Nat.{_<_}
 use lib.Dec.{lit<}
 use Rattle.trellis.specs.Lists.{upto}

@@ -1,4 +1,4 @@
--- Bits of a load, coded bits and pairs: how large they are, and the bytes that bits make. Assumes nothing.
+-- Bits of a load, coded bits and pairs: how large they are, and the bytes that bits make.
 use mathlib.Core.Path.{_≡_, refl, sym, _∙_, ap}
 use mathlib.Core.Bool.{Bool, true, false, cond}
 use mathlib.Core.List.{List}

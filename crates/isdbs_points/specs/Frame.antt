@@ -1,4 +1,4 @@
--- The frame that encoding makes: what point k is. Document 01, "Runs and points". Assumes nothing.
+-- The frame that encoding makes: what point k is. Document 01, "Runs and points".
 use mathlib.Core.Bool.{Bool, cond}
 use mathlib.Core.List.{List}
 use Prim.Native.Nat.{ℕ, _+_, _*_, _/_, _%_}
@@ -12,7 +12,7 @@ use Rattle.isdbs_combination.specs.declared.Modulation.the-variants.{Bpsk, Qpsk
 use Rattle.isdbs_tables.specs.declared.Table.{Table}
 use Rattle.isdbs_frame.specs.Frame.{mainSymbols, w2, w3, syncBits}
 use Rattle.isdbs_combination.specs.Combinations.{modulationOf}
-use Rattle.isdbs_runs.specs.RunsOf.{frameSteps}
+use Rattle.isdbs_plan.specs.RunsOf.{frameSteps}
 use Rattle.isdbs_points.specs.declared.Cplx.{Cplx}
 use Rattle.isdbs_points.specs.declared.Mapping.{Mapping}
 use Rattle.isdbs_points.specs.Points.{point, unused, bpskOf, qpskOf, psk8Of, subset, conjugated}

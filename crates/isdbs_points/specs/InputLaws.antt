@@ -1,4 +1,4 @@
--- The inputs of the frame's code: bits of the load, step by step, and what inputs that begin alike leave. Assumes nothing.
+-- The inputs of the frame's code: bits of the load, step by step, and what inputs that begin alike leave.
 use mathlib.Core.Path.{_≡_, refl, _∙_}
 use mathlib.Core.List.{List}
 use Prim.Native.Nat.{ℕ, zero, suc, _+_, _<_, _≤_}
@@ -8,7 +8,7 @@ use Rattle.trellis.specs.Code.{stateAt}
 use Rattle.trellis.specs.ListLaws.{getD-upto}
 use Rattle.isdbs_tables.specs.declared.Table.{Table}
 use Rattle.isdbs_combination.specs.Combinations.{modulationOf}
-use Rattle.isdbs_runs.specs.RunsOf.{frameSteps}
+use Rattle.isdbs_plan.specs.RunsOf.{frameSteps}
 use Rattle.isdbs_points.specs.Layout.{Segment, segments, atStep, In}
 use Rattle.isdbs_points.specs.Frame.{coded, inputIn, inputs, labelAt}
 use Rattle.isdbs_points.specs.SizeLaws.{step-fits, at-step, find-step}

@@ -1,4 +1,4 @@
--- Where the symbols, the trellis steps and the load's bits of each run lie in the frame. Assumes nothing.
+-- Where the symbols, the trellis steps and the load's bits of each run lie in the frame.
 use mathlib.Core.Path.{_≡_}
 use mathlib.Core.Bool.{cond}
 use mathlib.Core.List.{List, [], _∷_}
@@ -9,10 +9,10 @@ use Rattle.isdbs_combination.specs.declared.Combination.{Combination}
 use Rattle.isdbs_combination.specs.declared.MaybePuncture.{MaybePuncture}
 use Rattle.isdbs_combination.specs.declared.MaybePuncture.the-variants.{Some, None}
 use Rattle.isdbs_combination.specs.declared.BitPair.{BitPair}
-use Rattle.isdbs_runs.specs.declared.Run.{Run}
+use Rattle.isdbs_plan.specs.declared.Run.{Run}
 use Rattle.isdbs_tables.specs.declared.Table.{Table}
 use Rattle.isdbs_combination.specs.Combinations.{punctureOf, pairsOf, periodSteps, slotBits}
-use Rattle.isdbs_runs.specs.RunsOf.{runsOf, stepsOf}
+use Rattle.isdbs_plan.specs.RunsOf.{runsOf, stepsOf}
 
 -- ---- the code of a combination
 -- the mother bits of one period in the order in which they are sent: the pairs' first and second bits; X then Y where nothing is punctured

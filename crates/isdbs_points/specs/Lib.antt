@@ -8,3 +8,4 @@ pub mod Pieces
 pub mod PlaceLaws
 pub mod Points
 pub mod SizeLaws
+pub mod AmongLaws

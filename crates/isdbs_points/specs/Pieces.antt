@@ -1,5 +1,5 @@
 -- One run of a frame by itself: its symbols, steps and bits counted from its first. What a run's code writes and reads is said of these;
--- the frame is made of them. Assumes nothing.
+-- the frame is made of them.
 use mathlib.Core.List.{List}
 use Prim.Native.Nat.{ℕ, _*_, _/_}
 use lib.ListN.{length}

@@ -1,4 +1,4 @@
--- Segments that lie end to end, in symbols, in steps or in bits: `first` and `size` pick which. What `among` says of a place. Assumes nothing.
+-- Segments that lie end to end, in symbols, in steps or in bits: `first` and `size` pick which. What `among` says of a place.
 use mathlib.Core.Path.{_≡_, refl}
 use mathlib.Core.Bool.{Bool, true, false, not, cond}
 use mathlib.Core.List.{List, [], _∷_}

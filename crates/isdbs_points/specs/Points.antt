@@ -1,4 +1,4 @@
--- Document 01, "Points": the points of BPSK, QPSK and 8PSK. The Rust cites MIC Ordinance No. 87 of 2011, annexed table 46, and ITU-R BO.1408-1, Fig. 15, for them. Assumes nothing.
+-- Document 01, "Points": the points of BPSK, QPSK and 8PSK. The Rust cites MIC Ordinance No. 87 of 2011, annexed table 46, and ITU-R BO.1408-1, Fig. 15, for them.
 use mathlib.Core.Bool.{Bool, cond}
 use mathlib.Core.List.{List, [], _∷_}
 use Prim.Native.Nat.{ℕ, _+_, _*_, _/_, _%_}

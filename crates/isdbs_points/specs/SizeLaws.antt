@@ -1,5 +1,5 @@
 -- The segments of a table lie end to end in symbols, in steps and in bits; of an accepted one each has whole units, its symbols fit the frame and its steps
--- are at most 68,208. Assumes nothing.
+-- are at most 68,208.
 use mathlib.Core.Path.{_≡_, refl}
 use mathlib.Core.Bool.{false}
 use mathlib.Core.List.{List, [], _∷_, _++_}
@@ -12,14 +12,14 @@ use Rattle.isdbs_combination.specs.declared.MaybeCombination.{MaybeCombination}
 use Rattle.isdbs_combination.specs.declared.MaybeCombination.the-variants.{Some, None}
 use Rattle.isdbs_tables.specs.declared.Entry.{Entry}
 use Rattle.isdbs_tables.specs.declared.Table.{Table}
-use Rattle.isdbs_runs.specs.declared.Run.{Run}
+use Rattle.isdbs_plan.specs.declared.Run.{Run}
 use Rattle.isdbs_frame.specs.Frame.{mainSymbols}
 use Rattle.isdbs_combination.specs.Combinations.{unitOf, slotSteps, slotBits, slotSymbols}
 use Rattle.isdbs_tables.specs.Tables.{slotSum, entryCombination, unfilled, TableAccepted}
 use Rattle.isdbs_tables.specs.TableLaws.{sum-fits, units-whole}
 use Rattle.isdbs_tables.specs.TableLaws.{WholeUnits}
-use Rattle.isdbs_runs.specs.RunLaws.{entry-units}
-use Rattle.isdbs_runs.specs.RunsOf.{unitsIn, symbolsIn, runOf, entryRuns, entrySymbols, runsFrom, runsOf, validIn, validTotal, loadBytes, stepsOf, stepsIn, frameSteps}
+use Rattle.isdbs_plan.specs.RunLaws.{entry-units}
+use Rattle.isdbs_plan.specs.RunsOf.{unitsIn, symbolsIn, runOf, entryRuns, entrySymbols, runsFrom, runsOf, validIn, validTotal, loadBytes, stepsOf, stepsIn, frameSteps}
 use Rattle.isdbs_points.specs.Layout.{Segment, segmentOf, segmentsFrom, segments, atSymbol, atStep, atBit, In, here, there}
 use Rattle.isdbs_points.specs.PlaceLaws.{Fill, Found, fill-member, among-at, find}
 use Rattle.trellis.specs.Isdb.{longestFrame}

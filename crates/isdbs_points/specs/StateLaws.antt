@@ -1,4 +1,4 @@
--- Encoding from a state on: what follows the first inputs is the encoding of the other inputs from the state reached. Assumes nothing.
+-- Encoding from a state on: what follows the first inputs is the encoding of the other inputs from the state reached.
 use mathlib.Core.Path.{_≡_, sym, _∙_, ap}
 use mathlib.Core.List.{List}
 use Prim.Native.Nat.{ℕ, zero, suc, _+_, _<_}
@@ -10,7 +10,7 @@ use Rattle.trellis.specs.Encoded.{encoded, reached}
 use Rattle.trellis.specs.EncodedLaws.{encoded-at, reached-is}
 use Rattle.trellis.specs.ListLaws.{length-upto}
 use Rattle.isdbs_tables.specs.declared.Table.{Table}
-use Rattle.isdbs_runs.specs.RunsOf.{frameSteps}
+use Rattle.isdbs_plan.specs.RunsOf.{frameSteps}
 use Rattle.isdbs_points.specs.Layout.{atStep}
 use Rattle.isdbs_points.specs.Frame.{labelAt, inputIn, inputs, endState}
 

@@ -1,4 +1,4 @@
--- One entry more: what the recursions over a table's entries say at an index. Assumes nothing.
+-- One entry more: what the recursions over a table's entries say at an index.
 use mathlib.Core.Path.{_≡_, refl, sym, _∙_, ap}
 use mathlib.Core.Bool.{Bool, true, false, cond}
 use mathlib.Core.List.{List, [], _∷_, _++_}

@@ -1,4 +1,4 @@
--- What follows from a table's rows: the one place where they are opened. Assumes nothing.
+-- What follows from a table's rows: the one place where they are opened.
 use mathlib.Core.Path.{_≡_}
 use mathlib.Core.Bool.{Bool, false}
 use mathlib.Core.List.{List, [], _∷_, _++_}

@@ -1,4 +1,4 @@
--- Document 01: "a table of four entries (a word, of which the low 4 bits count, and an 8-bit slot count)". Assumes nothing.
+-- Document 01: "a table of four entries (a word, of which the low 4 bits count, and an 8-bit slot count)".
 use mathlib.Core.Path.{_≡_}
 use mathlib.Core.Bool.{Bool, false, cond, not, _||_}
 use mathlib.Core.List.{List, [], _∷_}

@@ -1,4 +1,4 @@
--- A decoding call is a push of all its steps and a flush. Assumes nothing.
+-- A decoding call is a push of all its steps and a flush.
 use mathlib.Core.Path.{_≡_, refl, sym, _∙_, ap}
 use mathlib.Core.Bool.{Bool, true, false, cond}
 use mathlib.Core.List.{List, _++_}
@@ -13,15 +13,15 @@ use Rattle.trellis.specs.Lists.{upto, laid}
 use Rattle.trellis.specs.Step as trellis
 use Rattle.trellis.specs.Step.{pair, renormalised}
 use Rattle.trellis.specs.Run.{Decoder, startAt, after, holding, depth}
-use Rattle.viterbi.specs.declared.At.{At}
+use Rattle.viterbi_core.specs.declared.At.{At}
 use Rattle.isdb_fec.specs.declared.conv.ViterbiDecoder.{ViterbiDecoder}
 use Rattle.isdb_fec.specs.Calls as fec
 use Rattle.isdb_fec.specs.Calls.{Holds, bestState, traced}
 use Rattle.isdb_fec.specs.AnswerLaws.{Enough}
 use Rattle.trellis.specs.LaidLaws.{laid-laid, laid-after}
 use Rattle.trellis.specs.ListLaws.{getD-upto}
-use Rattle.viterbi.specs.CountLaws.{releases-is, counted}
-use Rattle.viterbi.specs.HoldingLaws.{cleared, holding-is}
+use Rattle.viterbi_core.specs.CountLaws.{releases-is, counted}
+use Rattle.viterbi_core.specs.HoldingLaws.{cleared, holding-is}
 use Rattle.isdbt_table.specs.declared.CodeRate.{CodeRate}
 use Rattle.isdbt_table.specs.declared.CodeRate.the-variants.{R1_2, R2_3, R3_4, R5_6, R7_8}
 use Rattle.isdbt_table.specs.declared.Puncturing.{Puncturing}

@@ -1,4 +1,4 @@
--- Decoding block by block: what each block of steps may rely on, what it leaves, and the end. Assumes nothing.
+-- Decoding block by block: what each block of steps may rely on, what it leaves, and the end.
 use mathlib.Core.Path.{_≡_, refl, _∙_}
 use mathlib.Core.List.{List, _++_}
 use Prim.Native.Nat.{ℕ, _+_, _*_, _/_, _<_, _≤_}
@@ -10,13 +10,13 @@ use Rattle.trellis.specs.Lists.{laid}
 use Rattle.trellis.specs.Step as trellis
 use Rattle.trellis.specs.Step.{renormalised}
 use Rattle.trellis.specs.Run.{startAt, holding, releases}
-use Rattle.viterbi.specs.declared.At.{At}
+use Rattle.viterbi_core.specs.declared.At.{At}
 use Rattle.isdb_fec.specs.Calls as fec
 use Rattle.isdb_fec.specs.Calls.{Holds, bestState, traced}
 use Rattle.isdb_fec.specs.AnswerLaws.{Enough}
-use Rattle.viterbi.specs.Calls.{Carried}
-use Rattle.viterbi.specs.CountLaws.{counted, releases-le}
-use Rattle.viterbi.specs.BlockLaws.{from-steps}
+use Rattle.viterbi_core.specs.Calls.{Carried}
+use Rattle.viterbi_core.specs.CountLaws.{counted, releases-le}
+use Rattle.viterbi_core.specs.BlockLaws.{from-steps}
 use Rattle.isdb_fec.specs.WholeLaws.{begins, lengths}
 use Rattle.isdbt_table.specs.declared.CodeRate.{CodeRate}
 use Rattle.isdbt_table.specs.declared.Puncturing.{Puncturing}

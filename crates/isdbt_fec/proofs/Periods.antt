@@ -1,4 +1,4 @@
--- Encoding by whole periods: what each turn may rely on, and what it leaves. Assumes nothing.
+-- Encoding by whole periods: what each turn may rely on, and what it leaves.
 use mathlib.Core.Path.{_≡_, refl, sym, _∙_, ap}
 use mathlib.Core.List.{List}
 use Prim.Native.Nat.{ℕ, _+_, _-_, _*_, _/_, _%_, _<_, _≤_}
@@ -6,7 +6,7 @@ use native.Mathlib.Omega.{arith}
 use borrow.Rule.Slice.PartMut.{midOf, putMid}
 use lib.ListN.{length, getD, take, drop, length-drop}
 use lib.Seq.{length-take-le}
-use Rattle.viterbi.specs.PartLaws.{tail-whole, written-tail}
+use Rattle.viterbi_core.specs.PartLaws.{tail-whole, written-tail}
 use Rattle.trellis.specs.Lists.{upto, laid}
 use Rattle.trellis.specs.Code.{stateAt}
 use Rattle.isdbt_table.specs.declared.CodeRate.{CodeRate}

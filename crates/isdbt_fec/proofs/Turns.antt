@@ -1,4 +1,4 @@
--- What each turn of a loop over whole periods may rely on, in the numbers of a compiled puncturing. Assumes nothing.
+-- What each turn of a loop over whole periods may rely on, in the numbers of a compiled puncturing.
 use mathlib.Core.Path.{_≡_, refl}
 use mathlib.Core.List.{List}
 use Prim.Native.Nat.{ℕ, _+_, _*_, _/_, _<_, _≤_}

@@ -1,4 +1,4 @@
--- What each call leaves. Document 01, "ISDB-T". Assumes nothing.
+-- What each call leaves. Document 01, "ISDB-T".
 use mathlib.Core.Path.{_≡_}
 use mathlib.Core.List.{List, []}
 use Prim.Native.Nat.{ℕ, _+_, _*_, _/_}

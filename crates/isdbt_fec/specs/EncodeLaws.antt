@@ -1,4 +1,4 @@
--- Encoding period by period is encoding the whole. Assumes nothing.
+-- Encoding period by period is encoding the whole.
 use mathlib.Core.Path.{_≡_, refl, sym, _∙_, ap}
 use mathlib.Core.List.{List, [], _∷_}
 use Prim.Native.Nat.{ℕ, zero, suc, _+_, _-_, _*_, _/_, _%_, _<_, _≤_}

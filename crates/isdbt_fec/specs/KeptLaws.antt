@@ -1,4 +1,4 @@
--- Depuncturing is the inverse of puncturing: each kept bit gets its place, and 0 stands elsewhere. Assumes nothing.
+-- Depuncturing is the inverse of puncturing: each kept bit gets its place, and 0 stands elsewhere.
 use mathlib.Core.Path.{_≡_, refl, sym, _∙_, ap}
 use mathlib.Core.Bool.{Bool, true, false, cond}
 use mathlib.Core.List.{List, [], _∷_}
@@ -13,7 +13,7 @@ use Rattle.isdbt_table.specs.declared.CodeRate.{CodeRate}
 use Rattle.isdbt_table.specs.declared.CodeRate.the-variants.{R1_2, R2_3, R3_4, R5_6, R7_8}
 use Rattle.isdbt_table.specs.Table.{period, sent, bitOrder}
 use Rattle.isdbt_table.specs.Puncture.{bitPlace, spread, softAt, depunctured, kept}
-use Rattle.viterbi.specs.EachLaws.{all, each}
+use Rattle.viterbi_core.specs.EachLaws.{all, each}
 use Rattle.trellis.specs.LaidLaws.{upto-cong}
 use Rattle.trellis.specs.ListLaws.{length-upto, getD-upto, equalTests, equal-tests}
 use Rattle.isdbt_table.specs.SizeLaws.{place-in}

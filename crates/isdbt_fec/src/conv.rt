@@ -12,7 +12,6 @@ ghost use Rattle.trellis.specs.Encoded.{lowBits};
 ghost use Rattle.isdbt_rows.specs.Rows.{encodeRows, depunctureRows, decodeRows};
 ghost use Rattle.isdbt_fec.specs.Calls.{Encodes, Unencoded, Depunctures, Untouched, decodedBits, Decodes, Undecoded};
 ghost use Rattle.trellis.specs.Run.{tracebackLimit, block};
-use acs_runs::Kind;
 use isdb_fec::conv::ConvEncoder;
 use isdbt_rows::answer_decode;
 use isdbt_rows::answer_depuncture;
@@ -26,11 +25,12 @@ pub use isdbt_table::Puncturing;
 pub use isdbt_table::TABLE_3_8;
 pub use isdbt_table::puncture_spec;
 use refusal::Answer;
-use viterbi::At;
-use viterbi::depth_of;
-use viterbi::encode_bit;
-use viterbi::run_steps;
-use viterbi::start_at;
+use viterbi_core::At;
+use viterbi_core::depth_of;
+use viterbi_core::encode_bit;
+use viterbi_core::run_steps;
+use viterbi_core::start_at;
+use viterbi_steps::Kind;
 ghost use Rattle.trellis.specs.Isdb;
 
 // The mother code's bits of a period, X1, Y1, X2, Y2, .., and the state after it. Places from the period's end on hold 0.

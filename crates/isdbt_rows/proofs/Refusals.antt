@@ -1,4 +1,4 @@
--- The answer of each call from its tests, in the numbers of a compiled puncturing. Assumes nothing.
+-- The answer of each call from its tests, in the numbers of a compiled puncturing.
 use mathlib.Core.Path.{_≡_, refl}
 use mathlib.Core.Bool.{Bool, cond, not, _||_}
 use mathlib.Core.List.{List}

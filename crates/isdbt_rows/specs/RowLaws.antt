@@ -1,4 +1,4 @@
--- What an accepted call may rely on. Assumes nothing.
+-- What an accepted call may rely on.
 use mathlib.Core.Path.{_≡_, sym}
 use mathlib.Core.Bool.{false}
 use mathlib.Core.List.{List}

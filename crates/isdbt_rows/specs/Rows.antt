@@ -1,4 +1,4 @@
--- The refusal rows of each call, in document 01's order. Assumes nothing.
+-- The refusal rows of each call, in document 01's order.
 use mathlib.Core.Bool.{Bool, not, _||_}
 use mathlib.Core.List.{List, [], _∷_}
 use Prim.Native.Nat.{ℕ, _+_, _*_, _/_, _%_}

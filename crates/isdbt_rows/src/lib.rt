@@ -4,14 +4,14 @@ ghost use Prim.Native.Nat.{_*_, _<_};
 ghost use lib.Dec.{ltb};
 ghost use Rattle.refusal.specs.Rows.{firstRow};
 ghost use Rattle.isdbt_rows.specs.Rows.{encodeRows, depunctureRows, decodeRows};
-use decoder_rows::some_beyond;
 use isdb_fec::conv::STREAM_LIMIT;
 use isdb_fec::conv::TRACEBACK_LIMIT;
 use isdbt_table::CodeRate;
 use isdbt_table::Puncturing;
 use refusal::Answer;
 use trellis::BLOCK;
-use viterbi::depth_of;
+use viterbi_core::depth_of;
+use viterbi_rows::some_beyond;
 
 // Whether `space` places are too few for `blocks` blocks of `per` elements. The product may be past any number of the machine.
 fn few(space: usize, per: usize, blocks: usize) -> bool

@@ -1,4 +1,4 @@
--- The soft values of a block are its steps. Assumes nothing.
+-- The soft values of a block are its steps.
 use mathlib.Core.Path.{_≡_, sym, _∙_, ap}
 use mathlib.Core.List.{List}
 use Prim.Native.Nat.{ℕ, _+_, _*_, _<_}

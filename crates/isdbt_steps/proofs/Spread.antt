@@ -1,4 +1,4 @@
--- The search for a mother bit in the order of the sent ones. Assumes nothing.
+-- The search for a mother bit in the order of the sent ones.
 use mathlib.Core.Path.{_≡_, refl, sym, _∙_, ap}
 use mathlib.Core.List.{List, _∷_}
 use Prim.Native.Nat.{ℕ, suc, _+_, _-_, _<_, _≤_}

@@ -1,4 +1,4 @@
--- The soft values of a call's steps. Assumes nothing.
+-- The soft values of a call's steps.
 use mathlib.Core.List.{List}
 use Prim.Native.Nat.{ℕ, _+_, _*_, _/_, _%_}
 use lib.ListN.{take}

@@ -6,15 +6,15 @@ ghost use lib.ListN.{length, take, drop, replicate};
 ghost use Rattle.trellis.specs.Lists.{laid};
 ghost use Rattle.trellis.specs.Step.{renormalised};
 ghost use Rattle.isdbt_table.specs.Puncture.{spread};
-ghost use Rattle.viterbi.specs.Calls.{bestState, traced};
+ghost use Rattle.viterbi_core.specs.Calls.{bestState, traced};
 ghost use Rattle.isdbt_steps.specs.Soft.{stepsBy};
 ghost use Rattle.trellis.specs.Run.{block, tracebackLimit, pairSteps};
 use trellis::BLOCK;
 use trellis::STATES;
-use viterbi::At;
-use viterbi::clear;
-use viterbi::finish;
-use viterbi::renormalise;
+use viterbi_core::At;
+use viterbi_core::clear;
+use viterbi_core::finish;
+use viterbi_core::renormalise;
 ghost use Rattle.trellis.specs.Isdb;
 
 // The value for the mother bit `place` of the period whose sent values begin at `base`; 0 where it is not sent.

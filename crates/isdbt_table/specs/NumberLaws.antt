@@ -1,4 +1,4 @@
--- What is known of a compiled puncturing, and of the space it takes. Assumes nothing.
+-- What is known of a compiled puncturing, and of the space it takes.
 use mathlib.Core.Path.{_≡_, refl}
 use mathlib.Core.Bool.{Bool, true, false}
 use Prim.Native.Nat.{ℕ, _*_, _/_, _<_}

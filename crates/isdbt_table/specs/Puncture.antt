@@ -1,4 +1,4 @@
--- Puncturing of whole periods, and its inverse on soft values. Document 01, "ISDB-T", and ARIB STD-B31, section 3.8. Assumes nothing.
+-- Puncturing of whole periods, and its inverse on soft values. Document 01, "ISDB-T", and ARIB STD-B31, section 3.8.
 use mathlib.Core.Bool.{Bool, cond}
 use mathlib.Core.List.{List, [], _∷_, map}
 use Prim.Native.Nat.{ℕ, _+_, _*_, _/_, _%_}

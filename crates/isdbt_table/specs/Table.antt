@@ -1,5 +1,5 @@
 -- Table 3-8 of ARIB STD-B31, section 3.8, as the Rust transcribes it (`TABLE_3_8`, which document 01 names): which bits of the mother code are sent at each code rate, and in what
--- order. Assumes nothing.
+-- order.
 use mathlib.Core.List.{List, [], _∷_, _++_, map}
 use Prim.Native.Nat.{ℕ, _+_, _-_, _*_}
 use lib.ListN.{length}

@@ -1,4 +1,4 @@
--- Table 3-8 agrees with itself: its rows and its sequence send the same bits. Assumes nothing.
+-- Table 3-8 agrees with itself: its rows and its sequence send the same bits.
 use mathlib.Core.Path.{_≡_, refl}
 use mathlib.Core.Bool.{cond}
 use mathlib.Core.List.{List, [], _∷_, _++_}

@@ -1,4 +1,4 @@
--- A list whose first k places have been written, in a loop, with the values of a function. Assumes nothing.
+-- A list whose first k places have been written, in a loop, with the values of a function.
 use mathlib.Core.Path.{_≡_, refl, sym, _∙_, ap}
 use mathlib.Core.List.{List, _++_}
 use Prim.Native.Nat.{ℕ, _+_, _<_, _≤_}

@@ -1,4 +1,4 @@
--- What a call of `judge` promises, refused and accepted. Assumes nothing.
+-- What a call of `judge` promises, refused and accepted.
 use mathlib.Core.Path.{_≡_, refl, sym, _∙_, ap}
 use mathlib.Core.Bool.{Bool}
 use mathlib.Core.List.{List, [], _∷_}
@@ -13,7 +13,7 @@ use Rattle.refusal.specs.RowLaws as row
 use Rattle.refusal.specs.RowLaws.{is-refused}
 use Rattle.isdbs_tables.specs.declared.Table.{Table}
 use Rattle.isdbs_points.specs.declared.Mapping.{Mapping}
-use Rattle.verdict.specs.Outside.{outsideCounts, outsideSum}
+use Rattle.judge_points.specs.Outside.{outsideCounts, outsideSum}
 use Rattle.judge.specs.declared.FrameJudged.{FrameJudged}
 use Rattle.judge.specs.declared.FrameJudged.the-variants.{Judged, Refused}
 use Rattle.judge.specs.Rows.{judgeRows}

@@ -1,4 +1,4 @@
--- What is counted over the frame of a load is the verdict's. Assumes nothing.
+-- What is counted over the frame of a load is the verdict's.
 use mathlib.Core.Path.{_≡_, _∙_, ap}
 use mathlib.Core.Bool.{Bool}
 use mathlib.Core.List.{List}
@@ -7,19 +7,19 @@ use native.Mathlib.Omega.{arith}
 use lib.ListN.{length, getD, replicate, length-append, length-replicate}
 use lib.Ieee.{Float, nan}
 use Rattle.trellis.specs.Lists.{upto, laid, padded}
-use Rattle.isdbs_runs.specs.declared.Plan.{Plan}
-use Rattle.isdbs_runs.specs.declared.Run.{Run}
+use Rattle.isdbs_plan.specs.declared.Plan.{Plan}
+use Rattle.isdbs_plan.specs.declared.Run.{Run}
 use Rattle.isdbs_tables.specs.declared.Table.{Table}
 use Rattle.isdbs_frame.specs.Frame.{mainSymbols}
 use Rattle.isdbs_combination.specs.Combinations.{frameSlots}
-use Rattle.isdbs_runs.specs.RunsOf.{Planned, runsOf, noRun}
+use Rattle.isdbs_plan.specs.RunsOf.{Planned, runsOf, noRun}
 use Rattle.isdbs_points.specs.declared.Mapping.{Mapping}
 use Rattle.isdbs_points.specs.Frame.{pointAt, startState}
-use Rattle.isdbs_encode.specs.Laid.{FrameLaid}
+use Rattle.encode_main.specs.Laid.{FrameLaid}
 use Rattle.trellis.specs.LaidLaws.{laid-at}
-use Rattle.strain.specs.Counts.{summed}
-use Rattle.isdbs_judge.specs.Given.{slotGiven}
-use Rattle.isdbs_judge.specs.GivenLaws.{counts-are, sum-is}
+use Rattle.strain_marks.specs.Counts.{summed}
+use Rattle.judge_points.specs.Given.{slotGiven}
+use Rattle.judge_points.specs.GivenLaws.{counts-are, sum-is}
 use Rattle.judge.specs.Judged.{CountsLaid}
 
 module _ (p : Plan) (planned : Planned p) where

@@ -1,4 +1,4 @@
--- What an accepted call is worth, from its rows and its sum. Assumes nothing.
+-- What an accepted call is worth, from its rows and its sum.
 use mathlib.Core.Path.{_≡_, sym, _∙_}
 use mathlib.Core.Bool.{Bool}
 use mathlib.Core.List.{List}
@@ -18,12 +18,12 @@ use Rattle.isdbs_frame.specs.Frame.{mainSymbols}
 use Rattle.isdbs_combination.specs.Combinations.{frameSlots}
 use Rattle.isdbs_tables.specs.Tables.{TableAccepted}
 use Rattle.isdbs_tables.specs.TableLaws.{then-accepted}
-use Rattle.isdbs_runs.specs.RunsOf.{loadBytes}
+use Rattle.isdbs_plan.specs.RunsOf.{loadBytes}
 use Rattle.isdbs_points.specs.declared.Mapping.{Mapping}
 use Rattle.isdbs_points.specs.Layout.{FullLoad}
-use Rattle.verdict.specs.Outside.{outsideSum}
-use Rattle.verdict.specs.OutsideLaws.{sum-zero-within, within-sum-zero}
-use Rattle.verdict.specs.CertainLaws.{certain}
+use Rattle.judge_points.specs.Outside.{outsideSum}
+use Rattle.judge_points.specs.OutsideLaws.{sum-zero-within, within-sum-zero}
+use Rattle.judge_points.specs.CertainLaws.{certain}
 use Rattle.judge.specs.Rows.{lentRows, judgeRows}
 use Rattle.judge.specs.Judged.{Worth}
 use Rattle.judge.specs.declared.FrameJudged.the-variants.{Judged, Refused}

@@ -1,4 +1,4 @@
--- The rows of `judge` one after the other. Assumes nothing.
+-- The rows of `judge` one after the other.
 use mathlib.Core.Path.{_≡_}
 use mathlib.Core.List.{List}
 use Prim.Native.Nat.{ℕ}
@@ -10,7 +10,7 @@ use Rattle.refusal.specs.declared.Answer.the-variants.{Accepted}
 use Rattle.isdbs_tables.specs.declared.Table.{Table}
 use Rattle.isdbs_tables.specs.Tables.{tableRows, tableAnswer}
 use Rattle.isdbs_tables.specs.TableLaws.{table-refusing}
-use Rattle.isdbs_runs.specs.RunsOf.{loadBytes}
+use Rattle.isdbs_plan.specs.RunsOf.{loadBytes}
 use Rattle.judge.specs.Rows.{lentRows, judgeRows}
 
 module _ (t : Table) (bytes : ℕ) (re im : List Float) (counts : ℕ) where

@@ -1,4 +1,4 @@
--- What `judge` answers and leaves, and what it is worth. Definitions only. Assumes nothing.
+-- What `judge` answers and leaves, and what it is worth. Definitions only.
 use mathlib.Core.Path.{_≡_}
 use mathlib.Core.Bool.{Bool}
 use mathlib.Core.List.{List, [], _∷_}
@@ -8,11 +8,11 @@ use lib.Ieee.{Float}
 use Rattle.trellis.specs.Lists.{laid}
 use Rattle.refusal.specs.Rows.{numberOf, firstRow, Said, says}
 use Rattle.isdbs_tables.specs.declared.Table.{Table}
-use Rattle.isdbs_runs.specs.RunsOf.{loadBytes}
+use Rattle.isdbs_plan.specs.RunsOf.{loadBytes}
 use Rattle.isdbs_points.specs.declared.Mapping.{Mapping}
 use Rattle.isdbs_points.specs.Layout.{FullLoad}
 use Rattle.margins.specs.Margins.{Within}
-use Rattle.verdict.specs.Outside.{outsideCounts, outsideSum}
+use Rattle.judge_points.specs.Outside.{outsideCounts, outsideSum}
 use Rattle.judge.specs.Rows.{judgeRows}
 use Rattle.judge.specs.declared.FrameJudged.{FrameJudged}
 use Rattle.judge.specs.declared.FrameJudged.the-variants.{Judged, Refused}

@@ -1,4 +1,4 @@
--- The rows of `judge`. The verdict: "Rows 1, 10, 11, 5 (bytes not exactly the load), 6, 7, 9". Assumes nothing.
+-- The rows of `judge`. The verdict: "Rows 1, 10, 11, 5 (bytes not exactly the load), 6, 7, 9".
 use mathlib.Core.Bool.{not}
 use mathlib.Core.List.{List, [], _∷_, _++_}
 use Prim.Native.Nat.{ℕ}
@@ -8,7 +8,7 @@ use Rattle.refusal.specs.declared.Answer.the-variants.{Length, Space}
 use Rattle.refusal.specs.Rows.{Row}
 use Rattle.isdbs_tables.specs.declared.Table.{Table}
 use Rattle.isdbs_tables.specs.Tables.{tableRows}
-use Rattle.isdbs_runs.specs.RunsOf.{loadBytes}
+use Rattle.isdbs_plan.specs.RunsOf.{loadBytes}
 use Rattle.isdbs_phy.specs.DecodeRows.{pointRows}
 use Rattle.isdbs_combination.specs.Combinations.{frameSlots}
 

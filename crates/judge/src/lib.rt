@@ -1,16 +1,16 @@
 // The verdict: what a reading is worth. The points of a frame outside the margins of a load, for each of the frame's 48 slots (812 symbols each). Where there are none, no other load fits.
-use frame_rows::points_answer;
+use encode_main::encode_main;
 use isdbs_core::frame::MAIN_SYMBOLS;
 use isdbs_core::slots::Plan;
 use isdbs_core::tmcc::Table;
 use isdbs_core::tmcc::table_answer;
-use isdbs_encode::encode_main;
-pub use isdbs_judge::FRAME_SLOTS;
-pub use isdbs_judge::SLOT_SYMBOLS;
-use isdbs_judge::count_outside;
+use isdbs_plan::plan_of;
 pub use isdbs_points::Mapping;
 use isdbs_points::start_state;
-use isdbs_runs::plan_of;
+use isdbs_rows::points_answer;
+pub use judge_points::FRAME_SLOTS;
+pub use judge_points::SLOT_SYMBOLS;
+use judge_points::count_outside;
 use refusal::Answer;
 ghost use mathlib.Core.Path.{_≡_};
 ghost use Prim.Native.Nat.{_≤_};
@@ -19,8 +19,8 @@ ghost use Rattle.trellis.specs.Lists.{laid};
 ghost use Rattle.refusal.specs.Rows.{firstRow, Either};
 ghost use Rattle.isdbs_frame.specs.Frame.{mainSymbols};
 ghost use Rattle.isdbs_combination.specs.Combinations.{frameSlots};
-ghost use Rattle.isdbs_runs.specs.RunsOf.{planOf, Planned};
-ghost use Rattle.verdict.specs.Outside.{outsideCounts};
+ghost use Rattle.isdbs_plan.specs.RunsOf.{planOf, Planned};
+ghost use Rattle.judge_points.specs.Outside.{outsideCounts};
 ghost use Rattle.judge.specs.Rows.{lentRows, judgeRows};
 ghost use Rattle.judge.specs.Judged.{CountsLaid, judgedSaid, judgedAnswer, Worth};
 

@@ -1,4 +1,4 @@
--- The three calls put together. Assumes nothing.
+-- The three calls put together.
 use mathlib.Core.Path.{_≡_, refl, sym, ap, _∙_, subst}
 use mathlib.Core.Bool.{_||_}
 use mathlib.Core.Logic.{⊎-elim}
@@ -18,12 +18,12 @@ use Rattle.trellis.specs.Isdb
 use Rattle.trellis.specs.Isdb.{flushAt}
 use Rattle.trellis.specs.Lists.{laid}
 use Rattle.trellis.specs.Run.{Decoder, block, startAt, depth, releases, pairSteps}
-use Rattle.best_path.specs.Corrected.{length-soft, soft-at, known-end}
-use Rattle.viterbi.specs.CountLaws.{Counted, releases-le}
-use Rattle.viterbi.specs.HoldingLaws.{bare, holding-is}
+use Rattle.path_greatest.specs.Corrected.{length-soft, soft-at, known-end}
+use Rattle.viterbi_core.specs.CountLaws.{Counted, releases-le}
+use Rattle.viterbi_core.specs.HoldingLaws.{bare, holding-is}
 use Rattle.trellis.specs.LaidLaws.{take-laid, laid-after}
-use Rattle.viterbi.specs.PartLaws.{tail-whole, written-tail}
-use Rattle.viterbi.specs.TracedLaws.{length-traced}
+use Rattle.viterbi_core.specs.PartLaws.{tail-whole, written-tail}
+use Rattle.viterbi_core.specs.TracedLaws.{length-traced}
 use Rattle.isdb_fec.specs.declared.conv.ViterbiDecoder.{ViterbiDecoder}
 use Rattle.isdb_fec.specs.declared.conv.Made.{Made}
 use Rattle.isdb_fec.specs.declared.conv.Released.{Released}
@@ -31,10 +31,10 @@ use Rattle.isdb_fec.specs.Rows.{freshRows, streamRest, pushRows, flushRows}
 use Rattle.isdb_fec.specs.Calls.{call, handed, Fresh, Zero, Leaves, FlushesAt, Unchanged}
 use Rattle.isdb_fec.specs.AnswerLaws.{flush-enough}
 use Rattle.isdb_fec.specs.TwoCallLaws.{soft-call}
-use Rattle.call_ranges.specs.Reached.{Reached, Floats, with-state}
-use Rattle.call_ranges.specs.Handed.{push-hands}
-use Rattle.call_ranges.specs.Answers.{stream-answer, flush-answer}
-use Rattle.call_ranges.specs.Finished.{Finished}
+use Rattle.range_calls.specs.Reached.{Reached, Floats, with-state}
+use Rattle.range_calls.specs.Handed.{push-hands}
+use Rattle.range_calls.specs.Answers.{stream-answer, flush-answer}
+use Rattle.range_calls.specs.Finished.{Finished}
 use Rattle.trellis.specs.RunLaws.{depth-range}
 use Rattle.known_end.specs.Calls.{read, betweenRows, Left, Corrects}
 use Rattle.known_end.specs.Behind.{Behind}

@@ -1,4 +1,4 @@
--- Which rows hold: of a reading that passes, and of a stretch of +1 and -1. Assumes nothing.
+-- Which rows hold: of a reading that passes, and of a stretch of +1 and -1.
 use mathlib.Core.Path.{_≡_, refl, sym, _∙_}
 use mathlib.Core.Bool.{Bool, true, false, not, cond, _||_}
 use mathlib.Core.List.{List, [], _∷_}
@@ -14,8 +14,8 @@ use Rattle.refusal.specs.RowLaws.{neither}
 use Rattle.refusal.specs.declared.Answer.{Answer}
 use Rattle.refusal.specs.declared.Answer.the-variants.{Accepted, Traceback, Length, Sample, Space}
 use Rattle.trellis.specs.Run.{block, startAt, depth}
-use Rattle.best_path.specs.Hard.{softPairs}
-use Rattle.best_path.specs.Corrected.{length-soft}
+use Rattle.path_greatest.specs.Hard.{softPairs}
+use Rattle.path_greatest.specs.Corrected.{length-soft}
 use Rattle.isdb_fec.specs.declared.conv.ViterbiDecoder.{ViterbiDecoder}
 use Rattle.isdb_fec.specs.Values.{within, someBeyond, streamLimit}
 use Rattle.isdb_fec.specs.Rows.{freshRows}

@@ -1,4 +1,4 @@
--- `flush_at` behind the bits that a call has put out. Assumes nothing.
+-- `flush_at` behind the bits that a call has put out.
 use mathlib.Core.Path.{_≡_}
 use mathlib.Core.List.{List, _++_}
 use Prim.Native.Nat.{ℕ, _+_}

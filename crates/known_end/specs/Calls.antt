@@ -1,4 +1,4 @@
--- Request P6, "A stretch with a known end": `with_state`, `push`, and `flush_at` behind the bits that came out. Assumes nothing.
+-- Request P6, "A stretch with a known end": `with_state`, `push`, and `flush_at` behind the bits that came out.
 use mathlib.Core.Path.{_≡_}
 use mathlib.Core.Bool.{cond, not, _||_}
 use mathlib.Core.List.{List, [], _∷_, _++_}
@@ -13,14 +13,14 @@ use Rattle.trellis.specs.Encoded.{encoded, reached}
 use Rattle.trellis.specs.Isdb.{flushAt}
 use Rattle.trellis.specs.Run.{Decoder, block, depth, freshFrom, startAt, tracebackLimit, pairSteps}
 use Rattle.trellis.specs.Stretch.{differing, Bits, Coded}
-use Rattle.best_path.specs.Hard.{mostWrong, softPairs}
-use Rattle.best_path.specs.Paths.{longest}
+use Rattle.path_greatest.specs.Hard.{mostWrong, softPairs}
+use Rattle.path_greatest.specs.Paths.{longest}
 use Rattle.isdb_fec.specs.declared.conv.ViterbiDecoder.{ViterbiDecoder}
 use Rattle.isdb_fec.specs.declared.conv.Released.{Released}
 use Rattle.isdb_fec.specs.Values.{someBeyond, streamLimit}
 use Rattle.isdb_fec.specs.Rows.{freshRows}
 use Rattle.isdb_fec.specs.Calls.{call, Unchanged}
-use Rattle.call_ranges.specs.Finished.{Finished}
+use Rattle.range_calls.specs.Finished.{Finished}
 use Rattle.trellis.specs.Isdb
 
 -- what `with_state` makes: the fresh decoder, or all zeros for a traceback that is refused

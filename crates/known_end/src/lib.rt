@@ -6,14 +6,14 @@ ghost use Rattle.refusal.specs.Rows.{firstRow};
 ghost use Rattle.isdb_fec.specs.Rows.{flushRows};
 ghost use Rattle.known_end.specs.Behind.{Behind};
 ghost use Rattle.known_end.specs.Calls.{betweenRows, Left, Corrects};
-use decoder_rows::some_beyond;
 use isdb_fec::conv::Released;
 use isdb_fec::conv::STREAM_LIMIT;
 use isdb_fec::conv::TRACEBACK_LIMIT;
 use isdb_fec::conv::ViterbiDecoder;
 use refusal::Answer;
 use trellis::BLOCK;
-use viterbi::depth_of;
+use viterbi_core::depth_of;
+use viterbi_rows::some_beyond;
 
 // The rows of a reading.
 fn answer_between(traceback: usize, pairs: &[f32], decisions: usize, out: usize) -> Answer

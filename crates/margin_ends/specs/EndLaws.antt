@@ -1,4 +1,4 @@
--- Each end of a margin as its fraction. `HasValue x s a b` says that x is finite, has the sign s (true: minus), and is a / b in size. Assumes nothing.
+-- Each end of a margin as its fraction. `HasValue x s a b` says that x is finite, has the sign s (true: minus), and is a / b in size.
 use mathlib.Core.Path.{refl}
 use mathlib.Core.Bool.{false}
 use lib.Ieee.{ofBits}

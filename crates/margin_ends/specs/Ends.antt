@@ -1,4 +1,4 @@
--- The ends of the margins. Document 01, "A capture enters `decode_frame`": "clean 0 within 1/32; clean 1 from 31/32 to 33/32; clean 1/√2 from 87/128 to 94/128". Assumes nothing.
+-- The ends of the margins. Document 01, "A capture enters `decode_frame`": "clean 0 within 1/32; clean 1 from 31/32 to 33/32; clean 1/√2 from 87/128 to 94/128".
 use lib.Ieee.{Float, binary32, binary64, ofBits}
 
 abbrev pub near0 : Float

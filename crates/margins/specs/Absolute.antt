@@ -1,4 +1,4 @@
--- The absolute value of an f64: what bounds x on both sides bounds it, and what lies below x, or below -x, lies below it. Assumes nothing.
+-- The absolute value of an f64: what bounds x on both sides bounds it, and what lies below x, or below -x, lies below it.
 use mathlib.Core.Path.{_≡_, refl}
 use mathlib.Core.Logic.{_⊎_, inl, inr}
 use mathlib.Core.Bool.{true, false}
@@ -9,7 +9,7 @@ use lib.Ieee.{Float, nan, inf, fin, Format, binary64, fits, neg, le}
 use Rattle.ieee.specs.Value.{mag, hi, lo, Num, one-side, hi-neg, lo-neg, num-neg}
 use Rattle.ieee.specs.Order.{le→value, value→le}
 use Rattle.isdbs_metrics.specs.Reading.{absolute}
-use Rattle.lead.specs.Favour.{none}
+use Rattle.path_lead.specs.Favour.{none}
 use Rattle.margins.specs.Intervals.{Inside}
 
 abs-hi : (f : Format) (x : Float) → hi f (absolute x) ≡ hi f x + lo f x

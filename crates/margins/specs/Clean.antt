@@ -1,5 +1,5 @@
 -- The clean parts of points, and laws of their margins: a margin mirrors with its clean part (`conjugated-keeps`), holds the clean part itself (`clean-within`),
--- and lies within what every part may be (`keeps-accepted`). Assumes nothing.
+-- and lies within what every part may be (`keeps-accepted`).
 use mathlib.Core.Path.{_≡_, refl, subst}
 use mathlib.Core.Bool.{Bool, true, false, not, cond}
 use Prim.Native.Nat.{ℕ, zero, suc, _<_}
@@ -12,7 +12,7 @@ use Rattle.ieee.specs.ConversionLaws.{le-neg}
 use Rattle.trellis.specs.Step.{term}
 use Rattle.isdbs_points.specs.Points.{zero64, one64, root64, psk8Of, conjugated}
 use Rattle.margin_ends.specs.Ends.{near0, low1, high1, lowRoot, highRoot}
-use Rattle.isdbs_phy.specs.DecodeRows.{partLimit}
+use Rattle.isdbs_rows.specs.DecodeRows.{partLimit}
 use Rattle.margins.specs.Margins.{keeps, between, anyAccepted}
 use Rattle.margins.specs.Intervals.{Inside, inside-wide}
 

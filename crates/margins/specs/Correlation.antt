@@ -1,5 +1,5 @@
 -- Correlations of points within the margins. That of v with p, v being within the margins of the clean point q, lies between the two that the ends of the margins give
--- (`corr-inside`), wherever these are finite. Assumes nothing.
+-- (`corr-inside`), wherever these are finite.
 use mathlib.Core.Bool.{Bool, true, false, cond, Bool·beq}
 use lib.Dec.{T, eqb}
 use lib.Ieee.{Float, nan, inf, fin, Format, binary64, fits, unlike, neg, add, mul, ofBits}

@@ -1,6 +1,6 @@
 -- The order of finite floats, whatever their digits, as that of fractions: `le x y` says (above x - below x) / under x ≤ (above y - below y) / under y (`le→order`, `order→le`).
 -- It goes through (`le-through`), and a product with a constant that is not negative keeps it (`mul-keeps`). So a received part need not fit its format here.
--- Assumes nothing.
+--
 use mathlib.Core.Path.{_≡_, refl, sym, ap, _∙_}
 use mathlib.Core.Bool.{true, false, _&&_}
 use Prim.Native.Nat.{ℕ, suc, _+_, _*_, _^_, _≤_, _<_}

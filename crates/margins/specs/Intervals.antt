@@ -1,5 +1,5 @@
 -- Intervals of floats, ends included, through the operations of the demapper. The ends of a result are the same operations on the ends, so a bound at closed ends is computed.
--- A part need only lie between finite ends; results of operations fit their format. Assumes nothing.
+-- A part need only lie between finite ends; results of operations fit their format.
 use mathlib.Core.Path.{_≡_, refl}
 use mathlib.Core.Bool.{Bool, true, false, cond}
 use Prim.Native.Nat.{ℕ, _+_, _-_, _≤_}
@@ -17,7 +17,7 @@ use Rattle.ieee.specs.Sums.{add-rounds, add-fine}
 use Rattle.ieee.specs.Constants.{mul-neg}
 use Rattle.ieee.specs.Conversion.{rounded}
 use Rattle.ieee.specs.ConversionLaws.{rounded-mono, le-neg}
-use Rattle.isdbs_soft.specs.Soft.{softOf}
+use Rattle.ieee_cast.specs.Soft.{softOf}
 use Rattle.margins.specs.Fractions.{le-through, mul-keeps}
 use Rattle.margin_ends.specs.Ends.{eight}
 

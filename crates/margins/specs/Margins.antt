@@ -1,5 +1,5 @@
 -- The margins of demand 3. Document 01, "A capture enters `decode_frame`": "Margins of demand 3, per part as lent, before decoding conjugates".
--- Definitions only. Assumes nothing.
+-- Definitions only.
 use mathlib.Core.Bool.{Bool, true, false, cond, _&&_}
 use mathlib.Core.List.{List}
 use Prim.Native.Nat.{ℕ, _<_, _≤_}
@@ -12,7 +12,7 @@ use Rattle.isdbs_tables.specs.declared.Table.{Table}
 use Rattle.isdbs_combination.specs.Combinations.{modulationOf}
 use Rattle.isdbs_points.specs.declared.Mapping.{Mapping}
 use Rattle.isdbs_points.specs.Points.{zero64, one64, root64}
-use Rattle.isdbs_phy.specs.DecodeRows.{partLimit}
+use Rattle.isdbs_rows.specs.DecodeRows.{partLimit}
 use Rattle.isdbs_points.specs.Layout.{atSymbol}
 use Rattle.isdbs_points.specs.Frame.{pointAt, startState}
 use Rattle.margin_ends.specs.Ends.{near0, low1, high1, lowRoot, highRoot}

@@ -1,4 +1,4 @@
--- The values of the constants of f32 that bound soft values and metrics, in units of 1/16, and what makes four metrics favour a pair. Assumes nothing.
+-- The values of the constants of f32 that bound soft values and metrics, in units of 1/16, and what makes four metrics favour a pair.
 use mathlib.Core.Path.{_≡_, refl, sym, subst}
 use Prim.Native.Nat.{ℕ, _+_, _*_, _-_, _≤_, _<_}
 use native.Mathlib.Nat.{mul-le-mul-right}
@@ -10,7 +10,7 @@ use Rattle.ieee.specs.Value.{hi, lo, Num}
 use Rattle.ieee.specs.Rounding.{pow2, pow2-add}
 use Rattle.trellis.specs.Lists.{upto}
 use Rattle.trellis.specs.ListLaws.{getD-upto}
-use Rattle.lead.specs.Favour.{none, most, least, margin, Above, Favour}
+use Rattle.path_lead.specs.Favour.{none, most, least, margin, Above, Favour}
 
 -- 1/16
 abbrev pub unit : ℕ

@@ -1,5 +1,5 @@
 -- Two soft values that speak for a pair (X, Y), one of them at least, make four metrics that favour the pair. Every metric is a rounded sum of ±lx and ±ly, so all follows
--- from the exact sums, since rounding keeps the order. Assumes nothing.
+-- from the exact sums, since rounding keeps the order.
 use mathlib.Core.Path.{_≡_, refl, sym, subst}
 use mathlib.Core.Logic.{_⊎_, inl, inr}
 use mathlib.Core.Bool.{Bool, true, false, cond}
@@ -16,7 +16,7 @@ use Rattle.ieee.specs.Sums.{add-rounds}
 use Rattle.trellis.specs.Lists.{upto}
 use Rattle.trellis.specs.Step.{term}
 use Rattle.isdbs_metrics.specs.Reading.{pairMetrics}
-use Rattle.lead.specs.Favour.{none, most, least, margin, Above, Favour}
+use Rattle.path_lead.specs.Favour.{none, most, least, margin, Above, Favour}
 use Rattle.margins.specs.Speaks.{clearly, fully, Speaks, Said}
 use Rattle.margins.specs.Metrics.{unit, Sixteenths, none-is, most-is, least-is, above-by, favour-upto}
 

@@ -1,4 +1,4 @@
--- Soft values at scale 8 that speak for a coded bit, and those of the parts within the margins of BPSK and QPSK. Assumes nothing.
+-- Soft values at scale 8 that speak for a coded bit, and those of the parts within the margins of BPSK and QPSK.
 use mathlib.Core.Path.{_≡_}
 use mathlib.Core.Logic.{_⊎_}
 use mathlib.Core.Bool.{false}
@@ -11,7 +11,7 @@ use Rattle.ieee.specs.Value.{Num}
 use Rattle.trellis.specs.Step.{term}
 use Rattle.isdbs_points.specs.Points.{one64, root64}
 use Rattle.ieee.specs.Conversion.{rounded}
-use Rattle.isdbs_soft.specs.Soft.{softOf}
+use Rattle.ieee_cast.specs.Soft.{softOf}
 use Rattle.margin_ends.specs.Ends.{low1, high1, lowRoot, highRoot, eight}
 use Rattle.margins.specs.Margins.{keeps}
 use Rattle.margins.specs.Clean.{between-inside}

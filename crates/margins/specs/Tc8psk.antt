@@ -1,5 +1,5 @@
 -- A TC8PSK point within the margins of the sent one: the four subset metrics favour the coded pair (`tc-favours`), and the sign of the correlation with the subset's point
--- is C2 (`tc-uncoded`). The bounds of the correlations are computed for all eight sent points; the rest follows from them. Assumes nothing.
+-- is C2 (`tc-uncoded`). The bounds of the correlations are computed for all eight sent points; the rest follows from them.
 use mathlib.Core.Path.{_≡_, refl, sym, _∙_, subst}
 use mathlib.Core.Logic.{_⊎_, inl, inr}
 use mathlib.Core.Bool.{Bool, true, false, cond, _&&_}
@@ -18,9 +18,9 @@ use Rattle.trellis.specs.ListLaws.{every, every-at}
 use Rattle.isdbs_points.specs.declared.Cplx.{Cplx}
 use Rattle.isdbs_points.specs.Points.{zero64, psk8Of, subset}
 use Rattle.ieee.specs.Conversion.{rounded}
-use Rattle.isdbs_soft.specs.Soft.{softOf}
+use Rattle.ieee_cast.specs.Soft.{softOf}
 use Rattle.isdbs_metrics.specs.Reading.{correlation, absolute}
-use Rattle.lead.specs.Favour.{none, most, least, margin, Above, Favour}
+use Rattle.path_lead.specs.Favour.{none, most, least, margin, Above, Favour}
 use Rattle.margins.specs.Margins.{keeps}
 use Rattle.margins.specs.Fractions.{le-through}
 use Rattle.margins.specs.Intervals.{Inside, inside-wide, scaledUp, Scaled, scaled-inside}

@@ -1,4 +1,4 @@
--- How a call's outcome follows from its rows and from what was written. Assumes nothing.
+-- How a call's outcome follows from its rows and from what was written.
 use mathlib.Core.Path.{_≡_, refl, sym, ap, _∙_}
 use mathlib.Core.Bool.{true, false}
 use mathlib.Core.List.{List, [], _∷_}

@@ -1,4 +1,4 @@
--- The list of changed positions, filled as the places of a stretch are passed. Assumes nothing.
+-- The list of changed positions, filled as the places of a stretch are passed.
 use mathlib.Core.Path.{_≡_, refl, sym, ap, _∙_}
 use mathlib.Core.Bool.{cond}
 use mathlib.Core.List.{List, [], _∷_, _++_, append-nil}

@@ -1,4 +1,4 @@
--- What rows 5 and 9 leave of a call. Assumes nothing.
+-- What rows 5 and 9 leave of a call.
 use mathlib.Core.Path.{_≡_, refl}
 use mathlib.Core.Bool.{false, not, _||_}
 use mathlib.Core.List.{List, [], _∷_}

@@ -1,4 +1,4 @@
--- What `mend` answers and leaves. Request P13, "Mending stored coded stretches". Assumes nothing.
+-- What `mend` answers and leaves. Request P13, "Mending stored coded stretches".
 use mathlib.Core.Path.{_≡_}
 use mathlib.Core.Bool.{Bool}
 use mathlib.Core.List.{List}

@@ -1,4 +1,4 @@
--- A list of changed positions rises, and has a place exactly when the two stretches differ there. Assumes nothing.
+-- A list of changed positions rises, and has a place exactly when the two stretches differ there.
 use mathlib.Core.Path.{_≡_, refl, ap, _∙_}
 use mathlib.Core.Bool.{Bool, true, false, cond, not}
 use mathlib.Core.List.{List, [], _∷_, _++_}

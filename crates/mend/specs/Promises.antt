@@ -1,4 +1,4 @@
--- The promises of request P13, as theorems about any call of `mend`. Assumes nothing.
+-- The promises of request P13, as theorems about any call of `mend`.
 use mathlib.Core.Path.{_≡_, refl, sym, ap, _∙_, subst}
 use mathlib.Core.Bool.{Bool, false, not, _||_}
 use mathlib.Core.Logic.{⊎-elim}

@@ -1,4 +1,4 @@
--- The rows of `mend`: request P13, and document 01, "Where a call is turned back". Assumes nothing.
+-- The rows of `mend`: request P13, and document 01, "Where a call is turned back".
 use mathlib.Core.Bool.{Bool, false, not, _||_}
 use mathlib.Core.List.{List, [], _∷_, _++_}
 use Prim.Native.Nat.{ℕ, _*_, _%_}

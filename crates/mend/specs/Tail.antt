@@ -1,4 +1,4 @@
--- A stretch traced back from its end: after t steps' words are left, the inputs of the others lead from the state s to the end, and their coded bits stand in the output. Assumes nothing.
+-- A stretch traced back from its end: after t steps' words are left, the inputs of the others lead from the state s to the end, and their coded bits stand in the output.
 use mathlib.Core.Path.{_≡_, refl, sym, ap, _∙_}
 use mathlib.Core.List.{List, [], _∷_, _++_}
 use Prim.Native.Nat.{ℕ, suc, _+_, _*_, _/_, _%_, _^_, _≤_, _<_}

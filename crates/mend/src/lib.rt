@@ -15,8 +15,8 @@ use mend_distance::keep_words;
 use mend_distance::least_distance;
 use refusal::Answer;
 use trellis::FRAME_WORDS;
-use viterbi::clear;
-use viterbi::encode_bit;
+use viterbi_core::clear;
+use viterbi_core::encode_bit;
 ghost use Rattle.trellis.specs.Isdb;
 
 // P13: "at most 4,096 steps", two bits each.

@@ -1,4 +1,4 @@
--- The passes over a stretch: the table after t steps, and the words kept so far. Assumes nothing.
+-- The passes over a stretch: the table after t steps, and the words kept so far.
 use mathlib.Core.Path.{_≡_, refl, sym, ap, _∙_}
 use mathlib.Core.List.{List}
 use Prim.Native.Nat.{ℕ, _+_, _≤_, _<_}

@@ -1,4 +1,4 @@
--- Laws of the table: where a coded stretch lies within four, its number is at most 4; and by which predecessor a number came about. Assumes nothing.
+-- Laws of the table: where a coded stretch lies within four, its number is at most 4; and by which predecessor a number came about.
 use mathlib.Core.Path.{_≡_, refl, sym, _∙_}
 use mathlib.Core.Bool.{Bool, true, false, cond}
 use mathlib.Core.List.{List}

@@ -1,5 +1,5 @@
 -- Of each state, the least number of bits in which a coded stretch from the start to it differs from the stored one, counted up to 5: a table of 64 numbers a step, made as in
--- Viterbi's algorithm. Assumes nothing.
+-- Viterbi's algorithm.
 use mathlib.Core.Bool.{Bool, cond}
 use mathlib.Core.List.{List}
 use Prim.Native.Nat.{ℕ, zero, suc, _+_, _*_, _/_, _%_, _≤_, min}

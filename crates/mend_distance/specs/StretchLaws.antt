@@ -1,4 +1,4 @@
--- Laws of coded stretches: at most one lies within four bits of a stored one; the positions in which two stretches differ. Assumes nothing.
+-- Laws of coded stretches: at most one lies within four bits of a stored one; the positions in which two stretches differ.
 use mathlib.Core.Path.{_≡_, refl, sym, ap, _∙_, subst}
 use mathlib.Core.Bool.{Bool, true, false, cond}
 use mathlib.Core.Logic.{⊎-elim}

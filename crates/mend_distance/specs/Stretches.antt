@@ -1,4 +1,4 @@
--- Request P13, "Mending stored coded stretches": a stretch of X, Y bits, and the coded stretches near it. Assumes nothing.
+-- Request P13, "Mending stored coded stretches": a stretch of X, Y bits, and the coded stretches near it.
 use mathlib.Core.Path.{_≡_}
 use mathlib.Core.Bool.{cond}
 use mathlib.Core.List.{List, [], _∷_, _++_}

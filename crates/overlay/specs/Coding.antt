@@ -1,4 +1,4 @@
--- Request P14: "encoding the exclusive-or from the exclusive-or of the states gives the exclusive-or of both outputs and both end states", of one code. Assumes nothing.
+-- Request P14: "encoding the exclusive-or from the exclusive-or of the states gives the exclusive-or of both outputs and both end states", of one code.
 use mathlib.Core.Path.{_≡_}
 use mathlib.Core.List.{List}
 use Prim.Native.Nat.{ℕ}

@@ -1,4 +1,4 @@
--- Request P14 proved, over every code of request P7. Assumes nothing.
+-- Request P14 proved, over every code of request P7.
 use mathlib.Core.Path.{_≡_, refl, sym, ap, _∙_}
 use mathlib.Core.Bool.{true}
 use mathlib.Core.List.{List, [], _∷_}

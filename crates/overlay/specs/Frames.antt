@@ -1,4 +1,4 @@
--- Request P14 for the frame of every table: its input bits come from the exclusive-or of two loads of equal length. Assumes nothing.
+-- Request P14 for the frame of every table: its input bits come from the exclusive-or of two loads of equal length.
 use mathlib.Core.Path.{_≡_, refl, sym, ap, _∙_}
 use mathlib.Core.Bool.{Bool, true, false, cond, not}
 use mathlib.Core.List.{List, [], _∷_}
@@ -12,7 +12,7 @@ use Rattle.trellis.specs.ListLaws.{length-upto, getD-upto}
 use Rattle.trellis.specs.LinearLaws.{xor-bit}
 use Rattle.trellis.specs.Code.{isdb, stateAt}
 use Rattle.isdbs_tables.specs.declared.Table.{Table}
-use Rattle.isdbs_runs.specs.RunsOf.{frameSteps}
+use Rattle.isdbs_plan.specs.RunsOf.{frameSteps}
 use Rattle.isdbs_points.specs.Layout.{Segment, orderOf, stepsPerPeriod, among, atStep, segments, loadBit}
 use Rattle.isdbs_points.specs.Frame.{inputIn, inputs, labelAt, codedBit, sentBit, endState}
 use Rattle.isdbs_points.specs.Points.{subset}

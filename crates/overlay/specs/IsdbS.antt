@@ -1,5 +1,5 @@
 -- Request P14, "the kept bits of each ISDB-S .. puncturing": BPSK, QPSK 1/2 to 7/8 and TC8PSK's pairs, of a string. Frames has the frame of two loads.
--- Assumes nothing.
+--
 use mathlib.Core.Path.{_≡_, refl, sym, ap, _∙_}
 use mathlib.Core.Bool.{Bool, true, false, cond}
 use mathlib.Core.List.{List}
@@ -10,7 +10,7 @@ use lib.Dec.{T, eqb, ltb, ltb→lt}
 use lib.ListN.{length, getD}
 use Rattle.trellis.specs.Lists.{upto}
 use Rattle.trellis.specs.Code.{isdb}
-use Rattle.viterbi.specs.EachLaws.{all, each}
+use Rattle.viterbi_core.specs.EachLaws.{all, each}
 use Rattle.isdbs_combination.specs.declared.Combination.{Combination}
 use Rattle.isdbs_combination.specs.declared.Combination.the-variants.{«Bpsk1_2», «Qpsk1_2», «Qpsk2_3», «Qpsk3_4», «Qpsk5_6», «Qpsk7_8», «Tc8psk2_3»}
 use Rattle.isdbs_points.specs.Layout.{sentOrder, orderOf, stepsPerPeriod}

@@ -1,5 +1,5 @@
 -- Request P14, "the kept bits of each .. ISDB-T puncturing": at each of the five rates, what is sent for the exclusive-or of two strings from the
--- exclusive-or of two states is the exclusive-or of what is sent for both, in order; so is the state after it. Assumes nothing.
+-- exclusive-or of two states is the exclusive-or of what is sent for both, in order; so is the state after it.
 use mathlib.Core.Path.{_≡_, refl, sym, ap, _∙_}
 use mathlib.Core.Bool.{Bool, true, false, cond}
 use mathlib.Core.List.{List}

@@ -1,4 +1,4 @@
--- What a puncturing keeps is chosen from the encoder's outputs X, Y, X, Y, .. of a string, by their places. Assumes nothing.
+-- What a puncturing keeps is chosen from the encoder's outputs X, Y, X, Y, .. of a string, by their places.
 use mathlib.Core.Path.{_≡_, refl, sym, ap, _∙_}
 use mathlib.Core.Bool.{Bool, true, false, cond}
 use mathlib.Core.List.{List, [], _∷_, _++_, map-append}

@@ -8,3 +8,5 @@ pub mod IsdbS
 pub mod TwoThirds
 pub mod Places
 pub mod Frames
+pub mod Rows
+pub mod Calls

@@ -1,4 +1,4 @@
--- Request P14, "Overlaying two test patterns": the exclusive-or of two lists, place by place, and the elements at chosen places. Assumes nothing.
+-- Request P14, "Overlaying two test patterns": the exclusive-or of two lists, place by place, and the elements at chosen places.
 use mathlib.Core.List.{List, [], _∷_, map}
 use Prim.Native.Nat.{ℕ}
 use lib.Bits.{bitXor}

@@ -1,4 +1,4 @@
--- Laws of overlaid lists. Assumes nothing.
+-- Laws of overlaid lists.
 use mathlib.Core.Path.{_≡_, refl, sym, ap, _∙_}
 use mathlib.Core.List.{List, [], _∷_}
 use Prim.Native.Nat.{ℕ, zero, suc, _/_, _%_, _^_}

@@ -1,4 +1,4 @@
--- Two encodings and that of their exclusive-or, by the place of a step. Over any code. Assumes nothing.
+-- Two encodings and that of their exclusive-or, by the place of a step. Over any code.
 use mathlib.Core.Path.{_≡_, refl, ap, _∙_}
 use mathlib.Core.List.{List}
 use Prim.Native.Nat.{ℕ, zero, suc, _+_, _*_, _/_, _%_, _<_}

@@ -1,4 +1,4 @@
--- Request P14, "Show as well that the ISDB-S 2/3 order is two periods of the ISDB-T one". Assumes nothing.
+-- Request P14, "Show as well that the ISDB-S 2/3 order is two periods of the ISDB-T one".
 use mathlib.Core.Path.{_≡_, refl, sym, ap, _∙_}
 use mathlib.Core.List.{List, [], _∷_, _++_, map}
 use Prim.Native.Nat.{ℕ, zero, suc, _+_, _*_, _/_, _%_, _<_}

@@ -1,4 +1,4 @@
--- What a `let Answer::Accepted = .. else` tells where it leaves. Assumes nothing.
+-- What a `let Answer::Accepted = .. else` tells where it leaves.
 use mathlib.Core.Path.{_≡_, refl}
 use types.Run.{OneOf}
 use denote.Enum.Declared.{tagOf}

@@ -1,4 +1,4 @@
--- Laws of answers and of the rows of a call. Assumes nothing.
+-- Laws of answers and of the rows of a call.
 use mathlib.Core.Path.{_≡_, refl, sym, _∙_, ap}
 use mathlib.Core.Logic.{_⊎_, inl, inr, ⊎-elim}
 use mathlib.Core.Bool.{Bool, true, false, true≢false, cond, not, _&&_, _||_}

@@ -1,4 +1,4 @@
--- Document 01, "Where a call is turned back". Assumes nothing.
+-- Document 01, "Where a call is turned back".
 use mathlib.Core.Path.{_≡_}
 use mathlib.Core.Bool.{Bool, true, false, cond}
 use mathlib.Core.List.{List, [], _∷_}

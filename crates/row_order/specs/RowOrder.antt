@@ -13,14 +13,14 @@ use Rattle.isdbs_tables.specs.declared.Table.{Table}
 use Rattle.isdbs_frame.specs.Frame.{mainRows, burstRows}
 use Rattle.isdbs_core.specs.Symbols.{bitRows}
 use Rattle.isdbs_tables.specs.Tables.{tableRows}
-use Rattle.isdbs_parts.specs.SlotPart.{slotPartRows}
+use Rattle.isdbs_slot_part.specs.SlotPart.{slotPartRows}
 use Rattle.isdbs_phy.specs.EncodeRows.{encodeRows, encodeFrameRows}
 use Rattle.isdbs_phy.specs.DecodeRows.{decodeRows, oneScaleRows}
 use Rattle.known_end.specs.Calls.{betweenRows}
 use Rattle.short_code.specs.declared.Code.{Code}
 use Rattle.short_fec.specs.Rows as short
 use Rattle.short_best.specs.Readings as short-best
-use Rattle.overlay_encode.specs.Rows.{stringRows, overlayRows}
+use Rattle.overlay.specs.Rows.{stringRows, overlayRows}
 use Rattle.full_frame.specs.declared.Input.{Input}
 use Rattle.full_frame.specs.Rows.{layRows, takeRows}
 use Rattle.full_frame_trips.specs.Rows.{layTakeRows, takeLayRows}
@@ -28,18 +28,18 @@ use Rattle.wanted_load.specs.Rows.{wantedRows}
 use Rattle.judge.specs.Rows.{judgeRows}
 use Rattle.best_frame.specs.declared.Lengths.{Lengths}
 use Rattle.best_frame.specs.BestRows.{bestRows, lastRows}
-use Rattle.scales_c.specs.Scales.{withScales}
-use Rattle.frame_rows.specs.DecodeRows.{pointRows}
+use Rattle.c_scales.specs.Scales.{withScales}
+use Rattle.isdbs_rows.specs.DecodeRows.{pointRows}
 use Rattle.header_align.specs.Align.{alignRows}
-use Rattle.header_c.specs.Calls.{headerRows}
+use Rattle.c_header.specs.Calls.{headerRows}
 use Rattle.mend.specs.Rows.{mendRows}
 use Rattle.strain_window.specs.declared.WindowState.{WindowState}
 use Rattle.strain_window.specs.Rows as window
-use Rattle.table_c.specs.Rows.{placesRows, bitSymbolRows}
-use Rattle.answers_c.specs.Lengths.{withStates}
-use Rattle.isdb_c.specs.Lengths.{scalesRows}
-use Rattle.isdbt_c.specs.Rates.{rateRows}
-use Rattle.isdbt_c.specs.declared.MaybeRate.the-variants.{NoRate}
+use Rattle.c_table.specs.Rows.{placesRows, bitSymbolRows}
+use Rattle.c_answers.specs.Lengths.{withStates}
+use Rattle.c_frame.specs.Lengths.{scalesRows}
+use Rattle.c_isdbt.specs.Rates.{rateRows}
+use Rattle.c_isdbt.specs.declared.MaybeRate.the-variants.{NoRate}
 use Rattle.trellis.specs.Lists.{firstPlace}
 
 abbrev pub eachFromTop : List (List Row) → Bool
@@ -59,7 +59,7 @@ module _ (t : Table) (v : ViterbiDecoder) (c : Code) (w : WindowState) (n : Leng
       ∷ pushMetricsRows v xs i j
       ∷ pushKnownRows v i j k
       ∷ flushRows v i j
-      -- call_ranges: `push_fresh`, whose state is never refused
+      -- range_calls: `push_fresh`, whose state is never refused
       ∷ streamRest 2 v xs i j
       -- isdbt_fec
       ∷ isdbt.encodeRows rate i j k
@@ -115,7 +115,7 @@ module _ (t : Table) (v : ViterbiDecoder) (c : Code) (w : WindowState) (n : Leng
       -- mend: a coded stretch lies within four bits, or none does
       ∷ mendRows bytes i j k false
       ∷ mendRows bytes i j k true
-      -- isdb_c: the lists of its own
+      -- c_frame: the lists of its own
       ∷ placesRows t i j
       ∷ bitSymbolRows i j
       -- with a row 5 for path values that are not 64
@@ -123,7 +123,7 @@ module _ (t : Table) (v : ViterbiDecoder) (c : Code) (w : WindowState) (n : Leng
       ∷ withStates xs (pushMetricsRows v xs i j)
       ∷ withStates xs (pushKnownRows v i j k)
       ∷ withStates xs (flushRows v i j)
-      -- and the same of codes_c
+      -- and the same of c_short
       ∷ withStates xs (short.streamRows c 2 v xs i j)
       ∷ withStates xs (short.streamRows c 4 v xs i j)
       ∷ withStates xs (short.knownRows c v i j k)

@@ -1,4 +1,4 @@
--- The steps of a reading put together, over half of the states. Assumes nothing.
+-- The steps of a reading put together, over half of the states.
 use mathlib.Core.Path.{_≡_, ap, _∙_}
 use mathlib.Core.List.{List, _++_}
 use Prim.Native.Nat.{ℕ, _+_, _-_, _*_, _/_, _<_}
@@ -10,14 +10,14 @@ use Rattle.trellis.specs.Isdb.{rule}
 use Rattle.trellis.specs.Lists.{laid}
 use Rattle.trellis.specs.Step.{best, traced, renormalised}
 use Rattle.trellis.specs.Run.{Decoder, after, pushed, flushed, decisionsAfter, fourSteps, freshFrom}
-use Rattle.viterbi.specs.Calls.{Holds}
-use Rattle.viterbi.specs.CountLaws.{counted}
-use Rattle.viterbi.specs.HoldingLaws.{holds-closed, holds-flushed}
+use Rattle.viterbi_core.specs.Calls.{Holds}
+use Rattle.viterbi_core.specs.CountLaws.{counted}
+use Rattle.viterbi_core.specs.HoldingLaws.{holds-closed, holds-flushed}
 use Rattle.short_code.specs.declared.Code.{Code}
 use Rattle.short_code.specs.Codes.{labels, halfOf, statesOf, Fits}
 use Rattle.short_code.specs.CodeLaws.{states-are}
-use Rattle.best_path.specs.declared.Start.{Start}
-use Rattle.best_path.specs.Fresh.{startValues}
+use Rattle.path_greatest.specs.declared.Start.{Start}
+use Rattle.path_greatest.specs.Fresh.{startValues}
 use Rattle.short_best.specs.Readings.{read, Finished}
 
 module _ (c : Code) (h : ℕ) (f : Fits c h) (start : Start) (xs : List Float) (dec₀ out₀ : List ℕ) where

@@ -1,4 +1,4 @@
--- A reading of whole quadruples is accepted, and its bits are the inputs of the first path of greatest sum. Assumes nothing.
+-- A reading of whole quadruples is accepted, and its bits are the inputs of the first path of greatest sum.
 use mathlib.Core.Path.{_≡_, refl, sym, ap, _∙_, subst}
 use mathlib.Core.Bool.{true, false}
 use mathlib.Core.List.{List}
@@ -16,16 +16,16 @@ use Rattle.trellis.specs.Lists.{laid}
 use Rattle.trellis.specs.Step.{four}
 use Rattle.trellis.specs.Run.{block, quadruple}
 use Rattle.trellis.specs.LaidLaws.{take-laid}
-use Rattle.best_path.specs.Paths.{longest, Quadruples, Reading}
-use Rattle.best_path.specs.Calls as best-path
-use Rattle.best_path.specs.Calls.{code-start}
+use Rattle.path_greatest.specs.Paths.{longest, Quadruples, Reading}
+use Rattle.path_greatest.specs.Calls as best-path
+use Rattle.path_greatest.specs.Calls.{code-start}
 use Rattle.short_code.specs.declared.Code.{Code}
 use Rattle.short_code.specs.Codes.{codeOf, labels, halfOf, statesOf, goodCode}
 use Rattle.short_code.specs.CodeLaws.{good-states}
-use Rattle.call_ranges.specs.MetricLaws.{metrics-inside}
+use Rattle.range_calls.specs.MetricLaws.{metrics-inside}
 use Rattle.short_best.specs.declared.Done.{Done}
-use Rattle.best_path.specs.declared.Start.{Start}
-use Rattle.best_path.specs.Fresh.{startValues, StartsIn}
+use Rattle.path_greatest.specs.declared.Start.{Start}
+use Rattle.path_greatest.specs.Fresh.{startValues, StartsIn}
 use Rattle.short_best.specs.Readings.{readBits, readingRows, Finished, Refused, GreatestSum}
 
 module _ (c : Code) (xs : List Float) (n : ℕ) (m : ℕ → ℕ → ℤ) (good : goodCode c ≡ true) (count : length xs ≡ 4 * n) (few : n ≤ longest) (quads : Quadruples (quadruple xs) m n) where

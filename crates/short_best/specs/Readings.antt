@@ -1,5 +1,5 @@
 -- A reading by a code of constraint length 3 to 7: a fresh decoder of traceback 128, a call of metrics, a flush. P7: "The best-path statement is established
--- over the length". Assumes nothing.
+-- over the length".
 use mathlib.Core.Path.{_≡_}
 use mathlib.Core.Bool.{true, not, _||_}
 use mathlib.Core.List.{List, [], _∷_}
@@ -13,14 +13,14 @@ use Rattle.refusal.specs.declared.Answer.the-variants as answer
 use Rattle.trellis.specs.Isdb.{rule, frameTraceback}
 use Rattle.trellis.specs.Lists.{laid}
 use Rattle.trellis.specs.Run.{Decoder, block, decisionsAfter, flushed, fourSteps, quadruple}
-use Rattle.best_path.specs.Paths.{longest, Quadruples, Reading}
+use Rattle.path_greatest.specs.Paths.{longest, Quadruples, Reading}
 use Rattle.isdb_fec.specs.Rows as reading
 use Rattle.short_code.specs.declared.Code.{Code}
 use Rattle.short_code.specs.Codes.{labels, halfOf, statesOf, goodCode}
 use Rattle.short_fec.specs.Calls.{call}
 use Rattle.short_best.specs.declared.Done.{Done}
-use Rattle.best_path.specs.declared.Start.{Start}
-use Rattle.best_path.specs.Fresh.{startValues, StartsIn}
+use Rattle.path_greatest.specs.declared.Start.{Start}
+use Rattle.path_greatest.specs.Fresh.{startValues, StartsIn}
 
 -- the decoder with its held words and its bits once the metrics xs have been pushed; all its bits
 abbrev pub read : Code → Start → List Float → Decoder

@@ -8,12 +8,11 @@ ghost use lib.ListN.{length};
 ghost use Rattle.refusal.specs.Rows.{firstRow, Either};
 ghost use Rattle.trellis.specs.Run.{startUnknown};
 ghost use Rattle.short_code.specs.Codes.{Fits};
-ghost use Rattle.best_path.specs.Fresh.{startValues};
+ghost use Rattle.path_greatest.specs.Fresh.{startValues};
 ghost use Rattle.short_best.specs.Readings.{readingRows, Finished, Refused, GreatestSum};
 ghost use Rattle.trellis.specs.Isdb.{frameWords};
-pub use best_path::Start;
-use decoder_rows::some_beyond;
 use isdb_fec::conv::STREAM_LIMIT;
+pub use path_greatest::Start;
 use refusal::Answer;
 pub use short_code::Code;
 use short_code::bad;
@@ -26,7 +25,8 @@ use short_viterbi::soft_steps;
 use trellis::FRAME_TRACEBACK;
 use trellis::FRAME_WORDS;
 use trellis::STATES;
-use viterbi::At;
+use viterbi_core::At;
+use viterbi_rows::some_beyond;
 ghost use Rattle.trellis.specs.Isdb;
 
 // The answer, and how many bits stand at the front of the output.

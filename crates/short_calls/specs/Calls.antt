@@ -1,4 +1,4 @@
--- What the three calls in a row leave and read. Definitions only. Assumes nothing.
+-- What the three calls in a row leave and read. Definitions only.
 use mathlib.Core.Path.{_≡_}
 use mathlib.Core.Bool.{true}
 use mathlib.Core.List.{List}
@@ -12,9 +12,9 @@ use Rattle.trellis.specs.Isdb.{rule, states, frameWords}
 use Rattle.trellis.specs.Lists.{laid}
 use Rattle.trellis.specs.Run.{quadruple, fourSteps}
 use Rattle.isdb_fec.specs.Calls.{Unchanged}
-use Rattle.best_path.specs.Paths.{longest, Quadruples, Reading}
-use Rattle.best_path.specs.declared.Start.{Start}
-use Rattle.best_path.specs.Fresh.{startValues, StartsIn}
+use Rattle.path_greatest.specs.Paths.{longest, Quadruples, Reading}
+use Rattle.path_greatest.specs.declared.Start.{Start}
+use Rattle.path_greatest.specs.Fresh.{startValues, StartsIn}
 use Rattle.short_code.specs.declared.Code.{Code}
 use Rattle.short_code.specs.Codes.{labels, halfOf, statesOf, goodCode}
 use Rattle.short_fec.specs.Rows.{streamRows, flushRows}

@@ -1,5 +1,5 @@
 -- P7: "The best-path statement is established over the length": of the calls of short_fec in a row, a fresh decoder of traceback 128, `push_metrics` and `flush`. Of at most 4,096
--- quadruples of whole numbers within 16, with memory enough lent, all accept, and the bits are those of the first path of greatest sum. Assumes nothing.
+-- quadruples of whole numbers within 16, with memory enough lent, all accept, and the bits are those of the first path of greatest sum.
 use mathlib.Core.Path.{_≡_, refl, sym, ap, _∙_, subst}
 use mathlib.Core.Bool.{true, false, cond}
 use mathlib.Core.List.{List, [], _++_}
@@ -25,30 +25,30 @@ use Rattle.trellis.specs.ListLaws.{length-upto, none-listed}
 use Rattle.trellis.specs.RunLaws.{label-under, after-values, renormalised-length}
 use Rattle.trellis.specs.Step.{Step, four, renormalised, traced, best}
 use Rattle.trellis.specs.Run.{Decoder, block, startAt, startUnknown, valuesAt, decisionsAfter, fourSteps, releases, quadruple, freshFrom}
-use Rattle.viterbi.specs.CountLaws.{counted, releases-is}
+use Rattle.viterbi_core.specs.CountLaws.{counted, releases-is}
 use Rattle.trellis.specs.LaidLaws.{take-laid, length-laid}
-use Rattle.best_path.specs.Paths.{longest, Quadruples, Reading}
-use Rattle.best_path.specs.Viterbi.{Z, value}
-use Rattle.best_path.specs.Exact.{Whole, le-from}
-use Rattle.best_path.specs.Tracks.{Tracks, times, times-step, tracks}
-use Rattle.best_path.specs.Decoded.{Started, start-tracks}
-use Rattle.best_path.specs.Starts.{given, level, given-started, unknown-started}
-use Rattle.best_path.specs.Integers.{parts-of, quadruples}
-use Rattle.best_path.specs.Calls.{plain-four, follows, start-given, start-unknown}
+use Rattle.path_greatest.specs.Paths.{longest, Quadruples, Reading}
+use Rattle.path_greatest.specs.Viterbi.{Z, value}
+use Rattle.path_greatest.specs.Exact.{Whole, le-from}
+use Rattle.path_greatest.specs.Tracks.{Tracks, times, times-step, tracks}
+use Rattle.path_greatest.specs.Decoded.{Started, start-tracks}
+use Rattle.path_greatest.specs.Starts.{given, level, given-started, unknown-started}
+use Rattle.path_greatest.specs.Integers.{parts-of, quadruples}
+use Rattle.path_greatest.specs.Calls.{plain-four, follows, start-given, start-unknown}
 use Rattle.isdb_fec.specs.declared.conv.ViterbiDecoder.{ViterbiDecoder}
 use Rattle.isdb_fec.specs.declared.conv.Released.{Released}
 use Rattle.isdb_fec.specs.Values.{someBeyond, pathLimit}
 use Rattle.isdb_fec.specs.declared.conv.Made.{Made}
 use Rattle.isdb_fec.specs.Calls.{Fresh, Zero, Unchanged}
-use Rattle.call_ranges.specs.Inside.{none-beyond}
+use Rattle.range_calls.specs.Inside.{none-beyond}
 use Rattle.short_code.specs.declared.Code.{Code}
 use Rattle.short_code.specs.Codes.{codeOf, labels, halfOf, statesOf, goodCode}
 use Rattle.short_code.specs.CodeLaws.{good-states}
 use Rattle.short_fec.specs.Rows as short
 use Rattle.short_fec.specs.Calls.{call, handed, bestOf, Leaves, Flushes}
-use Rattle.best_path.specs.declared.Start.{Start}
-use Rattle.best_path.specs.declared.Start.the-variants.{Given, Unknown}
-use Rattle.best_path.specs.Fresh.{startValues, StartsIn}
+use Rattle.path_greatest.specs.declared.Start.{Start}
+use Rattle.path_greatest.specs.declared.Start.the-variants.{Given, Unknown}
+use Rattle.path_greatest.specs.Fresh.{startValues, StartsIn}
 use Rattle.short_best.specs.Readings.{read, readBits, readingRows}
 use Rattle.short_same.specs.SameLaws.{after-length}
 use Rattle.short_best.specs.BestLaws.{accepts, reads}

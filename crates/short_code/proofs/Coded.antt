@@ -1,4 +1,4 @@
--- The label of a branch by parities, and what a number of states gives. Assumes nothing.
+-- The label of a branch by parities, and what a number of states gives.
 use mathlib.Core.Path.{_≡_, refl, sym, _∙_, ap}
 use Prim.Native.Nat.{ℕ, suc, _+_, _-_, _*_, _/_, _%_, _^_, _<_, _≤_}
 use native.Mathlib.Omega.{arith}

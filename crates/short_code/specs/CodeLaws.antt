@@ -1,4 +1,4 @@
--- Laws of the test of a code and of its number of states. Assumes nothing.
+-- Laws of the test of a code and of its number of states.
 use mathlib.Core.Path.{_≡_, refl, sym, _∙_, ap}
 use mathlib.Core.Bool.{Bool, true, false, _&&_}
 use Prim.Native.Nat.{ℕ, suc, _-_, _*_, _^_, _≤_}

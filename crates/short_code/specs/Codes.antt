@@ -1,5 +1,5 @@
 -- Request P7: "Add an encoder and decoder with constraint length 3 to 7 and two generators as parameters. Each generator is below 2^length and has its
--- top bit set." Assumes nothing.
+-- top bit set."
 use mathlib.Core.Path.{_≡_}
 use mathlib.Core.Bool.{Bool, _&&_}
 use Prim.Native.Nat.{ℕ, _-_, _^_, _≤_}

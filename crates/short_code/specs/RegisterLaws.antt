@@ -1,5 +1,5 @@
 -- P7: "In transitions .. 64 and 32 become 2^(length-1) and 2^(length-2)": the output of the input u at the state s is the parity of
--- 2^(length-1) u + s under the generator, and the next state is 2^(length-2) u + s/2, for every length. Assumes nothing.
+-- 2^(length-1) u + s under the generator, and the next state is 2^(length-2) u + s/2, for every length.
 use mathlib.Core.Path.{_≡_, refl, sym, _∙_, ap}
 use Prim.Native.Nat.{ℕ, zero, suc, _+_, _-_, _*_, _/_, _%_, _^_, _<_, _≤_, min}
 use native.Mathlib.Omega.{arith}

@@ -1,4 +1,4 @@
--- One turn of the list encoder: the front of the output grows by X and Y of an input. Assumes nothing.
+-- One turn of the list encoder: the front of the output grows by X and Y of an input.
 use mathlib.Core.Path.{_≡_, sym, _∙_, ap}
 use mathlib.Core.List.{List}
 use Prim.Native.Nat.{ℕ, suc, _+_, _*_, _%_, _<_, _≤_}

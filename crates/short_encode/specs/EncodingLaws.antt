@@ -1,4 +1,4 @@
--- X and Y of each input by their places. Assumes nothing.
+-- X and Y of each input by their places.
 use mathlib.Core.Path.{_≡_, refl, sym, _∙_, ap}
 use mathlib.Core.List.{List, [], _∷_}
 use Prim.Native.Nat.{ℕ, zero, suc, _+_, _*_, _/_, _%_, _<_, _≤_}

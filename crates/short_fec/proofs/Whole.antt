@@ -1,4 +1,4 @@
--- What is left of a decoder whose first path values were lent to the steps of a call. Assumes nothing.
+-- What is left of a decoder whose first path values were lent to the steps of a call.
 use mathlib.Core.Path.{_≡_, refl, sym, _∙_, ap}
 use mathlib.Core.List.{List, [], _++_}
 use Prim.Native.Nat.{ℕ, _+_, _-_, _*_, _<_, _≤_}
@@ -15,7 +15,7 @@ use borrow.Rule.Slice.PartMut.{midOf, putMid}
 use Rattle.refusal.specs.declared.Answer.the-variants.{Accepted}
 use Rattle.trellis.specs.Lists.{laid}
 use Rattle.trellis.specs.Run.{Decoder, startAt, startUnknown}
-use Rattle.viterbi.specs.Calls.{Holds}
+use Rattle.viterbi_core.specs.Calls.{Holds}
 use Rattle.isdb_fec.specs.declared.conv.ViterbiDecoder.{ViterbiDecoder}
 use Rattle.short_code.specs.declared.Code.{Code}
 use Rattle.short_code.specs.Codes.{halfOf, statesOf, Fits}

@@ -9,14 +9,13 @@ ghost use Rattle.refusal.specs.Rows.{firstRow, Either};
 ghost use Rattle.trellis.specs.Code.{output, moved};
 ghost use Rattle.trellis.specs.Run.{pushed, block, tracebackLimit, pairSteps, fourSteps, knownSteps, releases, holding};
 ghost use Rattle.trellis.specs.Isdb.{rule};
-ghost use Rattle.viterbi.specs.Calls.{Holds};
+ghost use Rattle.viterbi_core.specs.Calls.{Holds};
 ghost use Rattle.short_code.specs.Codes.{codeOf, labels, halfOf, statesOf, goodCode, Fits};
 ghost use Rattle.short_viterbi.specs.Soft.{softSteps};
 ghost use Rattle.isdb_fec.specs.Calls.{Fresh, Zero, Unchanged};
 ghost use Rattle.isdb_fec.specs.AnswerLaws.{Enough};
 ghost use Rattle.short_fec.specs.Rows.{encoderRows, freshRows, streamRows, knownRows, flushRows};
 ghost use Rattle.short_fec.specs.Calls.{startValues, unknownValues, call, steps, handed, bestOf, endOf, Leaves, Flushes};
-use acs::states;
 use isdb_fec::conv::ConvEncoder;
 use isdb_fec::conv::Made;
 use isdb_fec::conv::Pushed;
@@ -40,8 +39,9 @@ use short_viterbi::finish_at;
 use short_viterbi::known_steps;
 use short_viterbi::soft_steps;
 use trellis::STATES;
-use viterbi::At;
-use viterbi::depth_of;
+use viterbi_core::At;
+use viterbi_core::depth_of;
+use viterbi_step::states;
 ghost use Rattle.trellis.specs.Isdb;
 
 // Encodes one bit.

@@ -1,4 +1,4 @@
--- What an accepted call has: a good code, and the numbers that it needs. Assumes nothing.
+-- What an accepted call has: a good code, and the numbers that it needs.
 use mathlib.Core.Path.{_≡_, sym}
 use mathlib.Core.Bool.{true, false, not}
 use mathlib.Core.List.{List, [], _∷_}

@@ -1,4 +1,4 @@
--- The refusal rows of each call: those of isdb_fec with row 12 right before 4. Assumes nothing.
+-- The refusal rows of each call: those of isdb_fec with row 12 right before 4.
 use mathlib.Core.Bool.{Bool, not, _||_}
 use mathlib.Core.List.{List, [], _∷_, _++_}
 use Prim.Native.Nat.{ℕ, _+_, _-_, _*_, _/_, _%_}

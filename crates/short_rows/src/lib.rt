@@ -7,12 +7,9 @@ ghost use lib.Dec.{ltb};
 ghost use lib.ListN.{take};
 ghost use Rattle.refusal.specs.Rows.{firstRow};
 ghost use Rattle.trellis.specs.Run.{tracebackLimit, block};
-ghost use Rattle.decoder_rows.specs.Values.{someBeyond, pathLimit};
+ghost use Rattle.viterbi_rows.specs.Values.{someBeyond, pathLimit};
 ghost use Rattle.isdb_fec.specs.Rows.{stepsShort};
 ghost use Rattle.short_rows.specs.Rows.{encoderRows, handedRows, streamRows, knownRows, flushRows};
-use decoder_rows::PATH_LIMIT;
-use decoder_rows::STREAM_LIMIT;
-use decoder_rows::some_beyond;
 use isdb_fec::conv::TRACEBACK_LIMIT;
 use isdb_fec::conv::ViterbiDecoder;
 use refusal::Answer;
@@ -20,7 +17,10 @@ use short_code::Code;
 use short_code::bad;
 use short_code::half;
 use trellis::BLOCK;
-use viterbi::few_places;
+use viterbi_core::few_places;
+use viterbi_rows::PATH_LIMIT;
+use viterbi_rows::STREAM_LIMIT;
+use viterbi_rows::some_beyond;
 
 // The rows of an encoder.
 pub fn answer_encoder(code: Code, state: u8) -> Answer

@@ -1,4 +1,4 @@
--- What two calls have in common that agree. Definitions only. Assumes nothing.
+-- What two calls have in common that agree. Definitions only.
 use mathlib.Core.Path.{_≡_}
 use mathlib.Core.List.{List}
 use Prim.Native.Nat.{ℕ}

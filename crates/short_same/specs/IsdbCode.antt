@@ -1,4 +1,4 @@
--- The code of ISDB as one of constraint length 3 to 7. Assumes nothing.
+-- The code of ISDB as one of constraint length 3 to 7.
 use Rattle.short_code.specs.declared.Code.{Code}
 
 abbrev pub isdbCode : Code

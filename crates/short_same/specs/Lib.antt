@@ -1,3 +1,5 @@
 pub mod Agree
 pub mod IsdbCode
 pub mod SameLaws
+pub mod Agrees
+pub mod Alike

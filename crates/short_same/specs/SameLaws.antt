@@ -1,5 +1,5 @@
 -- P7: "length 7 with 171 and 133 octal agrees with the existing pair on every input": two results that meet the contracts of the two calls are one, accepted
--- or refused: the answer, the state, the count and both lent slices. The path values are the 64 of the state's type. Assumes nothing.
+-- or refused: the answer, the state, the count and both lent slices. The path values are the 64 of the state's type.
 use mathlib.Core.Path.{_≡_, refl, sym, _∙_, ap}
 use mathlib.Core.Logic.{⊎-elim}
 use mathlib.Core.Bool.{Bool, true, false, cond}

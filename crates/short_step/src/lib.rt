@@ -11,17 +11,17 @@ ghost use Rattle.trellis.specs.Step.{takes, cand, next, nexts, word, top, renor
 ghost use Rattle.trellis.specs.Run.{settled, interval, startAt};
 ghost use Rattle.trellis.specs.Isdb.{rule};
 ghost use Rattle.trellis.specs.WrittenLaws.{Written};
-ghost use Rattle.viterbi.specs.Calls.{stepOf};
+ghost use Rattle.viterbi_core.specs.Calls.{stepOf};
 ghost use Rattle.short_code.specs.Codes.{labels, Fits, Settled};
-use acs::states;
-use acs_runs::Step;
-pub use path_choice::best_state;
-use path_choice::greater;
-use path_choice::larger;
 use short_code::Code;
 use short_code::label;
 use trellis::INTERVAL;
 use trellis::STATES;
+pub use viterbi_choice::best_state;
+use viterbi_choice::greater;
+use viterbi_choice::larger;
+use viterbi_step::states;
+use viterbi_steps::Step;
 ghost use Rattle.trellis.specs.Isdb;
 
 // The term of a soft value x for a coded bit.
@@ -59,7 +59,7 @@ fn path(pm: &[f32], code: Code, h: usize, k: usize, b: usize, x: Step) -> f32
 fn beats(odd: f32, even: f32) -> u64
     ensures { λ r. ⌜ r ≡ bit (takes rule even odd) ⌝ }
 {
-    path_choice::beats(odd, even) as u64
+    viterbi_choice::beats(odd, even) as u64
 }
 
 // The new path values of a step, at the front of `new`. The decision word.

@@ -1,4 +1,4 @@
--- The steps of a call on a handed decoder, where there is room for all of them: how they begin, what each asks and leaves. Assumes nothing.
+-- The steps of a call on a handed decoder, where there is room for all of them: how they begin, what each asks and leaves.
 use mathlib.Core.Path.{_≡_, refl}
 use mathlib.Core.Logic.{_⊎_, ⊎-elim}
 use mathlib.Core.List.{List}
@@ -10,9 +10,9 @@ use lib.Ieee.{Float}
 use Rattle.trellis.specs.Step.{Step}
 use Rattle.trellis.specs.Run.{stepped, after, releases, holding}
 use Rattle.trellis.specs.Isdb.{rule}
-use Rattle.viterbi.specs.declared.At.{At}
-use Rattle.viterbi.specs.Calls.{Holds, Stepped, Room}
-use Rattle.viterbi.specs.HoldingLaws.{holds-start, steps-lengths, steps-ready, steps-next}
+use Rattle.viterbi_core.specs.declared.At.{At}
+use Rattle.viterbi_core.specs.Calls.{Holds, Stepped, Room}
+use Rattle.viterbi_core.specs.HoldingLaws.{holds-start, steps-lengths, steps-ready, steps-next}
 
 -- the values of step i are there
 pub inside : (per i n l : ℕ) → (per ≡ 2) ⊎ (per ≡ 4) → i < n → per * n ≤ l → per * i + per ≤ l

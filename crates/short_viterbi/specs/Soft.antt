@@ -1,4 +1,4 @@
--- The steps of a call of soft values: pairs where there are two for each step, else quadruples. Assumes nothing.
+-- The steps of a call of soft values: pairs where there are two for each step, else quadruples.
 use mathlib.Core.Bool.{cond}
 use mathlib.Core.List.{List}
 use Prim.Native.Nat.{ℕ}

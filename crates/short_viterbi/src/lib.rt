@@ -9,17 +9,17 @@ ghost use Rattle.trellis.specs.Lists.{laid};
 ghost use Rattle.trellis.specs.Step.{best, traced};
 ghost use Rattle.trellis.specs.Run.{stepped, after, block, tracebackLimit, pairSteps, fourSteps, knownSteps, releases, holding};
 ghost use Rattle.trellis.specs.Isdb.{rule};
-ghost use Rattle.viterbi.specs.Calls.{stepOf, Holds, Room, Stepped};
+ghost use Rattle.viterbi_core.specs.Calls.{stepOf, Holds, Room, Stepped};
 ghost use Rattle.short_code.specs.Codes.{labels, Fits};
 ghost use Rattle.short_viterbi.specs.Soft.{softSteps};
-use acs_runs::Step;
 use short_code::Code;
 use short_step::best_state;
 use short_step::trellis_step;
 use trellis::BLOCK;
-use viterbi::At;
-use viterbi::clear;
-use viterbi::move_down;
+use viterbi_core::At;
+use viterbi_core::clear;
+use viterbi_core::move_down;
+use viterbi_steps::Step;
 ghost use Rattle.trellis.specs.Isdb;
 
 // Traces the first n decision words back from `state`, and writes the oldest `count` of the n bits to the front of `out`.

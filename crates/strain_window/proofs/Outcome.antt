@@ -1,4 +1,4 @@
--- How a push's outcome follows from its answer, and its answer from its rows. Assumes nothing.
+-- How a push's outcome follows from its answer, and its answer from its rows.
 use mathlib.Core.Path.{_≡_, refl, sym, _∙_}
 use mathlib.Core.Bool.{Bool, false}
 use mathlib.Core.List.{List}

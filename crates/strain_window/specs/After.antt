@@ -1,4 +1,4 @@
--- The kept sums after an accepted push, by cases: the first of its window, one more of a window that is not full, one in place of the oldest. Assumes nothing.
+-- The kept sums after an accepted push, by cases: the first of its window, one more of a window that is not full, one in place of the oldest.
 use mathlib.Core.Path.{_≡_, refl}
 use mathlib.Core.Logic.{⊎-elim}
 use mathlib.Core.Bool.{Bool, true, false, _||_}

@@ -1,4 +1,4 @@
--- What a push leaves: request P11. Assumes nothing.
+-- What a push leaves: request P11.
 use mathlib.Core.Path.{_≡_}
 use mathlib.Core.Bool.{Bool, cond}
 use mathlib.Core.List.{List, [], _∷_}

@@ -1,5 +1,5 @@
 -- After every accepted push of a run, total and greatest are those of the last w accepted sums, or of all when fewer (`afresh`). The invariant: the kept sums,
--- read from the next place on and then from the front, are these sums in their order. Assumes nothing.
+-- read from the next place on and then from the front, are these sums in their order.
 use mathlib.Core.Path.{_≡_, refl, sym, ap, _∙_}
 use mathlib.Core.Logic.{_⊎_, inl, inr, ⊎-elim}
 use mathlib.Core.Bool.{Bool, true, false}

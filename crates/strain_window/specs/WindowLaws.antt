@@ -1,4 +1,4 @@
--- Laws of totals, greatest sums and rows. Assumes nothing.
+-- Laws of totals, greatest sums and rows.
 use mathlib.Core.Path.{_≡_, refl, ap}
 use mathlib.Core.Bool.{Bool, true, false, not, _&&_, _||_}
 use mathlib.Core.List.{List, [], _∷_, _++_}

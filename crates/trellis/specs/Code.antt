@@ -1,4 +1,4 @@
--- A convolutional code of rate 1/2, as a shift register with taps. Assumes nothing.
+-- A convolutional code of rate 1/2, as a shift register with taps.
 use Prim.Native.Nat.{ℕ, zero, suc, _+_, _-_, _*_, _/_, _%_, _^_}
 use mathlib.Core.List.{List}
 use lib.ListN.{getD}

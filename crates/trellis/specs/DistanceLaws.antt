@@ -1,5 +1,5 @@
 -- Request P6: "any two different stretches with equal start, end and length differing in at least 10 coded bits, shown from the two octal generators". By linearity two
--- stretches differ as their exclusive-or weighs, and a table of least weights is checked at all 128 branches. Assumes nothing.
+-- stretches differ as their exclusive-or weighs, and a table of least weights is checked at all 128 branches.
 use mathlib.Core.Path.{_≡_, refl, sym, ap, _∙_, subst}
 use mathlib.Core.Bool.{Bool, _&&_}
 use mathlib.Core.Logic.{_⊎_, inl, inr, ⊎-elim}

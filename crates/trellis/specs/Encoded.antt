@@ -1,4 +1,4 @@
--- Encoding a list of inputs from a state. Assumes nothing.
+-- Encoding a list of inputs from a state.
 use mathlib.Core.List.{List, [], _∷_, map}
 use Prim.Native.Nat.{ℕ, _/_, _%_}
 use Rattle.trellis.specs.Code.{Code, half, label, moved}

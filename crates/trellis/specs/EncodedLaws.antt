@@ -1,4 +1,4 @@
--- Laws of encoding a list of inputs. Assumes nothing.
+-- Laws of encoding a list of inputs.
 use mathlib.Core.Path.{_≡_, refl, sym, _∙_, ap}
 use mathlib.Core.List.{List, [], _∷_, _++_}
 use Prim.Native.Nat.{ℕ, zero, suc, _*_, _%_, _<_}

@@ -1,4 +1,4 @@
--- Laws of the first values of a function, and of a front that is written over the beginning of a list. Assumes nothing.
+-- Laws of the first values of a function, and of a front that is written over the beginning of a list.
 use mathlib.Core.Path.{_≡_, refl, sym, _∙_, ap}
 use mathlib.Core.List.{List, [], _∷_, _++_, append-assoc, append-nil}
 use Prim.Native.Nat.{ℕ, zero, suc, _+_, _-_, _<_, _≤_}

@@ -1,4 +1,4 @@
--- Laws of the first n values of a function, of lists without a place, of tests that are computed, of the number whose bits are a test's, and of padded lists. Assumes nothing.
+-- Laws of the first n values of a function, of lists without a place, of tests that are computed, of the number whose bits are a test's, and of padded lists.
 use mathlib.Core.Path.{_≡_, refl, sym, _∙_, ap}
 use mathlib.Core.Bool.{Bool, true, false, cond, _&&_}
 use mathlib.Core.List.{List, [], _∷_, _++_, append-assoc}

@@ -1,4 +1,4 @@
--- Lists and numbers made from a function of the index. Assumes nothing.
+-- Lists and numbers made from a function of the index.
 use mathlib.Core.Bool.{Bool, true, false, cond}
 use mathlib.Core.List.{List, [], _∷_, _++_}
 use Prim.Native.Nat.{ℕ, zero, suc, _+_, _-_, _*_, _^_}

@@ -1,5 +1,5 @@
 -- "Input u at state s gives parities of (64u+s) under 171 and 133 octal and goes to 32u + s/2 (rounded down)": the shift register's outputs are these
--- parities. One computed test over the 128 numbers. Assumes nothing.
+-- parities. One computed test over the 128 numbers.
 use mathlib.Core.Path.{_≡_, refl}
 use mathlib.Core.Bool.{Bool, _&&_}
 use Prim.Native.Nat.{ℕ, zero, suc, _+_, _*_, _/_, _%_, _<_}

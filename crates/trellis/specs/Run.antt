@@ -1,4 +1,4 @@
--- A decoder's calls as functions of a sequence of steps. Document 01, "The decoder and encoder". Assumes nothing.
+-- A decoder's calls as functions of a sequence of steps. Document 01, "The decoder and encoder".
 use mathlib.Core.Bool.{cond}
 use mathlib.Core.List.{List, [], _∷_, _++_}
 use Prim.Native.Nat.{ℕ, zero, suc, _+_, _-_, _*_, _/_, _%_}

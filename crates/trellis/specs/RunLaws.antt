@@ -1,4 +1,4 @@
--- Laws of a code's labels, of the depth that a traceback acts as, of the way back through decision words and of the path values of a call. Assumes nothing.
+-- Laws of a code's labels, of the depth that a traceback acts as, of the way back through decision words and of the path values of a call.
 use mathlib.Core.Path.{_≡_, refl, ap, _∙_}
 use mathlib.Core.Bool.{Bool, true, false, cond}
 use mathlib.Core.List.{List, [], _∷_, _++_}

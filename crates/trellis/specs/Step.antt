@@ -1,5 +1,5 @@
 -- One step of Viterbi's algorithm in f32, over a trellis of 2 * half states whose branch from state s on input u carries the label
--- `out u s` = 2 X + Y, and over the rule for equals. Document 01, "The decoder and encoder". Assumes nothing.
+-- `out u s` = 2 X + Y, and over the rule for equals. Document 01, "The decoder and encoder".
 use mathlib.Core.Bool.{Bool, cond, not}
 use mathlib.Core.List.{List, map}
 use Prim.Native.Nat.{ℕ, zero, suc, _+_, _-_, _*_, _/_, _%_, _^_}

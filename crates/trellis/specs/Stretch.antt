@@ -1,4 +1,4 @@
--- Two coded stretches compared, bit by bit. Request P6, "A stretch with a known end". Assumes nothing.
+-- Two coded stretches compared, bit by bit. Request P6, "A stretch with a known end".
 use mathlib.Core.List.{List, [], _∷_}
 use Prim.Native.Nat.{ℕ, _+_, _/_, _%_, _<_}
 

@@ -1,4 +1,4 @@
--- The taps of ITU-R BO.1408-1, Fig. 13, as the Rust reads it: what X and Y sum. Assumes nothing.
+-- The taps of ITU-R BO.1408-1, Fig. 13, as the Rust reads it: what X and Y sum.
 use mathlib.Core.Path.{_≡_}
 use Prim.Native.Nat.{ℕ, _+_, _%_}
 use native.Mathlib.Omega.{arith}

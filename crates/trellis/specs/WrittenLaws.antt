@@ -1,4 +1,4 @@
--- An array that is written from the front, one element a turn. Assumes nothing.
+-- An array that is written from the front, one element a turn.
 use mathlib.Core.Path.{_≡_, refl, sym, _∙_}
 use mathlib.Core.Logic.{_⊎_, inl, inr, ⊎-elim}
 use mathlib.Core.Bool.{Bool, true, false}

@@ -1,4 +1,4 @@
--- The answer is that of the first row that holds, 13 being the last. Assumes nothing.
+-- The answer is that of the first row that holds, 13 being the last.
 use mathlib.Core.Path.{_≡_, refl, sym, _∙_}
 use mathlib.Core.Logic.{_⊎_, inl, inr}
 use mathlib.Core.Bool.{Bool, true, false}
@@ -14,9 +14,9 @@ use Rattle.refusal.specs.RowLaws.{refusing, decided, is-refused, refused-above,
 use Rattle.isdbs_tables.specs.declared.Table.{Table}
 use Rattle.isdbs_tables.specs.Tables.{tableRows}
 use Rattle.isdbs_tables.specs.TableLaws.{then-refusing}
-use Rattle.isdbs_runs.specs.RunsOf.{loadBytes}
+use Rattle.isdbs_plan.specs.RunsOf.{loadBytes}
 use Rattle.isdbs_points.specs.declared.Mapping.{Mapping}
-use Rattle.wanted.specs.Wanted.{Unwanted}
+use Rattle.wanted_read.specs.Wanted.{Unwanted}
 use Rattle.wanted_load.specs.declared.LoadFound.{LoadFound}
 use Rattle.wanted_load.specs.declared.LoadFound.the-variants.{Load, Refused}
 use Rattle.wanted_load.specs.Rows.{lentRows, earlierRows, wantedRows}

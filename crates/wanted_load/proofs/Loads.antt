@@ -1,4 +1,4 @@
--- What is read into the front of a slice is the load that the frame shows. Assumes nothing.
+-- What is read into the front of a slice is the load that the frame shows.
 use mathlib.Core.Path.{_≡_}
 use mathlib.Core.Bool.{Bool}
 use mathlib.Core.List.{List}
@@ -8,13 +8,13 @@ use lib.ListN.{take}
 use lib.Ieee.{Float}
 use Rattle.trellis.specs.Lists.{upto, laid}
 use Rattle.isdbs_tables.specs.declared.Table.{Table}
-use Rattle.isdbs_runs.specs.RunsOf.{loadBytes}
+use Rattle.isdbs_plan.specs.RunsOf.{loadBytes}
 use Rattle.isdbs_points.specs.declared.Mapping.{Mapping}
 use Rattle.isdbs_points.specs.Frame.{startState}
-use Rattle.isdbs_pack.specs.FrameRunLaws.{front-is}
-use Rattle.wanted.specs.ReadOff.{readOff}
-use Rattle.wanted.specs.Only.{read-off-full}
-use Rattle.isdbs_wanted.specs.Pieces.{frameByte}
+use Rattle.isdbs_metrics.specs.FrameRunLaws.{front-is}
+use Rattle.wanted_read.specs.ReadOff.{readOff}
+use Rattle.wanted_read.specs.Only.{read-off-full}
+use Rattle.wanted_read.specs.Pieces.{frameByte}
 
 pub read-is : (t : Table) (m : Mapping) (first : Bool) (re im : List Float) (s n : ℕ) (load w : List ℕ) → s ≡ startState first → n ≡ loadBytes t
     → load ≡ laid (upto (frameByte t m re im s) (loadBytes t)) w → take (n - 0) load ≡ readOff t m first re im

@@ -1,4 +1,4 @@
--- The rows of `wanted_load` one after the other, and what passed rows tell. Assumes nothing.
+-- The rows of `wanted_load` one after the other, and what passed rows tell.
 use mathlib.Core.Path.{_≡_, refl, sym}
 use mathlib.Core.Bool.{Bool, true, false, _||_}
 use mathlib.Core.List.{List}
@@ -15,7 +15,7 @@ use Rattle.isdbs_tables.specs.declared.Table.{Table}
 use Rattle.isdbs_frame.specs.Frame.{mainSymbols}
 use Rattle.isdbs_tables.specs.Tables.{tableRows, tableAnswer, TableAccepted}
 use Rattle.isdbs_tables.specs.TableLaws.{table-refusing, then-accepted}
-use Rattle.isdbs_runs.specs.RunsOf.{loadBytes}
+use Rattle.isdbs_plan.specs.RunsOf.{loadBytes}
 use Rattle.wanted_load.specs.Rows.{lentRows, earlierRows}
 
 pub or-second : (a b : Bool) → b ≡ true → (a || b) ≡ true

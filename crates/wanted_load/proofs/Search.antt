@@ -1,4 +1,4 @@
--- The search for a wanted load: what is read off the frame is encoded and compared with it; where all is alike it is wanted, else no load is. Assumes nothing.
+-- The search for a wanted load: what is read off the frame is encoded and compared with it; where all is alike it is wanted, else no load is.
 use mathlib.Core.Path.{_≡_, refl, sym}
 use mathlib.Core.Bool.{Bool, true, false, cond, true≢false}
 use mathlib.Core.List.{List}
@@ -8,9 +8,9 @@ use Rattle.trellis.specs.Lists.{laid}
 use Rattle.isdbs_tables.specs.declared.Table.{Table}
 use Rattle.isdbs_tables.specs.Tables.{TableAccepted}
 use Rattle.isdbs_points.specs.declared.Mapping.{Mapping}
-use Rattle.wanted.specs.ReadOff.{readOff}
-use Rattle.wanted.specs.Only.{read-wanted, unwanted}
-use Rattle.same_frame.specs.Alike.{Matches}
+use Rattle.wanted_read.specs.ReadOff.{readOff}
+use Rattle.wanted_read.specs.Only.{read-wanted, unwanted}
+use Rattle.wanted_match.specs.Alike.{Matches}
 use Rattle.wanted_load.specs.Found.{Searched}
 
 -- ---- what the search leaves

@@ -1,4 +1,4 @@
--- What `wanted_load` answers and leaves. Definitions only. Assumes nothing.
+-- What `wanted_load` answers and leaves. Definitions only.
 use mathlib.Core.Path.{_≡_}
 use mathlib.Core.Bool.{Bool, true, false}
 use mathlib.Core.List.{List, [], _∷_}
@@ -10,9 +10,9 @@ use Rattle.refusal.specs.declared.Answer.{Answer}
 use Rattle.refusal.specs.declared.Answer.the-variants.{NoLoad}
 use Rattle.refusal.specs.Rows.{numberOf, firstRow, Said, says}
 use Rattle.isdbs_tables.specs.declared.Table.{Table}
-use Rattle.isdbs_runs.specs.RunsOf.{loadBytes}
+use Rattle.isdbs_plan.specs.RunsOf.{loadBytes}
 use Rattle.isdbs_points.specs.declared.Mapping.{Mapping}
-use Rattle.wanted.specs.Wanted.{Wants, Unwanted}
+use Rattle.wanted_read.specs.Wanted.{Wants, Unwanted}
 use Rattle.wanted_load.specs.Rows.{wantedRows}
 use Rattle.wanted_load.specs.declared.LoadFound.{LoadFound}
 use Rattle.wanted_load.specs.declared.LoadFound.the-variants.{Load, Refused}

@@ -1,4 +1,4 @@
--- The rows of `wanted_load`. Document 02, P9: "Refusals 1, 6 and 9 apply, also 10 and 11; 7 isn't checked here." Assumes nothing.
+-- The rows of `wanted_load`. Document 02, P9: "Refusals 1, 6 and 9 apply, also 10 and 11; 7 isn't checked here."
 use mathlib.Core.Bool.{Bool, _||_}
 use mathlib.Core.List.{List, [], _∷_, _++_}
 use Prim.Native.Nat.{ℕ}
@@ -8,7 +8,7 @@ use Rattle.refusal.specs.Rows.{Row}
 use Rattle.isdbs_tables.specs.declared.Table.{Table}
 use Rattle.isdbs_frame.specs.Frame.{mainSymbols}
 use Rattle.isdbs_tables.specs.Tables.{tableRows}
-use Rattle.isdbs_runs.specs.RunsOf.{loadBytes}
+use Rattle.isdbs_plan.specs.RunsOf.{loadBytes}
 
 -- those of the lent lengths: 6, and 9 where the load needs more bytes than are lent
 abbrev pub lentRows : ℕ → ℕ → ℕ → ℕ → List Row

@@ -1,16 +1,16 @@
-// Request P9: the bytes behind a wanted frame. What the frame shows is read off, encoded again and compared (`same_frame`); the lent bytes are written only then.
-use frame_blocks::BLOCK_SYMBOLS;
+// Request P9: the bytes behind a wanted frame. What the frame shows is read off, encoded again and compared (`wanted_match`); the lent bytes are written only then.
+use encode_blocks::BLOCK_SYMBOLS;
 use isdbs_core::frame::LOAD_BYTES;
 use isdbs_core::frame::MAIN_SYMBOLS;
 use isdbs_core::slots::Plan;
 use isdbs_core::tmcc::Table;
 use isdbs_core::tmcc::table_answer;
+use isdbs_plan::plan_of;
 pub use isdbs_points::Mapping;
 use isdbs_points::start_state;
-use isdbs_runs::plan_of;
-use isdbs_wanted::read_load;
 use refusal::Answer;
-use same_frame::matches;
+use wanted_match::matches;
+use wanted_read::read_load;
 ghost use mathlib.Core.Path.{_≡_};
 ghost use mathlib.Core.Bool.{cond};
 ghost use Prim.Native.Nat.{_≤_};
@@ -18,9 +18,9 @@ ghost use lib.ListN.{length};
 ghost use Rattle.trellis.specs.Lists.{laid};
 ghost use Rattle.refusal.specs.Rows.{firstRow, Either};
 ghost use Rattle.isdbs_frame.specs.Frame.{mainSymbols};
-ghost use Rattle.isdbs_runs.specs.RunsOf.{planOf, Planned, loadBytes};
+ghost use Rattle.isdbs_plan.specs.RunsOf.{planOf, Planned, loadBytes};
 ghost use Rattle.wanted_load.specs.Rows.{lentRows, earlierRows};
-ghost use Rattle.same_frame.specs.Alike.{Matches};
+ghost use Rattle.wanted_match.specs.Alike.{Matches};
 ghost use Rattle.wanted_load.specs.Found.{Answered, Searched, Outcome, Turned};
 
 // A load, laid over the beginning of the lent bytes.

@@ -1,4 +1,4 @@
--- `place_of` is safe and ends. Assumes nothing.
+-- `place_of` is safe and ends.
 use Prim.Native.Nat.{_-_, _≤_}
 use borrow.Author.Needs.{needs}
 use Rattle.bench_lib.proofs.place_of.Statement.{statement}

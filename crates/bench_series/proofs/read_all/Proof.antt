@@ -1,4 +1,4 @@
--- `read_all` is safe and ends: each turn takes one word more. Assumes nothing.
+-- `read_all` is safe and ends: each turn takes one word more.
 use Prim.Native.Nat.{_-_, _≤_}
 use borrow.Author.Needs.{needs}
 use Rattle.bench_series.proofs.read_all.Statement.{statement}

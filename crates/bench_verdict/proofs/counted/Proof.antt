@@ -1,4 +1,4 @@
--- `counted` is safe and ends. Assumes nothing.
+-- `counted` is safe and ends.
 use Prim.Native.Nat.{_-_, _≤_}
 use borrow.Author.Needs.{needs}
 use Rattle.bench_verdict.proofs.counted.Statement.{statement}

@@ -1,4 +1,4 @@
--- `slot_names` is safe and ends. Assumes nothing.
+-- `slot_names` is safe and ends.
 use Prim.Native.Nat.{_-_, _≤_}
 use borrow.Author.Needs.{needs}
 use Rattle.bench_verdict.proofs.slot_names.Statement.{statement}

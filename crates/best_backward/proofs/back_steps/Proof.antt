@@ -1,7 +1,7 @@
 use lib.ListN.{getD}
 use lib.Dec.{leb}
 use Rattle.trellis.specs.ListLaws.{bit-is}
-use Rattle.acs_paths.specs.BranchLaws.{branch-numbers}
+use Rattle.viterbi_branches.specs.BranchLaws.{branch-numbers}
 use Rattle.trellis.specs.Code.{label, output, tapped}
 use Rattle.best_backward.proofs.Priced.{run-none, run-more, less-halved, back-halved, rivals-halved}
 use mathlib.Core.Path.{_≡_, refl}

@@ -1,4 +1,4 @@
--- `pack_plain` meets its contract. Assumes nothing.
+-- `pack_plain` meets its contract.
 use mathlib.Core.Path.{_≡_, refl, ap, _∙_}
 use mathlib.Core.List.{List}
 use Prim.Native.Nat.{ℕ, _+_, _-_, _*_, _≤_, _<_}

@@ -1,4 +1,4 @@
--- `pack_run` meets its contract. Assumes nothing.
+-- `pack_run` meets its contract.
 use mathlib.Core.Path.{sym, _∙_, ap}
 use mathlib.Core.List.{List}
 use Prim.Native.Nat.{ℕ}

@@ -1,4 +1,4 @@
--- `pair_byte` meets its contract. Assumes nothing.
+-- `pair_byte` meets its contract.
 use Prim.Native.Nat.{_+_}
 use Rattle.best_bytes.specs.Packed.{pair-made}
 use borrow.Author.Needs.{needs}

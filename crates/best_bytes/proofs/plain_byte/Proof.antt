@@ -1,4 +1,4 @@
--- `plain_byte` meets its contract. Assumes nothing.
+-- `plain_byte` meets its contract.
 use Prim.Native.Nat.{_+_}
 use Rattle.best_bytes.specs.Packed.{plain-made}
 use borrow.Author.Needs.{needs}

@@ -1,4 +1,4 @@
--- `run_marks` meets its contract. Assumes nothing.
+-- `run_marks` meets its contract.
 use mathlib.Core.Path.{_≡_, refl, sym, ap, _∙_}
 use mathlib.Core.List.{List}
 use Prim.Native.Nat.{ℕ, _+_, _-_, _*_, _≤_, _<_}

@@ -1,8 +1,8 @@
 use borrow.Author.Needs.{needs}
--- `slot_marks` meets its contract. Assumes nothing.
-use Rattle.isdbs_pack.specs.FrameRunLaws.{listed-runs, steps-by, tail-is}
+-- `slot_marks` meets its contract.
+use Rattle.isdbs_metrics.specs.FrameRunLaws.{listed-runs, steps-by, tail-is}
 use Rattle.best_bytes.proofs.MarksWritten.{Written, written-first, written-next, written-last, slot-few}
-use Rattle.isdbs_runs.specs.RunsOf.{noRun}
+use Rattle.isdbs_plan.specs.RunsOf.{noRun}
 use lib.ListN.{getD, length-drop, length-set}
 use mathlib.Core.Path.{refl, _∙_}
 use native.Mathlib.Omega.{arith}

@@ -1,9 +1,9 @@
--- `write_load` meets its contract. Assumes nothing.
+-- `write_load` meets its contract.
 use borrow.Author.Needs.{needs}
-use Rattle.isdbs_pack.specs.FrameRunLaws.{listed-runs, steps-by, tail-is}
+use Rattle.isdbs_metrics.specs.FrameRunLaws.{listed-runs, steps-by, tail-is}
 use Rattle.best_bytes.proofs.BytesWritten.{Written, written-first, written-next, written-last}
 use Rattle.best_bytes.specs.Packed.{steps-room, drop-bits}
-use Rattle.isdbs_runs.specs.RunsOf.{noRun}
+use Rattle.isdbs_plan.specs.RunsOf.{noRun}
 use lib.ListN.{getD, length-drop}
 use native.Mathlib.Omega.{arith}
 use mathlib.Core.Path.{refl}

@@ -8,7 +8,7 @@ use Rattle.best_content.specs.Slots.{piece}
 use Prim.Native.Nat.{_-_, _*_}
 use native.Mathlib.Omega.{arith}
 use lib.ListN.{length-drop}
-use Rattle.release.specs.PartLaws.{tail-whole, written-tail}
+use Rattle.viterbi_release.specs.PartLaws.{tail-whole, written-tail}
 use Rattle.best_content.proofs.Ongoing.{part-length}
 use borrow.Author.Needs.{needs}
 use Rattle.best_content.proofs.pass_slot.Statement.{statement}

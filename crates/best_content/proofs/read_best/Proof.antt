@@ -9,7 +9,7 @@ use Rattle.best_content.proofs.read_best.Statement.{statement}
 use Rattle.best_content.proofs.read_best.Tie as tie
 use Rattle.best_content.proofs.read_best.Reads as reads
 use Rattle.best_content.proofs.read_best.Lts as lts
-use Rattle.release.proofs.trace.Reads as trace-reads
+use Rattle.viterbi_release.proofs.trace.Reads as trace-reads
 use Rattle.best_forward.proofs.cheapest_state.Reads as cheapest-state-reads
 use Rattle.best_forward.proofs.start_table.Reads as start-table-reads
 use Rattle.best_content.proofs.pass_slots.Reads as pass-slots-reads

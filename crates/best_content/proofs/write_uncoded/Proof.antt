@@ -15,7 +15,7 @@ use Rattle.best_content.proofs.write_uncoded.Statement.{statement}
 use Rattle.best_content.proofs.write_uncoded.Tie as tie
 use Rattle.best_content.proofs.write_uncoded.Reads as reads
 use Rattle.best_content.proofs.write_uncoded.Lts as lts
-use Rattle.acs_paths.proofs.branch_number.Reads as branch-number-reads
+use Rattle.viterbi_branches.proofs.branch_number.Reads as branch-number-reads
 use Rattle.best_content.proofs.choice.Reads as choice-reads
 
 abbrev Inv-loop : tie.InvT-loop

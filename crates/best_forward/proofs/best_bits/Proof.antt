@@ -11,7 +11,7 @@ use Rattle.best_forward.proofs.best_bits.Statement.{statement}
 use Rattle.best_forward.proofs.best_bits.Tie as tie
 use Rattle.best_forward.proofs.best_bits.Reads as reads
 use Rattle.best_forward.proofs.best_bits.Lts as lts
-use Rattle.release.proofs.trace.Reads as trace-reads
+use Rattle.viterbi_release.proofs.trace.Reads as trace-reads
 use Rattle.best_forward.proofs.cheapest_state.Reads as cheapest-state-reads
 use Rattle.best_forward.proofs.pass.Reads as pass-reads
 use Rattle.best_forward.proofs.start_table.Reads as start-table-reads

@@ -3,7 +3,7 @@ use mathlib.Core.List.{List}
 use Prim.Native.Nat.{ℕ}
 use lib.ListN.{set}
 use Rattle.trellis.specs.LaidLaws.{laid-upto, length-laid-upto}
-use Rattle.acs_paths.specs.BranchLaws.{branch-numbers}
+use Rattle.viterbi_branches.specs.BranchLaws.{branch-numbers}
 use Rattle.trellis.specs.Code.{label, output, tapped}
 use Rattle.best_forward.proofs.Passes.{roomy, table-more, word-is}
 use mathlib.Core.Path.{_≡_, refl}

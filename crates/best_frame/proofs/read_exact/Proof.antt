@@ -1,9 +1,9 @@
--- `read_exact` meets its contract. Assumes nothing.
+-- `read_exact` meets its contract.
 use mathlib.Core.Path.{_≡_, ap}
 use native.Mathlib.Omega.{arith}
-use Rattle.isdbs_runs.specs.declared.Plan.{Plan}
-use Rattle.isdbs_runs.specs.RunsOf.{validTotal}
-use Rattle.frame_read.specs.Scales.{scaleOf, receivedBy}
+use Rattle.isdbs_plan.specs.declared.Plan.{Plan}
+use Rattle.isdbs_plan.specs.RunsOf.{validTotal}
+use Rattle.isdbs_metrics.specs.Scales.{scaleOf, receivedBy}
 use Rattle.best_frame.specs.ReadLaws.{metrics-whole, sides-whole, marks-at, marks-long, content-lent, found-long, found-wide, found-bits, found-twos, found-reads}
 use borrow.Author.Needs.{needs}
 use Rattle.best_frame.proofs.read_exact.Statement.{statement}

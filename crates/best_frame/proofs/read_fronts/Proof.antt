@@ -1,10 +1,10 @@
--- `read_fronts` meets its contract. Assumes nothing.
+-- `read_fronts` meets its contract.
 use mathlib.Core.Path.{sym}
 use Prim.Native.Nat.{_*_}
 use native.Mathlib.Omega.{arith}
 use lib.Seq.{length-take-le}
-use Rattle.isdbs_runs.specs.RunsOf.{validTotal}
-use Rattle.frame_read.specs.Scales.{receivedBy}
+use Rattle.isdbs_plan.specs.RunsOf.{validTotal}
+use Rattle.isdbs_metrics.specs.Scales.{receivedBy}
 use Rattle.best_frame.specs.Lent.{lent, lengths}
 use Rattle.best_frame.specs.ReadLaws.{counted, four-few, kept-few, fronts, just, left-of}
 use borrow.Author.Needs.{needs}

@@ -1,8 +1,8 @@
 use borrow.Author.Needs.{needs}
-use Rattle.isdbs_pack.specs.FrameRunLaws.{listed-runs, steps-by, part-covers, tail-is}
-use Rattle.frame_read.proofs.FrameSteps.{run-periods}
+use Rattle.isdbs_metrics.specs.FrameRunLaws.{listed-runs, steps-by, part-covers, tail-is}
+use Rattle.decode_all.proofs.FrameSteps.{run-periods}
 use Rattle.best_metrics.proofs.FrameMetrics.{Written, written-first, written-next, written-last}
-use Rattle.isdbs_runs.specs.RunsOf.{noRun}
+use Rattle.isdbs_plan.specs.RunsOf.{noRun}
 use lib.ListN.{getD, length-drop}
 use lib.Ieee.{nan}
 use native.Mathlib.Omega.{arith}
@@ -12,7 +12,7 @@ use Rattle.best_metrics.proofs.frame_metrics.Statement.{statement}
 use Rattle.best_metrics.proofs.frame_metrics.Tie as tie
 use Rattle.best_metrics.proofs.frame_metrics.Reads as reads
 use Rattle.best_metrics.proofs.frame_metrics.Lts as lts
-use Rattle.frame_read.proofs.scale_place.Reads as scale-place-reads
+use Rattle.decode_all.proofs.scale_place.Reads as scale-place-reads
 use Rattle.isdbs_combination.proofs.Combination.steps_per_slot.Reads as steps-per-slot-reads
 use Rattle.best_metrics.proofs.run_metrics.Reads as run-metrics-reads
 

@@ -6,20 +6,20 @@ use native.Mathlib.Omega.{arith}
 use lib.ListN.{length, length-take, length-drop}
 use Rattle.trellis.specs.Lists.{upto, laid}
 use Rattle.trellis.specs.LaidLaws.{length-laid-upto}
-use Rattle.release.specs.PartLaws.{written-tail}
+use Rattle.viterbi_release.specs.PartLaws.{written-tail}
 use Rattle.isdbs_points.specs.Layout.{stepsPerPeriod}
 use Rattle.isdbs_metrics.specs.Steps.{pieceMetrics}
-use Rattle.isdbs_blocks.specs.Blocks.{Periods, fours}
-use Rattle.isdbs_blocks.specs.PeriodLaws.{short, more-periods}
-use Rattle.isdbs_read.specs.BlockLaws.{block-periods, no-periods}
+use Rattle.decode_block.specs.Blocks.{Periods, fours}
+use Rattle.decode_block.specs.PeriodLaws.{short, more-periods}
+use Rattle.decode_run.specs.BlockLaws.{block-periods, no-periods}
 use Rattle.best_metrics.specs.Floats.{floats}
 use Rattle.best_metrics.proofs.Blocks.{more-metrics}
 use Rattle.best_metrics.proofs.metric_blocks.Statement.{statement}
 use Rattle.best_metrics.proofs.metric_blocks.Tie as tie
 use Rattle.best_metrics.proofs.metric_blocks.Reads as reads
 use Rattle.best_metrics.proofs.metric_blocks.Lts as lts
-use Rattle.isdbs_blocks.proofs.make_block.Reads as make-block-reads
-use Rattle.isdbs_read.proofs.block_of.Reads as block-of-reads
+use Rattle.decode_block.proofs.make_block.Reads as make-block-reads
+use Rattle.decode_run.proofs.block_of.Reads as block-of-reads
 use Rattle.best_metrics.proofs.take_block.Reads as take-block-reads
 
 abbrev Inv-loop : tie.InvT-loop

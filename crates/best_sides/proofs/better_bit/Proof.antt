@@ -1,6 +1,6 @@
 use lib.Ieee.{lt, ofBits, binary64}
 use mathlib.Core.Path.{_≡_, _∙_}
-use Rattle.isdbs_pack.specs.DigitLaws.{bool-bit}
+use Rattle.isdbs_metrics.specs.DigitLaws.{bool-bit}
 use Rattle.trellis.specs.ListLaws.{bit-is}
 use native.Mathlib.Omega.{arith}
 use Prim.Native.Nat.{_%_}

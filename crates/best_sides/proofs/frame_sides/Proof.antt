@@ -1,8 +1,8 @@
--- `frame_sides` meets its contract. Assumes nothing.
+-- `frame_sides` meets its contract.
 use borrow.Author.Needs.{needs}
-use Rattle.isdbs_pack.specs.FrameRunLaws.{listed-runs, steps-by, part-covers, tail-is}
+use Rattle.isdbs_metrics.specs.FrameRunLaws.{listed-runs, steps-by, part-covers, tail-is}
 use Rattle.best_sides.proofs.SidesWritten.{Written, same, written-first, written-next, written-last}
-use Rattle.isdbs_runs.specs.RunsOf.{noRun}
+use Rattle.isdbs_plan.specs.RunsOf.{noRun}
 use lib.ListN.{getD, length-drop}
 use Rattle.best_sides.specs.RunSides.{room-by}
 use native.Mathlib.Omega.{arith}

@@ -1,4 +1,4 @@
--- `no_sides` meets its contract. Assumes nothing.
+-- `no_sides` meets its contract.
 use mathlib.Core.Path.{_≡_, refl, ap, _∙_}
 use mathlib.Core.List.{List}
 use Prim.Native.Nat.{ℕ, _+_, _-_, _*_, _≤_, _<_}

@@ -1,4 +1,4 @@
--- `run_sides` meets its contract. Assumes nothing.
+-- `run_sides` meets its contract.
 use mathlib.Core.Path.{sym, _∙_, ap}
 use mathlib.Core.List.{List}
 use Prim.Native.Nat.{ℕ}

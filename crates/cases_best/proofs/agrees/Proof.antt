@@ -1,4 +1,4 @@
--- `agrees` is safe and ends. Assumes nothing.
+-- `agrees` is safe and ends.
 use mathlib.Core.Path.{sym}
 use Prim.Native.Nat.{_*_}
 use native.Mathlib.Omega.{arith}

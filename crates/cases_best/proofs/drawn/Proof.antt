@@ -1,4 +1,4 @@
--- `drawn` is safe and ends. Assumes nothing.
+-- `drawn` is safe and ends.
 use Prim.Native.Nat.{_-_, _≤_}
 use borrow.Author.Needs.{needs}
 use Rattle.cases_best.proofs.drawn.Statement.{statement}

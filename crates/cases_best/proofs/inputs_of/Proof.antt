@@ -1,4 +1,4 @@
--- `inputs_of` is safe and ends. Assumes nothing.
+-- `inputs_of` is safe and ends.
 use Prim.Native.Nat.{_-_, _≤_}
 use borrow.Author.Needs.{needs}
 use Rattle.cases_best.proofs.inputs_of.Statement.{statement}

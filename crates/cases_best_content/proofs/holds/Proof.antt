@@ -1,4 +1,4 @@
--- `holds` is safe and ends. Assumes nothing.
+-- `holds` is safe and ends.
 use Prim.Native.Nat.{_-_, _≤_}
 use borrow.Author.Needs.{needs}
 use Rattle.cases_best_content.proofs.holds.Statement.{statement}

@@ -1,4 +1,4 @@
--- `read` is safe and ends. Assumes nothing.
+-- `read` is safe and ends.
 use mathlib.Core.Path.{refl, sym}
 use Prim.Native.Nat.{_*_}
 use native.Mathlib.Omega.{arith}

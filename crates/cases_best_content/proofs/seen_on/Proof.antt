@@ -1,4 +1,4 @@
--- `seen_on` is safe and ends. Assumes nothing.
+-- `seen_on` is safe and ends.
 use Prim.Native.Nat.{_-_, _≤_}
 use borrow.Author.Needs.{needs}
 use Rattle.cases_best_content.proofs.seen_on.Statement.{statement}

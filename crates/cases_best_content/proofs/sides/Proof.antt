@@ -1,4 +1,4 @@
--- `sides` is safe and ends. Assumes nothing.
+-- `sides` is safe and ends.
 use Prim.Native.Nat.{_-_, _≤_}
 use borrow.Author.Needs.{needs}
 use Rattle.cases_best_content.proofs.sides.Statement.{statement}

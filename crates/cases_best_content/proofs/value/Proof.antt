@@ -1,4 +1,4 @@
--- `value` meets its contract. Assumes nothing.
+-- `value` meets its contract.
 use Prim.Native.Nat.{_%_}
 use native.Mathlib.Omega.{arith}
 use borrow.Author.Needs.{needs}

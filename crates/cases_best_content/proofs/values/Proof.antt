@@ -1,4 +1,4 @@
--- `values` meets its contract. Assumes nothing.
+-- `values` meets its contract.
 use mathlib.Core.Path.{_≡_, refl}
 use Prim.Native.Nat.{_-_, _≤_}
 use native.Mathlib.Omega.{arith}

@@ -1,4 +1,4 @@
--- `walk` is safe and ends. Assumes nothing.
+-- `walk` is safe and ends.
 use Prim.Native.Nat.{_-_, _≤_, _<_}
 use borrow.Author.Needs.{needs}
 use Rattle.cases_best_content.proofs.walk.Statement.{statement}

@@ -1,4 +1,4 @@
--- `all_tables` is safe and ends. Assumes nothing.
+-- `all_tables` is safe and ends.
 use Prim.Native.Nat.{_-_, _≤_}
 use borrow.Author.Needs.{needs}
 use Rattle.cases_best_frame.proofs.all_tables.Statement.{statement}

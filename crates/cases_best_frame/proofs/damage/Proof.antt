@@ -1,4 +1,4 @@
--- `damage` is safe and ends. Assumes nothing.
+-- `damage` is safe and ends.
 use Prim.Native.Nat.{_-_, _≤_}
 use borrow.Author.Needs.{needs}
 use Rattle.cases_best_frame.proofs.damage.Statement.{statement}

@@ -1,4 +1,4 @@
--- `ends_of` is safe and ends. Assumes nothing.
+-- `ends_of` is safe and ends.
 use Prim.Native.Nat.{_-_, _≤_}
 use borrow.Author.Needs.{needs}
 use Rattle.cases_best_frame.proofs.ends_of.Statement.{statement}

@@ -1,4 +1,4 @@
--- `all_marks` is safe and ends. Assumes nothing.
+-- `all_marks` is safe and ends.
 use Prim.Native.Nat.{_-_, _≤_}
 use borrow.Author.Needs.{needs}
 use Rattle.cases_core.proofs.all_marks.Statement.{statement}

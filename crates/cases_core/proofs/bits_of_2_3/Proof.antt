@@ -1,4 +1,4 @@
--- `bits_of_2_3` is safe and ends. Assumes nothing.
+-- `bits_of_2_3` is safe and ends.
 use Prim.Native.Nat.{_-_, _≤_}
 use borrow.Author.Needs.{needs}
 use Rattle.cases_core.proofs.bits_of_2_3.Statement.{statement}

@@ -1,4 +1,4 @@
--- `combinations` is safe and ends. Assumes nothing.
+-- `combinations` is safe and ends.
 use Prim.Native.Nat.{_-_, _≤_}
 use borrow.Author.Needs.{needs}
 use Rattle.cases_core.proofs.combinations.Statement.{statement}

@@ -1,4 +1,4 @@
--- `four_runs` is safe and ends. Assumes nothing.
+-- `four_runs` is safe and ends.
 use Prim.Native.Nat.{_-_, _≤_}
 use borrow.Author.Needs.{needs}
 use Rattle.cases_core.proofs.four_runs.Statement.{statement}

@@ -1,4 +1,4 @@
--- `marks` is safe and ends. Assumes nothing.
+-- `marks` is safe and ends.
 use Prim.Native.Nat.{_-_, _≤_}
 use borrow.Author.Needs.{needs}
 use Rattle.cases_core.proofs.marks.Statement.{statement}

@@ -1,4 +1,4 @@
--- `parts` is safe and ends. Assumes nothing.
+-- `parts` is safe and ends.
 use Prim.Native.Nat.{_-_, _≤_}
 use borrow.Author.Needs.{needs}
 use Rattle.cases_core.proofs.parts.Statement.{statement}

@@ -1,4 +1,4 @@
--- `tails` is safe and ends. Assumes nothing.
+-- `tails` is safe and ends.
 use Prim.Native.Nat.{_-_, _≤_}
 use borrow.Author.Needs.{needs}
 use Rattle.cases_core.proofs.tails.Statement.{statement}

@@ -1,4 +1,4 @@
--- `times` is safe: both factors are bounded. Assumes nothing.
+-- `times` is safe: both factors are bounded.
 use native.Mathlib.Nat.{lt-of-le-of-lt, mul-le-mul}
 use lib.Dec.{lit<}
 use borrow.Author.Needs.{needs}

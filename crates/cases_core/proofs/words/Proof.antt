@@ -1,4 +1,4 @@
--- `words` is safe and ends. Assumes nothing.
+-- `words` is safe and ends.
 use Prim.Native.Nat.{_-_, _≤_}
 use borrow.Author.Needs.{needs}
 use Rattle.cases_core.proofs.words.Statement.{statement}

@@ -1,4 +1,4 @@
--- `all_tracebacks` meets its contract. Assumes nothing.
+-- `all_tracebacks` meets its contract.
 use borrow.Author.Needs.{needs}
 use Prim.Native.Nat.{_-_, _≤_}
 use Rattle.cases_fec.proofs.all_tracebacks.Statement.{statement}

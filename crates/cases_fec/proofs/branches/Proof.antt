@@ -1,4 +1,4 @@
--- `branches` is safe and ends. Assumes nothing.
+-- `branches` is safe and ends.
 use Prim.Native.Nat.{_-_, _≤_}
 use borrow.Author.Needs.{needs}
 use Rattle.cases_fec.proofs.branches.Statement.{statement}

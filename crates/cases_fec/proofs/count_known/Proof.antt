@@ -1,4 +1,4 @@
--- `cases_fec::count_known` is safe. Assumes nothing.
+-- `cases_fec::count_known` is safe.
 use mathlib.Core.Path.{sym}
 use lib.Seq.{length-take-le}
 use borrow.Author.Needs.{needs}

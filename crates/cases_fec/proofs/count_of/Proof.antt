@@ -1,4 +1,4 @@
--- `count_of` is safe and ends. Assumes nothing.
+-- `count_of` is safe and ends.
 use Prim.Native.Nat.{_-_, _≤_}
 use borrow.Author.Needs.{needs}
 use Rattle.cases_fec.proofs.count_of.Statement.{statement}

@@ -1,4 +1,4 @@
--- `cases_fec::rising` is safe and ends. Assumes nothing.
+-- `cases_fec::rising` is safe and ends.
 use Prim.Native.Nat.{_-_, _≤_}
 use borrow.Author.Needs.{needs}
 use Rattle.cases_fec.proofs.rising.Statement.{statement}

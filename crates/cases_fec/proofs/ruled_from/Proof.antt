@@ -1,4 +1,4 @@
--- `ruled_from` meets its contract. Assumes nothing.
+-- `ruled_from` meets its contract.
 use borrow.Author.Needs.{needs}
 use Prim.Native.Nat.{_-_, _≤_}
 use Rattle.cases_fec.proofs.ruled_from.Statement.{statement}

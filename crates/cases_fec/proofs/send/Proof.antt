@@ -1,4 +1,4 @@
--- `send` is safe and ends. Assumes nothing.
+-- `send` is safe and ends.
 use Prim.Native.Nat.{_-_, _≤_}
 use borrow.Author.Needs.{needs}
 use Rattle.cases_fec.proofs.send.Statement.{statement}

@@ -1,4 +1,4 @@
--- `cases_fec::tail` is safe and ends. Assumes nothing.
+-- `cases_fec::tail` is safe and ends.
 use Prim.Native.Nat.{_-_, _≤_}
 use borrow.Author.Needs.{needs}
 use Rattle.cases_fec.proofs.tail.Statement.{statement}

@@ -1,4 +1,4 @@
--- `alike` meets its contract. Assumes nothing.
+-- `alike` meets its contract.
 use Prim.Native.Nat.{_-_, _≤_}
 use borrow.Author.Needs.{needs}
 use Rattle.cases_full.proofs.alike.Statement.{statement}

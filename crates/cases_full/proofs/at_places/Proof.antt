@@ -1,4 +1,4 @@
--- `at_places` is safe and ends. Assumes nothing.
+-- `at_places` is safe and ends.
 use Prim.Native.Nat.{_-_, _≤_}
 use borrow.Author.Needs.{needs}
 use Rattle.cases_full.proofs.at_places.Statement.{statement}

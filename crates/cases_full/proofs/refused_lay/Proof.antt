@@ -1,4 +1,4 @@
--- `refused_lay` meets its contract. Assumes nothing.
+-- `refused_lay` meets its contract.
 use borrow.Author.Needs.{needs}
 use Prim.Native.Nat.{_-_, _≤_}
 use Rattle.cases_full.proofs.refused_lay.Statement.{statement}

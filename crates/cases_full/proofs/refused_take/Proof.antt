@@ -1,4 +1,4 @@
--- `refused_take` meets its contract. Assumes nothing.
+-- `refused_take` meets its contract.
 use borrow.Author.Needs.{needs}
 use Prim.Native.Nat.{_-_, _≤_}
 use Rattle.cases_full.proofs.refused_take.Statement.{statement}

@@ -1,4 +1,4 @@
--- `frames` meets its contract. Assumes nothing.
+-- `frames` meets its contract.
 use borrow.Author.Needs.{needs}
 use Prim.Native.Nat.{_-_, _≤_, _*_}
 use Rattle.cases_judge.proofs.frames.Statement.{statement}

@@ -1,4 +1,4 @@
--- `one_frame` meets its contract. Assumes nothing.
+-- `one_frame` meets its contract.
 use borrow.Author.Needs.{needs}
 use Prim.Native.Nat.{_-_, _≤_}
 use Rattle.cases_judge.proofs.one_frame.Statement.{statement}

@@ -1,4 +1,4 @@
--- `rows` meets its contract. Assumes nothing.
+-- `rows` meets its contract.
 use borrow.Author.Needs.{needs}
 use Prim.Native.Nat.{_-_, _≤_}
 use Rattle.cases_judge.proofs.rows.Statement.{statement}

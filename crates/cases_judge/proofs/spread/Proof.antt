@@ -1,4 +1,4 @@
--- `spread` is safe and ends. Assumes nothing.
+-- `spread` is safe and ends.
 use borrow.Author.Needs.{needs}
 use Prim.Native.Nat.{_-_, _≤_}
 use Rattle.cases_judge.proofs.spread.Statement.{statement}

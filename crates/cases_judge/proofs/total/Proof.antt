@@ -1,4 +1,4 @@
--- `total` is safe and ends. Assumes nothing.
+-- `total` is safe and ends.
 use borrow.Author.Needs.{needs}
 use Prim.Native.Nat.{_-_, _≤_}
 use Rattle.cases_judge.proofs.total.Statement.{statement}

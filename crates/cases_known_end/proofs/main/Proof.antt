@@ -1,4 +1,4 @@
--- `main` is safe and ends. Assumes nothing.
+-- `main` is safe and ends.
 use Prim.Native.Nat.{_-_, _≤_}
 use borrow.Author.Needs.{needs}
 use Rattle.cases_known_end.proofs.main.Statement.{statement}

@@ -1,4 +1,4 @@
--- `survey` is safe and ends. Assumes nothing.
+-- `survey` is safe and ends.
 use Prim.Native.Nat.{_-_, _≤_}
 use borrow.Author.Needs.{needs}
 use Rattle.cases_known_end.proofs.survey.Statement.{statement}

@@ -1,4 +1,4 @@
--- `alike` meets its contract. Assumes nothing.
+-- `alike` meets its contract.
 use borrow.Author.Needs.{needs}
 use Prim.Native.Nat.{_-_, _≤_}
 use Rattle.cases_lib.proofs.alike.Statement.{statement}

@@ -1,4 +1,4 @@
--- `bytes_of` meets its contract. Assumes nothing.
+-- `bytes_of` meets its contract.
 use borrow.Author.Needs.{needs}
 use Prim.Native.Nat.{_-_, _≤_}
 use Rattle.cases_lib.proofs.bytes_of.Statement.{statement}

@@ -1,4 +1,4 @@
--- `digest` meets its contract. Assumes nothing.
+-- `digest` meets its contract.
 use borrow.Author.Needs.{needs}
 use Prim.Native.Nat.{_-_, _≤_}
 use Rattle.cases_lib.proofs.digest.Statement.{statement}

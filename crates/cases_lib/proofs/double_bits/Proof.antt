@@ -1,4 +1,4 @@
--- `double_bits` meets its contract. Assumes nothing.
+-- `double_bits` meets its contract.
 use borrow.Author.Needs.{needs}
 use Rattle.cases_lib.proofs.double_bits.Statement.{statement}
 use Rattle.cases_lib.proofs.double_bits.Tie as tie

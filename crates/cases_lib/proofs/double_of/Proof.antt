@@ -1,4 +1,4 @@
--- `double_of` meets its contract. Assumes nothing.
+-- `double_of` meets its contract.
 use mathlib.Core.Path.{sym, _∙_, subst}
 use borrow.Author.Needs.{needs}
 use mathlib.Core.Bool.{Bool, not}

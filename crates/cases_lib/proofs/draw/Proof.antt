@@ -1,4 +1,4 @@
--- `draw` meets its contract. Assumes nothing.
+-- `draw` meets its contract.
 use borrow.Author.Needs.{needs}
 use Prim.Native.Nat.{_-_, _≤_}
 use mathlib.Core.Path.{_≡_}

@@ -1,4 +1,4 @@
--- `float_bits` meets its contract. Assumes nothing.
+-- `float_bits` meets its contract.
 use borrow.Author.Needs.{needs}
 use Rattle.ieee.specs.Bits.{number}
 use Rattle.cases_lib.proofs.float_bits.Statement.{statement}

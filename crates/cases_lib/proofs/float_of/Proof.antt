@@ -1,4 +1,4 @@
--- `float_of` meets its contract. Assumes nothing.
+-- `float_of` meets its contract.
 use mathlib.Core.Path.{sym, _∙_, subst}
 use borrow.Author.Needs.{needs}
 use mathlib.Core.Bool.{Bool, not}

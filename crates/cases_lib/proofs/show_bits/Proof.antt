@@ -1,4 +1,4 @@
--- `show_bits` meets its contract. Assumes nothing.
+-- `show_bits` meets its contract.
 use borrow.Author.Needs.{needs}
 use Prim.Native.Nat.{_-_, _≤_}
 use Rattle.cases_lib.proofs.show_bits.Statement.{statement}

@@ -1,4 +1,4 @@
--- `show_line` is safe and ends. Assumes nothing.
+-- `show_line` is safe and ends.
 use Prim.Native.Nat.{_-_, _≤_}
 use borrow.Author.Needs.{needs}
 use Rattle.cases_lib.proofs.show_line.Statement.{statement}

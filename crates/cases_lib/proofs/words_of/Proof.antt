@@ -1,4 +1,4 @@
--- `words_of` meets its contract. Assumes nothing.
+-- `words_of` meets its contract.
 use borrow.Author.Needs.{needs}
 use Prim.Native.Nat.{_-_, _≤_}
 use Rattle.cases_lib.proofs.words_of.Statement.{statement}

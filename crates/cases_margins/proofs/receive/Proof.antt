@@ -1,4 +1,4 @@
--- `receive` is safe and ends. Assumes nothing.
+-- `receive` is safe and ends.
 use Prim.Native.Nat.{_-_, _≤_, _+_}
 use borrow.Author.Needs.{needs}
 use Rattle.cases_margins.proofs.receive.Statement.{statement}

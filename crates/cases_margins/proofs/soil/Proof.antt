@@ -1,4 +1,4 @@
--- `soil` meets its contract. Assumes nothing.
+-- `soil` meets its contract.
 use borrow.Author.Needs.{needs}
 use Prim.Native.Nat.{_-_, _≤_}
 use Rattle.cases_margins.proofs.soil.Statement.{statement}

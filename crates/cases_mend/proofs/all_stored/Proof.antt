@@ -1,4 +1,4 @@
--- `all_stored` is safe and ends. Assumes nothing.
+-- `all_stored` is safe and ends.
 use Prim.Native.Nat.{_-_, _≤_}
 use borrow.Author.Needs.{needs}
 use Rattle.cases_mend.proofs.all_stored.Statement.{statement}

@@ -1,4 +1,4 @@
--- `answer_of` is safe and ends. Assumes nothing.
+-- `answer_of` is safe and ends.
 use mathlib.Core.Path.{sym}
 use lib.Seq.{length-take-le}
 use borrow.Author.Needs.{needs}

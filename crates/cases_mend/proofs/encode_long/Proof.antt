@@ -1,4 +1,4 @@
--- `encode_long` is safe and ends. Assumes nothing.
+-- `encode_long` is safe and ends.
 use Prim.Native.Nat.{_-_, _≤_}
 use borrow.Author.Needs.{needs}
 use Rattle.cases_mend.proofs.encode_long.Statement.{statement}

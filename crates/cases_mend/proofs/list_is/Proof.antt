@@ -1,4 +1,4 @@
--- `list_is` is safe and ends. Assumes nothing.
+-- `list_is` is safe and ends.
 use mathlib.Core.Logic.{⊎-elim}
 use native.Mathlib.Omega.{arith}
 use Prim.Native.Nat.{_-_, _≤_}

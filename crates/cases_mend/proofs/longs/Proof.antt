@@ -1,4 +1,4 @@
--- `longs` meets its contract. Assumes nothing.
+-- `longs` meets its contract.
 use borrow.Author.Needs.{needs}
 use Prim.Native.Nat.{_-_, _≤_}
 use Rattle.cases_mend.proofs.longs.Statement.{statement}

@@ -1,4 +1,4 @@
--- `out_is` is safe and ends. Assumes nothing.
+-- `out_is` is safe and ends.
 use Prim.Native.Nat.{_-_, _≤_}
 use borrow.Author.Needs.{needs}
 use Rattle.cases_mend.proofs.out_is.Statement.{statement}

@@ -1,4 +1,4 @@
--- `put_out` meets its contract. Assumes nothing.
+-- `put_out` meets its contract.
 use borrow.Author.Needs.{needs}
 use Prim.Native.Nat.{_-_, _≤_}
 use Rattle.cases_mend.proofs.put_out.Statement.{statement}

@@ -1,4 +1,4 @@
--- `rest_kept` is safe and ends. Assumes nothing.
+-- `rest_kept` is safe and ends.
 use Prim.Native.Nat.{_-_, _≤_}
 use borrow.Author.Needs.{needs}
 use Rattle.cases_mend.proofs.rest_kept.Statement.{statement}

@@ -1,4 +1,4 @@
--- `rows_on` meets its contract. Assumes nothing.
+-- `rows_on` meets its contract.
 use borrow.Author.Needs.{needs}
 use Prim.Native.Nat.{_-_, _≤_}
 use Rattle.cases_mend.proofs.rows_on.Statement.{statement}

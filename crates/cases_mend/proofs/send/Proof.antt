@@ -1,4 +1,4 @@
--- `send` meets its contract. Assumes nothing.
+-- `send` meets its contract.
 use borrow.Author.Needs.{needs}
 use Prim.Native.Nat.{_-_, _≤_}
 use Rattle.cases_mend.proofs.send.Statement.{statement}

@@ -1,4 +1,4 @@
--- `send_all` is safe and ends. Assumes nothing.
+-- `send_all` is safe and ends.
 use Prim.Native.Nat.{_-_, _≤_}
 use borrow.Author.Needs.{needs}
 use Rattle.cases_mend.proofs.send_all.Statement.{statement}

@@ -1,4 +1,4 @@
--- `spoil` is safe and ends. Assumes nothing.
+-- `spoil` is safe and ends.
 use Prim.Native.Nat.{_-_, _≤_}
 use borrow.Author.Needs.{needs}
 use Rattle.cases_mend.proofs.spoil.Statement.{statement}

@@ -1,4 +1,4 @@
--- `surveys` meets its contract. Assumes nothing.
+-- `surveys` meets its contract.
 use borrow.Author.Needs.{needs}
 use Prim.Native.Nat.{_-_, _≤_}
 use Rattle.cases_mend.proofs.surveys.Statement.{statement}

@@ -1,4 +1,4 @@
--- `unpack` is safe and ends. Assumes nothing.
+-- `unpack` is safe and ends.
 use Prim.Native.Nat.{_-_, _≤_}
 use borrow.Author.Needs.{needs}
 use Rattle.cases_mend.proofs.unpack.Statement.{statement}

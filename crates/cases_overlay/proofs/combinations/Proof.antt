@@ -1,4 +1,4 @@
--- `combinations` meets its contract. Assumes nothing.
+-- `combinations` meets its contract.
 use Prim.Native.Nat.{_-_, _≤_}
 use borrow.Author.Needs.{needs}
 use Rattle.cases_overlay.proofs.combinations.Statement.{statement}

@@ -1,4 +1,4 @@
--- `lay` is safe and ends. Assumes nothing.
+-- `lay` is safe and ends.
 use Prim.Native.Nat.{_-_, _≤_}
 use borrow.Author.Needs.{needs}
 use Rattle.cases_overlay.proofs.lay.Statement.{statement}

@@ -1,4 +1,4 @@
--- `main` meets its contract. Assumes nothing.
+-- `main` meets its contract.
 use Prim.Native.Nat.{_-_, _≤_}
 use borrow.Author.Needs.{needs}
 use Rattle.cases_overlay.proofs.main.Statement.{statement}

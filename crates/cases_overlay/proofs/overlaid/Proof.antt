@@ -1,4 +1,4 @@
--- `overlaid` is safe and ends. Assumes nothing.
+-- `overlaid` is safe and ends.
 use Prim.Native.Nat.{_-_, _≤_}
 use borrow.Author.Needs.{needs}
 use Rattle.cases_overlay.proofs.overlaid.Statement.{statement}

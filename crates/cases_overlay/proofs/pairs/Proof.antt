@@ -1,4 +1,4 @@
--- `pairs` is safe and ends. Assumes nothing.
+-- `pairs` is safe and ends.
 use Prim.Native.Nat.{_-_, _≤_}
 use borrow.Author.Needs.{needs}
 use Rattle.cases_overlay.proofs.pairs.Statement.{statement}

@@ -1,4 +1,4 @@
--- `unpack` meets its contract. Assumes nothing.
+-- `unpack` meets its contract.
 use Prim.Native.Nat.{_-_, _≤_}
 use borrow.Author.Needs.{needs}
 use Rattle.cases_overlay.proofs.unpack.Statement.{statement}

@@ -1,4 +1,4 @@
--- `floats` is safe and ends. Assumes nothing.
+-- `floats` is safe and ends.
 use Prim.Native.Nat.{_+_, _-_, _*_, _≤_, _<_}
 use borrow.Author.Needs.{needs}
 use Rattle.cases_paths.proofs.floats.Statement.{statement}

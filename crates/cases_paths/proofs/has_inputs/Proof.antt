@@ -1,4 +1,4 @@
--- `has_inputs` is safe and ends. Assumes nothing.
+-- `has_inputs` is safe and ends.
 use Prim.Native.Nat.{_-_, _≤_}
 use borrow.Author.Needs.{needs}
 use Rattle.cases_paths.proofs.has_inputs.Statement.{statement}

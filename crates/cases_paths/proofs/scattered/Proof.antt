@@ -1,4 +1,4 @@
--- `scattered` is safe and ends. Assumes nothing.
+-- `scattered` is safe and ends.
 use Prim.Native.Nat.{_-_, _≤_}
 use borrow.Author.Needs.{needs}
 use Rattle.cases_paths.proofs.scattered.Statement.{statement}

@@ -1,4 +1,4 @@
--- `readings` is safe and ends. Assumes nothing.
+-- `readings` is safe and ends.
 use Prim.Native.Nat.{_-_, _*_, _≤_}
 use borrow.Author.Needs.{needs}
 use Rattle.cases_short.proofs.readings.Statement.{statement}

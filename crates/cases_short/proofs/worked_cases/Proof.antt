@@ -1,4 +1,4 @@
--- `worked_cases` is safe and ends. Assumes nothing.
+-- `worked_cases` is safe and ends.
 use Prim.Native.Nat.{_-_, _≤_}
 use borrow.Author.Needs.{needs}
 use Rattle.cases_short.proofs.worked_cases.Statement.{statement}

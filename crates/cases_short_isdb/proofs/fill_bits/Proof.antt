@@ -1,4 +1,4 @@
--- `fill_bits` is safe and ends. Assumes nothing.
+-- `fill_bits` is safe and ends.
 use Prim.Native.Nat.{_+_, _-_, _*_, _≤_, _<_}
 use borrow.Author.Needs.{needs}
 use Rattle.cases_short_isdb.proofs.fill_bits.Statement.{statement}

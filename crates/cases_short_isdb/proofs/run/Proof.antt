@@ -1,4 +1,4 @@
--- `run` is safe and ends. Assumes nothing.
+-- `run` is safe and ends.
 use Prim.Native.Nat.{_-_, _≤_}
 use borrow.Author.Needs.{needs}
 use Rattle.cases_short_isdb.proofs.run.Statement.{statement}

@@ -1,4 +1,4 @@
--- `same_values` is safe and ends. Assumes nothing.
+-- `same_values` is safe and ends.
 use Prim.Native.Nat.{_+_, _-_, _*_, _≤_, _<_}
 use borrow.Author.Needs.{needs}
 use Rattle.cases_short_isdb.proofs.same_values.Statement.{statement}

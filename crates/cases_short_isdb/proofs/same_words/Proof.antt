@@ -1,4 +1,4 @@
--- `same_words` is safe and ends. Assumes nothing.
+-- `same_words` is safe and ends.
 use Prim.Native.Nat.{_+_, _-_, _*_, _≤_, _<_}
 use borrow.Author.Needs.{needs}
 use Rattle.cases_short_isdb.proofs.same_words.Statement.{statement}

@@ -1,4 +1,4 @@
--- `starts` is safe and ends. Assumes nothing.
+-- `starts` is safe and ends.
 use Prim.Native.Nat.{_+_, _-_, _*_, _≤_, _<_}
 use borrow.Author.Needs.{needs}
 use Rattle.cases_short_isdb.proofs.starts.Statement.{statement}

@@ -1,4 +1,4 @@
--- `places` is safe and ends. Assumes nothing.
+-- `places` is safe and ends.
 use borrow.Author.Needs.{needs}
 use Prim.Native.Nat.{_-_, _≤_}
 use Rattle.cases_strain.proofs.places.Statement.{statement}

@@ -1,4 +1,4 @@
--- `one_table` meets its contract. Assumes nothing.
+-- `one_table` meets its contract.
 use borrow.Author.Needs.{needs}
 use Prim.Native.Nat.{_-_, _≤_}
 use Rattle.cases_wanted.proofs.one_table.Statement.{statement}

@@ -1,4 +1,4 @@
--- `one_way` meets its contract. Assumes nothing.
+-- `one_way` meets its contract.
 use borrow.Author.Needs.{needs}
 use Prim.Native.Nat.{_-_, _≤_}
 use Rattle.cases_wanted.proofs.one_way.Statement.{statement}

@@ -1,4 +1,4 @@
--- `passing` meets its contract. Assumes nothing.
+-- `passing` meets its contract.
 use borrow.Author.Needs.{needs}
 use Prim.Native.Nat.{_-_, _≤_}
 use Rattle.cases_wanted.proofs.passing.Statement.{statement}

@@ -1,4 +1,4 @@
--- `refused_rows` meets its contract. Assumes nothing.
+-- `refused_rows` meets its contract.
 use borrow.Author.Needs.{needs}
 use Prim.Native.Nat.{_-_, _≤_}
 use Rattle.cases_wanted.proofs.refused_rows.Statement.{statement}

@@ -1,4 +1,4 @@
--- `same_points` is safe and ends. Assumes nothing.
+-- `same_points` is safe and ends.
 use Prim.Native.Nat.{_-_, _≤_}
 use borrow.Author.Needs.{needs}
 use Rattle.cases_wanted.proofs.same_points.Statement.{statement}

@@ -1,4 +1,4 @@
--- `largest` is safe and ends. The slice keeps its length. Assumes nothing.
+-- `largest` is safe and ends. The slice keeps its length.
 use mathlib.Core.Path.{_≡_}
 use Prim.Native.Nat.{_-_, _≤_}
 use borrow.Author.Needs.{needs}

@@ -1,4 +1,4 @@
--- `show_sums` is safe and ends. Assumes nothing.
+-- `show_sums` is safe and ends.
 use Prim.Native.Nat.{_-_, _≤_}
 use borrow.Author.Needs.{needs}
 use Rattle.cases_window.proofs.show_sums.Statement.{statement}

@@ -1,4 +1,4 @@
--- `constants::coded_tails` meets its contract: computed. Assumes nothing.
+-- `constants::coded_tails` meets its contract: computed.
 use mathlib.Core.Path.{refl}
 use Rattle.trellis.specs.Lists.{upto}
 use Rattle.trellis.specs.Code.{label, output, tapped, stateAt}

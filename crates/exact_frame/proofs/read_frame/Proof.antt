@@ -1,4 +1,4 @@
--- `exact_frame::read_frame` meets its contract: that of `decode_frame` at a known start and the scale 8, and the theorem about it. Assumes nothing.
+-- `exact_frame::read_frame` meets its contract: that of `decode_frame` at a known start and the scale 8, and the theorem about it.
 use borrow.Author.Needs.{needs}
 use denote.Ref.{now}
 use lib.Ieee.{ofBits}

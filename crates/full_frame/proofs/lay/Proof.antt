@@ -1,4 +1,4 @@
--- `lay` meets its contract. Assumes nothing.
+-- `lay` meets its contract.
 use Rattle.full_frame.specs.RowLaws.{inputs-long, frame-long}
 use Rattle.full_frame.specs.Rows.{shortInputs, shortFrame}
 use lib.ListN.{length}

@@ -1,4 +1,4 @@
--- `lay_part` meets its contract. Assumes nothing.
+-- `lay_part` meets its contract.
 use mathlib.Core.Path.{_≡_}
 use Prim.Native.Nat.{_-_, _≤_}
 use native.Mathlib.Omega.{arith}

@@ -1,4 +1,4 @@
--- `place` meets its contract. Assumes nothing.
+-- `place` meets its contract.
 use native.Mathlib.Omega.{arith}
 use Prim.Native.Nat.{_<_}
 use mathlib.Core.Path.{refl}

@@ -1,4 +1,4 @@
--- `short_frame` meets its contract. Assumes nothing.
+-- `short_frame` meets its contract.
 use Rattle.full_frame.specs.Rows.{shortFrame}
 use borrow.Author.Tests.{lt-ltb, le-ltb}
 use Rattle.full_frame.proofs.short_frame.Statement.{statement}

@@ -1,4 +1,4 @@
--- `short_inputs` meets its contract. Assumes nothing.
+-- `short_inputs` meets its contract.
 use Rattle.full_frame.specs.Rows.{shortInputs}
 use borrow.Author.Tests.{lt-ltb, le-ltb}
 use Rattle.full_frame.proofs.short_inputs.Statement.{statement}

@@ -1,4 +1,4 @@
--- `take_input` meets its contract. Assumes nothing.
+-- `take_input` meets its contract.
 use Rattle.full_frame.specs.FrontLaws.{Front, front-none, front-more}
 use Rattle.full_frame.specs.Places.{from, pointsOf, placeIn}
 use lib.Ieee.{nan}

@@ -1,4 +1,4 @@
--- `lay_then_take` meets its contract. Assumes nothing.
+-- `lay_then_take` meets its contract.
 use mathlib.Core.Path.{_≡_, ap}
 use mathlib.Core.Bool.{_||_}
 use Rattle.refusal.specs.Rows.{numberOf}

@@ -1,4 +1,4 @@
--- `short_parts` meets its contract. Assumes nothing.
+-- `short_parts` meets its contract.
 use mathlib.Core.Path.{sym, _∙_}
 use borrow.Author.Needs.{needs}
 use Rattle.full_frame_trips.proofs.short_parts.Statement.{statement}

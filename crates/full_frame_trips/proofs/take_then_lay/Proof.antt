@@ -1,4 +1,4 @@
--- `take_then_lay` meets its contract. Assumes nothing.
+-- `take_then_lay` meets its contract.
 use mathlib.Core.Path.{_≡_, ap}
 use mathlib.Core.Bool.{_||_}
 use Rattle.refusal.specs.Rows.{numberOf}

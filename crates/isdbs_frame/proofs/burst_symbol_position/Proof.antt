@@ -1,4 +1,4 @@
--- `burst_symbol_position` meets its contract. Assumes nothing.
+-- `burst_symbol_position` meets its contract.
 use borrow.Author.Needs.{needs}
 use borrow.Author.Tests.{le-leb, lt-leb}
 use Rattle.isdbs_frame.proofs.burst_symbol_position.Statement.{statement}

@@ -1,4 +1,4 @@
--- `main_symbol_position` meets its contract. Assumes nothing.
+-- `main_symbol_position` meets its contract.
 use borrow.Author.Needs.{needs}
 use borrow.Author.Tests.{le-leb, lt-leb}
 use Rattle.isdbs_frame.proofs.main_symbol_position.Statement.{statement}

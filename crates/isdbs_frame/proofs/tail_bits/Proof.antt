@@ -1,4 +1,4 @@
--- `tail_bits` meets its contract: the bytes below i are the bits from the highest down. Assumes nothing.
+-- `tail_bits` meets its contract: the bytes below i are the bits from the highest down.
 use Prim.Native.Nat.{ℕ, _-_, _/_, _%_, _^_, _≤_}
 use Rattle.trellis.specs.WrittenLaws.{Written, written-none, written-more, written-whole}
 use borrow.Author.Needs.{needs}

@@ -1,4 +1,4 @@
--- `layout` meets its contract. Assumes nothing.
+-- `layout` meets its contract.
 use borrow.Author.Needs.{needs}
 use Rattle.isdbs_metrics.proofs.layout.Statement.{statement}
 use Rattle.isdbs_metrics.proofs.layout.Tie as tie

@@ -1,4 +1,4 @@
--- `layout_of` meets its contract. Assumes nothing.
+-- `layout_of` meets its contract.
 use Rattle.isdbs_metrics.proofs.Codes.{places-1, places-2, places-3, places-4, places-5, places-6, places-7}
 use Rattle.isdbs_points.specs.Layout.{sentOrder}
 use Rattle.trellis.specs.Lists.{firstPlace}

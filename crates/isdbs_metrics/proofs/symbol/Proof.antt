@@ -1,4 +1,4 @@
--- `symbol` meets its contract. Assumes nothing.
+-- `symbol` meets its contract.
 use borrow.Author.Needs.{needs}
 use Rattle.isdbs_metrics.proofs.symbol.Statement.{statement}
 use Rattle.isdbs_metrics.proofs.symbol.Tie as tie

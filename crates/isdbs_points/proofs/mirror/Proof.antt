@@ -1,4 +1,4 @@
--- `mirror` meets its contract. Assumes nothing.
+-- `mirror` meets its contract.
 use borrow.Author.Needs.{needs}
 use Rattle.isdbs_points.proofs.mirror.Statement.{statement}
 use Rattle.isdbs_points.proofs.mirror.Tie as tie

@@ -1,4 +1,4 @@
--- `psk8_point` meets its contract: case by case. Assumes nothing.
+-- `psk8_point` meets its contract: case by case.
 use native.Mathlib.Omega.{arith}
 use Prim.Native.Nat.{ℕ, _+_, _%_, _<_, _≤_, zero-le}
 use native.Mathlib.Nat.{mod-lt}

@@ -1,4 +1,4 @@
--- `qpsk_mapped` meets its contract. Assumes nothing.
+-- `qpsk_mapped` meets its contract.
 use borrow.Author.Needs.{needs}
 use Rattle.isdbs_points.proofs.qpsk_mapped.Statement.{statement}
 use Rattle.isdbs_points.proofs.qpsk_mapped.Tie as tie

@@ -1,4 +1,4 @@
--- `qpsk_point` meets its contract. Assumes nothing.
+-- `qpsk_point` meets its contract.
 use borrow.Author.Needs.{needs}
 use Rattle.isdbs_points.proofs.qpsk_point.Statement.{statement}
 use Rattle.isdbs_points.proofs.qpsk_point.Tie as tie

@@ -1,4 +1,4 @@
--- `sign_of` meets its contract. Assumes nothing.
+-- `sign_of` meets its contract.
 use borrow.Author.Tests.{eq-eqb, ne-eqb}
 use Prim.Native.Nat.{_%_}
 use Rattle.isdbs_points.proofs.sign_of.Statement.{statement}

@@ -1,4 +1,4 @@
--- `start_state` meets its contract. Assumes nothing.
+-- `start_state` meets its contract.
 use Rattle.isdbs_points.proofs.StartStates.{after-w2, after-w3}
 use borrow.Author.Needs.{needs}
 use Rattle.isdbs_points.proofs.start_state.Statement.{statement}

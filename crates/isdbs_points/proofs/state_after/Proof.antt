@@ -1,4 +1,4 @@
--- `state_after` meets its contract. Assumes nothing.
+-- `state_after` meets its contract.
 use Prim.Native.Nat.{_^_}
 use native.Mathlib.Nat.{mod-lt, mod-mod}
 use native.Mathlib.Numerals.{add-one}

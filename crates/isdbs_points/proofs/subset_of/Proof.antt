@@ -1,4 +1,4 @@
--- `subset_of` meets its contract. Assumes nothing.
+-- `subset_of` meets its contract.
 use native.Mathlib.Omega.{arith}
 use borrow.Author.Needs.{needs}
 use Rattle.isdbs_points.proofs.subset_of.Statement.{statement}

@@ -1,4 +1,4 @@
--- `word_bit` meets its contract. Assumes nothing.
+-- `word_bit` meets its contract.
 use mathlib.Core.Path.{_≡_, sym, ap}
 use Prim.Native.Nat.{ℕ, _-_, _/_, _%_}
 use native.Mathlib.Omega.{arith}

@@ -1,4 +1,4 @@
--- `has_part` meets its contract: the entries passed are whole units. Assumes nothing.
+-- `has_part` meets its contract: the entries passed are whole units.
 use Prim.Native.Nat.{_-_, _≤_, _<_}
 use Rattle.isdbs_tables.specs.EntryLaws.{some-found, some-passed, some-end}
 use Rattle.isdbs_tables.specs.Tables.{partUnit, some}

@@ -1,4 +1,4 @@
--- `has_reserved` meets its contract: the entries passed give no slots to a reserved word. Assumes nothing.
+-- `has_reserved` meets its contract: the entries passed give no slots to a reserved word.
 use Prim.Native.Nat.{_-_, _≤_, _<_}
 use Rattle.isdbs_tables.specs.EntryLaws.{some-found, some-passed, some-end}
 use Rattle.isdbs_tables.specs.Tables.{reservedWord, some}

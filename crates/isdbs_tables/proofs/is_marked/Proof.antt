@@ -1,4 +1,4 @@
--- `is_marked` meets its contract. Assumes nothing.
+-- `is_marked` meets its contract.
 use Rattle.isdbs_combination.specs.CombinationLaws.{unit-fits}
 use borrow.Author.Needs.{needs}
 use Rattle.isdbs_tables.proofs.is_marked.Statement.{statement}

@@ -1,4 +1,4 @@
--- `mark_at` meets its contract: the slot is at place k of the entries left. Assumes nothing.
+-- `mark_at` meets its contract: the slot is at place k of the entries left.
 use Prim.Native.Nat.{_-_, _≤_, _<_}
 use Rattle.isdbs_tables.specs.EntryLaws.{noEntry, mark-more, mark-end}
 use Rattle.isdbs_tables.specs.Tables.{markAt}

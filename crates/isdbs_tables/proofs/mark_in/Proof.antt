@@ -1,4 +1,4 @@
--- `mark_in` meets its contract. Assumes nothing.
+-- `mark_in` meets its contract.
 use borrow.Author.Needs.{needs}
 use Rattle.isdbs_tables.proofs.mark_in.Statement.{statement}
 use Rattle.isdbs_tables.proofs.mark_in.Tie as tie

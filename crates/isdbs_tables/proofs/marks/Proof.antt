@@ -1,4 +1,4 @@
--- `marks` meets its contract: the slots below s are marked. Assumes nothing.
+-- `marks` meets its contract: the slots below s are marked.
 use Prim.Native.Nat.{ℕ, _-_, _≤_, _<_}
 use Rattle.trellis.specs.WrittenLaws.{Written, written-none, written-more, written-whole}
 use Rattle.isdbs_tables.specs.Tables.{markAt, mark}

@@ -1,4 +1,4 @@
--- `slot_combinations` meets its contract. Assumes nothing.
+-- `slot_combinations` meets its contract.
 use mathlib.Core.Path.{sym, _∙_, ap}
 use Rattle.refusal.specs.Rows.{accepted}
 use Rattle.refusal.specs.RowLaws.{is-refused}

@@ -1,4 +1,4 @@
--- `slot_sum` meets its contract: the sum so far and that of the entries left make the whole. Assumes nothing.
+-- `slot_sum` meets its contract: the sum so far and that of the entries left make the whole.
 use Prim.Native.Nat.{_+_, _*_, _-_, _≤_, _<_}
 use Rattle.isdbs_tables.specs.EntryLaws.{sum-more, sum-end}
 use Rattle.isdbs_tables.specs.Tables.{slotSum}

@@ -1,4 +1,4 @@
--- `table_answer` meets its contract. Assumes nothing.
+-- `table_answer` meets its contract.
 use borrow.Author.Needs.{needs}
 use borrow.Author.Tests.{le-ltb, lt-ltb}
 use Rattle.isdbs_tables.specs.Tables.{tableRows}

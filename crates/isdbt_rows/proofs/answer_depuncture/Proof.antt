@@ -1,4 +1,4 @@
--- `answer_depuncture` meets its contract. Assumes nothing.
+-- `answer_depuncture` meets its contract.
 use mathlib.Core.Path.{refl, sym, _∙_}
 use mathlib.Core.Bool.{true, false}
 use native.Mathlib.Omega.{arith}

@@ -1,4 +1,4 @@
--- `few` meets its contract. Assumes nothing.
+-- `few` meets its contract.
 use mathlib.Core.Path.{refl}
 use Prim.Native.Nat.{_*_}
 use borrow.Author.Needs.{needs}

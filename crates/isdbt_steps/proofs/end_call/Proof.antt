@@ -1,4 +1,4 @@
--- `isdbt_steps::end_call` meets its contract: three calls in a row. Assumes nothing.
+-- `isdbt_steps::end_call` meets its contract: three calls in a row.
 use mathlib.Core.Path.{_≡_, _∙_, ap}
 use mathlib.Core.List.{List, _++_}
 use Prim.Native.Nat.{ℕ, _+_}
@@ -6,7 +6,7 @@ use lib.ListN.{take, drop, replicate}
 use lib.Ieee.{Float}
 use borrow.Author.Needs.{needs}
 use Rattle.trellis.specs.Lists.{laid}
-use Rattle.viterbi.specs.Calls.{bestState, traced}
+use Rattle.viterbi_core.specs.Calls.{bestState, traced}
 use Rattle.isdbt_steps.proofs.end_call.Statement.{statement}
 use Rattle.isdbt_steps.proofs.end_call.Tie as tie
 

@@ -1,4 +1,4 @@
--- `isdbt_steps::soft_block` meets its contract. Assumes nothing.
+-- `isdbt_steps::soft_block` meets its contract.
 use mathlib.Core.Path.{_≡_, refl, _∙_}
 use Prim.Native.Nat.{ℕ, _+_, _-_, _*_, _/_, _<_, _≤_}
 use native.Mathlib.Omega.{arith}

@@ -1,4 +1,4 @@
--- `isdbt_steps::value_at` meets its contract. Assumes nothing.
+-- `isdbt_steps::value_at` meets its contract.
 use mathlib.Core.Path.{_≡_, sym, _∙_, ap}
 use Prim.Native.Nat.{ℕ, _+_, _-_, _≤_}
 use native.Mathlib.Omega.{arith}

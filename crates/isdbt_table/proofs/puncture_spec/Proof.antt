@@ -1,4 +1,4 @@
--- `puncture_spec` meets its contract. Assumes nothing.
+-- `puncture_spec` meets its contract.
 use borrow.Author.Needs.{needs}
 use Rattle.isdbt_table.proofs.Compiled.{row-at}
 use Rattle.isdbt_table.proofs.puncture_spec.Statement.{statement}

@@ -1,4 +1,4 @@
--- `judge` meets its contract. Assumes nothing.
+-- `judge` meets its contract.
 use mathlib.Core.Path.{sym, _∙_, ap}
 use native.Mathlib.Omega.{arith}
 use lib.ListN.{length}
@@ -6,7 +6,7 @@ use borrow.Author.Needs.{needs}
 use Rattle.refusal.specs.Rows.{firstRow}
 use Rattle.refusal.proofs.Told.{told}
 use Rattle.isdbs_tables.specs.declared.Table.{Table}
-use Rattle.isdbs_encode.specs.PlanLaws.{table-is, plan-is, planned}
+use Rattle.isdbs_plan.specs.PlannedLaws.{table-is, plan-is, planned}
 use Rattle.judge.specs.Rows.{judgeRows}
 use Rattle.judge.proofs.JudgedLaws.{passed}
 use Rattle.judge.proofs.Calls.{refused, done}

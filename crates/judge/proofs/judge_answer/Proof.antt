@@ -1,10 +1,10 @@
--- `judge_answer` meets its contract. Assumes nothing.
+-- `judge_answer` meets its contract.
 use mathlib.Core.Path.{sym, _∙_, ap}
 use Prim.Native.Nat.{ℕ}
 use borrow.Author.Needs.{needs}
 use Rattle.refusal.specs.Rows.{firstRow}
 use Rattle.refusal.proofs.Told.{told}
-use Rattle.isdbs_runs.specs.declared.Plan.{Plan}
+use Rattle.isdbs_plan.specs.declared.Plan.{Plan}
 use Rattle.judge.specs.Rows.{lentRows}
 use Rattle.judge.proofs.Rows.{by-table, by-lent}
 use Rattle.judge.proofs.judge_answer.Statement.{statement}

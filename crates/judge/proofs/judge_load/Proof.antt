@@ -1,9 +1,9 @@
--- `judge_load` meets its contract. Assumes nothing.
+-- `judge_load` meets its contract.
 use mathlib.Core.Path.{subst}
 use Prim.Native.Nat.{ℕ}
 use borrow.Author.Needs.{needs}
 use Rattle.isdbs_points.specs.Frame.{startState}
-use Rattle.isdbs_encode.specs.Laid.{FrameLaid}
+use Rattle.encode_main.specs.Laid.{FrameLaid}
 use Rattle.judge.proofs.Frames.{runs-are, four-runs, counted-over}
 use Rattle.judge.proofs.judge_load.Statement.{statement}
 use Rattle.judge.proofs.judge_load.Tie as tie

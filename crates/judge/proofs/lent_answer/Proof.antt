@@ -1,4 +1,4 @@
--- `lent_answer` meets its contract. Assumes nothing.
+-- `lent_answer` meets its contract.
 use mathlib.Core.Path.{refl, sym, _∙_}
 use mathlib.Core.List.{List, [], _∷_}
 use borrow.Author.Needs.{needs}

@@ -1,4 +1,4 @@
--- `known_end::answer_between` meets its contract. Assumes nothing.
+-- `known_end::answer_between` meets its contract.
 use mathlib.Core.Path.{refl, sym, _∙_}
 use Prim.Native.Nat.{_+_, _/_, _%_}
 use borrow.Author.Needs.{needs}

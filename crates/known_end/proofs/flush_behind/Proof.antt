@@ -1,4 +1,4 @@
--- `known_end::flush_behind` meets its contract. Assumes nothing.
+-- `known_end::flush_behind` meets its contract.
 use Prim.Native.Nat.{ℕ, _-_}
 use native.Mathlib.Omega.{arith}
 use borrow.Author.Needs.{needs}

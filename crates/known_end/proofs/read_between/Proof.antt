@@ -1,4 +1,4 @@
--- `known_end::read_between` meets its contract. Assumes nothing.
+-- `known_end::read_between` meets its contract.
 use mathlib.Core.Path.{_≡_, sym, _∙_}
 use borrow.Author.Needs.{needs}
 use Rattle.refusal.proofs.Told.{told}

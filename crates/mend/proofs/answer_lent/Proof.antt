@@ -1,4 +1,4 @@
--- `mend::answer_lent` meets its contract. Assumes nothing.
+-- `mend::answer_lent` meets its contract.
 use mathlib.Core.Path.{refl, sym, _∙_}
 use Prim.Native.Nat.{_%_}
 use borrow.Author.Tests.{lt-ltb, le-ltb, eq-eqb, ne-eqb}

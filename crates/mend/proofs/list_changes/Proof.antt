@@ -1,4 +1,4 @@
--- `mend::list_changes` meets its contract. The invariant: the changed positions below i are at the front of the list. Assumes nothing.
+-- `mend::list_changes` meets its contract. The invariant: the changed positions below i are at the front of the list.
 use mathlib.Core.Path.{_≡_, refl}
 use mathlib.Core.Logic.{⊎-elim}
 use Prim.Native.Nat.{_-_, _≤_, _<_}

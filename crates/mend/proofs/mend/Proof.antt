@@ -1,4 +1,4 @@
--- `mend::mend` meets its contract. Assumes nothing.
+-- `mend::mend` meets its contract.
 use mathlib.Core.Path.{sym, _∙_}
 use lib.ListN.{length}
 use Rattle.mend.specs.Allowed.{allowed}

@@ -1,4 +1,4 @@
--- `mend::mend_near` meets its contract. Assumes nothing.
+-- `mend::mend_near` meets its contract.
 use mathlib.Core.Path.{refl, sym}
 use Prim.Native.Nat.{_/_, _%_}
 use native.Mathlib.Omega.{arith}

@@ -1,4 +1,4 @@
--- `mend::some_no_bit` meets its contract. The invariant: what is said of the stretch is said of a byte seen, or of what is left. Assumes nothing.
+-- `mend::some_no_bit` meets its contract. The invariant: what is said of the stretch is said of a byte seen, or of what is left.
 use mathlib.Core.Path.{_≡_, refl, sym, _∙_, ap}
 use mathlib.Core.Bool.{Bool, true, false, _||_, or-assoc}
 use mathlib.Core.List.{List}

@@ -1,4 +1,4 @@
--- `mend::write_stretch` meets its contract. The invariant: what is traced so far is the tail of a stretch. Assumes nothing.
+-- `mend::write_stretch` meets its contract. The invariant: what is traced so far is the tail of a stretch.
 use mathlib.Core.Path.{_≡_, refl}
 use Prim.Native.Nat.{suc, _+_, _-_, _*_, _/_, _%_, _≤_, _<_}
 use native.Mathlib.Omega.{arith}

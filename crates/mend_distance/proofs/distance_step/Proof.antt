@@ -1,4 +1,4 @@
--- `mend_distance::distance_step` meets its contract. The invariant: after k turns the states below k have their numbers and decisions. Assumes nothing.
+-- `mend_distance::distance_step` meets its contract. The invariant: after k turns the states below k have their numbers and decisions.
 use mathlib.Core.Path.{_≡_, refl}
 use Prim.Native.Nat.{_+_, _-_, _*_, _≤_, _<_}
 use native.Mathlib.Omega.{arith}

@@ -1,4 +1,4 @@
--- `mend_distance::keep_words` meets its contract. The invariant: the table is that after t steps, and the words of t steps are laid. Assumes nothing.
+-- `mend_distance::keep_words` meets its contract. The invariant: the table is that after t steps, and the words of t steps are laid.
 use mathlib.Core.Path.{_≡_}
 use Prim.Native.Nat.{_+_, _-_, _*_, _/_, _%_, _≤_, _<_}
 use native.Mathlib.Omega.{arith}

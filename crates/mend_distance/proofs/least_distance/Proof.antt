@@ -1,4 +1,4 @@
--- `mend_distance::least_distance` meets its contract. The invariant: the table is that after t steps. Assumes nothing.
+-- `mend_distance::least_distance` meets its contract. The invariant: the table is that after t steps.
 use mathlib.Core.Path.{_≡_, ap}
 use mathlib.Core.List.{List}
 use Prim.Native.Nat.{ℕ, _+_, _-_, _*_, _/_, _%_, _≤_}

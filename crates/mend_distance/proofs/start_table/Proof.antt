@@ -1,4 +1,4 @@
--- `mend_distance::start_table` meets its contract. Assumes nothing.
+-- `mend_distance::start_table` meets its contract.
 use Prim.Native.Nat.{_%_}
 use Rattle.trellis.specs.ListLaws.{set-replicate}
 use Rattle.mend_distance.specs.Distances.{begun}

@@ -1,4 +1,4 @@
--- `mend_distance::way` meets its contract. Assumes nothing.
+-- `mend_distance::way` meets its contract.
 use Prim.Native.Nat.{_+_, _*_, _/_, _%_}
 use native.Mathlib.Omega.{arith}
 use Rattle.mend_distance.proofs.Ways.{way-is}

@@ -1,4 +1,4 @@
--- `short_best::answer_reading` meets its contract. Assumes nothing.
+-- `short_best::answer_reading` meets its contract.
 use mathlib.Core.Path.{_≡_, refl, sym, _∙_}
 use Prim.Native.Nat.{_%_}
 use lib.ListN.{length}

@@ -1,8 +1,8 @@
--- `short_best::begin` meets its contract. Assumes nothing.
+-- `short_best::begin` meets its contract.
 use mathlib.Core.Path.{_≡_, sym, _∙_, ap}
 use lib.ListN.{length}
 use borrow.Author.Needs.{needs}
-use Rattle.best_path.specs.Fresh.{startValues}
+use Rattle.path_greatest.specs.Fresh.{startValues}
 use Rattle.short_best.proofs.begin.Statement.{statement}
 use Rattle.short_best.proofs.begin.Tie as tie
 

@@ -1,4 +1,4 @@
--- `short_best::greatest_sum_reading` meets its contract. Assumes nothing.
+-- `short_best::greatest_sum_reading` meets its contract.
 use mathlib.Core.Path.{_≡_, refl, sym, _∙_, ap}
 use mathlib.Core.Bool.{true}
 use Prim.Native.Nat.{ℕ, _-_, _*_, _/_, _≤_}
@@ -19,7 +19,7 @@ use Rattle.short_code.specs.declared.Code.{Code}
 use Rattle.short_code.specs.Codes.{goodCode}
 use Rattle.short_code.specs.CodeLaws.{good-length}
 use Rattle.short_best.specs.Readings.{readingRows, Finished, Refused}
-use Rattle.best_path.specs.declared.Start.{Start}
+use Rattle.path_greatest.specs.declared.Start.{Start}
 use Rattle.short_best.specs.BestLaws.{greatest-sum}
 use Rattle.short_best.proofs.greatest_sum_reading.Statement.{statement}
 use Rattle.short_best.proofs.greatest_sum_reading.Tie as tie

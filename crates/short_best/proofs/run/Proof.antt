@@ -1,4 +1,4 @@
--- `short_best::run` meets its contract. Assumes nothing.
+-- `short_best::run` meets its contract.
 use mathlib.Core.Path.{_≡_, refl, sym, _∙_, ap}
 use mathlib.Core.Logic.{inr}
 use Prim.Native.Nat.{ℕ, _+_, _*_, _/_, _≤_, _<_}
@@ -6,8 +6,8 @@ use native.Mathlib.Omega.{arith}
 use lib.Dec.{lit≤}
 use lib.ListN.{length}
 use borrow.Author.Needs.{needs}
-use Rattle.viterbi.specs.CountLaws.{releases-le}
-use Rattle.best_path.specs.Fresh.{startValues}
+use Rattle.viterbi_core.specs.CountLaws.{releases-le}
+use Rattle.path_greatest.specs.Fresh.{startValues}
 use Rattle.short_best.proofs.Steps.{all-counted, finished}
 use Rattle.short_best.proofs.run.Statement.{statement}
 use Rattle.short_best.proofs.run.Tie as tie

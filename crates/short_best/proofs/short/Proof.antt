@@ -1,4 +1,4 @@
--- `short_best::short` meets its contract. Assumes nothing.
+-- `short_best::short` meets its contract.
 use mathlib.Core.Path.{refl}
 use borrow.Author.Tests.{lt-ltb, le-ltb}
 use Rattle.short_best.proofs.short.Statement.{statement}

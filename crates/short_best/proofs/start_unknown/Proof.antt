@@ -1,4 +1,4 @@
--- `short_best::start_unknown` meets its contract. The invariant: the values below k are 0. Assumes nothing.
+-- `short_best::start_unknown` meets its contract. The invariant: the values below k are 0.
 use mathlib.Core.Path.{_≡_, refl}
 use Prim.Native.Nat.{ℕ, _+_, _-_, _<_, _≤_}
 use native.Mathlib.Omega.{arith}

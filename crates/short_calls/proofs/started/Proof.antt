@@ -1,4 +1,4 @@
--- `started` meets its contract. Assumes nothing.
+-- `started` meets its contract.
 use borrow.Author.Needs.{needs}
 use Rattle.short_calls.proofs.started.Statement.{statement}
 use Rattle.short_calls.proofs.started.Tie as tie

@@ -1,4 +1,4 @@
--- `three_calls` meets its contract: it is what the calls promise, and `three-calls` of it. Assumes nothing.
+-- `three_calls` meets its contract: it is what the calls promise, and `three-calls` of it.
 use mathlib.Core.Path.{_≡_}
 use borrow.Author.Needs.{needs}
 use Rattle.short_calls.specs.Three.{made-is, three-calls}

@@ -1,4 +1,4 @@
--- `short_code::bad` meets its contract, in either arm. Assumes nothing.
+-- `short_code::bad` meets its contract, in either arm.
 use mathlib.Core.Path.{refl, sym, _∙_}
 use borrow.Author.Needs.{needs}
 use Rattle.short_code.proofs.bad.Statement.{statement}

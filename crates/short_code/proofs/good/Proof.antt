@@ -1,4 +1,4 @@
--- `short_code::good` meets its contract. Assumes nothing.
+-- `short_code::good` meets its contract.
 use mathlib.Core.Path.{_≡_, refl, sym, _∙_, ap}
 use native.Mathlib.Omega.{arith}
 use Rattle.short_code.proofs.Coded.{short-length, long-length, good-is}

@@ -1,4 +1,4 @@
--- `short_code::half` meets its contract. Assumes nothing.
+-- `short_code::half` meets its contract.
 use Rattle.short_code.proofs.Coded.{half-fits}
 use mathlib.Core.Path.{_≡_, refl, sym, _∙_, ap}
 use borrow.Author.Needs.{needs}

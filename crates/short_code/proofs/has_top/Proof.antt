@@ -1,4 +1,4 @@
--- `short_code::has_top` meets its contract. Assumes nothing.
+-- `short_code::has_top` meets its contract.
 use mathlib.Core.Path.{_≡_, refl, sym, _∙_, ap}
 use borrow.Author.Tests.{le-leb, lt-leb}
 use borrow.Author.Needs.{needs}

@@ -1,4 +1,4 @@
--- `short_code::label` meets its contract: its bits are the parities of the register. Assumes nothing.
+-- `short_code::label` meets its contract: its bits are the parities of the register.
 use mathlib.Core.Path.{_≡_, refl, sym, _∙_, ap}
 use native.Mathlib.Omega.{arith}
 use Prim.Native.Nat.{ℕ, suc, _+_, _-_, _*_, _/_, _%_, _^_, _<_, _≤_}

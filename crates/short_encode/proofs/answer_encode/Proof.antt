@@ -1,4 +1,4 @@
--- `short_encode::answer_encode` meets its contract. Assumes nothing.
+-- `short_encode::answer_encode` meets its contract.
 use mathlib.Core.Path.{_≡_, refl, sym, _∙_, ap}
 use native.Mathlib.Omega.{arith}
 use borrow.Author.Tests.{not-false, le-leb, lt-leb}

@@ -1,4 +1,4 @@
--- `short_encode::encode` meets its contract. Assumes nothing.
+-- `short_encode::encode` meets its contract.
 use mathlib.Core.Bool.{true}
 use mathlib.Core.Path.{_≡_, refl, sym, _∙_, ap}
 use Prim.Native.Nat.{ℕ, _*_, _≤_, _<_}

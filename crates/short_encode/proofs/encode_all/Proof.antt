@@ -1,4 +1,4 @@
--- `short_encode::encode_all` meets its contract. The invariant: X and Y of the inputs below i are written, and s is the state before input i. Assumes nothing.
+-- `short_encode::encode_all` meets its contract. The invariant: X and Y of the inputs below i are written, and s is the state before input i.
 use mathlib.Core.Path.{_≡_, refl, sym, _∙_, ap}
 use Prim.Native.Nat.{ℕ, _+_, _-_, _*_, _<_, _≤_}
 use native.Mathlib.Omega.{arith}

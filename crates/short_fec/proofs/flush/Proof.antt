@@ -1,4 +1,4 @@
--- `short_fec::flush` meets its contract. Assumes nothing.
+-- `short_fec::flush` meets its contract.
 use Rattle.short_fec.specs.Calls.{bestOf}
 use Rattle.trellis.specs.Step.{best}
 use Rattle.trellis.specs.Isdb.{rule}

@@ -1,4 +1,4 @@
--- `short_fec::flush_at` meets its contract. Assumes nothing.
+-- `short_fec::flush_at` meets its contract.
 use Rattle.short_code.specs.Codes.{labels, halfOf, statesOf}
 use Rattle.short_code.specs.CodeLaws.{states-are, good-length}
 use native.Mathlib.Nat.{mod-lt}

@@ -1,4 +1,4 @@
--- `short_fec::fresh` meets its contract. Assumes nothing.
+-- `short_fec::fresh` meets its contract.
 use mathlib.Core.Path.{refl, sym, _∙_}
 use native.Mathlib.Omega.{arith}
 use borrow.Author.Tests.{lt-ltb, le-ltb}

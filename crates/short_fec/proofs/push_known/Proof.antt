@@ -1,4 +1,4 @@
--- `short_fec::push_known` meets its contract. Assumes nothing.
+-- `short_fec::push_known` meets its contract.
 use Rattle.short_code.specs.Codes.{labels}
 use Rattle.short_code.specs.CodeLaws.{good-length}
 use Rattle.short_fec.proofs.Whole.{left}

@@ -1,4 +1,4 @@
--- `short_fec::soft` meets its contract. Assumes nothing.
+-- `short_fec::soft` meets its contract.
 use mathlib.Core.Path.{_≡_, refl, _∙_}
 use native.Mathlib.Omega.{arith}
 use Prim.Native.Nat.{_-_, _*_, _/_, _≤_}

@@ -1,9 +1,9 @@
--- `short_fec::soft_run` meets its contract. Assumes nothing.
+-- `short_fec::soft_run` meets its contract.
 use mathlib.Core.Path.{_≡_, refl, sym, _∙_, ap}
 use Prim.Native.Nat.{ℕ, suc, _+_, _-_, _*_, _/_, _%_, _^_, _<_, _≤_}
 use Rattle.trellis.specs.Isdb.{rule}
 use Rattle.trellis.specs.Run.{holding}
-use Rattle.viterbi.specs.HoldingLaws.{holds-closed}
+use Rattle.viterbi_core.specs.HoldingLaws.{holds-closed}
 use Rattle.short_viterbi.specs.Soft.{softSteps}
 use Rattle.short_code.specs.Codes.{labels, halfOf, statesOf, goodCode}
 use Rattle.short_code.specs.CodeLaws.{states-are, good-length}

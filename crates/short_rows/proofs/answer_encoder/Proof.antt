@@ -1,4 +1,4 @@
--- `short_fec::answer_encoder` meets its contract. Assumes nothing.
+-- `short_fec::answer_encoder` meets its contract.
 use borrow.Author.Tests.{not-false}
 use Rattle.short_code.specs.Codes.{goodCode}
 use mathlib.Core.Path.{_≡_, refl, sym, _∙_, ap}

@@ -1,11 +1,11 @@
--- `answer_lent` meets its contract. Assumes nothing.
+-- `answer_lent` meets its contract.
 use mathlib.Core.Path.{_≡_, refl, sym, _∙_, ap}
 use mathlib.Core.Bool.{true, false}
 use Prim.Native.Nat.{ℕ, _+_, _*_}
 use lib.ListN.{take}
 use borrow.Author.Needs.{needs}
 use borrow.Author.Tests.{lt-ltb, le-ltb, le-leb, lt-leb, eq-eqb, ne-eqb, not-false}
-use Rattle.decoder_rows.specs.Values.{someBeyond, pathLimit}
+use Rattle.viterbi_rows.specs.Values.{someBeyond, pathLimit}
 use Rattle.short_code.specs.Codes.{goodCode, statesOf}
 use Rattle.short_code.specs.CodeLaws.{states-are, good-length}
 use Rattle.short_rows.proofs.answer_lent.Statement.{statement}

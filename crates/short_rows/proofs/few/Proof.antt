@@ -1,4 +1,4 @@
--- `short_rows::few` meets its contract. Assumes nothing.
+-- `short_rows::few` meets its contract.
 use mathlib.Core.Path.{_≡_, refl}
 use mathlib.Core.Bool.{Bool, true, false}
 use Prim.Native.Nat.{ℕ, _*_, _/_}

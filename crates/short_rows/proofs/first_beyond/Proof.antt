@@ -1,4 +1,4 @@
--- `first_beyond` meets its contract. Assumes nothing.
+-- `first_beyond` meets its contract.
 use mathlib.Core.Path.{_≡_, sym, _∙_, ap}
 use mathlib.Core.List.{List}
 use Prim.Native.Nat.{ℕ, _-_, _<_, _≤_}
@@ -7,7 +7,7 @@ use lib.ListN.{length, take}
 use lib.Seq.{take-all}
 use lib.Ieee.{Float}
 use borrow.Author.Needs.{needs}
-use Rattle.decoder_rows.specs.Values.{someBeyond, pathLimit}
+use Rattle.viterbi_rows.specs.Values.{someBeyond, pathLimit}
 use Rattle.short_rows.proofs.first_beyond.Statement.{statement}
 use Rattle.short_rows.proofs.first_beyond.Tie as tie
 

@@ -1,4 +1,4 @@
--- `short_step::add_compare_select` meets its contract. Assumes nothing.
+-- `short_step::add_compare_select` meets its contract.
 use mathlib.Core.Path.{_≡_, refl, sym, _∙_, ap}
 use native.Mathlib.Omega.{arith}
 use mathlib.Core.List.{List}
@@ -10,7 +10,7 @@ use Rattle.trellis.specs.ListLaws.{length-upto, getD-upto}
 use Rattle.trellis.specs.Step.{next, nexts}
 use Rattle.trellis.specs.Isdb.{rule}
 use Rattle.trellis.specs.WrittenLaws.{Written, written-whole}
-use Rattle.viterbi.specs.Calls.{stepOf}
+use Rattle.viterbi_core.specs.Calls.{stepOf}
 use Rattle.short_code.specs.Codes.{labels}
 use borrow.Author.Needs.{needs}
 use Rattle.short_step.proofs.add_compare_select.Statement.{statement}

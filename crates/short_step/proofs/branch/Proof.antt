@@ -1,4 +1,4 @@
--- `short_step::branch` meets its contract, for each kind of step. Assumes nothing.
+-- `short_step::branch` meets its contract, for each kind of step.
 use mathlib.Core.Path.{_≡_, refl, sym, _∙_, ap}
 use Rattle.trellis.specs.Step as trellis
 use lib.Ieee.{ofBits}

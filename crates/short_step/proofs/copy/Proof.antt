@@ -1,4 +1,4 @@
--- `short_step::copy` meets its contract. The invariant: the values below i are copied. Assumes nothing.
+-- `short_step::copy` meets its contract. The invariant: the values below i are copied.
 use mathlib.Core.Path.{_≡_, refl, sym, _∙_, ap}
 use mathlib.Core.List.{List}
 use Prim.Native.Nat.{ℕ, suc, _+_, _-_, _*_, _/_, _%_, _^_, _<_, _≤_}

@@ -1,4 +1,4 @@
--- `short_step::greatest` meets its contract. The invariant: t is the greatest of the values below s. Assumes nothing.
+-- `short_step::greatest` meets its contract. The invariant: t is the greatest of the values below s.
 use mathlib.Core.Path.{_≡_, refl, _∙_}
 use Prim.Native.Nat.{_-_, _≤_}
 use native.Mathlib.Omega.{arith}

@@ -1,4 +1,4 @@
--- `short_step::renormalise` meets its contract. The invariant: each value below s is the one before less t, and the others are as they were. Assumes nothing.
+-- `short_step::renormalise` meets its contract. The invariant: each value below s is the one before less t, and the others are as they were.
 use mathlib.Core.Path.{_≡_, refl, sym, _∙_, ap}
 use mathlib.Core.List.{List, map}
 use Prim.Native.Nat.{ℕ, suc, _+_, _-_, _*_, _/_, _%_, _^_, _<_, _≤_}

@@ -1,4 +1,4 @@
--- `short_step::rule_out` meets its contract. The invariant: the values below s are ruled, and the others are as they were. Assumes nothing.
+-- `short_step::rule_out` meets its contract. The invariant: the values below s are ruled, and the others are as they were.
 use mathlib.Core.Path.{_≡_, refl, sym, _∙_, ap}
 use mathlib.Core.Logic.{⊎-elim}
 use mathlib.Core.Bool.{cond}

@@ -1,4 +1,4 @@
--- `short_step::select` meets its contract. The invariant: the states below k are written, and their decisions are in w. Assumes nothing.
+-- `short_step::select` meets its contract. The invariant: the states below k are written, and their decisions are in w.
 use mathlib.Core.Path.{_≡_, refl}
 use mathlib.Core.Bool.{cond}
 use mathlib.Core.List.{List}
@@ -10,8 +10,8 @@ use borrow.Author.Needs.{needs}
 use Rattle.trellis.specs.Lists.{bit, packed}
 use Rattle.trellis.specs.Step.{Step, takes, cand, wins, next, word}
 use Rattle.trellis.specs.Isdb.{rule}
-use Rattle.acs.specs.PackedLaws.{packed-more}
-use Rattle.viterbi.specs.Calls.{stepOf}
+use Rattle.viterbi_step.specs.PackedLaws.{packed-more}
+use Rattle.viterbi_core.specs.Calls.{stepOf}
 use Rattle.short_code.specs.Codes.{labels}
 use Rattle.trellis.specs.WrittenLaws.{Written, written-none, written-more}
 use Rattle.short_step.proofs.select.Statement.{statement}

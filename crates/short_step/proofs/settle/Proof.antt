@@ -1,4 +1,4 @@
--- `short_step::settle` meets its contract. Assumes nothing.
+-- `short_step::settle` meets its contract.
 use mathlib.Core.Path.{_≡_, refl, sym, _∙_, ap}
 use mathlib.Core.List.{List}
 use lib.Ieee.{Float}

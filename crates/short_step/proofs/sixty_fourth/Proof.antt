@@ -1,4 +1,4 @@
--- `short_step::sixty_fourth` meets its contract. Assumes nothing.
+-- `short_step::sixty_fourth` meets its contract.
 use mathlib.Core.Path.{_≡_, refl, sym, _∙_, ap}
 use Prim.Native.Nat.{_%_}
 use borrow.Author.Tests.{eq-eqb, ne-eqb}

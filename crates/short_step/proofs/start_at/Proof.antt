@@ -1,4 +1,4 @@
--- `short_step::start_at` meets its contract. The invariant: the values below k are those of the start. Assumes nothing.
+-- `short_step::start_at` meets its contract. The invariant: the values below k are those of the start.
 use mathlib.Core.Path.{_≡_, refl, sym, _∙_, ap}
 use mathlib.Core.Bool.{cond}
 use mathlib.Core.List.{List}

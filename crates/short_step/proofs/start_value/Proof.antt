@@ -1,4 +1,4 @@
--- `short_step::start_value` meets its contract, in either arm. Assumes nothing.
+-- `short_step::start_value` meets its contract, in either arm.
 use mathlib.Core.Path.{refl}
 use lib.Ieee.{ofBits, neg}
 use borrow.Author.Tests.{eq-eqb, ne-eqb}

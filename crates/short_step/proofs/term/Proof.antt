@@ -1,4 +1,4 @@
--- `short_step::term` meets its contract, in either arm. Assumes nothing.
+-- `short_step::term` meets its contract, in either arm.
 use mathlib.Core.Path.{refl}
 use borrow.Author.Tests.{eq-eqb, ne-eqb}
 use Rattle.short_step.proofs.term.Statement.{statement}

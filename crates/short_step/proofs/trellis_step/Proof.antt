@@ -1,10 +1,10 @@
--- `short_step::trellis_step` meets its contract. Assumes nothing.
+-- `short_step::trellis_step` meets its contract.
 use mathlib.Core.Path.{_≡_, refl, sym, _∙_, ap}
 use mathlib.Core.List.{List}
 use lib.Ieee.{Float}
 use Rattle.trellis.specs.Run.{settled}
 use Rattle.trellis.specs.Isdb.{rule}
-use Rattle.viterbi.specs.Calls.{stepOf}
+use Rattle.viterbi_core.specs.Calls.{stepOf}
 use Rattle.short_code.specs.Codes.{labels}
 use borrow.Author.Needs.{needs}
 use Rattle.short_step.proofs.trellis_step.Statement.{statement}

@@ -1,4 +1,4 @@
--- `short_viterbi::advance` meets its contract. Assumes nothing.
+-- `short_viterbi::advance` meets its contract.
 use mathlib.Core.Path.{_≡_, refl, sym, _∙_, ap}
 use Prim.Native.Nat.{ℕ, suc, _+_, _-_, _*_, _/_, _%_, _^_, _<_, _≤_}
 use native.Mathlib.Omega.{arith}
@@ -7,9 +7,9 @@ use mathlib.Core.List.{List, [], _∷_, _++_}
 use lib.ListN.{length, take, drop, set, replicate, length-set, length-drop}
 use Rattle.trellis.specs.Step.{best, traced}
 use Rattle.trellis.specs.Isdb.{rule}
-use Rattle.viterbi.specs.Calls.{stepOf}
-use Rattle.viterbi.specs.StepLaws.{kept-step, released-step}
-use Rattle.viterbi.specs.PartLaws.{tail-whole, written-tail}
+use Rattle.viterbi_core.specs.Calls.{stepOf}
+use Rattle.viterbi_core.specs.StepLaws.{kept-step, released-step}
+use Rattle.viterbi_core.specs.PartLaws.{tail-whole, written-tail}
 use Rattle.short_code.specs.Codes.{labels}
 use Rattle.short_viterbi.proofs.advance.Statement.{statement}
 use Rattle.short_viterbi.proofs.advance.Tie as tie

@@ -1,4 +1,4 @@
--- `short_viterbi::finish_at` meets its contract. Assumes nothing.
+-- `short_viterbi::finish_at` meets its contract.
 use mathlib.Core.Path.{_≡_, refl, sym, _∙_, ap}
 use Prim.Native.Nat.{ℕ, suc, _+_, _-_, _*_, _/_, _%_, _<_, _≤_}
 use native.Mathlib.Omega.{arith}
@@ -9,8 +9,8 @@ use lib.Seq.{length-take-le}
 use borrow.Rule.Slice.PartMut.{midOf, putMid}
 use Rattle.trellis.specs.Lists.{laid}
 use Rattle.trellis.specs.Step.{traced}
-use Rattle.viterbi.specs.TracedLaws.{all-traced}
-use Rattle.viterbi.specs.PartLaws.{written-tail}
+use Rattle.viterbi_core.specs.TracedLaws.{all-traced}
+use Rattle.viterbi_core.specs.PartLaws.{written-tail}
 use borrow.Author.Needs.{needs}
 use Rattle.short_viterbi.proofs.finish_at.Statement.{statement}
 use Rattle.short_viterbi.proofs.finish_at.Tie as tie

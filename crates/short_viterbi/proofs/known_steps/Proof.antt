@@ -1,4 +1,4 @@
--- `short_viterbi::known_steps` meets its contract. Assumes nothing.
+-- `short_viterbi::known_steps` meets its contract.
 use mathlib.Core.Path.{_≡_, refl, sym, _∙_, ap}
 use Prim.Native.Nat.{ℕ, suc, _+_, _-_, _*_, _/_, _%_, _^_, _<_, _≤_}
 use native.Mathlib.Omega.{arith}
@@ -6,7 +6,7 @@ use borrow.Author.Needs.{needs}
 use lib.ListN.{length}
 use Rattle.trellis.specs.Run.{after, knownSteps, holding}
 use Rattle.trellis.specs.Isdb.{rule}
-use Rattle.viterbi.specs.Calls.{Holds}
+use Rattle.viterbi_core.specs.Calls.{Holds}
 use Rattle.short_code.specs.Codes.{labels}
 use Rattle.short_viterbi.specs.Soft.{softSteps}
 use Rattle.short_viterbi.proofs.Whole.{inside, begins, lengths, ready, goes-on}

@@ -1,11 +1,11 @@
--- `short_viterbi::release` meets its contract. Assumes nothing.
+-- `short_viterbi::release` meets its contract.
 use mathlib.Core.Path.{_∙_, ap}
 use Prim.Native.Nat.{ℕ, _+_}
 use borrow.Author.Needs.{needs}
 use lib.ListN.{take}
 use Rattle.trellis.specs.Lists.{laid}
 use Rattle.trellis.specs.Step.{traced}
-use Rattle.viterbi.specs.PartLaws.{shifted}
+use Rattle.viterbi_core.specs.PartLaws.{shifted}
 use borrow.Author.Needs.{needs}
 use Rattle.short_viterbi.proofs.release.Statement.{statement}
 use Rattle.short_viterbi.proofs.release.Tie as tie

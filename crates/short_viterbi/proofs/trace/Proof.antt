@@ -1,4 +1,4 @@
--- `short_viterbi::trace` meets its contract. Assumes nothing.
+-- `short_viterbi::trace` meets its contract.
 use Rattle.short_code.specs.RegisterLaws.{two-halves}
 use mathlib.Core.Path.{_≡_, refl}
 use mathlib.Core.Logic.{⊎-elim}

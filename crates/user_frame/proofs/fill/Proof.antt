@@ -1,4 +1,4 @@
--- `fill` ends, and stays inside its arrays. Assumes nothing.
+-- `fill` ends, and stays inside its arrays.
 use borrow.Author.Needs.{needs}
 use Prim.Native.Nat.{_-_, _≤_}
 use Rattle.user_frame.proofs.fill.Statement.{statement}

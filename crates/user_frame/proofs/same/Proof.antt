@@ -1,4 +1,4 @@
--- `same` ends, and stays inside its arrays. Assumes nothing.
+-- `same` ends, and stays inside its arrays.
 use borrow.Author.Needs.{needs}
 use Prim.Native.Nat.{_-_, _≤_}
 use Rattle.user_frame.proofs.same.Statement.{statement}

@@ -1,4 +1,4 @@
--- `agreeing` meets its contract. Assumes nothing.
+-- `agreeing` meets its contract.
 use borrow.Author.Needs.{needs}
 use Prim.Native.Nat.{_-_, _≤_}
 use Rattle.vectors_decode.proofs.agreeing.Statement.{statement}

@@ -1,4 +1,4 @@
--- `receive` meets its contract. Assumes nothing.
+-- `receive` meets its contract.
 use borrow.Author.Needs.{needs}
 use Prim.Native.Nat.{_-_, _≤_}
 use Rattle.vectors_decode.proofs.receive.Statement.{statement}

@@ -1,4 +1,4 @@
--- `show_place` is safe and ends. Assumes nothing.
+-- `show_place` is safe and ends.
 use Prim.Native.Nat.{_-_, _≤_}
 use borrow.Author.Needs.{needs}
 use Rattle.vectors_decode.proofs.show_place.Statement.{statement}

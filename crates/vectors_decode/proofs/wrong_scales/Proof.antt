@@ -1,4 +1,4 @@
--- `wrong_scales` is safe and ends. Assumes nothing.
+-- `wrong_scales` is safe and ends.
 use Prim.Native.Nat.{_-_, _≤_}
 use borrow.Author.Needs.{needs}
 use Rattle.vectors_decode.proofs.wrong_scales.Statement.{statement}

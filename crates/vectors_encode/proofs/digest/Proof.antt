@@ -1,4 +1,4 @@
--- `digest` meets its contract. Assumes nothing.
+-- `digest` meets its contract.
 use Prim.Native.Nat.{_-_, _≤_}
 use borrow.Author.Needs.{needs}
 use Rattle.vectors_encode.proofs.digest.Statement.{statement}

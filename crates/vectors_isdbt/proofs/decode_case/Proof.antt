@@ -1,4 +1,4 @@
--- `decode_case` meets its contract. Assumes nothing.
+-- `decode_case` meets its contract.
 use native.Mathlib.Omega.{arith}
 use lib.ListN.{length-take}
 use borrow.Author.Needs.{needs}

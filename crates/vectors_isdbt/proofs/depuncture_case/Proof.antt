@@ -1,4 +1,4 @@
--- `depuncture_case` meets its contract. Assumes nothing.
+-- `depuncture_case` meets its contract.
 use native.Mathlib.Omega.{arith}
 use lib.ListN.{length-take}
 use borrow.Author.Needs.{needs}

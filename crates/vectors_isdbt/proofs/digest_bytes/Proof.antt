@@ -1,4 +1,4 @@
--- `digest_bytes` is safe and ends. Assumes nothing.
+-- `digest_bytes` is safe and ends.
 use Prim.Native.Nat.{_-_, _≤_}
 use borrow.Author.Needs.{needs}
 use Rattle.vectors_isdbt.proofs.digest_bytes.Statement.{statement}

@@ -1,4 +1,4 @@
--- `encode_case` meets its contract. Assumes nothing.
+-- `encode_case` meets its contract.
 use native.Mathlib.Omega.{arith}
 use lib.ListN.{length-take}
 use borrow.Author.Needs.{needs}

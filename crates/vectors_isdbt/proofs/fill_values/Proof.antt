@@ -1,4 +1,4 @@
--- `fill_values` meets its contract. Assumes nothing.
+-- `fill_values` meets its contract.
 use Prim.Native.Nat.{_-_, _≤_}
 use mathlib.Core.Path.{_≡_}
 use borrow.Author.Needs.{needs}

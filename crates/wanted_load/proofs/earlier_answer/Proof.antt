@@ -1,10 +1,10 @@
--- `earlier_answer` meets its contract. Assumes nothing.
+-- `earlier_answer` meets its contract.
 use mathlib.Core.Path.{sym, _∙_, ap}
 use Prim.Native.Nat.{ℕ}
 use borrow.Author.Needs.{needs}
 use Rattle.refusal.specs.Rows.{firstRow}
 use Rattle.refusal.proofs.Told.{told}
-use Rattle.isdbs_runs.specs.declared.Plan.{Plan}
+use Rattle.isdbs_plan.specs.declared.Plan.{Plan}
 use Rattle.wanted_load.specs.Rows.{lentRows}
 use Rattle.wanted_load.proofs.RowLaws.{by-table, by-lengths}
 use Rattle.wanted_load.proofs.earlier_answer.Statement.{statement}

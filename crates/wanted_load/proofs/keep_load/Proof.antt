@@ -1,7 +1,7 @@
--- `keep_load` meets its contract. Assumes nothing.
+-- `keep_load` meets its contract.
 use mathlib.Core.Path.{refl, subst}
 use borrow.Author.Needs.{needs}
-use Rattle.same_frame.specs.Alike.{Matches}
+use Rattle.wanted_match.specs.Alike.{Matches}
 use Rattle.wanted_load.proofs.keep_load.Statement.{statement}
 use Rattle.wanted_load.proofs.keep_load.Tie as tie
 

@@ -1,4 +1,4 @@
--- `lent_answer` meets its contract. Assumes nothing.
+-- `lent_answer` meets its contract.
 use borrow.Author.Tests.{lt-ltb, le-ltb}
 use lib.Dec.{ltb}
 use Rattle.wanted_load.proofs.RowLaws.{or-second}

@@ -1,9 +1,9 @@
--- `search_arrays` meets its contract. Assumes nothing.
+-- `search_arrays` meets its contract.
 use Prim.Native.Nat.{_≤_}
 use native.Mathlib.Omega.{arith}
 use lib.ListN.{length}
 use borrow.Author.Needs.{needs}
-use Rattle.wanted.specs.Only.{few-bytes}
+use Rattle.wanted_read.specs.Only.{few-bytes}
 use Rattle.wanted_load.proofs.search_arrays.Statement.{statement}
 use Rattle.wanted_load.proofs.search_arrays.Tie as tie
 

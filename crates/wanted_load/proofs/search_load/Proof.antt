@@ -1,9 +1,9 @@
--- `search_load` meets its contract. Assumes nothing.
+-- `search_load` meets its contract.
 use mathlib.Core.Path.{ap}
 use native.Mathlib.Omega.{arith}
 use borrow.Author.Needs.{needs}
-use Rattle.isdbs_runs.specs.declared.Plan.{Plan}
-use Rattle.wanted.specs.Only.{read-off-full}
+use Rattle.isdbs_plan.specs.declared.Plan.{Plan}
+use Rattle.wanted_read.specs.Only.{read-off-full}
 use Rattle.wanted_load.proofs.Search.{searched}
 use Rattle.wanted_load.proofs.Loads.{read-is}
 use Rattle.wanted_load.proofs.search_load.Statement.{statement}

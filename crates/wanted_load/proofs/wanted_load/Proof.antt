@@ -1,4 +1,4 @@
--- `wanted_load` meets its contract. Assumes nothing.
+-- `wanted_load` meets its contract.
 use mathlib.Core.Path.{refl, sym, _∙_, ap}
 use lib.ListN.{length}
 use borrow.Author.Needs.{needs}
@@ -7,9 +7,9 @@ use Rattle.refusal.specs.declared.Answer.the-variants.{NoLoad}
 use Rattle.refusal.specs.Rows.{firstRow, Either}
 use Rattle.refusal.specs.RowLaws.{refused}
 use Rattle.refusal.proofs.Told.{told}
-use Rattle.isdbs_runs.specs.declared.Plan.{Plan}
+use Rattle.isdbs_plan.specs.declared.Plan.{Plan}
 use Rattle.isdbs_tables.specs.declared.Table.{Table}
-use Rattle.isdbs_encode.specs.PlanLaws.{table-is, plan-is, planned}
+use Rattle.isdbs_plan.specs.PlannedLaws.{table-is, plan-is, planned}
 use Rattle.wanted_load.specs.declared.LoadFound.the-variants.{Load, Refused}
 use Rattle.wanted_load.specs.Rows.{earlierRows}
 use Rattle.wanted_load.specs.Found.{Outcome, found, none, Turned}

@@ -1,4 +1,4 @@
--- `differing` is safe and ends. Assumes nothing.
+-- `differing` is safe and ends.
 use Prim.Native.Nat.{_-_, _≤_}
 use borrow.Author.Needs.{needs}
 use Rattle.bench_best.proofs.strength.differing.Statement.{statement}

@@ -1,4 +1,4 @@
--- `run_lines` is safe, ends, and stays within the 48 slots. Assumes nothing.
+-- `run_lines` is safe, ends, and stays within the 48 slots.
 use Prim.Native.Nat.{_-_, _≤_}
 use borrow.Author.Needs.{needs}
 use Rattle.bench_best.proofs.strength.run_lines.Statement.{statement}

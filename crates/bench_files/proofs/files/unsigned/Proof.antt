@@ -1,4 +1,4 @@
--- `files::unsigned` meets its contract: past the test the number is not negative. Assumes nothing.
+-- `files::unsigned` meets its contract: past the test the number is not negative.
 use mathlib.Core.Path.{sym, subst}
 use mathlib.Core.Bool.{Bool, not}
 use lib.Dec.{T}

@@ -1,4 +1,4 @@
--- `decimal` meets its contract. Assumes nothing.
+-- `decimal` meets its contract.
 use lib.Ieee.{ofBits}
 use Rattle.bench_line.specs.NumberLaws.{thousandth}
 use borrow.Author.Needs.{needs}

@@ -1,4 +1,4 @@
--- `entry` meets its contract. Assumes nothing.
+-- `entry` meets its contract.
 use borrow.Author.Tests.{le-leb, lt-leb}
 use borrow.Author.Needs.{needs}
 use Rattle.bench_line.proofs.words.entry.Statement.{statement}

@@ -1,4 +1,4 @@
--- `entry_at` meets its contract. Assumes nothing.
+-- `entry_at` meets its contract.
 use borrow.Author.Tests.{lt-ltb, le-ltb}
 use Rattle.bench_line.specs.Words.{entryAt}
 use borrow.Author.Needs.{needs}

@@ -1,4 +1,4 @@
--- `entry_from` meets its contract. Assumes nothing.
+-- `entry_from` meets its contract.
 use borrow.Author.Needs.{needs}
 use Rattle.bench_line.proofs.words.entry_from.Statement.{statement}
 use Rattle.bench_line.proofs.words.entry_from.Tie as tie

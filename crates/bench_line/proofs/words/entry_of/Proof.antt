@@ -1,4 +1,4 @@
--- `entry_of` meets its contract. Assumes nothing.
+-- `entry_of` meets its contract.
 use borrow.Author.Tests.{eq-eqb, ne-eqb}
 use Rattle.bench_line.specs.Words.{entryOf}
 use borrow.Author.Needs.{needs}

@@ -1,4 +1,4 @@
--- `is_flag` meets its contract. Assumes nothing.
+-- `is_flag` meets its contract.
 use borrow.Author.Tests.{eq-eqb, ne-eqb}
 use Rattle.bench_line.specs.Words.{isFlag}
 use Rattle.bench_line.proofs.words.is_flag.Statement.{statement}

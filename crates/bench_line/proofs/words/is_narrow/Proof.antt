@@ -1,4 +1,4 @@
--- `is_narrow` meets its contract. Assumes nothing.
+-- `is_narrow` meets its contract.
 use Prim.Native.Nat.{_-_, _≤_}
 use native.Mathlib.Omega.{arith}
 use lib.ListN.{length, drop, length-drop}

@@ -1,4 +1,4 @@
--- `mapping` meets its contract. Assumes nothing.
+-- `mapping` meets its contract.
 use mathlib.Core.Path.{_≡_}
 use lib.ListN.{length}
 use borrow.Author.Tests.{eq-eqb, ne-eqb}

@@ -1,4 +1,4 @@
--- `mapping_of` meets its contract. Assumes nothing.
+-- `mapping_of` meets its contract.
 use borrow.Author.Tests.{not-true, not-false}
 use borrow.Author.Needs.{needs}
 use Rattle.bench_line.proofs.words.mapping_of.Statement.{statement}

@@ -1,4 +1,4 @@
--- `scale` meets its contract. Assumes nothing.
+-- `scale` meets its contract.
 use native.Mathlib.Omega.{arith}
 use lib.ListN.{length}
 use Rattle.bench_line.specs.NumberLaws.{most, digits-below}

@@ -1,4 +1,4 @@
--- `table` meets its contract. Assumes nothing.
+-- `table` meets its contract.
 use borrow.Author.Tests.{le-leb, lt-leb}
 use Rattle.bench_line.specs.Words.{tableOf}
 use borrow.Author.Needs.{needs}

@@ -1,4 +1,4 @@
--- `table_from` meets its contract. Assumes nothing.
+-- `table_from` meets its contract.
 use borrow.Author.Needs.{needs}
 use Rattle.bench_line.proofs.words.table_from.Statement.{statement}
 use Rattle.bench_line.proofs.words.table_from.Tie as tie

@@ -1,4 +1,4 @@
--- `thousandths` meets its contract. Assumes nothing.
+-- `thousandths` meets its contract.
 use mathlib.Core.Path.{_≡_, subst}
 use Prim.Native.Nat.{ℕ, _-_, _^_, _<_}
 use native.Mathlib.Omega.{arith}

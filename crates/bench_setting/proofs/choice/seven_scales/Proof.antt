@@ -1,4 +1,4 @@
--- `choice::seven_scales` is safe and ends. Assumes nothing.
+-- `choice::seven_scales` is safe and ends.
 use mathlib.Core.Path.{_≡_, refl}
 use Prim.Native.Nat.{_-_, _≤_}
 use native.Mathlib.Omega.{arith}

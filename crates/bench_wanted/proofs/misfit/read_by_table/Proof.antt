@@ -1,7 +1,7 @@
--- `read_by_table` meets its contract. Assumes nothing.
+-- `read_by_table` meets its contract.
 use mathlib.Core.Path.{sym, _∙_}
 use borrow.Author.Needs.{needs}
-use Rattle.isdbs_encode.specs.PlanLaws.{planned}
+use Rattle.isdbs_plan.specs.PlannedLaws.{planned}
 use Rattle.bench_wanted.proofs.misfit.read_by_table.Statement.{statement}
 use Rattle.bench_wanted.proofs.misfit.read_by_table.Tie as tie
 

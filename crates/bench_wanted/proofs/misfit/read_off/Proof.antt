@@ -1,9 +1,9 @@
--- `read_off` meets its contract. Assumes nothing.
+-- `read_off` meets its contract.
 use Prim.Native.Nat.{_≤_}
 use native.Mathlib.Omega.{arith}
 use lib.ListN.{length}
 use borrow.Author.Needs.{needs}
-use Rattle.wanted.specs.Only.{few-bytes}
+use Rattle.wanted_read.specs.Only.{few-bytes}
 use Rattle.bench_wanted.proofs.misfit.read_off.Statement.{statement}
 use Rattle.bench_wanted.proofs.misfit.read_off.Tie as tie
 

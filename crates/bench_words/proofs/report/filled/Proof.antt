@@ -1,4 +1,4 @@
--- `filled` meets its contract. Assumes nothing.
+-- `filled` meets its contract.
 use native.Mathlib.Nat.{mod-le}
 use borrow.Author.Needs.{needs}
 use Rattle.bench_words.proofs.report.filled.Statement.{statement}

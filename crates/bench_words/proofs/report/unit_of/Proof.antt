@@ -1,4 +1,4 @@
--- `unit_of` meets its contract. Assumes nothing.
+-- `unit_of` meets its contract.
 use Rattle.isdbs_combination.specs.CombinationLaws.{unit-fits}
 use borrow.Author.Needs.{needs}
 use mathlib.Core.Path.{refl}

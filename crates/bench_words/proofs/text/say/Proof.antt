@@ -1,4 +1,4 @@
--- `text::say` is safe and ends. Assumes nothing.
+-- `text::say` is safe and ends.
 use Prim.Native.Nat.{_-_, _≤_}
 use borrow.Author.Needs.{needs}
 use Rattle.bench_words.proofs.text.say.Statement.{statement}

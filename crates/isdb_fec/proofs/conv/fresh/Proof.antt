@@ -1,4 +1,4 @@
--- `conv::fresh` meets its contract. Assumes nothing.
+-- `conv::fresh` meets its contract.
 use mathlib.Core.Path.{refl}
 use native.Mathlib.Omega.{arith}
 use borrow.Author.Needs.{needs}

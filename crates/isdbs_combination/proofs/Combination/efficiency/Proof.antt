@@ -1,4 +1,4 @@
--- `Combination::efficiency` meets its contract: each arm is a line of the definition. Assumes nothing.
+-- `Combination::efficiency` meets its contract: each arm is a line of the definition.
 use borrow.Author.Needs.{needs}
 use Rattle.isdbs_combination.proofs.Combination.efficiency.Statement.{statement}
 use Rattle.isdbs_combination.proofs.Combination.efficiency.Tie as tie

@@ -1,4 +1,4 @@
--- `Combination::from_word` meets its contract. Assumes nothing.
+-- `Combination::from_word` meets its contract.
 use Rattle.isdbs_combination.proofs.Words.{other}
 use Rattle.isdbs_combination.proofs.Combination.from_word.Statement.{statement}
 use Rattle.isdbs_combination.proofs.Combination.from_word.Tie as tie

@@ -1,4 +1,4 @@
--- `Combination::puncturing` meets its contract: each arm is a line of the definition. Assumes nothing.
+-- `Combination::puncturing` meets its contract: each arm is a line of the definition.
 use borrow.Author.Needs.{needs}
 use Rattle.isdbs_combination.proofs.Combination.puncturing.Statement.{statement}
 use Rattle.isdbs_combination.proofs.Combination.puncturing.Tie as tie

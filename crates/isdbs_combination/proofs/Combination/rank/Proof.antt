@@ -1,4 +1,4 @@
--- `Combination::rank` meets its contract: each arm is a line of the definition. Assumes nothing.
+-- `Combination::rank` meets its contract: each arm is a line of the definition.
 use Rattle.isdbs_combination.specs.Combinations.{above}
 use borrow.Author.Needs.{needs}
 use Rattle.isdbs_combination.proofs.Combination.rank.Statement.{statement}

@@ -1,4 +1,4 @@
--- `Combination::rate` meets its contract: each arm is a line of the definition. Assumes nothing.
+-- `Combination::rate` meets its contract: each arm is a line of the definition.
 use borrow.Author.Needs.{needs}
 use Rattle.isdbs_combination.proofs.Combination.rate.Statement.{statement}
 use Rattle.isdbs_combination.proofs.Combination.rate.Tie as tie

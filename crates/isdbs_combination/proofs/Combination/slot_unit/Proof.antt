@@ -1,4 +1,4 @@
--- `Combination::slot_unit` meets its contract: each arm is a line of the definition. Assumes nothing.
+-- `Combination::slot_unit` meets its contract: each arm is a line of the definition.
 use borrow.Author.Needs.{needs}
 use Rattle.isdbs_combination.proofs.Combination.slot_unit.Statement.{statement}
 use Rattle.isdbs_combination.proofs.Combination.slot_unit.Tie as tie

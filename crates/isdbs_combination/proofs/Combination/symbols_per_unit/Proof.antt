@@ -1,4 +1,4 @@
--- `Combination::symbols_per_unit` meets its contract: a unit has at most 8 slots, so the product is a usize. Assumes nothing.
+-- `Combination::symbols_per_unit` meets its contract: a unit has at most 8 slots, so the product is a usize.
 use borrow.Author.Needs.{needs}
 use native.Mathlib.Omega.{arith}
 use Rattle.isdbs_combination.specs.CombinationLaws.{unit-fits}

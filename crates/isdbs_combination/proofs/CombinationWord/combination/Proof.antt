@@ -1,4 +1,4 @@
--- `CombinationWord::combination` meets its contract: each arm is a line of the definition. Assumes nothing.
+-- `CombinationWord::combination` meets its contract: each arm is a line of the definition.
 use borrow.Author.Needs.{needs}
 use Rattle.isdbs_combination.proofs.CombinationWord.combination.Statement.{statement}
 use Rattle.isdbs_combination.proofs.CombinationWord.combination.Tie as tie

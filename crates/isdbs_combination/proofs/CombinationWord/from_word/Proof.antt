@@ -1,4 +1,4 @@
--- `CombinationWord::from_word` meets its contract. Assumes nothing.
+-- `CombinationWord::from_word` meets its contract.
 use Prim.Native.Nat.{_%_}
 use Rattle.isdbs_combination.proofs.Words.{reserved}
 use Rattle.isdbs_combination.proofs.CombinationWord.from_word.Statement.{statement}

@@ -1,4 +1,4 @@
--- `Puncture::pairs` meets its contract: each arm is a line of the definition. Assumes nothing.
+-- `Puncture::pairs` meets its contract: each arm is a line of the definition.
 use borrow.Author.Needs.{needs}
 use Rattle.isdbs_combination.proofs.Puncture.pairs.Statement.{statement}
 use Rattle.isdbs_combination.proofs.Puncture.pairs.Tie as tie

@@ -1,4 +1,4 @@
--- `bit_symbol` meets its contract. Assumes nothing.
+-- `bit_symbol` meets its contract.
 use borrow.Author.Needs.{needs}
 use borrow.Author.Tests.{lt-ltb, le-ltb}
 use Rattle.isdbs_core.proofs.slots.bit_symbol.Statement.{statement}

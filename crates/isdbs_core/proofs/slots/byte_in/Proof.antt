@@ -1,8 +1,8 @@
--- `byte_in` meets its contract: the runs passed do not have the slot. Assumes nothing.
+-- `byte_in` meets its contract: the runs passed do not have the slot.
 use Prim.Native.Nat.{_-_, _≤_}
 use Rattle.isdbs_core.proofs.Bytes.{has-in}
-use Rattle.isdbs_runs.specs.RunLaws.{Whole, each-at}
-use Rattle.isdbs_runs.specs.RunsOf.{noRun, RunFits}
+use Rattle.isdbs_plan.specs.RunLaws.{Whole, each-at}
+use Rattle.isdbs_plan.specs.RunsOf.{noRun, RunFits}
 use Rattle.isdbs_core.specs.SymbolLaws.{byte-more, byte-end}
 use Rattle.isdbs_core.specs.Symbols.{byteIn}
 use borrow.Author.Needs.{needs}

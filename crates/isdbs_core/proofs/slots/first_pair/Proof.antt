@@ -1,4 +1,4 @@
--- `first_pair` meets its contract: the pairs passed do not hold the input. Assumes nothing.
+-- `first_pair` meets its contract: the pairs passed do not hold the input.
 use Prim.Native.Nat.{_-_, _≤_}
 use Rattle.isdbs_core.proofs.Pairs.{front, Passed, pair-next, pair-found, pair-none}
 use Rattle.isdbs_combination.specs.CombinationLaws.{period-fits}

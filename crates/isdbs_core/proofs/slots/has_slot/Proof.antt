@@ -1,4 +1,4 @@
--- `has_slot` meets its contract. Assumes nothing.
+-- `has_slot` meets its contract.
 use borrow.Author.Tests.{le-leb, lt-leb}
 use Rattle.isdbs_core.proofs.slots.has_slot.Statement.{statement}
 use Rattle.isdbs_core.proofs.slots.has_slot.Tie as tie

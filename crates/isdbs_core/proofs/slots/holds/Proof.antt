@@ -1,4 +1,4 @@
--- `holds` meets its contract. Assumes nothing.
+-- `holds` meets its contract.
 use borrow.Author.Tests.{eq-eqb, ne-eqb}
 use Rattle.isdbs_core.proofs.slots.holds.Statement.{statement}
 use Rattle.isdbs_core.proofs.slots.holds.Tie as tie

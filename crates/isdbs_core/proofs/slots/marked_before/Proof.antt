@@ -1,4 +1,4 @@
--- `marked_before` meets its contract. Assumes nothing.
+-- `marked_before` meets its contract.
 use Prim.Native.Nat.{_-_, _≤_}
 use Rattle.isdbs_core.specs.SymbolLaws.{marked-more}
 use Rattle.isdbs_core.specs.Symbols.{markedBefore}

@@ -1,4 +1,4 @@
--- `run_byte` meets its contract. Assumes nothing.
+-- `run_byte` meets its contract.
 use Prim.Native.Nat.{ℕ, _+_, _*_}
 use Rattle.isdbs_core.specs.SymbolLaws.{marked-most, byte-inside}
 use Rattle.isdbs_core.specs.Symbols.{symbolOfBit}

@@ -1,10 +1,10 @@
--- `slot_byte_symbol` meets its contract. Assumes nothing.
+-- `slot_byte_symbol` meets its contract.
 use Rattle.refusal.specs.Rows.{accepted}
 use Rattle.refusal.specs.RowLaws.{is-refused}
 use Rattle.refusal.proofs.Told.{told}
 use borrow.Author.Needs.{needs}
-use Rattle.isdbs_runs.specs.PlanLaws.{runs-answer, runs-are, runs-in, runs-units}
-use Rattle.isdbs_runs.specs.RunsOf.{runsOf}
+use Rattle.isdbs_plan.specs.PlanLaws.{runs-answer, runs-are, runs-in, runs-units}
+use Rattle.isdbs_plan.specs.RunsOf.{runsOf}
 use Rattle.isdbs_core.specs.SymbolLaws.{byte-padded, byte-said}
 use Rattle.isdbs_core.specs.Symbols.{byteIn, slotByteSymbol, slotByteSaid}
 use Rattle.isdbs_core.specs.Answers.{byteSaid}
@@ -12,7 +12,7 @@ use Rattle.isdbs_core.specs.declared.slots.SlotByte.{SlotByte}
 use Rattle.isdbs_tables.specs.declared.Table.{Table}
 use Prim.Native.Nat.{ℕ}
 use Rattle.isdbs_tables.specs.Tables.{tableAnswer}
-use Rattle.isdbs_runs.specs.declared.Run.{Run}
+use Rattle.isdbs_plan.specs.declared.Run.{Run}
 use mathlib.Core.List.{List}
 use borrow.Author.Tests.{le-ltb}
 use Rattle.isdbs_core.proofs.Bytes.{byte-none}

@@ -1,4 +1,4 @@
--- `symbol_of_bit` meets its contract. Assumes nothing.
+-- `symbol_of_bit` meets its contract.
 use Prim.Native.Nat.{_%_}
 use Rattle.isdbs_combination.specs.CombinationLaws.{period-fits, efficiency-fits}
 use Rattle.isdbs_combination.specs.Combinations.{pairsOf, periodOf}

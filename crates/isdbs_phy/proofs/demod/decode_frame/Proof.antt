@@ -1,12 +1,12 @@
--- `demod::decode_frame` meets its contract. Assumes nothing.
+-- `demod::decode_frame` meets its contract.
 use Rattle.refusal.proofs.Told.{told}
 use Rattle.isdbs_phy.proofs.Rows.{passed, refused-answer}
 use Rattle.isdbs_phy.specs.DecodeRows.{someBad, decodeRows, frameAnswer}
 use Rattle.isdbs_tables.specs.declared.Table.{Table}
-use Rattle.isdbs_encode.specs.PlanLaws.{table-is, plan-is, planned}
+use Rattle.isdbs_plan.specs.PlannedLaws.{table-is, plan-is, planned}
 use Rattle.refusal.specs.Rows.{firstRow}
-use Rattle.frame_read.specs.Scales.{receivedBy}
-use Rattle.strain.specs.Strain.{strainSum}
+use Rattle.isdbs_metrics.specs.Scales.{receivedBy}
+use Rattle.strain_marks.specs.Strain.{strainSum}
 use Rattle.isdb_fec.specs.AnswerLaws.{refused}
 use Rattle.refusal.specs.declared.Answer.{Answer}
 use borrow.Author.Tests.{lt-ltb, le-ltb, ltb-false}

@@ -1,15 +1,15 @@
--- `demod::decode_frame_one_scale` meets its contract: that of `decode_frame` at seven equal scales. Assumes nothing.
+-- `demod::decode_frame_one_scale` meets its contract: that of `decode_frame` at seven equal scales.
 use mathlib.Core.Path.{_≡_, sym, _∙_, ap, subst}
 use denote.Ref.{now}
 use lib.ListN.{length, replicate}
 use Rattle.refusal.specs.declared.Answer.{Answer}
 use Rattle.refusal.specs.Rows.{firstRow}
 use Rattle.isdbs_metrics.specs.Reading.{Received}
-use Rattle.strain.specs.Strain.{strainSum}
+use Rattle.strain_marks.specs.Strain.{strainSum}
 use Rattle.isdbs_phy.specs.DecodeRows.{decodeRows, oneScaleRows, frameAnswer, FrameLeft}
-use Rattle.frame_rows.specs.ScaleLaws.{equal-rows}
-use Rattle.frame_read.specs.ScaleLaws.{equal-scales}
-use Rattle.frame_read.specs.Scales.{receivedBy}
+use Rattle.isdbs_rows.specs.ScaleLaws.{equal-rows}
+use Rattle.isdbs_metrics.specs.ScaleLaws.{equal-scales}
+use Rattle.isdbs_metrics.specs.Scales.{receivedBy}
 use borrow.Author.Needs.{needs}
 use Rattle.isdbs_phy.proofs.demod.decode_frame_one_scale.Statement.{statement}
 use Rattle.isdbs_phy.proofs.demod.decode_frame_one_scale.Tie as tie

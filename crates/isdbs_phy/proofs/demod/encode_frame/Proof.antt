@@ -1,4 +1,4 @@
--- `demod::encode_frame` meets its contract. Assumes nothing.
+-- `demod::encode_frame` meets its contract.
 use mathlib.Core.Path.{_≡_, refl, sym, _∙_, ap}
 use Prim.Native.Nat.{ℕ, _+_, _*_, _-_, _<_, _≤_}
 use native.Mathlib.Omega.{arith}

@@ -1,4 +1,4 @@
--- `demod::encode_frame_with_state` meets its contract. Assumes nothing.
+-- `demod::encode_frame_with_state` meets its contract.
 use Rattle.isdbs_frame.specs.Frame.{mainSymbols}
 use mathlib.Core.Path.{refl}
 use native.Mathlib.Omega.{arith}
@@ -6,7 +6,7 @@ use borrow.Author.Tests.{ltb-false}
 use lib.ListN.{length}
 use Rattle.isdb_fec.specs.AnswerLaws.{refused}
 use Rattle.refusal.proofs.Told.{told}
-use Rattle.isdbs_encode.specs.PlanLaws.{table-is, planned}
+use Rattle.isdbs_plan.specs.PlannedLaws.{table-is, planned}
 use Rattle.isdbs_phy.proofs.EncodeAnswers.{rows-pass}
 use borrow.Author.Needs.{needs}
 use Rattle.isdbs_phy.proofs.demod.encode_frame_with_state.Statement.{statement}

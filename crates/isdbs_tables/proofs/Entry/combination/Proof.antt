@@ -1,4 +1,4 @@
--- `Entry::combination` meets its contract. Assumes nothing.
+-- `Entry::combination` meets its contract.
 use Rattle.isdbs_combination.specs.CombinationLaws.{assigned}
 use Rattle.isdbs_combination.specs.Combinations.{assignedOf}
 use borrow.Author.Needs.{needs}

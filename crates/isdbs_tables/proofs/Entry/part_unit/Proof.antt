@@ -1,4 +1,4 @@
--- `part_unit` meets its contract. Assumes nothing.
+-- `part_unit` meets its contract.
 use Rattle.isdbs_combination.specs.CombinationLaws.{unit-fits}
 use borrow.Author.Needs.{needs}
 use Rattle.isdbs_tables.proofs.Entry.part_unit.Statement.{statement}

@@ -1,4 +1,4 @@
--- `reserved_word` meets its contract. Assumes nothing.
+-- `reserved_word` meets its contract.
 use borrow.Author.Needs.{needs}
 use Rattle.isdbs_tables.proofs.Entry.reserved_word.Statement.{statement}
 use Rattle.isdbs_tables.proofs.Entry.reserved_word.Tie as tie

@@ -1,4 +1,4 @@
--- `conv::decode_punctured` meets its contract. Assumes nothing.
+-- `conv::decode_punctured` meets its contract.
 use mathlib.Core.Path.{refl, sym, _∙_}
 use borrow.Author.Needs.{needs}
 use lib.ListN.{length}

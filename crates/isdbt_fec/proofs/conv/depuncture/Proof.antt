@@ -1,4 +1,4 @@
--- `conv::depuncture` meets its contract. Assumes nothing.
+-- `conv::depuncture` meets its contract.
 use mathlib.Core.Path.{refl, sym, _∙_}
 use borrow.Author.Needs.{needs}
 use lib.ListN.{length}

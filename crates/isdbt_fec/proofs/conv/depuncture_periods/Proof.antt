@@ -1,4 +1,4 @@
--- `conv::depuncture_periods` meets its contract. Assumes nothing.
+-- `conv::depuncture_periods` meets its contract.
 use lib.Ieee.{Float}
 use mathlib.Core.Path.{_≡_, _∙_, ap}
 use mathlib.Core.List.{List}

@@ -1,4 +1,4 @@
--- `conv::encode_period` meets its contract. Assumes nothing.
+-- `conv::encode_period` meets its contract.
 use native.Mathlib.Nat.{not-suc-le-zero}
 use mathlib.Core.Path.{_≡_, refl, sym, _∙_}
 use Prim.Native.Nat.{ℕ, _+_, _-_, _*_, _<_, _≤_}

@@ -1,4 +1,4 @@
--- `conv::encode_periods` meets its contract. Assumes nothing.
+-- `conv::encode_periods` meets its contract.
 use mathlib.Core.Path.{_≡_}
 use Prim.Native.Nat.{_-_, _*_, _/_, _≤_}
 use native.Mathlib.Omega.{arith}

@@ -1,4 +1,4 @@
--- `conv::encode_punctured` meets its contract. Assumes nothing.
+-- `conv::encode_punctured` meets its contract.
 use mathlib.Core.Path.{refl, sym, _∙_}
 use native.Mathlib.Omega.{arith}
 use borrow.Author.Needs.{needs}

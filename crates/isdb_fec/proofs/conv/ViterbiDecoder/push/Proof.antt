@@ -1,4 +1,4 @@
--- `conv::ViterbiDecoder::push` meets its contract: `run_steps` takes all its steps. Assumes nothing.
+-- `conv::ViterbiDecoder::push` meets its contract: `run_steps` takes all its steps.
 use mathlib.Core.Path.{_≡_, sym, _∙_}
 use Prim.Native.Nat.{ℕ, _+_, _*_, _/_, _<_, _≤_}
 use native.Mathlib.Omega.{arith}

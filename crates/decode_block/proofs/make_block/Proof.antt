@@ -1,0 +1,182 @@
+-- `make_block` meets its contract.
+use borrow.Author.Needs.{needs}
+use mathlib.Core.Path.{sym, _∙_}
+use native.Mathlib.Omega.{arith}
+use lib.ListN.{length}
+use Rattle.decode_block.proofs.Laws.{laid-long}
+use Rattle.decode_block.proofs.ByModulation.{steps-few, bpsk-room, bpsk-made, qpsk-made, tc8psk-room, tc8psk-few, tc8psk-made, pair-marks, marks-made}
+use Rattle.decode_block.proofs.make_block.Statement.{statement}
+use Rattle.decode_block.proofs.make_block.Tie as tie
+
+enum-told : tie.Need-enum-told
+enum-told c = search needs
+
+bpsk-softs-requires : tie.Need-bpsk-softs-requires
+bpsk-softs-requires c κs =
+    let st = c .before .before .before .before .before .before .before .before .before .before in
+    let co = st .args .layout .combination in
+    let e = sym (st .pre .0 .modulation) ∙ c .before .enum-told .given .1 in
+    let few = steps-few co (st .args .n) (st .pre .3) in
+    (bpsk-room co (st .args .k0) (st .args .n) _ e (st .pre .5), omega arith)
+
+lay-pairs-requires : tie.Need-lay-pairs-requires
+lay-pairs-requires c κs =
+    let st = c .before .before .before .before .before .before .before .before .before .before .before .before .before .before .before .before in
+    let few = steps-few (st .args .layout .combination) (st .args .n) (st .pre .3) in
+    let long = st .pre .9 in
+    let same = laid-long _ _ _ (st .args .pairs .now) (c .before .before .before .before .before .bpsk-softs .ensures) (omega arith) in
+    (omega arith, omega arith, omega arith)
+
+enum-told-2 : tie.Need-enum-told-2
+enum-told-2 c = search needs
+
+qpsk-softs-requires : tie.Need-qpsk-softs-requires
+qpsk-softs-requires c κs =
+    let st = c .before .before .before .before .before .before .before .before .before .before .before .before in
+    let e = sym (st .pre .0 .modulation) ∙ c .before .before .before .enum-told2 .given .1 in
+    (st .pre .0, e, st .pre .1, st .pre .2, st .pre .3, st .pre .4, st .pre .5, st .pre .6, st .pre .7, st .pre .8, st .pre .9)
+
+lay-pairs-requires-2 : tie.Need-lay-pairs-requires-2
+lay-pairs-requires-2 c κs =
+    let st = c .before .before .before .before .before .before .before .before .before .before .before .before .before .before .before .before .before .before .before .before .before .before in
+    let few = steps-few (st .args .layout .combination) (st .args .n) (st .pre .3) in
+    let long = st .pre .9 in
+    let same = laid-long _ _ _ (st .args .pairs .now) (c .before .before .before .before .before .before .before .before .before .qpsk-softs .ensures) (omega arith) in
+    (omega arith, omega arith, omega arith)
+
+enum-told-3 : tie.Need-enum-told-3
+enum-told-3 c = search needs
+
+subset-parts-requires : tie.Need-subset-parts-requires
+subset-parts-requires c κs =
+    let st = c .before .before .before .before .before .before .before .before .before .before in
+    let co = st .args .layout .combination in
+    let e = sym (st .pre .0 .modulation) ∙ c .before .enum-told3 .given .1 in
+    let few = tc8psk-few co (st .args .n) e (st .pre .3) in
+    let long = st .pre .7 in
+    (tc8psk-room co (st .args .k0) (st .args .n) _ e (st .pre .5), tc8psk-room co (st .args .k0) (st .args .n) _ e (st .pre .6), omega arith)
+
+mul-magnitude-block : tie.Need-mul-magnitude-block
+mul-magnitude-block c = search needs
+
+magnitude-block-requires : tie.Need-magnitude-block-requires
+magnitude-block-requires c κs =
+    let st = c .before .before .before .before .before .before .before .before .before .before .before .before .before .before .before in
+    let co = st .args .layout .combination in
+    let e = sym (st .pre .0 .modulation) ∙ c .before .before .before .before .before .before .enum-told3 .given .1 in
+    let few = tc8psk-few co (st .args .n) e (st .pre .3) in
+    let long = st .pre .7 in
+    let same = laid-long _ _ _ (st .args .parts .now) (c .before .before .before .before .subset-parts .ensures) (omega arith) in
+    (omega arith, omega arith)
+
+mark-block-requires : tie.Need-mark-block-requires
+mark-block-requires c κs =
+    let st = c .before .before .before .before .before .before .before .before .before .before .before .before .before .before .before .before .before .before .before .before in
+    let few = steps-few (st .args .layout .combination) (st .args .n) (st .pre .3) in
+    let long = st .pre .10 in
+    let same = laid-long _ _ _ (st .args .block .now) (c .before .before .before .before .magnitude-block .ensures) (omega arith) in
+    (omega arith, omega arith)
+
+same-length : tie.Need-same-length
+same-length c = search needs
+
+same-length-2 : tie.Need-same-length-2
+same-length-2 c = search needs
+
+same-length-3 : tie.Need-same-length-3
+same-length-3 c = search needs
+
+returns : tie.Need-returns
+returns c =
+    let st = c .before .before .before .before .before .before .before .before .before .before .before .before .before .before .before .before .before .before .before .before .before in
+    let a = st .args in
+    let co = a .layout .combination in
+    let e = sym (st .pre .0 .modulation) ∙ c .before .before .before .before .before .before .before .before .before .before .before .before .enum-told .given .1 in
+    let few = steps-few co (a .n) (st .pre .3) in
+    let long = st .pre .10 in
+    let laying = c .before .before .before .before .lay-pairs .ensures in
+    let pairs = c .before .before .before .before .before .before .before .before .before .before .bpsk-softs .last .1 .1 .1 .1 .0 in
+    let same = laid-long _ _ _ (a .block .now) (laying .0) (omega arith) in
+    let made = bpsk-made co (a .re .now) (a .im .now) (a .m) (a .scale) (a .k0) (a .n) _ (a .pairs .now) _ (a .block .now) e (omega arith) (c .before .before .before .before .before .before .before .before .before .before .bpsk-softs .ensures) (laying .0) in
+    (made, laying .1 ∙ pair-marks pairs _ (a .n) (a .block .now) (a .marks .now) (laying .0) ∙ marks-made co (a .re .now) (a .im .now) (a .m) (a .scale) (a .k0) (a .n) _ (a .marks .now) made)
+
+same-length-4 : tie.Need-same-length-4
+same-length-4 c = search needs
+
+same-length-5 : tie.Need-same-length-5
+same-length-5 c = search needs
+
+same-length-6 : tie.Need-same-length-6
+same-length-6 c = search needs
+
+same-length-7 : tie.Need-same-length-7
+same-length-7 c = search needs
+
+same-length-8 : tie.Need-same-length-8
+same-length-8 c = search needs
+
+returns-2 : tie.Need-returns-2
+returns-2 c =
+    let st = c .before .before .before .before .before .before .before .before .before .before .before .before .before .before .before .before .before .before .before .before .before .before .before .before .before .before .before in
+    let a = st .args in
+    let co = a .layout .combination in
+    let e = sym (st .pre .0 .modulation) ∙ c .before .before .before .before .before .before .before .before .before .before .before .before .before .before .before .before .before .before .enum-told2 .given .1 in
+    let few = steps-few co (a .n) (st .pre .3) in
+    let long = st .pre .10 in
+    let laying = c .before .before .before .before .lay-pairs2 .ensures in
+    let pairs = c .before .before .before .before .before .before .before .before .before .before .before .before .before .before .qpsk-softs .last .1 .1 .1 .1 .1 .1 .1 .1 .1 .0 in
+    let same = laid-long _ _ _ (a .block .now) (laying .0) (omega arith) in
+    let made = qpsk-made co (a .re .now) (a .im .now) (a .m) (a .scale) (a .k0) (a .n) _ (a .pairs .now) _ (a .block .now) e (omega arith) (c .before .before .before .before .before .before .before .before .before .before .before .before .before .before .qpsk-softs .ensures) (laying .0) in
+    (made, laying .1 ∙ pair-marks pairs _ (a .n) (a .block .now) (a .marks .now) (laying .0) ∙ marks-made co (a .re .now) (a .im .now) (a .m) (a .scale) (a .k0) (a .n) _ (a .marks .now) made)
+
+same-length-9 : tie.Need-same-length-9
+same-length-9 c = search needs
+
+same-length-10 : tie.Need-same-length-10
+same-length-10 c = search needs
+
+same-length-11 : tie.Need-same-length-11
+same-length-11 c = search needs
+
+returns-3 : tie.Need-returns-3
+returns-3 c =
+    let st = c .before .before .before .before .before .before .before .before .before .before .before .before .before .before .before .before .before .before .before .before .before .before .before in
+    let a = st .args in
+    let co = a .layout .combination in
+    let e = sym (st .pre .0 .modulation) ∙ c .before .before .before .before .before .before .before .before .before .before .before .before .before .before .enum-told3 .given .1 in
+    let few = tc8psk-few co (a .n) e (st .pre .3) in
+    let long = st .pre .10 in
+    let magnitudes = c .before .before .before .before .before .before .before .magnitude-block .ensures in
+    let same = laid-long _ _ _ (a .block .now) magnitudes (omega arith) in
+    let made = tc8psk-made co (a .re .now) (a .im .now) (a .m) (a .scale) (a .k0) (a .n) _ (a .parts .now) _ (a .block .now) e (omega arith) (c .before .before .before .before .before .before .before .before .before .before .before .before .subset-parts .ensures) magnitudes in
+    (made, c .before .before .mark-block .ensures ∙ marks-made co (a .re .now) (a .im .now) (a .m) (a .scale) (a .k0) (a .n) _ (a .marks .now) made)
+
+pub make-block-spec : {M : Type 1} → statement M
+make-block-spec =
+    tie.close
+    (tie.spec
+    enum-told
+    bpsk-softs-requires
+    lay-pairs-requires
+    enum-told-2
+    qpsk-softs-requires
+    lay-pairs-requires-2
+    enum-told-3
+    subset-parts-requires
+    mul-magnitude-block
+    magnitude-block-requires
+    mark-block-requires
+    same-length
+    same-length-2
+    same-length-3
+    returns
+    same-length-4
+    same-length-5
+    same-length-6
+    same-length-7
+    same-length-8
+    returns-2
+    same-length-9
+    same-length-10
+    same-length-11
+    returns-3)

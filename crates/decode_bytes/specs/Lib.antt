@@ -1,0 +1,5 @@
+pub mod Bytes
+pub mod Registers
+pub mod FrameByteLaws
+pub mod PackingLaws
+pub mod PartLaws

@@ -1,0 +1,3 @@
+pub mod DecodedLaws
+pub mod Runs
+pub mod Final

@@ -1,0 +1,228 @@
+-- `read_blocks` meets its contract.
+use borrow.Author.Needs.{needs}
+use mathlib.Core.Path.{_≡_, refl, _∙_, ap}
+use mathlib.Core.List.{List, _++_}
+use Prim.Native.Nat.{ℕ, _+_, _-_, _<_, _≤_}
+use native.Mathlib.Omega.{arith}
+use lib.Dec.{lit≤}
+use lib.ListN.{length, take, drop, length-take, length-drop}
+use Rattle.trellis.specs.Lists.{upto, laid}
+use Rattle.viterbi_core.specs.CountLaws.{releases-le}
+use Rattle.trellis.specs.LaidLaws.{laid-part, length-laid-upto}
+use Rattle.decode_bytes.specs.FrameByteLaws.{written-tail}
+use Rattle.decode_block.specs.Blocks.{runSteps, runMark, Periods}
+use Rattle.decode_block.specs.PeriodLaws.{short, more-periods}
+use Rattle.decode_run.specs.Carried.{Carried}
+use Rattle.decode_run.specs.BlockLaws.{block-periods, no-periods, read-start, read-block}
+use Rattle.decode_run.proofs.read_blocks.Statement.{statement}
+use Rattle.decode_run.proofs.read_blocks.Tie as tie
+
+abbrev Inv-loop : tie.InvT-loop
+Inv-loop pm₀ i0 n layout m scale re im parts₀ softs₀ pairs₀ block₀ decisions₀ bits₀ marks₀ now-at₀ k₀ none pm parts softs pairs block decisions bits marks now-at k =
+    (k ≤ n)
+    × Periods (layout .combination) k
+    × (length decisions ≡ length decisions₀)
+    × (length bits ≡ length bits₀)
+    × Carried (runSteps (layout .combination) re im m scale) i0 k pm₀ now-at₀ decisions₀ bits₀ now-at pm decisions bits
+    × (length marks ≡ length marks₀)
+    × (marks ≡ laid (upto (runMark (layout .combination) re im m scale) k) marks₀)
+    × (length parts ≡ length parts₀)
+    × (length softs ≡ length softs₀)
+    × (length pairs ≡ length pairs₀)
+    × (length block ≡ length block₀)
+
+abbrev μ-loop : tie.MeasureT-loop
+μ-loop pm₀ i0 n layout m scale re im parts₀ softs₀ pairs₀ block₀ decisions₀ bits₀ marks₀ now-at₀ k₀ none pm parts softs pairs block decisions bits marks now-at k = n - k
+
+loop-holds : tie.Need-loop-holds Inv-loop μ-loop
+unfolding upto
+loop-holds c =
+    let st = c .before .before .before .before .before .before .before .before .before in
+    (search needs, no-periods (st .args .layout .combination), refl, refl, read-start _ _ _ _ _ _ (st .pre .2), refl, refl, refl, refl, refl, refl)
+
+sub-block-of : tie.Need-sub-block-of Inv-loop μ-loop
+sub-block-of c = search needs
+
+block-of-requires : tie.Need-block-of-requires Inv-loop μ-loop
+block-of-requires c κs =
+    let st = c .before .before .before .before .before .before .before .before .before .before .before in
+    let s = short (st .args .layout .combination) in
+    rw (st .pre .0 .period) (s .2, s .1)
+
+sub-make-block : tie.Need-sub-make-block Inv-loop μ-loop
+sub-make-block c = search needs
+
+part-make-block-start : tie.Need-part-make-block-start Inv-loop μ-loop
+part-make-block-start c = search needs
+
+part-make-block-end : tie.Need-part-make-block-end Inv-loop μ-loop
+part-make-block-end c = search needs
+
+make-block-requires : tie.Need-make-block-requires Inv-loop μ-loop
+make-block-requires c κs =
+    let st = c .before .before .before .before .before .before .before .before .before .before .before .before .before .before .before .before .before in
+    let at = c .before .before .before .before .before .before .before .loop in
+    let inside = c .before .before .before .before .before .before .loop-test .taken in
+    let bo = c .before .before .before .before .before .block-of in
+    let le = bo .ensures .0 in
+    let co = st .args .layout .combination in
+    let ep = st .pre .0 .period in
+    let fits = st .pre .6 in
+    let room = st .pre .5 in
+    let h = at .inv in
+    let lm = h .5 in
+    let lp = h .7 in
+    let ls = h .8 in
+    let lq = h .9 in
+    let lb = h .10 in (
+      st .pre .0,
+      h .1,
+      block-periods co (st .args .n) (at .k) (bo .result) (st .pre .1) (h .1) (h .0) (rw ep at (bo .ensures .3)),
+      rw ep at (bo .ensures .1),
+      omega arith,
+      λ j g. st .pre .7 j (omega arith),
+      λ j g. st .pre .8 j (omega arith),
+      omega arith,
+      omega arith,
+      omega arith,
+      omega arith,
+      simp (length-take, length-drop) (omega arith),
+    )
+
+add-run-steps : tie.Need-add-run-steps Inv-loop μ-loop
+add-run-steps c = search needs
+
+slice-aggregate-run-steps : tie.Need-slice-aggregate-run-steps Inv-loop μ-loop
+slice-aggregate-run-steps c = search needs
+
+run-steps-requires : tie.Need-run-steps-requires Inv-loop μ-loop
+run-steps-requires c κs =
+    let made = c .before .before .before .before .before .before .before .before .before .before .before .before .before .before .before in
+    let blocked = made .before .before .before .before .before .before in
+    let looped = blocked .before .before in
+    let st = looped .before .before .before .before .before .before .before .before .before .before in
+    let at = looped .loop in
+    let inside = blocked .before .loop-test .taken in
+    let bo = blocked .block-of in
+    let le = bo .ensures .0 in
+    let z = at .inv .4 in
+    let held = z .few in
+    let sum = z .sum in
+    let most = releases-le 128 (at .now-at .held) (bo .result) (lit≤ tt) in
+    let words = at .inv .2 in
+    let places = at .inv .3 in
+    let enough = st .pre .3 in
+    let room = st .pre .4 in
+    let fits = st .pre .6 in
+    let long = made .make-block .ensures .0 .long in
+    (lit≤ tt, lit≤ tt, held, omega arith, omega arith, omega arith, omega arith)
+
+add-k : tie.Need-add-k Inv-loop μ-loop
+add-k c =
+    let blocked = c .before .before .before .before .before .before .before .before .before .before .before .before .before .before .before .before .before .before .before .before .before .before .before .before .before .before in
+    let inside = blocked .before .loop-test .taken in
+    let le = blocked .block-of .ensures .0 in
+    let fits = blocked .before .before .before .before .before .before .before .before .before .before .before .before .pre .6 in
+    omega arith
+
+loop-less : tie.Need-loop-less Inv-loop μ-loop
+loop-less c =
+    let blocked = c .before .before .before .before .before .before .before .before .before .before .before .before .before .before .before .before .before .before .before .before .before .before .before .before .before .before in
+    let bo = blocked .block-of in
+    let le = bo .ensures .0 in
+    let inside = blocked .before .loop-test .taken in
+    let some : 0 < bo .result = bo .ensures .2 (omega arith) in
+    omega arith
+
+loop-again : tie.Need-loop-again Inv-loop μ-loop
+loop-again c =
+    let ran = c .before .before .before .before in
+    let made = ran .before .before .before .before .before .before .before .before .before .before .before .before .before .before .before .before in
+    let blocked = made .before .before .before .before .before .before in
+    let looped = blocked .before .before in
+    let st = looped .before .before .before .before .before .before .before .before .before .before in
+    let at = looped .loop in
+    let inside = blocked .before .loop-test .taken in
+    let bo = blocked .block-of in
+    let le = bo .ensures .0 in
+    let called = made .make-block in
+    let mb = called .ensures in
+    let rf = ran .run-steps .ensures in
+    let k = at .k in
+    let h = at .inv in
+    let lm = h .5 in
+    let room = st .pre .5 in
+    let co = st .args .layout .combination in
+    let g = runMark co (st .args .re .now) (st .args .im .now) (st .args .m) (st .args .scale) in
+    let ys = runSteps co (st .args .re .now) (st .args .im .now) (st .args .m) (st .args .scale) in
+    let f = upto (λ i. g (k + i)) (bo .result) in
+    let marked = written-tail k (at .marks) _ f (omega arith) (mb .1)
+    ∙ ap (λ (l : List ℕ). take k l ++ laid f (drop k l)) (h .6)
+    ∙ laid-part g (λ i. g (k + i)) k (bo .result) (st .args .marks .now) (λ i l. refl) in (
+      omega arith,
+      more-periods co k (bo .result) (h .1) (block-periods co (st .args .n) k (bo .result) (st .pre .1) (h .1) (h .0) (rw (st .pre .0 .period) at (bo .ensures .3))),
+      ran .run-steps .kept .1 .1 .1 .1 .1 .1 .1 .1 .0 ∙ h .2,
+      ran .run-steps .kept .1 .1 .1 .1 .1 .1 .1 .1 .1 .0 ∙ h .3,
+      read-block ys (st .args .i0) _ (st .args .at) _ _ k (bo .result) _ _ _ _ _ _ _ _ _ (h .4) (mb .0) rf,
+      ap length marked ∙ length-laid-upto g (k + bo .result) (st .args .marks .now) (omega arith),
+      marked,
+      called .kept .1 .1 .1 .1 .1 .1 .1 .0 ∙ h .7,
+      called .kept .1 .1 .1 .1 .1 .1 .1 .1 .0 ∙ h .8,
+      called .kept .1 .1 .1 .1 .1 .1 .1 .1 .1 .0 ∙ h .9,
+      called .kept .1 .1 .1 .1 .1 .1 .1 .1 .1 .1 .0 ∙ h .10,
+    )
+
+same-length : tie.Need-same-length Inv-loop μ-loop
+same-length c = search needs
+
+same-length-2 : tie.Need-same-length-2 Inv-loop μ-loop
+same-length-2 c = search needs
+
+same-length-3 : tie.Need-same-length-3 Inv-loop μ-loop
+same-length-3 c = search needs
+
+same-length-4 : tie.Need-same-length-4 Inv-loop μ-loop
+same-length-4 c = search needs
+
+same-length-5 : tie.Need-same-length-5 Inv-loop μ-loop
+same-length-5 c = search needs
+
+same-length-6 : tie.Need-same-length-6 Inv-loop μ-loop
+same-length-6 c = search needs
+
+same-length-7 : tie.Need-same-length-7 Inv-loop μ-loop
+same-length-7 c = search needs
+
+returns : tie.Need-returns Inv-loop μ-loop
+returns c =
+    let e : c .before .loop .k ≡ c .before .before .before .before .before .before .before .before .before .before .before .args .n = omega arith in
+    let h = rw e at (c .before .loop .inv) in
+    (h .4, h .6)
+
+pub read-blocks-spec : {M : Type 1} → statement M
+read-blocks-spec =
+    tie.close
+    (tie.spec
+    Inv-loop
+    μ-loop
+    loop-holds
+    sub-block-of
+    block-of-requires
+    sub-make-block
+    part-make-block-start
+    part-make-block-end
+    make-block-requires
+    add-run-steps
+    slice-aggregate-run-steps
+    run-steps-requires
+    add-k
+    loop-less
+    loop-again
+    same-length
+    same-length-2
+    same-length-3
+    same-length-4
+    same-length-5
+    same-length-6
+    same-length-7
+    returns)

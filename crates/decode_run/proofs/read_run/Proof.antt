@@ -1,0 +1,54 @@
+-- `read_run` meets its contract.
+use borrow.Author.Needs.{needs}
+use lib.Dec.{lit≤}
+use Rattle.decode_run.proofs.read_run.Statement.{statement}
+use Rattle.decode_run.proofs.read_run.Tie as tie
+
+layout-of-requires : tie.Need-layout-of-requires
+layout-of-requires c κs = search needs
+
+slice-aggregate-read-blocks : tie.Need-slice-aggregate-read-blocks
+slice-aggregate-read-blocks c = search needs
+
+slice-aggregate-read-blocks-2 : tie.Need-slice-aggregate-read-blocks-2
+slice-aggregate-read-blocks-2 c = search needs
+
+slice-aggregate-read-blocks-3 : tie.Need-slice-aggregate-read-blocks-3
+slice-aggregate-read-blocks-3 c = search needs
+
+slice-aggregate-read-blocks-4 : tie.Need-slice-aggregate-read-blocks-4
+slice-aggregate-read-blocks-4 c = search needs
+
+read-blocks-requires : tie.Need-read-blocks-requires
+read-blocks-requires c κs =
+    let st = c .before .before .before .before .before .before .before .before .before .before .before .before .before .before in
+    let co = c .before .before .before .before .before .before .before .before .layout-of in
+    let e = co .ensures .0 in
+    (co .ensures .1, rw e (st .pre .0), st .pre .1, st .pre .2, st .pre .3, st .pre .4, st .pre .5, rw e (st .pre .6), rw e (st .pre .7), lit≤ tt, lit≤ tt, lit≤ tt, lit≤ tt)
+
+same-length : tie.Need-same-length
+same-length c = search needs
+
+same-length-2 : tie.Need-same-length-2
+same-length-2 c = search needs
+
+same-length-3 : tie.Need-same-length-3
+same-length-3 c = search needs
+
+returns : tie.Need-returns
+returns c = rw (c .before .before .before .before .before .before .before .before .before .before .before .before .before .before .before .before .before .before .before .layout-of .ensures .0) at (c .before .before .before .before .before .before .before .before .before .before .read-blocks .ensures)
+
+pub read-run-spec : {M : Type 1} → statement M
+read-run-spec =
+    tie.close
+    (tie.spec
+    layout-of-requires
+    slice-aggregate-read-blocks
+    slice-aggregate-read-blocks-2
+    slice-aggregate-read-blocks-3
+    slice-aggregate-read-blocks-4
+    read-blocks-requires
+    same-length
+    same-length-2
+    same-length-3
+    returns)

@@ -1,0 +1,4 @@
+pub mod Laid
+pub mod Encoding
+pub mod RunLaws
+pub mod TableLaws

@@ -1,3 +1,0 @@
-pub mod ScaleLaws
-pub mod Scales
-pub mod Steps

@@ -1,2 +1,0 @@
-pub mod DecodedLaws
-pub mod Runs

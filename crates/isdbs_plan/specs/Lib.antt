@@ -1,0 +1,4 @@
+pub mod RunsOf
+pub mod RunLaws
+pub mod PlanLaws
+pub mod PlannedLaws

@@ -1,3 +1,0 @@
-pub mod RunsOf
-pub mod RunLaws
-pub mod PlanLaws

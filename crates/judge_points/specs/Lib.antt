@@ -1,0 +1,5 @@
+pub mod Outside
+pub mod OutsideLaws
+pub mod CertainLaws
+pub mod Given
+pub mod GivenLaws

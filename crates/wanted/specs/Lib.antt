@@ -1,5 +1,0 @@
-pub mod Wanted
-pub mod ReadOff
-pub mod Shown
-pub mod Inputs
-pub mod Only
