@@ -7,7 +7,7 @@ use native.Mathlib.Omega.{arith}
 use lib.ListN.{length, getD, take, replicate, length-append, length-replicate}
 use lib.Ieee.{Float, nan}
 use Rattle.trellis.specs.Lists.{upto, laid, padded}
-use Rattle.trellis.specs.LaidLaws.{laid-at}
+use Rattle.trellis.specs.LaidLaws.{laid-at, length-laid-upto}
 use Rattle.isdbs_plan.specs.declared.Plan.{Plan}
 use Rattle.isdbs_plan.specs.declared.Run.{Run}
 use Rattle.isdbs_tables.specs.declared.Table.{Table}
@@ -28,7 +28,7 @@ use Rattle.encode_blocks.specs.FrameLaws.{point-is, end-symbol}
 use Rattle.margins.specs.Margins.{isBpsk}
 use Rattle.judge_points.specs.Outside.{outside}
 use Rattle.judge_points.specs.Given.{outsideGiven, givenAt, Counted}
-use Rattle.judge_points.specs.GivenLaws.{counted-same, counted-both, outside-is, outside-free, counts-are, sum-is}
+use Rattle.judge_points.specs.GivenLaws.{counted-same, counted-both, counts-few, outside-is, outside-free, counts-are, sum-is}
 use Rattle.judge.specs.Judged.{CountsLaid}
 
 module _ (p : Plan) (planned : Planned p) where
@@ -55,6 +55,14 @@ module _ (p : Plan) (planned : Planned p) where
 
     abbrev pub out : ℕ → Bool
     out = outside re im load t m first
+
+    abbrev pub cleared : List ℕ → List ℕ
+    cleared counts = laid (upto (λ _. 0) frameSlots) counts
+
+    -- no count is above the number of points counted
+    pub counts-below : (counts₀ counts : List ℕ) (n sum : ℕ) → Counted out 0 n (cleared counts₀) counts sum → (j : ℕ) → j < frameSlots → getD counts j 0 ≤ n
+    counts-below counts₀ counts n sum w j l =
+        omega (arith, counts-few out 0 n (cleared counts₀) counts sum 0 w (λ i h. omega (arith, laid-at 0 (λ _. 0) frameSlots counts₀ i h)) j l)
 
     -- the points from number `from` on, counted over clean parts of which each says the same as the frame's
     module _ (from n : ℕ) (xs ys : List Float) (same : (i : ℕ) → i < n → outsideGiven (padded 4 noRun (runsOf t)) (getD xs i zero64) (getD ys i zero64) (getD re (from + i) nan) (getD im (from + i) nan) (from + i) ≡ out (from + i)) where
@@ -84,6 +92,13 @@ module _ (p : Plan) (planned : Planned p) where
           ap (λ (x : List Float). getD x j zero64) (w .im-is) ∙ laid-at zero64 (λ i. pointOf (take (p .count) (p .runs)) m load s (at .symbol + i) .im) n ys₀ j h
           ∙ ap (λ (z : Cplx). z .im) (point-is p planned m load s (at .symbol + j))
 
+      -- it fits into what is lent
+      pub block-sizes : n ≤ length xs₀ → n ≤ length ys₀ → (length xs ≡ length xs₀) × (length ys ≡ length ys₀)
+      block-sizes hx hy = (
+        ap length (w .re-is) ∙ length-laid-upto (λ i. pointOf (take (p .count) (p .runs)) m load s (at .symbol + i) .re) n xs₀ hx,
+        ap length (w .im-is) ∙ length-laid-upto (λ i. pointOf (take (p .count) (p .runs)) m load s (at .symbol + i) .im) n ys₀ hy,
+      )
+
       pub block-counted : (counts₀ counts₁ counts : List ℕ) (sum₁ sum : ℕ) → Counted out 0 (at .symbol) counts₀ counts₁ sum₁ → Counted (givenAt (p .runs) xs ys re im (at .symbol)) (at .symbol) n counts₁ counts sum → Counted out 0 (r .symbol) counts₀ counts (sum₁ + sum)
       block-counted counts₀ counts₁ counts sum₁ sum v c =
           let all : at .symbol + n ≡ r .symbol = omega arith in
@@ -95,13 +110,12 @@ module _ (p : Plan) (planned : Planned p) where
       free : {A : Type 0} (none : A) (f : Segment → ℕ → A) (k : ℕ) → at .symbol ≤ k → atSymbol none f t k ≡ none
       free none f k l = among-past (λ g. g .symbol) (λ g. g .symbols) none f (segmentsFrom (runsOf t) 0 0) 0 (symbolsOf (runsOf t)) (table-tiled t (planned .accepted) .fill) k (omega (arith, end-symbol p planned at hr past, l))
 
-      pub rest-counted : (counts₀ counts₁ counts : List ℕ) (sum₁ sum : ℕ) → frameSlots ≤ length counts₀ → Counted out 0 (at .symbol) (laid (upto (λ _. 0) frameSlots) counts₀) counts₁ sum₁
+      pub rest-counted : (counts₀ counts₁ counts : List ℕ) (sum₁ sum : ℕ) → frameSlots ≤ length counts₀ → Counted out 0 (at .symbol) (cleared counts₀) counts₁ sum₁
           → Counted (givenAt (p .runs) xs ys re im (at .symbol)) (at .symbol) (mainSymbols - at .symbol) counts₁ counts sum → CountsLaid re im load t m first counts₀ counts (sum₁ + sum)
       rest-counted counts₀ counts₁ counts sum₁ sum room v c =
           let all : at .symbol + (mainSymbols - at .symbol) ≡ mainSymbols = omega (arith, hr .fits) in
-          let cleared = laid (upto (λ (_ : ℕ). 0) frameSlots) counts₀ in
-          let w = subst (λ (k : ℕ). Counted out 0 k cleared counts (sum₁ + sum)) all
+          let w = subst (λ (k : ℕ). Counted out 0 k (cleared counts₀) counts (sum₁ + sum)) all
           (further (at .symbol) (mainSymbols - at .symbol) xs ys
           (λ i l. outside-free re im load t m first (at .symbol + i) (getD xs i zero64) (getD ys i zero64) (free true (λ g j. false) (at .symbol + i) (omega arith)) (free true (λ g j. isBpsk (modulationOf (g .combination))) (at .symbol + i) (omega arith)))
-          cleared counts₁ counts sum₁ sum v c) in
+          (cleared counts₀) counts₁ counts sum₁ sum v c) in
           record { counts-are = counts-are re im load t m first counts₀ counts (sum₁ + sum) room w; sum-is = sum-is re im load t m first counts₀ counts (sum₁ + sum) room w }

@@ -76,10 +76,30 @@ fn judge_load(
     let mut at = start_place(start_state(first));
     while at.run < p.count {
         let next = next_block(p, bytes, m, at, xs, ys);
-        sum = sum + count_points(p, at.symbol, next.symbol - at.symbol, xs, ys, re, im, counts);
+        sum = sum
+            + count_points(
+                p,
+                at.symbol,
+                next.symbol - at.symbol,
+                xs,
+                ys,
+                re,
+                im,
+                counts,
+            );
         at = next;
     }
-    sum + count_points(p, at.symbol, MAIN_SYMBOLS - at.symbol, xs, ys, re, im, counts)
+    sum
+        + count_points(
+            p,
+            at.symbol,
+            MAIN_SYMBOLS - at.symbol,
+            xs,
+            ys,
+            re,
+            im,
+            counts,
+        )
 }
 
 // The same in lent arrays of a block's size.
