@@ -216,7 +216,7 @@ uint32_t isdbs_wanted_load(const double *re, size_t re_len, const double *im, si
                            uint8_t first, uint8_t *bytes, size_t bytes_len);
 
 /* The verdict: the points of a frame with a part outside the margins of a full load. `bytes` is exactly the load (203 for each valid slot), `first` as above. A margin, per part as lent, is
- * from -1/32 to 1/32 where the encoded part is 0, from 31/32 to 33/32 where it is 1 and from 87/128 to 94/128 where it is 1/sqrt(2), negatives mirrored, ends included; imaginary parts of
+ * from -1/32 to 1/32 where the encoded part is 0, from 31/32 to 33/32 where it is 1 and from 87/128 to 94/128 where it is 1/sqrt(2), negatives mirrored, inclusive; imaginary parts of
  * BPSK and points outside every run may hold anything that row 7 accepts. `counts` begins with the points outside in each of the frame's 48 slots, slot j being points 812j to 812j + 811
  * (whatever the table has there), and *sum is their sum, at most 38,976. Where *sum is 0 the frame is certain: under this table, mapping and kind no other full load has the points within its margins. Where it is not, the bytes
  * may still be right. Points past 38,976 are not read, counts past 48 not written. Takes about 630 kB of stack. Rows 1, 10, 11, 5 (bytes not exactly the load), 6, 7, 9. Crate c_judge. */

@@ -476,7 +476,7 @@ fn wanting(all: &mut (u64, u64)) {
     println!("{others:>10} of the changed frames are another load's");
 }
 
-/// A part keeps the margin of a clean one: document 01's fractions, worked out apart.
+/// A part keeps the margin of a clean one: document 01's fractions, independently computed.
 #[cfg(judge)]
 fn keeps(clean: f64, x: f64) -> bool {
     let y = if clean < 0.0 { -x } else { x };
