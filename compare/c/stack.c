@@ -16,6 +16,24 @@ static uint8_t bits[77952 + 16], bytes[9744], load[9744], out[77952], end;
 static uint32_t counts[48], runs[24], places[4], sum, total, greatest, fill, next;
 static float pm[64], llrs[16384], scales[7] = {8, 8, 8, 8, 8, 8, 8};
 
+/* what the best reading works in and writes */
+static float metrics[4 * 68208];
+static uint8_t sides[68208], uncoded[68208];
+static uint64_t words[68208], lead_tables[64 * 48], leads[48];
+
+/* a capture: a header of the first kind at point 100, zeros elsewhere */
+#define AIR 40960
+static double air_re[AIR], air_im[AIR], out_re[39936], out_im[39936];
+static uint8_t kind, turn;
+static int32_t re_sum, im_sum;
+
+static void capture(void) {
+    for (int i = 0; i < 20; i++) {
+        air_re[100 + 12 + i] = 0xecd28u >> (19 - i) & 1 ? -1 : 1;
+        air_re[100 + 172 + i] = 0x0b677u >> (19 - i) & 1 ? -1 : 1;
+    }
+}
+
 /* All seven combinations, four at most in a table, and the longest runs of each. */
 static const uint64_t tables[] = {
     0x000f000f000f3001, 0x000f000f000f3002, 0x000f000f000f3003, 0x000f000f000f3004, 0x000f000f000f3005, 0x000f000f000f3006, 0x000f000f000f3007, 0x0c0106030c041207, 0x0806060506021c07,
@@ -36,6 +54,13 @@ static uint32_t decode_frame(void) {
 }
 static uint32_t wanted_load(void) { return isdbs_wanted_load(re, 38976, im, 38976, table, 4, 1, bytes, sizeof bytes); }
 static uint32_t judge(void) { return isdbs_judge(re, 38976, im, 38976, table, 4, 1, load, carried, counts, 48, &sum); }
+static uint32_t best_reading(void) {
+    return isdbs_best_reading(re, 38976, im, 38976, table, 4, 1, 1, scales, 7, metrics, 4 * 68208, sides, 68208, words, 68208, lead_tables, 64 * 48, bits, sizeof bits, uncoded, 68208,
+                              bytes, sizeof bytes, leads, 48);
+}
+static uint32_t header(void) { return isdbs_header(air_re, AIR, air_im, AIR, 100, &kind, &turn, &re_sum, &im_sum); }
+static uint32_t find_frame(void) { return isdbs_find_frame(air_re, AIR, air_im, AIR, 0, &place, &kind, &turn, &re_sum, &im_sum); }
+static uint32_t align_frame(void) { return isdbs_align_frame(air_re, AIR, air_im, AIR, 100, out_re, 39936, out_im, 39936); }
 static uint32_t lay_frame(void) {
     return isdbs_lay_frame(part_re, 192, part_im, 192, re, 38976, im, 38976, part_re, 768, part_im, 768, full_re, 39936, full_im, 39936);
 }
@@ -65,6 +90,7 @@ static uint32_t mend(void) { memset(bits, 0, 8192); return isdb_mend(bits, 8192,
 #define CALLS(X) \
     X(isdbs_soft, soft, 0) X(isdbs_slot_combinations, slot_combinations, 1) X(isdbs_runs, runs_of, 1) X(isdbs_bit_symbol, bit_symbol, 0) \
     X(isdbs_encode_frame, encode_frame, 1) X(isdbs_decode_frame, decode_frame, 1) X(isdbs_wanted_load, wanted_load, 1) X(isdbs_judge, judge, 1) \
+    X(isdbs_best_reading, best_reading, 1) X(isdbs_header, header, 0) X(isdbs_find_frame, find_frame, 0) X(isdbs_align_frame, align_frame, 0) \
     X(isdbs_lay_frame, lay_frame, 0) X(isdbs_take_frame, take_frame, 0) X(isdbs_window_push, window_push, 0) \
     X(isdb_push, push, 0) X(isdb_push_metrics, push_metrics, 0) X(isdb_push_known, push_known, 0) X(isdb_flush, flush, 0) X(isdb_flush_at, flush_at, 0) \
     X(isdb_code_encode, code_encode, 0) X(isdb_code_push, code_push, 0) X(isdb_code_push_metrics, code_push_metrics, 0) X(isdb_code_push_known, code_push_known, 0) \
@@ -96,6 +122,7 @@ int main(void) {
     uint32_t answer, bad = 0;
     size_t none = taken(nothing, &answer);
     for (int i = 0; i < 9744; i++) load[i] = (uint8_t)(i * 37);
+    capture();
 #define MEASURE(f, g, t) \
     if (f) { \
         size_t most = 0, took; \

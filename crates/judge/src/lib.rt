@@ -1,5 +1,7 @@
 // The verdict: what a reading is worth. The points of a frame outside the margins of a load, for each of the frame's 48 slots (812 symbols each). Where there are none, no other load fits.
-use encode_main::encode_main;
+use encode_blocks::BLOCK_SYMBOLS;
+use encode_blocks::next_block;
+use encode_blocks::start_place;
 use isdbs_core::frame::MAIN_SYMBOLS;
 use isdbs_core::slots::Plan;
 use isdbs_core::tmcc::Table;
@@ -10,7 +12,8 @@ use isdbs_points::start_state;
 use isdbs_rows::points_answer;
 pub use judge_points::FRAME_SLOTS;
 pub use judge_points::SLOT_SYMBOLS;
-use judge_points::count_outside;
+use judge_points::clear_counts;
+use judge_points::count_points;
 use refusal::Answer;
 ghost use mathlib.Core.Path.{_≡_};
 ghost use Prim.Native.Nat.{_≤_};
@@ -53,7 +56,7 @@ fn judge_answer(p: Plan, bytes: usize, re: &[f64], im: &[f64], counts: usize) ->
     lent_answer(p.bytes, bytes, re, im, counts)
 }
 
-// Encodes the load into the lent xs and ys, and counts the points outside its margins.
+// Encodes the load block by block into the lent xs and ys, and counts the points outside its margins. Past the runs every part is free, whatever stands in xs and ys.
 fn judge_load(
     p: Plan,
     re: &[f64],
@@ -65,14 +68,41 @@ fn judge_load(
     ys: &mut [f64],
     counts: &mut [u32],
 ) -> u32
-    requires { ⌜ Planned p × (mainSymbols ≤ length (now re)) × (mainSymbols ≤ length (now im)) × (mainSymbols ≤ length (now xs)) × (mainSymbols ≤ length (now ys)) × (frameSlots ≤ length (now counts)) ⌝ }
+    requires { ⌜ Planned p × (mainSymbols ≤ length (now re)) × (mainSymbols ≤ length (now im)) × (2048 ≤ length (now xs)) × (2048 ≤ length (now ys)) × (frameSlots ≤ length (now counts)) ⌝ }
     ensures { λ r. ⌜ CountsLaid (now (re .entry)) (now (im .entry)) (now (bytes .entry)) (p .table) m first (now (counts .entry)) (now (counts .exit)) r ⌝ }
 {
-    encode_main(p, bytes, start_state(first), m, xs, ys);
-    count_outside(p, xs, ys, re, im, counts)
+    clear_counts(counts, FRAME_SLOTS);
+    let mut sum: u32 = 0;
+    let mut at = start_place(start_state(first));
+    while at.run < p.count {
+        let next = next_block(p, bytes, m, at, xs, ys);
+        sum = sum
+            + count_points(
+                p,
+                at.symbol,
+                next.symbol - at.symbol,
+                xs,
+                ys,
+                re,
+                im,
+                counts,
+            );
+        at = next;
+    }
+    sum
+        + count_points(
+            p,
+            at.symbol,
+            MAIN_SYMBOLS - at.symbol,
+            xs,
+            ys,
+            re,
+            im,
+            counts,
+        )
 }
 
-// The same in lent arrays of a frame's size.
+// The same in lent arrays of a block's size.
 fn judge_arrays(
     p: Plan,
     re: &[f64],
@@ -80,8 +110,8 @@ fn judge_arrays(
     m: Mapping,
     first: bool,
     bytes: &[u8],
-    xs: &mut [f64; MAIN_SYMBOLS],
-    ys: &mut [f64; MAIN_SYMBOLS],
+    xs: &mut [f64; BLOCK_SYMBOLS],
+    ys: &mut [f64; BLOCK_SYMBOLS],
     counts: &mut [u32],
 ) -> u32
     requires { ⌜ Planned p × (mainSymbols ≤ length (now re)) × (mainSymbols ≤ length (now im)) × (frameSlots ≤ length (now counts)) ⌝ }
@@ -103,8 +133,8 @@ fn judge_frame(
     requires { ⌜ Planned p × (mainSymbols ≤ length (now re)) × (mainSymbols ≤ length (now im)) × (frameSlots ≤ length (now counts)) ⌝ }
     ensures { λ r. ⌜ CountsLaid (now (re .entry)) (now (im .entry)) (now (bytes .entry)) (p .table) m first (now (counts .entry)) (now (counts .exit)) r ⌝ }
 {
-    let mut xs = [0.0f64; MAIN_SYMBOLS];
-    let mut ys = [0.0f64; MAIN_SYMBOLS];
+    let mut xs = [0.0f64; BLOCK_SYMBOLS];
+    let mut ys = [0.0f64; BLOCK_SYMBOLS];
     judge_arrays(p, re, im, m, first, bytes, &mut xs, &mut ys, counts)
 }
 

@@ -7,13 +7,14 @@ use margins::both;
 use margins::holds;
 use margins::is_bpsk;
 ghost use mathlib.Core.Path.{_≡_};
-ghost use Prim.Native.Nat.{_<_, _≤_};
-ghost use lib.ListN.{length};
+ghost use Prim.Native.Nat.{ℕ, _+_, _<_, _≤_};
+ghost use lib.ListN.{length, getD};
+ghost use lib.Ieee.{nan};
 ghost use Rattle.trellis.specs.Lists.{upto, laid};
 ghost use Rattle.isdbs_frame.specs.Frame.{mainSymbols};
 ghost use Rattle.isdbs_combination.specs.Combinations.{frameSlots};
-ghost use Rattle.strain_marks.specs.Counts.{summed};
-ghost use Rattle.judge_points.specs.Given.{reFree, imFree, outsideGiven, slotGiven};
+ghost use Rattle.isdbs_points.specs.Points.{zero64};
+ghost use Rattle.judge_points.specs.Given.{reFree, imFree, outsideGiven, givenAt, Counted};
 
 // Which parts of a point are free.
 pub struct Free {
@@ -39,63 +40,56 @@ fn free_at(list: [Run; 4], k: usize) -> Free
     Free { re: true, im: true }
 }
 
-// Point k has a part outside its margin.
-fn outside(list: [Run; 4], xs: &[f64], ys: &[f64], re: &[f64], im: &[f64], k: usize) -> bool
-    requires { ⌜ (length list ≡ 4) × (k < length (now xs)) × (k < length (now ys)) × (k < length (now re)) × (k < length (now im)) ⌝ }
-    ensures { λ r. ⌜ r ≡ outsideGiven list (now (xs .entry)) (now (ys .entry)) (now (re .entry)) (now (im .entry)) k ⌝ }
+// Point k, whose clean parts are x and y, has a part outside its margin.
+fn outside(list: [Run; 4], x: f64, y: f64, re: &[f64], im: &[f64], k: usize) -> bool
+    requires { ⌜ (length list ≡ 4) × (k < length (now re)) × (k < length (now im)) ⌝ }
+    ensures { λ r. ⌜ r ≡ outsideGiven list x y (getD (now (re .entry)) k nan) (getD (now (im .entry)) k nan) k ⌝ }
 {
     let f = free_at(list, k);
-    let x = holds(f.re, xs[k], re[k]);
-    let y = holds(f.im, ys[k], im[k]);
-    !both(x, y)
+    let a = holds(f.re, x, re[k]);
+    let b = holds(f.im, y, im[k]);
+    !both(a, b)
 }
 
-// The points of slot j that have.
-fn count_slot(list: [Run; 4], xs: &[f64], ys: &[f64], re: &[f64], im: &[f64], j: usize) -> u32
-    requires { ⌜ (length list ≡ 4) × (j < frameSlots) × (mainSymbols ≤ length (now xs)) × (mainSymbols ≤ length (now ys)) × (mainSymbols ≤ length (now re)) × (mainSymbols ≤ length (now im)) ⌝ }
-    ensures { λ r. ⌜ r ≡ slotGiven list (now (xs .entry)) (now (ys .entry)) (now (re .entry)) (now (im .entry)) j ⌝ }
+// Part i of a block; 0 past it.
+fn part(xs: &[f64], i: usize) -> f64
+    ensures { λ r. ⌜ r ≡ getD (now (xs .entry)) i zero64 ⌝ }
 {
-    let mut n: u32 = 0;
-    for i in 0..SLOT_SYMBOLS {
-        n = n + outside(list, xs, ys, re, im, SLOT_SYMBOLS * j + i) as u32;
-    }
-    n
+    if i < xs.len() { xs[i] } else { 0.0 }
 }
 
-// The first `slots` slots, each in its own count, and their sum.
-fn count_slots(
-    list: [Run; 4],
-    slots: usize,
-    xs: &[f64],
-    ys: &[f64],
-    re: &[f64],
-    im: &[f64],
-    counts: &mut [u32],
-) -> u32
-    requires { ⌜ (length list ≡ 4) × (slots ≤ frameSlots) × (mainSymbols ≤ length (now xs)) × (mainSymbols ≤ length (now ys)) × (mainSymbols ≤ length (now re)) × (mainSymbols ≤ length (now im)) × (slots ≤ length (now counts)) ⌝ }
-    ensures { λ r. ⌜ (now (counts .exit) ≡ laid (upto (slotGiven list (now (xs .entry)) (now (ys .entry)) (now (re .entry)) (now (im .entry))) slots) (now (counts .entry))) × (r ≡ summed (slotGiven list (now (xs .entry)) (now (ys .entry)) (now (re .entry)) (now (im .entry))) slots) ⌝ }
+// No point of the first `slots` slots has been counted.
+pub fn clear_counts(counts: &mut [u32], slots: usize)
+    requires { ⌜ slots ≤ length (now counts) ⌝ }
+    ensures { λ _. ⌜ now (counts .exit) ≡ laid (upto (λ _. 0) slots) (now (counts .entry)) ⌝ }
 {
-    let mut sum: u32 = 0;
     for j in 0..slots {
-        let n = count_slot(list, xs, ys, re, im, j);
-        counts[j] = n;
-        sum = sum + n;
+        counts[j] = 0;
     }
-    sum
 }
 
-// The points of a frame outside the margins of the encoded frame xs, ys: of each slot, and the sum.
-pub fn count_outside(
+// The n points from number `from` on, held to the margins of the clean parts xs and ys, which begin there: each that is outside counts in its slot. How many there are.
+pub fn count_points(
     p: Plan,
+    from: usize,
+    n: usize,
     xs: &[f64],
     ys: &[f64],
     re: &[f64],
     im: &[f64],
     counts: &mut [u32],
 ) -> u32
-    requires { ⌜ (length (p .runs) ≡ 4) × (mainSymbols ≤ length (now xs)) × (mainSymbols ≤ length (now ys)) × (mainSymbols ≤ length (now re)) × (mainSymbols ≤ length (now im)) × (frameSlots ≤ length (now counts)) ⌝ }
-    ensures { λ r. ⌜ (now (counts .exit) ≡ laid (upto (slotGiven (p .runs) (now (xs .entry)) (now (ys .entry)) (now (re .entry)) (now (im .entry))) frameSlots) (now (counts .entry))) × (r ≡ summed (slotGiven (p .runs) (now (xs .entry)) (now (ys .entry)) (now (re .entry)) (now (im .entry))) frameSlots) ⌝ }
+    requires { ⌜ (length (p .runs) ≡ 4) × (from + n ≤ mainSymbols) × (mainSymbols ≤ length (now re)) × (mainSymbols ≤ length (now im)) × (frameSlots ≤ length (now counts)) × ((j : ℕ) → j < frameSlots → getD (now counts) j 0 ≤ from) ⌝ }
+    ensures { λ r. ⌜ Counted (givenAt (p .runs) (now (xs .entry)) (now (ys .entry)) (now (re .entry)) (now (im .entry)) from) from n (now (counts .entry)) (now (counts .exit)) r ⌝ }
 {
     let list = p.runs;
-    count_slots(list, FRAME_SLOTS, xs, ys, re, im, counts)
+    let mut sum: u32 = 0;
+    for i in 0..n {
+        let k = from + i;
+        let one = outside(list, part(xs, i), part(ys, i), re, im, k) as u32;
+        let j = k / SLOT_SYMBOLS;
+        counts[j] = counts[j] + one;
+        sum = sum + one;
+    }
+    sum
 }

@@ -12,26 +12,14 @@ mul-holds c = search needs
 shared-slice-read-holds : tie.Need-shared-slice-read-holds
 shared-slice-read-holds c = search needs
 
+holds-requires : tie.Need-holds-requires
+holds-requires c κs = search needs
+
 mul-holds-2 : tie.Need-mul-holds-2
 mul-holds-2 c = search needs
 
 shared-slice-read-holds-2 : tie.Need-shared-slice-read-holds-2
 shared-slice-read-holds-2 c = search needs
-
-holds-requires : tie.Need-holds-requires
-holds-requires c κs = search needs
-
-mul-holds-3 : tie.Need-mul-holds-3
-mul-holds-3 c = search needs
-
-shared-slice-read-holds-3 : tie.Need-shared-slice-read-holds-3
-shared-slice-read-holds-3 c = search needs
-
-mul-holds-4 : tie.Need-mul-holds-4
-mul-holds-4 c = search needs
-
-shared-slice-read-holds-4 : tie.Need-shared-slice-read-holds-4
-shared-slice-read-holds-4 c = search needs
 
 holds-requires-2 : tie.Need-holds-requires-2
 holds-requires-2 c κs = search needs
@@ -40,7 +28,7 @@ both-requires : tie.Need-both-requires
 both-requires c κs = search needs
 
 returns : tie.Need-returns
-returns c = rw (c .both .ensures, c .before .holds2 .ensures, c .before .before .before .before .holds .ensures, c .before .before .before .before .before .before .before .free-at .ensures .0, c .before .before .before .before .before .before .before .free-at .ensures .1)
+returns c = rw (c .both .ensures, c .before .holds2 .ensures, c .before .before .before .holds .ensures, c .before .before .before .before .before .free-at .ensures .0, c .before .before .before .before .before .free-at .ensures .1)
 
 pub outside-spec : {M : Type 1} → statement M
 outside-spec =
@@ -49,13 +37,9 @@ outside-spec =
     free-at-requires
     mul-holds
     shared-slice-read-holds
+    holds-requires
     mul-holds-2
     shared-slice-read-holds-2
-    holds-requires
-    mul-holds-3
-    shared-slice-read-holds-3
-    mul-holds-4
-    shared-slice-read-holds-4
     holds-requires-2
     both-requires
     returns)
