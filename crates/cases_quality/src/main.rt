@@ -19,7 +19,11 @@ ghost use Prim.Native.Nat.{_<_, _≤_};
 
 // Its table: entry i has its word at bit 16 i and its slots at bit 16 i + 8.
 fn table(i: usize) -> u64 {
-    if i == 0 { 0x000f_000f_0401_0107 } else { 0x000f_000f_000f_3007 }
+    if i == 0 {
+        0x000f_000f_0401_0107
+    } else {
+        0x000f_000f_000f_3007
+    }
 }
 
 // Each byte of its load. Zeros from state 0 send zeros; a coded 1 at every step from state 63 sends ones.
@@ -92,12 +96,7 @@ fn right(i: usize, out: &[f64; 338]) -> usize
 }
 
 // How many numbers of frame i are, where what stands past them is as it was.
-fn one_frame(
-    i: usize,
-    re: &mut [f64; 38980],
-    im: &mut [f64; 38980],
-    load: &mut [u8; 9750],
-) -> usize
+fn one_frame(i: usize, re: &mut [f64; 38980], im: &mut [f64; 38980], load: &mut [u8; 9750]) -> usize
     ensures { λ r. ⌜ r ≤ 336 ⌝ }
 {
     let mut out = [7.5f64; 338];
