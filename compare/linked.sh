@@ -8,7 +8,7 @@ archive=target/staticlib/libisdb.a
 mkdir -p target/compare
 [ "${KEEP_ARCHIVE:-}" = 1 ] || tools/archive >/dev/null
 calls=
-for pair in isdbt:isdbt_depuncture encode:isdbs_encode_frame decode:isdbs_decode_frame wanted:isdbs_wanted_load judge:isdbs_judge best:isdbs_best_reading; do
+for pair in isdbt:isdbt_depuncture encode:isdbs_encode_frame decode:isdbs_decode_frame wanted:isdbs_wanted_load judge:isdbs_judge quality:isdbs_quality best:isdbs_best_reading; do
     if nm "$archive" 2>/dev/null | grep -q " T ${pair#*:}\$"; then calls="$calls --cfg ${pair%%:*}"; fi
 done
 peer=target/compare/peer/usr/lib/x86_64-linux-gnu

@@ -1,4 +1,4 @@
-/* ISDB-S frames and the inner code of ISDB: the calls of the crates of C calls (c_fec, c_isdbt, c_table, c_frame, c_short, c_wanted, c_mend, c_judge, c_header, c_best, c_version).
+/* ISDB-S frames and the inner code of ISDB: the calls of the crates of C calls (c_fec, c_isdbt, c_table, c_frame, c_short, c_wanted, c_mend, c_judge, c_quality, c_header, c_best, c_version).
  *
  * `tools/archive` writes libisdb.a and libisdb.so, `tools/install PREFIX` installs them with this header and isdb.pc (x86-64 Linux); then `pkg-config --cflags --libs isdb` says how to build.
  * No call allocates, keeps anything or prints. C11 and C++17.
@@ -21,7 +21,7 @@
  *  14 window     outside 1 to 256; fill above it; next not below it or, while the window is not full, unlike fill; a pushed or kept sum above 68,208
  *   5 length     metrics not in fours, soft values not in twos, stream not whole periods; path values not 64; scales not seven; an unknown rate; a
  *                stretch to be mended not in twos, above 8,192 bits, or with a byte above 1; bytes that are not exactly
- *                the load (isdbs_judge)
+ *                the load (isdbs_judge, isdbs_quality)
  *   6 symbols    under 38,976 of either part; for a full frame an input shorter than its length (isdbs_lay_frame, isdbs_take_frame); for a frame in a capture fewer than its
  *                place + 39,936 points (isdbs_header, isdbs_find_frame, isdbs_align_frame)
  *   7 sample     not finite; beyond 65,536 for a frame part, 1,048,576 for a stream value; a header whose mean has no size above 0 (isdbs_align_frame)
@@ -73,6 +73,7 @@
  *   words             uint64_t  ISDBS_STEPS           isdbs_best_reading
  *   tables            uint64_t  64 * ISDBS_SLOTS      isdbs_best_reading
  *   leads             uint64_t  ISDBS_SLOTS           isdbs_best_reading
+ *   out               double    7 * ISDBS_SLOTS       isdbs_quality
  *   scales            float     ISDBS_SCALES          exactly
  *   pm                float     ISDB_PATH_VALUES      exactly
  *   places            uint32_t  ISDB_MEND_PLACES      isdb_mend
@@ -216,12 +217,29 @@ uint32_t isdbs_wanted_load(const double *re, size_t re_len, const double *im, si
                            uint8_t first, uint8_t *bytes, size_t bytes_len);
 
 /* The verdict: the points of a frame with a part outside the margins of a full load. `bytes` is exactly the load (203 for each valid slot), `first` as above. A margin, per part as lent, is
- * from -1/32 to 1/32 where the encoded part is 0, from 31/32 to 33/32 where it is 1 and from 87/128 to 94/128 where it is 1/sqrt(2), negatives mirrored, ends included; imaginary parts of
+ * from -1/32 to 1/32 where the encoded part is 0, from 31/32 to 33/32 where it is 1 and from 87/128 to 94/128 where it is 1/sqrt(2), negatives mirrored, inclusive; imaginary parts of
  * BPSK and points outside every run may hold anything that row 7 accepts. `counts` begins with the points outside in each of the frame's 48 slots, slot j being points 812j to 812j + 811
  * (whatever the table has there), and *sum is their sum, at most 38,976. Where *sum is 0 the frame is certain: under this table, mapping and kind no other full load has the points within its margins. Where it is not, the bytes
  * may still be right. Points past 38,976 are not read, counts past 48 not written. Takes about 630 kB of stack. Rows 1, 10, 11, 5 (bytes not exactly the load), 6, 7, 9. Crate c_judge. */
 uint32_t isdbs_judge(const double *re, size_t re_len, const double *im, size_t im_len, uint64_t table, uint8_t mapping,
                      uint8_t first, const uint8_t *bytes, size_t bytes_len, uint32_t *counts, size_t counts_len, uint32_t *sum);
+
+/* The quality of a reading: sums of the received points of a frame against the points of a full load. `bytes` is exactly the load (203 for each valid slot), `first` as above. `out` begins with
+ * seven numbers for each of the frame's 48 slots, slot j being points 812j to 812j + 811 (whatever the table has there) and its numbers places 7j to 7j + 6. With z a received point and c the
+ * point that the load encodes to there:
+ *
+ *   7j        how many points are counted
+ *   7j + 1    the sum of |c|^2, the signal's power
+ *   7j + 2    the sum of |z - c|^2, the error's
+ *   7j + 3, 4 the real and the imaginary part of the sum of z conj(c): over the signal's power they are the mean gain and turn
+ *   7j + 5, 6 the real and the imaginary part of the sum of z - c: over the count they are the mean offset
+ *
+ * A point outside every run is not counted, and a slot without counted points has seven times 0; of BPSK the imaginary parts of z and c count as 0. Every sum begins at 0 and goes over the slot's
+ * points in order, each operation rounded once, with |x|^2 as x.re x.re + x.im x.im and z conj(c) as (z.re c.re + z.im c.im, z.im c.re - z.re c.im): so all numbers are the same on every machine.
+ * Nothing is promised of what they say about the receiver or the bytes. Points past 38,976 are not read, places of `out` past 336 not written. Takes about @@ kB of stack. Rows 1, 10, 11, 5 (bytes
+ * not exactly the load), 6, 7, 9 (`out` under 336). Crate c_quality. */
+uint32_t isdbs_quality(const double *re, size_t re_len, const double *im, size_t im_len, uint64_t table, uint8_t mapping,
+                       uint8_t first, const uint8_t *bytes, size_t bytes_len, double *out, size_t out_len);
 
 /* The best reading of a frame: the full load (203 bytes for each valid slot) that fits the 38,976 points best of all, and by how much it leads in each valid slot. `re` to `scales` as in
  * isdbs_decode_frame, whose metrics count here too: four to a trellis step, as whole numbers of units of 2^-20, cut toward zero. A load fits by the sum, over its steps, of the metric at the coded

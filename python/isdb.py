@@ -89,6 +89,7 @@ CALLS = {
     "isdbs_decode_frame": "re: &[f64], im: &[f64], table: u64, mapping: u8, first: u8, known_start: u8, scales: &[f32], decisions: &mut [u64], bits: &mut [u8], bytes: &mut [u8], counts: &mut [u32], sum: &mut u32 -> u32",
     "isdbs_wanted_load": "re: &[f64], im: &[f64], table: u64, mapping: u8, first: u8, bytes: &mut [u8] -> u32",
     "isdbs_judge": "re: &[f64], im: &[f64], table: u64, mapping: u8, first: u8, bytes: &[u8], counts: &mut [u32], sum: &mut u32 -> u32",
+    "isdbs_quality": "re: &[f64], im: &[f64], table: u64, mapping: u8, first: u8, bytes: &[u8], out: &mut [f64] -> u32",
     "isdbs_best_reading": "re: &[f64], im: &[f64], table: u64, mapping: u8, first: u8, known_start: u8, scales: &[f32], metrics: &mut [f32], sides: &mut [u8], words: &mut [u64], tables: &mut [u64], bits: &mut [u8], uncoded: &mut [u8], bytes: &mut [u8], leads: &mut [u64] -> u32",
     "isdbs_lay_frame": "header_re: &[f64], header_im: &[f64], main_re: &[f64], main_im: &[f64], burst_re: &[f64], burst_im: &[f64], re: &mut [f64], im: &mut [f64] -> u32",
     "isdbs_take_frame": "re: &[f64], im: &[f64], header_re: &mut [f64], header_im: &mut [f64], main_re: &mut [f64], main_im: &mut [f64], burst_re: &mut [f64], burst_im: &mut [f64] -> u32",
@@ -272,6 +273,7 @@ Best = collections.namedtuple("Best", "bytes leads bits uncoded")
 Header = collections.namedtuple("Header", "kind turn re_sum im_sum")
 Found = collections.namedtuple("Found", "place kind turn re_sum im_sum")
 Verdict = collections.namedtuple("Verdict", "counts sum")
+Quality = collections.namedtuple("Quality", "points signal error turned offset")
 EIGHTS = array.array("f", [8.0] * ISDBS_SCALES)
 
 
@@ -302,6 +304,13 @@ def judge(re, im, load, table, mapping=4, first=True):
     counts = zeros("u32", ISDBS_SLOTS)
     total = isdbs_judge(re, im, table, mapping, first, load, counts)
     return Verdict(counts, total)
+
+
+def quality(re, im, load, table, mapping=4, first=True):
+    """The points against those of a load: for each of the 48 slots a Quality of how many are counted, the sums of |c|^2 and |z - c|^2, those of z conj(c) and of z - c."""
+    out = zeros("f64", 7 * ISDBS_SLOTS)
+    isdbs_quality(re, im, table, mapping, first, load, out)
+    return [Quality(out[j], out[j + 1], out[j + 2], complex(out[j + 3], out[j + 4]), complex(out[j + 5], out[j + 6])) for j in range(0, len(out), 7)]
 
 
 def wanted_load(re, im, table, mapping=4, first=True):

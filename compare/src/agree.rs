@@ -476,7 +476,7 @@ fn wanting(all: &mut (u64, u64)) {
     println!("{others:>10} of the changed frames are another load's");
 }
 
-/// A part keeps the margin of a clean one: document 01's fractions, worked out apart.
+/// A part keeps the margin of a clean one: document 01's fractions, independently computed.
 #[cfg(judge)]
 fn keeps(clean: f64, x: f64) -> bool {
     let y = if clean < 0.0 { -x } else { x };
@@ -533,6 +533,70 @@ fn judging(all: &mut (u64, u64)) {
                     let answer = calls::judge(&re, &im, t, m, first.into(), &load, &mut counts, &mut sum);
                     let same = answer == 0 && counts[..48] == want[..] && counts[48..] == [7; 2] && sum == want.iter().sum::<u32>();
                     kind.case(same, || format!("table {t:016x} mapping {m} first {first} change {change} answer {answer} sum {sum}"));
+                }
+            }
+        }
+    }
+    kind.done(all);
+}
+
+/// The seven numbers of each slot, one slot after the other over its points: how many, the powers of the clean point and of the error, the parts of z times the clean point's conjugate and of the error.
+#[cfg(quality)]
+fn quality_model(clean: &[Cplx], points: &[Cplx], t: u64) -> Vec<f64> {
+    let used = entries(t).into_iter().filter(|e| matches!(e.0 % 16, 1..=7));
+    let words: Vec<u8> = used.flat_map(|(w, n)| vec![w % 16; 812 * usize::from(n)]).collect();
+    let mut out = Vec::new();
+    for slot in 0..48 {
+        let (mut count, mut signal, mut error, mut along, mut across, mut off_re, mut off_im) = (0u32, 0.0, 0.0, 0.0, 0.0, 0.0, 0.0);
+        for k in slot * 812..(slot + 1) * 812 {
+            let Some(word) = words.get(k) else { continue };
+            let real = |p: Cplx| if *word == 1 { Cplx::new(p.re, 0.0) } else { p };
+            let (z, c) = (real(points[k]), real(clean[k]));
+            let e = Cplx::new(z.re - c.re, z.im - c.im);
+            count += 1;
+            signal += c.re * c.re + c.im * c.im;
+            error += e.re * e.re + e.im * e.im;
+            along += z.re * c.re + z.im * c.im;
+            across += z.im * c.re - z.re * c.im;
+            off_re += e.re;
+            off_im += e.im;
+        }
+        out.extend([f64::from(count), signal, error, along, across, off_re, off_im]);
+    }
+    out
+}
+
+#[cfg(quality)]
+fn measuring(all: &mut (u64, u64)) {
+    let mut draws = Draws(0x9a11);
+    let mut kind = Kind::new("quality: frames of the Rust, clean, noisy, of other gain and turn, huge, tiny and 0; tables of every kind, all mappings, both frame kinds; every number bit by bit");
+    let sizes = [0.0, -0.0, 65_536.0, -65_536.0, 1e-160, -1e-160, 5e-324, 1.0, 0.1, -0.3];
+    for t in some_tables() {
+        for m in 0..8 {
+            for first in [true, false] {
+                let load = draws.bytes(valid_slots(t) * 203);
+                let (clean, _) = isdbs_phy::demod::encode_frame_with_state(&load, &info(t), first, mapping(m));
+                for change in 0..4 {
+                    let mut points = clean.clone();
+                    let noise = |d: &mut Draws| d.below(1 << 40) as f64 / (1u64 << 40) as f64 - 0.5;
+                    match change {
+                        0 => {}
+                        1 => points.iter_mut().for_each(|p| *p = Cplx::new(p.re + noise(&mut draws), p.im + noise(&mut draws))),
+                        2 => {
+                            let (x, y) = (1.0 + noise(&mut draws), noise(&mut draws));
+                            points.iter_mut().for_each(|p| *p = Cplx::new(p.re * x - p.im * y + 0.01, p.re * y + p.im * x + 0.1 * noise(&mut draws)));
+                        }
+                        _ => points.iter_mut().for_each(|p| *p = Cplx::new(draws.pick(&sizes), draws.pick(&sizes))),
+                    }
+                    let want = quality_model(&clean, &points, t);
+                    let (mut re, im): (Vec<f64>, Vec<f64>) = points.iter().map(|v| (v.re, v.im)).unzip();
+                    // past the points nothing is read, past the numbers nothing written; what stood there does not count
+                    re.push(f64::NAN);
+                    let mut out = vec![if change % 2 == 0 { f64::NAN } else { 7.5 }; 338];
+                    let before = out[337].to_bits();
+                    let answer = calls::quality(&re, &im, t, m, first.into(), &load, &mut out);
+                    let same = answer == 0 && out[..336].iter().zip(&want).all(|(a, b)| a.to_bits() == b.to_bits()) && out[336..].iter().all(|x| x.to_bits() == before);
+                    kind.case(same, || format!("table {t:016x} mapping {m} first {first} change {change} answer {answer}"));
                 }
             }
         }
@@ -745,6 +809,8 @@ fn main() {
     wanting(&mut all);
     #[cfg(judge)]
     judging(&mut all);
+    #[cfg(quality)]
+    measuring(&mut all);
     println!("{} cases, {} different", all.0, all.1);
     if all.1 != 0 {
         std::process::exit(1);

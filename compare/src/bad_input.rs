@@ -519,6 +519,54 @@ fn judging(all: &mut (u64, u64), draws: &mut Draws) {
     count.done(all);
 }
 
+#[cfg(quality)]
+fn measuring(all: &mut (u64, u64), draws: &mut Draws) {
+    let mut re = Fence::<f64>::new(MAIN + 16);
+    let mut im = Fence::<f64>::new(MAIN + 16);
+    let mut bytes = Fence::<u8>::new(12_288);
+    let mut out = Fence::<f64>::new(1024);
+    let mut count = Count::new("quality");
+    let above = f64::from_bits(65_536f64.to_bits() + 1);
+    for _ in 0..3_000 {
+        let t = any_table(draws);
+        let need = 203 * load_of(t).0;
+        let places = |d: &mut Draws| if d.below(5) == 0 { near(d, &[MAIN as u64, 0, 38_000]) as usize % 40_000 } else { MAIN + d.below(3) as usize };
+        let (a, b) = (places(draws), places(draws));
+        re.lend(draws, a, |_| 0.5);
+        im.lend(draws, b, |_| -0.25);
+        for part in [&mut re, &mut im] {
+            if part.len > 0 && draws.below(2) == 0 {
+                let at = near(draws, &[0, MAIN as u64 - 1, 20_000]) as usize % part.len;
+                part.slice()[at] = draws.pick(&[f64::NAN, f64::INFINITY, -f64::INFINITY, above, -above, 65_536.0, -65_536.0, -0.0, 1.0]);
+                part.before = part.watched().map(|i| unsafe { part.data.add(i).read() }).collect();
+            }
+        }
+        let length = |d: &mut Draws, need: usize| if d.below(6) == 0 { near(d, &[need as u64, 0]) as usize % 12_000 } else { need };
+        let (c, d) = (length(draws, need), length(draws, 336) % 1024);
+        bytes.lend(draws, c, |d| d.next() as u8);
+        out.lend(draws, d, |d| d.next() as u32 as f64);
+        let beyond = |x: &f64| !x.is_finite() || x.abs() > 65_536.0;
+        let row = if table_row(t) != 0 {
+            table_row(t)
+        } else if bytes.len != need {
+            5
+        } else if re.len < MAIN || im.len < MAIN {
+            6
+        } else if re.slice()[..MAIN].iter().any(beyond) || im.slice()[..MAIN].iter().any(beyond) {
+            7
+        } else if out.len < 336 {
+            9
+        } else {
+            0
+        };
+        let answer = calls::quality(re.slice(), im.slice(), t, draws.next() as u8, draws.below(256) as u8, bytes.slice(), out.slice());
+        let ok = answer == 0;
+        let kept = re.kept(false) && im.kept(false) && bytes.kept(false) && out.kept(ok);
+        count.call(answer, row, kept, || format!("table {t:016x} re {a} im {b} bytes {c} out {d}"));
+    }
+    count.done(all);
+}
+
 #[cfg(best)]
 fn best(all: &mut (u64, u64), draws: &mut Draws) {
     let (mut re, mut im, mut scales) = (Fence::<f64>::new(MAIN + 16), Fence::<f64>::new(MAIN + 16), Fence::<f32>::new(32));
@@ -620,6 +668,8 @@ fn main() {
     later::wanting(&mut all, &mut draws);
     #[cfg(judge)]
     judging(&mut all, &mut draws);
+    #[cfg(quality)]
+    measuring(&mut all, &mut draws);
     #[cfg(best)]
     best(&mut all, &mut draws);
     println!("{} calls, {} wrong", all.0, all.1);

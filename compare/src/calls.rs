@@ -60,6 +60,9 @@ mod c {
         #[cfg(judge)]
         #[rustfmt::skip]
         pub fn isdbs_judge(re: *const f64, re_len: usize, im: *const f64, im_len: usize, table: u64, mapping: u8, first: u8, bytes: *const u8, bytes_len: usize, counts: *mut u32, counts_len: usize, sum: *mut u32) -> u32;
+        #[cfg(quality)]
+        #[rustfmt::skip]
+        pub fn isdbs_quality(re: *const f64, re_len: usize, im: *const f64, im_len: usize, table: u64, mapping: u8, first: u8, bytes: *const u8, bytes_len: usize, out: *mut f64, out_len: usize) -> u32;
     }
 }
 
@@ -183,6 +186,11 @@ pub fn wanted_load(re: &[f64], im: &[f64], table: u64, mapping: u8, first: u8, b
 #[allow(clippy::too_many_arguments)]
 pub fn judge(re: &[f64], im: &[f64], table: u64, mapping: u8, first: u8, bytes: &[u8], counts: &mut [u32], sum: &mut u32) -> u32 {
     unsafe { c::isdbs_judge(re.as_ptr(), re.len(), im.as_ptr(), im.len(), table, mapping, first, bytes.as_ptr(), bytes.len(), counts.as_mut_ptr(), counts.len(), sum) }
+}
+
+#[cfg(quality)]
+pub fn quality(re: &[f64], im: &[f64], table: u64, mapping: u8, first: u8, bytes: &[u8], out: &mut [f64]) -> u32 {
+    unsafe { c::isdbs_quality(re.as_ptr(), re.len(), im.as_ptr(), im.len(), table, mapping, first, bytes.as_ptr(), bytes.len(), out.as_mut_ptr(), out.len()) }
 }
 
 #[cfg(decode)]

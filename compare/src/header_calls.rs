@@ -1,4 +1,4 @@
-// The C calls on whole frames, and what they must say, worked out apart.
+// The C calls on whole frames, and what they must say, independently computed.
 #![allow(dead_code)]
 
 mod c {

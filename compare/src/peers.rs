@@ -1,4 +1,4 @@
-// The same code in published libraries: 65,536 bits with noise, a known end, per decoded bit. Context, no reference: each has its own samples, width and rule for equals.
+// The same code in published libraries: 65,536 bits with noise, a known end, per decoded bit. Context, no reference: each has its own samples, width and tie-break.
 use crate::calls::{self, Feed};
 use crate::common::Draws;
 use crate::least;

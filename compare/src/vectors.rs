@@ -49,7 +49,7 @@ fn decode_line(out: &mut String, t: u64, m: u8, first: bool, known: bool, scale:
     let bits = decoded_bits(&frame.bytes, t);
     let steps = steps(t);
     assert_eq!(bits.len(), steps + 16);
-    // the decoder's bits, over metrics worked out apart, are those of the bytes
+    // the decoder's bits, over metrics independently computed, are those of the bytes
     assert_eq!(bits, reference_bits(&points, t, m, first, known, scale));
     let bits = digest(bits.iter().map(|&b| u64::from(b)));
     let bytes = digest(frame.bytes.iter().map(|&b| u64::from(b)));

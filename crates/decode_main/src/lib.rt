@@ -128,8 +128,8 @@ fn decode_marked(
 {
     decode(p, first, o, re, im, decisions, bits, bytes, marks);
     let end = p.steps + SYNC_BITS;
-    let state = start_state(first);
-    count_strain(p, state as usize, marks, &bits[0..end], counts)
+    let begun = start_state(first);
+    count_strain(p, begun as usize, marks, &bits[0..end], counts)
 }
 
 // A whole frame: its decoded bits, its bytes, and the strained steps of each valid slot. The answer is their sum.

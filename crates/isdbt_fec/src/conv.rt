@@ -169,9 +169,9 @@ pub fn depuncture(rate: CodeRate, llrs: &[f32], out: &mut [f32]) -> Done
 
 // How many of the steps left are taken at once.
 fn block_of(left: usize) -> usize
-    ensures { λ r. ⌜ (r ≤ left) × (r ≤ 64) × (0 < left → 0 < r) ⌝ }
+    ensures { λ r. ⌜ (r ≤ left) × (r ≤ 512) × (0 < left → 0 < r) ⌝ }
 {
-    if left < 64 { left } else { 64 }
+    if left < 512 { left } else { 512 }
 }
 
 // Decodes whole periods from state 0: a push of all pairs, and a flush. How many bits that is.
@@ -194,7 +194,7 @@ fn decode_periods(
     let mut pm = start_at(0);
     let mut at = At { held: 0, count: 0 };
     let count = llrs.len() / n * period;
-    let mut pairs = [0.0f32; 128];
+    let mut pairs = [0.0f32; 1024];
     let mut i: usize = 0;
     while i < count {
         let len = block_of(count - i);

@@ -1,11 +1,14 @@
 -- The soft values of a call's steps.
-use mathlib.Core.List.{List}
+use mathlib.Core.Bool.{cond}
+use mathlib.Core.List.{List, [], _∷_}
 use Prim.Native.Nat.{ℕ, _+_, _*_, _/_, _%_}
-use lib.ListN.{take}
-use lib.Ieee.{Float}
+use lib.Dec.{eqb, ltb}
+use lib.ListN.{take, getD}
+use lib.Ieee.{Float, nan, binary32, ofBits}
 use Rattle.trellis.specs.Step as trellis
 use Rattle.trellis.specs.Step.{pair}
 use Rattle.isdbt_table.specs.Puncture.{spread}
+use Rattle.isdbt_steps.specs.declared.Standing.{Standing}
 
 -- the soft value of the mother bit k, and the steps, from the numbers of a compiled puncturing
 abbrev pub softBy : ℕ → ℕ → List ℕ → List Float → ℕ → Float
@@ -13,3 +16,24 @@ softBy p n ps xs k = spread (take n ps) xs (n * (k / (2 * p))) (k % (2 * p))
 
 abbrev pub stepsBy : ℕ → ℕ → List ℕ → List Float → ℕ → trellis.Step
 stepsBy p n ps xs k = pair (softBy p n ps xs (2 * k)) (softBy p n ps xs (2 * k + 1))
+
+-- the first place of k among the ps, counted from i; past their end where k is none of them
+unfoldable pub foundFrom : List ℕ → ℕ → ℕ → ℕ
+foundFrom [] i k = i
+foundFrom (p ∷ ps) i k = cond (eqb k p) i (foundFrom ps (i + 1) k)
+
+-- which of a period's n sent values is that of the mother bit k; n where it is not sent
+abbrev pub sentAs : ℕ → List ℕ → ℕ → ℕ
+sentAs n order k = foundFrom (take n order) 0 k
+
+-- the sent value w of the period whose n values begin at `base`, 0 where w is none of them
+abbrev pub sentValue : ℕ → List Float → ℕ → ℕ → Float
+sentValue n xs base w = cond (ltb w n) (getD xs (base + w) nan) (ofBits binary32 0)
+
+-- where the next mother bit stands: a period has `width` of them and n sent values
+abbrev pub nextOf : Standing → ℕ → ℕ → Standing
+nextOf at width n = cond (eqb (at .place + 1) width) (record { place = 0; base = at .base + n }) (record { place = at .place + 1; base = at .base })
+
+-- where the mother bit m of a call stands
+abbrev pub standingAt : ℕ → ℕ → ℕ → Standing
+standingAt p n m = record { place = m % (2 * p); base = n * (m / (2 * p)) }

@@ -2,12 +2,12 @@
 ghost use mathlib.Core.Path.{_≡_};
 ghost use mathlib.Core.List.{_++_};
 ghost use Prim.Native.Nat.{ℕ, _+_, _*_, _<_, _≤_, _/_, _%_, _^_};
-ghost use lib.ListN.{length, take, drop, replicate};
+ghost use lib.ListN.{length, getD, take, drop, replicate};
 ghost use Rattle.trellis.specs.Lists.{laid};
 ghost use Rattle.trellis.specs.Step.{renormalised};
 ghost use Rattle.isdbt_table.specs.Puncture.{spread};
 ghost use Rattle.viterbi_core.specs.Calls.{bestState, traced};
-ghost use Rattle.isdbt_steps.specs.Soft.{stepsBy};
+ghost use Rattle.isdbt_steps.specs.Soft.{sentAs, sentValue, nextOf, stepsBy};
 ghost use Rattle.trellis.specs.Run.{block, tracebackLimit, pairSteps};
 use trellis::BLOCK;
 use trellis::STATES;
@@ -17,17 +17,25 @@ use viterbi_core::finish;
 use viterbi_core::renormalise;
 ghost use Rattle.trellis.specs.Isdb;
 
-// The value for the mother bit `place` of the period whose sent values begin at `base`; 0 where it is not sent.
-fn value_at(order: &[usize; 8], n: usize, llrs: &[f32], base: usize, place: usize) -> f32
-    requires { ⌜ (n ≤ 8) × (n ≤ length (now order)) × (base + n ≤ length (now llrs)) ⌝ }
-    ensures { λ r. ⌜ r ≡ spread (take n (now (order .entry))) (now (llrs .entry)) base place ⌝ }
+// Which of a period's n sent values is that of the mother bit `place`; n where it is not sent.
+fn sent_as(order: &[usize; 8], n: usize, place: usize) -> usize
+    requires { ⌜ (n ≤ 8) × (n ≤ length (now order)) ⌝ }
+    ensures { λ r. ⌜ r ≡ sentAs n (now (order .entry)) place ⌝ }
 {
     for i in 0..n {
         if order[i] == place {
-            return llrs[base + i];
+            return i;
         }
     }
-    0.0
+    n
+}
+
+// The sent value w of the period whose values begin at `base`; 0 where w is none of the n.
+fn value_of(w: usize, n: usize, llrs: &[f32], base: usize) -> f32
+    requires { ⌜ base + n ≤ length (now llrs) ⌝ }
+    ensures { λ r. ⌜ r ≡ sentValue n (now (llrs .entry)) base w ⌝ }
+{
+    if w < n { llrs[base + w] } else { 0.0 }
 }
 
 // The soft value of the mother bit k of a call, where each period has n sent values and 2 * period mother bits.
@@ -36,12 +44,48 @@ pub fn soft_at(order: &[usize; 8], n: usize, period: usize, llrs: &[f32], k: usi
     ensures { λ r. ⌜ r ≡ spread (take n (now (order .entry))) (now (llrs .entry)) (n * (k / (2 * period))) (k % (2 * period)) ⌝ }
 {
     let width = 2 * period;
-    value_at(order, n, llrs, n * (k / width), k % width)
+    value_of(sent_as(order, n, k % width), n, llrs, n * (k / width))
+}
+
+// Of each mother bit of a period, which of the n sent values is its own.
+fn places_of(order: &[usize; 8], n: usize) -> [usize; 14]
+    requires { ⌜ (n ≤ 8) × (n ≤ length (now order)) ⌝ }
+    ensures { λ r. ⌜ (length r ≡ 14) × ((k : ℕ) → k < 14 → getD r k 0 ≡ sentAs n (now (order .entry)) k) ⌝ }
+{
+    let mut places = [0usize; 14];
+    for k in 0..14 {
+        places[k] = sent_as(order, n, k);
+    }
+    places
+}
+
+// Where a mother bit stands: its place in its period, and where the sent values of that period begin.
+struct Standing {
+    place: usize,
+    base: usize,
+}
+
+// Where the next mother bit stands; `width` places make a period, which has n sent values.
+fn next_of(at: Standing, width: usize, n: usize) -> Standing
+    requires { ⌜ (at .place < width) × (at .base + n < 2 ^ 64) ⌝ }
+    ensures { λ r. ⌜ r ≡ nextOf at width n ⌝ }
+{
+    if at.place + 1 == width {
+        Standing {
+            place: 0,
+            base: at.base + n,
+        }
+    } else {
+        Standing {
+            place: at.place + 1,
+            base: at.base,
+        }
+    }
 }
 
 // The number of values, which the type fixes.
-fn values_of(pairs: &[f32; 128]) -> usize
-    ensures { λ r. ⌜ (r ≡ 128) × (length (now (pairs .entry)) ≡ 128) ⌝ }
+fn values_of(pairs: &[f32; 1024]) -> usize
+    ensures { λ r. ⌜ (r ≡ 1024) × (length (now (pairs .entry)) ≡ 1024) ⌝ }
 {
     let values: &[f32] = pairs;
     values.len()
@@ -55,15 +99,22 @@ pub fn soft_block(
     llrs: &[f32],
     i: usize,
     len: usize,
-    pairs: &mut [f32; 128],
+    pairs: &mut [f32; 1024],
 )
-    requires { ⌜ (n ≤ 8) × (n ≤ length (now order)) × (1 ≤ period) × (period ≤ 7) × (len ≤ 64) × (2 * (i + len) < 2 ^ 64) × ((k : ℕ) → k < 2 * (i + len) → n * (k / (2 * period)) + n ≤ length (now llrs)) ⌝ }
-    ensures { λ _. ⌜ (length (now (pairs .exit)) ≡ 128) × ((k : ℕ) → k < len → stepsBy period n (now (order .entry)) (now (llrs .entry)) (i + k) ≡ pairSteps (now (pairs .exit)) k) ⌝ }
+    requires { ⌜ (n ≤ 8) × (n ≤ length (now order)) × (1 ≤ period) × (period ≤ 7) × (0 < len) × (len ≤ 512) × (2 * (i + len) < 2 ^ 64) × ((k : ℕ) → k < 2 * (i + len) → n * (k / (2 * period)) + n ≤ length (now llrs)) ⌝ }
+    ensures { λ _. ⌜ (length (now (pairs .exit)) ≡ 1024) × ((k : ℕ) → k < len → stepsBy period n (now (order .entry)) (now (llrs .entry)) (i + k) ≡ pairSteps (now (pairs .exit)) k) ⌝ }
 {
     values_of(pairs);
-    let from = 2 * i;
+    let places = places_of(order, n);
+    let width = 2 * period;
+    let mut at = Standing {
+        place: 2 * i % width,
+        base: n * (2 * i / width),
+    };
     for k in 0..2 * len {
-        pairs[k] = soft_at(order, n, period, llrs, from + k);
+        let place = at.place;
+        pairs[k] = value_of(places[place], n, llrs, at.base);
+        at = next_of(at, width, n);
     }
 }
 

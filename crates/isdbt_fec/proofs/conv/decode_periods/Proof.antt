@@ -60,7 +60,7 @@ soft-block-requires c κs =
     let r = inv .2 in
     let len = c .before .before .block-of .ensures in
     let inside = c .before .before .before .loop-test .taken in
-    (r .eight, r .in-order, r .least, r .most, len .1, omega arith, λ k h. r .there k (omega arith))
+    (r .eight, r .in-order, r .least, r .most, len .2 (omega arith), len .1, omega arith, λ k h. r .there k (omega arith))
 
 slice-aggregate-run-steps : tie.Need-slice-aggregate-run-steps Inv-loop μ-loop
 slice-aggregate-run-steps c = search needs
