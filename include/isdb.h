@@ -220,7 +220,7 @@ uint32_t isdbs_wanted_load(const double *re, size_t re_len, const double *im, si
  * from -1/32 to 1/32 where the encoded part is 0, from 31/32 to 33/32 where it is 1 and from 87/128 to 94/128 where it is 1/sqrt(2), negatives mirrored, inclusive; imaginary parts of
  * BPSK and points outside every run may hold anything that row 7 accepts. `counts` begins with the points outside in each of the frame's 48 slots, slot j being points 812j to 812j + 811
  * (whatever the table has there), and *sum is their sum, at most 38,976. Where *sum is 0 the frame is certain: under this table, mapping and kind no other full load has the points within its margins. Where it is not, the bytes
- * may still be right. Points past 38,976 are not read, counts past 48 not written. Takes about 630 kB of stack. Rows 1, 10, 11, 5 (bytes not exactly the load), 6, 7, 9. Crate c_judge. */
+ * may still be right. Points past 38,976 are not read, counts past 48 not written. Takes about 42 kB of stack. Rows 1, 10, 11, 5 (bytes not exactly the load), 6, 7, 9. Crate c_judge. */
 uint32_t isdbs_judge(const double *re, size_t re_len, const double *im, size_t im_len, uint64_t table, uint8_t mapping,
                      uint8_t first, const uint8_t *bytes, size_t bytes_len, uint32_t *counts, size_t counts_len, uint32_t *sum);
 
@@ -236,7 +236,7 @@ uint32_t isdbs_judge(const double *re, size_t re_len, const double *im, size_t i
  *
  * A point outside every run is not counted, and a slot without counted points has seven times 0; of BPSK the imaginary parts of z and c count as 0. Every sum begins at 0 and goes over the slot's
  * points in order, each operation rounded once, with |x|^2 as x.re x.re + x.im x.im and z conj(c) as (z.re c.re + z.im c.im, z.im c.re - z.re c.im): so all numbers are the same on every machine.
- * Nothing is promised of what they say about the receiver or the bytes. Points past 38,976 are not read, places of `out` past 336 not written. Takes about @@ kB of stack. Rows 1, 10, 11, 5 (bytes
+ * Nothing is promised of what they say about the receiver or the bytes. Points past 38,976 are not read, places of `out` past 336 not written. Takes about 42 kB of stack. Rows 1, 10, 11, 5 (bytes
  * not exactly the load), 6, 7, 9 (`out` under 336). Crate c_quality. */
 uint32_t isdbs_quality(const double *re, size_t re_len, const double *im, size_t im_len, uint64_t table, uint8_t mapping,
                        uint8_t first, const uint8_t *bytes, size_t bytes_len, double *out, size_t out_len);
@@ -248,7 +248,7 @@ uint32_t isdbs_quality(const double *re, size_t re_len, const double *im, size_t
  * predecessor), and of two C2 that fit alike the one that isdbs_decode_frame takes. leads[k], in units of 2^-20: every full load that differs in slot k fits worse by this much at least, and
  * one by exactly this much; 0 exactly where another content of slot k fits as well. A lead is a distance between readings and no proof: a short strong burst can move the best reading and lead well.
  * Afterwards `bits` begins with the input of each trellis step, `uncoded` with its C2 (0 outside TC8PSK), `bytes` with the load, `leads` with the leads. `metrics` (4 a step), `sides`, `words`
- * (one a step) and `tables` (64 a valid slot) are worked in: free in that front. At most 68,208 steps, 48 slots, 9,744 bytes. Takes about 20 kB of stack. Rows 1, 10, 11, 5, 6, 7, 8, 9. Crate c_best.
+ * (one a step) and `tables` (64 a valid slot) are worked in: free in that front. At most 68,208 steps, 48 slots, 9,744 bytes. Takes about 18 kB of stack. Rows 1, 10, 11, 5, 6, 7, 8, 9. Crate c_best.
  *
  * Leads of a clean frame at scale 8 (at another scale nearly in proportion), by word; the last slot's is smaller because the end is open, and so is the first slot's where the start is not known:
  *

@@ -54,6 +54,7 @@ static uint32_t decode_frame(void) {
 }
 static uint32_t wanted_load(void) { return isdbs_wanted_load(re, 38976, im, 38976, table, 4, 1, bytes, sizeof bytes); }
 static uint32_t judge(void) { return isdbs_judge(re, 38976, im, 38976, table, 4, 1, load, carried, counts, 48, &sum); }
+static uint32_t quality(void) { static double sums[336]; return isdbs_quality(re, 38976, im, 38976, table, 4, 1, load, carried, sums, 336); }
 static uint32_t best_reading(void) {
     return isdbs_best_reading(re, 38976, im, 38976, table, 4, 1, 1, scales, 7, metrics, 4 * 68208, sides, 68208, words, 68208, lead_tables, 64 * 48, bits, sizeof bits, uncoded, 68208,
                               bytes, sizeof bytes, leads, 48);
@@ -90,7 +91,7 @@ static uint32_t mend(void) { memset(bits, 0, 8192); return isdb_mend(bits, 8192,
 #define CALLS(X) \
     X(isdbs_soft, soft, 0) X(isdbs_slot_combinations, slot_combinations, 1) X(isdbs_runs, runs_of, 1) X(isdbs_bit_symbol, bit_symbol, 0) \
     X(isdbs_encode_frame, encode_frame, 1) X(isdbs_decode_frame, decode_frame, 1) X(isdbs_wanted_load, wanted_load, 1) X(isdbs_judge, judge, 1) \
-    X(isdbs_best_reading, best_reading, 1) X(isdbs_header, header, 0) X(isdbs_find_frame, find_frame, 0) X(isdbs_align_frame, align_frame, 0) \
+    X(isdbs_quality, quality, 1) X(isdbs_best_reading, best_reading, 1) X(isdbs_header, header, 0) X(isdbs_find_frame, find_frame, 0) X(isdbs_align_frame, align_frame, 0) \
     X(isdbs_lay_frame, lay_frame, 0) X(isdbs_take_frame, take_frame, 0) X(isdbs_window_push, window_push, 0) \
     X(isdb_push, push, 0) X(isdb_push_metrics, push_metrics, 0) X(isdb_push_known, push_known, 0) X(isdb_flush, flush, 0) X(isdb_flush_at, flush_at, 0) \
     X(isdb_code_encode, code_encode, 0) X(isdb_code_push, code_push, 0) X(isdb_code_push_metrics, code_push_metrics, 0) X(isdb_code_push_known, code_push_known, 0) \
