@@ -236,7 +236,7 @@ uint32_t isdbs_judge(const double *re, size_t re_len, const double *im, size_t i
  *
  * A point outside every run is not counted, and a slot without counted points has seven times 0; of BPSK the imaginary parts of z and c count as 0. Every sum begins at 0 and goes over the slot's
  * points in order, each operation rounded once, with |x|^2 as x.re x.re + x.im x.im and z conj(c) as (z.re c.re + z.im c.im, z.im c.re - z.re c.im): so all numbers are the same on every machine.
- * Nothing is promised of what they say about the receiver or the bytes. Points past 38,976 are not read, places of `out` past 336 not written. Takes about @@ kB of stack. Rows 1, 10, 11, 5 (bytes
+ * Nothing is promised of what they say about the receiver or the bytes. Points past 38,976 are not read, places of `out` past 336 not written. Takes about 42 kB of stack. Rows 1, 10, 11, 5 (bytes
  * not exactly the load), 6, 7, 9 (`out` under 336). Crate c_quality. */
 uint32_t isdbs_quality(const double *re, size_t re_len, const double *im, size_t im_len, uint64_t table, uint8_t mapping,
                        uint8_t first, const uint8_t *bytes, size_t bytes_len, double *out, size_t out_len);
