@@ -74,6 +74,26 @@ class Frames(unittest.TestCase):
             verdict = isdb.judge(re, im, load, table)
             self.assertEqual((verdict.sum, verdict.counts[at // 812]), (1, 1))
 
+    def test_quality(self):
+        for table in TABLES:
+            load = load_of(table, 3)
+            re, im, _ = isdb.encode_frame(load, table)
+            clean = isdb.quality(re, im, load, table)
+            run = isdb.runs(table)[0]
+            at = run[4]  # its first symbol
+            slot = clean[at // 812]
+            self.assertEqual((slot.points, slot.error, slot.offset), (812, 0, 0))
+            self.assertAlmostEqual(slot.signal, 812)
+            self.assertEqual(slot.turned, slot.signal)
+            self.assertEqual(sum(s.points for s in clean), sum(r[5] - r[4] for r in isdb.runs(table)))
+            re[at] += 0.5
+            found = isdb.quality(re, im, load, table)
+            self.assertEqual((found[at // 812].error, found[at // 812].offset), (0.25, 0.5))
+            self.assertEqual(found[at // 812 + 1:], clean[at // 812 + 1:])
+            with self.assertRaises(isdb.Refused) as why:
+                isdb.quality(re, im, load + b"x", table)
+            self.assertEqual(why.exception.number, isdb.ISDB_ANSWER_LENGTH)
+
     def test_best_reading(self):
         for table in TABLES:
             load = load_of(table, 9)

@@ -28,6 +28,7 @@ static int tables(void) {
 }
 
 static int frames(void) {
+    static double numbers[7 * ISDBS_SLOTS];
     uint8_t end;
     if (refused("isdbs_encode_frame", isdbs_encode_frame(load, LOAD, table, 4, 0, re, ISDBS_MAIN_SYMBOLS, im, ISDBS_MAIN_SYMBOLS, &end))) return 1;
     if (refused("isdbs_decode_frame", isdbs_decode_frame(re, ISDBS_MAIN_SYMBOLS, im, ISDBS_MAIN_SYMBOLS, table, 4, 1, 1, scales, ISDBS_SCALES, decisions, ISDBS_WORDS, bits, ISDBS_BITS,
@@ -37,6 +38,8 @@ static int frames(void) {
     printf("bytes behind it: %s\n", memcmp(bytes, load, LOAD) == 0 ? "the same" : "others");
     if (refused("isdbs_judge", isdbs_judge(re, ISDBS_MAIN_SYMBOLS, im, ISDBS_MAIN_SYMBOLS, table, 4, 1, bytes, LOAD, counts, ISDBS_SLOTS, &sum))) return 1;
     printf("verdict: %s\n", sum == 0 ? "certain" : "points outside");
+    if (refused("isdbs_quality", isdbs_quality(re, ISDBS_MAIN_SYMBOLS, im, ISDBS_MAIN_SYMBOLS, table, 4, 1, bytes, LOAD, numbers, 7 * ISDBS_SLOTS))) return 1;
+    printf("quality: %.0f points of the first slot, signal %.1f, error %.1f\n", numbers[0], numbers[1], numbers[2]);
     return 0;
 }
 

@@ -16,7 +16,7 @@ use Rattle.isdbs_tables.specs.declared.Table.{Table}
 use Rattle.isdbs_tables.specs.Tables.{tableRows, tableAnswer, TableAccepted}
 use Rattle.isdbs_tables.specs.TableLaws.{table-refusing, then-accepted}
 use Rattle.isdbs_plan.specs.RunsOf.{loadBytes}
-use Rattle.quality.specs.Qualities.{qualityNumbers}
+use Rattle.quality_sums.specs.Terms.{qualityNumbers}
 use Rattle.quality.specs.Rows.{lentRows, qualityRows}
 
 module _ (t : Table) (bytes : ℕ) (re im : List Float) (room : ℕ) where

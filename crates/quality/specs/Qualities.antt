@@ -7,18 +7,14 @@ use Prim.Native.Nat.{ℕ, zero, suc, _+_, _*_, _/_, _%_}
 use lib.ListN.{getD}
 use lib.Ieee.{Float, nan, binary64, add}
 use Rattle.trellis.specs.Lists.{upto}
-use Rattle.isdbs_combination.specs.Combinations.{slotSymbols, frameSlots}
+use Rattle.isdbs_combination.specs.Combinations.{slotSymbols}
 use Rattle.isdbs_tables.specs.declared.Table.{Table}
 use Rattle.isdbs_points.specs.declared.Cplx.{Cplx}
 use Rattle.isdbs_points.specs.declared.Mapping.{Mapping}
 use Rattle.isdbs_points.specs.Points.{zero64}
 use Rattle.isdbs_points.specs.Frame.{pointAt, startState}
 use Rattle.margins.specs.Margins.{freeRe, freeIm}
-use Rattle.quality_sums.specs.Terms.{termsOf, imaginary, slotNumbers}
-
--- the numbers of a frame
-abbrev pub qualityNumbers : ℕ
-qualityNumbers = slotNumbers * frameSlots
+use Rattle.quality_sums.specs.Terms.{termsOf, imaginary, slotNumbers, qualityNumbers}
 
 -- Slot j of the frame has the symbols 812 j to 812 j + 811 of the main signal, whatever the table has there.
 module _ (re im : List Float) (load : List ℕ) (t : Table) (m : Mapping) (first : Bool) where

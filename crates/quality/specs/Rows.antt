@@ -10,7 +10,7 @@ use Rattle.isdbs_tables.specs.declared.Table.{Table}
 use Rattle.isdbs_tables.specs.Tables.{tableRows}
 use Rattle.isdbs_plan.specs.RunsOf.{loadBytes}
 use Rattle.isdbs_rows.specs.DecodeRows.{pointRows}
-use Rattle.quality.specs.Qualities.{qualityNumbers}
+use Rattle.quality_sums.specs.Terms.{qualityNumbers}
 
 -- those of what is lent: 5, of a load of `need` bytes; 6 and 7 as `decode_frame` has them; 9, for less room than the numbers take
 abbrev pub lentRows : ℕ → ℕ → List Float → List Float → ℕ → List Row

@@ -26,7 +26,8 @@ ghost use Rattle.isdbs_combination.specs.Combinations.{modulationOf};
 ghost use Rattle.isdbs_frame.specs.Frame.{mainSymbols};
 ghost use Rattle.isdbs_plan.specs.RunsOf.{planOf, Planned, noRun};
 ghost use Rattle.margins.specs.Margins.{isBpsk};
-ghost use Rattle.quality.specs.Qualities.{qualities, qualityNumbers};
+ghost use Rattle.quality_sums.specs.Terms.{qualityNumbers};
+ghost use Rattle.quality.specs.Qualities.{qualities};
 ghost use Rattle.quality.specs.Rows.{lentRows, qualityRows};
 
 // Rows 5, 6, 7 and 9: the load has `need` bytes, `bytes` and `room` are the lengths that are lent.

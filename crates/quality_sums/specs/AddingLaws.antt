@@ -2,7 +2,7 @@
 use mathlib.Core.Path.{_≡_, refl, _∙_, ap}
 use mathlib.Core.Bool.{Bool}
 use mathlib.Core.List.{List}
-use Prim.Native.Nat.{ℕ, zero, suc, _+_, _*_, _/_, _<_, _≤_}
+use Prim.Native.Nat.{ℕ, zero, suc, _+_, _<_, _≤_}
 use native.Mathlib.Omega.{arith}
 use native.Mathlib.Nat.{not-suc-le-zero}
 use native.Mathlib.Numerals.{add-one}
@@ -11,7 +11,7 @@ use lib.ListN.{length, getD, length-set}
 use lib.Seq.{getD-set-same, getD-set-other}
 use lib.Ieee.{Float, nan, binary64, add}
 use Rattle.quality_sums.specs.Terms.{termsOf, imaginary}
-use Rattle.quality_sums.specs.Adding.{added, pointAdded, blockTerms, blockAdded}
+use Rattle.quality_sums.specs.Adding.{added, pointAdded, blockAdded}
 
 pub seven-terms : (zx zy cx cy : Float) → length (termsOf zx zy cx cy) ≡ 7
 unfolding termsOf
@@ -51,8 +51,3 @@ module _ (bpsk : Bool) (re im : List Float) (from : ℕ) (xs ys out : List Float
       → out' ≡ pointAdded terms (from + i) l → out' ≡ blockAdded bpsk re im from xs ys out (i + 1)
   unfolding blockAdded
   block-more i l out' terms zy cy el ez ec et eo = rw (add-one i) (eo ∙ rw (et, ez, ec, el) refl)
-
-  pub length-block : (n : ℕ) → length (blockAdded bpsk re im from xs ys out n) ≡ length out
-  unfolding blockAdded
-  length-block zero = refl
-  length-block (suc n) = length-added (blockTerms bpsk re im from xs ys out n) (7 * ((from + n) / 812)) (blockAdded bpsk re im from xs ys out n) 7 ∙ length-block n

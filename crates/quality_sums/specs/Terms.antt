@@ -2,8 +2,9 @@
 -- the sums of |c|^2, of |z - c|^2, of the real and the imaginary part of z conj(c), of the real and the imaginary part of z - c; .. each operation rounded once". Definitions only.
 use mathlib.Core.Bool.{Bool, cond}
 use mathlib.Core.List.{List, [], _∷_}
-use Prim.Native.Nat.{ℕ}
+use Prim.Native.Nat.{ℕ, _*_}
 use lib.Ieee.{Float, binary64, add, sub, mul}
+use Rattle.isdbs_combination.specs.Combinations.{frameSlots}
 use Rattle.isdbs_points.specs.Points.{zero64, one64}
 
 -- "|x|^2 being x.re x.re + x.im x.im"
@@ -26,6 +27,9 @@ termsOf zx zy cx cy =
 abbrev pub imaginary : Bool → Float → Float
 imaginary bpsk y = cond bpsk zero64 y
 
--- how many numbers a slot has
+-- how many numbers a slot has, and a frame
 abbrev pub slotNumbers : ℕ
 slotNumbers = 7
+
+abbrev pub qualityNumbers : ℕ
+qualityNumbers = slotNumbers * frameSlots

@@ -8,7 +8,7 @@ ghost use lib.ListN.{length};
 ghost use Rattle.trellis.specs.Lists.{upto, laid};
 ghost use Rattle.isdbs_frame.specs.Frame.{mainSymbols};
 ghost use Rattle.isdbs_points.specs.Points.{zero64};
-ghost use Rattle.quality_sums.specs.Terms.{termsOf, imaginary, slotNumbers};
+ghost use Rattle.quality_sums.specs.Terms.{termsOf, imaginary, slotNumbers, qualityNumbers};
 ghost use Rattle.quality_sums.specs.Adding.{added, blockAdded};
 
 // The numbers of a slot, and of all slots of a frame.
@@ -61,7 +61,7 @@ pub fn add_block(
     n: usize,
     out: &mut [f64],
 )
-    requires { ⌜ (from + n ≤ mainSymbols) × (mainSymbols ≤ length (now re)) × (mainSymbols ≤ length (now im)) × (n ≤ length (now xs)) × (n ≤ length (now ys)) × (336 ≤ length (now out)) ⌝ }
+    requires { ⌜ (from + n ≤ mainSymbols) × (mainSymbols ≤ length (now re)) × (mainSymbols ≤ length (now im)) × (n ≤ length (now xs)) × (n ≤ length (now ys)) × (qualityNumbers ≤ length (now out)) ⌝ }
     ensures { λ _. ⌜ now (out .exit) ≡ blockAdded bpsk (now (re .entry)) (now (im .entry)) from (now (xs .entry)) (now (ys .entry)) (now (out .entry)) n ⌝ }
 {
     for i in 0..n {
@@ -75,8 +75,8 @@ pub fn add_block(
 
 // The numbers of all slots, begun at 0.
 pub fn begin(out: &mut [f64])
-    requires { ⌜ 336 ≤ length (now out) ⌝ }
-    ensures { λ _. ⌜ now (out .exit) ≡ laid (upto (λ i. zero64) 336) (now (out .entry)) ⌝ }
+    requires { ⌜ qualityNumbers ≤ length (now out) ⌝ }
+    ensures { λ _. ⌜ now (out .exit) ≡ laid (upto (λ i. zero64) qualityNumbers) (now (out .entry)) ⌝ }
 {
     for i in 0..QUALITY_NUMBERS {
         out[i] = 0.0;

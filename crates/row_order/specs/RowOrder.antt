@@ -26,6 +26,7 @@ use Rattle.full_frame.specs.Rows.{layRows, takeRows}
 use Rattle.full_frame_trips.specs.Rows.{layTakeRows, takeLayRows}
 use Rattle.wanted_load.specs.Rows.{wantedRows}
 use Rattle.judge.specs.Rows.{judgeRows}
+use Rattle.quality.specs.Rows.{qualityRows}
 use Rattle.best_frame.specs.declared.Lengths.{Lengths}
 use Rattle.best_frame.specs.BestRows.{bestRows, lastRows}
 use Rattle.c_scales.specs.Scales.{withScales}
@@ -105,6 +106,8 @@ module _ (t : Table) (v : ViterbiDecoder) (c : Code) (w : WindowState) (n : Leng
       ∷ wantedRows t i j k true
       -- judge
       ∷ judgeRows t i re im j
+      -- quality
+      ∷ qualityRows t i re im j
       -- best_frame
       ∷ bestRows t re im xs n
       -- header_find: `header_at`, `find_frame`; header_align

@@ -9,7 +9,7 @@ use Rattle.refusal.specs.Rows.{Row}
 use Rattle.refusal.specs.RowLaws.{refused-by, passed-by}
 use Rattle.refusal.specs.declared.Answer.the-variants.{Space}
 use Rattle.isdbs_rows.specs.DecodeRows.{pointRows}
-use Rattle.quality.specs.Qualities.{qualityNumbers}
+use Rattle.quality_sums.specs.Terms.{qualityNumbers}
 use Rattle.refusal.proofs.Told.{told}
 use Rattle.quality.proofs.lent_answer.Statement.{statement}
 use Rattle.quality.proofs.lent_answer.Tie as tie
