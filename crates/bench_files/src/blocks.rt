@@ -9,7 +9,8 @@ ghost use Prim.Native.Nat.{_<_, _≤_};
 
 // The lesser of two.
 fn least(a: usize, b: usize) -> usize
-    ensures { λ r. ⌜ (r ≤ a) × (r ≤ b) ⌝ }
+    requires { ⌜ (0 < a) × (0 < b) ⌝ }
+    ensures { λ r. ⌜ (0 < r) × ((r ≤ a) × (r ≤ b)) ⌝ }
 {
     if a < b { a } else { b }
 }
@@ -38,14 +39,7 @@ fn get(s: &[f64], k: usize) -> f64 {
 }
 
 // Puts the first n points of a block to the places from `at` on.
-fn unpack(
-    form: Form,
-    n: usize,
-    at: usize,
-    re: &mut [f64],
-    im: &mut [f64],
-    buffer: &[u8; BLOCK],
-) {
+fn unpack(form: Form, n: usize, at: usize, re: &mut [f64], im: &mut [f64], buffer: &[u8; BLOCK]) {
     for i in 0..n {
         let p = points::point_of(form, buffer, i);
         let k = plus(at, i);
@@ -55,8 +49,8 @@ fn unpack(
 }
 
 // Reads n bytes, or as many as there are, to the front of a block.
-fn read_front(file: i32, n: usize, buffer: &mut [u8; BLOCK]) -> usize {
-    if n > BLOCK {
+fn read_front(file: i32, n: usize, buffer: &mut [u8]) -> usize {
+    if n > buffer.len() {
         return 0;
     }
     io::read_full(file, &mut buffer[0..n])

@@ -12,8 +12,8 @@ pub(crate) enum Form {
     Other,
 }
 
-// A number of points, and the bytes of one more.
-pub(crate) struct Split {
+// A number of whole points, and the bytes of one more.
+pub(crate) struct Whole {
     pub count: usize,
     pub over: usize,
 }
@@ -42,17 +42,17 @@ pub(crate) fn points(form: Form) -> usize
 }
 
 // How many points so many bytes are.
-pub(crate) fn split(form: Form, bytes: usize) -> Split {
+pub(crate) fn split(form: Form, bytes: usize) -> Whole {
     match form {
-        Form::F32 => Split {
+        Form::F32 => Whole {
             count: bytes / 8,
             over: bytes % 8,
         },
-        Form::I16 => Split {
+        Form::I16 => Whole {
             count: bytes / 4,
             over: bytes % 4,
         },
-        _ => Split {
+        _ => Whole {
             count: bytes / 16,
             over: bytes % 16,
         },
