@@ -9,16 +9,17 @@ use bench_words::text::text;
 use isdbs_frame::FRAME_SYMBOLS;
 use isdbs_frame::MAIN_SYMBOLS;
 
-// Says that a file is probably of another form.
-fn probably(name: &[u8], what: &[u8], form: &[u8], ending: &[u8]) {
+// Says that a file is probably of another form, which a name with this ending has.
+fn probably(name: &[u8], share: &[u8], form: &[u8], ending: &[u8]) {
     text(b"  ");
     quoted(name);
-    text(what);
-    text(b" of the bytes of a frame in the form that its name says: its points are probably ");
+    text(b" has exactly ");
+    text(share);
+    text(b" the bytes of a frame in the form that it is taken for: its points are probably ");
     text(form);
-    text(b"; then its name must end in ");
+    text(b", which a name that ends in ");
     text(ending);
-    text(b"\n");
+    text(b" says\n");
 }
 
 // Says so where a file has exactly half the bytes of a frame, or a quarter of them in f64.
@@ -28,15 +29,15 @@ fn tell(name: &[u8], form: Form, n: usize) {
     match form {
         Form::F64 => {
             if is_half {
-                probably(name, b" has exactly half", b"cf32_le", b".cf32");
+                probably(name, b"half", b"cf32_le", b".cf32");
             }
             if is_quarter {
-                probably(name, b" has exactly a quarter", b"ci16_le", b".ci16");
+                probably(name, b"a quarter of", b"ci16_le", b".ci16");
             }
         }
         Form::F32 => {
             if is_half {
-                probably(name, b" has exactly half", b"ci16_le", b".ci16");
+                probably(name, b"half", b"ci16_le", b".ci16");
             }
         }
         _ => {}
