@@ -1,10 +1,21 @@
-// Files: read whole, and written whole or not at all.
-use crate::points;
+// Files that are read, and outputs that may be written.
+use crate::blocks;
+use crate::forms;
+use crate::forms::Form;
+use crate::hints;
+use crate::meta;
+pub use crate::staging::are_two;
+pub use crate::staging::discard;
+pub use crate::staging::is_plain;
+pub use crate::staging::keep;
+pub use crate::staging::stage_bytes;
+pub use crate::staging::stage_points;
+pub use crate::staging::write_bytes;
+pub use crate::staging::write_points;
 use bench_line::space::LINE_BYTES;
 use bench_line::space::LOAD_BYTES;
 use bench_line::space::LOAD_SPACE;
 use bench_line::words::front;
-use bench_line::words::is_narrow;
 use bench_line::words::same;
 use bench_words::text::number;
 use bench_words::text::quoted;
@@ -17,7 +28,7 @@ fn reason(error: i32) {
         libc::ENOENT => text(b"there is no such file or folder"),
         libc::EACCES | libc::EPERM => text(b"permission is denied"),
         libc::EEXIST => text(
-            b"it is there already; another run may be writing it, or one was broken off: then remove it",
+            b"it is there already; no run of this program is writing it: one was broken off, or it is another file: remove it, and run again",
         ),
         libc::ENOTDIR => text(b"a part of its path is no folder"),
         libc::EISDIR => text(b"it is a folder"),
@@ -35,15 +46,23 @@ fn other(error: i32) {
 }
 
 // n, or 0 where it is negative.
-fn unsigned(n: i32) -> u64 {
+pub(crate) fn unsigned(n: i32) -> u64 {
     if n < 0 {
         return 0;
     }
     n as u64
 }
 
+// The same of a wider one.
+pub(crate) fn unsigned_wide(n: i64) -> usize {
+    if n < 0 {
+        return 0;
+    }
+    n as usize
+}
+
 // The last line of a run that a file stopped.
-fn failed(what: &[u8], name: &[u8], error: i32) {
+pub(crate) fn failed(what: &[u8], name: &[u8], error: i32) {
     text(b"failed: cannot ");
     text(what);
     text(b" ");
@@ -71,19 +90,19 @@ pub fn put(dst: &mut [u8; LINE_BYTES], at: usize, src: &[u8]) -> usize {
 }
 
 // Puts a number's digits into dst from `at` on, and answers where they end.
-fn put_number(dst: &mut [u8; LINE_BYTES], at: usize, number: u64) -> usize {
+pub(crate) fn put_number(dst: &mut [u8; LINE_BYTES], at: usize, number: u64) -> usize {
     let mut digits = [0u8; 20];
     let n = io::decimal(number, &mut digits);
     put(dst, at, &digits[..n])
 }
 
 // The first n bytes.
-fn front_of<'a>(s: &'a [u8; LINE_BYTES], n: usize) -> &'a [u8] {
+pub(crate) fn front_of<'a>(s: &'a [u8; LINE_BYTES], n: usize) -> &'a [u8] {
     front(s, n)
 }
 
 // The text with a 0 in its last place.
-fn closed(text: [u8; LINE_BYTES]) -> [u8; LINE_BYTES]
+pub(crate) fn closed(text: [u8; LINE_BYTES]) -> [u8; LINE_BYTES]
     ensures { λ r. ⌜ Ended r ⌝ }
 {
     let mut out = text;
@@ -129,7 +148,7 @@ fn compare_places(a: u64, b: u64) -> Places {
 }
 
 // The last line of a run that an output's name stopped.
-fn output_is(how: &[u8], name: &[u8], why: &[u8]) {
+pub(crate) fn output_is(how: &[u8], name: &[u8], why: &[u8]) {
     text(how);
     text(b": the output ");
     quoted(name);
@@ -200,8 +219,14 @@ pub fn open_for(input: &[u8], output: &[u8]) -> i32 {
     -1
 }
 
+// Whether an open file has one more byte, which is then read.
+pub(crate) fn has_more(file: i32) -> bool {
+    let mut one = [0u8; 1];
+    libc::read(file, &mut one) > 0
+}
+
 // Whether the input has ended: one more read gives nothing, and does not fail.
-fn has_ended(file: i32, name: &[u8]) -> bool {
+pub(crate) fn has_ended(file: i32, name: &[u8]) -> bool {
     let mut one = [0u8; 1];
     let got = libc::read(file, &mut one);
     if got == 0 {
@@ -257,47 +282,32 @@ pub fn bytes_for(input: &[u8], output: &[u8], bytes: &mut [u8; LOAD_SPACE]) -> G
     read_bytes(file, input, bytes)
 }
 
-// Puts x at place k, where there is one.
-fn set(s: &mut [f64], k: usize, x: f64) {
-    if k < s.len() {
-        s[k] = x;
+// The form of an input's points; says why where it has none that is read.
+fn form_of(name: &[u8]) -> Form {
+    if forms::is_sigmf(name) {
+        return meta::form_beside(name);
     }
+    if forms::ends(name, b".sigmf") {
+        text(b"refused: ");
+        quoted(name);
+        text(b" is a SigMF archive: unpack it, and give its .sigmf-data\n");
+        return Form::Other;
+    }
+    forms::by_name(name)
 }
 
-// What stands at place k; 0 where there is none.
-fn get(s: &[f64], k: usize) -> f64 {
-    if k < s.len() {
-        return s[k];
-    }
-    0.0f64
-}
-
-// Reads up to n points until the file ends.
-fn fill(file: i32, narrow: bool, n: usize, re: &mut [f64], im: &mut [f64]) -> Got {
-    for k in 0..n {
-        let p = points::read_point(file, narrow);
-        if p.got < points::size(narrow) {
-            return Got {
-                well: true,
-                count: k,
-                over: p.got,
-            };
-        }
-        set(re, k, p.re);
-        set(im, k, p.im);
-    }
-    Got {
-        well: true,
-        count: n,
-        over: 0,
-    }
-}
-
-// Reads an open file's next points, as many as the slices hold, and leaves it open.
-pub fn read_next(file: i32, name: &[u8], re: &mut [f64], im: &mut [f64]) -> Got {
+// Reads an open file's next points in a form, as many as the slices hold.
+fn read_as(file: i32, name: &[u8], form: Form, re: &mut [f64], im: &mut [f64]) -> Got {
     let all = re.len();
-    let got = fill(file, is_narrow(name), all, re, im);
-    let well = got.count == all || has_ended(file, name);
+    let mut buffer = io::large_buffer();
+    let got = blocks::fill(file, form, re, im, &mut buffer);
+    if got.count == all {
+        return got;
+    }
+    let well = has_ended(file, name);
+    if well {
+        hints::short(file, name, form, got.count, got.over);
+    }
     Got {
         well,
         count: got.count,
@@ -305,133 +315,32 @@ pub fn read_next(file: i32, name: &[u8], re: &mut [f64], im: &mut [f64]) -> Got 
     }
 }
 
+// Reads an open file's next points, as many as the slices hold, and leaves it open.
+pub fn read_next(file: i32, name: &[u8], re: &mut [f64], im: &mut [f64]) -> Got {
+    let form = form_of(name);
+    match form {
+        Form::Other => nothing(),
+        _ => read_as(file, name, form, re, im),
+    }
+}
+
+// Reads an open file's points, as many as the slices hold; says where there are more.
+fn read_first(file: i32, name: &[u8], re: &mut [f64], im: &mut [f64]) -> Got {
+    let all = re.len();
+    let form = form_of(name);
+    let Form::Other = form else {
+        let got = read_as(file, name, form, re, im);
+        if got.count == all {
+            hints::more(file, name, form, all);
+        }
+        return got;
+    };
+    nothing()
+}
+
 // Reads an open file's points, as many as the slices hold, and closes it.
 pub fn read_points(file: i32, name: &[u8], re: &mut [f64], im: &mut [f64]) -> Got {
-    let got = read_next(file, name, re, im);
+    let got = read_first(file, name, re, im);
     libc::close(file);
     got
-}
-
-// The last 5 bytes of a name; all of a shorter one.
-fn end_of<'a>(name: &'a [u8]) -> &'a [u8] {
-    if name.len() < 5 {
-        return name;
-    }
-    &name[name.len() - 5..]
-}
-
-// Whether an output's name is free of the ending that staged files have; else says so.
-pub fn is_plain(name: &[u8]) -> bool {
-    if !same(end_of(name), b".part") {
-        return true;
-    }
-    output_is(
-        b"failed",
-        name,
-        b" has the ending of a file that is being written\n",
-    );
-    false
-}
-
-// Whether two outputs have two names; else says so.
-pub fn are_two(a: &[u8], b: &[u8]) -> bool {
-    if !same(a, b) {
-        return true;
-    }
-    text(b"failed: two outputs have the name ");
-    quoted(a);
-    text(b"\n");
-    false
-}
-
-// The file that is written before it takes the output's name.
-fn part_name(name: &[u8], part: &mut [u8; LINE_BYTES]) -> usize {
-    let at = put(part, 0, name);
-    put(part, at, b".part")
-}
-
-// Makes the file that is written first, or says why it cannot and answers -1.
-fn make_part(part: &[u8]) -> i32 {
-    let file = os::create(part);
-    if file < 0 {
-        failed(b"make", part, os::errno());
-    }
-    file
-}
-
-// Closes a file that was written first, and answers whether all of it is there; else removes it and says why.
-fn close_part(file: i32, is_written: bool, part: &[u8], name: &[u8]) -> bool {
-    let is_whole = is_written && libc::fsync(file) == 0;
-    let error = os::errno();
-    libc::close(file);
-    if !is_whole {
-        failed(b"write", name, error);
-        os::unlink(part);
-    }
-    is_whole
-}
-
-// Gives the file that was written first the output's name; else removes it and says why.
-pub fn keep(name: &[u8]) -> bool {
-    let mut space = io::buffer();
-    let n = part_name(name, &mut space);
-    let part = front_of(&space, n);
-    if os::rename(part, name) == 0 {
-        return true;
-    }
-    failed(b"write", name, os::errno());
-    os::unlink(part);
-    false
-}
-
-// Removes the file that was written first.
-pub fn discard(name: &[u8]) {
-    let mut space = io::buffer();
-    let n = part_name(name, &mut space);
-    os::unlink(front_of(&space, n));
-}
-
-// Writes bytes beside the output's place, and answers whether all are there: `keep` or `discard` follows.
-pub fn stage_bytes(name: &[u8], bytes: &[u8]) -> bool {
-    let mut space = io::buffer();
-    let n = part_name(name, &mut space);
-    let part = front_of(&space, n);
-    let file = make_part(part);
-    if file < 0 {
-        return false;
-    }
-    let is_written = io::write_all(file, bytes);
-    close_part(file, is_written, part, name)
-}
-
-// Writes a file of bytes, and answers whether it is there.
-pub fn write_bytes(name: &[u8], bytes: &[u8]) -> bool {
-    stage_bytes(name, bytes) && keep(name)
-}
-
-fn pour(file: i32, narrow: bool, re: &[f64], im: &[f64]) -> bool {
-    for k in 0..re.len() {
-        if !points::write_point(file, narrow, get(re, k), get(im, k)) {
-            return false;
-        }
-    }
-    true
-}
-
-// Writes points beside the output's place, and answers whether all are there: `keep` or `discard` follows.
-pub fn stage_points(name: &[u8], re: &[f64], im: &[f64]) -> bool {
-    let mut space = io::buffer();
-    let n = part_name(name, &mut space);
-    let part = front_of(&space, n);
-    let file = make_part(part);
-    if file < 0 {
-        return false;
-    }
-    let is_written = pour(file, is_narrow(name), re, im);
-    close_part(file, is_written, part, name)
-}
-
-// Writes a file of points, and answers whether it is there.
-pub fn write_points(name: &[u8], re: &[f64], im: &[f64]) -> bool {
-    stage_points(name, re, im) && keep(name)
 }

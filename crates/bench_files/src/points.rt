@@ -1,9 +1,12 @@
-// Points in files: interleaved real and imaginary parts, the low byte first, of f64 (cf64_le) or f32 (cf32_le).
-ghost use Prim.Native.Nat.{_<_};
+// Points as bytes: real and imaginary parts in turn, the low byte first, of f64 (cf64_le), f32 (cf32_le) or 16-bit integers in units of 1/32,768 (ci16_le).
+use crate::forms::Form;
+ghost use Prim.Native.Nat.{_<_, _≤_};
 
-// A point read from a file, and how many of its bytes were there.
-pub struct Point {
-    pub got: usize,
+// The bytes that are read or written at a time.
+pub(crate) const BLOCK: usize = 65_536;
+
+// A point.
+pub(crate) struct Point {
     pub re: f64,
     pub im: f64,
 }
@@ -57,39 +60,77 @@ fn f64_of_f32(bits: u64) -> f64
     std::num::f32_to_f64_with_nan(f32_of(bits as u32))
 }
 
-fn read_f64(file: i32) -> Point {
-    let mut b = [0u8; 16];
-    let got = io::read_full(file, &mut b);
+// The part that two bytes in two's complement give, in units of 1/32,768: every step is exact.
+fn f64_of_i16(low: u8, high: u8) -> f64 {
+    let n = std::num::nearest_u64_to_f64(wide(low) + wide(high) * 0x100);
+    if high < 128 {
+        return n / 32_768.0f64;
+    }
+    (n - 65_536.0f64) / 32_768.0f64
+}
+
+// The number of the four bytes from `at` on; 0 where the block ends before.
+fn four_at(b: &[u8; BLOCK], at: usize) -> u64
+    ensures { λ r. ⌜ r < 4294967296 ⌝ }
+{
+    if at > BLOCK - 4 {
+        return 0;
+    }
+    four(b[at], b[at + 1], b[at + 2], b[at + 3])
+}
+
+fn read_f64(b: &[u8; BLOCK], at: usize) -> Point
+    requires { ⌜ at ≤ 1048576 ⌝ }
+{
     Point {
-        got,
-        re: f64_of_halves(four(b[0], b[1], b[2], b[3]), four(b[4], b[5], b[6], b[7])),
-        im: f64_of_halves(
-            four(b[8], b[9], b[10], b[11]),
-            four(b[12], b[13], b[14], b[15]),
-        ),
+        re: f64_of_halves(four_at(b, at), four_at(b, at + 4)),
+        im: f64_of_halves(four_at(b, at + 8), four_at(b, at + 12)),
     }
 }
 
-fn read_f32(file: i32) -> Point {
-    let mut b = [0u8; 8];
-    let got = io::read_full(file, &mut b);
+fn read_f32(b: &[u8; BLOCK], at: usize) -> Point
+    requires { ⌜ at ≤ 1048576 ⌝ }
+{
     Point {
-        got,
-        re: f64_of_f32(four(b[0], b[1], b[2], b[3])),
-        im: f64_of_f32(four(b[4], b[5], b[6], b[7])),
+        re: f64_of_f32(four_at(b, at)),
+        im: f64_of_f32(four_at(b, at + 4)),
     }
 }
 
-// Bytes of a point.
-pub fn size(narrow: bool) -> usize {
-    if narrow { 8 } else { 16 }
+fn read_i16(b: &[u8; BLOCK], at: usize) -> Point {
+    if at > BLOCK - 4 {
+        return Point {
+            re: 0.0f64,
+            im: 0.0f64,
+        };
+    }
+    Point {
+        re: f64_of_i16(b[at], b[at + 1]),
+        im: f64_of_i16(b[at + 2], b[at + 3]),
+    }
 }
 
-pub fn read_point(file: i32, narrow: bool) -> Point {
-    if narrow {
-        read_f32(file)
-    } else {
-        read_f64(file)
+// Where point i of a block begins.
+fn place_of(form: Form, i: usize) -> usize
+    ensures { λ r. ⌜ r ≤ 1048576 ⌝ }
+{
+    if i > BLOCK {
+        return BLOCK;
+    }
+    match form {
+        Form::F32 => 8 * i,
+        Form::I16 => 4 * i,
+        _ => 16 * i,
+    }
+}
+
+// Point i of a block.
+pub(crate) fn point_of(form: Form, b: &[u8; BLOCK], i: usize) -> Point {
+    let at = place_of(form, i);
+    match form {
+        Form::F32 => read_f32(b, at),
+        Form::I16 => read_i16(b, at),
+        _ => read_f64(b, at),
     }
 }
 
@@ -114,51 +155,40 @@ fn low(n: u64) -> u8 {
     (n % 256) as u8
 }
 
-fn write_f64(file: i32, x: f64, y: f64) -> bool {
+// Puts the low four bytes of a number at a place of a block, the low one first, where they fit.
+fn put_four(b: &mut [u8; BLOCK], at: usize, n: u64) {
+    if at > BLOCK - 4 {
+        return;
+    }
+    b[at] = low(n);
+    b[at + 1] = low(n / 0x100);
+    b[at + 2] = low(n / 0x1_0000);
+    b[at + 3] = low(n / 0x100_0000);
+}
+
+fn put_f64(b: &mut [u8; BLOCK], at: usize, x: f64, y: f64)
+    requires { ⌜ at ≤ 1048576 ⌝ }
+{
     let n = f64_bits(x);
     let m = f64_bits(y);
-    let b = [
-        low(n),
-        low(n / 0x100),
-        low(n / 0x1_0000),
-        low(n / 0x100_0000),
-        low(n / 0x1_0000_0000),
-        low(n / 0x100_0000_0000),
-        low(n / 0x1_0000_0000_0000),
-        low(n / 0x100_0000_0000_0000),
-        low(m),
-        low(m / 0x100),
-        low(m / 0x1_0000),
-        low(m / 0x100_0000),
-        low(m / 0x1_0000_0000),
-        low(m / 0x100_0000_0000),
-        low(m / 0x1_0000_0000_0000),
-        low(m / 0x100_0000_0000_0000),
-    ];
-    io::write_all(file, &b)
+    put_four(b, at, n);
+    put_four(b, at + 4, n / 0x1_0000_0000);
+    put_four(b, at + 8, m);
+    put_four(b, at + 12, m / 0x1_0000_0000);
 }
 
-fn write_f32(file: i32, x: f64, y: f64) -> bool {
-    let n = f32_bits(x);
-    let m = f32_bits(y);
-    let b = [
-        low(n),
-        low(n / 0x100),
-        low(n / 0x1_0000),
-        low(n / 0x100_0000),
-        low(m),
-        low(m / 0x100),
-        low(m / 0x1_0000),
-        low(m / 0x100_0000),
-    ];
-    io::write_all(file, &b)
+fn put_f32(b: &mut [u8; BLOCK], at: usize, x: f64, y: f64)
+    requires { ⌜ at ≤ 1048576 ⌝ }
+{
+    put_four(b, at, f32_bits(x));
+    put_four(b, at + 4, f32_bits(y));
 }
 
-// Writes a point, and answers whether it is written.
-pub fn write_point(file: i32, narrow: bool, x: f64, y: f64) -> bool {
-    if narrow {
-        write_f32(file, x, y)
-    } else {
-        write_f64(file, x, y)
+// Puts a point at place i of a block, as f32 or as f64.
+pub(crate) fn put_point(form: Form, b: &mut [u8; BLOCK], i: usize, x: f64, y: f64) {
+    let at = place_of(form, i);
+    match form {
+        Form::F32 => put_f32(b, at, x, y),
+        _ => put_f64(b, at, x, y),
     }
 }

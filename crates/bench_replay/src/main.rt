@@ -15,9 +15,13 @@ ghost use Prim.Native.Nat.{_≤_};
 // The parts of a frame's points.
 const PARTS: usize = 2 * MAIN_SYMBOLS;
 
-// A command's words are separated by 0 bytes.
+// A command's words are separated by 0 bytes; a bar stands for the end of a line in a word.
 fn separated(b: u8) -> u8 {
-    if b == b' ' { 0 } else { b }
+    match b {
+        b' ' => 0,
+        b'|' => b'\n',
+        _ => b,
+    }
 }
 
 fn separate(line: &mut [u8; LINE_BYTES]) {

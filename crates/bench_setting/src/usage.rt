@@ -30,6 +30,7 @@ fn usage_words() {
         KIND     first (of a superframe) or other\n  \
         FRAME    38,976 points, interleaved little-endian f64 parts; f32 where the name ends in .cf32\n  \
         HEADER, MAIN, BURST, FULL    192, 38,976, 768 and 39,936 points in the same forms as FRAME\n  \
+        .ci16, .sigmf-data    endings of points that are read and not written: 16-bit integers in units of 1/32,768; as the .sigmf-meta beside it says\n  \
         WINDOW   how many of the last frames are summed, 1 to 256\n  \
         LOAD1, LOAD2    raw bytes, equally many in both, up to 9,744\n  \
         SCALES   scale N for all, or scales A,B,C,D,E,F,G in the order of words 1 to 7; 8 where they are not given\n  \

@@ -59,18 +59,54 @@ pub fn byte(b: u8) {
     io::print_hex(STDOUT_FILENO, b as u64, 2);
 }
 
+// Whether a byte is shown as it is: no control byte.
+fn is_shown(b: u8) -> bool {
+    b >= 32 && b != 127
+}
+
+// Whether every byte of a name is shown as it is.
+fn is_all_shown(s: &[u8]) -> bool {
+    for i in 0..s.len() {
+        if !is_shown(s[i]) {
+            return false;
+        }
+    }
+    true
+}
+
+// A byte of a name: a control byte as \x and its two digits.
+fn letter(b: u8) {
+    if is_shown(b) {
+        text(&[b]);
+        return;
+    }
+    text(b"\\x");
+    byte(b);
+}
+
+// A name with its control bytes as \x and their digits, so that it stays within its line.
+pub fn name(s: &[u8]) {
+    if is_all_shown(s) {
+        text(s);
+        return;
+    }
+    for i in 0..s.len() {
+        letter(s[i]);
+    }
+}
+
 // A name in quotation marks.
 pub fn quoted(s: &[u8]) {
     text(b"\"");
-    text(s);
+    name(s);
     text(b"\"");
 }
 
 // A file by its kind and name, and n of what it holds.
-pub fn file(kind: &[u8], name: &[u8], n: usize, what: &[u8]) {
+pub fn file(kind: &[u8], path: &[u8], n: usize, what: &[u8]) {
     text(kind);
     text(b" ");
-    quoted(name);
+    quoted(path);
     say(b": $", &[n]);
     text(what);
 }

@@ -2,26 +2,29 @@ use mathlib.Core.Path.{_≡_}
 use Prim.Native.Nat.{_-_, _≤_}
 use lib.ListN.{length}
 use borrow.Author.Needs.{needs}
-use Rattle.bench_files.proofs.files.pour.Statement.{statement}
-use Rattle.bench_files.proofs.files.pour.Tie as tie
+use Rattle.bench_files.proofs.blocks.pour.Statement.{statement}
+use Rattle.bench_files.proofs.blocks.pour.Tie as tie
 
 abbrev Inv-loop : tie.InvT-loop
-Inv-loop file narrow re im k₀ k-end k = (k-end ≡ length re) × (k ≤ length re)
+Inv-loop file form re im buffer₀ all k₀ buffer k = (k ≤ all) × (all ≡ length re)
 
 abbrev μ-loop : tie.MeasureT-loop
-μ-loop file narrow re im k₀ k-end k = length re - k
+μ-loop file form re im buffer₀ all k₀ buffer k = all - k
 
 loop-holds : tie.Need-loop-holds Inv-loop μ-loop
 loop-holds c = search needs
 
-get-requires : tie.Need-get-requires Inv-loop μ-loop
-get-requires c κs = search needs
+sub-least : tie.Need-sub-least Inv-loop μ-loop
+sub-least c = search needs
 
-get-requires-2 : tie.Need-get-requires-2 Inv-loop μ-loop
-get-requires-2 c κs = search needs
+points-requires : tie.Need-points-requires Inv-loop μ-loop
+points-requires c κs = search needs
 
-write-point-requires : tie.Need-write-point-requires Inv-loop μ-loop
-write-point-requires c κs = search needs
+least-requires : tie.Need-least-requires Inv-loop μ-loop
+least-requires c κs = search needs
+
+write-block-requires : tie.Need-write-block-requires Inv-loop μ-loop
+write-block-requires c κs = search needs
 
 returns : tie.Need-returns Inv-loop μ-loop
 returns c = search needs
@@ -45,9 +48,10 @@ pour-spec =
     Inv-loop
     μ-loop
     loop-holds
-    get-requires
-    get-requires-2
-    write-point-requires
+    sub-least
+    points-requires
+    least-requires
+    write-block-requires
     returns
     add-k
     loop-less

@@ -1,0 +1,51 @@
+use mathlib.Core.Path.{_≡_}
+use Prim.Native.Nat.{_-_, _≤_}
+use lib.ListN.{length}
+use borrow.Author.Needs.{needs}
+use Rattle.bench_words.proofs.text.is_all_shown.Statement.{statement}
+use Rattle.bench_words.proofs.text.is_all_shown.Tie as tie
+
+abbrev Inv-loop : tie.InvT-loop
+Inv-loop s i₀ i-end i = (i-end ≡ length s) × (i ≤ length s)
+
+abbrev μ-loop : tie.MeasureT-loop
+μ-loop s i₀ i-end i = length s - i
+
+loop-holds : tie.Need-loop-holds Inv-loop μ-loop
+loop-holds c = search needs
+
+shared-slice-read-is-shown : tie.Need-shared-slice-read-is-shown Inv-loop μ-loop
+shared-slice-read-is-shown c = search needs
+
+is-shown-requires : tie.Need-is-shown-requires Inv-loop μ-loop
+is-shown-requires c κs = search needs
+
+returns : tie.Need-returns Inv-loop μ-loop
+returns c = search needs
+
+add-i : tie.Need-add-i Inv-loop μ-loop
+add-i c = search needs
+
+loop-less : tie.Need-loop-less Inv-loop μ-loop
+loop-less c = search needs
+
+loop-again : tie.Need-loop-again Inv-loop μ-loop
+loop-again c = search needs
+
+returns-2 : tie.Need-returns-2 Inv-loop μ-loop
+returns-2 c = search needs
+
+pub is-all-shown-spec : {M : Type 1} → statement M
+is-all-shown-spec =
+    tie.close
+    (tie.spec
+    Inv-loop
+    μ-loop
+    loop-holds
+    shared-slice-read-is-shown
+    is-shown-requires
+    returns
+    add-i
+    loop-less
+    loop-again
+    returns-2)
