@@ -28,7 +28,7 @@ fn hundredths(m: u64, n: u64) -> u64
 }
 
 // A lead in percent of the clean one.
-fn percent(lead: u64, clean: u64) -> u64 {
+pub fn percent(lead: u64, clean: u64) -> u64 {
     if clean == 0 {
         return 0;
     }

@@ -1,9 +1,9 @@
 // cut: one frame of a capture to a file.
-use crate::searching::minus;
 use crate::searching::read_from;
 use crate::words;
 use crate::words::misused;
 use bench_files::files;
+use bench_header::minus;
 use bench_line::words::Number;
 use bench_line::words::digits;
 use bench_line::words::part;

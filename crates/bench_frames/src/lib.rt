@@ -1,7 +1,7 @@
 // The bench program's commands on captures of any length: frames and cut. A capture is read in pieces.
 mod cutting;
-mod searching;
-mod words;
+pub mod searching;
+pub mod words;
 
 use bench_line::words::part;
 use bench_line::words::parts;
@@ -11,7 +11,7 @@ use words::misused;
 pub use words::show_usage;
 
 // The points that are held at once: a frame at each of 39,936 places.
-const PIECE: usize = 2 * FRAME_SYMBOLS - 1;
+pub const PIECE: usize = 2 * FRAME_SYMBOLS - 1;
 
 // bench frames CAPTURE
 pub fn frames(line: &[u8]) {

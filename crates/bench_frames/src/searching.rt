@@ -1,13 +1,16 @@
-// frames: every frame of a capture.
+// frames: every frame of a capture, of which so many points are held at once.
 use crate::PIECE;
 use crate::words;
 use bench_files::files;
+use bench_header::minus;
+use bench_header::plus;
 use bench_line::words::front_parts;
 use bench_words::report;
 use bench_words::text::file;
 use bench_words::text::say;
 use bench_words::text::text;
 use header_find::FrameAnswer;
+use header_find::Header;
 use header_find::find_frame;
 use isdbs_frame::FRAME_SYMBOLS;
 use refusal::Answer;
@@ -20,25 +23,34 @@ struct Found {
 }
 
 // The points that are held: how many, and which of the capture the first one is; whether the capture was read well so far, and how many bytes of one more point it has.
-struct Held {
-    count: usize,
-    start: usize,
-    well: bool,
-    over: usize,
+pub struct Held {
+    pub count: usize,
+    pub start: usize,
+    pub well: bool,
+    pub over: usize,
+}
+
+// Whether a frame was found among the points that are held, at which of them, and what its header says.
+pub struct Seen {
+    pub is_frame: bool,
+    pub at: usize,
+    pub header: Header,
+}
+
+// What is held, and the frames found.
+struct Run {
+    held: Held,
     found: Found,
 }
 
-// a + b, or a where that is too large.
-fn plus(a: usize, b: usize) -> usize {
-    if b <= 0xffff_ffff_ffff_ffff - a {
-        return a + b;
+// No point yet.
+pub fn none_held() -> Held {
+    Held {
+        count: 0,
+        start: 0,
+        well: true,
+        over: 0,
     }
-    a
-}
-
-// a - b, or 0.
-pub(crate) fn minus(a: usize, b: usize) -> usize {
-    if b <= a { a - b } else { 0 }
 }
 
 // Puts what stands at place j to place i, where both are.
@@ -75,7 +87,7 @@ pub(crate) fn read_from(
 }
 
 // Reads on behind the points that are held.
-fn read_on(
+pub fn read_on(
     opened: i32,
     name: &[u8],
     held: Held,
@@ -83,24 +95,39 @@ fn read_on(
     im: &mut [f64; PIECE],
 ) -> Held {
     let got = read_from(opened, name, held.count, re, im);
-    let found = held.found;
     Held {
         count: plus(held.count, got.count),
         start: held.start,
         well: got.well,
         over: plus(held.over, got.over),
-        found: found,
+    }
+}
+
+// Looks for a frame among the points that are held.
+pub fn look_for(held: Held, re: &[f64; PIECE], im: &[f64; PIECE]) -> Seen {
+    let count = held.count;
+    let answer = find_frame(front_parts(re, count), front_parts(im, count), 0);
+    match answer {
+        FrameAnswer::Found(p, h) => Seen {
+            is_frame: h.turn <= 7,
+            at: p,
+            header: h,
+        },
+        FrameAnswer::Refused(_) => Seen {
+            is_frame: false,
+            at: 0,
+            header: Header {
+                first: false,
+                turn: 8,
+                re: 40,
+                im: 40,
+            },
+        },
     }
 }
 
 // Forgets the first points.
-fn forget(
-    held: Held,
-    by: usize,
-    found: Found,
-    re: &mut [f64; PIECE],
-    im: &mut [f64; PIECE],
-) -> Held {
+pub fn forget(held: Held, by: usize, re: &mut [f64; PIECE], im: &mut [f64; PIECE]) -> Held {
     move_down(re, by);
     move_down(im, by);
     Held {
@@ -108,8 +135,12 @@ fn forget(
         start: plus(held.start, by),
         well: held.well,
         over: held.over,
-        found: found,
     }
+}
+
+// How many points are forgotten where no frame was found: one for each place that was looked at.
+pub fn looked_at(held: Held) -> usize {
+    plus(minus(held.count, FRAME_SYMBOLS), 1)
 }
 
 // What lies between the end of the frame before and a frame, and the frames with this one.
@@ -135,36 +166,39 @@ fn next_found(found: Found, place: usize) -> Found {
 }
 
 // Looks for a frame among the points that are held, says it, and forgets the points up to its first; where there is none, all places that were looked at.
-fn look(held: Held, re: &mut [f64; PIECE], im: &mut [f64; PIECE]) -> Held {
+fn look(run: Run, re: &mut [f64; PIECE], im: &mut [f64; PIECE]) -> Run {
+    let held = run.held;
+    let found = run.found;
     let count = held.count;
-    let found = held.found;
-    let answer = find_frame(front_parts(re, count), front_parts(im, count), 0);
-    match answer {
-        FrameAnswer::Refused(_) => held,
-        FrameAnswer::Found(p, h) => {
-            if h.turn > 7 {
-                let past = plus(minus(count, FRAME_SYMBOLS), 1);
-                return forget(held, past, found, re, im);
-            }
-            let place = plus(held.start, p);
-            say(b"frame at point $", &[place]);
-            words::header(h, front_parts(re, count), front_parts(im, count), p);
-            let more = next_found(found, place);
-            forget(held, plus(p, 1), more, re, im)
-        }
+    let s = look_for(held, re, im);
+    if !s.is_frame {
+        let rest = forget(held, looked_at(held), re, im);
+        return Run { held: rest, found };
+    }
+    let h = s.header;
+    let place = plus(held.start, s.at);
+    say(b"frame at point $", &[place]);
+    words::header(h, front_parts(re, count), front_parts(im, count), s.at);
+    let more = next_found(found, place);
+    let rest = forget(held, plus(s.at, 1), re, im);
+    Run {
+        held: rest,
+        found: more,
     }
 }
 
 // The most pieces that are read.
-const PIECES: usize = 1_000_000;
+pub const PIECES: usize = 1_000_000;
+
+// Whether a frame fits into the points that are held, which were read well.
+pub fn may_look(held: Held) -> bool {
+    held.well && held.count >= FRAME_SYMBOLS
+}
 
 // All pieces.
-fn all(opened: i32, name: &[u8], re: &mut [f64; PIECE], im: &mut [f64; PIECE]) -> Held {
-    let mut held = Held {
-        count: 0,
-        start: 0,
-        well: true,
-        over: 0,
+fn all(opened: i32, name: &[u8], re: &mut [f64; PIECE], im: &mut [f64; PIECE]) -> Run {
+    let mut run = Run {
+        held: none_held(),
         found: Found {
             frames: 0,
             within: 0,
@@ -172,13 +206,15 @@ fn all(opened: i32, name: &[u8], re: &mut [f64; PIECE], im: &mut [f64; PIECE]) -
         },
     };
     for _ in 0..PIECES {
-        held = read_on(opened, name, held, re, im);
-        if !held.well || held.count < FRAME_SYMBOLS {
-            return held;
+        let held = read_on(opened, name, run.held, re, im);
+        let found = run.found;
+        run = Run { held, found };
+        if !may_look(held) {
+            return run;
         }
-        held = look(held, re, im);
+        run = look(run, re, im);
     }
-    held
+    run
 }
 
 // The last line, by the points of the capture.
@@ -200,9 +236,8 @@ fn verdict(points: usize, found: Found) {
 }
 
 // The last lines.
-fn end(name: &[u8], held: Held) {
+fn end(name: &[u8], held: Held, found: Found) {
     let points = plus(held.start, held.count);
-    let found = held.found;
     file(b"capture", name, points, b" points");
     if held.over > 0 {
         say(b" and $ bytes over", &[held.over]);
@@ -223,9 +258,10 @@ pub(crate) fn frames(name: &[u8], re: &mut [f64; PIECE], im: &mut [f64; PIECE]) 
     if opened < 0 {
         return;
     }
-    let held = all(opened, name, re, im);
+    let run = all(opened, name, re, im);
     libc::close(opened);
+    let held = run.held;
     if held.well {
-        end(name, held);
+        end(name, held, run.found);
     }
 }

@@ -1,4 +1,5 @@
 // How the commands are used, and what is said of a header: kind, turn, sums and mean.
+use bench_header::say_turn;
 use bench_setting::usage;
 use bench_words::text::count;
 use bench_words::text::number;
@@ -8,18 +9,19 @@ use header_mean::Mean;
 use header_mean::mean_at;
 use header_sync::no_frame;
 
-// How frames and cut are used.
+// How frames, cut and capture are used.
 pub fn show_usage() {
     text(
         b"captures:\n  \
         bench frames CAPTURE                                             every frame of CAPTURE by its header: place, kind, turn, sums, gain and mean\n  \
         bench cut CAPTURE PLACE FULL [align]                             the frame of CAPTURE from point PLACE on to FULL; align: by the mean of its header\n  \
+        bench capture TABLE MAPPING CAPTURE REPORT [align]               every frame of CAPTURE read, its kind by its header; a line for each to REPORT\n  \
         CAPTURE, PLACE    any number of points in the same forms as FRAME; one of them, counted from 0\n",
     );
 }
 
 // The last line of a command that is not understood, after the usage.
-pub(crate) fn misused(why: &[u8], word: &[u8]) {
+pub fn misused(why: &[u8], word: &[u8]) {
     show_usage();
     usage::misused(why, word);
 }
@@ -32,19 +34,6 @@ fn sum(held: usize) {
         return;
     }
     count(held - 40);
-}
-
-fn turn(eighths: u8) {
-    match eighths {
-        0 => text(b"not turned"),
-        1 => text(b"turned by 45 degrees"),
-        2 => text(b"turned by 90 degrees"),
-        3 => text(b"turned by 135 degrees"),
-        4 => text(b"turned by 180 degrees"),
-        5 => text(b"turned by 225 degrees"),
-        6 => text(b"turned by 270 degrees"),
-        _ => text(b"turned by 315 degrees"),
-    }
 }
 
 fn kind(first: bool) {
@@ -62,11 +51,11 @@ fn told(first: bool, eighths: u8) {
         return;
     }
     kind(first);
-    turn(eighths);
+    say_turn(eighths);
 }
 
-// Where t is above -1 and below 2^64, its whole part.
-fn whole(t: f64) -> u64 {
+// Where t is above -1 and below 2^64, its whole part; else 0.
+pub fn whole(t: f64) -> u64 {
     if t > -1.0f64 {
         if t < 18446744073709551616.0f64 {
             let n = std::num::truncating_f64_to_u64(t);
@@ -107,7 +96,7 @@ fn signed(x: f64) {
 const STEPS: usize = 64;
 
 // The root of a number, nearly.
-fn root(x: f64) -> f64 {
+pub fn root(x: f64) -> f64 {
     let mut r = x + 1.0f64;
     for _ in 0..STEPS {
         r = (r + x / r) / 2.0f64;
@@ -126,7 +115,7 @@ fn say_mean(mean: Mean) {
 }
 
 // The mean of the header at a place; 0 where no frame fits there.
-fn mean_there(first: bool, re: &[f64], im: &[f64], at: usize) -> Mean {
+pub fn mean_there(first: bool, re: &[f64], im: &[f64], at: usize) -> Mean {
     if no_frame(re.len(), im.len(), at) {
         return Mean {
             re: 0.0,

@@ -25,7 +25,7 @@ fn place_of(list: &[u8], word: &[u8]) -> usize {
 // The place of a command's word among all of them.
 fn command_of(word: &[u8]) -> usize {
     place_of(
-        b"make read judge compare lay part bytes series mend overlay best frames cut version help --help -h",
+        b"make read judge compare lay part bytes series mend overlay best frames cut capture version help --help -h",
         word,
     )
 }
@@ -59,8 +59,9 @@ pub fn run(line: &[u8]) {
         10 => bench_best::best(line),
         11 => bench_frames::frames(line),
         12 => bench_frames::cut(line),
-        13 => usage::version(),
-        14..=16 => help(),
+        13 => bench_capture::capture(line),
+        14 => usage::version(),
+        15..=17 => help(),
         _ => unknown(word),
     }
 }

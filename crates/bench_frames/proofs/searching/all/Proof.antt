@@ -4,16 +4,22 @@ use Rattle.bench_frames.proofs.searching.all.Statement.{statement}
 use Rattle.bench_frames.proofs.searching.all.Tie as tie
 
 abbrev Inv-loop : tie.InvT-loop
-Inv-loop opened name re₀ im₀ held₀ counter₀ re im held counter = counter ≤ 1000000
+Inv-loop opened name re₀ im₀ run₀ counter₀ re im run counter = counter ≤ 1000000
 
 abbrev μ-loop : tie.MeasureT-loop
-μ-loop opened name re₀ im₀ held₀ counter₀ re im held counter = 1000000 - counter
+μ-loop opened name re₀ im₀ run₀ counter₀ re im run counter = 1000000 - counter
+
+none-held-requires : tie.Need-none-held-requires Inv-loop μ-loop
+none-held-requires c κs = search needs
 
 loop-holds : tie.Need-loop-holds Inv-loop μ-loop
 loop-holds c = search needs
 
 read-on-requires : tie.Need-read-on-requires Inv-loop μ-loop
 read-on-requires c κs = search needs
+
+may-look-requires : tie.Need-may-look-requires Inv-loop μ-loop
+may-look-requires c κs = search needs
 
 returns : tie.Need-returns Inv-loop μ-loop
 returns c = search needs
@@ -39,8 +45,10 @@ all-spec =
     (tie.spec
     Inv-loop
     μ-loop
+    none-held-requires
     loop-holds
     read-on-requires
+    may-look-requires
     returns
     look-requires
     add-counter
