@@ -25,7 +25,7 @@ fn place_of(list: &[u8], word: &[u8]) -> usize {
 // The place of a command's word among all of them.
 fn command_of(word: &[u8]) -> usize {
     place_of(
-        b"make read judge compare lay part bytes series mend overlay best frames cut version help --help -h",
+        b"make read judge compare lay part bytes series mend overlay best frames cut version help --help -h check",
         word,
     )
 }
@@ -61,6 +61,7 @@ pub fn run(line: &[u8]) {
         12 => bench_frames::cut(line),
         13 => usage::version(),
         14..=16 => help(),
+        17 => bench_check::check(line),
         _ => unknown(word),
     }
 }
