@@ -32,21 +32,27 @@ struct Slot {
     /// the lead in percent of the clean frame's
     strength: i64,
     strain: u32,
-    /// the level of the worst of the frame's slots in which it lies, and that of the frame's middle slot
+    /// the level of the worst of the frame's slots in which it lies, of the worst of the two beside these, and of the frame's middle slot
     worst: i32,
+    beside: i32,
     middle: i32,
 }
 
 /// The rule.
 fn is_firm(kind: &Kind, s: &Slot) -> bool {
-    let fails = 10 * kind.fails;
-    let below = if kind.word == 1 { 8 } else { 6 };
-    let need = match s.middle - fails {
+    let above = s.middle - 10 * kind.fails;
+    // how far noise lets a slot lie below the middle one: of BPSK half as many parts are counted
+    let usual = if kind.word == 1 { 5 } else { 3 };
+    let short = s.middle - s.worst - usual;
+    let by_noise = match above {
         ..20 => 12,
         40.. => 30,
-        above => 12 + 9 * (above - 20) / 10,
+        _ => 12 + 9 * (above - 20) / 10,
     };
-    s.worst >= fails + 13 && s.worst >= s.middle - below && s.strength >= i64::from(need) && (!s.last || s.strength >= 60)
+    let by_burst = by_noise + 6 * short.max(0);
+    let is_beside = s.beside < s.middle - 10;
+    let need = if s.last || is_beside { by_burst.max(60) } else { by_burst };
+    s.worst >= 10 * kind.fails + 13 && short <= 2 && s.strength >= i64::from(need)
 }
 
 const STEPS: usize = 68_208;
@@ -70,6 +76,12 @@ fn whole(kind: &Kind) -> u64 {
 fn lies_in(kind: &Kind, k: usize) -> std::ops::Range<usize> {
     let (slots, valid) = kind.unit;
     k * slots / valid..((k + 1) * slots).div_ceil(valid)
+}
+
+/// The slots of the frame beside these.
+fn beside(kind: &Kind, k: usize) -> impl Iterator<Item = usize> {
+    let own = lies_in(kind, k);
+    [own.start.wrapping_sub(1), own.end].into_iter().filter(|&i| i < SLOTS)
 }
 
 /// The received points, and space for the calls.
@@ -171,6 +183,7 @@ impl Bench {
                 strength: (100 * leads[k] / clean[k]) as i64,
                 strain: counts[k],
                 worst: lies_in(kind, k).map(|i| levels[i]).min().unwrap(),
+                beside: beside(kind, k).map(|i| levels[i]).min().unwrap(),
                 middle,
             })
             .collect()
@@ -225,10 +238,10 @@ fn normals(draws: &mut Draws) -> (f64, f64) {
 const CLEAN: i32 = 99;
 const LENGTHS: [usize; 7] = [10, 20, 50, 100, 200, 400, 800];
 
-/// A line for each slot: word, dB, length and amplitude of the bursts (0 without), whether it is the frame's last, whether it is right, strength, strain, level, middle level.
+/// A line for each slot: word, dB, length and amplitude of the bursts (0 without), whether it is the frame's last, whether it is right, strength, strain, the level, that beside it and the middle one.
 fn show(kind: &Kind, db: i32, length: usize, amplitude: u32, slots: &[Slot]) {
     for s in slots {
-        println!("{} {db} {length} {amplitude} {} {} {} {} {} {}", kind.word, u8::from(s.last), u8::from(s.right), s.strength, s.strain, s.worst, s.middle);
+        println!("{} {db} {length} {amplitude} {} {} {} {} {} {} {}", kind.word, u8::from(s.last), u8::from(s.right), s.strength, s.strain, s.worst, s.beside, s.middle);
     }
 }
 
@@ -308,9 +321,9 @@ fn counted(files: &[String]) -> Counts {
     for file in files {
         for line in std::fs::read_to_string(file).unwrap().lines() {
             let n: Vec<i64> = line.split(' ').map(|w| w.parse().unwrap()).collect();
-            let Ok([word, db, length, amplitude, last, right, strength, strain, worst, middle]) = <[i64; 10]>::try_from(n) else { continue };
+            let Ok([word, db, length, amplitude, last, right, strength, strain, worst, beside, middle]) = <[i64; 11]>::try_from(n) else { continue };
             let kind = &KINDS[word as usize - 1];
-            let s = Slot { last: last == 1, right: right == 1, strength, strain: strain as u32, worst: worst as i32, middle: middle as i32 };
+            let s = Slot { last: last == 1, right: right == 1, strength, strain: strain as u32, worst: worst as i32, beside: beside as i32, middle: middle as i32 };
             let firm = is_firm(kind, &s);
             counts.entry((kind.word, db as i32 - kind.fails, length as usize, amplitude as u32, s.last)).or_default().add(&s, firm);
         }
