@@ -38,21 +38,16 @@ struct Slot {
     middle: i32,
 }
 
-/// The rule.
+/// The rule. By noise: the frame's middle slot tells how much strength to ask for. By bursts: a slot below the middle one by more than noise makes it needs more, or is not firm; the last slot, whose end is open, and one beside a
+/// slot that was hit, which shares code with it, need twice as much.
 fn is_firm(kind: &Kind, s: &Slot) -> bool {
-    let above = s.middle - 10 * kind.fails;
-    // how far noise lets a slot lie below the middle one: of BPSK half as many parts are counted
+    let fails = 10 * kind.fails;
+    // of BPSK half as many parts are counted
     let usual = if kind.word == 1 { 5 } else { 3 };
-    let short = s.middle - s.worst - usual;
-    let by_noise = match above {
-        ..20 => 12,
-        40.. => 30,
-        _ => 12 + 9 * (above - 20) / 10,
-    };
-    let by_burst = by_noise + 6 * short.max(0);
-    let is_beside = s.beside < s.middle - 10;
-    let need = if s.last || is_beside { by_burst.max(60) } else { by_burst };
-    s.worst >= 10 * kind.fails + 13 && short <= 2 && s.strength >= i64::from(need)
+    let short = (s.middle - s.worst - usual).max(0);
+    let need = (s.middle - fails - 10).clamp(10, 30) + 6 * short;
+    let least = if s.last || s.beside < s.middle - 10 { 60 } else { 0 };
+    s.worst >= fails + 13 && short <= 2 && s.strength >= i64::from(need.max(least))
 }
 
 const STEPS: usize = 68_208;

@@ -100,7 +100,7 @@ fn end(wrong: usize, all: usize) {
     if wrong == 0 {
         text(b"ok\n");
     } else {
-        say(b"failed: $ of $ frames have wrong bytes\n", &[wrong, all]);
+        say(b"failed: frames with wrong bytes: $ of $\n", &[wrong, all]);
     }
 }
 
@@ -166,9 +166,19 @@ fn check_by(line: &[u8], s: Setting, v: usize) {
     check_load(line, s, v, &mut space);
 }
 
+// How check is used, and compare with its last word.
+pub fn show_usage() {
+    text(
+        b"a tuner under test:\n  \
+        bench check TABLE MAPPING KIND LOAD FRAME..                      each FRAME read and compared with LOAD, the bytes that were sent\n  \
+        bench compare TABLE SENT READ all                                compare with a line for every slot\n",
+    );
+}
+
 // bench check TABLE MAPPING KIND LOAD FRAME..
 pub fn check(line: &[u8]) {
     if parts(line, 0) <= BEFORE {
+        show_usage();
         misused(b"check takes TABLE MAPPING KIND LOAD FRAME..", b"");
         return;
     }

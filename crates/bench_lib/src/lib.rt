@@ -33,12 +33,14 @@ fn command_of(word: &[u8]) -> usize {
 // bench help
 fn help() {
     bench_frames::show_usage();
+    bench_check::show_usage();
     usage::help();
 }
 
 // A word that is no command.
 fn unknown(word: &[u8]) {
     bench_frames::show_usage();
+    bench_check::show_usage();
     usage::misused(b"there is no command", word);
 }
 

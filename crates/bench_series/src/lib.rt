@@ -73,7 +73,7 @@ fn say_certain(outside: u32) {
     if outside == 0 {
         text(b"; certain\n");
     } else {
-        say(b"; $ points outside the margins\n", &[wide(outside)]);
+        say(b"; points outside the margins: $\n", &[wide(outside)]);
     }
 }
 

@@ -11,8 +11,7 @@ fn usage_commands() {
         points of FRAME to bytes in BYTES, and to a picture in FILE\n  \
         bench best TABLE MAPPING KIND FRAME BYTES [unknown] [SCALES]     the best reading of the points of FRAME to BYTES, and its strength in each slot\n  \
         bench judge TABLE MAPPING KIND FRAME BYTES                       whether the points of FRAME prove the bytes of BYTES\n  \
-        bench compare TABLE SENT READ [all]                              how many bytes agree, and in which slots they do not; all: every slot\n  \
-        bench check TABLE MAPPING KIND LOAD FRAME..                      each FRAME read and compared with LOAD, which was sent\n  \
+        bench compare TABLE SENT READ                                    how many bytes agree\n  \
         bench lay HEADER MAIN BURST FULL                                 header, main and burst points to the points of FULL\n  \
         bench part FULL HEADER MAIN BURST                                points of FULL to header, main and burst points\n  \
         bench bytes TABLE MAPPING KIND FRAME BYTES                       the full load behind the points of FRAME to BYTES\n  \
