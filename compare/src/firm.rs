@@ -38,10 +38,10 @@ struct Slot {
     middle: i32,
 }
 
-/// The rule. By noise: the frame's middle slot tells how much strength to ask for. By bursts: a slot below the middle one by more than noise makes it needs more, or is not firm; the last slot, whose end is open, and one beside a
-/// slot that was hit, which shares code with it, need twice as much.
+/// The rule. By noise: the frame's middle slot tells how much strength to ask for. By bursts: a slot below the middle one by more than noise makes it needs more, or is not firm; the last slot, whose end is open and whose bytes fail
+/// 2 dB higher, and one beside a slot that was hit, which shares code with it, need twice as much.
 fn is_firm(kind: &Kind, s: &Slot) -> bool {
-    let fails = 10 * kind.fails;
+    let fails = 10 * kind.fails + if s.last { 20 } else { 0 };
     // of BPSK half as many parts are counted
     let usual = if kind.word == 1 { 5 } else { 3 };
     let short = (s.middle - s.worst - usual).max(0);
@@ -341,15 +341,29 @@ fn sum(counts: &Counts, of: impl Fn(&(u8, i32, usize, u32, bool)) -> bool) -> Co
 
 fn tables(files: &[String]) -> bool {
     let counts = counted(files);
-    println!("| white noise | fails at | slots | wrong, by dB above that: 0 to 4 | their strength at most | of them firm | right ones firm: 0, 1, 2, 3, 4 dB above | the frame's last slot, right ones firm: 2, 3, 4 dB above |");
-    println!("|---|---|---|---|---|---|---|---|");
+    println!("| white noise | fails at | slots | wrong, by dB above that: 0 to 4 | of them the frame's last slot | strength of wrong ones at most, and of the last slot | of them firm | right ones firm: 1, 2, 3, 4 dB above | the last slot, right ones firm: 3, 4 dB above |");
+    println!("|---|---|---|---|---|---|---|---|---|");
     for kind in &KINDS {
         let at = |above: i32, last: bool| sum(&counts, |k| k.0 == kind.word && k.2 == 0 && k.1 == above && k.4 == last);
         let all = sum(&counts, |k| k.0 == kind.word && k.2 == 0);
         let wrong: Vec<String> = (0..5).map(|d| (at(d, false).wrong + at(d, true).wrong).to_string()).collect();
-        let right: Vec<String> = (0..5).map(|d| at(d, false).share()).collect();
-        let last: Vec<String> = (2..5).map(|d| at(d, true).share()).collect();
-        println!("| {} | {} dB | {} | {} | {} % | {} | {} | {} |", kind.name, kind.fails, all.right + all.wrong, wrong.join(", "), all.greatest, all.wrong_firm, right.join(", "), last.join(", "));
+        let last_wrong: Vec<String> = (0..5).map(|d| at(d, true).wrong.to_string()).collect();
+        let greatest = |last: bool| (0..5).map(|d| at(d, last).greatest).max().unwrap();
+        let right: Vec<String> = (1..5).map(|d| at(d, false).share()).collect();
+        let last: Vec<String> = (3..5).map(|d| at(d, true).share()).collect();
+        println!(
+            "| {} | {} dB | {} | {} | {} | {} %, {} % | {} | {} | {} |",
+            kind.name,
+            kind.fails,
+            all.right + all.wrong,
+            wrong.join(", "),
+            last_wrong.join(", "),
+            greatest(false),
+            greatest(true),
+            all.wrong_firm,
+            right.join(", "),
+            last.join(", ")
+        );
     }
     println!("\n| bursts of | slots made wrong, at 4 dB above | of them firm | clean but for the bursts | of them firm | their strength at most |\n|---|---|---|---|---|---|");
     for length in LENGTHS {
