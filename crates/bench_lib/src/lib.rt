@@ -25,7 +25,7 @@ fn place_of(list: &[u8], word: &[u8]) -> usize {
 // The place of a command's word among all of them.
 fn command_of(word: &[u8]) -> usize {
     place_of(
-        b"make read judge compare lay part bytes series mend overlay best frames cut capture version help --help -h",
+        b"make read judge compare lay part bytes series mend overlay best frames cut capture version help --help -h check",
         word,
     )
 }
@@ -33,12 +33,14 @@ fn command_of(word: &[u8]) -> usize {
 // bench help
 fn help() {
     bench_frames::show_usage();
+    bench_check::show_usage();
     usage::help();
 }
 
 // A word that is no command.
 fn unknown(word: &[u8]) {
     bench_frames::show_usage();
+    bench_check::show_usage();
     usage::misused(b"there is no command", word);
 }
 
@@ -62,6 +64,7 @@ pub fn run(line: &[u8]) {
         13 => bench_capture::capture(line),
         14 => usage::version(),
         15..=17 => help(),
+        18 => bench_check::check(line),
         _ => unknown(word),
     }
 }

@@ -1,11 +1,13 @@
-// The bench program's command series: the strained steps of frame after frame, with the total and the greatest of the last frames.
-use bench_files::files;
-use bench_files::files::Got;
-use bench_line::space::BIT_SPACE;
+// The bench program's command series: the strained steps of frame after frame, with the total and the greatest of the last frames, and whether each frame is certain.
+pub mod plain;
+
+use crate::plain::outside_of;
+use crate::plain::points_of;
+use crate::plain::read_of;
 use bench_line::space::LOAD_SPACE;
 use bench_line::words::Number;
 use bench_line::words::digits;
-use bench_line::words::front_parts;
+use bench_line::words::front;
 use bench_line::words::part;
 use bench_line::words::parts;
 use bench_setting::setting::Setting;
@@ -17,18 +19,13 @@ use bench_words::text::quoted;
 use bench_words::text::say;
 use bench_words::text::text;
 use isdbs_core::frame::MAIN_SYMBOLS;
-use isdbs_core::frame::SLOTS;
-use isdbs_core::tmcc::Table;
-use isdbs_phy::demod::DemodOptions;
 use isdbs_phy::demod::FrameDecoded;
-use isdbs_phy::demod::Mapping;
-use isdbs_phy::demod::decode_frame;
+use judge::FrameJudged;
 use refusal::Answer;
 use strain_window::Pushed;
 use strain_window::WindowState;
 use strain_window::push;
-use trellis::FRAME_WORDS;
-ghost use Prim.Native.Nat.{_<_};
+ghost use Prim.Native.Nat.{_<_, _≤_};
 
 // The longest window.
 const LONGEST: usize = 256;
@@ -36,23 +33,26 @@ const LONGEST: usize = 256;
 // The words before the first frame: series, WINDOW, TABLE, MAPPING and KIND.
 const BEFORE: usize = 5;
 
-// How every frame of a series is read, and over how many the sums are kept.
-struct Reading {
-    window: u32,
-    table: Table,
-    mapping: Mapping,
-    first: bool,
-}
+// The points of a frame.
+const ALL: u32 = 38_976;
 
 // A frame's number, counted from 0, and how many frames there are.
-struct Place {
-    read: usize,
-    all: usize,
+pub struct Place {
+    pub read: usize,
+    pub all: usize,
 }
 
-// Whether the run goes on, and the window after the frame.
+// What was found of a frame: its steps, the strained ones, and the points outside the margins of its bytes.
+struct Found {
+    steps: usize,
+    strained: u32,
+    outside: u32,
+}
+
+// Whether the run goes on, whether the frame is certain, and the window after it.
 struct Went {
     on: bool,
+    certain: bool,
     state: WindowState,
 }
 
@@ -60,28 +60,42 @@ fn wide(n: u32) -> usize {
     n as usize
 }
 
-// The line of a frame that was read.
-fn frame_line(place: Place, name: &[u8], strained: u32, steps: usize, kept: Pushed) {
-    let state = kept.state;
+// The words of the line of a frame that was read, before what was found of it.
+pub fn frame_name(place: Place, name: &[u8]) {
     if place.read < place.all {
-        say(b"$ of $ frames read", &[place.read + 1, place.all]);
+        say(b"$ of $ frames read: ", &[place.read + 1, place.all]);
     }
-    text(b": ");
     quoted(name);
+}
+
+// Whether a frame is certain.
+fn say_certain(outside: u32) {
+    if outside == 0 {
+        text(b"; certain\n");
+    } else {
+        say(b"; points outside the margins: $\n", &[wide(outside)]);
+    }
+}
+
+// The line of a frame that was read.
+fn frame_line(place: Place, name: &[u8], found: Found, kept: Pushed) {
+    let state = kept.state;
+    frame_name(place, name);
     say(
-        b", $ of $ steps strained; last $: total $, greatest $\n",
+        b", $ of $ steps strained; last $: total $, greatest $",
         &[
-            wide(strained),
-            steps,
+            wide(found.strained),
+            found.steps,
             wide(state.fill),
             wide(kept.total),
             wide(kept.greatest),
         ],
     );
+    say_certain(found.outside);
 }
 
 // The line above the last one of a run that a frame's refusal ends.
-fn refused_line(place: Place, name: &[u8], answer: Answer) {
+pub fn refused_line(place: Place, name: &[u8], answer: Answer) {
     quoted(name);
     say(
         b" is refused by row $; before it $ of $ frames read\n",
@@ -90,93 +104,80 @@ fn refused_line(place: Place, name: &[u8], answer: Answer) {
 }
 
 fn stopped(state: WindowState) -> Went {
-    Went { on: false, state }
+    Went {
+        on: false,
+        certain: false,
+        state,
+    }
 }
 
 // Keeps the sum of a frame that was read; the first one's push clears.
 fn keep(
     place: Place,
     name: &[u8],
-    steps: usize,
-    strained: u32,
+    found: Found,
     state: WindowState,
     sums: &mut [u32; LONGEST],
 ) -> Went {
-    let kept = push(state, place.read == 0, strained, sums);
+    let kept = push(state, place.read == 0, found.strained, sums);
     let answer = kept.answer;
     let Answer::Accepted = answer else {
         refused_line(place, name, answer);
         report::refuse(answer);
         return stopped(state);
     };
-    frame_line(place, name, strained, steps, kept);
+    frame_line(place, name, found, kept);
     let state = kept.state;
-    Went { on: true, state }
+    Went {
+        on: true,
+        certain: found.outside == 0,
+        state,
+    }
 }
 
-// Decodes the points of a frame, with a known start and all scales at 8.
-fn decode(
-    s: Reading,
+// How many of the first n points lie outside the margins of what was read of them. Where that is not judged, none is known to lie within.
+fn outside(
+    s: Setting,
     n: usize,
+    done: FrameDecoded,
     re: &[f64; MAIN_SYMBOLS],
     im: &[f64; MAIN_SYMBOLS],
-    decisions: &mut [u64; FRAME_WORDS],
-    bits: &mut [u8; BIT_SPACE],
-    bytes: &mut [u8; LOAD_SPACE],
-) -> FrameDecoded {
-    let t = s.table;
-    let mapping = s.mapping;
-    let plain = DemodOptions::default();
-    let scales = plain.scales;
-    let o = DemodOptions {
-        mapping,
-        known_start: true,
-        scales,
+    bytes: &[u8; LOAD_SPACE],
+) -> u32 {
+    let FrameDecoded::Decoded(size, _, _) = done else {
+        return ALL;
     };
-    let mut counts = [0u32; SLOTS];
-    decode_frame(
-        front_parts(re, n),
-        front_parts(im, n),
-        t,
-        s.first,
-        o,
-        decisions,
-        bits,
-        bytes,
-        &mut counts,
-    )
-}
-
-// Reads a file's points.
-fn points_of(name: &[u8], re: &mut [f64; MAIN_SYMBOLS], im: &mut [f64; MAIN_SYMBOLS]) -> Got {
-    let file = files::open(name);
-    if file < 0 {
-        return files::nothing();
+    match outside_of(s, n, re, im, front(bytes, size)) {
+        FrameJudged::Judged(sum) => sum,
+        FrameJudged::Refused(_) => ALL,
     }
-    files::read_points(file, name, re, im)
 }
 
 // Reads a frame, and keeps its sum.
 fn read_one(
-    s: Reading,
+    s: Setting,
     place: Place,
     name: &[u8],
     state: WindowState,
     sums: &mut [u32; LONGEST],
     re: &mut [f64; MAIN_SYMBOLS],
     im: &mut [f64; MAIN_SYMBOLS],
-    decisions: &mut [u64; FRAME_WORDS],
-    bits: &mut [u8; BIT_SPACE],
     bytes: &mut [u8; LOAD_SPACE],
 ) -> Went {
     let got = points_of(name, re, im);
     if !got.well {
         return stopped(state);
     }
-    let done = decode(s, got.count, re, im, decisions, bits, bytes);
+    let done = read_of(s, got.count, re, im, bytes);
+    let far = outside(s, got.count, done, re, im, bytes);
     match done {
         FrameDecoded::Decoded(_, steps, strained) => {
-            keep(place, name, steps, strained, state, sums)
+            let found = Found {
+                steps,
+                strained,
+                outside: far,
+            };
+            keep(place, name, found, state, sums)
         }
         FrameDecoded::Refused(answer) => {
             refused_line(place, name, answer);
@@ -186,34 +187,51 @@ fn read_one(
     }
 }
 
+// 1 where it is so.
+pub fn tally(so: bool) -> usize
+    ensures { λ r. ⌜ r ≤ 1 ⌝ }
+{
+    if so { 1 } else { 0 }
+}
+
+// The last line of a run in which every frame was read.
+fn end(doubtful: usize, all: usize) {
+    if doubtful == 0 {
+        text(b"ok\n");
+    } else {
+        say(b"doubtful: $ of $ frames not certain\n", &[doubtful, all]);
+    }
+}
+
 // Reads frame after frame until one stops the run.
 fn read_all(
     line: &[u8],
-    s: Reading,
+    s: Setting,
+    window: u32,
     words: usize,
     sums: &mut [u32; LONGEST],
     re: &mut [f64; MAIN_SYMBOLS],
     im: &mut [f64; MAIN_SYMBOLS],
-    decisions: &mut [u64; FRAME_WORDS],
-    bits: &mut [u8; BIT_SPACE],
     bytes: &mut [u8; LOAD_SPACE],
 )
     requires { ⌜ 5 < words ⌝ }
 {
-    let mut state = fresh(s.window);
+    let mut state = fresh(window);
+    let mut doubtful: usize = 0;
     for i in BEFORE..words {
         let place = Place {
             read: i - BEFORE,
             all: words - BEFORE,
         };
         let name = part(line, 0, i);
-        let went = read_one(s, place, name, state, sums, re, im, decisions, bits, bytes);
+        let went = read_one(s, place, name, state, sums, re, im, bytes);
         if !went.on {
             return;
         }
         state = went.state;
+        doubtful = doubtful + tally(!went.certain);
     }
-    text(b"ok\n");
+    end(doubtful, words - BEFORE);
 }
 
 // A window that keeps nothing yet.
@@ -241,52 +259,29 @@ fn is_window(window: u32, sums: &mut [u32; LONGEST]) -> bool {
 }
 
 // Reads the frames of a series of `words` words, on space of its own.
-fn read_in_space(line: &[u8], s: Reading, words: usize, sums: &mut [u32; LONGEST])
+fn read_in_space(line: &[u8], s: Setting, window: u32, words: usize, sums: &mut [u32; LONGEST])
     requires { ⌜ 5 < words ⌝ }
 {
     let mut re = [0.0f64; MAIN_SYMBOLS];
     let mut im = [0.0f64; MAIN_SYMBOLS];
-    let mut decisions = [0u64; FRAME_WORDS];
-    let mut bits = [0u8; BIT_SPACE];
     let mut bytes = [0u8; LOAD_SPACE];
-    read_all(
-        line,
-        s,
-        words,
-        sums,
-        &mut re,
-        &mut im,
-        &mut decisions,
-        &mut bits,
-        &mut bytes,
-    );
+    read_all(line, s, window, words, sums, &mut re, &mut im, &mut bytes);
 }
 
-fn series_of(line: &[u8], s: Reading) {
+fn series_of(line: &[u8], s: Setting, window: u32) {
     let words = parts(line, 0);
     if words <= BEFORE {
         return;
     }
     let mut sums = [0u32; LONGEST];
-    if !is_window(s.window, &mut sums) {
+    if !is_window(window, &mut sums) {
         return;
     }
     say(
         b"window of $; a sum of 0 alone does not mean a good frame\n0 of $ frames read\n",
-        &[wide(s.window), words - BEFORE],
+        &[wide(window), words - BEFORE],
     );
-    read_in_space(line, s, words, &mut sums);
-}
-
-fn reading_by(window: u32, s: Setting) -> Reading {
-    let table = s.table;
-    let mapping = s.mapping;
-    Reading {
-        window,
-        table,
-        mapping,
-        first: s.first,
-    }
+    read_in_space(line, s, window, words, &mut sums);
 }
 
 // bench series WINDOW TABLE MAPPING KIND FRAME..
@@ -306,7 +301,7 @@ pub fn series(line: &[u8]) {
     }
     let t = s.table;
     match report::table(t) {
-        Valid::Slots(_) => series_of(line, reading_by(window, s)),
+        Valid::Slots(_) => series_of(line, s, window),
         Valid::Refused => {}
     }
 }

@@ -1,13 +1,14 @@
-use borrow.Author.Needs.{needs}
+-- `compare_slots` is safe and ends; at most all bytes agree.
 use Prim.Native.Nat.{_-_, _≤_, _*_}
+use borrow.Author.Needs.{needs}
 use Rattle.bench_compare.proofs.compare_slots.Statement.{statement}
 use Rattle.bench_compare.proofs.compare_slots.Tie as tie
 
 abbrev Inv-loop : tie.InvT-loop
-Inv-loop t v sent read n₀ k₀ n k = (n ≤ 203 * k) × (k ≤ v)
+Inv-loop every t v sent read n₀ k₀ n k = (n ≤ 203 * k) × (k ≤ v)
 
 abbrev μ-loop : tie.MeasureT-loop
-μ-loop t v sent read n₀ k₀ n k = v - k
+μ-loop every t v sent read n₀ k₀ n k = v - k
 
 loop-holds : tie.Need-loop-holds Inv-loop μ-loop
 loop-holds c = search needs

@@ -1,15 +1,15 @@
--- `read_all` is safe and ends: each turn takes one word more.
-use Prim.Native.Nat.{_-_, _≤_}
+-- `read_all` is safe and ends: each turn takes one word more, and at most one frame more is doubtful.
+use Prim.Native.Nat.{_-_, _+_, _≤_}
 use borrow.Author.Needs.{needs}
 use Rattle.bench_series.proofs.read_all.Statement.{statement}
 use Rattle.bench_series.proofs.read_all.Tie as tie
 
 abbrev Inv-loop : tie.InvT-loop
-Inv-loop line s words sums₀ re₀ im₀ decisions₀ bits₀ bytes₀ state₀ i₀ t15 sums re im decisions bits bytes state i =
-    (5 ≤ i) × (i ≤ words)
+Inv-loop line s window words sums₀ re₀ im₀ bytes₀ state₀ doubtful₀ i₀ sums re im bytes state doubtful i =
+    (5 ≤ i) × (i ≤ words) × (doubtful + 5 ≤ i)
 
 abbrev μ-loop : tie.MeasureT-loop
-μ-loop line s words sums₀ re₀ im₀ decisions₀ bits₀ bytes₀ state₀ i₀ t15 sums re im decisions bits bytes state i =
+μ-loop line s window words sums₀ re₀ im₀ bytes₀ state₀ doubtful₀ i₀ sums re im bytes state doubtful i =
     words - i
 
 fresh-requires : tie.Need-fresh-requires Inv-loop μ-loop
@@ -18,11 +18,11 @@ fresh-requires c κs = search needs
 loop-holds : tie.Need-loop-holds Inv-loop μ-loop
 loop-holds c = search needs
 
-sub-t17 : tie.Need-sub-t17 Inv-loop μ-loop
-sub-t17 c = search needs
+sub-t16 : tie.Need-sub-t16 Inv-loop μ-loop
+sub-t16 c = search needs
 
-sub-t18 : tie.Need-sub-t18 Inv-loop μ-loop
-sub-t18 c = search needs
+sub-doubtful : tie.Need-sub-doubtful Inv-loop μ-loop
+sub-doubtful c = search needs
 
 part-requires : tie.Need-part-requires Inv-loop μ-loop
 part-requires c κs = search needs
@@ -33,6 +33,12 @@ read-one-requires c κs = search needs
 returns : tie.Need-returns Inv-loop μ-loop
 returns c = search needs
 
+tally-requires : tie.Need-tally-requires Inv-loop μ-loop
+tally-requires c κs = search needs
+
+add-doubtful : tie.Need-add-doubtful Inv-loop μ-loop
+add-doubtful c = search needs
+
 add-i : tie.Need-add-i Inv-loop μ-loop
 add-i c = search needs
 
@@ -42,11 +48,11 @@ loop-less c = search needs
 loop-again : tie.Need-loop-again Inv-loop μ-loop
 loop-again c = search needs
 
-slice-aggregate-text : tie.Need-slice-aggregate-text Inv-loop μ-loop
-slice-aggregate-text c = search needs
+sub-end : tie.Need-sub-end Inv-loop μ-loop
+sub-end c = search needs
 
-text-requires : tie.Need-text-requires Inv-loop μ-loop
-text-requires c κs = search needs
+end-requires : tie.Need-end-requires Inv-loop μ-loop
+end-requires c κs = search needs
 
 returns-2 : tie.Need-returns-2 Inv-loop μ-loop
 returns-2 c = search needs
@@ -59,14 +65,16 @@ read-all-spec =
     μ-loop
     fresh-requires
     loop-holds
-    sub-t17
-    sub-t18
+    sub-t16
+    sub-doubtful
     part-requires
     read-one-requires
     returns
+    tally-requires
+    add-doubtful
     add-i
     loop-less
     loop-again
-    slice-aggregate-text
-    text-requires
+    sub-end
+    end-requires
     returns-2)
