@@ -50,20 +50,26 @@ shared-slice-read-side c = let q = c .before .before .before .before .before .be
 
 -- src/lib.rt:171:17
 shared-slice-read-z : tie.Need-shared-slice-read-z Inv-loop μ-loop
-shared-slice-read-z c = let q = c .before .before .before .before .before .before .before .before .pre .0 .beside in
+shared-slice-read-z c =
+    let start = c .before .before .before .before .before .before .before .before in
+    let q = start .pre .0 .beside in
     let w = c .before .before .before .loop .inv .0 in
     omega arith
 
 -- src/lib.rt:172:17
 shared-slice-read-u : tie.Need-shared-slice-read-u Inv-loop μ-loop
-shared-slice-read-u c = let q = c .before .before .before .before .before .before .before .before .before .pre .0 .read in
-    let w = c .before .before .before .before .loop .inv .0 in
+shared-slice-read-u c =
+    let at = c .before .before .before .before in
+    let start = at .before .before .before .before .before in
+    let q = start .pre .0 .read in
+    let w = at .loop .inv .0 in
     omega arith
 
 -- src/lib.rt:172:17
 cast-u : tie.Need-cast-u Inv-loop μ-loop
-cast-u c = let at = c .before .before .before .before in
-    let start = c .before .before .before .before .before .before .before .before .before in
+cast-u c =
+    let at = c .before .before .before .before in
+    let start = at .before .before .before .before .before in
     let a = start .args in
     let asked = start .pre .0 in
     let left = at .loop .left in
@@ -73,8 +79,9 @@ cast-u c = let at = c .before .before .before .before in
 
 -- src/lib.rt:173:20
 kept-prices-requires : tie.Need-kept-prices-requires Inv-loop μ-loop
-kept-prices-requires c κs = let at = c .before .before .before .before in
-    let start = c .before .before .before .before .before .before .before .before .before in
+kept-prices-requires c κs =
+    let at = c .before .before .before .before in
+    let start = at .before .before .before .before .before in
     let a = start .args in
     let asked = start .pre .0 in
     let left = at .loop .left in
@@ -85,8 +92,9 @@ kept-prices-requires c κs = let at = c .before .before .before .before in
 
 -- src/lib.rt:174:22
 turned-prices-requires : tie.Need-turned-prices-requires Inv-loop μ-loop
-turned-prices-requires c κs = let at = c .before .before .before .before .before in
-    let start = c .before .before .before .before .before .before .before .before .before .before in
+turned-prices-requires c κs =
+    let at = c .before .before .before .before .before in
+    let start = at .before .before .before .before .before in
     let a = start .args in
     let asked = start .pre .0 in
     let left = at .loop .left in
@@ -104,17 +112,20 @@ low-prices-requires c κs = search needs
 -- src/lib.rt:176:9
 back-step-requires : tie.Need-back-step-requires Inv-loop μ-loop
 unfolding label output tapped
-back-step-requires c κs = let at = c .before .before .before .before .before .before .before .before .before .before .before .before .before .before .before in
-    let start = c .before .before .before .before .before .before .before .before .before .before .before .before .before .before .before .before .before .before .before .before in
+back-step-requires c κs =
+    let low-prices = c .before .before .before .before .before .before in
+    let turned-prices = low-prices .before .before .before in
+    let at = turned-prices .before .before .before .before .before .before in
+    let start = at .before .before .before .before .before in
     let a = start .args in
     let asked = start .pre .0 in
     let left = at .loop .left in
     let k = a .at + (left - 1) in
     let inv = at .loop .inv in
     let n = a .count in
-    let kp = c .before .before .before .before .before .before .before .before .before .before .kept-prices in
-    let tp = c .before .before .before .before .before .before .before .before .before .turned-prices in
-    let lp = c .before .before .before .before .before .before .low-prices in
+    let kp = turned-prices .before .kept-prices in
+    let tp = turned-prices .turned-prices in
+    let lp = low-prices .low-prices in
     let w = inv .0 in
     let hr : n - left ≤ n = omega arith in (
       asked .bit k,
@@ -132,19 +143,23 @@ loop-less c = search needs
 
 -- src/lib.rt:167:5
 loop-again : tie.Need-loop-again Inv-loop μ-loop
-loop-again c = let at = c .before .before .before .before .before .before .before .before .before .before .before .before .before .before .before .before in
-    let start = c .before .before .before .before .before .before .before .before .before .before .before .before .before .before .before .before .before .before .before .before .before in
+loop-again c =
+    let low-prices = c .before .before .before .before .before .before .before in
+    let turned-prices = low-prices .before .before .before in
+    let tested = turned-prices .before .before .before .before .before in
+    let at = tested .before in
+    let start = at .before .before .before .before .before in
     let a = start .args in
     let asked = start .pre .0 in
     let left = at .loop .left in
     let k = a .at + (left - 1) in
     let inv = at .loop .inv in
     let n = a .count in
-    let kp = c .before .before .before .before .before .before .before .before .before .before .before .kept-prices in
-    let tp = c .before .before .before .before .before .before .before .before .before .before .turned-prices in
-    let lp = c .before .before .before .before .before .before .before .low-prices in
+    let kp = turned-prices .before .kept-prices in
+    let tp = turned-prices .turned-prices in
+    let lp = low-prices .low-prices in
     let w = inv .0 in
-    let test = c .before .before .before .before .before .before .before .before .before .before .before .before .before .before .before .loop-test .taken in
+    let test = tested .loop-test .taken in
     let pos : 0 < left = omega arith in
     let r = run-more (a .metrics .now) (a .sides .now) (a .bits .now) (a .uncoded .now) (a .b .now) (a .d .now) (a .at) n left (at .loop .b) (at .loop .d) pos w (inv .1) (inv .2)
     (kp .result) (tp .result) (lp .result) (c .back-step .last .0) (c .back-step .last .1 .0) (getD (a .bits .now) k 0) refl (asked .second k) (kp .ensures) (tp .ensures) (lp .ensures) (c .back-step .ensures .0) (c .back-step .ensures .1) in

@@ -84,8 +84,12 @@ price-of-requires-4 c κs = search needs
 
 -- src/lib.rt:117:1
 returns : tie.Need-returns
-returns c = let a = c .before .before .before .before .before .before .before .before .before .args in
-    kept-four (a .metrics .now) (a .k) (a .side) (a .z) _ _ _ _ (c .before .before .before .before .before .before .price-of .ensures) (c .before .before .before .before .price-of2 .ensures) (c .before .before .price-of3 .ensures) (c .price-of4 .ensures)
+returns c =
+    let price-of2 = c .before .before .before .before in
+    let price-of = price-of2 .before .before in
+    let start = price-of .before .before .before in
+    let a = start .args in
+    kept-four (a .metrics .now) (a .k) (a .side) (a .z) _ _ _ _ (price-of .price-of .ensures) (price-of2 .price-of2 .ensures) (c .before .before .price-of3 .ensures) (c .price-of4 .ensures)
 
 pub kept-prices-spec : {M : Type 1} → statement M
 kept-prices-spec =

@@ -56,8 +56,12 @@ smaller-requires-4 c κs = search needs
 
 -- src/lib.rt:140:1
 returns : tie.Need-returns
-returns c = let a = c .before .before .before .before .before .before .before .before .before .before .before .before .args in
-    lower-four (a .kept .now) (a .turned .now) _ _ _ _ (c .before .before .before .before .before .before .before .before .before .smaller .ensures) (c .before .before .before .before .before .before .smaller2 .ensures) (c .before .before .before .smaller3 .ensures) (c .smaller4 .ensures)
+returns c =
+    let smaller2 = c .before .before .before .before .before .before in
+    let smaller = smaller2 .before .before .before in
+    let start = smaller .before .before .before in
+    let a = start .args in
+    lower-four (a .kept .now) (a .turned .now) _ _ _ _ (smaller .smaller .ensures) (smaller2 .smaller2 .ensures) (c .before .before .before .smaller3 .ensures) (c .smaller4 .ensures)
 
 pub low-prices-spec : {M : Type 1} → statement M
 low-prices-spec =

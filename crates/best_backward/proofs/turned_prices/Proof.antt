@@ -84,8 +84,12 @@ turned-of-requires-4 c κs = search needs
 
 -- src/lib.rt:128:1
 returns : tie.Need-returns
-returns c = let a = c .before .before .before .before .before .before .before .before .before .args in
-    turned-four (a .metrics .now) (a .k) (a .side) (a .z) _ _ _ _ (c .before .before .before .before .before .before .turned-of .ensures) (c .before .before .before .before .turned-of2 .ensures) (c .before .before .turned-of3 .ensures) (c .turned-of4 .ensures)
+returns c =
+    let turned-of2 = c .before .before .before .before in
+    let turned-of = turned-of2 .before .before in
+    let start = turned-of .before .before .before in
+    let a = start .args in
+    turned-four (a .metrics .now) (a .k) (a .side) (a .z) _ _ _ _ (turned-of .turned-of .ensures) (turned-of2 .turned-of2 .ensures) (c .before .before .turned-of3 .ensures) (c .turned-of4 .ensures)
 
 pub turned-prices-spec : {M : Type 1} → statement M
 turned-prices-spec =

@@ -66,14 +66,17 @@ shared-slice-read-byte-of-8 c = search needs
 
 -- src/lib.rt:45:5
 byte-of-requires : tie.Need-byte-of-requires
-byte-of-requires c κs = let st = c .before .before .before .before .before .before .before .before .before .before in
+byte-of-requires c κs =
+    let st = c .before .before .before .before .before .before .before .before .before .before in
     let h = st .pre .2 in
     let z = st .pre .3 in
     (z (st .args .at), h (st .args .at), z (st .args .at + 1), h (st .args .at + 1), z (st .args .at + 2), h (st .args .at + 2), z (st .args .at + 3), h (st .args .at + 3))
 
 -- src/lib.rt:41:1
 returns : tie.Need-returns
-returns c = let st = c .before .before .before .before .before .before .before .before .before .before .before in pair-made (st .args .bits .now) (st .args .uncoded .now) (st .args .at) (c .byte-of .result) (c .byte-of .ensures)
+returns c =
+    let st = c .before .before .before .before .before .before .before .before .before .before .before in
+    pair-made (st .args .bits .now) (st .args .uncoded .now) (st .args .at) (c .byte-of .result) (c .byte-of .ensures)
 
 pub pair-byte-spec : {M : Type 1} → statement M
 pair-byte-spec =

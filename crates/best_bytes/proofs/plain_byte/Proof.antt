@@ -70,13 +70,16 @@ shared-slice-read-byte-of-8 c = search needs
 
 -- src/lib.rt:28:5
 byte-of-requires : tie.Need-byte-of-requires
-byte-of-requires c κs = let st = c .before .before .before .before .before .before .before .before .before in
+byte-of-requires c κs =
+    let st = c .before .before .before .before .before .before .before .before .before in
     let h = st .pre .1 in
     (h (st .args .at), h (st .args .at + 1), h (st .args .at + 2), h (st .args .at + 3), h (st .args .at + 4), h (st .args .at + 5), h (st .args .at + 6), h (st .args .at + 7))
 
 -- src/lib.rt:24:1
 returns : tie.Need-returns
-returns c = let st = c .before .before .before .before .before .before .before .before .before .before in plain-made (st .args .bits .now) (st .args .at) (c .byte-of .result) (c .byte-of .ensures)
+returns c =
+    let st = c .before .before .before .before .before .before .before .before .before .before in
+    plain-made (st .args .bits .now) (st .args .at) (c .byte-of .result) (c .byte-of .ensures)
 
 pub plain-byte-spec : {M : Type 1} → statement M
 plain-byte-spec =

@@ -89,9 +89,12 @@ run-marks-requires c κs = let st = c .before .before .before .before .before .b
 
 -- src/lib.rt:38:23
 mul-step : tie.Need-mul-step Inv-loop μ-loop
-mul-step c = let st = c .before .before .before .before .before .before .before .before .before .before in
-    let at = c .before .before .before .before .before .before .before .loop in
-    let e = steps-by (getD (st .args .p .runs) (at .i) noRun) _ (c .before .before .before .before .steps-per-slot .ensures) in
+mul-step c =
+    let steps-per-slot = c .before .before .before .before in
+    let looped = steps-per-slot .before .before .before in
+    let st = looped .before .before .before in
+    let at = looped .loop in
+    let e = steps-by (getD (st .args .p .runs) (at .i) noRun) _ (steps-per-slot .steps-per-slot .ensures) in
     let w = at .inv in
     let o = w .some in
     let f = w .run .steps-fit in
@@ -103,9 +106,12 @@ mul-step c = let st = c .before .before .before .before .before .before .before 
 
 -- src/lib.rt:38:16
 add-step : tie.Need-add-step Inv-loop μ-loop
-add-step c = let st = c .before .before .before .before .before .before .before .before .before .before in
-    let at = c .before .before .before .before .before .before .before .loop in
-    let e = steps-by (getD (st .args .p .runs) (at .i) noRun) _ (c .before .before .before .before .steps-per-slot .ensures) in
+add-step c =
+    let steps-per-slot = c .before .before .before .before in
+    let looped = steps-per-slot .before .before .before in
+    let st = looped .before .before .before in
+    let at = looped .loop in
+    let e = steps-by (getD (st .args .p .runs) (at .i) noRun) _ (steps-per-slot .steps-per-slot .ensures) in
     let w = at .inv in
     let o = w .some in
     let f = w .run .steps-fit in
@@ -117,9 +123,12 @@ add-step c = let st = c .before .before .before .before .before .before .before 
 
 -- src/lib.rt:39:16
 add-done : tie.Need-add-done Inv-loop μ-loop
-add-done c = let st = c .before .before .before .before .before .before .before .before .before .before in
-    let at = c .before .before .before .before .before .before .before .loop in
-    let e = steps-by (getD (st .args .p .runs) (at .i) noRun) _ (c .before .before .before .before .steps-per-slot .ensures) in
+add-done c =
+    let steps-per-slot = c .before .before .before .before in
+    let looped = steps-per-slot .before .before .before in
+    let st = looped .before .before .before in
+    let at = looped .loop in
+    let e = steps-by (getD (st .args .p .runs) (at .i) noRun) _ (steps-per-slot .steps-per-slot .ensures) in
     let w = at .inv in
     let o = w .some in
     let f = w .run .steps-fit in
@@ -139,9 +148,13 @@ loop-less c = search needs
 
 -- src/lib.rt:32:5
 loop-again : tie.Need-loop-again Inv-loop μ-loop
-loop-again c = let st = c .before .before .before .before .before .before .before .before .before .before in
-    let at = c .before .before .before .before .before .before .before .loop in
-    let e = steps-by (getD (st .args .p .runs) (at .i) noRun) _ (c .before .before .before .before .steps-per-slot .ensures) in
+loop-again c =
+    let steps-per-slot = c .before .before .before .before in
+    let tested = steps-per-slot .before .before in
+    let looped = tested .before in
+    let st = looped .before .before .before in
+    let at = looped .loop in
+    let e = steps-by (getD (st .args .p .runs) (at .i) noRun) _ (steps-per-slot .steps-per-slot .ensures) in
     let w = at .inv in
     let o = w .some in
     let f = w .run .steps-fit in
@@ -149,8 +162,8 @@ loop-again c = let st = c .before .before .before .before .before .before .befor
     let s = w .filled .same in
     let ls = w .run .runs .steps in
     let lv = w .run .runs .valid in
-    let l = c .before .before .before .before .before .before .loop-test .taken in
-    written-next w l (c .before .before .before .before .steps-per-slot .ensures) refl (c .before .before .run-marks .ensures)
+    let l = tested .loop-test .taken in
+    written-next w l (steps-per-slot .steps-per-slot .ensures) refl (c .before .before .run-marks .ensures)
 
 -- src/lib.rt:41:19
 cast-marks : tie.Need-cast-marks Inv-loop μ-loop

@@ -35,7 +35,7 @@ array-copy-out-r c = search needs
 
 -- src/lib.rt:102:17
 mul-n : tie.Need-mul-n Inv-loop μ-loop
-mul-n c = let st = c .before .before .before .before .before .before .before .before in
+mul-n c =
     let at = c .before .before .before .loop in
     let w = at .inv in
     let o = w .some in
@@ -54,8 +54,10 @@ steps-per-slot-requires c κs = search needs
 
 -- src/lib.rt:103:21
 mul-steps : tie.Need-mul-steps Inv-loop μ-loop
-mul-steps c = let st = c .before .before .before .before .before .before .before .before .before .before in
-    let at = c .before .before .before .before .before .loop in
+mul-steps c =
+    let looped = c .before .before .before .before .before in
+    let st = looped .before .before .before .before .before in
+    let at = looped .loop in
     let e = steps-by (getD (st .args .p .runs) (at .i) noRun) _ (c .before .steps-per-slot .ensures) in
     let w = at .inv in
     let o = w .some in
@@ -70,8 +72,10 @@ mul-steps c = let st = c .before .before .before .before .before .before .before
 
 -- src/lib.rt:104:21
 sub-pack-run : tie.Need-sub-pack-run Inv-loop μ-loop
-sub-pack-run c = let st = c .before .before .before .before .before .before .before .before .before .before in
-    let at = c .before .before .before .before .before .loop in
+sub-pack-run c =
+    let looped = c .before .before .before .before .before in
+    let st = looped .before .before .before .before .before in
+    let at = looped .loop in
     let e = steps-by (getD (st .args .p .runs) (at .i) noRun) _ (c .before .steps-per-slot .ensures) in
     let w = at .inv in
     let o = w .some in
@@ -86,8 +90,10 @@ sub-pack-run c = let st = c .before .before .before .before .before .before .bef
 
 -- src/lib.rt:104:21
 part-pack-run-start : tie.Need-part-pack-run-start Inv-loop μ-loop
-part-pack-run-start c = let st = c .before .before .before .before .before .before .before .before .before .before in
-    let at = c .before .before .before .before .before .loop in
+part-pack-run-start c =
+    let looped = c .before .before .before .before .before in
+    let st = looped .before .before .before .before .before in
+    let at = looped .loop in
     let e = steps-by (getD (st .args .p .runs) (at .i) noRun) _ (c .before .steps-per-slot .ensures) in
     let w = at .inv in
     let o = w .some in
@@ -106,8 +112,10 @@ part-pack-run-end c = search needs
 
 -- src/lib.rt:104:36
 sub-pack-run-2 : tie.Need-sub-pack-run-2 Inv-loop μ-loop
-sub-pack-run-2 c = let st = c .before .before .before .before .before .before .before .before .before .before .before in
-    let at = c .before .before .before .before .before .before .loop in
+sub-pack-run-2 c =
+    let looped = c .before .before .before .before .before .before in
+    let st = looped .before .before .before .before .before in
+    let at = looped .loop in
     let e = steps-by (getD (st .args .p .runs) (at .i) noRun) _ (c .before .before .steps-per-slot .ensures) in
     let w = at .inv in
     let o = w .some in
@@ -122,8 +130,10 @@ sub-pack-run-2 c = let st = c .before .before .before .before .before .before .b
 
 -- src/lib.rt:104:36
 part-pack-run-start-2 : tie.Need-part-pack-run-start-2 Inv-loop μ-loop
-part-pack-run-start-2 c = let st = c .before .before .before .before .before .before .before .before .before .before .before in
-    let at = c .before .before .before .before .before .before .loop in
+part-pack-run-start-2 c =
+    let looped = c .before .before .before .before .before .before in
+    let st = looped .before .before .before .before .before in
+    let at = looped .loop in
     let e = steps-by (getD (st .args .p .runs) (at .i) noRun) _ (c .before .before .steps-per-slot .ensures) in
     let w = at .inv in
     let o = w .some in
@@ -142,8 +152,10 @@ part-pack-run-end-2 c = search needs
 
 -- src/lib.rt:104:57
 sub-pack-run-3 : tie.Need-sub-pack-run-3 Inv-loop μ-loop
-sub-pack-run-3 c = let st = c .before .before .before .before .before .before .before .before .before .before .before .before in
-    let at = c .before .before .before .before .before .before .before .loop in
+sub-pack-run-3 c =
+    let looped = c .before .before .before .before .before .before .before in
+    let st = looped .before .before .before .before .before in
+    let at = looped .loop in
     let e = steps-by (getD (st .args .p .runs) (at .i) noRun) _ (c .before .before .before .steps-per-slot .ensures) in
     let w = at .inv in
     let o = w .some in
@@ -158,8 +170,10 @@ sub-pack-run-3 c = let st = c .before .before .before .before .before .before .b
 
 -- src/lib.rt:104:57
 part-pack-run-start-3 : tie.Need-part-pack-run-start-3 Inv-loop μ-loop
-part-pack-run-start-3 c = let st = c .before .before .before .before .before .before .before .before .before .before .before .before in
-    let at = c .before .before .before .before .before .before .before .loop in
+part-pack-run-start-3 c =
+    let looped = c .before .before .before .before .before .before .before in
+    let st = looped .before .before .before .before .before in
+    let at = looped .loop in
     let e = steps-by (getD (st .args .p .runs) (at .i) noRun) _ (c .before .before .before .steps-per-slot .ensures) in
     let w = at .inv in
     let o = w .some in
@@ -178,9 +192,12 @@ part-pack-run-end-3 c = search needs
 
 -- src/lib.rt:104:9
 pack-run-requires : tie.Need-pack-run-requires Inv-loop μ-loop
-pack-run-requires c κs = let st = c .before .before .before .before .before .before .before .before .before .before .before .before .before in
-    let at = c .before .before .before .before .before .before .before .before .loop in
-    let e = steps-by (getD (st .args .p .runs) (at .i) noRun) _ (c .before .before .before .before .steps-per-slot .ensures) in
+pack-run-requires c κs =
+    let steps-per-slot = c .before .before .before .before in
+    let looped = steps-per-slot .before .before .before .before in
+    let st = looped .before .before .before .before .before in
+    let at = looped .loop in
+    let e = steps-by (getD (st .args .p .runs) (at .i) noRun) _ (steps-per-slot .steps-per-slot .ensures) in
     let w = at .inv in
     let o = w .some in
     let f = w .run .steps-fit in
@@ -202,9 +219,12 @@ pack-run-requires c κs = let st = c .before .before .before .before .before .be
 
 -- src/lib.rt:105:16
 add-step : tie.Need-add-step Inv-loop μ-loop
-add-step c = let st = c .before .before .before .before .before .before .before .before .before .before .before .before .before .before .before .before in
-    let at = c .before .before .before .before .before .before .before .before .before .before .before .loop in
-    let e = steps-by (getD (st .args .p .runs) (at .i) noRun) _ (c .before .before .before .before .before .before .before .steps-per-slot .ensures) in
+add-step c =
+    let steps-per-slot = c .before .before .before .before .before .before .before in
+    let looped = steps-per-slot .before .before .before .before in
+    let st = looped .before .before .before .before .before in
+    let at = looped .loop in
+    let e = steps-by (getD (st .args .p .runs) (at .i) noRun) _ (steps-per-slot .steps-per-slot .ensures) in
     let w = at .inv in
     let o = w .some in
     let f = w .run .steps-fit in
@@ -218,9 +238,12 @@ add-step c = let st = c .before .before .before .before .before .before .before 
 
 -- src/lib.rt:106:16
 add-done : tie.Need-add-done Inv-loop μ-loop
-add-done c = let st = c .before .before .before .before .before .before .before .before .before .before .before .before .before .before .before .before in
-    let at = c .before .before .before .before .before .before .before .before .before .before .before .loop in
-    let e = steps-by (getD (st .args .p .runs) (at .i) noRun) _ (c .before .before .before .before .before .before .before .steps-per-slot .ensures) in
+add-done c =
+    let steps-per-slot = c .before .before .before .before .before .before .before in
+    let looped = steps-per-slot .before .before .before .before in
+    let st = looped .before .before .before .before .before in
+    let at = looped .loop in
+    let e = steps-by (getD (st .args .p .runs) (at .i) noRun) _ (steps-per-slot .steps-per-slot .ensures) in
     let w = at .inv in
     let o = w .some in
     let f = w .run .steps-fit in
@@ -242,9 +265,13 @@ loop-less c = search needs
 
 -- src/lib.rt:99:5
 loop-again : tie.Need-loop-again Inv-loop μ-loop
-loop-again c = let st = c .before .before .before .before .before .before .before .before .before .before .before .before .before .before .before .before in
-    let at = c .before .before .before .before .before .before .before .before .before .before .before .loop in
-    let e = steps-by (getD (st .args .p .runs) (at .i) noRun) _ (c .before .before .before .before .before .before .before .steps-per-slot .ensures) in
+loop-again c =
+    let steps-per-slot = c .before .before .before .before .before .before .before in
+    let tested = steps-per-slot .before .before .before in
+    let looped = tested .before in
+    let st = looped .before .before .before .before .before in
+    let at = looped .loop in
+    let e = steps-by (getD (st .args .p .runs) (at .i) noRun) _ (steps-per-slot .steps-per-slot .ensures) in
     let w = at .inv in
     let o = w .some in
     let f = w .run .steps-fit in
@@ -254,7 +281,7 @@ loop-again c = let st = c .before .before .before .before .before .before .befor
     let z = w .beside in
     let ls = w .run .runs .steps in
     let lv = w .run .runs .valid in
-    let l = c .before .before .before .before .before .before .before .before .before .before .loop-test .taken in
+    let l = tested .loop-test .taken in
     written-next w l e refl (c .before .before .pack-run .ensures)
 
 -- src/lib.rt:91:1

@@ -20,10 +20,12 @@ read-best-requires c κs = search needs
 
 -- src/lib.rt:261:5
 write-uncoded-requires : tie.Need-write-uncoded-requires
-write-uncoded-requires c κs = let start = c .before .before .before .before .before .before .before .before .before .before .before .before .before .before .before .before .before .before .before .before in
+write-uncoded-requires c κs =
+    let read-best = c .before .before .before .before .before .before .before .before in
+    let start = read-best .before .before .before .before .before .before .before .before .before .before .before .before in
     let a = start .args in
     let l = start .pre in
-    let rb = c .before .before .before .before .before .before .before .before .read-best in
+    let rb = read-best .read-best in
     let n = length (a .metrics .now) / 4 in
     let q = quadruple (a .metrics .now) in
     let lb = bits-long (a .start) q n (rb .last .1 .1 .1 .1 .1 .1 .0) (rb .ensures .0) in
@@ -32,11 +34,14 @@ write-uncoded-requires c κs = let start = c .before .before .before .before .be
 
 -- src/lib.rt:262:5
 lead-slots-requires : tie.Need-lead-slots-requires
-lead-slots-requires c κs = let start = c .before .before .before .before .before .before .before .before .before .before .before .before .before .before .before .before .before .before .before .before .before .before .before .before .before .before .before in
+lead-slots-requires c κs =
+    let write-uncoded = c .before .before .before .before .before .before in
+    let read-best = write-uncoded .before .before .before .before .before .before .before .before .before in
+    let start = read-best .before .before .before .before .before .before .before .before .before .before .before .before in
     let a = start .args in
     let l = start .pre in
-    let rb = c .before .before .before .before .before .before .before .before .before .before .before .before .before .before .before .read-best in
-    let wu = c .before .before .before .before .before .before .write-uncoded in
+    let rb = read-best .read-best in
+    let wu = write-uncoded .write-uncoded in
     let n = length (a .metrics .now) / 4 in
     let bits = rb .last .1 .1 .1 .1 .1 .1 .0 in
     let kept = rb .ensures .1 .1 .1 in
@@ -73,11 +78,14 @@ same-length-5 c = search needs
 
 -- src/lib.rt:244:1
 returns : tie.Need-returns
-returns c = let start = c .before .before .before .before .before .before .before .before .before .before .before .before .before .before .before .before .before .before .before .before .before .before .before .before .before .before .before .before .before .before in
+returns c =
+    let write-uncoded = c .before .before .before .before .before .before .before .before .before in
+    let read-best = write-uncoded .before .before .before .before .before .before .before .before .before in
+    let start = read-best .before .before .before .before .before .before .before .before .before .before .before .before in
     let a = start .args in
     let l = start .pre in
-    let rb = c .before .before .before .before .before .before .before .before .before .before .before .before .before .before .before .before .before .before .read-best in
-    let wu = c .before .before .before .before .before .before .before .before .before .write-uncoded in
+    let rb = read-best .read-best in
+    let wu = write-uncoded .write-uncoded in
     let ls = c .before .before .lead-slots in
     let n = length (a .metrics .now) / 4 in
     let bits = rb .last .1 .1 .1 .1 .1 .1 .0 in

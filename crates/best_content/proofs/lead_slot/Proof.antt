@@ -19,12 +19,16 @@ none-differs-requires c κs = search needs
 
 -- src/lib.rt:166:5
 back-steps-requires : tie.Need-back-steps-requires
-back-steps-requires c κs = let p = c .before .before .before .before .before .before .before .before .pre in
+back-steps-requires c κs =
+    let start = c .before .before .before .before .before .before .before .before in
+    let p = start .pre in
     (p .0, p .1, fars-halved (c .before .before .none-differs .result) (c .before .before .none-differs .ensures))
 
 -- src/lib.rt:167:9
 least-sum-requires : tie.Need-least-sum-requires
-least-sum-requires c κs = let p = c .before .before .before .before .before .before .before .before .before .before .pre in
+least-sum-requires c κs =
+    let start = c .before .before .before .before .before .before .before .before .before .before in
+    let p = start .pre in
     (p .2, λ k h. let x = p .3 k in let y = c .before .back-steps .ensures .2 k in omega arith)
 
 -- src/lib.rt:168:5
@@ -33,9 +37,12 @@ beyond-requires c κs = search needs
 
 -- src/lib.rt:149:1
 returns : tie.Need-returns
-returns c = let a = c .before .before .before .before .before .before .before .before .before .before .before .before .args in
+returns c =
+    let none-differs = c .before .before .before .before .before .before in
+    let start = none-differs .before .before .before .before .before .before in
+    let a = start .args in
     let bs = c .before .before .before .back-steps in
-    let nd = c .before .before .before .before .before .before .none-differs in (
+    let nd = none-differs .none-differs in (
       bs .ensures .0,
       lead-is (a .table .now) (λ d. otherRun (two (a .metrics .now) (a .sides .now)) (priceAt (a .metrics .now) (a .sides .now)) (seq (a .bits .now)) (seq (a .uncoded .now)) d (a .b .now) (a .at) (a .count)) (nd .result) (bs .last .1 .0) (a .own) (c .before .least-sum .result) (c .beyond .result)
           (nd .ensures) (bs .ensures .1) (c .before .least-sum .ensures) (c .beyond .ensures),

@@ -42,8 +42,9 @@ mul-at c = search needs
 
 -- src/lib.rt:192:18
 shared-slice-read-at : tie.Need-shared-slice-read-at Inv-loop μ-loop
-shared-slice-read-at c = let at = c .before .before in
-    let start = c .before .before .before .before .before .before .before .before .before .before in
+shared-slice-read-at c =
+    let at = c .before .before in
+    let start = at .before .before .before .before .before .before .before .before in
     let a = start .args in
     let p = start .pre in
     let m = p .0 in
@@ -60,8 +61,9 @@ cast-at c = let q = c .shared-slice-known7 .given (c .before .before .loop .left
 
 -- src/lib.rt:193:24
 add-to : tie.Need-add-to Inv-loop μ-loop
-add-to c = let at = c .before .before in
-    let start = c .before .before .before .before .before .before .before .before .before .before in
+add-to c =
+    let at = c .before .before in
+    let start = at .before .before .before .before .before .before .before .before in
     let a = start .args in
     let p = start .pre in
     let m = p .0 in
@@ -78,8 +80,9 @@ mul-to c = search needs
 
 -- src/lib.rt:193:18
 shared-slice-read-to : tie.Need-shared-slice-read-to Inv-loop μ-loop
-shared-slice-read-to c = let at = c .before .before .before in
-    let start = c .before .before .before .before .before .before .before .before .before .before .before in
+shared-slice-read-to c =
+    let at = c .before .before .before in
+    let start = at .before .before .before .before .before .before .before .before in
     let a = start .args in
     let p = start .pre in
     let m = p .0 in
@@ -96,8 +99,9 @@ cast-to c = let q = c .shared-slice-known8 .given (c .before .before .before .lo
 
 -- src/lib.rt:194:20
 mul-from : tie.Need-mul-from Inv-loop μ-loop
-mul-from c = let at = c .before .before .before in
-    let start = c .before .before .before .before .before .before .before .before .before .before .before in
+mul-from c =
+    let at = c .before .before .before in
+    let start = at .before .before .before .before .before .before .before .before in
     let a = start .args in
     let p = start .pre in
     let m = p .0 in
@@ -110,8 +114,9 @@ mul-from c = let at = c .before .before .before in
 
 -- src/lib.rt:195:19
 mul-end : tie.Need-mul-end Inv-loop μ-loop
-mul-end c = let at = c .before .before .before in
-    let start = c .before .before .before .before .before .before .before .before .before .before .before in
+mul-end c =
+    let at = c .before .before .before in
+    let start = at .before .before .before .before .before .before .before .before in
     let a = start .args in
     let p = start .pre in
     let m = p .0 in
@@ -124,8 +129,9 @@ mul-end c = let at = c .before .before .before in
 
 -- src/lib.rt:195:19
 add-end : tie.Need-add-end Inv-loop μ-loop
-add-end c = let at = c .before .before .before in
-    let start = c .before .before .before .before .before .before .before .before .before .before .before in
+add-end c =
+    let at = c .before .before .before in
+    let start = at .before .before .before .before .before .before .before .before in
     let a = start .args in
     let p = start .pre in
     let m = p .0 in
@@ -138,8 +144,9 @@ add-end c = let at = c .before .before .before in
 
 -- src/lib.rt:196:70
 sub-lead-slot : tie.Need-sub-lead-slot Inv-loop μ-loop
-sub-lead-slot c = let at = c .before .before .before .before in
-    let start = c .before .before .before .before .before .before .before .before .before .before .before .before in
+sub-lead-slot c =
+    let at = c .before .before .before .before in
+    let start = at .before .before .before .before .before .before .before .before in
     let a = start .args in
     let p = start .pre in
     let m = p .0 in
@@ -161,8 +168,9 @@ sub-lead-slot-2 c = omega arith
 
 -- src/lib.rt:196:79
 part-lead-slot-start : tie.Need-part-lead-slot-start Inv-loop μ-loop
-part-lead-slot-start c = let at = c .before .before .before .before in
-    let start = c .before .before .before .before .before .before .before .before .before .before .before .before in
+part-lead-slot-start c =
+    let at = c .before .before .before .before in
+    let start = at .before .before .before .before .before .before .before .before in
     let a = start .args in
     let p = start .pre in
     let m = p .0 in
@@ -176,8 +184,9 @@ part-lead-slot-start c = let at = c .before .before .before .before in
 
 -- src/lib.rt:196:79
 part-lead-slot-end : tie.Need-part-lead-slot-end Inv-loop μ-loop
-part-lead-slot-end c = let at = c .before .before .before .before in
-    let start = c .before .before .before .before .before .before .before .before .before .before .before .before in
+part-lead-slot-end c =
+    let at = c .before .before .before .before in
+    let start = at .before .before .before .before .before .before .before .before in
     let a = start .args in
     let p = start .pre in
     let m = p .0 in
@@ -191,8 +200,10 @@ part-lead-slot-end c = let at = c .before .before .before .before in
 
 -- src/lib.rt:196:13
 lead-slot-requires : tie.Need-lead-slot-requires Inv-loop μ-loop
-lead-slot-requires c κs = let at = c .before .before .before .before .before in
-    let start = c .before .before .before .before .before .before .before .before .before .before .before .before .before in
+lead-slot-requires c κs =
+    let tested = c .before .before .before .before in
+    let at = tested .before in
+    let start = at .before .before .before .before .before .before .before .before in
     let a = start .args in
     let p = start .pre in
     let m = p .0 in
@@ -200,7 +211,7 @@ lead-slot-requires c κs = let at = c .before .before .before .before .before in
     let inv = at .loop .inv in
     let w = inv .0 in
     let n = length (a .metrics .now) / 4 in
-    let test = c .before .before .before .before .loop-test .taken in
+    let test = tested .loop-test .taken in
     let k = left - 1 in
     let hk : k < a .slots = omega arith in
     let e : k + 1 ≡ left = omega arith in
@@ -223,8 +234,10 @@ mul-leads c = search needs
 
 -- src/lib.rt:197:9
 slice-write-leads : tie.Need-slice-write-leads Inv-loop μ-loop
-slice-write-leads c = let at = c .before .before .before .before .before .before in
-    let start = c .before .before .before .before .before .before .before .before .before .before .before .before .before .before in
+slice-write-leads c =
+    let tested = c .before .before .before .before .before in
+    let at = tested .before in
+    let start = at .before .before .before .before .before .before .before .before in
     let a = start .args in
     let p = start .pre in
     let m = p .0 in
@@ -232,7 +245,7 @@ slice-write-leads c = let at = c .before .before .before .before .before .before
     let inv = at .loop .inv in
     let w = inv .0 in
     let n = length (a .metrics .now) / 4 in
-    let test = c .before .before .before .before .before .loop-test .taken in
+    let test = tested .loop-test .taken in
     let q = p .5 in
     let l = inv .1 in
     omega arith
@@ -243,8 +256,10 @@ loop-less c = search needs
 
 -- src/lib.rt:190:5
 loop-again : tie.Need-loop-again Inv-loop μ-loop
-loop-again c = let at = c .before .before .before .before .before .before in
-    let start = c .before .before .before .before .before .before .before .before .before .before .before .before .before .before in
+loop-again c =
+    let tested = c .before .before .before .before .before in
+    let at = tested .before in
+    let start = at .before .before .before .before .before .before .before .before in
     let a = start .args in
     let p = start .pre in
     let m = p .0 in
@@ -252,7 +267,7 @@ loop-again c = let at = c .before .before .before .before .before .before in
     let inv = at .loop .inv in
     let w = inv .0 in
     let n = length (a .metrics .now) / 4 in
-    let test = c .before .before .before .before .before .loop-test .taken in
+    let test = tested .loop-test .taken in
     let k = left - 1 in
     let hk : k < a .slots = omega arith in
     let e : k + 1 ≡ left = omega arith in
@@ -279,8 +294,9 @@ same-length c = c .before .loop .inv .1
 
 -- src/lib.rt:172:1
 returns : tie.Need-returns Inv-loop μ-loop
-returns c = let at = c .before in
-    let start = c .before .before .before .before .before .before .before .before .before in
+returns c =
+    let at = c .before in
+    let start = at .before .before .before .before .before .before .before .before in
     let a = start .args in
     let z : at .loop .left ≡ 0 = omega arith in
     let inv = rw z at (at .loop .inv) in

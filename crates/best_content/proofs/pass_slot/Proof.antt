@@ -80,7 +80,8 @@ part-pass-end-2 c = search needs
 
 -- src/lib.rt:106:5
 pass-requires : tie.Need-pass-requires
-pass-requires c κs = let start = c .before .before .before .before .before .before .before .before .before .before .before in
+pass-requires c κs =
+    let start = c .before .before .before .before .before .before .before .before .before .before .before in
     let a = start .args in
     let p = start .pre in
     let e = part-length (a .metrics .now) (a .a) (a .b) (p .0) (p .1) in
@@ -98,7 +99,9 @@ same-length-2 c = search needs
 
 -- src/lib.rt:89:1
 returns : tie.Need-returns
-returns c = let start = c .before .before .before .before .before .before .before .before .before .before .before .before .before .before in
+returns c =
+    let keep-table = c .before .before .before .before .before .before .before .before in
+    let start = keep-table .before .before .before .before .before .before in
     let a = start .args in
     let p = start .pre in
     let e = part-length (a .metrics .now) (a .a) (a .b) (p .0) (p .1) in
@@ -106,7 +109,7 @@ returns c = let start = c .before .before .before .before .before .before .befor
       w .0,
       (
         written-tail (a .a) (a .decisions .now) (c .before .before .pass .last .1 .1 .0) (upto (wordAt (a .d .now) (costAt (quadruple (piece (4 * a .a) (4 * a .b) (a .metrics .now))))) (a .b - a .a)) (let q = p .3 in let v = p .0 in omega arith) (w .1),
-        written-tail (a .at) (a .tables .now) (c .before .before .before .before .before .before .before .before .keep-table .last .1 .0) (upto (seq (a .d .now)) 64) (let q = p .2 in omega arith) (c .before .before .before .before .before .before .before .before .keep-table .ensures),
+        written-tail (a .at) (a .tables .now) (keep-table .keep-table .last .1 .0) (upto (seq (a .d .now)) 64) (let q = p .2 in omega arith) (keep-table .keep-table .ensures),
       ),
     )
 

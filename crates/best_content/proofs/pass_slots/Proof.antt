@@ -50,7 +50,10 @@ mul-b c = search needs
 
 -- src/lib.rt:126:17
 shared-slice-read-b : tie.Need-shared-slice-read-b Inv-loop μ-loop
-shared-slice-read-b c = let q = c .before .before .before .before .before .before .before .before .pre .0 .count in omega arith
+shared-slice-read-b c =
+    let start = c .before .before .before .before .before .before .before .before in
+    let q = start .pre .0 .count in
+    omega arith
 
 -- src/lib.rt:126:17
 cast-b : tie.Need-cast-b Inv-loop μ-loop
@@ -62,8 +65,9 @@ mul-pass-slot c = search needs
 
 -- src/lib.rt:127:9
 pass-slot-requires : tie.Need-pass-slot-requires Inv-loop μ-loop
-pass-slot-requires c κs = let at = c .before .before .before .before .before .before in
-    let start = c .before .before .before .before .before .before .before .before .before .before .before in
+pass-slot-requires c κs =
+    let at = c .before .before .before .before .before .before in
+    let start = at .before .before .before .before .before in
     let a = start .args in
     let p = start .pre in
     let m = p .0 in
@@ -89,8 +93,10 @@ loop-less c = search needs
 
 -- src/lib.rt:124:5
 loop-again : tie.Need-loop-again Inv-loop μ-loop
-loop-again c = let at = c .before .before .before .before .before .before .before .before .before .before .before in
-    let start = c .before .before .before .before .before .before .before .before .before .before .before .before .before .before .before .before in
+loop-again c =
+    let pass-slot = c .before .before .before .before in
+    let at = pass-slot .before .before .before .before .before .before .before in
+    let start = at .before .before .before .before .before in
     let a = start .args in
     let p = start .pre in
     let m = p .0 in
@@ -102,7 +108,7 @@ loop-again c = let at = c .before .before .before .before .before .before .befor
     let x = getD (a .marks .now) k 0 in
     let y = getD (a .marks .now) (k + 1) 0 in
     let f = costAt (quadruple (a .metrics .now)) in
-    let g = c .before .before .before .before .pass-slot .ensures in
+    let g = pass-slot .pass-slot .ensures in
     let lt = inv .3 in
     let ta = p .1 in
     let sv = saved-more (a .d .now) f (a .marks .now) k (at .loop .tables) _ (at .loop .d) (omega arith) (inv .1) (g .1 .1) (inv .4) in (

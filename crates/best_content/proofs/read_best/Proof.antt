@@ -21,10 +21,13 @@ start-table-requires c κs = search needs
 
 -- src/lib.rt:232:5
 pass-slots-requires : tie.Need-pass-slots-requires
-pass-slots-requires c κs = let p = c .before .before .before .before .before .before .before .before .before .pre in
-    let a = c .before .before .before .before .before .before .before .before .before .args in
+pass-slots-requires c κs =
+    let start-table = c .before .before .before in
+    let start = start-table .before .before .before .before .before .before in
+    let p = start .pre in
+    let a = start .args in
     let few = p .1 in
-    (p .0, p .2, p .3, start-room (a .start) (length (a .metrics .now) / 4) (c .before .before .before .start-table .result) (omega arith) (c .before .before .before .start-table .ensures))
+    (p .0, p .2, p .3, start-room (a .start) (length (a .metrics .now) / 4) (start-table .start-table .result) (omega arith) (start-table .start-table .ensures))
 
 -- src/lib.rt:233:9
 cheapest-state-requires : tie.Need-cheapest-state-requires
@@ -64,13 +67,18 @@ same-length-3 c = search needs
 
 -- src/lib.rt:214:1
 returns : tie.Need-returns
-returns c = let start = c .before .before .before .before .before .before .before .before .before .before .before .before .before .before .before .before .before .before .before .before .before .before .before in
+returns c =
+    let trace = c .before .before .before .before in
+    let cheapest-state = trace .before .before .before in
+    let pass-slots = cheapest-state .before .before .before .before .before .before in
+    let start-table = pass-slots .before .before .before .before in
+    let start = start-table .before .before .before .before .before .before in
     let a = start .args in
     let p = start .pre in
-    let st = c .before .before .before .before .before .before .before .before .before .before .before .before .before .before .before .before .before .start-table in
-    let ps = c .before .before .before .before .before .before .before .before .before .before .before .before .before .pass-slots in
-    let ch = c .before .before .before .before .before .before .before .cheapest-state in
-    let tr = c .before .before .before .before .trace in
+    let st = start-table .start-table in
+    let ps = pass-slots .pass-slots in
+    let ch = cheapest-state .cheapest-state in
+    let tr = trace .trace in
     let n = length (a .metrics .now) / 4 in
     let q = quadruple (a .metrics .now) in
     let w = whole-words (a .start) q n (st .result) (ps .last .1 .1 .1 .1 .1 .0) (a .decisions .now) (st .ensures) (ps .ensures .1 .0) in

@@ -43,13 +43,18 @@ shared-slice-read-choice c = omega arith
 
 -- src/lib.rt:54:22
 choice-requires : tie.Need-choice-requires Inv-loop μ-loop
-choice-requires c κs = let e = c .before .branch-number .ensures in
-    rw e (label-under isdb (getD (c .before .before .before .before .before .before .before .before .args .bits .now) (c .before .before .before .before .loop .t) 0 % 2) (c .before .before .before .before .loop .state % 64))
+choice-requires c κs =
+    let at = c .before .before .before .before in
+    let start = at .before .before .before .before in
+    let e = c .before .branch-number .ensures in
+    rw e (label-under isdb (getD (start .args .bits .now) (at .loop .t) 0 % 2) (at .loop .state % 64))
 
 -- src/lib.rt:54:9
 slice-write-uncoded : tie.Need-slice-write-uncoded Inv-loop μ-loop
-slice-write-uncoded c = let at = c .before .before .before .before .before in
-    let a = c .before .before .before .before .before .before .before .before .before .args in
+slice-write-uncoded c =
+    let at = c .before .before .before .before .before in
+    let start = at .before .before .before .before in
+    let a = start .args in
     let l = length-laid-upto (chosen (a .sides .now) (a .bits .now) (a .s)) (at .loop .t) (a .uncoded .now) (omega arith) in
     rw (at .loop .inv .3) (omega arith)
 
@@ -59,11 +64,20 @@ shared-slice-read-state c = omega arith
 
 -- src/lib.rt:55:17
 mul-state : tie.Need-mul-state Inv-loop μ-loop
-mul-state c = let q = c .before .before .before .before .before .before .before .before .before .before .pre .4 (c .before .before .before .before .before .before .loop .t) (omega arith) in omega arith
+mul-state c =
+    let at = c .before .before .before .before .before .before in
+    let start = at .before .before .before .before in
+    let q = start .pre .4 (at .loop .t) (omega arith) in
+    omega arith
 
 -- src/lib.rt:55:17
 add-state : tie.Need-add-state Inv-loop μ-loop
-add-state c = let q = c .before .before .before .before .before .before .before .before .before .before .pre .4 (c .before .before .before .before .before .before .loop .t) (omega arith) in let w = c .before .before .before .before .before .before .loop .inv .1 in omega arith
+add-state c =
+    let at = c .before .before .before .before .before .before in
+    let start = at .before .before .before .before in
+    let q = start .pre .4 (at .loop .t) (omega arith) in
+    let w = at .loop .inv .1 in
+    omega arith
 
 -- src/lib.rt:52:9
 add-t : tie.Need-add-t Inv-loop μ-loop
@@ -75,8 +89,10 @@ loop-less c = search needs
 
 -- src/lib.rt:52:5
 loop-again : tie.Need-loop-again Inv-loop μ-loop
-loop-again c = let at = c .before .before .before .before .before .before in
-    let start = c .before .before .before .before .before .before .before .before .before .before in
+loop-again c =
+    let branch-number = c .before .before .before in
+    let at = branch-number .before .before .before in
+    let start = at .before .before .before .before in
     let a = start .args in
     let t = at .loop .t in
     let inv = at .loop .inv in
@@ -88,7 +104,7 @@ loop-again c = let at = c .before .before .before .before .before .before in
       state-more (a .bits .now) (a .s) t (at .loop .state) (inv .2),
       ap (λ (x : List ℕ). set x t (c .before .choice .result)) (inv .3)
           ∙ laid-upto (chosen (a .sides .now) (a .bits .now) (a .s)) t (a .uncoded .now) (c .before .choice .result) h
-          (chosen-is (a .sides .now) (a .bits .now) (a .s) t (at .loop .state) (c .before .before .before .branch-number .result) _ hb (inv .1) (inv .2) (c .before .before .before .branch-number .ensures) (c .before .choice .ensures)),
+          (chosen-is (a .sides .now) (a .bits .now) (a .s) t (at .loop .state) (branch-number .branch-number .result) _ hb (inv .1) (inv .2) (branch-number .branch-number .ensures) (c .before .choice .ensures)),
     )
 
 -- src/lib.rt:47:1

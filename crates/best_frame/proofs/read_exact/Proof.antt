@@ -30,7 +30,11 @@ slot-marks-requires c κs = search needs
 
 -- src/lib.rt:44:5
 best-content-requires : tie.Need-best-content-requires
-best-content-requires c κs = let st = c .before .before .before .before .before .before .before .before .before .before .before .before .before .before .before .before .before .before .before .before .before .before .before .before .before .before .before .before .before .before .before .before .before in
+best-content-requires c κs =
+    let slot-marks = c .before .before .before .before .before .before .before .before .before .before in
+    let frame-sides = slot-marks .before .before .before .before in
+    let frame-metrics = frame-sides .before .before .before .before in
+    let st = frame-metrics .before .before .before .before .before .before .before .before .before .before .before .before .before .before .before in
     let a = st .args in
     let pre = st .pre in
     let t = a .p .table in
@@ -38,9 +42,9 @@ best-content-requires c κs = let st = c .before .before .before .before .before
     let r = receivedBy (a .re .now) (a .im .now) (a .o .mapping) (a .o .scales) in
     let z = pre .4 in
     let ev : a .p .«valid_slots» ≡ validTotal t = ap (λ (x : Plan). x .«valid_slots») (pre .0 .is) in
-    let fq = c .before .before .before .before .before .before .before .before .before .before .before .before .before .before .before .before .before .before .frame-metrics in
-    let sr = c .before .before .before .before .before .before .before .before .before .before .before .before .before .before .frame-sides in
-    let sm = c .before .before .before .before .before .before .before .before .before .before .slot-marks in
+    let fq = frame-metrics .frame-metrics in
+    let sr = frame-sides .frame-sides in
+    let sm = slot-marks .slot-marks in
     let em = metrics-whole t ok r (a .start) (a .metrics .now) (fq .last .1 .1 .1 .1 .1 .0) (fq .ensures) (z .metrics-are) in
     let es = sides-whole t ok r (a .start) (a .sides .now) (sr .last .1 .1 .1 .1 .0) (sr .ensures (scaleOf (a .o .scales))) (z .sides-are) in
     let ma = marks-at t ok r (a .start) (a .marks .now) (sm .last .1 .0) (sm .ensures) in
@@ -49,7 +53,12 @@ best-content-requires c κs = let st = c .before .before .before .before .before
 
 -- src/lib.rt:56:5
 write-load-requires : tie.Need-write-load-requires
-write-load-requires c κs = let st = c .before .before .before .before .before .before .before .before .before .before .before .before .before .before .before .before .before .before .before .before .before .before .before .before .before .before .before .before .before .before .before .before .before .before .before .before .before .before .before .before .before .before .before .before .before .before .before in
+write-load-requires c κs =
+    let best-content = c .before .before .before .before .before .before .before .before .before .before .before .before .before in
+    let slot-marks = best-content .before .before .before .before .before .before .before .before .before .before .before in
+    let frame-sides = slot-marks .before .before .before .before in
+    let frame-metrics = frame-sides .before .before .before .before in
+    let st = frame-metrics .before .before .before .before .before .before .before .before .before .before .before .before .before .before .before in
     let a = st .args in
     let pre = st .pre in
     let t = a .p .table in
@@ -57,13 +66,13 @@ write-load-requires c κs = let st = c .before .before .before .before .before .
     let r = receivedBy (a .re .now) (a .im .now) (a .o .mapping) (a .o .scales) in
     let z = pre .4 in
     let ev : a .p .«valid_slots» ≡ validTotal t = ap (λ (x : Plan). x .«valid_slots») (pre .0 .is) in
-    let fq = c .before .before .before .before .before .before .before .before .before .before .before .before .before .before .before .before .before .before .before .before .before .before .before .before .before .before .before .before .before .before .before .before .frame-metrics in
-    let sr = c .before .before .before .before .before .before .before .before .before .before .before .before .before .before .before .before .before .before .before .before .before .before .before .before .before .before .before .before .frame-sides in
-    let sm = c .before .before .before .before .before .before .before .before .before .before .before .before .before .before .before .before .before .before .before .before .before .before .before .before .slot-marks in
+    let fq = frame-metrics .frame-metrics in
+    let sr = frame-sides .frame-sides in
+    let sm = slot-marks .slot-marks in
     let em = metrics-whole t ok r (a .start) (a .metrics .now) (fq .last .1 .1 .1 .1 .1 .0) (fq .ensures) (z .metrics-are) in
     let es = sides-whole t ok r (a .start) (a .sides .now) (sr .last .1 .1 .1 .1 .0) (sr .ensures (scaleOf (a .o .scales))) (z .sides-are) in
     let ma = marks-at t ok r (a .start) (a .marks .now) (sm .last .1 .0) (sm .ensures) in
-    let bc = c .before .before .before .before .before .before .before .before .before .before .before .before .before .best-content in
+    let bc = best-content .best-content in
     let l = found-long t ok r (a .start) (a .p .«valid_slots») ev (fq .last .1 .1 .1 .1 .1 .0) (sr .last .1 .1 .1 .1 .0) (sm .last .1 .0) (bc .last .1 .1 .1 .1 .1 .1 .1 .0) (bc .last .1 .1 .1 .1 .1 .1 .1 .1 .0) (bc .last .1 .1 .1 .1 .1 .1 .1 .1 .1 .0) em es ma (bc .ensures) in
     let w = found-wide t ok r (a .start) (a .p .«valid_slots») ev (fq .last .1 .1 .1 .1 .1 .0) (sr .last .1 .1 .1 .1 .0) (sm .last .1 .0) (bc .last .1 .1 .1 .1 .1 .1 .1 .0) (bc .last .1 .1 .1 .1 .1 .1 .1 .1 .0) (bc .last .1 .1 .1 .1 .1 .1 .1 .1 .1 .0) em es ma (bc .ensures) in
     let zb = z .bytes-are in
@@ -107,7 +116,12 @@ same-length-9 c = search needs
 
 -- src/lib.rt:20:1
 returns : tie.Need-returns
-returns c = let st = c .before .before .before .before .before .before .before .before .before .before .before .before .before .before .before .before .before .before .before .before .before .before .before .before .before .before .before .before .before .before .before .before .before .before .before .before .before .before .before .before .before .before .before .before .before .before .before .before .before .before in
+returns c =
+    let best-content = c .before .before .before .before .before .before .before .before .before .before .before .before .before .before .before .before in
+    let slot-marks = best-content .before .before .before .before .before .before .before .before .before .before .before in
+    let frame-sides = slot-marks .before .before .before .before in
+    let frame-metrics = frame-sides .before .before .before .before in
+    let st = frame-metrics .before .before .before .before .before .before .before .before .before .before .before .before .before .before .before in
     let a = st .args in
     let pre = st .pre in
     let t = a .p .table in
@@ -115,13 +129,13 @@ returns c = let st = c .before .before .before .before .before .before .before .
     let r = receivedBy (a .re .now) (a .im .now) (a .o .mapping) (a .o .scales) in
     let z = pre .4 in
     let ev : a .p .«valid_slots» ≡ validTotal t = ap (λ (x : Plan). x .«valid_slots») (pre .0 .is) in
-    let fq = c .before .before .before .before .before .before .before .before .before .before .before .before .before .before .before .before .before .before .before .before .before .before .before .before .before .before .before .before .before .before .before .before .before .before .before .frame-metrics in
-    let sr = c .before .before .before .before .before .before .before .before .before .before .before .before .before .before .before .before .before .before .before .before .before .before .before .before .before .before .before .before .before .before .before .frame-sides in
-    let sm = c .before .before .before .before .before .before .before .before .before .before .before .before .before .before .before .before .before .before .before .before .before .before .before .before .before .before .before .slot-marks in
+    let fq = frame-metrics .frame-metrics in
+    let sr = frame-sides .frame-sides in
+    let sm = slot-marks .slot-marks in
     let em = metrics-whole t ok r (a .start) (a .metrics .now) (fq .last .1 .1 .1 .1 .1 .0) (fq .ensures) (z .metrics-are) in
     let es = sides-whole t ok r (a .start) (a .sides .now) (sr .last .1 .1 .1 .1 .0) (sr .ensures (scaleOf (a .o .scales))) (z .sides-are) in
     let ma = marks-at t ok r (a .start) (a .marks .now) (sm .last .1 .0) (sm .ensures) in
-    let bc = c .before .before .before .before .before .before .before .before .before .before .before .before .before .before .before .before .best-content in
+    let bc = best-content .best-content in
     let cb = c .before .before .write-load in
     found-reads t ok r (a .start) (a .p .«valid_slots») ev (fq .last .1 .1 .1 .1 .1 .0) (sr .last .1 .1 .1 .1 .0) (sm .last .1 .0) (bc .last .1 .1 .1 .1 .1 .1 .1 .0) (bc .last .1 .1 .1 .1 .1 .1 .1 .1 .0) (bc .last .1 .1 .1 .1 .1 .1 .1 .1 .1 .0) em es ma (bc .ensures) (a .bytes .now) (cb .last .1 .1 .1 .0) (cb .ensures) (z .bytes-are)
 

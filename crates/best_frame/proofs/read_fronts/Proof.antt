@@ -156,17 +156,24 @@ same-length-8 c = search needs
 
 returns : tie.Need-returns
 returns c =
-    let st = c .before .before .before .before .before .before .before .before .before .before .before .before .before .before .before .before .before .before .before .before .before .before .before .before .before .before .before .before .before .before .before .before .before .before .before .before .before in
+    let at-uncoded = c .before .before .before .before .before in
+    let at-bits = at-uncoded .before .before in
+    let at-tables = at-bits .before .before in
+    let at-words = at-tables .before .before in
+    let at-sides = at-words .before .before .before in
+    let at-metrics = at-sides .before .before in
+    let read-exact = at-metrics .before in
+    let st = read-exact .before .before .before .before .before .before .before .before .before .before .before .before .before .before .before .before .before .before .before .before in
     let f = fronts (st .args .p) (lengths (lent (st .args .metrics .now) (st .args .sides .now) (st .args .words .now) (st .args .tables .now) (st .args .bits .now) (st .args .uncoded .now) (st .args .bytes .now) (st .args .leads .now))) (st .pre .0) (st .pre .4) in
-    let called = c .before .before .before .before .before .before .before .before .before .before .before .before .before .before .before .before .before .read-exact in
+    let called = read-exact .read-exact in
     left-of (st .args .p) (lent (st .args .metrics .now) (st .args .sides .now) (st .args .words .now) (st .args .tables .now) (st .args .bits .now) (st .args .uncoded .now) (st .args .bytes .now) (st .args .leads .now)) (lent (called .last .1 .1 .1 .1 .1 .0) (called .last .1 .1 .1 .1 .1 .1 .0) (called .last .1 .1 .1 .1 .1 .1 .1 .1 .0) (called .last .1 .1 .1 .1 .1 .1 .1 .1 .1 .0) (called .last .1 .1 .1 .1 .1 .1 .1 .1 .1 .1 .0) (called .last .1 .1 .1 .1 .1 .1 .1 .1 .1 .1 .1 .0) (called .last .1 .1 .1 .1 .1 .1 .1 .1 .1 .1 .1 .1 .0) (called .last .1 .1 .1 .1 .1 .1 .1 .1 .1 .1 .1 .1 .1 .0)) (st .pre .0) f
     (record {
-      metrics = c .before .before .before .before .before .before .before .before .before .before .before .before .before .before .before .before .metrics .given .0;
-      sides = c .before .before .before .before .before .before .before .before .before .before .before .before .before .before .sides .given .0;
-      words = c .before .before .before .before .before .before .before .before .before .before .before .words .given .0;
-      tables = c .before .before .before .before .before .before .before .before .before .tables .given .0;
-      bits = c .before .before .before .before .before .before .before .bits .given .0;
-      uncoded = c .before .before .before .before .before .uncoded .given .0;
+      metrics = at-metrics .metrics .given .0;
+      sides = at-sides .sides .given .0;
+      words = at-words .words .given .0;
+      tables = at-tables .tables .given .0;
+      bits = at-bits .bits .given .0;
+      uncoded = at-uncoded .uncoded .given .0;
       bytes = c .before .before .before .bytes .given .0;
       leads = c .before .leads .given .0;
     })

@@ -40,7 +40,10 @@ steps-per-slot-requires c κs = search needs
 
 -- src/lib.rt:36:17
 mul-n : tie.Need-mul-n Inv-loop μ-loop
-mul-n c = let e = steps-by (getD (c .before .before .before .before .before .before .before .before .before .args .p .runs) (c .before .before .before .before .loop .i) noRun) _ (c .before .steps-per-slot .ensures) in
+mul-n c =
+    let at = c .before .before .before .before in
+    let start = at .before .before .before .before .before in
+    let e = steps-by (getD (start .args .p .runs) (at .loop .i) noRun) _ (c .before .steps-per-slot .ensures) in
     record { fits = omega arith }
 
 -- src/lib.rt:38:13
@@ -120,9 +123,12 @@ part-run-metrics-end-3 c = search needs
 
 -- src/lib.rt:41:9
 run-metrics-requires : tie.Need-run-metrics-requires Inv-loop μ-loop
-run-metrics-requires c κs = let st = c .before .before .before .before .before .before .before .before .before .before .before .before .before in
-    let at = c .before .before .before .before .before .before .before .before .loop in
-    let e = steps-by (getD (st .args .p .runs) (at .i) noRun) _ (c .before .before .before .before .before .steps-per-slot .ensures) in
+run-metrics-requires c κs =
+    let steps-per-slot = c .before .before .before .before .before in
+    let looped = steps-per-slot .before .before .before in
+    let st = looped .before .before .before .before .before in
+    let at = looped .loop in
+    let e = steps-by (getD (st .args .p .runs) (at .i) noRun) _ (steps-per-slot .steps-per-slot .ensures) in
     let w = at .inv in
     let f = w .run .steps-fit in
     let g = w .fits in
@@ -138,9 +144,12 @@ run-metrics-requires c κs = let st = c .before .before .before .before .before 
 
 -- src/lib.rt:42:16
 add-step : tie.Need-add-step Inv-loop μ-loop
-add-step c = let st = c .before .before .before .before .before .before .before .before .before .before .before .before .before .before .before .before in
-    let at = c .before .before .before .before .before .before .before .before .before .before .before .loop in
-    let e = steps-by (getD (st .args .p .runs) (at .i) noRun) _ (c .before .before .before .before .before .before .before .before .steps-per-slot .ensures) in
+add-step c =
+    let steps-per-slot = c .before .before .before .before .before .before .before .before in
+    let looped = steps-per-slot .before .before .before in
+    let st = looped .before .before .before .before .before in
+    let at = looped .loop in
+    let e = steps-by (getD (st .args .p .runs) (at .i) noRun) _ (steps-per-slot .steps-per-slot .ensures) in
     let w = at .inv in
     let f = w .run .steps-fit in
     let g = w .fits in
@@ -158,16 +167,21 @@ loop-less c = search needs
 
 -- src/lib.rt:33:5
 loop-again : tie.Need-loop-again Inv-loop μ-loop
-loop-again c = let st = c .before .before .before .before .before .before .before .before .before .before .before .before .before .before .before .before in
-    let at = c .before .before .before .before .before .before .before .before .before .before .before .loop in
-    let e = steps-by (getD (st .args .p .runs) (at .i) noRun) _ (c .before .before .before .before .before .before .before .before .steps-per-slot .ensures) in
+loop-again c =
+    let scale-place = c .before .before .before .before .before .before in
+    let steps-per-slot = scale-place .before .before in
+    let tested = steps-per-slot .before .before in
+    let looped = tested .before in
+    let st = looped .before .before .before .before .before in
+    let at = looped .loop in
+    let e = steps-by (getD (st .args .p .runs) (at .i) noRun) _ (steps-per-slot .steps-per-slot .ensures) in
     let w = at .inv in
     let f = w .run .steps-fit in
     let g = w .fits in
     let s = w .filled .same in
     let ls = w .run .runs .steps in
-    let l = c .before .before .before .before .before .before .before .before .before .before .loop-test .taken in
-    let x = ap (λ (k : ℕ). getD (st .args .t3) k nan) (c .before .before .before .before .before .before .scale-place .ensures .0) in
+    let l = tested .loop-test .taken in
+    let x = ap (λ (k : ℕ). getD (st .args .t3) k nan) (scale-place .scale-place .ensures .0) in
     written-next w l e _ x (c .before .before .run-metrics .ensures)
 
 -- src/lib.rt:26:1

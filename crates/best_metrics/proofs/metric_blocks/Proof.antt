@@ -31,7 +31,9 @@ abbrev μ-loop : tie.MeasureT-loop
 -- src/lib.rt:57:5
 loop-holds : tie.Need-loop-holds Inv-loop μ-loop
 unfolding upto
-loop-holds c = (omega arith, no-periods (c .before .before .before .before .before .before .before .before .args .layout .combination), refl, refl, refl, refl, refl, refl, refl)
+loop-holds c =
+    let start = c .before .before .before .before .before .before .before .before in
+    (omega arith, no-periods (start .args .layout .combination), refl, refl, refl, refl, refl, refl, refl)
 
 -- src/lib.rt:58:28
 sub-block-of : tie.Need-sub-block-of Inv-loop μ-loop
@@ -39,16 +41,20 @@ sub-block-of c = search needs
 
 -- src/lib.rt:58:13
 block-of-requires : tie.Need-block-of-requires Inv-loop μ-loop
-block-of-requires c κs = let st = c .before .before .before .before .before .before .before .before .before .before in
+block-of-requires c κs =
+    let st = c .before .before .before .before .before .before .before .before .before .before in
     let s = short (st .args .layout .combination) in
     rw (st .pre .0 .period) (s .2, s .1)
 
 -- src/lib.rt:59:9
 make-block-requires : tie.Need-make-block-requires Inv-loop μ-loop
-make-block-requires c κs = let st = c .before .before .before .before .before .before .before .before .before .before .before .before .before .before .before .before in
-    let at = c .before .before .before .before .before .before .before .loop in
-    let inside = c .before .before .before .before .before .before .loop-test .taken in
-    let bo = c .before .before .before .before .before .block-of in
+make-block-requires c κs =
+    let block-of = c .before .before .before .before .before in
+    let looped = block-of .before .before in
+    let st = looped .before .before .before .before .before .before .before .before .before in
+    let at = looped .loop in
+    let inside = block-of .before .loop-test .taken in
+    let bo = block-of .block-of in
     let le = bo .ensures .0 in
     let co = st .args .layout .combination in
     let ep = st .pre .0 .period in
@@ -77,18 +83,24 @@ make-block-requires c κs = let st = c .before .before .before .before .before .
 
 -- src/lib.rt:60:20
 mul-from : tie.Need-mul-from Inv-loop μ-loop
-mul-from c = let st = c .before .before .before .before .before .before .before .before .before .before .before .before .before .before .before .before .before .before .before .before .before .before .before .before .before .before .before in
-    let at = c .before .before .before .before .before .before .before .before .before .before .before .before .before .before .before .before .before .before .loop in
-    let inside = c .before .before .before .before .before .before .before .before .before .before .before .before .before .before .before .before .before .loop-test .taken in
+mul-from c =
+    let tested = c .before .before .before .before .before .before .before .before .before .before .before .before .before .before .before .before .before in
+    let looped = tested .before in
+    let st = looped .before .before .before .before .before .before .before .before .before in
+    let at = looped .loop in
+    let inside = tested .loop-test .taken in
     let fits = st .pre .2 in
     omega arith
 
 -- src/lib.rt:61:27
 mul-take-block : tie.Need-mul-take-block Inv-loop μ-loop
-mul-take-block c = let st = c .before .before .before .before .before .before .before .before .before .before .before .before .before .before .before .before .before .before .before .before .before .before .before .before .before .before .before .before in
-    let at = c .before .before .before .before .before .before .before .before .before .before .before .before .before .before .before .before .before .before .before .loop in
-    let inside = c .before .before .before .before .before .before .before .before .before .before .before .before .before .before .before .before .before .before .loop-test .taken in
-    let le = c .before .before .before .before .before .before .before .before .before .before .before .before .before .before .before .before .before .block-of .ensures .0 in
+mul-take-block c =
+    let block-of = c .before .before .before .before .before .before .before .before .before .before .before .before .before .before .before .before .before in
+    let looped = block-of .before .before in
+    let st = looped .before .before .before .before .before .before .before .before .before in
+    let at = looped .loop in
+    let inside = block-of .before .loop-test .taken in
+    let le = block-of .block-of .ensures .0 in
     let fits = st .pre .2 in
     omega arith
 
@@ -98,18 +110,24 @@ mul-take-block-2 c = search needs
 
 -- src/lib.rt:61:36
 sub-take-block : tie.Need-sub-take-block Inv-loop μ-loop
-sub-take-block c = let st = c .before .before .before .before .before .before .before .before .before .before .before .before .before .before .before .before .before .before .before .before .before .before .before .before .before .before .before .before in
-    let at = c .before .before .before .before .before .before .before .before .before .before .before .before .before .before .before .before .before .before .before .loop in
-    let inside = c .before .before .before .before .before .before .before .before .before .before .before .before .before .before .before .before .before .before .loop-test .taken in
+sub-take-block c =
+    let tested = c .before .before .before .before .before .before .before .before .before .before .before .before .before .before .before .before .before .before in
+    let looped = tested .before in
+    let st = looped .before .before .before .before .before .before .before .before .before in
+    let at = looped .loop in
+    let inside = tested .loop-test .taken in
     let l = at .inv .7 in
     let room = st .pre .3 in
     omega arith
 
 -- src/lib.rt:61:36
 part-take-block-start : tie.Need-part-take-block-start Inv-loop μ-loop
-part-take-block-start c = let st = c .before .before .before .before .before .before .before .before .before .before .before .before .before .before .before .before .before .before .before .before .before .before .before .before .before .before .before .before in
-    let at = c .before .before .before .before .before .before .before .before .before .before .before .before .before .before .before .before .before .before .before .loop in
-    let inside = c .before .before .before .before .before .before .before .before .before .before .before .before .before .before .before .before .before .before .loop-test .taken in
+part-take-block-start c =
+    let tested = c .before .before .before .before .before .before .before .before .before .before .before .before .before .before .before .before .before .before in
+    let looped = tested .before in
+    let st = looped .before .before .before .before .before .before .before .before .before in
+    let at = looped .loop in
+    let inside = tested .loop-test .taken in
     let l = at .inv .7 in
     let room = st .pre .3 in
     omega arith
@@ -120,41 +138,55 @@ part-take-block-end c = search needs
 
 -- src/lib.rt:61:9
 take-block-requires : tie.Need-take-block-requires Inv-loop μ-loop
-take-block-requires c κs = let st = c .before .before .before .before .before .before .before .before .before .before .before .before .before .before .before .before .before .before .before .before .before .before .before .before .before .before .before .before .before in
-    let at = c .before .before .before .before .before .before .before .before .before .before .before .before .before .before .before .before .before .before .before .before .loop in
-    let inside = c .before .before .before .before .before .before .before .before .before .before .before .before .before .before .before .before .before .before .before .loop-test .taken in
-    let le = c .before .before .before .before .before .before .before .before .before .before .before .before .before .before .before .before .before .before .block-of .ensures .0 in
+take-block-requires c κs =
+    let make-block = c .before .before .before .before .before .before .before .before .before .before .before .before in
+    let block-of = make-block .before .before .before .before .before .before in
+    let looped = block-of .before .before in
+    let st = looped .before .before .before .before .before .before .before .before .before in
+    let at = looped .loop in
+    let inside = block-of .before .loop-test .taken in
+    let le = block-of .block-of .ensures .0 in
     let l = at .inv .7 in
     let room = st .pre .3 in
-    (c .before .before .before .before .before .before .before .before .before .before .before .before .make-block .ensures .0 .long, simp (length-take, length-drop) (omega arith))
+    (make-block .make-block .ensures .0 .long, simp (length-take, length-drop) (omega arith))
 
 -- src/lib.rt:62:13
 add-k : tie.Need-add-k Inv-loop μ-loop
-add-k c = let st = c .before .before .before .before .before .before .before .before .before .before .before .before .before .before .before .before .before .before .before .before .before .before .before .before .before .before .before .before .before .before .before .before in
-    let at = c .before .before .before .before .before .before .before .before .before .before .before .before .before .before .before .before .before .before .before .before .before .before .before .loop in
-    let inside = c .before .before .before .before .before .before .before .before .before .before .before .before .before .before .before .before .before .before .before .before .before .before .loop-test .taken in
-    let le = c .before .before .before .before .before .before .before .before .before .before .before .before .before .before .before .before .before .before .before .before .before .block-of .ensures .0 in
+add-k c =
+    let block-of = c .before .before .before .before .before .before .before .before .before .before .before .before .before .before .before .before .before .before .before .before .before in
+    let looped = block-of .before .before in
+    let st = looped .before .before .before .before .before .before .before .before .before in
+    let at = looped .loop in
+    let inside = block-of .before .loop-test .taken in
+    let le = block-of .block-of .ensures .0 in
     let fits = st .pre .2 in
     omega arith
 
 -- src/lib.rt:57:5
 loop-less : tie.Need-loop-less Inv-loop μ-loop
-loop-less c = let at = c .before .before .before .before .before .before .before .before .before .before .before .before .before .before .before .before .before .before .before .before .before .before .before .loop in
-    let inside = c .before .before .before .before .before .before .before .before .before .before .before .before .before .before .before .before .before .before .before .before .before .before .loop-test .taken in
-    let bo = c .before .before .before .before .before .before .before .before .before .before .before .before .before .before .before .before .before .before .before .before .before .block-of in
+loop-less c =
+    let block-of = c .before .before .before .before .before .before .before .before .before .before .before .before .before .before .before .before .before .before .before .before .before in
+    let looped = block-of .before .before in
+    let at = looped .loop in
+    let inside = block-of .before .loop-test .taken in
+    let bo = block-of .block-of in
     let le = bo .ensures .0 in
     let some : 0 < bo .result = bo .ensures .2 (omega arith) in
     omega arith
 
 -- src/lib.rt:57:5
 loop-again : tie.Need-loop-again Inv-loop μ-loop
-loop-again c = let st = c .before .before .before .before .before .before .before .before .before .before .before .before .before .before .before .before .before .before .before .before .before .before .before .before .before .before .before .before .before .before .before .before in
+loop-again c =
+    let make-block = c .before .before .before .before .before .before .before .before .before .before .before .before .before .before .before in
+    let block-of = make-block .before .before .before .before .before .before in
+    let looped = block-of .before .before in
+    let st = looped .before .before .before .before .before .before .before .before .before in
     let a = st .args in
-    let at = c .before .before .before .before .before .before .before .before .before .before .before .before .before .before .before .before .before .before .before .before .before .before .before .loop in
-    let inside = c .before .before .before .before .before .before .before .before .before .before .before .before .before .before .before .before .before .before .before .before .before .before .loop-test .taken in
-    let bo = c .before .before .before .before .before .before .before .before .before .before .before .before .before .before .before .before .before .before .before .before .before .block-of in
+    let at = looped .loop in
+    let inside = block-of .before .loop-test .taken in
+    let bo = block-of .block-of in
     let le = bo .ensures .0 in
-    let called = c .before .before .before .before .before .before .before .before .before .before .before .before .before .before .before .make-block in
+    let called = make-block .make-block in
     let tb = c .before .before .take-block in
     let k = at .k in
     let h = at .inv in
@@ -201,7 +233,9 @@ same-length-6 c = search needs
 
 -- src/lib.rt:37:1
 returns : tie.Need-returns Inv-loop μ-loop
-returns c = let e : c .before .loop .k ≡ c .before .before .before .before .before .before .before .before .before .before .args .n = omega arith in
+returns c =
+    let start = c .before .before .before .before .before .before .before .before .before .before in
+    let e : c .before .loop .k ≡ start .args .n = omega arith in
     (rw e at (c .before .loop .inv)) .8
 
 pub metric-blocks-spec : {M : Type 1} → statement M

@@ -33,8 +33,10 @@ slice-aggregate-metric-blocks-5 c = search needs
 
 -- src/lib.rt:85:5
 metric-blocks-requires : tie.Need-metric-blocks-requires
-metric-blocks-requires c κs = let st = c .before .before .before .before .before .before .before .before .before .before in
-    let co = c .before .before .before .before .before .before .layout-of in
+metric-blocks-requires c κs =
+    let layout-of = c .before .before .before .before .before .before in
+    let st = layout-of .before .before .before .before in
+    let co = layout-of .layout-of in
     let e = co .ensures .0 in
     (co .ensures .1, rw e (st .pre .0), st .pre .1, st .pre .2, rw e (st .pre .3), rw e (st .pre .4), lit≤ tt, lit≤ tt, lit≤ tt, lit≤ tt, lit≤ tt)
 
@@ -44,7 +46,10 @@ same-length c = search needs
 
 -- src/lib.rt:67:1
 returns : tie.Need-returns
-returns c = rw (c .before .before .before .before .before .before .before .before .before .before .before .before .before .before .layout-of .ensures .0) at (c .before .before .before .before .before .before .before .metric-blocks .ensures)
+returns c =
+    let metric-blocks = c .before .before .before .before .before .before .before in
+    let layout-of = metric-blocks .before .before .before .before .before .before .before in
+    rw (layout-of .layout-of .ensures .0) at (metric-blocks .metric-blocks .ensures)
 
 pub run-metrics-spec : {M : Type 1} → statement M
 run-metrics-spec =

@@ -38,7 +38,10 @@ steps-per-slot-requires c κs = search needs
 
 -- src/lib.rt:53:17
 mul-n : tie.Need-mul-n Inv-loop μ-loop
-mul-n c = let e = steps-by (getD (c .before .before .before .before .before .before .before .before .before .args .p .runs) (c .before .before .before .before .loop .i) noRun) _ (c .before .steps-per-slot .ensures) in
+mul-n c =
+    let at = c .before .before .before .before in
+    let start = at .before .before .before .before .before in
+    let e = steps-by (getD (start .args .p .runs) (at .loop .i) noRun) _ (c .before .steps-per-slot .ensures) in
     record { fits = omega arith }
 
 -- src/lib.rt:55:28
@@ -95,9 +98,12 @@ part-run-sides-end-3 c = search needs
 
 -- src/lib.rt:55:9
 run-sides-requires : tie.Need-run-sides-requires Inv-loop μ-loop
-run-sides-requires c κs = let st = c .before .before .before .before .before .before .before .before .before .before .before .before in
-    let at = c .before .before .before .before .before .before .before .loop in
-    let e = steps-by (getD (st .args .p .runs) (at .i) noRun) _ (c .before .before .before .before .steps-per-slot .ensures) in
+run-sides-requires c κs =
+    let steps-per-slot = c .before .before .before .before in
+    let looped = steps-per-slot .before .before .before in
+    let st = looped .before .before .before .before .before in
+    let at = looped .loop in
+    let e = steps-by (getD (st .args .p .runs) (at .i) noRun) _ (steps-per-slot .steps-per-slot .ensures) in
     let w = at .inv in
     let f = w .run .steps-fit in
     let g = w .fits in
@@ -109,9 +115,12 @@ run-sides-requires c κs = let st = c .before .before .before .before .before .b
 
 -- src/lib.rt:56:16
 add-step : tie.Need-add-step Inv-loop μ-loop
-add-step c = let st = c .before .before .before .before .before .before .before .before .before .before .before .before .before .before .before in
-    let at = c .before .before .before .before .before .before .before .before .before .before .loop in
-    let e = steps-by (getD (st .args .p .runs) (at .i) noRun) _ (c .before .before .before .before .before .before .before .steps-per-slot .ensures) in
+add-step c =
+    let steps-per-slot = c .before .before .before .before .before .before .before in
+    let looped = steps-per-slot .before .before .before in
+    let st = looped .before .before .before .before .before in
+    let at = looped .loop in
+    let e = steps-by (getD (st .args .p .runs) (at .i) noRun) _ (steps-per-slot .steps-per-slot .ensures) in
     let w = at .inv in
     let f = w .run .steps-fit in
     let g = w .fits in
@@ -129,15 +138,19 @@ loop-less c = search needs
 
 -- src/lib.rt:50:5
 loop-again : tie.Need-loop-again Inv-loop μ-loop
-loop-again c = let st = c .before .before .before .before .before .before .before .before .before .before .before .before .before .before .before in
-    let at = c .before .before .before .before .before .before .before .before .before .before .loop in
-    let e = steps-by (getD (st .args .p .runs) (at .i) noRun) _ (c .before .before .before .before .before .before .before .steps-per-slot .ensures) in
+loop-again c =
+    let steps-per-slot = c .before .before .before .before .before .before .before in
+    let tested = steps-per-slot .before .before in
+    let looped = tested .before in
+    let st = looped .before .before .before .before .before in
+    let at = looped .loop in
+    let e = steps-by (getD (st .args .p .runs) (at .i) noRun) _ (steps-per-slot .steps-per-slot .ensures) in
     let w = at .inv in
     let f = w .run .steps-fit in
     let g = w .fits in
     let s = same w in
     let ls = w .run .runs .steps in
-    let l = c .before .before .before .before .before .before .before .before .before .loop-test .taken in
+    let l = tested .loop-test .taken in
     written-next w l e (c .before .before .run-sides .ensures)
 
 -- src/lib.rt:43:1

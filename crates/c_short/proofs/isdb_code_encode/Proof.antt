@@ -20,9 +20,12 @@ same-length c = search needs
 
 returns : tie.Need-returns
 returns c =
-    let a = c .before .before .before .before .before .before .before .before .before .before .args in
-    let code = c .before .before .before .before .before .before .before .code-from in
-    let x = c .before .before .before .before .encode in
+    let encode = c .before .before .before .before in
+    let code-from = encode .before .before .before in
+    let start = code-from .before .before .before in
+    let a = start .args in
+    let code = code-from .code-from in
+    let x = encode .encode in
     let t = encode-refused (code .result) (codeFrom (a .constraint) (a .g1) (a .g2)) (code .ensures) (a .state .now) (c .before .number .result) (x .result .answer) (a .bits .now) (a .out .now) _ (x .result .enc .state) (c .before .number .ensures) (x .ensures .0) (x .ensures .1 .0) (x .ensures .1 .1) (c .if1 .taken) in
     (t .0, (t .1, t .2))
 
@@ -31,9 +34,12 @@ same-length-2 c = search needs
 
 returns-2 : tie.Need-returns-2
 returns-2 c =
-    let a = c .before .before .before .before .before .before .before .before .before .before .before .args in
-    let code = c .before .before .before .before .before .before .before .before .code-from in
-    let x = c .before .before .before .before .before .encode in
+    let encode = c .before .before .before .before .before in
+    let code-from = encode .before .before .before in
+    let start = code-from .before .before .before in
+    let a = start .args in
+    let code = code-from .code-from in
+    let x = encode .encode in
     let n = c .before .before .number in
     let t = encode-done (code .result) (codeFrom (a .constraint) (a .g1) (a .g2)) (code .ensures) (a .state .now) (n .result) (x .result .answer) (a .bits .now) (a .out .now) _ (x .result .enc .state) (n .ensures) (x .ensures .0) (x .ensures .1 .0) (x .ensures .1 .1) (c .before .if1 .left) in
     (t .0, (t .1, t .2))

@@ -35,7 +35,9 @@ steps-per-slot-requires c κs = search needs
 
 mul-n : tie.Need-mul-n Inv-loop μ-loop
 mul-n c =
-    let e = steps-by (getD (c .before .before .before .before .before .before .before .before .before .before .before .args .p .runs) (c .before .before .before .before .loop .i) noRun) _ (c .before .steps-per-slot .ensures) in
+    let at = c .before .before .before .before in
+    let start = at .before .before .before .before .before .before .before in
+    let e = steps-by (getD (start .args .p .runs) (at .loop .i) noRun) _ (c .before .steps-per-slot .ensures) in
     record { fits = omega arith }
 
 scale-place-requires : tie.Need-scale-place-requires Inv-loop μ-loop
@@ -82,9 +84,11 @@ part-read-run-end-3 c = search needs
 
 read-run-requires : tie.Need-read-run-requires Inv-loop μ-loop
 read-run-requires c κs =
-    let st = c .before .before .before .before .before .before .before .before .before .before .before .before .before .before .before .before .before .before in
-    let at = c .before .before .before .before .before .before .before .before .before .before .before .loop in
-    let e = steps-by (getD (st .args .p .runs) (at .i) noRun) _ (c .before .before .before .before .before .before .before .before .steps-per-slot .ensures) in
+    let steps-per-slot = c .before .before .before .before .before .before .before .before in
+    let looped = steps-per-slot .before .before .before in
+    let st = looped .before .before .before .before .before .before .before in
+    let at = looped .loop in
+    let e = steps-by (getD (st .args .p .runs) (at .i) noRun) _ (steps-per-slot .steps-per-slot .ensures) in
     let r = at .inv .0 in
     let w = at .inv .1 in
     let g = w .fits in
@@ -103,8 +107,11 @@ read-run-requires c κs =
 
 add-step : tie.Need-add-step Inv-loop μ-loop
 add-step c =
-    let at = c .before .before .before .before .before .before .before .before .before .before .before .before .before .before .before .before .before .before .loop in
-    let e = steps-by (getD (c .before .before .before .before .before .before .before .before .before .before .before .before .before .before .before .before .before .before .before .before .before .before .before .before .before .args .p .runs) (at .i) noRun) _ (c .before .before .before .before .before .before .before .before .before .before .before .before .before .before .before .steps-per-slot .ensures) in
+    let steps-per-slot = c .before .before .before .before .before .before .before .before .before .before .before .before .before .before .before in
+    let looped = steps-per-slot .before .before .before in
+    let start = looped .before .before .before .before .before .before .before in
+    let at = looped .loop in
+    let e = steps-by (getD (start .args .p .runs) (at .i) noRun) _ (steps-per-slot .steps-per-slot .ensures) in
     let f = at .inv .0 .run .steps-fit in
     let ls = at .inv .0 .run .runs .steps in
     record { fits = omega arith }

@@ -21,10 +21,11 @@ bpsk-softs-requires c κs =
 
 lay-pairs-requires : tie.Need-lay-pairs-requires
 lay-pairs-requires c κs =
-    let st = c .before .before .before .before .before .before .before .before .before .before .before .before .before .before .before .before in
+    let bpsk-softs = c .before .before .before .before .before in
+    let st = bpsk-softs .before .before .before .before .before .before .before .before .before .before .before in
     let few = steps-few (st .args .layout .combination) (st .args .n) (st .pre .3) in
     let long = st .pre .9 in
-    let same = laid-long _ _ _ (st .args .pairs .now) (c .before .before .before .before .before .bpsk-softs .ensures) (omega arith) in
+    let same = laid-long _ _ _ (st .args .pairs .now) (bpsk-softs .bpsk-softs .ensures) (omega arith) in
     (omega arith, omega arith, omega arith)
 
 enum-told-2 : tie.Need-enum-told-2
@@ -38,10 +39,11 @@ qpsk-softs-requires c κs =
 
 lay-pairs-requires-2 : tie.Need-lay-pairs-requires-2
 lay-pairs-requires-2 c κs =
-    let st = c .before .before .before .before .before .before .before .before .before .before .before .before .before .before .before .before .before .before .before .before .before .before in
+    let qpsk-softs = c .before .before .before .before .before .before .before .before .before in
+    let st = qpsk-softs .before .before .before .before .before .before .before .before .before .before .before .before .before in
     let few = steps-few (st .args .layout .combination) (st .args .n) (st .pre .3) in
     let long = st .pre .9 in
-    let same = laid-long _ _ _ (st .args .pairs .now) (c .before .before .before .before .before .before .before .before .before .qpsk-softs .ensures) (omega arith) in
+    let same = laid-long _ _ _ (st .args .pairs .now) (qpsk-softs .qpsk-softs .ensures) (omega arith) in
     (omega arith, omega arith, omega arith)
 
 enum-told-3 : tie.Need-enum-told-3
@@ -61,20 +63,23 @@ mul-magnitude-block c = search needs
 
 magnitude-block-requires : tie.Need-magnitude-block-requires
 magnitude-block-requires c κs =
-    let st = c .before .before .before .before .before .before .before .before .before .before .before .before .before .before .before in
+    let subset-parts = c .before .before .before .before in
+    let enum-told3 = subset-parts .before .before in
+    let st = enum-told3 .before .before .before .before .before .before .before .before .before in
     let co = st .args .layout .combination in
-    let e = sym (st .pre .0 .modulation) ∙ c .before .before .before .before .before .before .enum-told3 .given .1 in
+    let e = sym (st .pre .0 .modulation) ∙ enum-told3 .enum-told3 .given .1 in
     let few = tc8psk-few co (st .args .n) e (st .pre .3) in
     let long = st .pre .7 in
-    let same = laid-long _ _ _ (st .args .parts .now) (c .before .before .before .before .subset-parts .ensures) (omega arith) in
+    let same = laid-long _ _ _ (st .args .parts .now) (subset-parts .subset-parts .ensures) (omega arith) in
     (omega arith, omega arith)
 
 mark-block-requires : tie.Need-mark-block-requires
 mark-block-requires c κs =
-    let st = c .before .before .before .before .before .before .before .before .before .before .before .before .before .before .before .before .before .before .before .before in
+    let magnitude-block = c .before .before .before .before in
+    let st = magnitude-block .before .before .before .before .before .before .before .before .before .before .before .before .before .before .before .before in
     let few = steps-few (st .args .layout .combination) (st .args .n) (st .pre .3) in
     let long = st .pre .10 in
-    let same = laid-long _ _ _ (st .args .block .now) (c .before .before .before .before .magnitude-block .ensures) (omega arith) in
+    let same = laid-long _ _ _ (st .args .block .now) (magnitude-block .magnitude-block .ensures) (omega arith) in
     (omega arith, omega arith)
 
 same-length : tie.Need-same-length
@@ -88,16 +93,19 @@ same-length-3 c = search needs
 
 returns : tie.Need-returns
 returns c =
-    let st = c .before .before .before .before .before .before .before .before .before .before .before .before .before .before .before .before .before .before .before .before .before in
+    let lay-pairs = c .before .before .before .before in
+    let bpsk-softs = lay-pairs .before .before .before .before .before .before in
+    let at-enum-told = bpsk-softs .before .before in
+    let st = at-enum-told .before .before .before .before .before .before .before .before .before in
     let a = st .args in
     let co = a .layout .combination in
-    let e = sym (st .pre .0 .modulation) ∙ c .before .before .before .before .before .before .before .before .before .before .before .before .enum-told .given .1 in
+    let e = sym (st .pre .0 .modulation) ∙ at-enum-told .enum-told .given .1 in
     let few = steps-few co (a .n) (st .pre .3) in
     let long = st .pre .10 in
-    let laying = c .before .before .before .before .lay-pairs .ensures in
-    let pairs = c .before .before .before .before .before .before .before .before .before .before .bpsk-softs .last .1 .1 .1 .1 .0 in
+    let laying = lay-pairs .lay-pairs .ensures in
+    let pairs = bpsk-softs .bpsk-softs .last .1 .1 .1 .1 .0 in
     let same = laid-long _ _ _ (a .block .now) (laying .0) (omega arith) in
-    let made = bpsk-made co (a .re .now) (a .im .now) (a .m) (a .scale) (a .k0) (a .n) _ (a .pairs .now) _ (a .block .now) e (omega arith) (c .before .before .before .before .before .before .before .before .before .before .bpsk-softs .ensures) (laying .0) in
+    let made = bpsk-made co (a .re .now) (a .im .now) (a .m) (a .scale) (a .k0) (a .n) _ (a .pairs .now) _ (a .block .now) e (omega arith) (bpsk-softs .bpsk-softs .ensures) (laying .0) in
     (made, laying .1 ∙ pair-marks pairs _ (a .n) (a .block .now) (a .marks .now) (laying .0) ∙ marks-made co (a .re .now) (a .im .now) (a .m) (a .scale) (a .k0) (a .n) _ (a .marks .now) made)
 
 same-length-4 : tie.Need-same-length-4
@@ -117,16 +125,19 @@ same-length-8 c = search needs
 
 returns-2 : tie.Need-returns-2
 returns-2 c =
-    let st = c .before .before .before .before .before .before .before .before .before .before .before .before .before .before .before .before .before .before .before .before .before .before .before .before .before .before .before in
+    let lay-pairs2 = c .before .before .before .before in
+    let qpsk-softs = lay-pairs2 .before .before .before .before .before .before .before .before .before .before in
+    let enum-told2 = qpsk-softs .before .before .before .before in
+    let st = enum-told2 .before .before .before .before .before .before .before .before .before in
     let a = st .args in
     let co = a .layout .combination in
-    let e = sym (st .pre .0 .modulation) ∙ c .before .before .before .before .before .before .before .before .before .before .before .before .before .before .before .before .before .before .enum-told2 .given .1 in
+    let e = sym (st .pre .0 .modulation) ∙ enum-told2 .enum-told2 .given .1 in
     let few = steps-few co (a .n) (st .pre .3) in
     let long = st .pre .10 in
-    let laying = c .before .before .before .before .lay-pairs2 .ensures in
-    let pairs = c .before .before .before .before .before .before .before .before .before .before .before .before .before .before .qpsk-softs .last .1 .1 .1 .1 .1 .1 .1 .1 .1 .0 in
+    let laying = lay-pairs2 .lay-pairs2 .ensures in
+    let pairs = qpsk-softs .qpsk-softs .last .1 .1 .1 .1 .1 .1 .1 .1 .1 .0 in
     let same = laid-long _ _ _ (a .block .now) (laying .0) (omega arith) in
-    let made = qpsk-made co (a .re .now) (a .im .now) (a .m) (a .scale) (a .k0) (a .n) _ (a .pairs .now) _ (a .block .now) e (omega arith) (c .before .before .before .before .before .before .before .before .before .before .before .before .before .before .qpsk-softs .ensures) (laying .0) in
+    let made = qpsk-made co (a .re .now) (a .im .now) (a .m) (a .scale) (a .k0) (a .n) _ (a .pairs .now) _ (a .block .now) e (omega arith) (qpsk-softs .qpsk-softs .ensures) (laying .0) in
     (made, laying .1 ∙ pair-marks pairs _ (a .n) (a .block .now) (a .marks .now) (laying .0) ∙ marks-made co (a .re .now) (a .im .now) (a .m) (a .scale) (a .k0) (a .n) _ (a .marks .now) made)
 
 same-length-9 : tie.Need-same-length-9
@@ -140,15 +151,18 @@ same-length-11 c = search needs
 
 returns-3 : tie.Need-returns-3
 returns-3 c =
-    let st = c .before .before .before .before .before .before .before .before .before .before .before .before .before .before .before .before .before .before .before .before .before .before .before in
+    let magnitude-block = c .before .before .before .before .before .before .before in
+    let subset-parts = magnitude-block .before .before .before .before .before in
+    let enum-told3 = subset-parts .before .before in
+    let st = enum-told3 .before .before .before .before .before .before .before .before .before in
     let a = st .args in
     let co = a .layout .combination in
-    let e = sym (st .pre .0 .modulation) ∙ c .before .before .before .before .before .before .before .before .before .before .before .before .before .before .enum-told3 .given .1 in
+    let e = sym (st .pre .0 .modulation) ∙ enum-told3 .enum-told3 .given .1 in
     let few = tc8psk-few co (a .n) e (st .pre .3) in
     let long = st .pre .10 in
-    let magnitudes = c .before .before .before .before .before .before .before .magnitude-block .ensures in
+    let magnitudes = magnitude-block .magnitude-block .ensures in
     let same = laid-long _ _ _ (a .block .now) magnitudes (omega arith) in
-    let made = tc8psk-made co (a .re .now) (a .im .now) (a .m) (a .scale) (a .k0) (a .n) _ (a .parts .now) _ (a .block .now) e (omega arith) (c .before .before .before .before .before .before .before .before .before .before .before .before .subset-parts .ensures) magnitudes in
+    let made = tc8psk-made co (a .re .now) (a .im .now) (a .m) (a .scale) (a .k0) (a .n) _ (a .parts .now) _ (a .block .now) e (omega arith) (subset-parts .subset-parts .ensures) magnitudes in
     (made, c .before .before .mark-block .ensures ∙ marks-made co (a .re .now) (a .im .now) (a .m) (a .scale) (a .k0) (a .n) _ (a .marks .now) made)
 
 pub make-block-spec : {M : Type 1} → statement M

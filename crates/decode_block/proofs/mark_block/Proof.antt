@@ -81,11 +81,13 @@ loop-less c = search needs
 
 loop-again : tie.Need-loop-again Inv-loop μ-loop
 loop-again c =
-    let st = c .before .before .before .before .before .before .before .before .before in
-    let at = c .before .before .before .before .before .before .loop in
+    let tested = c .before .before .before .before .before in
+    let looped = tested .before in
+    let st = looped .before .before .before in
+    let at = looped .loop in
     let h = at .inv in
     let room = st .pre .1 in
-    let inside = c .before .before .before .before .before .loop-test .taken in
+    let inside = tested .loop-test .taken in
     let f : ℕ → ℕ = λ j. markOf (fourIn (fourSteps (st .args .block .now) j)) in
     (omega arith, length-set (at .marks) (at .i) (c .mark .result) ∙ h .1, put-one f (at .i) (c .mark .result) (at .marks) (st .args .marks .now) (omega arith) (h .2) (c .mark .ensures))
 

@@ -55,20 +55,22 @@ mul-soft-block c =
 
 soft-block-requires : tie.Need-soft-block-requires
 soft-block-requires c κs =
-    let st = c .before .before .before .before .before .before .before .before .before .before .before .before .before .before .before in
+    let qpsk-parts = c .before .before .before .before .before in
+    let st = qpsk-parts .before .before .before .before .before .before .before .before .before .before in
     let z = sizes (st .args .layout) (st .args .k0) (st .args .n) (length (st .args .re .now)) (length (st .args .im .now)) (st .pre .0) (st .pre .1) (st .pre .2) (st .pre .3) (st .pre .4) (st .pre .6) (st .pre .7) in
     let few = z .sent-few in
     let two = z .twice in
     let long = st .pre .8 in
-    let same = laid-long _ _ _ (st .args .parts .now) (c .before .before .before .before .before .qpsk-parts .ensures) (omega arith) in
+    let same = laid-long _ _ _ (st .args .parts .now) (qpsk-parts .qpsk-parts .ensures) (omega arith) in
     (omega arith, omega arith)
 
 spread-requires : tie.Need-spread-requires
 spread-requires c κs =
-    let st = c .before .before .before .before .before .before .before .before .before .before .before .before .before .before .before .before .before .before .before .before in
+    let soft-block = c .before .before .before .before in
+    let st = soft-block .before .before .before .before .before .before .before .before .before .before .before .before .before .before .before .before in
     let z = sizes (st .args .layout) (st .args .k0) (st .args .n) (length (st .args .re .now)) (length (st .args .im .now)) (st .pre .0) (st .pre .1) (st .pre .2) (st .pre .3) (st .pre .4) (st .pre .6) (st .pre .7) in
     let few = z .sent-few in
-    let same = laid-long _ _ _ (st .args .softs .now) (c .before .before .before .before .soft-block .ensures) (omega arith) in
+    let same = laid-long _ _ _ (st .args .softs .now) (soft-block .soft-block .ensures) (omega arith) in
     (st .pre .0, st .pre .1, z .count-few, z .period-few, z .few, omega arith, omega arith)
 
 same-length : tie.Need-same-length
@@ -82,13 +84,15 @@ same-length-3 c = search needs
 
 returns : tie.Need-returns
 returns c =
-    let st = c .before .before .before .before .before .before .before .before .before .before .before .before .before .before .before .before .before .before .before .before .before .before .before in
+    let soft-block = c .before .before .before .before .before .before .before in
+    let qpsk-parts = soft-block .before .before .before .before .before .before in
+    let st = qpsk-parts .before .before .before .before .before .before .before .before .before .before in
     let a = st .args in
     let h = st .pre .0 in
     let co = a .layout .combination in
     let b = block-sizes co (a .n) (st .pre .3) (st .pre .4) in
-    let ep = rw (h .period, h .count, b .2) at (c .before .before .before .before .before .before .before .before .before .before .before .before .before .qpsk-parts .ensures) in
-    let es = rw (h .period, h .count) at (c .before .before .before .before .before .before .before .soft-block .ensures) in
+    let ep = rw (h .period, h .count, b .2) at (qpsk-parts .qpsk-parts .ensures) in
+    let es = rw (h .period, h .count) at (soft-block .soft-block .ensures) in
     (rw (h .period, b .3) at (c .before .before .spread .ensures)) ∙ qpsk-spread co (a .re .now) (a .im .now) (a .m) (a .scale) (a .k0) (a .n) _ _ (a .parts .now) (a .softs .now) (st .pre .1) (st .pre .2) (st .pre .3) ep es (a .pairs .now)
 
 pub qpsk-softs-spec : {M : Type 1} → statement M

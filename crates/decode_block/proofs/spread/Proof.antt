@@ -84,9 +84,12 @@ loop-less c = search needs
 
 loop-again : tie.Need-loop-again Inv-loop μ-loop
 loop-again c =
-    let st = c .before .before .before .before .before .before .before .before .before .before .before in
-    let at = c .before .before .before .before .before .before .before .before .loop in
-    let inside = c .before .before .before .before .before .before .before .loop-test .taken in
+    let spread-period = c .before .before .before .before in
+    let tested = spread-period .before .before .before in
+    let looped = tested .before in
+    let st = looped .before .before .before in
+    let at = looped .loop in
+    let inside = tested .loop-test .taken in
     let h = at .inv in
     let lp = h .5 in
     let layout = st .args .layout in
@@ -104,7 +107,7 @@ loop-again c =
     let f = spreadSoft co softs in
     let g = periodSoft co (take (length softs - at .from) (drop (at .from) softs)) in
     let same : (a : ℕ) → a < bits → g a ≡ f (at .to + a) = λ a l. spread-at co softs (at .from) (at .to) (at .t) a ef et l in
-    let spread = written-tail (at .to) (at .pairs) _ (upto g bits) (omega arith) (c .before .before .before .before .spread-period .ensures)
+    let spread = written-tail (at .to) (at .pairs) _ (upto g bits) (omega arith) (spread-period .spread-period .ensures)
     ∙ ap (λ (l : List Float). take (at .to) l ++ laid (upto g bits) (drop (at .to) l)) (h .6)
     ∙ laid-part f g (at .to) bits (st .args .pairs .now) same in
     let ends : at .to + bits ≡ at .to + 2 * layout .period = ap (λ (x : ℕ). at .to + 2 * x) (sym ep) in (

@@ -57,8 +57,10 @@ put-parts-requires c κs = search needs
 
 add-s : tie.Need-add-s Inv-loop μ-loop
 add-s c =
-    let inside = c .before .before .before .before .before .before .before .before .before .loop-test .taken in
-    let most = c .before .before .before .before .before .before .before .before .before .before .before .before .before .before .before .before .before .before .fits .n .fits in
+    let tested = c .before .before .before .before .before .before .before .before .before in
+    let at-fits = tested .before .before .before .before .before .before .before .before .before in
+    let inside = tested .loop-test .taken in
+    let most = at-fits .fits .n .fits in
     record { fits = omega arith }
 
 loop-less : tie.Need-loop-less Inv-loop μ-loop
@@ -67,21 +69,27 @@ loop-less c = search needs
 loop-again : tie.Need-loop-again Inv-loop μ-loop
 unfolding upto
 loop-again c =
-    let st = c .before .before .before .before .before .before .before .before .before .before .before .before .before .before .before .before .before .before in
-    let at = c .before .before .before .before .before .before .before .before .before .before .loop in
+    let correlation4 = c .before .before .before .before in
+    let correlation2 = correlation4 .before .before in
+    let symbol = correlation2 .before .before in
+    let looped = symbol .before .before in
+    let subset-point3 = looped .before .before in
+    let subset-point = subset-point3 .before .before in
+    let st = subset-point .before .before .before .before in
+    let at = looped .loop in
     let h = at .inv in
     let room = st .pre .2 in
-    let inside = c .before .before .before .before .before .before .before .before .before .loop-test .taken in
+    let inside = symbol .before .loop-test .taken in
     let ms : ℕ → List Float = λ j. subsetParts (st .args .re .now) (st .args .im .now) (st .args .m) (st .args .k0 + j) in
-    let v = c .before .before .before .before .before .before .before .before .symbol .ensures in
+    let v = symbol .symbol .ensures in
     let now = c .before .before .put-parts .ensures in (
       omega arith,
       ap length now ∙ length-four (at .parts) (4 * at .s) (4 * at .s + 1) (4 * at .s + 2) (4 * at .s + 3) _ _ _ _ ∙ h .1,
       now ∙ put-four (fours ms) (at .s) _ _ _ _ (at .parts) (st .args .parts .now) (omega arith) (h .2)
-          (rw (c .before .before .before .before .before .before .before .correlation .ensures, v, c .before .before .before .before .before .before .before .before .before .before .before .before .before .before .subset-point .ensures) (sym (fours-0 ms (at .s))))
-          (rw (c .before .before .before .before .before .before .correlation2 .ensures, v, c .before .before .before .before .before .before .before .before .before .before .before .before .before .subset-point2 .ensures) (sym (fours-1 ms (at .s))))
-          (rw (c .before .before .before .before .before .correlation3 .ensures, v, c .before .before .before .before .before .before .before .before .before .before .before .before .subset-point3 .ensures) (sym (fours-2 ms (at .s))))
-          (rw (c .before .before .before .before .correlation4 .ensures, v, c .before .before .before .before .before .before .before .before .before .before .before .subset-point4 .ensures) (sym (fours-3 ms (at .s)))),
+          (rw (correlation2 .before .correlation .ensures, v, subset-point .subset-point .ensures) (sym (fours-0 ms (at .s))))
+          (rw (correlation2 .correlation2 .ensures, v, subset-point3 .before .subset-point2 .ensures) (sym (fours-1 ms (at .s))))
+          (rw (correlation4 .before .correlation3 .ensures, v, subset-point3 .subset-point3 .ensures) (sym (fours-2 ms (at .s))))
+          (rw (correlation4 .correlation4 .ensures, v, looped .before .subset-point4 .ensures) (sym (fours-3 ms (at .s)))),
     )
 
 same-length : tie.Need-same-length Inv-loop μ-loop
@@ -89,7 +97,8 @@ same-length c = search needs
 
 returns : tie.Need-returns Inv-loop μ-loop
 returns c =
-    let e : c .before .loop .s ≡ c .before .before .before .before .before .before .before .before .before .args .n = omega arith in
+    let start = c .before .before .before .before .before .before .before .before .before in
+    let e : c .before .loop .s ≡ start .args .n = omega arith in
     rw e at (c .before .loop .inv .2)
 
 pub subset-parts-spec : {M : Type 1} → statement M

@@ -69,21 +69,24 @@ part-tc8psk-byte-end-3 c = search needs
 
 tc8psk-byte-requires : tie.Need-tc8psk-byte-requires Inv-loop μ-loop
 tc8psk-byte-requires c κs =
-    let st = c .before .before .before .before .before .before .before .before .before .before .before .before .before .before in
-    let j = c .before .before .before .before .before .before .loop .j in
+    let tested = c .before .before .before .before .before in
+    let at = tested .before in
+    let st = at .before .before .before .before .before .before .before .before in
+    let j = at .loop .j in
     let us = st .args .bits .now in
-    let t = c .before .before .before .before .before .loop-test .taken in
+    let t = tested .loop-test .taken in
     let e = length-drop (4 * j) us in
     let er = length-drop (4 * j) (st .args .re .now) in
     let ei = length-drop (4 * j) (st .args .im .now) in
     rw (tail-is (4 * j) us, tail-is (4 * j) (st .args .re .now), tail-is (4 * j) (st .args .im .now))
-    (c .before .before .before .before .before .before .loop .inv .0, c .before .before .before .before .before .before .loop .inv .2, omega arith, omega arith, omega arith, λ i l. rw (getD-drop (4 * j) us i 0) (st .pre .5 (4 * j + i) (omega arith)))
+    (at .loop .inv .0, at .loop .inv .2, omega arith, omega arith, omega arith, λ i l. rw (getD-drop (4 * j) us i 0) (st .pre .5 (4 * j + i) (omega arith)))
 
 slice-write-bytes : tie.Need-slice-write-bytes Inv-loop μ-loop
 slice-write-bytes c =
-    let st = c .before .before .before .before .before .before .before .before .before .before .before .before .before .before .before in
-    let j = c .before .before .before .before .before .before .before .loop .j in
-    let e = ap length (c .before .before .before .before .before .before .before .loop .inv .4) ∙ length-laid-upto (λ h. byteOf (λ i. pieceBit «Tc8psk2_3» (st .args .re .now) (st .args .im .now) (st .args .m) (st .args .start) (st .args .bits .now) (8 * h + i))) j (st .args .bytes .now) (omega arith) in
+    let at = c .before .before .before .before .before .before .before in
+    let st = at .before .before .before .before .before .before .before .before in
+    let j = at .loop .j in
+    let e = ap length (at .loop .inv .4) ∙ length-laid-upto (λ h. byteOf (λ i. pieceBit «Tc8psk2_3» (st .args .re .now) (st .args .im .now) (st .args .m) (st .args .start) (st .args .bits .now) (8 * h + i))) j (st .args .bytes .now) (omega arith) in
     omega arith
 
 add-j : tie.Need-add-j Inv-loop μ-loop
@@ -94,10 +97,11 @@ loop-less c = search needs
 
 loop-again : tie.Need-loop-again Inv-loop μ-loop
 loop-again c =
-    let st = c .before .before .before .before .before .before .before .before .before .before .before .before .before .before .before in
-    let j = c .before .before .before .before .before .before .before .loop .j in
+    let looped = c .before .before .before .before .before .before .before in
+    let st = looped .before .before .before .before .before .before .before .before in
+    let j = looped .loop .j in
     let us = st .args .bits .now in
-    let h = c .before .before .before .before .before .before .before .loop .inv in
+    let h = looped .loop .inv in
     let n = rw (tail-is (4 * j) us, tail-is (4 * j) (st .args .re .now), tail-is (4 * j) (st .args .im .now)) at (c .tc8psk-byte .ensures) in (
       h .0,
       omega arith,

@@ -35,12 +35,14 @@ shared-slice-read-nibble-8 c = search needs
 
 nibble-requires-2 : tie.Need-nibble-requires-2
 nibble-requires-2 c κs =
-    let p = c .before .before .before .before .before .before .before .before .before .before .pre .1 in
+    let start = c .before .before .before .before .before .before .before .before .before .before in
+    let p = start .pre .1 in
     (p 4 (omega arith), p 5 (omega arith), p 6 (omega arith), p 7 (omega arith))
 
 mul-result : tie.Need-mul-result
 mul-result c =
-    let st = c .before .before .before .before .before .before .before .before .before .before .before in
+    let nibble = c .before .before .before .before .before in
+    let st = nibble .before .before .before .before .before .before in
     let p = st .pre .1 in
     let b0 = p 0 (omega arith) in
     let b1 = p 1 (omega arith) in
@@ -50,13 +52,14 @@ mul-result c =
     let b5 = p 5 (omega arith) in
     let b6 = p 6 (omega arith) in
     let b7 = p 7 (omega arith) in
-    let high = c .before .before .before .before .before .nibble .ensures in
+    let high = nibble .nibble .ensures in
     let low = c .nibble2 .ensures in
     record { fits = omega arith }
 
 add-result : tie.Need-add-result
 add-result c =
-    let st = c .before .before .before .before .before .before .before .before .before .before .before in
+    let nibble = c .before .before .before .before .before in
+    let st = nibble .before .before .before .before .before .before in
     let p = st .pre .1 in
     let b0 = p 0 (omega arith) in
     let b1 = p 1 (omega arith) in
@@ -66,13 +69,14 @@ add-result c =
     let b5 = p 5 (omega arith) in
     let b6 = p 6 (omega arith) in
     let b7 = p 7 (omega arith) in
-    let high = c .before .before .before .before .before .nibble .ensures in
+    let high = nibble .nibble .ensures in
     let low = c .nibble2 .ensures in
     record { fits = omega arith }
 
 returns : tie.Need-returns
 returns c =
-    let st = c .before .before .before .before .before .before .before .before .before .before .before in
+    let nibble = c .before .before .before .before .before in
+    let st = nibble .before .before .before .before .before .before in
     let p = st .pre .1 in
     let b0 = p 0 (omega arith) in
     let b1 = p 1 (omega arith) in
@@ -82,7 +86,7 @@ returns c =
     let b5 = p 5 (omega arith) in
     let b6 = p 6 (omega arith) in
     let b7 = p 7 (omega arith) in
-    let high = c .before .before .before .before .before .nibble .ensures in
+    let high = nibble .nibble .ensures in
     let low = c .nibble2 .ensures in
     omega arith
 

@@ -88,7 +88,9 @@ steps-per-slot-requires c κs = search needs
 
 add-step : tie.Need-add-step Inv-loop μ-loop
 add-step c =
-    let e = steps-by (getD (c .before .before .before .before .before .before .before .before .before .before .before .before .before .before .before .before .before .before .args .p .runs) (c .before .before .before .before .before .before .before .before .before .before .before .before .loop .i) noRun) _ (c .before .steps-per-slot .ensures) in
+    let at = c .before .before .before .before .before .before .before .before .before .before .before .before in
+    let start = at .before .before .before .before .before .before in
+    let e = steps-by (getD (start .args .p .runs) (at .loop .i) noRun) _ (c .before .steps-per-slot .ensures) in
     record { fits = omega arith }
 
 mul-step : tie.Need-mul-step Inv-loop μ-loop
@@ -107,9 +109,13 @@ loop-less c = search needs
 
 loop-again : tie.Need-loop-again Inv-loop μ-loop
 loop-again c =
-    let pr = c .before .before .before .before .pack-run .ensures in
-    written-next (c .before .before .before .before .before .before .before .before .before .before .before .before .loop .inv) (c .before .before .before .before .before .before .before .before .before .before .before .loop-test .taken)
-    (steps-by (getD (c .before .before .before .before .before .before .before .before .before .before .before .before .before .before .before .before .before .before .args .p .runs) (c .before .before .before .before .before .before .before .before .before .before .before .before .loop .i) noRun) _ (c .before .steps-per-slot .ensures)) (pr .2) (pr .1) (pr .0)
+    let pack-run = c .before .before .before .before in
+    let tested = pack-run .before .before .before .before .before .before .before in
+    let at = tested .before in
+    let start = at .before .before .before .before .before .before in
+    let pr = pack-run .pack-run .ensures in
+    written-next (at .loop .inv) (tested .loop-test .taken)
+    (steps-by (getD (start .args .p .runs) (at .loop .i) noRun) _ (c .before .steps-per-slot .ensures)) (pr .2) (pr .1) (pr .0)
 
 same-length : tie.Need-same-length Inv-loop μ-loop
 same-length c = search needs

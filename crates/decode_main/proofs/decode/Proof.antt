@@ -49,14 +49,17 @@ part-write-bytes-end c =
 
 write-bytes-requires : tie.Need-write-bytes-requires
 write-bytes-requires c κs =
-    let st = c .before .before .before .before .before .before .before .before .before .before .before .before .before .before .before .before .before .before .before .before .before .before .before .before in
+    let decode-bits = c .before .before .before .before .before .before .before .before .before .before in
+    let start-values = decode-bits .before .before .before .before .before in
+    let start-state = start-values .before .before in
+    let st = start-state .before .before .before .before .before .before .before in
     let rx = receivedBy (st .args .re .now) (st .args .im .now) (st .args .o .mapping) (st .args .o .scales) in
-    let pm = c .before .before .before .before .before .before .before .before .before .before .before .before .before .before .before .start-values .result in
-    let db = c .before .before .before .before .before .before .before .before .before .before .decode-bits in
+    let pm = start-values .start-values .result in
+    let db = decode-bits .decode-bits in
     let n = from-count (st .args .p .table) rx pm in
     let ps = ap (λ (z : Plan). z .steps) (st .pre .0 .is) in
     let front : take (st .args .p .steps + 16 - 0) (db .last .1 .1 .1 .1 .1 .1 .1 .0) ≡ bitsFrom (st .args .p .table) rx pm = front-is _ (bitsFrom (st .args .p .table) rx pm) (st .args .bits .now) (st .args .p .steps + 16 - 0) (db .ensures .0 .0) (omega arith) in (
-      c .before .before .before .before .before .before .before .before .before .before .before .before .before .before .before .before .before .start-state .ensures .1,
+      start-state .start-state .ensures .1,
       st .pre .0,
       st .pre .1,
       st .pre .2,
@@ -80,15 +83,18 @@ same-length-4 c = search needs
 returns : tie.Need-returns
 unfolding bytesFrom
 returns c =
-    let st = c .before .before .before .before .before .before .before .before .before .before .before .before .before .before .before .before .before .before .before .before .before .before .before .before .before .before .before in
+    let decode-bits = c .before .before .before .before .before .before .before .before .before .before .before .before .before in
+    let start-values = decode-bits .before .before .before .before .before in
+    let start-state = start-values .before .before in
+    let st = start-state .before .before .before .before .before .before .before in
     let rx = receivedBy (st .args .re .now) (st .args .im .now) (st .args .o .mapping) (st .args .o .scales) in
-    let pm = c .before .before .before .before .before .before .before .before .before .before .before .before .before .before .before .before .before .before .start-values .result in
-    let db = c .before .before .before .before .before .before .before .before .before .before .before .before .before .decode-bits in
+    let pm = start-values .start-values .result in
+    let db = decode-bits .decode-bits in
     let n = from-count (st .args .p .table) rx pm in
     let ps = ap (λ (z : Plan). z .steps) (st .pre .0 .is) in
     let front : take (st .args .p .steps + 16 - 0) (db .last .1 .1 .1 .1 .1 .1 .1 .0) ≡ bitsFrom (st .args .p .table) rx pm = front-is _ (bitsFrom (st .args .p .table) rx pm) (st .args .bits .now) (st .args .p .steps + 16 - 0) (db .ensures .0 .0) (omega arith) in
-    let es = c .before .before .before .before .before .before .before .before .before .before .before .before .before .before .before .before .before .before .before .before .start-state .ensures .0 in
-    let epm : pm ≡ startValues (st .args .o .«known_start») (st .args .first) = c .before .before .before .before .before .before .before .before .before .before .before .before .before .before .before .before .before .before .start-values .ensures ∙ ap (λ (z : ℕ). cond (st .args .o .«known_start») (startAt 64 z) (startUnknown 64)) es in
+    let es = start-state .start-state .ensures .0 in
+    let epm : pm ≡ startValues (st .args .o .«known_start») (st .args .first) = start-values .start-values .ensures ∙ ap (λ (z : ℕ). cond (st .args .o .«known_start») (startAt 64 z) (startUnknown 64)) es in
     let whole : bitsFrom (st .args .p .table) rx pm ≡ decodedBits (st .args .p .table) rx (st .args .o .«known_start») (st .args .first) =
     ap (λ (z : List Float). bitsFrom (st .args .p .table) rx z) epm ∙ sym (decoded-from (st .args .p .table) rx (st .args .o .«known_start») (st .args .first)) in (
       record {

@@ -20,9 +20,11 @@ same-length-3 c = search needs
 
 returns : tie.Need-returns
 returns c =
-    let st = c .before .before .before .before .before .before .before .before .before .before .before .before .before .before .before .before .before .before .before .before .before .before .before .before in
-    let rr = c .before .before .before .before .before .before .before .before .before .before .before .before .before .before .read-runs .ensures in
-    (c .before .before .before .before .read-end .ensures .ends _ _ _ (st .pre .3) (rr .0 .holds), rr .1)
+    let read-end = c .before .before .before .before in
+    let read-runs = read-end .before .before .before .before .before .before .before .before .before .before in
+    let st = read-runs .before .before .before .before .before .before .before .before .before .before in
+    let rr = read-runs .read-runs .ensures in
+    (read-end .read-end .ensures .ends _ _ _ (st .pre .3) (rr .0 .holds), rr .1)
 
 pub decode-bits-spec : {M : Type 1} → statement M
 decode-bits-spec =

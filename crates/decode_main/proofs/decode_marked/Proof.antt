@@ -44,14 +44,16 @@ part-count-strain-end c =
 
 count-strain-requires : tie.Need-count-strain-requires
 count-strain-requires c κs =
-    let st = c .before .before .before .before .before .before .before .before .before .before .before .before .before .before .before .before .before .before .before .before .before .before .before .before in
+    let start-state = c .before .before .before .before .before in
+    let decode = start-state .before .before .before .before .before .before .before .before in
+    let st = decode .before .before .before .before .before .before .before .before .before .before .before in
     let p = st .args .p in
     let few = few-steps (p .table) (st .pre .0 .accepted) in
     let rx = receivedBy (st .args .re .now) (st .args .im .now) (st .args .o .mapping) (st .args .o .scales) in
     let us = decodedBits (p .table) rx (st .args .o .«known_start») (st .args .first) in
     let n = decoded-count (p .table) rx (st .args .o .«known_start») (st .args .first) in
-    let f = front p rx (st .args .o .«known_start») (st .args .first) _ (st .args .bits .now) (st .pre .0) (c .before .before .before .before .before .before .before .before .before .before .before .before .before .decode .ensures .0 .decoded) in (
-      c .before .before .before .before .before .start-state .ensures .1,
+    let f = front p rx (st .args .o .«known_start») (st .args .first) _ (st .args .bits .now) (st .pre .0) (decode .decode .ensures .0 .decoded) in (
+      start-state .start-state .ensures .1,
       st .pre .0,
       search needs,
       rw f (omega arith),
@@ -73,12 +75,14 @@ same-length-4 c = search needs
 
 returns : tie.Need-returns
 returns c =
-    let st = c .before .before .before .before .before .before .before .before .before .before .before .before .before .before .before .before .before .before .before .before .before .before .before .before .before .before .before in
+    let start-state = c .before .before .before .before .before .before .before .before in
+    let decode = start-state .before .before .before .before .before .before .before .before in
+    let st = decode .before .before .before .before .before .before .before .before .before .before .before in
     let p = st .args .p in
     let rx = receivedBy (st .args .re .now) (st .args .im .now) (st .args .o .mapping) (st .args .o .scales) in
-    let read = c .before .before .before .before .before .before .before .before .before .before .before .before .before .before .before .before .decode .ensures in
+    let read = decode .decode .ensures in
     let f = front p rx (st .args .o .«known_start») (st .args .first) _ (st .args .bits .now) (st .pre .0) (read .0 .decoded) ∙ final-is (p .table) rx (st .args .o .«known_start») (st .args .first) in
-    let e = c .before .before .before .before .before .before .before .before .start-state .ensures .0 in
+    let e = start-state .start-state .ensures .0 in
     let k = rw (f, e) at (c .before .before .count-strain .ensures) in
     (read .0, record { marks-are = marks-are (p .table) rx _ _ (read .1); counts-are = k .0; sum-is = k .1 })
 

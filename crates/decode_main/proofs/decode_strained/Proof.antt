@@ -22,10 +22,11 @@ same-length-4 c = search needs
 
 returns : tie.Need-returns
 returns c =
-    let st = c .before .before .before .before .before .before .before .before .before .before .before .before .before .before .before .before .before .before .before .before in
+    let decode-marked = c .before .before .before .before .before .before .before .before in
+    let st = decode-marked .before .before .before .before .before .before .before .before .before .before .before .before in
     let p = st .args .p in
     let rx = receivedBy (st .args .re .now) (st .args .im .now) (st .args .o .mapping) (st .args .o .scales) in
-    let k = c .before .before .before .before .before .before .before .before .decode-marked .ensures in
+    let k = decode-marked .decode-marked .ensures in
     (k .0, strain-laid (p .table) rx (st .args .o .«known_start») (st .args .first) (st .pre .0 .accepted) _ _ _ _ (k .1))
 
 pub decode-strained-spec : {M : Type 1} → statement M

@@ -60,10 +60,12 @@ part-make-block-end c = search needs
 
 make-block-requires : tie.Need-make-block-requires Inv-loop μ-loop
 make-block-requires c κs =
-    let st = c .before .before .before .before .before .before .before .before .before .before .before .before .before .before .before .before .before in
-    let at = c .before .before .before .before .before .before .before .loop in
-    let inside = c .before .before .before .before .before .before .loop-test .taken in
-    let bo = c .before .before .before .before .before .block-of in
+    let block-of = c .before .before .before .before .before in
+    let looped = block-of .before .before in
+    let st = looped .before .before .before .before .before .before .before .before .before .before in
+    let at = looped .loop in
+    let inside = block-of .before .loop-test .taken in
+    let bo = block-of .block-of in
     let le = bo .ensures .0 in
     let co = st .args .layout .combination in
     let ep = st .pre .0 .period in
@@ -120,9 +122,11 @@ run-steps-requires c κs =
 add-k : tie.Need-add-k Inv-loop μ-loop
 add-k c =
     let blocked = c .before .before .before .before .before .before .before .before .before .before .before .before .before .before .before .before .before .before .before .before .before .before .before .before .before .before in
-    let inside = blocked .before .loop-test .taken in
+    let tested = blocked .before in
+    let start = tested .before .before .before .before .before .before .before .before .before .before .before in
+    let inside = tested .loop-test .taken in
     let le = blocked .block-of .ensures .0 in
-    let fits = blocked .before .before .before .before .before .before .before .before .before .before .before .before .pre .6 in
+    let fits = start .pre .6 in
     omega arith
 
 loop-less : tie.Need-loop-less Inv-loop μ-loop
@@ -195,7 +199,8 @@ same-length-7 c = search needs
 
 returns : tie.Need-returns Inv-loop μ-loop
 returns c =
-    let e : c .before .loop .k ≡ c .before .before .before .before .before .before .before .before .before .before .before .args .n = omega arith in
+    let start = c .before .before .before .before .before .before .before .before .before .before .before in
+    let e : c .before .loop .k ≡ start .args .n = omega arith in
     let h = rw e at (c .before .loop .inv) in
     (h .4, h .6)
 

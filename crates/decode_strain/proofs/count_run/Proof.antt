@@ -89,9 +89,11 @@ slice-write-counts c = search needs
 
 add-sum : tie.Need-add-sum Inv-loop μ-loop
 add-sum c =
-    let st = c .before .before .before .before .before .before .before .before .before in
-    let at = c .before .before .before .before .before .loop in
-    let l = c .before .before .before .before .loop-test .taken in
+    let tested = c .before .before .before .before in
+    let looped = tested .before in
+    let st = looped .before .before .before .before in
+    let at = looped .loop in
+    let l = tested .loop-test .taken in
     let q = within (st .args .w) (at .v) (st .args .n) (st .pre .1) (st .pre .2) l in
     let ks = c .before .count-slot in
     let fs = run-few (st .args .w) (st .args .marks .now) (st .args .bits .now) (st .args .start) (st .args .counts .now) (at .v) (runCount (at .sum) (at .state)) (at .counts) (at .inv .2) in
@@ -106,9 +108,11 @@ loop-less c = search needs
 
 loop-again : tie.Need-loop-again Inv-loop μ-loop
 loop-again c =
-    let st = c .before .before .before .before .before .before .before .before .before in
-    let at = c .before .before .before .before .before .loop in
-    let l = c .before .before .before .before .loop-test .taken in
+    let tested = c .before .before .before .before in
+    let looped = tested .before in
+    let st = looped .before .before .before .before in
+    let at = looped .loop in
+    let l = tested .loop-test .taken in
     let ks = c .before .count-slot in (
       omega arith,
       length-set (at .counts) (at .v) (ks .result .count) ∙ at .inv .1,

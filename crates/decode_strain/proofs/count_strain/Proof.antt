@@ -66,9 +66,11 @@ part-count-run-end-3 c = search needs
 
 count-run-requires : tie.Need-count-run-requires Inv-loop μ-loop
 count-run-requires c κs =
-    let st = c .before .before .before .before .before .before .before .before .before .before .before .before .before in
-    let at = c .before .before .before .before .before .before .before .loop in
-    let sp = c .before .before .before .before .steps-per-slot in
+    let steps-per-slot = c .before .before .before .before in
+    let looped = steps-per-slot .before .before .before in
+    let st = looped .before .before .before .before .before .before in
+    let at = looped .loop in
+    let sp = steps-per-slot .steps-per-slot in
     let w = at .inv in
     let run = getD (st .args .p .runs) (at .i) noRun in
     let few = slot-steps-few (run .combination) in
@@ -77,26 +79,34 @@ count-run-requires c κs =
     let f = w .done-fit in
     let g = w .counts-fit in
     let e = w .same in
-    (c .before .before .before .before .before .before .before .before .labels .ensures, rw (sp .ensures) few, r .0, rw (sp .ensures) (r .1), rw (sp .ensures) (r .2), rw (sp .ensures) (r .3), w .small, rw (tail-is (at .done) (at .counts)) (omega arith))
+    (looped .before .labels .ensures, rw (sp .ensures) few, r .0, rw (sp .ensures) (r .1), rw (sp .ensures) (r .2), rw (sp .ensures) (r .3), w .small, rw (tail-is (at .done) (at .counts)) (omega arith))
 
 add-sum : tie.Need-add-sum Inv-loop μ-loop
 add-sum c =
-    let k = rw (c .before .before .before .before .before .before .before .before .steps-per-slot .ensures) at (c .before .before .before .count-run .ensures) in
-    let f = done-small (c .before .before .before .before .before .before .before .before .before .before .before .loop .inv) k in
+    let steps-per-slot = c .before .before .before .before .before .before .before .before in
+    let looped = steps-per-slot .before .before .before in
+    let k = rw (steps-per-slot .steps-per-slot .ensures) at (c .before .before .before .count-run .ensures) in
+    let f = done-small (looped .loop .inv) k in
     record { fits = omega arith }
 
 mul-step : tie.Need-mul-step Inv-loop μ-loop
 mul-step c =
-    let at = c .before .before .before .before .before .before .before .before .before .before .before .loop in
-    let e = steps-by (getD (c .before .before .before .before .before .before .before .before .before .before .before .before .before .before .before .before .before .args .p .runs) (at .i) noRun) _ (c .before .before .before .before .before .before .before .before .steps-per-slot .ensures) in
+    let steps-per-slot = c .before .before .before .before .before .before .before .before in
+    let looped = steps-per-slot .before .before .before in
+    let start = looped .before .before .before .before .before .before in
+    let at = looped .loop in
+    let e = steps-by (getD (start .args .p .runs) (at .i) noRun) _ (steps-per-slot .steps-per-slot .ensures) in
     let f = at .inv .run .steps-fit in
     let ls = at .inv .run .runs .steps in
     record { fits = omega arith }
 
 add-step : tie.Need-add-step Inv-loop μ-loop
 add-step c =
-    let at = c .before .before .before .before .before .before .before .before .before .before .before .loop in
-    let e = steps-by (getD (c .before .before .before .before .before .before .before .before .before .before .before .before .before .before .before .before .before .args .p .runs) (at .i) noRun) _ (c .before .before .before .before .before .before .before .before .steps-per-slot .ensures) in
+    let steps-per-slot = c .before .before .before .before .before .before .before .before in
+    let looped = steps-per-slot .before .before .before in
+    let start = looped .before .before .before .before .before .before in
+    let at = looped .loop in
+    let e = steps-by (getD (start .args .p .runs) (at .i) noRun) _ (steps-per-slot .steps-per-slot .ensures) in
     let f = at .inv .run .steps-fit in
     let ls = at .inv .run .runs .steps in
     record { fits = omega arith }
@@ -112,10 +122,14 @@ loop-less c = search needs
 
 loop-again : tie.Need-loop-again Inv-loop μ-loop
 loop-again c =
-    let at = c .before .before .before .before .before .before .before .before .before .before .before .loop in
-    let sp = c .before .before .before .before .before .before .before .before .steps-per-slot in
+    let steps-per-slot = c .before .before .before .before .before .before .before .before in
+    let tested = steps-per-slot .before .before in
+    let looped = tested .before in
+    let start = looped .before .before .before .before .before .before in
+    let at = looped .loop in
+    let sp = steps-per-slot .steps-per-slot in
     let k = rw (sp .ensures) at (c .before .before .before .count-run .ensures) in
-    done-next (at .inv) (c .before .before .before .before .before .before .before .before .before .before .loop-test .taken) (steps-by (getD (c .before .before .before .before .before .before .before .before .before .before .before .before .before .before .before .before .before .args .p .runs) (at .i) noRun) _ (sp .ensures)) k
+    done-next (at .inv) (tested .loop-test .taken) (steps-by (getD (start .args .p .runs) (at .i) noRun) _ (sp .ensures)) k
 
 same-length : tie.Need-same-length Inv-loop μ-loop
 same-length c = search needs

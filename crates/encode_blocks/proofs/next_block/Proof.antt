@@ -56,7 +56,8 @@ block-steps-requires c κs = search needs
 
 encode-run-requires : tie.Need-encode-run-requires
 encode-run-requires c κs =
-    let q = c .before .before .before .before .before .before .before .before .before .before .before .before in
+    let steps-per-slot = c .before .before .before .before .before .before in
+    let q = steps-per-slot .before .before .before .before .before .before in
     let list = q .args .p .runs in
     let count = q .args .p .count in
     let at₀ = q .args .at in
@@ -65,7 +66,7 @@ encode-run-requires c κs =
     let hr = q .pre .3 in
     let lt = q .pre .4 in
     let run : Run = getD list (at₀ .run) noRun in
-    let steps = c .before .before .before .before .before .before .steps-per-slot .ensures in
+    let steps = steps-per-slot .steps-per-slot .ensures in
     let block = c .before .before .before .block-of .ensures in
     let k : ℕ = blockSteps (stepsOf run - at₀ .step) (blockFor (run .combination) .steps) in
     let e : c .before .before .block-steps .result ≡ k = rw (steps, block) at (c .before .before .block-steps .ensures) in
@@ -82,7 +83,9 @@ encode-run-requires c κs =
 
 place-after-requires : tie.Need-place-after-requires
 place-after-requires c κs =
-    let q = c .before .before .before .before .before .before .before .before .before .before .before .before .before .before .before .before .before in
+    let block-steps = c .before .before .before .before .before .before .before in
+    let steps-per-slot = block-steps .before .before .before .before in
+    let q = steps-per-slot .before .before .before .before .before .before in
     let list = q .args .p .runs in
     let count = q .args .p .count in
     let at₀ = q .args .at in
@@ -91,10 +94,10 @@ place-after-requires c κs =
     let hr = q .pre .3 in
     let lt = q .pre .4 in
     let run : Run = getD list (at₀ .run) noRun in
-    let steps = c .before .before .before .before .before .before .before .before .before .before .before .steps-per-slot .ensures in
-    let block = c .before .before .before .before .before .before .before .before .block-of .ensures in
+    let steps = steps-per-slot .steps-per-slot .ensures in
+    let block = block-steps .before .block-of .ensures in
     let k : ℕ = blockSteps (stepsOf run - at₀ .step) (blockFor (run .combination) .steps) in
-    let e : c .before .before .before .before .before .before .before .block-steps .result ≡ k = rw (steps, block) at (c .before .before .before .before .before .before .before .block-steps .ensures) in
+    let e : block-steps .block-steps .result ≡ k = rw (steps, block) at (block-steps .block-steps .ensures) in
     let n = x list count at₀ el tl hr lt in
     let f = facts (run .combination) in
     rw (block, e) (
@@ -116,7 +119,10 @@ same-length-2 c = search needs
 
 returns : tie.Need-returns
 returns c =
-    let q = c .before .before .before .before .before .before .before .before .before .before .before .before .before .before .before .before .before .before in
+    let encode-run = c .before .before .before .before .before in
+    let block-steps = encode-run .before .before .before in
+    let steps-per-slot = block-steps .before .before .before .before in
+    let q = steps-per-slot .before .before .before .before .before .before in
     let list = q .args .p .runs in
     let count = q .args .p .count in
     let at₀ = q .args .at in
@@ -125,12 +131,12 @@ returns c =
     let hr = q .pre .3 in
     let lt = q .pre .4 in
     let run : Run = getD list (at₀ .run) noRun in
-    let steps = c .before .before .before .before .before .before .before .before .before .before .before .before .steps-per-slot .ensures in
-    let block = c .before .before .before .before .before .before .before .before .before .block-of .ensures in
+    let steps = steps-per-slot .steps-per-slot .ensures in
+    let block = block-steps .before .block-of .ensures in
     let k : ℕ = blockSteps (stepsOf run - at₀ .step) (blockFor (run .combination) .steps) in
-    let e : c .before .before .before .before .before .before .before .before .block-steps .result ≡ k = rw (steps, block) at (c .before .before .before .before .before .before .before .before .block-steps .ensures) in
+    let e : block-steps .block-steps .result ≡ k = rw (steps, block) at (block-steps .block-steps .ensures) in
     let n = x list count at₀ el tl hr lt in
-    let run-made = c .before .before .before .before .before .encode-run in
+    let run-made = encode-run .encode-run in
     let state = run-made .result in
     let piece = rw e at (run-made .ensures) in
     let is : c .place-after .result ≡ placeAfter at₀ (blockFor (run .combination)) k (stepsOf run - at₀ .step) state = rw (steps, block, e) at (c .place-after .ensures) in

@@ -17,9 +17,10 @@ encode-runs-requires c κs =
 
 sub-put-unused : tie.Need-sub-put-unused
 sub-put-unused c =
-    let s = c .before .before .before .before .before .before .before .before .before .before .before in
+    let encode-runs = c .before .before .before .before in
+    let s = encode-runs .before .before .before .before .before .before .before in
     let tl = table-tiled (s .args .p .table) (s .pre .0 .accepted) in
-    let made = rw (runs-front (s .args .p) (s .pre .0)) at (c .before .before .before .before .encode-runs .ensures) in
+    let made = rw (runs-front (s .args .p) (s .pre .0)) at (encode-runs .encode-runs .ensures) in
     let small = end-small (s .args .p .table) (s .args .m) (s .args .bytes .now) (s .args .start) tl made (s .pre .2) (s .pre .3) in
     let lr = re-length (s .args .p .table) (s .args .m) (s .args .bytes .now) (s .args .start) tl made (s .pre .2) (s .pre .3) in
     let li = im-length (s .args .p .table) (s .args .m) (s .args .bytes .now) (s .args .start) tl made (s .pre .2) (s .pre .3) in
@@ -27,9 +28,10 @@ sub-put-unused c =
 
 mul-put-unused : tie.Need-mul-put-unused
 mul-put-unused c =
-    let s = c .before .before .before .before .before .before .before .before .before .before .before in
+    let encode-runs = c .before .before .before .before in
+    let s = encode-runs .before .before .before .before .before .before .before in
     let tl = table-tiled (s .args .p .table) (s .pre .0 .accepted) in
-    let made = rw (runs-front (s .args .p) (s .pre .0)) at (c .before .before .before .before .encode-runs .ensures) in
+    let made = rw (runs-front (s .args .p) (s .pre .0)) at (encode-runs .encode-runs .ensures) in
     let small = end-small (s .args .p .table) (s .args .m) (s .args .bytes .now) (s .args .start) tl made (s .pre .2) (s .pre .3) in
     let lr = re-length (s .args .p .table) (s .args .m) (s .args .bytes .now) (s .args .start) tl made (s .pre .2) (s .pre .3) in
     let li = im-length (s .args .p .table) (s .args .m) (s .args .bytes .now) (s .args .start) tl made (s .pre .2) (s .pre .3) in
@@ -37,9 +39,10 @@ mul-put-unused c =
 
 sub-put-unused-2 : tie.Need-sub-put-unused-2
 sub-put-unused-2 c =
-    let s = c .before .before .before .before .before .before .before .before .before .before .before in
+    let encode-runs = c .before .before .before .before in
+    let s = encode-runs .before .before .before .before .before .before .before in
     let tl = table-tiled (s .args .p .table) (s .pre .0 .accepted) in
-    let made = rw (runs-front (s .args .p) (s .pre .0)) at (c .before .before .before .before .encode-runs .ensures) in
+    let made = rw (runs-front (s .args .p) (s .pre .0)) at (encode-runs .encode-runs .ensures) in
     let small = end-small (s .args .p .table) (s .args .m) (s .args .bytes .now) (s .args .start) tl made (s .pre .2) (s .pre .3) in
     let lr = re-length (s .args .p .table) (s .args .m) (s .args .bytes .now) (s .args .start) tl made (s .pre .2) (s .pre .3) in
     let li = im-length (s .args .p .table) (s .args .m) (s .args .bytes .now) (s .args .start) tl made (s .pre .2) (s .pre .3) in
@@ -47,9 +50,10 @@ sub-put-unused-2 c =
 
 part-put-unused-start : tie.Need-part-put-unused-start
 part-put-unused-start c =
-    let s = c .before .before .before .before .before .before .before .before .before .before .before in
+    let encode-runs = c .before .before .before .before in
+    let s = encode-runs .before .before .before .before .before .before .before in
     let tl = table-tiled (s .args .p .table) (s .pre .0 .accepted) in
-    let made = rw (runs-front (s .args .p) (s .pre .0)) at (c .before .before .before .before .encode-runs .ensures) in
+    let made = rw (runs-front (s .args .p) (s .pre .0)) at (encode-runs .encode-runs .ensures) in
     let small = end-small (s .args .p .table) (s .args .m) (s .args .bytes .now) (s .args .start) tl made (s .pre .2) (s .pre .3) in
     let lr = re-length (s .args .p .table) (s .args .m) (s .args .bytes .now) (s .args .start) tl made (s .pre .2) (s .pre .3) in
     let li = im-length (s .args .p .table) (s .args .m) (s .args .bytes .now) (s .args .start) tl made (s .pre .2) (s .pre .3) in
@@ -60,9 +64,10 @@ part-put-unused-end c = search needs
 
 mul-put-unused-2 : tie.Need-mul-put-unused-2
 mul-put-unused-2 c =
-    let s = c .before .before .before .before .before .before .before .before .before .before .before .before in
+    let encode-runs = c .before .before .before .before .before in
+    let s = encode-runs .before .before .before .before .before .before .before in
     let tl = table-tiled (s .args .p .table) (s .pre .0 .accepted) in
-    let made = rw (runs-front (s .args .p) (s .pre .0)) at (c .before .before .before .before .before .encode-runs .ensures) in
+    let made = rw (runs-front (s .args .p) (s .pre .0)) at (encode-runs .encode-runs .ensures) in
     let small = end-small (s .args .p .table) (s .args .m) (s .args .bytes .now) (s .args .start) tl made (s .pre .2) (s .pre .3) in
     let lr = re-length (s .args .p .table) (s .args .m) (s .args .bytes .now) (s .args .start) tl made (s .pre .2) (s .pre .3) in
     let li = im-length (s .args .p .table) (s .args .m) (s .args .bytes .now) (s .args .start) tl made (s .pre .2) (s .pre .3) in
@@ -70,9 +75,10 @@ mul-put-unused-2 c =
 
 sub-put-unused-3 : tie.Need-sub-put-unused-3
 sub-put-unused-3 c =
-    let s = c .before .before .before .before .before .before .before .before .before .before .before .before in
+    let encode-runs = c .before .before .before .before .before in
+    let s = encode-runs .before .before .before .before .before .before .before in
     let tl = table-tiled (s .args .p .table) (s .pre .0 .accepted) in
-    let made = rw (runs-front (s .args .p) (s .pre .0)) at (c .before .before .before .before .before .encode-runs .ensures) in
+    let made = rw (runs-front (s .args .p) (s .pre .0)) at (encode-runs .encode-runs .ensures) in
     let small = end-small (s .args .p .table) (s .args .m) (s .args .bytes .now) (s .args .start) tl made (s .pre .2) (s .pre .3) in
     let lr = re-length (s .args .p .table) (s .args .m) (s .args .bytes .now) (s .args .start) tl made (s .pre .2) (s .pre .3) in
     let li = im-length (s .args .p .table) (s .args .m) (s .args .bytes .now) (s .args .start) tl made (s .pre .2) (s .pre .3) in
@@ -80,9 +86,10 @@ sub-put-unused-3 c =
 
 part-put-unused-start-2 : tie.Need-part-put-unused-start-2
 part-put-unused-start-2 c =
-    let s = c .before .before .before .before .before .before .before .before .before .before .before .before in
+    let encode-runs = c .before .before .before .before .before in
+    let s = encode-runs .before .before .before .before .before .before .before in
     let tl = table-tiled (s .args .p .table) (s .pre .0 .accepted) in
-    let made = rw (runs-front (s .args .p) (s .pre .0)) at (c .before .before .before .before .before .encode-runs .ensures) in
+    let made = rw (runs-front (s .args .p) (s .pre .0)) at (encode-runs .encode-runs .ensures) in
     let small = end-small (s .args .p .table) (s .args .m) (s .args .bytes .now) (s .args .start) tl made (s .pre .2) (s .pre .3) in
     let lr = re-length (s .args .p .table) (s .args .m) (s .args .bytes .now) (s .args .start) tl made (s .pre .2) (s .pre .3) in
     let li = im-length (s .args .p .table) (s .args .m) (s .args .bytes .now) (s .args .start) tl made (s .pre .2) (s .pre .3) in
@@ -102,14 +109,16 @@ same-length-2 c = search needs
 
 returns : tie.Need-returns
 returns c =
-    let s = c .before .before .before .before .before .before .before .before .before .before .before .before .before .before .before .before .before .before in
+    let put-unused = c .before .before .before .before in
+    let encode-runs = put-unused .before .before .before .before .before .before .before in
+    let s = encode-runs .before .before .before .before .before .before .before in
     let tl = table-tiled (s .args .p .table) (s .pre .0 .accepted) in
-    let made = rw (runs-front (s .args .p) (s .pre .0)) at (c .before .before .before .before .before .before .before .before .before .before .before .encode-runs .ensures) in
+    let made = rw (runs-front (s .args .p) (s .pre .0)) at (encode-runs .encode-runs .ensures) in
     let small = end-small (s .args .p .table) (s .args .m) (s .args .bytes .now) (s .args .start) tl made (s .pre .2) (s .pre .3) in
     let lr = re-length (s .args .p .table) (s .args .m) (s .args .bytes .now) (s .args .start) tl made (s .pre .2) (s .pre .3) in
     let li = im-length (s .args .p .table) (s .args .m) (s .args .bytes .now) (s .args .start) tl made (s .pre .2) (s .pre .3) in (
       runs-state (s .args .p .table) (s .args .m) (s .args .bytes .now) (s .args .start) tl made (s .pre .2) (s .pre .3),
-      frame-laid (s .args .p .table) (s .args .m) (s .args .bytes .now) (s .args .start) tl made (s .pre .2) (s .pre .3) (c .before .before .before .before .put-unused .ensures .0) (c .before .before .before .before .put-unused .ensures .1),
+      frame-laid (s .args .p .table) (s .args .m) (s .args .bytes .now) (s .args .start) tl made (s .pre .2) (s .pre .3) (put-unused .put-unused .ensures .0) (put-unused .put-unused .ensures .1),
     )
 
 pub encode-main-spec : {M : Type 1} → statement M

@@ -68,37 +68,62 @@ part-encode-run-end : tie.Need-part-encode-run-end Inv-loop μ-loop
 part-encode-run-end c = search needs
 
 mul-encode-run-2 : tie.Need-mul-encode-run-2 Inv-loop μ-loop
-mul-encode-run-2 c = let a = run-in (c .before .before .before .before .before .before .before .before .args .t2) (c .before .before .before .before .before .before .before .before .args .count) (c .before .before .before .before .loop .i) (c .before .before .before .before .before .before .before .before .pre .1) (c .before .before .before .before .before .before .before .before .pre .2) (c .before .before .before .loop-test .taken) in omega (arith, a .starts, a .symbols, a .fits)
+mul-encode-run-2 c =
+    let at = c .before .before .before .before in
+    let start = at .before .before .before .before in
+    let a = run-in (start .args .t2) (start .args .count) (at .loop .i) (start .pre .1) (start .pre .2) (c .before .before .before .loop-test .taken) in
+    omega (arith, a .starts, a .symbols, a .fits)
 
 sub-encode-run-2 : tie.Need-sub-encode-run-2 Inv-loop μ-loop
-sub-encode-run-2 c = let a = run-in (c .before .before .before .before .before .before .before .before .args .t2) (c .before .before .before .before .before .before .before .before .args .count) (c .before .before .before .before .loop .i) (c .before .before .before .before .before .before .before .before .pre .1) (c .before .before .before .before .before .before .before .before .pre .2) (c .before .before .before .loop-test .taken) in omega (arith, a .starts, a .symbols, a .fits, c .before .before .before .before .before .before .before .before .pre .5, c .before .before .before .before .loop .inv .4 .points .im-length)
+sub-encode-run-2 c =
+    let at = c .before .before .before .before in
+    let start = at .before .before .before .before in
+    let a = run-in (start .args .t2) (start .args .count) (at .loop .i) (start .pre .1) (start .pre .2) (c .before .before .before .loop-test .taken) in
+    omega (arith, a .starts, a .symbols, a .fits, start .pre .5, at .loop .inv .4 .points .im-length)
 
 part-encode-run-start-2 : tie.Need-part-encode-run-start-2 Inv-loop μ-loop
-part-encode-run-start-2 c = let a = run-in (c .before .before .before .before .before .before .before .before .args .t2) (c .before .before .before .before .before .before .before .before .args .count) (c .before .before .before .before .loop .i) (c .before .before .before .before .before .before .before .before .pre .1) (c .before .before .before .before .before .before .before .before .pre .2) (c .before .before .before .loop-test .taken) in omega (arith, a .starts, a .symbols, a .fits, c .before .before .before .before .before .before .before .before .pre .5, c .before .before .before .before .loop .inv .4 .points .im-length)
+part-encode-run-start-2 c =
+    let at = c .before .before .before .before in
+    let start = at .before .before .before .before in
+    let a = run-in (start .args .t2) (start .args .count) (at .loop .i) (start .pre .1) (start .pre .2) (c .before .before .before .loop-test .taken) in
+    omega (arith, a .starts, a .symbols, a .fits, start .pre .5, at .loop .inv .4 .points .im-length)
 
 part-encode-run-end-2 : tie.Need-part-encode-run-end-2 Inv-loop μ-loop
 part-encode-run-end-2 c = search needs
 
 encode-run-requires : tie.Need-encode-run-requires Inv-loop μ-loop
 encode-run-requires c κs =
-    let a = run-in (c .before .before .before .before .before .before .before .before .before .args .t2) (c .before .before .before .before .before .before .before .before .before .args .count) (c .before .before .before .before .before .loop .i) (c .before .before .before .before .before .before .before .before .before .pre .1) (c .before .before .before .before .before .before .before .before .before .pre .2) (c .before .before .before .before .loop-test .taken) in
-    let inv = c .before .before .before .before .before .loop .inv in
+    let tested = c .before .before .before .before in
+    let at = tested .before in
+    let start = at .before .before .before .before in
+    let a = run-in (start .args .t2) (start .args .count) (at .loop .i) (start .pre .1) (start .pre .2) (tested .loop-test .taken) in
+    let inv = at .loop .inv in
     let z = a .size in
     rw (c .before .before .steps-per-slot .ensures) (
-      omega (arith, inv .4 .small, c .before .before .before .before .before .before .before .before .before .pre .3),
+      omega (arith, inv .4 .small, start .pre .3),
       omega (arith, a .few-steps, inv .3, inv .2, a .symbols, a .fits),
       z .periods,
-      simp (length-take, length-drop) (omega (arith, z .symbols-are, a .starts, a .ends, a .symbols, a .fits, c .before .before .before .before .before .before .before .before .before .pre .4, inv .4 .points .re-length)),
-      simp (length-take, length-drop) (omega (arith, z .symbols-are, a .starts, a .ends, a .symbols, a .fits, c .before .before .before .before .before .before .before .before .before .pre .5, inv .4 .points .im-length)),
+      simp (length-take, length-drop) (omega (arith, z .symbols-are, a .starts, a .ends, a .symbols, a .fits, start .pre .4, inv .4 .points .re-length)),
+      simp (length-take, length-drop) (omega (arith, z .symbols-are, a .starts, a .ends, a .symbols, a .fits, start .pre .5, inv .4 .points .im-length)),
       inv .5,
-      slot-steps-four (getD (c .before .before .before .before .before .before .before .before .before .args .t2) (c .before .before .before .before .before .loop .i) noRun .combination) (getD (c .before .before .before .before .before .before .before .before .before .args .t2) (c .before .before .before .before .before .loop .i) noRun .«valid_slots»),
+      slot-steps-four (getD (start .args .t2) (at .loop .i) noRun .combination) (getD (start .args .t2) (at .loop .i) noRun .«valid_slots»),
     )
 
 mul-bit : tie.Need-mul-bit Inv-loop μ-loop
-mul-bit c = let a = run-in (c .before .before .before .before .before .before .before .before .before .before .before .before .before .before .args .t2) (c .before .before .before .before .before .before .before .before .before .before .before .before .before .before .args .count) (c .before .before .before .before .before .before .before .before .before .before .loop .i) (c .before .before .before .before .before .before .before .before .before .before .before .before .before .before .pre .1) (c .before .before .before .before .before .before .before .before .before .before .before .before .before .before .pre .2) (c .before .before .before .before .before .before .before .before .before .loop-test .taken) in omega (arith, a .few-bits, a .symbols, a .fits)
+mul-bit c =
+    let tested = c .before .before .before .before .before .before .before .before .before in
+    let at = tested .before in
+    let start = at .before .before .before .before in
+    let a = run-in (start .args .t2) (start .args .count) (at .loop .i) (start .pre .1) (start .pre .2) (tested .loop-test .taken) in
+    omega (arith, a .few-bits, a .symbols, a .fits)
 
 add-bit : tie.Need-add-bit Inv-loop μ-loop
-add-bit c = let a = run-in (c .before .before .before .before .before .before .before .before .before .before .before .before .before .before .args .t2) (c .before .before .before .before .before .before .before .before .before .before .before .before .before .before .args .count) (c .before .before .before .before .before .before .before .before .before .before .loop .i) (c .before .before .before .before .before .before .before .before .before .before .before .before .before .before .pre .1) (c .before .before .before .before .before .before .before .before .before .before .before .before .before .before .pre .2) (c .before .before .before .before .before .before .before .before .before .loop-test .taken) in omega (arith, a .few-bits, a .symbols, a .fits, c .before .before .before .before .before .before .before .before .before .before .loop .inv .3, c .before .before .before .before .before .before .before .before .before .before .loop .inv .2)
+add-bit c =
+    let tested = c .before .before .before .before .before .before .before .before .before in
+    let at = tested .before in
+    let start = at .before .before .before .before in
+    let a = run-in (start .args .t2) (start .args .count) (at .loop .i) (start .pre .1) (start .pre .2) (tested .loop-test .taken) in
+    omega (arith, a .few-bits, a .symbols, a .fits, at .loop .inv .3, at .loop .inv .2)
 
 add-i : tie.Need-add-i Inv-loop μ-loop
 add-i c = search needs
@@ -108,16 +133,21 @@ loop-less c = search needs
 
 loop-again : tie.Need-loop-again Inv-loop μ-loop
 loop-again c =
-    let a = run-in (c .before .before .before .before .before .before .before .before .before .before .before .before .before .before .args .t2) (c .before .before .before .before .before .before .before .before .before .before .before .before .before .before .args .count) (c .before .before .before .before .before .before .before .before .before .before .loop .i) (c .before .before .before .before .before .before .before .before .before .before .before .before .before .before .pre .1) (c .before .before .before .before .before .before .before .before .before .before .before .before .before .before .pre .2) (c .before .before .before .before .before .before .before .before .before .loop-test .taken) in
-    let inv = c .before .before .before .before .before .before .before .before .before .before .loop .inv in
-    let run = getD (c .before .before .before .before .before .before .before .before .before .before .before .before .before .before .args .t2) (c .before .before .before .before .before .before .before .before .before .before .loop .i) noRun in (
-      omega (arith, c .before .before .before .before .before .before .before .before .before .loop-test .taken),
+    let encode-run = c .before .before .before .before in
+    let steps-per-slot = encode-run .before .before .before in
+    let tested = steps-per-slot .before .before in
+    let at = tested .before in
+    let start = at .before .before .before .before in
+    let a = run-in (start .args .t2) (start .args .count) (at .loop .i) (start .pre .1) (start .pre .2) (tested .loop-test .taken) in
+    let inv = at .loop .inv in
+    let run = getD (start .args .t2) (at .loop .i) noRun in (
+      omega (arith, tested .loop-test .taken),
       omega (arith, inv .1, a .bits),
       a .ends,
       omega (arith, inv .1, inv .2, inv .3, a .few-bits, a .ends, a .symbols),
-      run-more (c .before .before .before .before .before .before .before .before .before .before .before .before .before .before .args .t2) (c .before .before .before .before .before .before .before .before .before .before .before .before .before .before .args .count) (c .before .before .before .before .before .before .before .before .before .before .before .before .before .before .args .m) (c .before .before .before .before .before .before .before .before .before .before .before .before .before .before .args .bytes .now) (c .before .before .before .before .before .before .before .before .before .before .before .before .before .before .args .start) (c .before .before .before .before .before .before .before .before .before .before .before .before .before .before .pre .1) (c .before .before .before .before .before .before .before .before .before .before .before .before .before .before .pre .2) (c .before .before .before .before .before .before .before .before .before .before .loop .i) (c .before .before .before .before .before .before .before .before .before .loop-test .taken)
-          (inv .4) (c .before .before .before .before .before .before .before .before .before .before .before .before .before .before .pre .4) (c .before .before .before .before .before .before .before .before .before .before .before .before .before .before .pre .5) (c .before .before .before .before .before .before .before .before .before .before .loop .bit) (c .before .before .before .before .before .before .before .steps-per-slot .result * run .«valid_slots») (c .before .before .before .before .encode-run .result) (inv .1)
-          (ap (λ (x : ℕ). x * run .«valid_slots») (c .before .before .before .before .before .before .before .steps-per-slot .ensures)) (c .before .before .before .before .encode-run .ensures),
+      run-more (start .args .t2) (start .args .count) (start .args .m) (start .args .bytes .now) (start .args .start) (start .pre .1) (start .pre .2) (at .loop .i) (tested .loop-test .taken)
+          (inv .4) (start .pre .4) (start .pre .5) (at .loop .bit) (steps-per-slot .steps-per-slot .result * run .«valid_slots») (encode-run .encode-run .result) (inv .1)
+          (ap (λ (x : ℕ). x * run .«valid_slots») (steps-per-slot .steps-per-slot .ensures)) (encode-run .encode-run .ensures),
       omega (arith, inv .5),
     )
 

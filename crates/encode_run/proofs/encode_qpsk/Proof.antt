@@ -48,30 +48,40 @@ reversed-requires c κs = search needs
 
 loop-holds : tie.Need-loop-holds Inv-loop μ-loop
 loop-holds c =
-    let st = c .before .before .before .before .before .before .before .before .before .before .before .before in
-    let p = c .before .before .before .before .before .before .before .before .pattern-of .result in
+    let pattern-of = c .before .before .before .before .before .before .before .before in
+    let st = pattern-of .before .before .before .before in
+    let p = pattern-of .pattern-of .result in
     let e : backward (c .reversed .result) ≡ st .args .start = ap (λ (x : ℕ). backward x) (c .reversed .ensures .0) ∙ backward-twice (st .args .start) (st .pre .1) in (
       search needs,
       sym (zero-mul (p .period)),
       sym (zero-mul (p .count)),
-      room (st .args .c) p (c .before .before .before .before .before .before .before .before .pattern-of .ensures) (st .args .n) (length (st .args .re .now)) (length (st .args .im .now)) (st .pre .0) (st .pre .4) (st .pre .5),
+      room (st .args .c) p (pattern-of .pattern-of .ensures) (st .args .n) (length (st .args .re .now)) (length (st .args .im .now)) (st .pre .0) (st .pre .4) (st .pre .5),
       rw e (going-start _ (st .args .start) _ _ (st .args .re .now) (st .args .im .now) (st .pre .1)),
       c .reversed .ensures .1,
     )
 
 add-encode-period : tie.Need-add-encode-period Inv-loop μ-loop
-add-encode-period c = let r = c .before .loop .inv .3 (c .before .loop .q) (c .loop-test .taken) in omega (arith, c .before .before .before .before .before .before .before .before .before .before .before .before .before .before .pre)
+add-encode-period c =
+    let start = c .before .before .before .before .before .before .before .before .before .before .before .before .before .before in
+    let r = c .before .loop .inv .3 (c .before .loop .q) (c .loop-test .taken) in
+    omega (arith, start .pre)
 
 encode-period-requires : tie.Need-encode-period-requires Inv-loop μ-loop
-encode-period-requires c κs = let r = c .before .loop .inv .3 (c .before .loop .q) (c .loop-test .taken) in (c .before .loop .inv .5, c .before .before .before .before .before .before .before .before .before .before .pattern-of .ensures .short, omega (arith, c .before .before .before .before .before .before .before .before .before .before .before .before .before .before .pre))
+encode-period-requires c κs =
+    let pattern-of = c .before .before .before .before .before .before .before .before .before .before in
+    let start = pattern-of .before .before .before .before in
+    let r = c .before .loop .inv .3 (c .before .loop .q) (c .loop-test .taken) in
+    (c .before .loop .inv .5, pattern-of .pattern-of .ensures .short, omega (arith, start .pre))
 
 mul-put-pairs : tie.Need-mul-put-pairs Inv-loop μ-loop
 mul-put-pairs c =
-    let a = c .before .before .before .before .before .before in
-    let p = c .before .before .before .before .before .before .before .before .before .before .before .before .before .before .before .pattern-of in
-    let st = c .before .before .before .before .before .before .before .before .before .before .before .before .before .before .before .before .before .before .before in
+    let tested = c .before .before .before .before .before in
+    let a = tested .before in
+    let pattern-of = a .before .before .before .before .before .before .before .before .before in
+    let st = pattern-of .before .before .before .before in
+    let p = pattern-of .pattern-of in
     let h : a .loop .q * p .result .count ≤ a .loop .q * 4 = mul-le-mul-left (a .loop .q) (p .ensures .few) in
-    omega (arith, a .loop .inv .2, st .pre, div-le-self (st .args .n) (p .result .period), c .before .before .before .before .before .loop-test .taken, p .ensures .few)
+    omega (arith, a .loop .inv .2, st .pre, div-le-self (st .args .n) (p .result .period), tested .loop-test .taken, p .ensures .few)
 
 sub-put-pairs : tie.Need-sub-put-pairs Inv-loop μ-loop
 sub-put-pairs c = let r = c .before .before .before .before .before .before .loop .inv .3 (c .before .before .before .before .before .before .loop .q) (c .before .before .before .before .before .loop-test .taken) in search needs
@@ -84,11 +94,13 @@ part-put-pairs-end c = let r = c .before .before .before .before .before .before
 
 mul-put-pairs-2 : tie.Need-mul-put-pairs-2 Inv-loop μ-loop
 mul-put-pairs-2 c =
-    let a = c .before .before .before .before .before .before .before in
-    let p = c .before .before .before .before .before .before .before .before .before .before .before .before .before .before .before .before .pattern-of in
-    let st = c .before .before .before .before .before .before .before .before .before .before .before .before .before .before .before .before .before .before .before .before in
+    let tested = c .before .before .before .before .before .before in
+    let a = tested .before in
+    let pattern-of = a .before .before .before .before .before .before .before .before .before in
+    let st = pattern-of .before .before .before .before in
+    let p = pattern-of .pattern-of in
     let h : a .loop .q * p .result .count ≤ a .loop .q * 4 = mul-le-mul-left (a .loop .q) (p .ensures .few) in
-    omega (arith, a .loop .inv .2, st .pre, div-le-self (st .args .n) (p .result .period), c .before .before .before .before .before .before .loop-test .taken, p .ensures .few)
+    omega (arith, a .loop .inv .2, st .pre, div-le-self (st .args .n) (p .result .period), tested .loop-test .taken, p .ensures .few)
 
 sub-put-pairs-2 : tie.Need-sub-put-pairs-2 Inv-loop μ-loop
 sub-put-pairs-2 c = let r = c .before .before .before .before .before .before .before .loop .inv .3 (c .before .before .before .before .before .before .before .loop .q) (c .before .before .before .before .before .before .loop-test .taken) in search needs
@@ -101,61 +113,86 @@ part-put-pairs-end-2 c = let r = c .before .before .before .before .before .befo
 
 put-pairs-requires : tie.Need-put-pairs-requires Inv-loop μ-loop
 put-pairs-requires c κs =
-    let r = c .before .before .before .before .before .before .before .before .loop .inv .3 (c .before .before .before .before .before .before .before .before .loop .q) (c .before .before .before .before .before .before .before .loop-test .taken) in
-    let p = c .before .before .before .before .before .before .before .before .before .before .before .before .before .before .before .before .before .pattern-of .result in
-    let ok = c .before .before .before .before .before .before .before .before .before .before .before .before .before .before .before .before .before .pattern-of .ensures in
-    let w = pattern-within (c .before .before .before .before .before .before .before .before .before .before .before .before .before .before .before .before .before .before .before .before .before .args .c) p ok in
-    let o1 = outputs-of (p .period) (p .count) (p .p1) (c .before .before .before .before .before .before .before .before .before .before .before .before .before .before .shifts .result) (ok .short) (ok .few) (c .before .before .before .before .before .before .before .before .before .before .before .before .before .before .shifts .ensures) (λ i l. w i l .0) in
-    let o0 = outputs-of (p .period) (p .count) (p .p0) (c .before .before .before .before .before .before .before .before .before .before .before .before .before .shifts2 .result) (ok .short) (ok .few) (c .before .before .before .before .before .before .before .before .before .before .before .before .before .shifts2 .ensures) (λ i l. w i l .1) in (
+    let tested = c .before .before .before .before .before .before .before in
+    let at = tested .before in
+    let shifts2 = at .before .before .before .before .before in
+    let shifts = shifts2 .before in
+    let pattern-of = shifts .before .before .before in
+    let start = pattern-of .before .before .before .before in
+    let r = at .loop .inv .3 (at .loop .q) (tested .loop-test .taken) in
+    let p = pattern-of .pattern-of .result in
+    let ok = pattern-of .pattern-of .ensures in
+    let w = pattern-within (start .args .c) p ok in
+    let o1 = outputs-of (p .period) (p .count) (p .p1) (shifts .shifts .result) (ok .short) (ok .few) (shifts .shifts .ensures) (λ i l. w i l .0) in
+    let o0 = outputs-of (p .period) (p .count) (p .p0) (shifts2 .shifts2 .result) (ok .short) (ok .few) (shifts2 .shifts2 .ensures) (λ i l. w i l .1) in (
       ok .few,
       simp (length-take, length-drop) (omega arith),
       simp (length-take, length-drop) (omega arith),
-      at-most (p .period) (p .count) (c .before .before .before .before .before .before .before .before .before .before .before .before .before .before .shifts .result) o1,
-      at-most (p .period) (p .count) (c .before .before .before .before .before .before .before .before .before .before .before .before .before .shifts2 .result) o0,
+      at-most (p .period) (p .count) (shifts .shifts .result) o1,
+      at-most (p .period) (p .count) (shifts2 .shifts2 .result) o0,
     )
 
 add-done : tie.Need-add-done Inv-loop μ-loop
-add-done c = let r = c .before .before .before .before .before .before .before .before .before .before .before .before .before .loop .inv .3 (c .before .before .before .before .before .before .before .before .before .before .before .before .before .loop .q) (c .before .before .before .before .before .before .before .before .before .before .before .before .loop-test .taken) in omega (arith, c .before .before .before .before .before .before .before .before .before .before .before .before .before .before .before .before .before .before .before .before .before .before .before .before .before .before .pre)
+add-done c =
+    let tested = c .before .before .before .before .before .before .before .before .before .before .before .before in
+    let at = tested .before in
+    let start = at .before .before .before .before .before .before .before .before .before .before .before .before .before in
+    let r = at .loop .inv .3 (at .loop .q) (tested .loop-test .taken) in
+    omega (arith, start .pre)
 
 add-j : tie.Need-add-j Inv-loop μ-loop
 add-j c =
-    let a = c .before .before .before .before .before .before .before .before .before .before .before .before .before in
-    let p = c .before .before .before .before .before .before .before .before .before .before .before .before .before .before .before .before .before .before .before .before .before .before .pattern-of in
-    let st = c .before .before .before .before .before .before .before .before .before .before .before .before .before .before .before .before .before .before .before .before .before .before .before .before .before .before in
+    let tested = c .before .before .before .before .before .before .before .before .before .before .before .before in
+    let a = tested .before in
+    let pattern-of = a .before .before .before .before .before .before .before .before .before in
+    let st = pattern-of .before .before .before .before in
+    let p = pattern-of .pattern-of in
     let h : a .loop .q * p .result .count ≤ a .loop .q * 4 = mul-le-mul-left (a .loop .q) (p .ensures .few) in
-    omega (arith, a .loop .inv .2, st .pre, div-le-self (st .args .n) (p .result .period), c .before .before .before .before .before .before .before .before .before .before .before .before .loop-test .taken, p .ensures .few)
+    omega (arith, a .loop .inv .2, st .pre, div-le-self (st .args .n) (p .result .period), tested .loop-test .taken, p .ensures .few)
 
 add-q : tie.Need-add-q Inv-loop μ-loop
-add-q c = omega (arith, c .before .before .before .before .before .before .before .before .before .before .before .before .before .before .before .before .before .before .before .before .before .before .before .before .before .before .pre, div-le-self (c .before .before .before .before .before .before .before .before .before .before .before .before .before .before .before .before .before .before .before .before .before .before .before .before .before .before .args .n) (c .before .before .before .before .before .before .before .before .before .before .before .before .before .before .before .before .before .before .before .before .before .before .pattern-of .result .period), c .before .before .before .before .before .before .before .before .before .before .before .before .loop-test .taken)
+add-q c =
+    let tested = c .before .before .before .before .before .before .before .before .before .before .before .before in
+    let pattern-of = tested .before .before .before .before .before .before .before .before .before .before in
+    let start = pattern-of .before .before .before .before in
+    omega (arith, start .pre, div-le-self (start .args .n) (pattern-of .pattern-of .result .period), tested .loop-test .taken)
 
 loop-less : tie.Need-loop-less Inv-loop μ-loop
 loop-less c = search needs
 
 loop-again : tie.Need-loop-again Inv-loop μ-loop
 loop-again c =
-    let r = c .before .before .before .before .before .before .before .before .before .before .before .before .before .loop .inv .3 (c .before .before .before .before .before .before .before .before .before .before .before .before .before .loop .q) (c .before .before .before .before .before .before .before .before .before .before .before .before .loop-test .taken) in
-    let st = c .before .before .before .before .before .before .before .before .before .before .before .before .before .before .before .before .before .before .before .before .before .before .before .before .before .before in
-    let p = c .before .before .before .before .before .before .before .before .before .before .before .before .before .before .before .before .before .before .before .before .before .before .pattern-of .result in
-    let t = c .before .before .before .before .before .before .before .before .before .before .before .before .before .before .before .before .before .qpsk-table .result in
-    let inv = c .before .before .before .before .before .before .before .before .before .before .before .before .before .loop .inv in
-    let q = c .before .before .before .before .before .before .before .before .before .before .before .before .before .loop .q in
-    let j = c .before .before .before .before .before .before .before .before .before .before .before .before .before .loop .j in
-    let e = c .before .before .before .before .before .before .before .before .before .before .before .encode-period .result in
-    let ok = c .before .before .before .before .before .before .before .before .before .before .before .before .before .before .before .before .before .before .before .before .before .before .pattern-of .ensures in
-    let s1 = c .before .before .before .before .before .before .before .before .before .before .before .before .before .before .before .before .before .before .before .shifts .result in
-    let s0 = c .before .before .before .before .before .before .before .before .before .before .before .before .before .before .before .before .before .before .shifts2 .result in
+    let put-pairs = c .before .before .before .before in
+    let encode-period = put-pairs .before .before .before .before .before .before .before in
+    let tested = encode-period .before in
+    let at = tested .before in
+    let qpsk-table = at .before .before .before .before in
+    let shifts2 = qpsk-table .before in
+    let shifts = shifts2 .before in
+    let pattern-of = shifts .before .before .before in
+    let st = pattern-of .before .before .before .before in
+    let r = at .loop .inv .3 (at .loop .q) (tested .loop-test .taken) in
+    let p = pattern-of .pattern-of .result in
+    let t = qpsk-table .qpsk-table .result in
+    let inv = at .loop .inv in
+    let q = at .loop .q in
+    let j = at .loop .j in
+    let e = encode-period .encode-period .result in
+    let ok = pattern-of .pattern-of .ensures in
+    let s1 = shifts .shifts .result in
+    let s0 = shifts2 .shifts2 .result in
     let w = pattern-within (st .args .c) p ok in
-    let o1 = outputs-of (p .period) (p .count) (p .p1) s1 (ok .short) (ok .few) (c .before .before .before .before .before .before .before .before .before .before .before .before .before .before .before .before .before .before .before .shifts .ensures) (λ i l. w i l .0) in
-    let o0 = outputs-of (p .period) (p .count) (p .p0) s0 (ok .short) (ok .few) (c .before .before .before .before .before .before .before .before .before .before .before .before .before .before .before .before .before .before .shifts2 .ensures) (λ i l. w i l .1) in (
-      omega (arith, c .before .before .before .before .before .before .before .before .before .before .before .before .loop-test .taken),
+    let o1 = outputs-of (p .period) (p .count) (p .p1) s1 (ok .short) (ok .few) (shifts .shifts .ensures) (λ i l. w i l .0) in
+    let o0 = outputs-of (p .period) (p .count) (p .p0) s0 (ok .short) (ok .few) (shifts2 .shifts2 .ensures) (λ i l. w i l .1) in (
+      omega (arith, tested .loop-test .taken),
       rw (inv .1) (sym (add-mul q 1 (p .period) ∙ ap (λ (x : ℕ). q * p .period + x) (one-mul (p .period)))),
       rw (inv .2) (sym (add-mul q 1 (p .count) ∙ ap (λ (x : ℕ). q * p .count + x) (one-mul (p .count)))),
       inv .3,
       going-period (st .args .bytes .now) (st .args .bit) (st .args .n) (st .args .start) (p .period) (p .count) s1 s0 (t .re) (t .im)
-          (inv .4) q (inv .1) (inv .2) (r .0) (r .1) (r .2) o1 o0 e (c .before .before .before .before .before .before .before .before .before .before .before .encode-period .ensures)
-          (tail-back j (c .before .before .before .before .before .before .before .before .before .before .before .before .before .loop .re) (upto (λ i. getD (t .re) (pairLabel (e .word) s1 s0 i) nan) (p .count)) (search needs) (c .before .before .before .before .put-pairs .ensures .0))
-          (tail-back j (c .before .before .before .before .before .before .before .before .before .before .before .before .before .loop .im) (upto (λ i. getD (t .im) (pairLabel (e .word) s1 s0 i) nan) (p .count)) (search needs) (c .before .before .before .before .put-pairs .ensures .1)),
-      c .before .before .before .before .before .before .before .before .before .before .before .encode-period .ensures .small,
+          (inv .4) q (inv .1) (inv .2) (r .0) (r .1) (r .2) o1 o0 e (encode-period .encode-period .ensures)
+          (tail-back j (at .loop .re) (upto (λ i. getD (t .re) (pairLabel (e .word) s1 s0 i) nan) (p .count)) (search needs) (put-pairs .put-pairs .ensures .0))
+          (tail-back j (at .loop .im) (upto (λ i. getD (t .im) (pairLabel (e .word) s1 s0 i) nan) (p .count)) (search needs) (put-pairs .put-pairs .ensures .1)),
+      encode-period .encode-period .ensures .small,
     )
 
 same-length : tie.Need-same-length Inv-loop μ-loop
@@ -169,12 +206,16 @@ reversed-requires-2 c κs = search needs
 
 returns : tie.Need-returns Inv-loop μ-loop
 returns c =
-    let st = c .before .before .before .before .before .before .before .before .before .before .before .before .before .before .before in
+    let qpsk-table = c .before .before .before .before .before .before in
+    let shifts2 = qpsk-table .before in
+    let shifts = shifts2 .before in
+    let pattern-of = shifts .before .before .before in
+    let st = pattern-of .before .before .before .before in
     let inv = c .before .before .loop .inv in
-    let p = c .before .before .before .before .before .before .before .before .before .before .before .pattern-of .result in
-    let t = c .before .before .before .before .before .before .qpsk-table in
+    let p = pattern-of .pattern-of .result in
+    let t = qpsk-table .qpsk-table in
     let e : c .before .before .loop .q ≡ st .args .n / p .period = omega (arith, c .before .loop-test .left) in
-    qpsk-end (st .args .c) p (c .before .before .before .before .before .before .before .before .before .before .before .pattern-of .ensures) (c .before .before .before .before .before .before .before .before .shifts .result) (c .before .before .before .before .before .before .before .shifts2 .result) (c .before .before .before .before .before .before .before .before .shifts .ensures) (c .before .before .before .before .before .before .before .shifts2 .ensures)
+    qpsk-end (st .args .c) p (pattern-of .pattern-of .ensures) (shifts .shifts .result) (shifts2 .shifts2 .result) (shifts .shifts .ensures) (shifts2 .shifts2 .ensures)
     (st .args .m) (t .result) (t .ensures) (st .args .bytes .now) (st .args .bit) (st .args .n) (st .args .start) (st .pre .0)
     (rw (← c .reversed2 .ensures .0) at (inv .4)) (c .before .before .loop .q) e (inv .1) (inv .2) (st .pre .3)
 

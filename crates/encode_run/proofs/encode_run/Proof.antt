@@ -17,24 +17,30 @@ enum-told c = search needs
 
 encode-bpsk-requires : tie.Need-encode-bpsk-requires
 encode-bpsk-requires c κs =
-    let e = is-bpsk (c .before .before .before .before .before .before .before .before .args .c) (sym (c .before .before .before .before .modulation .ensures) ∙ c .before .before .enum-told .given .1) in
-    (c .before .before .before .before .before .before .before .before .pre .0, omega (arith, c .before .before .before .before .before .before .before .before .pre), rw e at (c .before .before .before .before .before .before .before .before .pre .3), rw e at (c .before .before .before .before .before .before .before .before .pre .4))
+    let modulation = c .before .before .before .before in
+    let start = modulation .before .before .before .before in
+    let e = is-bpsk (start .args .c) (sym (modulation .modulation .ensures) ∙ c .before .before .enum-told .given .1) in
+    (start .pre .0, omega (arith, start .pre), rw e at (start .pre .3), rw e at (start .pre .4))
 
 enum-told-2 : tie.Need-enum-told-2
 enum-told-2 c = search needs
 
 encode-qpsk-requires : tie.Need-encode-qpsk-requires
 encode-qpsk-requires c κs =
-    let e : modulationOf (c .before .before .before .before .before .before .before .before .args .c) ≡ Qpsk = sym (c .before .before .before .before .modulation .ensures) ∙ c .before .before .enum-told2 .given .1 in
-    (e, c .before .before .before .before .before .before .before .before .pre .0, omega (arith, c .before .before .before .before .before .before .before .before .pre), c .before .before .before .before .before .before .before .before .pre .2, c .before .before .before .before .before .before .before .before .pre .3, c .before .before .before .before .before .before .before .before .pre .4)
+    let modulation = c .before .before .before .before in
+    let start = modulation .before .before .before .before in
+    let e : modulationOf (start .args .c) ≡ Qpsk = sym (modulation .modulation .ensures) ∙ c .before .before .enum-told2 .given .1 in
+    (e, start .pre .0, omega (arith, start .pre), start .pre .2, start .pre .3, start .pre .4)
 
 enum-told-3 : tie.Need-enum-told-3
 enum-told-3 c = search needs
 
 encode-tc8psk-requires : tie.Need-encode-tc8psk-requires
 encode-tc8psk-requires c κs =
-    let e = tc8psk-only (c .before .before .before .before .before .before .before .before .args .c) (sym (c .before .before .before .before .modulation .ensures) ∙ c .before .before .enum-told3 .given .1) in
-    (c .before .before .before .before .before .before .before .before .pre .0, c .before .before .before .before .before .before .before .before .pre .1, rw e at (c .before .before .before .before .before .before .before .before .pre .3), rw e at (c .before .before .before .before .before .before .before .before .pre .4), c .before .before .before .before .before .before .before .before .pre .5, c .before .before .before .before .before .before .before .before .pre .6)
+    let modulation = c .before .before .before .before in
+    let start = modulation .before .before .before .before in
+    let e = tc8psk-only (start .args .c) (sym (modulation .modulation .ensures) ∙ c .before .before .enum-told3 .given .1) in
+    (start .pre .0, start .pre .1, rw e at (start .pre .3), rw e at (start .pre .4), start .pre .5, start .pre .6)
 
 same-length : tie.Need-same-length
 same-length c = search needs
@@ -44,8 +50,12 @@ same-length-2 c = search needs
 
 returns : tie.Need-returns
 returns c =
-    let e = is-bpsk (c .before .before .before .before .before .before .before .before .before .before .before .before .before .args .c) (sym (c .before .before .before .before .before .before .before .before .before .modulation .ensures) ∙ c .before .before .before .before .before .before .before .enum-told .given .1) in
-    rw e (c .before .before .before .before .encode-bpsk .ensures)
+    let encode-bpsk = c .before .before .before .before in
+    let at-enum-told = encode-bpsk .before .before .before in
+    let modulation = at-enum-told .before .before in
+    let start = modulation .before .before .before .before in
+    let e = is-bpsk (start .args .c) (sym (modulation .modulation .ensures) ∙ at-enum-told .enum-told .given .1) in
+    rw e (encode-bpsk .encode-bpsk .ensures)
 
 same-length-3 : tie.Need-same-length-3
 same-length-3 c = search needs
@@ -64,8 +74,12 @@ same-length-6 c = search needs
 
 returns-3 : tie.Need-returns-3
 returns-3 c =
-    let e = tc8psk-only (c .before .before .before .before .before .before .before .before .before .before .before .before .before .args .c) (sym (c .before .before .before .before .before .before .before .before .before .modulation .ensures) ∙ c .before .before .before .before .before .before .before .enum-told3 .given .1) in
-    rw e (c .before .before .before .before .encode-tc8psk .ensures)
+    let encode-tc8psk = c .before .before .before .before in
+    let enum-told3 = encode-tc8psk .before .before .before in
+    let modulation = enum-told3 .before .before in
+    let start = modulation .before .before .before .before in
+    let e = tc8psk-only (start .args .c) (sym (modulation .modulation .ensures) ∙ enum-told3 .enum-told3 .given .1) in
+    rw e (encode-tc8psk .encode-tc8psk .ensures)
 
 pub encode-run-spec : {M : Type 1} → statement M
 encode-run-spec =

@@ -71,9 +71,11 @@ part-put-byte-end-2 c = search needs
 
 put-byte-requires : tie.Need-put-byte-requires Inv-loop μ-loop
 put-byte-requires c κs =
-    let st = c .before .before .before .before .before .before .before .before .before .before .before .before .before .before in
-    let inv = c .before .before .before .before .before .before .loop .inv in
-    let h : c .before .before .before .before .before .before .loop .k + 4 ≤ st .args .n = omega (arith, inv .1, c .before .before .before .before .before .loop-test .taken, st .pre .5) in
+    let tested = c .before .before .before .before .before in
+    let at = tested .before in
+    let st = at .before .before .before .before .before .before .before .before in
+    let inv = at .loop .inv in
+    let h : at .loop .k + 4 ≤ st .args .n = omega (arith, inv .1, tested .loop-test .taken, st .pre .5) in
     (inv .3, simp (length-take, length-drop) (omega (arith, inv .2 .points .re-length, st .pre .2)), simp (length-take, length-drop) (omega (arith, inv .2 .points .im-length, st .pre .3)))
 
 add-k : tie.Need-add-k Inv-loop μ-loop
@@ -84,21 +86,25 @@ loop-less c = search needs
 
 loop-again : tie.Need-loop-again Inv-loop μ-loop
 loop-again c =
-    let st = c .before .before .before .before .before .before .before .before .before .before .before .before .before .before .before .before .before .before .before in
+    let put-byte = c .before .before .before .before in
+    let load-byte = put-byte .before .before .before .before .before in
+    let looped = load-byte .before .before in
+    let register-table = looped .before .before .before .before in
+    let st = register-table .before .before .before .before in
     let bytes = st .args .bytes .now in
     let bit = st .args .bit in
-    let t = c .before .before .before .before .before .before .before .before .before .before .before .before .before .before .before .register-table .result in
-    let k = c .before .before .before .before .before .before .before .before .before .before .before .loop .k in
-    let inv = c .before .before .before .before .before .before .before .before .before .before .before .loop .inv in
-    let state = c .before .before .before .before .before .before .before .before .before .before .before .loop .state in
-    let h : k + 4 ≤ st .args .n = omega (arith, inv .1, c .before .before .before .before .before .before .before .before .before .before .loop-test .taken, st .pre .5) in
+    let t = register-table .register-table .result in
+    let k = looped .loop .k in
+    let inv = looped .loop .inv in
+    let state = looped .loop .state in
+    let h : k + 4 ≤ st .args .n = omega (arith, inv .1, load-byte .before .loop-test .taken, st .pre .5) in
     let byte = byteAt bytes bit k (st .pre .4) (inv .1) in
-    let put = rw (c .before .before .before .before .before .before .before .before .before .load-byte .ensures) at (c .before .before .before .before .put-byte .ensures) in (
+    let put = rw (load-byte .load-byte .ensures) at (put-byte .put-byte .ensures) in (
       omega arith,
       omega (arith, inv .1),
-      going-byte bytes bit k (st .pre .4) (inv .1) (st .args .n) (st .args .start) (t .re) (t .im) state (inv .2) h (st .pre .2) (st .pre .3) (c .before .before .before .before .put-byte .result) (put .state-is)
-          (tail-back k (c .before .before .before .before .before .before .before .before .before .before .before .loop .re) (upto (λ i. getD (t .re) (byteRegister byte (backward state) i) nan) 4) (omega (arith, inv .2 .points .re-length, st .pre .2)) (put .re-is))
-          (tail-back k (c .before .before .before .before .before .before .before .before .before .before .before .loop .im) (upto (λ i. getD (t .im) (byteRegister byte (backward state) i) nan) 4) (omega (arith, inv .2 .points .im-length, st .pre .3)) (put .im-is)),
+      going-byte bytes bit k (st .pre .4) (inv .1) (st .args .n) (st .args .start) (t .re) (t .im) state (inv .2) h (st .pre .2) (st .pre .3) (put-byte .put-byte .result) (put .state-is)
+          (tail-back k (looped .loop .re) (upto (λ i. getD (t .re) (byteRegister byte (backward state) i) nan) 4) (omega (arith, inv .2 .points .re-length, st .pre .2)) (put .re-is))
+          (tail-back k (looped .loop .im) (upto (λ i. getD (t .im) (byteRegister byte (backward state) i) nan) 4) (omega (arith, inv .2 .points .im-length, st .pre .3)) (put .im-is)),
       put .small,
     )
 
@@ -113,13 +119,14 @@ reversed-requires-2 c κs = search needs
 
 returns : tie.Need-returns Inv-loop μ-loop
 returns c =
-    let st = c .before .before .before .before .before .before .before .before .before .before in
+    let register-table = c .before .before .before .before .before .before in
+    let st = register-table .before .before .before .before in
     let bytes = st .args .bytes .now in
     let bit = st .args .bit in
     let n = st .args .n in
     let start = st .args .start in
     let m = st .args .m in
-    let t = c .before .before .before .before .before .before .register-table .ensures in
+    let t = register-table .register-table .ensures in
     let e : c .before .before .loop .k ≡ n = omega arith in
     going-end «Tc8psk2_3» m bytes bit n start
     (going-cong (rw (← c .reversed2 .ensures .0) at (c .before .before .loop .inv .2))

@@ -33,7 +33,10 @@ enum-told c = search needs
 
 returns : tie.Need-returns
 returns c =
-    rw (c .period .ensures, c .before .before .before .before .before .before .pairs .ensures, ← c .before .before .before .before .before .before .before .before .before .before .puncturing .ensures, c .before .before .before .before .before .before .before .before .code .given .1)
+    let pairs = c .before .before .before .before .before .before in
+    let code = pairs .before .before in
+    let puncturing = code .before .before in
+    rw (c .period .ensures, pairs .pairs .ensures, ← puncturing .puncturing .ensures, code .code .given .1)
     (pattern-some _)
 
 returns-2 : tie.Need-returns-2

@@ -76,12 +76,14 @@ loop-less c = search needs
 
 loop-again : tie.Need-loop-again Inv-loop μ-loop
 loop-again c =
-    let st = c .before .before .before .before .before .before .before .before .before .before in
-    let i = c .before .before .before .before .before .before .before .loop .i in
-    let l = 2 * c .before .before .before .before .digit .result + c .before .before .digit2 .result in
-    let e : l ≡ pairLabel (st .args .word) (st .args .s1 .now) (st .args .s0 .now) i = rw (c .before .before .before .before .digit .ensures, c .before .before .digit2 .ensures) in (
+    let digit = c .before .before .before .before in
+    let at = digit .before .before .before in
+    let st = at .before .before .before in
+    let i = at .loop .i in
+    let l = 2 * digit .digit .result + c .before .before .digit2 .result in
+    let e : l ≡ pairLabel (st .args .word) (st .args .s1 .now) (st .args .s0 .now) i = rw (digit .digit .ensures, c .before .before .digit2 .ensures) in (
       omega arith,
-      put-one (c .before .before .before .before .before .before .before .loop .inv .1) (getD (st .args .xs .now) l nan) (getD (st .args .ys .now) l nan) (omega arith) (omega arith)
+      put-one (at .loop .inv .1) (getD (st .args .xs .now) l nan) (getD (st .args .ys .now) l nan) (omega arith) (omega arith)
           (ap (λ (x : ℕ). getD (st .args .xs .now) x nan) e) (ap (λ (x : ℕ). getD (st .args .ys .now) x nan) e),
     )
 

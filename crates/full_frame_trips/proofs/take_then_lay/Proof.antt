@@ -30,11 +30,13 @@ enum-told c = search needs
 
 returns : tie.Need-returns
 returns c =
-    let x = c .before .before .before .before .before .before .before .before .before .before .before .before .before .before .before .args in
+    let short-parts = c .before .before .before .before in
+    let start = short-parts .before .before .before .before .before .before .before .before .before .before .before in
+    let x = start .args in
     let res = lentInputs (x .header-re .now) (x .main-re .now) (x .burst-re .now) in
     let ims = lentInputs (x .header-im .now) (x .main-im .now) (x .burst-im .now) in
     let a = c .before .first-row .result in
-    let h = by-tests a (shortFrame (length (x .re .now)) (length (x .im .now))) (inputsShort res || inputsShort ims) (shortFrame (length (x .out-re .now)) (length (x .out-im .now))) (c .before .before .before .short-frame .ensures) (c .before .before .before .before .short-parts .ensures) (c .before .before .short-frame2 .ensures) (c .before .first-row .ensures) in
+    let h = by-tests a (shortFrame (length (x .re .now)) (length (x .im .now))) (inputsShort res || inputsShort ims) (shortFrame (length (x .out-re .now)) (length (x .out-im .now))) (c .before .before .before .short-frame .ensures) (short-parts .short-parts .ensures) (c .before .before .short-frame2 .ensures) (c .before .first-row .ensures) in
     let n : numberOf a ≡ 0 → ⊥ = λ z. told a (c .match .keys2) (zero-accepted a z) in
     (h, (kept a (take 39936 (x .re .now)) (x .out-re .now) n, (kept a (take 39936 (x .im .now)) (x .out-im .now) n, (kept a (taken Header (x .re .now)) (x .header-re .now) n, (kept a (taken Header (x .im .now)) (x .header-im .now) n, (kept a (taken Main (x .re .now)) (x .main-re .now) n, (kept a (taken Main (x .im .now)) (x .main-im .now) n, (kept a (taken Burst (x .re .now)) (x .burst-re .now) n, kept a (taken Burst (x .im .now)) (x .burst-im .now) n))))))))
 
@@ -70,19 +72,26 @@ same-length-8 c = search needs
 
 returns-2 : tie.Need-returns-2
 returns-2 c =
-    let x = c .before .before .before .before .before .before .before .before .before .before .before .before .before .before .before .before .before .before .before .before .before .before .before .before .before .before .before .before .before .before .before .before .before .before .before .before .before .before .before .before .before .before .before .before .before .before .before .before .args in
+    let lay = c .before .before .before .before in
+    let take-apart = lay .before .before .before .before .before .before .before .before .before .before .before .before .before .before .before .before .before .before .before .before .before in
+    let at-enum-told = take-apart .before .before .before .before .before .before .before in
+    let first-row = at-enum-told .before .before in
+    let short-frame = first-row .before .before in
+    let short-parts = short-frame .before in
+    let start = short-parts .before .before .before .before .before .before .before .before .before .before .before in
+    let x = start .args in
     let res = lentInputs (x .header-re .now) (x .main-re .now) (x .burst-re .now) in
     let ims = lentInputs (x .header-im .now) (x .main-im .now) (x .burst-im .now) in
-    let a = c .before .before .before .before .before .before .before .before .before .before .before .before .before .before .before .before .before .before .before .before .before .before .before .before .before .before .before .before .before .before .before .before .before .before .first-row .result in
-    let h = by-tests a (shortFrame (length (x .re .now)) (length (x .im .now))) (inputsShort res || inputsShort ims) (shortFrame (length (x .out-re .now)) (length (x .out-im .now))) (c .before .before .before .before .before .before .before .before .before .before .before .before .before .before .before .before .before .before .before .before .before .before .before .before .before .before .before .before .before .before .before .before .before .before .before .before .short-frame .ensures) (c .before .before .before .before .before .before .before .before .before .before .before .before .before .before .before .before .before .before .before .before .before .before .before .before .before .before .before .before .before .before .before .before .before .before .before .before .before .short-parts .ensures) (c .before .before .before .before .before .before .before .before .before .before .before .before .before .before .before .before .before .before .before .before .before .before .before .before .before .before .before .before .before .before .before .before .before .before .before .short-frame2 .ensures) (c .before .before .before .before .before .before .before .before .before .before .before .before .before .before .before .before .before .before .before .before .before .before .before .before .before .before .before .before .before .before .before .before .before .before .first-row .ensures) in
-    let z : numberOf a ≡ 0 = ap numberOf (c .before .before .before .before .before .before .before .before .before .before .before .before .before .before .before .before .before .before .before .before .before .before .before .before .before .before .before .before .before .before .before .before .enum-told .given .1) in
+    let a = first-row .first-row .result in
+    let h = by-tests a (shortFrame (length (x .re .now)) (length (x .im .now))) (inputsShort res || inputsShort ims) (shortFrame (length (x .out-re .now)) (length (x .out-im .now))) (short-frame .short-frame .ensures) (short-parts .short-parts .ensures) (first-row .before .short-frame2 .ensures) (first-row .first-row .ensures) in
+    let z : numberOf a ≡ 0 = ap numberOf (at-enum-told .enum-told .given .1) in
     let tests = none-short a (shortFrame (length (x .re .now)) (length (x .im .now))) (inputsShort res || inputsShort ims) (shortFrame (length (x .out-re .now)) (length (x .out-im .now))) h z in
-    let b = c .before .before .before .before .before .before .before .before .before .before .before .before .before .before .before .before .before .before .before .before .before .before .before .before .before .take-apart .result in
-    let e = c .before .before .before .before .before .before .before .before .before .before .before .before .before .before .before .before .before .before .before .before .before .before .before .before .before .take-apart .ensures in
-    let g = c .before .before .before .before .lay .ensures in
+    let b = take-apart .take-apart .result in
+    let e = take-apart .take-apart .ensures in
+    let g = lay .lay .ensures in
     let tr = each-taken b (x .re .now) (x .header-re .now) (x .main-re .now) (x .burst-re .now) (e .1 .0) (e .1 .1 .1 .0) (e .1 .1 .1 .1 .1 .0) in
     let ti = each-taken b (x .im .now) (x .header-im .now) (x .main-im .now) (x .burst-im .now) (e .1 .1 .0) (e .1 .1 .1 .1 .0) (e .1 .1 .1 .1 .1 .1) in
-    let k = taken-laid-again (x .re .now) (x .im .now) res ims (x .out-re .now) (x .out-im .now) tests _ _ b (e .0) tr ti (c .before .before .before .before .lay .result) (g .0) in
+    let k = taken-laid-again (x .re .now) (x .im .now) res ims (x .out-re .now) (x .out-im .now) tests _ _ b (e .0) tr ti (lay .lay .result) (g .0) in
     (k .answer, (k .real-again _ (x .out-re .now) (g .1 .0), (k .imaginary-again _ (x .out-im .now) (g .1 .1), (k .real Header, (k .imaginary Header, (k .real Main, (k .imaginary Main, (k .real Burst, k .imaginary Burst))))))))
 
 pub take-then-lay-spec : {M : Type 1} → statement M

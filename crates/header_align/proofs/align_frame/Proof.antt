@@ -105,12 +105,14 @@ same-length-2 c = search needs
 
 returns-2 : tie.Need-returns-2
 returns-2 c =
-    let at = c .before .before .before .before .before .before .before .before .before .before .before in
-    let x = at .before .before .before .before .before .before .args in
-    let e : noFrame (length (x .re .now)) (length (x .im .now)) (x .at) ≡ false = sym (at .before .no-frame .ensures) ∙ at .if1 .left in
     let call = c .before .before .before .before in
-    let f = c .before .before .before .before .before .before .before .before .before .before .fit-here .ensures .0 in
-    let m = c .before .before .before .before .before .before .before .before .before .mean-at .ensures in
+    let mean-at = call .before .before .before .before .before in
+    let at = mean-at .before .before in
+    let start = at .before .before .before .before .before .before in
+    let x = start .args in
+    let e : noFrame (length (x .re .now)) (length (x .im .now)) (x .at) ≡ false = sym (at .before .no-frame .ensures) ∙ at .if1 .left in
+    let f = mean-at .before .fit-here .ensures .0 in
+    let m = mean-at .mean-at .ensures in
     let a = call .align-front .ensures in
     let p = rest-whole (x .at) (x .re .now) in
     let q = rest-whole (x .at) (x .im .now) in

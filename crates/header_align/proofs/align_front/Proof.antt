@@ -32,7 +32,8 @@ returns-2 c =
 lay-re-requires : tie.Need-lay-re-requires
 lay-re-requires c κs =
     let long = c .before in
-    let x = long .before .before .before .before .before .before .before .before .args in
+    let start = long .before .before .before .before .before .before .before .before in
+    let x = start .args in
     let f : shortFrame (length (x .out-re .now)) (length (x .out-im .now)) ≡ false = sym (long .before .short-frame .ensures) ∙ long .if2 .left in
     let l = frame-long (length (x .out-re .now)) (length (x .out-im .now)) f in
     (omega arith, omega arith, omega arith)
@@ -40,8 +41,10 @@ lay-re-requires c κs =
 lay-im-requires : tie.Need-lay-im-requires
 lay-im-requires c κs =
     let long = c .before .before .before .before .before in
-    let x = long .before .before .before .before .before .before .before .before .args in
-    let f : shortFrame (length (x .out-re .now)) (length (x .out-im .now)) ≡ false = sym (long .before .short-frame .ensures) ∙ long .if2 .left in
+    let short-frame = long .before in
+    let start = short-frame .before .before .before .before .before .before .before in
+    let x = start .args in
+    let f : shortFrame (length (x .out-re .now)) (length (x .out-im .now)) ≡ false = sym (short-frame .short-frame .ensures) ∙ long .if2 .left in
     let l = frame-long (length (x .out-re .now)) (length (x .out-im .now)) f in
     (omega arith, omega arith, omega arith)
 
@@ -53,12 +56,14 @@ same-length-2 c = search needs
 
 returns-3 : tie.Need-returns-3
 returns-3 c =
-    let long = c .before .before .before .before .before .before .before .before in
+    let lay-re = c .before .before .before .before .before .before in
+    let long = lay-re .before .before in
     let good = long .before .before in
-    let x = good .before .before .before .before .before .before .args in
+    let start = good .before .before .before .before .before .before in
+    let x = start .args in
     let e : badPoints (x .re .now) (x .im .now) (x .mean .power) ≡ false = sym (good .before .bad-points .ensures) ∙ good .if1 .left in
     let f : shortFrame (length (x .out-re .now)) (length (x .out-im .now)) ≡ false = sym (long .before .short-frame .ensures) ∙ long .if2 .left in
-    (rw (e, f) refl, (c .before .before .before .before .before .before .lay-re .ensures, c .before .before .lay-im .ensures))
+    (rw (e, f) refl, (lay-re .lay-re .ensures, c .before .before .lay-im .ensures))
 
 pub align-front-spec : {M : Type 1} → statement M
 align-front-spec =

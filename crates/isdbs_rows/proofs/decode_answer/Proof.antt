@@ -35,20 +35,26 @@ some-bad-requires c κs = search needs
 
 returns-3 : tie.Need-returns-3
 returns-3 c =
-    let st = c .before .before .before .before .before .before .before .before .before .before in
-    by-last (st .args .p .table) (st .args .re .now) (st .args .im .now) (someBad (st .args .scales)) (st .args .decisions) (st .args .bits) (st .args .bytes) (st .args .counts) (sym (c .before .before .before .before .before .enum-told .given .1) ∙ c .before .before .before .before .before .before .before .table-answer .ensures)
-    (sym (c .before .before .enum-told2 .given .1) ∙ c .before .before .before .before .points-answer .ensures) (rw (sym (c .before .some-bad .ensures) ∙ c .if1 .taken))
+    let points-answer = c .before .before .before .before in
+    let table-answer = points-answer .before .before .before in
+    let st = table-answer .before .before .before in
+    by-last (st .args .p .table) (st .args .re .now) (st .args .im .now) (someBad (st .args .scales)) (st .args .decisions) (st .args .bits) (st .args .bytes) (st .args .counts) (sym (points-answer .before .enum-told .given .1) ∙ table-answer .table-answer .ensures)
+    (sym (c .before .before .enum-told2 .given .1) ∙ points-answer .points-answer .ensures) (rw (sym (c .before .some-bad .ensures) ∙ c .if1 .taken))
 
 space-answer-requires : tie.Need-space-answer-requires
 space-answer-requires c κs =
-    let st = c .before .before .before .before .before .before .before .before .before .before in
-    record { is = st .pre .0; few = st .pre .1; accepted = sym (c .before .before .before .before .before .before .before .table-answer .ensures) ∙ c .before .before .before .before .before .enum-told .given .1 }
+    let at-enum-told = c .before .before .before .before .before in
+    let table-answer = at-enum-told .before .before in
+    let st = table-answer .before .before .before in
+    record { is = st .pre .0; few = st .pre .1; accepted = sym (table-answer .table-answer .ensures) ∙ at-enum-told .enum-told .given .1 }
 
 returns-4 : tie.Need-returns-4
 returns-4 c =
-    let st = c .before .before .before .before .before .before .before .before .before .before .before in
-    by-last (st .args .p .table) (st .args .re .now) (st .args .im .now) (someBad (st .args .scales)) (st .args .decisions) (st .args .bits) (st .args .bytes) (st .args .counts) (sym (c .before .before .before .before .before .before .enum-told .given .1) ∙ c .before .before .before .before .before .before .before .before .table-answer .ensures)
-    (sym (c .before .before .before .enum-told2 .given .1) ∙ c .before .before .before .before .before .points-answer .ensures)
+    let points-answer = c .before .before .before .before .before in
+    let table-answer = points-answer .before .before .before in
+    let st = table-answer .before .before .before in
+    by-last (st .args .p .table) (st .args .re .now) (st .args .im .now) (someBad (st .args .scales)) (st .args .decisions) (st .args .bits) (st .args .bytes) (st .args .counts) (sym (points-answer .before .enum-told .given .1) ∙ table-answer .table-answer .ensures)
+    (sym (c .before .before .before .enum-told2 .given .1) ∙ points-answer .points-answer .ensures)
     (rw (sym (c .before .before .some-bad .ensures) ∙ c .before .if1 .left) (c .space-answer .ensures))
 
 pub decode-answer-spec : {M : Type 1} → statement M

@@ -31,17 +31,19 @@ some-beyond-requires-2 c κs = search needs
 
 returns-4 : tie.Need-returns-4
 returns-4 c =
-    let st = c .before .before .before .before .before .before .before .before in
+    let if2 = c .before .before .before .before in
+    let st = if2 .before .before .before .before in
     let re : someOfBeyond partLimit (st .args .re .now) mainSymbols ≡ false = sym (c .before .before .before .some-beyond .ensures) ∙ c .before .before .if3 .left in
     let im : someOfBeyond partLimit (st .args .im .now) mainSymbols ≡ true = sym (c .before .some-beyond2 .ensures) ∙ c .if4 .taken in
-    rw (le-ltb _ _ (c .before .before .before .before .before .if1 .left), le-ltb _ _ (c .before .before .before .before .if2 .left), re, im)
+    rw (le-ltb _ _ (if2 .before .if1 .left), le-ltb _ _ (if2 .if2 .left), re, im)
 
 returns-5 : tie.Need-returns-5
 returns-5 c =
-    let st = c .before .before .before .before .before .before .before .before in
+    let if2 = c .before .before .before .before in
+    let st = if2 .before .before .before .before in
     let re : someOfBeyond partLimit (st .args .re .now) mainSymbols ≡ false = sym (c .before .before .before .some-beyond .ensures) ∙ c .before .before .if3 .left in
     let im : someOfBeyond partLimit (st .args .im .now) mainSymbols ≡ false = sym (c .before .some-beyond2 .ensures) ∙ c .if4 .left in
-    rw (le-ltb _ _ (c .before .before .before .before .before .if1 .left), le-ltb _ _ (c .before .before .before .before .if2 .left), re, im)
+    rw (le-ltb _ _ (if2 .before .if1 .left), le-ltb _ _ (if2 .if2 .left), re, im)
 
 pub points-answer-spec : {M : Type 1} → statement M
 points-answer-spec =

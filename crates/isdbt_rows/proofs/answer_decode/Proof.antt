@@ -41,41 +41,58 @@ returns-3 c =
 
 div-few : tie.Need-div-few
 div-few c =
-    let r = numbers (c .before .before .before .before .before .before .before .before .args .rate) _ (c .before .before .before .before .before .before .new .ensures) .ranges in
+    let new = c .before .before .before .before .before .before in
+    let start = new .before .before in
+    let r = numbers (start .args .rate) _ (new .new .ensures) .ranges in
     omega arith
 
 few-requires : tie.Need-few-requires
 few-requires c κs =
-    let r = numbers (c .before .before .before .before .before .before .before .before .args .rate) _ (c .before .before .before .before .before .before .new .ensures) .ranges in
+    let new = c .before .before .before .before .before .before in
+    let start = new .before .before in
+    let r = numbers (start .args .rate) _ (new .new .ensures) .ranges in
     omega arith
 
 returns-4 : tie.Need-returns-4
 returns-4 c =
-    let a = c .before .before .before .before .before .before .before .before .before .before .args in
-    decode-answer (a .rate) (c .before .before .before .before .before .before .before .before .new .ensures) (a .llrs .now) (a .traceback) (a .decisions) (a .space) false true false true _
-    (le-ltb _ _ (c .before .before .before .before .before .before .before .if1 .left)) (eq-eqb _ _ (c .before .before .before .before .before .if2 .left)) (sym (c .before .before .before .before .some-beyond .ensures) ∙ c .before .before .before .if3 .left) (sym (c .before .few .ensures) ∙ c .if4 .taken) refl
+    let some-beyond = c .before .before .before .before in
+    let if1 = some-beyond .before .before .before in
+    let start = if1 .before .before .before in
+    let a = start .args in
+    decode-answer (a .rate) (if1 .before .new .ensures) (a .llrs .now) (a .traceback) (a .decisions) (a .space) false true false true _
+    (le-ltb _ _ (if1 .if1 .left)) (eq-eqb _ _ (some-beyond .before .if2 .left)) (sym (some-beyond .some-beyond .ensures) ∙ c .before .before .before .if3 .left) (sym (c .before .few .ensures) ∙ c .if4 .taken) refl
 
 depth-of-requires : tie.Need-depth-of-requires
 depth-of-requires c κs = search needs
 
 add-if5 : tie.Need-add-if5
 add-if5 c =
-    let d = depth-range (c .before .before .before .before .before .before .before .before .before .before .before .args .traceback) (c .before .before .before .before .before .before .before .before .if1 .left) in
+    let if1 = c .before .before .before .before .before .before .before .before in
+    let start = if1 .before .before .before in
+    let d = depth-range (start .args .traceback) (if1 .if1 .left) in
     let e = c .depth-of .ensures in
     omega arith
 
 returns-5 : tie.Need-returns-5
 returns-5 c =
-    let a = c .before .before .before .before .before .before .before .before .before .before .before .before .args in
-    decode-answer (a .rate) (c .before .before .before .before .before .before .before .before .before .before .new .ensures) (a .llrs .now) (a .traceback) (a .decisions) (a .space) false true false false true
-    (le-ltb _ _ (c .before .before .before .before .before .before .before .before .before .if1 .left)) (eq-eqb _ _ (c .before .before .before .before .before .before .before .if2 .left)) (sym (c .before .before .before .before .before .before .some-beyond .ensures) ∙ c .before .before .before .before .before .if3 .left) (sym (c .before .before .before .few .ensures) ∙ c .before .before .if4 .left)
+    let if3 = c .before .before .before .before .before in
+    let if2 = if3 .before .before in
+    let if1 = if2 .before .before in
+    let start = if1 .before .before .before in
+    let a = start .args in
+    decode-answer (a .rate) (if1 .before .new .ensures) (a .llrs .now) (a .traceback) (a .decisions) (a .space) false true false false true
+    (le-ltb _ _ (if1 .if1 .left)) (eq-eqb _ _ (if2 .if2 .left)) (sym (if3 .before .some-beyond .ensures) ∙ if3 .if3 .left) (sym (c .before .before .before .few .ensures) ∙ c .before .before .if4 .left)
     (lt-ltb _ _ (rw (c .before .depth-of .ensures) at (c .if5 .taken)))
 
 returns-6 : tie.Need-returns-6
 returns-6 c =
-    let a = c .before .before .before .before .before .before .before .before .before .before .before .before .args in
-    decode-answer (a .rate) (c .before .before .before .before .before .before .before .before .before .before .new .ensures) (a .llrs .now) (a .traceback) (a .decisions) (a .space) false true false false false
-    (le-ltb _ _ (c .before .before .before .before .before .before .before .before .before .if1 .left)) (eq-eqb _ _ (c .before .before .before .before .before .before .before .if2 .left)) (sym (c .before .before .before .before .before .before .some-beyond .ensures) ∙ c .before .before .before .before .before .if3 .left) (sym (c .before .before .before .few .ensures) ∙ c .before .before .if4 .left)
+    let if3 = c .before .before .before .before .before in
+    let if2 = if3 .before .before in
+    let if1 = if2 .before .before in
+    let start = if1 .before .before .before in
+    let a = start .args in
+    decode-answer (a .rate) (if1 .before .new .ensures) (a .llrs .now) (a .traceback) (a .decisions) (a .space) false true false false false
+    (le-ltb _ _ (if1 .if1 .left)) (eq-eqb _ _ (if2 .if2 .left)) (sym (if3 .before .some-beyond .ensures) ∙ if3 .if3 .left) (sym (c .before .before .before .few .ensures) ∙ c .before .before .if4 .left)
     (le-ltb _ _ (rw (c .before .depth-of .ensures) at (c .if5 .left)))
 
 pub answer-decode-spec : {M : Type 1} → statement M

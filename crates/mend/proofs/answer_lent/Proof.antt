@@ -37,13 +37,19 @@ returns-5 c =
 
 returns-6 : tie.Need-returns-6
 returns-6 c =
-    let a = c .before .before .before .before .before .before .before .before .args in
-    rw (eq-eqb (length (a .bits .now) % 2) 0 (c .before .before .before .before .before .before .if1 .left), le-ltb 8192 (length (a .bits .now)) (c .before .before .before .before .before .if2 .left), sym (c .before .before .before .before .some-no-bit .ensures) ∙ c .before .before .before .if3 .left, le-ltb (a .out) (length (a .bits .now)) (c .before .before .if4 .left), le-ltb (a .list) 4 (c .before .if5 .left), lt-ltb (a .decisions) 4224 (c .if6 .taken)) refl
+    let some-no-bit = c .before .before .before .before in
+    let if1 = some-no-bit .before .before in
+    let start = if1 .before .before in
+    let a = start .args in
+    rw (eq-eqb (length (a .bits .now) % 2) 0 (if1 .if1 .left), le-ltb 8192 (length (a .bits .now)) (some-no-bit .before .if2 .left), sym (some-no-bit .some-no-bit .ensures) ∙ c .before .before .before .if3 .left, le-ltb (a .out) (length (a .bits .now)) (c .before .before .if4 .left), le-ltb (a .list) 4 (c .before .if5 .left), lt-ltb (a .decisions) 4224 (c .if6 .taken)) refl
 
 returns-7 : tie.Need-returns-7
 returns-7 c =
-    let a = c .before .before .before .before .before .before .before .before .args in
-    rw (eq-eqb (length (a .bits .now) % 2) 0 (c .before .before .before .before .before .before .if1 .left), le-ltb 8192 (length (a .bits .now)) (c .before .before .before .before .before .if2 .left), sym (c .before .before .before .before .some-no-bit .ensures) ∙ c .before .before .before .if3 .left, le-ltb (a .out) (length (a .bits .now)) (c .before .before .if4 .left), le-ltb (a .list) 4 (c .before .if5 .left), le-ltb (a .decisions) 4224 (c .if6 .left)) refl
+    let some-no-bit = c .before .before .before .before in
+    let if1 = some-no-bit .before .before in
+    let start = if1 .before .before in
+    let a = start .args in
+    rw (eq-eqb (length (a .bits .now) % 2) 0 (if1 .if1 .left), le-ltb 8192 (length (a .bits .now)) (some-no-bit .before .if2 .left), sym (some-no-bit .some-no-bit .ensures) ∙ c .before .before .before .if3 .left, le-ltb (a .out) (length (a .bits .now)) (c .before .before .if4 .left), le-ltb (a .list) 4 (c .before .if5 .left), le-ltb (a .decisions) 4224 (c .if6 .left)) refl
 
 pub answer-lent-spec : {M : Type 1} → statement M
 answer-lent-spec =

@@ -28,16 +28,20 @@ least-distance-requires c κs =
 returns-2 : tie.Need-returns-2
 returns-2 c =
     let yes = c .before .before in
-    let a = c .before .before .before .before .before .before .before .before .before .args in
+    let answer-lent = yes .before .before in
+    let start = answer-lent .before .before .before .before .before in
+    let a = start .args in
     let far = rw (c .before .least-distance .ensures) at (c .if1 .taken) in
-    unmended (a .start) (a .end) (a .bits .now) (a .decisions .now) (a .out .now) (a .list .now) (sym (yes .before .before .answer-lent .ensures) ∙ yes .enum-told .given .1) far
+    unmended (a .start) (a .end) (a .bits .now) (a .decisions .now) (a .out .now) (a .list .now) (sym (answer-lent .answer-lent .ensures) ∙ yes .enum-told .given .1) far
 
 mend-near-requires : tie.Need-mend-near-requires
 mend-near-requires c κs =
     let near = c .before .before .before in
     let yes = near .before .before in
-    let a = c .before .before .before .before .before .before .before .before .before .before .before .before .args in
-    (allowed (a .bits .now) (length (a .decisions .now)) (length (a .out .now)) (length (a .list .now)) (sym (yes .before .before .answer-lent .ensures) ∙ yes .enum-told .given .1), rw (near .before .least-distance .ensures) at (near .if1 .left))
+    let answer-lent = yes .before .before in
+    let start = answer-lent .before .before .before .before .before in
+    let a = start .args in
+    (allowed (a .bits .now) (length (a .decisions .now)) (length (a .out .now)) (length (a .list .now)) (sym (answer-lent .answer-lent .ensures) ∙ yes .enum-told .given .1), rw (near .before .least-distance .ensures) at (near .if1 .left))
 
 same-length : tie.Need-same-length
 same-length c = search needs
@@ -50,11 +54,14 @@ same-length-3 c = search needs
 
 returns-3 : tie.Need-returns-3
 returns-3 c =
-    let near = c .before .before .before .before .before .before .before .before .before .before in
+    let mend-near = c .before .before .before .before .before .before in
+    let near = mend-near .before .before .before .before in
     let yes = near .before .before in
-    let a = yes .before .before .before .before .before .before .before .args in
-    let done = c .before .before .before .before .before .before .mend-near in
-    mended (a .start) (a .end) (a .bits .now) (a .decisions .now) (a .out .now) (a .list .now) (done .result) _ _ _ (sym (yes .before .before .answer-lent .ensures) ∙ yes .enum-told .given .1)
+    let answer-lent = yes .before .before in
+    let start = answer-lent .before .before .before .before .before in
+    let a = start .args in
+    let done = mend-near .mend-near in
+    mended (a .start) (a .end) (a .bits .now) (a .decisions .now) (a .out .now) (a .list .now) (done .result) _ _ _ (sym (answer-lent .answer-lent .ensures) ∙ yes .enum-told .given .1)
     (rw (near .before .least-distance .ensures) at (near .if1 .left)) (done .ensures .0) (done .ensures .1)
 
 pub mend-spec : {M : Type 1} → statement M

@@ -20,14 +20,17 @@ slice-reshare-prefix-list-changes c = search needs
 
 slice-aggregate-list-changes : tie.Need-slice-aggregate-list-changes
 slice-aggregate-list-changes c =
-    let a = c .before .before .before .before .before .before .before .before .before .before .before .before .before .before .before .before .args in
-    sym (front-long (a .start % 64) (a .end % 64) (a .bits .now) (a .out .now) _ (c .before .before .before .before .before .before .before .before .before .write-stretch .ensures .1))
+    let write-stretch = c .before .before .before .before .before .before .before .before .before in
+    let start = write-stretch .before .before .before .before .before .before .before in
+    let a = start .args in
+    sym (front-long (a .start % 64) (a .end % 64) (a .bits .now) (a .out .now) _ (write-stretch .write-stretch .ensures .1))
 
 list-changes-requires : tie.Need-list-changes-requires
 list-changes-requires c κs =
-    let start = c .before .before .before .before .before .before .before .before .before .before .before .before .before .before .before .before .before in
+    let write-stretch = c .before .before .before .before .before .before .before .before .before .before in
+    let start = write-stretch .before .before .before .before .before .before .before in
     let a = start .args in
-    let w = c .before .before .before .before .before .before .before .before .before .before .write-stretch .ensures .1 in
+    let w = write-stretch .write-stretch .ensures .1 in
     (front-long (a .start % 64) (a .end % 64) (a .bits .now) (a .out .now) _ w, start .pre .0 .few, front-near (a .start % 64) (a .end % 64) (a .bits .now) (a .out .now) _ w, start .pre .0 .list-room)
 
 same-length : tie.Need-same-length
@@ -41,11 +44,13 @@ same-length-3 c = search needs
 
 returns : tie.Need-returns
 returns c =
-    let start = c .before .before .before .before .before .before .before .before .before .before .before .before .before .before .before .before .before .before .before .before in
+    let clear = c .before .before .before .before .before .before .before in
+    let write-stretch = clear .before .before .before .before .before .before in
+    let start = write-stretch .before .before .before .before .before .before .before in
     let a = start .args in
     let bits = a .bits .now in
     let s = a .start % 64 in
-    let wrote = c .before .before .before .before .before .before .before .before .before .before .before .before .before .write-stretch .ensures in
+    let wrote = write-stretch .write-stretch .ensures in
     let listed = c .before .before .list-changes .ensures in
     let w = wrote .1 in
     let front = front-is s (a .end % 64) bits (a .out .now) _ w in
@@ -57,7 +62,7 @@ returns c =
         out-is = w .out-is;
         count-is = rw front at (listed .0);
         list-is = rw front at (listed .1);
-        decisions-is = cleared (wordAt s bits) (length bits / 2) (a .decisions .now) _ _ (omega arith) (wrote .0) (c .before .before .before .before .before .before .before .clear .ensures);
+        decisions-is = cleared (wordAt s bits) (length bits / 2) (a .decisions .now) _ _ (omega arith) (wrote .0) (clear .clear .ensures);
       },
     )
 

@@ -34,9 +34,10 @@ mul-kept-predecessor c = omega arith
 
 slice-read-kept-predecessor : tie.Need-slice-read-kept-predecessor Inv-loop μ-loop
 slice-read-kept-predecessor c =
-    let start = c .before .before .before .before .before .before .before .before .before .before in
+    let keep-words = c .before .before .before .before .before in
+    let start = keep-words .before .before .before .before .before in
     let a = start .args in
-    let l = kept-long (wordAt (a .start % 64) (a .bits .now)) (length (a .bits .now) / 2) (a .decisions .now) _ (start .pre .2) (c .before .before .before .before .before .keep-words .ensures) in
+    let l = kept-long (wordAt (a .start % 64) (a .bits .now)) (length (a .bits .now) / 2) (a .decisions .now) _ (start .pre .2) (keep-words .keep-words .ensures) in
     omega arith
 
 kept-predecessor-requires : tie.Need-kept-predecessor-requires Inv-loop μ-loop
@@ -66,7 +67,8 @@ loop-less c = omega arith
 loop-again : tie.Need-loop-again Inv-loop μ-loop
 loop-again c =
     let at = c .before .before .before .before in
-    let start = c .before .before .before .before .before .before .before .before .before .before .before .before in
+    let keep-words = at .before .before .before in
+    let start = keep-words .before .before .before .before .before in
     let a = start .args in
     let bits = a .bits .now in
     let s = a .start % 64 in
@@ -75,7 +77,7 @@ loop-again c =
     let pos : suc t ≡ at .loop .t = omega arith in
     let pred = c .before .kept-predecessor .ensures in
     let sent = c .encode-bit .ensures in
-    let w = kept-at (wordAt s bits) (length bits / 2) (a .decisions .now) _ (c .before .before .before .before .before .before .before .keep-words .ensures) t (omega arith) in
+    let w = kept-at (wordAt s bits) (length bits / 2) (a .decisions .now) _ (keep-words .keep-words .ensures) t (omega arith) in
     let out' = at .loop .out in (
       pred .0,
       simp length-set (inv .1),
@@ -85,9 +87,10 @@ loop-again c =
 
 same-length : tie.Need-same-length Inv-loop μ-loop
 same-length c =
-    let start = c .before .before .before .before .before .before .before .before .before in
+    let keep-words = c .before .before .before .before in
+    let start = keep-words .before .before .before .before .before in
     let a = start .args in
-    kept-long (wordAt (a .start % 64) (a .bits .now)) (length (a .bits .now) / 2) (a .decisions .now) _ (start .pre .2) (c .before .before .before .before .keep-words .ensures)
+    kept-long (wordAt (a .start % 64) (a .bits .now)) (length (a .bits .now) / 2) (a .decisions .now) _ (start .pre .2) (keep-words .keep-words .ensures)
 
 same-length-2 : tie.Need-same-length-2 Inv-loop μ-loop
 same-length-2 c = c .before .loop .inv .1
@@ -95,11 +98,12 @@ same-length-2 c = c .before .loop .inv .1
 returns : tie.Need-returns Inv-loop μ-loop
 returns c =
     let at = c .before in
-    let start = c .before .before .before .before .before .before .before .before .before in
+    let keep-words = at .before .before .before in
+    let start = keep-words .before .before .before .before .before in
     let a = start .args in
     let e : at .loop .t ≡ 0 = omega arith in
     let inv = rw e at (at .loop .inv) in
-    (c .before .before .before .before .keep-words .ensures, tail-whole (a .start % 64) (a .end % 64) (a .bits .now) (a .out .now) (start .pre .0) (start .pre .3) (at .loop .s) (at .loop .out) (inv .0) (inv .3))
+    (keep-words .keep-words .ensures, tail-whole (a .start % 64) (a .end % 64) (a .bits .now) (a .out .now) (start .pre .0) (start .pre .3) (at .loop .s) (at .loop .out) (inv .0) (inv .3))
 
 pub write-stretch-spec : {M : Type 1} → statement M
 write-stretch-spec =

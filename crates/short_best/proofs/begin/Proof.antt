@@ -22,7 +22,10 @@ same-length : tie.Need-same-length
 same-length c = search needs
 
 returns : tie.Need-returns
-returns c = c .before .before .start-at .ensures ∙ sym (ap (startValues (length (c .before .before .before .before .before .before .before .before .args .pm .now))) (c .before .before .before .before .before .start .given .1))
+returns c =
+    let start = c .before .before .before .before .before in
+    let entry = start .before .before .before in
+    c .before .before .start-at .ensures ∙ sym (ap (startValues (length (entry .args .pm .now))) (start .start .given .1))
 
 same-length-2 : tie.Need-same-length-2
 same-length-2 c = search needs

@@ -91,10 +91,13 @@ same-length-2 c = search needs
 
 returns-2 : tie.Need-returns-2
 returns-2 c =
-    let t = c .before .before .before .before .before .before .before .before .before .before in
-    let a = t .before .before .before .before .before .before .args in
-    let run = c .before .before .before .before .before .run in
-    let e = sym (t .enum-told .given .1) ∙ t .before .before .answer-reading .ensures in
+    let at-run = c .before .before .before .before .before in
+    let t = at-run .before .before .before .before .before in
+    let answer-reading = t .before .before in
+    let start = answer-reading .before .before .before .before in
+    let a = start .args in
+    let run = at-run .run in
+    let e = sym (t .enum-told .given .1) ∙ answer-reading .answer-reading .ensures in
     let l : Either answer.Accepted (Finished (a .code) (a .start) (a .metrics .now) (run .result) (a .decisions .now) (run .last .1 .1 .1 .1 .1 .0) (a .out .now) (run .last .1 .1 .1 .1 .1 .1 .0)) (Refused (run .result) (a .decisions .now) (run .last .1 .1 .1 .1 .1 .0) (a .out .now) (run .last .1 .1 .1 .1 .1 .1 .0)) = done (run .ensures) in
     (e, (l, greatest-sum (a .code) (a .start) (a .metrics .now) (record { answer = answer.Accepted; count = run .result }) (a .decisions .now) (run .last .1 .1 .1 .1 .1 .0) (a .out .now) (run .last .1 .1 .1 .1 .1 .1 .0) e l))
 

@@ -50,13 +50,18 @@ same-length-3 c = search needs
 
 returns : tie.Need-returns
 returns c =
-    let start = c .before .before .before .before .before .before .before .before .before .before .before .before .before .before .before .before .before .before .before .before .before .before .before .before .before .before .before .before .before .before .before in
+    let finish-at = c .before .before .before .before in
+    let best-state = finish-at .before .before .before in
+    let renormalise = best-state .before .before .before .before in
+    let soft-steps = renormalise .before .before .before .before .before .before .before .before in
+    let at-begin = soft-steps .before .before .before .before .before .before in
+    let start = at-begin .before .before .before .before .before .before in
     let a = start .args in
-    let begin = c .before .before .before .before .before .before .before .before .before .before .before .before .before .before .before .before .before .before .before .before .before .before .before .before .before .begin in
-    let steps = c .before .before .before .before .before .before .before .before .before .before .before .before .before .before .before .before .before .before .before .soft-steps in
-    let low = c .before .before .before .before .before .before .before .before .before .before .before .renormalise in
-    let best = c .before .before .before .before .before .before .before .best-state in
-    let end = c .before .before .before .before .finish-at in
+    let begin = at-begin .begin in
+    let steps = soft-steps .soft-steps in
+    let low = renormalise .renormalise in
+    let best = best-state .best-state in
+    let end = finish-at .finish-at in
     finished (a .code) (a .h) (start .pre .2) (a .start) (a .metrics .now) (a .decisions .now) (a .out .now) (begin .last .0) _ (low .last .0) (steps .result .held) (steps .result .count) (best .result) (end .result) _ _ _ _
     (begin .ensures ∙ ap (λ (n : ℕ). startValues n (a .start)) (start .pre .3)) (steps .ensures) (low .ensures) (best .ensures .1) (end .ensures .0) (end .ensures .1) (end .ensures .2)
 

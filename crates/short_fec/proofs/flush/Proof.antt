@@ -32,9 +32,11 @@ states-requires c κs = search needs
 
 half-requires : tie.Need-half-requires
 half-requires c κs =
-    let a = c .before .before .before .before .before .before .before .before .args in
     let t = c .before .before .before in
-    good-length (a .code) (flush-enough (a .code) (a .dec) (length (a .decisions .now)) (length (a .out .now)) (sym (t .enum-told .given .1) ∙ t .before .before .answer-flush .ensures) .0)
+    let answer-flush = t .before .before in
+    let start = answer-flush .before .before .before in
+    let a = start .args in
+    good-length (a .code) (flush-enough (a .code) (a .dec) (length (a .decisions .now)) (length (a .out .now)) (sym (t .enum-told .given .1) ∙ answer-flush .answer-flush .ensures) .0)
 
 mul-n : tie.Need-mul-n
 mul-n c = search needs
@@ -53,10 +55,13 @@ best-state-requires c κs = search needs
 
 flush-from-requires : tie.Need-flush-from-requires
 flush-from-requires c κs =
-    let a = c .before .before .before .before .before .before .before .before .before .before .before .before .before .before .args in
-    let t = c .before .before .before .before .before .before .before .before .before in
-    let e = flush-enough (a .code) (a .dec) (length (a .decisions .now)) (length (a .out .now)) (sym (t .enum-told .given .1) ∙ t .before .before .answer-flush .ensures) in
-    let half = c .before .before .before .before .before .half in
+    let at-half = c .before .before .before .before .before in
+    let t = at-half .before .before .before .before in
+    let answer-flush = t .before .before in
+    let start = answer-flush .before .before .before in
+    let a = start .args in
+    let e = flush-enough (a .code) (a .dec) (length (a .decisions .now)) (length (a .out .now)) (sym (t .enum-told .given .1) ∙ answer-flush .answer-flush .ensures) in
+    let half = at-half .half in
     let all = states-are (a .code) (half .result) (half .ensures .2) in
     let under = c .before .before .best-state .ensures .0 in
     let f = e .1 .fewer in
@@ -71,16 +76,21 @@ same-length-2 c = search needs
 
 returns-2 : tie.Need-returns-2
 returns-2 c =
-    let a = c .before .before .before .before .before .before .before .before .before .before .before .before .before .before .before .before .before .before .before .args in
-    let t = c .before .before .before .before .before .before .before .before .before .before .before .before .before .before in
-    let half = c .before .before .before .before .before .before .before .before .before .before .half in
-    let best-state = c .before .before .before .before .before .before .before .best-state in
-    let from = c .before .before .before .before .flush-from .ensures in
+    let flush-from = c .before .before .before .before in
+    let at-best-state = flush-from .before .before .before in
+    let at-half = at-best-state .before .before .before in
+    let t = at-half .before .before .before .before in
+    let answer-flush = t .before .before in
+    let start = answer-flush .before .before .before in
+    let a = start .args in
+    let half = at-half .half in
+    let best-state = at-best-state .best-state in
+    let from = flush-from .flush-from .ensures in
     let all = states-are (a .code) (half .result) (half .ensures .2) in
     let e : 2 * half .result - 0 ≡ statesOf (a .code) = omega arith in
     let is : best-state .result ≡ bestOf (a .code) (a .dec) =
     best-state .ensures .1 ∙ ap (λ (k : ℕ). best rule (take k (a .dec .pm)) (2 * half .result - 1)) e ∙ ap (λ (k : ℕ). best rule (take (statesOf (a .code)) (a .dec .pm)) (k - 1)) all in
-    (from .0 ∙ (sym (t .enum-told .given .1) ∙ t .before .before .answer-flush .ensures), ((λ e. rw is at (from .1)), (λ n. absurd (n (from .0)))))
+    (from .0 ∙ (sym (t .enum-told .given .1) ∙ answer-flush .answer-flush .ensures), ((λ e. rw is at (from .1)), (λ n. absurd (n (from .0)))))
 
 pub flush-spec : {M : Type 1} → statement M
 flush-spec =

@@ -39,10 +39,12 @@ rem-state c = search needs
 
 flush-from-requires : tie.Need-flush-from-requires
 flush-from-requires c κs =
-    let a = c .before .before .before .before .before .before .before .before .args in
     let t = c .before .before .before in
+    let answer-flush = t .before .before in
+    let start = answer-flush .before .before .before in
+    let a = start .args in
     let half = c .before .before .half in
-    let e = flush-enough (a .code) (a .dec) (length (a .decisions .now)) (length (a .out .now)) (sym (t .enum-told .given .1) ∙ t .before .before .answer-flush .ensures) in
+    let e = flush-enough (a .code) (a .dec) (length (a .decisions .now)) (length (a .out .now)) (sym (t .enum-told .given .1) ∙ answer-flush .answer-flush .ensures) in
     let all = states-are (a .code) (half .result) (half .ensures .2) in
     let some = half .ensures .0 in
     let pos : 0 < 2 * half .result = omega arith in
@@ -59,12 +61,16 @@ same-length-2 c = search needs
 
 returns-2 : tie.Need-returns-2
 returns-2 c =
-    let a = c .before .before .before .before .before .before .before .before .before .before .before .before .before .args in
-    let t = c .before .before .before .before .before .before .before .before in
-    let half = c .before .before .before .before .before .before .before .half in
-    let from = c .before .before .before .before .flush-from .ensures in
+    let flush-from = c .before .before .before .before in
+    let at-half = flush-from .before .before .before in
+    let t = at-half .before in
+    let answer-flush = t .before .before in
+    let start = answer-flush .before .before .before in
+    let a = start .args in
+    let half = at-half .half in
+    let from = flush-from .flush-from .ensures in
     let all = states-are (a .code) (half .result) (half .ensures .2) in
-    (from .0 ∙ (sym (t .enum-told .given .1) ∙ t .before .before .answer-flush .ensures), ((λ e. rw all at (from .1)), (λ n. absurd (n (from .0)))))
+    (from .0 ∙ (sym (t .enum-told .given .1) ∙ answer-flush .answer-flush .ensures), ((λ e. rw all at (from .1)), (λ n. absurd (n (from .0)))))
 
 pub flush-at-spec : {M : Type 1} → statement M
 flush-at-spec =

@@ -31,9 +31,12 @@ same-length-2 c = search needs
 
 returns : tie.Need-returns
 returns c =
-    let a = c .before .before .before .before .before .before .before .before .before .before .before .args in
-    let half = c .before .before .before .before .before .before .before .half in
-    let done = c .before .before .before .before .finish-at .ensures in (
+    let finish-at = c .before .before .before .before in
+    let at-half = finish-at .before .before .before in
+    let start = at-half .before .before .before .before in
+    let a = start .args in
+    let half = at-half .half in
+    let done = finish-at .finish-at .ensures in (
       refl,
       record {
         values = refl;

@@ -51,11 +51,14 @@ part-pm-end c = search needs
 
 known-steps-requires : tie.Need-known-steps-requires
 known-steps-requires c κs =
-    let a = c .before .before .before .before .before .before .before .before .before .before .before .before .before .args in
-    let t = c .before .before .before .before .before .before .before in
-    let half = c .before .before .before .before .before .before .half in
+    let at-half = c .before .before .before .before .before .before in
+    let t = at-half .before in
+    let answer-known = t .before .before in
+    let start = answer-known .before .before .before .before in
+    let a = start .args in
+    let half = at-half .half in
     let n = half .ensures .1 in
-    let e = known-enough (a .code) (a .dec) (length (a .bits .now)) (length (a .decisions .now)) (length (a .out .now)) (sym (t .enum-told .given .1) ∙ t .before .before .answer-known .ensures) .1 in
+    let e = known-enough (a .code) (a .dec) (length (a .bits .now)) (length (a .decisions .now)) (length (a .out .now)) (sym (t .enum-told .given .1) ∙ answer-known .answer-known .ensures) .1 in
     let long = c .before .before .before .states .ensures .1 in
     let taken : length (take (2 * half .result - 0) (a .dec .pm)) ≡ 2 * half .result = length-take-le (2 * half .result - 0) (a .dec .pm) (omega arith) ∙ omega arith in
     (half .ensures .0, n, half .ensures .2, taken, e .least, e .most, e .fewer, refl, e .fits, e .room)
@@ -68,14 +71,19 @@ same-length-2 c = search needs
 
 returns-2 : tie.Need-returns-2
 returns-2 c =
-    let a = c .before .before .before .before .before .before .before .before .before .before .before .before .before .before .before .before .before .before .before .args in
-    let t = c .before .before .before .before .before .before .before .before .before .before .before .before .before in
-    let half = c .before .before .before .before .before .before .before .before .before .before .before .before .half in
-    let end = c .before .before .before .before .before .known-steps in
+    let known-steps = c .before .before .before .before .before in
+    let states = known-steps .before .before .before .before in
+    let at-half = states .before .before .before in
+    let t = at-half .before in
+    let answer-known = t .before .before in
+    let start = answer-known .before .before .before .before in
+    let a = start .args in
+    let half = at-half .half in
+    let end = known-steps .known-steps in
     let n = half .ensures .1 in
-    let long = c .before .before .before .before .before .before .before .before .before .states .ensures .1 in
+    let long = states .states .ensures .1 in
     let taken = length-take-le (2 * half .result - 0) (a .dec .pm) (omega arith) in (
-      (sym (t .enum-told .given .1) ∙ t .before .before .answer-known .ensures),
+      (sym (t .enum-told .given .1) ∙ answer-known .answer-known .ensures),
       done (left (a .code) (half .result) (2 * half .result - 0) (a .dec) (λ h m. after h (labels (a .code)) rule (a .dec .traceback) (knownSteps (a .bits .now)) (holding (take m (a .dec .pm)) (a .dec .held) (a .decisions .now)) (length (a .bits .now)))
           (end .last .0) (end .result .held) (end .result .count) (a .decisions .now) _ (a .out .now) _ (half .ensures .2) (omega arith) (omega arith) (end .ensures)),
     )

@@ -38,9 +38,10 @@ part-pm-end c = search needs
 
 soft-run-requires : tie.Need-soft-run-requires
 soft-run-requires c κs =
-    let start = c .before .before .before .before .before .before .before .before .before .before in
+    let at-half = c .before .before .before .before .before .before in
+    let start = at-half .before .before .before .before in
     let a = start .args in
-    let half = c .before .before .before .before .before .before .half in
+    let half = at-half .half in
     let n = half .ensures .1 in
     let e = start .pre .2 in
     let long = c .before .before .before .states .ensures .1 in
@@ -56,11 +57,15 @@ same-length-2 c = search needs
 
 returns : tie.Need-returns
 returns c =
-    let a = c .before .before .before .before .before .before .before .before .before .before .before .before .before .before .before .before .args in
-    let half = c .before .before .before .before .before .before .before .before .before .before .before .before .half in
-    let end = c .before .before .before .before .before .soft-run in
+    let soft-run = c .before .before .before .before .before in
+    let states = soft-run .before .before .before .before in
+    let at-half = states .before .before .before in
+    let start = at-half .before .before .before .before in
+    let a = start .args in
+    let half = at-half .half in
+    let end = soft-run .soft-run in
     let n = half .ensures .1 in
-    let long = c .before .before .before .before .before .before .before .before .before .states .ensures .1 in
+    let long = states .states .ensures .1 in
     let taken = length-take-le (2 * half .result - 0) (a .dec .pm) (omega arith) in (
       refl,
       left (a .code) (half .result) (2 * half .result - 0) (a .dec) (λ h m. pushed h (labels (a .code)) rule (a .dec .traceback) (softSteps (a .per) (a .values .now)) (holding (take m (a .dec .pm)) (a .dec .held) (a .decisions .now)) (length (a .values .now) / a .per))

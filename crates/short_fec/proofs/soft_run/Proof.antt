@@ -28,8 +28,10 @@ same-length-3 c = search needs
 
 returns : tie.Need-returns
 returns c =
-    let a = c .before .before .before .before .before .before .before .before .before .before .before .before .before .before .before .before .before .before .args in
-    let all = c .before .before .before .before .before .before .before .before .before .before .soft-steps in
+    let soft-steps = c .before .before .before .before .before .before .before .before .before .before in
+    let start = soft-steps .before .before .before .before .before .before .before .before in
+    let a = start .args in
+    let all = soft-steps .soft-steps in
     holds-closed (a .h) (labels (a .code)) rule (a .traceback) (softSteps (a .per) (a .values .now)) (holding (a .pm .now) (a .at .held) (a .decisions .now)) (a .n) (a .decisions .now) (a .out .now)
     (all .last .0) (c .before .before .renormalise .last .0) (all .result .held) (all .result .count) _ _ (all .ensures) (c .before .before .renormalise .ensures)
 

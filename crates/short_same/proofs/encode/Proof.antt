@@ -22,10 +22,13 @@ same-length-2 c = search needs
 
 returns : tie.Need-returns
 returns c =
+    let encode = c .before .before .before .before .before .before in
+    let isdb-code = encode .before .before in
+    let start = isdb-code .before .before .before .before in
     let isdbt = c .before .before .encode-punctured in
-    let short = c .before .before .before .before .before .before .encode in
-    let code = c .before .before .before .before .before .before .before .before .isdb-code .ensures in
-    let a = c .before .before .before .before .before .before .before .before .before .before .before .before .args in
+    let short = encode .encode in
+    let code = isdb-code .isdb-code .ensures in
+    let a = start .args in
     let sa = rw code at (short .ensures .0) in
     let ss = rw code at (short .ensures .1 .0) in
     let sc = rw code at (short .ensures .1 .1) in

@@ -31,13 +31,18 @@ same-length-4 c = search needs
 
 returns : tie.Need-returns
 returns c =
-    let isdb = c .before .before .before .before .push2 in
-    let short = c .before .before .before .before .before .before .before .before .before .before .before .push in
-    let code = c .before .before .before .before .before .before .before .before .before .before .before .before .before .before .isdb-code .ensures in
-    let a = c .before .before .before .before .before .before .before .before .before .before .before .before .before .before .before .before .before .before .before .before .before .before .before .args in
+    let push2 = c .before .before .before .before in
+    let push = push2 .before .before .before .before .before .before .before in
+    let isdb-code = push .before .before .before in
+    let states = isdb-code .before in
+    let start = states .before .before .before .before .before .before .before .before in
+    let isdb = push2 .push2 in
+    let short = push .push in
+    let code = isdb-code .isdb-code .ensures in
+    let a = start .args in
     let sa = rw code at (short .ensures .0) in
     let sl = rw code at (short .ensures .1) in
-    (sa, (sl, (isdb .ensures .0, (isdb .ensures .1, λ e f. push-agrees (a .dec) (c .before .before .before .before .before .before .before .before .before .before .before .before .before .before .before .states .ensures .1) (short .result) (isdb .result) (a .decisions .now) (short .last .1 .1 .1 .0) (isdb .last .1 .1 .0) (a .out .now) (short .last .1 .1 .1 .1 .0) (isdb .last .1 .1 .1 .0) (a .pairs .now) sa sl (rw (sym e, sym f) at (isdb .ensures .0)) (rw (sym e, sym f) at (isdb .ensures .1))))))
+    (sa, (sl, (isdb .ensures .0, (isdb .ensures .1, λ e f. push-agrees (a .dec) (states .states .ensures .1) (short .result) (isdb .result) (a .decisions .now) (short .last .1 .1 .1 .0) (isdb .last .1 .1 .0) (a .out .now) (short .last .1 .1 .1 .1 .0) (isdb .last .1 .1 .1 .0) (a .pairs .now) sa sl (rw (sym e, sym f) at (isdb .ensures .0)) (rw (sym e, sym f) at (isdb .ensures .1))))))
 
 pub push-spec : {M : Type 1} → statement M
 push-spec =

@@ -31,13 +31,18 @@ same-length-4 c = search needs
 
 returns : tie.Need-returns
 returns c =
-    let isdb = c .before .before .before .before .push-known2 in
-    let short = c .before .before .before .before .before .before .before .before .before .before .before .push-known in
-    let code = c .before .before .before .before .before .before .before .before .before .before .before .before .before .before .isdb-code .ensures in
-    let a = c .before .before .before .before .before .before .before .before .before .before .before .before .before .before .before .before .before .before .before .before .before .before .before .args in
+    let push-known2 = c .before .before .before .before in
+    let push-known = push-known2 .before .before .before .before .before .before .before in
+    let isdb-code = push-known .before .before .before in
+    let states = isdb-code .before in
+    let start = states .before .before .before .before .before .before .before .before in
+    let isdb = push-known2 .push-known2 in
+    let short = push-known .push-known in
+    let code = isdb-code .isdb-code .ensures in
+    let a = start .args in
     let sa = rw code at (short .ensures .0) in
     let sl = rw code at (short .ensures .1) in
-    (sa, (sl, (isdb .ensures .0, (isdb .ensures .1, λ e f. push-known-agrees (a .dec) (c .before .before .before .before .before .before .before .before .before .before .before .before .before .before .before .states .ensures .1) (short .result) (isdb .result) (a .decisions .now) (short .last .1 .1 .1 .0) (isdb .last .1 .1 .0) (a .out .now) (short .last .1 .1 .1 .1 .0) (isdb .last .1 .1 .1 .0) (a .bits .now) sa sl (rw (sym e, sym f) at (isdb .ensures .0)) (rw (sym e, sym f) at (isdb .ensures .1))))))
+    (sa, (sl, (isdb .ensures .0, (isdb .ensures .1, λ e f. push-known-agrees (a .dec) (states .states .ensures .1) (short .result) (isdb .result) (a .decisions .now) (short .last .1 .1 .1 .0) (isdb .last .1 .1 .0) (a .out .now) (short .last .1 .1 .1 .1 .0) (isdb .last .1 .1 .1 .0) (a .bits .now) sa sl (rw (sym e, sym f) at (isdb .ensures .0)) (rw (sym e, sym f) at (isdb .ensures .1))))))
 
 pub push-known-spec : {M : Type 1} → statement M
 push-known-spec =

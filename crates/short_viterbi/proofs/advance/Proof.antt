@@ -41,7 +41,8 @@ same-length-2 c = search needs
 returns : tie.Need-returns
 returns c =
     let step = c .before .before .before in
-    let a = c .before .before .before .before .before .before .before .before .args in
+    let start = step .before .before .before .before .before in
+    let a = start .args in
     kept-step (a .h) (labels (a .code)) rule (a .traceback) (a .i) (stepOf (a .x)) (a .pm .now) (step .trellis-step .last .0) (a .at .held) (a .at .count) (step .trellis-step .result) (a .decisions .now) (a .out .now)
     (omega arith) (step .trellis-step .ensures .0) (step .trellis-step .ensures .1) (c .if1 .taken)
 
@@ -56,11 +57,12 @@ part-release-end c = search needs
 
 release-requires : tie.Need-release-requires
 release-requires c κs =
-    let start = c .before .before .before .before .before .before .before .before .before .before .before in
+    let trellis-step = c .before .before .before .before .before .before in
+    let start = trellis-step .before .before .before .before .before in
     let a = start .args in
     let dec = a .decisions .now in
     let out = a .out .now in
-    let w = c .before .before .before .before .before .before .trellis-step .result in
+    let w = trellis-step .trellis-step .result in
     let full : a .at .held + 1 ≡ 4096 + a .traceback = omega arith in
     let room = start .pre .9 full in (
       start .pre .0,
@@ -79,17 +81,21 @@ same-length-3 c = search needs
 
 same-length-4 : tie.Need-same-length-4
 same-length-4 c =
-    let a = c .before .before .before .before .before .before .before .before .before .before .before .before .before .before .before .before .args in
-    omega (arith, length-set (a .decisions .now) (a .at .held) (c .before .before .before .before .before .before .before .before .before .before .before .trellis-step .result))
+    let trellis-step = c .before .before .before .before .before .before .before .before .before .before .before in
+    let start = trellis-step .before .before .before .before .before in
+    let a = start .args in
+    omega (arith, length-set (a .decisions .now) (a .at .held) (trellis-step .trellis-step .result))
 
 same-length-5 : tie.Need-same-length-5
 same-length-5 c = search needs
 
 returns-2 : tie.Need-returns-2
 returns-2 c =
-    let freed = c .before .before .before .before .release in
-    let step = c .before .before .before .before .before .before .before .before .before .before .before in
-    let a = c .before .before .before .before .before .before .before .before .before .before .before .before .before .before .before .before .args in
+    let release = c .before .before .before .before in
+    let step = release .before .before .before .before .before .before .before in
+    let start = step .before .before .before .before .before in
+    let freed = release .release in
+    let a = start .args in
     let out = a .out .now in
     let dec = set (a .decisions .now) (a .at .held) (step .trellis-step .result) in
     released-step (a .h) (labels (a .code)) rule (a .traceback) (a .i) (stepOf (a .x)) (a .pm .now) (step .trellis-step .last .0) (a .at .held) (a .at .count) (step .trellis-step .result) (a .decisions .now) out

@@ -30,9 +30,9 @@ shared-slice-read-t15 c = omega arith
 
 advance-requires : tie.Need-advance-requires Inv-loop μ-loop
 advance-requires c κs =
-    let start = c .before .before .before .before .before .before .before .before .before .before in
-    let a = start .args in
     let at = c .before .before .before .before .before in
+    let start = at .before .before .before .before .before in
+    let a = start .args in
     let r = ready (a .h) (labels (a .code)) (knownSteps (a .bits .now)) (length (a .bits .now)) (a .traceback) (a .at .held) (a .pm .now) (a .decisions .now) (a .out .now) (start .pre .4) (start .pre .5) (start .pre .6) (start .pre .8) (start .pre .9) (at .loop .pm) (at .loop .place) (at .loop .decisions) (at .loop .out) (at .loop .i) (at .loop .inv .3) (omega arith) in
     (start .pre .0, start .pre .1, start .pre .2, at .loop .inv .2, r .0, r .1, r .2, r .3, r .4, r .5)
 
@@ -44,11 +44,13 @@ loop-less c = omega arith
 
 loop-again : tie.Need-loop-again Inv-loop μ-loop
 loop-again c =
-    let start = c .before .before .before .before .before .before .before .before .before .before .before .before .before .before .before .before .before in
+    let advance = c .before .before .before .before .before .before in
+    let tested = advance .before .before .before .before .before in
+    let at = tested .before in
+    let start = at .before .before .before .before .before in
     let a = start .args in
-    let at = c .before .before .before .before .before .before .before .before .before .before .before .before in
-    let stepped = c .before .before .before .before .before .before .advance in
-    let more = c .before .before .before .before .before .before .before .before .before .before .before .loop-test .taken in
+    let stepped = advance .advance in
+    let more = tested .loop-test .taken in
     (at .loop .inv .0, omega arith, omega arith, goes-on (a .h) (labels (a .code)) (knownSteps (a .bits .now)) (length (a .bits .now)) (a .traceback) (a .at .held) (a .pm .now) (a .decisions .now) (a .out .now) (start .pre .4) (start .pre .5) (start .pre .6) (start .pre .8) (start .pre .9) (at .loop .pm) (at .loop .place) (at .loop .decisions) (at .loop .out) (at .loop .i) (at .loop .inv .3) (stepped .result) (stepped .last .0) _ _ (stepped .ensures))
 
 same-length : tie.Need-same-length Inv-loop μ-loop

@@ -33,9 +33,9 @@ soft-step-requires c κs =
 
 advance-requires : tie.Need-advance-requires Inv-loop μ-loop
 advance-requires c κs =
-    let start = c .before .before .before .before .before .before .before .before .before .before in
-    let a = start .args in
     let at = c .before .before .before .before .before in
+    let start = at .before .before .before .before .before in
+    let a = start .args in
     let r = ready (a .h) (labels (a .code)) (softSteps (a .per) (a .values .now)) (a .n) (a .traceback) (a .at .held) (a .pm .now) (a .decisions .now) (a .out .now) (start .pre .6) (start .pre .7) (start .pre .8) (start .pre .10) (start .pre .11) (at .loop .pm) (at .loop .place) (at .loop .decisions) (at .loop .out) (at .loop .i) (at .loop .inv .2) (omega arith) in
     (start .pre .0, start .pre .1, start .pre .2, at .loop .inv .1, r .0, r .1, r .2, r .3, r .4, r .5)
 
@@ -47,12 +47,14 @@ loop-less c = omega arith
 
 loop-again : tie.Need-loop-again Inv-loop μ-loop
 loop-again c =
-    let start = c .before .before .before .before .before .before .before .before .before .before .before .before .before .before .before .before .before in
+    let advance = c .before .before .before .before .before .before in
+    let soft-step = advance .before .before .before .before in
+    let at = soft-step .before .before in
+    let start = at .before .before .before .before .before in
     let a = start .args in
-    let at = c .before .before .before .before .before .before .before .before .before .before .before .before in
-    let stepped = c .before .before .before .before .before .before .advance in
-    let more = c .before .before .before .before .before .before .before .before .before .before .before .loop-test .taken in
-    (omega arith, omega arith, goes-on (a .h) (labels (a .code)) (softSteps (a .per) (a .values .now)) (a .n) (a .traceback) (a .at .held) (a .pm .now) (a .decisions .now) (a .out .now) (start .pre .6) (start .pre .7) (start .pre .8) (start .pre .10) (start .pre .11) (at .loop .pm) (at .loop .place) (at .loop .decisions) (at .loop .out) (at .loop .i) (at .loop .inv .2) (stepped .result) (stepped .last .0) _ _ (rw (c .before .before .before .before .before .before .before .before .before .before .soft-step .ensures) at (stepped .ensures)))
+    let stepped = advance .advance in
+    let more = soft-step .before .loop-test .taken in
+    (omega arith, omega arith, goes-on (a .h) (labels (a .code)) (softSteps (a .per) (a .values .now)) (a .n) (a .traceback) (a .at .held) (a .pm .now) (a .decisions .now) (a .out .now) (start .pre .6) (start .pre .7) (start .pre .8) (start .pre .10) (start .pre .11) (at .loop .pm) (at .loop .place) (at .loop .decisions) (at .loop .out) (at .loop .i) (at .loop .inv .2) (stepped .result) (stepped .last .0) _ _ (rw (soft-step .soft-step .ensures) at (stepped .ensures)))
 
 same-length : tie.Need-same-length Inv-loop μ-loop
 same-length c =

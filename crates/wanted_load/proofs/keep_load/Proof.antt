@@ -22,8 +22,10 @@ same-length-3 c = search needs
 
 returns : tie.Need-returns
 returns c =
-    let a = c .before .before .before .before .before .before .before .before .before .before .before .before .before .before .before .before .before .before in
-    (subst (Matches (a .args .p .table) (a .args .m) (a .args .first) (a .args .re .now) (a .args .im .now) (a .args .load .now)) (c .before .before .before .before .if1 .taken) (c .before .before .before .before .before .before .before .before .before .matches .ensures), c .before .before .put .ensures)
+    let if1 = c .before .before .before .before in
+    let matches = if1 .before .before .before .before .before in
+    let a = matches .before .before .before .before .before .before .before .before .before in
+    (subst (Matches (a .args .p .table) (a .args .m) (a .args .first) (a .args .re .now) (a .args .im .now) (a .args .load .now)) (if1 .if1 .taken) (matches .matches .ensures), c .before .before .put .ensures)
 
 same-length-4 : tie.Need-same-length-4
 same-length-4 c = search needs
@@ -33,8 +35,9 @@ same-length-5 c = search needs
 
 returns-2 : tie.Need-returns-2
 returns-2 c =
-    let a = c .before .before .before .before .before .before .before .before .before .before .before .before .before .before in
-    (subst (Matches (a .args .p .table) (a .args .m) (a .args .first) (a .args .re .now) (a .args .im .now) (a .args .load .now)) (c .if1 .left) (c .before .before .before .before .before .matches .ensures), refl)
+    let matches = c .before .before .before .before .before in
+    let a = matches .before .before .before .before .before .before .before .before .before in
+    (subst (Matches (a .args .p .table) (a .args .m) (a .args .first) (a .args .re .now) (a .args .im .now) (a .args .load .now)) (c .if1 .left) (matches .matches .ensures), refl)
 
 pub keep-load-spec : {M : Type 1} → statement M
 keep-load-spec =

@@ -42,8 +42,9 @@ returns c =
 
 find-load-requires : tie.Need-find-load-requires
 find-load-requires c κs =
-    let a = c .before .before .before .before .before .before .before .before in
-    let pl = c .before .before .before .before .plan-of in
+    let plan-of = c .before .before .before .before in
+    let a = plan-of .before .before .before .before in
+    let pl = plan-of .plan-of in
     let et = table-is (pl .ensures .0) in
     let ea = c .before .before .before .earlier-answer .ensures ∙ ap (λ (z : Table). firstRow (earlierRows z (length (a .args .re .now)) (length (a .args .im .now)) (length (a .args .bytes .now)))) et in
     let p = passed (a .args .t) (length (a .args .re .now)) (length (a .args .im .now)) (length (a .args .bytes .now)) (sym (c .before .enum-told .given .1) ∙ ea) in
@@ -54,15 +55,18 @@ same-length c = search needs
 
 returns-2 : tie.Need-returns-2
 returns-2 c =
-    let a = c .before .before .before .before .before .before .before .before .before .before .before .before in
+    let find-load = c .before .before .before in
+    let at-enum-told = find-load .before .before in
+    let earlier-answer = at-enum-told .before .before in
+    let a = earlier-answer .before .before .before .before .before in
     let t = a .args .t in
     let re = a .args .re .now in
     let im = a .args .im .now in
-    let pl = c .before .before .before .before .before .before .before .before .plan-of in
+    let pl = earlier-answer .before .plan-of in
     let et = table-is (pl .ensures .0) in
-    let ok = sym (c .before .before .before .before .before .enum-told .given .1) ∙ c .before .before .before .before .before .before .before .earlier-answer .ensures ∙ ap (λ (z : Table). firstRow (earlierRows z (length re) (length im) (length (a .args .bytes .now)))) et in
-    let w = rw et at (c .before .before .before .find-load .ensures) in
-    let bytes = c .before .before .before .find-load .last .1 .1 .1 .1 .1 .0 in
+    let ok = sym (at-enum-told .enum-told .given .1) ∙ earlier-answer .earlier-answer .ensures ∙ ap (λ (z : Table). firstRow (earlierRows z (length re) (length im) (length (a .args .bytes .now)))) et in
+    let w = rw et at (find-load .find-load .ensures) in
+    let bytes = find-load .find-load .last .1 .1 .1 .1 .1 .0 in
     let f = w .yes (c .if1 .taken) in
     let out : Either (firstRow (earlierRows t (length re) (length im) (length (a .args .bytes .now)))) (Outcome t (a .args .m) (a .args .first) re im (Load (pl .result .bytes)) (a .args .bytes .now) bytes)
     (Turned (firstRow (earlierRows t (length re) (length im) (length (a .args .bytes .now)))) (Load (pl .result .bytes)) (a .args .bytes .now) bytes) =
@@ -74,15 +78,18 @@ same-length-2 c = search needs
 
 returns-3 : tie.Need-returns-3
 returns-3 c =
-    let a = c .before .before .before .before .before .before .before .before .before .before .before .before in
+    let find-load = c .before .before .before in
+    let at-enum-told = find-load .before .before in
+    let earlier-answer = at-enum-told .before .before in
+    let a = earlier-answer .before .before .before .before .before in
     let t = a .args .t in
     let re = a .args .re .now in
     let im = a .args .im .now in
-    let pl = c .before .before .before .before .before .before .before .before .plan-of in
+    let pl = earlier-answer .before .plan-of in
     let et = table-is (pl .ensures .0) in
-    let ok = sym (c .before .before .before .before .before .enum-told .given .1) ∙ c .before .before .before .before .before .before .before .earlier-answer .ensures ∙ ap (λ (z : Table). firstRow (earlierRows z (length re) (length im) (length (a .args .bytes .now)))) et in
-    let w = rw et at (c .before .before .before .find-load .ensures) in
-    let bytes = c .before .before .before .find-load .last .1 .1 .1 .1 .1 .0 in
+    let ok = sym (at-enum-told .enum-told .given .1) ∙ earlier-answer .earlier-answer .ensures ∙ ap (λ (z : Table). firstRow (earlierRows z (length re) (length im) (length (a .args .bytes .now)))) et in
+    let w = rw et at (find-load .find-load .ensures) in
+    let bytes = find-load .find-load .last .1 .1 .1 .1 .1 .0 in
     let f = w .no (c .if1 .left) in
     let out : Either (firstRow (earlierRows t (length re) (length im) (length (a .args .bytes .now)))) (Outcome t (a .args .m) (a .args .first) re im (Refused NoLoad) (a .args .bytes .now) bytes)
     (Turned (firstRow (earlierRows t (length re) (length im) (length (a .args .bytes .now)))) (Refused NoLoad) (a .args .bytes .now) bytes) =

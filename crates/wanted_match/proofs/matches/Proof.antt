@@ -48,9 +48,10 @@ loop-holds c =
 
 next-block-requires : tie.Need-next-block-requires Inv-loop μ-loop
 next-block-requires c κs =
-    let st = c .before .before .before .before .before .before .before .before .before .before .before .before .before in
+    let at = c .before .before .before .before .before in
+    let st = at .before .before .before .before .before .before .before .before in
     let p = st .args .p in
-    let inv = c .before .before .before .before .before .loop .inv in
+    let inv = at .loop .inv in
     (st .pre .0 .few, runs-length p (st .pre .0), runs-tiled p (st .pre .0), inv .0, c .before .before .if1 .taken, omega (arith, inv .2, st .pre .3), omega (arith, inv .3, st .pre .4))
 
 sub-same-block : tie.Need-sub-same-block Inv-loop μ-loop
@@ -75,17 +76,21 @@ same-length-2 c = search needs
 
 returns : tie.Need-returns Inv-loop μ-loop
 returns c =
-    let st = c .before .before .before .before .before .before .before .before .before .before .before .before .before .before .before .before .before .before .before .before .before .before .before .before in
+    let next-block = c .before .before .before .before .before .before .before .before .before .before in
+    let at = next-block .before .before .before .before .before .before in
+    let st = at .before .before .before .before .before .before .before .before in
     let a = st .args in
-    let inv = c .before .before .before .before .before .before .before .before .before .before .before .before .before .before .before .before .loop .inv in
-    let made = c .before .before .before .before .before .before .before .before .before .before .next-block in
+    let inv = at .loop .inv in
+    let made = next-block .next-block in
     let on = made .ensures .0 in
-    block-differs (a .p) (st .pre .0) (a .m) (a .first) (a .re .now) (a .im .now) (a .load .now) (c .before .before .before .before .before .before .before .before .before .before .before .before .before .before .before .before .loop .at) (made .result) _ _ _ _ (made .ensures .1 (startState (a .first)) (inv .1)) (on .1) (on .0 .fits) (c .before .same-block .result) (c .if2 .left) (c .before .same-block .ensures)
+    block-differs (a .p) (st .pre .0) (a .m) (a .first) (a .re .now) (a .im .now) (a .load .now) (at .loop .at) (made .result) _ _ _ _ (made .ensures .1 (startState (a .first)) (inv .1)) (on .1) (on .0 .fits) (c .before .same-block .result) (c .if2 .left) (c .before .same-block .ensures)
 
 loop-less : tie.Need-loop-less Inv-loop μ-loop
 loop-less c =
-    let on = c .before .before .before .before .before .before .before .before .before .before .next-block .ensures .0 in
-    let inv = c .before .before .before .before .before .before .before .before .before .before .before .before .before .before .before .before .loop .inv in
+    let next-block = c .before .before .before .before .before .before .before .before .before .before in
+    let at = next-block .before .before .before .before .before .before in
+    let on = next-block .next-block .ensures .0 in
+    let inv = at .loop .inv in
     omega (arith, on .3, on .0 .few, on .0 .fits, inv .0 .fits, inv .0 .few)
 
 loop-again : tie.Need-loop-again Inv-loop μ-loop
@@ -116,10 +121,11 @@ same-length-4 c = search needs
 
 returns-2 : tie.Need-returns-2 Inv-loop μ-loop
 returns-2 c =
-    let st = c .before .before .before .before .before .before .before .before .before .before .before .before in
+    let at = c .before .before .before .before in
+    let st = at .before .before .before .before .before .before .before .before in
     let a = st .args in
-    let inv = c .before .before .before .before .loop .inv in
-    rest-compared (a .p) (st .pre .0) (a .m) (a .first) (a .re .now) (a .im .now) (a .load .now) (c .before .before .before .before .loop .at) (inv .0) (c .before .if1 .left) (st .pre .1) (st .pre .2) (inv .4) (c .same-unused .result) (c .same-unused .ensures)
+    let inv = at .loop .inv in
+    rest-compared (a .p) (st .pre .0) (a .m) (a .first) (a .re .now) (a .im .now) (a .load .now) (at .loop .at) (inv .0) (c .before .if1 .left) (st .pre .1) (st .pre .2) (inv .4) (c .same-unused .result) (c .same-unused .ensures)
 
 pub matches-spec : {M : Type 1} → statement M
 matches-spec =

@@ -39,8 +39,10 @@ same-bits-requires c κs = search needs
 
 returns : tie.Need-returns Inv-loop μ-loop
 returns c =
-    let a = c .before .before .before .before .before .before .before .before .args in
-    let i = c .before .before .before .before .before .loop .i in
+    let at = c .before .before .before .before .before in
+    let start = at .before .before .before in
+    let a = start .args in
+    let i = at .loop .i in
     parts-differ (a .xs .now) (a .from) (λ k. getD (a .ys .now) k nan) (a .n) i (omega arith) (subst (Same (getD (a .xs .now) (a .from + i) nan) (getD (a .ys .now) i nan)) (c .if1 .left) (c .before .same-bits .ensures))
 
 add-i : tie.Need-add-i Inv-loop μ-loop
@@ -51,9 +53,11 @@ loop-less c = search needs
 
 loop-again : tie.Need-loop-again Inv-loop μ-loop
 loop-again c =
-    let a = c .before .before .before .before .before .before .before .before .args in
-    let i = c .before .before .before .before .before .loop .i in
-    (omega arith, parts-more (a .xs .now) (a .from) (λ k. getD (a .ys .now) k nan) i (c .before .before .before .before .before .loop .inv .1) (c .before .same-bits .ensures .yes (c .if1 .taken)))
+    let at = c .before .before .before .before .before in
+    let start = at .before .before .before in
+    let a = start .args in
+    let i = at .loop .i in
+    (omega arith, parts-more (a .xs .now) (a .from) (λ k. getD (a .ys .now) k nan) i (at .loop .inv .1) (c .before .same-bits .ensures .yes (c .if1 .taken)))
 
 returns-2 : tie.Need-returns-2 Inv-loop μ-loop
 returns-2 c =

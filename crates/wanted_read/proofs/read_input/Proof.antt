@@ -74,8 +74,9 @@ coded-bit-requires c κs =
 
 sent-bit-requires : tie.Need-sent-bit-requires
 sent-bit-requires c κs =
-    let a = c .before .before .before .before .before .before .before .before .before .before in
-    let b = c .before .before .before .before .before .which-bit in
+    let which-bit = c .before .before .before .before .before in
+    let a = which-bit .before .before .before .before .before in
+    let b = which-bit .which-bit in
     (reads-in (a .args .layout) (a .pre .0) (a .args .start) (a .args .k) (b .result) (which-is (a .args .layout) (a .pre .0) (a .args .start) (a .args .k) (b .result) (b .ensures .0)) (a .pre .3), a .pre .4, a .pre .5)
 
 add-result : tie.Need-add-result
@@ -83,9 +84,11 @@ add-result c = search needs
 
 returns : tie.Need-returns
 returns c =
-    let a = c .before .before .before .before .before .before .before .before .before .before .before in
-    let b = c .before .before .before .before .before .before .which-bit in
-    let en = c .before .before .before .before .encode-bit .ensures in
+    let encode-bit = c .before .before .before .before in
+    let which-bit = encode-bit .before .before in
+    let a = which-bit .before .before .before .before .before in
+    let b = which-bit .which-bit in
+    let en = encode-bit .encode-bit .ensures in
     let w = c .before .coded-bit .ensures .0 ∙ ap (λ (x : ℕ). codedBit (b .result) x) (label-is (a .args .state) (en .0) (en .1)) in (
       input-is (a .args .layout) (a .pre .0) (a .args .start) (a .args .k) (a .args .m) (shown (a .args .m) (a .args .re .now) (a .args .im .now)) (a .args .state) (b .result) (c .sent-bit .result) (c .before .coded-bit .result)
           (which-is (a .args .layout) (a .pre .0) (a .args .start) (a .args .k) (b .result) (b .ensures .0)) (c .sent-bit .ensures .0) w,

@@ -40,7 +40,9 @@ part-read-run-end c = search needs
 
 read-run-requires : tie.Need-read-run-requires Inv-loop μ-loop
 read-run-requires c κs =
-    let at = c .before .before .before .before .before .loop in
+    let looped = c .before .before .before .before .before in
+    let start = looped .before .before .before .before in
+    let at = looped .loop in
     let w = at .inv in
     let f = w .few in
     let x = w .bytes-fit in
@@ -48,26 +50,34 @@ read-run-requires c κs =
     let z = w .same in
     let d = length-drop (at .done) (at .bytes) in
     let s = w .small in
-    let r = c .before .before .before .before .before .before .before .before .before .pre .0 in
+    let r = start .pre .0 in
     (omega arith, omega arith, load-room w, w .re-fits, w .im-fits, rw (tail-is (at .done) (at .bytes)) (omega arith))
 
 add-done : tie.Need-add-done Inv-loop μ-loop
 add-done c =
-    let w = c .before .before .before .before .before .before .before .before .loop .inv in
+    let at = c .before .before .before .before .before .before .before .before in
+    let w = at .loop .inv in
     let f = w .bytes-fit in
     let n = w .load-few in
     record { fits = omega arith }
 
 add-i : tie.Need-add-i Inv-loop μ-loop
-add-i c = let f = c .before .before .before .before .before .before .before .before .loop .inv .listed .runs .few in let l = c .before .before .before .before .before .before .before .loop-test .taken in record { fits = omega arith }
+add-i c =
+    let tested = c .before .before .before .before .before .before .before in
+    let at = tested .before in
+    let f = at .loop .inv .listed .runs .few in
+    let l = tested .loop-test .taken in
+    record { fits = omega arith }
 
 loop-less : tie.Need-loop-less Inv-loop μ-loop
 loop-less c = search needs
 
 loop-again : tie.Need-loop-again Inv-loop μ-loop
 loop-again c =
+    let tested = c .before .before .before .before .before .before .before in
+    let at = tested .before in
     let rr = c .before .before .read-run .ensures in
-    load-next (c .before .before .before .before .before .before .before .before .loop .inv) (c .before .before .before .before .before .before .before .loop-test .taken) (rr .2) (rr .1) (rr .0)
+    load-next (at .loop .inv) (tested .loop-test .taken) (rr .2) (rr .1) (rr .0)
 
 same-length : tie.Need-same-length Inv-loop μ-loop
 same-length c = c .before .loop .inv .same

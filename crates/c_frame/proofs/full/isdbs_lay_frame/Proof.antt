@@ -21,9 +21,11 @@ same-length-2 c = search needs
 
 returns : tie.Need-returns
 returns c =
-    let x = c .before .before .before .before .before .before .before .before .before .before .before .before .before .before .before .before .args in
-    let a = c .before .before .before .before .before .lay .result in
-    let e = c .before .before .before .before .before .lay .ensures in
+    let lay = c .before .before .before .before .before in
+    let start = lay .before .before .before .before .before .before .before .before .before .before .before in
+    let x = start .args in
+    let a = lay .lay .result in
+    let e = lay .lay .ensures in
     let n = c .number .result in
     let m : n ≡ numberOf a = c .number .ensures in
     (m ∙ ap numberOf (e .0), (by-number n a m (fullPart (lentInputs (x .header-re .now) (x .main-re .now) (x .burst-re .now))) (x .re .now) (e .1 .0), by-number n a m (fullPart (lentInputs (x .header-im .now) (x .main-im .now) (x .burst-im .now))) (x .im .now) (e .1 .1)))

@@ -34,9 +34,11 @@ same-length-6 c = search needs
 
 returns : tie.Need-returns
 returns c =
-    let x = c .before .before .before .before .before .before .before .before .before .before .before .before .before .before .before .before .before .before .before .before .before .before .before .before .before .before .before .before .args in
-    let a = c .before .before .before .before .before .before .before .before .before .before .before .before .before .take-apart .result in
-    let e = c .before .before .before .before .before .before .before .before .before .before .before .before .before .take-apart .ensures in
+    let take-apart = c .before .before .before .before .before .before .before .before .before .before .before .before .before in
+    let start = take-apart .before .before .before .before .before .before .before .before .before .before .before .before .before .before .before in
+    let x = start .args in
+    let a = take-apart .take-apart .result in
+    let e = take-apart .take-apart .ensures in
     let n = c .number .result in
     let m : n ≡ numberOf a = c .number .ensures in
     (m ∙ ap numberOf (e .0), (by-number n a m (taken Header (x .re .now)) (x .header-re .now) (e .1 .0), (by-number n a m (taken Header (x .im .now)) (x .header-im .now) (e .1 .1 .0), (by-number n a m (taken Main (x .re .now)) (x .main-re .now) (e .1 .1 .1 .0), (by-number n a m (taken Main (x .im .now)) (x .main-im .now) (e .1 .1 .1 .1 .0), (by-number n a m (taken Burst (x .re .now)) (x .burst-re .now) (e .1 .1 .1 .1 .1 .0), by-number n a m (taken Burst (x .im .now)) (x .burst-im .now) (e .1 .1 .1 .1 .1 .1)))))))

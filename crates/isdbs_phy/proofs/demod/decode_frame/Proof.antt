@@ -44,13 +44,16 @@ returns c =
 
 decode-strained-requires : tie.Need-decode-strained-requires
 decode-strained-requires c κs =
-    let st = c .before .before .before .before .before .before .before .before .before .before .before .before .before .before .before in
+    let at-enum-told = c .before .before .before .before in
+    let decode-answer = at-enum-told .before .before in
+    let plan-of = decode-answer .before .before in
+    let st = plan-of .before .before .before .before .before .before .before in
     let t = st .args .t in
-    let pl = c .before .before .before .before .before .before .before .before .plan-of in
+    let pl = plan-of .plan-of in
     let et = table-is (pl .ensures .0) in
-    let da = c .before .before .before .before .before .before .decode-answer in
+    let da = decode-answer .decode-answer in
     let ea = da .ensures ∙ ap (λ (z : Table). firstRow (decodeRows z (st .args .re .now) (st .args .im .now) (st .args .o .scales) (length (st .args .decisions .now)) (length (st .args .bits .now)) (length (st .args .bytes .now)) (length (st .args .counts .now)))) et in
-    let ok = sym (c .before .before .before .before .enum-told .given .1) ∙ ea in
+    let ok = sym (at-enum-told .enum-told .given .1) ∙ ea in
     let p = passed t (st .args .re .now) (st .args .im .now) (someBad (st .args .o .scales)) (length (st .args .decisions .now)) (length (st .args .bits .now)) (length (st .args .bytes .now)) (length (st .args .counts .now)) ok in (
       planned (pl .ensures .0) (pl .ensures .1) (p .table),
       p .real,
@@ -75,16 +78,20 @@ same-length-4 c = search needs
 
 returns-2 : tie.Need-returns-2
 returns-2 c =
-    let st = c .before .before .before .before .before .before .before .before .before .before .before .before .before .before .before .before .before .before .before .before .before .before .before .before in
+    let decode-strained = c .before .before .before .before .before .before .before .before in
+    let at-enum-told = decode-strained .before .before .before .before .before in
+    let decode-answer = at-enum-told .before .before in
+    let plan-of = decode-answer .before .before in
+    let st = plan-of .before .before .before .before .before .before .before in
     let t = st .args .t in
     let rx = receivedBy (st .args .re .now) (st .args .im .now) (st .args .o .mapping) (st .args .o .scales) in
     let sum = strainSum t rx (st .args .o .«known_start») (st .args .first) in
-    let pl = c .before .before .before .before .before .before .before .before .before .before .before .before .before .before .before .before .before .plan-of in
+    let pl = plan-of .plan-of in
     let et = table-is (pl .ensures .0) in
-    let da = c .before .before .before .before .before .before .before .before .before .before .before .before .before .before .before .decode-answer in
+    let da = decode-answer .decode-answer in
     let ea = da .ensures ∙ ap (λ (z : Table). firstRow (decodeRows z (st .args .re .now) (st .args .im .now) (st .args .o .scales) (length (st .args .decisions .now)) (length (st .args .bits .now)) (length (st .args .bytes .now)) (length (st .args .counts .now)))) et in
-    let ok = sym (c .before .before .before .before .before .before .before .before .before .before .before .before .before .enum-told .given .1) ∙ ea in
-    let ds = c .before .before .before .before .before .before .before .before .decode-strained in
+    let ok = sym (at-enum-told .enum-told .given .1) ∙ ea in
+    let ds = decode-strained .decode-strained in
     let e = rw et at (ds .ensures) in (
       rw (pl .ensures .0, e .1 .sum-is) (ap (λ (z : Answer). frameAnswer z t sum) ok),
       ((λ q. record { read = e .0; strain = e .1 .counts-are }), (λ n. absurd (n (sym ok)))),

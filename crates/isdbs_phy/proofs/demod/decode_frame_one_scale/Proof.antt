@@ -31,8 +31,10 @@ same-length-4 c = search needs
 
 returns : tie.Need-returns
 returns c =
-    let d = c .before .before .before .before .before .before .before .before .decode-frame in
-    let a = c .before .before .before .before .before .before .before .before .before .before .before .before .before .before .before .before .before .before .before .before .args in
+    let decode-frame = c .before .before .before .before .before .before .before .before in
+    let start = decode-frame .before .before .before .before .before .before .before .before .before .before .before .before in
+    let d = decode-frame .decode-frame in
+    let a = start .args in
     let s = a .o .«llr_scale» in
     let n = length (now (a .decisions)) in
     let b = length (now (a .bits)) in

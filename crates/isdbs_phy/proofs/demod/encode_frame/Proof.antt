@@ -23,9 +23,12 @@ same-length-2 c = search needs
 
 returns : tie.Need-returns
 returns c =
-    let s = c .before .before .before .before .before .before .before .start-state .result in
-    let a = c .before .before .before .before .before .before .before .before .before .before .before .args in
-    (c .before .before .before .before .encode-frame-with-state .ensures .0 ∙ fewer-rows (a .t) s (length (a .re .now)) (length (a .im .now)) (le-ltb 63 s (omega (arith, c .before .before .before .before .before .before .before .start-state .ensures .1))), rw (c .before .before .before .before .before .before .before .start-state .ensures .0) at (c .before .before .before .before .encode-frame-with-state .ensures .1 .1))
+    let encode-frame-with-state = c .before .before .before .before in
+    let start-state = encode-frame-with-state .before .before .before in
+    let start = start-state .before .before .before .before in
+    let s = start-state .start-state .result in
+    let a = start .args in
+    (encode-frame-with-state .encode-frame-with-state .ensures .0 ∙ fewer-rows (a .t) s (length (a .re .now)) (length (a .im .now)) (le-ltb 63 s (omega (arith, start-state .start-state .ensures .1))), rw (start-state .start-state .ensures .0) at (encode-frame-with-state .encode-frame-with-state .ensures .1 .1))
 
 pub encode-frame-spec : {M : Type 1} → statement M
 encode-frame-spec =

@@ -29,10 +29,11 @@ plan-of-requires c κs = search needs
 
 encode-main-requires : tie.Need-encode-main-requires
 encode-main-requires c κs =
-    let s = c .before .before .before .before .before .before .before .before .before in
+    let encode-answer = c .before .before .before .before .before in
+    let s = encode-answer .before .before .before .before in
     let pl = c .before .before .plan-of in
     let z = c .before .before .before .enum-told .given .1 in
-    let ea = c .before .before .before .before .before .encode-answer in
+    let ea = encode-answer .encode-answer in
     let p = rows-pass (s .args .t) (s .args .enc .state) (length (s .args .re .now)) (length (s .args .im .now)) (ea .result) (ea .ensures) z in
     (planned (pl .ensures .0) (pl .ensures .1) (p .0), omega (arith, ltb-false 63 (s .args .enc .state) (p .1)), ltb-false (length (s .args .re .now)) mainSymbols (p .2), ltb-false (length (s .args .im .now)) mainSymbols (p .3))
 
@@ -44,10 +45,13 @@ same-length-2 c = search needs
 
 returns-2 : tie.Need-returns-2
 returns-2 c =
-    let a = c .before .before .before .before .before .before .before .before .before .before .encode-answer in
-    let z = c .before .before .before .before .before .before .before .before .enum-told .given .1 in
-    let et = table-is (c .before .before .before .before .before .before .before .plan-of .ensures .0) in
-    let made = rw et at (c .before .before .before .before .encode-main .ensures) in
+    let encode-main = c .before .before .before .before in
+    let plan-of = encode-main .before .before .before in
+    let encode-answer = plan-of .before .before .before in
+    let a = encode-answer .encode-answer in
+    let z = plan-of .before .enum-told .given .1 in
+    let et = table-is (plan-of .plan-of .ensures .0) in
+    let made = rw et at (encode-main .encode-main .ensures) in
     (a .ensures, ((λ e. made .0, λ n. absurd (n z)), (λ e. made .1, λ n. absurd (n z))))
 
 pub encode-frame-with-state-spec : {M : Type 1} → statement M

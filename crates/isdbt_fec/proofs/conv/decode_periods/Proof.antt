@@ -83,7 +83,8 @@ run-steps-requires c κs =
 add-i : tie.Need-add-i Inv-loop μ-loop
 add-i c =
     let blocked = c .before .before .before .before .before .before .before .before .before .before .before .before .before in
-    let inv = blocked .before .before .loop .inv in
+    let at = blocked .before .before in
+    let inv = at .loop .inv in
     let len = blocked .block-of .ensures in
     let inside = blocked .before .loop-test .taken in
     omega arith
@@ -98,12 +99,15 @@ loop-less c =
 
 loop-again : tie.Need-loop-again Inv-loop μ-loop
 loop-again c =
-    let blocked = c .before .before .before .before .before .before .before .before .before .before .before .before .before in
-    let inv = blocked .before .before .loop .inv in
+    let run-steps = c .before .before .before .before in
+    let soft-block = run-steps .before .before .before .before .before .before in
+    let blocked = soft-block .before .before .before in
+    let at = blocked .before .before in
+    let inv = at .loop .inv in
     let len = blocked .block-of .ensures in
     let inside = blocked .before .loop-test .taken in
-    let soft = c .before .before .before .before .before .before .before .before .before .before .soft-block .ensures in
-    (omega arith, inv .1, inv .2, decoding-block (inv .3) (omega arith) (soft .1) (c .before .before .before .before .run-steps .ensures))
+    let soft = soft-block .soft-block .ensures in
+    (omega arith, inv .1, inv .2, decoding-block (inv .3) (omega arith) (soft .1) (run-steps .run-steps .ensures))
 
 end-call-requires : tie.Need-end-call-requires Inv-loop μ-loop
 end-call-requires c κs =
@@ -118,10 +122,16 @@ end-call-requires c κs =
     (enough .most, omega arith, omega arith, omega arith)
 
 same-length : tie.Need-same-length Inv-loop μ-loop
-same-length c = c .before .before .before .before .end-call .kept .1 .1 .1 .0 ∙ c .before .before .before .before .before .before .before .before .before .loop .inv .3 .words-long
+same-length c =
+    let end-call = c .before .before .before .before in
+    let at = end-call .before .before .before .before .before in
+    end-call .end-call .kept .1 .1 .1 .0 ∙ at .loop .inv .3 .words-long
 
 same-length-2 : tie.Need-same-length-2 Inv-loop μ-loop
-same-length-2 c = c .before .before .before .before .end-call .kept .1 .1 .1 .1 .0 ∙ c .before .before .before .before .before .before .before .before .before .loop .inv .3 .bits-long
+same-length-2 c =
+    let end-call = c .before .before .before .before in
+    let at = end-call .before .before .before .before .before in
+    end-call .end-call .kept .1 .1 .1 .1 .0 ∙ at .loop .inv .3 .bits-long
 
 returns : tie.Need-returns Inv-loop μ-loop
 returns c =

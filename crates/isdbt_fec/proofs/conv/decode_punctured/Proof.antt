@@ -23,8 +23,10 @@ depth-of-requires c κs = search needs
 
 decode-periods-requires : tie.Need-decode-periods-requires
 decode-periods-requires c κs =
-    let a = c .before .before .before .before .before .before .before .before .before .args in
-    let yes = sym (c .before .before .before .enum-told .given .1) ∙ c .before .before .before .before .before .answer-decode .ensures in
+    let answer-decode = c .before .before .before .before .before in
+    let start = answer-decode .before .before .before .before in
+    let a = start .args in
+    let yes = sym (c .before .before .before .enum-told .given .1) ∙ answer-decode .answer-decode .ensures in
     let room = decode-enough (a .rate) (a .llrs .now) (a .traceback) (length (a .decisions .now)) (length (a .out .now)) yes in
     let d = depth-range (a .traceback) (room .0) in
     rw (c .before .before .depth-of .ensures) (d .0, d .1, room .1, room .2)
@@ -37,9 +39,13 @@ same-length-2 c = search needs
 
 returns-2 : tie.Need-returns-2
 returns-2 c =
-    let a = c .before .before .before .before .before .before .before .before .before .before .before .before .before .before .args in
-    let yes = sym (c .before .before .before .before .before .before .before .before .enum-told .given .1) ∙ c .before .before .before .before .before .before .before .before .before .before .answer-decode .ensures in
-    let q = rw (c .before .before .before .before .before .before .before .depth-of .ensures) at (c .before .before .before .before .decode-periods .ensures) in
+    let decode-periods = c .before .before .before .before in
+    let depth-of = decode-periods .before .before .before in
+    let answer-decode = depth-of .before .before .before in
+    let start = answer-decode .before .before .before .before in
+    let a = start .args in
+    let yes = sym (depth-of .before .enum-told .given .1) ∙ answer-decode .answer-decode .ensures in
+    let q = rw (depth-of .depth-of .ensures) at (decode-periods .decode-periods .ensures) in
     (yes, accepted (record { count-is = q .0; words = q .1; bits-are = q .2 }))
 
 pub decode-punctured-spec : {M : Type 1} → statement M

@@ -28,8 +28,11 @@ same-length c = search needs
 
 returns-2 : tie.Need-returns-2
 returns-2 c =
-    let a = c .before .before .before .before .before .before .before .before .before .args in
-    let yes = sym (c .before .before .before .before .enum-told .given .1) ∙ c .before .before .before .before .before .before .answer-depuncture .ensures in
+    let at-enum-told = c .before .before .before .before in
+    let answer-depuncture = at-enum-told .before .before in
+    let start = answer-depuncture .before .before .before in
+    let a = start .args in
+    let yes = sym (at-enum-told .enum-told .given .1) ∙ answer-depuncture .answer-depuncture .ensures in
     let q = c .before .before .depuncture-periods .ensures in
     (yes, accepted (record { count-is = q .0; values = q .1 }))
 

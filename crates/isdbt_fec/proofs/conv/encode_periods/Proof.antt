@@ -93,7 +93,9 @@ send-requires c κs =
 
 add-b : tie.Need-add-b Inv-loop μ-loop
 add-b c =
-    let i = c .before .before .before .before .before .before .before .before .before .before .loop .inv .1 .inside _ (c .before .before .before .before .before .before .before .before .before .loop-test .taken) in
+    let tested = c .before .before .before .before .before .before .before .before .before in
+    let at = tested .before in
+    let i = at .loop .inv .1 .inside _ (tested .loop-test .taken) in
     omega arith
 
 loop-less : tie.Need-loop-less Inv-loop μ-loop
@@ -101,12 +103,17 @@ loop-less c = search needs
 
 loop-again : tie.Need-loop-again Inv-loop μ-loop
 loop-again c =
-    let a = c .before .before .before .before .before .before .before .before .before .before .before .before .before .before .before .args in
-    let at = c .before .before .before .before .before .before .before .before .before .before .loop in
-    let i = at .inv .1 .inside _ (c .before .before .before .before .before .before .before .before .before .loop-test .taken) in
-    let coded = c .before .before .before .before .before .before .before .encode-period in
+    let encode-period = c .before .before .before .before .before .before .before in
+    let tested = encode-period .before .before in
+    let looped = tested .before in
+    let new = looped .before .before in
+    let start = new .before .before .before in
+    let a = start .args in
+    let at = looped .loop in
+    let i = at .inv .1 .inside _ (tested .loop-test .taken) in
+    let coded = encode-period .encode-period in
     let sent = c .before .before .send in
-    (omega arith, at .inv .1, coded-next (a .rate) _ (c .before .before .before .before .before .before .before .before .before .before .before .before .new .ensures) _ _ _ _ _ _ (at .inv .2) i _ (coded .result .mother) _ (coded .ensures) (sent .ensures))
+    (omega arith, at .inv .1, coded-next (a .rate) _ (new .new .ensures) _ _ _ _ _ _ (at .inv .2) i _ (coded .result .mother) _ (coded .ensures) (sent .ensures))
 
 same-length : tie.Need-same-length Inv-loop μ-loop
 same-length c = c .before .loop .inv .2 .written .long

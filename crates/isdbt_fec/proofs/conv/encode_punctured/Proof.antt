@@ -31,15 +31,20 @@ encode-periods-requires c κs =
 
 div-t10 : tie.Need-div-t10
 div-t10 c =
-    let r = numbers (c .before .before .before .before .before .before .before .before .before .before .before .args .rate) _ (c .before .before .before .before .before .new .ensures) .ranges in
+    let new = c .before .before .before .before .before in
+    let start = new .before .before .before .before .before .before in
+    let r = numbers (start .args .rate) _ (new .new .ensures) .ranges in
     omega arith
 
 mul-t15 : tie.Need-mul-t15
 mul-t15 c =
-    let a = c .before .before .before .before .before .before .before .before .before .before .before .before .args in
-    let yes = sym (c .before .before .before .before .before .before .before .enum-told .given .1) ∙ c .before .before .before .before .before .before .before .before .before .answer-encode .ensures in
+    let new = c .before .before .before .before .before .before in
+    let answer-encode = new .before .before .before in
+    let start = answer-encode .before .before .before in
+    let a = start .args in
+    let yes = sym (new .before .enum-told .given .1) ∙ answer-encode .answer-encode .ensures in
     let room = encode-enough (a .rate) (a .enc .state) (length (a .bits .now)) (length (a .out .now)) yes in
-    let count = sent-count (a .rate) _ (length (a .bits .now)) (c .before .before .before .before .before .before .new .ensures) in
+    let count = sent-count (a .rate) _ (length (a .bits .now)) (new .new .ensures) in
     omega arith
 
 same-length : tie.Need-same-length
@@ -47,10 +52,14 @@ same-length c = search needs
 
 returns-2 : tie.Need-returns-2
 returns-2 c =
-    let a = c .before .before .before .before .before .before .before .before .before .before .before .before .args in
-    let yes = sym (c .before .before .before .before .before .before .before .enum-told .given .1) ∙ c .before .before .before .before .before .before .before .before .before .answer-encode .ensures in
-    let count = sent-count (a .rate) _ (length (a .bits .now)) (c .before .before .before .before .before .before .new .ensures) in
-    let q = c .before .before .before .before .encode-periods .ensures in
+    let encode-periods = c .before .before .before .before in
+    let new = encode-periods .before .before in
+    let answer-encode = new .before .before .before in
+    let start = answer-encode .before .before .before in
+    let a = start .args in
+    let yes = sym (new .before .enum-told .given .1) ∙ answer-encode .answer-encode .ensures in
+    let count = sent-count (a .rate) _ (length (a .bits .now)) (new .new .ensures) in
+    let q = encode-periods .encode-periods .ensures in
     (yes, accepted (record { state-is = q .0; count-is = count; bits-are = q .1 }))
 
 pub encode-punctured-spec : {M : Type 1} → statement M

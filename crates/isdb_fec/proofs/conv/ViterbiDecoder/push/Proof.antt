@@ -44,15 +44,18 @@ same-length-2 c = search needs
 
 returns-2 : tie.Need-returns-2
 returns-2 c =
-    let known = c .before .before .before .before .before .before .before .before .before .before .before .before in
-    let ran = c .before .before .before .before .before .before .run-steps in
-    let a = known .before .before .before .before .before .before .args in
+    let run-steps = c .before .before .before .before .before .before in
+    let known = run-steps .before .before .before .before .before .before in
+    let answer-stream = known .before .before in
+    let start = answer-stream .before .before .before .before in
+    let ran = run-steps .run-steps in
+    let a = start .args in
     let v = a .self in
     let xs = pairSteps (a .pairs .now) in
     let n = length (a .pairs .now) / 2 in
     let dec = a .decisions .now in
     let out = a .out .now in
-    let taken = sym (known .enum-told .given .1) ∙ known .before .before .answer-stream .ensures in
+    let taken = sym (known .enum-told .given .1) ∙ answer-stream .answer-stream .ensures in
     let e = stream-enough 2 v (a .pairs .now) (length dec) (length out) taken in
     let dec′ = ran .last .1 .1 .1 .1 .1 .1 .1 .1 .0 in
     let out′ = ran .last .1 .1 .1 .1 .1 .1 .1 .1 .1 .0 in

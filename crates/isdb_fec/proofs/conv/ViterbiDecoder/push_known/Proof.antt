@@ -41,15 +41,18 @@ same-length-2 c = search needs
 
 returns-2 : tie.Need-returns-2
 returns-2 c =
-    let known = c .before .before .before .before .before .before .before .before .before .before in
-    let ran = c .before .before .before .before .run-steps in
-    let a = known .before .before .before .before .before .before .args in
+    let run-steps = c .before .before .before .before in
+    let known = run-steps .before .before .before .before .before .before in
+    let answer-known = known .before .before in
+    let start = answer-known .before .before .before .before in
+    let ran = run-steps .run-steps in
+    let a = start .args in
     let v = a .self in
     let xs = knownSteps (a .bits .now) in
     let n = length (a .bits .now) in
     let dec = a .decisions .now in
     let out = a .out .now in
-    let taken = sym (known .enum-told .given .1) ∙ known .before .before .answer-known .ensures in
+    let taken = sym (known .enum-told .given .1) ∙ answer-known .answer-known .ensures in
     let e = known-enough v (length (a .bits .now)) (length dec) (length out) taken in
     let dec′ = ran .last .1 .1 .1 .1 .1 .1 .1 .1 .0 in
     let out′ = ran .last .1 .1 .1 .1 .1 .1 .1 .1 .1 .0 in
