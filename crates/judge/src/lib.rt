@@ -76,30 +76,14 @@ fn judge_load(
     let mut at = start_place(start_state(first));
     while at.run < p.count {
         let next = next_block(p, bytes, m, at, xs, ys);
-        sum = sum
-            + count_points(
-                p,
-                at.symbol,
-                next.symbol - at.symbol,
-                xs,
-                ys,
-                re,
-                im,
-                counts,
-            );
+        let n = next.symbol - at.symbol;
+        let more = count_points(p, at.symbol, n, xs, ys, re, im, counts);
+        sum = sum + more;
         at = next;
     }
-    sum
-        + count_points(
-            p,
-            at.symbol,
-            MAIN_SYMBOLS - at.symbol,
-            xs,
-            ys,
-            re,
-            im,
-            counts,
-        )
+    let n = MAIN_SYMBOLS - at.symbol;
+    let rest = count_points(p, at.symbol, n, xs, ys, re, im, counts);
+    sum + rest
 }
 
 // The same in lent arrays of a block's size.

@@ -64,8 +64,8 @@ next-block-requires c κs =
     let inv = c .before .before .before .before .before .loop .inv in
     (st .pre .0 .few, runs-length p (st .pre .0), runs-tiled p (st .pre .0), inv .0, c .before .before .if1 .taken, omega (arith, inv .2, st .pre .3), omega (arith, inv .3, st .pre .4))
 
-sub-count-points : tie.Need-sub-count-points Inv-loop μ-loop
-sub-count-points c = search needs
+sub-n : tie.Need-sub-n Inv-loop μ-loop
+sub-n c = search needs
 
 count-points-requires : tie.Need-count-points-requires Inv-loop μ-loop
 count-points-requires c κs =
@@ -111,8 +111,8 @@ loop-again c =
       block-counted (a .p) (st .pre .0) (a .m) (a .first) (a .re .now) (a .im .now) (a .bytes .now) (loop .at) (made .result) _ _ _ _ block (on .1) (clear .last .0) (loop .counts) _ (loop .sum) (counted .result) (loop .inv .5) (counted .ensures),
     )
 
-sub-count-points-2 : tie.Need-sub-count-points-2 Inv-loop μ-loop
-sub-count-points-2 c = c .before .before .before .before .loop .inv .0 .fits
+sub-n-2 : tie.Need-sub-n-2 Inv-loop μ-loop
+sub-n-2 c = c .before .before .before .before .loop .inv .0 .fits
 
 count-points-requires-2 : tie.Need-count-points-requires-2 Inv-loop μ-loop
 count-points-requires-2 c κs =
@@ -161,12 +161,12 @@ judge-load-spec =
     start-place-requires
     loop-holds
     next-block-requires
-    sub-count-points
+    sub-n
     count-points-requires
     add-sum
     loop-less
     loop-again
-    sub-count-points-2
+    sub-n-2
     count-points-requires-2
     add-result
     same-length
