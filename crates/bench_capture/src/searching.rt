@@ -187,7 +187,9 @@ fn end(name: &[u8], output: &[u8], how: How, held: Held, t: Tally) {
         return;
     }
     if files::keep(output) {
-        file(b"report", output, t.frames, b" lines\n");
+        text(b"report ");
+        quoted(output);
+        text(b": a line for each frame\n");
         verdict(t);
     }
 }

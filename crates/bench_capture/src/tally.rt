@@ -51,6 +51,8 @@ const REFUSED: u8 = 4;
 
 const OTHER_BYTES: u8 = 5;
 
+const OPEN: u8 = 6;
+
 // The window of strain: a superframe.
 const WINDOW: u32 = 8;
 
@@ -126,6 +128,9 @@ fn reason(t: Tally, f: Frame) -> u8 {
     if w.outside > 0 && !w.is_best {
         return OTHER_BYTES;
     }
+    if w.outside > 0 && w.strength == 0 {
+        return OPEN;
+    }
     NOT
 }
 
@@ -137,6 +142,12 @@ fn put_reason(line: &mut [u8; LINE_BYTES], from: usize, why: u8, f: Frame) -> us
         WITHIN => put(line, from, b"it begins within the frame before it"),
         DISORDER => put(line, from, b"its kind is not the next one of a superframe"),
         REFUSED => put_form(line, from, b"refused $", &[w.row]),
+        OPEN => put_form(
+            line,
+            from,
+            b"$ points outside the margins, and another reading fits as well or nearly",
+            &[w.outside],
+        ),
         _ => put_form(
             line,
             from,
