@@ -34,7 +34,8 @@ slice-write-counts c = search needs
 
 add-sum : tie.Need-add-sum Inv-loop μ-loop
 add-sum c =
-    let a = c .before .before .before .before .before .before .before .before .args in
+    let start = c .before .before .before .before .before .before .before .before in
+    let a = start .args in
     let at = c .before .before .loop in
     let few = slot-few (a .list) (a .xs .now) (a .ys .now) (a .re .now) (a .im .now) (at .j) (c .count-slot .result) (c .count-slot .ensures) in
     record { fits = omega arith }
@@ -47,7 +48,8 @@ loop-less c = search needs
 
 loop-again : tie.Need-loop-again Inv-loop μ-loop
 loop-again c =
-    let a = c .before .before .before .before .before .before .before .before .args in
+    let start = c .before .before .before .before .before .before .before .before in
+    let a = start .args in
     let at = c .before .before .loop in
     let few = slot-few (a .list) (a .xs .now) (a .ys .now) (a .re .now) (a .im .now) (at .j) (c .count-slot .result) (c .count-slot .ensures) in
     let f = slotGiven (a .list) (a .xs .now) (a .ys .now) (a .re .now) (a .im .now) in (
