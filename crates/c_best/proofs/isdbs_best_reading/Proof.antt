@@ -24,7 +24,8 @@ not-scales-requires c κs = search needs
 returns : tie.Need-returns
 returns c =
     let q = c .before .before in
-    let a = q .before .before .before .before .before .before .before .before .before .before .before .before .args in
+    let start = q .before .before .before .before .before .before .before .before .before .before .before .before in
+    let a = start .args in
     let n = c .not-scales .result in
     let e : n ≡ answered (untilLength (tableRows (tableOf (a .table)))) = c .not-scales .ensures ∙ rw (q .table-of .ensures) refl in
     let l = lengths (lent (a .metrics .now) (a .sides .now) (a .words .now) (a .tables .now) (a .bits .now) (a .uncoded .now) (a .bytes .now) (a .leads .now)) in
@@ -72,7 +73,8 @@ returns-2 c =
     let o = p .before .before .before .before .before .before .before .before .before in
     let g = o .before in
     let q = g .before .before in
-    let a = q .before .before .before .before .before .before .before .before .before .before .before .before .args in
+    let start = q .before .before .before .before .before .before .before .before .before .before .before .before in
+    let a = start .args in
     let l = lengths (lent (a .metrics .now) (a .sides .now) (a .words .now) (a .tables .now) (a .bits .now) (a .uncoded .now) (a .bytes .now) (a .leads .now)) in
     let w = rw (q .table-of .ensures, o .scales-of .ensures, g .mapping-of .ensures) at (p .best-reading .ensures) in
     seven-c (tableOf (a .table)) (a .scales .now) (pointRows (a .re .now) (a .im .now) ++ lastRows (tableOf (a .table)) (a .scales .now) l) (g .before .if1 .left) (p .best-reading .result) (c .number .result) (c .number .ensures) (w .0) (w .1)

@@ -18,8 +18,10 @@ same-length-2 c = search needs
 
 returns : tie.Need-returns
 returns c =
-    let d = c .before .before .before .before .isdbs-encode-frame in
-    let a = c .before .before .before .before .before .before .before .before .before .before .before .args in
+    let isdbs-encode-frame = c .before .before .before .before in
+    let start = isdbs-encode-frame .before .before .before .before .before .before .before in
+    let d = isdbs-encode-frame .isdbs-encode-frame in
+    let a = start .args in
     let l = lays (d .result) (tableOf (a .table)) (mappingOf (a .mapping)) (now (a .bytes)) (a .state) (now (a .re)) (now (a .im)) (d .last .1 .1 .1 .1 .0) (d .last .1 .1 .1 .1 .1 .0) (d .ensures .1 .0) (d .ensures .1 .1 .0) in
     (d .ensures .0, (d .ensures .1 .0, (d .ensures .1 .1 .0, (d .ensures .1 .1 .1, l))))
 

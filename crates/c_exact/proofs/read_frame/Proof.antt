@@ -34,8 +34,10 @@ same-length-4 c = search needs
 returns : tie.Need-returns
 unfolding ofBits
 returns c =
-    let d = c .before .before .before .before .before .before .before .before .isdbs-decode-frame in
-    let a = c .before .before .before .before .before .before .before .before .before .before .before .before .before .before .before .before .before .before .before .before .before .args in
+    let isdbs-decode-frame = c .before .before .before .before .before .before .before .before in
+    let start = isdbs-decode-frame .before .before .before .before .before .before .before .before .before .before .before .before .before in
+    let d = isdbs-decode-frame .isdbs-decode-frame in
+    let a = start .args in
     let t = tableOf (a .table) in
     let seven = seven-rows t (now (a .re)) (now (a .im)) eights (length (now (a .decisions))) (length (now (a .bits))) (length (now (a .bytes))) (length (now (a .counts))) refl in
     let w = d .ensures .0 ∙ ap numberOf seven in

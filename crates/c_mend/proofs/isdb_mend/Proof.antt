@@ -23,9 +23,11 @@ same-length-3 c = search needs
 
 returns : tie.Need-returns
 returns c =
-    let a = c .before .before .before .before .before .before .before .before .before .before .before .before .before .before .before .before .args in
+    let mend = c .before .before .before .before .before .before .before .before in
+    let start = mend .before .before .before .before .before .before .before .before in
+    let a = start .args in
     let n = c .before .number in
-    let m = c .before .before .before .before .before .before .before .before .mend in
+    let m = mend .mend in
     (record { far = m .ensures .far; answers = n .ensures ∙ ap numberOf (m .ensures .answers) }, left-refused (a .start) (a .end) (a .bits .now) (m .result) (a .decisions .now) _ (a .out .now) _ (a .places .now) _ (m .ensures) (n .result) (n .ensures) (a .count .now) (c .if1 .taken))
 
 same-length-4 : tie.Need-same-length-4
@@ -39,9 +41,11 @@ same-length-6 c = search needs
 
 returns-2 : tie.Need-returns-2
 returns-2 c =
-    let a = c .before .before .before .before .before .before .before .before .before .before .before .before .before .before .before .before .args in
+    let mend = c .before .before .before .before .before .before .before .before in
+    let start = mend .before .before .before .before .before .before .before .before in
+    let a = start .args in
     let n = c .before .number in
-    let m = c .before .before .before .before .before .before .before .before .mend in
+    let m = mend .mend in
     (record { far = m .ensures .far; answers = sym (c .if1 .left) ∙ n .ensures ∙ ap numberOf (m .ensures .answers) }, left-accepted (a .start) (a .end) (a .bits .now) (m .result) (a .decisions .now) _ (a .out .now) _ (a .places .now) _ (m .ensures) (n .result) (n .ensures) (a .count .now) (c .if1 .left))
 
 pub isdb-mend-spec : {M : Type 1} → statement M

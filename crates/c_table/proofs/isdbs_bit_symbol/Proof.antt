@@ -30,17 +30,21 @@ enum-told c = search needs
 
 returns : tie.Need-returns
 returns c =
-    let st = c .before .before .before .before .before .before .before .before in
     let b = c .before .before .before in
-    bit-found (st .args .word) (st .args .bit) (combinationOf (st .args .word)) (b .before .before .c .given .0 .0) (b .bit-symbol .result)
-    (sym (b .before .before .before .before .from-word .ensures) ∙ b .before .before .c .given .1) (b .bit-symbol .ensures) (c .before .symbol .given .0 .0) (c .before .symbol .given .1)
+    let at-c = b .before .before in
+    let from-word = at-c .before .before in
+    let st = from-word .before in
+    bit-found (st .args .word) (st .args .bit) (combinationOf (st .args .word)) (at-c .c .given .0 .0) (b .bit-symbol .result)
+    (sym (from-word .from-word .ensures) ∙ at-c .c .given .1) (b .bit-symbol .ensures) (c .before .symbol .given .0 .0) (c .before .symbol .given .1)
 
 returns-2 : tie.Need-returns-2
 returns-2 c =
-    let st = c .before .before .before .before .before .before .before .before .before in
     let b = c .before .before .before .before in
-    let q = bit-lost (st .args .word) (st .args .bit) (combinationOf (st .args .word)) (b .before .before .c .given .0 .0) (b .bit-symbol .result)
-    (sym (b .before .before .before .before .from-word .ensures) ∙ b .before .before .c .given .1) (b .bit-symbol .ensures) (c .number .result) (c .before .before .answer .given .0 .0) (c .before .before .answer .given .1) (c .number .ensures) in
+    let at-c = b .before .before in
+    let from-word = at-c .before .before in
+    let st = from-word .before in
+    let q = bit-lost (st .args .word) (st .args .bit) (combinationOf (st .args .word)) (at-c .c .given .0 .0) (b .bit-symbol .result)
+    (sym (from-word .from-word .ensures) ∙ at-c .c .given .1) (b .bit-symbol .ensures) (c .number .result) (c .before .before .answer .given .0 .0) (c .before .before .answer .given .1) (c .number .ensures) in
     (q .0, kept (c .number .result) _ _ (q .1))
 
 returns-3 : tie.Need-returns-3

@@ -75,11 +75,13 @@ loop-less c = search needs
 
 loop-again : tie.Need-loop-again Inv-loop μ-loop
 loop-again c =
-    let st = c .before .before .before .before .before .before .before .before .before in
-    let at = c .before .before .before .before .before .loop in
+    let tested = c .before .before .before .before in
+    let looped = tested .before in
+    let st = looped .before .before .before .before in
+    let at = looped .loop in
     let h = at .inv in
     let room = st .pre .2 in
-    let inside = c .before .before .before .before .loop-test .taken in
+    let inside = tested .loop-test .taken in
     let f : ℕ → Float = λ k. conjugated (st .args .turn-a) (getD (st .args .a .now) (st .args .from + k) nan) in
     let g : ℕ → Float = λ k. conjugated (st .args .turn-b) (getD (st .args .b .now) (st .args .from + k) nan) in (
       omega arith,

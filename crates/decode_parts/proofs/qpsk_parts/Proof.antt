@@ -18,16 +18,20 @@ same-length c = search needs
 
 returns : tie.Need-returns
 returns c =
-    let a = c .before .before .before .before .before .before .before .before .args in
-    c .before .before .by-turns .ensures ∙ imaginary-first (a .re .now) (a .im .now) (a .m) (a .from) (a .n) (a .parts .now) (c .before .before .before .before .if1 .taken)
+    let if1 = c .before .before .before .before in
+    let start = if1 .before .before .before .before in
+    let a = start .args in
+    c .before .before .by-turns .ensures ∙ imaginary-first (a .re .now) (a .im .now) (a .m) (a .from) (a .n) (a .parts .now) (if1 .if1 .taken)
 
 same-length-2 : tie.Need-same-length-2
 same-length-2 c = search needs
 
 returns-2 : tie.Need-returns-2
 returns-2 c =
-    let a = c .before .before .before .before .before .before .before .before .args in
-    c .before .before .by-turns2 .ensures ∙ real-first (a .re .now) (a .im .now) (a .m) (a .from) (a .n) (a .parts .now) (c .before .before .before .before .if1 .left)
+    let if1 = c .before .before .before .before in
+    let start = if1 .before .before .before .before in
+    let a = start .args in
+    c .before .before .by-turns2 .ensures ∙ real-first (a .re .now) (a .im .now) (a .m) (a .from) (a .n) (a .parts .now) (if1 .if1 .left)
 
 pub qpsk-parts-spec : {M : Type 1} → statement M
 qpsk-parts-spec =

@@ -19,9 +19,11 @@ same-length c = search needs
 
 returns : tie.Need-returns
 returns c =
+    let soft-magnitudes = c .before .before .before .before .before .before in
+    let start = soft-magnitudes .before .before .before .before in
     let scaled = c .before .before .scale-block in
-    let filled = c .before .before .before .before .before .before .soft-magnitudes in
-    let a = c .before .before .before .before .before .before .before .before .before .before .args in
+    let filled = soft-magnitudes .soft-magnitudes in
+    let a = start .args in
     times (λ i. softOf (absolute (getD (a .xs .now) i nan))) (a .out .now) (a .n) (a .scale) (filled .last .1 .1 .0) (scaled .last .0) (filled .ensures) (scaled .ensures)
 
 pub magnitude-block-spec : {M : Type 1} → statement M

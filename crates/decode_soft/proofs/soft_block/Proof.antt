@@ -18,9 +18,11 @@ same-length c = search needs
 
 returns : tie.Need-returns
 returns c =
+    let soft-values = c .before .before .before .before .before .before in
+    let start = soft-values .before .before .before .before in
     let scaled = c .before .before .scale-block in
-    let filled = c .before .before .before .before .before .before .soft-values in
-    let a = c .before .before .before .before .before .before .before .before .before .before .args in
+    let filled = soft-values .soft-values in
+    let a = start .args in
     times (λ i. softOf (getD (a .xs .now) i nan)) (a .out .now) (a .n) (a .scale) (filled .last .1 .1 .0) (scaled .last .0) (filled .ensures) (scaled .ensures)
 
 pub soft-block-spec : {M : Type 1} → statement M

@@ -46,26 +46,30 @@ add-if5 c =
 
 returns-5 : tie.Need-returns-5
 returns-5 c =
-    let at = c .before .before .before .before .before .before .before .before in
+    let some-beyond = c .before .before .before .before in
+    let if1 = some-beyond .before .before in
+    let at = if1 .before .before in
     let a = at .args in
     let d = c .before .depth-of .ensures in
     rw (
-      le-ltb 1024 (a .traceback) (c .before .before .before .before .before .before .if1 .left),
-      eq-eqb (length (a .pairs .now) % 2) 0 (c .before .before .before .before .before .if2 .left),
-      sym (c .before .before .before .before .some-beyond .ensures) ∙ c .before .before .before .if3 .left,
+      le-ltb 1024 (a .traceback) (if1 .if1 .left),
+      eq-eqb (length (a .pairs .now) % 2) 0 (some-beyond .before .if2 .left),
+      sym (some-beyond .some-beyond .ensures) ∙ c .before .before .before .if3 .left,
       le-ltb (a .out) (length (a .pairs .now) / 2) (c .before .before .if4 .left),
       lt-ltb (a .decisions) (4096 + depth (a .traceback)) (rw d at (c .if5 .taken)),
     ) refl
 
 returns-6 : tie.Need-returns-6
 returns-6 c =
-    let at = c .before .before .before .before .before .before .before .before in
+    let some-beyond = c .before .before .before .before in
+    let if1 = some-beyond .before .before in
+    let at = if1 .before .before in
     let a = at .args in
     let d = c .before .depth-of .ensures in
     rw (
-      le-ltb 1024 (a .traceback) (c .before .before .before .before .before .before .if1 .left),
-      eq-eqb (length (a .pairs .now) % 2) 0 (c .before .before .before .before .before .if2 .left),
-      sym (c .before .before .before .before .some-beyond .ensures) ∙ c .before .before .before .if3 .left,
+      le-ltb 1024 (a .traceback) (if1 .if1 .left),
+      eq-eqb (length (a .pairs .now) % 2) 0 (some-beyond .before .if2 .left),
+      sym (some-beyond .some-beyond .ensures) ∙ c .before .before .before .if3 .left,
       le-ltb (a .out) (length (a .pairs .now) / 2) (c .before .before .if4 .left),
       le-ltb (a .decisions) (4096 + depth (a .traceback)) (rw d at (c .if5 .left)),
     ) refl

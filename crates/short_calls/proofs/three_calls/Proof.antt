@@ -22,10 +22,14 @@ same-length-2 c = search needs
 
 returns : tie.Need-returns
 returns c =
-    let f = c .before .before .before .before .flush in
-    let p = c .before .before .before .before .before .before .before .before .before .before .before .push-metrics in
-    let s = c .before .before .before .before .before .before .before .before .before .before .before .before .before .before .started in
-    let a = c .before .before .before .before .before .before .before .before .before .before .before .before .before .before .before .before .before .before .args in (
+    let flush = c .before .before .before .before in
+    let push-metrics = flush .before .before .before .before .before .before .before in
+    let started = push-metrics .before .before .before in
+    let start = started .before .before .before .before in
+    let f = flush .flush in
+    let p = push-metrics .push-metrics in
+    let s = started .started in
+    let a = start .args in (
       s .ensures .0,
       (
         s .ensures .1,

@@ -53,32 +53,34 @@ first-beyond-requires c κs = search needs
 
 returns-5 : tie.Need-returns-5
 returns-5 c =
-    let a = c .before .before .before .before .before .before .before .before .before .args in
+    let if3 = c .before .before .before .before in
+    let start = if3 .before .before .before .before .before in
+    let a = start .args in
     let half = c .before .before .half in
-    let fewer = c .before .before .before in
     let all = states-are (a .code) (half .result) (half .ensures .2) in
     let beyond : someBeyond pathLimit (take (statesOf (a .code)) (a .pm .now)) ≡ true =
     sym (ap (λ (k : ℕ). someBeyond pathLimit (take k (a .pm .now))) all) ∙ sym (c .before .first-beyond .ensures) ∙ c .if5 .taken in
     rw (
       ne-eqb (a .traceback) 0 (search needs),
       le-ltb 1024 (a .traceback) (search needs),
-      sym (fewer .before .before .bad .ensures) ∙ fewer .before .if3 .left,
+      sym (if3 .before .bad .ensures) ∙ if3 .if3 .left,
       lt-leb (4096 + a .traceback) (a .held) (search needs),
       beyond,
     ) refl
 
 returns-6 : tie.Need-returns-6
 returns-6 c =
-    let a = c .before .before .before .before .before .before .before .before .before .args in
+    let if3 = c .before .before .before .before in
+    let start = if3 .before .before .before .before .before in
+    let a = start .args in
     let half = c .before .before .half in
-    let fewer = c .before .before .before in
     let all = states-are (a .code) (half .result) (half .ensures .2) in
     let beyond : someBeyond pathLimit (take (statesOf (a .code)) (a .pm .now)) ≡ false =
     sym (ap (λ (k : ℕ). someBeyond pathLimit (take k (a .pm .now))) all) ∙ sym (c .before .first-beyond .ensures) ∙ c .if5 .left in
     rw (
       ne-eqb (a .traceback) 0 (search needs),
       le-ltb 1024 (a .traceback) (search needs),
-      sym (fewer .before .before .bad .ensures) ∙ fewer .before .if3 .left,
+      sym (if3 .before .bad .ensures) ∙ if3 .if3 .left,
       lt-leb (4096 + a .traceback) (a .held) (search needs),
       beyond,
     ) refl

@@ -33,9 +33,10 @@ same-length c = search needs
 returns : tie.Need-returns
 unfolding nexts
 returns c =
-    let start = c .before .before .before .before .before .before .before .before .before in
+    let select = c .before .before .before .before .before in
+    let start = select .before .before .before .before in
     let a = start .args in
-    let selected = c .before .before .before .before .before .select in
+    let selected = select .select in
     (c .before .before .copy .ensures ∙ copied (selected .last .1 .0) (next (a .h) (labels (a .code)) rule (a .pm .now) (stepOf (a .x))) (2 * a .h) (length (a .pm .now)) (start .pre .3) (selected .ensures .0), selected .ensures .1)
 
 pub add-compare-select-spec : {M : Type 1} → statement M

@@ -48,7 +48,11 @@ same-length-3 c = search needs
 
 returns-3 : tie.Need-returns-3
 unfolding settled
-returns-3 c = λ out. rw (c .before .before .before .before .before .before .before .before .before .x3 .given .1) (c .before .before .renormalise .ensures ∙ ap (λ (y : List Float). renormalised (c .before .before .before .before .before .before .before .before .before .before .before .before .args .h) y) (c .before .before .before .before .before .before .rule-out .ensures))
+returns-3 c =
+    let rule-out = c .before .before .before .before .before .before in
+    let x3 = rule-out .before .before .before in
+    let start = x3 .before .before .before in
+    λ out. rw (x3 .x3 .given .1) (c .before .before .renormalise .ensures ∙ ap (λ (y : List Float). renormalised (start .args .h) y) (rule-out .rule-out .ensures))
 
 pub settle-spec : {M : Type 1} → statement M
 settle-spec =

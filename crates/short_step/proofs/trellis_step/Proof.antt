@@ -21,8 +21,10 @@ same-length c = search needs
 
 returns : tie.Need-returns
 returns c =
-    let a = c .before .before .before .before .before .before .before .before .before .args in
-    let selected = c .before .before .before .before .before .before .add-compare-select .ensures in
+    let add-compare-select = c .before .before .before .before .before .before in
+    let start = add-compare-select .before .before .before in
+    let a = start .args in
+    let selected = add-compare-select .add-compare-select .ensures in
     (c .before .before .settle .ensures (labels (a .code)) ∙ ap (λ (y : List Float). settled (a .h) (labels (a .code)) rule (a .i) (stepOf (a .x)) y) (selected .0), selected .1)
 
 pub trellis-step-spec : {M : Type 1} → statement M
