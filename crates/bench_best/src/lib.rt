@@ -1,6 +1,6 @@
 // The bench program's command best: the best reading of a frame, how strong it is in each slot, and whether read gives the same bytes.
-mod reading;
-mod strength;
+pub mod reading;
+pub mod strength;
 
 use crate::reading::best_of;
 use crate::reading::clean_leads;

@@ -76,3 +76,5 @@ pub record BlockMade (list : List Run) (count : ℕ) (m : Mapping) (load : List 
   pub state-is : r .state ≡ stateAt Isdb.half s (inputsOf (take count list) load) (stepAt list count r)
   pub re-is : xs ≡ laid (upto (λ i. pointOf (take count list) m load s (at .symbol + i) .re) (r .symbol - at .symbol)) xs₀
   pub im-is : ys ≡ laid (upto (λ i. pointOf (take count list) m load s (at .symbol + i) .im) (r .symbol - at .symbol)) ys₀
+  -- it lies in one run
+  pub in-run : r .symbol ≤ symbolsAt (take count list) (at .run + 1)

@@ -227,4 +227,5 @@ module _ (list : List Run) (count : ℕ) (at : Place) (el : length (take count l
           state-is = w .state-is ∙ state-part rs m load s tl g (a .member) (at .step) n (hr .whole) (x .inside) (at .state) reached state (t′ .state-is) ∙ ap (λ (k : ℕ). stateAt 32 s (inputsOf rs load) k) (sym (w .step-is));
           re-is = t′ .re-is ∙ ap (λ (l : List Float). laid l xs₀) (upto-cong _ (λ i. pointOf rs m load s (at .symbol + i) .re) (pieceSymbols c n) (λ j l. ap (λ (z : Cplx). z .re) (point j l)) ∙ ap (upto (λ i. pointOf rs m load s (at .symbol + i) .re)) size);
           im-is = t′ .im-is ∙ ap (λ (l : List Float). laid l ys₀) (upto-cong _ (λ i. pointOf rs m load s (at .symbol + i) .im) (pieceSymbols c n) (λ j l. ap (λ (z : Cplx). z .im) (point j l)) ∙ ap (upto (λ i. pointOf rs m load s (at .symbol + i) .im)) size);
+          in-run = omega (arith, w .symbol-is, symbols-inside);
         }

@@ -1,0 +1,2 @@
+pub mod Qualities
+pub mod Rows
