@@ -2,7 +2,7 @@
 mod keeping;
 mod picture;
 mod points;
-mod weigh;
+mod weighing;
 
 use bench_line::space::BIT_SPACE;
 use bench_line::space::LOAD_SPACE;
@@ -35,10 +35,10 @@ use points::Held;
 use points::read_points;
 use refusal::Answer;
 use trellis::FRAME_WORDS;
-use weigh::best_beside;
-use weigh::judge_bytes;
-use weigh::measure;
-use weigh::weighed;
+use weighing::best_beside;
+use weighing::judge_bytes;
+use weighing::measure;
+use weighing::weighed;
 
 fn is_eight(x: f32) -> bool {
     x == 8.0f32

@@ -52,7 +52,7 @@ fn no_input() -> Input {
 }
 
 // Points of a file, and how they are to be read.
-fn held(is_good: bool, count: usize, over: usize, input: Input, reading: Reading) -> Held {
+fn holding(is_good: bool, count: usize, over: usize, input: Input, reading: Reading) -> Held {
     Held {
         is_good,
         count,
@@ -65,7 +65,7 @@ fn held(is_good: bool, count: usize, over: usize, input: Input, reading: Reading
 // No points.
 fn nothing(s: Reading) -> Held {
     let i = no_input();
-    held(false, 0, 0, i, s)
+    holding(false, 0, 0, i, s)
 }
 
 // Opens the frame, where the outputs may be written; else says why not and answers -1.
@@ -227,7 +227,7 @@ fn hold_full(
     };
     let i = input_of(sum, FRAME_SYMBOLS, h.turn, h.w1, h.last);
     let r = of_kind(s, kind_by(h, s.first));
-    held(true, MAIN_SYMBOLS, 0, i, r)
+    holding(true, MAIN_SYMBOLS, 0, i, r)
 }
 
 // Main points: nothing tells their kind.
@@ -249,7 +249,7 @@ fn hold_main(
     copy(full_im, im);
     let count = main_points(got.count);
     let i = input_of(sum, count, NO_HEADER, 0, 0);
-    held(true, count, got.over, i, s)
+    holding(true, count, got.over, i, s)
 }
 
 // The last line where a full frame has too few points.
