@@ -46,7 +46,8 @@ version=$(tools/declarations version)
 number=$(echo "$version" | awk -F. '{ print 10000 * $1 + 100 * $2 + $3 }')
 [ "$(head -n 1 "$out/version.txt")" = "$version $number $number" ] || fail "header and library say '$(head -n 1 "$out/version.txt")', not '$version $number $number'"
 [ "$(pkg-config --modversion isdb)" = "$version" ] || fail "isdb.pc says $(pkg-config --modversion isdb)"
-grep -q "b\"bench $version\\\\nok\\\\n\"" crates/bench_setting/src/usage.rt || fail "crates/bench_setting/src/usage.rt does not say 'bench $version'"
+digits=$(printf '%s' "$version" | sed "s/./b'&', /g; s/, \$//")
+grep -qF "VERSION: [u8; 5] = [$digits];" crates/bench_setting/src/usage.rt || fail "crates/bench_setting/src/usage.rt does not say '$version'"
 echo "ok: version $version ($number) in the header, the library, isdb.pc and the bench"
 
 # Python: the same words as C, then the tests

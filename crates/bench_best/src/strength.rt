@@ -119,3 +119,35 @@ pub fn differing(t: Table, v: usize, best: &[u8], read: &[u8], apart: &mut [u32;
         apart[k] = is_apart(t, v, best, read, k);
     }
 }
+
+// A strength, up to the most that is told apart.
+fn told(percent: u64) -> u32 {
+    if percent > 999_900 {
+        return 999_900;
+    }
+    percent as u32
+}
+
+// The strength of each slot, of its lead and the clean one.
+pub fn strengths(leads: &[u64; SLOTS], clean: &[u64; SLOTS], out: &mut [u32; SLOTS]) {
+    for k in 0..SLOTS {
+        out[k] = told(percent(leads[k], clean[k]));
+    }
+}
+
+// The first place at which two loads differ, or the shorter one's end.
+pub fn first_apart(a: &[u8], b: &[u8]) -> usize {
+    let mut i: usize = 0;
+    while i < a.len() && i < b.len() {
+        if a[i] != b[i] {
+            break;
+        }
+        i = i + 1;
+    }
+    i
+}
+
+// The byte at a place; 0 where there is none.
+pub fn byte_at(s: &[u8], i: usize) -> u8 {
+    if i < s.len() { s[i] } else { 0 }
+}

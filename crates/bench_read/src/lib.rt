@@ -1,20 +1,27 @@
-// The bench program's command read: points of a frame to bytes, with the verdict on them, and to a picture where one is asked for.
-use bench_files::files;
-use bench_files::files::Got;
+// The bench program's command read: points of a frame to bytes, with the verdict on them; and to a picture, a report and the best reading's bytes where they are asked for.
+mod keeping;
+mod picture;
+mod points;
+mod weighing;
+
 use bench_line::space::BIT_SPACE;
 use bench_line::space::LOAD_SPACE;
 use bench_line::words::front;
 use bench_line::words::front_parts;
-use bench_line::words::part;
-use bench_picture::are_apart;
-use bench_picture::keep;
-use bench_picture::open;
+use bench_outputs::are_apart;
+use bench_quality::NUMBERS;
+use bench_quality::Sums;
 use bench_setting::choice::Reading;
-use bench_setting::choice::picture_of;
 use bench_setting::choice::reading_of;
+use bench_verdict::facts::Facts;
+use bench_verdict::facts::Frame;
+use bench_verdict::facts::OUTSIDE;
+use bench_verdict::facts::ROWS;
+use bench_verdict::facts::STRAINED;
+use bench_verdict::facts::set_row;
+use bench_verdict::facts::take_row;
 use bench_words::report;
 use bench_words::report::Valid;
-use bench_words::text::file;
 use bench_words::text::say;
 use bench_words::text::text;
 use isdbs_core::frame::MAIN_SYMBOLS;
@@ -23,9 +30,15 @@ use isdbs_phy::demod::DemodOptions;
 use isdbs_phy::demod::FrameDecoded;
 use isdbs_phy::demod::decode_frame;
 use judge::FrameJudged;
-use judge::judge;
-use picture_chart::Facts;
+use keeping::conclude;
+use points::Held;
+use points::read_points;
+use refusal::Answer;
 use trellis::FRAME_WORDS;
+use weighing::best_beside;
+use weighing::judge_bytes;
+use weighing::measure;
+use weighing::weighed;
 
 fn is_eight(x: f32) -> bool {
     x == 8.0f32
@@ -39,72 +52,106 @@ fn is_plain(s: Reading) -> bool {
     s.known_start & low & high
 }
 
-// Reports what was read, and the verdict on it.
-fn tell(s: Reading, f: Facts, counts: &[u32; SLOTS], outside: &[u32; SLOTS]) {
-    let t = f.table;
+// Reports what was read, and whether the points prove it.
+fn tell(s: Reading, f: Frame, facts: &Facts, turn: u8) {
     say(b"decoded: $ trellis steps\n", &[f.steps]);
-    bench_verdict::by_slot(t, counts);
     bench_verdict::in_all(f.steps, f.strained);
     if !is_plain(s) {
         text(
             b"read by other settings than a known start and all scales at 8; judged are the bytes that they gave\n",
         );
     }
-    bench_verdict::tell(f.size, f.outside, outside, f.strained, counts);
+    let mut counts = [0u32; SLOTS];
+    let mut outside = [0u32; SLOTS];
+    take_row(facts, STRAINED, &mut counts);
+    take_row(facts, OUTSIDE, &mut outside);
+    bench_verdict::tell(f.size, f.outside, &outside, f.strained, &counts, turn);
 }
 
-// Judges the bytes that were read of `points` points.
-fn judge_bytes(
-    s: Reading,
-    points: usize,
+// Lays what was read and judged beside the best reading and the points; says and keeps it.
+fn weigh_judged(
+    h: Held,
+    line: &[u8],
+    f: Frame,
+    outside: u32,
     bytes: &[u8],
     re: &[f64; MAIN_SYMBOLS],
     im: &[f64; MAIN_SYMBOLS],
-    outside: &mut [u32; SLOTS],
-) -> FrameJudged {
-    let t = s.table;
-    let m = s.mapping;
-    judge(
-        front_parts(re, points),
-        front_parts(im, points),
-        t,
-        m,
-        s.first,
-        bytes,
-        outside,
-    )
+    best: &mut [u8; LOAD_SPACE],
+    facts: &mut Facts,
+    sums: &mut Sums,
+) {
+    let s = h.reading;
+    let n = h.count;
+    let i = h.input;
+    let answer = best_beside(s, n, f.valid, bytes, re, im, best, facts);
+    let Answer::Accepted = answer else {
+        report::refuse(answer);
+        return;
+    };
+    let measured = measure(s, n, bytes, re, im, sums);
+    let Answer::Accepted = measured else {
+        report::refuse(measured);
+        return;
+    };
+    let found = front(best, bytes.len());
+    let w = weighed(f, outside, bytes, found);
+    tell(s, w, facts, i.turn);
+    conclude(s, line, i, w, bytes, found, facts, sums, re, im);
 }
 
-// Judges what was read, and keeps it.
-fn conclude(
-    s: Reading,
+// Weighs what was read, over lent space; says and keeps it.
+fn weigh_over(
+    h: Held,
     line: &[u8],
-    points: usize,
-    steps: usize,
-    strained: u32,
+    f: Frame,
+    bytes: &[u8],
+    re: &[f64; MAIN_SYMBOLS],
+    im: &[f64; MAIN_SYMBOLS],
+    best: &mut [u8; LOAD_SPACE],
+    facts: &mut Facts,
+    sums: &mut Sums,
+) {
+    let s = h.reading;
+    let judged = judge_bytes(s, h.count, bytes, re, im, facts);
+    match judged {
+        FrameJudged::Judged(outside) => {
+            weigh_judged(h, line, f, outside, bytes, re, im, best, facts, sums)
+        }
+        FrameJudged::Refused(answer) => report::refuse(answer),
+    }
+}
+
+// The same, on space of its own.
+fn weigh(
+    h: Held,
+    line: &[u8],
+    f: Frame,
     bytes: &[u8],
     counts: &[u32; SLOTS],
     re: &[f64; MAIN_SYMBOLS],
     im: &[f64; MAIN_SYMBOLS],
 ) {
+    let mut best = [0u8; LOAD_SPACE];
+    let mut facts = [0u32; ROWS * SLOTS];
+    let mut sums = [0.0f64; NUMBERS * SLOTS];
+    set_row(&mut facts, STRAINED, counts);
+    weigh_over(h, line, f, bytes, re, im, &mut best, &mut facts, &mut sums);
+}
+
+// The frame as it was decoded.
+fn decoded(s: Reading, v: usize, size: usize, steps: usize, strained: u32) -> Frame {
     let table = s.table;
-    let mut outside = [0u32; SLOTS];
-    let judged = judge_bytes(s, points, bytes, re, im, &mut outside);
-    match judged {
-        FrameJudged::Judged(sum) => {
-            let f = Facts {
-                table,
-                steps,
-                strained,
-                size: bytes.len(),
-                outside: sum,
-            };
-            tell(s, f, counts, &outside);
-            if keep(s, f, line, bytes, counts, &outside, re, im) {
-                bench_verdict::end(sum);
-            }
-        }
-        FrameJudged::Refused(answer) => report::refuse(answer),
+    Frame {
+        table,
+        valid: v,
+        size,
+        steps,
+        strained,
+        outside: 0,
+        apart_at: size,
+        read_byte: 0,
+        best_byte: 0,
     }
 }
 
@@ -140,88 +187,57 @@ fn decode(
     )
 }
 
-// Decodes the points, and keeps what was read or says why they are refused.
-fn read_points(
-    s: Reading,
+// Decodes the points over lent space, and weighs what was read or says why they are refused.
+fn decode_over(
+    h: Held,
+    v: usize,
     line: &[u8],
-    points: Got,
     re: &[f64; MAIN_SYMBOLS],
     im: &[f64; MAIN_SYMBOLS],
     decisions: &mut [u64; FRAME_WORDS],
     bits: &mut [u8; BIT_SPACE],
     bytes: &mut [u8; LOAD_SPACE],
 ) {
-    let n = points.count;
+    let s = h.reading;
+    let n = h.count;
     let mut counts = [0u32; SLOTS];
     let done = decode(s, n, re, im, decisions, bits, bytes, &mut counts);
     match done {
-        FrameDecoded::Decoded(size, steps, strained) => conclude(
-            s,
+        FrameDecoded::Decoded(size, steps, strained) => weigh(
+            h,
             line,
-            n,
-            steps,
-            strained,
+            decoded(s, v, size, steps, strained),
             front(bytes, size),
             &counts,
             re,
             im,
         ),
-        FrameDecoded::Refused(answer) => report::refuse_reading(answer, n, points.over, re, im),
+        FrameDecoded::Refused(answer) => report::refuse_reading(answer, n, h.over, re, im),
     }
 }
 
 // The same, on space of its own.
-fn read_in_space(
-    s: Reading,
-    line: &[u8],
-    points: Got,
-    re: &[f64; MAIN_SYMBOLS],
-    im: &[f64; MAIN_SYMBOLS],
-) {
+fn decode_held(h: Held, v: usize, line: &[u8], re: &[f64; MAIN_SYMBOLS], im: &[f64; MAIN_SYMBOLS]) {
     let mut decisions = [0u64; FRAME_WORDS];
     let mut bits = [0u8; BIT_SPACE];
     let mut bytes = [0u8; LOAD_SPACE];
-    read_points(
-        s,
-        line,
-        points,
-        re,
-        im,
-        &mut decisions,
-        &mut bits,
-        &mut bytes,
-    );
-}
-
-// Reads the points of the frame; says what was read.
-fn points_of(line: &[u8], re: &mut [f64; MAIN_SYMBOLS], im: &mut [f64; MAIN_SYMBOLS]) -> Got {
-    let input = part(line, 0, 4);
-    let opened = open(input, part(line, 0, 5), picture_of(line));
-    if opened < 0 {
-        return files::nothing();
-    }
-    text(b"reading the points\n");
-    let got = files::read_points(opened, input, re, im);
-    if got.well {
-        file(b"frame", input, got.count, b" points; decoding\n");
-    }
-    got
+    decode_over(h, v, line, re, im, &mut decisions, &mut bits, &mut bytes);
 }
 
 // Reads the frame, where the outputs can be written.
-fn read_frame(s: Reading, line: &[u8]) {
-    if !are_apart(part(line, 0, 5), picture_of(line)) {
+fn read_frame(s: Reading, v: usize, line: &[u8]) {
+    if !are_apart(line) {
         return;
     }
     let mut re = [0.0f64; MAIN_SYMBOLS];
     let mut im = [0.0f64; MAIN_SYMBOLS];
-    let got = points_of(line, &mut re, &mut im);
-    if got.well {
-        read_in_space(s, line, got, &re, &im);
+    let h = read_points(s, line, &mut re, &mut im);
+    if h.is_good {
+        decode_held(h, v, line, &re, &im);
     }
 }
 
-// bench read TABLE MAPPING KIND FRAME BYTES [unknown] [SCALES] [chart FILE]
+// bench read TABLE MAPPING KIND FRAME BYTES [unknown] [SCALES] [full] [all] [best BYTES2] [chart FILE] [report FILE] [json FILE]
 pub fn read(line: &[u8]) {
     let s = reading_of(line);
     if !s.is_good {
@@ -229,7 +245,7 @@ pub fn read(line: &[u8]) {
     }
     let t = s.table;
     match report::table(t) {
-        Valid::Slots(_) => read_frame(s, line),
+        Valid::Slots(v) => read_frame(s, v, line),
         Valid::Refused => {}
     }
 }

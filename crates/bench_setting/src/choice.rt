@@ -1,17 +1,19 @@
 // The words of read and best.
+use crate::options::first_bad;
+pub use crate::options::has;
+pub use crate::options::named;
 use crate::setting::Setting;
 use crate::setting::no_setting;
 use crate::setting::setting_at;
+use crate::setting::setting_of;
 use crate::usage::misused;
 use bench_line::words;
 use bench_line::words::MaybeScale;
-use bench_line::words::front;
 use bench_line::words::part;
 use bench_line::words::parts;
 use bench_line::words::same;
 use isdbs_core::tmcc::Table;
 use isdbs_points::Mapping;
-ghost use Prim.Native.Nat.{_<_};
 
 // A scale for each combination.
 const SCALES: usize = 7;
@@ -48,7 +50,7 @@ fn at_eight(is_good: bool, known_start: bool) -> Choice {
 
 fn bad_choice(word: &[u8]) -> Choice {
     misused(
-        b"after BYTES comes [unknown] [SCALES], of read also [chart FILE], not",
+        b"after BYTES come [unknown] [SCALES], of read also [full] [all] [best BYTES2] [chart FILE] [report FILE] [json FILE], each once, not",
         word,
     );
     at_eight(false, false)
@@ -79,77 +81,56 @@ fn seven_scales(list: &[u8], known_start: bool) -> Choice {
     chosen(true, known_start, scales)
 }
 
-// The word scale and a number, or the word scales and seven, as words i and i + 1.
-fn scale_at(line: &[u8], i: usize, known_start: bool) -> Choice
-    requires { ⌜ i < 16 ⌝ }
-{
-    let word = part(line, 0, i);
-    let numbers = part(line, 0, i + 1);
-    if same(word, b"scale") {
-        return one_scale(numbers, known_start);
+// The scales: one for all, seven, or 8.
+fn scales_of(line: &[u8], known_start: bool) -> Choice {
+    if has(line, b"scale") {
+        if has(line, b"scales") {
+            return bad_choice(b"scales");
+        }
+        return one_scale(named(line, b"scale"), known_start);
     }
-    if same(word, b"scales") {
-        return seven_scales(numbers, known_start);
+    if has(line, b"scales") {
+        return seven_scales(named(line, b"scales"), known_start);
     }
-    bad_choice(word)
+    at_eight(true, known_start)
 }
 
-// The words from the sixth on, of which there are n in all.
-fn choice_of(line: &[u8], n: usize) -> Choice {
-    if n == 6 {
-        return at_eight(true, true);
+// The words after BYTES, which are some of a list's.
+fn choice_of(line: &[u8], list: &[u8]) -> Choice {
+    let bad = first_bad(line, list);
+    if bad > 0 {
+        return bad_choice(part(line, 0, bad));
     }
-    if n == 8 {
-        return scale_at(line, 6, true);
-    }
-    if !same(part(line, 0, 6), b"unknown") {
-        return bad_choice(part(line, 0, 6));
-    }
-    if n == 7 {
-        return at_eight(true, false);
-    }
-    scale_at(line, 7, false)
+    scales_of(line, !has(line, b"unknown"))
 }
 
-// How many words stand before `chart FILE`.
-fn words_before(line: &[u8]) -> usize {
-    let n = parts(line, 0);
-    if n < 8 {
-        return n;
-    }
-    if same(part(line, 0, n - 2), b"chart") {
-        return n - 2;
-    }
-    n
-}
-
-// The name after `chart`, or none.
-pub fn picture_of<'a>(line: &'a [u8]) -> &'a [u8] {
-    let before = words_before(line);
-    if before < parts(line, 0) {
-        return part(line, 0, before + 1);
-    }
-    front(line, 0)
-}
-
-// TABLE, MAPPING and KIND, where there are as many words as there may be.
-fn setting_for(line: &[u8], n: usize, form: &[u8]) -> Setting {
-    if n < 6 || n > 9 {
+// TABLE, MAPPING and KIND, where there are as many words as there must be.
+fn setting_for(line: &[u8], form: &[u8]) -> Setting {
+    if parts(line, 0) < 6 {
         misused(form, b"");
         return no_setting();
     }
     setting_at(line)
 }
 
-// The words after those, where they were understood.
-fn choice_after(is_good: bool, line: &[u8], n: usize) -> Choice {
-    if !is_good {
-        return at_eight(false, false);
+// The same of read, of which KIND may be `header`.
+fn setting_of_read(line: &[u8], form: &[u8]) -> Setting {
+    if kind_is_header(line) {
+        if parts(line, 0) >= 6 {
+            return setting_of(part(line, 0, 1), part(line, 0, 2), b"other");
+        }
     }
-    choice_of(line, n)
+    setting_for(line, form)
 }
 
-fn reading_by(s: Setting, c: Choice) -> Reading {
+// Whether KIND is left to the frame's header.
+pub fn kind_is_header(line: &[u8]) -> bool {
+    same(part(line, 0, 3), b"header")
+}
+
+// The reading by a setting and the words after it, where both are understood.
+fn reading_by(s: Setting, line: &[u8], list: &[u8]) -> Reading {
+    let c = choice_after(s.is_good, line, list);
     let table = s.table;
     let mapping = s.mapping;
     let scales = c.scales;
@@ -163,27 +144,47 @@ fn reading_by(s: Setting, c: Choice) -> Reading {
     }
 }
 
-// The reading by the first n words.
-fn reading_for(line: &[u8], n: usize, form: &[u8]) -> Reading {
-    let s = setting_for(line, n, form);
-    let c = choice_after(s.is_good, line, n);
-    reading_by(s, c)
+// The words after TABLE, MAPPING and KIND, where those were understood.
+fn choice_after(is_good: bool, line: &[u8], list: &[u8]) -> Choice {
+    if !is_good {
+        return at_eight(false, false);
+    }
+    choice_of(line, list)
 }
 
-// read TABLE MAPPING KIND FRAME BYTES [unknown] [SCALES] [chart FILE]
+// read TABLE MAPPING KIND FRAME BYTES [unknown] [SCALES] [full] [all] [best BYTES2] [chart FILE] [report FILE] [json FILE]
 pub fn reading_of(line: &[u8]) -> Reading {
-    reading_for(
+    let s = setting_of_read(
         line,
-        words_before(line),
-        b"read takes TABLE MAPPING KIND FRAME BYTES [unknown] [SCALES] [chart FILE]",
+        b"read takes TABLE MAPPING KIND FRAME BYTES [unknown] [SCALES] [full] [all] [best BYTES2] [chart FILE] [report FILE] [json FILE]",
+    );
+    reading_by(
+        s,
+        line,
+        b"unknown scale scales full main all best chart report json",
     )
 }
 
 // best TABLE MAPPING KIND FRAME BYTES [unknown] [SCALES]
 pub fn best_reading_of(line: &[u8]) -> Reading {
-    reading_for(
+    let s = setting_for(
         line,
-        parts(line, 0),
         b"best takes TABLE MAPPING KIND FRAME BYTES [unknown] [SCALES]",
-    )
+    );
+    reading_by(s, line, b"unknown scale scales")
+}
+
+// The same reading of a frame of another kind.
+pub fn of_kind(s: Reading, first: bool) -> Reading {
+    let table = s.table;
+    let mapping = s.mapping;
+    let scales = s.scales;
+    Reading {
+        is_good: s.is_good,
+        table,
+        mapping,
+        first,
+        known_start: s.known_start,
+        scales,
+    }
 }

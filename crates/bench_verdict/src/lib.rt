@@ -1,69 +1,18 @@
-// The verdict in words: whether the points of a frame prove the bytes that were read, or those at hand; and its strain, a line for each valid slot with a
-// strained step.
-use bench_words::text::combination;
+// The verdict in words: whether the points of a frame prove the bytes that were read, or those at hand; what a reading is worth; and its strain.
+pub mod facts;
+pub mod firm;
+pub mod last;
+
 use bench_words::text::count;
 use bench_words::text::say;
 use bench_words::text::text;
 use isdbs_core::frame::SLOTS;
-use isdbs_core::slots;
-use isdbs_core::slots::Run;
-use isdbs_core::tmcc::Table;
+use last::NO_HEADER;
 ghost use Prim.Native.Nat.{_≤_};
 ghost use Rattle.isdbs_combination.specs.Combinations.{frameSlots};
 
 fn wide(n: u32) -> usize {
     n as usize
-}
-
-// Valid slot k of the frame, which a run has.
-fn slot_line(k: usize, r: Run, strained: u32) {
-    if strained == 0 {
-        return;
-    }
-    let c = r.combination;
-    say(b"  valid slot $, ", &[k]);
-    combination(c);
-    say(
-        b": $ of $ steps strained\n",
-        &[wide(strained), c.steps_per_slot()],
-    );
-}
-
-// The line of slot v of a run, which is valid slot k of the frame, if there is such a slot; then the valid slot after it.
-fn slot_in(r: Run, v: usize, k: usize, counts: &[u32; SLOTS]) -> usize
-    requires { ⌜ k ≤ frameSlots ⌝ }
-    ensures { λ r. ⌜ r ≤ frameSlots ⌝ }
-{
-    if v >= r.valid_slots {
-        return k;
-    }
-    if k >= SLOTS {
-        return k;
-    }
-    slot_line(k, r, counts[k]);
-    k + 1
-}
-
-// The valid slots of a run, of which the first is valid slot `from` of the frame; then the first of the next run.
-fn run_lines(r: Run, from: usize, counts: &[u32; SLOTS]) -> usize
-    requires { ⌜ from ≤ frameSlots ⌝ }
-    ensures { λ r. ⌜ r ≤ frameSlots ⌝ }
-{
-    let mut k = from;
-    for v in 0..SLOTS {
-        k = slot_in(r, v, k, counts);
-    }
-    k
-}
-
-// The strained slots of a table's frame. The runs past the last have no slot.
-pub fn by_slot(t: Table, counts: &[u32; SLOTS]) {
-    let all = slots::runs(t);
-    let rs = all.runs;
-    let a = run_lines(rs[0], 0, counts);
-    let b = run_lines(rs[1], a, counts);
-    let c = run_lines(rs[2], b, counts);
-    run_lines(rs[3], c, counts);
 }
 
 // How many steps are strained in all. Without any the frame may still be bad.
@@ -157,16 +106,37 @@ fn points_outside(sum: u32, outside: &[u32; SLOTS]) {
     places(outside, b" slot");
 }
 
-// The words of a reading: the points outside the margins of its bytes, and its strained steps.
-pub fn tell(size: usize, sum: u32, outside: &[u32; SLOTS], strained: u32, counts: &[u32; SLOTS]) {
+// What stands behind a certain reading beside its bytes: its header, whose turn is in eighths, or nothing.
+fn rest_of_certain(turn: u8) {
+    if turn == NO_HEADER {
+        text(b"; cut and phase are taken as given\n");
+        return;
+    }
+    if turn == 0 {
+        text(b", and the header fits\n");
+        return;
+    }
+    text(b"; but the header does not fit\n");
+}
+
+// The words of a reading: the points outside the margins of its bytes, its strained steps, and its header's turn.
+pub fn tell(
+    size: usize,
+    sum: u32,
+    outside: &[u32; SLOTS],
+    strained: u32,
+    counts: &[u32; SLOTS],
+    turn: u8,
+) {
     if size == 0 {
         text(b"certain: the table carries no bytes\n");
         return;
     }
     if sum == 0 {
         text(
-            b"certain: every part lies within the margins of these bytes: for these words, this cut and this phase no other bytes fit\n",
+            b"certain: every part lies within the margins of these bytes: for these words no other bytes fit",
         );
+        rest_of_certain(turn);
         return;
     }
     text(b"not certain: ");
@@ -191,7 +161,7 @@ pub fn end(sum: u32) {
 // The words of bytes at hand.
 pub fn tell_at_hand(size: usize, sum: u32, outside: &[u32; SLOTS]) {
     if size == 0 || sum == 0 {
-        tell(size, sum, outside, 0, outside);
+        tell(size, sum, outside, 0, outside, NO_HEADER);
         return;
     }
     text(b"not certain: ");
