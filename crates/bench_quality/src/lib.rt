@@ -5,6 +5,7 @@ mod words;
 use isdbs_frame::SLOTS;
 use measure::at_most;
 use measure::decibels;
+use measure::decibels_down;
 use measure::root;
 use measure::turn;
 pub use words::put_aside;
@@ -102,6 +103,14 @@ pub fn slot_quality(sums: &Sums, j: usize) -> Quality {
         sum_at(sums, j, 5),
         sum_at(sums, j, 6),
     )
+}
+
+// The modulation error ratio of slot j in tenths of a decibel, cut down to a whole one, with 300 more; `none` where no point counts.
+pub fn slot_level(sums: &Sums, j: usize, none: u32) -> u32 {
+    if sum_at(sums, j, 0) > 0.0f64 {
+        return decibels_down(sum_at(sums, j, 1), sum_at(sums, j, 2));
+    }
+    none
 }
 
 // The quality of the frame.

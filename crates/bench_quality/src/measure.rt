@@ -164,6 +164,13 @@ pub fn decibels(signal: f64, error: f64) -> u32
     tenths_above(signal * 1000.0f64 * HALF / error)
 }
 
+// The same, cut down to a whole tenth.
+pub fn decibels_down(signal: f64, error: f64) -> u32
+    ensures { λ r. ⌜ r ≤ 900 ⌝ }
+{
+    tenths_above(signal * 1000.0f64 / error)
+}
+
 // Where t is above -1 and below 2^64, its whole part; 0 elsewhere.
 pub fn whole(t: f64) -> u64 {
     if t > -1.0f64 {

@@ -38,6 +38,7 @@ use trellis::FRAME_WORDS;
 use weighing::best_beside;
 use weighing::judge_bytes;
 use weighing::measure;
+use weighing::set_lacks;
 use weighing::weighed;
 
 fn is_eight(x: f32) -> bool {
@@ -94,6 +95,7 @@ fn weigh_judged(
         report::refuse(measured);
         return;
     };
+    set_lacks(f, sums, facts);
     let found = front(best, bytes.len());
     let w = weighed(f, outside, bytes, found);
     tell(s, w, facts, i.turn);

@@ -5,6 +5,7 @@ use bench_best::strength::byte_at;
 use bench_best::strength::differing;
 use bench_best::strength::first_apart;
 use bench_best::strength::strengths;
+use bench_firm::lacks;
 use bench_line::space::LOAD_SPACE;
 use bench_line::words::front;
 use bench_line::words::front_parts;
@@ -13,9 +14,11 @@ use bench_setting::choice::Reading;
 use bench_verdict::facts::APART;
 use bench_verdict::facts::Facts;
 use bench_verdict::facts::Frame;
+use bench_verdict::facts::LACKS;
 use bench_verdict::facts::OUTSIDE;
 use bench_verdict::facts::STRENGTH;
 use bench_verdict::facts::set_row;
+use bench_verdict::facts::take_row;
 use isdbs_core::frame::MAIN_SYMBOLS;
 use isdbs_core::frame::SLOTS;
 use judge::FrameJudged;
@@ -68,6 +71,16 @@ pub fn measure(
         bytes,
         sums,
     )
+}
+
+// What each valid slot lacks to be firm, by its strength and the sums.
+pub fn set_lacks(f: Frame, sums: &Sums, facts: &mut Facts) {
+    let mut strong = [0u32; SLOTS];
+    take_row(facts, STRENGTH, &mut strong);
+    let mut out = [0u32; SLOTS];
+    let t = f.table;
+    lacks(t, f.valid, sums, &strong, &mut out);
+    set_row(facts, LACKS, &out);
 }
 
 // The strength of each slot by its lead, the clean leads being those of the best reading's bytes.

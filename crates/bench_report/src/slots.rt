@@ -7,6 +7,7 @@ use bench_quality::slot_quality;
 use bench_verdict::facts::APART;
 use bench_verdict::facts::Facts;
 use bench_verdict::facts::Frame;
+use bench_verdict::facts::LACKS;
 use bench_verdict::facts::OUTSIDE;
 use bench_verdict::facts::STRAINED;
 use bench_verdict::facts::STRENGTH;
@@ -54,18 +55,21 @@ fn is_named(f: Frame, facts: &Facts, steps: usize, k: usize) -> bool {
 
 // Weak or firm, and whether the best reading has other bytes.
 fn put_state(sheet: &mut Sheet, at: usize, facts: &Facts, k: usize) -> usize {
-    let a = put_firmness(sheet, at, is_firm(facts, k));
+    let a = put_firmness(sheet, at, fact(facts, LACKS, k));
     if fact(facts, APART, k) > 0 {
         return put(sheet, a, b"; the best reading has other bytes\n");
     }
     put(sheet, a, b"\n")
 }
 
-fn put_firmness(sheet: &mut Sheet, at: usize, so: bool) -> usize {
-    if so {
-        return at;
+// What a slot lacks.
+fn put_firmness(sheet: &mut Sheet, at: usize, lack: u32) -> usize {
+    match lack {
+        bench_firm::NOTHING => at,
+        bench_firm::NOISY => put(sheet, at, b"; noisy"),
+        bench_firm::DISTURBED => put(sheet, at, b"; disturbed"),
+        _ => put(sheet, at, b"; weak"),
     }
-    put(sheet, at, b"; weak")
 }
 
 // The line of valid slot k.
@@ -140,12 +144,11 @@ pub fn put_strengths(sheet: &mut Sheet, at: usize, f: Frame, facts: &Facts) -> u
     fill(
         sheet,
         at,
-        b"strength: @ to @ % of a clean slot's lead, least in valid slot @; firm from @ % on\n",
+        b"strength: @ to @ % of a clean slot's lead, least in valid slot @\n",
         &[
             wide(fact(facts, STRENGTH, weakest)),
             wide(fact(facts, STRENGTH, strongest)),
             weakest,
-            wide(firm::FIRM),
         ],
     )
 }

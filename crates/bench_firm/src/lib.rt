@@ -1,0 +1,251 @@
+// When the reading of a valid slot is firm: its strength beside the level (signal by error power) of the frame's slots in which it lies. A measured rule, with its tables in docs/BENCH.md.
+mod levels;
+
+use bench_quality::Sums;
+use isdbs_core::combination::Combination;
+use isdbs_core::frame::SLOTS;
+use isdbs_core::slots;
+use isdbs_core::slots::Run;
+use isdbs_core::tmcc::Table;
+use levels::Levels;
+use levels::level_at;
+use levels::levels_of;
+use levels::middle_of;
+use levels::worst_of;
+
+// What a slot lacks: nothing, level, the level of the others, strength.
+pub const NOTHING: u32 = 0;
+
+pub const NOISY: u32 = 1;
+
+pub const DISTURBED: u32 = 2;
+
+pub const WEAK: u32 = 3;
+
+// A level is in tenths of a decibel, with 300 more.
+const ZERO: u32 = 300;
+
+// So far above the level at which bytes fail a slot must lie; and by how much the end of a frame, which is open, fails higher.
+const ABOVE: u32 = 13;
+
+const OPEN: u32 = 20;
+
+// A level below the middle one by more than the usual is made up by strength, 6 % for each tenth, up to two tenths.
+const USUAL: u32 = 3;
+
+const USUAL_BPSK: u32 = 5;
+
+const MOST_SHORT: u32 = 2;
+
+const FOR_SHORT: u32 = 6;
+
+// The strength that is asked for, in percent: by the middle level, and at the frame's end or beside a slot that lies lower by more than this.
+const LEAST: u32 = 10;
+
+const MOST: u32 = 30;
+
+const HIGH: u32 = 60;
+
+const LOWER: u32 = 10;
+
+// a less b, 0 where that is below it.
+fn less(a: u32, b: u32) -> u32 {
+    if a > b { a - b } else { 0 }
+}
+
+// Both of them, each cut at a million.
+fn plus(a: u32, b: u32) -> u32 {
+    let x = if a < 1_000_000 { a } else { 1_000_000 };
+    let y = if b < 1_000_000 { b } else { 1_000_000 };
+    x + y
+}
+
+// The level at which bytes begin to fail under white noise.
+fn fails_at(c: Combination) -> u32 {
+    match c {
+        Combination::Bpsk1_2 => ZERO,
+        Combination::Qpsk1_2 => ZERO + 30,
+        Combination::Qpsk2_3 => ZERO + 50,
+        Combination::Qpsk3_4 => ZERO + 70,
+        Combination::Qpsk5_6 => ZERO + 70,
+        Combination::Qpsk7_8 => ZERO + 80,
+        Combination::Tc8psk2_3 => ZERO + 90,
+    }
+}
+
+fn usual(c: Combination) -> u32 {
+    match c {
+        Combination::Bpsk1_2 => USUAL_BPSK,
+        _ => USUAL,
+    }
+}
+
+// The strength that the middle level asks for, where bytes fail at `fails`.
+fn asked(middle: u32, fails: u32) -> u32 {
+    let x = less(middle, plus(fails, 10));
+    if x < LEAST {
+        return LEAST;
+    }
+    if x > MOST { MOST } else { x }
+}
+
+// The strength that a level short of the middle one asks for beside that.
+fn made_up(short: u32) -> u32 {
+    if short > MOST_SHORT {
+        return HIGH;
+    }
+    FOR_SHORT * short
+}
+
+// The strength that is asked for in any case.
+fn in_any_case(is_last: bool, middle: u32, beside: u32) -> u32 {
+    if is_last || plus(beside, LOWER) < middle {
+        return HIGH;
+    }
+    0
+}
+
+// What the frame around a slot says: the middle level, the worst of its own, the worst beside it; and whether it is the last.
+struct Around {
+    middle: u32,
+    worst: u32,
+    beside: u32,
+    is_last: bool,
+}
+
+// What a slot of this strength lacks.
+fn lack(c: Combination, a: Around, strength: u32) -> u32 {
+    let fails = if a.is_last {
+        plus(fails_at(c), OPEN)
+    } else {
+        fails_at(c)
+    };
+    if a.worst < plus(fails, ABOVE) {
+        return NOISY;
+    }
+    let short = less(a.middle, plus(a.worst, usual(c)));
+    if short > MOST_SHORT {
+        return DISTURBED;
+    }
+    let need = plus(asked(a.middle, fails), made_up(short));
+    if strength < need || strength < in_any_case(a.is_last, a.middle, a.beside) {
+        return WEAK;
+    }
+    NOTHING
+}
+
+// The least of two.
+fn lower(a: u32, b: u32) -> u32 {
+    if a < b { a } else { b }
+}
+
+fn before(levels: &Levels, j: usize) -> u32 {
+    if j == 0 {
+        return level_at(levels, SLOTS);
+    }
+    level_at(levels, j - 1)
+}
+
+// The slots of the frame in which valid slot i of a run lies, without the last.
+struct Span {
+    from: usize,
+    to: usize,
+}
+
+// A product of numbers below 64, else 0.
+fn times(a: usize, b: usize) -> usize {
+    if a < 64 {
+        if b < 64 {
+            return a * b;
+        }
+    }
+    0
+}
+
+fn divided(a: usize, b: usize) -> usize {
+    if b == 0 {
+        return 0;
+    }
+    a / b
+}
+
+fn plus_slots(a: usize, b: usize) -> usize {
+    if a < 65_536 {
+        if b < 65_536 {
+            return a + b;
+        }
+    }
+    SLOTS
+}
+
+fn span_of(r: Run, i: usize) -> Span {
+    let unit = r.combination.slot_unit();
+    let first = levels::slot_of(r.symbol_start);
+    let end = plus_slots(times(plus_slots(i, 1), unit.slots), unit.valid);
+    let above = if end == 0 { 0 } else { end - 1 };
+    Span {
+        from: plus_slots(first, divided(times(i, unit.slots), unit.valid)),
+        to: plus_slots(first, divided(above, unit.valid)),
+    }
+}
+
+// What valid slot i of a run lacks, where it is the frame's last or not.
+fn lack_in(r: Run, i: usize, is_last: bool, levels: &Levels, middle: u32, strength: u32) -> u32 {
+    let span = span_of(r, i);
+    let around = Around {
+        middle,
+        worst: worst_of(levels, span.from, span.to),
+        beside: lower(before(levels, span.from), level_at(levels, span.to)),
+        is_last,
+    };
+    lack(r.combination, around, strength)
+}
+
+// The run of valid slot k and its number in it, of the runs from a on that have it.
+struct Place {
+    run: usize,
+    i: usize,
+}
+
+fn place_of(rs: [Run; 4], k: usize) -> Place {
+    let mut left = k;
+    for n in 0..3 {
+        let r = rs[n];
+        if left < r.valid_slots {
+            return Place { run: n, i: left };
+        }
+        left = left - r.valid_slots;
+    }
+    Place { run: 3, i: left }
+}
+
+// What each of the `valid` valid slots of these strengths lacks; NOTHING past them.
+pub fn lacks(t: Table, valid: usize, sums: &Sums, strong: &[u32; SLOTS], out: &mut [u32; SLOTS]) {
+    let all = slots::runs(t);
+    let rs = all.runs;
+    let levels = levels_of(rs, all.count, sums);
+    let middle = middle_of(&levels);
+    for k in 0..SLOTS {
+        out[k] = lack_at(rs, valid, k, &levels, middle, strong[k]);
+    }
+}
+
+fn lack_at(
+    rs: [Run; 4],
+    valid: usize,
+    k: usize,
+    levels: &Levels,
+    middle: u32,
+    strength: u32,
+) -> u32 {
+    if k >= valid {
+        return NOTHING;
+    }
+    let p = place_of(rs, k);
+    let n = p.run;
+    if n < 4 {
+        let r = rs[n];
+        return lack_in(r, p.i, k == valid - 1, levels, middle, strength);
+    }
+    NOTHING
+}
