@@ -7,3 +7,4 @@ pub mod SentLaws
 pub mod FrameLaws
 pub mod Examples
 pub mod AxesLaws
+pub mod FoundLaws
