@@ -5,8 +5,6 @@ use isdbs_combination::SLOT_SYMBOLS;
 use isdbs_core::combination::Combination;
 use isdbs_core::frame::SLOTS;
 use isdbs_core::slots::Run;
-ghost use Prim.Native.Nat.{_≤_};
-ghost use Rattle.isdbs_combination.specs.Combinations.{frameSlots};
 
 // Of a slot of which no point counts.
 pub const UNCOUNTED: u32 = 100_000;
@@ -36,7 +34,8 @@ fn level_by(c: Combination, level: u32) -> u32 {
 fn set_level(r: Run, sums: &Sums, j: usize, levels: &mut Levels) {
     if j < SLOTS {
         if slot_of(r.symbol_start) <= j && j < slot_of(r.symbol_end) {
-            levels[j] = level_by(r.combination, slot_level(sums, j, UNCOUNTED));
+            let c = r.combination;
+            levels[j] = level_by(c, slot_level(sums, j, UNCOUNTED));
         }
     }
 }
@@ -67,26 +66,42 @@ pub fn level_at(levels: &Levels, j: usize) -> u32 {
     UNCOUNTED
 }
 
-fn tally(so: bool) -> usize
-    ensures { λ r. ⌜ r ≤ 1 ⌝ }
-{
-    if so { 1 } else { 0 }
-}
-
-// How many slots have a level of at least x that counts.
-fn at_least(levels: &Levels, x: u32) -> usize
-    ensures { λ r. ⌜ r ≤ frameSlots ⌝ }
-{
-    let mut n: usize = 0;
-    for j in 0..SLOTS {
-        n = n + tally(levels[j] >= x && levels[j] < UNCOUNTED);
+// One more where it is so.
+fn more(n: usize, so: bool) -> usize {
+    if so {
+        if n < SLOTS {
+            return n + 1;
+        }
     }
     n
 }
 
-// Whether more than half of `all` slots have a level of at least x.
-fn is_reached(levels: &Levels, x: u32, all: usize) -> bool {
-    2 * at_least(levels, x) > all
+fn counts_from(level: u32, x: u32) -> bool {
+    level >= x && level < UNCOUNTED
+}
+
+// How many slots have a level of at least x that counts.
+fn at_least(levels: &Levels, x: u32) -> usize {
+    let mut n: usize = 0;
+    for j in 0..SLOTS {
+        n = more(n, counts_from(level_at(levels, j), x));
+    }
+    n
+}
+
+// Whether n slots are more than half of `all`.
+fn is_most(n: usize, all: usize) -> bool {
+    n > all / 2
+}
+
+// Level x, where it is above the one found and more than half of `all` slots reach it; else that one.
+fn raised(levels: &Levels, found: u32, x: u32, all: usize) -> u32 {
+    if x > found && x < UNCOUNTED {
+        if is_most(at_least(levels, x), all) {
+            return x;
+        }
+    }
+    found
 }
 
 // The greatest level that more than half of the slots that count have; 0 where none counts.
@@ -94,20 +109,22 @@ pub fn middle_of(levels: &Levels) -> u32 {
     let all = at_least(levels, 0);
     let mut middle: u32 = 0;
     for j in 0..SLOTS {
-        let x = levels[j];
-        if x < UNCOUNTED && x > middle && is_reached(levels, x, all) {
-            middle = x;
-        }
+        middle = raised(levels, middle, level_at(levels, j), all);
     }
     middle
+}
+
+// The lower of two levels.
+pub fn lower(a: u32, b: u32) -> u32 {
+    if a < b { a } else { b }
 }
 
 // The least level of the slots from `from` on before `to`.
 pub fn worst_of(levels: &Levels, from: usize, to: usize) -> u32 {
     let mut worst: u32 = UNCOUNTED;
     for j in 0..SLOTS {
-        if from <= j && j < to && levels[j] < worst {
-            worst = levels[j];
+        if from <= j && j < to {
+            worst = lower(worst, level_at(levels, j));
         }
     }
     worst

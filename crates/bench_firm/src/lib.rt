@@ -10,8 +10,12 @@ use isdbs_core::tmcc::Table;
 use levels::Levels;
 use levels::level_at;
 use levels::levels_of;
+use levels::lower;
 use levels::middle_of;
+use levels::slot_of;
 use levels::worst_of;
+ghost use Prim.Native.Nat.{_<_};
+ghost use Rattle.isdbs_combination.specs.Combinations.{frameSlots};
 
 // What a slot lacks: nothing, level, the level of the others, strength.
 pub const NOTHING: u32 = 0;
@@ -53,11 +57,14 @@ fn less(a: u32, b: u32) -> u32 {
     if a > b { a - b } else { 0 }
 }
 
-// Both of them, each cut at a million.
+// Both together, where each is below a million.
 fn plus(a: u32, b: u32) -> u32 {
-    let x = if a < 1_000_000 { a } else { 1_000_000 };
-    let y = if b < 1_000_000 { b } else { 1_000_000 };
-    x + y
+    if a < 1_000_000 {
+        if b < 1_000_000 {
+            return a + b;
+        }
+    }
+    2_000_000
 }
 
 // The level at which bytes begin to fail under white noise.
@@ -134,11 +141,6 @@ fn lack(c: Combination, a: Around, strength: u32) -> u32 {
     NOTHING
 }
 
-// The least of two.
-fn lower(a: u32, b: u32) -> u32 {
-    if a < b { a } else { b }
-}
-
 fn before(levels: &Levels, j: usize) -> u32 {
     if j == 0 {
         return level_at(levels, SLOTS);
@@ -152,21 +154,37 @@ struct Span {
     to: usize,
 }
 
-// A product of numbers below 64, else 0.
-fn times(a: usize, b: usize) -> usize {
-    if a < 64 {
-        if b < 64 {
-            return a * b;
-        }
+// Of valid slot i, below 48, of a run: by its unit's slots and valid ones (8 and 7 of QPSK 7/8 and so on).
+fn span_in(c: Combination, i: usize) -> Span
+    requires { ⌜ i < frameSlots ⌝ }
+{
+    match c {
+        Combination::Bpsk1_2 => Span {
+            from: 4 * i,
+            to: 4 * i + 4,
+        },
+        Combination::Qpsk1_2 => Span {
+            from: 2 * i,
+            to: 2 * i + 2,
+        },
+        Combination::Qpsk2_3 => Span {
+            from: 3 * i / 2,
+            to: (3 * i + 4) / 2,
+        },
+        Combination::Qpsk3_4 => Span {
+            from: 4 * i / 3,
+            to: (4 * i + 6) / 3,
+        },
+        Combination::Qpsk5_6 => Span {
+            from: 6 * i / 5,
+            to: (6 * i + 10) / 5,
+        },
+        Combination::Qpsk7_8 => Span {
+            from: 8 * i / 7,
+            to: (8 * i + 14) / 7,
+        },
+        Combination::Tc8psk2_3 => Span { from: i, to: i + 1 },
     }
-    0
-}
-
-fn divided(a: usize, b: usize) -> usize {
-    if b == 0 {
-        return 0;
-    }
-    a / b
 }
 
 fn plus_slots(a: usize, b: usize) -> usize {
@@ -179,13 +197,18 @@ fn plus_slots(a: usize, b: usize) -> usize {
 }
 
 fn span_of(r: Run, i: usize) -> Span {
-    let unit = r.combination.slot_unit();
-    let first = levels::slot_of(r.symbol_start);
-    let end = plus_slots(times(plus_slots(i, 1), unit.slots), unit.valid);
-    let above = if end == 0 { 0 } else { end - 1 };
+    let first = slot_of(r.symbol_start);
+    let c = r.combination;
+    if i >= SLOTS {
+        return Span {
+            from: SLOTS,
+            to: SLOTS,
+        };
+    }
+    let own = span_in(c, i);
     Span {
-        from: plus_slots(first, divided(times(i, unit.slots), unit.valid)),
-        to: plus_slots(first, divided(above, unit.valid)),
+        from: plus_slots(first, own.from),
+        to: plus_slots(first, own.to),
     }
 }
 
@@ -198,7 +221,8 @@ fn lack_in(r: Run, i: usize, is_last: bool, levels: &Levels, middle: u32, streng
         beside: lower(before(levels, span.from), level_at(levels, span.to)),
         is_last,
     };
-    lack(r.combination, around, strength)
+    let c = r.combination;
+    lack(c, around, strength)
 }
 
 // The run of valid slot k and its number in it, of the runs from a on that have it.
@@ -207,16 +231,27 @@ struct Place {
     i: usize,
 }
 
-fn place_of(rs: [Run; 4], k: usize) -> Place {
-    let mut left = k;
-    for n in 0..3 {
-        let r = rs[n];
-        if left < r.valid_slots {
-            return Place { run: n, i: left };
-        }
-        left = left - r.valid_slots;
+fn late_place(a: Run, k: usize) -> Place {
+    if k < a.valid_slots {
+        return Place { run: 2, i: k };
     }
-    Place { run: 3, i: left }
+    Place {
+        run: 3,
+        i: k - a.valid_slots,
+    }
+}
+
+fn place_of(rs: [Run; 4], k: usize) -> Place {
+    let a = rs[0];
+    if k < a.valid_slots {
+        return Place { run: 0, i: k };
+    }
+    let i = k - a.valid_slots;
+    let b = rs[1];
+    if i < b.valid_slots {
+        return Place { run: 1, i };
+    }
+    late_place(rs[2], i - b.valid_slots)
 }
 
 // What each of the `valid` valid slots of these strengths lacks; NOTHING past them.
