@@ -73,13 +73,12 @@ pub fn put_turn(sheet: &mut Sheet, at: usize, turn: u8) -> usize {
 }
 
 fn put_weak(sheet: &mut Sheet, at: usize, f: Frame, facts: &Facts, q: Quality) -> usize {
-    let a = put_slots(sheet, at, facts, f.valid, firm::WEAK);
-    let b = put(sheet, a, b" weak");
+    let a = put_slots(sheet, at, facts, f.valid, firm::WEAK, b" weak");
     if !is_aside(q) {
-        return b;
+        return a;
     }
-    let c = put(sheet, b, b"; ");
-    put_align(sheet, c, q)
+    let b = put(sheet, a, b"; ");
+    put_align(sheet, b, q)
 }
 
 fn put_align(sheet: &mut Sheet, at: usize, q: Quality) -> usize {
@@ -89,7 +88,7 @@ fn put_align(sheet: &mut Sheet, at: usize, q: Quality) -> usize {
 
 fn put_other(sheet: &mut Sheet, at: usize, f: Frame, facts: &Facts) -> usize {
     let a = put(sheet, at, b"not the best in ");
-    put_slots(sheet, a, facts, f.valid, firm::OTHER)
+    put_slots(sheet, a, facts, f.valid, firm::OTHER, b"")
 }
 
 // Why a reading is doubtful.
