@@ -30,12 +30,10 @@ same-length-3 c = search needs
 
 returns : tie.Need-returns
 returns c =
-    let encode-main = c .before .before .before .before .before .before .before .before .before .before in
-    let start-state = encode-main .before .before .before in
-    let st = start-state .before .before .before .before .before .before .before in
+    let st = c .before .before .before .before .before .before .before .before .before .before .before .before .before .before .before .before .before .before .before .before in
     let a = st .args in
-    let made = encode-main .encode-main in
-    let s = start-state .start-state in
+    let made = c .before .before .before .before .before .before .before .before .before .before .encode-main in
+    let s = c .before .before .before .before .before .before .before .before .before .before .before .before .before .start-state in
     let counted = c .before .before .count-outside in
     let xs = made .last .1 .1 .1 .1 .0 in
     let ys = made .last .1 .1 .1 .1 .1 .0 in

@@ -34,8 +34,7 @@ slice-write-counts c = search needs
 
 add-sum : tie.Need-add-sum Inv-loop μ-loop
 add-sum c =
-    let start = c .before .before .before .before .before .before .before .before in
-    let a = start .args in
+    let a = c .before .before .before .before .before .before .before .before .args in
     let at = c .before .before .loop in
     let few = slot-few (a .list) (a .xs .now) (a .ys .now) (a .re .now) (a .im .now) (at .j) (c .count-slot .result) (c .count-slot .ensures) in
     record { fits = omega arith }
@@ -48,8 +47,7 @@ loop-less c = search needs
 
 loop-again : tie.Need-loop-again Inv-loop μ-loop
 loop-again c =
-    let start = c .before .before .before .before .before .before .before .before in
-    let a = start .args in
+    let a = c .before .before .before .before .before .before .before .before .args in
     let at = c .before .before .loop in
     let few = slot-few (a .list) (a .xs .now) (a .ys .now) (a .re .now) (a .im .now) (at .j) (c .count-slot .result) (c .count-slot .ensures) in
     let f = slotGiven (a .list) (a .xs .now) (a .ys .now) (a .re .now) (a .im .now) in (
