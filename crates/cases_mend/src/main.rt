@@ -172,7 +172,7 @@ fn add(t: Tally, mended: bool, right: bool) -> Tally {
 }
 
 // Mends the stored stretch of `steps` steps, and compares with what the search found.
-fn judge(
+fn mend_and_compare(
     t: Tally,
     stored: u32,
     steps: usize,
@@ -220,7 +220,7 @@ fn all_ends(
     let count = 1u32 << (steps % 8);
     for end in 0..64u8 {
         let near = search(stored, end, count, bits, ends);
-        let more = judge(tally, stored, steps, start, end, near, decisions);
+        let more = mend_and_compare(tally, stored, steps, start, end, near, decisions);
         tally = more;
     }
     tally
@@ -268,7 +268,7 @@ fn survey(steps: usize, start: u8, decisions: &mut [u64; 4226]) {
 }
 
 // Fills the words anew.
-fn fill(decisions: &mut [u64; 4226]) {
+fn reset_words(decisions: &mut [u64; 4226]) {
     for k in 0..4226 {
         decisions[k] = 7;
     }
@@ -303,7 +303,7 @@ fn put_lent(list: &[u32; 6], decisions: &[u64; 4226]) {
 
 // One stretch, with all that was lent.
 fn stretch(stored: u32, steps: usize, start: u8, end: u8, decisions: &mut [u64; 4226]) {
-    fill(decisions);
+    reset_words(decisions);
     let bits = unpack(stored);
     let mut out = [9u8; 14];
     let mut list = [77u32; 6];
@@ -454,7 +454,7 @@ fn long(
     out: &mut [u8; 8192],
     decisions: &mut [u64; 4226],
 ) {
-    fill(decisions);
+    reset_words(decisions);
     let end = encode_long(sent);
     encode_long(bits);
     spoil(bits, wrong);

@@ -81,15 +81,15 @@ abbrev pub InOrder : ℕ → List Run → Type 0
 InOrder s [] = Unit
 InOrder s (r ∷ rs) = (s ≤ r .«slot_start») × (r .«slot_start» ≤ r .«slot_end») × InOrder (r .«slot_end») rs
 
-end-entry : (m : MaybeCombination) (n slot symbol : ℕ) (rs : List Run) → EndToEnd (symbol + entrySymbols m n) rs → EndToEnd symbol (entryRuns m n slot symbol ++ rs)
-end-entry (Some c) n slot symbol rs h = (refl, h)
-end-entry None n slot symbol rs h = let e : symbol + 0 ≡ symbol = omega arith in rw e at h
+entry-end-to-end : (m : MaybeCombination) (n slot symbol : ℕ) (rs : List Run) → EndToEnd (symbol + entrySymbols m n) rs → EndToEnd symbol (entryRuns m n slot symbol ++ rs)
+entry-end-to-end (Some c) n slot symbol rs h = (refl, h)
+entry-end-to-end None n slot symbol rs h = let e : symbol + 0 ≡ symbol = omega arith in rw e at h
 
 pub end-to-end : (es : List Entry) (slot symbol : ℕ) → EndToEnd symbol (runsFrom es slot symbol)
 unfolding runsFrom
 end-to-end [] slot symbol = tt
 end-to-end (e ∷ es) slot symbol =
-    end-entry (entryCombination e) (e .slots) slot symbol
+    entry-end-to-end (entryCombination e) (e .slots) slot symbol
     (runsFrom es (slot + e .slots) (symbol + entrySymbols (entryCombination e) (e .slots)))
     (end-to-end es (slot + e .slots) (symbol + entrySymbols (entryCombination e) (e .slots)))
 

@@ -1,5 +1,17 @@
 // Signal points by their bits (MIC Ordinance No. 87 of 2011, annexed table 46; ITU-R BO.1408-1, Fig. 15), how a mapping lays them, and the state that a
 // frame starts from. After demod.rs of isdbs-phy.
+// The chapters of specs/:
+//   Frame      the frame that encoding makes: what point k is
+//   BitLaws    bits of a load, coded bits and pairs
+//   InputLaws  the inputs of the frame's code, step by step
+//   StateLaws  encoding from a state on
+//   Layout     where the symbols, steps and bits of each run lie
+//   OrderLaws  the order in which a period's bits are sent
+//   Pieces     one run of a frame by itself
+//   PlaceLaws  segments that lie end to end
+//   Points     the points of BPSK, QPSK and 8PSK
+//   SizeLaws   the segments of an accepted table fit the frame
+//   AmongLaws  which segment has a step or a bit
 use isdbs_core::frame::SYNC_BITS;
 use isdbs_core::frame::W2;
 use isdbs_core::frame::W3;

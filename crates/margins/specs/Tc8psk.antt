@@ -151,13 +151,13 @@ bit-true : (b : Bool) → T b → bit b ≡ 1
 bit-true true h = refl
 bit-true false h = absurd h
 
-set-zero : (x : Float) → Num binary64 x → T (le ownLeast x) → bit (lt x none) ≡ 0
-set-zero x p t =
+uncoded-zero : (x : Float) → Num binary64 x → T (le ownLeast x) → bit (lt x none) ≡ 0
+uncoded-zero x p t =
     let u = le→value binary64 ownLeast x own-num p t in
     bit-false (lt x none) (λ (h : T (lt x none)). let v = lt→value binary64 x none p none-num h in omega (arith, own-lo, none-hi, none-lo))
 
-set-one : (x : Float) → Num binary64 x → T (le x (neg ownLeast)) → bit (lt x none) ≡ 1
-set-one x p t =
+uncoded-one : (x : Float) → Num binary64 x → T (le x (neg ownLeast)) → bit (lt x none) ≡ 1
+uncoded-one x p t =
     let u = le→value binary64 x (neg ownLeast) p (num-neg own-num) t in
     bit-true (lt x none) (value→lt binary64 x none p none-num (omega (arith, own-hi, own-lo, none-hi, none-lo, hi-neg binary64 ownLeast, lo-neg binary64 ownLeast)))
 
@@ -215,7 +215,7 @@ module _ (w : Bool) (c2 l : ℕ) (v : Cplx) (two : c2 < 2) (four : l < 4) (re-in
 
   uncoded-at : bit (lt (corr l) zero64) ≡ c2
   unfolding ofBits
-  uncoded-at = elim signed [ inl s ↦ set-zero (corr l) (num l four) (s .1) ∙ sym (s .0) | inr s ↦ set-one (corr l) (num l four) (s .1) ∙ sym (s .0) ]
+  uncoded-at = elim signed [ inl s ↦ uncoded-zero (corr l) (num l four) (s .1) ∙ sym (s .0) | inr s ↦ uncoded-one (corr l) (num l four) (s .1) ∙ sym (s .0) ]
 
   -- ---- the metrics
   abbrev m : ℕ → Float

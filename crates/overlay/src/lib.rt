@@ -1,4 +1,17 @@
 // Overlaying two test patterns: two strings of equal length and their exclusive-or, encoded beside each other by a code of constraint length 3 to 7.
+// The chapters of specs/:
+//   Overlaid      the exclusive-or of two lists
+//   OverlaidLaws  laws of overlaid lists
+//   Coding        encoding the exclusive-or, of one code
+//   CodingLaws    it holds of every code of request P7
+//   Kept          what a puncturing keeps
+//   IsdbT         the five rates of ISDB-T
+//   IsdbS         the puncturings of ISDB-S
+//   TwoThirds     2/3 of ISDB-S is two periods of ISDB-T
+//   Places        two encodings and their exclusive-or, by the place of a step
+//   Frames        the frame of every table
+//   Rows          the refusal rows of the three encodings
+//   Calls         what the three encodings leave
 use isdb_fec::conv::ConvEncoder;
 use refusal::Answer;
 use short_code::good;

@@ -67,8 +67,8 @@ turned-8 false x h = h
 same-is : (x : Float) (z z' off : Z) → Is x z off → z' .0 + z .1 ≡ z' .1 + z .0 → Is x z' off
 same-is x z z' off h e = let s = h .same in record { p = h .p; n = h .n; on = h .on; same = omega arith }
 
-two-adds : (f a b : Float) (z off x y : Z) → Is f z off → Small z off → Whole a (x .0) (x .1) → Whole b (y .0) (y .1) → (x .0 ≤ 8) × (x .1 ≤ 8) → (y .0 ≤ 8) × (y .1 ≤ 8) → Is (add binary32 (add binary32 f a) b) (plus (plus z x) y) off
-two-adds f a b z off x y h w p q u v =
+branch-of-two-sums : (f a b : Float) (z off x y : Z) → Is f z off → Small z off → Whole a (x .0) (x .1) → Whole b (y .0) (y .1) → (x .0 ≤ 8) × (x .1 ≤ 8) → (y .0 ≤ 8) × (y .1 ≤ 8) → Is (add binary32 (add binary32 f a) b) (plus (plus z x) y) off
+branch-of-two-sums f a b z off x y h w p q u v =
     is-add (add binary32 f a) b (plus z x) off y (is-add f a z off x h p (omega arith, omega arith)) q (omega arith, omega arith)
 
 pub pair-adds : (lx ly : Float) (mz : ℕ → Z) → Softs lx ly mz → Adds (pair lx ly) mz
@@ -81,7 +81,7 @@ pair-adds lx ly mz g = record {
       let y = turnedZ (eqb (c % 2) 1) (g .y) in
       let e = g .is c l in
       same-is (add binary32 (add binary32 f (term (c / 2) lx)) (term (c % 2) ly)) (plus (plus z x) y) (plus z (mz c)) off
-      (two-adds f (term (c / 2) lx) (term (c % 2) ly) z off x y h w
+      (branch-of-two-sums f (term (c / 2) lx) (term (c % 2) ly) z off x y h w
       (term-whole (c / 2) lx (g .x) (g .whole-x)) (term-whole (c % 2) ly (g .y) (g .whole-y)) (turned-8 (eqb (c / 2) 1) (g .x) (g .x-8)) (turned-8 (eqb (c % 2) 1) (g .y) (g .y-8)))
       (omega arith);
 }

@@ -1,4 +1,16 @@
 // Which decoder states the calls of isdb_fec can hand on, and what these can then answer: the definitions and theorems are in specs/.
+// The chapters of specs/:
+//   Normalised  path values whose greatest is +0
+//   Numbers     the bounds, in one place
+//   Inside      a row's tests and the bounds say the same
+//   MetricLaws  whole metrics are stream values
+//   Reached     the states that come from a fresh start by accepted calls
+//   Handed      each call hands on such a state
+//   Closed      no call refuses such a state for its own sake
+//   Answers     what the calls can still answer
+//   TwoCalls    a run in two calls
+//   CutAtOne    where two calls differ from one
+//   Finished    what a reading from a fresh decoder leaves
 ghost use mathlib.Core.Path.{_≡_};
 ghost use Prim.Native.Nat.{_/_};
 ghost use lib.ListN.{length};

@@ -1,4 +1,13 @@
 // The mark of a step: of each pair of coded bits, whether the step is strained where that pair was decoded.
+// The chapters of specs/:
+//   Counts      sums, and how many numbers pass a test
+//   CountsLaws  laws of sums and counts
+//   Marks       the mark of a step
+//   MarksLaws   a mark says whether its step is strained
+//   Slots       the valid slots of a frame and their steps
+//   SlotsLaws   the valid slots lie end to end
+//   Strain      which steps are strained, how many in each slot
+//   StrainLaws  laws of the strain of a frame
 ghost use mathlib.Core.Path.{_≡_};
 ghost use mathlib.Core.Bool.{true, cond};
 ghost use mathlib.Core.List.{[], _∷_};

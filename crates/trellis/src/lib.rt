@@ -1,4 +1,21 @@
 // The code, its trellis and the decoder's run are definitions: see specs/. Here are the decoder's numbers as the code takes them.
+// The chapters of specs/:
+//   Lists         lists and numbers made from a function
+//   ListLaws      laws of them
+//   LaidLaws      a front written over the beginning of a list
+//   WrittenLaws   an array written from the front
+//   Code          a convolutional code as a shift register
+//   Step          one step of Viterbi's algorithm in f32
+//   Run           a decoder's calls as functions of a sequence of steps
+//   Taps          the taps of the code: what X and Y sum
+//   Parity        the outputs are the parities that document 01 gives
+//   Encoded       encoding a list of inputs
+//   EncodedLaws   laws of it
+//   RunLaws       laws of labels, tracing and path values of a call
+//   Isdb          the trellis of ISDB and the tie-break, named once
+//   Stretch       two coded stretches compared
+//   LinearLaws    the code is linear
+//   DistanceLaws  two different stretches differ in at least 10 coded bits
 
 // The states of the code, and half of them: 2 ^ 6 at the constraint length 7 of ITU-R BO.1408-1, section 9, Fig. 13 (`isdb` in specs/Code.antt).
 pub const STATES: usize = 64;

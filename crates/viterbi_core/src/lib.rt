@@ -1,5 +1,15 @@
 // The core of the Viterbi decoder: the steps of a call with the releases that may follow, and tracing; the code's one input at a time; and the depth that a traceback acts as. Every call of a
 // decoder or an encoder runs on this. The calls check what these functions ask.
+// The chapters of specs/:
+//   EachLaws     a rule of all numbers below n, by one computed test
+//   PartLaws     a slice whose tail was lent and written
+//   Calls        what a step of a call leaves
+//   TracedLaws   laws of the traced bits
+//   StepLaws     one step, with and without a release
+//   CountLaws    how many words are held and bits have left
+//   HoldingLaws  the lent slices follow the decoder
+//   RunLaws      a call over two lists as two calls
+//   BlockLaws    blocks of steps with neither a subtraction nor a release
 ghost use mathlib.Core.Path.{_≡_};
 ghost use mathlib.Core.List.{_++_};
 ghost use mathlib.Core.Bool.{cond};

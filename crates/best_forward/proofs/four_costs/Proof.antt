@@ -84,8 +84,12 @@ cost-of-requires-4 c κs = search needs
 
 -- src/lib.rt:125:1
 returns : tie.Need-returns
-returns c = let a = c .before .before .before .before .before .before .before .before .before .args in
-    four-hold (a .metrics .now) (a .k) _ _ _ _ (c .before .before .before .before .before .before .cost-of .ensures) (c .before .before .before .before .cost-of2 .ensures) (c .before .before .cost-of3 .ensures) (c .cost-of4 .ensures)
+returns c =
+    let cost-of2 = c .before .before .before .before in
+    let cost-of = cost-of2 .before .before in
+    let start = cost-of .before .before .before in
+    let a = start .args in
+    four-hold (a .metrics .now) (a .k) _ _ _ _ (cost-of .cost-of .ensures) (cost-of2 .cost-of2 .ensures) (c .before .before .cost-of3 .ensures) (c .cost-of4 .ensures)
 
 pub four-costs-spec : {M : Type 1} → statement M
 four-costs-spec =

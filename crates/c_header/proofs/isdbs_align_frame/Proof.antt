@@ -22,8 +22,9 @@ same-length-2 c = search needs
 
 returns : tie.Need-returns
 returns c =
-    let x = c .before .before .before .before .before .before .before .before .before .before .before .before .args in
     let call = c .before .before .before .before .before in
+    let start = call .before .before .before .before .before .before .before in
+    let x = start .args in
     let e = call .align-frame .ensures in
     let n = c .number .result in
     let m : n ≡ numberOf (call .align-frame .result) = c .number .ensures in (

@@ -26,9 +26,12 @@ same-length c = search needs
 
 returns : tie.Need-returns
 returns c =
-    let a = c .before .before .before .before .before .before .before .before .before .before .before .before .before .args in
-    let j = c .before .before .before .before .before .judge in
-    let w = rw (c .before .before .before .before .before .before .before .before .table-of .ensures, c .before .before .before .before .before .before .before .mapping-of .ensures) at (j .ensures) in
+    let judge = c .before .before .before .before .before in
+    let mapping-of = judge .before .before in
+    let start = mapping-of .before .before .before .before .before .before in
+    let a = start .args in
+    let j = judge .judge in
+    let w = rw (mapping-of .before .table-of .ensures, mapping-of .mapping-of .ensures) at (j .ensures) in
     judged-c (a .re .now) (a .im .now) (a .bytes .now) (tableOf (a .table)) (mappingOf (a .mapping)) (isSet (a .first)) (a .counts .now) (j .last .1 .1 .1 .1 .1 .1 .0) (a .sum .now) (j .result) (c .number-of .result) (c .before .sum-of .result) (c .number-of .ensures) (c .before .sum-of .ensures) (w .0) (w .1 .0) (w .1 .1)
 
 pub isdbs-judge-spec : {M : Type 1} → statement M

@@ -23,9 +23,11 @@ same-length c = search needs
 
 returns : tie.Need-returns
 returns c =
-    let a = c .before .before .before .before .before .before .before .before .before .before in
-    let w = rw (c .before .before .before .before .before .before .table-of .ensures, c .before .before .before .before .before .mapping-of .ensures) at (c .before .before .before .wanted-load .ensures) in
-    (answered-c (tableOf (a .args .table)) (mappingOf (a .args .mapping)) (isSet (a .args .first)) (a .args .re .now) (a .args .im .now) (a .args .bytes .now) (c .before .before .before .wanted-load .last .1 .1 .1 .1 .1 .0) (c .before .before .before .wanted-load .result) (c .number-of .result) (c .number-of .ensures) (w .0), left-c (tableOf (a .args .table)) (mappingOf (a .args .mapping)) (isSet (a .args .first)) (a .args .re .now) (a .args .im .now) (a .args .bytes .now) (c .before .before .before .wanted-load .last .1 .1 .1 .1 .1 .0) (c .before .before .before .wanted-load .result) (c .number-of .result) (c .number-of .ensures) (w .1))
+    let wanted-load = c .before .before .before in
+    let mapping-of = wanted-load .before .before in
+    let a = mapping-of .before .before .before .before .before in
+    let w = rw (mapping-of .before .table-of .ensures, mapping-of .mapping-of .ensures) at (wanted-load .wanted-load .ensures) in
+    (answered-c (tableOf (a .args .table)) (mappingOf (a .args .mapping)) (isSet (a .args .first)) (a .args .re .now) (a .args .im .now) (a .args .bytes .now) (wanted-load .wanted-load .last .1 .1 .1 .1 .1 .0) (wanted-load .wanted-load .result) (c .number-of .result) (c .number-of .ensures) (w .0), left-c (tableOf (a .args .table)) (mappingOf (a .args .mapping)) (isSet (a .args .first)) (a .args .re .now) (a .args .im .now) (a .args .bytes .now) (wanted-load .wanted-load .last .1 .1 .1 .1 .1 .0) (wanted-load .wanted-load .result) (c .number-of .result) (c .number-of .ensures) (w .1))
 
 pub isdbs-wanted-load-spec : {M : Type 1} → statement M
 isdbs-wanted-load-spec =

@@ -33,7 +33,8 @@ slice-relend-prefix-best-content c = search needs
 
 slice-aggregate-best-content-5 : tie.Need-slice-aggregate-best-content-5
 slice-aggregate-best-content-5 c =
-    let a = c .before .before .before .before .before .before .before .before .before .before .args in
+    let start = c .before .before .before .before .before .before .before .before .before .before in
+    let a = start .args in
     sym (length-take-le (a .n) (a .bits .now) (omega arith))
 
 slice-relend-prefix-best-content-2 : tie.Need-slice-relend-prefix-best-content-2
@@ -41,7 +42,8 @@ slice-relend-prefix-best-content-2 c = search needs
 
 slice-aggregate-best-content-6 : tie.Need-slice-aggregate-best-content-6
 slice-aggregate-best-content-6 c =
-    let a = c .before .before .before .before .before .before .before .before .before .before .before .args in
+    let start = c .before .before .before .before .before .before .before .before .before .before .before in
+    let a = start .args in
     sym (length-take-le (a .n) (a .uncoded .now) (omega arith))
 
 best-content-requires : tie.Need-best-content-requires

@@ -22,8 +22,8 @@ loop-holds c = search needs
 search-requires : tie.Need-search-requires Inv-loop μ-loop
 search-requires c κs = search needs
 
-judge-requires : tie.Need-judge-requires Inv-loop μ-loop
-judge-requires c κs = search needs
+mend-and-compare-requires : tie.Need-mend-and-compare-requires Inv-loop μ-loop
+mend-and-compare-requires c κs = search needs
 
 add-end : tie.Need-add-end Inv-loop μ-loop
 add-end c = search needs
@@ -47,7 +47,7 @@ all-ends-spec =
     shl-count
     loop-holds
     search-requires
-    judge-requires
+    mend-and-compare-requires
     add-end
     loop-less
     loop-again

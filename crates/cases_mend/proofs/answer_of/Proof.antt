@@ -18,25 +18,37 @@ returns-4 : tie.Need-returns-4
 returns-4 c = search needs
 
 slice-aggregate-mend-stretch : tie.Need-slice-aggregate-mend-stretch
-slice-aggregate-mend-stretch c = let a = c .before .before .before .before .before .before .before .before .before .args in sym (length-take-le (a .n) (a .bits .now) (search needs))
+slice-aggregate-mend-stretch c =
+    let start = c .before .before .before .before .before .before .before .before .before in
+    let a = start .args in
+    sym (length-take-le (a .n) (a .bits .now) (search needs))
 
 slice-relend-prefix-mend-stretch : tie.Need-slice-relend-prefix-mend-stretch
 slice-relend-prefix-mend-stretch c = search needs
 
 slice-aggregate-mend-stretch-2 : tie.Need-slice-aggregate-mend-stretch-2
-slice-aggregate-mend-stretch-2 c = let a = c .before .before .before .before .before .before .before .before .before .before .args in sym (length-take-le (a .words) (a .decisions .now) (search needs))
+slice-aggregate-mend-stretch-2 c =
+    let start = c .before .before .before .before .before .before .before .before .before .before in
+    let a = start .args in
+    sym (length-take-le (a .words) (a .decisions .now) (search needs))
 
 slice-relend-prefix-mend-stretch-2 : tie.Need-slice-relend-prefix-mend-stretch-2
 slice-relend-prefix-mend-stretch-2 c = search needs
 
 slice-aggregate-mend-stretch-3 : tie.Need-slice-aggregate-mend-stretch-3
-slice-aggregate-mend-stretch-3 c = let a = c .before .before .before .before .before .before .before .before .before .before .before .args in sym (length-take-le (a .places) (a .out .now) (search needs))
+slice-aggregate-mend-stretch-3 c =
+    let start = c .before .before .before .before .before .before .before .before .before .before .before in
+    let a = start .args in
+    sym (length-take-le (a .places) (a .out .now) (search needs))
 
 slice-relend-prefix-mend-stretch-3 : tie.Need-slice-relend-prefix-mend-stretch-3
 slice-relend-prefix-mend-stretch-3 c = search needs
 
 slice-aggregate-mend-stretch-4 : tie.Need-slice-aggregate-mend-stretch-4
-slice-aggregate-mend-stretch-4 c = let a = c .before .before .before .before .before .before .before .before .before .before .before .before .args in sym (length-take-le (a .positions) (a .list .now) (search needs))
+slice-aggregate-mend-stretch-4 c =
+    let start = c .before .before .before .before .before .before .before .before .before .before .before .before in
+    let a = start .args in
+    sym (length-take-le (a .positions) (a .list .now) (search needs))
 
 mend-stretch-requires : tie.Need-mend-stretch-requires
 mend-stretch-requires c κs = search needs

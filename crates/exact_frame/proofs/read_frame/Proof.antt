@@ -24,8 +24,10 @@ same-length-4 c = search needs
 returns : tie.Need-returns
 unfolding ofBits
 returns c =
-    let d = c .before .before .before .before .before .before .before .before .decode-frame in
-    let a = c .before .before .before .before .before .before .before .before .before .before .before .before .before .before .before .before .before .before .before .args in (
+    let decode-frame = c .before .before .before .before .before .before .before .before in
+    let start = decode-frame .before .before .before .before .before .before .before .before .before .before .before in
+    let d = decode-frame .decode-frame in
+    let a = start .args in (
       d .ensures .0,
       (
         d .ensures .1,

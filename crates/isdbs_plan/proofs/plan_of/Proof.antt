@@ -73,7 +73,8 @@ run-of-requires c κs = (omega arith, omega arith, omega arith)
 mul-runs : tie.Need-mul-runs Inv-loop μ-loop
 mul-runs c =
     let at = c .before .before .before .before .before .before .before .before in
-    let es = at .before .args .t1 .entries in
+    let start = at .before in
+    let es = start .args .t1 .entries in
     let e = getD es (at .loop .i) noEntry in
     let k = c .before .before .word .given .0 .0 in
     let fits = entry-fits k (e .slots) in
@@ -84,7 +85,8 @@ mul-runs c =
 array-set-from-runs : tie.Need-array-set-from-runs Inv-loop μ-loop
 array-set-from-runs c =
     let at = c .before .before .before .before .before .before .before .before in
-    let es = at .before .args .t1 .entries in
+    let start = at .before in
+    let es = start .args .t1 .entries in
     let e = getD es (at .loop .i) noEntry in
     let k = c .before .before .word .given .0 .0 in
     let fits = entry-fits k (e .slots) in
@@ -95,7 +97,8 @@ array-set-from-runs c =
 add-count : tie.Need-add-count Inv-loop μ-loop
 add-count c =
     let at = c .before .before .before .before .before .before .before .before in
-    let es = at .before .args .t1 .entries in
+    let start = at .before in
+    let es = start .args .t1 .entries in
     let e = getD es (at .loop .i) noEntry in
     let k = c .before .before .word .given .0 .0 in
     let fits = entry-fits k (e .slots) in
@@ -109,7 +112,8 @@ add-slot-2 c = omega arith
 add-valid-slots : tie.Need-add-valid-slots Inv-loop μ-loop
 add-valid-slots c =
     let at = c .before .before .before .before .before .before .before .before .before in
-    let es = at .before .args .t1 .entries in
+    let start = at .before in
+    let es = start .args .t1 .entries in
     let e = getD es (at .loop .i) noEntry in
     let k = c .before .before .before .word .given .0 .0 in
     let fits = entry-fits k (e .slots) in
@@ -123,19 +127,23 @@ steps-per-slot-requires c κs = tt
 
 mul-steps : tie.Need-mul-steps Inv-loop μ-loop
 mul-steps c =
-    let at = c .before .before .before .before .before .before .before .before .before .before .before in
-    let es = at .before .args .t1 .entries in
+    let word = c .before .before .before .before .before in
+    let at = word .before .before .before .before .before .before in
+    let start = at .before in
+    let es = start .args .t1 .entries in
     let e = getD es (at .loop .i) noEntry in
-    let k = c .before .before .before .before .before .word .given .0 .0 in
+    let k = word .word .given .0 .0 in
     let fits = entry-fits k (e .slots) in
     rw (c .before .steps-per-slot .ensures, c .before .before .before .run-of .ensures) (omega (arith, fits .steps))
 
 add-steps : tie.Need-add-steps Inv-loop μ-loop
 add-steps c =
-    let at = c .before .before .before .before .before .before .before .before .before .before .before in
-    let es = at .before .args .t1 .entries in
+    let word = c .before .before .before .before .before in
+    let at = word .before .before .before .before .before .before in
+    let start = at .before in
+    let es = start .args .t1 .entries in
     let e = getD es (at .loop .i) noEntry in
-    let k = c .before .before .before .before .before .word .given .0 .0 in
+    let k = word .word .given .0 .0 in
     let fits = entry-fits k (e .slots) in
     rw (c .before .steps-per-slot .ensures, c .before .before .before .run-of .ensures) (omega (arith, fits .steps))
 
@@ -147,15 +155,18 @@ loop-less-2 c = omega arith
 
 loop-again-2 : tie.Need-loop-again-2 Inv-loop μ-loop
 loop-again-2 c =
-    let at = c .before .before .before .before .before .before .before .before .before .before .before in
-    let es = at .before .args .t1 .entries in
+    let word = c .before .before .before .before .before in
+    let from-word = word .before .before in
+    let at = from-word .before .before .before .before in
+    let start = at .before in
+    let es = start .args .t1 .entries in
     let e = getD es (at .loop .i) noEntry in
-    let k = c .before .before .before .before .before .word .given .0 .0 in
+    let k = word .word .given .0 .0 in
     let fits = entry-fits k (e .slots) in
     let b = at .loop .inv .5 in
-    let four : length es ≡ 4 = simp length-map at (at .before .good .0 .1 .1 .0 .1 .0 .1) in
+    let four : length es ≡ 4 = simp length-map at (start .good .0 .1 .1 .0 .1 .0 .1) in
     let h : at .loop .i < length es = omega arith in
-    let some : entryCombination e ≡ Some k = entry-word e _ (c .before .before .before .before .before .before .before .from-word .ensures) ∙ ap assignedOf (c .before .before .before .before .before .word .given .1) in
+    let some : entryCombination e ≡ Some k = entry-word e _ (from-word .from-word .ensures) ∙ ap assignedOf (word .word .given .1) in
     rw (c .before .steps-per-slot .ensures, c .before .before .before .run-of .ensures) (omega arith, omega arith, omega arith, omega arith, omega (arith, fits .steps), built-more es b h k (omega arith) some)
 
 mul-bytes : tie.Need-mul-bytes Inv-loop μ-loop

@@ -20,21 +20,25 @@ between-requires-4 c κs = search needs
 between-requires-5 : tie.Need-between-requires-5
 between-requires-5 c κs = search needs
 
-pick-requires : tie.Need-pick-requires
-pick-requires c κs = search needs
+chosen-test-requires : tie.Need-chosen-test-requires
+chosen-test-requires c κs = search needs
 
-pick-requires-2 : tie.Need-pick-requires-2
-pick-requires-2 c κs = search needs
+chosen-test-requires-2 : tie.Need-chosen-test-requires-2
+chosen-test-requires-2 c κs = search needs
 
-pick-requires-3 : tie.Need-pick-requires-3
-pick-requires-3 c κs = search needs
+chosen-test-requires-3 : tie.Need-chosen-test-requires-3
+chosen-test-requires-3 c κs = search needs
 
-pick-requires-4 : tie.Need-pick-requires-4
-pick-requires-4 c κs = search needs
+chosen-test-requires-4 : tie.Need-chosen-test-requires-4
+chosen-test-requires-4 c κs = search needs
 
 returns : tie.Need-returns
 unfolding keeps ofBits neg
-returns c = rw (c .pick4 .ensures, c .before .pick3 .ensures, c .before .before .pick2 .ensures, c .before .before .before .pick .ensures, c .before .before .before .before .between5 .ensures, c .before .before .before .before .before .between4 .ensures, c .before .before .before .before .before .before .between3 .ensures, c .before .before .before .before .before .before .before .between2 .ensures, c .before .before .before .before .before .before .before .before .between .ensures)
+returns c =
+    let between5 = c .before .before .before .before in
+    let between3 = between5 .before .before in
+    let between = between3 .before .before in
+    rw (c .chosen-test4 .ensures, c .before .chosen-test3 .ensures, c .before .before .chosen-test2 .ensures, c .before .before .before .chosen-test .ensures, between5 .between5 .ensures, between5 .before .between4 .ensures, between3 .between3 .ensures, between3 .before .between2 .ensures, between .between .ensures)
 
 pub keeps-spec : {M : Type 1} → statement M
 keeps-spec =
@@ -45,8 +49,8 @@ keeps-spec =
     between-requires-3
     between-requires-4
     between-requires-5
-    pick-requires
-    pick-requires-2
-    pick-requires-3
-    pick-requires-4
+    chosen-test-requires
+    chosen-test-requires-2
+    chosen-test-requires-3
+    chosen-test-requires-4
     returns)

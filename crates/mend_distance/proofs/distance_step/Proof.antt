@@ -51,8 +51,10 @@ loop-less c = omega arith
 
 loop-again : tie.Need-loop-again Inv-loop μ-loop
 loop-again c =
-    let at = c .before .before .before .before .before .before .before .before in
-    let a = at .before .before .before .before .args in
+    let way = c .before .before .before .before .before in
+    let at = way .before .before .before in
+    let start = at .before .before .before .before in
+    let a = start .args in
     let inv = at .loop .inv in
     let k = at .loop .k in
     let h : k < 64 = omega arith in (
@@ -60,7 +62,7 @@ loop-again c =
       omega arith,
       inv .2,
       stepped-more (a .d .now) (2 * a .x + a .y) k (at .loop .d) (at .loop .w) (inv .3) h _ _ _ _ _
-          (c .before .before .before .before .before .way .ensures) (c .before .before .before .way2 .ensures) (c .before .before .smaller .ensures) (c .before .smaller2 .ensures) (c .beats .ensures),
+          (way .way .ensures) (c .before .before .before .way2 .ensures) (c .before .before .smaller .ensures) (c .before .smaller2 .ensures) (c .beats .ensures),
     )
 
 returns : tie.Need-returns Inv-loop μ-loop

@@ -53,11 +53,13 @@ part-encode-three-end c =
 
 encode-three-requires : tie.Need-encode-three-requires
 encode-three-requires c κs =
-    let yes = c .before .before .before .before .before .before .before .before .before in
+    let lay-overlaid = c .before .before .before .before .before .before .before in
+    let yes = lay-overlaid .before .before in
     let asked = yes .before .before in
-    let a = asked .before .before .before .before .before .before .before .args in
+    let start = asked .before .before .before .before .before .before .before in
+    let a = start .args in
     let e = enough (a .code) (a .first .state) (a .second .state) (length (a .us .now)) (length (a .vs .now)) (length (a .ws .now)) (length (a .out1 .now)) (length (a .out2 .now)) (length (a .out3 .now)) (sym (yes .enum-told .given .1) ∙ asked .answer-overlay .ensures) in
-    let laid = c .before .before .before .before .before .before .before .lay-overlaid in
+    let laid = lay-overlaid .lay-overlaid in
     asks (a .code) (a .first .state) (a .second .state) (a .us .now) (a .vs .now) (a .ws .now) (laid .last .1 .1 .0) (length (a .out1 .now)) (length (a .out2 .now)) (length (a .out3 .now)) e (laid .ensures)
 
 same-length : tie.Need-same-length
@@ -78,7 +80,8 @@ returns-2 c =
     let laid = made .before .before .before .before .before .before .before .before in
     let yes = laid .before .before in
     let asked = yes .before .before in
-    let a = asked .before .before .before .before .before .before .before .args in
+    let start = asked .before .before .before .before .before .before .before in
+    let a = start .args in
     let e = enough (a .code) (a .first .state) (a .second .state) (length (a .us .now)) (length (a .vs .now)) (length (a .ws .now)) (length (a .out1 .now)) (length (a .out2 .now)) (length (a .out3 .now)) (sym (yes .enum-told .given .1) ∙ asked .answer-overlay .ensures) in
     let three = made .encode-three in
     let ok = three .ensures .0 in

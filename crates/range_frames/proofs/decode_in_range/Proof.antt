@@ -29,10 +29,10 @@ same-length-4 c = search needs
 returns : tie.Need-returns
 returns c =
     let call = c .before .before .before .before .before .before .before .before in
-    let d = call .decode-frame in
     let im-known = call .before .before .before .before .before .before .before .before .before in
     let re-known = im-known .before in
     let start = re-known .before in
+    let d = call .decode-frame in
     let a = start .args in
     let g = start .good .1 .1 .1 .1 .0 .1 .1 .1 .1 .0 in
     let scale : (i : ℕ) → T (fits binary32 (getD (a .o .scales) i nan)) = λ i. elem-fits (a .o .scales) (g .0) i (g .1 .1) in

@@ -26,8 +26,9 @@ has-top-requires-2 c κs = search needs
 
 returns-3 : tie.Need-returns-3
 returns-3 c =
+    let start = c .before .before .before .before .before .before .before .before in
     let half = c .before .before .before .half in
-    let a = c .before .before .before .before .before .before .before .before .args in
+    let a = start .args in
     c .has-top2 .ensures ∙ sym (good-is (a .code) (half .result) (half .ensures .2) ∙ rw (← c .before .before .has-top .ensures, c .before .if3 .taken) refl)
 
 returns-4 : tie.Need-returns-4

@@ -52,8 +52,9 @@ same-length-2 c = search needs
 returns-2 : tie.Need-returns-2
 returns-2 c =
     let freed = c .before .before .before .before in
-    let settled = c .before .before .before .before .before .before .before .before .before .settle-block in
-    let start = c .before .before .before .before .before .before .before .before .before .before .before .before .before in
+    let settle-block = freed .before .before .before .before .before in
+    let start = settle-block .before .before .before .before in
+    let settled = settle-block .settle-block in
     let a = start .args in
     let out = a .out .now in
     let-go-end (a .traceback) (a .kind) (a .i) (a .pm .now) (a .at) (a .decisions .now) out (settled .last .0) (settled .ensures) (freed .release .last .1 .1 .0) _ (omega arith) (freed .release .ensures .1)

@@ -37,8 +37,10 @@ first-pair-requires c κs = tt
 
 add-result : tie.Need-add-result
 add-result c =
-    let p = c .before .before .before .before .before .p .given .0 .0 in
-    let b = c .before .before .before .before .before .before .before .before .args .b in
+    let at-p = c .before .before .before .before .before in
+    let start = at-p .before .before .before in
+    let p = at-p .p .given .0 .0 in
+    let b = start .args .b in
     let m = pairs-most p b in
     let f = period-fits p in
     let g = first-most (b % periodOf p) (pairsOf p) in

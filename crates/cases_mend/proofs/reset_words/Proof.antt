@@ -1,8 +1,8 @@
--- `fill` is safe and ends.
+-- `reset_words` is safe and ends.
 use Prim.Native.Nat.{_-_, _≤_}
 use borrow.Author.Needs.{needs}
-use Rattle.cases_mend.proofs.fill.Statement.{statement}
-use Rattle.cases_mend.proofs.fill.Tie as tie
+use Rattle.cases_mend.proofs.reset_words.Statement.{statement}
+use Rattle.cases_mend.proofs.reset_words.Tie as tie
 
 abbrev Inv-loop : tie.InvT-loop
 Inv-loop decisions₀ k₀ decisions k = (k ≤ 4226)
@@ -31,8 +31,8 @@ loop-again c = search needs
 returns : tie.Need-returns Inv-loop μ-loop
 returns c = search needs
 
-pub fill-spec : {M : Type 1} → statement M
-fill-spec =
+pub reset-words-spec : {M : Type 1} → statement M
+reset-words-spec =
     tie.close
     (tie.spec
     Inv-loop
