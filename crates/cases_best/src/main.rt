@@ -171,7 +171,7 @@ fn stretches() {
     }
 }
 
-// Metrics that go by no rule.
+// Pseudo-random metrics.
 fn drawn() {
     for seed in 0..4 {
         let ms = scattered(seed, true);

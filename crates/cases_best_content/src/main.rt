@@ -238,7 +238,7 @@ fn metrics(seed: u32, kind: u32) -> [u8; 40] {
     ms
 }
 
-// A step's side: 16 and the better uncoded bits by no rule in the steps of `two`, else 0.
+// A step's side: 16 and pseudo-random better uncoded bits in the steps of `two`, else 0.
 fn side(x: u32, two: u32) -> u8 {
     if two % 2 == 1 {
         16 + ((x / 256) % 16) as u8

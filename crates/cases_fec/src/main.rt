@@ -364,7 +364,7 @@ fn metric(x: u64, sent: bool) -> f32 {
     if sent { f + 8.0 } else { f }
 }
 
-// Inputs that go by no rule, and a quadruple for each: the sent path, from state 0, has the greatest metric at every step.
+// Pseudo-random inputs, and a quadruple for each: the sent path, from state 0, has the greatest metric at every step.
 fn send(bits: &mut [u8; 4226], metrics: &mut [f32; 16904]) {
     let mut x: u64 = 1;
     let mut state: u32 = 0;

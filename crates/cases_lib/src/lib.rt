@@ -1,4 +1,4 @@
-// What the executed programs share: lines of text with numbers, numbers that go by no rule, comparing and counting, the hexadecimal numbers of a stored line. All calls are total.
+// What the executed programs share: lines of text with numbers, pseudo-random numbers, comparing and counting, the hexadecimal numbers of a stored line. All calls are total.
 ghost use Prim.Native.Nat.{_+_, _≤_, _<_};
 ghost use lib.ListN.{length};
 use libc::STDOUT_FILENO;

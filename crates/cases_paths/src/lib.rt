@@ -1,4 +1,4 @@
-// A search through all paths of at most eight steps, for the programs that hold a reading to it, and lists of metrics that go by no rule. A metric m is kept as m + 16, from 0 to 32, so a sum of n
+// A search through all paths of at most eight steps, for the programs that hold a reading to it, and lists of pseudo-random metrics. A metric m is kept as m + 16, from 0 to 32, so a sum of n
 // steps is kept plus 16 n. A code is given by its generators and by half the number of its states. All calls are total.
 ghost use Prim.Native.Nat.{_+_, _*_, _≤_, _<_};
 
@@ -164,14 +164,14 @@ fn metric(x: u32, few: bool) -> u8 {
     }
 }
 
-// The next of a row of numbers below 65,536 that goes by no rule.
+// The next of a row of pseudo-random numbers below 65,536.
 pub fn next(x: u32) -> u32
     ensures { λ r. ⌜ r < 65536 ⌝ }
 {
     (x % 65536 * 25173 + 13849) % 65536
 }
 
-// Metrics that go by no rule. Few different ones make equal sums.
+// Pseudo-random metrics. Few different ones make equal sums.
 pub fn scattered(seed: u32, few: bool) -> [u8; 32] {
     let mut x = seed % 65536;
     let mut ms = [16u8; 32];

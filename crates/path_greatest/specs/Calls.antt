@@ -150,7 +150,7 @@ start-unknown half = record {
   values = λ k l. getD-upto (λ k. ofBits binary32 0) nan (2 * half) k l;
 }
 
--- ---- the theorems, over any trellis, either rule for equals, any traceback
+-- ---- the theorems, over any trellis, either tie-break, any traceback
 module _ (half : ℕ) (some : 0 < half) (out : ℕ → ℕ → ℕ) (labels : (u s : ℕ) → out u s < 4) (t : Tie) where
   -- steps that add whole numbers
   module _ (steps : ℕ → Step) (m : ℕ → ℕ → ℤ) (n : ℕ) (few : n ≤ longest) (plain : (k : ℕ) → k < n → Plain half out t (steps k)) (ads : (k : ℕ) → k < n → Adds (steps k) (λ c. parts-of (m k c))) where

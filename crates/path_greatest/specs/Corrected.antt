@@ -1,5 +1,5 @@
 -- Request P6: between a known start and a known end "at most four wrong coded bits leave the decoded inputs right". A path's sum over n steps of +1 and -1 is 2 n, less 2 for each
--- coded bit in which it differs from what was received; so the traced path differs in at most four too, and in at most eight from the sent one. For either rule for equals.
+-- coded bit in which it differs from what was received; so the traced path differs in at most four too, and in at most eight from the sent one. For either tie-break.
 --
 use mathlib.Core.Path.{_≡_, refl, sym, ap, _∙_, subst}
 use mathlib.Core.Bool.{Bool, true, false, cond}

@@ -1,4 +1,4 @@
--- Laws of the order between paths (`First`), over either rule for equals: it is transitive, and of two different paths of one length exactly one
+-- Laws of the order between paths (`First`), over either tie-break: it is transitive, and of two different paths of one length exactly one
 -- comes first.
 use mathlib.Core.Path.{_≡_, sym, _∙_}
 use mathlib.Core.Logic.{_⊎_, inl, inr, ⊎-elim}

@@ -1,4 +1,4 @@
--- Viterbi's algorithm in whole numbers, over any trellis of 2 * half states and either rule for equals.
+-- Viterbi's algorithm in whole numbers, over any trellis of 2 * half states and either tie-break.
 use mathlib.Core.Bool.{Bool, cond}
 use mathlib.Core.List.{List, [], _∷_, _++_}
 use Prim.Native.Nat.{ℕ, zero, suc, _+_, _*_, _/_, _%_, _≤_}

@@ -130,7 +130,7 @@ module _ (t : Tie) (tb s : ℕ) (us : List ℕ) (ms : ℕ → List Float) (N : �
   }
 
 -- The theorem: a decoder that starts at the sender's state s, takes N favoured steps in one call and c known bits in another, and is flushed, has put out the
--- N inputs, then the known bits; by either rule for equals and for every traceback length tb
+-- N inputs, then the known bits; by either tie-break and for every traceback length tb
 pub decoded-sent : (t : Tie) (tb s : ℕ) (us : List ℕ) (ms : ℕ → List Float) (N : ℕ) → N ≤ longestFrame → Favours s us ms N → (w : ℕ → ℕ) (c : ℕ)
     → Decoded us N w c (flushed Isdb.half Isdb.labels t (after Isdb.half Isdb.labels t tb (λ k. known (w k)) (pushed Isdb.half Isdb.labels t tb (λ i. four (ms i)) (fresh s) N) c) .bits)
 decoded-sent t tb s us ms N few v w c = flushed-decoded t tb s us ms N few v w c

@@ -68,7 +68,7 @@ module _ (pm : List Float) (s : ℕ) (S : s < 64) (a : Ahead pm s) (plus : lo bi
       go (inl w) = let g = w .0 in absurd (omega arith)
       go (inr w) = w .1
 
--- ---- the best state, by either rule for equals
+-- ---- the best state, by either tie-break
 module _ (t : Tie) (pm : List Float) (s : ℕ) (S : s < 64) (a : Ahead pm s) where
   -- of the states 0 to n, which have s or not, b is the best
   Best : ℕ → ℕ → Type 0

@@ -1,4 +1,4 @@
--- Where two path values differ, both rules for equals decide alike. This is the only chapter that looks at the rule: all that follows holds for either.
+-- Where two path values differ, both tie-breaks decide alike. This is the only chapter that looks at the rule: all that follows holds for either.
 --
 use mathlib.Core.Path.{_≡_, refl, subst, ap}
 use mathlib.Core.Logic.{_⊎_, inl, inr}

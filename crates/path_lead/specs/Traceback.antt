@@ -1,5 +1,5 @@
 -- A decoder whose decision words point along a path of states puts out the inputs of that path, whenever it releases bits: laws of trellis' `after`,
--- `pushed` and `flushed` over any code, either rule for equals and any traceback length.
+-- `pushed` and `flushed` over any code, either tie-break and any traceback length.
 use mathlib.Core.Path.{_≡_, refl, sym, ap, _∙_, subst}
 use mathlib.Core.Logic.{_⊎_, inl, inr}
 use mathlib.Core.Bool.{Bool, true, false, cond}

@@ -1,4 +1,4 @@
--- What an accepted `decode_frame` keeps to: the ranges of its soft values, of its metrics and of its path values at every step, under either rule for equals.
+-- What an accepted `decode_frame` keeps to: the ranges of its soft values, of its metrics and of its path values at every step, under either tie-break.
 --
 use mathlib.Core.Path.{_≡_}
 use mathlib.Core.Bool.{Bool}

@@ -73,7 +73,7 @@ pub known-moves : (b : ℕ) → Moves 0 (known b)
 unfolding branch
 known-moves b = record { by = λ v a c l g w i j. pair-adds (ofBits binary32 0) (ofBits binary32 0) v a c 0 l zero-within zero-within w i j }
 
--- ---- the greater of two, under either rule for equals
+-- ---- the greater of two, under either tie-break
 greater : (t : Tie) (x y : Float) → Num binary32 x → Num binary32 y → Le binary32 x (cond (takes t x y) y x) × Le binary32 y (cond (takes t x y) y x)
 greater lower x y p q = go (lt x y) (lt→value binary32 x y p q) (not-lt→value binary32 x y p q)
   where

@@ -1,4 +1,4 @@
--- What each call leaves: the decoder of crate trellis at a code's half, labels and ISDB's rule for equals, on the path values of the code's states. "Path
+-- What each call leaves: the decoder of crate trellis at a code's half, labels and ISDB's tie-break, on the path values of the code's states. "Path
 -- values past the last state are 0 in a fresh state, unread and kept".
 use mathlib.Core.List.{List}
 use Prim.Native.Nat.{ℕ, _-_, _%_}

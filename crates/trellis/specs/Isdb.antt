@@ -1,4 +1,4 @@
--- The trellis of ISDB and the rule for equals, named once: the encoder of Code and the decoder of Step and Run at them.
+-- The trellis of ISDB and the tie-break, named once: the encoder of Code and the decoder of Step and Run at them.
 use mathlib.Core.Bool.{Bool}
 use mathlib.Core.List.{List}
 use Prim.Native.Nat.{ℕ, _+_, _-_}

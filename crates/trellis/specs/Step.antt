@@ -1,5 +1,5 @@
 -- One step of Viterbi's algorithm in f32, over a trellis of 2 * half states whose branch from state s on input u carries the label
--- `out u s` = 2 X + Y, and over the rule for equals. Document 01, "The decoder and encoder".
+-- `out u s` = 2 X + Y, and over the tie-break. Document 01, "The decoder and encoder".
 use mathlib.Core.Bool.{Bool, cond, not}
 use mathlib.Core.List.{List, map}
 use Prim.Native.Nat.{ℕ, zero, suc, _+_, _-_, _*_, _/_, _%_, _^_}
@@ -14,7 +14,7 @@ pub data Step : Type 0 where
   four : List Float → Step
   known : ℕ → Step
 
--- the rule for equals: the lower number keeps a tie, or the upper one takes it
+-- the tie-break: the lower number keeps a tie, or the upper one takes it
 pub data Tie : Type 0 where
   lower : Tie
   upper : Tie
