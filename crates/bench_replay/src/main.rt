@@ -188,7 +188,7 @@ fn turn(line: &[u8]) {
     libc::close(out);
 }
 
-// The next number of a sequence without order.
+// The next pseudo-random number.
 fn next_random(n: u32) -> u32 {
     let a = n ^ (n << 13);
     let b = a ^ (a >> 17);
@@ -218,7 +218,7 @@ fn write_noise(file: i32) {
     }
 }
 
-// noise NAME: writes parts without order into a file of a frame.
+// noise NAME: writes pseudo-random parts into a file of a frame.
 fn noise(name: &[u8]) {
     let file = os::open_update(name);
     if file < 0 {

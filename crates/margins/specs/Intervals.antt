@@ -1,4 +1,4 @@
--- Intervals of floats, ends included, through the operations of the demapper. The ends of a result are the same operations on the ends, so a bound at closed ends is computed.
+-- Intervals of floats, inclusive, through the operations of the demapper. The ends of a result are the same operations on the ends, so a bound at closed ends is computed.
 -- A part need only lie between finite ends; results of operations fit their format.
 use mathlib.Core.Path.{_≡_, refl}
 use mathlib.Core.Bool.{Bool, true, false, cond}

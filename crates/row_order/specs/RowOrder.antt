@@ -92,7 +92,7 @@ module _ (t : Table) (v : ViterbiDecoder) (c : Code) (w : WindowState) (n : Leng
       ∷ short.flushRows c v i j
       -- short_best
       ∷ short-best.readingRows c xs i j
-      -- overlay_encode
+      -- overlay
       ∷ stringRows i j k
       ∷ overlayRows c i j k l i j k l
       -- full_frame

@@ -1,5 +1,5 @@
 // The answers to calls with a code of constraint length 3 to 7 by their rows: those of isdb_fec with row 12 right before 4. The calls are in short_fec.
-// `few` is a test of the rows of encodings (short_encode, overlay_encode).
+// `few` is a test of the rows of encodings (short_encode, overlay).
 ghost use mathlib.Core.Path.{_≡_};
 ghost use mathlib.Core.Bool.{cond};
 ghost use Prim.Native.Nat.{_+_, _*_, _<_, _≤_};
