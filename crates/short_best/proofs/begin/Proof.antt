@@ -23,9 +23,9 @@ same-length c = search needs
 
 returns : tie.Need-returns
 returns c =
-    let start = c .before .before .before .before .before in
-    let entry = start .before .before .before in
-    c .before .before .start-at .ensures ∙ sym (ap (startValues (length (entry .args .pm .now))) (start .start .given .1))
+    let at-start = c .before .before .before .before .before in
+    let start = at-start .before .before .before in
+    c .before .before .start-at .ensures ∙ sym (ap (startValues (length (start .args .pm .now))) (at-start .start .given .1))
 
 same-length-2 : tie.Need-same-length-2
 same-length-2 c = search needs
