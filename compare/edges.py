@@ -73,8 +73,8 @@ def left():
 
 def strace(call, how, path=""):
     """The words before a command that let strace meddle with a system call, of any file or of one that the run makes."""
-    of = ["-P", path, "-P", os.path.abspath(path)] if path else ["--seccomp-bpf"]
-    return ["strace", "-f", "-o", "/dev/null", *of, "-e", f"trace={call}", "-e", f"inject={call}:{how}"]
+    of = ["-P", path, "-P", os.path.abspath(path)] if path else []
+    return ["strace", "-o", "/dev/null", *of, "-e", f"trace={call}", "-e", f"inject={call}:{how}"]
 
 
 def full_disks(new, source):
@@ -155,7 +155,7 @@ def go_on(what, ends):
 def killed(new, source):
     """A run killed on entering each of its system calls, from the first file that it makes on."""
     lay_out(True)
-    run(READ, ["strace", "-f", "-o", "calls"])
+    run(READ, ["strace", "-o", "calls"])
     with open("calls", encoding="utf-8", errors="replace") as file:
         lines = file.read().split("\n")
     os.unlink("calls")
@@ -163,7 +163,7 @@ def killed(new, source):
     count = Counter()
     begun = False
     for line in lines:
-        found = re.match(r"\d+ +(\w+)\(", line)
+        found = re.match(r"(\w+)\(", line)
         if found:
             call = found.group(1)
             count[call] += 1
@@ -175,8 +175,9 @@ def killed(new, source):
     turns = Counter()
     for call, k in points:
         lay_out(True)
-        run(READ, strace(call, f"signal=KILL:when={k}"))
         what = f"killed at {call} {k}"
+        done = subprocess.run([*strace(call, f"signal=KILL:when={k}"), BENCH, *READ], stdout=subprocess.DEVNULL, stderr=subprocess.DEVNULL, check=False)
+        hold(f"{what}: it is", done.returncode in (-9, 137), done.returncode)
         seen = state(new)
         n = seen.count("new")
         kinds[f"{n} new, {5 - n} old"] += 1
