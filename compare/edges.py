@@ -1,5 +1,5 @@
 #!/usr/bin/env python3
-"""usage: compare/edges.py      `bench read` with all five outputs where the disk is full, an output cannot be written, or the run is killed.
+"""usage: compare/edges.py [full|turned|killed|COMMAND..]      `bench read` with all five outputs, and the other commands that write, where the disk is full, an output cannot be written, or the run is killed.
 
 After each run every output must be the old file or the new one, whole (where nothing was killed: all old, or as the last line says), the input must be as it was, and
 the last line must say what happened. After a kill the advice of the last line is followed, which must lead to a run that ends with ok. Runs are killed at
@@ -16,9 +16,16 @@ from collections import Counter
 
 ROOT = os.path.dirname(os.path.dirname(os.path.realpath(__file__)))
 BENCH = os.path.abspath(os.environ.get("BENCH", f"{ROOT}/target/bin/bench"))
-OUTPUTS = ("new.bytes", "new.best", "new.svg", "new.report", "new.json")
-READ = ["read", "7:44,1:4", "001", "first", "frame.cf64", OUTPUTS[0], "best", OUTPUTS[1], "chart", OUTPUTS[2], "report", OUTPUTS[3], "json", OUTPUTS[4]]
-OLD = {name: f"the old {name}\n".encode() for name in OUTPUTS}
+# Each command: its words, its input, its outputs in the order in which they get their names, and its last line.
+COMMANDS = (
+    ("read 7:44,1:4 001 first frame.cf64 new.bytes best new.best chart new.svg report new.report json new.json", "frame.cf64", "new.bytes new.best new.svg new.report new.json", "ok: certain"),
+    ("make 7:44,1:4 001 first load new.cf64", "load", "new.cf64", "ok"),
+    ("best 7:44,1:4 001 first frame.cf64 new.bytes", "frame.cf64", "new.bytes", "ok"),
+    ("part full.cf64 new.header new.main new.burst", "full.cf64", "new.header new.main new.burst", "ok"),
+    ("cut full.cf64 0 new.cf64 align", "full.cf64", "new.cf64", "ok"),
+    ("capture 7:44,1:4 001 full.cf64 new.lines", "full.cf64", "new.lines", "ok"),
+)
+WORDS, INPUT, OUTPUTS, OK = [], "", (), ""
 passed = 0
 failed = 0
 
@@ -55,7 +62,7 @@ def lay_out(with_old):
                 os.unlink(name + ending)
         if with_old:
             with open(name, "wb") as file:
-                file.write(OLD[name])
+                file.write(f"the old {name}\n".encode())
 
 
 def state(new):
@@ -63,7 +70,7 @@ def state(new):
     kinds = []
     for name in OUTPUTS:
         c = content(name)
-        kinds.append("new" if c == new[name] else "old" if c == OLD[name] else "none" if c is None else "BROKEN")
+        kinds.append("new" if c == new[name] else "old" if c == f"the old {name}\n".encode() else "none" if c is None else "BROKEN")
     return kinds
 
 
@@ -90,21 +97,21 @@ def full_disks(new, source):
             os.chdir(room)
             lay_out(True)
             os.symlink(f"{here}/frame.cf64", "frame.cf64")
-            last = run(READ)
+            last = run(WORDS)
             kinds = state(new)
             what = f"a disk of {pages} pages"
             hold(f"{what}: nothing is left", not left(), left())
-            if last == "ok: certain":
+            if last == OK:
                 ends["ok"] += 1
-                hold(f"{what}: all new", kinds == ["new"] * 5, kinds)
+                hold(f"{what}: all new", kinds == ["new"] * len(OUTPUTS), kinds)
             else:
                 ends[re.sub(r".*(new\.\w+).*", r"\1", last)] += 1
-                hold(f"{what}: all old", kinds == ["old"] * 5, kinds)
+                hold(f"{what}: all old", kinds == ["old"] * len(OUTPUTS), kinds)
                 hold(f"{what}: the last line", re.fullmatch(r'failed: cannot (write|make) "new\.\w+(\.part)?": .*', last), last)
         finally:
             os.chdir(here)
             subprocess.run(["umount", room], check=True)
-        hold(f"{what}: the input", content("frame.cf64") == source)
+        hold(f"{what}: the input", content(INPUT) == source)
     os.rmdir(room)
     print("disk full, runs by the output that did not fit:", dict(ends))
     hold("each output was the one that did not fit", not ends or set(ends) == {"ok", *OUTPUTS}, dict(ends))
@@ -112,30 +119,30 @@ def full_disks(new, source):
 
 def turned_back(new, source):
     """The system turns back a write, an fsync, the making of a file, a rename."""
-    cases = [(call, error, i, with_old) for i in range(5) for with_old in (True, False)
+    cases = [(call, error, i, with_old) for i in range(len(OUTPUTS)) for with_old in (True, False)
              for call, error in (("write", "ENOSPC"), ("fsync", "EIO"), ("openat", "ENOSPC"), ("rename", "EIO"))]
     for call, error, i, with_old in cases:
         name = OUTPUTS[i]
         was = "old" if with_old else "none"
         lay_out(with_old)
         if call == "rename":
-            last = run(READ, strace(call, f"error={error}:when={i + 1}"))
+            last = run(WORDS, strace(call, f"error={error}:when={i + 1}"))
         else:
-            last = run(READ, strace(call, f"error={error}", name + ".part"))
+            last = run(WORDS, strace(call, f"error={error}", name + ".part"))
         first = i if call == "rename" else 0
         what = f"{call} of {name} gives {error}, before it {was}"
-        hold(what, state(new) == ["new"] * first + [was] * (5 - first), state(new))
-        hold(f"{what}: last line", re.fullmatch(rf'failed: cannot (write|make) "{name}(\.part)?": .*', last), last)
+        hold(what, state(new) == ["new"] * first + [was] * (len(OUTPUTS) - first), state(new))
+        hold(f"{what}: last line", re.fullmatch(rf'failed: cannot (write|make) "{name}(\.part)?"(: .*)?', last), last)
         hold(f"{what}: nothing is left", not left(), left())
-        hold(f"{what}: the input", content("frame.cf64") == source)
+        hold(f"{what}: the input", content(INPUT) == source)
     print(f"{len(cases)} runs in which the system turned a call back; the last such line: {last}")
 
 
 def go_on(what, ends):
     """Follows the advice of last lines until a run ends with ok; answers how many runs were needed."""
     for turn in range(1, 8):
-        last = run(READ)
-        if last == "ok: certain":
+        last = run(WORDS)
+        if last == OK:
             return turn
         gone = re.fullmatch(r'failed: cannot write "(.*)": process \d+, which was writing it, was broken off: remove "(.*)" and "(.*)", and run again', last)
         unknown = re.fullmatch(r'failed: cannot write "(.*)": another run may be writing it, or one was broken off: then remove "(.*)" and "(.*)", and run again', last)
@@ -155,7 +162,7 @@ def go_on(what, ends):
 def killed(new, source):
     """A run killed on entering each of its system calls, from the first file that it makes on."""
     lay_out(True)
-    run(READ, ["strace", "-o", "calls"])
+    run(WORDS, ["strace", "-o", "calls"])
     with open("calls", encoding="utf-8", errors="replace") as file:
         lines = file.read().split("\n")
     os.unlink("calls")
@@ -176,15 +183,15 @@ def killed(new, source):
     for call, k in points:
         lay_out(True)
         what = f"killed at {call} {k}"
-        done = subprocess.run([*strace(call, f"signal=KILL:when={k}"), BENCH, *READ], stdout=subprocess.DEVNULL, stderr=subprocess.DEVNULL, check=False)
+        done = subprocess.run([*strace(call, f"signal=KILL:when={k}"), BENCH, *WORDS], stdout=subprocess.DEVNULL, stderr=subprocess.DEVNULL, check=False)
         hold(f"{what}: it is", done.returncode in (-9, 137), done.returncode)
         seen = state(new)
         n = seen.count("new")
-        kinds[f"{n} new, {5 - n} old"] += 1
-        hold(what, seen == ["new"] * n + ["old"] * (5 - n), seen)
-        hold(f"{what}: the input", content("frame.cf64") == source)
+        kinds[f"{n} new, {len(OUTPUTS) - n} old"] += 1
+        hold(what, seen == ["new"] * n + ["old"] * (len(OUTPUTS) - n), seen)
+        hold(f"{what}: the input", content(INPUT) == source)
         turns[go_on(what, ends)] += 1
-        hold(f"{what}: afterwards", state(new) == ["new"] * 5 and not left(), (state(new), left()))
+        hold(f"{what}: afterwards", state(new) == ["new"] * len(OUTPUTS) and not left(), (state(new), left()))
     runs = len(points)
     total = Counter(call for call, _ in points)
     print(f"{runs} runs killed, at each of these system calls:", dict(total))
@@ -193,16 +200,30 @@ def killed(new, source):
 
 
 def main():
+    global WORDS, INPUT, OUTPUTS, OK
     room = tempfile.mkdtemp(dir="/dev/shm" if os.path.isdir("/dev/shm") else None)
     os.chdir(room)
     try:
         shutil.copy(f"{ROOT}/crates/bench_replay/data/load", "load")
-        assert run(["make", "7:44,1:4", "001", "first", "load", "frame.cf64"]) == "ok"
-        assert run(READ) == "ok: certain"
-        new = {name: content(name) for name in OUTPUTS}
-        source = content("frame.cf64")
-        for part in sys.argv[1:] or ("full", "turned", "killed"):
-            {"full": full_disks, "turned": turned_back, "killed": killed}[part](new, source)
+        data = f"{ROOT}/crates/bench_replay/data"
+        assert run("make 7:44,1:4 001 first load frame.cf64".split()) == "ok"
+        assert run(["lay", f"{data}/header_first.cf32", "frame.cf64", "frame.cf64", "full.cf64"]) == "ok"
+        ways = {"full": full_disks, "turned": turned_back, "killed": killed}
+        asked = [w for w in sys.argv[1:] if w in ways] or list(ways)
+        named = [w for w in sys.argv[1:] if w not in ways]
+        for command in COMMANDS:
+            if named and command[0].split()[0] not in named:
+                continue
+            words, INPUT, outputs, OK = command
+            WORDS, OUTPUTS = words.split(), tuple(outputs.split())
+            print(f"{WORDS[0]}:", flush=True)
+            assert run(WORDS) == OK
+            new = {name: content(name) for name in OUTPUTS}
+            source = content(INPUT)
+            for way in asked:
+                if way != "full" or WORDS[0] == "read":
+                    ways[way](new, source)
+            lay_out(False)
     finally:
         os.chdir("/")
         shutil.rmtree(room)
