@@ -41,8 +41,10 @@ refused'
     { head -c 5 frame.cf64; sleep 0.1; tail -c +6 frame.cf64 | head -c 100001; sleep 0.1; tail -c +100007 frame.cf64; } |
         "$bench" read $words /dev/stdin bytes >report
     is 'a pipe in pieces' "$? $(cmp bytes load && echo same)" '0 same'
-    cat frame.cf64 frame.cf64 | "$bench" read $words /dev/stdin bytes | grep -c 'has more than is read' >count
+    cat frame.cf64 frame.cf64 | "$bench" judge $words /dev/stdin load | grep -c 'has more than is read' >count
     is 'a pipe with more' "$(cat count)" 1
+    cat frame.cf64 frame.cf64 | "$bench" read $words /dev/stdin bytes main | grep -c 'has more points; they are not read' >count
+    is 'a pipe with more, of read' "$(cat count)" 1
 
     # random integers, and the same numbers as f64
     python3 - <<'P'
