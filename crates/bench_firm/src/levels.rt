@@ -11,8 +11,10 @@ pub const UNCOUNTED: u32 = 100_000;
 
 pub type Levels = [u32; SLOTS];
 
-// Of BPSK the imaginary parts do not count, so that its level stands 3 dB above the others'.
+// Of BPSK the imaginary parts do not count, so that its level stands 3 dB above the others', up to the highest level that is told.
 const BPSK_LESS: u32 = 30;
+
+const HIGHEST: u32 = 900;
 
 // The slot of a symbol.
 pub fn slot_of(symbol: usize) -> usize {
@@ -22,6 +24,9 @@ pub fn slot_of(symbol: usize) -> usize {
 fn level_by(c: Combination, level: u32) -> u32 {
     match c {
         Combination::Bpsk1_2 => {
+            if level >= HIGHEST {
+                return level;
+            }
             if level > BPSK_LESS {
                 return level - BPSK_LESS;
             }
