@@ -22,9 +22,9 @@ ghost use Rattle.isdbs_combination.specs.Combinations.{frameSlots};
 // How high the picture of n runs is.
 fn page(n: usize) -> usize {
     match n {
-        0 => 2440,
-        1 | 2 => 3370,
-        _ => 4310,
+        0 => 2510,
+        1 | 2 => 3440,
+        _ => 4380,
     }
 }
 
@@ -74,7 +74,7 @@ fn head(
     let d = fill(
         sheet,
         c,
-        b"<text x=\"60\" y=\"182\" font-size=\"26\">$ of $ steps strained, $ points outside their margins; ",
+        b"<text x=\"60\" y=\"182\" font-size=\"22\">$ of $ steps strained, $ points outside their margins; ",
         &[f.strained as usize, f.steps, f.outside as usize],
     );
     let e = form::name(sheet, d, quality);
@@ -88,8 +88,8 @@ fn panel(sheet: &mut Sheet, at: usize, i: usize, title: &[u8], below: &[u8]) -> 
     let a = fill(
         sheet,
         at,
-        b"<g transform=\"translate(0 @)\">\n<text x=\"140\" y=\"10\" font-size=\"24\">",
-        &[240 + 540 * i],
+        b"<g transform=\"translate(0 @)\">\n<text x=\"140\" y=\"-10\" font-size=\"24\">",
+        &[250 + 560 * i],
     );
     let b = put(sheet, a, title);
     let c = put(
@@ -212,7 +212,7 @@ fn legend(sheet: &mut Sheet, at: usize) -> usize {
     let a = put(
         sheet,
         at,
-        b"<g transform=\"translate(60 2400)\">\n<path fill=\"#9ecae1\" d=\"M0 0h20v20h-20z\"/><path fill=\"#fcae91\" d=\"M24 0h20v20h-20z\"/><text x=\"52\" y=\"18\">1</text>",
+        b"<g transform=\"translate(60 2470)\">\n<path fill=\"#9ecae1\" d=\"M0 0h20v20h-20z\"/><path fill=\"#fcae91\" d=\"M24 0h20v20h-20z\"/><text x=\"52\" y=\"18\">1</text>",
     );
     let b = put(
         sheet,
@@ -227,7 +227,7 @@ fn legend(sheet: &mut Sheet, at: usize) -> usize {
     put(
         sheet,
         c,
-        b"<path fill=\"none\" stroke=\"#ff7f0e\" stroke-width=\"3\" d=\"M1342 2h16v16h-16z\"/><path stroke=\"#ff7f0e\" d=\"M1345 10h10M1350 5v10\"/><text x=\"1370\" y=\"18\">an ideal point and its margin</text>\n</g>\n",
+        b"<path fill=\"none\" stroke=\"#ff7f0e\" stroke-width=\"3\" d=\"M1362 2h16v16h-16z\"/><path stroke=\"#ff7f0e\" d=\"M1365 10h10M1370 5v10\"/><text x=\"1390\" y=\"18\">an ideal point and its margin</text>\n</g>\n",
     )
 }
 
