@@ -1,40 +1,26 @@
-// The picture of a reading.
+// The panels of the picture of a reading.
 use bench_setting::choice::Reading;
 use bench_words::report;
 use isdbs_core::frame::MAIN_SYMBOLS;
-use isdbs_core::frame::SLOTS;
+use isdbs_core::tmcc::Table;
 use isdbs_phy::demod::encode_frame;
-use picture_chart::Facts;
 use picture_chart::draw;
 use picture_sheet::BINS;
 use picture_sheet::Sheet;
 use refusal::Answer;
 
-// Draws the picture beside the points of the bytes, and answers how long it is.
+// Draws the panels beside the points of the bytes, and answers where the picture ends.
 fn draw_encoded(
     sheet: &mut Sheet,
-    f: Facts,
-    name: &[u8],
-    counts: &[u32; SLOTS],
-    outside: &[u32; SLOTS],
+    at: usize,
+    t: Table,
     re: &[f64; MAIN_SYMBOLS],
     im: &[f64; MAIN_SYMBOLS],
     clean_re: &[f64; MAIN_SYMBOLS],
     clean_im: &[f64; MAIN_SYMBOLS],
 ) -> usize {
     let mut bins = [0u32; BINS * BINS];
-    draw(
-        sheet,
-        &mut bins,
-        name,
-        f,
-        counts,
-        outside,
-        re,
-        im,
-        clean_re,
-        clean_im,
-    )
+    draw(sheet, at, &mut bins, t, re, im, clean_re, clean_im)
 }
 
 // Encodes the bytes again; else says why not.
@@ -54,15 +40,12 @@ fn encode(
     true
 }
 
-// Draws the picture of a reading on a sheet, and answers how long it is: 0 where the bytes cannot be encoded again, which is said.
+// Draws the panels of a reading on a sheet, from a place on, and answers where the picture ends: 0 where the bytes cannot be encoded again, which is said.
 pub fn draw_reading(
     sheet: &mut Sheet,
+    at: usize,
     s: Reading,
-    f: Facts,
-    name: &[u8],
     bytes: &[u8],
-    counts: &[u32; SLOTS],
-    outside: &[u32; SLOTS],
     re: &[f64; MAIN_SYMBOLS],
     im: &[f64; MAIN_SYMBOLS],
 ) -> usize {
@@ -71,15 +54,6 @@ pub fn draw_reading(
     if !encode(s, bytes, &mut clean_re, &mut clean_im) {
         return 0;
     }
-    draw_encoded(
-        sheet,
-        f,
-        name,
-        counts,
-        outside,
-        re,
-        im,
-        &clean_re,
-        &clean_im,
-    )
+    let t = s.table;
+    draw_encoded(sheet, at, t, re, im, &clean_re, &clean_im)
 }

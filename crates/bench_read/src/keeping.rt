@@ -1,7 +1,8 @@
 // What is said of a reading, and what is kept of it.
+use crate::picture::between;
 use crate::picture::draw;
+use crate::picture::put_texts;
 use bench_json::put_object;
-use bench_line::words::front;
 use bench_outputs::keep;
 use bench_quality::Sums;
 use bench_quality::frame_quality;
@@ -18,16 +19,6 @@ use bench_words::text::text;
 use isdbs_core::frame::MAIN_SYMBOLS;
 use picture_sheet::SHEET_BYTES;
 use picture_sheet::Sheet;
-
-// The bytes from a place up to another; none where there are none.
-fn between<'a>(s: &'a [u8], from: usize, to: usize) -> &'a [u8] {
-    if from <= to {
-        if to <= s.len() {
-            return &s[from..to];
-        }
-    }
-    front(s, 0)
-}
 
 // Whether what was put up to a place fits on its sheet; else says that it does not.
 fn fits(at: usize) -> bool {
@@ -200,7 +191,8 @@ fn conclude_on(
 ) {
     let a = put_page(page, 0, f, facts, sums, has(line, b"all"));
     let b = put_words(page, a, i, f, facts, sums);
-    let n = draw(sheet, s, line, f, bytes, facts, re, im);
+    let t = put_texts(page, a, b, line, s, i, sums);
+    let n = draw(sheet, page, t, s, line, f, bytes, facts, sums, re, im);
     say_and_keep(
         page,
         a,

@@ -1,13 +1,11 @@
-// The picture of a frame that was read, as SVG: the verdict, the strained steps of each valid slot, the points outside the margins of each slot of the frame, and the received points of each combination.
+// The lower part of the picture of a frame that was read: the received points of each combination.
 mod cloud;
 mod panel;
 
 use isdbs_core::frame::MAIN_SYMBOLS;
-use isdbs_core::frame::SLOTS;
 use isdbs_core::slots;
 use isdbs_core::slots::Run;
-pub use picture_head::Facts;
-use picture_head::draw_head;
+use isdbs_core::tmcc::Table;
 use picture_sheet::Sheet;
 use picture_sheet::Squares;
 use picture_sheet::put;
@@ -51,25 +49,21 @@ fn panels(
     panel_at(sheet, c, bins, rs, n, 3, re, im, clean_re, clean_im)
 }
 
-// Draws the picture of a frame on a sheet, and answers how long it is; more than the sheet has where it does not fit.
-// Lent are the strained steps of each valid slot, the points outside of each slot, the received points and those of the bytes that were read.
+// Draws the panels of a frame of table t from a place on, after the picture's upper part, and answers where the picture ends; more than the sheet has where it does
+// not fit. Lent are the received points and those of the bytes that were read.
 pub fn draw(
     sheet: &mut Sheet,
+    at: usize,
     bins: &mut Squares,
-    name: &[u8],
-    f: Facts,
-    counts: &[u32; SLOTS],
-    outside: &[u32; SLOTS],
+    t: Table,
     re: &[f64; MAIN_SYMBOLS],
     im: &[f64; MAIN_SYMBOLS],
     clean_re: &[f64; MAIN_SYMBOLS],
     clean_im: &[f64; MAIN_SYMBOLS],
 ) -> usize {
-    let t = f.table;
     let all = slots::runs(t);
     let rs = all.runs;
     let n = all.count;
-    let a = draw_head(sheet, name, f, all, counts, outside);
-    let b = panels(sheet, a, bins, rs, n, re, im, clean_re, clean_im);
+    let b = panels(sheet, at, bins, rs, n, re, im, clean_re, clean_im);
     put(sheet, b, b"</svg>\n")
 }

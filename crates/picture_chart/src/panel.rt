@@ -24,7 +24,7 @@ fn points(
     picture_panel::outside(sheet, a, bins)
 }
 
-// The panel of run i, which is one of four, two in a row; the first begins at y = 1260.
+// The panel of run i, which is one of four, two in a row; the first begins at y = 2580.
 pub(crate) fn panel(
     sheet: &mut Sheet,
     at: usize,
@@ -48,7 +48,7 @@ pub(crate) fn panel(
         sheet,
         at,
         b"<g transform=\"translate(@ @)\">\n",
-        &[120 + 860 * (i % 2), 1260 + 940 * (i / 2)],
+        &[120 + 860 * (i % 2), 2580 + 940 * (i / 2)],
     );
     let b = picture_panel::title(sheet, a, i, c, n, cloud::beyond(re, im, r));
     let d = picture_panel::grid(sheet, b);

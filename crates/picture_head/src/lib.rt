@@ -1,7 +1,10 @@
-// The upper part of the picture of a frame that was read: the verdict, the strained steps of each valid slot, the points outside the margins of each slot of the frame, and what the panels below show.
+// The upper part of the picture of a frame that was read: the report's last line, what was read and how; by slot the strength, the strained steps, the modulation error ratio and the points outside the margins; and what the panels below show.
+mod levels;
+pub mod rows;
+
 use isdbs_combination::SLOT_SYMBOLS;
 use isdbs_core::frame::SLOTS;
-use isdbs_core::slots::FrameRuns;
+use isdbs_core::slots;
 use isdbs_core::slots::Run;
 use isdbs_core::tmcc::Table;
 use picture_bars::bars;
@@ -9,15 +12,19 @@ use picture_bars::form;
 use picture_bars::form::fill;
 use picture_sheet::Sheet;
 use picture_sheet::put;
+use rows::OUTSIDE;
+use rows::Rows;
+use rows::STRAINED;
+use rows::copy_row;
 ghost use Prim.Native.Nat.{_≤_};
 ghost use Rattle.isdbs_combination.specs.Combinations.{frameSlots};
 
 // How high the picture of n runs is.
 fn page(n: usize) -> usize {
     match n {
-        0 => 1200,
-        1 | 2 => 2120,
-        _ => 3060,
+        0 => 2510,
+        1 | 2 => 3440,
+        _ => 4380,
     }
 }
 
@@ -31,64 +38,67 @@ fn open(sheet: &mut Sheet, at: usize, n: usize) -> usize {
     )
 }
 
-// What a picture is of: the frame's table, its steps and how many are strained, how many bytes were read and how many points lie outside their margins.
+// What a picture is of: the frame's table, its steps and how many are strained, and how many points lie outside their margins.
 pub struct Facts {
     pub table: Table,
     pub steps: usize,
     pub strained: u32,
-    pub size: usize,
     pub outside: u32,
 }
 
-// The verdict.
-fn verdict(sheet: &mut Sheet, at: usize, f: Facts) -> usize {
-    if f.size == 0 {
-        return put(sheet, at, b"certain: the table carries no bytes");
-    }
-    if f.outside == 0 {
-        return put(
-            sheet,
-            at,
-            b"certain: every part is within the margins: for these words, this cut and this phase no other bytes fit",
-        );
-    }
-    fill(
+// A line of words at the top.
+fn line(sheet: &mut Sheet, at: usize, y: usize, letters: usize, words: &[u8]) -> usize {
+    let a = fill(
         sheet,
         at,
-        b"doubtful: points outside the margins: $; the bytes are a reading, not a proof",
-        &[f.outside as usize],
-    )
+        b"<text x=\"60\" y=\"@\" font-size=\"@\">",
+        &[y, letters],
+    );
+    let b = form::name(sheet, a, words);
+    put(sheet, b, b"</text>\n")
 }
 
 // The lines at the top.
-fn head(sheet: &mut Sheet, at: usize, name: &[u8], f: Facts) -> usize {
-    let a = put(
+fn head(
+    sheet: &mut Sheet,
+    at: usize,
+    words: &[u8],
+    name: &[u8],
+    setting: &[u8],
+    quality: &[u8],
+    f: Facts,
+) -> usize {
+    let a = line(sheet, at, 60, 34, words);
+    let b = line(sheet, a, 106, 26, name);
+    let c = line(sheet, b, 144, 26, setting);
+    let d = fill(
+        sheet,
+        c,
+        b"<text x=\"60\" y=\"182\" font-size=\"22\">$ of $ steps strained, $ points outside their margins; ",
+        &[f.strained as usize, f.steps, f.outside as usize],
+    );
+    let e = form::name(sheet, d, quality);
+    put(sheet, e, b"</text>\n")
+}
+
+// The start of the bars of panel i, a title over them and the words below.
+fn panel(sheet: &mut Sheet, at: usize, i: usize, title: &[u8], below: &[u8]) -> usize
+    requires { ⌜ i ≤ 3 ⌝ }
+{
+    let a = fill(
         sheet,
         at,
-        b"<text x=\"60\" y=\"56\" font-size=\"36\">Verdict, strain and received points of frame ",
+        b"<g transform=\"translate(0 @)\">\n<text x=\"140\" y=\"-10\" font-size=\"24\">",
+        &[250 + 560 * i],
     );
-    let b = form::name(sheet, a, name);
+    let b = put(sheet, a, title);
     let c = put(
         sheet,
         b,
-        b"</text>\n<text x=\"60\" y=\"104\" font-size=\"30\">",
+        b"</text><text x=\"908\" y=\"500\" text-anchor=\"middle\">",
     );
-    let d = verdict(sheet, c, f);
-    fill(
-        sheet,
-        d,
-        b"</text>\n<text x=\"60\" y=\"148\" font-size=\"26\">$ of $ steps strained: there the points spoke against the bits that were read. 0 alone does not mean a good frame.</text>\n",
-        &[f.strained as usize, f.steps],
-    )
-}
-
-// The words of the bars' axes.
-fn bar_words(sheet: &mut Sheet, at: usize) -> usize {
-    put(
-        sheet,
-        at,
-        b"<g text-anchor=\"middle\"><text transform=\"translate(48 240) rotate(-90)\">strained steps of the slot</text><text x=\"908\" y=\"500\">valid slot (of 812 steps in TC8PSK, of 1,624 else); the letters are those of the panels below</text></g>\n",
-    )
+    let d = put(sheet, c, below);
+    put(sheet, d, b"</text>\n")
 }
 
 // The valid slot after those of a run whose first is `from`; at most the last one's end.
@@ -119,13 +129,34 @@ fn strips(sheet: &mut Sheet, at: usize, rs: [Run; 4]) -> usize {
     strip(sheet, c, 3, after(m, rs[2]), rs[3])
 }
 
-// The bars of the strained steps of n valid slots.
-fn strain(sheet: &mut Sheet, at: usize, rs: [Run; 4], n: usize, counts: &[u32; SLOTS]) -> usize {
-    let a = put(sheet, at, b"<g transform=\"translate(0 150)\">\n");
-    let b = bars::bars(sheet, a, counts, n, b"#3182bd");
+// The strength of n valid slots.
+fn strength(sheet: &mut Sheet, at: usize, rs: [Run; 4], n: usize, rows: &Rows) -> usize {
+    let a = panel(
+        sheet,
+        at,
+        0,
+        b"Strength of the reading, in percent of a clean slot's. Blue: firm. Orange: not firm (n noisy, d disturbed, w weak, b not the best reading)",
+        b"valid slot; the letters are those of the panels below",
+    );
+    let b = levels::strengths(sheet, a, rows, n);
     let c = strips(sheet, b, rs);
-    let d = bar_words(sheet, c);
-    put(sheet, d, b"</g>\n")
+    put(sheet, c, b"</g>\n")
+}
+
+// The bars of the strained steps of n valid slots.
+fn strain(sheet: &mut Sheet, at: usize, rs: [Run; 4], n: usize, rows: &Rows) -> usize {
+    let mut counts = [0u32; SLOTS];
+    copy_row(rows, STRAINED, &mut counts);
+    let a = panel(
+        sheet,
+        at,
+        1,
+        b"Strained steps: there the points spoke against the bits that were read. None at all does not yet mean a good frame",
+        b"valid slot (of 812 steps in TC8PSK, of 1,624 else)",
+    );
+    let b = bars::bars(sheet, a, &counts, n, b"#3182bd");
+    let c = strips(sheet, b, rs);
+    put(sheet, c, b"</g>\n")
 }
 
 fn frame_strip(sheet: &mut Sheet, at: usize, i: usize, r: Run) -> usize {
@@ -146,16 +177,34 @@ fn frame_strips(sheet: &mut Sheet, at: usize, rs: [Run; 4]) -> usize {
     frame_strip(sheet, c, 3, rs[3])
 }
 
-// The bars of the points outside the margins of the slots of the frame.
-fn misses(sheet: &mut Sheet, at: usize, rs: [Run; 4], outside: &[u32; SLOTS]) -> usize {
-    let a = put(sheet, at, b"<g transform=\"translate(0 640)\">\n");
-    let b = bars::bars(sheet, a, outside, SLOTS, b"#de2d26");
-    let c = frame_strips(sheet, b, rs);
-    put(
+// The bars of the modulation error ratio of the slots of the frame.
+fn ratio(sheet: &mut Sheet, at: usize, rs: [Run; 4], rows: &Rows) -> usize {
+    let a = panel(
         sheet,
-        c,
-        b"<g text-anchor=\"middle\"><text transform=\"translate(48 240) rotate(-90)\">points outside their margin</text><text x=\"908\" y=\"500\">slot of the frame (812 points each)</text></g>\n</g>\n",
-    )
+        at,
+        2,
+        b"Modulation error ratio (MER) in dB, against the points of the bytes that were read; a bar beyond 25 dB ends with the scale",
+        b"slot of the frame",
+    );
+    let b = levels::ratios(sheet, a, rows);
+    let c = frame_strips(sheet, b, rs);
+    put(sheet, c, b"</g>\n")
+}
+
+// The bars of the points outside the margins of the slots of the frame.
+fn misses(sheet: &mut Sheet, at: usize, rs: [Run; 4], rows: &Rows) -> usize {
+    let mut outside = [0u32; SLOTS];
+    copy_row(rows, OUTSIDE, &mut outside);
+    let a = panel(
+        sheet,
+        at,
+        3,
+        b"Points outside their margin: none at all proves the bytes, and many may still be read rightly",
+        b"slot of the frame (812 points each)",
+    );
+    let b = bars::bars(sheet, a, &outside, SLOTS, b"#de2d26");
+    let c = frame_strips(sheet, b, rs);
+    put(sheet, c, b"</g>\n")
 }
 
 // What the squares and boxes of the panels are.
@@ -163,7 +212,7 @@ fn legend(sheet: &mut Sheet, at: usize) -> usize {
     let a = put(
         sheet,
         at,
-        b"<g transform=\"translate(60 1170)\">\n<path fill=\"#9ecae1\" d=\"M0 0h20v20h-20z\"/><path fill=\"#fcae91\" d=\"M24 0h20v20h-20z\"/><text x=\"52\" y=\"18\">1</text>",
+        b"<g transform=\"translate(60 2470)\">\n<path fill=\"#9ecae1\" d=\"M0 0h20v20h-20z\"/><path fill=\"#fcae91\" d=\"M24 0h20v20h-20z\"/><text x=\"52\" y=\"18\">1</text>",
     );
     let b = put(
         sheet,
@@ -178,23 +227,29 @@ fn legend(sheet: &mut Sheet, at: usize) -> usize {
     put(
         sheet,
         c,
-        b"<path fill=\"none\" stroke=\"#ff7f0e\" stroke-width=\"3\" d=\"M1342 2h16v16h-16z\"/><path stroke=\"#ff7f0e\" d=\"M1345 10h10M1350 5v10\"/><text x=\"1370\" y=\"18\">an ideal point and its margin</text>\n</g>\n",
+        b"<path fill=\"none\" stroke=\"#ff7f0e\" stroke-width=\"3\" d=\"M1362 2h16v16h-16z\"/><path stroke=\"#ff7f0e\" d=\"M1365 10h10M1370 5v10\"/><text x=\"1390\" y=\"18\">an ideal point and its margin</text>\n</g>\n",
     )
 }
 
-// Draws the upper part on a sheet, and answers the place after it. `all` are the runs of the frame's table.
+// Draws the upper part on a sheet, and answers the place after it. The words are the report's last line; the name, the setting and the quality are lines beside it.
 pub fn draw_head(
     sheet: &mut Sheet,
+    words: &[u8],
     name: &[u8],
+    setting: &[u8],
+    quality: &[u8],
     f: Facts,
-    all: FrameRuns,
-    counts: &[u32; SLOTS],
-    outside: &[u32; SLOTS],
+    rows: &Rows,
 ) -> usize {
+    let t = f.table;
+    let all = slots::runs(t);
     let rs = all.runs;
+    let n = all.valid_slots;
     let a = open(sheet, 0, all.count);
-    let b = head(sheet, a, name, f);
-    let c = strain(sheet, b, rs, all.valid_slots, counts);
-    let d = misses(sheet, c, rs, outside);
-    legend(sheet, d)
+    let b = head(sheet, a, words, name, setting, quality, f);
+    let c = strength(sheet, b, rs, n, rows);
+    let d = strain(sheet, c, rs, n, rows);
+    let e = ratio(sheet, d, rs, rows);
+    let g = misses(sheet, e, rs, rows);
+    legend(sheet, g)
 }

@@ -73,10 +73,15 @@ fn out_of_view(sheet: &mut Sheet, at: usize, n: usize) -> usize {
     if n == 0 {
         return at;
     }
-    fill(sheet, at, b"; $ beyond 1.5, drawn at the edge", &[n])
+    fill(
+        sheet,
+        at,
+        b"<text y=\"-12\">$ beyond 1.5, drawn at the edge</text>\n",
+        &[n],
+    )
 }
 
-// The line above the panel of run i.
+// The lines above the panel of run i.
 pub fn title(
     sheet: &mut Sheet,
     at: usize,
@@ -85,13 +90,12 @@ pub fn title(
     points: usize,
     beyond: usize,
 ) -> usize {
-    let a = put(sheet, at, b"<text y=\"-16\" font-size=\"26\">");
+    let a = put(sheet, at, b"<text y=\"-42\" font-size=\"26\">");
     let b = letter(sheet, a, i);
     let d = put(sheet, b, b": ");
     let e = combination(sheet, d, c);
-    let f = fill(sheet, e, b", $ points", &[points]);
-    let g = out_of_view(sheet, f, beyond);
-    put(sheet, g, b"</text>\n")
+    let f = fill(sheet, e, b", $ points</text>\n", &[points]);
+    out_of_view(sheet, f, beyond)
 }
 
 // The border, and lines at -1, 0 and 1.
