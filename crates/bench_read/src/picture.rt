@@ -46,10 +46,13 @@ pub struct Texts {
     pub quality: usize,
 }
 
-// The file that was read, named as in the report.
+// The file that was read, named as in the report; its size and checksum where they were worked out, which a report asks for.
 fn put_input(page: &mut Sheet, at: usize, name: &[u8], i: Input) -> usize {
     let a = put(page, at, b"frame ");
     let b = put_quoted(page, a, name, b"\\x");
+    if i.bytes == 0 {
+        return fill(page, b, b", $ points", &[i.points]);
+    }
     let c = fill(
         page,
         b,
