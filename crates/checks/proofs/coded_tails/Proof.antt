@@ -2,9 +2,9 @@
 use mathlib.Core.Path.{refl}
 use Rattle.trellis.specs.Lists.{upto}
 use Rattle.trellis.specs.Code.{label, output, tapped, stateAt}
-use Rattle.constants.specs.Tails.{tailOf}
-use Rattle.constants.proofs.coded_tails.Statement.{statement}
-use Rattle.constants.proofs.coded_tails.Tie as tie
+use Rattle.checks.specs.Tails.{tailOf}
+use Rattle.checks.proofs.coded_tails.Statement.{statement}
+use Rattle.checks.proofs.coded_tails.Tie as tie
 
 returns : tie.Need-returns
 unfolding tailOf label output tapped stateAt upto

@@ -1,9 +1,9 @@
-// The bit patterns of the definitions as document 01's numbers: specs/. And the public constants that no other proved code reads, held to their numbers.
+// Laws that hold the definitions to document 01 (specs/), and the public constants that no other proved code reads, held to their numbers.
 ghost use mathlib.Core.Path.{_≡_};
 ghost use mathlib.Core.List.{[], _∷_};
 ghost use Prim.Native.Nat.{_+_, _-_, _*_};
 ghost use Rattle.isdbs_combination.specs.declared.Combination.the-variants.{«Bpsk1_2», «Qpsk1_2», «Qpsk2_3», «Qpsk3_4», «Qpsk5_6», «Qpsk7_8», «Tc8psk2_3»};
-ghost use Rattle.constants.specs.Tails.{codedTail};
+ghost use Rattle.checks.specs.Tails.{codedTail};
 use isdbs_core::combination::ALL;
 use isdbs_core::combination::Combination;
 use isdbs_core::frame::BURST_PERIOD;

@@ -1,0 +1,4 @@
+pub mod Numbers
+pub mod Tails
+pub mod Lettered
+pub mod RowOrder
