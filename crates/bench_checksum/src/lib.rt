@@ -1,7 +1,7 @@
 // CRC-32 of bytes and of files, as zip, gzip and crc32 have it.
 ghost use mathlib.Core.Path.{_≡_};
 ghost use lib.Bits.{bitXor};
-ghost use Rattle.bench_checksum.specs.Crc.{shifted, stepped, register};
+ghost use Rattle.bench_checksum.specs.Crc.{shifted, stepped, register, checksum};
 
 // The register after one bit.
 fn shift(r: u32) -> u32
@@ -46,6 +46,13 @@ pub fn ended(r: u32) -> u32
     ensures { λ s. ⌜ s ≡ bitXor r 4294967295 ⌝ }
 {
     r ^ 0xffff_ffff
+}
+
+// The checksum of bytes at hand. Of bytes in parts: `more` from BEGUN over each, then `ended` (law `in-parts`).
+pub fn crc32(s: &[u8]) -> u32
+    ensures { λ r. ⌜ r ≡ checksum (now (s .entry)) ⌝ }
+{
+    ended(more(BEGUN, s))
 }
 
 // The bytes of a file so far, and the register after them; whether there may be more.
