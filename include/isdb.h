@@ -9,7 +9,7 @@
  * outputs can be others. isdb_environment_ok tests it: assert it once in each thread that calls.
  *
  * Every call but isdbs_soft returns 0 where it accepts, else the number of the first row of this table that holds, from the top. Refused, every lent
- * number and slice is as before. Accepted, what is not said to be written is as before.
+ * number and slice is as before. Accepted, what is not said to be written is as before. (A NaN stays a NaN; its bits are free.)
  *
  *   1 table      slot counts sum above 48
  *  10 part unit  an entry of words 1 to 7 whose slots do not fill whole units
