@@ -1,3 +1,4 @@
 pub mod PackedLaws
 pub mod Half
 pub mod Rows
+pub mod Sign

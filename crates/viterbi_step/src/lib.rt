@@ -4,11 +4,14 @@ mod four;
 pub use four::acs4;
 ghost use mathlib.Core.Path.{_≡_};
 ghost use Prim.Native.Nat.{_+_, _*_, _<_};
+ghost use mathlib.Core.List.{map};
 ghost use lib.ListN.{length};
+ghost use lib.Ieee.{binary32, sub};
 ghost use Rattle.trellis.specs.Step.{pair, known, renormalised, ruled, top};
 ghost use Rattle.trellis.specs.Isdb.{nexts, word, bestState};
 ghost use Rattle.viterbi_branches.specs.Signs.{XSigns, YSigns};
 ghost use Rattle.viterbi_step.specs.Half.{Half};
+ghost use Rattle.viterbi_step.specs.Sign.{NotZero};
 use trellis::HALF;
 use trellis::STATES;
 use viterbi_branches::SX;
@@ -97,7 +100,8 @@ pub fn acs_known(pm: [f32; STATES], b: u8) -> Stepped
     let low = pair_half(pm, &mut values, &x, &y, 0, 0.0, 0.0);
     let high = pair_half(pm, &mut values, &x, &y, 1, 0.0, 0.0);
     rule_out(&mut values, b);
-    renormalise(&mut values);
+    let t = first_greatest(&values);
+    subtract(&mut values, t);
     Stepped {
         values,
         word: join(low, high),
@@ -105,7 +109,7 @@ pub fn acs_known(pm: [f32; STATES], b: u8) -> Stepped
 }
 
 // The greatest path value; of equals the first. It begins at the least f32, as the Rust does.
-fn greatest(pm: &[f32; STATES]) -> f32
+fn first_greatest(pm: &[f32; STATES]) -> f32
     ensures { λ r. ⌜ r ≡ top (now (pm .entry)) Isdb.states ⌝ }
 {
     let mut t = -3.4028235e38f32;
@@ -115,15 +119,55 @@ fn greatest(pm: &[f32; STATES]) -> f32
     t
 }
 
+// The greatest path value in four chains, which the compiler takes at once. Where it is a zero, it may have another sign than the first of the greatest.
+fn greatest_of_four(pm: &[f32]) -> f32
+    requires { ⌜ length (now pm) ≡ Isdb.states ⌝ }
+    ensures { λ r. ⌜ (NotZero r → r ≡ top (now (pm .entry)) Isdb.states) ⌝ }
+{
+    let mut a = -3.4028235e38f32;
+    let mut b = -3.4028235e38f32;
+    let mut c = -3.4028235e38f32;
+    let mut d = -3.4028235e38f32;
+    for s in 0..HALF / 2 {
+        a = greater(a, pm[4 * s]);
+        b = greater(b, pm[4 * s + 1]);
+        c = greater(c, pm[4 * s + 2]);
+        d = greater(d, pm[4 * s + 3]);
+    }
+    greater(greater(a, b), greater(c, d))
+}
+
+// The greatest path value; of equals the first.
+fn greatest(pm: &[f32; STATES]) -> f32
+    ensures { λ r. ⌜ r ≡ top (now (pm .entry)) Isdb.states ⌝ }
+{
+    let values: &[f32] = pm;
+    let t = greatest_of_four(values);
+    if t < 0.0 {
+        return t;
+    }
+    if 0.0 < t {
+        return t;
+    }
+    first_greatest(pm)
+}
+
+// Subtracts t from each path value.
+fn subtract(pm: &mut [f32; STATES], t: f32)
+    ensures { λ _. ⌜ now (pm .exit) ≡ map (λ x. sub binary32 x t) (now (pm .entry)) ⌝ }
+{
+    let n = states(pm);
+    for s in 0..n {
+        pm[s] = pm[s] - t;
+    }
+}
+
 // Subtracts the greatest path value from each.
 pub fn renormalise(pm: &mut [f32; STATES])
     ensures { λ _. ⌜ now (pm .exit) ≡ renormalised Isdb.half (now (pm .entry)) ⌝ }
 {
-    let n = states(pm);
     let t = greatest(pm);
-    for s in 0..n {
-        pm[s] = pm[s] - t;
-    }
+    subtract(pm, t);
 }
 
 // Sets the states that the last input b does not lead to (document 01: "the 32 states that the bit rules out are set to -1.0e9").

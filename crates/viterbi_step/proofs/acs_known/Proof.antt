@@ -6,6 +6,7 @@ use Rattle.trellis.specs.Step.{renormalised, ruled}
 use Rattle.viterbi_branches.specs.SignLaws.{SX, SY, sx-signs, sy-signs}
 use Rattle.viterbi_step.proofs.Turn.{new-values, new-word}
 use Rattle.viterbi_step.proofs.Known.{known-nexts, known-word}
+use Rattle.viterbi_step.proofs.Subtracted.{subtracted}
 use Rattle.viterbi_step.proofs.acs_known.Statement.{statement}
 use Rattle.viterbi_step.proofs.acs_known.Tie as tie
 
@@ -20,24 +21,29 @@ pair-half-requires-2 c κs = (omega arith, sx-signs, sy-signs)
 rule-out-requires : tie.Need-rule-out-requires
 rule-out-requires c κs = search needs
 
-renormalise-requires : tie.Need-renormalise-requires
-renormalise-requires c κs = search needs
+first-greatest-requires : tie.Need-first-greatest-requires
+first-greatest-requires c κs = search needs
+
+subtract-requires : tie.Need-subtract-requires
+subtract-requires c κs = search needs
 
 join-requires : tie.Need-join-requires
 join-requires c κs = search needs
 
 returns : tie.Need-returns
 returns c =
-    let ruling = c .before .before .before in
+    let less = c .before in
+    let first = less .before .before in
+    let ruling = first .before .before in
     let high = ruling .before .before in
     let low = high .before .before .before .before in
     let a = low .before .before .before .before .args in
     let lower = low .pair-half .ensures in
     let upper = high .pair-half2 .ensures in (
-      c .before .renormalise .ensures
+      subtracted _ _ _ (first .first-greatest .ensures) (less .subtract .ensures)
           ∙ ap (renormalised 32) (ruling .rule-out .ensures ∙ ap (ruled 32 (a .b)) (new-values _ _ _ _ _ _ _ lower upper ∙ known-nexts (a .pm) (a .b))),
       c .join .ensures ∙ new-word _ _ _ _ _ _ _ lower upper ∙ known-word (a .pm) (a .b),
     )
 
 pub acs-known-spec : {M : Type 1} → statement M
-acs-known-spec = tie.close (tie.spec pair-half-requires pair-half-requires-2 rule-out-requires renormalise-requires join-requires returns)
+acs-known-spec = tie.close (tie.spec pair-half-requires pair-half-requires-2 rule-out-requires first-greatest-requires subtract-requires join-requires returns)
