@@ -1,2 +1,3 @@
 pub mod Frames
 pub mod Slots
+pub mod WindowLaws

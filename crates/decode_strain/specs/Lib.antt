@@ -1,3 +1,4 @@
 pub mod Counted
+pub mod Windows
 pub mod CountingLaws
 pub mod Pieces

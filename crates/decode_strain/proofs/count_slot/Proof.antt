@@ -1,133 +1,93 @@
 -- `count_slot` meets its contract.
 use borrow.Author.Needs.{needs}
 use native.Mathlib.Omega.{arith}
-use Prim.Native.Nat.{ℕ, _+_, _-_, _*_, _/_, _%_, _^_, _<_, _≤_}
-use native.Mathlib.Nat.{mod-lt}
-use lib.Dec.{lit<}
-use lib.ListN.{getD}
-use mathlib.Core.Path.{_≡_, refl}
-use Rattle.decode_strain.specs.Counted.{Counted}
-use Rattle.decode_strain.specs.CountingLaws.{slot, counted-first, count-few, label-is, counted-next}
+use mathlib.Core.Path.{_≡_}
+use Prim.Native.Nat.{_+_, _-_, _≤_}
+use lib.ListN.{length-drop}
+use lib.Seq.{getD-drop}
+use Rattle.isdbs_metrics.specs.FrameRunLaws.{tail-is}
+use Rattle.decode_strain.specs.CountingLaws.{count-few}
+use Rattle.decode_strain.proofs.WindowLaws.{windows-few, slot-counted}
 use Rattle.decode_strain.proofs.count_slot.Statement.{statement}
 use Rattle.decode_strain.proofs.count_slot.Tie as tie
 
-bit-of : (x : ℕ) → x % 2 < 2
-bit-of x = mod-lt x (lit< tt)
+count-steps-requires : tie.Need-count-steps-requires
+count-steps-requires c κs = search needs
 
-abbrev Inv-loop : tie.InvT-loop
-Inv-loop labels n marks bits start count₀ state₀ i₀ count state i = (i ≤ n) × Counted marks bits start i (slot count state)
+returns : tie.Need-returns
+returns c = search needs
 
-abbrev μ-loop : tie.MeasureT-loop
-μ-loop labels n marks bits start count₀ state₀ i₀ count state i = n - i
+count-steps-requires-2 : tie.Need-count-steps-requires-2
+count-steps-requires-2 c κs =
+    let start = c .before .before .before in
+    let a = start .pre .2 in
+    let b = start .pre .3 in
+    (start .pre .0, omega arith, omega arith, omega arith, λ i h. start .pre .4 i (omega arith), start .pre .5)
 
-loop-holds : tie.Need-loop-holds Inv-loop μ-loop
-loop-holds c =
-    (search needs, counted-first (c .args .marks .now) (c .args .bits .now) (c .args .start) (c .pre .5))
+count-rest-requires : tie.Need-count-rest-requires
+count-rest-requires c κs =
+    let start = c .before .before .before .before in
+    let f = start .pre .1 in
+    let a = start .pre .2 in
+    let b = start .pre .3 in
+    (omega arith, omega arith, omega arith, λ i h. start .pre .4 i (omega arith))
 
-shared-slice-read-k : tie.Need-shared-slice-read-k Inv-loop μ-loop
-shared-slice-read-k c = search needs
+sub-six-state : tie.Need-sub-six-state
+sub-six-state c = search needs
 
-cast-k : tie.Need-cast-k Inv-loop μ-loop
-cast-k c =
-    let st = c .before .before .before in
-    let at = c .before .before .loop in
-    let l = c .before .loop-test .taken in
-    let u = st .pre .4 (at .i) l in
-    let s = at .inv .1 .small in
-    omega arith
+part-six-state-start : tie.Need-part-six-state-start
+part-six-state-start c = search needs
 
-mul-k : tie.Need-mul-k Inv-loop μ-loop
-mul-k c =
-    let st = c .before .before .before in
-    let at = c .before .before .loop in
-    let l = c .before .loop-test .taken in
-    let u = st .pre .4 (at .i) l in
-    let s = at .inv .1 .small in
+part-six-state-end : tie.Need-part-six-state-end
+part-six-state-end c = search needs
+
+six-state-requires : tie.Need-six-state-requires
+six-state-requires c κs =
+    let start = c .before .before .before .before .before .before in
+    let us = start .args .bits .now in
+    let from = start .args .n - 6 in
+    let b = start .pre .3 in
+    let d = length-drop from us in
+    rw (tail-is from us) (omega arith, λ i h. rw (getD-drop from us i 0) (start .pre .4 (from + i) (omega arith)))
+
+add-t15 : tie.Need-add-t15
+add-t15 c =
+    let rest = c .before .before .before in
+    let steps = rest .before in
+    let start = steps .before .before .before .before in
+    let ms = start .args .marks .now in
+    let us = start .args .bits .now in
+    let f = start .pre .1 in
+    let few = count-few ms us (start .args .start) 6 (steps .count-steps2 .result) (steps .count-steps2 .ensures) in
+    let others : rest .count-rest .result ≤ start .args .n - 6 = rw (rest .count-rest .ensures) (windows-few ms us (start .args .n - 6)) in
     record { fits = omega arith }
 
-add-k : tie.Need-add-k Inv-loop μ-loop
-add-k c =
-    let st = c .before .before .before in
-    let at = c .before .before .loop in
-    let l = c .before .loop-test .taken in
-    let u = st .pre .4 (at .i) l in
-    let s = at .inv .1 .small in
-    record { fits = omega arith }
+cast-t11 : tie.Need-cast-t11
+cast-t11 c = search needs
 
-element-copy-out-label : tie.Need-element-copy-out-label Inv-loop μ-loop
-element-copy-out-label c =
-    let st = c .before .before .before in
-    let at = c .before .before .loop in
-    let l = c .before .loop-test .taken in
-    let u = st .pre .4 (at .i) l in
-    let s = at .inv .1 .small in
-    omega arith
-
-shared-slice-read-count : tie.Need-shared-slice-read-count Inv-loop μ-loop
-shared-slice-read-count c = search needs
-
-shr-count : tie.Need-shr-count Inv-loop μ-loop
-shr-count c =
-    let st = c .before .before .before .before .before in
-    let at = c .before .before .before .before .loop in
-    let l = c .before .before .before .loop-test .taken in
-    let u = st .pre .4 (at .i) l in
-    let s = at .inv .1 .small in
-    let x = label-is (st .args .marks .now) (st .args .bits .now) (st .args .start) (at .i) (at .count) (at .state) (at .inv .1) u (64 * getD (st .args .bits .now) (at .i) 0 + at .state) refl (st .args .labels .now) (st .pre .0) .1 in
-    omega arith
-
-cast-count : tie.Need-cast-count Inv-loop μ-loop
-cast-count c = search needs
-
-add-count : tie.Need-add-count Inv-loop μ-loop
-add-count c =
-    let st = c .before .before .before .before .before in
-    let at = c .before .before .before .before .loop in
-    let l = c .before .before .before .loop-test .taken in
-    let u = st .pre .4 (at .i) l in
-    let s = at .inv .1 .small in
-    let few = count-few (st .args .marks .now) (st .args .bits .now) (st .args .start) (at .i) (slot (at .count) (at .state)) (at .inv .1) in
-    let one = bit-of (getD (st .args .marks .now) (at .i) 0 / 2 ^ getD (st .args .labels .now) (64 * getD (st .args .bits .now) (at .i) 0 + at .state) 0) in
-    record { fits = omega arith }
-
-add-i : tie.Need-add-i Inv-loop μ-loop
-add-i c = search needs
-
-loop-less : tie.Need-loop-less Inv-loop μ-loop
-loop-less c = search needs
-
-loop-again : tie.Need-loop-again Inv-loop μ-loop
-loop-again c =
-    let st = c .before .before .before .before .before in
-    let at = c .before .before .before .before .loop in
-    let l = c .before .before .before .loop-test .taken in
-    let u = st .pre .4 (at .i) l in
-    let s = at .inv .1 .small in
-    let x = label-is (st .args .marks .now) (st .args .bits .now) (st .args .start) (at .i) (at .count) (at .state) (at .inv .1) u (64 * getD (st .args .bits .now) (at .i) 0 + at .state) refl (st .args .labels .now) (st .pre .0) .0 in
-    (omega arith, counted-next (st .args .marks .now) (st .args .bits .now) (st .args .start) (at .i) (at .count) (at .state) (at .inv .1) u (64 * getD (st .args .bits .now) (at .i) 0 + at .state) refl _ x)
-
-returns : tie.Need-returns Inv-loop μ-loop
-returns c =
-    let e : c .before .loop .i ≡ c .before .before .args .n = omega arith in
-    rw e at (c .before .loop .inv .1)
+returns-2 : tie.Need-returns-2
+returns-2 c =
+    let rest = c .before .before .before in
+    let steps = rest .before in
+    let start = steps .before .before .before .before in
+    let ms = start .args .marks .now in
+    let us = start .args .bits .now in
+    let n = start .args .n in
+    let state = rw (tail-is (n - 6) us) at (c .before .six-state .ensures) in
+    slot-counted ms us (start .args .start) n (steps .count-steps2 .result) (rest .count-rest .result) (c .before .six-state .result) (start .pre .5) (omega arith) (start .pre .4) (steps .count-steps2 .ensures) (rest .count-rest .ensures) state
 
 pub count-slot-spec : {M : Type 1} → statement M
 count-slot-spec =
     tie.close
     (tie.spec
-    Inv-loop
-    μ-loop
-    loop-holds
-    shared-slice-read-k
-    cast-k
-    mul-k
-    add-k
-    element-copy-out-label
-    shared-slice-read-count
-    shr-count
-    cast-count
-    add-count
-    add-i
-    loop-less
-    loop-again
-    returns)
+    count-steps-requires
+    returns
+    count-steps-requires-2
+    count-rest-requires
+    sub-six-state
+    part-six-state-start
+    part-six-state-end
+    six-state-requires
+    add-t15
+    cast-t11
+    returns-2)
