@@ -2,49 +2,37 @@
 use ieee_cast::soft;
 ghost use mathlib.Core.Path.{_≡_};
 ghost use mathlib.Core.Bool.{true};
-ghost use Prim.Native.Nat.{_%_, _≤_, _<_};
+ghost use Prim.Native.Nat.{_≤_, _<_};
 ghost use lib.ListN.{length, getD};
 ghost use lib.Ieee.{nan, mul, binary32};
 ghost use Rattle.trellis.specs.Lists.{upto, laid};
 ghost use Rattle.ieee_cast.specs.Soft.{softOf};
 ghost use Rattle.isdbs_metrics.specs.Reading.{absolute};
-ghost use Rattle.decode_soft.specs.Range.{Between, InRange, AllInRange, shortened};
+ghost use Rattle.decode_soft.specs.Range.{InRange, AllInRange, shortened};
 
-// The pattern of |x|; of a zero that of 2^-126, and 0 of a NaN.
-fn range_bits(x: f64) -> u64
-    ensures { λ r. ⌜ (r < 0x8000_0000_0000_0000) × (Between r → InRange x) ⌝ }
+// 2^-126, the f32's smallest normal number.
+const SMALLEST: f64 = 1.1754943508222875e-38;
+
+// Half way from the greatest f32 to 2^128: what rounds to 2^128 starts here.
+const OVER: f64 = 3.4028235677973366e38;
+
+// Whether x is in the range.
+fn in_range(x: f64) -> bool
+    ensures { λ r. ⌜ (r ≡ true → InRange x) ⌝ }
 {
-    if x != x {
-        return 0;
-    }
-    f64::to_bits(x) % 0x8000_0000_0000_0000 + (x == 0.0) as u64 * 0x3810_0000_0000_0000
+    ((x >= SMALLEST) | (x <= -SMALLEST) | (x == 0.0)) & (x < OVER) & (x > -OVER)
 }
 
-// A word whose highest bit is set where that of one of the two is.
-fn either(a: u64, b: u64) -> u64
-    ensures { λ r. ⌜ (r < 0x8000_0000_0000_0000 → (a < 0x8000_0000_0000_0000) × (b < 0x8000_0000_0000_0000)) ⌝ }
-{
-    a | b
-}
-
-// A word whose highest bit is set where x is out of the range: the sum's from where x rounds to 2^128 on, the difference's below 2^-126.
-fn outside(x: f64) -> u64
-    ensures { λ r. ⌜ (r < 0x8000_0000_0000_0000 → InRange x) ⌝ }
-{
-    let bits = range_bits(x);
-    either(bits + 0x3810_0000_1000_0000, 0xb80f_ffff_ffff_ffff - bits)
-}
-
-// Whether the first n values are all in the range.
+// Whether the first n values are all in the range. All are looked at, so that the loop goes by vectors.
 fn all_in_range(xs: &[f64], n: usize) -> bool
     requires { ⌜ n ≤ length (now xs) ⌝ }
     ensures { λ r. ⌜ (r ≡ true → AllInRange (now (xs .entry)) n) ⌝ }
 {
-    let mut some: u64 = 0;
+    let mut all = true;
     for i in 0..n {
-        some = either(some, outside(xs[i]));
+        all = all & in_range(xs[i]);
     }
-    some < 0x8000_0000_0000_0000
+    all
 }
 
 // The pattern with the 29 digits rounded away that an f32 has no room for: a sum that carries above a half, and at a half where the last digit kept is odd.
