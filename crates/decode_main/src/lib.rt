@@ -52,11 +52,16 @@ impl DemodOptions {
     }
 }
 
+// A frame to be read: its plan, whether it is the first of a superframe, and the decoder settings.
+pub struct FrameTask {
+    pub plan: Plan,
+    pub first: bool,
+    pub options: DemodOptions,
+}
+
 // The decoded bits of a frame: one for each step, then the 16 of W1. The path values start as `start`.
 fn decode_bits(
-    p: Plan,
-    m: Mapping,
-    scales: [f32; 7],
+    f: FrameTask,
     start: [f32; STATES],
     re: &[f64],
     im: &[f64],
@@ -64,10 +69,14 @@ fn decode_bits(
     bits: &mut [u8],
     marks: &mut [u8],
 )
-    requires { ⌜ Planned p × (mainSymbols ≤ length (now re)) × (mainSymbols ≤ length (now im)) × (frameWords ≤ length (now decisions)) × (frameSteps (p .table) + syncBits ≤ length (now bits)) × (frameSteps (p .table) ≤ length (now marks)) ⌝ }
-    ensures read { λ _. ⌜ (now (bits .exit) ≡ laid (bitsFrom (p .table) (receivedBy (now (re .entry)) (now (im .entry)) m scales) start) (now (bits .entry))) × (now (decisions .exit) ≡ laid (replicate frameWords 0) (now (decisions .entry))) ⌝ }
-    ensures marked { λ _. ⌜ now (marks .exit) ≡ laid (upto (frameMark (p .table) (receivedBy (now (re .entry)) (now (im .entry)) m scales)) (frameSteps (p .table))) (now (marks .entry)) ⌝ }
+    requires { ⌜ Planned (f .plan) × (mainSymbols ≤ length (now re)) × (mainSymbols ≤ length (now im)) × (frameWords ≤ length (now decisions)) × (frameSteps (f .plan .table) + syncBits ≤ length (now bits)) × (frameSteps (f .plan .table) ≤ length (now marks)) ⌝ }
+    ensures read { λ _. ⌜ (now (bits .exit) ≡ laid (bitsFrom (f .plan .table) (receivedBy (now (re .entry)) (now (im .entry)) (f .options .mapping) (f .options .scales)) start) (now (bits .entry))) × (now (decisions .exit) ≡ laid (replicate frameWords 0) (now (decisions .entry))) ⌝ }
+    ensures marked { λ _. ⌜ now (marks .exit) ≡ laid (upto (frameMark (f .plan .table) (receivedBy (now (re .entry)) (now (im .entry)) (f .options .mapping) (f .options .scales))) (frameSteps (f .plan .table))) (now (marks .entry)) ⌝ }
 {
+    let p = f.plan;
+    let o = f.options;
+    let m = o.mapping;
+    let scales = o.scales;
     let mut pm = start;
     let at = read_runs(p, m, scales, &mut pm, re, im, decisions, bits, marks);
     read_end(&mut pm, at, decisions, bits);
@@ -86,9 +95,7 @@ fn start_values(known_start: bool, state: u8) -> [f32; STATES]
 
 // A whole frame: its decoded bits, its bytes, and the mark of each step.
 pub fn decode(
-    p: Plan,
-    first: bool,
-    o: DemodOptions,
+    f: FrameTask,
     re: &[f64],
     im: &[f64],
     decisions: &mut [u64],
@@ -96,24 +103,23 @@ pub fn decode(
     bytes: &mut [u8],
     marks: &mut [u8],
 )
-    requires { ⌜ Planned p × (mainSymbols ≤ length (now re)) × (mainSymbols ≤ length (now im)) × (frameWords ≤ length (now decisions)) × (frameSteps (p .table) + syncBits ≤ length (now bits)) × (loadBytes (p .table) ≤ length (now bytes)) × (frameSteps (p .table) ≤ length (now marks)) ⌝ }
-    ensures read { λ _. ⌜ FrameRead (p .table) (receivedBy (now (re .entry)) (now (im .entry)) (o .mapping) (o .scales)) (o .«known_start») first (now (decisions .entry)) (now (decisions .exit)) (now (bits .entry)) (now (bits .exit)) (now (bytes .entry)) (now (bytes .exit)) ⌝ }
-    ensures marked { λ _. ⌜ now (marks .exit) ≡ laid (upto (frameMark (p .table) (receivedBy (now (re .entry)) (now (im .entry)) (o .mapping) (o .scales))) (frameSteps (p .table))) (now (marks .entry)) ⌝ }
+    requires { ⌜ Planned (f .plan) × (mainSymbols ≤ length (now re)) × (mainSymbols ≤ length (now im)) × (frameWords ≤ length (now decisions)) × (frameSteps (f .plan .table) + syncBits ≤ length (now bits)) × (loadBytes (f .plan .table) ≤ length (now bytes)) × (frameSteps (f .plan .table) ≤ length (now marks)) ⌝ }
+    ensures read { λ _. ⌜ FrameRead (f .plan .table) (receivedBy (now (re .entry)) (now (im .entry)) (f .options .mapping) (f .options .scales)) (f .options .«known_start») (f .first) (now (decisions .entry)) (now (decisions .exit)) (now (bits .entry)) (now (bits .exit)) (now (bytes .entry)) (now (bytes .exit)) ⌝ }
+    ensures marked { λ _. ⌜ now (marks .exit) ≡ laid (upto (frameMark (f .plan .table) (receivedBy (now (re .entry)) (now (im .entry)) (f .options .mapping) (f .options .scales))) (frameSteps (f .plan .table))) (now (marks .entry)) ⌝ }
 {
-    let state = start_state(first);
+    let p = f.plan;
+    let o = f.options;
     let m = o.mapping;
+    let state = start_state(f.first);
     let start = start_values(o.known_start, state);
-    let scales = o.scales;
-    decode_bits(p, m, scales, start, re, im, decisions, bits, marks);
+    decode_bits(f, start, re, im, decisions, bits, marks);
     let end = p.steps + SYNC_BITS;
     write_bytes(p, m, state, re, im, &bits[0..end], bytes);
 }
 
 // A whole frame with room for its marks: it is counted by these and the final bits.
 fn decode_marked(
-    p: Plan,
-    first: bool,
-    o: DemodOptions,
+    f: FrameTask,
     re: &[f64],
     im: &[f64],
     decisions: &mut [u64],
@@ -122,21 +128,20 @@ fn decode_marked(
     counts: &mut [u32],
     marks: &mut [u8; LONGEST_FRAME],
 ) -> u32
-    requires { ⌜ Planned p × (mainSymbols ≤ length (now re)) × (mainSymbols ≤ length (now im)) × (frameWords ≤ length (now decisions)) × (frameSteps (p .table) + syncBits ≤ length (now bits)) × (loadBytes (p .table) ≤ length (now bytes)) × (validTotal (p .table) ≤ length (now counts)) ⌝ }
-    ensures read { λ _. ⌜ FrameRead (p .table) (receivedBy (now (re .entry)) (now (im .entry)) (o .mapping) (o .scales)) (o .«known_start») first (now (decisions .entry)) (now (decisions .exit)) (now (bits .entry)) (now (bits .exit)) (now (bytes .entry)) (now (bytes .exit)) ⌝ }
-    ensures counted { λ r. ⌜ FrameCounted (p .table) (receivedBy (now (re .entry)) (now (im .entry)) (o .mapping) (o .scales)) (o .«known_start») first (now (marks .exit)) (now (counts .entry)) (now (counts .exit)) r ⌝ }
+    requires { ⌜ Planned (f .plan) × (mainSymbols ≤ length (now re)) × (mainSymbols ≤ length (now im)) × (frameWords ≤ length (now decisions)) × (frameSteps (f .plan .table) + syncBits ≤ length (now bits)) × (loadBytes (f .plan .table) ≤ length (now bytes)) × (validTotal (f .plan .table) ≤ length (now counts)) ⌝ }
+    ensures read { λ _. ⌜ FrameRead (f .plan .table) (receivedBy (now (re .entry)) (now (im .entry)) (f .options .mapping) (f .options .scales)) (f .options .«known_start») (f .first) (now (decisions .entry)) (now (decisions .exit)) (now (bits .entry)) (now (bits .exit)) (now (bytes .entry)) (now (bytes .exit)) ⌝ }
+    ensures counted { λ r. ⌜ FrameCounted (f .plan .table) (receivedBy (now (re .entry)) (now (im .entry)) (f .options .mapping) (f .options .scales)) (f .options .«known_start») (f .first) (now (marks .exit)) (now (counts .entry)) (now (counts .exit)) r ⌝ }
 {
-    decode(p, first, o, re, im, decisions, bits, bytes, marks);
+    decode(f, re, im, decisions, bits, bytes, marks);
+    let p = f.plan;
     let end = p.steps + SYNC_BITS;
-    let begun = start_state(first);
+    let begun = start_state(f.first);
     count_strain(p, begun as usize, marks, &bits[0..end], counts)
 }
 
 // A whole frame: its decoded bits, its bytes, and the strained steps of each valid slot. The answer is their sum.
 pub fn decode_strained(
-    p: Plan,
-    first: bool,
-    o: DemodOptions,
+    f: FrameTask,
     re: &[f64],
     im: &[f64],
     decisions: &mut [u64],
@@ -144,21 +149,10 @@ pub fn decode_strained(
     bytes: &mut [u8],
     counts: &mut [u32],
 ) -> u32
-    requires { ⌜ Planned p × (mainSymbols ≤ length (now re)) × (mainSymbols ≤ length (now im)) × (frameWords ≤ length (now decisions)) × (frameSteps (p .table) + syncBits ≤ length (now bits)) × (loadBytes (p .table) ≤ length (now bytes)) × (validTotal (p .table) ≤ length (now counts)) ⌝ }
-    ensures read { λ _. ⌜ FrameRead (p .table) (receivedBy (now (re .entry)) (now (im .entry)) (o .mapping) (o .scales)) (o .«known_start») first (now (decisions .entry)) (now (decisions .exit)) (now (bits .entry)) (now (bits .exit)) (now (bytes .entry)) (now (bytes .exit)) ⌝ }
-    ensures strain { λ r. ⌜ StrainLaid (p .table) (receivedBy (now (re .entry)) (now (im .entry)) (o .mapping) (o .scales)) (o .«known_start») first (now (counts .entry)) (now (counts .exit)) r ⌝ }
+    requires { ⌜ Planned (f .plan) × (mainSymbols ≤ length (now re)) × (mainSymbols ≤ length (now im)) × (frameWords ≤ length (now decisions)) × (frameSteps (f .plan .table) + syncBits ≤ length (now bits)) × (loadBytes (f .plan .table) ≤ length (now bytes)) × (validTotal (f .plan .table) ≤ length (now counts)) ⌝ }
+    ensures read { λ _. ⌜ FrameRead (f .plan .table) (receivedBy (now (re .entry)) (now (im .entry)) (f .options .mapping) (f .options .scales)) (f .options .«known_start») (f .first) (now (decisions .entry)) (now (decisions .exit)) (now (bits .entry)) (now (bits .exit)) (now (bytes .entry)) (now (bytes .exit)) ⌝ }
+    ensures strain { λ r. ⌜ StrainLaid (f .plan .table) (receivedBy (now (re .entry)) (now (im .entry)) (f .options .mapping) (f .options .scales)) (f .options .«known_start») (f .first) (now (counts .entry)) (now (counts .exit)) r ⌝ }
 {
     let mut marks = [0u8; LONGEST_FRAME];
-    decode_marked(
-        p,
-        first,
-        o,
-        re,
-        im,
-        decisions,
-        bits,
-        bytes,
-        counts,
-        &mut marks,
-    )
+    decode_marked(f, re, im, decisions, bits, bytes, counts, &mut marks)
 }

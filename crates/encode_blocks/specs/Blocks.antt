@@ -26,6 +26,10 @@ use Rattle.encode_blocks.specs.declared.Place.{Place}
 abbrev block : ℕ → ℕ → ℕ → ℕ → Block
 block steps period symbols bits = record { steps = steps; period = period; symbols = symbols; bits = bits }
 
+-- the most symbols of a block
+abbrev pub blockSymbols : ℕ
+blockSymbols = 2048
+
 -- whole periods and whole bytes of the load, at most 2,048 symbols
 abbrev pub blockFor : Combination → Block
 blockFor «Bpsk1_2» = block 1024 1 2 1

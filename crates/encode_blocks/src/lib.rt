@@ -8,11 +8,18 @@ ghost use Prim.Native.Nat.{ℕ, _+_, _*_, _/_, _<_, _≤_, _^_};
 ghost use lib.ListN.{length, take};
 ghost use Rattle.trellis.specs.Code.{stateAt};
 ghost use Rattle.encode_main.specs.Encoding.{inputsOf, Tiled};
-ghost use Rattle.encode_blocks.specs.Blocks.{blockFor, blockSteps, startPlace, placeAfter, Here, stepAt, BlockMade};
+ghost use Rattle.encode_blocks.specs.Blocks.{blockSymbols, blockFor, blockSteps, startPlace, placeAfter, Here, stepAt, BlockMade};
 ghost use Rattle.trellis.specs.Isdb;
 
 // The most symbols of a block.
 pub const BLOCK_SYMBOLS: usize = 2048;
+
+// How a frame is sent: its plan, its mapping, and whether it is the first of a superframe. Who goes through a frame block by block is handed this.
+pub struct FrameForm {
+    pub plan: Plan,
+    pub mapping: Mapping,
+    pub first: bool,
+}
 
 // A block of a combination: its most steps, the steps and symbols of a period, the bits of a step.
 pub struct Block {
@@ -102,7 +109,7 @@ fn block_steps(left: usize, most: usize) -> usize
 
 // The place after n of the steps left.
 fn place_after(at: Place, b: Block, n: usize, left: usize, state: u8) -> Place
-    requires { ⌜ (0 < b .period) × (b .bits * n ≤ 8192) × (n / b .period * b .symbols ≤ 2048) × (n ≤ 4096) × (at .run < 4) × (at .step < 2 ^ 32) × (at .bit < 2 ^ 32) × (at .symbol < 2 ^ 32) ⌝ }
+    requires { ⌜ (0 < b .period) × (b .bits * n ≤ 8192) × (n / b .period * b .symbols ≤ blockSymbols) × (n ≤ 4096) × (at .run < 4) × (at .step < 2 ^ 32) × (at .bit < 2 ^ 32) × (at .symbol < 2 ^ 32) ⌝ }
     ensures { λ r. ⌜ r ≡ placeAfter at b n left state ⌝ }
 {
     let bit = at.bit + b.bits * n;
@@ -135,8 +142,8 @@ pub fn next_block(
     xs: &mut [f64],
     ys: &mut [f64],
 ) -> Place
-    requires { ⌜ (p .count ≤ 4) × (length (take (p .count) (p .runs)) ≡ p .count) × Tiled (take (p .count) (p .runs)) × Here (p .runs) (p .count) at × (at .run < p .count) × (2048 ≤ length (now xs)) × (2048 ≤ length (now ys)) ⌝ }
-    ensures place { λ r. ⌜ Here (p .runs) (p .count) r × (at .symbol ≤ r .symbol) × (r .symbol ≤ at .symbol + 2048) × (at .run + at .symbol < r .run + r .symbol) ⌝ }
+    requires { ⌜ (p .count ≤ 4) × (length (take (p .count) (p .runs)) ≡ p .count) × Tiled (take (p .count) (p .runs)) × Here (p .runs) (p .count) at × (at .run < p .count) × (blockSymbols ≤ length (now xs)) × (blockSymbols ≤ length (now ys)) ⌝ }
+    ensures place { λ r. ⌜ Here (p .runs) (p .count) r × (at .symbol ≤ r .symbol) × (r .symbol ≤ at .symbol + blockSymbols) × (at .run + at .symbol < r .run + r .symbol) ⌝ }
     ensures block { λ r. ⌜ ((s : ℕ) → at .state ≡ stateAt Isdb.half s (inputsOf (take (p .count) (p .runs)) (now (bytes .entry))) (stepAt (p .runs) (p .count) at)
         → BlockMade (p .runs) (p .count) m (now (bytes .entry)) s at r (now (xs .entry)) (now (xs .exit)) (now (ys .entry)) (now (ys .exit))) ⌝ }
 {

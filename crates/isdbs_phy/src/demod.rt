@@ -15,6 +15,7 @@
 // lie opposite each other: the metric is the magnitude of the correlation with the one of C2 = 0, and C2 is read from its sign once the bits are known,
 // which are encoded again for it.
 pub use decode_main::DemodOptions;
+use decode_main::FrameTask;
 use decode_main::decode_strained;
 use encode_main::encode_main;
 use isdb_fec::conv::ConvEncoder;
@@ -133,7 +134,12 @@ pub fn decode_frame(
     let Answer::Accepted = answer else {
         return FrameDecoded::Refused(answer);
     };
-    let strained = decode_strained(p, first, o, re, im, decisions, bits, bytes, counts);
+    let f = FrameTask {
+        plan: p,
+        first,
+        options: o,
+    };
+    let strained = decode_strained(f, re, im, decisions, bits, bytes, counts);
     FrameDecoded::Decoded(p.bytes, p.steps, strained)
 }
 

@@ -1,5 +1,6 @@
 // The verdict: what a reading is worth. The points of a frame outside the margins of a load, for each of the frame's 48 slots (812 symbols each). Where there are none, no other load fits.
 use encode_blocks::BLOCK_SYMBOLS;
+use encode_blocks::FrameForm;
 use encode_blocks::next_block;
 use encode_blocks::start_place;
 use isdbs_core::frame::MAIN_SYMBOLS;
@@ -23,6 +24,7 @@ ghost use Rattle.refusal.specs.Rows.{firstRow, Either};
 ghost use Rattle.isdbs_frame.specs.Frame.{mainSymbols};
 ghost use Rattle.isdbs_combination.specs.Combinations.{frameSlots};
 ghost use Rattle.isdbs_plan.specs.RunsOf.{planOf, Planned};
+ghost use Rattle.encode_blocks.specs.Blocks.{blockSymbols};
 ghost use Rattle.judge_points.specs.Outside.{outsideCounts};
 ghost use Rattle.judge.specs.Rows.{lentRows, judgeRows};
 ghost use Rattle.judge.specs.Judged.{CountsLaid, judgedSaid, judgedAnswer, Worth};
@@ -58,19 +60,20 @@ fn judge_answer(p: Plan, bytes: usize, re: &[f64], im: &[f64], counts: usize) ->
 
 // Encodes the load block by block into the lent xs and ys, and counts the points outside its margins. Past the runs every part is free, whatever stands in xs and ys.
 fn judge_load(
-    p: Plan,
+    f: FrameForm,
     re: &[f64],
     im: &[f64],
-    m: Mapping,
-    first: bool,
     bytes: &[u8],
     xs: &mut [f64],
     ys: &mut [f64],
     counts: &mut [u32],
 ) -> u32
-    requires { ⌜ Planned p × (mainSymbols ≤ length (now re)) × (mainSymbols ≤ length (now im)) × (2048 ≤ length (now xs)) × (2048 ≤ length (now ys)) × (frameSlots ≤ length (now counts)) ⌝ }
-    ensures { λ r. ⌜ CountsLaid (now (re .entry)) (now (im .entry)) (now (bytes .entry)) (p .table) m first (now (counts .entry)) (now (counts .exit)) r ⌝ }
+    requires { ⌜ Planned (f .plan) × (mainSymbols ≤ length (now re)) × (mainSymbols ≤ length (now im)) × (blockSymbols ≤ length (now xs)) × (blockSymbols ≤ length (now ys)) × (frameSlots ≤ length (now counts)) ⌝ }
+    ensures { λ r. ⌜ CountsLaid (now (re .entry)) (now (im .entry)) (now (bytes .entry)) (f .plan .table) (f .mapping) (f .first) (now (counts .entry)) (now (counts .exit)) r ⌝ }
 {
+    let p = f.plan;
+    let m = f.mapping;
+    let first = f.first;
     clear_counts(counts, FRAME_SLOTS);
     let mut sum: u32 = 0;
     let mut at = start_place(start_state(first));
@@ -88,38 +91,28 @@ fn judge_load(
 
 // The same in lent arrays of a block's size.
 fn judge_arrays(
-    p: Plan,
+    f: FrameForm,
     re: &[f64],
     im: &[f64],
-    m: Mapping,
-    first: bool,
     bytes: &[u8],
     xs: &mut [f64; BLOCK_SYMBOLS],
     ys: &mut [f64; BLOCK_SYMBOLS],
     counts: &mut [u32],
 ) -> u32
-    requires { ⌜ Planned p × (mainSymbols ≤ length (now re)) × (mainSymbols ≤ length (now im)) × (frameSlots ≤ length (now counts)) ⌝ }
-    ensures { λ r. ⌜ CountsLaid (now (re .entry)) (now (im .entry)) (now (bytes .entry)) (p .table) m first (now (counts .entry)) (now (counts .exit)) r ⌝ }
+    requires { ⌜ Planned (f .plan) × (mainSymbols ≤ length (now re)) × (mainSymbols ≤ length (now im)) × (frameSlots ≤ length (now counts)) ⌝ }
+    ensures { λ r. ⌜ CountsLaid (now (re .entry)) (now (im .entry)) (now (bytes .entry)) (f .plan .table) (f .mapping) (f .first) (now (counts .entry)) (now (counts .exit)) r ⌝ }
 {
-    judge_load(p, re, im, m, first, bytes, xs, ys, counts)
+    judge_load(f, re, im, bytes, xs, ys, counts)
 }
 
 // The same with the arrays.
-fn judge_frame(
-    p: Plan,
-    re: &[f64],
-    im: &[f64],
-    m: Mapping,
-    first: bool,
-    bytes: &[u8],
-    counts: &mut [u32],
-) -> u32
-    requires { ⌜ Planned p × (mainSymbols ≤ length (now re)) × (mainSymbols ≤ length (now im)) × (frameSlots ≤ length (now counts)) ⌝ }
-    ensures { λ r. ⌜ CountsLaid (now (re .entry)) (now (im .entry)) (now (bytes .entry)) (p .table) m first (now (counts .entry)) (now (counts .exit)) r ⌝ }
+fn judge_frame(f: FrameForm, re: &[f64], im: &[f64], bytes: &[u8], counts: &mut [u32]) -> u32
+    requires { ⌜ Planned (f .plan) × (mainSymbols ≤ length (now re)) × (mainSymbols ≤ length (now im)) × (frameSlots ≤ length (now counts)) ⌝ }
+    ensures { λ r. ⌜ CountsLaid (now (re .entry)) (now (im .entry)) (now (bytes .entry)) (f .plan .table) (f .mapping) (f .first) (now (counts .entry)) (now (counts .exit)) r ⌝ }
 {
     let mut xs = [0.0f64; BLOCK_SYMBOLS];
     let mut ys = [0.0f64; BLOCK_SYMBOLS];
-    judge_arrays(p, re, im, m, first, bytes, &mut xs, &mut ys, counts)
+    judge_arrays(f, re, im, bytes, &mut xs, &mut ys, counts)
 }
 
 // What judging answers: the points with a part outside its margin, or why it is turned back.
@@ -150,5 +143,10 @@ pub fn judge(
     let Answer::Accepted = answer else {
         return FrameJudged::Refused(answer);
     };
-    FrameJudged::Judged(judge_frame(p, re, im, m, first, bytes, counts))
+    let f = FrameForm {
+        plan: p,
+        mapping: m,
+        first,
+    };
+    FrameJudged::Judged(judge_frame(f, re, im, bytes, counts))
 }

@@ -1,6 +1,7 @@
 // The quality of a reading: for each of the frame's 48 slots (812 symbols each) how many points are counted, and sums of the received points against the points of the bytes. From them follow
 // the modulation error ratio, the mean gain and turn, and the offset; here are only the sums, each one equation in f64 operations.
 use encode_blocks::BLOCK_SYMBOLS;
+use encode_blocks::FrameForm;
 use encode_blocks::next_block;
 use encode_blocks::start_place;
 use isdbs_core::slots::Plan;
@@ -25,6 +26,7 @@ ghost use Rattle.refusal.specs.Rows.{firstRow, accepted};
 ghost use Rattle.isdbs_combination.specs.Combinations.{modulationOf};
 ghost use Rattle.isdbs_frame.specs.Frame.{mainSymbols};
 ghost use Rattle.isdbs_plan.specs.RunsOf.{planOf, Planned, noRun};
+ghost use Rattle.encode_blocks.specs.Blocks.{blockSymbols};
 ghost use Rattle.margins.specs.Margins.{isBpsk};
 ghost use Rattle.quality_sums.specs.Terms.{qualityNumbers};
 ghost use Rattle.quality.specs.Qualities.{qualities};
@@ -72,19 +74,20 @@ fn bpsk_run(p: Plan, i: usize) -> bool
 
 // Encodes the load block by block in the lent xs and ys, and adds what its points and the received ones beside them add. Nothing is added past the runs.
 fn sum_blocks(
-    p: Plan,
+    f: FrameForm,
     re: &[f64],
     im: &[f64],
-    m: Mapping,
-    first: bool,
     bytes: &[u8],
     xs: &mut [f64],
     ys: &mut [f64],
     out: &mut [f64],
 )
-    requires { ⌜ Planned p × (mainSymbols ≤ length (now re)) × (mainSymbols ≤ length (now im)) × (2048 ≤ length (now xs)) × (2048 ≤ length (now ys)) × (qualityNumbers ≤ length (now out)) ⌝ }
-    ensures { λ _. ⌜ now (out .exit) ≡ laid (qualities (now (re .entry)) (now (im .entry)) (now (bytes .entry)) (p .table) m first) (now (out .entry)) ⌝ }
+    requires { ⌜ Planned (f .plan) × (mainSymbols ≤ length (now re)) × (mainSymbols ≤ length (now im)) × (blockSymbols ≤ length (now xs)) × (blockSymbols ≤ length (now ys)) × (qualityNumbers ≤ length (now out)) ⌝ }
+    ensures { λ _. ⌜ now (out .exit) ≡ laid (qualities (now (re .entry)) (now (im .entry)) (now (bytes .entry)) (f .plan .table) (f .mapping) (f .first)) (now (out .entry)) ⌝ }
 {
+    let p = f.plan;
+    let m = f.mapping;
+    let first = f.first;
     begin(out);
     let mut at = start_place(start_state(first));
     while at.run < p.count {
@@ -106,38 +109,28 @@ fn sum_blocks(
 
 // The same in lent arrays of a block's size.
 fn sum_arrays(
-    p: Plan,
+    f: FrameForm,
     re: &[f64],
     im: &[f64],
-    m: Mapping,
-    first: bool,
     bytes: &[u8],
     xs: &mut [f64; BLOCK_SYMBOLS],
     ys: &mut [f64; BLOCK_SYMBOLS],
     out: &mut [f64],
 )
-    requires { ⌜ Planned p × (mainSymbols ≤ length (now re)) × (mainSymbols ≤ length (now im)) × (qualityNumbers ≤ length (now out)) ⌝ }
-    ensures { λ _. ⌜ now (out .exit) ≡ laid (qualities (now (re .entry)) (now (im .entry)) (now (bytes .entry)) (p .table) m first) (now (out .entry)) ⌝ }
+    requires { ⌜ Planned (f .plan) × (mainSymbols ≤ length (now re)) × (mainSymbols ≤ length (now im)) × (qualityNumbers ≤ length (now out)) ⌝ }
+    ensures { λ _. ⌜ now (out .exit) ≡ laid (qualities (now (re .entry)) (now (im .entry)) (now (bytes .entry)) (f .plan .table) (f .mapping) (f .first)) (now (out .entry)) ⌝ }
 {
-    sum_blocks(p, re, im, m, first, bytes, xs, ys, out)
+    sum_blocks(f, re, im, bytes, xs, ys, out)
 }
 
 // The same with the arrays.
-fn sum_frame(
-    p: Plan,
-    re: &[f64],
-    im: &[f64],
-    m: Mapping,
-    first: bool,
-    bytes: &[u8],
-    out: &mut [f64],
-)
-    requires { ⌜ Planned p × (mainSymbols ≤ length (now re)) × (mainSymbols ≤ length (now im)) × (qualityNumbers ≤ length (now out)) ⌝ }
-    ensures { λ _. ⌜ now (out .exit) ≡ laid (qualities (now (re .entry)) (now (im .entry)) (now (bytes .entry)) (p .table) m first) (now (out .entry)) ⌝ }
+fn sum_frame(f: FrameForm, re: &[f64], im: &[f64], bytes: &[u8], out: &mut [f64])
+    requires { ⌜ Planned (f .plan) × (mainSymbols ≤ length (now re)) × (mainSymbols ≤ length (now im)) × (qualityNumbers ≤ length (now out)) ⌝ }
+    ensures { λ _. ⌜ now (out .exit) ≡ laid (qualities (now (re .entry)) (now (im .entry)) (now (bytes .entry)) (f .plan .table) (f .mapping) (f .first)) (now (out .entry)) ⌝ }
 {
     let mut xs = [0.0f64; BLOCK_SYMBOLS];
     let mut ys = [0.0f64; BLOCK_SYMBOLS];
-    sum_arrays(p, re, im, m, first, bytes, &mut xs, &mut ys, out)
+    sum_arrays(f, re, im, bytes, &mut xs, &mut ys, out)
 }
 
 // The first 38,976 points that are lent against those of a full load: `out` begins with the seven numbers of each slot.
@@ -158,6 +151,11 @@ pub fn quality(
     let Answer::Accepted = answer else {
         return answer;
     };
-    sum_frame(p, re, im, m, first, bytes, out);
+    let f = FrameForm {
+        plan: p,
+        mapping: m,
+        first,
+    };
+    sum_frame(f, re, im, bytes, out);
     answer
 }

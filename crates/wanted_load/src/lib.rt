@@ -1,5 +1,6 @@
 // Request P9: the bytes behind a wanted frame. What the frame shows is read off, encoded again and compared (`wanted_match`); the lent bytes are written only then.
 use encode_blocks::BLOCK_SYMBOLS;
+use encode_blocks::FrameForm;
 use isdbs_core::frame::LOAD_BYTES;
 use isdbs_core::frame::MAIN_SYMBOLS;
 use isdbs_core::slots::Plan;
@@ -19,6 +20,7 @@ ghost use Rattle.trellis.specs.Lists.{laid};
 ghost use Rattle.refusal.specs.Rows.{firstRow, Either};
 ghost use Rattle.isdbs_frame.specs.Frame.{mainSymbols};
 ghost use Rattle.isdbs_plan.specs.RunsOf.{planOf, Planned, loadBytes};
+ghost use Rattle.encode_blocks.specs.Blocks.{blockSymbols};
 ghost use Rattle.wanted_load.specs.Rows.{lentRows, earlierRows};
 ghost use Rattle.wanted_match.specs.Alike.{Matches};
 ghost use Rattle.wanted_load.specs.Found.{Answered, Searched, Outcome, Turned};
@@ -35,20 +37,18 @@ fn put(load: &[u8], bytes: &mut [u8])
 
 // Lays a load over the beginning of the lent bytes if it encodes to the frame.
 fn keep_load(
-    p: Plan,
+    f: FrameForm,
     re: &[f64],
     im: &[f64],
-    m: Mapping,
-    first: bool,
     load: &[u8],
     xs: &mut [f64],
     ys: &mut [f64],
     bytes: &mut [u8],
 ) -> bool
-    requires { ⌜ Planned p × (mainSymbols ≤ length (now re)) × (mainSymbols ≤ length (now im)) × (2048 ≤ length (now xs)) × (2048 ≤ length (now ys)) × (length (now load) ≤ length (now bytes)) ⌝ }
-    ensures { λ r. ⌜ Matches (p .table) m first (now (re .entry)) (now (im .entry)) (now (load .entry)) r × (now (bytes .exit) ≡ cond r (laid (now (load .entry)) (now (bytes .entry))) (now (bytes .entry))) ⌝ }
+    requires { ⌜ Planned (f .plan) × (mainSymbols ≤ length (now re)) × (mainSymbols ≤ length (now im)) × (blockSymbols ≤ length (now xs)) × (blockSymbols ≤ length (now ys)) × (length (now load) ≤ length (now bytes)) ⌝ }
+    ensures { λ r. ⌜ Matches (f .plan .table) (f .mapping) (f .first) (now (re .entry)) (now (im .entry)) (now (load .entry)) r × (now (bytes .exit) ≡ cond r (laid (now (load .entry)) (now (bytes .entry))) (now (bytes .entry))) ⌝ }
 {
-    if matches(p, re, im, m, first, load, xs, ys) {
+    if matches(f, re, im, load, xs, ys) {
         put(load, bytes);
         true
     } else {
@@ -58,52 +58,50 @@ fn keep_load(
 
 // Reads the load off the frame, encodes it and compares; what it finds is written once that is known. The other lent slices are scratch space.
 fn search_load(
-    p: Plan,
+    f: FrameForm,
     re: &[f64],
     im: &[f64],
-    m: Mapping,
-    first: bool,
     load: &mut [u8],
     xs: &mut [f64],
     ys: &mut [f64],
     bytes: &mut [u8],
 ) -> bool
-    requires { ⌜ Planned p × (mainSymbols ≤ length (now re)) × (mainSymbols ≤ length (now im)) × (loadBytes (p .table) ≤ length (now load)) × (2048 ≤ length (now xs)) × (2048 ≤ length (now ys)) × (loadBytes (p .table) ≤ length (now bytes)) ⌝ }
-    ensures { λ r. ⌜ Searched (p .table) m first (now (re .entry)) (now (im .entry)) r (now (bytes .entry)) (now (bytes .exit)) ⌝ }
+    requires { ⌜ Planned (f .plan) × (mainSymbols ≤ length (now re)) × (mainSymbols ≤ length (now im)) × (loadBytes (f .plan .table) ≤ length (now load)) × (blockSymbols ≤ length (now xs)) × (blockSymbols ≤ length (now ys)) × (loadBytes (f .plan .table) ≤ length (now bytes)) ⌝ }
+    ensures { λ r. ⌜ Searched (f .plan .table) (f .mapping) (f .first) (now (re .entry)) (now (im .entry)) r (now (bytes .entry)) (now (bytes .exit)) ⌝ }
 {
-    let start = start_state(first);
+    let p = f.plan;
+    let m = f.mapping;
+    let start = start_state(f.first);
     read_load(p, m, start, re, im, load);
     let n = p.bytes;
-    keep_load(p, re, im, m, first, &load[0..n], xs, ys, bytes)
+    keep_load(f, re, im, &load[0..n], xs, ys, bytes)
 }
 
 // The same in lent arrays: the load of any accepted table, and one block of points.
 fn search_arrays(
-    p: Plan,
+    f: FrameForm,
     re: &[f64],
     im: &[f64],
-    m: Mapping,
-    first: bool,
     load: &mut [u8; LOAD_BYTES],
     xs: &mut [f64; BLOCK_SYMBOLS],
     ys: &mut [f64; BLOCK_SYMBOLS],
     bytes: &mut [u8],
 ) -> bool
-    requires { ⌜ Planned p × (mainSymbols ≤ length (now re)) × (mainSymbols ≤ length (now im)) × (loadBytes (p .table) ≤ length (now bytes)) ⌝ }
-    ensures { λ r. ⌜ Searched (p .table) m first (now (re .entry)) (now (im .entry)) r (now (bytes .entry)) (now (bytes .exit)) ⌝ }
+    requires { ⌜ Planned (f .plan) × (mainSymbols ≤ length (now re)) × (mainSymbols ≤ length (now im)) × (loadBytes (f .plan .table) ≤ length (now bytes)) ⌝ }
+    ensures { λ r. ⌜ Searched (f .plan .table) (f .mapping) (f .first) (now (re .entry)) (now (im .entry)) r (now (bytes .entry)) (now (bytes .exit)) ⌝ }
 {
-    search_load(p, re, im, m, first, load, xs, ys, bytes)
+    search_load(f, re, im, load, xs, ys, bytes)
 }
 
 // The full load that encodes to the frame, written over the beginning of the lent bytes. Where there is none, no byte changes.
-fn find_load(p: Plan, re: &[f64], im: &[f64], m: Mapping, first: bool, bytes: &mut [u8]) -> bool
-    requires { ⌜ Planned p × (mainSymbols ≤ length (now re)) × (mainSymbols ≤ length (now im)) × (loadBytes (p .table) ≤ length (now bytes)) ⌝ }
-    ensures { λ r. ⌜ Searched (p .table) m first (now (re .entry)) (now (im .entry)) r (now (bytes .entry)) (now (bytes .exit)) ⌝ }
+fn find_load(f: FrameForm, re: &[f64], im: &[f64], bytes: &mut [u8]) -> bool
+    requires { ⌜ Planned (f .plan) × (mainSymbols ≤ length (now re)) × (mainSymbols ≤ length (now im)) × (loadBytes (f .plan .table) ≤ length (now bytes)) ⌝ }
+    ensures { λ r. ⌜ Searched (f .plan .table) (f .mapping) (f .first) (now (re .entry)) (now (im .entry)) r (now (bytes .entry)) (now (bytes .exit)) ⌝ }
 {
     let mut load = [0u8; LOAD_BYTES];
     let mut xs = [0.0f64; BLOCK_SYMBOLS];
     let mut ys = [0.0f64; BLOCK_SYMBOLS];
-    search_arrays(p, re, im, m, first, &mut load, &mut xs, &mut ys, bytes)
+    search_arrays(f, re, im, &mut load, &mut xs, &mut ys, bytes)
 }
 
 // Rows 6 and 9: the lent slices have these lengths, and the load has `need` bytes.
@@ -159,7 +157,12 @@ pub fn wanted_load(
     let Answer::Accepted = answer else {
         return LoadFound::Refused(answer);
     };
-    if find_load(p, re, im, m, first, bytes) {
+    let f = FrameForm {
+        plan: p,
+        mapping: m,
+        first,
+    };
+    if find_load(f, re, im, bytes) {
         LoadFound::Load(p.bytes)
     } else {
         LoadFound::Refused(Answer::NoLoad)

@@ -1,8 +1,8 @@
 // Whether a load encodes to a lent frame: it is encoded in blocks and compared bit by bit.
+use encode_blocks::FrameForm;
 use encode_blocks::next_block;
 use encode_blocks::start_place;
 use isdbs_core::frame::MAIN_SYMBOLS;
-use isdbs_core::slots::Plan;
 use isdbs_points::Mapping;
 use isdbs_points::mirror;
 use isdbs_points::start_state;
@@ -12,6 +12,7 @@ ghost use lib.Ieee.{nan};
 ghost use Rattle.isdbs_frame.specs.Frame.{mainSymbols};
 ghost use Rattle.isdbs_plan.specs.RunsOf.{Planned};
 ghost use Rattle.isdbs_points.specs.Points.{zero64, conjugated};
+ghost use Rattle.encode_blocks.specs.Blocks.{blockSymbols};
 ghost use Rattle.wanted_match.specs.Alike.{Same, SameParts, SamePoints, Matches};
 
 // Whether two parts have the same bits. A NaN has none to compare.
@@ -84,18 +85,19 @@ fn same_unused(re: &[f64], im: &[f64], from: usize, m: Mapping) -> bool
 
 // Whether a load encodes to the frame, which is made block by block in the lent xs and ys.
 pub fn matches(
-    p: Plan,
+    f: FrameForm,
     re: &[f64],
     im: &[f64],
-    m: Mapping,
-    first: bool,
     load: &[u8],
     xs: &mut [f64],
     ys: &mut [f64],
 ) -> bool
-    requires { ⌜ Planned p × (mainSymbols ≤ length (now re)) × (mainSymbols ≤ length (now im)) × (2048 ≤ length (now xs)) × (2048 ≤ length (now ys)) ⌝ }
-    ensures { λ r. ⌜ Matches (p .table) m first (now (re .entry)) (now (im .entry)) (now (load .entry)) r ⌝ }
+    requires { ⌜ Planned (f .plan) × (mainSymbols ≤ length (now re)) × (mainSymbols ≤ length (now im)) × (blockSymbols ≤ length (now xs)) × (blockSymbols ≤ length (now ys)) ⌝ }
+    ensures { λ r. ⌜ Matches (f .plan .table) (f .mapping) (f .first) (now (re .entry)) (now (im .entry)) (now (load .entry)) r ⌝ }
 {
+    let p = f.plan;
+    let m = f.mapping;
+    let first = f.first;
     let mut at = start_place(start_state(first));
     while at.run < p.count {
         let next = next_block(p, load, m, at, xs, ys);

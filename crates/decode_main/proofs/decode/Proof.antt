@@ -30,7 +30,7 @@ decode-bits-requires c κs = search needs
 
 add-end : tie.Need-add-end
 add-end c =
-    let st = c .before .before .before .before .before .before .before .before .before .before .before .before .before .before .before .before .before .before .before .before .before in
+    let st = c .before .before .before .before .before .before .before .before .before .before .before .before .before .before .before .before .before .before .before .before .before .before in
     let ps = ap (λ (z : Plan). z .steps) (st .pre .0 .is) in
     let r = st .pre .4 in
     record { fits = omega arith }
@@ -43,28 +43,28 @@ part-write-bytes-start c = search needs
 
 part-write-bytes-end : tie.Need-part-write-bytes-end
 part-write-bytes-end c =
-    let st = c .before .before .before .before .before .before .before .before .before .before .before .before .before .before .before .before .before .before .before .before .before .before in
+    let st = c .before .before .before .before .before .before .before .before .before .before .before .before .before .before .before .before .before .before .before .before .before .before .before in
     let ps = ap (λ (z : Plan). z .steps) (st .pre .0 .is) in
     search needs
 
 write-bytes-requires : tie.Need-write-bytes-requires
 write-bytes-requires c κs =
     let decode-bits = c .before .before .before .before .before .before .before .before .before .before in
-    let start-values = decode-bits .before .before .before .before .before in
-    let start-state = start-values .before .before in
-    let st = start-state .before .before .before .before .before .before .before in
-    let rx = receivedBy (st .args .re .now) (st .args .im .now) (st .args .o .mapping) (st .args .o .scales) in
+    let start-values = decode-bits .before .before .before .before in
+    let start-state = start-values .before in
+    let st = start-state .before .before .before .before .before .before .before .before .before .before in
+    let rx = receivedBy (st .args .re .now) (st .args .im .now) (st .args .f .options .mapping) (st .args .f .options .scales) in
     let pm = start-values .start-values .result in
     let db = decode-bits .decode-bits in
-    let n = from-count (st .args .p .table) rx pm in
+    let n = from-count (st .args .f .plan .table) rx pm in
     let ps = ap (λ (z : Plan). z .steps) (st .pre .0 .is) in
-    let front : take (st .args .p .steps + 16 - 0) (db .last .1 .1 .1 .1 .1 .1 .1 .0) ≡ bitsFrom (st .args .p .table) rx pm = front-is _ (bitsFrom (st .args .p .table) rx pm) (st .args .bits .now) (st .args .p .steps + 16 - 0) (db .ensures .0 .0) (omega arith) in (
+    let front : take (st .args .f .plan .steps + 16 - 0) (db .last .1 .1 .1 .1 .1 .0) ≡ bitsFrom (st .args .f .plan .table) rx pm = front-is _ (bitsFrom (st .args .f .plan .table) rx pm) (st .args .bits .now) (st .args .f .plan .steps + 16 - 0) (db .ensures .0 .0) (omega arith) in (
       start-state .start-state .ensures .1,
       st .pre .0,
       st .pre .1,
       st .pre .2,
       rw front (omega arith),
-      λ i l. rw front (bits-at (bitsFrom (st .args .p .table) rx pm) (from-binary (st .args .p .table) rx pm) i),
+      λ i l. rw front (bits-at (bitsFrom (st .args .f .plan .table) rx pm) (from-binary (st .args .f .plan .table) rx pm) i),
       search needs,
     )
 
@@ -84,23 +84,23 @@ returns : tie.Need-returns
 unfolding bytesFrom
 returns c =
     let decode-bits = c .before .before .before .before .before .before .before .before .before .before .before .before .before in
-    let start-values = decode-bits .before .before .before .before .before in
-    let start-state = start-values .before .before in
-    let st = start-state .before .before .before .before .before .before .before in
-    let rx = receivedBy (st .args .re .now) (st .args .im .now) (st .args .o .mapping) (st .args .o .scales) in
+    let start-values = decode-bits .before .before .before .before in
+    let start-state = start-values .before in
+    let st = start-state .before .before .before .before .before .before .before .before .before .before in
+    let rx = receivedBy (st .args .re .now) (st .args .im .now) (st .args .f .options .mapping) (st .args .f .options .scales) in
     let pm = start-values .start-values .result in
     let db = decode-bits .decode-bits in
-    let n = from-count (st .args .p .table) rx pm in
+    let n = from-count (st .args .f .plan .table) rx pm in
     let ps = ap (λ (z : Plan). z .steps) (st .pre .0 .is) in
-    let front : take (st .args .p .steps + 16 - 0) (db .last .1 .1 .1 .1 .1 .1 .1 .0) ≡ bitsFrom (st .args .p .table) rx pm = front-is _ (bitsFrom (st .args .p .table) rx pm) (st .args .bits .now) (st .args .p .steps + 16 - 0) (db .ensures .0 .0) (omega arith) in
+    let front : take (st .args .f .plan .steps + 16 - 0) (db .last .1 .1 .1 .1 .1 .0) ≡ bitsFrom (st .args .f .plan .table) rx pm = front-is _ (bitsFrom (st .args .f .plan .table) rx pm) (st .args .bits .now) (st .args .f .plan .steps + 16 - 0) (db .ensures .0 .0) (omega arith) in
     let es = start-state .start-state .ensures .0 in
-    let epm : pm ≡ startValues (st .args .o .«known_start») (st .args .first) = start-values .start-values .ensures ∙ ap (λ (z : ℕ). cond (st .args .o .«known_start») (startAt 64 z) (startUnknown 64)) es in
-    let whole : bitsFrom (st .args .p .table) rx pm ≡ decodedBits (st .args .p .table) rx (st .args .o .«known_start») (st .args .first) =
-    ap (λ (z : List Float). bitsFrom (st .args .p .table) rx z) epm ∙ sym (decoded-from (st .args .p .table) rx (st .args .o .«known_start») (st .args .first)) in (
+    let epm : pm ≡ startValues (st .args .f .options .«known_start») (st .args .f .first) = start-values .start-values .ensures ∙ ap (λ (z : ℕ). cond (st .args .f .options .«known_start») (startAt 64 z) (startUnknown 64)) es in
+    let whole : bitsFrom (st .args .f .plan .table) rx pm ≡ decodedBits (st .args .f .plan .table) rx (st .args .f .options .«known_start») (st .args .f .first) =
+    ap (λ (z : List Float). bitsFrom (st .args .f .plan .table) rx z) epm ∙ sym (decoded-from (st .args .f .plan .table) rx (st .args .f .options .«known_start») (st .args .f .first)) in (
       record {
         words = db .ensures .0 .1;
         decoded = db .ensures .0 .0 ∙ ap (λ (z : List ℕ). laid z (st .args .bits .now)) whole;
-        load = rw (front ∙ whole, es) at (c .before .before .write-bytes .ensures (scaleOf (st .args .o .scales)));
+        load = rw (front ∙ whole, es) at (c .before .before .write-bytes .ensures (scaleOf (st .args .f .options .scales)));
       },
       db .ensures .1,
     )

@@ -22,7 +22,7 @@ returns : tie.Need-returns
 returns c =
     let read-end = c .before .before .before .before in
     let read-runs = read-end .before .before .before .before .before .before .before .before .before .before in
-    let st = read-runs .before .before .before .before .before .before .before .before .before .before in
+    let st = read-runs .before .before .before .before .before .before .before .before .before .before .before .before .before .before in
     let rr = read-runs .read-runs .ensures in
     (read-end .read-end .ensures .ends _ _ _ (st .pre .3) (rr .0 .holds), rr .1)
 

@@ -24,10 +24,10 @@ returns : tie.Need-returns
 returns c =
     let decode-marked = c .before .before .before .before .before .before .before .before in
     let st = decode-marked .before .before .before .before .before .before .before .before .before .before .before .before in
-    let p = st .args .p in
-    let rx = receivedBy (st .args .re .now) (st .args .im .now) (st .args .o .mapping) (st .args .o .scales) in
+    let p = st .args .f .plan in
+    let rx = receivedBy (st .args .re .now) (st .args .im .now) (st .args .f .options .mapping) (st .args .f .options .scales) in
     let k = decode-marked .decode-marked .ensures in
-    (k .0, strain-laid (p .table) rx (st .args .o .«known_start») (st .args .first) (st .pre .0 .accepted) _ _ _ _ (k .1))
+    (k .0, strain-laid (p .table) rx (st .args .f .options .«known_start») (st .args .f .first) (st .pre .0 .accepted) _ _ _ _ (k .1))
 
 pub decode-strained-spec : {M : Type 1} → statement M
 decode-strained-spec = tie.close (tie.spec decode-marked-requires same-length same-length-2 same-length-3 same-length-4 returns)

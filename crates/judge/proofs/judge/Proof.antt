@@ -31,8 +31,9 @@ returns c =
 
 judge-frame-requires : tie.Need-judge-frame-requires
 judge-frame-requires c κs =
-    let a = c .before .before .before .before .before .before .before .before .before .args in
-    let pl = c .before .before .before .before .plan-of in
+    let plan-of = c .before .before .before .before in
+    let a = plan-of .before .before .before .before .before .args in
+    let pl = plan-of .plan-of in
     let et = table-is (pl .ensures .0) in
     let ok = sym (c .before .enum-told .given .1) ∙ c .before .before .before .judge-answer .ensures ∙ ap (λ (z : Table). firstRow (judgeRows z (length (a .bytes .now)) (a .re .now) (a .im .now) (length (a .counts .now)))) et in
     let p = passed (a .t) (length (a .bytes .now)) (a .re .now) (a .im .now) (length (a .counts .now)) (sym ok) in
@@ -43,13 +44,14 @@ same-length c = search needs
 
 returns-2 : tie.Need-returns-2
 returns-2 c =
-    let a = c .before .before .before .before .before .before .before .before .before .before .before .before .args in
-    let bytes = c .before .before .before .before .before .before .before .before .before .shared-slice-known3 .given in
-    let pl = c .before .before .before .before .before .before .before .plan-of in
+    let plan-of = c .before .before .before .before .before .before .before in
+    let a = plan-of .before .before .before .before .before .args in
+    let bytes = plan-of .before .before .shared-slice-known3 .given in
+    let pl = plan-of .plan-of in
     let et = table-is (pl .ensures .0) in
     let ok = sym (c .before .before .before .before .enum-told .given .1) ∙ c .before .before .before .before .before .before .judge-answer .ensures ∙ ap (λ (z : Table). firstRow (judgeRows z (length (a .bytes .now)) (a .re .now) (a .im .now) (length (a .counts .now)))) et in
     let made = c .before .before .judge-frame in
-    done (a .re .now) (a .im .now) (a .bytes .now) (a .t) (a .m) (a .first) (a .counts .now) (made .last .1 .1 .1 .1 .1 .1 .0) (made .result) ok (rw et at (made .ensures)) (λ k. omega (arith, bytes k))
+    done (a .re .now) (a .im .now) (a .bytes .now) (a .t) (a .m) (a .first) (a .counts .now) (made .last .1 .1 .1 .1 .0) (made .result) ok (rw et at (made .ensures)) (λ k. omega (arith, bytes k))
 
 pub judge-spec : {M : Type 1} → statement M
 judge-spec =

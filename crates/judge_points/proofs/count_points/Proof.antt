@@ -45,9 +45,10 @@ slice-read-counts c = search needs
 
 add-counts : tie.Need-add-counts Inv-loop μ-loop
 add-counts c =
-    let st = c .before .before .before .before .before .before .before .before .before .before .before .before in
+    let loop-at = c .before .before .before .before .before in
+    let st = loop-at .before .before .before .before .before .before .before in
     let a = st .args in
-    let at = c .before .before .before .before .before .loop in
+    let at = loop-at .loop in
     let one = bool-few (c .before .outside .result) in
     let few = counts-few (givenAt (a .p .runs) (a .xs .now) (a .ys .now) (a .re .now) (a .im .now) (a .from)) (a .from) (at .i) (a .counts .now) (at .counts) (at .sum) (a .from) (at .inv .2) (st .pre .5) ((a .from + at .i) / slotSymbols) (omega arith) in
     record { fits = omega arith }
@@ -60,8 +61,9 @@ slice-write-counts c = search needs
 
 add-sum : tie.Need-add-sum Inv-loop μ-loop
 add-sum c =
-    let a = c .before .before .before .before .before .before .before .before .before .before .before .before .args in
-    let at = c .before .before .before .before .before .loop in
+    let loop-at = c .before .before .before .before .before in
+    let a = loop-at .before .before .before .before .before .before .before .args in
+    let at = loop-at .loop in
     let one = bool-few (c .before .outside .result) in
     let few = sum-few (givenAt (a .p .runs) (a .xs .now) (a .ys .now) (a .re .now) (a .im .now) (a .from)) (a .from) (at .i) (a .counts .now) (at .counts) (at .sum) (at .inv .2) in
     record { fits = omega arith }
@@ -74,8 +76,9 @@ loop-less c = search needs
 
 loop-again : tie.Need-loop-again Inv-loop μ-loop
 loop-again c =
-    let a = c .before .before .before .before .before .before .before .before .before .before .before .before .args in
-    let at = c .before .before .before .before .before .loop in
+    let loop-at = c .before .before .before .before .before in
+    let a = loop-at .before .before .before .before .before .before .before .args in
+    let at = loop-at .loop in
     let out : c .before .outside .result ≡ givenAt (a .p .runs) (a .xs .now) (a .ys .now) (a .re .now) (a .im .now) (a .from) (a .from + at .i) =
     given-is (a .p .runs) (a .xs .now) (a .ys .now) (a .re .now) (a .im .now) (a .from) (at .i) (c .before .before .before .part .result) (c .before .before .part2 .result) (c .before .outside .result) (c .before .before .before .part .ensures) (c .before .before .part2 .ensures) (c .before .outside .ensures) in
     let room : (a .from + at .i) / slotSymbols < length (at .counts) = omega arith in
@@ -85,7 +88,11 @@ same-length : tie.Need-same-length Inv-loop μ-loop
 same-length c = search needs
 
 returns : tie.Need-returns Inv-loop μ-loop
-returns c = let e : c .before .loop .i ≡ c .before .before .before .before .before .before .before .before .args .n = omega arith in rw e at (c .before .loop .inv .2)
+returns c =
+    let loop-at = c .before in
+    let start = loop-at .before .before .before .before .before .before .before in
+    let e : loop-at .loop .i ≡ start .args .n = omega arith in
+    rw e at (loop-at .loop .inv .2)
 
 pub count-points-spec : {M : Type 1} → statement M
 count-points-spec =

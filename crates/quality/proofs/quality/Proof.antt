@@ -31,8 +31,9 @@ returns c =
 
 sum-frame-requires : tie.Need-sum-frame-requires
 sum-frame-requires c κs =
-    let a = c .before .before .before .before .before .before .before .before .before .args in
-    let pl = c .before .before .before .before .plan-of in
+    let plan-of = c .before .before .before .before in
+    let a = plan-of .before .before .before .before .before .args in
+    let pl = plan-of .plan-of in
     let et = table-is (pl .ensures .0) in
     let ok = sym (c .before .enum-told .given .1) ∙ c .before .before .before .quality-answer .ensures ∙ ap (λ (z : Table). firstRow (qualityRows z (length (a .bytes .now)) (a .re .now) (a .im .now) (length (a .out .now)))) et in
     let p = passed (a .t) (length (a .bytes .now)) (a .re .now) (a .im .now) (length (a .out .now)) (sym ok) in
@@ -43,8 +44,9 @@ same-length c = search needs
 
 returns-2 : tie.Need-returns-2
 returns-2 c =
-    let a = c .before .before .before .before .before .before .before .before .before .before .before .before .args in
-    let et = table-is (c .before .before .before .before .before .before .before .plan-of .ensures .0) in
+    let plan-of = c .before .before .before .before .before .before .before in
+    let a = plan-of .before .before .before .before .before .args in
+    let et = table-is (plan-of .plan-of .ensures .0) in
     let x = c .before .before .before .before .before .before .quality-answer in
     let ok = c .before .before .before .before .enum-told .given .1 in
     (x .ensures ∙ ap (λ (z : Table). firstRow (qualityRows z (length (a .bytes .now)) (a .re .now) (a .im .now) (length (a .out .now)))) et, rw ok (rw et at (c .before .before .sum-frame .ensures)))

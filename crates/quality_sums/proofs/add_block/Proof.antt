@@ -60,9 +60,9 @@ mul-add-terms c = search needs
 
 add-terms-requires : tie.Need-add-terms-requires Inv-loop μ-loop
 add-terms-requires c κs =
-    let st = c .before .before .before .before .before .before .before .before .before .before .before .before .before .before .before in
-    let at = c .before .before .before .before .before .before .before .before .before .loop in
-    (ap length (c .before .terms-of .ensures) ∙ seven-terms _ _ _ _, omega (arith, at .inv .1, st .pre .0, st .pre .5))
+    let at = c .before .before .before .before .before .before .before .before .before in
+    let st = at .before .before .before .before .before .before in
+    (ap length (c .before .terms-of .ensures) ∙ seven-terms _ _ _ _, omega (arith, at .loop .inv .1, st .pre .0, st .pre .5))
 
 add-i : tie.Need-add-i Inv-loop μ-loop
 add-i c = search needs
@@ -72,12 +72,17 @@ loop-less c = search needs
 
 loop-again : tie.Need-loop-again Inv-loop μ-loop
 loop-again c =
-    let a = c .before .before .before .before .before .before .before .before .before .before .before .before .before .before .before .before .before .before .args in
-    let at = c .before .before .before .before .before .before .before .before .before .before .before .before .loop in
+    let terms-of = c .before .before .before .before in
+    let imaginary2 = terms-of .before .before .before in
+    let imaginary = imaginary2 .before .before in
+    let loop-at = imaginary .before .before .before in
+    let start = loop-at .before .before .before .before .before .before in
+    let a = start .args in
+    let at = loop-at .loop in
     let e = c .before .before .add-terms .ensures in
-    let zy = c .before .before .before .before .before .before .before .before .before .imaginary .ensures in
-    let cy = c .before .before .before .before .before .before .before .imaginary2 .ensures in
-    let terms = c .before .before .before .before .terms-of .ensures in
+    let zy = imaginary .imaginary .ensures in
+    let cy = imaginary2 .imaginary2 .ensures in
+    let terms = terms-of .terms-of .ensures in
     (omega arith, search needs, block-more (a .bpsk) (a .re .now) (a .im .now) (a .from) (a .xs .now) (a .ys .now) (a .out .now) (at .i) (at .out) _ _ _ _ (at .inv .2) zy cy terms e)
 
 same-length : tie.Need-same-length Inv-loop μ-loop

@@ -25,7 +25,7 @@ returns c =
     let if1 = c .before .before .before .before in
     let matches = if1 .before .before .before .before .before in
     let a = matches .before .before .before .before .before .before .before .before .before in
-    (subst (Matches (a .args .p .table) (a .args .m) (a .args .first) (a .args .re .now) (a .args .im .now) (a .args .load .now)) (if1 .if1 .taken) (matches .matches .ensures), c .before .before .put .ensures)
+    (subst (Matches (a .args .f .plan .table) (a .args .f .mapping) (a .args .f .first) (a .args .re .now) (a .args .im .now) (a .args .load .now)) (if1 .if1 .taken) (matches .matches .ensures), c .before .before .put .ensures)
 
 same-length-4 : tie.Need-same-length-4
 same-length-4 c = search needs
@@ -37,7 +37,7 @@ returns-2 : tie.Need-returns-2
 returns-2 c =
     let matches = c .before .before .before .before .before in
     let a = matches .before .before .before .before .before .before .before .before .before in
-    (subst (Matches (a .args .p .table) (a .args .m) (a .args .first) (a .args .re .now) (a .args .im .now) (a .args .load .now)) (c .if1 .left) (matches .matches .ensures), refl)
+    (subst (Matches (a .args .f .plan .table) (a .args .f .mapping) (a .args .f .first) (a .args .re .now) (a .args .im .now) (a .args .load .now)) (c .if1 .left) (matches .matches .ensures), refl)
 
 pub keep-load-spec : {M : Type 1} → statement M
 keep-load-spec =

@@ -10,7 +10,7 @@ use Rattle.wanted_load.proofs.search_arrays.Tie as tie
 search-load-requires : tie.Need-search-load-requires
 search-load-requires c κs =
     let a = c .before .before .before .before .before .before .before in
-    let l = few-bytes (a .args .p .table) (a .pre .0 .accepted) in
+    let l = few-bytes (a .args .f .plan .table) (a .pre .0 .accepted) in
     let q : 9744 ≤ length (a .args .load .now) = search needs in
     (a .pre .0, a .pre .1, a .pre .2, omega arith, search needs, search needs, a .pre .3)
 

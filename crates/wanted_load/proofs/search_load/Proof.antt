@@ -23,7 +23,7 @@ part-keep-load-start c = search needs
 
 part-keep-load-end : tie.Need-part-keep-load-end
 part-keep-load-end c =
-    let a = c .before .before .before .before .before .before .before .before .before .before .before .before in
+    let a = c .before .before .before .before .before .before .before .before .before .before .before .before .before .before in
     let n = ap (λ (z : Plan). z .bytes) (a .pre .0 .is) in
     search needs
 
@@ -31,11 +31,11 @@ keep-load-requires : tie.Need-keep-load-requires
 keep-load-requires c κs =
     let read-load = c .before .before .before .before .before .before .before in
     let start-state = read-load .before .before in
-    let a = start-state .before .before .before .before .before .before .before in
+    let a = start-state .before .before .before .before .before .before .before .before .before in
     let l = read-load .read-load in
     let n = ap (λ (z : Plan). z .bytes) (a .pre .0 .is) in
-    let e = read-is (a .args .p .table) (a .args .m) (a .args .first) (a .args .re .now) (a .args .im .now) _ (a .args .p .bytes) _ _ (start-state .start-state .ensures .0) n (l .ensures) in
-    let f = read-off-full (a .args .p .table) (a .args .m) (a .args .first) (a .args .re .now) (a .args .im .now) .size in
+    let e = read-is (a .args .f .plan .table) (a .args .f .mapping) (a .args .f .first) (a .args .re .now) (a .args .im .now) _ (a .args .f .plan .bytes) _ _ (start-state .start-state .ensures .0) n (l .ensures) in
+    let f = read-off-full (a .args .f .plan .table) (a .args .f .mapping) (a .args .f .first) (a .args .re .now) (a .args .im .now) .size in
     (a .pre .0, a .pre .1, a .pre .2, a .pre .4, a .pre .5, rw e (omega (arith, f, a .pre .6)))
 
 same-length : tie.Need-same-length
@@ -55,12 +55,12 @@ returns c =
     let keep-load = c .before .before .before .before .before .before in
     let read-load = keep-load .before .before .before .before .before .before .before .before in
     let start-state = read-load .before .before in
-    let a = start-state .before .before .before .before .before .before .before in
+    let a = start-state .before .before .before .before .before .before .before .before .before in
     let l = read-load .read-load in
     let n = ap (λ (z : Plan). z .bytes) (a .pre .0 .is) in
-    let e = read-is (a .args .p .table) (a .args .m) (a .args .first) (a .args .re .now) (a .args .im .now) _ (a .args .p .bytes) _ _ (start-state .start-state .ensures .0) n (l .ensures) in
+    let e = read-is (a .args .f .plan .table) (a .args .f .mapping) (a .args .f .first) (a .args .re .now) (a .args .im .now) _ (a .args .f .plan .bytes) _ _ (start-state .start-state .ensures .0) n (l .ensures) in
     let k = rw e at (keep-load .keep-load .ensures) in
-    searched (a .args .p .table) (a .pre .0 .accepted) (a .args .m) (a .args .first) (a .args .re .now) (a .args .im .now) (keep-load .keep-load .result) (k .0) (a .args .bytes .now) _ (k .1)
+    searched (a .args .f .plan .table) (a .pre .0 .accepted) (a .args .f .mapping) (a .args .f .first) (a .args .re .now) (a .args .im .now) (keep-load .keep-load .result) (k .0) (a .args .bytes .now) _ (k .1)
 
 pub search-load-spec : {M : Type 1} → statement M
 search-load-spec =

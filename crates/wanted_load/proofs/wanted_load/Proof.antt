@@ -66,7 +66,7 @@ returns-2 c =
     let et = table-is (pl .ensures .0) in
     let ok = sym (at-enum-told .enum-told .given .1) ∙ earlier-answer .earlier-answer .ensures ∙ ap (λ (z : Table). firstRow (earlierRows z (length re) (length im) (length (a .args .bytes .now)))) et in
     let w = rw et at (find-load .find-load .ensures) in
-    let bytes = find-load .find-load .last .1 .1 .1 .1 .1 .0 in
+    let bytes = find-load .find-load .last .1 .1 .1 .0 in
     let f = w .yes (c .if1 .taken) in
     let out : Either (firstRow (earlierRows t (length re) (length im) (length (a .args .bytes .now)))) (Outcome t (a .args .m) (a .args .first) re im (Load (pl .result .bytes)) (a .args .bytes .now) bytes)
     (Turned (firstRow (earlierRows t (length re) (length im) (length (a .args .bytes .now)))) (Load (pl .result .bytes)) (a .args .bytes .now) bytes) =
@@ -89,7 +89,7 @@ returns-3 c =
     let et = table-is (pl .ensures .0) in
     let ok = sym (at-enum-told .enum-told .given .1) ∙ earlier-answer .earlier-answer .ensures ∙ ap (λ (z : Table). firstRow (earlierRows z (length re) (length im) (length (a .args .bytes .now)))) et in
     let w = rw et at (find-load .find-load .ensures) in
-    let bytes = find-load .find-load .last .1 .1 .1 .1 .1 .0 in
+    let bytes = find-load .find-load .last .1 .1 .1 .0 in
     let f = w .no (c .if1 .left) in
     let out : Either (firstRow (earlierRows t (length re) (length im) (length (a .args .bytes .now)))) (Outcome t (a .args .m) (a .args .first) re im (Refused NoLoad) (a .args .bytes .now) bytes)
     (Turned (firstRow (earlierRows t (length re) (length im) (length (a .args .bytes .now)))) (Refused NoLoad) (a .args .bytes .now) bytes) =
