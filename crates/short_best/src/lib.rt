@@ -20,6 +20,7 @@ use short_code::half;
 use short_step::best_state;
 use short_step::renormalise;
 use short_step::start_at;
+use short_viterbi::Setup;
 use short_viterbi::finish_at;
 use short_viterbi::soft_steps;
 use trellis::FRAME_TRACEBACK;
@@ -101,18 +102,12 @@ fn run(
     begin(pm, start);
     let at = At { held: 0, count: 0 };
     let n = metrics.len() / 4;
-    let end = soft_steps(
-        pm,
+    let s = Setup {
         code,
         h,
-        at,
-        FRAME_TRACEBACK,
-        metrics,
-        4,
-        n,
-        decisions,
-        out,
-    );
+        traceback: FRAME_TRACEBACK,
+    };
+    let end = soft_steps(pm, s, at, metrics, 4, n, decisions, out);
     renormalise(pm, h);
     let best = best_state(pm, h);
     finish_at(best, h, end, decisions, out)

@@ -35,6 +35,7 @@ use short_rows::answer_stream;
 use short_step::best_state;
 use short_step::renormalise;
 use short_step::start_at;
+use short_viterbi::Setup;
 use short_viterbi::finish_at;
 use short_viterbi::known_steps;
 use short_viterbi::soft_steps;
@@ -135,24 +136,22 @@ pub fn new_unknown_state(code: Code, traceback: usize) -> Made
 // All steps of a call of soft values or metrics, and the subtraction at its end.
 fn soft_run(
     pm: &mut [f32],
-    code: Code,
-    h: usize,
+    s: Setup,
     at: At,
-    traceback: usize,
     values: &[f32],
     per: usize,
     n: usize,
     decisions: &mut [u64],
     out: &mut [u8],
 ) -> At
-    requires { ⌜ (1 ≤ h) × (h ≤ Isdb.half) × Fits code h × (length (now pm) ≡ 2 * h) × ((per ≡ 2) ⊎ (per ≡ 4)) × (per * n ≤ length (now values))
-        × (1 ≤ traceback) × (traceback ≤ tracebackLimit) × (at .held < block + traceback) × (at .count ≡ 0) × (block + traceback ≤ length (now decisions))
-        × (block * releases traceback (at .held) n ≤ length (now out)) ⌝ }
-    ensures { λ r. ⌜ Holds traceback (now (decisions .entry)) (now (out .entry)) (pushed h (labels code) rule traceback (softSteps per (now (values .entry))) (holding (now (pm .entry)) (at .held) (now (decisions .entry))) n)
+    requires { ⌜ (1 ≤ s .h) × (s .h ≤ Isdb.half) × Fits (s .code) (s .h) × (length (now pm) ≡ 2 * s .h) × ((per ≡ 2) ⊎ (per ≡ 4)) × (per * n ≤ length (now values))
+        × (1 ≤ s .traceback) × (s .traceback ≤ tracebackLimit) × (at .held < block + s .traceback) × (at .count ≡ 0) × (block + s .traceback ≤ length (now decisions))
+        × (block * releases (s .traceback) (at .held) n ≤ length (now out)) ⌝ }
+    ensures { λ r. ⌜ Holds (s .traceback) (now (decisions .entry)) (now (out .entry)) (pushed (s .h) (labels (s .code)) rule (s .traceback) (softSteps per (now (values .entry))) (holding (now (pm .entry)) (at .held) (now (decisions .entry))) n)
         (now (pm .exit)) (r .held) (r .count) (now (decisions .exit)) (now (out .exit)) ⌝ }
 {
-    let end = soft_steps(pm, code, h, at, traceback, values, per, n, decisions, out);
-    renormalise(pm, h);
+    let end = soft_steps(pm, s, at, values, per, n, decisions, out);
+    renormalise(pm, s.h);
     end
 }
 
@@ -177,19 +176,9 @@ fn soft(
         held: dec.held,
         count: 0,
     };
+    let s = Setup { code, h, traceback };
     let count = values.len() / per;
-    let end = soft_run(
-        &mut pm[0..n],
-        code,
-        h,
-        at,
-        traceback,
-        values,
-        per,
-        count,
-        decisions,
-        out,
-    );
+    let end = soft_run(&mut pm[0..n], s, at, values, per, count, decisions, out);
     Released {
         answer: Answer::Accepted,
         dec: ViterbiDecoder {
@@ -279,7 +268,8 @@ pub fn push_known(
         held: dec.held,
         count: 0,
     };
-    let end = known_steps(&mut pm[0..n], code, h, at, traceback, bits, decisions, out);
+    let s = Setup { code, h, traceback };
+    let end = known_steps(&mut pm[0..n], s, at, bits, decisions, out);
     Released {
         answer: Answer::Accepted,
         dec: ViterbiDecoder {

@@ -22,6 +22,13 @@ use viterbi_core::move_down;
 use viterbi_steps::Step;
 ghost use Rattle.trellis.specs.Isdb;
 
+// What all steps of a call keep: the code, half the number of its states, and the traceback.
+pub struct Setup {
+    pub code: Code,
+    pub h: usize,
+    pub traceback: usize,
+}
+
 // Traces the first n decision words back from `state`, and writes the oldest `count` of the n bits to the front of `out`.
 fn trace(decisions: &[u64], h: usize, n: usize, state: usize, count: usize, out: &mut [u8])
     requires { ⌜ (1 ≤ h) × (h ≤ Isdb.half) × (state < 2 * h) × (n ≤ length (now decisions)) × (count ≤ n) × (count ≤ length (now out)) ⌝ }
@@ -53,31 +60,29 @@ fn release(pm: &[f32], h: usize, traceback: usize, decisions: &mut [u64], out: &
 // Step i of a call with the release that may follow it: every call of a short code's decoder runs on this.
 pub fn advance(
     pm: &mut [f32],
-    code: Code,
-    h: usize,
+    s: Setup,
     at: At,
-    traceback: usize,
     i: usize,
     x: Step,
     decisions: &mut [u64],
     out: &mut [u8],
 ) -> At
-    requires { ⌜ (1 ≤ h) × (h ≤ Isdb.half) × Fits code h × (length (now pm) ≡ 2 * h) × (1 ≤ traceback) × (traceback ≤ tracebackLimit) × (at .held < block + traceback) × (block + traceback ≤ length (now decisions)) × (at .count ≤ length (now out)) × Room traceback (at .held) (at .count) (length (now out)) ⌝ }
-    ensures { λ r. ⌜ Stepped traceback (stepped h (labels code) rule traceback i (stepOf x) (holding (now (pm .entry)) (at .held) (now (decisions .entry)))) (at .count) r (now (pm .exit)) (now (decisions .entry)) (now (decisions .exit)) (now (out .entry)) (now (out .exit)) ⌝ }
+    requires { ⌜ (1 ≤ s .h) × (s .h ≤ Isdb.half) × Fits (s .code) (s .h) × (length (now pm) ≡ 2 * s .h) × (1 ≤ s .traceback) × (s .traceback ≤ tracebackLimit) × (at .held < block + s .traceback) × (block + s .traceback ≤ length (now decisions)) × (at .count ≤ length (now out)) × Room (s .traceback) (at .held) (at .count) (length (now out)) ⌝ }
+    ensures { λ r. ⌜ Stepped (s .traceback) (stepped (s .h) (labels (s .code)) rule (s .traceback) i (stepOf x) (holding (now (pm .entry)) (at .held) (now (decisions .entry)))) (at .count) r (now (pm .exit)) (now (decisions .entry)) (now (decisions .exit)) (now (out .entry)) (now (out .exit)) ⌝ }
 {
     let held = at.held;
     let count = at.count;
-    let w = trellis_step(pm, code, h, i, x);
+    let w = trellis_step(pm, s.code, s.h, i, x);
     decisions[held] = w;
-    if held + 1 < BLOCK + traceback {
+    if held + 1 < BLOCK + s.traceback {
         return At {
             held: held + 1,
             count,
         };
     }
-    release(pm, h, traceback, decisions, &mut out[count..]);
+    release(pm, s.h, s.traceback, decisions, &mut out[count..]);
     At {
-        held: traceback,
+        held: s.traceback,
         count: count + BLOCK,
     }
 }
@@ -131,26 +136,24 @@ fn soft_step(values: &[f32], per: usize, i: usize) -> Step
 // All steps of a call of n soft-value or metric steps.
 pub fn soft_steps(
     pm: &mut [f32],
-    code: Code,
-    h: usize,
+    s: Setup,
     at: At,
-    traceback: usize,
     values: &[f32],
     per: usize,
     n: usize,
     decisions: &mut [u64],
     out: &mut [u8],
 ) -> At
-    requires { ⌜ (1 ≤ h) × (h ≤ Isdb.half) × Fits code h × (length (now pm) ≡ 2 * h) × ((per ≡ 2) ⊎ (per ≡ 4)) × (per * n ≤ length (now values))
-        × (1 ≤ traceback) × (traceback ≤ tracebackLimit) × (at .held < block + traceback) × (at .count ≡ 0) × (block + traceback ≤ length (now decisions))
-        × (block * releases traceback (at .held) n ≤ length (now out)) ⌝ }
-    ensures { λ r. ⌜ Holds traceback (now (decisions .entry)) (now (out .entry)) (after h (labels code) rule traceback (softSteps per (now (values .entry))) (holding (now (pm .entry)) (at .held) (now (decisions .entry))) n)
+    requires { ⌜ (1 ≤ s .h) × (s .h ≤ Isdb.half) × Fits (s .code) (s .h) × (length (now pm) ≡ 2 * s .h) × ((per ≡ 2) ⊎ (per ≡ 4)) × (per * n ≤ length (now values))
+        × (1 ≤ s .traceback) × (s .traceback ≤ tracebackLimit) × (at .held < block + s .traceback) × (at .count ≡ 0) × (block + s .traceback ≤ length (now decisions))
+        × (block * releases (s .traceback) (at .held) n ≤ length (now out)) ⌝ }
+    ensures { λ r. ⌜ Holds (s .traceback) (now (decisions .entry)) (now (out .entry)) (after (s .h) (labels (s .code)) rule (s .traceback) (softSteps per (now (values .entry))) (holding (now (pm .entry)) (at .held) (now (decisions .entry))) n)
         (now (pm .exit)) (r .held) (r .count) (now (decisions .exit)) (now (out .exit)) ⌝ }
 {
     let mut place = at;
     for i in 0..n {
         let x = soft_step(values, per, i);
-        place = advance(pm, code, h, place, traceback, i, x, decisions, out);
+        place = advance(pm, s, place, i, x, decisions, out);
     }
     place
 }
@@ -158,24 +161,22 @@ pub fn soft_steps(
 // All steps of a call of known bits.
 pub fn known_steps(
     pm: &mut [f32],
-    code: Code,
-    h: usize,
+    s: Setup,
     at: At,
-    traceback: usize,
     bits: &[u8],
     decisions: &mut [u64],
     out: &mut [u8],
 ) -> At
-    requires { ⌜ (1 ≤ h) × (h ≤ Isdb.half) × Fits code h × (length (now pm) ≡ 2 * h)
-        × (1 ≤ traceback) × (traceback ≤ tracebackLimit) × (at .held < block + traceback) × (at .count ≡ 0) × (block + traceback ≤ length (now decisions))
-        × (block * releases traceback (at .held) (length (now bits)) ≤ length (now out)) ⌝ }
-    ensures { λ r. ⌜ Holds traceback (now (decisions .entry)) (now (out .entry)) (after h (labels code) rule traceback (knownSteps (now (bits .entry))) (holding (now (pm .entry)) (at .held) (now (decisions .entry))) (length (now (bits .entry))))
+    requires { ⌜ (1 ≤ s .h) × (s .h ≤ Isdb.half) × Fits (s .code) (s .h) × (length (now pm) ≡ 2 * s .h)
+        × (1 ≤ s .traceback) × (s .traceback ≤ tracebackLimit) × (at .held < block + s .traceback) × (at .count ≡ 0) × (block + s .traceback ≤ length (now decisions))
+        × (block * releases (s .traceback) (at .held) (length (now bits)) ≤ length (now out)) ⌝ }
+    ensures { λ r. ⌜ Holds (s .traceback) (now (decisions .entry)) (now (out .entry)) (after (s .h) (labels (s .code)) rule (s .traceback) (knownSteps (now (bits .entry))) (holding (now (pm .entry)) (at .held) (now (decisions .entry))) (length (now (bits .entry))))
         (now (pm .exit)) (r .held) (r .count) (now (decisions .exit)) (now (out .exit)) ⌝ }
 {
     let mut place = at;
     for i in 0..bits.len() {
         let x = Step::Known(bits[i]);
-        place = advance(pm, code, h, place, traceback, i, x, decisions, out);
+        place = advance(pm, s, place, i, x, decisions, out);
     }
     place
 }

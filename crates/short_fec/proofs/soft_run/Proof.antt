@@ -32,7 +32,7 @@ returns c =
     let start = soft-steps .before .before .before .before .before .before .before .before in
     let a = start .args in
     let all = soft-steps .soft-steps in
-    holds-closed (a .h) (labels (a .code)) rule (a .traceback) (softSteps (a .per) (a .values .now)) (holding (a .pm .now) (a .at .held) (a .decisions .now)) (a .n) (a .decisions .now) (a .out .now)
+    holds-closed (a .s .h) (labels (a .s .code)) rule (a .s .traceback) (softSteps (a .per) (a .values .now)) (holding (a .pm .now) (a .at .held) (a .decisions .now)) (a .n) (a .decisions .now) (a .out .now)
     (all .last .0) (c .before .before .renormalise .last .0) (all .result .held) (all .result .count) _ _ (all .ensures) (c .before .before .renormalise .ensures)
 
 pub soft-run-spec : {M : Type 1} → statement M

@@ -29,8 +29,8 @@ add-if1 c = search needs
 add-if1-2 : tie.Need-add-if1-2
 add-if1-2 c = search needs
 
-add-t19 : tie.Need-add-t19
-add-t19 c = search needs
+add-t17 : tie.Need-add-t17
+add-t17 c = search needs
 
 same-length : tie.Need-same-length
 same-length c = search needs
@@ -40,10 +40,10 @@ same-length-2 c = search needs
 
 returns : tie.Need-returns
 returns c =
-    let step = c .before .before .before in
+    let step = c .before .before .before .before in
     let start = step .before .before .before .before .before in
     let a = start .args in
-    kept-step (a .h) (labels (a .code)) rule (a .traceback) (a .i) (stepOf (a .x)) (a .pm .now) (step .trellis-step .last .0) (a .at .held) (a .at .count) (step .trellis-step .result) (a .decisions .now) (a .out .now)
+    kept-step (a .s .h) (labels (a .s .code)) rule (a .s .traceback) (a .i) (stepOf (a .x)) (a .pm .now) (step .trellis-step .last .0) (a .at .held) (a .at .count) (step .trellis-step .result) (a .decisions .now) (a .out .now)
     (omega arith) (step .trellis-step .ensures .0) (step .trellis-step .ensures .1) (c .if1 .taken)
 
 sub-release : tie.Need-sub-release
@@ -57,13 +57,13 @@ part-release-end c = search needs
 
 release-requires : tie.Need-release-requires
 release-requires c κs =
-    let trellis-step = c .before .before .before .before .before .before in
+    let trellis-step = c .before .before .before .before .before .before .before in
     let start = trellis-step .before .before .before .before .before in
     let a = start .args in
     let dec = a .decisions .now in
     let out = a .out .now in
     let w = trellis-step .trellis-step .result in
-    let full : a .at .held + 1 ≡ 4096 + a .traceback = omega arith in
+    let full : a .at .held + 1 ≡ 4096 + a .s .traceback = omega arith in
     let room = start .pre .9 full in (
       start .pre .0,
       start .pre .1,
@@ -73,15 +73,15 @@ release-requires c κs =
       rw (tail-whole (a .at .count) out out out (start .pre .8), length-drop (a .at .count) out) (omega arith),
     )
 
-add-t17 : tie.Need-add-t17
-add-t17 c = search needs
+add-t15 : tie.Need-add-t15
+add-t15 c = search needs
 
 same-length-3 : tie.Need-same-length-3
 same-length-3 c = search needs
 
 same-length-4 : tie.Need-same-length-4
 same-length-4 c =
-    let trellis-step = c .before .before .before .before .before .before .before .before .before .before .before in
+    let trellis-step = c .before .before .before .before .before .before .before .before .before .before .before .before in
     let start = trellis-step .before .before .before .before .before in
     let a = start .args in
     omega (arith, length-set (a .decisions .now) (a .at .held) (trellis-step .trellis-step .result))
@@ -92,15 +92,15 @@ same-length-5 c = search needs
 returns-2 : tie.Need-returns-2
 returns-2 c =
     let release = c .before .before .before .before in
-    let step = release .before .before .before .before .before .before .before in
+    let step = release .before .before .before .before .before .before .before .before in
     let start = step .before .before .before .before .before in
     let freed = release .release in
     let a = start .args in
     let out = a .out .now in
     let dec = set (a .decisions .now) (a .at .held) (step .trellis-step .result) in
-    released-step (a .h) (labels (a .code)) rule (a .traceback) (a .i) (stepOf (a .x)) (a .pm .now) (step .trellis-step .last .0) (a .at .held) (a .at .count) (step .trellis-step .result) (a .decisions .now) out
+    released-step (a .s .h) (labels (a .s .code)) rule (a .s .traceback) (a .i) (stepOf (a .x)) (a .pm .now) (step .trellis-step .last .0) (a .at .held) (a .at .count) (step .trellis-step .result) (a .decisions .now) out
     (omega arith) (step .trellis-step .ensures .0) (step .trellis-step .ensures .1) (freed .last .1 .1 .1 .0) _ (omega arith) (freed .ensures .1)
-    (written-tail (a .at .count) out (freed .last .1 .1 .1 .1 .0) (take 4096 (traced (a .h) (take (4096 + a .traceback) dec) (best rule (step .trellis-step .last .0) (2 * a .h - 1)))) (search needs) (freed .ensures .0))
+    (written-tail (a .at .count) out (freed .last .1 .1 .1 .1 .0) (take 4096 (traced (a .s .h) (take (4096 + a .s .traceback) dec) (best rule (step .trellis-step .last .0) (2 * a .s .h - 1)))) (search needs) (freed .ensures .0))
 
 pub advance-spec : {M : Type 1} → statement M
 advance-spec =
@@ -111,7 +111,7 @@ advance-spec =
     slice-write-decisions
     add-if1
     add-if1-2
-    add-t19
+    add-t17
     same-length
     same-length-2
     returns
@@ -119,7 +119,7 @@ advance-spec =
     part-release-start
     part-release-end
     release-requires
-    add-t17
+    add-t15
     same-length-3
     same-length-4
     same-length-5
