@@ -23,7 +23,7 @@ use Rattle.isdbt_table.specs.declared.Puncturing.{Puncturing}
 use Rattle.isdbt_table.specs.Table.{period, sent, compiled}
 use Rattle.isdbt_fec.specs.Calls.{decodedBits}
 use Rattle.isdbt_steps.specs.Soft.{stepsBy}
-use Rattle.isdbt_fec.proofs.Decode.{begun, room-for, all-bits, bits-out, words-out}
+use Rattle.isdbt_fec.proofs.Decode.{after-same, begun, room-for, all-bits, bits-out, words-out}
 use Rattle.isdbt_fec.proofs.Turns.{bit-count}
 
 -- after i of the n steps xs, from the path values pm₀ and no held word
@@ -84,6 +84,20 @@ module _ {tb : ℕ} {xs : ℕ → trellis.Step} {n : ℕ} {pm₀ : List Float} {
   decoding-block {ys} {len} {r} {pm′} {dec′} {out′} h e c =
       after-steps tb xs n pm₀ dec₀ out₀ (i + len) pm′ r dec′ out′ h (d .places) (d .enough)
       (rw (from-steps tb xs ys (holding pm₀ 0 dec₀) i len e) (c .carries (fec.steps tb xs (holding pm₀ 0 dec₀) i) dec₀ out₀ (d .holds)))
+
+-- the same with other names of the steps
+pub decoding-same : {tb : ℕ} {xs ys : ℕ → trellis.Step} {n : ℕ} {pm₀ : List Float} {dec₀ out₀ : List ℕ} {i : ℕ} {pm : List Float} {at : At} {dec out : List ℕ}
+    → Decoding tb xs n pm₀ dec₀ out₀ i pm at dec out → ((k : ℕ) → xs k ≡ ys k) → Decoding tb ys n pm₀ dec₀ out₀ i pm at dec out
+decoding-same {tb} {xs} {ys} {n} {pm₀} {dec₀} {out₀} {i} d e =
+    record {
+      enough = d .enough;
+      places = d .places;
+      holds = rw (after-same tb xs ys (holding pm₀ 0 dec₀) i (λ k l. e k)) at (d .holds);
+      words-long = d .words-long;
+      bits-long = d .bits-long;
+      few = d .few;
+      sum = d .sum;
+    }
 
 -- the end: the path values are lowered, the held words traced, and the decisions zeroed
 pub decoded : (rate : CodeRate) (p : Puncturing) (e : p ≡ compiled rate) (llrs : List Float) {tb i : ℕ} {pm₀ pm : List Float} {at : At} {dec₀ dec dec′ out₀ out out′ : List ℕ} {r : ℕ}

@@ -46,3 +46,7 @@ readable rate p count e =
       in-order = omega arith;
       there = rw (z .n-is, z .period-is) (values-there rate count);
     }
+
+-- where the order is not read again
+pub readable-alone : {count period n long end : ℕ} → Readable count period n long end → Readable count period n n end
+readable-alone r = record { least = r .least; most = r .most; eight = r .eight; in-order = omega arith; there = r .there }

@@ -17,6 +17,7 @@ use isdbt_rows::answer_decode;
 use isdbt_rows::answer_depuncture;
 use isdbt_rows::answer_encode;
 use isdbt_steps::end_call;
+use isdbt_steps::places_of;
 use isdbt_steps::soft_at;
 use isdbt_steps::soft_block;
 pub use isdbt_table::CodeRate;
@@ -169,9 +170,9 @@ pub fn depuncture(rate: CodeRate, llrs: &[f32], out: &mut [f32]) -> Done
 
 // How many of the steps left are taken at once.
 fn block_of(left: usize) -> usize
-    ensures { λ r. ⌜ (r ≤ left) × (r ≤ 512) × (0 < left → 0 < r) ⌝ }
+    ensures { λ r. ⌜ (r ≤ left) × (r ≤ 64) × (0 < left → 0 < r) ⌝ }
 {
-    if left < 512 { left } else { 512 }
+    if left < 64 { left } else { 64 }
 }
 
 // Decodes whole periods from state 0: a push of all pairs, and a flush. How many bits that is.
@@ -191,14 +192,15 @@ fn decode_periods(
     let period = p.period;
     let n = p.n;
     let order = p.order;
+    let places = places_of(&order, n);
     let mut pm = start_at(0);
     let mut at = At { held: 0, count: 0 };
     let count = llrs.len() / n * period;
-    let mut pairs = [0.0f32; 1024];
+    let mut pairs = [0.0f32; 128];
     let mut i: usize = 0;
     while i < count {
         let len = block_of(count - i);
-        soft_block(&order, n, period, llrs, i, len, &mut pairs);
+        soft_block(&places, n, period, llrs, i, len, &mut pairs);
         at = run_steps(
             &mut pm,
             at,

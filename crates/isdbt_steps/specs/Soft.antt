@@ -1,7 +1,8 @@
 -- The soft values of a call's steps.
+use mathlib.Core.Path.{_≡_}
 use mathlib.Core.Bool.{cond}
 use mathlib.Core.List.{List, [], _∷_}
-use Prim.Native.Nat.{ℕ, _+_, _*_, _/_, _%_}
+use Prim.Native.Nat.{ℕ, _+_, _*_, _/_, _%_, _<_}
 use lib.Dec.{eqb, ltb}
 use lib.ListN.{take, getD}
 use lib.Ieee.{Float, nan, binary32, ofBits}
@@ -29,6 +30,17 @@ sentAs n order k = foundFrom (take n order) 0 k
 -- the sent value w of the period whose n values begin at `base`, 0 where w is none of them
 abbrev pub sentValue : ℕ → List Float → ℕ → ℕ → Float
 sentValue n xs base w = cond (ltb w n) (getD xs (base + w) nan) (ofBits binary32 0)
+
+-- a list has, of each mother bit of a period, which of the n sent values is its own: the soft value of the mother bit is the value there
+abbrev pub Placed : ℕ → List ℕ → List ℕ → Type 0
+Placed n order places = (k : ℕ) → k < 14 → (xs : List Float) (base : ℕ) → sentValue n xs base (getD places k 0) ≡ spread (take n order) xs base k
+
+-- the soft value of the mother bit k, and the steps, by such a list
+abbrev pub placedBy : ℕ → ℕ → List ℕ → List Float → ℕ → Float
+placedBy p n places xs k = sentValue n xs (n * (k / (2 * p))) (getD places (k % (2 * p)) 0)
+
+abbrev pub placedSteps : ℕ → ℕ → List ℕ → List Float → ℕ → trellis.Step
+placedSteps p n places xs k = pair (placedBy p n places xs (2 * k)) (placedBy p n places xs (2 * k + 1))
 
 -- where the next mother bit stands: a period has `width` of them and n sent values
 abbrev pub nextOf : Standing → ℕ → ℕ → Standing

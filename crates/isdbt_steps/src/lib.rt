@@ -7,7 +7,7 @@ ghost use Rattle.trellis.specs.Lists.{laid};
 ghost use Rattle.trellis.specs.Step.{renormalised};
 ghost use Rattle.isdbt_table.specs.Puncture.{spread};
 ghost use Rattle.viterbi_core.specs.Calls.{bestState, traced};
-ghost use Rattle.isdbt_steps.specs.Soft.{sentAs, sentValue, nextOf, stepsBy};
+ghost use Rattle.isdbt_steps.specs.Soft.{Placed, placedSteps, sentAs, sentValue, nextOf};
 ghost use Rattle.trellis.specs.Run.{block, tracebackLimit, pairSteps};
 use trellis::BLOCK;
 use trellis::STATES;
@@ -48,9 +48,9 @@ pub fn soft_at(order: &[usize; 8], n: usize, period: usize, llrs: &[f32], k: usi
 }
 
 // Of each mother bit of a period, which of the n sent values is its own.
-fn places_of(order: &[usize; 8], n: usize) -> [usize; 14]
+pub fn places_of(order: &[usize; 8], n: usize) -> [usize; 14]
     requires { ⌜ (n ≤ 8) × (n ≤ length (now order)) ⌝ }
-    ensures { λ r. ⌜ (length r ≡ 14) × ((k : ℕ) → k < 14 → getD r k 0 ≡ sentAs n (now (order .entry)) k) ⌝ }
+    ensures { λ r. ⌜ Placed n (now (order .entry)) r ⌝ }
 {
     let mut places = [0usize; 14];
     for k in 0..14 {
@@ -84,8 +84,8 @@ fn next_of(at: Standing, width: usize, n: usize) -> Standing
 }
 
 // The number of values, which the type fixes.
-fn values_of(pairs: &[f32; 1024]) -> usize
-    ensures { λ r. ⌜ (r ≡ 1024) × (length (now (pairs .entry)) ≡ 1024) ⌝ }
+fn values_of(pairs: &[f32; 128]) -> usize
+    ensures { λ r. ⌜ (r ≡ 128) × (length (now (pairs .entry)) ≡ 128) ⌝ }
 {
     let values: &[f32] = pairs;
     values.len()
@@ -93,19 +93,18 @@ fn values_of(pairs: &[f32; 1024]) -> usize
 
 // The soft values of `len` steps from step i on, to the front of `pairs`.
 pub fn soft_block(
-    order: &[usize; 8],
+    places: &[usize; 14],
     n: usize,
     period: usize,
     llrs: &[f32],
     i: usize,
     len: usize,
-    pairs: &mut [f32; 1024],
+    pairs: &mut [f32; 128],
 )
-    requires { ⌜ (n ≤ 8) × (n ≤ length (now order)) × (1 ≤ period) × (period ≤ 7) × (0 < len) × (len ≤ 512) × (2 * (i + len) < 2 ^ 64) × ((k : ℕ) → k < 2 * (i + len) → n * (k / (2 * period)) + n ≤ length (now llrs)) ⌝ }
-    ensures { λ _. ⌜ (length (now (pairs .exit)) ≡ 1024) × ((k : ℕ) → k < len → stepsBy period n (now (order .entry)) (now (llrs .entry)) (i + k) ≡ pairSteps (now (pairs .exit)) k) ⌝ }
+    requires { ⌜ (n ≤ 8) × (1 ≤ period) × (period ≤ 7) × (0 < len) × (len ≤ 64) × (2 * (i + len) < 2 ^ 64) × ((k : ℕ) → k < 2 * (i + len) → n * (k / (2 * period)) + n ≤ length (now llrs)) ⌝ }
+    ensures { λ _. ⌜ (length (now (pairs .exit)) ≡ 128) × ((k : ℕ) → k < len → placedSteps period n (now (places .entry)) (now (llrs .entry)) (i + k) ≡ pairSteps (now (pairs .exit)) k) ⌝ }
 {
     values_of(pairs);
-    let places = places_of(order, n);
     let width = 2 * period;
     let mut at = Standing {
         place: 2 * i % width,

@@ -1,5 +1,5 @@
 -- `isdbt_steps::places_of` meets its contract.
-use mathlib.Core.Path.{_≡_, refl, _∙_, ap}
+use mathlib.Core.Path.{_≡_, refl, sym, _∙_, ap}
 use mathlib.Core.List.{List}
 use Prim.Native.Nat.{ℕ, _-_, _≤_}
 use native.Mathlib.Omega.{arith}
@@ -7,7 +7,8 @@ use borrow.Author.Needs.{needs}
 use lib.ListN.{length, getD}
 use Rattle.trellis.specs.LaidLaws.{laid-at}
 use Rattle.isdbt_table.specs.WrittenLaws.{Written, written-none, written-next}
-use Rattle.isdbt_steps.specs.Soft.{sentAs}
+use Rattle.isdbt_steps.specs.Soft.{sentAs, sentValue}
+use Rattle.isdbt_steps.proofs.Spread.{spread-found}
 use Rattle.isdbt_steps.proofs.places_of.Statement.{statement}
 use Rattle.isdbt_steps.proofs.places_of.Tie as tie
 
@@ -52,7 +53,9 @@ returns c =
     let a = c .before .before .args in
     let end : at .k ≡ 14 = omega arith in
     let w = rw end at (at .inv .2) in
-    (w .long ∙ at .inv .1, λ k h. ap (λ (l : List ℕ). getD l k 0) (w .front) ∙ laid-at 0 (sentAs (a .n) (a .order .now)) 14 _ k h)
+    λ k h xs base.
+    let own = ap (λ (l : List ℕ). getD l k 0) (w .front) ∙ laid-at 0 (sentAs (a .n) (a .order .now)) 14 _ k h in
+    ap (λ (j : ℕ). sentValue (a .n) xs base j) own ∙ sym (spread-found (a .order .now) xs base (a .n) k (c .before .before .pre .1))
 
 pub places-of-spec : {M : Type 1} → statement M
 places-of-spec =

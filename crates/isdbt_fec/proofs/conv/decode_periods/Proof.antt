@@ -5,48 +5,59 @@ use native.Mathlib.Omega.{arith}
 use borrow.Author.Needs.{needs}
 use lib.ListN.{length}
 use Rattle.isdbt_table.specs.NumberLaws.{numbers}
-use Rattle.isdbt_steps.specs.Soft.{stepsBy}
+use Rattle.isdbt_steps.specs.Soft.{placedSteps}
+use Rattle.isdbt_steps.specs.SoftLaws.{placed-steps}
 use Rattle.isdbt_fec.proofs.Decode.{count-most}
-use Rattle.isdbt_fec.proofs.Turns.{Readable, bit-count, bits-twice, readable}
-use Rattle.isdbt_fec.proofs.Decoding.{Decoding, decoding-none, decoding-ready, decoding-block, decoded}
+use Rattle.isdbt_fec.proofs.Turns.{Readable, bit-count, bits-twice, readable, readable-alone}
+use Rattle.isdbt_fec.proofs.Decoding.{Decoding, decoding-none, decoding-ready, decoding-block, decoding-same, decoded}
 use Rattle.isdbt_fec.proofs.conv.decode_periods.Statement.{statement}
 use Rattle.isdbt_fec.proofs.conv.decode_periods.Tie as tie
 
 abbrev Inv-loop : tie.InvT-loop
-Inv-loop llrs traceback decisions₀ out₀ period n order pm₀ at₀ count pairs₀ i₀ none decisions out pm at pairs i =
-    (i ≤ count) × (2 * count < 18446744073709551616) × Readable (length llrs) period n (length order) (2 * count) × Decoding traceback (stepsBy period n order llrs) count pm₀ decisions₀ out₀ i pm at decisions out
+Inv-loop llrs traceback decisions₀ out₀ period n places pm₀ at₀ count pairs₀ i₀ none decisions out pm at pairs i =
+    (i ≤ count) × (2 * count < 18446744073709551616) × Readable (length llrs) period n n (2 * count) × Decoding traceback (placedSteps period n places llrs) count pm₀ decisions₀ out₀ i pm at decisions out
 
 abbrev μ-loop : tie.MeasureT-loop
-μ-loop llrs traceback decisions₀ out₀ period n order pm₀ at₀ count pairs₀ i₀ none decisions out pm at pairs i =
+μ-loop llrs traceback decisions₀ out₀ period n places pm₀ at₀ count pairs₀ i₀ none decisions out pm at pairs i =
     count - i
 
 new-requires : tie.Need-new-requires Inv-loop μ-loop
 new-requires c κs = search needs
+
+places-of-requires : tie.Need-places-of-requires Inv-loop μ-loop
+places-of-requires c κs =
+    let made = c .before .before in
+    let a = made .before .before .before .before .args in
+    let r = readable (a .rate) _ (length (a .llrs .now)) (made .new .ensures) in
+    (r .eight, r .in-order)
 
 start-at-requires : tie.Need-start-at-requires Inv-loop μ-loop
 start-at-requires c κs = tt
 
 div-count : tie.Need-div-count Inv-loop μ-loop
 div-count c =
-    let r = numbers (c .before .before .before .before .before .before .args .rate) _ (c .before .before .new .ensures) .ranges in
+    let made = c .before .before .before .before in
+    let r = numbers (made .before .before .before .before .args .rate) _ (made .new .ensures) .ranges in
     omega arith
 
 mul-count : tie.Need-mul-count Inv-loop μ-loop
 mul-count c =
-    let a = c .before .before .before .before .before .before .args in
-    let count = bit-count (a .rate) _ (length (a .llrs .now)) (c .before .before .new .ensures) in
+    let made = c .before .before .before .before in
+    let a = made .before .before .before .before .args in
+    let count = bit-count (a .rate) _ (length (a .llrs .now)) (made .new .ensures) in
     let most = count-most (a .rate) (length (a .llrs .now)) in
     omega arith
 
 loop-holds : tie.Need-loop-holds Inv-loop μ-loop
 loop-holds c =
-    let start = c .before .before .before .before .before .before in
+    let made = c .before .before .before .before in
+    let start = made .before .before .before .before in
     let a = start .args in
-    let e = c .before .before .new .ensures in
+    let e = made .new .ensures in
     let count = bit-count (a .rate) _ (length (a .llrs .now)) e in
     let most = count-most (a .rate) (length (a .llrs .now)) in
     let pre = start .pre in
-    (search needs, omega arith, rw (bits-twice (a .rate) _ _ e) (readable (a .rate) _ _ e), decoding-none _ _ _ _ _ _ (pre .0) (pre .1) (pre .2) (omega arith))
+    (search needs, omega arith, rw (bits-twice (a .rate) _ _ e) (readable-alone (readable (a .rate) _ _ e)), decoding-none _ _ _ _ _ _ (pre .0) (pre .1) (pre .2) (omega arith))
 
 sub-block-of : tie.Need-sub-block-of Inv-loop μ-loop
 sub-block-of c = search needs
@@ -60,7 +71,7 @@ soft-block-requires c κs =
     let r = inv .2 in
     let len = c .before .before .block-of .ensures in
     let inside = c .before .before .before .loop-test .taken in
-    (r .eight, r .in-order, r .least, r .most, len .2 (omega arith), len .1, omega arith, λ k h. r .there k (omega arith))
+    (r .eight, r .least, r .most, len .2 (omega arith), len .1, omega arith, λ k h. r .there k (omega arith))
 
 slice-aggregate-run-steps : tie.Need-slice-aggregate-run-steps Inv-loop μ-loop
 slice-aggregate-run-steps c = search needs
@@ -137,10 +148,15 @@ returns : tie.Need-returns Inv-loop μ-loop
 returns c =
     let called = c .before .before .before .before in
     let at = called .before .before .before .before .before in
-    let a = at .before .before .before .before .before .before .before .args in
-    let p = at .before .before .before .new in
+    let made = at .before .before .before .before .before in
+    let a = made .before .before .before .before .args in
+    let p = made .new in
     let end : at .loop .i ≡ length (a .llrs .now) / p .result .n * p .result .period = omega arith in
-    decoded (a .rate) _ (p .ensures) (a .llrs .now) (at .loop .inv .3) end (at .before .start-at .ensures) (called .end-call .ensures)
+    let started = at .before in
+    let placed = started .before in
+    let r = at .loop .inv .2 in
+    let named = decoding-same (at .loop .inv .3) (placed-steps (p .result .period) (p .result .n) (p .result .order) (placed .places-of .result) (a .llrs .now) (r .least) (r .most) (placed .places-of .ensures)) in
+    decoded (a .rate) _ (p .ensures) (a .llrs .now) named end (started .start-at .ensures) (called .end-call .ensures)
 
 pub decode-periods-spec : {M : Type 1} → statement M
 decode-periods-spec =
@@ -149,6 +165,7 @@ decode-periods-spec =
     Inv-loop
     μ-loop
     new-requires
+    places-of-requires
     start-at-requires
     div-count
     mul-count
