@@ -1,4 +1,5 @@
 // The runs of a frame read one after the other, each with the scale of its combination. No row is checked here.
+use decode_run::RunPlan;
 use decode_run::read_run;
 use isdbs_core::combination::Combination;
 use isdbs_core::slots::Plan;
@@ -52,14 +53,17 @@ pub fn read_runs(
         let start = r.symbol_start;
         let place = scale_place(c);
         let scale = scales[place];
+        let run = RunPlan {
+            combination: c,
+            mapping: m,
+            scale,
+            first: step,
+            count: n,
+        };
         at = read_run(
             pm,
             at,
-            step,
-            n,
-            c,
-            m,
-            scale,
+            run,
             &re[start..],
             &im[start..],
             decisions,

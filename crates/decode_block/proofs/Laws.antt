@@ -1,5 +1,5 @@
 -- Slices filled from the front, four values at a time.
-use mathlib.Core.Path.{_≡_, _∙_, ap}
+use mathlib.Core.Path.{_≡_, sym, _∙_, ap, subst}
 use mathlib.Core.List.{List, [], _∷_}
 use Prim.Native.Nat.{ℕ, _+_, _*_, _/_, _%_, _<_, _≤_}
 use native.Mathlib.Omega.{arith}
@@ -8,7 +8,7 @@ use lib.Ieee.{Float, nan}
 use Rattle.trellis.specs.Lists.{upto, laid}
 use Rattle.trellis.specs.Step.{Step, four}
 use Rattle.trellis.specs.Run.{fourSteps}
-use Rattle.trellis.specs.LaidLaws.{length-laid-upto, laid-at}
+use Rattle.trellis.specs.LaidLaws.{length-laid-upto, laid-at, upto-cong}
 use Rattle.decode_parts.specs.FilledLaws.{put-one, length-two}
 use Rattle.decode_block.specs.Blocks.{fours}
 
@@ -70,3 +70,11 @@ fours-steps ms n block w e i h =
       at (4 * i + 2) (omega arith) ∙ fours-2 ms i,
       at (4 * i + 3) (omega arith) ∙ fours-3 ms i,
     )
+
+-- ---- marks made in wide words, then narrowed
+pub wide-few : (f : ℕ → ℕ) (n : ℕ) (wide w : List ℕ) → ((i : ℕ) → f i < 16) → wide ≡ laid (upto f n) w → (i : ℕ) → i < n → getD wide i 0 < 16
+wide-few f n wide w h e i l = subst (λ (k : ℕ). k < 16) (sym (ap (λ (z : List ℕ). getD z i 0) e ∙ laid-at 0 f n w i l)) (h i)
+
+pub narrowed : (f : ℕ → ℕ) (n : ℕ) (wide w marks : List ℕ) → wide ≡ laid (upto f n) w → laid (upto (λ i. getD wide i 0) n) marks ≡ laid (upto f n) marks
+narrowed f n wide w marks e =
+    ap (λ (z : List ℕ). laid z marks) (upto-cong (λ i. getD wide i 0) f n (λ i l. ap (λ (z : List ℕ). getD z i 0) e ∙ laid-at 0 f n w i l))

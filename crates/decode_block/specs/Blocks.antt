@@ -2,7 +2,7 @@
 use mathlib.Core.Path.{_≡_}
 use mathlib.Core.Bool.{cond}
 use mathlib.Core.List.{List, []}
-use Prim.Native.Nat.{ℕ, _+_, _*_, _/_, _%_, _<_, _≤_}
+use Prim.Native.Nat.{ℕ, _+_, _*_, _/_, _%_, _^_, _<_, _≤_}
 use lib.Dec.{ltb}
 use lib.ListN.{length, getD}
 use lib.Ieee.{Float, nan, binary32, ofBits}
@@ -14,7 +14,8 @@ use Rattle.isdbs_points.specs.Points.{point, conjugated, psk8Of, subset}
 use Rattle.isdbs_points.specs.Layout.{orderOf, stepsPerPeriod}
 use Rattle.isdbs_points.specs.Pieces.{piece}
 use Rattle.isdbs_metrics.specs.Reading.{softAt, correlation, pairMetrics, received}
-use Rattle.isdbs_metrics.specs.Steps.{pieceMetrics}
+use Rattle.isdbs_metrics.specs.Steps.{LayoutOf, Covers, pieceMetrics}
+use Rattle.decode_block.specs.declared.BlockPlan.{BlockPlan}
 use Rattle.trellis.specs.Run.{fourSteps}
 use Rattle.strain_marks.specs.Marks.{markOf}
 
@@ -34,6 +35,25 @@ fourIn (known b) = []
 -- n steps are whole periods
 abbrev pub Periods : Combination → ℕ → Type 0
 Periods c n = n % stepsPerPeriod c ≡ 0
+
+-- a plan of at most 64 whole periods of a run, from a period's first step on
+pub record BlockPlanned (p : BlockPlan) : Type 0 where
+  pub layout : LayoutOf (p .layout)
+  pub start : Periods (p .layout .combination) (p .from)
+  pub whole : Periods (p .layout .combination) (p .count)
+  pub few : p .count ≤ 64 * stepsPerPeriod (p .layout .combination)
+  pub under : p .from + p .count < 2 ^ 30
+
+-- n symbols are enough for it
+abbrev pub BlockCovers : BlockPlan → ℕ → Type 0
+BlockCovers p n = Covers (p .layout .combination) (p .from + p .count) n
+
+-- the run's steps and their marks, by a plan
+abbrev pub planSteps : BlockPlan → List Float → List Float → ℕ → Step
+planSteps p re im = runSteps (p .layout .combination) re im (p .mapping) (p .scale)
+
+abbrev pub planMark : BlockPlan → List Float → List Float → ℕ → ℕ
+planMark p re im = runMark (p .layout .combination) re im (p .mapping) (p .scale)
 
 -- a block holds n of the steps ys from step k0 on
 pub record BlockMade (ys : ℕ → Step) (k0 n : ℕ) (block : List Float) : Type 0 where

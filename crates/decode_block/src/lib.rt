@@ -15,7 +15,7 @@ use isdbs_points::subset_of;
 use strain_marks::mark;
 ghost use mathlib.Core.Path.{_≡_};
 ghost use mathlib.Core.Bool.{cond};
-ghost use Prim.Native.Nat.{_+_, _*_, _/_, _<_, _≤_, _^_};
+ghost use Prim.Native.Nat.{ℕ, _+_, _*_, _<_, _≤_};
 ghost use lib.Dec.{ltb};
 ghost use lib.ListN.{length, getD, set};
 ghost use lib.Ieee.{nan, binary32, ofBits};
@@ -26,9 +26,18 @@ ghost use Rattle.isdbs_combination.specs.declared.Combination.the-variants.{«Q
 ghost use Rattle.isdbs_combination.specs.declared.Modulation.the-variants.{Bpsk, Qpsk, Tc8psk};
 ghost use Rattle.isdbs_points.specs.Points.{psk8Of, subset};
 ghost use Rattle.isdbs_points.specs.Layout.{orderOf, stepsPerPeriod};
-ghost use Rattle.isdbs_metrics.specs.Steps.{LayoutOf, Covers};
+ghost use Rattle.isdbs_metrics.specs.Steps.{LayoutOf};
 ghost use Rattle.strain_marks.specs.Marks.{markOf};
-ghost use Rattle.decode_block.specs.Blocks.{runSteps, runMark, fourIn, Periods, BlockMade, fours, pairsAt, periodSoft, stepSoft, spreadSoft, subsetParts};
+ghost use Rattle.decode_block.specs.Blocks.{planSteps, planMark, fourIn, BlockPlanned, BlockCovers, BlockMade, fours, pairsAt, periodSoft, stepSoft, spreadSoft, subsetParts};
+
+// Steps of a run and how they are read: the run's period, the mapping, the scale, the number of the first step, and how many.
+pub struct BlockPlan {
+    pub layout: PeriodLayout,
+    pub mapping: Mapping,
+    pub scale: f32,
+    pub from: usize,
+    pub count: usize,
+}
 
 // The soft values of a period's mother bits at the rate 1/2: those sent at their places, 0 where the mother bit is erased.
 fn period_1_2(softs: &[f32], pairs: &mut [f32])
@@ -136,36 +145,32 @@ fn spread(softs: &[f32], layout: PeriodLayout, n: usize, pairs: &mut [f32])
     }
 }
 
-// The soft values of n steps of QPSK from step k0 on.
+// The soft values of a block of QPSK.
 fn qpsk_softs(
     re: &[f64],
     im: &[f64],
-    m: Mapping,
-    scale: f32,
-    layout: PeriodLayout,
-    k0: usize,
-    n: usize,
+    plan: BlockPlan,
     parts: &mut [f64],
     softs: &mut [f32],
     pairs: &mut [f32],
 )
-    requires { ⌜ LayoutOf layout × (modulationOf (layout .combination) ≡ Qpsk) × Periods (layout .combination) k0 × Periods (layout .combination) n × (n ≤ 64 * stepsPerPeriod (layout .combination)) × (k0 + n < 2 ^ 30)
-        × Covers (layout .combination) (k0 + n) (length (now re)) × Covers (layout .combination) (k0 + n) (length (now im)) × (512 ≤ length (now parts)) × (512 ≤ length (now softs)) × (896 ≤ length (now pairs)) ⌝ }
-    ensures { λ _. ⌜ now (pairs .exit) ≡ laid (upto (stepSoft (layout .combination) (now (re .entry)) (now (im .entry)) m scale k0) (2 * n)) (now (pairs .entry)) ⌝ }
+    requires { ⌜ BlockPlanned plan × (modulationOf (plan .layout .combination) ≡ Qpsk) × BlockCovers plan (length (now re)) × BlockCovers plan (length (now im)) × (512 ≤ length (now parts)) × (512 ≤ length (now softs)) × (896 ≤ length (now pairs)) ⌝ }
+    ensures { λ _. ⌜ now (pairs .exit) ≡ laid (upto (stepSoft (plan .layout .combination) (now (re .entry)) (now (im .entry)) (plan .mapping) (plan .scale) (plan .from)) (2 * plan .count)) (now (pairs .entry)) ⌝ }
 {
-    let periods = n / layout.period;
+    let layout = plan.layout;
+    let periods = plan.count / layout.period;
     let symbols = layout.count / 2;
-    let from = k0 / layout.period * symbols;
-    qpsk_parts(re, im, m, from, periods * symbols, parts);
-    soft_block(parts, periods * layout.count, scale, softs);
+    let from = plan.from / layout.period * symbols;
+    qpsk_parts(re, im, plan.mapping, from, periods * symbols, parts);
+    soft_block(parts, periods * layout.count, plan.scale, softs);
     spread(softs, layout, periods, pairs);
 }
 
 // The four metrics of n steps from their soft values, and their marks.
-fn lay_pairs(pairs: &[f32], n: usize, block: &mut [f32], marks: &mut [u8])
-    requires { ⌜ (2 * n ≤ length (now pairs)) × (4 * n ≤ length (now block)) × (n ≤ length (now marks)) ⌝ }
+fn lay_pairs(pairs: &[f32], n: usize, block: &mut [f32], wide: &mut [u32])
+    requires { ⌜ (2 * n ≤ length (now pairs)) × (4 * n ≤ length (now block)) × (n ≤ length (now wide)) ⌝ }
     ensures { λ _. ⌜ (now (block .exit) ≡ laid (upto (fours (pairsAt (now (pairs .entry)))) (4 * n)) (now (block .entry)))
-        × (now (marks .exit) ≡ laid (upto (λ s. markOf (pairsAt (now (pairs .entry)) s)) n) (now (marks .entry))) ⌝ }
+        × (now (wide .exit) ≡ laid (upto (λ s. markOf (pairsAt (now (pairs .entry)) s)) n) (now (wide .entry))) ⌝ }
 {
     for s in 0..n {
         let lx = pairs[2 * s];
@@ -178,7 +183,17 @@ fn lay_pairs(pairs: &[f32], n: usize, block: &mut [f32], marks: &mut [u8])
         block[4 * s + 1] = b;
         block[4 * s + 2] = c;
         block[4 * s + 3] = d;
-        marks[s] = mark(a, b, c, d);
+        wide[s] = mark(a, b, c, d);
+    }
+}
+
+// Marks as bytes.
+fn narrow(wide: &[u32], n: usize, marks: &mut [u8])
+    requires { ⌜ (n ≤ length (now wide)) × (n ≤ length (now marks)) × ((i : ℕ) → i < n → getD (now wide) i 0 < 16) ⌝ }
+    ensures { λ _. ⌜ now (marks .exit) ≡ laid (upto (λ i. getD (now (wide .entry)) i 0) n) (now (marks .entry)) ⌝ }
+{
+    for i in 0..n {
+        marks[i] = wide[i] as u8;
     }
 }
 
@@ -221,12 +236,12 @@ fn subset_parts(re: &[f64], im: &[f64], m: Mapping, k0: usize, n: usize, parts: 
 }
 
 // The marks of n steps of four metrics.
-fn mark_block(block: &[f32], n: usize, marks: &mut [u8])
-    requires { ⌜ (4 * n ≤ length (now block)) × (n ≤ length (now marks)) ⌝ }
-    ensures { λ _. ⌜ now (marks .exit) ≡ laid (upto (λ i. markOf (fourIn (fourSteps (now (block .entry)) i))) n) (now (marks .entry)) ⌝ }
+fn mark_block(block: &[f32], n: usize, wide: &mut [u32])
+    requires { ⌜ (4 * n ≤ length (now block)) × (n ≤ length (now wide)) ⌝ }
+    ensures { λ _. ⌜ now (wide .exit) ≡ laid (upto (λ i. markOf (fourIn (fourSteps (now (block .entry)) i))) n) (now (wide .entry)) ⌝ }
 {
     for i in 0..n {
-        marks[i] = mark(
+        wide[i] = mark(
             block[4 * i],
             block[4 * i + 1],
             block[4 * i + 2],
@@ -235,41 +250,55 @@ fn mark_block(block: &[f32], n: usize, marks: &mut [u8])
     }
 }
 
-// Makes the metrics of n steps of a run from step k0 on, and keeps their marks.
-pub fn make_block(
+// Makes the metrics of a block, and its marks. The soft values that were sent are laid in the block until the metrics are made.
+fn lay_block(
     re: &[f64],
     im: &[f64],
-    m: Mapping,
-    scale: f32,
-    layout: PeriodLayout,
-    k0: usize,
-    n: usize,
+    plan: BlockPlan,
     parts: &mut [f64],
-    softs: &mut [f32],
     pairs: &mut [f32],
+    wide: &mut [u32],
     block: &mut [f32],
-    marks: &mut [u8],
 )
-    requires { ⌜ LayoutOf layout × Periods (layout .combination) k0 × Periods (layout .combination) n × (n ≤ 64 * stepsPerPeriod (layout .combination)) × (k0 + n < 2 ^ 30)
-        × Covers (layout .combination) (k0 + n) (length (now re)) × Covers (layout .combination) (k0 + n) (length (now im))
-        × (512 ≤ length (now parts)) × (512 ≤ length (now softs)) × (896 ≤ length (now pairs)) × (1792 ≤ length (now block)) × (n ≤ length (now marks)) ⌝ }
-    ensures made { λ _. ⌜ BlockMade (runSteps (layout .combination) (now (re .entry)) (now (im .entry)) m scale) k0 n (now (block .exit)) ⌝ }
-    ensures marked { λ _. ⌜ now (marks .exit) ≡ laid (upto (λ i. runMark (layout .combination) (now (re .entry)) (now (im .entry)) m scale (k0 + i)) n) (now (marks .entry)) ⌝ }
+    requires { ⌜ BlockPlanned plan × BlockCovers plan (length (now re)) × BlockCovers plan (length (now im)) × (512 ≤ length (now parts)) × (896 ≤ length (now pairs)) × (448 ≤ length (now wide)) × (1792 ≤ length (now block)) ⌝ }
+    ensures made { λ _. ⌜ BlockMade (planSteps plan (now (re .entry)) (now (im .entry))) (plan .from) (plan .count) (now (block .exit)) ⌝ }
+    ensures marked { λ _. ⌜ now (wide .exit) ≡ laid (upto (λ i. planMark plan (now (re .entry)) (now (im .entry)) (plan .from + i)) (plan .count)) (now (wide .entry)) ⌝ }
 {
+    let n = plan.count;
+    let layout = plan.layout;
     let modulation = layout.modulation;
     match modulation {
         Modulation::Bpsk => {
-            bpsk_softs(re, scale, k0, n, pairs);
-            lay_pairs(pairs, n, block, marks);
+            bpsk_softs(re, plan.scale, plan.from, n, pairs);
+            lay_pairs(pairs, n, block, wide);
         }
         Modulation::Qpsk => {
-            qpsk_softs(re, im, m, scale, layout, k0, n, parts, softs, pairs);
-            lay_pairs(pairs, n, block, marks);
+            qpsk_softs(re, im, plan, parts, block, pairs);
+            lay_pairs(pairs, n, block, wide);
         }
         Modulation::Tc8psk => {
-            subset_parts(re, im, m, k0, n, parts);
-            magnitude_block(parts, 4 * n, scale, block);
-            mark_block(block, n, marks);
+            subset_parts(re, im, plan.mapping, plan.from, n, parts);
+            magnitude_block(parts, 4 * n, plan.scale, block);
+            mark_block(block, n, wide);
         }
     }
+}
+
+// Makes the metrics of a block, and keeps its marks.
+pub fn make_block(
+    re: &[f64],
+    im: &[f64],
+    plan: BlockPlan,
+    parts: &mut [f64],
+    pairs: &mut [f32],
+    wide: &mut [u32],
+    block: &mut [f32],
+    marks: &mut [u8],
+)
+    requires { ⌜ BlockPlanned plan × BlockCovers plan (length (now re)) × BlockCovers plan (length (now im)) × (512 ≤ length (now parts)) × (896 ≤ length (now pairs)) × (448 ≤ length (now wide)) × (1792 ≤ length (now block)) × (plan .count ≤ length (now marks)) ⌝ }
+    ensures made { λ _. ⌜ BlockMade (planSteps plan (now (re .entry)) (now (im .entry))) (plan .from) (plan .count) (now (block .exit)) ⌝ }
+    ensures marked { λ _. ⌜ now (marks .exit) ≡ laid (upto (λ i. planMark plan (now (re .entry)) (now (im .entry)) (plan .from + i)) (plan .count)) (now (marks .entry)) ⌝ }
+{
+    lay_block(re, im, plan, parts, pairs, wide, block);
+    narrow(wide, plan.count, marks);
 }

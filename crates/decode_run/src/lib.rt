@@ -1,7 +1,7 @@
 // The steps of a run, read in blocks of at most 64 periods.
+use decode_block::BlockPlan;
 use decode_block::make_block;
 use isdbs_core::combination::Combination;
-use isdbs_metrics::PeriodLayout;
 use isdbs_metrics::layout_of;
 use isdbs_points::Mapping;
 use trellis::FRAME_TRACEBACK;
@@ -11,13 +11,12 @@ use viterbi_core::run_steps;
 use viterbi_steps::Kind;
 ghost use mathlib.Core.Path.{_≡_};
 ghost use mathlib.Core.Logic.{_⊎_};
-ghost use Prim.Native.Nat.{_+_, _*_, _<_, _≤_, _^_};
+ghost use Prim.Native.Nat.{_*_, _<_, _≤_};
 ghost use lib.ListN.{length};
 ghost use Rattle.trellis.specs.Lists.{upto, laid};
-ghost use Rattle.trellis.specs.Isdb.{frameWords};
-ghost use Rattle.isdbs_metrics.specs.Steps.{LayoutOf, Covers};
-ghost use Rattle.decode_block.specs.Blocks.{runSteps, runMark, Periods};
-ghost use Rattle.decode_run.specs.Carried.{Carried};
+ghost use Rattle.isdbs_metrics.specs.Steps.{LayoutOf};
+ghost use Rattle.decode_block.specs.Blocks.{runSteps, runMark, planSteps, planMark};
+ghost use Rattle.decode_run.specs.Carried.{RunFits, Carried};
 
 // How many of the steps left are taken at once.
 pub fn block_of(left: usize, period: usize) -> usize
@@ -28,55 +27,58 @@ pub fn block_of(left: usize, period: usize) -> usize
     if left < most { left } else { most }
 }
 
-// Reads n steps of a run in blocks, and keeps their marks; the first is step i0 of the frame. The parts, the soft values, those at their steps and
+// A run and how it is read: its combination, the mapping, its scale, the step of the frame that is its first, and the number of its steps.
+pub struct RunPlan {
+    pub combination: Combination,
+    pub mapping: Mapping,
+    pub scale: f32,
+    pub first: usize,
+    pub count: usize,
+}
+
+// Reads a run in blocks, and keeps the marks of its steps; its first is step `from` of the frame. The parts, the soft values at their steps, the marks and
 // the metrics of a block are laid in the lent slices.
 fn read_blocks(
     pm: &mut [f32; STATES],
     at: At,
-    i0: usize,
-    n: usize,
-    layout: PeriodLayout,
-    m: Mapping,
-    scale: f32,
+    run: BlockPlan,
     re: &[f64],
     im: &[f64],
     parts: &mut [f64],
-    softs: &mut [f32],
     pairs: &mut [f32],
+    wide: &mut [u32],
     block: &mut [f32],
     decisions: &mut [u64],
     bits: &mut [u8],
     marks: &mut [u8],
 ) -> At
-    requires { ⌜ LayoutOf layout × Periods (layout .combination) n × (at .held < frameWords) × (frameWords ≤ length (now decisions)) × (at .held + at .count + n ≤ length (now bits)) × (n ≤ length (now marks)) × (i0 + n < 2 ^ 30)
-        × Covers (layout .combination) n (length (now re)) × Covers (layout .combination) n (length (now im))
-        × (512 ≤ length (now parts)) × (512 ≤ length (now softs)) × (896 ≤ length (now pairs)) × (1792 ≤ length (now block)) ⌝ }
-    ensures read { λ r. ⌜ Carried (runSteps (layout .combination) (now (re .entry)) (now (im .entry)) m scale) i0 n (now (pm .entry)) at (now (decisions .entry)) (now (bits .entry)) r (now (pm .exit)) (now (decisions .exit)) (now (bits .exit)) ⌝ }
-    ensures marked { λ _. ⌜ now (marks .exit) ≡ laid (upto (runMark (layout .combination) (now (re .entry)) (now (im .entry)) m scale) n) (now (marks .entry)) ⌝ }
+    requires { ⌜ LayoutOf (run .layout) × RunFits (run .layout .combination) (run .from) (run .count) at (length (now re)) (length (now im)) (length (now decisions)) (length (now bits)) (length (now marks))
+        × (512 ≤ length (now parts)) × (896 ≤ length (now pairs)) × (448 ≤ length (now wide)) × (1792 ≤ length (now block)) ⌝ }
+    ensures read { λ r. ⌜ Carried (planSteps run (now (re .entry)) (now (im .entry))) (run .from) (run .count) (now (pm .entry)) at (now (decisions .entry)) (now (bits .entry)) r (now (pm .exit)) (now (decisions .exit)) (now (bits .exit)) ⌝ }
+    ensures marked { λ _. ⌜ now (marks .exit) ≡ laid (upto (planMark run (now (re .entry)) (now (im .entry))) (run .count)) (now (marks .entry)) ⌝ }
 {
+    let layout = run.layout;
+    let mapping = run.mapping;
+    let scale = run.scale;
+    let first = run.from;
+    let n = run.count;
     let mut now_at = at;
     let mut k: usize = 0;
     while k < n {
         let len = block_of(n - k, layout.period);
-        make_block(
-            re,
-            im,
-            m,
-            scale,
+        let plan = BlockPlan {
             layout,
-            k,
-            len,
-            parts,
-            softs,
-            pairs,
-            block,
-            &mut marks[k..],
-        );
+            mapping,
+            scale,
+            from: k,
+            count: len,
+        };
+        make_block(re, im, plan, parts, pairs, wide, block, &mut marks[k..]);
         now_at = run_steps(
             pm,
             now_at,
             FRAME_TRACEBACK,
-            i0 + k,
+            first + k,
             len,
             Kind::Fours,
             block,
@@ -89,43 +91,44 @@ fn read_blocks(
     now_at
 }
 
-// Reads n steps of a run, whole periods, and keeps their marks; the first is step i0 of the frame.
+// Reads a run, whole periods, and keeps the marks of its steps.
 pub fn read_run(
     pm: &mut [f32; STATES],
     at: At,
-    i0: usize,
-    n: usize,
-    c: Combination,
-    m: Mapping,
-    scale: f32,
+    run: RunPlan,
     re: &[f64],
     im: &[f64],
     decisions: &mut [u64],
     bits: &mut [u8],
     marks: &mut [u8],
 ) -> At
-    requires { ⌜ Periods c n × (at .held < frameWords) × (frameWords ≤ length (now decisions)) × (at .held + at .count + n ≤ length (now bits)) × (n ≤ length (now marks)) × (i0 + n < 2 ^ 30) × Covers c n (length (now re)) × Covers c n (length (now im)) ⌝ }
-    ensures read { λ r. ⌜ Carried (runSteps c (now (re .entry)) (now (im .entry)) m scale) i0 n (now (pm .entry)) at (now (decisions .entry)) (now (bits .entry)) r (now (pm .exit)) (now (decisions .exit)) (now (bits .exit)) ⌝ }
-    ensures marked { λ _. ⌜ now (marks .exit) ≡ laid (upto (runMark c (now (re .entry)) (now (im .entry)) m scale) n) (now (marks .entry)) ⌝ }
+    requires { ⌜ RunFits (run .combination) (run .first) (run .count) at (length (now re)) (length (now im)) (length (now decisions)) (length (now bits)) (length (now marks)) ⌝ }
+    ensures read { λ r. ⌜ Carried (runSteps (run .combination) (now (re .entry)) (now (im .entry)) (run .mapping) (run .scale)) (run .first) (run .count) (now (pm .entry)) at (now (decisions .entry)) (now (bits .entry)) r (now (pm .exit)) (now (decisions .exit)) (now (bits .exit)) ⌝ }
+    ensures marked { λ _. ⌜ now (marks .exit) ≡ laid (upto (runMark (run .combination) (now (re .entry)) (now (im .entry)) (run .mapping) (run .scale)) (run .count)) (now (marks .entry)) ⌝ }
 {
+    let c = run.combination;
     let layout = layout_of(c);
+    let mapping = run.mapping;
+    let plan = BlockPlan {
+        layout,
+        mapping,
+        scale: run.scale,
+        from: run.first,
+        count: run.count,
+    };
     let mut parts = [0.0f64; 512];
-    let mut softs = [0.0f32; 512];
     let mut pairs = [0.0f32; 896];
+    let mut wide = [0u32; 448];
     let mut block = [0.0f32; 1792];
     read_blocks(
         pm,
         at,
-        i0,
-        n,
-        layout,
-        m,
-        scale,
+        plan,
         re,
         im,
         &mut parts,
-        &mut softs,
         &mut pairs,
+        &mut wide,
         &mut block,
         decisions,
         bits,

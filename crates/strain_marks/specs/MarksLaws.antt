@@ -32,6 +32,9 @@ module _ (x y z w : ℕ) (X : x ≤ 1) (Y : y ≤ 1) (Z : z ≤ 1) (W : w ≤ 1)
   digit-3 : (x + 2 * y + 4 * z + 8 * w) / 8 % 2 ≡ w
   digit-3 = omega arith
 
+  four-few : x + 2 * y + 4 * z + 8 * w < 16
+  four-few = omega arith
+
 module _ (m : List Float) where
   abbrev at : ℕ → ℕ
   at c = bit (strainedBy m c)
@@ -47,6 +50,11 @@ module _ (m : List Float) where
   mark-bit (suc (suc zero)) l = digit-2 (at 0) (at 1) (at 2) (at 3) (few 0) (few 1) (few 2) (few 3)
   mark-bit (suc (suc (suc zero))) l = digit-3 (at 0) (at 1) (at 2) (at 3) (few 0) (few 1) (few 2) (few 3)
   mark-bit (suc (suc (suc (suc c)))) l = absurd (omega arith)
+
+  -- a mark has four bits
+  pub mark-few : markOf m < 16
+  unfolding markOf
+  mark-few = four-few (at 0) (at 1) (at 2) (at 3) (few 0) (few 1) (few 2) (few 3)
 
 -- step k of a frame whose marks are kept
 pub marked-is : (t : Table) (r : Received) (s : ℕ) (us ms : List ℕ) (k : ℕ) → getD ms k 0 ≡ frameMark t r k → marked ms s us k ≡ bit (strainedAt t r s us k)

@@ -38,14 +38,14 @@ fn greatest(a: f32, b: f32, c: f32, d: f32) -> f32
 }
 
 // Whether x is below the greatest, as a bit.
-fn below(x: f32, top: f32) -> u8
+fn below(x: f32, top: f32) -> u32
     ensures { λ r. ⌜ (r ≡ bit (lt x top)) × (r < 2) ⌝ }
 {
-    (x < top) as u8
+    (x < top) as u32
 }
 
-// The mark of four metrics.
-pub fn mark(a: f32, b: f32, c: f32, d: f32) -> u8
+// The mark of four metrics, as wide as a metric, so that marks are made by vectors.
+pub fn mark(a: f32, b: f32, c: f32, d: f32) -> u32
     ensures { λ r. ⌜ r ≡ markOf (a ∷ b ∷ c ∷ d ∷ []) ⌝ }
 {
     let top = greatest(a, b, c, d);

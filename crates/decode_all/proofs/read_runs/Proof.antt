@@ -94,16 +94,16 @@ read-run-requires c κs =
     let g = w .fits in
     let s = w .same in
     let f = r .run .steps-fit in
-    let d = length-drop (at .step) (at .marks) in (
-      run-periods (getD (st .args .p .runs) (at .i) noRun) _ (r .run .runs .whole (at .i)) e,
-      r .few,
-      r .words-fit,
-      omega arith,
-      rw (tail-is (at .step) (at .marks)) (omega arith),
-      omega arith,
-      part-covers _ _ (r .run .runs) _ (st .args .re .now) _ (r .re-fits) e,
-      part-covers _ _ (r .run .runs) _ (st .args .im .now) _ (r .im-fits) e,
-    )
+    let d = length-drop (at .step) (at .marks) in record {
+      whole = run-periods (getD (st .args .p .runs) (at .i) noRun) _ (r .run .runs .whole (at .i)) e;
+      few = r .few;
+      held = r .words-fit;
+      room = omega arith;
+      kept = rw (tail-is (at .step) (at .marks)) (omega arith);
+      under = omega arith;
+      real = part-covers _ _ (r .run .runs) _ (st .args .re .now) _ (r .re-fits) e;
+      imaginary = part-covers _ _ (r .run .runs) _ (st .args .im .now) _ (r .im-fits) e;
+    }
 
 add-step : tie.Need-add-step Inv-loop μ-loop
 add-step c =

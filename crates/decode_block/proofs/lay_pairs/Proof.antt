@@ -15,15 +15,15 @@ use Rattle.decode_block.proofs.lay_pairs.Statement.{statement}
 use Rattle.decode_block.proofs.lay_pairs.Tie as tie
 
 abbrev Inv-loop : tie.InvT-loop
-Inv-loop pairs n block₀ marks₀ s₀ block marks s =
+Inv-loop pairs n block₀ wide₀ s₀ block wide s =
     (s ≤ n)
     × (length block ≡ length block₀)
-    × (length marks ≡ length marks₀)
+    × (length wide ≡ length wide₀)
     × (block ≡ laid (upto (fours (pairsAt pairs)) (4 * s)) block₀)
-    × (marks ≡ laid (upto (λ i. markOf (pairsAt pairs i)) s) marks₀)
+    × (wide ≡ laid (upto (λ i. markOf (pairsAt pairs i)) s) wide₀)
 
 abbrev μ-loop : tie.MeasureT-loop
-μ-loop pairs n block₀ marks₀ s₀ block marks s = n - s
+μ-loop pairs n block₀ wide₀ s₀ block wide s = n - s
 
 loop-holds : tie.Need-loop-holds Inv-loop μ-loop
 unfolding upto
@@ -98,8 +98,11 @@ slice-write-block-4 c = simp (length-set) (omega arith)
 mark-requires : tie.Need-mark-requires Inv-loop μ-loop
 mark-requires c κs = search needs
 
-slice-write-marks : tie.Need-slice-write-marks Inv-loop μ-loop
-slice-write-marks c = search needs
+mul-wide : tie.Need-mul-wide Inv-loop μ-loop
+mul-wide c = search needs
+
+slice-write-wide : tie.Need-slice-write-wide Inv-loop μ-loop
+slice-write-wide c = search needs
 
 add-s : tie.Need-add-s Inv-loop μ-loop
 add-s c = search needs
@@ -119,9 +122,9 @@ loop-again c =
     let ms = pairsAt pairs in (
       omega arith,
       length-four (at .loop .block) (4 * s) (4 * s + 1) (4 * s + 2) (4 * s + 3) _ _ _ _ ∙ h .1,
-      length-set (at .loop .marks) s (c .mark .result) ∙ h .2,
+      length-set (at .loop .wide) s (c .mark .result) ∙ h .2,
       put-four (fours ms) s _ _ _ _ (at .loop .block) (st .args .block .now) (omega arith) (h .3) (sym (fours-0 ms s)) (sym (fours-1 ms s)) (sym (fours-2 ms s)) (sym (fours-3 ms s)),
-      put-one (λ i. markOf (pairsAt pairs i)) s (c .mark .result) (at .loop .marks) (st .args .marks .now) (omega arith) (h .4) (c .mark .ensures),
+      put-one (λ i. markOf (pairsAt pairs i)) s (c .mark .result) (at .loop .wide) (st .args .wide .now) (omega arith) (h .4) (c .mark .ensures),
     )
 
 same-length : tie.Need-same-length Inv-loop μ-loop
@@ -167,7 +170,8 @@ lay-pairs-spec =
     mul-block-8
     slice-write-block-4
     mark-requires
-    slice-write-marks
+    mul-wide
+    slice-write-wide
     add-s
     loop-less
     loop-again

@@ -1,86 +1,31 @@
 -- `make_block` meets its contract.
 use borrow.Author.Needs.{needs}
-use mathlib.Core.Path.{sym, _∙_}
+use mathlib.Core.Path.{_∙_}
+use Prim.Native.Nat.{ℕ, _+_}
 use native.Mathlib.Omega.{arith}
-use lib.ListN.{length}
-use Rattle.decode_block.proofs.Laws.{laid-long}
-use Rattle.decode_block.proofs.ByModulation.{steps-few, bpsk-room, bpsk-made, qpsk-made, tc8psk-room, tc8psk-few, tc8psk-made, pair-marks, marks-made}
+use Rattle.isdbs_metrics.specs.Steps.{pieceMetrics}
+use Rattle.strain_marks.specs.MarksLaws.{mark-few}
+use Rattle.decode_block.specs.Blocks.{planMark}
+use Rattle.decode_block.proofs.Laws.{laid-long, wide-few, narrowed}
+use Rattle.decode_block.proofs.ByModulation.{steps-few}
 use Rattle.decode_block.proofs.make_block.Statement.{statement}
 use Rattle.decode_block.proofs.make_block.Tie as tie
 
-enum-told : tie.Need-enum-told
-enum-told c = search needs
+lay-block-requires : tie.Need-lay-block-requires
+lay-block-requires c κs = search needs
 
-bpsk-softs-requires : tie.Need-bpsk-softs-requires
-bpsk-softs-requires c κs =
-    let st = c .before .before .before .before .before .before .before .before .before .before in
-    let co = st .args .layout .combination in
-    let e = sym (st .pre .0 .modulation) ∙ c .before .enum-told .given .1 in
-    let few = steps-few co (st .args .n) (st .pre .3) in
-    (bpsk-room co (st .args .k0) (st .args .n) _ e (st .pre .5), omega arith)
-
-lay-pairs-requires : tie.Need-lay-pairs-requires
-lay-pairs-requires c κs =
-    let bpsk-softs = c .before .before .before .before .before in
-    let st = bpsk-softs .before .before .before .before .before .before .before .before .before .before .before in
-    let few = steps-few (st .args .layout .combination) (st .args .n) (st .pre .3) in
-    let long = st .pre .9 in
-    let same = laid-long _ _ _ (st .args .pairs .now) (bpsk-softs .bpsk-softs .ensures) (omega arith) in
-    (omega arith, omega arith, omega arith)
-
-enum-told-2 : tie.Need-enum-told-2
-enum-told-2 c = search needs
-
-qpsk-softs-requires : tie.Need-qpsk-softs-requires
-qpsk-softs-requires c κs =
-    let st = c .before .before .before .before .before .before .before .before .before .before .before .before in
-    let e = sym (st .pre .0 .modulation) ∙ c .before .before .before .enum-told2 .given .1 in
-    (st .pre .0, e, st .pre .1, st .pre .2, st .pre .3, st .pre .4, st .pre .5, st .pre .6, st .pre .7, st .pre .8, st .pre .9)
-
-lay-pairs-requires-2 : tie.Need-lay-pairs-requires-2
-lay-pairs-requires-2 c κs =
-    let qpsk-softs = c .before .before .before .before .before .before .before .before .before in
-    let st = qpsk-softs .before .before .before .before .before .before .before .before .before .before .before .before .before in
-    let few = steps-few (st .args .layout .combination) (st .args .n) (st .pre .3) in
-    let long = st .pre .9 in
-    let same = laid-long _ _ _ (st .args .pairs .now) (qpsk-softs .qpsk-softs .ensures) (omega arith) in
-    (omega arith, omega arith, omega arith)
-
-enum-told-3 : tie.Need-enum-told-3
-enum-told-3 c = search needs
-
-subset-parts-requires : tie.Need-subset-parts-requires
-subset-parts-requires c κs =
-    let st = c .before .before .before .before .before .before .before .before .before .before in
-    let co = st .args .layout .combination in
-    let e = sym (st .pre .0 .modulation) ∙ c .before .enum-told3 .given .1 in
-    let few = tc8psk-few co (st .args .n) e (st .pre .3) in
-    let long = st .pre .7 in
-    (tc8psk-room co (st .args .k0) (st .args .n) _ e (st .pre .5), tc8psk-room co (st .args .k0) (st .args .n) _ e (st .pre .6), omega arith)
-
-mul-magnitude-block : tie.Need-mul-magnitude-block
-mul-magnitude-block c = search needs
-
-magnitude-block-requires : tie.Need-magnitude-block-requires
-magnitude-block-requires c κs =
-    let subset-parts = c .before .before .before .before in
-    let enum-told3 = subset-parts .before .before in
-    let st = enum-told3 .before .before .before .before .before .before .before .before .before in
-    let co = st .args .layout .combination in
-    let e = sym (st .pre .0 .modulation) ∙ enum-told3 .enum-told3 .given .1 in
-    let few = tc8psk-few co (st .args .n) e (st .pre .3) in
-    let long = st .pre .7 in
-    let same = laid-long _ _ _ (st .args .parts .now) (subset-parts .subset-parts .ensures) (omega arith) in
-    (omega arith, omega arith)
-
-mark-block-requires : tie.Need-mark-block-requires
-mark-block-requires c κs =
-    let magnitude-block = c .before .before .before .before in
-    let st = magnitude-block .before .before .before .before .before .before .before .before .before .before .before .before .before .before .before .before in
-    let few = steps-few (st .args .layout .combination) (st .args .n) (st .pre .3) in
-    let long = st .pre .10 in
-    let same = laid-long _ _ _ (st .args .block .now) (magnitude-block .magnitude-block .ensures) (omega arith) in
-    (omega arith, omega arith)
+narrow-requires : tie.Need-narrow-requires
+narrow-requires c κs =
+    let laid = c .before .before .before .before .before .before .before .before .before .before in
+    let st = laid .before .before .before .before .before .before .before .before .before .before .before .before in
+    let a = st .args in
+    let p = a .plan in
+    let few = steps-few (p .layout .combination) (p .count) (st .pre .0 .few) in
+    let room = st .pre .5 in
+    let f : ℕ → ℕ = λ i. planMark p (a .re .now) (a .im .now) (p .from + i) in
+    let marked = laid .lay-block .ensures .1 in
+    let same = laid-long f (p .count) _ (a .wide .now) marked (omega arith) in
+    (omega arith, st .pre .7, wide-few f (p .count) _ (a .wide .now) (λ i. mark-few (pieceMetrics (p .layout .combination) (a .re .now) (a .im .now) (p .mapping) (p .scale) (p .from + i))) marked)
 
 same-length : tie.Need-same-length
 same-length c = search needs
@@ -91,106 +36,31 @@ same-length-2 c = search needs
 same-length-3 : tie.Need-same-length-3
 same-length-3 c = search needs
 
-returns : tie.Need-returns
-returns c =
-    let lay-pairs = c .before .before .before .before in
-    let bpsk-softs = lay-pairs .before .before .before .before .before .before in
-    let at-enum-told = bpsk-softs .before .before in
-    let st = at-enum-told .before .before .before .before .before .before .before .before .before in
-    let a = st .args in
-    let co = a .layout .combination in
-    let e = sym (st .pre .0 .modulation) ∙ at-enum-told .enum-told .given .1 in
-    let few = steps-few co (a .n) (st .pre .3) in
-    let long = st .pre .10 in
-    let laying = lay-pairs .lay-pairs .ensures in
-    let pairs = bpsk-softs .bpsk-softs .last .1 .1 .1 .1 .0 in
-    let same = laid-long _ _ _ (a .block .now) (laying .0) (omega arith) in
-    let made = bpsk-made co (a .re .now) (a .im .now) (a .m) (a .scale) (a .k0) (a .n) _ (a .pairs .now) _ (a .block .now) e (omega arith) (bpsk-softs .bpsk-softs .ensures) (laying .0) in
-    (made, laying .1 ∙ pair-marks pairs _ (a .n) (a .block .now) (a .marks .now) (laying .0) ∙ marks-made co (a .re .now) (a .im .now) (a .m) (a .scale) (a .k0) (a .n) _ (a .marks .now) made)
-
 same-length-4 : tie.Need-same-length-4
 same-length-4 c = search needs
 
 same-length-5 : tie.Need-same-length-5
 same-length-5 c = search needs
 
-same-length-6 : tie.Need-same-length-6
-same-length-6 c = search needs
-
-same-length-7 : tie.Need-same-length-7
-same-length-7 c = search needs
-
-same-length-8 : tie.Need-same-length-8
-same-length-8 c = search needs
-
-returns-2 : tie.Need-returns-2
-returns-2 c =
-    let lay-pairs2 = c .before .before .before .before in
-    let qpsk-softs = lay-pairs2 .before .before .before .before .before .before .before .before .before .before in
-    let enum-told2 = qpsk-softs .before .before .before .before in
-    let st = enum-told2 .before .before .before .before .before .before .before .before .before in
+returns : tie.Need-returns
+returns c =
+    let laid = c .before .before .before .before .before .before .before .before .before .before .before .before .before in
+    let st = laid .before .before .before .before .before .before .before .before .before .before .before .before in
     let a = st .args in
-    let co = a .layout .combination in
-    let e = sym (st .pre .0 .modulation) ∙ enum-told2 .enum-told2 .given .1 in
-    let few = steps-few co (a .n) (st .pre .3) in
-    let long = st .pre .10 in
-    let laying = lay-pairs2 .lay-pairs2 .ensures in
-    let pairs = qpsk-softs .qpsk-softs .last .1 .1 .1 .1 .1 .1 .1 .1 .1 .0 in
-    let same = laid-long _ _ _ (a .block .now) (laying .0) (omega arith) in
-    let made = qpsk-made co (a .re .now) (a .im .now) (a .m) (a .scale) (a .k0) (a .n) _ (a .pairs .now) _ (a .block .now) e (omega arith) (qpsk-softs .qpsk-softs .ensures) (laying .0) in
-    (made, laying .1 ∙ pair-marks pairs _ (a .n) (a .block .now) (a .marks .now) (laying .0) ∙ marks-made co (a .re .now) (a .im .now) (a .m) (a .scale) (a .k0) (a .n) _ (a .marks .now) made)
-
-same-length-9 : tie.Need-same-length-9
-same-length-9 c = search needs
-
-same-length-10 : tie.Need-same-length-10
-same-length-10 c = search needs
-
-same-length-11 : tie.Need-same-length-11
-same-length-11 c = search needs
-
-returns-3 : tie.Need-returns-3
-returns-3 c =
-    let magnitude-block = c .before .before .before .before .before .before .before in
-    let subset-parts = magnitude-block .before .before .before .before .before in
-    let enum-told3 = subset-parts .before .before in
-    let st = enum-told3 .before .before .before .before .before .before .before .before .before in
-    let a = st .args in
-    let co = a .layout .combination in
-    let e = sym (st .pre .0 .modulation) ∙ enum-told3 .enum-told3 .given .1 in
-    let few = tc8psk-few co (a .n) e (st .pre .3) in
-    let long = st .pre .10 in
-    let magnitudes = magnitude-block .magnitude-block .ensures in
-    let same = laid-long _ _ _ (a .block .now) magnitudes (omega arith) in
-    let made = tc8psk-made co (a .re .now) (a .im .now) (a .m) (a .scale) (a .k0) (a .n) _ (a .parts .now) _ (a .block .now) e (omega arith) (subset-parts .subset-parts .ensures) magnitudes in
-    (made, c .before .before .mark-block .ensures ∙ marks-made co (a .re .now) (a .im .now) (a .m) (a .scale) (a .k0) (a .n) _ (a .marks .now) made)
+    let p = a .plan in
+    let f : ℕ → ℕ = λ i. planMark p (a .re .now) (a .im .now) (p .from + i) in
+    let lay = laid .lay-block .ensures in
+    (lay .0, c .before .before .narrow .ensures ∙ narrowed f (p .count) _ (a .wide .now) (a .marks .now) (lay .1))
 
 pub make-block-spec : {M : Type 1} → statement M
 make-block-spec =
     tie.close
     (tie.spec
-    enum-told
-    bpsk-softs-requires
-    lay-pairs-requires
-    enum-told-2
-    qpsk-softs-requires
-    lay-pairs-requires-2
-    enum-told-3
-    subset-parts-requires
-    mul-magnitude-block
-    magnitude-block-requires
-    mark-block-requires
+    lay-block-requires
+    narrow-requires
     same-length
     same-length-2
     same-length-3
-    returns
     same-length-4
     same-length-5
-    same-length-6
-    same-length-7
-    same-length-8
-    returns-2
-    same-length-9
-    same-length-10
-    same-length-11
-    returns-3)
+    returns)

@@ -13,10 +13,10 @@ use Rattle.decode_block.proofs.mark_block.Statement.{statement}
 use Rattle.decode_block.proofs.mark_block.Tie as tie
 
 abbrev Inv-loop : tie.InvT-loop
-Inv-loop block n marks₀ i₀ marks i = (i ≤ n) × (length marks ≡ length marks₀) × (marks ≡ laid (upto (λ j. markOf (fourIn (fourSteps block j))) i) marks₀)
+Inv-loop block n wide₀ i₀ wide i = (i ≤ n) × (length wide ≡ length wide₀) × (wide ≡ laid (upto (λ j. markOf (fourIn (fourSteps block j))) i) wide₀)
 
 abbrev μ-loop : tie.MeasureT-loop
-μ-loop block n marks₀ i₀ marks i = n - i
+μ-loop block n wide₀ i₀ wide i = n - i
 
 loop-holds : tie.Need-loop-holds Inv-loop μ-loop
 unfolding upto
@@ -70,8 +70,11 @@ shared-slice-read-mark-4 c = search needs
 mark-requires : tie.Need-mark-requires Inv-loop μ-loop
 mark-requires c κs = search needs
 
-slice-write-marks : tie.Need-slice-write-marks Inv-loop μ-loop
-slice-write-marks c = search needs
+mul-wide : tie.Need-mul-wide Inv-loop μ-loop
+mul-wide c = search needs
+
+slice-write-wide : tie.Need-slice-write-wide Inv-loop μ-loop
+slice-write-wide c = search needs
 
 add-i : tie.Need-add-i Inv-loop μ-loop
 add-i c = search needs
@@ -89,7 +92,7 @@ loop-again c =
     let room = st .pre .1 in
     let inside = tested .loop-test .taken in
     let f : ℕ → ℕ = λ j. markOf (fourIn (fourSteps (st .args .block .now) j)) in
-    (omega arith, length-set (at .marks) (at .i) (c .mark .result) ∙ h .1, put-one f (at .i) (c .mark .result) (at .marks) (st .args .marks .now) (omega arith) (h .2) (c .mark .ensures))
+    (omega arith, length-set (at .wide) (at .i) (c .mark .result) ∙ h .1, put-one f (at .i) (c .mark .result) (at .wide) (st .args .wide .now) (omega arith) (h .2) (c .mark .ensures))
 
 same-length : tie.Need-same-length Inv-loop μ-loop
 same-length c = search needs
@@ -122,7 +125,8 @@ mark-block-spec =
     mul-mark-8
     shared-slice-read-mark-4
     mark-requires
-    slice-write-marks
+    mul-wide
+    slice-write-wide
     add-i
     loop-less
     loop-again

@@ -18,35 +18,35 @@ use Rattle.decode_run.proofs.read_blocks.Statement.{statement}
 use Rattle.decode_run.proofs.read_blocks.Tie as tie
 
 abbrev Inv-loop : tie.InvT-loop
-Inv-loop pm₀ i0 n layout m scale re im parts₀ softs₀ pairs₀ block₀ decisions₀ bits₀ marks₀ now-at₀ k₀ none pm parts softs pairs block decisions bits marks now-at k =
+Inv-loop pm₀ re im parts₀ pairs₀ wide₀ block₀ decisions₀ bits₀ marks₀ layout mapping scale first n now-at₀ k₀ t21 pm parts pairs wide block decisions bits marks now-at k =
     (k ≤ n)
     × Periods (layout .combination) k
     × (length decisions ≡ length decisions₀)
     × (length bits ≡ length bits₀)
-    × Carried (runSteps (layout .combination) re im m scale) i0 k pm₀ now-at₀ decisions₀ bits₀ now-at pm decisions bits
+    × Carried (runSteps (layout .combination) re im mapping scale) first k pm₀ now-at₀ decisions₀ bits₀ now-at pm decisions bits
     × (length marks ≡ length marks₀)
-    × (marks ≡ laid (upto (runMark (layout .combination) re im m scale) k) marks₀)
+    × (marks ≡ laid (upto (runMark (layout .combination) re im mapping scale) k) marks₀)
     × (length parts ≡ length parts₀)
-    × (length softs ≡ length softs₀)
     × (length pairs ≡ length pairs₀)
+    × (length wide ≡ length wide₀)
     × (length block ≡ length block₀)
 
 abbrev μ-loop : tie.MeasureT-loop
-μ-loop pm₀ i0 n layout m scale re im parts₀ softs₀ pairs₀ block₀ decisions₀ bits₀ marks₀ now-at₀ k₀ none pm parts softs pairs block decisions bits marks now-at k = n - k
+μ-loop pm₀ re im parts₀ pairs₀ wide₀ block₀ decisions₀ bits₀ marks₀ layout mapping scale first n now-at₀ k₀ t21 pm parts pairs wide block decisions bits marks now-at k = n - k
 
 loop-holds : tie.Need-loop-holds Inv-loop μ-loop
 unfolding upto
 loop-holds c =
-    let st = c .before .before .before .before .before .before .before .before .before in
-    (search needs, no-periods (st .args .layout .combination), refl, refl, read-start _ _ _ _ _ _ (st .pre .2), refl, refl, refl, refl, refl, refl)
+    let st = c .before .before .before .before .before .before .before .before .before .before .before in
+    (search needs, no-periods (st .args .run .layout .combination), refl, refl, read-start _ _ _ _ _ _ (st .pre .1 .few), refl, refl, refl, refl, refl, refl)
 
 sub-block-of : tie.Need-sub-block-of Inv-loop μ-loop
 sub-block-of c = search needs
 
 block-of-requires : tie.Need-block-of-requires Inv-loop μ-loop
 block-of-requires c κs =
-    let st = c .before .before .before .before .before .before .before .before .before .before .before in
-    let s = short (st .args .layout .combination) in
+    let st = c .before .before .before .before .before .before .before .before .before .before .before .before .before in
+    let s = short (st .args .run .layout .combination) in
     rw (st .pre .0 .period) (s .2, s .1)
 
 sub-make-block : tie.Need-sub-make-block Inv-loop μ-loop
@@ -62,28 +62,30 @@ make-block-requires : tie.Need-make-block-requires Inv-loop μ-loop
 make-block-requires c κs =
     let block-of = c .before .before .before .before .before in
     let looped = block-of .before .before in
-    let st = looped .before .before .before .before .before .before .before .before .before .before in
+    let st = looped .before .before .before .before .before .before .before .before .before .before .before .before in
     let at = looped .loop in
     let inside = block-of .before .loop-test .taken in
     let bo = block-of .block-of in
     let le = bo .ensures .0 in
-    let co = st .args .layout .combination in
+    let co = st .args .run .layout .combination in
     let ep = st .pre .0 .period in
-    let fits = st .pre .6 in
-    let room = st .pre .5 in
+    let fits = st .pre .1 .under in
+    let room = st .pre .1 .kept in
     let h = at .inv in
     let lm = h .5 in
     let lp = h .7 in
-    let ls = h .8 in
-    let lq = h .9 in
+    let lq = h .8 in
+    let lw = h .9 in
     let lb = h .10 in (
-      st .pre .0,
-      h .1,
-      block-periods co (st .args .n) (at .k) (bo .result) (st .pre .1) (h .1) (h .0) (rw ep at (bo .ensures .3)),
-      rw ep at (bo .ensures .1),
-      omega arith,
-      λ j g. st .pre .7 j (omega arith),
-      λ j g. st .pre .8 j (omega arith),
+      record {
+        layout = st .pre .0;
+        start = h .1;
+        whole = block-periods co (st .args .run .count) (at .k) (bo .result) (st .pre .1 .whole) (h .1) (h .0) (rw ep at (bo .ensures .3));
+        few = rw ep at (bo .ensures .1);
+        under = omega arith;
+      },
+      λ j g. st .pre .1 .real j (omega arith),
+      λ j g. st .pre .1 .imaginary j (omega arith),
       omega arith,
       omega arith,
       omega arith,
@@ -102,7 +104,7 @@ run-steps-requires c κs =
     let made = c .before .before .before .before .before .before .before .before .before .before .before .before .before .before .before in
     let blocked = made .before .before .before .before .before .before in
     let looped = blocked .before .before in
-    let st = looped .before .before .before .before .before .before .before .before .before .before in
+    let st = looped .before .before .before .before .before .before .before .before .before .before .before .before in
     let at = looped .loop in
     let inside = blocked .before .loop-test .taken in
     let bo = blocked .block-of in
@@ -113,9 +115,9 @@ run-steps-requires c κs =
     let most = releases-le 128 (at .now-at .held) (bo .result) (lit≤ tt) in
     let words = at .inv .2 in
     let places = at .inv .3 in
-    let enough = st .pre .3 in
-    let room = st .pre .4 in
-    let fits = st .pre .6 in
+    let enough = st .pre .1 .held in
+    let room = st .pre .1 .room in
+    let fits = st .pre .1 .under in
     let long = made .make-block .ensures .0 .long in
     (lit≤ tt, lit≤ tt, held, omega arith, omega arith, omega arith, omega arith)
 
@@ -123,10 +125,10 @@ add-k : tie.Need-add-k Inv-loop μ-loop
 add-k c =
     let blocked = c .before .before .before .before .before .before .before .before .before .before .before .before .before .before .before .before .before .before .before .before .before .before .before .before .before .before in
     let tested = blocked .before in
-    let start = tested .before .before .before .before .before .before .before .before .before .before .before in
+    let start = tested .before .before .before .before .before .before .before .before .before .before .before .before .before in
     let inside = tested .loop-test .taken in
     let le = blocked .block-of .ensures .0 in
-    let fits = start .pre .6 in
+    let fits = start .pre .1 .under in
     omega arith
 
 loop-less : tie.Need-loop-less Inv-loop μ-loop
@@ -144,7 +146,7 @@ loop-again c =
     let made = ran .before .before .before .before .before .before .before .before .before .before .before .before .before .before .before .before in
     let blocked = made .before .before .before .before .before .before in
     let looped = blocked .before .before in
-    let st = looped .before .before .before .before .before .before .before .before .before .before in
+    let st = looped .before .before .before .before .before .before .before .before .before .before .before .before in
     let at = looped .loop in
     let inside = blocked .before .loop-test .taken in
     let bo = blocked .block-of in
@@ -155,25 +157,25 @@ loop-again c =
     let k = at .k in
     let h = at .inv in
     let lm = h .5 in
-    let room = st .pre .5 in
-    let co = st .args .layout .combination in
-    let g = runMark co (st .args .re .now) (st .args .im .now) (st .args .m) (st .args .scale) in
-    let ys = runSteps co (st .args .re .now) (st .args .im .now) (st .args .m) (st .args .scale) in
+    let room = st .pre .1 .kept in
+    let co = st .args .run .layout .combination in
+    let g = runMark co (st .args .re .now) (st .args .im .now) (st .args .run .mapping) (st .args .run .scale) in
+    let ys = runSteps co (st .args .re .now) (st .args .im .now) (st .args .run .mapping) (st .args .run .scale) in
     let f = upto (λ i. g (k + i)) (bo .result) in
     let marked = written-tail k (at .marks) _ f (omega arith) (mb .1)
     ∙ ap (λ (l : List ℕ). take k l ++ laid f (drop k l)) (h .6)
     ∙ laid-part g (λ i. g (k + i)) k (bo .result) (st .args .marks .now) (λ i l. refl) in (
       omega arith,
-      more-periods co k (bo .result) (h .1) (block-periods co (st .args .n) k (bo .result) (st .pre .1) (h .1) (h .0) (rw (st .pre .0 .period) at (bo .ensures .3))),
+      more-periods co k (bo .result) (h .1) (block-periods co (st .args .run .count) k (bo .result) (st .pre .1 .whole) (h .1) (h .0) (rw (st .pre .0 .period) at (bo .ensures .3))),
       ran .run-steps .kept .1 .1 .1 .1 .1 .1 .1 .1 .0 ∙ h .2,
       ran .run-steps .kept .1 .1 .1 .1 .1 .1 .1 .1 .1 .0 ∙ h .3,
-      read-block ys (st .args .i0) _ (st .args .at) _ _ k (bo .result) _ _ _ _ _ _ _ _ _ (h .4) (mb .0) rf,
+      read-block ys (st .args .run .from) _ (st .args .at) _ _ k (bo .result) _ _ _ _ _ _ _ _ _ (h .4) (mb .0) rf,
       ap length marked ∙ length-laid-upto g (k + bo .result) (st .args .marks .now) (omega arith),
       marked,
-      called .kept .1 .1 .1 .1 .1 .1 .1 .0 ∙ h .7,
-      called .kept .1 .1 .1 .1 .1 .1 .1 .1 .0 ∙ h .8,
-      called .kept .1 .1 .1 .1 .1 .1 .1 .1 .1 .0 ∙ h .9,
-      called .kept .1 .1 .1 .1 .1 .1 .1 .1 .1 .1 .0 ∙ h .10,
+      called .kept .1 .1 .1 .0 ∙ h .7,
+      called .kept .1 .1 .1 .1 .0 ∙ h .8,
+      called .kept .1 .1 .1 .1 .1 .0 ∙ h .9,
+      called .kept .1 .1 .1 .1 .1 .1 .0 ∙ h .10,
     )
 
 same-length : tie.Need-same-length Inv-loop μ-loop
@@ -199,8 +201,8 @@ same-length-7 c = search needs
 
 returns : tie.Need-returns Inv-loop μ-loop
 returns c =
-    let start = c .before .before .before .before .before .before .before .before .before .before .before in
-    let e : c .before .loop .k ≡ start .args .n = omega arith in
+    let start = c .before .before .before .before .before .before .before .before .before .before .before .before .before in
+    let e : c .before .loop .k ≡ start .args .run .count = omega arith in
     let h = rw e at (c .before .loop .inv) in
     (h .4, h .6)
 

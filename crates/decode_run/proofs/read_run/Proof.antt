@@ -21,11 +21,10 @@ slice-aggregate-read-blocks-4 c = search needs
 
 read-blocks-requires : tie.Need-read-blocks-requires
 read-blocks-requires c κs =
-    let layout-of = c .before .before .before .before .before .before .before .before in
-    let st = layout-of .before .before .before .before .before .before in
-    let co = layout-of .layout-of in
-    let e = co .ensures .0 in
-    (co .ensures .1, rw e (st .pre .0), st .pre .1, st .pre .2, st .pre .3, st .pre .4, st .pre .5, rw e (st .pre .6), rw e (st .pre .7), lit≤ tt, lit≤ tt, lit≤ tt, lit≤ tt)
+    let at = c .before .before .before .before .before .before .before .before .before in
+    let st = at .before .before .before .before .before .before in
+    let co = at .layout-of in
+    (co .ensures .1, rw (co .ensures .0) (st .pre), lit≤ tt, lit≤ tt, lit≤ tt, lit≤ tt)
 
 same-length : tie.Need-same-length
 same-length c = search needs
@@ -39,7 +38,7 @@ same-length-3 c = search needs
 returns : tie.Need-returns
 returns c =
     let read-blocks = c .before .before .before .before .before .before .before .before .before .before in
-    let layout-of = read-blocks .before .before .before .before .before .before .before .before .before in
+    let layout-of = read-blocks .before .before .before .before .before .before .before .before .before .before in
     rw (layout-of .layout-of .ensures .0) at (read-blocks .read-blocks .ensures)
 
 pub read-run-spec : {M : Type 1} → statement M
