@@ -21,6 +21,7 @@ use isdbt_fec::conv::CodeRate;
 use isdbt_fec::conv::Encoded;
 use isdbt_fec::conv::encode_punctured;
 use overlay::Code;
+use overlay::Encoders;
 use overlay::encode_overlaid;
 use overlay::overlay;
 use refusal::Answer;
@@ -31,7 +32,7 @@ const FIRST: u8 = 5;
 const SECOND: u8 = 63;
 
 // Two loads, their exclusive-or, and their or.
-fn fill(
+fn fill_loads(
     first: &mut [u8; LOAD_BYTES],
     second: &mut [u8; LOAD_BYTES],
     sum: &mut [u8; LOAD_BYTES],
@@ -331,6 +332,16 @@ fn code_of(constraint: u8) -> Code {
     }
 }
 
+// Encoders of this code in the states s and r.
+fn encoders(constraint: u8, s: u8, r: u8) -> Encoders {
+    let code = code_of(constraint);
+    Encoders {
+        code,
+        first: ConvEncoder { state: s },
+        second: ConvEncoder { state: r },
+    }
+}
+
 // Length 3, from the states 1 and 3: six inputs each, of which only the low bits count.
 fn length_three() {
     let us = [1u8, 0, 255, 2, 1, 1];
@@ -339,17 +350,7 @@ fn length_three() {
     let mut x = [9u8; 12];
     let mut y = [9u8; 12];
     let mut z = [9u8; 12];
-    let e = encode_overlaid(
-        code_of(3),
-        ConvEncoder { state: 1 },
-        ConvEncoder { state: 3 },
-        &us,
-        &vs,
-        &mut ws,
-        &mut x,
-        &mut y,
-        &mut z,
-    );
+    let e = encode_overlaid(encoders(3, 1, 3), &us, &vs, &mut ws, &mut x, &mut y, &mut z);
     let answer = e.answer;
     show_one(b"length 3: answer #\n", row(answer));
     line(b"first  ", &x, e.first);
@@ -368,9 +369,7 @@ fn answer(k: u8, s: u8, r: u8, n: usize, m: usize, w: usize, v: usize) -> usize
     let mut out2 = [9u8; 8];
     let mut out3 = [9u8; 8];
     let e = encode_overlaid(
-        code_of(k),
-        ConvEncoder { state: s },
-        ConvEncoder { state: r },
+        encoders(k, s, r),
         &us[0..n],
         &vs[0..m],
         &mut ws[0..w],
@@ -418,7 +417,7 @@ fn main() {
     let mut second = [0u8; LOAD_BYTES];
     let mut sum = [0u8; LOAD_BYTES];
     let mut either = [0u8; LOAD_BYTES];
-    fill(&mut first, &mut second, &mut sum, &mut either);
+    fill_loads(&mut first, &mut second, &mut sum, &mut either);
     combinations(&first, &second, &sum, &either);
     for row in 0..5usize {
         rate(row, &first, &second, &sum);

@@ -31,6 +31,23 @@ ghost use Rattle.overlay.specs.Overlaid.{overlaid};
 ghost use Rattle.overlay.specs.Rows.{stringRows, shortOutputs, overlayRows};
 ghost use Rattle.overlay.specs.Calls.{lent, Three, Encodes, Unencoded, Overlays};
 
+// A code, and the encoders of the first string and of the second before the call.
+pub struct Encoders {
+    pub code: Code,
+    pub first: ConvEncoder,
+    pub second: ConvEncoder,
+}
+
+// The lengths that are lent: of both strings, of the place of their exclusive-or, and of the outputs of all three.
+pub struct Lengths {
+    pub first: usize,
+    pub second: usize,
+    pub sum: usize,
+    pub out1: usize,
+    pub out2: usize,
+    pub out3: usize,
+}
+
 // The answer, and the encoders of the first string, of the second and of their exclusive-or after the call.
 pub struct Encodings {
     pub answer: Answer,
@@ -63,19 +80,9 @@ fn short(n: usize, bits: usize, x: usize, y: usize, z: usize) -> bool
     few(z, n)
 }
 
-// The answer to strings of n and m bytes from the states s and r.
-fn answer_overlay(
-    code: Code,
-    s: u8,
-    r: u8,
-    n: usize,
-    m: usize,
-    bits: usize,
-    x: usize,
-    y: usize,
-    z: usize,
-) -> Answer
-    ensures { λ a. ⌜ a ≡ firstRow (overlayRows code s r n m bits x y z) ⌝ }
+// The answer to strings of these lengths from the states s and r.
+fn answer_overlay(code: Code, s: u8, r: u8, lent: Lengths) -> Answer
+    ensures { λ a. ⌜ a ≡ firstRow (overlayRows code s r (lent .first) (lent .second) (lent .sum) (lent .out1) (lent .out2) (lent .out3)) ⌝ }
 {
     if !good(code) {
         return Answer::Code;
@@ -86,10 +93,10 @@ fn answer_overlay(
     if beyond(code, r) {
         return Answer::State;
     }
-    if n != m {
+    if lent.first != lent.second {
         return Answer::Length;
     }
-    if short(n, bits, x, y, z) {
+    if short(lent.first, lent.sum, lent.out1, lent.out2, lent.out3) {
         return Answer::Space;
     }
     Answer::Accepted
@@ -122,9 +129,7 @@ pub fn overlay(us: &[u8], vs: &[u8], ws: &mut [u8]) -> Answer
 
 // The strings `us` and `vs` from their states, and their exclusive-or, the string `ws`, from the exclusive-or of the states.
 fn encode_three(
-    code: Code,
-    s: u8,
-    r: u8,
+    given: Encoders,
     us: &[u8],
     vs: &[u8],
     ws: &[u8],
@@ -132,12 +137,17 @@ fn encode_three(
     out2: &mut [u8],
     out3: &mut [u8],
 ) -> Encodings
-    requires { ⌜ Three code s r (now us) (now vs) (now ws) (length (now out1)) (length (now out2)) (length (now out3)) ⌝ }
+    requires { ⌜ Three (given .code) (given .first .state) (given .second .state) (now us) (now vs) (now ws) (length (now out1)) (length (now out2)) (length (now out3)) ⌝ }
     ensures { λ e. ⌜ (e .answer ≡ Answer.Accepted)
-        × Encodes code s r (now (us .entry)) (now (vs .entry)) e (lent (now (out1 .entry)) (now (out2 .entry)) (now (out3 .entry))) (lent (now (out1 .exit)) (now (out2 .exit)) (now (out3 .exit))) ⌝ }
+        × Encodes (given .code) (given .first .state) (given .second .state) (now (us .entry)) (now (vs .entry)) e (lent (now (out1 .entry)) (now (out2 .entry)) (now (out3 .entry))) (lent (now (out1 .exit)) (now (out2 .exit)) (now (out3 .exit))) ⌝ }
 {
-    let x = encode(code, ConvEncoder { state: s }, us, out1);
-    let y = encode(code, ConvEncoder { state: r }, vs, out2);
+    let code = given.code;
+    let e1 = given.first;
+    let e2 = given.second;
+    let s = e1.state;
+    let r = e2.state;
+    let x = encode(code, e1, us, out1);
+    let y = encode(code, e2, vs, out2);
     let z = encode(code, ConvEncoder { state: s ^ r }, ws, out3);
     let first = x.enc;
     let second = y.enc;
@@ -153,9 +163,7 @@ fn encode_three(
 // Encodes the low bit of each byte of the strings `us` and `vs`, which have equal length, and of their exclusive-or from the exclusive-or of the states: the
 // exclusive-or at the front of `ws`, X then Y of each input at the front of `out1`, `out2` and `out3`.
 pub fn encode_overlaid(
-    code: Code,
-    first: ConvEncoder,
-    second: ConvEncoder,
+    given: Encoders,
     us: &[u8],
     vs: &[u8],
     ws: &mut [u8],
@@ -163,27 +171,26 @@ pub fn encode_overlaid(
     out2: &mut [u8],
     out3: &mut [u8],
 ) -> Encodings
-    ensures answers { λ e. ⌜ e .answer ≡ firstRow (overlayRows code (first .state) (second .state) (length (now (us .entry))) (length (now (vs .entry))) (length (now (ws .entry))) (length (now (out1 .entry))) (length (now (out2 .entry))) (length (now (out3 .entry)))) ⌝ }
+    ensures answers { λ e. ⌜ e .answer ≡ firstRow (overlayRows (given .code) (given .first .state) (given .second .state) (length (now (us .entry))) (length (now (vs .entry))) (length (now (ws .entry))) (length (now (out1 .entry))) (length (now (out2 .entry))) (length (now (out3 .entry)))) ⌝ }
     ensures inputs { λ e. ⌜ Either (e .answer) (now (ws .exit) ≡ laid (overlaid (now (us .entry)) (now (vs .entry))) (now (ws .entry))) (now (ws .exit) ≡ now (ws .entry)) ⌝ }
     ensures outputs { λ e. ⌜ Either (e .answer)
-        (Encodes code (first .state) (second .state) (now (us .entry)) (now (vs .entry)) e (lent (now (out1 .entry)) (now (out2 .entry)) (now (out3 .entry))) (lent (now (out1 .exit)) (now (out2 .exit)) (now (out3 .exit))))
-        (Unencoded (first .state) (second .state) e (lent (now (out1 .entry)) (now (out2 .entry)) (now (out3 .entry))) (lent (now (out1 .exit)) (now (out2 .exit)) (now (out3 .exit)))) ⌝ }
+        (Encodes (given .code) (given .first .state) (given .second .state) (now (us .entry)) (now (vs .entry)) e (lent (now (out1 .entry)) (now (out2 .entry)) (now (out3 .entry))) (lent (now (out1 .exit)) (now (out2 .exit)) (now (out3 .exit))))
+        (Unencoded (given .first .state) (given .second .state) e (lent (now (out1 .entry)) (now (out2 .entry)) (now (out3 .entry))) (lent (now (out1 .exit)) (now (out2 .exit)) (now (out3 .exit)))) ⌝ }
     ensures overlays { λ e. ⌜ (e .answer ≡ Answer.Accepted → Overlays (length (now (us .entry))) e (lent (now (out1 .exit)) (now (out2 .exit)) (now (out3 .exit)))) ⌝ }
 {
-    let s = first.state;
-    let r = second.state;
+    let code = given.code;
+    let first = given.first;
+    let second = given.second;
     let n = us.len();
-    let answer = answer_overlay(
-        code,
-        s,
-        r,
-        n,
-        vs.len(),
-        ws.len(),
-        out1.len(),
-        out2.len(),
-        out3.len(),
-    );
+    let lent = Lengths {
+        first: n,
+        second: vs.len(),
+        sum: ws.len(),
+        out1: out1.len(),
+        out2: out2.len(),
+        out3: out3.len(),
+    };
+    let answer = answer_overlay(code, first.state, second.state, lent);
     let Answer::Accepted = answer else {
         return Encodings {
             answer,
@@ -193,5 +200,5 @@ pub fn encode_overlaid(
         };
     };
     lay_overlaid(us, vs, ws);
-    encode_three(code, s, r, us, vs, &ws[0..n], out1, out2, out3)
+    encode_three(given, us, vs, &ws[0..n], out1, out2, out3)
 }

@@ -10,8 +10,8 @@ Inv-loop first second sum row₀ row = row ≤ 5
 abbrev μ-loop : tie.MeasureT-loop
 μ-loop first second sum row₀ row = 5 - row
 
-fill-requires : tie.Need-fill-requires Inv-loop μ-loop
-fill-requires c κs = search needs
+fill-loads-requires : tie.Need-fill-loads-requires Inv-loop μ-loop
+fill-loads-requires c κs = search needs
 
 combinations-requires : tie.Need-combinations-requires Inv-loop μ-loop
 combinations-requires c κs = search needs
@@ -49,7 +49,7 @@ main-spec =
     (tie.spec
     Inv-loop
     μ-loop
-    fill-requires
+    fill-loads-requires
     combinations-requires
     loop-holds
     rate-requires

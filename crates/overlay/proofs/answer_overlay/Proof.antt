@@ -32,7 +32,7 @@ returns-3 c =
 
 returns-4 : tie.Need-returns-4
 returns-4 c =
-    let d = c .before in
+    let d = c .before .before in
     let b = d .before .before in
     let g = b .before .before in
     let a = g .before .before .args in
@@ -40,7 +40,7 @@ returns-4 c =
       ap not (sym (g .before .good2 .ensures)) ∙ g .if1 .left,
       sym (b .before .beyond .ensures) ∙ b .if2 .left,
       sym (d .before .beyond2 .ensures) ∙ d .if3 .left,
-      ne-eqb (a .n) (a .m) (c .if4 .taken),
+      ne-eqb (a .lent .first) (a .lent .second) (c .if4 .taken),
     ) refl
 
 short-requires : tie.Need-short-requires
@@ -49,7 +49,7 @@ short-requires c κs = search needs
 returns-5 : tie.Need-returns-5
 returns-5 c =
     let l = c .before .before in
-    let d = l .before in
+    let d = l .before .before in
     let b = d .before .before in
     let g = b .before .before in
     let a = g .before .before .args in
@@ -57,14 +57,14 @@ returns-5 c =
       ap not (sym (g .before .good2 .ensures)) ∙ g .if1 .left,
       sym (b .before .beyond .ensures) ∙ b .if2 .left,
       sym (d .before .beyond2 .ensures) ∙ d .if3 .left,
-      eq-eqb (a .n) (a .m) (l .if4 .left),
+      eq-eqb (a .lent .first) (a .lent .second) (l .if4 .left),
       sym (c .before .short .ensures) ∙ c .if5 .taken,
     ) refl
 
 returns-6 : tie.Need-returns-6
 returns-6 c =
     let l = c .before .before in
-    let d = l .before in
+    let d = l .before .before in
     let b = d .before .before in
     let g = b .before .before in
     let a = g .before .before .args in
@@ -72,7 +72,7 @@ returns-6 c =
       ap not (sym (g .before .good2 .ensures)) ∙ g .if1 .left,
       sym (b .before .beyond .ensures) ∙ b .if2 .left,
       sym (d .before .beyond2 .ensures) ∙ d .if3 .left,
-      eq-eqb (a .n) (a .m) (l .if4 .left),
+      eq-eqb (a .lent .first) (a .lent .second) (l .if4 .left),
       sym (c .before .short .ensures) ∙ c .if5 .left,
     ) refl
 

@@ -32,8 +32,8 @@ lay-overlaid-requires : tie.Need-lay-overlaid-requires
 lay-overlaid-requires c κs =
     let yes = c .before in
     let asked = yes .before .before in
-    let a = asked .before .before .before .before .before .before .before .args in
-    let e = enough (a .code) (a .first .state) (a .second .state) (length (a .us .now)) (length (a .vs .now)) (length (a .ws .now)) (length (a .out1 .now)) (length (a .out2 .now)) (length (a .out3 .now)) (sym (yes .enum-told .given .1) ∙ asked .answer-overlay .ensures) in
+    let a = asked .before .before .before .before .before .before .before .before .before .before .args in
+    let e = enough (a .given .code) (a .given .first .state) (a .given .second .state) (length (a .us .now)) (length (a .vs .now)) (length (a .ws .now)) (length (a .out1 .now)) (length (a .out2 .now)) (length (a .out3 .now)) (sym (yes .enum-told .given .1) ∙ asked .answer-overlay .ensures) in
     (e .long, e .bits-room)
 
 sub-encode-three : tie.Need-sub-encode-three
@@ -46,8 +46,8 @@ part-encode-three-end : tie.Need-part-encode-three-end
 part-encode-three-end c =
     let yes = c .before .before .before .before .before in
     let asked = yes .before .before in
-    let a = asked .before .before .before .before .before .before .before .args in
-    let e = enough (a .code) (a .first .state) (a .second .state) (length (a .us .now)) (length (a .vs .now)) (length (a .ws .now)) (length (a .out1 .now)) (length (a .out2 .now)) (length (a .out3 .now)) (sym (yes .enum-told .given .1) ∙ asked .answer-overlay .ensures) in
+    let a = asked .before .before .before .before .before .before .before .before .before .before .args in
+    let e = enough (a .given .code) (a .given .first .state) (a .given .second .state) (length (a .us .now)) (length (a .vs .now)) (length (a .ws .now)) (length (a .out1 .now)) (length (a .out2 .now)) (length (a .out3 .now)) (sym (yes .enum-told .given .1) ∙ asked .answer-overlay .ensures) in
     let room = e .bits-room in
     search needs
 
@@ -56,11 +56,11 @@ encode-three-requires c κs =
     let lay-overlaid = c .before .before .before .before .before .before .before in
     let yes = lay-overlaid .before .before in
     let asked = yes .before .before in
-    let start = asked .before .before .before .before .before .before .before in
+    let start = asked .before .before .before .before .before .before .before .before .before .before in
     let a = start .args in
-    let e = enough (a .code) (a .first .state) (a .second .state) (length (a .us .now)) (length (a .vs .now)) (length (a .ws .now)) (length (a .out1 .now)) (length (a .out2 .now)) (length (a .out3 .now)) (sym (yes .enum-told .given .1) ∙ asked .answer-overlay .ensures) in
+    let e = enough (a .given .code) (a .given .first .state) (a .given .second .state) (length (a .us .now)) (length (a .vs .now)) (length (a .ws .now)) (length (a .out1 .now)) (length (a .out2 .now)) (length (a .out3 .now)) (sym (yes .enum-told .given .1) ∙ asked .answer-overlay .ensures) in
     let laid = lay-overlaid .lay-overlaid in
-    asks (a .code) (a .first .state) (a .second .state) (a .us .now) (a .vs .now) (a .ws .now) (laid .last .1 .1 .0) (length (a .out1 .now)) (length (a .out2 .now)) (length (a .out3 .now)) e (laid .ensures)
+    asks (a .given .code) (a .given .first .state) (a .given .second .state) (a .us .now) (a .vs .now) (a .ws .now) (laid .last .1 .1 .0) (length (a .out1 .now)) (length (a .out2 .now)) (length (a .out3 .now)) e (laid .ensures)
 
 same-length : tie.Need-same-length
 same-length c = search needs
@@ -80,13 +80,13 @@ returns-2 c =
     let laid = made .before .before .before .before .before .before .before .before in
     let yes = laid .before .before in
     let asked = yes .before .before in
-    let start = asked .before .before .before .before .before .before .before in
+    let start = asked .before .before .before .before .before .before .before .before .before .before in
     let a = start .args in
-    let e = enough (a .code) (a .first .state) (a .second .state) (length (a .us .now)) (length (a .vs .now)) (length (a .ws .now)) (length (a .out1 .now)) (length (a .out2 .now)) (length (a .out3 .now)) (sym (yes .enum-told .given .1) ∙ asked .answer-overlay .ensures) in
+    let e = enough (a .given .code) (a .given .first .state) (a .given .second .state) (length (a .us .now)) (length (a .vs .now)) (length (a .ws .now)) (length (a .out1 .now)) (length (a .out2 .now)) (length (a .out3 .now)) (sym (yes .enum-told .given .1) ∙ asked .answer-overlay .ensures) in
     let three = made .encode-three in
     let ok = three .ensures .0 in
-    let law = overlaps (a .code) (a .first .state) (a .second .state) (a .us .now) (a .vs .now) (three .result) (lent (a .out1 .now) (a .out2 .now) (a .out3 .now))
-    (lent (three .last .1 .1 .1 .1 .1 .1 .0) (three .last .1 .1 .1 .1 .1 .1 .1 .0) (three .last .1 .1 .1 .1 .1 .1 .1 .1 .0)) (e .good) (e .first-state) (e .second-state) (e .long) (three .ensures .1) in (
+    let law = overlaps (a .given .code) (a .given .first .state) (a .given .second .state) (a .us .now) (a .vs .now) (three .result) (lent (a .out1 .now) (a .out2 .now) (a .out3 .now))
+    (lent (three .last .1 .1 .1 .1 .0) (three .last .1 .1 .1 .1 .1 .0) (three .last .1 .1 .1 .1 .1 .1 .0)) (e .good) (e .first-state) (e .second-state) (e .long) (three .ensures .1) in (
       ok ∙ sym (yes .enum-told .given .1) ∙ asked .answer-overlay .ensures,
       (
         ((λ y. laid .lay-overlaid .ensures), (λ never. absurd (never ok))),

@@ -28,10 +28,10 @@ returns c =
     let z = c .before .before .before .before .before in
     let y = z .before .before .before .before in
     let x = y .before .before .before .before in
-    let start = x .before .before .before .before .before .before .before .before in
+    let start = x .before .before .before .before .before .before .before .before .before .before .before in
     let a = start .args in (
       refl,
-      three (a .code) (a .s) (a .r) (a .us .now) (a .vs .now) (a .ws .now) (a .out1 .now) (a .out2 .now) (a .out3 .now) (x .encode .last .1 .1 .1 .0) (y .encode2 .last .1 .1 .1 .0) (z .encode3 .last .1 .1 .1 .0) (start .pre)
+      three (a .given .code) (a .given .first .state) (a .given .second .state) (a .us .now) (a .vs .now) (a .ws .now) (a .out1 .now) (a .out2 .now) (a .out3 .now) (x .encode .last .1 .1 .1 .0) (y .encode2 .last .1 .1 .1 .0) (z .encode3 .last .1 .1 .1 .0) (start .pre)
           (x .encode .result) (y .encode2 .result) (z .encode3 .result) (x .encode .ensures) (y .encode2 .ensures) (z .encode3 .ensures),
     )
 

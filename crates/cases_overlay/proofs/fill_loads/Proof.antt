@@ -1,8 +1,8 @@
--- `fill` meets its contract.
+-- `fill_loads` meets its contract.
 use Prim.Native.Nat.{_-_, _≤_}
 use borrow.Author.Needs.{needs}
-use Rattle.cases_overlay.proofs.fill.Statement.{statement}
-use Rattle.cases_overlay.proofs.fill.Tie as tie
+use Rattle.cases_overlay.proofs.fill_loads.Statement.{statement}
+use Rattle.cases_overlay.proofs.fill_loads.Tie as tie
 
 abbrev Inv-loop : tie.InvT-loop
 Inv-loop first₀ second₀ sum₀ either₀ x₀ i₀ first second sum either x i = i ≤ 9744
@@ -46,8 +46,8 @@ loop-again c = search needs
 returns : tie.Need-returns Inv-loop μ-loop
 returns c = search needs
 
-pub fill-spec : {M : Type 1} → statement M
-fill-spec =
+pub fill-loads-spec : {M : Type 1} → statement M
+fill-loads-spec =
     tie.close
     (tie.spec
     Inv-loop
