@@ -42,10 +42,10 @@ placedBy p n places xs k = sentValue n xs (n * (k / (2 * p))) (getD places (k % 
 abbrev pub placedSteps : ℕ → ℕ → List ℕ → List Float → ℕ → trellis.Step
 placedSteps p n places xs k = pair (placedBy p n places xs (2 * k)) (placedBy p n places xs (2 * k + 1))
 
--- where the next mother bit stands: a period has `width` of them and n sent values
+-- where the next step stands: a period has `width` mother bits, two to a step, and n sent values
 abbrev pub nextOf : Standing → ℕ → ℕ → Standing
-nextOf at width n = cond (eqb (at .place + 1) width) (record { place = 0; base = at .base + n }) (record { place = at .place + 1; base = at .base })
+nextOf at width n = cond (eqb (at .place + 2) width) (record { place = 0; base = at .base + n }) (record { place = at .place + 2; base = at .base })
 
--- where the mother bit m of a call stands
+-- where step k of a call stands
 abbrev pub standingAt : ℕ → ℕ → ℕ → Standing
-standingAt p n m = record { place = m % (2 * p); base = n * (m / (2 * p)) }
+standingAt p n k = record { place = 2 * k % (2 * p); base = n * (2 * k / (2 * p)) }

@@ -2,7 +2,7 @@
 ghost use mathlib.Core.Path.{_≡_};
 ghost use mathlib.Core.List.{_++_};
 ghost use Prim.Native.Nat.{ℕ, _+_, _*_, _<_, _≤_, _/_, _%_, _^_};
-ghost use lib.ListN.{length, getD, take, drop, replicate};
+ghost use lib.ListN.{length, take, drop, replicate};
 ghost use Rattle.trellis.specs.Lists.{laid};
 ghost use Rattle.trellis.specs.Step.{renormalised};
 ghost use Rattle.isdbt_table.specs.Puncture.{spread};
@@ -59,25 +59,25 @@ pub fn places_of(order: &[usize; 8], n: usize) -> [usize; 14]
     places
 }
 
-// Where a mother bit stands: its place in its period, and where the sent values of that period begin.
+// Where a step stands: the place of its first mother bit in its period, and where the sent values of that period begin.
 struct Standing {
     place: usize,
     base: usize,
 }
 
-// Where the next mother bit stands; `width` places make a period, which has n sent values.
+// Where the next step stands; `width` places, two to a step, make a period, which has n sent values.
 fn next_of(at: Standing, width: usize, n: usize) -> Standing
-    requires { ⌜ (at .place < width) × (at .base + n < 2 ^ 64) ⌝ }
+    requires { ⌜ (at .place < width) × (width ≤ 14) × (at .base + n < 2 ^ 64) ⌝ }
     ensures { λ r. ⌜ r ≡ nextOf at width n ⌝ }
 {
-    if at.place + 1 == width {
+    if at.place + 2 == width {
         Standing {
             place: 0,
             base: at.base + n,
         }
     } else {
         Standing {
-            place: at.place + 1,
+            place: at.place + 2,
             base: at.base,
         }
     }
@@ -110,9 +110,11 @@ pub fn soft_block(
         place: 2 * i % width,
         base: n * (2 * i / width),
     };
-    for k in 0..2 * len {
+    for k in 0..len {
         let place = at.place;
-        pairs[k] = value_of(places[place], n, llrs, at.base);
+        let base = at.base;
+        pairs[2 * k] = value_of(places[place], n, llrs, base);
+        pairs[2 * k + 1] = value_of(places[place + 1], n, llrs, base);
         at = next_of(at, width, n);
     }
 }
