@@ -399,7 +399,7 @@ fn part(bytes: &[u8], t: Table, k: usize) {
 }
 
 // Byte i is i mod 251.
-fn fill(bytes: &mut [u8]) {
+fn fill_bytes(bytes: &mut [u8]) {
     let mut b: u8 = 0;
     for i in 0..bytes.len() {
         bytes[i] = b;
@@ -485,7 +485,7 @@ fn mixed_bytes() {
 
 fn slots_of_a_load() {
     let mut bytes = io::buffer();
-    fill(&mut bytes);
+    fill_bytes(&mut bytes);
     parts(&bytes);
     slot_bytes();
     mixed_bytes();

@@ -12,7 +12,7 @@ use full_frame::take_apart;
 use isdbs_frame::MAIN_SYMBOLS;
 
 // Point p of the frame holds p and -p.
-fn fill(re: &mut [f64; 39946], im: &mut [f64; 39946]) {
+fn fill_points(re: &mut [f64; 39946], im: &mut [f64; 39946]) {
     let mut x = 0.0;
     for p in 0..39946usize {
         re[p] = x;
@@ -112,39 +112,8 @@ fn show_laid(answer: usize, real: usize, imaginary: usize) {
     );
 }
 
-// The answer of laying from the first `h` points of a header, `g` of its imaginary parts, `k` of a main signal's and `q` of the bursts into the first `o` places of an output.
-fn lay_parts(
-    hr: &[f64],
-    hi: &[f64],
-    mr: &[f64],
-    mi: &[f64],
-    br: &[f64],
-    bi: &[f64],
-    re: &mut [f64],
-    im: &mut [f64],
-    h: usize,
-    g: usize,
-    k: usize,
-    q: usize,
-    o: usize,
-) -> usize
-    requires { ⌜ (h ≤ length (now hr)) × (g ≤ length (now hi)) × (k ≤ length (now mi)) × (q ≤ length (now br)) × (o ≤ length (now im)) ⌝ }
-{
-    row(lay(
-        &hr[0..h],
-        &hi[0..g],
-        mr,
-        &mi[0..k],
-        &br[0..q],
-        bi,
-        re,
-        &mut im[0..o],
-    ))
-}
-
-// The answer of laying. Of the cases from 0 on: a header of 191 and an output of 39,935; an imaginary header of 191; a main signal of 38,975; bursts of 767; an output of 39,935; one of 39,936; one of 39,946.
-fn lay_case(
-    case: usize,
+// The answer of laying a frame from its parts into an output of 39,946.
+fn lay_again(
     hr: &[f64; 192],
     hi: &[f64; 192],
     mr: &[f64; MAIN_SYMBOLS],
@@ -154,12 +123,63 @@ fn lay_case(
     re: &mut [f64; 39946],
     im: &mut [f64; 39946],
 ) -> usize {
-    let h = 192 - one(case == 0);
-    let g = 192 - one(case == 1);
-    let k = MAIN_SYMBOLS - one(case == 2);
-    let q = 768 - one(case == 3);
-    let o = 39936 + one(case == 6) * 10 - one((case == 0) | (case == 4));
-    lay_parts(hr, hi, mr, mi, br, bi, re, im, h, g, k, q, o)
+    row(lay(hr, hi, mr, mi, br, bi, re, im))
+}
+
+// How much is lent: of a header's real and imaginary part, of a main signal's imaginary part, of the bursts' real part, of an output's imaginary part.
+struct Lengths {
+    header_re: usize,
+    header_im: usize,
+    main_im: usize,
+    burst_re: usize,
+    out_im: usize,
+}
+
+// The answer of laying with these lengths, where either part of an input is the same.
+fn lay_short(
+    hs: &[f64],
+    ms: &[f64],
+    bs: &[f64],
+    re: &mut [f64],
+    im: &mut [f64],
+    lent: Lengths,
+) -> usize
+    requires { ⌜ (lent .«header_re» ≤ length (now hs)) × (lent .«header_im» ≤ length (now hs)) × (lent .«main_im» ≤ length (now ms)) × (lent .«burst_re» ≤ length (now bs)) × (lent .«out_im» ≤ length (now im)) ⌝ }
+{
+    let h = lent.header_re;
+    let g = lent.header_im;
+    let k = lent.main_im;
+    let q = lent.burst_re;
+    let o = lent.out_im;
+    row(lay(
+        &hs[0..h],
+        &hs[0..g],
+        ms,
+        &ms[0..k],
+        &bs[0..q],
+        bs,
+        re,
+        &mut im[0..o],
+    ))
+}
+
+// The answer of laying. Of the cases from 0 on: a header of 191 and an output of 39,935; an imaginary header of 191; a main signal of 38,975; bursts of 767; an output of 39,935; one of 39,936.
+fn lay_case(
+    case: usize,
+    hs: &[f64; 192],
+    ms: &[f64; MAIN_SYMBOLS],
+    bs: &[f64; 768],
+    re: &mut [f64; 39946],
+    im: &mut [f64; 39946],
+) -> usize {
+    let lent = Lengths {
+        header_re: 192 - one(case == 0),
+        header_im: 192 - one(case == 1),
+        main_im: MAIN_SYMBOLS - one(case == 2),
+        burst_re: 768 - one(case == 3),
+        out_im: 39936 - one((case == 0) | (case == 4)),
+    };
+    lay_short(hs, ms, bs, re, im, lent)
 }
 
 fn show_lay(found: [usize; 6]) {
@@ -178,33 +198,14 @@ fn refused_lay(
 ) {
     let mut found = [99usize; 6];
     for case in 0..6usize {
-        let n = lay_case(case, hs, hs, ms, ms, bs, bs, re, im);
+        let n = lay_case(case, hs, ms, bs, re, im);
         found[case] = n;
     }
     show_lay(found);
 }
 
-// The answer of taking the first `o` places of a frame apart, into the first `h` places of a header output.
-fn take_parts(
-    re: &[f64],
-    im: &[f64],
-    hr: &mut [f64],
-    hi: &mut [f64],
-    mr: &mut [f64],
-    mi: &mut [f64],
-    br: &mut [f64],
-    bi: &mut [f64],
-    o: usize,
-    h: usize,
-) -> usize
-    requires { ⌜ (o ≤ length (now im)) × (h ≤ length (now hr)) ⌝ }
-{
-    row(take_apart(re, &im[0..o], &mut hr[0..h], hi, mr, mi, br, bi))
-}
-
-// The answer of taking a frame apart. Of the cases from 0 on: a frame of 39,935 and a header output of 191; a header output of 191; a frame of 39,936; one of 39,946.
-fn take_case(
-    case: usize,
+// The answer of taking a frame of 39,946 apart.
+fn take_whole(
     re: &[f64; 39946],
     im: &[f64; 39946],
     hr: &mut [f64; 192],
@@ -214,9 +215,40 @@ fn take_case(
     br: &mut [f64; 768],
     bi: &mut [f64; 768],
 ) -> usize {
-    let o = 39936 + one(case == 3) * 10 - one(case == 0);
+    row(take_apart(re, im, hr, hi, mr, mi, br, bi))
+}
+
+// The answer of taking the first `o` places of a frame apart, into the first `h` places of a header output.
+fn take_short(re: &[f64], im: &[f64], mr: &mut [f64], mi: &mut [f64], o: usize, h: usize) -> usize
+    requires { ⌜ (o ≤ length (now im)) × (h ≤ 192) ⌝ }
+{
+    let mut hr = [7.0f64; 192];
+    let mut hi = [7.0f64; 192];
+    let mut br = [7.0f64; 768];
+    let mut bi = [7.0f64; 768];
+    row(take_apart(
+        re,
+        &im[0..o],
+        &mut hr[0..h],
+        &mut hi,
+        mr,
+        mi,
+        &mut br,
+        &mut bi,
+    ))
+}
+
+// The answer of taking a frame apart. Of the cases from 0 on: a frame of 39,935 and a header output of 191; a header output of 191; a frame of 39,936.
+fn take_case(
+    case: usize,
+    re: &[f64; 39946],
+    im: &[f64; 39946],
+    mr: &mut [f64; MAIN_SYMBOLS],
+    mi: &mut [f64; MAIN_SYMBOLS],
+) -> usize {
+    let o = 39936 - one(case == 0);
     let h = 192 - one(case < 2);
-    take_parts(re, im, hr, hi, mr, mi, br, bi, o, h)
+    take_short(re, im, mr, mi, o, h)
 }
 
 fn show_take(found: [usize; 3]) {
@@ -229,16 +261,12 @@ fn show_take(found: [usize; 3]) {
 fn refused_take(
     re: &[f64; 39946],
     im: &[f64; 39946],
-    hr: &mut [f64; 192],
-    hi: &mut [f64; 192],
     mr: &mut [f64; MAIN_SYMBOLS],
     mi: &mut [f64; MAIN_SYMBOLS],
-    br: &mut [f64; 768],
-    bi: &mut [f64; 768],
 ) {
     let mut found = [99usize; 3];
     for case in 0..3usize {
-        let n = take_case(case, re, im, hr, hi, mr, mi, br, bi);
+        let n = take_case(case, re, im, mr, mi);
         found[case] = n;
     }
     show_take(found);
@@ -255,9 +283,8 @@ fn main() {
     let mut mi = [7.0f64; MAIN_SYMBOLS];
     let mut br = [7.0f64; 768];
     let mut bi = [7.0f64; 768];
-    fill(&mut re, &mut im);
-    let taken = take_case(
-        3,
+    fill_points(&mut re, &mut im);
+    let taken = take_whole(
         &re,
         &im,
         &mut hr,
@@ -268,17 +295,8 @@ fn main() {
         &mut bi,
     );
     show_apart(taken, &hr, &hi, &mr, &mi, &br, &bi);
-    let laid = lay_case(6, &hr, &hi, &mr, &mi, &br, &bi, &mut out_re, &mut out_im);
+    let laid = lay_again(&hr, &hi, &mr, &mi, &br, &bi, &mut out_re, &mut out_im);
     show_laid(laid, alike(&re, &out_re), alike(&im, &out_im));
-    refused_take(
-        &re,
-        &im,
-        &mut hr,
-        &mut hi,
-        &mut mr,
-        &mut mi,
-        &mut br,
-        &mut bi,
-    );
+    refused_take(&re, &im, &mut mr, &mut mi);
     refused_lay(&hr, &mr, &br, &mut re, &mut im);
 }

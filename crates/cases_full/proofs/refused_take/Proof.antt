@@ -5,10 +5,10 @@ use Rattle.cases_full.proofs.refused_take.Statement.{statement}
 use Rattle.cases_full.proofs.refused_take.Tie as tie
 
 abbrev Inv-loop : tie.InvT-loop
-Inv-loop re im hr₀ hi₀ mr₀ mi₀ br₀ bi₀ found₀ case₀ hr hi mr mi br bi found case = case ≤ 3
+Inv-loop re im mr₀ mi₀ found₀ case₀ mr mi found case = case ≤ 3
 
 abbrev μ-loop : tie.MeasureT-loop
-μ-loop re im hr₀ hi₀ mr₀ mi₀ br₀ bi₀ found₀ case₀ hr hi mr mi br bi found case = 3 - case
+μ-loop re im mr₀ mi₀ found₀ case₀ mr mi found case = 3 - case
 
 loop-holds : tie.Need-loop-holds Inv-loop μ-loop
 loop-holds c = search needs

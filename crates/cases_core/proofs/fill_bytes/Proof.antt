@@ -1,11 +1,11 @@
--- `fill` is safe and ends.
+-- `fill_bytes` is safe and ends.
 use mathlib.Core.Path.{_≡_}
 use Prim.Native.Nat.{_-_, _≤_, _<_}
 use native.Mathlib.Omega.{arith}
 use lib.ListN.{length, length-set}
 use borrow.Author.Needs.{needs}
-use Rattle.cases_core.proofs.fill.Statement.{statement}
-use Rattle.cases_core.proofs.fill.Tie as tie
+use Rattle.cases_core.proofs.fill_bytes.Statement.{statement}
+use Rattle.cases_core.proofs.fill_bytes.Tie as tie
 
 abbrev Inv-loop : tie.InvT-loop
 Inv-loop bytes₀ b₀ i₀ i-end bytes b i = (i ≤ length bytes₀) × (length bytes ≡ length bytes₀) × (b < 251)
@@ -37,8 +37,8 @@ same-length c = search needs
 returns : tie.Need-returns Inv-loop μ-loop
 returns c = search needs
 
-pub fill-spec : {M : Type 1} → statement M
-fill-spec =
+pub fill-bytes-spec : {M : Type 1} → statement M
+fill-bytes-spec =
     tie.close
     (tie.spec
     Inv-loop

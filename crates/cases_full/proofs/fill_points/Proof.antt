@@ -1,8 +1,8 @@
--- `fill` meets its contract.
+-- `fill_points` meets its contract.
 use Prim.Native.Nat.{_-_, _≤_}
 use borrow.Author.Needs.{needs}
-use Rattle.cases_full.proofs.fill.Statement.{statement}
-use Rattle.cases_full.proofs.fill.Tie as tie
+use Rattle.cases_full.proofs.fill_points.Statement.{statement}
+use Rattle.cases_full.proofs.fill_points.Tie as tie
 
 abbrev Inv-loop : tie.InvT-loop
 Inv-loop re₀ im₀ x₀ p₀ re im x p = p ≤ 39946
@@ -49,8 +49,8 @@ element-write-im-2 c = search needs
 returns : tie.Need-returns Inv-loop μ-loop
 returns c = search needs
 
-pub fill-spec : {M : Type 1} → statement M
-fill-spec =
+pub fill-points-spec : {M : Type 1} → statement M
+fill-points-spec =
     tie.close
     (tie.spec
     Inv-loop
