@@ -1,14 +1,14 @@
 -- A block's numbers are the metrics of its steps.
 use mathlib.Core.Path.{_≡_, refl, sym, ap, _∙_}
-use mathlib.Core.List.{List, [], _∷_, _++_}
-use Prim.Native.Nat.{ℕ, zero, suc, _+_, _-_, _*_, _/_, _%_, _≤_, _<_}
+use mathlib.Core.List.{List, _++_}
+use Prim.Native.Nat.{ℕ, zero, suc, _+_, _*_, _/_, _%_, _<_}
 use native.Mathlib.Omega.{arith}
-use lib.ListN.{length, getD, take, drop}
+use lib.ListN.{getD, take, drop}
 use lib.Ieee.{Float, nan}
 use Rattle.trellis.specs.Lists.{upto, laid}
-use Rattle.trellis.specs.LaidLaws.{upto-cong, laid-part}
-use Rattle.trellis.specs.Step.{Step, four}
-use Rattle.trellis.specs.Run.{quadruple, fourSteps}
+use Rattle.trellis.specs.LaidLaws.{laid-part}
+use Rattle.trellis.specs.Step.{four}
+use Rattle.trellis.specs.Run.{quadruple}
 use Rattle.decode_block.specs.Blocks.{BlockMade, fours}
 use Rattle.best_metrics.specs.Floats.{floats}
 
@@ -34,11 +34,11 @@ block-fours ms k n block b i h =
     ap (λ (x : ℕ). getD block x nan) (sym e) ∙ number ms k n block b (i / 4) (i % 4) (omega arith) (omega arith) ∙ ap (λ (x : ℕ). getD (ms x) (i % 4) nan) (sym f) ∙ ap (λ (x : ℕ). getD (ms ((4 * k + i) / 4)) x nan) (sym g)
 
 -- a block more
-pub more-metrics : (ms : ℕ → List Float) (k n : ℕ) (block xs xs₀ new : List Float) → BlockMade (λ i. four (ms i)) k n block → xs ≡ laid (upto (fours ms) (4 * k)) xs₀ → new ≡ take (4 * k) xs ++ laid (upto (floats block) (4 * n)) (drop (4 * k) xs)
+pub more-metrics : (ms : ℕ → List Float) (k n : ℕ) (xs xs₀ new : List Float) → xs ≡ laid (upto (fours ms) (4 * k)) xs₀ → new ≡ take (4 * k) xs ++ laid (upto (λ i. fours ms (4 * k + i)) (4 * n)) (drop (4 * k) xs)
     → new ≡ laid (upto (fours ms) (4 * (k + n))) xs₀
-more-metrics ms k n block xs xs₀ new b e f =
+more-metrics ms k n xs xs₀ new e f =
     let s : 4 * k + 4 * n ≡ 4 * (k + n) = omega arith in
     f
-    ∙ ap (λ (x : List Float). take (4 * k) x ++ laid (upto (floats block) (4 * n)) (drop (4 * k) x)) e
-    ∙ laid-part (fours ms) (floats block) (4 * k) (4 * n) xs₀ (λ i l. block-fours ms k n block b i l)
+    ∙ ap (λ (x : List Float). take (4 * k) x ++ laid (upto (λ i. fours ms (4 * k + i)) (4 * n)) (drop (4 * k) x)) e
+    ∙ laid-part (fours ms) (λ i. fours ms (4 * k + i)) (4 * k) (4 * n) xs₀ (λ i l. refl)
     ∙ ap (λ (x : ℕ). laid (upto (fours ms) x) xs₀) s
