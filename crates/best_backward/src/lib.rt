@@ -1,12 +1,10 @@
 // The backward pass: of each state the least cost to the end, and that of a content which differs from the reading within the rest of its slot.
 ghost use mathlib.Core.Path.{_≡_};
-ghost use Prim.Native.Nat.{_+_, _-_, _*_, _/_, _%_, _<_, _≤_, min};
-ghost use lib.ListN.{length, getD};
-ghost use lib.Ieee.{nan};
+ghost use Prim.Native.Nat.{_+_, _-_, _*_, _/_, _%_, _<_, _≤_};
+ghost use lib.ListN.{length};
 ghost use Rattle.viterbi_branches.specs.Branches.{BranchNumbers};
-ghost use Rattle.best_grid.specs.Grid.{cost, dearest};
 ghost use Rattle.best_grid.specs.Sides.{mirror, two, priceAt};
-ghost use Rattle.best_grid.specs.Backward.{far, low, turned, onward, leastAt, otherOf, backs, others, backRun, otherRun};
+ghost use Rattle.best_grid.specs.Backward.{low, turned, onward, leastAt, otherOf, backs, others, backRun, otherRun};
 ghost use Rattle.best_grid.specs.Leading.{seq};
 ghost use Rattle.best_backward.specs.Prices.{Halved, BackRoom, priceOf, turnedOf, keptAt, turnedAt, Four, Lower, Asked};
 ghost use Rattle.best_forward.specs.Room.{listed};
@@ -22,13 +20,19 @@ use trellis::STATES;
 use viterbi_branches::BRANCH;
 use viterbi_branches::Numbers;
 
-// From the state 2j + b on the input u, where the labels cost m, and `after` has the costs after the step.
-fn ahead(after: &[u64; STATES], t: &Numbers, m: &[u64; 4], u: usize, b: usize, j: usize) -> u64
-    requires { ⌜ (u < 2) × (b < 2) × (j < Isdb.half) × BranchNumbers (now t) × Halved (now after) × Halved (now m) ⌝ }
-    ensures { λ r. ⌜ r ≡ onward (now (after .entry)) (listed (now (m .entry))) u (2 * j + b) ⌝ }
+// The state 2j + b.
+struct State {
+    j: usize,
+    b: usize,
+}
+
+// From a state on the input u, where the labels cost m, and `after` has the costs after the step.
+fn ahead(after: &[u64; STATES], t: &Numbers, m: &[u64; 4], u: usize, s: State) -> u64
+    requires { ⌜ (u < 2) × (s .b < 2) × (s .j < Isdb.half) × BranchNumbers (now t) × Halved (now after) × Halved (now m) ⌝ }
+    ensures { λ r. ⌜ r ≡ onward (now (after .entry)) (listed (now (m .entry))) u (2 * s .j + s .b) ⌝ }
 {
-    let n = number(t, u, b, j) as usize;
-    m[n] + after[HALF * u + j]
+    let n = number(t, u, s.b, s.j) as usize;
+    m[n] + after[HALF * u + s.j]
 }
 
 // The least cost from a state to the end, and that of a content which differs.
@@ -37,7 +41,7 @@ struct Onward {
     other: u64,
 }
 
-// Both of the state 2j + b, from the tables after the step. The reading has the input u and costs `kept`, with the other uncoded bit `turned`.
+// Both of a state, from the tables after the step. The reading has the input u and costs `kept`, with the other uncoded bit `turned`.
 fn back_state(
     after: &[u64; STATES],
     differing: &[u64; STATES],
@@ -46,17 +50,16 @@ fn back_state(
     kept: &[u64; 4],
     turned: &[u64; 4],
     u: usize,
-    b: usize,
-    j: usize,
+    s: State,
 ) -> Onward
-    requires { ⌜ (u < 2) × (b < 2) × (j < Isdb.half) × BranchNumbers (now t) × Halved (now after) × Halved (now differing) × Halved (now low) × Halved (now kept) × Halved (now turned) ⌝ }
-    ensures { λ r. ⌜ (r .least ≡ leastAt (now (after .entry)) (listed (now (low .entry))) (2 * j + b))
-        × (r .other ≡ otherOf (now (after .entry)) (now (differing .entry)) (listed (now (low .entry))) (listed (now (kept .entry))) (listed (now (turned .entry))) u (2 * j + b)) ⌝ }
+    requires { ⌜ (u < 2) × (s .b < 2) × (s .j < Isdb.half) × BranchNumbers (now t) × Halved (now after) × Halved (now differing) × Halved (now low) × Halved (now kept) × Halved (now turned) ⌝ }
+    ensures { λ r. ⌜ (r .least ≡ leastAt (now (after .entry)) (listed (now (low .entry))) (2 * s .j + s .b))
+        × (r .other ≡ otherOf (now (after .entry)) (now (differing .entry)) (listed (now (low .entry))) (listed (now (kept .entry))) (listed (now (turned .entry))) u (2 * s .j + s .b)) ⌝ }
 {
-    let same = ahead(after, t, low, u, b, j);
-    let other = ahead(after, t, low, 1 - u, b, j);
-    let later = ahead(differing, t, kept, u, b, j);
-    let aside = ahead(after, t, turned, u, b, j);
+    let same = ahead(after, t, low, u, s);
+    let other = ahead(after, t, low, 1 - u, s);
+    let later = ahead(differing, t, kept, u, s);
+    let aside = ahead(after, t, turned, u, s);
     Onward {
         least: smaller(same, other),
         other: smaller(later, smaller(aside, other)),
@@ -82,8 +85,10 @@ fn back_step(
     let n = states(b);
     states(d);
     for j in 0..n / 2 {
-        let even = back_state(&after, &differing, t, low, kept, turned, u, 0, j);
-        let odd = back_state(&after, &differing, t, low, kept, turned, u, 1, j);
+        let first = State { j, b: 0 };
+        let second = State { j, b: 1 };
+        let even = back_state(&after, &differing, t, low, kept, turned, u, first);
+        let odd = back_state(&after, &differing, t, low, kept, turned, u, second);
         b[2 * j] = even.least;
         d[2 * j] = even.other;
         b[2 * j + 1] = odd.least;

@@ -1,5 +1,5 @@
 -- The bytes of a frame run by run.
-use mathlib.Core.Path.{_≡_, refl, sym, _∙_, ap}
+use mathlib.Core.Path.{_≡_, refl, _∙_, ap}
 use mathlib.Core.List.{List}
 use Prim.Native.Nat.{ℕ, _+_, _-_, _*_, _<_, _≤_}
 use native.Mathlib.Omega.{arith}
@@ -8,9 +8,9 @@ use borrow.Rule.Slice.PartMut.{midOf, putMid}
 use Rattle.trellis.specs.Lists.{upto, laid}
 use Rattle.isdbs_plan.specs.declared.Run.{Run}
 use Rattle.isdbs_tables.specs.declared.Table.{Table}
-use Rattle.isdbs_plan.specs.RunsOf.{stepsOf, stepsIn, frameSteps, validIn, validTotal, loadBytes, noRun}
+use Rattle.isdbs_plan.specs.RunsOf.{stepsOf, stepsIn, frameSteps, validIn, loadBytes, noRun}
 use Rattle.isdbs_points.specs.Layout.{byteOf}
-use Rattle.isdbs_points.specs.AmongLaws.{stepsTo, validTo}
+use Rattle.isdbs_points.specs.AmongLaws.{validTo}
 use Rattle.isdbs_metrics.specs.FrameRunLaws.{RunAt, Listed, run-first, run-next, next-valid, valid-fit, all-valid}
 use Rattle.best_sides.specs.Filled.{Filled, filled-none, filled-more}
 use Rattle.best_loads.specs.Held.{loadOf}

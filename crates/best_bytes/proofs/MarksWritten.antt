@@ -4,7 +4,7 @@ use mathlib.Core.List.{List, [], _∷_}
 use Prim.Native.Nat.{ℕ, zero, suc, _+_, _-_, _*_, _<_, _≤_}
 use native.Mathlib.Omega.{arith}
 use native.Mathlib.Nat.{not-suc-le-zero}
-use lib.ListN.{length, getD, take, drop, set}
+use lib.ListN.{length, getD, take, set}
 use borrow.Rule.Slice.PartMut.{midOf, putMid}
 use Rattle.trellis.specs.Lists.{upto, laid}
 use Rattle.trellis.specs.LaidLaws.{laid-upto}

@@ -1,6 +1,6 @@
 -- The bytes of a run from its own bits and uncoded bits, and of a frame run by run.
 use mathlib.Core.Path.{_≡_, refl, sym, ap, _∙_}
-use mathlib.Core.Bool.{Bool, true, false, cond}
+use mathlib.Core.Bool.{cond}
 use mathlib.Core.List.{List}
 use Prim.Native.Nat.{ℕ, _+_, _-_, _*_, _/_, _%_, _<_, _≤_}
 use native.Mathlib.Omega.{arith}
@@ -15,7 +15,7 @@ use Rattle.isdbs_combination.specs.declared.Modulation.{Modulation}
 use Rattle.isdbs_combination.specs.declared.Modulation.the-variants.{Bpsk, Qpsk, Tc8psk}
 use Rattle.isdbs_combination.specs.Combinations.{modulationOf, slotSteps, slotBits}
 use Rattle.isdbs_plan.specs.declared.Run.{Run}
-use Rattle.isdbs_plan.specs.RunsOf.{stepsOf, noRun}
+use Rattle.isdbs_plan.specs.RunsOf.{noRun}
 use Rattle.isdbs_points.specs.Layout.{Segment, segmentOf, segmentsFrom, among, byteOf}
 use Rattle.isdbs_points.specs.AmongLaws.{stepsTo, validTo, among-bit}
 use Rattle.isdbs_metrics.specs.DigitLaws.{byte-cong}

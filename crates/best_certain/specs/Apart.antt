@@ -3,11 +3,11 @@ use mathlib.Core.Path.{_≡_, refl, sym, ap, _∙_, subst}
 use mathlib.Core.Logic.{_⊎_, inl, inr, ⊎-elim}
 use mathlib.Core.Bool.{Bool, true, false, cond}
 use mathlib.Core.List.{List}
-use Prim.Native.Nat.{ℕ, zero, suc, _+_, _-_, _*_, _≤_, _<_}
+use Prim.Native.Nat.{ℕ, zero, suc, _+_, _-_, _≤_, _<_}
 use native.Mathlib.Omega.{arith}
 use borrow.Author.Count.{below-more}
 use borrow.Author.Tests.{eqb-true, eqb-false, eq-eqb, ne-eqb}
-use lib.Dec.{eqb, leb}
+use lib.Dec.{eqb}
 use lib.IntN.{ℤ, pos, negsuc, negℤ, _+ℤ_}
 use lib.Signed.{_≤ℤ_}
 use lib.ListN.{getD}
@@ -27,6 +27,7 @@ use Rattle.best_grid.specs.GridLaws.{grid-parts}
 use Rattle.best_grid.specs.Sides.{two, better, worthAt}
 use Rattle.best_grid.specs.SideLaws.{Upright}
 use Rattle.best_grid.specs.Contents.{Content, worth}
+use Rattle.best_grid.specs.Sequences.{turned-bit}
 use Rattle.best_certain.specs.Gaps.{least}
 
 -- ---- what a step is worth, as a difference
@@ -154,19 +155,10 @@ module _ (xs : List Float) (sides : List ℕ) where
       turned a e =
           let u = mine .path .walk .bits k h in
           let v = other .path .walk .bits k h in
-          let f : getD vs k 0 ≡ 1 - getD us k 0 = flipped (getD us k 0) (getD vs k 0) u v e in
+          let f : getD vs k 0 ≡ 1 - getD us k 0 = turned-bit (getD us k 0) (getD vs k 0) u v e in
           let small = at-under 32 k s us (record { start = mine .path .walk .start; bits = λ i l. mine .path .walk .bits i (omega arith) }) in
           let l : Isdb.labelAt s vs k ≡ 3 - c = ap (λ (x : ℕ). Isdb.labels x (stateAt 32 s vs k)) f ∙ ap (Isdb.labels (1 - getD us k 0)) (sym (state-same k (a .same))) ∙ complement (getD us k 0) (stateAt 32 s us k) u small in
           falls a (subst (λ (x : ℕ). Less (stepZ k (getD ys k 0) x) (above (metric k c), below (metric k c)) least) (sym l) (far-step n up k c h (label-small us k) (ahead k h) (getD ys k 0)))
-        where
-          flipped : (a b : ℕ) → a < 2 → b < 2 → (a ≡ b → ⊥) → b ≡ 1 - a
-          flipped zero zero p q f = absurd (f refl)
-          flipped zero (suc zero) p q f = refl
-          flipped zero (suc (suc b)) p q f = absurd (omega arith)
-          flipped (suc zero) zero p q f = refl
-          flipped (suc zero) (suc zero) p q f = absurd (f refl)
-          flipped (suc zero) (suc (suc b)) p q f = absurd (omega arith)
-          flipped (suc (suc a)) b p q f = absurd (omega arith)
 
       same-label : Alike k → getD us k 0 ≡ getD vs k 0 → c ≡ Isdb.labelAt s vs k
       same-label a e = ap (λ (x : ℕ). Isdb.labels x (stateAt 32 s us k)) e ∙ ap (Isdb.labels (getD vs k 0)) (state-same k (a .same))

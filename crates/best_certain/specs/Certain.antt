@@ -1,34 +1,30 @@
 -- Certain implies best: where the points lie within the margins of a full load, that load is the best reading, each of its leads is above 0, and `decode_frame` reads it too.
-use mathlib.Core.Path.{_≡_, refl, sym, ap, _∙_, subst}
+use mathlib.Core.Path.{_≡_, sym, ap, _∙_, subst}
 use mathlib.Core.Logic.{_⊎_, inl, inr, ⊎-elim}
-use mathlib.Core.Bool.{Bool, true, false, true≢false, cond}
+use mathlib.Core.Bool.{Bool, true, true≢false, cond}
 use mathlib.Core.List.{List}
-use Prim.Native.Nat.{ℕ, _+_, _-_, _*_, _%_, _≤_, _<_}
+use Prim.Native.Nat.{ℕ, _+_, _-_, _%_, _≤_, _<_}
 use native.Mathlib.Omega.{arith}
 use lib.Dec.{leb}
 use lib.IntN.{ℤ, pos, _+ℤ_}
 use lib.Signed.{_≤ℤ_}
-use lib.ListN.{getD, length}
+use lib.ListN.{getD}
 use lib.Seq.{ext-getD}
 use lib.Ieee.{Float, nan, binary32}
 use Rattle.ieee.specs.Order.{le→value}
-use Rattle.trellis.specs.ListLaws.{length-upto}
-use Rattle.trellis.specs.Run.{quadruple}
 use Rattle.trellis.specs.Code.{stateAt, isdb}
 use Rattle.trellis.specs.RunLaws.{label-under}
 use Rattle.trellis.specs.Isdb
-use Rattle.path_lead.specs.Favour.{Favour}
 use Rattle.path_greatest.specs.Fresh.{StartsIn}
 use Rattle.path_greatest.specs.declared.Start.the-variants.{Given}
 use Rattle.isdbs_combination.specs.declared.Modulation.{Modulation}
-use Rattle.isdbs_combination.specs.declared.Modulation.the-variants.{Bpsk, Qpsk, Tc8psk}
 use Rattle.isdbs_combination.specs.Combinations.{modulationOf}
 use Rattle.isdbs_tables.specs.declared.Table.{Table}
 use Rattle.isdbs_tables.specs.Tables.{TableAccepted}
 use Rattle.isdbs_plan.specs.RunsOf.{frameSteps, loadBytes, validTotal}
 use Rattle.isdbs_points.specs.declared.Mapping.{Mapping}
-use Rattle.isdbs_points.specs.Layout.{Segment, segments, In, atStep, loadBit, FullLoad}
-use Rattle.isdbs_points.specs.Frame.{inputs, inputIn, labelAt, startState}
+use Rattle.isdbs_points.specs.Layout.{Segment, segments, In, FullLoad}
+use Rattle.isdbs_points.specs.Frame.{inputs, labelAt, startState}
 use Rattle.isdbs_points.specs.SizeLaws.{find-step, step-fits}
 use Rattle.isdbs_points.specs.OrderLaws.{Kind, one, two, three, kind}
 use Rattle.isdbs_metrics.specs.Reading.{Received, metricsAt, decodedBytes, received}
@@ -39,10 +35,10 @@ use Rattle.exact_frame.specs.Steps.{step-favours, tc-bit}
 use Rattle.exact_frame.specs.Exact.{decoded-load, start-small}
 use Rattle.best_grid.specs.Sides as sided
 use Rattle.best_grid.specs.Contents.{worth}
-use Rattle.best_sides.specs.FrameSides.{frameMetrics, frameSides, sideBy, betterIn}
+use Rattle.best_sides.specs.FrameSides.{frameMetrics, frameSides, sideBy}
 use Rattle.best_sides.specs.FrameLaws.{quadruple-is, frame-upright, frame-held, chosen-uncoded}
 use Rattle.best_loads.specs.Fit.{fit, Sent, LeadsIn, BestReading}
-use Rattle.best_loads.specs.Held.{uncodedBits, uncodedBy, uncodedIn}
+use Rattle.best_loads.specs.Held.{uncodedBits, uncodedBy}
 use Rattle.best_loads.specs.FitLaws.{beside-at, none-beside, load-worth, load-content}
 use Rattle.best_loads.specs.HeldLaws.{load-only}
 use Rattle.best_loads.specs.OnlyLaws.{below-same, no-gain, ≤ℤ-trans}

@@ -1,7 +1,7 @@
 -- Metrics in order, and metrics that are apart, on the grid.
 use mathlib.Core.Path.{_≡_, ap, _∙_, subst}
 use mathlib.Core.Logic.{_⊎_, inl, inr}
-use Prim.Native.Nat.{ℕ, _+_, _*_, _/_, _^_, _≤_, _<_, min}
+use Prim.Native.Nat.{ℕ, _+_, _*_, _/_, _≤_, _<_, min}
 use native.Mathlib.Nat.{div-mul-le-self, lt-div-mul-add, lt-of-mul-lt-mul-right, zero-div}
 use native.Mathlib.Omega.{arith}
 use lib.Pow.{pow-pos}
@@ -11,6 +11,7 @@ use Rattle.ieee.specs.Order.{Le}
 use Rattle.ieee.specs.Rounding.{pow2, pow2-is, pow2-add}
 use Rattle.path_lead.specs.Favour.{Above, margin}
 use Rattle.best_grid.specs.Grid.{unit, most, above, below}
+use Rattle.best_grid.specs.GridLaws.{capped}
 
 -- by how much a load leads within its margins, at least: the margin of 7 in units of 2 ^ -20, less one for the cuts
 abbrev pub least : ℕ
@@ -49,9 +50,6 @@ cut-gap u A B C D hx ly hy lx k a b c d h =
     let l : (C + D + k + 1) * u < (A + B + 2) * u = omega arith in
     let m = lt-of-mul-lt-mul-right u {m = C + D + k + 1} {n = A + B + 2} l in
     omega arith
-
-capped : (n : ℕ) → n ≤ most → min most n ≡ n
-capped n h = omega arith
 
 parted : (u hx lx hy ly k : ℕ) → 0 < u → hx / u ≤ most → lx / u ≤ most → hy / u ≤ most → ly / u ≤ most → hy + lx + (k * u + u) ≤ hx + ly
     → min most (hy / u) + min most (lx / u) + k ≤ min most (hx / u) + min most (ly / u)

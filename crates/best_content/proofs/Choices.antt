@@ -49,6 +49,6 @@ fars-halved d e k =
     (λ (h : 64 ≤ k). rw (e, List·getD-eq-default {A = ℕ} (upto (λ s. far) 64) 0 {n = k} (rw (length-upto {A = ℕ} (λ s. far) 64) h)) (omega arith))
     (lt-or-ge k 64)
 
--- the lead, from what the steps back left
-pub lead-is : (table : List ℕ) (run : List ℕ → List ℕ) (none d : List ℕ) (own m r : ℕ) → none ≡ fars → d ≡ run none → m ≡ leastOf table d 64 → r ≡ m - own → r ≡ leastOf table (run fars) 64 - own
-lead-is table run none d own m r e f g h = h ∙ rw (g, f, e) refl
+-- what the cheapest content that differs costs, from what the steps back left
+pub differing-is : (table : List ℕ) (run : List ℕ → List ℕ) (none d : List ℕ) (m : ℕ) → none ≡ fars → d ≡ run none → m ≡ leastOf table d 64 → m ≡ leastOf table (run fars) 64
+differing-is table run none d m e f g = g ∙ rw (f, e) refl

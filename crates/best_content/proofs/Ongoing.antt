@@ -12,7 +12,6 @@ use Rattle.trellis.specs.ListLaws.{length-upto, getD-upto}
 use Rattle.trellis.specs.LaidLaws.{laid-part, length-laid}
 use Rattle.trellis.specs.WrittenLaws.{lt-or-ge}
 use Rattle.trellis.specs.Run.{quadruple}
-use Rattle.trellis.specs.Isdb
 use Rattle.best_grid.specs.Grid.{cost, costAt}
 use Rattle.best_grid.specs.TableLaws.{nexts-alike, word-alike, cost-small, room-at}
 use Rattle.best_grid.specs.Costs.{nexts, word, tableAt, wordAt}

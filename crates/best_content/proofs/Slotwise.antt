@@ -72,10 +72,10 @@ module _ (xs : List Float) (sides bits uncoded marks tables : List ℕ) (own n :
       let t : a + (b - a) ≡ b = omega arith in
       f ∙ ap (λ (y : List ℕ). backRun y cheap a (b - a)) (e ∙ ap (λ (i : ℕ). backAt cheap i (n - b)) (sym t)) ∙ sym (back-split cheap a (b - a) (n - b)) ∙ ap (backAt cheap a) (sym s)
 
-  pub lead-slot-is : (k : ℕ) (x : List ℕ) (r : ℕ) → x ≡ backAt cheap (getD marks (k + 1) 0) (n - getD marks (k + 1) 0)
-      → r ≡ leastOf (piece (64 * k) (64 * k + 64) tables) (otherRun (two xs sides) (priceAt xs sides) (seq bits) (seq uncoded) fars x (getD marks k 0) (getD marks (k + 1) 0 - getD marks k 0)) 64 - own
+  pub lead-slot-is : (k : ℕ) (x : List ℕ) (m r : ℕ) → x ≡ backAt cheap (getD marks (k + 1) 0) (n - getD marks (k + 1) 0)
+      → m ≡ leastOf (piece (64 * k) (64 * k + 64) tables) (otherRun (two xs sides) (priceAt xs sides) (seq bits) (seq uncoded) fars x (getD marks k 0) (getD marks (k + 1) 0 - getD marks k 0)) 64 → r ≡ m - own
       → r ≡ leadAt xs sides bits uncoded marks tables own n k
-  lead-slot-is k x r e f = f ∙ ap (λ (y : List ℕ). leastOf (piece (64 * k) (64 * k + 64) tables) (otherRun (two xs sides) (priceAt xs sides) (seq bits) (seq uncoded) fars y (getD marks k 0) (getD marks (k + 1) 0 - getD marks k 0)) 64 - own) e
+  lead-slot-is k x m r e f g = g ∙ ap (λ (i : ℕ). i - own) f ∙ ap (λ (y : List ℕ). leastOf (piece (64 * k) (64 * k + 64) tables) (otherRun (two xs sides) (priceAt xs sides) (seq bits) (seq uncoded) fars y (getD marks k 0) (getD marks (k + 1) 0 - getD marks k 0)) 64 - own) e
 
 -- before the last slot's end nothing is left
 pub nothing-left : (m : ℕ → ℕ → ℕ) (t n : ℕ) → t ≡ n → replicate 64 0 ≡ backAt m t (n - t)

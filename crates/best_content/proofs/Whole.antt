@@ -9,7 +9,7 @@ use lib.Seq.{take-all}
 use lib.Ieee.{Float}
 use Rattle.trellis.specs.Lists.{upto, laid, bit}
 use Rattle.trellis.specs.ListLaws.{length-upto, getD-upto}
-use Rattle.trellis.specs.LaidLaws.{take-laid, laid-at}
+use Rattle.trellis.specs.LaidLaws.{take-laid}
 use Rattle.trellis.specs.WrittenLaws.{lt-or-ge}
 use Rattle.trellis.specs.Step.{back, input, traced}
 use Rattle.trellis.specs.Run.{quadruple}
@@ -96,18 +96,18 @@ asked start xs sides n bits uncoded s few long sided e f =
           (lt-or-ge k n));
     }
 
-pub whole-found : (start : Start) (xs : List Float) (sides marks : List ℕ) (slots n : ℕ) → n ≤ Isdb.longestFrame → Upright xs sides n → Marked marks slots n → (tables bits uncoded leads leads₀ : List ℕ) (s cost : ℕ)
+pub whole-found : (start : Start) (xs : List Float) (sides marks : List ℕ) (slots n : ℕ) → n ≤ Isdb.longestFrame → Upright xs sides n → Marked marks slots n → (tables bits uncoded leads : List ℕ) (s cost : ℕ)
     → Saved (startTable start) (costAt (quadruple xs)) marks slots tables → bits ≡ bestBits start (quadruple xs) n → s ≡ bestStart start (quadruple xs) n → uncoded ≡ upto (chosen sides bits s) n
-    → cost ≡ getD (tableAt (startTable start) (costAt (quadruple xs)) n) (bestEnd start (quadruple xs) n) 0 → leads ≡ laid (upto (leadAt xs sides bits uncoded marks tables cost n) slots) leads₀
+    → cost ≡ getD (tableAt (startTable start) (costAt (quadruple xs)) n) (bestEnd start (quadruple xs) n) 0 → leads ≡ upto (leadAt xs sides bits uncoded marks tables cost n) slots
     → Found start xs sides marks slots n bits uncoded leads
-whole-found start xs sides marks slots n few up marked tables bits uncoded leads leads₀ s cost sv is-bits is-s is-uncoded is-cost is-leads =
+whole-found start xs sides marks slots n few up marked tables bits uncoded leads s cost sv is-bits is-s is-uncoded is-cost is-leads =
     let us = bestBits start (quadruple xs) n in
     let r = bestStart start (quadruple xs) n in
     let zs = upto (chosen sides us r) n in
     let u : uncoded ≡ zs = is-uncoded ∙ ap (λ (b : List ℕ). upto (chosen sides b s) n) is-bits ∙ ap (λ (j : ℕ). upto (chosen sides us j) n) is-s in
     let own = own-is start xs sides marks slots n few up marked tables sv in
     let w = found start xs sides marks slots n few up marked tables sv leads
-    (λ k h. ap (λ (x : List ℕ). getD x k 0) is-leads ∙ laid-at 0 (leadAt xs sides bits uncoded marks tables cost n) slots leads₀ k h
+    (λ k h. ap (λ (x : List ℕ). getD x k 0) is-leads ∙ getD-upto (leadAt xs sides bits uncoded marks tables cost n) 0 slots k h
     ∙ ap (λ (b : List ℕ). leadAt xs sides b uncoded marks tables cost n k) is-bits
     ∙ ap (λ (b : List ℕ). leadAt xs sides us b marks tables cost n k) u
     ∙ ap (λ (j : ℕ). leadAt xs sides us zs marks tables j n k) (is-cost ∙ sym own)) in

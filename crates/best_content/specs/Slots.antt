@@ -42,14 +42,13 @@ abbrev pub leadAt : List Float → List ℕ → List ℕ → List ℕ → List �
 leadAt xs sides bits uncoded marks tables own n k =
     leastOf (piece (64 * k) (64 * k + 64) tables) (otherRun (two xs sides) (priceAt xs sides) (seq bits) (seq uncoded) fars (backAt (low (two xs sides) (priceAt xs sides)) (getD marks (k + 1) 0) (n - getD marks (k + 1) 0)) (getD marks k 0) (getD marks (k + 1) 0 - getD marks k 0)) 64 - own
 
--- what a reading is lent: n steps of metrics and sides, the marks of the slots, and room; no metric of a step with an uncoded bit is negative
-pub record Lent (xs : List Float) (sides marks : List ℕ) (slots : ℕ) (tables decisions bits uncoded leads : List ℕ) : Type 0 where
-  pub marked : Marked marks slots (length xs / 4)
+-- what a reading is lent: n steps of metrics and sides, the marks of the slots, a lead for each, and room; no metric of a step with an uncoded bit is negative
+pub record Lent (xs : List Float) (sides marks : List ℕ) (tables decisions bits uncoded leads : List ℕ) : Type 0 where
+  pub marked : Marked marks (length leads) (length xs / 4)
   pub few : length xs / 4 ≤ Isdb.longestFrame
   pub sided : length xs / 4 ≤ length sides
-  pub kept : 64 * slots ≤ length tables
+  pub kept : 64 * length leads ≤ length tables
   pub words : length xs / 4 ≤ length decisions
   pub read : length bits ≡ length xs / 4
   pub beside : length uncoded ≡ length xs / 4
-  pub led : slots ≤ length leads
   pub upright : Upright xs sides (length xs / 4)

@@ -1,10 +1,10 @@
 // The best content of a stretch of metrics with sides, and by how much it leads in each slot: a forward pass, the bits traced back, their uncoded bits, and a backward pass, slot by slot.
 ghost use mathlib.Core.Path.{_≡_};
-ghost use Prim.Native.Nat.{ℕ, _+_, _-_, _*_, _/_, _%_, _^_, _<_, _≤_, min};
-ghost use lib.ListN.{length, getD, take, drop};
+ghost use Prim.Native.Nat.{ℕ, _+_, _-_, _*_, _/_, _%_, _<_, _≤_};
+ghost use lib.ListN.{length, getD, take};
 ghost use Rattle.trellis.specs.Lists.{upto, laid};
 ghost use Rattle.trellis.specs.Step.{back};
-ghost use Rattle.best_grid.specs.Backward.{far, leastOf, fars, low, backAt, backRun, otherRun};
+ghost use Rattle.best_grid.specs.Backward.{leastOf, fars, low, backRun, otherRun};
 ghost use Rattle.best_grid.specs.Sides.{two, priceAt, chosenAt, chosen};
 ghost use Rattle.best_backward.specs.Prices.{Asked, BackRoom, Halved};
 ghost use Rattle.trellis.specs.Run.{quadruple};
@@ -145,7 +145,7 @@ fn none_differs() -> [u64; STATES]
     [FAR; STATES]
 }
 
-// The slot of the steps from `at` on: the table of costs to the end before them, and by how much the cheapest content that differs in them is beyond `own`.
+// The slot of the steps from `at` on: the table of costs to the end before them, and what the cheapest content that differs in them costs.
 fn lead_slot(
     b: &mut [u64; STATES],
     metrics: &[f32],
@@ -155,38 +155,35 @@ fn lead_slot(
     at: usize,
     count: usize,
     table: &[u64],
-    own: u64,
 ) -> u64
     requires { ⌜ Asked (now metrics) (now sides) (now bits) (now uncoded) at count × BackRoom count (now b) × (length (now table) ≡ Isdb.states) × Halved (now table) ⌝ }
     ensures { λ r. ⌜ (now (b .exit) ≡ backRun (now (b .entry)) (low (two (now (metrics .entry)) (now (sides .entry))) (priceAt (now (metrics .entry)) (now (sides .entry)))) at count)
-        × (r ≡ leastOf (now (table .entry)) (otherRun (two (now (metrics .entry)) (now (sides .entry))) (priceAt (now (metrics .entry)) (now (sides .entry))) (seq (now (bits .entry))) (seq (now (uncoded .entry))) fars (now (b .entry)) at count) Isdb.states - own) ⌝ }
+        × (r ≡ leastOf (now (table .entry)) (otherRun (two (now (metrics .entry)) (now (sides .entry))) (priceAt (now (metrics .entry)) (now (sides .entry))) (seq (now (bits .entry))) (seq (now (uncoded .entry))) fars (now (b .entry)) at count) Isdb.states) ⌝ }
 {
     let none = none_differs();
     let mut d = none;
     back_steps(b, &mut d, metrics, sides, bits, uncoded, at, count);
-    let m = least_sum(table, &d);
-    beyond(m, own)
+    least_sum(table, &d)
 }
 
-// The leads of the slots, from the last to the first; `own` is what the reading costs.
+// The lead of each slot, from the last to the first; `own` is what the reading costs.
 fn lead_slots(
     metrics: &[f32],
     sides: &[u8],
     bits: &[u8],
     uncoded: &[u8],
     marks: &[u32],
-    slots: usize,
     tables: &[u64],
     own: u64,
     leads: &mut [u64],
 )
-    requires { ⌜ Marked (now marks) slots (length (now metrics) / 4) × (length (now metrics) / 4 ≤ Isdb.longestFrame) × Asked (now metrics) (now sides) (now bits) (now uncoded) 0 (length (now metrics) / 4)
-        × (Isdb.states * slots ≤ length (now tables)) × Lowered slots (now tables) × (slots ≤ length (now leads)) ⌝ }
-    ensures { λ _. ⌜ now (leads .exit) ≡ laid (upto (leadAt (now (metrics .entry)) (now (sides .entry)) (now (bits .entry)) (now (uncoded .entry)) (now (marks .entry)) (now (tables .entry)) own (length (now (metrics .entry)) / 4)) slots) (now (leads .entry)) ⌝ }
+    requires { ⌜ Marked (now marks) (length (now leads)) (length (now metrics) / 4) × (length (now metrics) / 4 ≤ Isdb.longestFrame) × Asked (now metrics) (now sides) (now bits) (now uncoded) 0 (length (now metrics) / 4)
+        × (Isdb.states * length (now leads) ≤ length (now tables)) × Lowered (length (now leads)) (now tables) ⌝ }
+    ensures { λ _. ⌜ now (leads .exit) ≡ upto (leadAt (now (metrics .entry)) (now (sides .entry)) (now (bits .entry)) (now (uncoded .entry)) (now (marks .entry)) (now (tables .entry)) own (length (now (metrics .entry)) / 4)) (length (now (leads .entry))) ⌝ }
 {
     let zeros = [0u64; STATES];
     let mut b = zeros;
-    let mut left = slots;
+    let mut left = leads.len();
     while left > 0 {
         left -= 1;
         let at = marks[left] as usize;
@@ -202,9 +199,8 @@ fn lead_slots(
             at,
             to - at,
             &tables[from..end],
-            own,
         );
-        leads[left] = m;
+        leads[left] = beyond(m, own);
     }
 }
 
@@ -244,12 +240,11 @@ fn read_best(
     }
 }
 
-// The best content of metrics with sides, and its lead in each slot.
+// The best content of metrics with sides, and its lead in each slot: as many slots as leads.
 pub fn best_content(
     metrics: &[f32],
     sides: &[u8],
     marks: &[u32],
-    slots: usize,
     start: Start,
     tables: &mut [u64],
     decisions: &mut [u64],
@@ -257,10 +252,11 @@ pub fn best_content(
     uncoded: &mut [u8],
     leads: &mut [u64],
 )
-    requires { ⌜ Lent (now metrics) (now sides) (now marks) slots (now tables) (now decisions) (now bits) (now uncoded) (now leads) ⌝ }
-    ensures { λ _. ⌜ Found start (now (metrics .entry)) (now (sides .entry)) (now (marks .entry)) slots (length (now (metrics .entry)) / 4) (now (bits .exit)) (now (uncoded .exit)) (now (leads .exit)) ⌝ }
+    requires { ⌜ Lent (now metrics) (now sides) (now marks) (now tables) (now decisions) (now bits) (now uncoded) (now leads) ⌝ }
+    ensures { λ _. ⌜ Found start (now (metrics .entry)) (now (sides .entry)) (now (marks .entry)) (length (now (leads .entry))) (length (now (metrics .entry)) / 4) (now (bits .exit)) (now (uncoded .exit)) (now (leads .exit)) ⌝ }
 {
     let n = metrics.len() / 4;
+    let slots = leads.len();
     let best = read_best(metrics, marks, slots, start, tables, decisions, bits);
     write_uncoded(sides, bits, best.start, n, uncoded);
     lead_slots(
@@ -269,7 +265,6 @@ pub fn best_content(
         bits,
         uncoded,
         marks,
-        slots,
         tables,
         best.cost,
         leads,

@@ -2,13 +2,13 @@
 ghost use mathlib.Core.Path.{_≡_};
 ghost use Prim.Native.Nat.{_+_, _-_, _*_, _/_, _%_, _<_, _≤_, min};
 ghost use lib.Dec.{leb};
-ghost use lib.ListN.{length, getD};
+ghost use lib.ListN.{length};
 ghost use Rattle.trellis.specs.Lists.{bit, upto, laid};
 ghost use Rattle.trellis.specs.Run.{quadruple};
 ghost use Rattle.viterbi_branches.specs.Branches.{BranchNumbers};
 ghost use Rattle.best_grid.specs.Grid.{cost, costAt};
 ghost use Rattle.best_grid.specs.Patterns.{unitsOf};
-ghost use Rattle.best_grid.specs.Costs.{through, nexts, word, tableAt, wordAt, cheapest, begun, anywhere};
+ghost use Rattle.best_grid.specs.Costs.{through, nexts, word, tableAt, wordAt, cheapest};
 ghost use Rattle.best_grid.specs.Best.{startTable, bestBits};
 ghost use Rattle.best_grid.specs.Grid.{gridAt};
 ghost use Rattle.path_greatest.specs.Paths.{Reading};

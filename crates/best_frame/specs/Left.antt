@@ -1,8 +1,8 @@
 -- What `best_reading` needs of the lent memory, and what it leaves there. Definitions only.
 use mathlib.Core.Path.{_≡_}
 use mathlib.Core.List.{List}
-use Prim.Native.Nat.{ℕ, _*_, _≤_, _<_}
-use lib.ListN.{length, take, drop}
+use Prim.Native.Nat.{ℕ, _*_, _≤_}
+use lib.ListN.{take, drop}
 use Rattle.trellis.specs.Isdb
 use Rattle.path_greatest.specs.Fresh.{StartsIn}
 use Rattle.path_greatest.specs.declared.Start.{Start}

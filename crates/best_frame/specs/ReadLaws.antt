@@ -5,12 +5,11 @@ use Prim.Native.Nat.{ℕ, _+_, _*_, _/_, _≤_, _<_}
 use native.Mathlib.Omega.{arith}
 use lib.ListN.{length, getD, take, drop, drop-of-length-le}
 use lib.Seq.{length-take-le, take-at, drop-at}
-use lib.Ieee.{Float, nan}
-use Rattle.trellis.specs.Lists.{upto, laid}
-use Rattle.trellis.specs.ListLaws.{length-upto, getD-upto}
+use lib.Ieee.{Float}
+use Rattle.trellis.specs.Lists.{laid}
+use Rattle.trellis.specs.ListLaws.{length-upto}
 use Rattle.trellis.specs.LaidLaws.{laid-at, length-laid-upto}
 use Rattle.trellis.specs.Isdb
-use Rattle.path_greatest.specs.Fresh.{StartsIn}
 use Rattle.path_greatest.specs.declared.Start.{Start}
 use Rattle.isdbs_tables.specs.declared.Table.{Table}
 use Rattle.isdbs_tables.specs.Tables.{TableAccepted}
@@ -25,7 +24,6 @@ use Rattle.range_frames.specs.Metrics.{Sized}
 use Rattle.best_sides.specs.FrameSides.{frameMetrics, frameSides, sideAt}
 use Rattle.best_sides.specs.FrameLaws.{frame-upright}
 use Rattle.best_content.specs.Slots as content
-use Rattle.best_content.specs.Slots.{Marked}
 use Rattle.best_content.specs.Found.{Found}
 use Rattle.best_loads.specs.Marks.{markAt, frameMarks}
 use Rattle.best_loads.specs.MarkLaws.{marked-of}
@@ -63,21 +61,20 @@ module _ (t : Table) (accepted : TableAccepted t) (r : Received) (start : Start)
   marks-long marks₀ marks e h = let l = ap length e ∙ length-laid-upto (markAt t) (validTotal t + 1) marks₀ (omega arith) in omega arith
 
   -- what the reading of the whole is lent
-  pub content-lent : (v : ℕ) → v ≡ validTotal t → (z : Sized 16 6 r) (metrics : List Float) (sides marks tables words bits uncoded leads : List ℕ) → metrics ≡ frameMetrics t r → sides ≡ frameSides t r
+  pub content-lent : (z : Sized 16 6 r) (metrics : List Float) (sides marks tables words bits uncoded leads : List ℕ) → metrics ≡ frameMetrics t r → sides ≡ frameSides t r
       → validTotal t + 1 ≤ length marks → ((k : ℕ) → k ≤ validTotal t → getD marks k 0 ≡ markAt t k) → Isdb.states * validTotal t ≤ length tables → frameSteps t ≤ length words
-      → length bits ≡ frameSteps t → length uncoded ≡ frameSteps t → validTotal t ≤ length leads → content.Lent metrics sides marks v tables words bits uncoded leads
-  content-lent v ev z metrics sides marks tables words bits uncoded leads em es ml ma ht hw hb hu hl =
+      → length bits ≡ frameSteps t → length uncoded ≡ frameSteps t → length leads ≡ validTotal t → content.Lent metrics sides marks tables words bits uncoded leads
+  content-lent z metrics sides marks tables words bits uncoded leads em es ml ma ht hw hb hu hl =
       let n = steps em in
       let s : length sides ≡ frameSteps t = ap length es ∙ sides-long in
-      rw (em, es, ev) (record {
-        marked = rw (steps refl) (marked-of t marks ml ma);
+      rw (em, es) (record {
+        marked = rw (hl, steps refl) (marked-of t marks ml ma);
         few = rw (steps refl) (few-steps t accepted);
         sided = rw (steps refl, sides-long) (omega arith);
-        kept = ht;
+        kept = rw hl ht;
         words = rw (steps refl) hw;
         read = hb ∙ sym (steps refl);
         beside = hu ∙ sym (steps refl);
-        led = hl;
         upright = rw (steps refl) (frame-upright t accepted r z);
       })
     where

@@ -10,10 +10,11 @@ use lib.Dec.{ltb}
 use lib.ListN.{getD}
 use Rattle.trellis.specs.Lists.{bit}
 use Rattle.trellis.specs.Isdb
+use Rattle.ieee.specs.Rounding.{le-or-ge}
 use Rattle.best_grid.specs.Grid.{dearest}
 use Rattle.best_grid.specs.Costs.{tableAt}
 use Rattle.best_grid.specs.Backward.{far, low, otherAt, leastOf}
-use Rattle.best_grid.specs.Sequences.{le-or, stateF, Fine, state-under, put, put-here, put-fine, spent, ahead, split, other-least, other-met, table-least, table-met, ahead-alike, spent-alike, state-alike}
+use Rattle.best_grid.specs.Sequences.{stateF, Fine, state-under, put, put-here, put-fine, spent, ahead, split, other-least, other-met, table-least, table-met, ahead-alike, spent-alike, state-alike}
 
 -- ---- the least of a list of sums
 pub least-under : (a d : List ℕ) (n s : ℕ) → s < n → leastOf a d n ≤ getD a s 0 + getD d s 0
@@ -35,7 +36,7 @@ record At (a d : List ℕ) (n v : ℕ) : Type 0 where
 least-at : (a d : List ℕ) (n : ℕ) → (leastOf a d n ≡ far + far) ⊎ At a d n (leastOf a d n)
 unfolding leastOf
 least-at a d zero = inl refl
-least-at a d (suc n) = go (leastOf a d n) (getD a n 0 + getD d n 0) refl refl (le-or (leastOf a d n) (getD a n 0 + getD d n 0)) (least-at a d n)
+least-at a d (suc n) = go (leastOf a d n) (getD a n 0 + getD d n 0) refl refl (le-or-ge (leastOf a d n) (getD a n 0 + getD d n 0)) (least-at a d n)
   where
     go : (x y : ℕ) → leastOf a d n ≡ x → getD a n 0 + getD d n 0 ≡ y → (x ≤ y) ⊎ (y ≤ x) → (leastOf a d n ≡ far + far) ⊎ At a d n (leastOf a d n) → (min x y ≡ far + far) ⊎ At a d (suc n) (min x y)
     go x y ex ey (inl h) (inl k) = inl (omega arith)

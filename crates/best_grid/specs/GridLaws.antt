@@ -4,7 +4,7 @@ use mathlib.Core.Logic.{inl, inr}
 use mathlib.Core.Bool.{Bool, true, false, cond}
 use mathlib.Core.List.{List}
 use Prim.Native.Nat.{ℕ, _+_, _-_, _*_, _/_, _%_, _^_, _≤_, _<_, min}
-use native.Mathlib.Nat.{lt-of-lt-of-le}
+use native.Mathlib.Nat.{div-mul-le-self, lt-div-mul-add, lt-of-lt-of-le, zero-div}
 use native.Mathlib.Omega.{arith}
 use borrow.Author.Tests.{leb-true, leb-false, ltb-true, ltb-false}
 use lib.IntN.{ℤ}
@@ -32,8 +32,22 @@ minus-is a b = go (leb b a) refl
     go true e = let h = leb-true b a e in rw e (record { is = omega arith; high = omega arith; deep = omega arith })
     go false e = let h = leb-false b a e in rw e (record { is = omega arith; high = omega arith; deep = omega arith })
 
-at-most : (n : ℕ) → min most n ≤ most
+pub at-most : (n : ℕ) → min most n ≤ most
 at-most n = omega arith
+
+-- a number of units that the grid holds, and none
+pub capped : (n : ℕ) → n ≤ most → min most n ≡ n
+capped n h = omega arith
+
+pub none-capped : (a : ℕ) → a ≡ 0 → min most (a / unit) ≡ 0
+none-capped a e = nothing (a / unit) (ap (λ (n : ℕ). n / unit) e ∙ zero-div unit)
+  where
+    nothing : (n : ℕ) → n ≡ 0 → min most n ≡ 0
+    nothing n e = omega arith
+
+-- a number cut to whole units
+pub cut : (x u : ℕ) → 0 < u → (x / u * u ≤ x) × (x ≤ x / u * u + u)
+cut x u h = let a = lt-div-mul-add {a = x} {b = u} h in (div-mul-le-self x u, omega arith)
 
 pub above-most : (x : Float) → above x ≤ most
 unfolding above

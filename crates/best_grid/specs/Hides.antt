@@ -1,12 +1,10 @@
 -- The grid hides little: no path's exact sum of metrics is above that of the best reading by more than two units of 2 ^ -20 a step.
 use mathlib.Core.Path.{_≡_, refl}
 use mathlib.Core.List.{List}
-use Prim.Native.Nat.{ℕ, zero, suc, _+_, _*_, _/_, _≤_, _<_, min}
-use native.Mathlib.Nat.{div-mul-le-self, lt-div-mul-add, add-mul, mul-le-mul-right}
+use Prim.Native.Nat.{ℕ, zero, suc, _+_, _*_, _/_, _≤_, _<_}
+use native.Mathlib.Nat.{add-mul, mul-le-mul-right}
 use native.Mathlib.Omega.{arith}
-use lib.IntN.{ℤ, pos, negsuc, _+ℤ_}
-use lib.Signed.{leZ}
-use lib.Dec.{T, leb→le}
+use lib.IntN.{ℤ, _+ℤ_}
 use lib.Pow.{pow-pos}
 use lib.ListN.{getD}
 use lib.Ieee.{Float, nan, binary32}
@@ -18,9 +16,9 @@ use Rattle.trellis.specs.Code.{isdb}
 use Rattle.trellis.specs.Isdb
 use Rattle.path_greatest.specs.Paths.{Path, sumℤ, Reading}
 use Rattle.path_greatest.specs.Viterbi.{Z, plus, Le, sum}
-use Rattle.path_greatest.specs.Integers.{Val}
+use Rattle.path_greatest.specs.Integers.{Val, le-parts}
 use Rattle.best_grid.specs.Grid.{unit, most, above, below, grid, gridAt}
-use Rattle.best_grid.specs.GridLaws.{grid-parts}
+use Rattle.best_grid.specs.GridLaws.{grid-parts, capped, cut}
 
 -- the metric of the label l at step t in units of 2 ^ -149, exactly; and its parts on the grid
 abbrev pub exactAt : (ℕ → List Float) → ℕ → ℕ → Z
@@ -32,19 +30,6 @@ cutAt q t l = (above (getD (q t) l nan), below (getD (q t) l nan))
 -- no metric of n steps is beyond 2 ^ 23
 abbrev pub Held : (ℕ → List Float) → ℕ → Type 0
 Held q n = (t l : ℕ) → t < n → l < 4 → (hi binary32 (getD (q t) l nan) / unit ≤ most) × (lo binary32 (getD (q t) l nan) / unit ≤ most)
-
-le-from : (a b : ℤ) → T (leZ a b) → hiZ a + loZ b ≤ hiZ b + loZ a
-le-from (pos a) (pos b) h = let x = leb→le a b h in omega arith
-le-from (pos a) (negsuc b) h = absurd h
-le-from (negsuc a) (pos b) h = omega arith
-le-from (negsuc a) (negsuc b) h = let x = leb→le b a h in omega arith
-
--- a number cut to whole units
-cut : (x u : ℕ) → 0 < u → (x / u * u ≤ x) × (x ≤ x / u * u + u)
-cut x u h = let a = lt-div-mul-add {a = x} {b = u} h in (div-mul-le-self x u, omega arith)
-
-capped : (n : ℕ) → n ≤ most → min most n ≡ n
-capped n h = omega arith
 
 -- one step more
 grow : (g e a x k u : ℕ) → (g * u ≤ e) × (e ≤ g * u + k * u) → (a * u ≤ x) × (x ≤ a * u + u) → ((g + a) * u ≤ e + x) × (e + x ≤ (g + a) * u + suc k * u)
@@ -117,7 +102,7 @@ module _ (q : ℕ → List Float) (n : ℕ) (held : Held q n) where
   hides-little from us rd r vs p f =
       let s = rd .start in
       let m = rd .best .most r vs p f tt in
-      let l = le-from (sumℤ 32 Isdb.labels (gridAt q) r vs n) (sumℤ 32 Isdb.labels (gridAt q) s us n) (m .le) in
+      let l = le-parts (sumℤ 32 Isdb.labels (gridAt q) r vs n) (sumℤ 32 Isdb.labels (gridAt q) s us n) m in
       let a = cut-val r vs n in
       let b = cut-val s us n in
       let g : cuts r vs n .0 + cuts s us n .1 ≤ cuts s us n .0 + cuts r vs n .1 = swap (hiZ (sumℤ 32 Isdb.labels (gridAt q) r vs n)) (loZ (sumℤ 32 Isdb.labels (gridAt q) r vs n)) (hiZ (sumℤ 32 Isdb.labels (gridAt q) s us n)) (loZ (sumℤ 32 Isdb.labels (gridAt q) s us n)) (cuts r vs n .0) (cuts r vs n .1) (cuts s us n .0) (cuts s us n .1) l a b in

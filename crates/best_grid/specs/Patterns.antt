@@ -2,7 +2,7 @@
 use mathlib.Core.Path.{_≡_, refl, sym, ap, _∙_, subst}
 use mathlib.Core.Bool.{Bool, true, false, not, cond}
 use Prim.Native.Nat.{ℕ, _+_, _-_, _*_, _/_, _%_, _^_, _≤_, _<_, min}
-use native.Mathlib.Nat.{mul-div-mul-right, mul-div-cancel, mul-assoc, div-eq-of-lt, zero-div, le-trans, mul-le-mul-right, lt-of-lt-of-le}
+use native.Mathlib.Nat.{mul-div-mul-right, mul-div-cancel, mul-assoc, div-eq-of-lt, le-trans, mul-le-mul-right, lt-of-lt-of-le}
 use native.Mathlib.Omega.{arith}
 use borrow.Author.Tests.{ltb-true, ltb-false, lt-ltb, le-ltb}
 use lib.Dec.{T, ltb, nltb→le, lit≤}
@@ -12,15 +12,15 @@ use lib.Ieee.Bits.{ofBits-toBits, toBits-lt, nanBits-is, nanBits-above}
 use Rattle.ieee.specs.Bits.{inf-bits}
 use Rattle.ieee.specs.Value.{hi, lo, hi-of, lo-of}
 use Rattle.best_grid.specs.Grid.{unit, most, level, above, below, cost}
-use Rattle.best_grid.specs.GridLaws.{magnitude, pattern-value}
+use Rattle.best_grid.specs.GridLaws.{at-most, none-capped, magnitude, pattern-value}
 
 -- the units of 2 ^ -20 in the pattern b, without its sign
 unfoldable pub unitsOf : ℕ → ℕ
 unitsOf b = min most (magnitude b / unit)
 
 -- ---- by the exponent's field
-capped : (n r : ℕ) → n ≡ r → r ≤ most → min most n ≡ r
-capped n r e h = omega arith
+capped-as : (n r : ℕ) → n ≡ r → r ≤ most → min most n ≡ r
+capped-as n r e h = omega arith
 
 full : (n : ℕ) → most ≤ n → min most n ≡ most
 full n h = omega arith
@@ -52,7 +52,7 @@ moved-up q k j p e =
 
 none : (b n : ℕ) → magnitude b ≡ n → n < unit → unitsOf b ≡ 0
 unfolding unitsOf
-none b n e h = capped (magnitude b / unit) 0 (ap (λ (x : ℕ). x / unit) e ∙ div-eq-of-lt h) (omega arith)
+none b n e h = capped-as (magnitude b / unit) 0 (ap (λ (x : ℕ). x / unit) e ∙ div-eq-of-lt h) (omega arith)
 
 pub units-none : (b : ℕ) → b / 0x80_0000 < 107 → unitsOf b ≡ 0
 units-none b h = go (ltb b 0x100_0000) refl
@@ -75,7 +75,7 @@ units-down b l h =
     let q = b % 0x80_0000 + 0x80_0000 in
     let j = 130 - b / 0x80_0000 in
     let s = shr-le q j in
-    capped (magnitude b / unit) (q / 2 ^ j)
+    capped-as (magnitude b / unit) (q / 2 ^ j)
     (ap (λ (x : ℕ). x / unit) (magnitude-at b (omega arith) (omega arith)) ∙ moved-down q (b / 0x80_0000 - 1) j 129 (omega arith))
     (bound q (q / 2 ^ j) s (omega arith))
   where
@@ -87,7 +87,7 @@ unfolding unitsOf
 units-up b l h =
     let q = b % 0x80_0000 + 0x80_0000 in
     let j = b / 0x80_0000 - 130 in
-    capped (magnitude b / unit) (q * 2 ^ j)
+    capped-as (magnitude b / unit) (q * 2 ^ j)
     (ap (λ (x : ℕ). x / unit) (magnitude-at b (omega arith) (omega arith)) ∙ moved-up q (b / 0x80_0000 - 1) j 129 (omega arith))
     (fits-in (b / 0x80_0000 - 130) (ltb (b / 0x80_0000) 150) refl)
   where
@@ -164,7 +164,7 @@ module _ (x : Float) (t : T (fits binary32 x)) (n : T (not (isNan x))) where
   gridded = go (ltb (toBits binary32 x) 0x8000_0000) refl
     where
       nothing : min most (0 / unit) ≡ 0
-      nothing = capped (0 / unit) 0 (zero-div unit) (omega arith)
+      nothing = none-capped 0 refl
 
       go : (w : Bool) → ltb (toBits binary32 x) 0x8000_0000 ≡ w → Gridded x
       go true e =
@@ -180,10 +180,7 @@ module _ (x : Float) (t : T (fits binary32 x)) (n : T (not (isNan x))) where
 -- ---- costs
 pub units-at-most : (b : ℕ) → unitsOf b ≤ most
 unfolding unitsOf
-units-at-most b = least (magnitude b / unit)
-  where
-    least : (n : ℕ) → min most n ≤ most
-    least n = omega arith
+units-at-most b = at-most (magnitude b / unit)
 
 pub cost-nan : cost nan ≡ level
 unfolding cost above below hi lo

@@ -9,17 +9,14 @@ use borrow.Author.Tests.{eqb-true, eqb-false, eq-eqb, ne-eqb}
 use lib.Dec.{eqb}
 use lib.ListN.{getD}
 use Rattle.trellis.specs.Lists.{bit}
-use Rattle.trellis.specs.WrittenLaws.{lt-or-ge}
 use Rattle.trellis.specs.ListLaws.{getD-upto}
 use Rattle.trellis.specs.Code.{moved}
 use Rattle.trellis.specs.Isdb
+use Rattle.ieee.specs.Rounding.{le-or-ge}
+use Rattle.path_greatest.specs.Greatest.{bit-cases}
 use Rattle.best_grid.specs.Grid.{dearest}
 use Rattle.best_grid.specs.Costs.{through, next, nexts, tableAt}
 use Rattle.best_grid.specs.Backward.{far, low, turned, onward, backs, backAt, others, otherAt}
-
--- ---- of two numbers one is not the greater
-pub le-or : (x y : ℕ) → (x ≤ y) ⊎ (y ≤ x)
-le-or x y = ⊎-elim (λ h. inr (omega arith)) (λ h. inl h) (lt-or-ge y x)
 
 -- the state after n steps
 unfoldable pub stateF : ℕ → (ℕ → ℕ) → ℕ → ℕ
@@ -52,10 +49,10 @@ put-fine two t x y u z hx hy f k = go (eqb k t) refl
     go true e = (hx, rw (eqb-true k t e) hy)
     go false e = f k
 
-pub bit-cases : (u : ℕ) → u < 2 → (u ≡ 0) ⊎ (u ≡ 1)
-bit-cases zero h = inl refl
-bit-cases (suc zero) h = inr refl
-bit-cases (suc (suc u)) h = absurd (omega arith)
+-- of two bits that differ one is the other turned
+pub turned-bit : (x y : ℕ) → x < 2 → y < 2 → (x ≡ y → ⊥) → y ≡ 1 - x
+turned-bit x y hx hy ne =
+    ⊎-elim (λ (p : x ≡ 0). ⊎-elim (λ (q : y ≡ 0). absurd (ne (p ∙ sym q))) (λ (q : y ≡ 1). omega arith) (bit-cases y hy)) (λ (p : x ≡ 1). ⊎-elim (λ (q : y ≡ 0). omega arith) (λ (q : y ≡ 1). absurd (ne (p ∙ sym q))) (bit-cases y hy)) (bit-cases x hx)
 
 pub same-or : (a b : ℕ) → (a ≡ b) ⊎ (a ≡ b → ⊥)
 same-or a b = go (eqb a b) refl
@@ -130,7 +127,7 @@ module _ (two : ℕ → Bool) (c : ℕ → ℕ → ℕ → ℕ) where
   cheaper t l = go (two t) refl
     where
       pick : (x y : ℕ) → (min x y ≡ x) ⊎ (min x y ≡ y)
-      pick x y = ⊎-elim (λ (h : x ≤ y). inl (omega arith)) (λ (h : y ≤ x). inr (omega arith)) (le-or x y)
+      pick x y = ⊎-elim (λ (h : x ≤ y). inl (omega arith)) (λ (h : y ≤ x). inr (omega arith)) (le-or-ge x y)
 
       go : (w : Bool) → two t ≡ w → Cheaper t l
       go false e = record { z = 0; small = omega arith; is = rw e refl }
@@ -163,7 +160,7 @@ module _ (two : ℕ → Bool) (c : ℕ → ℕ → ℕ → ℕ) where
     is : min (f 0) (f 1) ≡ f x
 
   least-of : (f : ℕ → ℕ) → Least f
-  least-of f = ⊎-elim (λ (h : f 0 ≤ f 1). record { x = 0; small = omega arith; is = omega arith }) (λ (h : f 1 ≤ f 0). record { x = 1; small = omega arith; is = omega arith }) (le-or (f 0) (f 1))
+  least-of f = ⊎-elim (λ (h : f 0 ≤ f 1). record { x = 0; small = omega arith; is = omega arith }) (λ (h : f 1 ≤ f 0). record { x = 1; small = omega arith; is = omega arith }) (le-or-ge (f 0) (f 1))
 
   pub back-least : (t j s : ℕ) (u z : ℕ → ℕ) → s < 64 → Fine two u z → getD (backAt (low two c) t j) s 0 ≤ ahead t s u z j
   unfolding ahead
@@ -222,10 +219,6 @@ module _ (two : ℕ → Bool) (c : ℕ → ℕ → ℕ → ℕ) where
         go : (w : Bool) (x z : ℕ) → x ≤ bit w → z ≤ bit w → (x ≡ z → ⊥) → cond w (c t (1 - x) l) far ≤ c t z l
         go true x z hx hz ne = let e : 1 - x ≡ z = ⊎-elim (λ (p : x ≡ 0). ⊎-elim (λ (q : z ≡ 0). absurd (ne (p ∙ sym q))) (λ (q : z ≡ 1). omega arith) (bit-cases z (omega arith))) (λ (p : x ≡ 1). ⊎-elim (λ (q : z ≡ 0). omega arith) (λ (q : z ≡ 1). absurd (ne (p ∙ sym q))) (bit-cases z (omega arith))) (bit-cases x (omega arith)) in rw e (omega arith)
         go false x z hx hz ne = absurd (ne (omega arith))
-
-    turned-bit : (x y : ℕ) → x < 2 → y < 2 → (x ≡ y → ⊥) → y ≡ 1 - x
-    turned-bit x y hx hy ne =
-        ⊎-elim (λ (p : x ≡ 0). ⊎-elim (λ (q : y ≡ 0). absurd (ne (p ∙ sym q))) (λ (q : y ≡ 1). omega arith) (bit-cases y hy)) (λ (p : x ≡ 1). ⊎-elim (λ (q : y ≡ 0). omega arith) (λ (q : y ≡ 1). absurd (ne (p ∙ sym q))) (bit-cases y hy)) (bit-cases x hx)
 
     pub other-least : (t r j s : ℕ) (u z : ℕ → ℕ) → s < 64 → r ≤ j → Fine two u z → (i : ℕ) → t ≤ i → i < t + r → ((us i ≡ u i) × (zs i ≡ z i) → ⊥) → getD (otherAt two c us zs t r j) s 0 ≤ ahead t s u z j
     unfolding ahead
@@ -303,8 +296,8 @@ module _ (two : ℕ → Bool) (c : ℕ → ℕ → ℕ → ℕ) where
       -- the three ways on, one of which is least
       ways : (x y z v : ℕ) → v ≡ min x (min y z) → ((v ≡ x) × (x ≤ z)) ⊎ (((v ≡ y) × (y ≤ z)) ⊎ (v ≡ z))
       ways x y z v e =
-          ⊎-elim (λ (h : z ≤ x). ⊎-elim (λ (k : z ≤ y). inr (inr (omega arith))) (λ (k : y ≤ z). inr (inl (omega arith, k))) (le-or z y))
-          (λ (h : x ≤ z). ⊎-elim (λ (k : x ≤ y). inl (omega arith, h)) (λ (k : y ≤ x). inr (inl (omega arith, omega arith))) (le-or x y)) (le-or z x)
+          ⊎-elim (λ (h : z ≤ x). ⊎-elim (λ (k : z ≤ y). inr (inr (omega arith))) (λ (k : y ≤ z). inr (inl (omega arith, k))) (le-or-ge z y))
+          (λ (h : x ≤ z). ⊎-elim (λ (k : x ≤ y). inl (omega arith, h)) (λ (k : y ≤ x). inr (inl (omega arith, omega arith))) (le-or-ge x y)) (le-or-ge z x)
 
       -- from a sequence of the next step's, with the content x, y at this one
       differs-here : (t r j s x y v : ℕ) → x < 2 → y ≤ bit (two t) → ((us t ≡ x) × (zs t ≡ y) → ⊥) → Attained (suc t) j (moved 32 x s) v → Apart t (suc r) (suc j) s (c t y (Isdb.labels x s) + v)

@@ -7,7 +7,7 @@ use native.Mathlib.Omega.{arith}
 use native.Mathlib.Nat.{mod-lt}
 use borrow.Author.Tests.{eq-eqb}
 use lib.Dec.{eqb, leb}
-use lib.IntN.{ℤ, pos, negsuc, negℤ, _+ℤ_}
+use lib.IntN.{ℤ, negℤ, _+ℤ_}
 use lib.Signed.{_≤ℤ_}
 use lib.ListN.{getD}
 use lib.Ieee.{Float, nan}
@@ -19,18 +19,13 @@ use Rattle.trellis.specs.Run.{quadruple}
 use Rattle.trellis.specs.RunLaws.{label-under}
 use Rattle.path_greatest.specs.Paths.{sumℤ}
 use Rattle.path_greatest.specs.Viterbi.{Le}
-use Rattle.path_greatest.specs.Integers.{parts-of, le-val}
+use Rattle.path_greatest.specs.Integers.{parts-of, le-val, neg-parts}
 use Rattle.best_grid.specs.Grid.{level, dearest, below, grid, cost, gridAt, costAt}
 use Rattle.best_grid.specs.GridLaws.{cost-is, cost-bounds, above-most, below-most, grid-parts}
 use Rattle.best_grid.specs.Backward.{low}
 use Rattle.best_grid.specs.Contents.{worth}
 use Rattle.best_grid.specs.Sides.{mirror, two, better, worthAt, priceAt, chosenAt, chosen}
 pub use Rattle.best_grid.specs.Sides.{Upright}
-
-neg-parts : (z : ℤ) → (hiZ (negℤ z) ≡ loZ z) × (loZ (negℤ z) ≡ hiZ z)
-neg-parts (pos zero) = (refl, refl)
-neg-parts (pos (suc n)) = (refl, refl)
-neg-parts (negsuc n) = (refl, refl)
 
 mirror-is : (x : Float) → mirror x + hiZ (negℤ (grid x)) ≡ level + loZ (negℤ (grid x))
 unfolding mirror

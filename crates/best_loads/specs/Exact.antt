@@ -1,5 +1,5 @@
 -- The sum of a load's metrics with no grid: as they are in f32, added exactly, in units of 2 ^ -149. Definitions only.
-use mathlib.Core.Bool.{Bool, cond}
+use mathlib.Core.Bool.{cond}
 use mathlib.Core.List.{List}
 use Prim.Native.Nat.{ℕ, zero, suc, _+_, _*_}
 use lib.Dec.{eqb}

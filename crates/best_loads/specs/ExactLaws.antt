@@ -1,40 +1,38 @@
 -- THE GRID HIDES LITTLE: no full load's exact sum of f32 metrics exceeds that of the best reading by more than two units of 2 ^ -20 a step.
-use mathlib.Core.Path.{_≡_, refl, sym, ap, _∙_, subst}
+use mathlib.Core.Path.{_≡_, ap}
 use mathlib.Core.Bool.{Bool, true, false, cond}
 use mathlib.Core.List.{List}
-use Prim.Native.Nat.{ℕ, zero, suc, _+_, _*_, _/_, _≤_, _<_, min}
-use native.Mathlib.Nat.{div-mul-le-self, lt-div-mul-add, mul-le-mul-right}
+use Prim.Native.Nat.{ℕ, zero, suc, _+_, _*_, _/_, _≤_, _<_}
+use native.Mathlib.Nat.{mul-le-mul-right}
 use native.Mathlib.Omega.{arith}
 use lib.Dec.{eqb}
 use lib.IntN.{ℤ, pos, negsuc, negℤ, _+ℤ_}
-use lib.Signed.{_≤ℤ_}
 use lib.Pow.{pow-pos}
 use lib.ListN.{getD}
 use lib.Ieee.{Float, nan, binary32}
 use Rattle.ieee.specs.Value.{hi, lo}
 use Rattle.ieee.specs.Whole.{hiZ, loZ, parts}
-use Rattle.trellis.specs.Run.{quadruple}
 use Rattle.trellis.specs.Code.{isdb, stateAt}
 use Rattle.trellis.specs.RunLaws.{label-under}
 use Rattle.path_greatest.specs.Viterbi.{Z, plus, Le}
+use Rattle.path_greatest.specs.Integers.{le-parts}
 use Rattle.isdbs_combination.specs.declared.Modulation.{Modulation}
 use Rattle.isdbs_combination.specs.declared.Modulation.the-variants.{Bpsk, Qpsk, Tc8psk}
 use Rattle.isdbs_combination.specs.Combinations.{modulationOf}
 use Rattle.isdbs_tables.specs.declared.Table.{Table}
 use Rattle.isdbs_tables.specs.Tables.{TableAccepted}
 use Rattle.isdbs_plan.specs.RunsOf.{frameSteps}
-use Rattle.isdbs_points.specs.Layout.{Segment, segments, In, atStep, loadBit}
+use Rattle.isdbs_points.specs.Layout.{Segment, loadBit}
 use Rattle.isdbs_points.specs.Frame.{inputs, labelAt}
 use Rattle.isdbs_points.specs.SizeLaws.{at-step, find-step, step-fits}
-use Rattle.isdbs_metrics.specs.Reading.{Received, metricsBy, metricsIn}
+use Rattle.isdbs_metrics.specs.Reading.{Received, metricsBy}
 use Rattle.range_frames.specs.Metrics.{Sized}
 use Rattle.best_grid.specs.Grid.{unit, most, above, below, grid}
-use Rattle.best_grid.specs.GridLaws.{grid-parts}
-use Rattle.best_sides.specs.FrameSides.{frameMetrics, betterIn}
+use Rattle.best_grid.specs.GridLaws.{grid-parts, capped, cut}
+use Rattle.best_sides.specs.FrameSides.{betterIn}
 use Rattle.best_sides.specs.FrameLaws.{frame-held}
 use Rattle.best_loads.specs.Fit.{stepFit, fitIn, fitAt, fitTo, fit, Sent, BestReading}
 use Rattle.best_loads.specs.FitLaws.{metric-in}
-use Rattle.best_loads.specs.OnlyLaws.{le-parts}
 use Rattle.best_loads.specs.Exact.{value, turned, stepExact, exactIn, exactAt, exactTo, exact}
 
 -- ---- numbers: p is within k units u of the whole number z of units
@@ -77,12 +75,6 @@ module _ (u : ℕ) where
       omega arith
 
 -- ---- a metric
-cut : (x u : ℕ) → 0 < u → (x / u * u ≤ x) × (x ≤ x / u * u + u)
-cut x u h = let a = lt-div-mul-add {a = x} {b = u} h in (div-mul-le-self x u, omega arith)
-
-capped : (n : ℕ) → n ≤ most → min most n ≡ n
-capped n h = omega arith
-
 near-metric : (x : Float) → hi binary32 x / unit ≤ most → lo binary32 x / unit ≤ most → Near unit (grid x) (value x) 1
 unfolding above below
 near-metric x h l =

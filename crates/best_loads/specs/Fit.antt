@@ -1,6 +1,6 @@
 -- How well a full load fits a received frame, which loads differ in a valid slot, and what the best reading of a frame is. No algorithm is named here.
 use mathlib.Core.Path.{_≡_}
-use mathlib.Core.Bool.{Bool, cond}
+use mathlib.Core.Bool.{cond}
 use mathlib.Core.List.{List}
 use Prim.Native.Nat.{ℕ, zero, suc, _+_, _*_, _≤_, _<_}
 use lib.Dec.{eqb}

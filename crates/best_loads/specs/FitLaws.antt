@@ -1,14 +1,14 @@
 -- The fit of a load is the worth of its inputs and uncoded bits.
 use mathlib.Core.Path.{_≡_, refl, sym, ap, _∙_, subst}
-use mathlib.Core.Bool.{Bool, true, false, cond}
+use mathlib.Core.Bool.{cond}
 use mathlib.Core.List.{List, []}
 use Prim.Native.Nat.{ℕ, zero, suc, _+_, _*_, _/_, _%_, _^_, _≤_, _<_}
 use native.Mathlib.Omega.{arith}
 use lib.Dec.{eqb, leb}
-use lib.IntN.{ℤ, pos, negℤ, _+ℤ_}
-use lib.ListN.{getD, length}
+use lib.IntN.{pos, negℤ}
+use lib.ListN.{getD}
 use lib.Ieee.{Float, nan}
-use Rattle.trellis.specs.Lists.{upto, bit}
+use Rattle.trellis.specs.Lists.{bit}
 use Rattle.trellis.specs.ListLaws.{getD-upto, length-upto}
 use Rattle.trellis.specs.Run.{quadruple}
 use Rattle.trellis.specs.RunLaws.{label-under}
@@ -25,7 +25,7 @@ use Rattle.isdbs_points.specs.SizeLaws.{at-step, find-step, step-fits}
 use Rattle.isdbs_points.specs.BitLaws.{load-bit-small}
 use Rattle.isdbs_points.specs.InputLaws.{input-small}
 use Rattle.isdbs_metrics.specs.Reading.{Received, metricsBy, metricsIn, metricsAt}
-use Rattle.best_sides.specs.FrameSides.{frameMetrics, frameSides, betterIn, sideBy, sideIn, sideAt}
+use Rattle.best_sides.specs.FrameSides.{frameMetrics, frameSides, sideBy, sideIn, sideAt}
 use Rattle.best_sides.specs.FrameLaws.{quadruple-is, side-is, side-bit, has-side}
 use Rattle.best_grid.specs.Grid.{grid}
 use Rattle.best_grid.specs.Sides.{two, worthAt}

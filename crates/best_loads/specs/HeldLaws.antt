@@ -1,5 +1,5 @@
 -- A load and its inputs with its uncoded bits are the same thing: each full load gives a content, each content a full load, and there and back is nothing.
-use mathlib.Core.Path.{_≡_, refl, sym, ap, _∙_, subst}
+use mathlib.Core.Path.{_≡_, refl, sym, ap, _∙_}
 use mathlib.Core.Bool.{Bool, true, false, cond}
 use mathlib.Core.List.{List}
 use Prim.Native.Nat.{ℕ, zero, suc, _+_, _-_, _*_, _/_, _%_, _^_, _≤_, _<_}
@@ -9,18 +9,15 @@ use borrow.Author.Tests.{ltb-true, ltb-false}
 use lib.Dec.{eqb, leb, ltb, lit<}
 use lib.ListN.{getD, length, List·getD-eq-default}
 use lib.Seq.{ext-getD}
-use lib.Ieee.{Float}
 use Rattle.trellis.specs.Lists.{upto, bit}
 use Rattle.trellis.specs.ListLaws.{getD-upto, length-upto}
-use Rattle.trellis.specs.Isdb
-use Rattle.isdbs_combination.specs.declared.Combination.{Combination}
 use Rattle.isdbs_combination.specs.declared.Modulation.{Modulation}
 use Rattle.isdbs_combination.specs.declared.Modulation.the-variants.{Bpsk, Qpsk, Tc8psk}
 use Rattle.isdbs_combination.specs.Combinations.{modulationOf, unitOf, slotSteps, slotBits}
 use Rattle.isdbs_tables.specs.declared.Table.{Table}
 use Rattle.isdbs_tables.specs.Tables.{TableAccepted}
 use Rattle.isdbs_plan.specs.RunsOf.{runsOf, frameSteps, loadBytes, validTotal}
-use Rattle.isdbs_points.specs.Layout.{Segment, segments, In, among, atStep, atBit, loadBit, byteOf, FullLoad}
+use Rattle.isdbs_points.specs.Layout.{Segment, segments, In, atStep, loadBit, byteOf, FullLoad}
 use Rattle.isdbs_points.specs.Frame.{coded, inputIn, inputs}
 use Rattle.isdbs_points.specs.PlaceLaws.{fill-member, among-all}
 use Rattle.isdbs_points.specs.SizeLaws.{table-whole, step-fits, at-bit, find-bit, find-step, fill-bits}

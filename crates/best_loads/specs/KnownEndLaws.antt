@@ -1,13 +1,13 @@
 -- "The frame's end is open; W1's known bits add nothing to any sum": a load's steps with W1's behind them have the sum `fit` (`closed-sum`), and of two loads the same path comes first with W1's
 -- steps and without (`closed-first`, `first-closed`). So the first path of the open end is the first path of `decode_frame`'s, which reads W1 as known bits.
-use mathlib.Core.Path.{_≡_, refl, sym, ap, _∙_}
+use mathlib.Core.Path.{_≡_, refl, _∙_}
 use mathlib.Core.Bool.{Bool, true, false, cond}
 use mathlib.Core.List.{List, _++_}
 use Prim.Native.Nat.{ℕ, zero, suc, _+_, _/_, _%_, _≤_, _<_}
 use native.Mathlib.Omega.{arith}
 use borrow.Author.Tests.{lt-ltb, le-ltb}
 use lib.Dec.{eqb, ltb}
-use lib.IntN.{ℤ, pos, _+ℤ_}
+use lib.IntN.{ℤ, pos}
 use lib.ListN.{getD}
 use lib.Ieee.{Float, binary32, add, neg, ofBits}
 use Rattle.ieee.specs.Value as value
@@ -25,7 +25,7 @@ use Rattle.isdbs_metrics.specs.Reading.{Received}
 use Rattle.best_sides.specs.FrameSides.{frameMetrics, frameSides}
 use Rattle.best_grid.specs.Grid.{grid, above, below}
 use Rattle.best_grid.specs.Sides.{worthAt}
-use Rattle.best_grid.specs.Contents.{Content, worth}
+use Rattle.best_grid.specs.Contents.{worth}
 use Rattle.best_grid.specs.KnownEnd.{known-sum, known-first, first-known}
 use Rattle.best_loads.specs.Fit.{fit}
 use Rattle.best_loads.specs.Held.{uncodedBits}

@@ -23,7 +23,7 @@ use Rattle.isdbs_metrics.specs.Reading.{Received}
 use Rattle.best_sides.specs.FrameSides.{frameMetrics, frameSides, betterIn}
 use Rattle.best_sides.specs.FrameLaws.{chosen-uncoded}
 use Rattle.best_grid.specs.Sides.{two, worthAt}
-use Rattle.best_grid.specs.Contents.{Content, worth, Differ, Leads}
+use Rattle.best_grid.specs.Contents.{Content, worth, Differ}
 use Rattle.best_content.specs.Found.{Found}
 use Rattle.best_loads.specs.Fit.{fit, DifferIn, Sent, LeadsIn, BestReading}
 use Rattle.best_loads.specs.Marks.{markAt}

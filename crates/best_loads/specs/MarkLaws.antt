@@ -1,23 +1,21 @@
 -- The marks of the valid slots: they rise from 0 to the frame's steps, and the steps of a slot are those of its bits.
-use mathlib.Core.Path.{_≡_, refl, sym, ap, _∙_, subst}
+use mathlib.Core.Path.{_≡_, refl, sym, ap, _∙_}
 use mathlib.Core.Logic.{_⊎_, inl, inr}
-use mathlib.Core.Bool.{Bool, true, false, cond}
 use mathlib.Core.List.{List, [], _∷_}
-use Prim.Native.Nat.{ℕ, zero, suc, _+_, _-_, _*_, _/_, _%_, _≤_, _<_}
+use Prim.Native.Nat.{ℕ, _+_, _-_, _*_, _/_, _≤_, _<_}
 use native.Mathlib.Omega.{arith}
 use native.Mathlib.Nat.{mul-le-mul-left, mul-zero, zero-add}
-use borrow.Author.Tests.{ltb-true, ltb-false, lt-ltb, le-ltb}
-use lib.Dec.{ltb}
+use borrow.Author.Tests.{lt-ltb, le-ltb}
 use lib.ListN.{getD, length}
-use Rattle.trellis.specs.Lists.{upto}
 use Rattle.trellis.specs.ListLaws.{getD-upto, length-upto}
+use Rattle.trellis.specs.WrittenLaws.{lt-or-ge}
 use Rattle.isdbs_combination.specs.declared.Combination.{Combination}
 use Rattle.isdbs_combination.specs.declared.Combination.the-variants.{«Bpsk1_2», «Qpsk1_2», «Qpsk2_3», «Qpsk3_4», «Qpsk5_6», «Qpsk7_8», «Tc8psk2_3»}
 use Rattle.isdbs_combination.specs.Combinations.{modulationOf, slotSteps, slotBits, stepBits}
 use Rattle.isdbs_tables.specs.declared.Table.{Table}
 use Rattle.isdbs_plan.specs.declared.Run.{Run}
 use Rattle.isdbs_plan.specs.RunsOf.{runsOf, stepsOf, stepsIn, frameSteps, validIn, validTotal}
-use Rattle.isdbs_points.specs.Layout.{Segment, In, here, there, segmentOf, segmentsFrom, segments}
+use Rattle.isdbs_points.specs.Layout.{Segment, In, here, there, segmentsFrom, segments}
 use Rattle.best_content.specs.Slots.{Marked}
 use Rattle.best_loads.specs.Marks.{markIn, markAt, frameMarks}
 
@@ -30,18 +28,11 @@ pub mark-later : (r : Run) (rs : List Run) (k : ℕ) → r .«valid_slots» ≤ 
 unfolding markIn
 mark-later r rs k h = rw (le-ltb k (r .«valid_slots») h) refl
 
-either : (a b : ℕ) → (a < b) ⊎ (b ≤ a)
-either a b = go (ltb a b) refl
-  where
-    go : (w : Bool) → ltb a b ≡ w → (a < b) ⊎ (b ≤ a)
-    go true e = inl (ltb-true a b e)
-    go false e = inr (ltb-false a b e)
-
 -- the first begins at 0
 pub mark-first : (rs : List Run) → markIn rs 0 ≡ 0
 unfolding markIn
 mark-first [] = refl
-mark-first (r ∷ rs) = go (mark-first rs) (either 0 (r .«valid_slots»))
+mark-first (r ∷ rs) = go (mark-first rs) (lt-or-ge 0 (r .«valid_slots»))
   where
     go : markIn rs 0 ≡ 0 → (0 < r .«valid_slots») ⊎ (r .«valid_slots» ≤ 0) → markIn (r ∷ rs) 0 ≡ 0
     go i (inl h) = mark-own r rs 0 h ∙ mul-zero (slotSteps (r .combination))
@@ -52,7 +43,7 @@ mark-first (r ∷ rs) = go (mark-first rs) (either 0 (r .«valid_slots»))
 
 -- the end of a run's slots
 mark-seam : (r : Run) (rs : List Run) (j : ℕ) → j ≤ r .«valid_slots» → markIn (r ∷ rs) j ≡ slotSteps (r .combination) * j
-mark-seam r rs j h = go (either j (r .«valid_slots»))
+mark-seam r rs j h = go (lt-or-ge j (r .«valid_slots»))
   where
     go : (j < r .«valid_slots») ⊎ (r .«valid_slots» ≤ j) → markIn (r ∷ rs) j ≡ slotSteps (r .combination) * j
     go (inl l) = mark-own r rs j l
@@ -74,7 +65,7 @@ mark-last (r ∷ rs) =
 pub mark-up : (rs : List Run) (a b : ℕ) → a ≤ b → markIn rs a ≤ markIn rs b
 unfolding markIn
 mark-up [] a b h = omega arith
-mark-up (r ∷ rs) a b h = go (mark-up rs (a - r .«valid_slots») (b - r .«valid_slots»)) (either a (r .«valid_slots»)) (either b (r .«valid_slots»))
+mark-up (r ∷ rs) a b h = go (mark-up rs (a - r .«valid_slots») (b - r .«valid_slots»)) (lt-or-ge a (r .«valid_slots»)) (lt-or-ge b (r .«valid_slots»))
   where
     go : (a - r .«valid_slots» ≤ b - r .«valid_slots» → markIn rs (a - r .«valid_slots») ≤ markIn rs (b - r .«valid_slots»)) → (a < r .«valid_slots») ⊎ (r .«valid_slots» ≤ a) → (b < r .«valid_slots») ⊎ (r .«valid_slots» ≤ b) → markIn (r ∷ rs) a ≤ markIn (r ∷ rs) b
     go up (inl x) (inl y) = rw (mark-own r rs a x, mark-own r rs b y) (mul-le-mul-left (slotSteps (r .combination)) h)
@@ -102,7 +93,7 @@ more c j = omega arith
 pub mark-rises : (rs : List Run) (k : ℕ) → k < validIn rs → markIn rs k < markIn rs (k + 1)
 unfolding validIn
 mark-rises [] k h = absurd (omega arith)
-mark-rises (r ∷ rs) k h = go (mark-rises rs (k - r .«valid_slots»)) (either k (r .«valid_slots»))
+mark-rises (r ∷ rs) k h = go (mark-rises rs (k - r .«valid_slots»)) (lt-or-ge k (r .«valid_slots»))
   where
     go : (k - r .«valid_slots» < validIn rs → markIn rs (k - r .«valid_slots») < markIn rs (k - r .«valid_slots» + 1)) → (k < r .«valid_slots») ⊎ (r .«valid_slots» ≤ k) → markIn (r ∷ rs) k < markIn (r ∷ rs) (k + 1)
     go up (inl x) =
@@ -183,7 +174,7 @@ module _ (t : Table) (g : Segment) (m : In g (segments t)) (p : ℕ) (h : p < g 
 
   -- and in no other
   pub only-slot : (k : ℕ) → markAt t k ≤ stepOf g p → stepOf g p < markAt t (k + 1) → k ≡ slot
-  only-slot k a b = go (either k slot) (either slot k)
+  only-slot k a b = go (lt-or-ge k slot) (lt-or-ge slot k)
     where
       go : (k < slot) ⊎ (slot ≤ k) → (slot < k) ⊎ (k ≤ slot) → k ≡ slot
       go (inl x) y = let u = mark-up (runsOf t) (k + 1) slot (omega arith) in let i = in-slot .0 in absurd (omega arith)

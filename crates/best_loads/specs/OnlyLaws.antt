@@ -3,24 +3,22 @@ use mathlib.Core.Path.{_≡_, refl, sym, ap, _∙_, subst}
 use mathlib.Core.List.{List}
 use Prim.Native.Nat.{ℕ, _+_, _*_, _≤_, _<_}
 use native.Mathlib.Omega.{arith}
-use lib.Dec.{T, leb→le}
-use lib.IntN.{ℤ, pos, negsuc, _+ℤ_}
-use lib.Signed.{_≤ℤ_, leZ}
+use lib.IntN.{ℤ, pos, _+ℤ_}
+use lib.Signed.{_≤ℤ_}
 use lib.ListN.{getD, length}
 use lib.Seq.{ext-getD}
-use Rattle.ieee.specs.Whole.{hiZ, loZ, parts}
+use Rattle.ieee.specs.Whole.{parts}
 use Rattle.trellis.specs.ListLaws.{length-upto}
 use Rattle.trellis.specs.Isdb
-use Rattle.path_greatest.specs.Paths.{First}
 use Rattle.path_greatest.specs.Greatest.{one-first}
-use Rattle.path_greatest.specs.Integers.{parts-of, le-val, ≤ℤ-antisymm}
+use Rattle.path_greatest.specs.Integers.{parts-of, le-parts, le-val, ≤ℤ-antisymm}
 use Rattle.isdbs_combination.specs.declared.Modulation.{Modulation}
 use Rattle.isdbs_combination.specs.declared.Modulation.the-variants.{Bpsk, Qpsk, Tc8psk}
 use Rattle.isdbs_combination.specs.Combinations.{modulationOf}
 use Rattle.isdbs_tables.specs.declared.Table.{Table}
 use Rattle.isdbs_tables.specs.Tables.{TableAccepted}
-use Rattle.isdbs_plan.specs.RunsOf.{frameSteps, loadBytes, validTotal}
-use Rattle.isdbs_points.specs.Layout.{Segment, segments, In, atStep, loadBit, FullLoad}
+use Rattle.isdbs_plan.specs.RunsOf.{frameSteps, validTotal}
+use Rattle.isdbs_points.specs.Layout.{Segment, segments, In, atStep, loadBit}
 use Rattle.isdbs_points.specs.Frame.{inputs, labelAt}
 use Rattle.isdbs_points.specs.SizeLaws.{find-step}
 use Rattle.isdbs_metrics.specs.Reading.{Received}
@@ -31,15 +29,6 @@ use Rattle.best_loads.specs.FitLaws.{beside-at, load-content}
 use Rattle.best_loads.specs.HeldLaws.{load-only}
 
 -- ---- whole numbers
-pub le-parts : (a b : ℤ) → a ≤ℤ b → hiZ a + loZ b ≤ hiZ b + loZ a
-le-parts a b h = go a b (h .le)
-  where
-    go : (a b : ℤ) → T (leZ a b) → hiZ a + loZ b ≤ hiZ b + loZ a
-    go (pos a) (pos b) h = let x = leb→le a b h in omega arith
-    go (pos a) (negsuc b) h = absurd h
-    go (negsuc a) (pos b) h = omega arith
-    go (negsuc a) (negsuc b) h = let x = leb→le b a h in omega arith
-
 pub below-same : (a : ℤ) (d e : ℕ) → (a +ℤ pos d) ≤ℤ (a +ℤ pos e) → d ≤ e
 below-same a d e h =
     let l = le-parts (a +ℤ pos d) (a +ℤ pos e) h in

@@ -1,25 +1,25 @@
 -- Two loads differ in the bytes of a valid slot exactly where their inputs or uncoded bits differ in a step of the slot.
 use mathlib.Core.Path.{_≡_, refl, sym, ap, _∙_, subst}
-use mathlib.Core.Bool.{Bool, true, false, cond}
+use mathlib.Core.Bool.{Bool, true, false}
 use mathlib.Core.List.{List}
 use Prim.Native.Nat.{ℕ, zero, suc, _+_, _-_, _*_, _/_, _%_, _^_, _≤_, _<_}
 use native.Mathlib.Omega.{arith}
 use borrow.Author.Count.{below-more}
 use borrow.Author.Tests.{eqb-true, eqb-false}
 use lib.Dec.{eqb}
-use lib.ListN.{getD, length}
+use lib.ListN.{getD}
 use Rattle.isdbs_combination.specs.declared.Modulation.{Modulation}
 use Rattle.isdbs_combination.specs.declared.Modulation.the-variants.{Bpsk, Qpsk, Tc8psk}
 use Rattle.isdbs_combination.specs.Combinations.{modulationOf, slotBits, stepBits}
-use Rattle.isdbs_frame.specs.Frame.{slotBytes}
 use Rattle.isdbs_tables.specs.declared.Table.{Table}
 use Rattle.isdbs_tables.specs.Tables.{TableAccepted}
-use Rattle.isdbs_plan.specs.RunsOf.{loadBytes, validTotal, frameSteps}
-use Rattle.isdbs_points.specs.Layout.{Segment, segments, In, loadBit, byteOf, FullLoad}
+use Rattle.isdbs_plan.specs.RunsOf.{loadBytes, validTotal}
+use Rattle.isdbs_points.specs.Layout.{Segment, segments, In, loadBit, FullLoad}
 use Rattle.isdbs_points.specs.Frame.{coded, inputs}
 use Rattle.isdbs_points.specs.SizeLaws.{at-bit, find-bit, find-step}
 use Rattle.isdbs_points.specs.BitLaws.{load-byte}
 use Rattle.isdbs_points.specs.InputLaws.{input-at}
+use Rattle.isdbs_metrics.specs.DigitLaws.{byte-cong}
 use Rattle.best_grid.specs.Contents.{Differ}
 use Rattle.best_loads.specs.Fit.{DifferIn}
 use Rattle.best_loads.specs.Marks.{markAt}
@@ -46,13 +46,10 @@ apart f g (suc n) h = go (eqb (f n) (g n)) refl (apart f g n)
     go true e rec = wider (rec (λ all. h (λ i l. below-more (λ i. f i ≡ g i) n all (eqb-true (f n) (g n) e) i (omega arith))))
     go false e rec = record { place = n; small = omega arith; unlike = eqb-false (f n) (g n) e }
 
-byte-alike : (f g : ℕ → ℕ) → ((i : ℕ) → i < 8 → f i ≡ g i) → byteOf f ≡ byteOf g
-byte-alike f g h = rw (h 0 (omega arith), h 1 (omega arith), h 2 (omega arith), h 3 (omega arith), h 4 (omega arith), h 5 (omega arith), h 6 (omega arith), h 7 (omega arith)) refl
-
 bit-apart : (a b : List ℕ) (j : ℕ) → getD a j 0 < 256 → getD b j 0 < 256 → (getD a j 0 ≡ getD b j 0 → ⊥) → Apart (λ i. loadBit a (8 * j + i)) (λ i. loadBit b (8 * j + i)) 8
 bit-apart a b j ha hb h =
     apart (λ i. loadBit a (8 * j + i)) (λ i. loadBit b (8 * j + i)) 8
-    (λ all. h (sym (load-byte a j ha) ∙ byte-alike (λ i. loadBit a (8 * j + i)) (λ i. loadBit b (8 * j + i)) all ∙ load-byte b j hb))
+    (λ all. h (sym (load-byte a j ha) ∙ byte-cong (λ i. loadBit a (8 * j + i)) (λ i. loadBit b (8 * j + i)) all ∙ load-byte b j hb))
 
 -- ---- a bit is held by its step alone
 held-alike : (md : Modulation) (us zs vs ys : List ℕ) (g : Segment) (p : ℕ) → getD us (g .step + p / stepBits md) 0 ≡ getD vs (g .step + p / stepBits md) 0

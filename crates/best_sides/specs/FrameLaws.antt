@@ -1,19 +1,18 @@
 -- The metrics of an accepted frame are within 2 ^ 23, and those of its TC8PSK steps not below 0: what the best content asks; and the better C2 that a side holds.
-use mathlib.Core.Path.{_≡_, refl, sym, ap, _∙_, subst}
-use mathlib.Core.Logic.{_⊎_, inl, inr, ⊎-elim}
-use mathlib.Core.Bool.{Bool, true, false, cond}
+use mathlib.Core.Path.{_≡_, refl, ap, _∙_, subst}
+use mathlib.Core.Logic.{_⊎_, inl, inr}
+use mathlib.Core.Bool.{Bool, true, cond}
 use mathlib.Core.List.{List, []}
-use Prim.Native.Nat.{ℕ, zero, suc, _+_, _-_, _*_, _/_, _%_, _^_, _≤_, _<_, min}
-use native.Mathlib.Nat.{zero-div, div-le-of-le-mul}
+use Prim.Native.Nat.{ℕ, zero, suc, _+_, _*_, _/_, _%_, _^_, _≤_, _<_}
+use native.Mathlib.Nat.{div-le-of-le-mul}
 use native.Mathlib.Omega.{arith}
 use borrow.Author.Tests.{leb-true, le-leb}
 use lib.Dec.{leb, lit≤}
-use lib.ListN.{getD, length}
+use lib.ListN.{getD}
 use lib.Ieee.{Float, nan, binary32, lt}
 use Rattle.ieee.specs.Value.{hi, lo, one-side}
 use Rattle.ieee.specs.Rounding.{pow2}
-use Rattle.trellis.specs.Lists.{upto, bit}
-use Rattle.trellis.specs.ListLaws.{getD-upto, length-upto, bit-is}
+use Rattle.trellis.specs.ListLaws.{getD-upto, bit-is}
 use Rattle.trellis.specs.Run.{quadruple}
 use Rattle.isdbs_combination.specs.declared.Modulation.{Modulation}
 use Rattle.isdbs_combination.specs.declared.Modulation.the-variants.{Bpsk, Qpsk, Tc8psk}
@@ -26,10 +25,10 @@ use Rattle.isdbs_points.specs.SizeLaws.{at-step, find-step}
 use Rattle.isdbs_metrics.specs.Reading.{Received, metricsIn, metricsAt, uncoded}
 use Rattle.range_frames.specs.Metrics.{Sized, metric-in, metrics-up}
 use Rattle.range_frames.specs.Rising.{Up}
-use Rattle.range_frames.specs.Size.{Size}
 use Rattle.best_grid.specs.Grid.{unit, most, below}
 use Rattle.best_grid.specs.Hides.{Held}
-use Rattle.best_grid.specs.Sides.{two, chosenAt, chosen}
+use Rattle.best_grid.specs.GridLaws.{none-capped}
+use Rattle.best_grid.specs.Sides.{chosenAt, chosen}
 use Rattle.trellis.specs.RunLaws.{label-under}
 use Rattle.trellis.specs.Code.{isdb, stateAt}
 use Rattle.isdbs_points.specs.Frame.{labelAt}
@@ -82,7 +81,7 @@ has-side r g k = le-leb 16 (16 + (betterIn r g k 0 + 2 * betterIn r g k 1 + 4 * 
 -- ---- what is not below 0 has no part below
 not-below : (x : Float) → Up binary32 x → below x ≡ 0
 unfolding below
-not-below x u = nothing (lo binary32 x) (either (one-side binary32 x))
+not-below x u = none-capped (lo binary32 x) (either (one-side binary32 x))
   where
     either : (hi binary32 x ≡ 0) ⊎ (lo binary32 x ≡ 0) → lo binary32 x ≡ 0
     either (inl e) = under (lo binary32 x) (hi binary32 x) u e
@@ -90,12 +89,6 @@ not-below x u = nothing (lo binary32 x) (either (one-side binary32 x))
         under : (a b : ℕ) → a ≤ b → b ≡ 0 → a ≡ 0
         under a b h e = omega arith
     either (inr e) = e
-
-    capped : (n : ℕ) → n ≡ 0 → min most n ≡ 0
-    capped n e = omega arith
-
-    nothing : (a : ℕ) → a ≡ 0 → min most (a / unit) ≡ 0
-    nothing a e = capped (a / unit) (ap (λ (n : ℕ). n / unit) e ∙ zero-div unit)
 
 module _ (t : Table) (fit : TableAccepted t) (r : Received) (z : Sized 16 6 r) where
   -- what the best content asks of the metrics with sides

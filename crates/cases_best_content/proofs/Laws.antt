@@ -2,9 +2,9 @@
 use mathlib.Core.Path.{_≡_, refl, sym, ap, _∙_, subst}
 use mathlib.Core.Bool.{true}
 use mathlib.Core.List.{List, [], _∷_}
-use Prim.Native.Nat.{ℕ, zero, suc, _+_, _*_, _/_, _≤_, _<_, min}
+use Prim.Native.Nat.{ℕ, zero, suc, _+_, _*_, _/_, _≤_, _<_}
 use native.Mathlib.Omega.{arith}
-use native.Mathlib.Nat.{zero-mul, zero-div, ne-of-lt, le-refl}
+use native.Mathlib.Nat.{zero-mul, ne-of-lt, le-refl}
 use borrow.Author.Count.{below-more}
 use lib.Dec.{T, leb, le→leb}
 use lib.IntN.{pos}
@@ -14,7 +14,8 @@ use lib.Ieee.{Float, nan, binary32, ofInt, inFloat}
 use Rattle.ieee.specs.Value.{lo}
 use Rattle.ieee.specs.Rounding.{pow2}
 use Rattle.ieee.specs.Whole.{ofInt-on}
-use Rattle.best_grid.specs.Grid.{below, most, unit}
+use Rattle.best_grid.specs.Grid.{below}
+use Rattle.best_grid.specs.GridLaws.{none-capped}
 use Rattle.best_grid.specs.Sides.{Upright}
 use Rattle.best_content.specs.Slots.{Marked, Lent}
 
@@ -25,13 +26,7 @@ fits n h = le→leb n 16777216 (omega arith)
 
 pub whole-up : (n : ℕ) → n < 256 → below (ofInt binary32 (pos n)) ≡ 0
 unfolding below
-whole-up n h = nothing (lo binary32 (ofInt binary32 (pos n))) (ofInt-on binary32 (pos n) (fits n h) .lo-is ∙ zero-mul (pow2 149))
-  where
-    capped : (n : ℕ) → n ≡ 0 → min most n ≡ 0
-    capped n e = omega arith
-
-    nothing : (a : ℕ) → a ≡ 0 → min most (a / unit) ≡ 0
-    nothing a e = capped (a / unit) (ap (λ (n : ℕ). n / unit) e ∙ zero-div unit)
+whole-up n h = none-capped (lo binary32 (ofInt binary32 (pos n))) (ofInt-on binary32 (pos n) (fits n h) .lo-is ∙ zero-mul (pow2 149))
 
 -- the first k values
 abbrev pub Ups : List Float → List ℕ → ℕ → Type 0
@@ -80,18 +75,17 @@ marked a b n ha hb hn =
     under z u v (suc (suc (suc (suc k)))) h = absurd (omega arith)
 
 pub lent : (xs : List Float) (sides tables decisions bits uncoded leads : List ℕ) (a b n : ℕ) → n ≤ 10 → 0 < a → a < b → b < n → length xs ≡ 40 → length sides ≡ 10 → length tables ≡ 192 → length decisions ≡ 10
-    → length bits ≡ n → length uncoded ≡ n → length leads ≡ 3 → Upright xs sides 10 → Lent (take (4 * n) xs) sides (0 ∷ a ∷ b ∷ n ∷ []) 3 tables decisions bits uncoded leads
+    → length bits ≡ n → length uncoded ≡ n → length leads ≡ 3 → Upright xs sides 10 → Lent (take (4 * n) xs) sides (0 ∷ a ∷ b ∷ n ∷ []) tables decisions bits uncoded leads
 lent xs sides tables decisions bits uncoded leads a b n few ha hb hn lx ls lt ld lb lu ll u =
     let l : length (take (4 * n) xs) ≡ 4 * n = length-take-le (4 * n) xs (omega arith) in
     let e : length (take (4 * n) xs) / 4 ≡ n = omega arith in
     record {
-      marked = subst (λ (m : ℕ). Marked (0 ∷ a ∷ b ∷ n ∷ []) 3 m) (sym e) (marked a b n ha hb hn);
+      marked = rw (ll, e) (marked a b n ha hb hn);
       few = omega arith;
       sided = omega arith;
       kept = omega arith;
       words = omega arith;
       read = omega arith;
       beside = omega arith;
-      led = omega arith;
       upright = subst (λ (m : ℕ). Upright (take (4 * n) xs) sides m) (sym e) (front xs sides n few u);
     }

@@ -280,21 +280,26 @@ fn values(ms: &[u8; 40], sides: &[u8; 10]) -> [f32; 40]
     xs
 }
 
-// Three slots: the steps up to a, from a up to b, and from b on.
-fn read(
-    xs: &[f32],
-    sides: &[u8],
+// Three slots of n steps: the steps up to a, from a up to b, and from b on.
+struct Slots {
     n: usize,
     a: u32,
     b: u32,
+}
+
+fn read(
+    xs: &[f32],
+    sides: &[u8],
+    s: Slots,
     start: Start,
     bits: &mut [u8],
     uncoded: &mut [u8],
     leads: &mut [u64],
 )
-    requires { ⌜ (n ≤ 10) × (0 < a) × (a < b) × (b < n) × (length (now xs) ≡ 40) × (length (now sides) ≡ 10) × (length (now bits) ≡ 10) × (length (now uncoded) ≡ 10) × (length (now leads) ≡ 3) × Upright (now xs) (now sides) 10 ⌝ }
+    requires { ⌜ (s .n ≤ 10) × (0 < s .a) × (s .a < s .b) × (s .b < s .n) × (length (now xs) ≡ 40) × (length (now sides) ≡ 10) × (length (now bits) ≡ 10) × (length (now uncoded) ≡ 10) × (length (now leads) ≡ 3) × Upright (now xs) (now sides) 10 ⌝ }
 {
-    let marks = [0u32, a, b, n as u32];
+    let n = s.n;
+    let marks = [0u32, s.a, s.b, n as u32];
     let mut tables = [0u64; 192];
     let mut decisions = [0u64; 10];
     let end = 4 * n;
@@ -302,7 +307,6 @@ fn read(
         &xs[..end],
         sides,
         &marks,
-        3,
         start,
         &mut tables,
         &mut decisions,
@@ -364,9 +368,7 @@ fn tried(seed: u32, n: usize, a: u32, b: u32, start: Start, all: Range) -> Trial
     read(
         &xs,
         &ss,
-        n,
-        a,
-        b,
+        Slots { n, a, b },
         start,
         &mut bits,
         &mut uncoded,

@@ -7,9 +7,8 @@ use mathlib.Core.Logic.{⊎-elim}
 use mathlib.Core.List.{List, [], _∷_}
 use Prim.Native.Nat.{ℕ, zero, suc, _+_, _*_, _/_, _%_, _≤_, _<_}
 use native.Mathlib.Omega.{arith}
-use lib.Dec.{T, eqb, eqb→eq, leb→le, lit≤, lit<}
+use lib.Dec.{T, eqb, eqb→eq, lit≤, lit<}
 use lib.IntN.{ℤ, pos, negsuc}
-use lib.Signed.{leZ}
 use lib.ListN.{length, getD}
 use lib.Ieee.{nan, binary32, eq, fits, ofInt, ofBits}
 use Rattle.ieee.specs.Whole.{hiZ, loZ}
@@ -27,7 +26,7 @@ use Rattle.path_greatest.specs.Hard.{mostWrong, soft, softPairs, hard}
 use Rattle.path_greatest.specs.Paths.{longest, Path, sumℤ, Best, This, Integer}
 use Rattle.path_greatest.specs.Viterbi.{sum}
 use Rattle.path_greatest.specs.Tracks.{Adds}
-use Rattle.path_greatest.specs.Integers.{parts-of, mz, sum-val, signs, pairs}
+use Rattle.path_greatest.specs.Integers.{parts-of, le-parts, mz, sum-val, signs, pairs}
 use Rattle.path_greatest.specs.Greatest.{at-under}
 use Rattle.path_greatest.specs.Calls.{Plain, heldWords, plain-pair, after-held, traced-between}
 
@@ -74,12 +73,6 @@ sum-is r n small s us (suc k) h =
     let a = adds (r k) (Isdb.labelAt s us k) (small k h) (label-under isdb (getD us k 0) (stateAt Isdb.half s us k)) in
     omega arith
 
-below : (a b : ℤ) → T (leZ a b) → hiZ a + loZ b ≤ hiZ b + loZ a
-below (pos a) (pos b) h = let x = leb→le a b h in omega arith
-below (pos a) (negsuc b) h = absurd h
-below (negsuc a) (pos b) h = omega arith
-below (negsuc a) (negsuc b) h = let x = leb→le b a h in omega arith
-
 -- ---- the inputs us are sent from s; r k are the received pairs, and the steps carry their soft values
 module _ (t : Tie) (s : ℕ) (us : List ℕ) (few : length us ≤ longest) (bits : Bits us) (r : ℕ → ℕ) (small : (k : ℕ) → k < length us → r k < 4)
     (four : wrong r (Isdb.labelAt (s % 64) us) (length us) ≤ mostWrong) (steps : ℕ → Step) (are : (k : ℕ) → k < length us → steps k ≡ hard (r k)) where
@@ -118,7 +111,7 @@ module _ (t : Tie) (s : ℕ) (us : List ℕ) (few : length us ≤ longest) (bits
   -- the traced path differs from what was received no more than the sent one
   nearer : wrong r (Isdb.labelAt (s % 64) read) n ≤ mostWrong
   nearer =
-      let le = below (sumℤ Isdb.half Isdb.labels (metric r) (s % 64) us n) (sumℤ Isdb.half Isdb.labels (metric r) (s % 64) read n) (best .most (s % 64) us sent refl refl .le) in
+      let le = le-parts (sumℤ Isdb.half Isdb.labels (metric r) (s % 64) us n) (sumℤ Isdb.half Isdb.labels (metric r) (s % 64) read n) (best .most (s % 64) us sent refl refl) in
       let a = sum-val Isdb.half Isdb.labels (metric r) (s % 64) us n in
       let b = sum-val Isdb.half Isdb.labels (metric r) (s % 64) read n in
       let c = sum-is r n small (s % 64) us n (omega arith) in

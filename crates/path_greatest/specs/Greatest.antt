@@ -25,14 +25,14 @@ kept : (t : Tie) (a b : Z) (i j : ℕ) → i < j → T (not (beats t a b)) → L
 kept lower a b i j h w = let l = nltb→le (a .0 + b .1) (b .0 + a .1) w in (omega arith, omega arith)
 kept upper a b i j h w = let l = nleb→lt (a .0 + b .1) (b .0 + a .1) w in (omega arith, omega arith)
 
-two : (b : ℕ) → b < 2 → (b ≡ 0) ⊎ (b ≡ 1)
-two zero h = inl refl
-two (suc zero) h = inr refl
-two (suc (suc b)) h = absurd (omega arith)
+pub bit-cases : (b : ℕ) → b < 2 → (b ≡ 0) ⊎ (b ≡ 1)
+bit-cases zero h = inl refl
+bit-cases (suc zero) h = inr refl
+bit-cases (suc (suc b)) h = absurd (omega arith)
 
 -- the chosen candidate is not below either, and of equals it comes first
 chosen : (t : Tie) (c : ℕ → Z) (b : ℕ) → b < 2 → Le (c b) (cond (beats t (c 0) (c 1)) (c 1) (c 0)) × (Le (cond (beats t (c 0) (c 1)) (c 1) (c 0)) (c b) → Ahead t (bit (beats t (c 0) (c 1))) b ⊎ (bit (beats t (c 0) (c 1)) ≡ b))
-chosen t c b h = go (beats t (c 0) (c 1)) (taken t (c 0) (c 1) 0 1 (omega arith)) (kept t (c 0) (c 1) 0 1 (omega arith)) b (two b h)
+chosen t c b h = go (beats t (c 0) (c 1)) (taken t (c 0) (c 1) 0 1 (omega arith)) (kept t (c 0) (c 1) 0 1 (omega arith)) b (bit-cases b h)
   where
     go : (w : Bool) → (T w → Le (c 0) (c 1) × (Le (c 1) (c 0) → Ahead t 1 0)) → (T (not w) → Le (c 1) (c 0) × (Le (c 0) (c 1) → Ahead t 0 1)) → (b : ℕ) → (b ≡ 0) ⊎ (b ≡ 1) → Le (c b) (cond w (c 1) (c 0)) × (Le (cond w (c 1) (c 0)) (c b) → Ahead t (bit w) b ⊎ (bit w ≡ b))
     go true p q b (inl e) = rw e (p tt .0, λ h. inl (p tt .1 h))

@@ -40,6 +40,16 @@ le-to (pos a) (negsuc b) h = absurd (omega arith)
 le-to (negsuc a) (pos b) h = tt
 le-to (negsuc a) (negsuc b) h = le→leb b a (omega arith)
 
+-- and back: of two integers in order the parts are
+le-from : (a b : ℤ) → T (leZ a b) → hiZ a + loZ b ≤ hiZ b + loZ a
+le-from (pos a) (pos b) h = let x = leb→le a b h in omega arith
+le-from (pos a) (negsuc b) h = absurd h
+le-from (negsuc a) (pos b) h = omega arith
+le-from (negsuc a) (negsuc b) h = let x = leb→le b a h in omega arith
+
+pub le-parts : (a b : ℤ) → a ≤ℤ b → hiZ a + loZ b ≤ hiZ b + loZ a
+le-parts a b h = le-from a b (h .le)
+
 pub le-val : (a b : ℤ) (p q : Z) → Val a p → Val b q → Le p q → a ≤ℤ b
 le-val a b p q h k l = leZ-yes (le-to a b (omega arith))
 
@@ -127,17 +137,17 @@ turnedℤ w z = cond w (negℤ z) z
 abbrev pub signs : (ℕ → ℤ) → (ℕ → ℤ) → ℕ → ℕ → ℤ
 signs x y k c = turnedℤ (eqb (c / 2) 1) (x k) +ℤ turnedℤ (eqb (c % 2) 1) (y k)
 
-swap : (z : ℤ) → (hiZ (negℤ z) ≡ loZ z) × (loZ (negℤ z) ≡ hiZ z)
-swap (pos zero) = (refl, refl)
-swap (pos (suc n)) = (refl, refl)
-swap (negsuc n) = (refl, refl)
+pub neg-parts : (z : ℤ) → (hiZ (negℤ z) ≡ loZ z) × (loZ (negℤ z) ≡ hiZ z)
+neg-parts (pos zero) = (refl, refl)
+neg-parts (pos (suc n)) = (refl, refl)
+neg-parts (negsuc n) = (refl, refl)
 
 turn : (w : Bool) (z : ℤ) → (hiZ (turnedℤ w z) ≡ turnedZ w (parts-of z) .0) × (loZ (turnedℤ w z) ≡ turnedZ w (parts-of z) .1)
-turn true z = swap z
+turn true z = neg-parts z
 turn false z = (refl, refl)
 
 turn-8 : (w : Bool) (z : ℤ) → natAbs z ≤ 8 → (hiZ (turnedℤ w z) ≤ 8) × (loZ (turnedℤ w z) ≤ 8)
-turn-8 true z h = let s = swap z in let a = hi-most 8 z h in let b = lo-most 8 z h in (omega arith, omega arith)
+turn-8 true z h = let s = neg-parts z in let a = hi-most 8 z h in let b = lo-most 8 z h in (omega arith, omega arith)
 turn-8 false z h = (hi-most 8 z h, lo-most 8 z h)
 
 sum-most : (a b : ℤ) → (hiZ a ≤ 8) × (loZ a ≤ 8) → (hiZ b ≤ 8) × (loZ b ≤ 8) → (hiZ (a +ℤ b) ≤ bound) × (loZ (a +ℤ b) ≤ bound)

@@ -44,20 +44,22 @@ element-copy-out-result-2 c = search needs
 -- src/lib.rt:30:5
 add-result-2 : tie.Need-add-result-2
 add-result-2 c =
-    let start = c .before .before .before in
+    let number = c .before .before .before in
+    let start = number .before in
     let a = start .args in
-    let x = start .pre .4 (32 * a .u + a .j) in
-    let y = start .pre .5 (c .before .before .number .result) in
+    let x = start .pre .4 (32 * a .u + a .s .j) in
+    let y = start .pre .5 (number .number .result) in
     omega arith
 
 -- src/lib.rt:25:1
 returns : tie.Need-returns
 returns c =
-    let start = c .before .before .before in
+    let number = c .before .before .before in
+    let start = number .before in
     let a = start .args in
     let p = start .pre in
-    let j : (2 * a .j + a .b) / 2 ≡ a .j = omega arith in
-    rw j (ap (λ (l : ℕ). getD (a .m .now) l 0 + getD (a .after .now) (32 * a .u + a .j) 0) (c .before .before .number .ensures .1))
+    let j : (2 * a .s .j + a .s .b) / 2 ≡ a .s .j = omega arith in
+    rw j (ap (λ (l : ℕ). getD (a .m .now) l 0 + getD (a .after .now) (32 * a .u + a .s .j) 0) (number .number .ensures .1))
 
 pub ahead-spec : {M : Type 1} → statement M
 ahead-spec =

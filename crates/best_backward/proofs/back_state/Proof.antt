@@ -51,7 +51,7 @@ returns c =
     let same = other .before in
     let start = same .before in
     let a = start .args in (
-      least-either (a .after .now) (listed (a .low .now)) (a .u) (2 * a .j + a .b) _ _ _ (start .pre .0) (same .ahead .ensures) (other .ahead2 .ensures) (c .before .before .smaller .ensures),
+      least-either (a .after .now) (listed (a .low .now)) (a .u) (2 * a .s .j + a .s .b) _ _ _ (start .pre .0) (same .ahead .ensures) (other .ahead2 .ensures) (c .before .before .smaller .ensures),
       c .smaller3 .ensures ∙ rw (c .before .smaller2 .ensures, other .ahead2 .ensures, later .ahead3 .ensures, aside .ahead4 .ensures) refl,
     )
 

@@ -1,14 +1,13 @@
 -- `pack_plain` meets its contract.
 use mathlib.Core.Path.{_≡_, refl, ap, _∙_}
 use mathlib.Core.List.{List}
-use Prim.Native.Nat.{ℕ, _+_, _-_, _*_, _≤_, _<_}
+use Prim.Native.Nat.{ℕ, _+_, _-_, _*_, _≤_}
 use native.Mathlib.Omega.{arith}
 use borrow.Author.Needs.{needs}
-use lib.ListN.{length, getD, set}
+use lib.ListN.{getD, set}
 use Rattle.trellis.specs.Lists.{upto, laid}
 use Rattle.trellis.specs.LaidLaws.{laid-upto, length-laid-upto}
 use Rattle.isdbs_points.specs.Layout.{byteOf}
-use Rattle.best_bytes.specs.Packed.{pairBit}
 use Rattle.best_bytes.proofs.pack_plain.Statement.{statement}
 use Rattle.best_bytes.proofs.pack_plain.Tie as tie
 use Rattle.best_bytes.proofs.pack_plain.Reads as reads

@@ -6,7 +6,7 @@ use Rattle.isdbs_plan.specs.RunsOf.{noRun}
 use lib.ListN.{getD, length-drop, length-set}
 use mathlib.Core.Path.{refl, _∙_}
 use native.Mathlib.Omega.{arith}
-use Prim.Native.Nat.{ℕ, _-_, _*_}
+use Prim.Native.Nat.{_-_}
 use Rattle.best_bytes.proofs.slot_marks.Statement.{statement}
 use Rattle.best_bytes.proofs.slot_marks.Tie as tie
 use Rattle.best_bytes.proofs.slot_marks.Reads as reads

@@ -7,7 +7,7 @@ use Rattle.isdbs_plan.specs.RunsOf.{noRun}
 use lib.ListN.{getD, length-drop}
 use native.Mathlib.Omega.{arith}
 use mathlib.Core.Path.{refl}
-use Prim.Native.Nat.{ℕ, _-_, _*_}
+use Prim.Native.Nat.{_-_}
 use Rattle.best_bytes.proofs.write_load.Statement.{statement}
 use Rattle.best_bytes.proofs.write_load.Tie as tie
 use Rattle.best_bytes.proofs.write_load.Reads as reads

@@ -52,8 +52,7 @@ lead-slots-requires c κs =
       l .few,
       asked (a .start) (a .metrics .now) (a .sides .now) n bits _ (rb .result .start) (l .few) (omega arith) (l .sided) (rb .ensures .0) zs,
       omega arith,
-      lowered (a .start) (a .metrics .now) (a .marks .now) (a .slots) n (rb .last .1 .1 .1 .1 .0) (l .few) (l .marked) (kept .0),
-      l .led,
+      lowered (a .start) (a .metrics .now) (a .marks .now) (length (a .leads .now)) n (rb .last .1 .1 .1 .1 .0) (l .few) (l .marked) (kept .0),
     )
 
 -- src/lib.rt:244:1
@@ -91,7 +90,7 @@ returns c =
     let bits = rb .last .1 .1 .1 .1 .1 .1 .0 in
     let kept = rb .ensures .1 .1 .1 in
     let zs = uncoded-whole (chosen (a .sides .now) bits (rb .result .start)) n _ (a .uncoded .now) (l .beside) (wu .ensures) in
-    whole-found (a .start) (a .metrics .now) (a .sides .now) (a .marks .now) (a .slots) n (l .few) (l .upright) (l .marked) (rb .last .1 .1 .1 .1 .0) bits _ _ (a .leads .now) (rb .result .start) (rb .result .cost)
+    whole-found (a .start) (a .metrics .now) (a .sides .now) (a .marks .now) (length (a .leads .now)) n (l .few) (l .upright) (l .marked) (rb .last .1 .1 .1 .1 .0) bits _ _ (rb .result .start) (rb .result .cost)
     (kept .0) (rb .ensures .0) (rb .ensures .1 .0 .1) zs (rb .ensures .1 .1 .0) (ls .ensures)
 
 pub best-content-spec : {M : Type 1} → statement M

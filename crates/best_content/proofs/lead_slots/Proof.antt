@@ -8,7 +8,7 @@ use Prim.Native.Nat.{ℕ, _+_, _-_, _/_, _≤_, _<_}
 use native.Mathlib.Omega.{arith}
 use borrow.Author.Needs.{needs}
 use lib.ListN.{length, getD, length-set}
-use Rattle.trellis.specs.WrittenLaws.{Between, Kept, between-more, kept-set, laid-whole}
+use Rattle.trellis.specs.WrittenLaws.{Between, between-more, written-whole}
 use Rattle.best_grid.specs.Sides.{two, priceAt}
 use Rattle.best_grid.specs.Backward.{low, backAt}
 use Rattle.best_content.specs.Slots.{leadAt}
@@ -20,17 +20,17 @@ use Rattle.best_content.proofs.lead_slots.Lts as lts
 use Rattle.best_content.proofs.lead_slot.Reads as lead-slot-reads
 
 abbrev Inv-loop : tie.InvT-loop
-Inv-loop metrics sides bits uncoded marks slots tables own leads₀ b₀ left₀ leads b left = (left ≤ slots) × (length leads ≡ length leads₀) × (b ≡ backAt (low (two metrics sides) (priceAt metrics sides)) (getD marks left 0) (length metrics / 4 - getD marks left 0)) × Between 0 (leadAt metrics sides bits uncoded marks tables own (length metrics / 4)) left slots leads × Kept 0 leads₀ slots leads
+Inv-loop metrics sides bits uncoded marks tables own leads₀ b₀ left₀ leads b left = (left ≤ length leads₀) × (length leads ≡ length leads₀) × (b ≡ backAt (low (two metrics sides) (priceAt metrics sides)) (getD marks left 0) (length metrics / 4 - getD marks left 0)) × Between 0 (leadAt metrics sides bits uncoded marks tables own (length metrics / 4)) left (length leads₀) leads
 
 abbrev μ-loop : tie.MeasureT-loop
-μ-loop metrics sides bits uncoded marks slots tables own leads₀ b₀ left₀ leads b left = left
+μ-loop metrics sides bits uncoded marks tables own leads₀ b₀ left₀ leads b left = left
 
 -- src/lib.rt:190:5
 loop-holds : tie.Need-loop-holds Inv-loop μ-loop
 loop-holds c = let start = c .before .before .before .before .before .before .before in
     let a = start .args in
     let m = start .pre .0 in
-    (omega arith, refl, nothing-left (low (two (a .metrics .now) (a .sides .now)) (priceAt (a .metrics .now) (a .sides .now))) (getD (a .marks .now) (a .slots) 0) (length (a .metrics .now) / 4) (m .last), λ i x y. absurd (omega arith), λ i x. refl)
+    (omega arith, refl, nothing-left (low (two (a .metrics .now) (a .sides .now)) (priceAt (a .metrics .now) (a .sides .now))) (getD (a .marks .now) (length (a .leads .now)) 0) (length (a .metrics .now) / 4) (m .last), λ i x y. absurd (omega arith))
 
 -- src/lib.rt:191:9
 sub-left : tie.Need-sub-left Inv-loop μ-loop
@@ -213,7 +213,7 @@ lead-slot-requires c κs =
     let n = length (a .metrics .now) / 4 in
     let test = tested .loop-test .taken in
     let k = left - 1 in
-    let hk : k < a .slots = omega arith in
+    let hk : k < length (a .leads .now) = omega arith in
     let e : k + 1 ≡ left = omega arith in
     let r = m .rising k hk in
     let u = m .under (k + 1) (omega arith) in
@@ -225,8 +225,12 @@ lead-slot-requires c κs =
       asked-part (a .metrics .now) (a .sides .now) (a .bits .now) (a .uncoded .now) n x y (p .2) (omega arith) u,
       back-room (a .metrics .now) (a .sides .now) y (n - y) (y - x) (at .loop .b) b-is (omega arith),
       piece-length (a .tables .now) k (omega arith),
-      piece-halved (a .slots) (a .tables .now) k hk (omega arith) (p .4),
+      piece-halved (length (a .leads .now)) (a .tables .now) k hk (omega arith) (p .4),
     )
+
+-- src/lib.rt:205:23
+beyond-requires : tie.Need-beyond-requires Inv-loop μ-loop
+beyond-requires c κs = search needs
 
 -- src/lib.rt:197:9
 mul-leads : tie.Need-mul-leads Inv-loop μ-loop
@@ -235,7 +239,7 @@ mul-leads c = search needs
 -- src/lib.rt:197:9
 slice-write-leads : tie.Need-slice-write-leads Inv-loop μ-loop
 slice-write-leads c =
-    let tested = c .before .before .before .before .before in
+    let tested = c .before .before .before .before .before .before in
     let at = tested .before in
     let start = at .before .before .before .before .before .before .before .before in
     let a = start .args in
@@ -246,7 +250,6 @@ slice-write-leads c =
     let w = inv .0 in
     let n = length (a .metrics .now) / 4 in
     let test = tested .loop-test .taken in
-    let q = p .5 in
     let l = inv .1 in
     omega arith
 
@@ -257,7 +260,8 @@ loop-less c = search needs
 -- src/lib.rt:190:5
 loop-again : tie.Need-loop-again Inv-loop μ-loop
 loop-again c =
-    let tested = c .before .before .before .before .before in
+    let lead-slot = c .before in
+    let tested = lead-slot .before .before .before .before .before in
     let at = tested .before in
     let start = at .before .before .before .before .before .before .before .before in
     let a = start .args in
@@ -269,23 +273,21 @@ loop-again c =
     let n = length (a .metrics .now) / 4 in
     let test = tested .loop-test .taken in
     let k = left - 1 in
-    let hk : k < a .slots = omega arith in
+    let hk : k < length (a .leads .now) = omega arith in
     let e : k + 1 ≡ left = omega arith in
     let r = m .rising k hk in
     let u = m .under (k + 1) (omega arith) in
     let x = getD (a .marks .now) k 0 in
     let y = getD (a .marks .now) (k + 1) 0 in
     let b-is = rw (← e) at (inv .2) in
-    let g = c .lead-slot .ensures in
+    let g = lead-slot .lead-slot .ensures in
     let f = leadAt (a .metrics .now) (a .sides .now) (a .bits .now) (a .uncoded .now) (a .marks .now) (a .tables .now) (a .own) n in
-    let room = p .5 in
     let len = inv .1 in
     let bt = rw (← e) at (inv .3) in (
       omega arith,
-      length-set (at .loop .leads) k (c .lead-slot .result) ∙ inv .1,
+      length-set (at .loop .leads) k (c .beyond .result) ∙ inv .1,
       back-slot (a .metrics .now) (a .sides .now) (a .bits .now) (a .uncoded .now) (a .marks .now) (a .tables .now) (a .own) n x y (at .loop .b) _ (omega arith) u b-is (g .0),
-      between-more 0 f k (a .slots) (at .loop .leads) (c .lead-slot .result) (omega arith) bt (lead-slot-is (a .metrics .now) (a .sides .now) (a .bits .now) (a .uncoded .now) (a .marks .now) (a .tables .now) (a .own) n k (at .loop .b) (c .lead-slot .result) b-is (g .1)),
-      kept-set 0 (a .leads .now) (a .slots) k (at .loop .leads) (c .lead-slot .result) hk (inv .4),
+      between-more 0 f k (length (a .leads .now)) (at .loop .leads) (c .beyond .result) (omega arith) bt (lead-slot-is (a .metrics .now) (a .sides .now) (a .bits .now) (a .uncoded .now) (a .marks .now) (a .tables .now) (a .own) n k (at .loop .b) (lead-slot .lead-slot .result) (c .beyond .result) b-is (g .1) (c .beyond .ensures)),
     )
 
 -- src/lib.rt:172:1
@@ -302,8 +304,7 @@ returns c =
     let inv = rw z at (at .loop .inv) in
     let n = length (a .metrics .now) / 4 in
     let f = leadAt (a .metrics .now) (a .sides .now) (a .bits .now) (a .uncoded .now) (a .marks .now) (a .tables .now) (a .own) n in
-    laid-whole 0 f (a .slots) (a .slots) (a .leads .now) (at .loop .leads) (omega arith) (start .pre .5) (inv .1) (λ i h. inv .3 i (omega arith) h) (inv .4)
-    ∙ ap (λ (x : List ℕ). laid x (a .leads .now)) (take-all (a .slots) (upto f (a .slots)) (rw (length-upto f (a .slots)) (omega arith)))
+    written-whole 0 f (length (a .leads .now)) (at .loop .leads) (inv .1) (λ i h. inv .3 i (omega arith) h)
 
 pub lead-slots-spec : {M : Type 1} → statement M
 lead-slots-spec =
@@ -329,6 +330,7 @@ lead-slots-spec =
     part-lead-slot-start
     part-lead-slot-end
     lead-slot-requires
+    beyond-requires
     mul-leads
     slice-write-leads
     loop-less

@@ -9,7 +9,6 @@ use Rattle.trellis.specs.Lists.{upto, laid}
 use Rattle.trellis.specs.LaidLaws.{laid-upto, length-laid-upto}
 use Rattle.trellis.specs.Code.{isdb, stateAt}
 use Rattle.trellis.specs.RunLaws.{label-under}
-use Rattle.trellis.specs.Isdb
 use Rattle.best_grid.specs.Sides.{chosen}
 use Rattle.best_content.proofs.write_uncoded.Statement.{statement}
 use Rattle.best_content.proofs.write_uncoded.Tie as tie

@@ -1,8 +1,6 @@
 -- `read_exact` meets its contract.
-use mathlib.Core.Path.{_≡_, ap}
 use native.Mathlib.Omega.{arith}
-use Rattle.isdbs_plan.specs.declared.Plan.{Plan}
-use Rattle.isdbs_plan.specs.RunsOf.{validTotal}
+use lib.ListN.{length}
 use Rattle.isdbs_metrics.specs.Scales.{scaleOf, receivedBy}
 use Rattle.best_frame.specs.ReadLaws.{metrics-whole, sides-whole, marks-at, marks-long, content-lent, found-long, found-wide, found-bits, found-twos, found-reads}
 use borrow.Author.Needs.{needs}
@@ -41,7 +39,6 @@ best-content-requires c κs =
     let ok = pre .0 .accepted in
     let r = receivedBy (a .re .now) (a .im .now) (a .o .mapping) (a .o .scales) in
     let z = pre .4 in
-    let ev : a .p .«valid_slots» ≡ validTotal t = ap (λ (x : Plan). x .«valid_slots») (pre .0 .is) in
     let fq = frame-metrics .frame-metrics in
     let sr = frame-sides .frame-sides in
     let sm = slot-marks .slot-marks in
@@ -49,7 +46,7 @@ best-content-requires c κs =
     let es = sides-whole t ok r (a .start) (a .sides .now) (sr .last .1 .1 .1 .1 .0) (sr .ensures (scaleOf (a .o .scales))) (z .sides-are) in
     let ma = marks-at t ok r (a .start) (a .marks .now) (sm .last .1 .0) (sm .ensures) in
     let ml = marks-long t ok r (a .start) (a .marks .now) (sm .last .1 .0) (sm .ensures) (pre .5) in
-    content-lent t ok r (a .start) (a .p .«valid_slots») ev (pre .3) (fq .last .1 .1 .1 .1 .1 .0) (sr .last .1 .1 .1 .1 .0) (sm .last .1 .0) (a .tables .now) (a .words .now) (a .bits .now) (a .uncoded .now) (a .leads .now) em es ml ma (omega (arith, z .tables-are)) (omega (arith, z .words-are)) (z .bits-are) (z .uncoded-are) (omega (arith, z .leads-are))
+    content-lent t ok r (a .start) (pre .3) (fq .last .1 .1 .1 .1 .1 .0) (sr .last .1 .1 .1 .1 .0) (sm .last .1 .0) (a .tables .now) (a .words .now) (a .bits .now) (a .uncoded .now) (a .leads .now) em es ml ma (omega (arith, z .tables-are)) (omega (arith, z .words-are)) (z .bits-are) (z .uncoded-are) (z .leads-are)
 
 -- src/lib.rt:56:5
 write-load-requires : tie.Need-write-load-requires
@@ -65,7 +62,7 @@ write-load-requires c κs =
     let ok = pre .0 .accepted in
     let r = receivedBy (a .re .now) (a .im .now) (a .o .mapping) (a .o .scales) in
     let z = pre .4 in
-    let ev : a .p .«valid_slots» ≡ validTotal t = ap (λ (x : Plan). x .«valid_slots») (pre .0 .is) in
+    let v = length (a .leads .now) in
     let fq = frame-metrics .frame-metrics in
     let sr = frame-sides .frame-sides in
     let sm = slot-marks .slot-marks in
@@ -73,10 +70,10 @@ write-load-requires c κs =
     let es = sides-whole t ok r (a .start) (a .sides .now) (sr .last .1 .1 .1 .1 .0) (sr .ensures (scaleOf (a .o .scales))) (z .sides-are) in
     let ma = marks-at t ok r (a .start) (a .marks .now) (sm .last .1 .0) (sm .ensures) in
     let bc = best-content .best-content in
-    let l = found-long t ok r (a .start) (a .p .«valid_slots») ev (fq .last .1 .1 .1 .1 .1 .0) (sr .last .1 .1 .1 .1 .0) (sm .last .1 .0) (bc .last .1 .1 .1 .1 .1 .1 .1 .0) (bc .last .1 .1 .1 .1 .1 .1 .1 .1 .0) (bc .last .1 .1 .1 .1 .1 .1 .1 .1 .1 .0) em es ma (bc .ensures) in
-    let w = found-wide t ok r (a .start) (a .p .«valid_slots») ev (fq .last .1 .1 .1 .1 .1 .0) (sr .last .1 .1 .1 .1 .0) (sm .last .1 .0) (bc .last .1 .1 .1 .1 .1 .1 .1 .0) (bc .last .1 .1 .1 .1 .1 .1 .1 .1 .0) (bc .last .1 .1 .1 .1 .1 .1 .1 .1 .1 .0) em es ma (bc .ensures) in
+    let l = found-long t ok r (a .start) v (z .leads-are) (fq .last .1 .1 .1 .1 .1 .0) (sr .last .1 .1 .1 .1 .0) (sm .last .1 .0) (bc .last .1 .1 .1 .1 .1 .1 .0) (bc .last .1 .1 .1 .1 .1 .1 .1 .0) (bc .last .1 .1 .1 .1 .1 .1 .1 .1 .0) em es ma (bc .ensures) in
+    let w = found-wide t ok r (a .start) v (z .leads-are) (fq .last .1 .1 .1 .1 .1 .0) (sr .last .1 .1 .1 .1 .0) (sm .last .1 .0) (bc .last .1 .1 .1 .1 .1 .1 .0) (bc .last .1 .1 .1 .1 .1 .1 .1 .0) (bc .last .1 .1 .1 .1 .1 .1 .1 .1 .0) em es ma (bc .ensures) in
     let zb = z .bytes-are in
-    (pre .0, omega arith, omega arith, found-bits t ok r (a .start) (a .p .«valid_slots») ev (fq .last .1 .1 .1 .1 .1 .0) (sr .last .1 .1 .1 .1 .0) (sm .last .1 .0) (bc .last .1 .1 .1 .1 .1 .1 .1 .0) (bc .last .1 .1 .1 .1 .1 .1 .1 .1 .0) (bc .last .1 .1 .1 .1 .1 .1 .1 .1 .1 .0) em es ma (bc .ensures), found-twos t ok r (a .start) (a .p .«valid_slots») ev (fq .last .1 .1 .1 .1 .1 .0) (sr .last .1 .1 .1 .1 .0) (sm .last .1 .0) (bc .last .1 .1 .1 .1 .1 .1 .1 .0) (bc .last .1 .1 .1 .1 .1 .1 .1 .1 .0) (bc .last .1 .1 .1 .1 .1 .1 .1 .1 .1 .0) em es ma (bc .ensures), omega arith)
+    (pre .0, omega arith, omega arith, found-bits t ok r (a .start) v (z .leads-are) (fq .last .1 .1 .1 .1 .1 .0) (sr .last .1 .1 .1 .1 .0) (sm .last .1 .0) (bc .last .1 .1 .1 .1 .1 .1 .0) (bc .last .1 .1 .1 .1 .1 .1 .1 .0) (bc .last .1 .1 .1 .1 .1 .1 .1 .1 .0) em es ma (bc .ensures), found-twos t ok r (a .start) v (z .leads-are) (fq .last .1 .1 .1 .1 .1 .0) (sr .last .1 .1 .1 .1 .0) (sm .last .1 .0) (bc .last .1 .1 .1 .1 .1 .1 .0) (bc .last .1 .1 .1 .1 .1 .1 .1 .0) (bc .last .1 .1 .1 .1 .1 .1 .1 .1 .0) em es ma (bc .ensures), omega arith)
 
 -- src/lib.rt:20:1
 same-length : tie.Need-same-length
@@ -128,7 +125,7 @@ returns c =
     let ok = pre .0 .accepted in
     let r = receivedBy (a .re .now) (a .im .now) (a .o .mapping) (a .o .scales) in
     let z = pre .4 in
-    let ev : a .p .«valid_slots» ≡ validTotal t = ap (λ (x : Plan). x .«valid_slots») (pre .0 .is) in
+    let v = length (a .leads .now) in
     let fq = frame-metrics .frame-metrics in
     let sr = frame-sides .frame-sides in
     let sm = slot-marks .slot-marks in
@@ -137,7 +134,7 @@ returns c =
     let ma = marks-at t ok r (a .start) (a .marks .now) (sm .last .1 .0) (sm .ensures) in
     let bc = best-content .best-content in
     let cb = c .before .before .write-load in
-    found-reads t ok r (a .start) (a .p .«valid_slots») ev (fq .last .1 .1 .1 .1 .1 .0) (sr .last .1 .1 .1 .1 .0) (sm .last .1 .0) (bc .last .1 .1 .1 .1 .1 .1 .1 .0) (bc .last .1 .1 .1 .1 .1 .1 .1 .1 .0) (bc .last .1 .1 .1 .1 .1 .1 .1 .1 .1 .0) em es ma (bc .ensures) (a .bytes .now) (cb .last .1 .1 .1 .0) (cb .ensures) (z .bytes-are)
+    found-reads t ok r (a .start) v (z .leads-are) (fq .last .1 .1 .1 .1 .1 .0) (sr .last .1 .1 .1 .1 .0) (sm .last .1 .0) (bc .last .1 .1 .1 .1 .1 .1 .0) (bc .last .1 .1 .1 .1 .1 .1 .1 .0) (bc .last .1 .1 .1 .1 .1 .1 .1 .1 .0) em es ma (bc .ensures) (a .bytes .now) (cb .last .1 .1 .1 .0) (cb .ensures) (z .bytes-are)
 
 pub read-exact-spec : {M : Type 1} → statement M
 read-exact-spec =

@@ -3,7 +3,6 @@ use mathlib.Core.Path.{sym}
 use Prim.Native.Nat.{_*_}
 use native.Mathlib.Omega.{arith}
 use lib.Seq.{length-take-le}
-use Rattle.isdbs_plan.specs.RunsOf.{validTotal}
 use Rattle.isdbs_metrics.specs.Scales.{receivedBy}
 use Rattle.best_frame.specs.Lent.{lent, lengths}
 use Rattle.best_frame.specs.ReadLaws.{counted, four-few, kept-few, fronts, just, left-of}

@@ -6,7 +6,7 @@ use Rattle.isdbs_plan.specs.RunsOf.{noRun}
 use lib.ListN.{getD, length-drop}
 use Rattle.best_sides.specs.RunSides.{room-by}
 use native.Mathlib.Omega.{arith}
-use Prim.Native.Nat.{ℕ, _-_, _*_}
+use Prim.Native.Nat.{_-_}
 use Rattle.best_sides.proofs.frame_sides.Statement.{statement}
 use Rattle.best_sides.proofs.frame_sides.Tie as tie
 use Rattle.best_sides.proofs.frame_sides.Reads as reads

@@ -1,10 +1,8 @@
 -- `isdbs_best_reading` meets its contract.
-use mathlib.Core.Path.{_≡_, refl, sym, _∙_, ap}
-use mathlib.Core.List.{List, _++_}
-use Rattle.refusal.specs.Rows.{Row}
+use mathlib.Core.Path.{_≡_, refl, _∙_}
+use mathlib.Core.List.{_++_}
 use Rattle.isdbs_tables.specs.Tables.{tableRows}
 use Rattle.c_table.specs.Forms.{tableOf}
-use Rattle.c_frame.specs.Mappings.{mappingOf}
 use Rattle.c_answers.specs.Answers.{answered}
 use Rattle.c_answers.specs.Lengths.{untilLength}
 use Rattle.isdbs_rows.specs.DecodeRows.{pointRows}

@@ -8,8 +8,8 @@ use Rattle.cases_best_content.proofs.Laws.{lent}
 use Rattle.cases_best_content.proofs.read.Statement.{statement}
 use Rattle.cases_best_content.proofs.read.Tie as tie
 
-cast-t14 : tie.Need-cast-t14
-cast-t14 c = search needs
+cast-t13 : tie.Need-cast-t13
+cast-t13 c = search needs
 
 mul-end : tie.Need-mul-end
 mul-end c = search needs
@@ -17,7 +17,7 @@ mul-end c = search needs
 slice-aggregate-best-content : tie.Need-slice-aggregate-best-content
 slice-aggregate-best-content c =
     let a = c .before .before .before .before .before .before .args in
-    sym (length-take-le (4 * a .n) (a .xs .now) (omega arith))
+    sym (length-take-le (4 * a .s .n) (a .xs .now) (omega arith))
 
 slice-aggregate-best-content-2 : tie.Need-slice-aggregate-best-content-2
 slice-aggregate-best-content-2 c = search needs
@@ -35,7 +35,7 @@ slice-aggregate-best-content-5 : tie.Need-slice-aggregate-best-content-5
 slice-aggregate-best-content-5 c =
     let start = c .before .before .before .before .before .before .before .before .before .before in
     let a = start .args in
-    sym (length-take-le (a .n) (a .bits .now) (omega arith))
+    sym (length-take-le (a .s .n) (a .bits .now) (omega arith))
 
 slice-relend-prefix-best-content-2 : tie.Need-slice-relend-prefix-best-content-2
 slice-relend-prefix-best-content-2 c = search needs
@@ -44,15 +44,15 @@ slice-aggregate-best-content-6 : tie.Need-slice-aggregate-best-content-6
 slice-aggregate-best-content-6 c =
     let start = c .before .before .before .before .before .before .before .before .before .before .before in
     let a = start .args in
-    sym (length-take-le (a .n) (a .uncoded .now) (omega arith))
+    sym (length-take-le (a .s .n) (a .uncoded .now) (omega arith))
 
 best-content-requires : tie.Need-best-content-requires
 best-content-requires c κs =
     let st = c .before .before .before .before .before .before .before .before .before .before .before .before in
     let a = st .args in
     let p = st .pre in
-    lent (a .xs .now) (a .sides .now) _ _ _ _ (a .leads .now) (a .a) (a .b) (a .n) (omega arith) (omega arith) (omega arith) (omega arith) (omega arith) (omega arith) refl refl
-    (length-take-le (a .n) (a .bits .now) (omega arith)) (length-take-le (a .n) (a .uncoded .now) (omega arith)) (omega arith) (p .9)
+    lent (a .xs .now) (a .sides .now) _ _ _ _ (a .leads .now) (a .s .a) (a .s .b) (a .s .n) (omega arith) (omega arith) (omega arith) (omega arith) (omega arith) (omega arith) refl refl
+    (length-take-le (a .s .n) (a .bits .now) (omega arith)) (length-take-le (a .s .n) (a .uncoded .now) (omega arith)) (omega arith) (p .9)
 
 same-length : tie.Need-same-length
 same-length c = search needs
@@ -70,7 +70,7 @@ pub read-spec : {M : Type 1} → statement M
 read-spec =
     tie.close
     (tie.spec
-    cast-t14
+    cast-t13
     mul-end
     slice-aggregate-best-content
     slice-aggregate-best-content-2

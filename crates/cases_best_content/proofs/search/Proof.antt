@@ -1,5 +1,5 @@
 -- `search` is safe and ends.
-use Prim.Native.Nat.{_-_, _≤_}
+use Prim.Native.Nat.{_-_}
 use borrow.Author.Needs.{needs}
 use Rattle.cases_best_content.proofs.search.Statement.{statement}
 use Rattle.cases_best_content.proofs.search.Tie as tie
