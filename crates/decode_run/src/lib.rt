@@ -14,8 +14,7 @@ ghost use mathlib.Core.Logic.{_⊎_};
 ghost use Prim.Native.Nat.{_*_, _<_, _≤_};
 ghost use lib.ListN.{length};
 ghost use Rattle.trellis.specs.Lists.{upto, laid};
-ghost use Rattle.isdbs_metrics.specs.Steps.{LayoutOf};
-ghost use Rattle.decode_block.specs.Blocks.{runSteps, runMark, planSteps, planMark};
+ghost use Rattle.decode_block.specs.Blocks.{runSteps, runMark};
 ghost use Rattle.decode_run.specs.Carried.{RunFits, Carried};
 
 // How many of the steps left are taken at once.
@@ -36,62 +35,7 @@ pub struct RunPlan {
     pub count: usize,
 }
 
-// Reads a run in blocks, and keeps the marks of its steps; its first is step `from` of the frame. The parts, the soft values at their steps, the marks and
-// the metrics of a block are laid in the lent slices.
-fn read_blocks(
-    pm: &mut [f32; STATES],
-    at: At,
-    run: BlockPlan,
-    re: &[f64],
-    im: &[f64],
-    parts: &mut [f64],
-    pairs: &mut [f32],
-    wide: &mut [u32],
-    block: &mut [f32],
-    decisions: &mut [u64],
-    bits: &mut [u8],
-    marks: &mut [u8],
-) -> At
-    requires { ⌜ LayoutOf (run .layout) × RunFits (run .layout .combination) (run .from) (run .count) at (length (now re)) (length (now im)) (length (now decisions)) (length (now bits)) (length (now marks))
-        × (512 ≤ length (now parts)) × (896 ≤ length (now pairs)) × (448 ≤ length (now wide)) × (1792 ≤ length (now block)) ⌝ }
-    ensures read { λ r. ⌜ Carried (planSteps run (now (re .entry)) (now (im .entry))) (run .from) (run .count) (now (pm .entry)) at (now (decisions .entry)) (now (bits .entry)) r (now (pm .exit)) (now (decisions .exit)) (now (bits .exit)) ⌝ }
-    ensures marked { λ _. ⌜ now (marks .exit) ≡ laid (upto (planMark run (now (re .entry)) (now (im .entry))) (run .count)) (now (marks .entry)) ⌝ }
-{
-    let layout = run.layout;
-    let mapping = run.mapping;
-    let scale = run.scale;
-    let first = run.from;
-    let n = run.count;
-    let mut now_at = at;
-    let mut k: usize = 0;
-    while k < n {
-        let len = block_of(n - k, layout.period);
-        let plan = BlockPlan {
-            layout,
-            mapping,
-            scale,
-            from: k,
-            count: len,
-        };
-        make_block(re, im, plan, parts, pairs, wide, block, &mut marks[k..]);
-        now_at = run_steps(
-            pm,
-            now_at,
-            FRAME_TRACEBACK,
-            first + k,
-            len,
-            Kind::Fours,
-            block,
-            &[0u8; 0],
-            decisions,
-            bits,
-        );
-        k = k + len;
-    }
-    now_at
-}
-
-// Reads a run, whole periods, and keeps the marks of its steps.
+// Reads a run, whole periods, in blocks, and keeps the marks of its steps.
 pub fn read_run(
     pm: &mut [f32; STATES],
     at: At,
@@ -109,29 +53,47 @@ pub fn read_run(
     let c = run.combination;
     let layout = layout_of(c);
     let mapping = run.mapping;
-    let plan = BlockPlan {
-        layout,
-        mapping,
-        scale: run.scale,
-        from: run.first,
-        count: run.count,
-    };
+    let scale = run.scale;
+    let first = run.first;
+    let n = run.count;
     let mut parts = [0.0f64; 512];
     let mut pairs = [0.0f32; 896];
     let mut wide = [0u32; 448];
     let mut block = [0.0f32; 1792];
-    read_blocks(
-        pm,
-        at,
-        plan,
-        re,
-        im,
-        &mut parts,
-        &mut pairs,
-        &mut wide,
-        &mut block,
-        decisions,
-        bits,
-        marks,
-    )
+    let mut now_at = at;
+    let mut k: usize = 0;
+    while k < n {
+        let len = block_of(n - k, layout.period);
+        let plan = BlockPlan {
+            layout,
+            mapping,
+            scale,
+            from: k,
+            count: len,
+        };
+        make_block(
+            re,
+            im,
+            plan,
+            &mut parts,
+            &mut pairs,
+            &mut wide,
+            &mut block,
+            &mut marks[k..],
+        );
+        now_at = run_steps(
+            pm,
+            now_at,
+            FRAME_TRACEBACK,
+            first + k,
+            len,
+            Kind::Fours,
+            &block,
+            &[0u8; 0],
+            decisions,
+            bits,
+        );
+        k = k + len;
+    }
+    now_at
 }
