@@ -33,7 +33,7 @@ const ALL: u64 = 0x000f_000f_0401_2c07;
 const MAPPING: u64 = 4;
 
 // The load: 3, 10, 17 and so on, modulo 256.
-fn fill(load: &mut [u8; LOAD_BYTES]) {
+fn fill_load(load: &mut [u8; LOAD_BYTES]) {
     let mut b: u8 = 3;
     for i in 0..9744usize {
         load[i] = b;
@@ -76,10 +76,10 @@ fn show_answer(r: FrameDecoded) {
     }
 }
 
+// A frame that is the first has a start that the decoder knows.
 fn decode(
     table: u64,
     first: bool,
-    known_start: bool,
     re: &[f64; MAIN_SYMBOLS],
     im: &[f64; MAIN_SYMBOLS],
     decisions: &mut [u64; FRAME_WORDS],
@@ -89,7 +89,7 @@ fn decode(
 ) -> FrameDecoded {
     let o = DemodOptions {
         mapping: mapping_of(MAPPING),
-        known_start,
+        known_start: first,
         scales: [8.0f32; 7],
     };
     decode_frame(
@@ -105,7 +105,7 @@ fn decode(
     )
 }
 
-// Reads a frame with the first n of 48 counts lent, and shows it by the name of the case, the first being 1. A frame that is the first has a start that the decoder knows.
+// Reads a frame with the first n of 48 counts lent, and shows it by the name of the case, the first being 1.
 fn read(
     case: usize,
     table: u64,
@@ -122,7 +122,6 @@ fn read(
     let mut counts = [7u32; SLOTS];
     let r = decode(
         table,
-        first,
         first,
         re,
         im,
@@ -152,7 +151,7 @@ fn encode(
 // The clean frame of the load.
 fn make(table: u64, first: bool, re: &mut [f64; MAIN_SYMBOLS], im: &mut [f64; MAIN_SYMBOLS]) {
     let mut load = [0u8; LOAD_BYTES];
-    fill(&mut load);
+    fill_load(&mut load);
     encode(&load, table, first, re, im);
 }
 

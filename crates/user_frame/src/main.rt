@@ -30,7 +30,7 @@ fn table() -> Table {
     }
 }
 
-fn fill(load: &mut [u8; LOAD_BYTES]) {
+fn fill_load(load: &mut [u8; LOAD_BYTES]) {
     for i in 0..CARRIED {
         load[i] = (i % 251) as u8;
     }
@@ -106,6 +106,6 @@ fn main() {
     let mut load = [0u8; LOAD_BYTES];
     let mut re = [0.0f64; MAIN_SYMBOLS];
     let mut im = [0.0f64; MAIN_SYMBOLS];
-    fill(&mut load);
+    fill_load(&mut load);
     make(&load, &mut re, &mut im);
 }

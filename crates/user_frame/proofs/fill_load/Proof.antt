@@ -1,8 +1,8 @@
--- `fill` ends, and stays inside its arrays.
+-- `fill_load` ends, and stays inside its arrays.
 use borrow.Author.Needs.{needs}
 use Prim.Native.Nat.{_-_, _≤_}
-use Rattle.user_frame.proofs.fill.Statement.{statement}
-use Rattle.user_frame.proofs.fill.Tie as tie
+use Rattle.user_frame.proofs.fill_load.Statement.{statement}
+use Rattle.user_frame.proofs.fill_load.Tie as tie
 
 abbrev Inv-loop : tie.InvT-loop
 Inv-loop load₀ i₀ load i = i ≤ 9135
@@ -31,5 +31,5 @@ loop-again c = search needs
 returns : tie.Need-returns Inv-loop μ-loop
 returns c = search needs
 
-pub fill-spec : {M : Type 1} → statement M
-fill-spec = tie.close (tie.spec Inv-loop μ-loop loop-holds cast-load element-write-load add-i loop-less loop-again returns)
+pub fill-load-spec : {M : Type 1} → statement M
+fill-load-spec = tie.close (tie.spec Inv-loop μ-loop loop-holds cast-load element-write-load add-i loop-less loop-again returns)

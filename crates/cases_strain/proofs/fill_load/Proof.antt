@@ -1,8 +1,8 @@
--- `fill` is safe and ends.
+-- `fill_load` is safe and ends.
 use Prim.Native.Nat.{_-_, _≤_}
 use borrow.Author.Needs.{needs}
-use Rattle.cases_strain.proofs.fill.Statement.{statement}
-use Rattle.cases_strain.proofs.fill.Tie as tie
+use Rattle.cases_strain.proofs.fill_load.Statement.{statement}
+use Rattle.cases_strain.proofs.fill_load.Tie as tie
 
 abbrev Inv-loop : tie.InvT-loop
 Inv-loop load₀ b₀ i₀ load b i = i ≤ 9744
@@ -31,8 +31,8 @@ loop-again c = search needs
 returns : tie.Need-returns Inv-loop μ-loop
 returns c = search needs
 
-pub fill-spec : {M : Type 1} → statement M
-fill-spec =
+pub fill-load-spec : {M : Type 1} → statement M
+fill-load-spec =
     tie.close
     (tie.spec
     Inv-loop
