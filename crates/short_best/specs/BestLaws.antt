@@ -8,7 +8,7 @@ use borrow.Author.Tests.{le-ltb, eq-eqb}
 use lib.IntN.{ℤ}
 use lib.Dec.{eqb, ltb, lit<}
 use lib.ListN.{length, take}
-use lib.Ieee.{Float, le}
+use lib.Ieee.{Float}
 use Rattle.refusal.specs.Rows.{firstRow, Either}
 use Rattle.refusal.specs.declared.Answer.the-variants as answer
 use Rattle.trellis.specs.Isdb.{rule, frameTraceback}

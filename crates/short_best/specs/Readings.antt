@@ -1,13 +1,12 @@
 -- A reading by a code of constraint length 3 to 7: a fresh decoder of traceback 128, a call of metrics, a flush. P7: "The best-path statement is established
 -- over the length".
 use mathlib.Core.Path.{_≡_}
-use mathlib.Core.Bool.{true, not, _||_}
+use mathlib.Core.Bool.{true, not}
 use mathlib.Core.List.{List, [], _∷_}
-use Prim.Native.Nat.{ℕ, _+_, _*_, _/_, _%_, _≤_}
-use lib.Dec.{eqb, ltb}
+use Prim.Native.Nat.{ℕ, _+_, _*_, _/_, _≤_}
 use lib.IntN.{ℤ}
-use lib.ListN.{length, getD, take, replicate}
-use lib.Ieee.{Float, nan}
+use lib.ListN.{length, take, replicate}
+use lib.Ieee.{Float}
 use Rattle.refusal.specs.Rows.{Row}
 use Rattle.refusal.specs.declared.Answer.the-variants as answer
 use Rattle.trellis.specs.Isdb.{rule, frameTraceback}

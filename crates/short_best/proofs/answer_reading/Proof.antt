@@ -1,5 +1,5 @@
 -- `short_best::answer_reading` meets its contract.
-use mathlib.Core.Path.{_≡_, refl, sym, _∙_}
+use mathlib.Core.Path.{refl, sym, _∙_}
 use Prim.Native.Nat.{_%_}
 use lib.ListN.{length}
 use borrow.Author.Needs.{needs}

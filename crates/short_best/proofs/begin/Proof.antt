@@ -1,5 +1,5 @@
 -- `short_best::begin` meets its contract.
-use mathlib.Core.Path.{_≡_, sym, _∙_, ap}
+use mathlib.Core.Path.{sym, _∙_, ap}
 use lib.ListN.{length}
 use borrow.Author.Needs.{needs}
 use Rattle.path_greatest.specs.Fresh.{startValues}
