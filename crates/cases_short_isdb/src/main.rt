@@ -56,7 +56,7 @@ fn soft(x: u32) -> f32 {
     m / 4.0 - 8.0
 }
 
-fn fill(values: &mut [f32; 18000], seed: u32) {
+fn fill_values(values: &mut [f32; 18000], seed: u32) {
     let mut x = seed % 65536;
     for k in 0..18000 {
         x = next(x);
@@ -287,7 +287,7 @@ fn main() {
     show_one(b"fresh decoders and the encoder &s\n", one(starts()));
     let mut values = [0.0f32; 18000];
     let mut bits = [0u8; 4500];
-    fill(&mut values, 1);
+    fill_values(&mut values, 1);
     fill_bits(&mut bits, 2);
     run(&values, &bits);
 }

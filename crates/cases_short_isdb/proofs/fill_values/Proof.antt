@@ -1,8 +1,8 @@
--- `fill` is safe and ends.
+-- `fill_values` is safe and ends.
 use Prim.Native.Nat.{_+_, _-_, _*_, _≤_, _<_}
 use borrow.Author.Needs.{needs}
-use Rattle.cases_short_isdb.proofs.fill.Statement.{statement}
-use Rattle.cases_short_isdb.proofs.fill.Tie as tie
+use Rattle.cases_short_isdb.proofs.fill_values.Statement.{statement}
+use Rattle.cases_short_isdb.proofs.fill_values.Tie as tie
 
 abbrev Inv-loop : tie.InvT-loop
 Inv-loop values₀ seed x₀ k₀ values x k = (k ≤ 18000) × (x < 65536)
@@ -37,8 +37,8 @@ loop-again c = search needs
 returns : tie.Need-returns Inv-loop μ-loop
 returns c = search needs
 
-pub fill-spec : {M : Type 1} → statement M
-fill-spec =
+pub fill-values-spec : {M : Type 1} → statement M
+fill-values-spec =
     tie.close
     (tie.spec
     Inv-loop
