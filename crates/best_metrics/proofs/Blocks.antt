@@ -34,11 +34,11 @@ block-fours ms k n block b i h =
     ap (λ (x : ℕ). getD block x nan) (sym e) ∙ number ms k n block b (i / 4) (i % 4) (omega arith) (omega arith) ∙ ap (λ (x : ℕ). getD (ms x) (i % 4) nan) (sym f) ∙ ap (λ (x : ℕ). getD (ms ((4 * k + i) / 4)) x nan) (sym g)
 
 -- a block more
-pub more-metrics : (ms : ℕ → List Float) (k n : ℕ) (xs xs₀ new : List Float) → xs ≡ laid (upto (fours ms) (4 * k)) xs₀ → new ≡ take (4 * k) xs ++ laid (upto (λ i. fours ms (4 * k + i)) (4 * n)) (drop (4 * k) xs)
+pub more-metrics : (ms : ℕ → List Float) (k n : ℕ) (block xs xs₀ new : List Float) → BlockMade (λ i. four (ms i)) k n block → xs ≡ laid (upto (fours ms) (4 * k)) xs₀ → new ≡ take (4 * k) xs ++ laid (upto (floats block) (4 * n)) (drop (4 * k) xs)
     → new ≡ laid (upto (fours ms) (4 * (k + n))) xs₀
-more-metrics ms k n xs xs₀ new e f =
+more-metrics ms k n block xs xs₀ new b e f =
     let s : 4 * k + 4 * n ≡ 4 * (k + n) = omega arith in
     f
-    ∙ ap (λ (x : List Float). take (4 * k) x ++ laid (upto (λ i. fours ms (4 * k + i)) (4 * n)) (drop (4 * k) x)) e
-    ∙ laid-part (fours ms) (λ i. fours ms (4 * k + i)) (4 * k) (4 * n) xs₀ (λ i l. refl)
+    ∙ ap (λ (x : List Float). take (4 * k) x ++ laid (upto (floats block) (4 * n)) (drop (4 * k) x)) e
+    ∙ laid-part (fours ms) (floats block) (4 * k) (4 * n) xs₀ (λ i l. block-fours ms k n block b i l)
     ∙ ap (λ (x : ℕ). laid (upto (fours ms) x) xs₀) s

@@ -13,7 +13,6 @@ ghost use lib.ListN.{length};
 ghost use Rattle.trellis.specs.Lists.{upto, laid};
 ghost use Rattle.isdbs_frame.specs.Frame.{mainSymbols};
 ghost use Rattle.isdbs_plan.specs.RunsOf.{frameSteps, Planned};
-ghost use Rattle.isdbs_points.specs.Layout.{stepsPerPeriod};
 ghost use Rattle.isdbs_metrics.specs.Steps.{LayoutOf, Covers, pieceMetrics};
 ghost use Rattle.decode_block.specs.Blocks.{Periods, fours};
 ghost use Rattle.isdbs_metrics.specs.Scales.{receivedBy};
@@ -30,44 +29,50 @@ fn take_block(block: &[f32], count: usize, out: &mut [f32])
     }
 }
 
-// The metrics of n steps of a run from step k on, whole periods, at most a block, to the front of `out`.
-fn write_block(
+// The metrics of n steps of a run, whole periods, in blocks, to the front of `metrics`. What a block is made from is laid in the other lent slices.
+fn metric_blocks(
+    n: usize,
     layout: PeriodLayout,
     m: Mapping,
     scale: f32,
-    k: usize,
-    n: usize,
     re: &[f64],
     im: &[f64],
-    out: &mut [f32],
+    parts: &mut [f64],
+    softs: &mut [f32],
+    pairs: &mut [f32],
+    block: &mut [f32],
+    marks: &mut [u8],
+    metrics: &mut [f32],
 )
-    requires { ⌜ LayoutOf layout × Periods (layout .combination) k × Periods (layout .combination) n × (n ≤ 64 * stepsPerPeriod (layout .combination)) × (k + n < 2 ^ 30)
-        × Covers (layout .combination) (k + n) (length (now re)) × Covers (layout .combination) (k + n) (length (now im)) × (4 * n ≤ length (now out)) ⌝ }
-    ensures { λ _. ⌜ now (out .exit) ≡ laid (upto (λ i. fours (pieceMetrics (layout .combination) (now (re .entry)) (now (im .entry)) m scale) (4 * k + i)) (4 * n)) (now (out .entry)) ⌝ }
+    requires { ⌜ LayoutOf layout × Periods (layout .combination) n × (n < 2 ^ 30) × (4 * n ≤ length (now metrics))
+        × Covers (layout .combination) n (length (now re)) × Covers (layout .combination) n (length (now im))
+        × (512 ≤ length (now parts)) × (512 ≤ length (now softs)) × (896 ≤ length (now pairs)) × (1792 ≤ length (now block)) × (448 ≤ length (now marks)) ⌝ }
+    ensures { λ _. ⌜ now (metrics .exit) ≡ laid (upto (fours (pieceMetrics (layout .combination) (now (re .entry)) (now (im .entry)) m scale)) (4 * n)) (now (metrics .entry)) ⌝ }
 {
-    let mut parts = [0.0f64; 512];
-    let mut softs = [0.0f32; 512];
-    let mut pairs = [0.0f32; 896];
-    let mut block = [0.0f32; 1792];
-    let mut marks = [0u8; 448];
-    make_block(
-        re,
-        im,
-        m,
-        scale,
-        layout,
-        k,
-        n,
-        &mut parts,
-        &mut softs,
-        &mut pairs,
-        &mut block,
-        &mut marks,
-    );
-    take_block(&block, 4 * n, out);
+    let mut k: usize = 0;
+    while k < n {
+        let len = block_of(n - k, layout.period);
+        make_block(
+            re,
+            im,
+            m,
+            scale,
+            layout,
+            k,
+            len,
+            parts,
+            softs,
+            pairs,
+            block,
+            marks,
+        );
+        let from = 4 * k;
+        take_block(block, 4 * len, &mut metrics[from..]);
+        k = k + len;
+    }
 }
 
-// The metrics of n steps of a run of one combination, whole periods, in blocks, to the front of `metrics`.
+// The metrics of n steps of a run of one combination, whole periods, to the front of `metrics`.
 fn run_metrics(
     n: usize,
     c: Combination,
@@ -81,13 +86,25 @@ fn run_metrics(
     ensures { λ _. ⌜ now (metrics .exit) ≡ laid (upto (fours (pieceMetrics c (now (re .entry)) (now (im .entry)) m scale)) (4 * n)) (now (metrics .entry)) ⌝ }
 {
     let layout = layout_of(c);
-    let mut k: usize = 0;
-    while k < n {
-        let len = block_of(n - k, layout.period);
-        let from = 4 * k;
-        write_block(layout, m, scale, k, len, re, im, &mut metrics[from..]);
-        k = k + len;
-    }
+    let mut parts = [0.0f64; 512];
+    let mut softs = [0.0f32; 512];
+    let mut pairs = [0.0f32; 896];
+    let mut block = [0.0f32; 1792];
+    let mut marks = [0u8; 448];
+    metric_blocks(
+        n,
+        layout,
+        m,
+        scale,
+        re,
+        im,
+        &mut parts,
+        &mut softs,
+        &mut pairs,
+        &mut block,
+        &mut marks,
+        metrics,
+    );
 }
 
 // The metrics of the frame's steps, to the front of `metrics`.
