@@ -41,18 +41,30 @@ const METRICS: usize = 272832;
 
 const TABLE_WORDS: usize = 3072;
 
-// What is read: the table, the way (mapping and kind of frame), and whether the start is known.
+// What is read: the case's number, the table, the way (mapping and kind of frame), whether the start is known, and the scale.
 struct Case {
+    how: usize,
     table: u64,
     way: u64,
     known: bool,
+    scale: f32,
 }
 
-fn options(c: Case, scale: f32) -> DemodOptions {
+fn case_of(how: usize, table: u64, way: u64, known: bool) -> Case {
+    Case {
+        how,
+        table,
+        way,
+        known,
+        scale: 8.0,
+    }
+}
+
+fn options(c: Case) -> DemodOptions {
     DemodOptions {
         mapping: mapping_of(c.way),
         known_start: c.known,
-        scales: [scale; 7],
+        scales: [c.scale; 7],
     }
 }
 
@@ -62,7 +74,6 @@ fn is_first(way: u64) -> bool {
 
 fn read_best(
     c: Case,
-    scale: f32,
     re: &[f64],
     im: &[f64],
     metrics: &mut [f32; METRICS],
@@ -79,7 +90,7 @@ fn read_best(
         im,
         table_of(c.table),
         is_first(c.way),
-        options(c, scale),
+        options(c),
         metrics,
         sides,
         words,
@@ -106,7 +117,7 @@ fn read_plain(
         im,
         table_of(c.table),
         is_first(c.way),
-        options(c, 8.0),
+        options(c),
         decisions,
         bits,
         bytes,
@@ -195,7 +206,6 @@ fn show_leads(e: Ends) {
 // ---- one reading of each kind
 
 fn shown(
-    how: usize,
     c: Case,
     best: usize,
     other: usize,
@@ -207,7 +217,7 @@ fn shown(
     let n = load_bytes(c.table);
     let right = alike(load, 0, bytes, n);
     let same = alike(plain, 0, bytes, n);
-    let found = [how, best, other, n - right, n, n - same];
+    let found = [c.how, best, other, n - right, n, n - same];
     show(
         b"  case #: answers # and #, # of # bytes wrong, # read otherwise",
         &found,
@@ -215,10 +225,13 @@ fn shown(
     show_leads(ends_of(leads, n / 203));
 }
 
+// The pseudo-random load of a case.
+fn seed_of(c: Case) -> u64 {
+    0x9e37_79b9 + c.way % 64
+}
+
 fn both(
-    how: usize,
     c: Case,
-    load: &[u8; LOAD_BYTES],
     re: &[f64; MAIN_SYMBOLS],
     im: &[f64; MAIN_SYMBOLS],
     metrics: &mut [f32; METRICS],
@@ -233,9 +246,10 @@ fn both(
     let mut bytes = [0u8; LOAD_BYTES];
     let mut plain = [0u8; LOAD_BYTES];
     let mut leads = [0u64; SLOTS];
+    let mut load = [0u8; LOAD_BYTES];
+    draw(&mut load, load_bytes(c.table), seed_of(c));
     let a = read_best(
         c,
-        8.0,
         re,
         im,
         metrics,
@@ -248,13 +262,12 @@ fn both(
         &mut leads,
     );
     let b = read_plain(c, re, im, &mut decisions, &mut kept, &mut plain);
-    shown(how, c, a, b, load, &bytes, &plain, &leads);
+    shown(c, a, b, &load, &bytes, &plain, &leads);
 }
 
 // The frames of a table: clean, from an unknown start, with noise all over, with noise in one stretch.
 fn one_table(
-    k: u64,
-    table: u64,
+    c: Case,
     re: &mut [f64; MAIN_SYMBOLS],
     im: &mut [f64; MAIN_SYMBOLS],
     metrics: &mut [f32; METRICS],
@@ -263,84 +276,22 @@ fn one_table(
     bits: &mut [u8; STEPS],
     uncoded: &mut [u8; STEPS],
 ) {
-    let mut load = [0u8; LOAD_BYTES];
-    let n = load_bytes(table);
-    draw(&mut load, n, 0x9e37_79b9 + k % 64);
+    let table = c.table;
+    let way = c.way;
     show_table(table);
     text(b"\n");
-    let known = Case {
-        table,
-        way: k,
-        known: true,
-    };
-    let unknown = Case {
-        table,
-        way: k,
-        known: false,
-    };
-    make(&load, known, re, im);
-    both(
-        1,
-        known,
-        &load,
-        re,
-        im,
-        metrics,
-        sides,
-        words,
-        bits,
-        uncoded,
-    );
-    both(
-        2,
-        unknown,
-        &load,
-        re,
-        im,
-        metrics,
-        sides,
-        words,
-        bits,
-        uncoded,
-    );
+    make(c, re, im);
+    both(c, re, im, metrics, sides, words, bits, uncoded);
+    let unknown = case_of(2, table, way, false);
+    both(unknown, re, im, metrics, sides, words, bits, uncoded);
     damage(re, im, 0, MAIN_SYMBOLS, noise_of(table), 77);
-    both(
-        3,
-        known,
-        &load,
-        re,
-        im,
-        metrics,
-        sides,
-        words,
-        bits,
-        uncoded,
-    );
+    let noisy = case_of(3, table, way, true);
+    both(noisy, re, im, metrics, sides, words, bits, uncoded);
     damage(re, im, 9000, 12000, 2.0, 78);
-    both(
-        4,
-        known,
-        &load,
-        re,
-        im,
-        metrics,
-        sides,
-        words,
-        bits,
-        uncoded,
-    );
-    both(
-        5,
-        unknown,
-        &load,
-        re,
-        im,
-        metrics,
-        sides,
-        words,
-        bits,
-        uncoded,
-    );
+    let torn = case_of(4, table, way, true);
+    both(torn, re, im, metrics, sides, words, bits, uncoded);
+    let lost = case_of(5, table, way, false);
+    both(lost, re, im, metrics, sides, words, bits, uncoded);
 }
 
 // Noise that a table's weakest combination stands.
@@ -352,14 +303,11 @@ fn noise_of(table: u64) -> f64 {
     }
 }
 
-fn make(
-    load: &[u8; LOAD_BYTES],
-    c: Case,
-    re: &mut [f64; MAIN_SYMBOLS],
-    im: &mut [f64; MAIN_SYMBOLS],
-) {
+fn make(c: Case, re: &mut [f64; MAIN_SYMBOLS], im: &mut [f64; MAIN_SYMBOLS]) {
+    let mut load = [0u8; LOAD_BYTES];
+    draw(&mut load, load_bytes(c.table), seed_of(c));
     encode_frame(
-        load,
+        &load,
         table_of(c.table),
         is_first(c.way),
         mapping_of(c.way),
@@ -380,8 +328,7 @@ fn all_tables(
     let tables = TABLES;
     for k in 0..6usize {
         one_table(
-            3 * k as u64 + 1,
-            tables[k],
+            case_of(1, tables[k], 3 * k as u64 + 1, true),
             re,
             im,
             metrics,
@@ -400,29 +347,41 @@ fn front_parts<'a>(s: &'a [f64], n: usize) -> &'a [f64] {
     if n <= s.len() { &s[0..n] } else { &s[0..0] }
 }
 
-// A reading with the first places of the tables and of the leads.
+// What is lent in each case: the table, the points, whether the scale is 0, the places of the tables and of the leads.
+struct Lent {
+    table: u64,
+    points: usize,
+    silent: bool,
+    few: usize,
+    places: usize,
+}
+
+// A reading with the first points of the one part, the first places of the tables and of the leads.
 fn read_front(
-    c: Case,
-    scale: f32,
-    re: &[f64],
-    im: &[f64],
+    l: Lent,
+    re: &[f64; MAIN_SYMBOLS],
+    im: &[f64; MAIN_SYMBOLS],
     metrics: &mut [f32; METRICS],
     sides: &mut [u8; STEPS],
     words: &mut [u64; STEPS],
     tables: &mut [u64],
-    few: usize,
     bits: &mut [u8; STEPS],
     uncoded: &mut [u8; STEPS],
     bytes: &mut [u8; LOAD_BYTES],
     leads: &mut [u64],
-    places: usize,
 ) -> usize {
-    let a = least(few, tables.len());
-    let b = least(places, leads.len());
+    let c = Case {
+        how: 0,
+        table: l.table,
+        way: 4,
+        known: true,
+        scale: if l.silent { 0.0 } else { 8.0 },
+    };
+    let a = least(l.few, tables.len());
+    let b = least(l.places, leads.len());
     read_best(
         c,
-        scale,
-        re,
+        front_parts(re, l.points),
         im,
         metrics,
         sides,
@@ -440,15 +399,6 @@ fn kept(bytes: &[u8; LOAD_BYTES]) -> usize {
     bytes_of(bytes, 0, LOAD_BYTES, 7)
 }
 
-// What is lent in each case: the table, the points, whether the scale is 0, the places of the tables and of the leads.
-struct Lent {
-    table: u64,
-    points: usize,
-    silent: bool,
-    few: usize,
-    places: usize,
-}
-
 // Refused: a table of 49 slots, 38,975 points, a scale of 0, a word too few for the tables, a place too few for the leads. All is lent as 7s, and so it stays.
 fn one_row(
     l: Lent,
@@ -463,27 +413,18 @@ fn one_row(
     let mut tables = [7u64; TABLE_WORDS];
     let mut bytes = [7u8; LOAD_BYTES];
     let mut leads = [7u64; SLOTS];
-    let c = Case {
-        table: l.table,
-        way: 4,
-        known: true,
-    };
-    let scale: f32 = if l.silent { 0.0 } else { 8.0 };
     let a = read_front(
-        c,
-        scale,
-        front_parts(re, l.points),
+        l,
+        re,
         im,
         metrics,
         sides,
         words,
         &mut tables,
-        l.few,
         bits,
         uncoded,
         &mut bytes,
         &mut leads,
-        l.places,
     );
     let found = [
         a,
