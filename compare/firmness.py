@@ -61,6 +61,11 @@ def levels_of(table, sent, got):
     return decibels, levels
 
 
+def at_end(word, middle):
+    """The strength that the frame's last slot needs."""
+    return max(45, 100 - 3 * max(0, middle - {1: 0, 2: 30}.get(word, 60)) // 2)
+
+
 def firm_of(table, levels, strengths):
     """The rule: whether each valid slot is firm."""
     counted = [x for x in levels if x is not None]
@@ -74,12 +79,11 @@ def firm_of(table, levels, strengths):
             b = start + ((i + 1) * unit + valid - 1) // valid
             worst = min(levels[a:b])
             beside = min([levels[j] for j in (a - 1, b) if 0 <= j < 48 and levels[j] is not None], default=10_000)
-            failing = fails + (20 if last else 0)
             short = max(0, middle - worst - (5 if word == 1 else 3))
-            need = min(30, max(10, middle - failing - 10)) + 6 * short
-            if last or beside < middle - 10:
+            need = (at_end(word, middle) if last else min(30, max(22 if word == 7 else 10, middle - fails - 10))) + 6 * short
+            if beside < middle - 10:
                 need = max(need, 60)
-            flags.append(worst >= failing + 13 and short <= 2 and strengths[len(flags)] >= need)
+            flags.append(worst >= fails + 13 and short <= (1 if last else 2) and strengths[len(flags)] >= need)
     return flags
 
 

@@ -37,16 +37,24 @@ struct Slot {
     middle: i32,
 }
 
-/// The rule. By noise: the frame's middle slot tells how much strength to ask for. By bursts: a slot below the middle one by more than noise makes it needs more, or is not firm; the last slot, whose end is open and whose bytes fail
-/// 2 dB higher, and one beside a slot that was hit, which shares code with it, need twice as much.
+/// The rule. By noise: the frame's middle slot tells how much strength to ask for. By bursts: a slot below the middle one by more than noise makes it needs more, or is not firm; one beside a slot that was hit, which shares code with it,
+/// needs 60 %. The last slot, whose end is open, has a rule of its own: one or two coded bits carry its last ones, so that its strength tells how far these are from another reading, and the noise how far they must be.
 fn is_firm(kind: &Kind, s: &Slot) -> bool {
-    let fails = 10 * kind.fails + if s.last { 20 } else { 0 };
+    let fails = 10 * kind.fails;
     // of BPSK half as many parts are counted
     let usual = if kind.word == 1 { 5 } else { 3 };
     let short = (s.middle - s.worst - usual).max(0);
-    let need = (s.middle - fails - 10).clamp(10, 30) + 6 * short;
-    let least = if s.last || s.beside < s.middle - 10 { 60 } else { 0 };
-    s.worst >= fails + 13 && short <= 2 && s.strength >= i64::from(need.max(least))
+    // noise makes slots of TC8PSK wrong with up to 20 %
+    let least = if kind.word == 7 { 22 } else { 10 };
+    let by_level = if s.last { at_end(kind, s.middle) } else { (s.middle - fails - 10).clamp(least, 30) };
+    let in_any_case = if s.beside < s.middle - 10 { 60 } else { 0 };
+    s.worst >= fails + 13 && short <= if s.last { 1 } else { 2 } && s.strength >= i64::from(in_any_case.max(by_level + 6 * short))
+}
+
+/// The strength that the last slot needs at a middle level.
+fn at_end(kind: &Kind, middle: i32) -> i32 {
+    let falls = [0, 30, 60, 60, 60, 60, 60][usize::from(kind.word) - 1];
+    (100 - 3 * (middle - falls).max(0) / 2).max(45)
 }
 
 const STEPS: usize = 68_208;

@@ -29,28 +29,33 @@ pub const WEAK: u32 = 3;
 // A level is in tenths of a decibel, with 300 more.
 const ZERO: u32 = 300;
 
-// So far above the level at which bytes fail a slot must lie; and by how much the end of a frame, which is open, fails higher.
+// So far above the level at which bytes fail a slot must lie.
 const ABOVE: u32 = 13;
 
-const OPEN: u32 = 20;
-
-// A level below the middle one by more than the usual is made up by strength, 6 % for each tenth, up to two tenths.
+// A level below the middle one by more than the usual is made up by strength, 6 % for each tenth, up to two tenths, in the frame's last slot one.
 const USUAL: u32 = 3;
 
 const USUAL_BPSK: u32 = 5;
 
 const MOST_SHORT: u32 = 2;
 
+const MOST_SHORT_LAST: u32 = 1;
+
 const FOR_SHORT: u32 = 6;
 
-// The strength that is asked for, in percent: by the middle level, and at the frame's end or beside a slot that lies lower by more than this.
-const LEAST: u32 = 10;
-
+// The strength that is asked for, in percent: by the middle level, and beside a slot that lies lower by more than this.
 const MOST: u32 = 30;
 
 const HIGH: u32 = 60;
 
 const LOWER: u32 = 10;
+
+// That of the frame's last slot, whose last bits one or two coded bits carry since its end is open: so much, and 3 % less for each two tenths by which the middle level is above the one where it begins to fall, up to 36 tenths.
+const END_MOST: u32 = 100;
+
+const END_LEAST: u32 = 45;
+
+const END_TENTHS: u32 = 36;
 
 // a less b, 0 where that is below it.
 fn less(a: u32, b: u32) -> u32 {
@@ -87,13 +92,40 @@ fn usual(c: Combination) -> u32 {
     }
 }
 
+// The strength that is asked for at any level: of TC8PSK more, since noise makes slots wrong with up to 20 % where the level is high enough.
+fn least(c: Combination) -> u32 {
+    match c {
+        Combination::Tc8psk2_3 => 22,
+        _ => 10,
+    }
+}
+
 // The strength that the middle level asks for, where bytes fail at `fails`.
-fn asked(middle: u32, fails: u32) -> u32 {
+fn asked(c: Combination, middle: u32, fails: u32) -> u32 {
     let x = less(middle, plus(fails, 10));
-    if x < LEAST {
-        return LEAST;
+    let low = least(c);
+    if x < low {
+        return low;
     }
     if x > MOST { MOST } else { x }
+}
+
+// The level from which on the last slot needs less.
+fn falls_at(c: Combination) -> u32 {
+    match c {
+        Combination::Bpsk1_2 => ZERO,
+        Combination::Qpsk1_2 => ZERO + 30,
+        _ => ZERO + 60,
+    }
+}
+
+// The strength that the middle level asks for in the last slot.
+fn asked_at_end(c: Combination, middle: u32) -> u32 {
+    let x = less(middle, falls_at(c));
+    if x > END_TENTHS {
+        return END_LEAST;
+    }
+    END_MOST - 3 * x / 2
 }
 
 // The strength that a level short of the middle one asks for beside that.
@@ -104,9 +136,14 @@ fn made_up(short: u32) -> u32 {
     FOR_SHORT * short
 }
 
+// How many tenths may be made up.
+fn most_short(is_last: bool) -> u32 {
+    if is_last { MOST_SHORT_LAST } else { MOST_SHORT }
+}
+
 // The strength that is asked for in any case.
-fn in_any_case(is_last: bool, middle: u32, beside: u32) -> u32 {
-    if is_last || plus(beside, LOWER) < middle {
+fn in_any_case(middle: u32, beside: u32) -> u32 {
+    if plus(beside, LOWER) < middle {
         return HIGH;
     }
     0
@@ -122,20 +159,21 @@ struct Around {
 
 // What a slot of this strength lacks.
 fn lack(c: Combination, a: Around, strength: u32) -> u32 {
-    let fails = if a.is_last {
-        plus(fails_at(c), OPEN)
-    } else {
-        fails_at(c)
-    };
+    let fails = fails_at(c);
     if a.worst < plus(fails, ABOVE) {
         return NOISY;
     }
     let short = less(a.middle, plus(a.worst, usual(c)));
-    if short > MOST_SHORT {
+    if short > most_short(a.is_last) {
         return DISTURBED;
     }
-    let need = plus(asked(a.middle, fails), made_up(short));
-    if strength < need || strength < in_any_case(a.is_last, a.middle, a.beside) {
+    let by_level = if a.is_last {
+        asked_at_end(c, a.middle)
+    } else {
+        asked(c, a.middle, fails)
+    };
+    let need = plus(by_level, made_up(short));
+    if strength < need || strength < in_any_case(a.middle, a.beside) {
         return WEAK;
     }
     NOTHING
