@@ -26,6 +26,9 @@ pub const DISTURBED: u32 = 2;
 
 pub const WEAK: u32 = 3;
 
+// In place of the strength that a slot needs, where none would do because of its level, or there is no slot.
+pub const NO_NEED: u32 = 1_000_000;
+
 // A level is in tenths of a decibel, with 300 more.
 const ZERO: u32 = 300;
 
@@ -120,25 +123,61 @@ struct Around {
     is_last: bool,
 }
 
-// What a slot of this strength lacks.
-fn lack(c: Combination, a: Around, strength: u32) -> u32 {
-    let fails = if a.is_last {
-        plus(fails_at(c), OPEN)
-    } else {
-        fails_at(c)
-    };
-    if a.worst < plus(fails, ABOVE) {
+// The greater of two.
+fn greater(a: u32, b: u32) -> u32 {
+    if a > b { a } else { b }
+}
+
+// Where the bytes of a slot fail: higher at the frame's end.
+fn fails_in(c: Combination, is_last: bool) -> u32 {
+    if is_last {
+        return plus(fails_at(c), OPEN);
+    }
+    fails_at(c)
+}
+
+// By how much the level of a slot is short of the middle one.
+fn short_of(c: Combination, a: Around) -> u32 {
+    less(a.middle, plus(a.worst, usual(c)))
+}
+
+// The strength that a slot needs whose level is good enough.
+fn strength_for(c: Combination, a: Around) -> u32 {
+    let fails = fails_in(c, a.is_last);
+    let by_level = plus(asked(a.middle, fails), made_up(short_of(c, a)));
+    greater(by_level, in_any_case(a.is_last, a.middle, a.beside))
+}
+
+// What the level of a slot lacks.
+fn level_lack(c: Combination, a: Around) -> u32 {
+    if a.worst < plus(fails_in(c, a.is_last), ABOVE) {
         return NOISY;
     }
-    let short = less(a.middle, plus(a.worst, usual(c)));
-    if short > MOST_SHORT {
+    if short_of(c, a) > MOST_SHORT {
         return DISTURBED;
     }
-    let need = plus(asked(a.middle, fails), made_up(short));
-    if strength < need || strength < in_any_case(a.is_last, a.middle, a.beside) {
-        return WEAK;
-    }
     NOTHING
+}
+
+// The strength that a slot needs, and what a slot of its strength lacks.
+struct Found {
+    need: u32,
+    lack: u32,
+}
+
+fn firmness(c: Combination, a: Around, strength: u32) -> Found {
+    let lack = level_lack(c, a);
+    if lack != NOTHING {
+        return Found {
+            need: NO_NEED,
+            lack,
+        };
+    }
+    let need = strength_for(c, a);
+    if strength < need {
+        return Found { need, lack: WEAK };
+    }
+    Found { need, lack }
 }
 
 fn before(levels: &Levels, j: usize) -> u32 {
@@ -212,8 +251,15 @@ fn span_of(r: Run, i: usize) -> Span {
     }
 }
 
-// What valid slot i of a run lacks, where it is the frame's last or not.
-fn lack_in(r: Run, i: usize, is_last: bool, levels: &Levels, middle: u32, strength: u32) -> u32 {
+// Valid slot i of a run, where it is the frame's last or not.
+fn firmness_in(
+    r: Run,
+    i: usize,
+    is_last: bool,
+    levels: &Levels,
+    middle: u32,
+    strength: u32,
+) -> Found {
     let span = span_of(r, i);
     let around = Around {
         middle,
@@ -222,7 +268,7 @@ fn lack_in(r: Run, i: usize, is_last: bool, levels: &Levels, middle: u32, streng
         is_last,
     };
     let c = r.combination;
-    lack(c, around, strength)
+    firmness(c, around, strength)
 }
 
 // The run of valid slot k and its number in it, of the runs from a on that have it.
@@ -254,33 +300,44 @@ fn place_of(rs: [Run; 4], k: usize) -> Place {
     late_place(rs[2], i - b.valid_slots)
 }
 
-// What each of the `valid` valid slots of these strengths lacks; NOTHING past them.
-pub fn lacks(t: Table, valid: usize, sums: &Sums, strong: &[u32; SLOTS], out: &mut [u32; SLOTS]) {
+// What each of the `valid` valid slots of these strengths lacks, NOTHING past them, and the strength that each needs.
+pub fn lacks(
+    t: Table,
+    valid: usize,
+    sums: &Sums,
+    strong: &[u32; SLOTS],
+    out: &mut [u32; SLOTS],
+    needs: &mut [u32; SLOTS],
+) {
     let all = slots::runs(t);
     let rs = all.runs;
     let levels = levels_of(rs, all.count, sums);
     let middle = middle_of(&levels);
     for k in 0..SLOTS {
-        out[k] = lack_at(rs, valid, k, &levels, middle, strong[k]);
+        let found = firmness_at(rs, valid, k, &levels, middle, strong[k]);
+        out[k] = found.lack;
+        needs[k] = found.need;
     }
 }
 
-fn lack_at(
+fn firmness_at(
     rs: [Run; 4],
     valid: usize,
     k: usize,
     levels: &Levels,
     middle: u32,
     strength: u32,
-) -> u32 {
-    if k >= valid {
-        return NOTHING;
+) -> Found {
+    if k < valid {
+        let p = place_of(rs, k);
+        let n = p.run;
+        if n < 4 {
+            let r = rs[n];
+            return firmness_in(r, p.i, k == valid - 1, levels, middle, strength);
+        }
     }
-    let p = place_of(rs, k);
-    let n = p.run;
-    if n < 4 {
-        let r = rs[n];
-        return lack_in(r, p.i, k == valid - 1, levels, middle, strength);
+    Found {
+        need: NO_NEED,
+        lack: NOTHING,
     }
-    NOTHING
 }
