@@ -41,9 +41,13 @@ def hold(what, good, seen=""):
 
 def run(words, before=()):
     """Runs bench, and answers its last line (none where it wrote nothing)."""
+    return lines_of(words, before)[-1]
+
+
+def lines_of(words, before=()):
+    """Runs bench, and answers its lines; one empty line where it wrote nothing."""
     done = subprocess.run([*before, BENCH, *words], stdout=subprocess.PIPE, stderr=subprocess.PIPE, check=False)
-    lines = done.stdout.decode(errors="replace").split("\n")
-    return lines[-2] if len(lines) > 1 else ""
+    return done.stdout.decode(errors="replace").split("\n")[:-1] or [""]
 
 
 def content(name):
@@ -139,9 +143,10 @@ def turned_back(new, source):
 
 
 def go_on(what, ends):
-    """Follows the advice of last lines until a run ends with ok; answers how many runs were needed."""
+    """Follows the advice of last lines, and of the lines that name more files to remove, until a run ends with ok; answers how many runs were needed."""
     for turn in range(1, 8):
-        last = run(WORDS)
+        lines = lines_of(WORDS)
+        last = lines[-1]
         if last == OK:
             return turn
         gone = re.fullmatch(r'failed: cannot write "(.*)": process \d+, which was writing it, was broken off: remove "(.*)" and "(.*)", and run again', last)
@@ -152,7 +157,8 @@ def go_on(what, ends):
             hold(f"{what}: how to go on", False, last)
             return 0
         ends["broken off" if gone else "another run may be writing it" if unknown else "a part alone"] += 1
-        for name in found.groups()[1:] if not alone else found.groups():
+        named = [name for line in lines for name in (re.fullmatch(r'  "(.*\.run)" and "(.*\.part)"', line) or re.match("()", line)).groups() if name]
+        for name in [*named, *(found.groups()[1:] if not alone else found.groups())]:
             if os.path.lexists(name):
                 os.unlink(name)
     hold(f"{what}: how to go on", False, "no end in seven runs")

@@ -6,7 +6,7 @@ use crate::reading::best_of;
 use crate::reading::clean_leads;
 use crate::reading::read_of;
 use crate::strength::by_slot;
-use crate::strength::differing;
+use bench_compare::differing;
 use bench_files::files;
 use bench_files::files::Got;
 use bench_line::space::LOAD_SPACE;
@@ -64,14 +64,13 @@ fn conclude(
     keep(part(line, 0, 5), best);
 }
 
-// The clean leads and what read gives, and the report.
-fn compare(
+// The clean leads and what read gives of all points, and the report.
+fn lay_beside(
     s: Reading,
-    v: usize,
     line: &[u8],
-    n: usize,
     re: &[f64; MAIN_SYMBOLS],
     im: &[f64; MAIN_SYMBOLS],
+    v: usize,
     best: &[u8],
     leads: &[u64; SLOTS],
     read: &mut [u8; LOAD_SPACE],
@@ -82,7 +81,7 @@ fn compare(
         report::refuse(answer);
         return;
     };
-    match read_of(s, n, re, im, read) {
+    match read_of(s, MAIN_SYMBOLS, re, im, read) {
         FrameDecoded::Decoded(size, _, _) => {
             conclude(s, v, line, best, front(read, size), leads, &clean)
         }
@@ -111,17 +110,8 @@ fn read_points(
     if v > SLOTS {
         return;
     }
-    compare(
-        s,
-        v,
-        line,
-        n,
-        re,
-        im,
-        front(bytes, SLOT_BYTES * v),
-        &leads,
-        read,
-    );
+    let best = front(bytes, SLOT_BYTES * v);
+    lay_beside(s, line, re, im, v, best, &leads, read);
 }
 
 // The same, on space of its own.

@@ -1,10 +1,8 @@
 // The lines of the slots: how strong the best reading is there, and whether read gives the same bytes.
-use bench_line::agreement::agreeing;
 use bench_words::text::combination;
 use bench_words::text::number;
 use bench_words::text::say;
 use bench_words::text::text;
-use isdbs_core::frame::SLOT_BYTES;
 use isdbs_core::frame::SLOTS;
 use isdbs_core::slots;
 use isdbs_core::slots::Run;
@@ -101,23 +99,6 @@ pub fn by_slot(t: Table, leads: &[u64; SLOTS], clean: &[u64; SLOTS], apart: &[u3
     let b = run_lines(rs[1], a, leads, clean, apart);
     let c = run_lines(rs[2], b, leads, clean, apart);
     run_lines(rs[3], c, leads, clean, apart);
-}
-
-// 1 where the loads differ in valid slot k, of which there are v.
-fn is_apart(t: Table, v: usize, best: &[u8], read: &[u8], k: usize) -> u32 {
-    if k >= v {
-        return 0;
-    }
-    let a = slots::slot_part(best, t, k);
-    let b = slots::slot_part(read, t, k);
-    if agreeing(a, b) == SLOT_BYTES { 0 } else { 1 }
-}
-
-// In which of the v valid slots two loads differ.
-pub fn differing(t: Table, v: usize, best: &[u8], read: &[u8], apart: &mut [u32; SLOTS]) {
-    for k in 0..SLOTS {
-        apart[k] = is_apart(t, v, best, read, k);
-    }
 }
 
 // A strength, up to the most that is told apart.

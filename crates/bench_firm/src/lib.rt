@@ -26,6 +26,9 @@ pub const DISTURBED: u32 = 2;
 
 pub const WEAK: u32 = 3;
 
+// In place of the strength that a slot needs, where none would do because of its level, or there is no slot.
+pub const NO_NEED: u32 = 1_000_000;
+
 // A level is in tenths of a decibel, with 300 more.
 const ZERO: u32 = 300;
 
@@ -157,26 +160,60 @@ struct Around {
     is_last: bool,
 }
 
-// What a slot of this strength lacks.
-fn lack(c: Combination, a: Around, strength: u32) -> u32 {
-    let fails = fails_at(c);
-    if a.worst < plus(fails, ABOVE) {
+// The greater of two.
+fn greater(a: u32, b: u32) -> u32 {
+    if a > b { a } else { b }
+}
+
+// By how much the level of a slot is short of the middle one.
+fn short_of(c: Combination, a: Around) -> u32 {
+    less(a.middle, plus(a.worst, usual(c)))
+}
+
+// The strength that the middle level asks for.
+fn by_level(c: Combination, a: Around) -> u32 {
+    if a.is_last {
+        return asked_at_end(c, a.middle);
+    }
+    asked(c, a.middle, fails_at(c))
+}
+
+// The strength that a slot needs whose level is good enough.
+fn strength_for(c: Combination, a: Around) -> u32 {
+    let need = plus(by_level(c, a), made_up(short_of(c, a)));
+    greater(need, in_any_case(a.middle, a.beside))
+}
+
+// What the level of a slot lacks.
+fn level_lack(c: Combination, a: Around) -> u32 {
+    if a.worst < plus(fails_at(c), ABOVE) {
         return NOISY;
     }
-    let short = less(a.middle, plus(a.worst, usual(c)));
-    if short > most_short(a.is_last) {
+    if short_of(c, a) > most_short(a.is_last) {
         return DISTURBED;
     }
-    let by_level = if a.is_last {
-        asked_at_end(c, a.middle)
-    } else {
-        asked(c, a.middle, fails)
-    };
-    let need = plus(by_level, made_up(short));
-    if strength < need || strength < in_any_case(a.middle, a.beside) {
-        return WEAK;
-    }
     NOTHING
+}
+
+// The strength that a slot needs, and what a slot of its strength lacks.
+struct Found {
+    need: u32,
+    lack: u32,
+}
+
+fn firmness(c: Combination, a: Around, strength: u32) -> Found {
+    let lack = level_lack(c, a);
+    if lack != NOTHING {
+        return Found {
+            need: NO_NEED,
+            lack,
+        };
+    }
+    let need = strength_for(c, a);
+    if strength < need {
+        return Found { need, lack: WEAK };
+    }
+    Found { need, lack }
 }
 
 fn before(levels: &Levels, j: usize) -> u32 {
@@ -250,8 +287,15 @@ fn span_of(r: Run, i: usize) -> Span {
     }
 }
 
-// What valid slot i of a run lacks, where it is the frame's last or not.
-fn lack_in(r: Run, i: usize, is_last: bool, levels: &Levels, middle: u32, strength: u32) -> u32 {
+// Valid slot i of a run, where it is the frame's last or not.
+fn firmness_in(
+    r: Run,
+    i: usize,
+    is_last: bool,
+    levels: &Levels,
+    middle: u32,
+    strength: u32,
+) -> Found {
     let span = span_of(r, i);
     let around = Around {
         middle,
@@ -260,7 +304,7 @@ fn lack_in(r: Run, i: usize, is_last: bool, levels: &Levels, middle: u32, streng
         is_last,
     };
     let c = r.combination;
-    lack(c, around, strength)
+    firmness(c, around, strength)
 }
 
 // The run of valid slot k and its number in it, of the runs from a on that have it.
@@ -292,33 +336,44 @@ fn place_of(rs: [Run; 4], k: usize) -> Place {
     late_place(rs[2], i - b.valid_slots)
 }
 
-// What each of the `valid` valid slots of these strengths lacks; NOTHING past them.
-pub fn lacks(t: Table, valid: usize, sums: &Sums, strong: &[u32; SLOTS], out: &mut [u32; SLOTS]) {
+// What each of the `valid` valid slots of these strengths lacks, NOTHING past them, and the strength that each needs.
+pub fn lacks(
+    t: Table,
+    valid: usize,
+    sums: &Sums,
+    strong: &[u32; SLOTS],
+    out: &mut [u32; SLOTS],
+    needs: &mut [u32; SLOTS],
+) {
     let all = slots::runs(t);
     let rs = all.runs;
     let levels = levels_of(rs, all.count, sums);
     let middle = middle_of(&levels);
     for k in 0..SLOTS {
-        out[k] = lack_at(rs, valid, k, &levels, middle, strong[k]);
+        let found = firmness_at(rs, valid, k, &levels, middle, strong[k]);
+        out[k] = found.lack;
+        needs[k] = found.need;
     }
 }
 
-fn lack_at(
+fn firmness_at(
     rs: [Run; 4],
     valid: usize,
     k: usize,
     levels: &Levels,
     middle: u32,
     strength: u32,
-) -> u32 {
-    if k >= valid {
-        return NOTHING;
+) -> Found {
+    if k < valid {
+        let p = place_of(rs, k);
+        let n = p.run;
+        if n < 4 {
+            let r = rs[n];
+            return firmness_in(r, p.i, k == valid - 1, levels, middle, strength);
+        }
     }
-    let p = place_of(rs, k);
-    let n = p.run;
-    if n < 4 {
-        let r = rs[n];
-        return lack_in(r, p.i, k == valid - 1, levels, middle, strength);
+    Found {
+        need: NO_NEED,
+        lack: NOTHING,
     }
-    NOTHING
 }

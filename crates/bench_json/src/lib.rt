@@ -11,6 +11,7 @@ use bench_quality::put_json;
 use bench_report::names::put_quoted;
 use bench_report::names::put_word;
 use bench_report::page::Input;
+use bench_report::page::Outcome;
 use bench_setting::choice::Reading;
 use bench_setting::choice::has;
 use bench_setting::choice::named;
@@ -18,7 +19,7 @@ use bench_setting::usage::VERSION;
 use bench_verdict::facts::Facts;
 use bench_verdict::facts::Frame;
 use bench_verdict::last;
-use picture_bars::form::fill;
+use picture_bars::form::fill_form;
 use picture_sheet::Sheet;
 use picture_sheet::number;
 use picture_sheet::put;
@@ -123,7 +124,7 @@ fn put_setting(sheet: &mut Sheet, at: usize, line: &[u8], s: Reading, is_told: b
 fn put_input(sheet: &mut Sheet, at: usize, name: &[u8], i: Input) -> usize {
     let a = put(sheet, at, b"\"input\":{\"name\":");
     let b = put_text(sheet, a, name);
-    let c = fill(
+    let c = fill_form(
         sheet,
         b,
         b",\"bytes\":@,\"points\":@,\"crc32\":\"",
@@ -139,7 +140,7 @@ fn put_header(sheet: &mut Sheet, at: usize, i: Input) -> usize {
     if turn == last::NO_HEADER {
         return put(sheet, at, b"\"header\":null,\n");
     }
-    let a = fill(
+    let a = fill_form(
         sheet,
         at,
         b"\"header\":{\"w1\":@,\"last\":@,\"turn_degrees\":",
@@ -152,7 +153,7 @@ fn put_turn(sheet: &mut Sheet, at: usize, turn: u8) -> usize {
     if turn >= last::NOT_TOLD {
         return put(sheet, at, b"null},\n");
     }
-    fill(sheet, at, b"@},\n", &[45 * (turn as usize)])
+    fill_form(sheet, at, b"@},\n", &[45 * (turn as usize)])
 }
 
 fn wide(n: u32) -> usize {
@@ -161,7 +162,7 @@ fn wide(n: u32) -> usize {
 
 // The sums of the frame.
 fn put_sums(sheet: &mut Sheet, at: usize, f: Frame, sums: &Sums) -> usize {
-    let a = fill(
+    let a = fill_form(
         sheet,
         at,
         b"\"valid_slots\":@,\n\"bytes\":@,\n\"steps\":@,\n\"strained\":@,\n\"points_outside\":@,\n",
@@ -194,13 +195,14 @@ pub fn put_object(
     sheet: &mut Sheet,
     at: usize,
     line: &[u8],
-    s: Reading,
-    i: Input,
-    f: Frame,
+    o: Outcome,
     facts: &Facts,
     sums: &Sums,
     words: &[u8],
 ) -> usize {
+    let s = o.reading;
+    let i = o.input;
+    let f = o.frame;
     let turn = i.turn;
     let a = put_member(sheet, at, b"{\"version\":", &VERSION);
     let b = put_setting(sheet, a, line, s, turn < last::NOT_TOLD);

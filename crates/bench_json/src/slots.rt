@@ -15,7 +15,7 @@ use bench_verdict::firm::is_firm;
 use isdbs_core::frame::SLOTS;
 use isdbs_core::slots;
 use isdbs_core::slots::Run;
-use picture_bars::form::fill;
+use picture_bars::form::fill_form;
 use picture_sheet::Sheet;
 use picture_sheet::put;
 
@@ -48,9 +48,9 @@ fn put_best(sheet: &mut Sheet, at: usize, so: bool) -> usize {
 // Valid slot k.
 fn put_slot(sheet: &mut Sheet, at: usize, rs: [Run; 4], facts: &Facts, k: usize) -> usize {
     let c = combination_of(rs, k);
-    let a = fill(sheet, at, b"{\"valid_slot\":@,\"combination\":\"", &[k]);
+    let a = fill_form(sheet, at, b"{\"valid_slot\":@,\"combination\":\"", &[k]);
     let b = put_combination(sheet, a, c);
-    let d = fill(
+    let d = fill_form(
         sheet,
         b,
         b"\",\"strength\":@,\"strained\":@,\"steps\":@",
@@ -100,7 +100,7 @@ pub(crate) fn put_slots(sheet: &mut Sheet, at: usize, f: Frame, facts: &Facts) -
 // Slot k of the frame.
 fn put_place(sheet: &mut Sheet, at: usize, facts: &Facts, sums: &Sums, k: usize) -> usize {
     let a = separated(sheet, at, k);
-    let b = fill(
+    let b = fill_form(
         sheet,
         a,
         b"{\"slot\":@,\"outside\":@,",

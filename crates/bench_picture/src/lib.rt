@@ -2,8 +2,8 @@
 use bench_setting::choice::Reading;
 use bench_words::report;
 use isdbs_core::frame::MAIN_SYMBOLS;
-use isdbs_core::tmcc::Table;
 use isdbs_phy::demod::encode_frame;
+use picture_chart::Chart;
 use picture_chart::draw;
 use picture_sheet::BINS;
 use picture_sheet::Sheet;
@@ -13,14 +13,14 @@ use refusal::Answer;
 fn draw_encoded(
     sheet: &mut Sheet,
     at: usize,
-    t: Table,
+    c: Chart,
     re: &[f64; MAIN_SYMBOLS],
     im: &[f64; MAIN_SYMBOLS],
     clean_re: &[f64; MAIN_SYMBOLS],
     clean_im: &[f64; MAIN_SYMBOLS],
 ) -> usize {
     let mut bins = [0u32; BINS * BINS];
-    draw(sheet, at, &mut bins, t, re, im, clean_re, clean_im)
+    draw(sheet, at, &mut bins, c, re, im, clean_re, clean_im)
 }
 
 // Encodes the bytes again; else says why not.
@@ -45,6 +45,7 @@ pub fn draw_reading(
     sheet: &mut Sheet,
     at: usize,
     s: Reading,
+    c: Chart,
     bytes: &[u8],
     re: &[f64; MAIN_SYMBOLS],
     im: &[f64; MAIN_SYMBOLS],
@@ -54,6 +55,5 @@ pub fn draw_reading(
     if !encode(s, bytes, &mut clean_re, &mut clean_im) {
         return 0;
     }
-    let t = s.table;
-    draw_encoded(sheet, at, t, re, im, &clean_re, &clean_im)
+    draw_encoded(sheet, at, c, re, im, &clean_re, &clean_im)
 }

@@ -126,6 +126,21 @@ pub fn frame_quality(sums: &Sums) -> Quality {
     )
 }
 
+// The mean gain and turn of the frame as one number.
+pub struct Mean {
+    pub re: f64,
+    pub im: f64,
+}
+
+// The sums of the products by the signal.
+pub fn frame_mean(sums: &Sums) -> Mean {
+    let signal = total(sums, 1);
+    Mean {
+        re: total(sums, 3) / signal,
+        im: total(sums, 4) / signal,
+    }
+}
+
 // The gain and the turn may be off by as much as a margin is wide: 1/32, which is 1.8 degrees.
 const LEAST_GAIN: u32 = 97;
 

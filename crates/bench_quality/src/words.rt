@@ -3,7 +3,7 @@ use crate::NO_DECIBELS;
 use crate::NO_OFFSET;
 use crate::NO_TURN;
 use crate::Quality;
-use picture_bars::form::fill;
+use picture_bars::form::fill_form;
 use picture_sheet::Sheet;
 use picture_sheet::put;
 
@@ -29,18 +29,18 @@ fn distance(n: u32, zero: u32) -> usize {
 fn tenths(sheet: &mut Sheet, at: usize, n: u32, zero: u32) -> usize {
     let a = signed(sheet, at, n, zero);
     let d = distance(n, zero);
-    fill(sheet, a, b"@.@", &[d / 10, d % 10])
+    fill_form(sheet, a, b"@.@", &[d / 10, d % 10])
 }
 
 fn hundredths(sheet: &mut Sheet, at: usize, n: u32) -> usize {
     let d = wide(n);
-    fill(sheet, at, b"@.@@", &[d / 100, d / 10 % 10, d % 10])
+    fill_form(sheet, at, b"@.@@", &[d / 100, d / 10 % 10, d % 10])
 }
 
 fn thousandths(sheet: &mut Sheet, at: usize, n: u32) -> usize {
     let a = signed(sheet, at, n, NO_OFFSET);
     let d = distance(n, NO_OFFSET);
-    fill(
+    fill_form(
         sheet,
         a,
         b"@.@@@",

@@ -1,24 +1,29 @@
 // What is said of a reading, and what is kept of it.
+use crate::picture::Texts;
 use crate::picture::between;
-use crate::picture::draw;
+use crate::picture::draw_lower;
+use crate::picture::draw_upper;
 use crate::picture::put_texts;
 use bench_json::put_object;
+use bench_line::space::LOAD_SPACE;
+use bench_line::words::front;
 use bench_outputs::keep;
 use bench_quality::Sums;
-use bench_quality::frame_quality;
-use bench_report::page::Input;
-use bench_report::page::put_page;
+use bench_report::page::Outcome;
 use bench_report::page::put_report;
-use bench_setting::choice::Reading;
 use bench_setting::choice::has;
 use bench_verdict::facts::Facts;
-use bench_verdict::facts::Frame;
-use bench_verdict::last::put_last;
-use bench_verdict::last::worth;
 use bench_words::text::text;
 use isdbs_core::frame::MAIN_SYMBOLS;
 use picture_sheet::SHEET_BYTES;
 use picture_sheet::Sheet;
+
+// Where the report ends, the object after it, and the picture, each on its sheet.
+struct Kept {
+    report: usize,
+    object: usize,
+    picture: usize,
+}
 
 // Whether what was put up to a place fits on its sheet; else says that it does not.
 fn fits(at: usize) -> bool {
@@ -29,195 +34,91 @@ fn fits(at: usize) -> bool {
     false
 }
 
-// Keeps the bytes, and beside them the report, up to a, and the object, up to b, of a sheet.
-fn keep_put(
-    sheet: &Sheet,
-    a: usize,
-    b: usize,
-    line: &[u8],
-    bytes: &[u8],
-    best: &[u8],
-    picture: &[u8],
-) -> bool {
-    keep(
-        line,
-        bytes,
-        best,
-        picture,
-        between(sheet, 0, a),
-        between(sheet, a, b),
-    )
-}
-
-// Puts the report and the object on a sheet, and keeps everything.
-fn keep_texts(
-    sheet: &mut Sheet,
-    s: Reading,
-    line: &[u8],
-    i: Input,
-    f: Frame,
-    bytes: &[u8],
-    best: &[u8],
-    picture: &[u8],
-    facts: &Facts,
-    sums: &Sums,
-    words: &[u8],
-) -> bool {
-    let a = put_report(sheet, line, s, i, f, facts, sums, words);
-    let b = put_object(sheet, a, line, s, i, f, facts, sums, words);
-    if !fits(b) {
-        return false;
-    }
-    keep_put(sheet, a, b, line, bytes, best, picture)
-}
-
-// The same on a sheet of its own.
-fn keep_all(
-    s: Reading,
-    line: &[u8],
-    i: Input,
-    f: Frame,
-    bytes: &[u8],
-    best: &[u8],
-    picture: &[u8],
-    facts: &Facts,
-    sums: &Sums,
-    words: &[u8],
-) -> bool {
-    let mut sheet = [0u8; SHEET_BYTES];
-    keep_texts(
-        &mut sheet,
-        s,
-        line,
-        i,
-        f,
-        bytes,
-        best,
-        picture,
-        facts,
-        sums,
-        words,
-    )
-}
-
-// The same with the first n bytes of a sheet as the picture.
-fn keep_drawn(
-    sheet: &Sheet,
-    n: usize,
-    s: Reading,
-    line: &[u8],
-    i: Input,
-    f: Frame,
-    bytes: &[u8],
-    best: &[u8],
-    facts: &Facts,
-    sums: &Sums,
-    words: &[u8],
-) -> bool {
-    if !fits(n) {
-        return false;
-    }
-    if n == 0 {
+// Whether everything that is asked for was drawn and fits; else says so.
+fn is_whole(line: &[u8], k: Kept) -> bool {
+    if k.picture == 0 {
         if has(line, b"chart") {
             return false;
         }
     }
-    keep_all(
-        s,
+    fits(k.picture) && fits(k.object)
+}
+
+// Keeps the bytes, the best reading's bytes, the picture, the report and the object.
+fn keep_all(
+    texts: &Sheet,
+    sheet: &Sheet,
+    k: Kept,
+    line: &[u8],
+    bytes: &[u8],
+    best: &[u8; LOAD_SPACE],
+) -> bool {
+    if !is_whole(line, k) {
+        return false;
+    }
+    keep(
         line,
-        i,
-        f,
         bytes,
-        best,
-        between(sheet, 0, n),
-        facts,
-        sums,
-        words,
+        front(best, bytes.len()),
+        between(sheet, 0, k.picture),
+        between(texts, 0, k.report),
+        between(texts, k.report, k.object),
     )
 }
 
-// The last line, put on a sheet.
-fn put_words(
-    sheet: &mut Sheet,
-    at: usize,
-    i: Input,
-    f: Frame,
-    facts: &Facts,
-    sums: &Sums,
-) -> usize {
-    let q = frame_quality(sums);
-    let turn = i.turn;
-    put_last(sheet, at, worth(f, facts, q, turn), f, facts, q, turn)
-}
-
-// Says the page, which ends at a, and the last line after it, which ends at b, and keeps everything in between. The picture is the first n bytes of a sheet.
+// Says the page and the last line after it, and keeps everything in between.
 fn say_and_keep(
     page: &Sheet,
-    a: usize,
-    b: usize,
+    t: Texts,
+    texts: &Sheet,
     sheet: &Sheet,
-    n: usize,
-    s: Reading,
+    k: Kept,
     line: &[u8],
-    i: Input,
-    f: Frame,
     bytes: &[u8],
-    best: &[u8],
-    facts: &Facts,
-    sums: &Sums,
+    best: &[u8; LOAD_SPACE],
 ) {
-    text(between(page, 0, a));
-    let words = between(page, a, b);
-    if keep_drawn(sheet, n, s, line, i, f, bytes, best, facts, sums, words) {
-        text(words);
+    text(between(page, 0, t.from));
+    if keep_all(texts, sheet, k, line, bytes, best) {
+        text(between(page, t.from, t.words));
         text(b"\n");
     }
 }
 
-// Puts the page and the picture on their sheets; says and keeps everything.
-fn conclude_on(
-    page: &mut Sheet,
-    sheet: &mut Sheet,
-    s: Reading,
+// Puts the report on a sheet, and answers where it ends. Its last line is that of a page.
+fn put_first(
+    texts: &mut Sheet,
+    page: &Sheet,
+    t: Texts,
     line: &[u8],
-    i: Input,
-    f: Frame,
-    bytes: &[u8],
-    best: &[u8],
+    o: Outcome,
     facts: &Facts,
     sums: &Sums,
-    re: &[f64; MAIN_SYMBOLS],
-    im: &[f64; MAIN_SYMBOLS],
-) {
-    let a = put_page(page, 0, f, facts, sums, has(line, b"all"));
-    let b = put_words(page, a, i, f, facts, sums);
-    let t = put_texts(page, a, b, line, s, i, sums);
-    let n = draw(sheet, page, t, s, line, f, bytes, facts, sums, re, im);
-    say_and_keep(
-        page,
-        a,
-        b,
-        sheet,
-        n,
-        s,
-        line,
-        i,
-        f,
-        bytes,
-        best,
-        facts,
-        sums,
-    );
+) -> usize {
+    let words = between(page, t.from, t.words);
+    put_report(texts, line, o, facts, sums, words)
 }
 
-// The same on sheets of its own.
-pub fn conclude(
-    s: Reading,
+// Puts the object after it.
+fn put_second(
+    texts: &mut Sheet,
+    at: usize,
+    page: &Sheet,
+    t: Texts,
     line: &[u8],
-    i: Input,
-    f: Frame,
+    o: Outcome,
+    facts: &Facts,
+    sums: &Sums,
+) -> usize {
+    let words = between(page, t.from, t.words);
+    put_object(texts, at, line, o, facts, sums, words)
+}
+
+// Puts the page, the picture, the report and the object on sheets; says and keeps everything.
+pub fn conclude(
+    o: Outcome,
+    line: &[u8],
     bytes: &[u8],
-    best: &[u8],
+    best: &[u8; LOAD_SPACE],
     facts: &Facts,
     sums: &Sums,
     re: &[f64; MAIN_SYMBOLS],
@@ -225,18 +126,16 @@ pub fn conclude(
 ) {
     let mut page = [0u8; SHEET_BYTES];
     let mut sheet = [0u8; SHEET_BYTES];
-    conclude_on(
-        &mut page,
-        &mut sheet,
-        s,
-        line,
-        i,
-        f,
-        bytes,
-        best,
-        facts,
-        sums,
-        re,
-        im,
-    );
+    let mut texts = [0u8; SHEET_BYTES];
+    let t = put_texts(&mut page, line, o, facts, sums);
+    let a = draw_upper(&mut sheet, &page, t, o, line, facts, sums);
+    let picture = draw_lower(&mut sheet, a, o, sums, bytes, re, im);
+    let report = put_first(&mut texts, &page, t, line, o, facts, sums);
+    let object = put_second(&mut texts, report, &page, t, line, o, facts, sums);
+    let k = Kept {
+        report,
+        object,
+        picture,
+    };
+    say_and_keep(&page, t, &texts, &sheet, k, line, bytes, best);
 }

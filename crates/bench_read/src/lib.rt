@@ -2,7 +2,6 @@
 mod keeping;
 mod picture;
 mod points;
-mod weighing;
 
 use bench_line::space::BIT_SPACE;
 use bench_line::space::LOAD_SPACE;
@@ -10,7 +9,7 @@ use bench_line::words::front;
 use bench_line::words::front_parts;
 use bench_outputs::are_apart;
 use bench_quality::NUMBERS;
-use bench_quality::Sums;
+use bench_report::page::Outcome;
 use bench_setting::choice::Reading;
 use bench_setting::choice::reading_of;
 use bench_verdict::facts::Facts;
@@ -20,6 +19,8 @@ use bench_verdict::facts::ROWS;
 use bench_verdict::facts::STRAINED;
 use bench_verdict::facts::set_row;
 use bench_verdict::facts::take_row;
+use bench_weigh::decoded;
+use bench_weigh::weigh_over;
 use bench_words::report;
 use bench_words::report::Valid;
 use bench_words::text::say;
@@ -29,17 +30,11 @@ use isdbs_core::frame::SLOTS;
 use isdbs_phy::demod::DemodOptions;
 use isdbs_phy::demod::FrameDecoded;
 use isdbs_phy::demod::decode_frame;
-use judge::FrameJudged;
 use keeping::conclude;
 use points::Held;
 use points::read_points;
 use refusal::Answer;
 use trellis::FRAME_WORDS;
-use weighing::best_beside;
-use weighing::judge_bytes;
-use weighing::measure;
-use weighing::set_lacks;
-use weighing::weighed;
 
 fn is_eight(x: f32) -> bool {
     x == 8.0f32
@@ -69,62 +64,27 @@ fn tell(s: Reading, f: Frame, facts: &Facts, turn: u8) {
     bench_verdict::tell(f.size, f.outside, &outside, f.strained, &counts, turn);
 }
 
-// Lays what was read and judged beside the best reading and the points; says and keeps it.
-fn weigh_judged(
-    h: Held,
-    line: &[u8],
-    f: Frame,
-    outside: u32,
-    bytes: &[u8],
-    re: &[f64; MAIN_SYMBOLS],
-    im: &[f64; MAIN_SYMBOLS],
-    best: &mut [u8; LOAD_SPACE],
-    facts: &mut Facts,
-    sums: &mut Sums,
-) {
-    let s = h.reading;
-    let n = h.count;
-    let i = h.input;
-    let answer = best_beside(s, n, f.valid, bytes, re, im, best, facts);
-    let Answer::Accepted = answer else {
-        report::refuse(answer);
-        return;
-    };
-    let measured = measure(s, n, bytes, re, im, sums);
-    let Answer::Accepted = measured else {
-        report::refuse(measured);
-        return;
-    };
-    set_lacks(f, sums, facts);
-    let found = front(best, bytes.len());
-    let w = weighed(f, outside, bytes, found);
-    tell(s, w, facts, i.turn);
-    conclude(s, line, i, w, bytes, found, facts, sums, re, im);
-}
-
-// Weighs what was read, over lent space; says and keeps it.
-fn weigh_over(
-    h: Held,
-    line: &[u8],
-    f: Frame,
-    bytes: &[u8],
-    re: &[f64; MAIN_SYMBOLS],
-    im: &[f64; MAIN_SYMBOLS],
-    best: &mut [u8; LOAD_SPACE],
-    facts: &mut Facts,
-    sums: &mut Sums,
-) {
-    let s = h.reading;
-    let judged = judge_bytes(s, h.count, bytes, re, im, facts);
-    match judged {
-        FrameJudged::Judged(outside) => {
-            weigh_judged(h, line, f, outside, bytes, re, im, best, facts, sums)
-        }
-        FrameJudged::Refused(answer) => report::refuse(answer),
+// What was read of held points, and what was found of it.
+fn outcome_of(h: Held, frame: Frame) -> Outcome {
+    let reading = h.reading;
+    let input = h.input;
+    Outcome {
+        reading,
+        input,
+        frame,
     }
 }
 
-// The same, on space of its own.
+// Whether what was read could be weighed; else says why not.
+fn is_weighed(answer: Answer) -> bool {
+    let Answer::Accepted = answer else {
+        report::refuse(answer);
+        return false;
+    };
+    true
+}
+
+// Weighs what was read, on space of its own; says and keeps it.
 fn weigh(
     h: Held,
     line: &[u8],
@@ -134,26 +94,27 @@ fn weigh(
     re: &[f64; MAIN_SYMBOLS],
     im: &[f64; MAIN_SYMBOLS],
 ) {
+    let s = h.reading;
+    let i = h.input;
     let mut best = [0u8; LOAD_SPACE];
     let mut facts = [0u32; ROWS * SLOTS];
     let mut sums = [0.0f64; NUMBERS * SLOTS];
     set_row(&mut facts, STRAINED, counts);
-    weigh_over(h, line, f, bytes, re, im, &mut best, &mut facts, &mut sums);
-}
-
-// The frame as it was decoded.
-fn decoded(s: Reading, v: usize, size: usize, steps: usize, strained: u32) -> Frame {
-    let table = s.table;
-    Frame {
-        table,
-        valid: v,
-        size,
-        steps,
-        strained,
-        outside: 0,
-        apart_at: size,
-        read_byte: 0,
-        best_byte: 0,
+    let w = weigh_over(s, f, bytes, re, im, &mut best, &mut facts, &mut sums);
+    let answer = w.answer;
+    if is_weighed(answer) {
+        let found = w.frame;
+        tell(s, found, &facts, i.turn);
+        conclude(
+            outcome_of(h, found),
+            line,
+            bytes,
+            &best,
+            &facts,
+            &sums,
+            re,
+            im,
+        );
     }
 }
 

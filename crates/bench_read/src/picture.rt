@@ -3,12 +3,16 @@ use bench_line::words::front;
 use bench_line::words::part;
 use bench_picture::draw_reading;
 use bench_quality::Sums;
+use bench_quality::frame_mean;
 use bench_quality::frame_quality;
+use bench_quality::is_aside;
 use bench_quality::put_words;
 use bench_quality::slot_quality;
 use bench_report::names::put_quoted;
 use bench_report::names::put_word;
 use bench_report::page::Input;
+use bench_report::page::Outcome;
+use bench_report::page::put_page;
 use bench_setting::choice::Reading;
 use bench_setting::choice::has;
 use bench_setting::usage::VERSION;
@@ -16,9 +20,12 @@ use bench_verdict::facts;
 use bench_verdict::facts::Frame;
 use bench_verdict::facts::fact;
 use bench_verdict::last::NOT_TOLD;
+use bench_verdict::last::put_last;
+use bench_verdict::last::worth;
 use isdbs_core::frame::MAIN_SYMBOLS;
 use isdbs_core::frame::SLOTS;
-use picture_bars::form::fill;
+use picture_bars::form::fill_form;
+use picture_chart::Chart;
 use picture_head::Facts;
 use picture_head::draw_head;
 use picture_head::rows;
@@ -51,9 +58,9 @@ fn put_input(page: &mut Sheet, at: usize, name: &[u8], i: Input) -> usize {
     let a = put(page, at, b"frame ");
     let b = put_quoted(page, a, name, b"\\x");
     if i.bytes == 0 {
-        return fill(page, b, b", $ points", &[i.points]);
+        return fill_form(page, b, b", $ points", &[i.points]);
     }
-    let c = fill(
+    let c = fill_form(
         page,
         b,
         b", $ bytes, $ points, CRC-32 ",
@@ -88,16 +95,34 @@ fn put_setting(page: &mut Sheet, at: usize, line: &[u8], s: Reading, is_told: bo
     put(page, g, &VERSION)
 }
 
-// Puts the texts on a page after the last line, which stands there from a place up to another.
+// The last line, put on a page.
+fn put_last_line(
+    page: &mut Sheet,
+    at: usize,
+    o: Outcome,
+    facts: &facts::Facts,
+    sums: &Sums,
+) -> usize {
+    let f = o.frame;
+    let i = o.input;
+    let q = frame_quality(sums);
+    let turn = i.turn;
+    put_last(page, at, worth(f, facts, q, turn), f, facts, q, turn)
+}
+
+// Puts the page that is said, the last line and the texts of a picture on a sheet.
 pub fn put_texts(
     page: &mut Sheet,
-    from: usize,
-    words: usize,
     line: &[u8],
-    s: Reading,
-    i: Input,
+    o: Outcome,
+    facts: &facts::Facts,
     sums: &Sums,
 ) -> Texts {
+    let s = o.reading;
+    let i = o.input;
+    let f = o.frame;
+    let from = put_page(page, 0, f, facts, sums, has(line, b"all"));
+    let words = put_last_line(page, from, o, facts, sums);
     let input = put_input(page, words, part(line, 0, 4), i);
     let setting = put_setting(page, input, line, s, i.turn < NOT_TOLD);
     let quality = put_words(page, setting, frame_quality(sums));
@@ -111,13 +136,14 @@ pub fn put_texts(
 }
 
 // What the picture is of.
-fn drawn(f: Frame) -> Facts {
+fn drawn(f: Frame, is_aside: bool) -> Facts {
     let table = f.table;
     Facts {
         table,
         steps: f.steps,
         strained: f.strained,
         outside: f.outside,
+        is_aside,
     }
 }
 
@@ -149,6 +175,7 @@ fn set_slot(out: &mut Rows, known: &facts::Facts, sums: &Sums, k: usize) {
     set_number(out, rows::STRAINED, k, fact(known, facts::STRAINED, k));
     set_number(out, rows::RATIO, k, ratio(sums, k));
     set_number(out, rows::OUTSIDE, k, fact(known, facts::OUTSIDE, k));
+    set_number(out, rows::NEEDS, k, fact(known, facts::NEEDS, k));
 }
 
 // What the bars show.
@@ -158,15 +185,21 @@ fn set_rows(out: &mut Rows, known: &facts::Facts, sums: &Sums) {
     }
 }
 
-// The upper part of the picture.
-fn draw_upper(
+// Draws the upper part of the picture on a sheet where it is asked for, and answers where it ends. Its texts are those of a page.
+pub fn draw_upper(
     sheet: &mut Sheet,
     page: &Sheet,
     t: Texts,
-    f: Frame,
+    o: Outcome,
+    line: &[u8],
     known: &facts::Facts,
     sums: &Sums,
 ) -> usize {
+    if !has(line, b"chart") {
+        return 0;
+    }
+    let f = o.frame;
+    let is_off = is_aside(frame_quality(sums));
     let mut bars = [0u32; rows::ROWS * SLOTS];
     set_rows(&mut bars, known, sums);
     draw_head(
@@ -175,28 +208,32 @@ fn draw_upper(
         between(page, t.words, t.input),
         between(page, t.input, t.setting),
         between(page, t.setting, t.quality),
-        drawn(f),
+        drawn(f, is_off),
         &bars,
     )
 }
 
-// Puts the picture on a sheet where it is asked for, and answers how long it is. Its texts are those of a page.
-pub fn draw(
+// Draws the panels after the upper part, where there is one, and answers where the picture ends.
+pub fn draw_lower(
     sheet: &mut Sheet,
-    page: &Sheet,
-    t: Texts,
-    s: Reading,
-    line: &[u8],
-    f: Frame,
-    bytes: &[u8],
-    known: &facts::Facts,
+    at: usize,
+    o: Outcome,
     sums: &Sums,
+    bytes: &[u8],
     re: &[f64; MAIN_SYMBOLS],
     im: &[f64; MAIN_SYMBOLS],
 ) -> usize {
-    if !has(line, b"chart") {
+    if at == 0 {
         return 0;
     }
-    let a = draw_upper(sheet, page, t, f, known, sums);
-    draw_reading(sheet, a, s, bytes, re, im)
+    let s = o.reading;
+    let table = s.table;
+    let mean = frame_mean(sums);
+    let chart = Chart {
+        table,
+        is_aside: is_aside(frame_quality(sums)),
+        mean_re: mean.re,
+        mean_im: mean.im,
+    };
+    draw_reading(sheet, at, s, chart, bytes, re, im)
 }

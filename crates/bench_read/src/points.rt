@@ -111,12 +111,36 @@ fn is_full(line: &[u8], points: usize) -> bool {
     has(line, b"full") || points == FRAME_SYMBOLS
 }
 
-// Whether more points follow in an open file.
-fn is_more(opened: i32, name: &[u8]) -> bool {
-    let mut re = [0.0f64; 1];
-    let mut im = [0.0f64; 1];
-    let got = files::read_next(opened, name, &mut re, &mut im);
-    got.count > 0
+// n, or 0 where it is negative.
+fn unsigned(n: i64) -> usize {
+    if n < 0 {
+        return 0;
+    }
+    n as usize
+}
+
+// a less b, 0 where that is below it.
+fn less(a: usize, b: usize) -> usize {
+    if a > b { a - b } else { 0 }
+}
+
+// More bytes than a file has: of a pipe it is not known how many are left.
+const MANY: usize = 0x2000_0000_0000_0000;
+
+// How many bytes of an open file were not read; of a pipe MANY where there are any.
+fn bytes_left(opened: i32) -> usize {
+    let here = libc::lseek(opened, 0, libc::SEEK_CUR);
+    if here < 0 {
+        let mut one = [0u8; 1];
+        if libc::read(opened, &mut one) > 0 {
+            return MANY;
+        }
+        return 0;
+    }
+    less(
+        unsigned(libc::lseek(opened, 0, libc::SEEK_END)),
+        unsigned(here),
+    )
 }
 
 // Part k.
@@ -260,16 +284,39 @@ fn refuse_full(got: Got) {
     );
 }
 
-// Says what was read, and that more points follow where they do.
-fn tell_points(line: &[u8], count: usize, left: bool) {
+// Says how many points and bytes follow the first frame, where any do.
+fn tell_left(points: usize, bytes: usize) {
+    if points == 0 && bytes == 0 {
+        return;
+    }
+    text(b"the first frame of the file is read; ");
+    if bytes >= MANY {
+        text(b"what follows is not\n");
+        return;
+    }
+    if points > 0 {
+        say(b"$ points", &[points]);
+    }
+    if points > 0 && bytes > 0 {
+        text(b" and ");
+    }
+    if bytes > 0 {
+        say(b"$ bytes", &[bytes]);
+    }
+    text(b" after it are not\n");
+}
+
+// Says what was read, and what follows it of so many points and some bytes.
+fn tell_points(line: &[u8], count: usize, bytes: usize) {
     let name = part(line, 0, 4);
     if is_full(line, count) {
         file(b"full frame", name, count, b" points; decoding\n");
-    } else {
-        file(b"frame", name, main_points(count), b" points; decoding\n");
+        tell_left(0, bytes);
+        return;
     }
-    if left {
-        text(b"the file has more points; they are not read\n");
+    file(b"frame", name, main_points(count), b" points; decoding\n");
+    if count >= MAIN_SYMBOLS {
+        tell_left(count - MAIN_SYMBOLS, bytes);
     }
 }
 
@@ -294,12 +341,14 @@ fn hold(
     hold_full(s, line, sum, full_re, full_im, re, im)
 }
 
-// Whether points of the file are left over.
-fn is_left(line: &[u8], count: usize, more: bool) -> bool {
-    if is_full(line, count) {
-        return more;
+// Both together, where each is below 2^62.
+fn plus(a: usize, b: usize) -> usize {
+    if a < 0x4000_0000_0000_0000 {
+        if b < 0x4000_0000_0000_0000 {
+            return a + b;
+        }
     }
-    count > MAIN_SYMBOLS
+    a
 }
 
 // Reads the points of an open file, and closes it.
@@ -325,9 +374,9 @@ fn read_open(
         libc::close(opened);
         return nothing(s);
     }
-    let more = is_more(opened, name);
+    let rest = bytes_left(opened);
     libc::close(opened);
-    tell_points(line, got.count, is_left(line, got.count, more));
+    tell_points(line, got.count, plus(got.over, rest));
     hold(s, line, sum, got, full_re, full_im, re, im)
 }
 

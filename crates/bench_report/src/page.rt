@@ -19,7 +19,7 @@ use bench_verdict::last::NO_HEADER;
 use bench_verdict::last::NOT_TOLD;
 use bench_verdict::last::put_turn;
 use isdbs_core::frame::SLOT_BYTES;
-use picture_bars::form::fill;
+use picture_bars::form::fill_form;
 use picture_sheet::Sheet;
 use picture_sheet::put;
 
@@ -32,6 +32,13 @@ pub struct Input {
     pub turn: u8,
     pub w1: usize,
     pub last: usize,
+}
+
+// A reading and what it rests on: how the frame was read, the file that it is from, and what was found.
+pub struct Outcome {
+    pub reading: Reading,
+    pub input: Input,
+    pub frame: Frame,
 }
 
 fn wide(n: u32) -> usize {
@@ -123,7 +130,7 @@ fn put_setting(sheet: &mut Sheet, at: usize, line: &[u8], s: Reading, is_told: b
 fn put_input(sheet: &mut Sheet, at: usize, name: &[u8], i: Input) -> usize {
     let a = put(sheet, at, b"input: ");
     let b = put_quoted(sheet, a, name, b"\\x");
-    let c = fill(
+    let c = fill_form(
         sheet,
         b,
         b", @ bytes, @ points, CRC-32 ",
@@ -143,7 +150,7 @@ fn put_header(sheet: &mut Sheet, at: usize, i: Input) -> usize {
             b"header: none: these are main points, and cut and phase are taken as given\n",
         );
     }
-    let a = fill(
+    let a = fill_form(
         sheet,
         at,
         b"header: W1 @ of 20, the last @ of 20: ",
@@ -159,7 +166,7 @@ fn put_difference(sheet: &mut Sheet, at: usize, f: Frame) -> usize {
     if n >= f.size {
         return put(sheet, at, b"best: no other reading fits better\n");
     }
-    let a = fill(
+    let a = fill_form(
         sheet,
         at,
         b"not the best: first difference in valid slot @ at byte @: read 0x",
@@ -173,7 +180,7 @@ fn put_difference(sheet: &mut Sheet, at: usize, f: Frame) -> usize {
 
 // The sums of the frame.
 fn put_sums(sheet: &mut Sheet, at: usize, f: Frame) -> usize {
-    fill(
+    fill_form(
         sheet,
         at,
         b"valid slots: @\nbytes: @\nsteps: @\nstrained: @\npoints outside the margins: @\n",
@@ -185,13 +192,14 @@ fn put_sums(sheet: &mut Sheet, at: usize, f: Frame) -> usize {
 pub fn put_report(
     sheet: &mut Sheet,
     line: &[u8],
-    s: Reading,
-    i: Input,
-    f: Frame,
+    o: Outcome,
     facts: &Facts,
     sums: &Sums,
     last: &[u8],
 ) -> usize {
+    let s = o.reading;
+    let i = o.input;
+    let f = o.frame;
     let a = put_line(sheet, 0, b"bench read, version ", &VERSION);
     let b = put_setting(sheet, a, line, s, i.turn < NOT_TOLD);
     let c = put_input(sheet, b, part(line, 0, 4), i);

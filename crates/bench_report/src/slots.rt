@@ -18,7 +18,7 @@ use bench_verdict::firm::is_firm;
 use isdbs_core::frame::SLOTS;
 use isdbs_core::slots;
 use isdbs_core::slots::Run;
-use picture_bars::form::fill;
+use picture_bars::form::fill_form;
 use picture_sheet::Sheet;
 use picture_sheet::put;
 
@@ -75,9 +75,9 @@ fn put_firmness(sheet: &mut Sheet, at: usize, lack: u32) -> usize {
 // The line of valid slot k.
 fn put_slot(sheet: &mut Sheet, at: usize, rs: [Run; 4], facts: &Facts, k: usize) -> usize {
     let c = combination_of(rs, k);
-    let a = fill(sheet, at, b"  valid slot @, ", &[k]);
+    let a = fill_form(sheet, at, b"  valid slot @, ", &[k]);
     let b = put_combination(sheet, a, c);
-    let d = fill(
+    let d = fill_form(
         sheet,
         b,
         b": strength @ %, $ of $ steps strained",
@@ -141,7 +141,7 @@ pub fn put_strengths(sheet: &mut Sheet, at: usize, f: Frame, facts: &Facts) -> u
     }
     let weakest = at_rank(facts, n, firm::ALL, 0);
     let strongest = at_rank(facts, n, firm::ALL, n - 1);
-    fill(
+    fill_form(
         sheet,
         at,
         b"strength: @ to @ % of a clean slot's lead, least in valid slot @\n",
@@ -155,7 +155,7 @@ pub fn put_strengths(sheet: &mut Sheet, at: usize, f: Frame, facts: &Facts) -> u
 
 // The line of slot k of the frame.
 fn put_place(sheet: &mut Sheet, at: usize, facts: &Facts, sums: &Sums, k: usize) -> usize {
-    let a = fill(
+    let a = fill_form(
         sheet,
         at,
         b"  slot @: $ points outside the margins, ",

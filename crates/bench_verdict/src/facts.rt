@@ -17,7 +17,7 @@ pub struct Frame {
 }
 
 // Of valid slot k: its strained steps; its lead in percent of a clean slot's; 1 where the best reading has other bytes. Of slot k of the frame: the points outside the margins. Of valid
-// slot k: what it lacks to be firm, 0 where nothing (bench_firm).
+// slot k: what it lacks to be firm, 0 where nothing, and the strength that it needs (bench_firm).
 pub const STRAINED: usize = 0;
 
 pub const STRENGTH: usize = 1;
@@ -28,7 +28,9 @@ pub const OUTSIDE: usize = 3;
 
 pub const LACKS: usize = 4;
 
-pub const ROWS: usize = 5;
+pub const NEEDS: usize = 5;
+
+pub const ROWS: usize = 6;
 
 // A row of 48 numbers for each of these.
 pub type Facts = [u32; ROWS * SLOTS];

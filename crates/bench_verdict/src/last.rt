@@ -7,7 +7,7 @@ use crate::firm::put_slots;
 use bench_quality::Quality;
 use bench_quality::is_aside;
 use bench_quality::put_aside;
-use picture_bars::form::fill;
+use picture_bars::form::fill_form;
 use picture_sheet::Sheet;
 use picture_sheet::put;
 
@@ -69,7 +69,7 @@ pub fn put_turn(sheet: &mut Sheet, at: usize, turn: u8) -> usize {
     if turn >= NOT_TOLD {
         return put(sheet, at, b"no header is told");
     }
-    fill(sheet, at, b"turned by @ degrees", &[45 * (turn as usize)])
+    fill_form(sheet, at, b"turned by @ degrees", &[45 * (turn as usize)])
 }
 
 fn put_weak(sheet: &mut Sheet, at: usize, f: Frame, facts: &Facts, q: Quality) -> usize {

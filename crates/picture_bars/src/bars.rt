@@ -1,6 +1,6 @@
 // Bars: a count for each slot, on a scale of five units, 320 high. They stand on y = 400.
 use crate::form::byte;
-use crate::form::fill;
+use crate::form::fill_form;
 use isdbs_frame::SLOTS;
 use picture_sheet::Sheet;
 use picture_sheet::height;
@@ -34,7 +34,7 @@ fn scale(sheet: &mut Sheet, at: usize, most: usize) -> usize {
         at,
         b"<path stroke=\"#d0d0d0\" fill=\"none\" d=\"M140 400h1536M140 336h1536M140 272h1536M140 208h1536M140 144h1536M140 80h1536\"/>\n",
     );
-    fill(
+    fill_form(
         sheet,
         a,
         b"<g text-anchor=\"end\"><text x=\"128\" y=\"408\">$</text><text x=\"128\" y=\"344\">$</text><text x=\"128\" y=\"280\">$</text><text x=\"128\" y=\"216\">$</text><text x=\"128\" y=\"152\">$</text><text x=\"128\" y=\"88\">$</text></g>\n",
@@ -47,7 +47,7 @@ fn bar(sheet: &mut Sheet, at: usize, k: usize, n: usize, most: usize) -> usize
     requires { ⌜ k < frameSlots ⌝ }
 {
     let h = height(n, most);
-    fill(
+    fill_form(
         sheet,
         at,
         b"<g transform=\"translate(@ 0)\"><rect x=\"4\" y=\"@\" width=\"24\" height=\"@\"/><text fill=\"#000\" transform=\"translate(23 @) rotate(-90)\">$</text><text fill=\"#000\" x=\"16\" y=\"424\" text-anchor=\"middle\" font-size=\"18\">@</text></g>\n",
@@ -116,7 +116,7 @@ pub fn strip(sheet: &mut Sheet, at: usize, i: usize, from: usize, to: usize) -> 
         return at;
     }
     let width = 32 * (to - from);
-    let a = fill(
+    let a = fill_form(
         sheet,
         at,
         b"<g transform=\"translate(@ 0)\"><rect x=\"2\" y=\"434\" width=\"@\" height=\"6\" fill=\"#888\"/><text x=\"@\" y=\"464\" text-anchor=\"middle\">",

@@ -51,7 +51,7 @@ fn number_at(numbers: &[usize], i: usize) -> usize {
 }
 
 // Puts a form, its marks replaced by the numbers in their order.
-pub fn fill(sheet: &mut Sheet, at: usize, form: &[u8], numbers: &[usize]) -> usize {
+pub fn fill_form(sheet: &mut Sheet, at: usize, form: &[u8], numbers: &[usize]) -> usize {
     let mut place = at;
     let mut next: usize = 0;
     for i in 0..form.len() {

@@ -78,6 +78,24 @@ pub(crate) fn gather(
     }
 }
 
+// The points divided by their mean gain and turn, which are one number other than 0.
+pub(crate) fn align(
+    mean_re: f64,
+    mean_im: f64,
+    re: &[f64; MAIN_SYMBOLS],
+    im: &[f64; MAIN_SYMBOLS],
+    out_re: &mut [f64; MAIN_SYMBOLS],
+    out_im: &mut [f64; MAIN_SYMBOLS],
+) {
+    let power = mean_re * mean_re + mean_im * mean_im;
+    let a = mean_re / power;
+    let b = mean_im / power;
+    for k in 0..MAIN_SYMBOLS {
+        out_re[k] = re[k] * a + im[k] * b;
+        out_im[k] = im[k] * a - re[k] * b;
+    }
+}
+
 fn is_beyond(x: f64) -> bool {
     !(x >= -1.5f64 && x < 1.5f64)
 }

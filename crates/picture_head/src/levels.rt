@@ -1,6 +1,8 @@
 // Bars on a scale that is the same in every picture: strength, and modulation error ratio. They stand on y = 400, as those of picture_bars.
 use crate::rows::DISTURBED;
 use crate::rows::LACKS;
+use crate::rows::MOST_NEED;
+use crate::rows::NEEDS;
 use crate::rows::NO_RATIO;
 use crate::rows::NOISY;
 use crate::rows::NOT_BEST;
@@ -10,7 +12,7 @@ use crate::rows::STRENGTH;
 use crate::rows::WEAK;
 use crate::rows::number_of;
 use isdbs_core::frame::SLOTS;
-use picture_bars::form::fill;
+use picture_bars::form::fill_form;
 use picture_sheet::Sheet;
 use picture_sheet::height;
 use picture_sheet::put;
@@ -33,7 +35,7 @@ fn wide(n: u32) -> usize {
 fn scale(sheet: &mut Sheet, at: usize, unit: usize) -> usize
     requires { ⌜ unit ≤ 1000 ⌝ }
 {
-    fill(
+    fill_form(
         sheet,
         at,
         b"<path stroke=\"#d0d0d0\" d=\"M140 400h1536M140 336h1536M140 272h1536M140 208h1536M140 144h1536M140 80h1536\"/>\n<g text-anchor=\"end\"><text x=\"128\" y=\"408\">0</text><text x=\"128\" y=\"344\">@</text><text x=\"128\" y=\"280\">@</text><text x=\"128\" y=\"216\">@</text><text x=\"128\" y=\"152\">@</text><text x=\"128\" y=\"88\">@</text></g>\n",
@@ -46,7 +48,7 @@ fn bar(sheet: &mut Sheet, at: usize, k: usize, n: usize, most: usize) -> usize
     requires { ⌜ k < frameSlots ⌝ }
 {
     let h = height(n, most);
-    fill(
+    fill_form(
         sheet,
         at,
         b"<g transform=\"translate(@ 0)\"><text x=\"16\" y=\"424\" text-anchor=\"middle\" font-size=\"18\">@</text><path d=\"M4 400h24v-@h-24z\" fill=\"",
@@ -57,7 +59,7 @@ fn bar(sheet: &mut Sheet, at: usize, k: usize, n: usize, most: usize) -> usize
 // The start of the words above a bar, after its colour.
 fn above(sheet: &mut Sheet, at: usize, n: usize, most: usize) -> usize {
     let h = height(n, most);
-    fill(
+    fill_form(
         sheet,
         at,
         b"\"/><text transform=\"translate(23 @) rotate(-90)\">",
@@ -87,7 +89,29 @@ fn lack_letter(sheet: &mut Sheet, at: usize, lacks: u32) -> usize {
     }
 }
 
-// The strength of slot k, a valid one where it is below `valid`.
+// The strength that a slot needs, where one would do.
+fn need_line(sheet: &mut Sheet, at: usize, need: u32) -> usize {
+    if need > MOST_NEED {
+        return at;
+    }
+    let h = height(wide(need), MOST_STRENGTH);
+    fill_form(
+        sheet,
+        at,
+        b"<path stroke=\"#000\" stroke-width=\"4\" d=\"M1 @h30\"/>",
+        &[400 - h],
+    )
+}
+
+// The greater of a strength and one that is needed, where one would do.
+fn upper(n: usize, need: u32) -> usize {
+    if need > MOST_NEED || wide(need) < n {
+        return n;
+    }
+    wide(need)
+}
+
+// The strength of slot k, a valid one where it is below `valid`. Its number stands above the bar and the line.
 fn strength(sheet: &mut Sheet, at: usize, rows: &Rows, valid: usize, k: usize) -> usize
     requires { ⌜ k < frameSlots ⌝ }
 {
@@ -98,10 +122,13 @@ fn strength(sheet: &mut Sheet, at: usize, rows: &Rows, valid: usize, k: usize) -
     let lacks = number_of(rows, LACKS, k);
     let a = bar(sheet, at, k, n, MOST_STRENGTH);
     let b = firm_colour(sheet, a, lacks);
-    let c = above(sheet, b, n, MOST_STRENGTH);
-    let d = fill(sheet, c, b"@", &[n]);
+    let need = number_of(rows, NEEDS, k);
+    let c = above(sheet, b, upper(n, need), MOST_STRENGTH);
+    let d = fill_form(sheet, c, b"@", &[n]);
     let e = lack_letter(sheet, d, lacks);
-    end(sheet, e)
+    let f = put(sheet, e, b"</text>");
+    let g = need_line(sheet, f, need);
+    put(sheet, g, b"</g>\n")
 }
 
 fn strength_bars(sheet: &mut Sheet, at: usize, rows: &Rows, valid: usize) -> usize {
@@ -130,10 +157,10 @@ fn over(ratio: u32) -> usize {
 fn decibels(sheet: &mut Sheet, at: usize, ratio: u32) -> usize {
     if ratio < NO_DECIBELS {
         let n = wide(NO_DECIBELS - ratio);
-        return fill(sheet, at, b"-@.@", &[n / 10, n % 10]);
+        return fill_form(sheet, at, b"-@.@", &[n / 10, n % 10]);
     }
     let n = over(ratio);
-    fill(sheet, at, b"@.@", &[n / 10, n % 10])
+    fill_form(sheet, at, b"@.@", &[n / 10, n % 10])
 }
 
 // The ratio of slot k of the frame.

@@ -9,7 +9,7 @@ use isdbs_core::slots::Run;
 use isdbs_core::tmcc::Table;
 use picture_bars::bars;
 use picture_bars::form;
-use picture_bars::form::fill;
+use picture_bars::form::fill_form;
 use picture_sheet::Sheet;
 use picture_sheet::put;
 use rows::OUTSIDE;
@@ -19,18 +19,41 @@ use rows::copy_row;
 ghost use Prim.Native.Nat.{_≤_};
 ghost use Rattle.isdbs_combination.specs.Combinations.{frameSlots};
 
-// How high the picture of n runs is.
+// How many rows of panels n runs have: two panels in a row, of one run where points are shown after alignment too.
+fn panel_rows(n: usize, is_aside: bool) -> usize
+    ensures { λ r. ⌜ r ≤ 4 ⌝ }
+{
+    match n {
+        0 => 0,
+        1 => 1,
+        2 => {
+            if is_aside {
+                return 2;
+            }
+            1
+        }
+        _ => {
+            if is_aside {
+                return 4;
+            }
+            2
+        }
+    }
+}
+
+// How high a picture with so many rows of panels is.
 fn page(n: usize) -> usize {
     match n {
         0 => 2510,
-        1 | 2 => 3440,
-        _ => 4380,
+        1 => 3440,
+        2 => 4380,
+        _ => 6260,
     }
 }
 
 // The picture's size, its ground, and the letters of its words.
 fn open(sheet: &mut Sheet, at: usize, n: usize) -> usize {
-    fill(
+    fill_form(
         sheet,
         at,
         b"<svg xmlns=\"http://www.w3.org/2000/svg\" width=\"900\" viewBox=\"0 0 1800 @\" font-family=\"sans-serif\" font-size=\"22\">\n<rect width=\"1800\" height=\"@\" fill=\"#fff\"/>\n",
@@ -38,17 +61,18 @@ fn open(sheet: &mut Sheet, at: usize, n: usize) -> usize {
     )
 }
 
-// What a picture is of: the frame's table, its steps and how many are strained, and how many points lie outside their margins.
+// What a picture is of: the frame's table, its steps and how many are strained, how many points lie outside their margins, and whether gain or turn are off.
 pub struct Facts {
     pub table: Table,
     pub steps: usize,
     pub strained: u32,
     pub outside: u32,
+    pub is_aside: bool,
 }
 
 // A line of words at the top.
 fn line(sheet: &mut Sheet, at: usize, y: usize, letters: usize, words: &[u8]) -> usize {
-    let a = fill(
+    let a = fill_form(
         sheet,
         at,
         b"<text x=\"60\" y=\"@\" font-size=\"@\">",
@@ -71,7 +95,7 @@ fn head(
     let a = line(sheet, at, 60, 34, words);
     let b = line(sheet, a, 106, 26, name);
     let c = line(sheet, b, 144, 26, setting);
-    let d = fill(
+    let d = fill_form(
         sheet,
         c,
         b"<text x=\"60\" y=\"182\" font-size=\"22\">$ of $ steps strained, $ points outside their margins; ",
@@ -85,7 +109,7 @@ fn head(
 fn panel(sheet: &mut Sheet, at: usize, i: usize, title: &[u8], below: &[u8]) -> usize
     requires { ⌜ i ≤ 3 ⌝ }
 {
-    let a = fill(
+    let a = fill_form(
         sheet,
         at,
         b"<g transform=\"translate(0 @)\">\n<text x=\"140\" y=\"-10\" font-size=\"24\">",
@@ -136,7 +160,7 @@ fn strength(sheet: &mut Sheet, at: usize, rs: [Run; 4], n: usize, rows: &Rows) -
         at,
         0,
         b"Strength of the reading, in percent of a clean slot's. Blue: firm. Orange: not firm (n noisy, d disturbed, w weak, b not the best reading)",
-        b"valid slot; the letters are those of the panels below",
+        b"valid slot, the letters are those of the panels below; a black line: the strength that the slot needs (noisy or disturbed, none would do)",
     );
     let b = levels::strengths(sheet, a, rows, n);
     let c = strips(sheet, b, rs);
@@ -144,7 +168,7 @@ fn strength(sheet: &mut Sheet, at: usize, rs: [Run; 4], n: usize, rows: &Rows) -
 }
 
 // The bars of the strained steps of n valid slots.
-fn strain(sheet: &mut Sheet, at: usize, rs: [Run; 4], n: usize, rows: &Rows) -> usize {
+fn strained_steps(sheet: &mut Sheet, at: usize, rs: [Run; 4], n: usize, rows: &Rows) -> usize {
     let mut counts = [0u32; SLOTS];
     copy_row(rows, STRAINED, &mut counts);
     let a = panel(
@@ -245,10 +269,10 @@ pub fn draw_head(
     let all = slots::runs(t);
     let rs = all.runs;
     let n = all.valid_slots;
-    let a = open(sheet, 0, all.count);
+    let a = open(sheet, 0, panel_rows(all.count, f.is_aside));
     let b = head(sheet, a, words, name, setting, quality, f);
     let c = strength(sheet, b, rs, n, rows);
-    let d = strain(sheet, c, rs, n, rows);
+    let d = strained_steps(sheet, c, rs, n, rows);
     let e = ratio(sheet, d, rs, rows);
     let g = misses(sheet, e, rs, rows);
     legend(sheet, g)

@@ -2,7 +2,7 @@
 use isdbs_core::frame::SLOTS;
 
 // Of valid slot k: its strength in percent; what it lacks to be firm, 0 where nothing; its strained steps. Of slot k of the frame: its modulation error ratio in
-// tenths of a decibel with 300 more, or NO_RATIO; its points outside the margins.
+// tenths of a decibel with 300 more, or NO_RATIO; its points outside the margins. Of valid slot k: the strength that it needs to be firm, above MOST_NEED where none would do.
 pub const STRENGTH: usize = 0;
 
 pub const LACKS: usize = 1;
@@ -13,7 +13,12 @@ pub const RATIO: usize = 3;
 
 pub const OUTSIDE: usize = 4;
 
-pub const ROWS: usize = 5;
+pub const NEEDS: usize = 5;
+
+pub const ROWS: usize = 6;
+
+// More is needed of no slot, in percent.
+pub const MOST_NEED: u32 = 100;
 
 // The ratio of a slot without points.
 pub const NO_RATIO: u32 = 100_000;

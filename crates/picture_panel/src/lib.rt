@@ -5,7 +5,7 @@ use crate::squares::squares;
 use isdbs_core::combination::Combination;
 use isdbs_core::combination::Modulation;
 use picture_bars::bars::letter;
-use picture_bars::form::fill;
+use picture_bars::form::fill_form;
 use picture_sheet::Sheet;
 use picture_sheet::Squares;
 use picture_sheet::put;
@@ -23,7 +23,7 @@ fn combination(sheet: &mut Sheet, at: usize, c: Combination) -> usize {
 }
 
 // Demand 3's margins, as boxes around (0, 0): a part of 0 within 8, of 1 from 248 to 264, of 0.7071 from 174 to 188. BPSK's imaginary part is free.
-fn margins(sheet: &mut Sheet, at: usize, m: Modulation) -> usize {
+fn margin_boxes(sheet: &mut Sheet, at: usize, m: Modulation) -> usize {
     match m {
         Modulation::Bpsk => put(sheet, at, b"M248 -384h16v768h-16zM-264 -384h16v768h-16z"),
         Modulation::Qpsk => put(
@@ -40,7 +40,7 @@ fn margins(sheet: &mut Sheet, at: usize, m: Modulation) -> usize {
 }
 
 // The ideal points, as crosses around (0, 0).
-fn ideal(sheet: &mut Sheet, at: usize, m: Modulation) -> usize {
+fn ideal_points(sheet: &mut Sheet, at: usize, m: Modulation) -> usize {
     match m {
         Modulation::Bpsk => put(sheet, at, b"M251 0h10M256 -5v10M-261 0h10M-256 -5v10"),
         Modulation::Qpsk => put(
@@ -57,15 +57,15 @@ fn ideal(sheet: &mut Sheet, at: usize, m: Modulation) -> usize {
 }
 
 // Margins and ideal points over the squares; the end of the panel.
-pub fn overlay(sheet: &mut Sheet, at: usize, m: Modulation) -> usize {
+pub fn marks(sheet: &mut Sheet, at: usize, m: Modulation) -> usize {
     let a = put(
         sheet,
         at,
         b"<g transform=\"translate(384 384)\" fill=\"none\">\n<path stroke=\"#ff7f0e\" stroke-width=\"3\" d=\"",
     );
-    let b = margins(sheet, a, m);
+    let b = margin_boxes(sheet, a, m);
     let c = put(sheet, b, b"\"/>\n<path stroke=\"#ff7f0e\" d=\"");
-    let d = ideal(sheet, c, m);
+    let d = ideal_points(sheet, c, m);
     put(sheet, d, b"\"/>\n</g>\n</g>\n")
 }
 
@@ -73,12 +73,24 @@ fn out_of_view(sheet: &mut Sheet, at: usize, n: usize) -> usize {
     if n == 0 {
         return at;
     }
-    fill(
+    fill_form(
         sheet,
         at,
         b"<text y=\"-12\">$ beyond 1.5, drawn at the edge</text>\n",
         &[n],
     )
+}
+
+// The lines above the panel of run i, its points after alignment.
+pub fn aligned_title(sheet: &mut Sheet, at: usize, i: usize, beyond: usize) -> usize {
+    let a = put(sheet, at, b"<text y=\"-42\" font-size=\"26\">");
+    let b = letter(sheet, a, i);
+    let c = put(
+        sheet,
+        b,
+        b" after alignment: the mean gain and turn taken out</text>\n",
+    );
+    out_of_view(sheet, c, beyond)
 }
 
 // The lines above the panel of run i.
@@ -94,7 +106,7 @@ pub fn title(
     let b = letter(sheet, a, i);
     let d = put(sheet, b, b": ");
     let e = combination(sheet, d, c);
-    let f = fill(sheet, e, b", $ points</text>\n", &[points]);
+    let f = fill_form(sheet, e, b", $ points</text>\n", &[points]);
     out_of_view(sheet, f, beyond)
 }
 

@@ -1,5 +1,5 @@
 // Squares of 1/64 by 1/64, shaded by how many points lie in each.
-use picture_bars::form::fill;
+use picture_bars::form::fill_form;
 use picture_sheet::BINS;
 use picture_sheet::Sheet;
 use picture_sheet::Squares;
@@ -25,12 +25,12 @@ fn square(sheet: &mut Sheet, at: usize, from: usize, x: usize, y: usize) -> usiz
         }
     }
     if from == 0 {
-        return fill(sheet, at, b"M@ @h1", &[x, y]);
+        return fill_form(sheet, at, b"M@ @h1", &[x, y]);
     }
     if from > x {
         return at;
     }
-    fill(sheet, at, b"m@ 0h1", &[x - from])
+    fill_form(sheet, at, b"m@ 0h1", &[x - from])
 }
 
 // The squares of one shade in row y.

@@ -1,4 +1,4 @@
--- A sheet of 327,680 bytes that is filled from the front. A place past its end says that something did not fit.
+-- A sheet of 655,360 bytes that is filled from the front. A place past its end says that something did not fit.
 use mathlib.Core.Path.{_≡_}
 use mathlib.Core.Bool.{cond}
 use mathlib.Core.List.{List, _++_}
@@ -8,11 +8,11 @@ use lib.ListN.{length, take, drop}
 use Rattle.io.specs.Digits.{digits, Fewest}
 
 abbrev pub size : ℕ
-size = 327680
+size = 655360
 
 -- the place after n bytes from `at` on
 abbrev pub placeAfter : ℕ → ℕ → ℕ
-placeAfter at n = cond (leb (at + n) size) (at + n) 327681
+placeAfter at n = cond (leb (at + n) size) (at + n) 655361
 
 -- the sheet with s laid over it from `at` on; as it was where s does not fit
 abbrev pub laid : List ℕ → ℕ → List ℕ → List ℕ

@@ -6,7 +6,7 @@ ghost use Rattle.picture_sheet.specs.Sheet.{Put, PutNumber};
 ghost use Rattle.picture_sheet.specs.Places.{binAt, binOf, heightOf, unitFor};
 
 // The bytes of a sheet.
-pub const SHEET_BYTES: usize = 327_680;
+pub const SHEET_BYTES: usize = 655_360;
 
 pub type Sheet = [u8; SHEET_BYTES];
 
@@ -21,7 +21,7 @@ pub type Squares = [u32; BINS * BINS];
 
 // The bytes of a sheet, which its type fixes.
 fn size(sheet: &Sheet) -> usize
-    ensures { λ r. ⌜ (r ≡ 327680) × (length (now (sheet .entry)) ≡ 327680) ⌝ }
+    ensures { λ r. ⌜ (r ≡ 655360) × (length (now (sheet .entry)) ≡ 655360) ⌝ }
 {
     let bytes: &[u8] = sheet;
     bytes.len()

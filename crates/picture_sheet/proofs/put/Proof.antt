@@ -12,15 +12,15 @@ use Rattle.picture_sheet.proofs.put.Statement.{statement}
 use Rattle.picture_sheet.proofs.put.Tie as tie
 
 -- what does not fit leaves the sheet as it was
-over : (at : ℕ) (s old : List ℕ) → 327680 < at + length s → Put at s old old 327681
-over at s old h = let e = lt-leb (at + length s) 327680 h in record { place = rw e; sheet = rw e }
+over : (at : ℕ) (s old : List ℕ) → 655360 < at + length s → Put at s old old 655361
+over at s old h = let e = lt-leb (at + length s) 655360 h in record { place = rw e; sheet = rw e }
 
 -- what fits is laid whole
-whole : (at : ℕ) (s old : List ℕ) → at + length s ≤ 327680 → Put at s old (paste old at s (length s)) (at + length s)
-whole at s old h = let e = le-leb (at + length s) 327680 h in record { place = rw e; sheet = rw (e, take-length s) }
+whole : (at : ℕ) (s old : List ℕ) → at + length s ≤ 655360 → Put at s old (paste old at s (length s)) (at + length s)
+whole at s old h = let e = le-leb (at + length s) 655360 h in record { place = rw e; sheet = rw (e, take-length s) }
 
 abbrev Inv-loop : tie.InvT-loop
-Inv-loop sheet₀ at s n i₀ i-end sheet i = (i-end ≡ length s) × (i ≤ length s) × ((length sheet ≡ 327680) × (sheet ≡ paste sheet₀ at s i))
+Inv-loop sheet₀ at s n i₀ i-end sheet i = (i-end ≡ length s) × (i ≤ length s) × ((length sheet ≡ 655360) × (sheet ≡ paste sheet₀ at s i))
 
 abbrev μ-loop : tie.MeasureT-loop
 μ-loop sheet₀ at s n i₀ i-end sheet i = length s - i

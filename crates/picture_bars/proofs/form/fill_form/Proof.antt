@@ -1,9 +1,9 @@
--- `form::fill` is safe and ends.
+-- `form::fill_form` is safe and ends.
 use Prim.Native.Nat.{_-_, _≤_}
 use lib.ListN.{length}
 use borrow.Author.Needs.{needs}
-use Rattle.picture_bars.proofs.form.fill.Statement.{statement}
-use Rattle.picture_bars.proofs.form.fill.Tie as tie
+use Rattle.picture_bars.proofs.form.fill_form.Statement.{statement}
+use Rattle.picture_bars.proofs.form.fill_form.Tie as tie
 
 abbrev Inv-loop : tie.InvT-loop
 Inv-loop sheet₀ at form numbers place₀ next₀ i₀ i-end sheet place next i = (i ≤ length form) × (next ≤ i)
@@ -41,8 +41,8 @@ loop-again c = search needs
 returns : tie.Need-returns Inv-loop μ-loop
 returns c = search needs
 
-pub fill-spec : {M : Type 1} → statement M
-fill-spec =
+pub fill-form-spec : {M : Type 1} → statement M
+fill-form-spec =
     tie.close
     (tie.spec
     Inv-loop
