@@ -1,12 +1,13 @@
-// One frame read: turned right where that is asked, its main points decoded with a known start and all scales at 8, judged, and laid beside the best reading.
-use bench_best::reading::best_of;
-use bench_best::reading::clean_leads;
-use bench_best::strength::percent;
+// One frame read: turned right where that is asked, its main points decoded with a known start and all scales at 8, weighed as read weighs it.
 use bench_line::space::BIT_SPACE;
 use bench_line::space::LOAD_SPACE;
 use bench_line::words::front;
-use bench_line::words::same;
 use bench_setting::choice::Reading;
+use bench_verdict::facts::Frame;
+use bench_verdict::last;
+use bench_weigh::decoded;
+use bench_worth::Verdict;
+use bench_worth::weigh;
 use header_align::align_frame;
 use isdbs_core::frame::BURST_SYMBOLS;
 use isdbs_core::frame::BURSTS;
@@ -19,8 +20,6 @@ use isdbs_phy::demod::DemodOptions;
 use isdbs_phy::demod::FrameDecoded;
 use isdbs_phy::demod::decode_frame;
 use isdbs_points::Mapping;
-use judge::FrameJudged;
-use judge::judge;
 use refusal::Answer;
 use trellis::FRAME_WORDS;
 
@@ -35,22 +34,19 @@ pub struct How {
     pub aligns: bool,
 }
 
-// What a frame's reading is worth: the number of the row that refused it, or 0; the points outside the margins of its bytes; whether no other reading fits better;
-// its steps and strained steps; its weakest valid slot, 48 where there is none, and the strength there in percent.
+// What a frame's reading is worth: the number of the row that refused it, or 0; the worth that bench_verdict gives it; the points outside the margins of its
+// bytes; how many slots are weak or not the best, and the first of them; its steps and strained steps; its weakest valid slot, 48 where there is none, and the strength
+// there in percent.
 pub struct Worth {
     pub row: usize,
+    pub worth: u8,
     pub outside: usize,
-    pub is_best: bool,
+    pub slots: usize,
+    pub first: usize,
     pub steps: usize,
     pub strained: u32,
     pub weakest: usize,
-    pub strength: u64,
-}
-
-// A valid slot, and its strength.
-struct Weak {
-    slot: usize,
-    strength: u64,
+    pub strength: usize,
 }
 
 fn wide(n: u32) -> usize {
@@ -60,8 +56,10 @@ fn wide(n: u32) -> usize {
 fn refused(answer: Answer) -> Worth {
     Worth {
         row: wide(refusal::number(answer)),
+        worth: last::WEAK,
         outside: 0,
-        is_best: false,
+        slots: 0,
+        first: 0,
         steps: 0,
         strained: 0,
         weakest: SLOTS,
@@ -69,111 +67,41 @@ fn refused(answer: Answer) -> Worth {
     }
 }
 
-// ---- the weakest slot
-
-// The weaker one of a slot and valid slot k, if there is such a slot: the earlier of equals.
-fn weaker(w: Weak, k: usize, slots: usize, strength: u64) -> Weak {
-    if k >= slots {
-        return w;
-    }
-    if w.slot == SLOTS || strength < w.strength {
-        return Weak { slot: k, strength };
-    }
-    w
-}
-
-fn weakest(slots: usize, leads: &[u64; SLOTS], clean: &[u64; SLOTS]) -> Weak {
-    let mut w = Weak {
-        slot: SLOTS,
-        strength: 0,
-    };
-    for k in 0..SLOTS {
-        w = weaker(w, k, slots, percent(leads[k], clean[k]));
-    }
-    w
-}
-
 // ---- the worth of bytes
 
-// Lays the bytes beside the best reading.
-fn weigh(
-    s: Reading,
-    slots: usize,
-    bytes: &[u8],
-    judged: Worth,
-    re: &[f64; MAIN_SYMBOLS],
-    im: &[f64; MAIN_SYMBOLS],
-    best: &mut [u8; LOAD_SPACE],
-) -> Worth {
-    let mut leads = [0u64; SLOTS];
-    let answer = best_of(s, MAIN_SYMBOLS, re, im, best, &mut leads);
+// The worth of a frame of these steps by the verdict on its bytes.
+fn worth_by(v: Verdict, steps: usize, strained: u32) -> Worth {
+    let answer = v.answer;
     let Answer::Accepted = answer else {
         return refused(answer);
     };
-    let mut clean = [0u64; SLOTS];
-    let cleaned = clean_leads(s, front(best, bytes.len()), &mut clean);
-    let Answer::Accepted = cleaned else {
-        return refused(cleaned);
-    };
-    let w = weakest(slots, &leads, &clean);
     Worth {
         row: 0,
-        outside: judged.outside,
-        is_best: same(front(best, bytes.len()), bytes),
-        steps: judged.steps,
-        strained: judged.strained,
-        weakest: w.slot,
-        strength: w.strength,
+        worth: v.worth,
+        outside: wide(v.outside),
+        slots: v.slots,
+        first: v.first,
+        steps,
+        strained,
+        weakest: v.weakest,
+        strength: wide(v.strength),
     }
 }
 
-// The same, on space of its own.
-fn weigh_in_space(
+// Weighs the bytes that were read.
+fn weigh_bytes(
     s: Reading,
-    slots: usize,
+    f: Frame,
     bytes: &[u8],
-    judged: Worth,
     re: &[f64; MAIN_SYMBOLS],
     im: &[f64; MAIN_SYMBOLS],
 ) -> Worth {
-    let mut best = [0u8; LOAD_SPACE];
-    weigh(s, slots, bytes, judged, re, im, &mut best)
-}
-
-// Judges the bytes that were read.
-fn judge_bytes(
-    s: Reading,
-    slots: usize,
-    bytes: &[u8],
-    steps: usize,
-    strained: u32,
-    re: &[f64; MAIN_SYMBOLS],
-    im: &[f64; MAIN_SYMBOLS],
-) -> Worth {
-    let t = s.table;
-    let m = s.mapping;
-    let mut outside = [0u32; SLOTS];
-    let done = judge(re, im, t, m, s.first, bytes, &mut outside);
-    match done {
-        FrameJudged::Judged(sum) => {
-            let judged = Worth {
-                row: 0,
-                outside: wide(sum),
-                is_best: false,
-                steps,
-                strained,
-                weakest: SLOTS,
-                strength: 0,
-            };
-            weigh_in_space(s, slots, bytes, judged, re, im)
-        }
-        FrameJudged::Refused(answer) => refused(answer),
-    }
+    worth_by(weigh(s, f, bytes, re, im), f.steps, f.strained)
 }
 
 // ---- the reading
 
-// Decodes the main points, and judges what was read.
+// Decodes the main points, and weighs what was read.
 fn read_over(
     s: Reading,
     slots: usize,
@@ -195,7 +123,8 @@ fn read_over(
     let done = decode_frame(re, im, t, s.first, o, decisions, bits, bytes, counts);
     match done {
         FrameDecoded::Decoded(size, steps, strained) => {
-            judge_bytes(s, slots, front(bytes, size), steps, strained, re, im)
+            let f = decoded(s, slots, size, steps, strained);
+            weigh_bytes(s, f, front(bytes, size), re, im)
         }
         FrameDecoded::Refused(answer) => refused(answer),
     }

@@ -118,10 +118,15 @@ fn open_named(space: &[u8; LINE_BYTES], n: usize) -> i32 {
     os::open_update(front(space, n))
 }
 
-fn cannot_write(name: &[u8]) {
+// The last line where the report cannot be written, by the system's error.
+fn cannot_write(name: &[u8], error: i32) {
     text(b"failed: cannot write ");
     quoted(name);
-    text(b"\n");
+    match error {
+        libc::ENOSPC => text(b": the disk is full\n"),
+        libc::EFBIG => text(b": it would be larger than a file may be\n"),
+        _ => text(b"\n"),
+    }
 }
 
 // Makes the file that is written first, and opens it; else says why it cannot and answers -1.
@@ -133,7 +138,7 @@ fn open_report(name: &[u8]) -> i32 {
     let n = part_name(name, &mut space);
     let report = open_named(&space, n);
     if report < 0 {
-        cannot_write(name);
+        cannot_write(name, os::errno());
         files::discard(name);
     }
     report
@@ -161,14 +166,14 @@ fn tell(name: &[u8], how: How, held: Held, t: Tally) {
     );
 }
 
-fn verdict(t: Tally) {
-    if t.certain == t.frames {
+fn say_end(t: Tally) {
+    if t.doubtful == 0 {
         text(b"ok\n");
         return;
     }
     say(
-        b"doubtful: $ of $ frames are not certain\n",
-        &[minus(t.frames, t.certain), t.frames],
+        b"doubtful: $ of $ frames are neither certain nor best\n",
+        &[t.doubtful, t.frames],
     );
 }
 
@@ -190,7 +195,7 @@ fn end(name: &[u8], output: &[u8], how: How, held: Held, t: Tally) {
         text(b"report ");
         quoted(output);
         text(b": a line for each frame\n");
-        verdict(t);
+        say_end(t);
     }
 }
 
@@ -199,6 +204,7 @@ fn conclude(name: &[u8], output: &[u8], how: How, report: i32, run: Run) {
     let held = run.held;
     let t = run.tally;
     let is_whole = t.is_written && libc::fsync(report) == 0;
+    let error = os::errno();
     libc::close(report);
     if !held.well {
         files::discard(output);
@@ -206,7 +212,7 @@ fn conclude(name: &[u8], output: &[u8], how: How, report: i32, run: Run) {
     }
     if !is_whole {
         files::discard(output);
-        cannot_write(output);
+        cannot_write(output, error);
         return;
     }
     end(name, output, how, held, t);

@@ -7,6 +7,7 @@ use bench_files::files::put;
 use bench_header::Told;
 use bench_header::plus;
 use bench_line::space::LINE_BYTES;
+use bench_verdict::last;
 use header_mean::Mean;
 use isdbs_core::frame::FRAME_SYMBOLS;
 use isdbs_core::frame::FRAMES;
@@ -51,7 +52,9 @@ const REFUSED: u8 = 4;
 
 const OTHER_BYTES: u8 = 5;
 
-const OPEN: u8 = 6;
+const WEAK: u8 = 6;
+
+const ASIDE: u8 = 7;
 
 // The window of strain: a superframe.
 const WINDOW: u32 = 8;
@@ -125,13 +128,22 @@ fn reason(t: Tally, f: Frame) -> u8 {
     if w.row > 0 {
         return REFUSED;
     }
-    if w.outside > 0 && !w.is_best {
-        return OTHER_BYTES;
+    by_worth(w.worth, f.is_aligned)
+}
+
+// Why a reading of this worth is doubtful. What the mean of a header leaves of gain and turn in a frame that was turned right is no reason.
+fn by_worth(worth: u8, is_aligned: bool) -> u8 {
+    match worth {
+        last::CERTAIN | last::FIRM => NOT,
+        last::WEAK => WEAK,
+        last::OTHER => OTHER_BYTES,
+        _ => {
+            if is_aligned {
+                return NOT;
+            }
+            ASIDE
+        }
     }
-    if w.outside > 0 && w.strength == 0 {
-        return OPEN;
-    }
-    NOT
 }
 
 fn put_reason(line: &mut [u8; LINE_BYTES], from: usize, why: u8, f: Frame) -> usize {
@@ -142,10 +154,16 @@ fn put_reason(line: &mut [u8; LINE_BYTES], from: usize, why: u8, f: Frame) -> us
         WITHIN => put(line, from, b"it begins within the frame before it"),
         DISORDER => put(line, from, b"its kind is not the next one of a superframe"),
         REFUSED => put_form(line, from, b"refused $", &[w.row]),
-        OPEN => put_form(
+        WEAK => put_form(
             line,
             from,
-            b"$ points outside the margins, and another reading fits as well or nearly",
+            b"valid slots weak: $, the weakest slot $; $ points outside the margins",
+            &[w.slots, w.first, w.outside],
+        ),
+        ASIDE => put_form(
+            line,
+            from,
+            b"gain or turn off: align first; $ points outside the margins",
             &[w.outside],
         ),
         _ => put_form(
@@ -169,7 +187,7 @@ fn put_verdict(line: &mut [u8; LINE_BYTES], from: usize, why: u8, f: Frame) -> u
     put_form(
         line,
         from,
-        b"; best: $ points outside the margins, and no reading fits better",
+        b"; best, firm in every slot: $ points outside the margins",
         &[w.outside],
     )
 }
@@ -199,7 +217,7 @@ fn put_strain(line: &mut [u8; LINE_BYTES], from: usize, w: Worth, kept: Pushed) 
         line,
         a,
         b"; weakest valid slot $: strength $ %",
-        &[w.weakest, w.strength as usize],
+        &[w.weakest, w.strength],
     )
 }
 

@@ -34,7 +34,7 @@ fn table() -> Table {
 }
 
 // The built-in load: 3, 10, 17 and so on, modulo 256.
-fn fill(load: &mut [u8; LOAD_SPACE]) {
+fn fill_load(load: &mut [u8; LOAD_SPACE]) {
     let mut b: u8 = 3;
     for i in 0..CARRIED {
         load[i] = b;
@@ -49,7 +49,7 @@ fn disturb(parts: &mut [f64; MAIN_SYMBOLS]) {
     }
 }
 
-fn verdict(load: &[u8], bytes: &[u8]) {
+fn say_agreement(load: &[u8], bytes: &[u8]) {
     let n = bench_line::agreement::agreeing(load, bytes);
     report::agree(n, CARRIED);
     if n == CARRIED {
@@ -121,7 +121,7 @@ fn read(
         FrameDecoded::Decoded(_, steps, strained) => {
             read_line(steps);
             bench_verdict::in_all(steps, strained);
-            verdict(front(load, CARRIED), front(bytes, CARRIED));
+            say_agreement(front(load, CARRIED), front(bytes, CARRIED));
         }
         FrameDecoded::Refused(answer) => report::refuse(answer),
     }
@@ -142,7 +142,7 @@ pub fn demonstrate() {
     let mut re = [0.0f64; MAIN_SYMBOLS];
     let mut im = [0.0f64; MAIN_SYMBOLS];
     let mut load = [0u8; LOAD_SPACE];
-    fill(&mut load);
+    fill_load(&mut load);
     if make(&load, &mut re, &mut im) {
         read_in_space(&load, &re, &im);
     }

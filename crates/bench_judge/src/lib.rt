@@ -108,7 +108,7 @@ fn judge_files(s: Setting, line: &[u8], bytes: &mut [u8; LOAD_SPACE]) {
 }
 
 // bench judge TABLE MAPPING KIND FRAME BYTES
-pub fn judge(line: &[u8]) {
+pub fn judge_command(line: &[u8]) {
     let s = setting_for_two(line, b"judge takes TABLE MAPPING KIND FRAME BYTES");
     if !s.is_good {
         return;

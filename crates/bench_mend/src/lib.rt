@@ -106,7 +106,7 @@ fn mend_in_space(line: &[u8], start: u8, end: u8) {
 }
 
 // bench mend START END BITS OUT; the states are taken mod 64.
-pub fn mend(line: &[u8]) {
+pub fn mend_command(line: &[u8]) {
     if parts(line, 0) != 5 {
         misused(b"mend takes START END BITS OUT", b"");
         return;

@@ -1,8 +1,12 @@
 // The outputs of read: the bytes, and where they are asked for the best reading's bytes, a picture, a report, and the same as JSON. All are written, or none.
 use bench_files::files;
+use bench_line::space::LINE_BYTES;
+use bench_line::words::front;
 use bench_line::words::part;
 use bench_setting::choice::named;
 use bench_words::text::file;
+use bench_words::text::text;
+ghost use Prim.Native.Nat.{_≤_};
 
 const OUTPUTS: usize = 5;
 
@@ -134,6 +138,75 @@ fn tell(line: &[u8], i: usize, kind: &[u8], n: usize) {
     }
 }
 
+// Whether there is a file of the name in the first n bytes.
+fn is_there(space: &[u8; LINE_BYTES], n: usize) -> bool {
+    let file = os::open_read(front(space, n));
+    if file < 0 {
+        return false;
+    }
+    libc::close(file);
+    true
+}
+
+// Whether a run has claimed an output: the file with its number is there.
+fn is_claimed(name: &[u8]) -> bool {
+    let mut space = io::buffer();
+    let at = files::put(&mut space, 0, name);
+    let n = files::put(&mut space, at, b".run");
+    is_there(&space, n)
+}
+
+fn is_left(line: &[u8], i: usize) -> bool {
+    is_asked(line, i) && is_claimed(name(line, i))
+}
+
+fn tally(so: bool) -> usize
+    ensures { λ r. ⌜ r ≤ 1 ⌝ }
+{
+    if so { 1 } else { 0 }
+}
+
+// How many outputs are claimed.
+fn how_many_left(line: &[u8]) -> usize {
+    let mut n: usize = 0;
+    for i in 0..OUTPUTS {
+        n = n + tally(is_left(line, i));
+    }
+    n
+}
+
+// Names the files that stand beside output i, where it is claimed.
+fn tell_left(line: &[u8], i: usize) {
+    if is_left(line, i) {
+        text(b"  ");
+        quoted_with(name(line, i), b".run");
+        text(b" and ");
+        quoted_with(name(line, i), b".part");
+        text(b"\n");
+    }
+}
+
+// A name and its ending.
+fn quoted_with(s: &[u8], ending: &[u8]) {
+    text(b"\"");
+    bench_words::text::name(s);
+    text(ending);
+    text(b"\"");
+}
+
+// Names the files beside all outputs, where several are claimed, so that one removal does; the last line says by whom.
+fn tell_all_left(line: &[u8]) {
+    if how_many_left(line) < 2 {
+        return;
+    }
+    text(
+        b"of this run's outputs several are claimed by another; if that was broken off, remove all of these, where they are there:\n",
+    );
+    for i in 0..OUTPUTS {
+        tell_left(line, i);
+    }
+}
+
 // Writes all outputs, or none.
 pub fn keep(
     line: &[u8],
@@ -143,6 +216,7 @@ pub fn keep(
     report: &[u8],
     json: &[u8],
 ) -> bool {
+    tell_all_left(line);
     let is_staged = stage(line, 0, bytes)
         && stage(line, 1, best)
         && stage(line, 2, picture)

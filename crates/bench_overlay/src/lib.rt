@@ -87,7 +87,7 @@ fn overlay_files(
 }
 
 // bench overlay LOAD1 LOAD2 OUT
-pub fn overlay(line: &[u8]) {
+pub fn overlay_command(line: &[u8]) {
     if parts(line, 0) != 4 {
         misused(b"overlay takes LOAD1 LOAD2 OUT", b"");
         return;

@@ -1,7 +1,6 @@
-// The bench program's command series: the strained steps of frame after frame, with the total and the greatest of the last frames, and whether each frame is certain.
+// The bench program's command series: the strained steps of frame after frame, with the total and the greatest of the last frames, and what the reading of each frame is worth.
 pub mod plain;
 
-use crate::plain::outside_of;
 use crate::plain::points_of;
 use crate::plain::read_of;
 use bench_line::space::LOAD_SPACE;
@@ -10,17 +9,23 @@ use bench_line::words::digits;
 use bench_line::words::front;
 use bench_line::words::part;
 use bench_line::words::parts;
+use bench_setting::choice::Reading;
 use bench_setting::setting::Setting;
 use bench_setting::setting::setting_of;
 use bench_setting::usage::misused;
+use bench_verdict::last::is_ok;
+use bench_weigh::decoded;
 use bench_words::report;
 use bench_words::report::Valid;
 use bench_words::text::quoted;
 use bench_words::text::say;
 use bench_words::text::text;
+use bench_worth::Verdict;
+use bench_worth::say_worth;
+use bench_worth::weigh;
 use isdbs_core::frame::MAIN_SYMBOLS;
+use isdbs_core::frame::SLOT_BYTES;
 use isdbs_phy::demod::FrameDecoded;
-use judge::FrameJudged;
 use refusal::Answer;
 use strain_window::Pushed;
 use strain_window::WindowState;
@@ -33,26 +38,23 @@ const LONGEST: usize = 256;
 // The words before the first frame: series, WINDOW, TABLE, MAPPING and KIND.
 const BEFORE: usize = 5;
 
-// The points of a frame.
-const ALL: u32 = 38_976;
-
 // A frame's number, counted from 0, and how many frames there are.
 pub struct Place {
     pub read: usize,
     pub all: usize,
 }
 
-// What was found of a frame: its steps, the strained ones, and the points outside the margins of its bytes.
+// What was found of a frame: its steps, the strained ones, and what its reading is worth.
 struct Found {
     steps: usize,
     strained: u32,
-    outside: u32,
+    verdict: Verdict,
 }
 
-// Whether the run goes on, whether the frame is certain, and the window after it.
+// Whether the run goes on, whether the frame's reading is good, and the window after it.
 struct Went {
     on: bool,
-    certain: bool,
+    is_ok: bool,
     state: WindowState,
 }
 
@@ -68,13 +70,14 @@ pub fn frame_name(place: Place, name: &[u8]) {
     quoted(name);
 }
 
-// Whether a frame is certain.
-fn say_certain(outside: u32) {
-    if outside == 0 {
-        text(b"; certain\n");
-    } else {
-        say(b"; points outside the margins: $\n", &[wide(outside)]);
+// What the reading of a frame is worth.
+fn say_verdict(v: Verdict) {
+    if v.outside > 0 {
+        say(b"; points outside the margins: $", &[wide(v.outside)]);
     }
+    text(b"; ");
+    say_worth(v);
+    text(b"\n");
 }
 
 // The line of a frame that was read.
@@ -91,7 +94,8 @@ fn frame_line(place: Place, name: &[u8], found: Found, kept: Pushed) {
             wide(kept.greatest),
         ],
     );
-    say_certain(found.outside);
+    let v = found.verdict;
+    say_verdict(v);
 }
 
 // The line above the last one of a run that a frame's refusal ends.
@@ -106,7 +110,7 @@ pub fn refused_line(place: Place, name: &[u8], answer: Answer) {
 fn stopped(state: WindowState) -> Went {
     Went {
         on: false,
-        certain: false,
+        is_ok: false,
         state,
     }
 }
@@ -128,29 +132,30 @@ fn keep(
     };
     frame_line(place, name, found, kept);
     let state = kept.state;
+    let v = found.verdict;
     Went {
         on: true,
-        certain: found.outside == 0,
+        is_ok: is_ok(v.worth),
         state,
     }
 }
 
-// How many of the first n points lie outside the margins of what was read of them. Where that is not judged, none is known to lie within.
-fn outside(
-    s: Setting,
-    n: usize,
-    done: FrameDecoded,
-    re: &[f64; MAIN_SYMBOLS],
-    im: &[f64; MAIN_SYMBOLS],
-    bytes: &[u8; LOAD_SPACE],
-) -> u32 {
-    let FrameDecoded::Decoded(size, _, _) = done else {
-        return ALL;
+// Weighs a frame that was read, and keeps its sum; or says why it cannot be weighed.
+fn weigh_and_keep(
+    place: Place,
+    name: &[u8],
+    found: Found,
+    state: WindowState,
+    sums: &mut [u32; LONGEST],
+) -> Went {
+    let v = found.verdict;
+    let answer = v.answer;
+    let Answer::Accepted = answer else {
+        refused_line(place, name, answer);
+        report::refuse(answer);
+        return stopped(state);
     };
-    match outside_of(s, n, re, im, front(bytes, size)) {
-        FrameJudged::Judged(sum) => sum,
-        FrameJudged::Refused(_) => ALL,
-    }
+    keep(place, name, found, state, sums)
 }
 
 // Reads a frame, and keeps its sum.
@@ -169,21 +174,36 @@ fn read_one(
         return stopped(state);
     }
     let done = read_of(s, got.count, re, im, bytes);
-    let far = outside(s, got.count, done, re, im, bytes);
     match done {
-        FrameDecoded::Decoded(_, steps, strained) => {
+        FrameDecoded::Decoded(size, steps, strained) => {
+            let f = decoded(plain_reading(s), size / SLOT_BYTES, size, steps, strained);
+            let verdict = weigh(plain_reading(s), f, front(bytes, size), re, im);
             let found = Found {
                 steps,
                 strained,
-                outside: far,
+                verdict,
             };
-            keep(place, name, found, state, sums)
+            weigh_and_keep(place, name, found, state, sums)
         }
         FrameDecoded::Refused(answer) => {
             refused_line(place, name, answer);
             report::refuse_reading(answer, got.count, got.over, re, im);
             stopped(state)
         }
+    }
+}
+
+// With a known start and all scales at 8.
+fn plain_reading(s: Setting) -> Reading {
+    let table = s.table;
+    let mapping = s.mapping;
+    Reading {
+        is_good: true,
+        table,
+        mapping,
+        first: s.first,
+        known_start: true,
+        scales: [8.0f32; 7],
     }
 }
 
@@ -199,7 +219,10 @@ fn end(doubtful: usize, all: usize) {
     if doubtful == 0 {
         text(b"ok\n");
     } else {
-        say(b"doubtful: $ of $ frames not certain\n", &[doubtful, all]);
+        say(
+            b"doubtful: $ of $ frames neither certain nor firm\n",
+            &[doubtful, all],
+        );
     }
 }
 
@@ -229,7 +252,7 @@ fn read_all(
             return;
         }
         state = went.state;
-        doubtful = doubtful + tally(!went.certain);
+        doubtful = doubtful + tally(!went.is_ok);
     }
     end(doubtful, words - BEFORE);
 }

@@ -1,4 +1,4 @@
-// A frame read in the plain way, with a known start and all scales at 8, and what its reading is worth.
+// A frame read in the plain way, with a known start and all scales at 8.
 use bench_files::files;
 use bench_files::files::Got;
 use bench_line::space::BIT_SPACE;
@@ -10,8 +10,6 @@ use isdbs_core::frame::SLOTS;
 use isdbs_phy::demod::DemodOptions;
 use isdbs_phy::demod::FrameDecoded;
 use isdbs_phy::demod::decode_frame;
-use judge::FrameJudged;
-use judge::judge;
 use trellis::FRAME_WORDS;
 
 // Reads a file's points.
@@ -67,26 +65,4 @@ pub fn read_of(
     let mut decisions = [0u64; FRAME_WORDS];
     let mut bits = [0u8; BIT_SPACE];
     decode(s, n, re, im, &mut decisions, &mut bits, bytes)
-}
-
-// The points of the first n that lie outside the margins of the bytes.
-pub fn outside_of(
-    s: Setting,
-    n: usize,
-    re: &[f64; MAIN_SYMBOLS],
-    im: &[f64; MAIN_SYMBOLS],
-    bytes: &[u8],
-) -> FrameJudged {
-    let t = s.table;
-    let m = s.mapping;
-    let mut outside = [0u32; SLOTS];
-    judge(
-        front_parts(re, n),
-        front_parts(im, n),
-        t,
-        m,
-        s.first,
-        bytes,
-        &mut outside,
-    )
 }

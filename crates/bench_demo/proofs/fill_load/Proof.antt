@@ -1,7 +1,7 @@
 use borrow.Author.Needs.{needs}
 use Prim.Native.Nat.{_-_, _≤_}
-use Rattle.bench_demo.proofs.fill.Statement.{statement}
-use Rattle.bench_demo.proofs.fill.Tie as tie
+use Rattle.bench_demo.proofs.fill_load.Statement.{statement}
+use Rattle.bench_demo.proofs.fill_load.Tie as tie
 
 abbrev Inv-loop : tie.InvT-loop
 Inv-loop load₀ b₀ i₀ load b i = i ≤ 9135
@@ -30,8 +30,8 @@ loop-again c = search needs
 returns : tie.Need-returns Inv-loop μ-loop
 returns c = search needs
 
-pub fill-spec : {M : Type 1} → statement M
-fill-spec =
+pub fill-load-spec : {M : Type 1} → statement M
+fill-load-spec =
     tie.close
     (tie.spec
     Inv-loop
