@@ -7,7 +7,7 @@ use crate::{forms, points};
 use bench_line::words::front;
 
 // What was read: whether all points that were asked for were there, how many were, and how many bytes of one more.
-#[derive(Drop)]
+#[derive(Clone, Copy)]
 pub struct Read {
     pub well: bool,
     pub count: usize,

@@ -5,7 +5,7 @@ use crate::points::BLOCK;
 use bench_line::words::{is_narrow, same};
 
 // f64 parts, f32 parts, 16-bit integers in units of 1/32,768; or none of these.
-#[derive(Drop)]
+#[derive(Clone, Copy)]
 pub enum Form {
     F64,
     F32,
@@ -14,7 +14,7 @@ pub enum Form {
 }
 
 // A number of whole points, and the bytes of one more.
-#[derive(Drop)]
+#[derive(Clone, Copy)]
 pub struct Whole {
     pub count: usize,
     pub over: usize,

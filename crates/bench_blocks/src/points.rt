@@ -7,7 +7,7 @@ use crate::forms::Form;
 pub const BLOCK: usize = 65_536;
 
 // A point.
-#[derive(Drop)]
+#[derive(Clone, Copy)]
 pub struct Point {
     pub re: f64,
     pub im: f64,

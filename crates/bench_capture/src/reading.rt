@@ -21,7 +21,7 @@ use refusal::Answer;
 const BURST_POINTS: usize = BURSTS * BURST_SYMBOLS;
 
 // How every frame is read: table and mapping, how many valid slots the table has, and whether frames are turned right first.
-#[derive(Drop)]
+#[derive(Clone, Copy)]
 pub struct How {
     pub table: Table,
     pub mapping: Mapping,

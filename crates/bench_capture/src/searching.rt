@@ -14,7 +14,7 @@ use bench_words::text::text;
 use isdbs_core::frame::FRAMES;
 
 // What is held, and the frames that were read.
-#[derive(Drop)]
+#[derive(Clone, Copy)]
 struct Run {
     held: Held,
     tally: Tally,

@@ -21,7 +21,7 @@ use isdbs_phy::demod::FrameDecoded;
 const BEFORE: usize = 5;
 
 // Whether the run goes on, and whether the frame has the bytes of the load.
-#[derive(Drop)]
+#[derive(Clone, Copy)]
 struct Seen {
     on: bool,
     same: bool,

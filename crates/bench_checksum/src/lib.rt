@@ -56,7 +56,7 @@ pub fn crc32(s: &[u8]) -> u32
 }
 
 // The bytes of a file so far, and the register after them; whether there may be more.
-#[derive(Drop)]
+#[derive(Clone, Copy)]
 pub struct Summed {
     pub bytes: usize,
     pub register: u32,

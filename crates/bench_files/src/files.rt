@@ -111,7 +111,7 @@ fn link(file: u64) -> [u8; LINE_BYTES]
 }
 
 // Where two open files lie.
-#[derive(Drop)]
+#[derive(Clone, Copy)]
 enum Places {
     Same,
     Apart,
@@ -225,7 +225,7 @@ pub(crate) fn has_ended(file: i32, name: &[u8]) -> bool {
 }
 
 // What was read: whether it was read well, how many bytes or points, and how many bytes of one more point.
-#[derive(Drop)]
+#[derive(Clone, Copy)]
 pub struct Got {
     pub well: bool,
     pub count: usize,

@@ -148,7 +148,7 @@ fn in_any_case(middle: u32, beside: u32) -> u32 {
 }
 
 // What the frame around a slot says: the middle level, the worst of its own, the worst beside it; and whether it is the last.
-#[derive(Drop)]
+#[derive(Clone, Copy)]
 struct Around {
     middle: u32,
     worst: u32,
@@ -192,7 +192,7 @@ fn level_lack(c: Combination, a: Around) -> u32 {
 }
 
 // The strength that a slot needs, and what a slot of its strength lacks.
-#[derive(Drop)]
+#[derive(Clone, Copy)]
 struct Found {
     need: u32,
     lack: u32,
@@ -221,7 +221,7 @@ fn before(levels: &Levels, j: usize) -> u32 {
 }
 
 // The slots of the frame in which valid slot i of a run lies, without the last.
-#[derive(Drop)]
+#[derive(Clone, Copy)]
 struct Span {
     from: usize,
     to: usize,
@@ -306,7 +306,7 @@ fn firmness_in(
 }
 
 // The run of valid slot k and its number in it, of the runs from a on that have it.
-#[derive(Drop)]
+#[derive(Clone, Copy)]
 struct Place {
     run: usize,
     i: usize,

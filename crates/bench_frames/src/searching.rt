@@ -10,7 +10,7 @@ use isdbs_frame::FRAME_SYMBOLS;
 use refusal::Answer;
 
 // The frames found: how many, how many of them begin within the one before, and the place after the last.
-#[derive(Drop)]
+#[derive(Clone, Copy)]
 struct Found {
     frames: usize,
     within: usize,
@@ -18,7 +18,7 @@ struct Found {
 }
 
 // The points that are held: how many, and which of the capture the first one is; whether the capture was read well so far, and how many bytes of one more point it has.
-#[derive(Drop)]
+#[derive(Clone, Copy)]
 pub struct Held {
     pub count: usize,
     pub start: usize,
@@ -27,7 +27,7 @@ pub struct Held {
 }
 
 // Whether a frame was found among the points that are held, at which of them, and what its header says.
-#[derive(Drop)]
+#[derive(Clone, Copy)]
 pub struct Seen {
     pub is_frame: bool,
     pub at: usize,
@@ -35,7 +35,7 @@ pub struct Seen {
 }
 
 // What is held, and the frames found.
-#[derive(Drop)]
+#[derive(Clone, Copy)]
 struct Run {
     held: Held,
     found: Found,

@@ -7,7 +7,7 @@ use isdbs_frame::{
 
 // First frame of a superframe or another one; the turn in eighths, 8 where none is told; whether the frame is told and not turned; how many of W1's 20 known
 // symbols agree, and of the 20 of W2 (a first frame) or W3 (another one).
-#[derive(Drop)]
+#[derive(Clone, Copy)]
 pub struct Told {
     pub first: bool,
     pub turn: u8,

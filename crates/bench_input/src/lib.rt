@@ -19,7 +19,7 @@ use refusal::Answer;
 const BURST_POINTS: usize = 768;
 
 // Whether main points are held and how they are to be read; how many, and how many bytes of one more point there are; and the file that they are from.
-#[derive(Drop)]
+#[derive(Clone, Copy)]
 pub struct Held {
     pub is_good: bool,
     pub count: usize,

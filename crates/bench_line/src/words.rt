@@ -27,7 +27,7 @@ fn digit(b: u8) -> u32
     }
 }
 
-#[derive(Drop)]
+#[derive(Clone, Copy)]
 pub enum Number {
     Is(u32),
     Not,
@@ -54,7 +54,7 @@ pub fn digits(s: &[u8]) -> Number
     Number::Is(value)
 }
 
-#[derive(Drop)]
+#[derive(Clone, Copy)]
 pub enum MaybeEntry {
     Is(Entry),
     Not,
@@ -108,7 +108,7 @@ fn entry_at(s: &[u8], i: usize) -> MaybeEntry
     }
 }
 
-#[derive(Drop)]
+#[derive(Clone, Copy)]
 pub struct MaybeTable {
     pub is_table: bool,
     pub table: Table,
@@ -176,7 +176,7 @@ fn is_flag(b: u8) -> bool
     b == b'0' || b == b'1'
 }
 
-#[derive(Drop)]
+#[derive(Clone, Copy)]
 pub enum MaybeMapping {
     Is(Mapping),
     Not,
@@ -212,7 +212,7 @@ pub fn mapping(s: &[u8]) -> MaybeMapping
     mapping_of(s[0], s[1], s[2])
 }
 
-#[derive(Drop)]
+#[derive(Clone, Copy)]
 pub enum MaybeScale {
     Is(f32),
     Not,

@@ -25,7 +25,7 @@ pub fn between<'a>(s: &'a [u8], from: usize, to: usize) -> &'a [u8] {
 }
 
 // The texts at the top of a picture, which stand one after the other on a page: where they begin, and the ends of the last line, the input, the setting and the quality.
-#[derive(Drop)]
+#[derive(Clone, Copy)]
 pub struct Texts {
     pub from: usize,
     pub words: usize,

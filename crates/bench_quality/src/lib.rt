@@ -23,7 +23,7 @@ pub const NO_DECIBELS: u32 = 300;
 
 // Whether there are points; their modulation error ratio in tenths of a decibel, gain in hundredths, turn in tenths of a degree, offset in thousandths, each but the
 // gain with its zero more.
-#[derive(Drop)]
+#[derive(Clone, Copy)]
 pub struct Quality {
     pub is_there: bool,
     pub ratio: u32,
@@ -123,7 +123,7 @@ pub fn frame_quality(sums: &Sums) -> Quality {
 }
 
 // The mean gain and turn of the frame as one number.
-#[derive(Drop)]
+#[derive(Clone, Copy)]
 pub struct Mean {
     pub re: f64,
     pub im: f64,

@@ -15,7 +15,7 @@ use picture_chart::Chart;
 use picture_sheet::{SHEET_BYTES, Sheet};
 
 // Where the report ends, the object after it, and the picture, each on its sheet.
-#[derive(Drop)]
+#[derive(Clone, Copy)]
 struct Kept {
     report: usize,
     object: usize,

@@ -13,7 +13,7 @@ use picture_sheet::{Sheet, put};
 
 // The file that was read: its bytes, their checksum and its points; of its header the turn in eighths (8: not told, 9: there is none) and how many of W1's 20
 // symbols and of the last 20 agree.
-#[derive(Drop)]
+#[derive(Clone, Copy)]
 pub struct Input {
     pub bytes: usize,
     pub checksum: u32,
@@ -24,7 +24,7 @@ pub struct Input {
 }
 
 // A reading and what it rests on: how the frame was read, the file that it is from, and what was found.
-#[derive(Drop)]
+#[derive(Clone, Copy)]
 pub struct Outcome {
     pub reading: Reading,
     pub input: Input,

@@ -26,14 +26,14 @@ const LONGEST: usize = 256;
 const BEFORE: usize = 5;
 
 // A frame's number, counted from 0, and how many frames there are.
-#[derive(Drop)]
+#[derive(Clone, Copy)]
 pub struct Place {
     pub read: usize,
     pub all: usize,
 }
 
 // What was found of a frame: its steps, the strained ones, and what its reading is worth.
-#[derive(Drop)]
+#[derive(Clone, Copy)]
 struct Found {
     steps: usize,
     strained: u32,
@@ -41,7 +41,7 @@ struct Found {
 }
 
 // Whether the run goes on, whether the frame's reading is good, and the window after it.
-#[derive(Drop)]
+#[derive(Clone, Copy)]
 struct Went {
     on: bool,
     is_ok: bool,

@@ -12,7 +12,7 @@ use isdbs_points::Mapping;
 const SCALES: usize = 7;
 
 // How a frame is read, where the words are understood: its scales in the order of words 1 to 7.
-#[derive(Drop)]
+#[derive(Clone, Copy)]
 pub struct Reading {
     pub is_good: bool,
     pub table: Table,
@@ -23,7 +23,7 @@ pub struct Reading {
 }
 
 // How the reading starts, and its scales.
-#[derive(Drop)]
+#[derive(Clone, Copy)]
 struct Choice {
     is_good: bool,
     known_start: bool,

@@ -7,7 +7,7 @@ use isdbs_core::tmcc::Table;
 use isdbs_points::Mapping;
 
 // A frame's table, mapping and kind, where all are understood.
-#[derive(Drop)]
+#[derive(Clone, Copy)]
 pub struct Setting {
     pub is_good: bool,
     pub table: Table,

@@ -3,7 +3,7 @@ use bench_frames::words::root;
 use header_mean::Mean;
 
 // Degrees, from -180 to 180, and Hz.
-#[derive(Drop)]
+#[derive(Clone, Copy)]
 pub struct Drift {
     pub degrees: f64,
     pub hertz: f64,

@@ -14,7 +14,7 @@ use strain_window::{Pushed, WindowState, push};
 // What a frame's reading is worth: the number of the row that refused it, or 0; the worth that bench_verdict gives it; the points outside the margins of its
 // bytes; how many slots are weak or not the best, and the first of them; its steps and strained steps; its weakest valid slot, 48 where there is none, and the strength
 // there in percent.
-#[derive(Drop)]
+#[derive(Clone, Copy)]
 pub struct Worth {
     pub row: usize,
     pub worth: u8,
@@ -28,7 +28,7 @@ pub struct Worth {
 }
 
 // A frame of the capture: its place, what its header says, the header's mean, whether it was turned right before it was read, and what its reading is worth.
-#[derive(Drop)]
+#[derive(Clone, Copy)]
 pub struct Frame {
     pub place: usize,
     pub told: Told,
@@ -39,7 +39,7 @@ pub struct Frame {
 
 // How many frames, and how many of each verdict; whether every line was written; the place after the last frame, its number in its superframe (0 where that is
 // not known) and its header's mean; and the window of strain.
-#[derive(Drop)]
+#[derive(Clone, Copy)]
 pub struct Tally {
     pub frames: usize,
     pub certain: usize,

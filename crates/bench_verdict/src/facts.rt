@@ -4,7 +4,7 @@ use isdbs_core::tmcc::Table;
 
 // The frame that was read: its table, valid slots and bytes, trellis steps and how many of them are strained, and the points outside the margins; the first of its
 // bytes of which the best reading has another, with both, or the end of the bytes.
-#[derive(Drop)]
+#[derive(Clone, Copy)]
 pub struct Frame {
     pub table: Table,
     pub valid: usize,

@@ -16,7 +16,7 @@ use quality::quality;
 use refusal::Answer;
 
 // The frame with what was found of it, where the calls were accepted.
-#[derive(Drop)]
+#[derive(Clone, Copy)]
 pub struct Weighed {
     pub answer: Answer,
     pub frame: Frame,

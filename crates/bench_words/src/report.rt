@@ -220,7 +220,7 @@ fn run_lines(rs: [Run; 4], n: usize) {
 }
 
 // Whether a table is accepted.
-#[derive(Drop)]
+#[derive(Clone, Copy)]
 pub enum Valid {
     Slots(usize),
     Refused,

@@ -15,7 +15,7 @@ pub use words::say_worth;
 
 // What a reading without a header is worth, as the last line of read says it; its points outside the margins; how many slots are not firm, or differ from the
 // best reading where it is not that, and the weakest of them; and the weakest of all valid slots, 48 where there is none, with its strength.
-#[derive(Drop)]
+#[derive(Clone, Copy)]
 pub struct Verdict {
     pub answer: Answer,
     pub worth: u8,

@@ -14,7 +14,7 @@ use trellis::{HALF, STATES};
 use viterbi_branches::{BRANCH, Numbers};
 
 // The state 2j + b.
-#[derive(Drop)]
+#[derive(Clone, Copy)]
 struct State {
     j: usize,
     b: usize,
@@ -30,7 +30,7 @@ fn ahead(after: &[u64; STATES], t: &Numbers, m: &[u64; 4], u: usize, s: State) -
 }
 
 // The least cost from a state to the end, and that of a content which differs.
-#[derive(Drop)]
+#[derive(Clone, Copy)]
 struct Onward {
     least: u64,
     other: u64,

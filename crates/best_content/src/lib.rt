@@ -176,7 +176,7 @@ fn lead_slots(
 }
 
 // Where the best path starts, and what it costs.
-#[derive(Drop)]
+#[derive(Clone, Copy)]
 struct Traced {
     start: u8,
     cost: u64,

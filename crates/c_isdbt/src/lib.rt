@@ -18,7 +18,7 @@ use isdb_fec::conv::{ConvEncoder, TRACEBACK_LIMIT};
 use isdbt_fec::conv::CodeRate;
 
 // A code rate or none.
-#[derive(Drop)]
+#[derive(Clone, Copy)]
 pub enum MaybeRate {
     Rate(CodeRate),
     NoRate,

@@ -86,7 +86,7 @@ fn agrees(
 }
 
 // Whether the reading is the first path of greatest sum, and how many paths have that sum.
-#[derive(Drop)]
+#[derive(Clone, Copy)]
 struct Trial {
     first: usize,
     paths: u32,

@@ -17,7 +17,7 @@ fn lowest(k: u32) -> u32 {
 // ---- the search
 
 // A content's sum; its place in the order of paths: the end state, then the predecessor's low bit at the last step, the step before it, and so on; and whether each uncoded bit is the better one.
-#[derive(Drop)]
+#[derive(Clone, Copy)]
 struct Walked {
     sum: u32,
     place: u32,
@@ -66,7 +66,7 @@ fn walk(ms: &[u8; 40], sides: &[u8; 10], n: usize, start: u32, inputs: u32, unco
 }
 
 // Of the contents looked at: the greatest sum, how many have it, and of these the first path with the better uncoded bits.
-#[derive(Drop)]
+#[derive(Clone, Copy)]
 struct Survey {
     greatest: u32,
     count: u32,
@@ -102,7 +102,7 @@ fn seen(s: Survey, w: Walked, inputs: u32, uncoded: u32) -> Survey {
 
 // Which contents are looked at: from the states `from` to `to`, the last not among them; uncoded bits stand in the steps of `two`; and where `mask` is not 0, those that differ from the inputs and the
 // uncoded bits in a step of it.
-#[derive(Drop)]
+#[derive(Clone, Copy)]
 struct Range {
     from: u32,
     to: u32,
@@ -276,7 +276,7 @@ fn values(ms: &[u8; 40], sides: &[u8; 10]) -> [f32; 40]
 }
 
 // Three slots of n steps: the steps up to a, from a up to b, and from b on.
-#[derive(Drop)]
+#[derive(Clone, Copy)]
 struct Slots {
     n: usize,
     a: u32,
@@ -345,7 +345,7 @@ fn led(
 }
 
 // Whether the reading is the first content of greatest sum with its leads; how many contents have that sum, and how many leads are 0.
-#[derive(Drop)]
+#[derive(Clone, Copy)]
 struct Trial {
     agrees: usize,
     contents: u32,
@@ -395,7 +395,7 @@ fn all_from(from: u32, to: u32, two: u32) -> Range {
 }
 
 // What came of a number of trials.
-#[derive(Drop)]
+#[derive(Clone, Copy)]
 struct Tally {
     agree: usize,
     equal: usize,

@@ -25,7 +25,7 @@ const METRICS: usize = 272832;
 const TABLE_WORDS: usize = 3072;
 
 // What is read: the case's number, the table, the way (mapping and kind of frame), whether the start is known, and the scale.
-#[derive(Drop)]
+#[derive(Clone, Copy)]
 struct Case {
     how: usize,
     table: u64,
@@ -144,7 +144,7 @@ fn damage(
 // ---- what is shown
 
 // The least and the greatest of the leads but the last.
-#[derive(Drop)]
+#[derive(Clone, Copy)]
 struct Ends {
     low: u64,
     high: u64,
@@ -333,7 +333,7 @@ fn front_parts<'a>(s: &'a [f64], n: usize) -> &'a [f64] {
 }
 
 // What is lent in each case: the table, the points, whether the scale is 0, the places of the tables and of the leads.
-#[derive(Drop)]
+#[derive(Clone, Copy)]
 struct Lent {
     table: u64,
     points: usize,

@@ -155,7 +155,7 @@ fn ruled_out() -> bool {
 }
 
 // What a call and the flush behind it leave: the path values and the first decision word of the call, the count and the first two places of the flush.
-#[derive(Drop)]
+#[derive(Clone, Copy)]
 struct Left {
     pm: [f32; 64],
     word: u64,

@@ -111,7 +111,7 @@ fn lay_again(
 }
 
 // How much is lent: of a header's real and imaginary part, of a main signal's imaginary part, of the bursts' real part, of an output's imaginary part.
-#[derive(Drop)]
+#[derive(Clone, Copy)]
 struct Lengths {
     header_re: usize,
     header_im: usize,

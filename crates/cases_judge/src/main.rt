@@ -99,7 +99,7 @@ fn place(draw: u64, table: u64) -> usize
 // ---- what is judged
 
 // What `judge` says.
-#[derive(Drop)]
+#[derive(Clone, Copy)]
 struct Told {
     number: usize,
     sum: u32,
@@ -142,7 +142,7 @@ fn total(counts: &[u32; 50]) -> u32 {
 }
 
 // What a case must give: the points outside, all of them in one slot; noise has more.
-#[derive(Drop)]
+#[derive(Clone, Copy)]
 struct Wanted {
     outside: u32,
     slot: usize,
@@ -250,7 +250,7 @@ fn prepare(re: &mut [f64; 38980], im: &mut [f64; 38980], table: u64, i: u64, see
 }
 
 // A case that is judged right, and its end.
-#[derive(Drop)]
+#[derive(Clone, Copy)]
 struct Case {
     right: bool,
     end: u32,
@@ -286,7 +286,7 @@ fn one_case(
 }
 
 // How many cases are right, and the ends that were met.
-#[derive(Drop)]
+#[derive(Clone, Copy)]
 struct Cases {
     right: usize,
     ends: u32,

@@ -38,7 +38,7 @@ fn are_zero(out: &[u8; 7]) -> bool {
     bytes_of(out, 0, 7, 0) == 7
 }
 
-#[derive(Drop)]
+#[derive(Clone, Copy)]
 struct Errors {
     count: u32,
     wrong: u32,

@@ -40,7 +40,7 @@ fn moved(clean: f64, draw: u64) -> f64 {
 }
 
 // The symbols of BPSK, from `from` up to but not including `to`.
-#[derive(Drop)]
+#[derive(Clone, Copy)]
 struct Symbols {
     from: usize,
     to: usize,

@@ -5,14 +5,14 @@ use mend::Mended;
 use trellis::FRAME_WORDS;
 
 // A coded stretch of up to 7 steps: its bits, the first of them at bit 0, and the state that it leads to.
-#[derive(Drop)]
+#[derive(Clone, Copy)]
 struct Sent {
     bits: u32,
     end: u8,
 }
 
 // What the search finds: how many coded stretches lie within four bits, and the last of them.
-#[derive(Drop)]
+#[derive(Clone, Copy)]
 struct Near {
     count: u32,
     bits: u32,
@@ -139,7 +139,7 @@ fn list_is(list: &[u32; 6], count: usize, changes: u32) -> bool {
 }
 
 // What the mended stretches of a survey were.
-#[derive(Drop)]
+#[derive(Clone, Copy)]
 struct Tally {
     mended: u32,
     refused: u32,

@@ -122,7 +122,7 @@ fn overlaid(a: &[u8], b: &[u8], c: &[u8]) -> usize {
 }
 
 // Of how many points the bits are right, and whether the end state is.
-#[derive(Drop)]
+#[derive(Clone, Copy)]
 struct Laid {
     right: usize,
     ends: usize,
@@ -216,7 +216,7 @@ fn last(x: Encoded) -> u8 {
 }
 
 // A sum from a state: how many bits are sent, how many places are right, the state after them.
-#[derive(Drop)]
+#[derive(Clone, Copy)]
 struct SumSent {
     count: usize,
     right: usize,

@@ -40,7 +40,7 @@ pub fn isdb_label(u: u32, state: u32) -> u32
 }
 
 // A path's sum, and its place in the order: the end state, then the predecessor's low bit at the last step, the step before it, and so on.
-#[derive(Drop)]
+#[derive(Clone, Copy)]
 struct Walked {
     sum: u32,
     place: u32,
@@ -67,7 +67,7 @@ fn walk(g1: u8, g2: u8, half: u32, metrics: &[u8; 32], n: usize, start: u32, inp
 }
 
 // Of the paths looked at: the greatest sum, how many have it, and of these the first in the order of places.
-#[derive(Drop)]
+#[derive(Clone, Copy)]
 pub struct Survey {
     pub greatest: u32,
     pub count: u32,

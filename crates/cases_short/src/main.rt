@@ -214,7 +214,7 @@ fn read_by_calls(
 }
 
 // Whether the reading is the first path of greatest sum, and how many paths have that sum.
-#[derive(Drop)]
+#[derive(Clone, Copy)]
 struct Trial {
     first: usize,
     paths: u32,

@@ -104,7 +104,7 @@ fn starts() -> bool {
 
 // ---- calls one after another
 
-#[derive(Drop)]
+#[derive(Clone, Copy)]
 enum Call {
     Push,
     Metrics,

@@ -42,7 +42,7 @@ fn encode(
 }
 
 // What `wanted_load` says: its number, and the bytes of the load.
-#[derive(Drop)]
+#[derive(Clone, Copy)]
 struct Told {
     number: usize,
     bytes: usize,
@@ -122,7 +122,7 @@ fn same_points(a: &[f64; 38986], b: &[f64; 38986]) -> bool {
 }
 
 // What the changed frames of a table gave.
-#[derive(Drop)]
+#[derive(Clone, Copy)]
 struct Found {
     back: u32,
     none: u32,
@@ -146,7 +146,7 @@ fn fits(
 }
 
 // How a changed frame is answered: 13 and no byte changed; a load that encodes to it; or neither.
-#[derive(Drop)]
+#[derive(Clone, Copy)]
 enum Verdict {
     None,
     Other,

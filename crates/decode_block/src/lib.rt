@@ -21,7 +21,7 @@ use isdbs_points::{Cplx, Mapping, psk8_point, subset_of};
 use strain_marks::mark;
 
 // Steps of a run and how they are read: the run's period, the mapping, the scale, the number of the first step, and how many.
-#[derive(Drop)]
+#[derive(Clone, Copy)]
 pub struct BlockPlan {
     pub layout: PeriodLayout,
     pub mapping: Mapping,

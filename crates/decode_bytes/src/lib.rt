@@ -19,7 +19,7 @@ use isdbs_core::slots::Plan;
 use isdbs_points::Mapping;
 
 // A byte, and the encoder's state after its bits.
-#[derive(Drop)]
+#[derive(Clone, Copy)]
 pub struct Packed {
     pub byte: u8,
     pub state: u8,

@@ -12,7 +12,7 @@ use isdbs_points::{Cplx, psk8_point, subset_of};
 use viterbi_encode::encode_bit;
 
 // The points of C2 = 0 by the register 64u + state of a step, so that no outputs are worked out for a step.
-#[derive(Drop)]
+#[derive(Clone, Copy)]
 pub struct RegisterPoints {
     pub re: [f64; 128],
     pub im: [f64; 128],

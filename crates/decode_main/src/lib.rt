@@ -26,7 +26,7 @@ use trellis::{LONGEST_FRAME, STATES};
 use viterbi_core::{start_at, start_unknown};
 
 // Decoder settings.
-#[derive(Drop)]
+#[derive(Clone, Copy)]
 pub struct DemodOptions {
     pub mapping: Mapping,
     // Start in the state that W2 or W3 left, else in any.
@@ -50,7 +50,7 @@ impl DemodOptions {
 }
 
 // A frame to be read: its plan, whether it is the first of a superframe, and the decoder settings.
-#[derive(Drop)]
+#[derive(Clone, Copy)]
 pub struct FrameTask {
     pub plan: Plan,
     pub first: bool,

@@ -22,7 +22,7 @@ pub fn block_of(left: usize, period: usize) -> usize
 }
 
 // A run and how it is read: its combination, the mapping, its scale, the step of the frame that is its first, and the number of its steps.
-#[derive(Drop)]
+#[derive(Clone, Copy)]
 pub struct RunPlan {
     pub combination: Combination,
     pub mapping: Mapping,

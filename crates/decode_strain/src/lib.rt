@@ -28,7 +28,7 @@ pub fn labels() -> [u8; 128]
 }
 
 // The strained steps of a slot, and the encoder's state after it.
-#[derive(Drop)]
+#[derive(Clone, Copy)]
 pub struct Slot {
     pub count: u32,
     pub state: usize,
@@ -154,7 +154,7 @@ pub fn count_slot(labels: &[u8; 128], n: usize, marks: &[u8], bits: &[u8], start
 }
 
 // The strained steps of a run, and the encoder's state after it.
-#[derive(Drop)]
+#[derive(Clone, Copy)]
 pub struct RunCount {
     pub sum: u32,
     pub state: usize,

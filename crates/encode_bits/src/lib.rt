@@ -87,7 +87,7 @@ pub fn load_bits(bytes: &[u8], bit: usize, n: usize) -> usize
 }
 
 // 2 X + Y of a trellis step, and the state after it.
-#[derive(Drop)]
+#[derive(Clone, Copy)]
 pub struct Sent {
     pub state: u8,
     pub label: usize,

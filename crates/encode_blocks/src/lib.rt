@@ -14,7 +14,7 @@ use isdbs_points::Mapping;
 pub const BLOCK_SYMBOLS: usize = 2048;
 
 // How a frame is sent: its plan, its mapping, and whether it is the first of a superframe. Who goes through a frame block by block is handed this.
-#[derive(Drop)]
+#[derive(Clone, Copy)]
 pub struct FrameForm {
     pub plan: Plan,
     pub mapping: Mapping,
@@ -22,7 +22,7 @@ pub struct FrameForm {
 }
 
 // A block of a combination: its most steps, the steps and symbols of a period, the bits of a step.
-#[derive(Drop)]
+#[derive(Clone, Copy)]
 pub struct Block {
     pub steps: usize,
     pub period: usize,
@@ -80,7 +80,7 @@ fn block_of(c: Combination) -> Block
 }
 
 // A place among a frame's runs: the run, how many of its steps have been encoded, and the state, the bit of the load and the symbol there.
-#[derive(Drop)]
+#[derive(Clone, Copy)]
 pub struct Place {
     pub run: usize,
     pub step: usize,

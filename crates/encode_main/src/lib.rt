@@ -27,7 +27,7 @@ fn put_unused(n: usize, m: Mapping, re: &mut [f64], im: &mut [f64])
 }
 
 // What the runs leave: the state after their last bit, and the symbol after their last one.
-#[derive(Drop)]
+#[derive(Clone, Copy)]
 pub struct RunsEncoded {
     pub state: u8,
     pub end: usize,

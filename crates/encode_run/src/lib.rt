@@ -16,7 +16,7 @@ use isdbs_core::combination::{Combination, MaybePuncture, Modulation};
 use isdbs_points::{Mapping, mirror, psk8_point, qpsk_mapped, subset_of};
 
 // The points of a modulation under a mapping, by label.
-#[derive(Drop)]
+#[derive(Clone, Copy)]
 pub struct PointTable {
     pub re: [f64; 8],
     pub im: [f64; 8],
@@ -60,7 +60,7 @@ fn digit(word: usize, i: usize) -> usize
 }
 
 // The TC8PSK points at 128 C2 + the register of the step, its oldest stage highest: no outputs are worked out for a step.
-#[derive(Drop)]
+#[derive(Clone, Copy)]
 pub struct RegisterTable {
     pub re: [f64; 256],
     pub im: [f64; 256],
@@ -161,7 +161,7 @@ fn encode_tc8psk(
 }
 
 // The outputs of a period's steps in one word, and the state after it, its stages in the other order.
-#[derive(Drop)]
+#[derive(Clone, Copy)]
 pub struct Period {
     pub state: u8,
     pub word: usize,
@@ -180,7 +180,7 @@ fn encode_period(bytes: &[u8], bit: usize, n: usize, start: u8) -> Period
 }
 
 // The steps and the pairs of a period of a QPSK code: the mother bits that are P1, and those that are P0.
-#[derive(Drop)]
+#[derive(Clone, Copy)]
 pub struct Pattern {
     pub period: usize,
     pub count: usize,

@@ -15,7 +15,7 @@ const PERIOD: usize = BURST_PERIOD + BURST_SYMBOLS;
 const BURST_POINTS: usize = BURSTS * BURST_SYMBOLS;
 
 // The three inputs of a frame.
-#[derive(Drop)]
+#[derive(Clone, Copy)]
 pub enum Input {
     Header,
     Main,

@@ -8,7 +8,7 @@ use header_sync::{best_here, fit_here, further_of, no_frame, squares_of};
 use refusal::Answer;
 
 // First frame of a superframe or another one, the turn in eighths, 8 for none, and the sums.
-#[derive(Drop)]
+#[derive(Clone, Copy)]
 pub struct Header {
     pub first: bool,
     pub turn: u8,
@@ -17,14 +17,14 @@ pub struct Header {
 }
 
 // What the header at a place says, or why there is none.
-#[derive(Drop)]
+#[derive(Clone, Copy)]
 pub enum HeaderAnswer {
     Read(Header),
     Refused(Answer),
 }
 
 // A place and what the header there says, or why there is none.
-#[derive(Drop)]
+#[derive(Clone, Copy)]
 pub enum FrameAnswer {
     Found(usize, Header),
     Refused(Answer),

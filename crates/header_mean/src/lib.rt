@@ -9,7 +9,7 @@ use isdbs_frame::{
 };
 
 // The mean c of the known header symbols, and d, its size squared.
-#[derive(Drop)]
+#[derive(Clone, Copy)]
 pub struct Mean {
     pub re: f64,
     pub im: f64,

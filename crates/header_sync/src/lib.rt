@@ -13,7 +13,7 @@ use isdbs_frame::{
 };
 
 // How a frame's header fits: first frame of a superframe or another one, and the sums A and B of the two parts, each with 40 more.
-#[derive(Drop)]
+#[derive(Clone, Copy)]
 pub struct Fit {
     pub first: bool,
     pub re: usize,
@@ -21,7 +21,7 @@ pub struct Fit {
 }
 
 // A place, and A A + B B there.
-#[derive(Drop)]
+#[derive(Clone, Copy)]
 pub struct Best {
     pub place: usize,
     pub peak: usize,

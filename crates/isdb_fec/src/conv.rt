@@ -30,7 +30,7 @@ pub const G2: u8 = 0o133;
 // 16 constraint lengths, which the Rust takes for ample at rate 7/8.
 pub const DEFAULT_TRACEBACK: usize = 112;
 
-#[derive(Drop)]
+#[derive(Clone, Copy)]
 pub struct Branch {
     pub answer: Answer,
     pub x: u8,
@@ -58,12 +58,12 @@ pub fn branch_output(state: u8, u: u8) -> Branch
 }
 
 // The encoder: the last six inputs, the newest in bit 5.
-#[derive(Drop)]
+#[derive(Clone, Copy)]
 pub struct ConvEncoder {
     pub state: u8,
 }
 
-#[derive(Drop)]
+#[derive(Clone, Copy)]
 pub struct Pushed {
     pub answer: Answer,
     pub enc: ConvEncoder,
@@ -109,20 +109,20 @@ impl ConvEncoder {
 }
 
 // The decoder: a path value for each state, how many decision words it holds in the lent slice, and the traceback depth.
-#[derive(Drop)]
+#[derive(Clone, Copy)]
 pub struct ViterbiDecoder {
     pub pm: [f32; STATES],
     pub held: usize,
     pub traceback: usize,
 }
 
-#[derive(Drop)]
+#[derive(Clone, Copy)]
 pub struct Made {
     pub answer: Answer,
     pub dec: ViterbiDecoder,
 }
 
-#[derive(Drop)]
+#[derive(Clone, Copy)]
 pub struct Released {
     pub answer: Answer,
     pub dec: ViterbiDecoder,

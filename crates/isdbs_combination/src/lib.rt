@@ -4,7 +4,7 @@ ghost use Rattle.std.specs.Prelude.{◌≡◌, ◌*◌};
 ghost use Rattle.isdbs_combination.specs.Combinations.{combination_of, word_means, assigned_of, word_of, word_value, modulation_of, symbol_bits, rate_of, efficiency_of, rank_of, unit_of, slot_steps, slot_symbols, puncture_of, pairs_from, four_pairs, period_of};
 
 // A modulation-code combination of the main signal.
-#[derive(Drop)]
+#[derive(Clone, Copy)]
 pub enum Combination {
     Bpsk1_2,
     Qpsk1_2,
@@ -27,7 +27,7 @@ pub const ALL: [Combination; 7] = [
 ];
 
 // The modulation of a combination.
-#[derive(Drop)]
+#[derive(Clone, Copy)]
 pub enum Modulation {
     Bpsk,
     Qpsk,
@@ -47,7 +47,7 @@ pub const SLOT_SYMBOLS: usize = 812;
 pub const DUMMY_WORD: u8 = 15;
 
 // The 4-bit word of a table entry (BO.1408-1, Fig. 8 and Table 1): 1 to 7, 15, or reserved.
-#[derive(Drop)]
+#[derive(Clone, Copy)]
 pub enum CombinationWord {
     Assigned(Combination),
     Dummy,
@@ -55,14 +55,14 @@ pub enum CombinationWord {
 }
 
 // A combination or none.
-#[derive(Drop)]
+#[derive(Clone, Copy)]
 pub enum MaybeCombination {
     Some(Combination),
     None,
 }
 
 // The punctured codes of QPSK (BO.1408-1, Table 2).
-#[derive(Drop)]
+#[derive(Clone, Copy)]
 pub enum Puncture {
     R2_3,
     R3_4,
@@ -71,35 +71,35 @@ pub enum Puncture {
 }
 
 // A punctured code or none.
-#[derive(Drop)]
+#[derive(Clone, Copy)]
 pub enum MaybePuncture {
     Some(Puncture),
     None,
 }
 
 // num / den.
-#[derive(Drop)]
+#[derive(Clone, Copy)]
 pub struct Ratio {
     pub num: usize,
     pub den: usize,
 }
 
 // Slots per unit, and how many of them are valid.
-#[derive(Drop)]
+#[derive(Clone, Copy)]
 pub struct SlotUnit {
     pub slots: usize,
     pub valid: usize,
 }
 
 // Two mother bits that one QPSK symbol sends. Mother bit X_i is numbered 2(i - 1), and Y_i 2(i - 1) + 1.
-#[derive(Drop)]
+#[derive(Clone, Copy)]
 pub struct BitPair {
     pub p1: usize,
     pub p0: usize,
 }
 
 // The pairs of a period: the first `count` of four.
-#[derive(Drop)]
+#[derive(Clone, Copy)]
 pub struct BitPairs {
     pub count: usize,
     pub pairs: [BitPair; 4],

@@ -78,7 +78,7 @@ pub fn bit_symbol(c: Combination, b: usize) -> Position
 }
 
 // Where a byte of a slot starts in the frame; nothing for a slot that is not sent or a byte that a slot has not.
-#[derive(Drop)]
+#[derive(Clone, Copy)]
 pub enum SlotByte {
     At(usize),
     Nothing,

@@ -70,7 +70,7 @@ pub const W1_TAIL_AT: usize = 12;
 pub const W23_TAIL_AT: usize = 172;
 
 // A position, or why there is none.
-#[derive(Drop)]
+#[derive(Clone, Copy)]
 pub enum Position {
     At(usize),
     Refused(Answer),

@@ -9,13 +9,13 @@ use isdbs_tables::{Entry, Table, table_answer};
 use refusal::Answer;
 
 // The mark of a slot.
-#[derive(Drop)]
+#[derive(Clone, Copy)]
 pub struct SlotMark {
     pub mark: MaybeCombination,
 }
 
 // The marks of a frame's slots.
-#[derive(Drop)]
+#[derive(Clone, Copy)]
 pub struct SlotMarks {
     pub answer: Answer,
     pub slots: [SlotMark; FRAME_SLOTS],

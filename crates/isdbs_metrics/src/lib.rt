@@ -10,7 +10,7 @@ use isdbs_core::combination::{Combination, Modulation};
 use isdbs_points::{Cplx, mirror};
 
 // A period of a combination's code: its steps, the mother bits that are sent, and where each mother bit stands among them; `count` where it is erased.
-#[derive(Drop)]
+#[derive(Clone, Copy)]
 pub struct PeriodLayout {
     pub combination: Combination,
     pub modulation: Modulation,

@@ -36,7 +36,7 @@ use isdbs_rows::{decode_answer, encode_answer};
 use refusal::Answer;
 
 // What encoding a frame answers: the encoder after the last bit, or as it was given.
-#[derive(Drop)]
+#[derive(Clone, Copy)]
 pub struct FrameEncoded {
     pub answer: Answer,
     pub enc: ConvEncoder,
@@ -90,7 +90,7 @@ pub fn encode_frame(
 // ---- decoding
 
 // What decoding a frame answers: the bytes of its load, its trellis steps and how many of them are strained, or why it is turned back.
-#[derive(Drop)]
+#[derive(Clone, Copy)]
 pub enum FrameDecoded {
     Decoded(usize, usize, u32),
     Refused(Answer),
@@ -139,7 +139,7 @@ pub fn decode_frame(
 }
 
 // Decoder settings with one scale for all combinations.
-#[derive(Drop)]
+#[derive(Clone, Copy)]
 pub struct OneScale {
     pub mapping: Mapping,
     pub known_start: bool,

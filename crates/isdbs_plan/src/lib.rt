@@ -8,7 +8,7 @@ use isdbs_tables::{Table, table_answer};
 use refusal::Answer;
 
 // One combination's slots in a frame.
-#[derive(Drop)]
+#[derive(Clone, Copy)]
 pub struct Run {
     pub combination: Combination,
     // Its slots, from slot_start up to but not including slot_end.
@@ -31,7 +31,7 @@ pub const NO_RUN: Run = Run {
 };
 
 // The first `count` of four runs, and the valid slots of all.
-#[derive(Drop)]
+#[derive(Clone, Copy)]
 pub struct FrameRuns {
     pub answer: Answer,
     pub count: usize,
@@ -57,7 +57,7 @@ fn run_of(c: Combination, n: usize, slot: usize, symbol: usize) -> Run
 }
 
 // The layout of a frame: its table's runs, the first `count` of four, and the valid slots, trellis steps and bytes of all.
-#[derive(Drop)]
+#[derive(Clone, Copy)]
 pub struct Plan {
     pub table: Table,
     pub count: usize,

@@ -29,14 +29,14 @@ pub const PART_LIMIT: f64 = 65536.0;
 const ROOT: f64 = 0.7071067811865476;
 
 // A point's real and imaginary part.
-#[derive(Drop)]
+#[derive(Clone, Copy)]
 pub struct Cplx {
     pub re: f64,
     pub im: f64,
 }
 
 // How coded bits map to points.
-#[derive(Drop)]
+#[derive(Clone, Copy)]
 pub struct Mapping {
     // The imaginary part of every point is negated.
     pub conjugate: bool,

@@ -9,7 +9,7 @@ use refusal::Answer;
 pub const CM: usize = 4;
 
 // A table entry: a word, of which the low 4 bits count, and its slots.
-#[derive(Drop)]
+#[derive(Clone, Copy)]
 pub struct Entry {
     pub word: u8,
     pub slots: u8,
@@ -51,7 +51,7 @@ impl Entry {
     }
 }
 
-#[derive(Drop)]
+#[derive(Clone, Copy)]
 pub struct Table {
     pub entries: [Entry; 4],
 }

@@ -22,7 +22,7 @@ use viterbi_encode::encode_bit;
 use viterbi_steps::Kind;
 
 // The mother code's bits of a period, X1, Y1, X2, Y2, .., and the state after it. Places from the period's end on hold 0.
-#[derive(Drop)]
+#[derive(Clone, Copy)]
 struct Period {
     state: u8,
     mother: [u8; 14],
@@ -82,7 +82,7 @@ fn encode_periods(rate: CodeRate, state: u8, bits: &[u8], out: &mut [u8]) -> u8
     s
 }
 
-#[derive(Drop)]
+#[derive(Clone, Copy)]
 pub struct Encoded {
     pub answer: Answer,
     pub enc: ConvEncoder,
@@ -90,7 +90,7 @@ pub struct Encoded {
 }
 
 // The answer of a call, and how many elements it has written at the front of the lent slice.
-#[derive(Drop)]
+#[derive(Clone, Copy)]
 pub struct Done {
     pub answer: Answer,
     pub count: usize,

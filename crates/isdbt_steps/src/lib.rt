@@ -54,7 +54,7 @@ pub fn places_of(order: &[usize; 8], n: usize) -> [usize; 14]
 }
 
 // Where a step stands: the place of its first mother bit in its period, and where the sent values of that period begin.
-#[derive(Drop)]
+#[derive(Clone, Copy)]
 struct Standing {
     place: usize,
     base: usize,

@@ -3,7 +3,7 @@
 ghost use Rattle.std.specs.Prelude.{◌≡◌, ◌+◌, ◌-◌, ◌*◌, ◌<◌, ◌≤◌};
 ghost use Rattle.isdbt_table.specs.Table.{row_of, spec_of, compiled};
 
-#[derive(Drop)]
+#[derive(Clone, Copy)]
 pub enum CodeRate {
     R1_2,
     R2_3,
@@ -13,7 +13,7 @@ pub enum CodeRate {
 }
 
 // The puncturing of one code rate, a row of Table 3-8. Places past the ones in use hold 0, and 1 in `indices`.
-#[derive(Drop)]
+#[derive(Clone, Copy)]
 pub struct PunctureSpec {
     pub rate: CodeRate,
     // The input bits of a period.
@@ -100,7 +100,7 @@ pub fn puncture_spec(rate: CodeRate) -> PunctureSpec
 
 // Compiled puncturing: for each of the n transmitted bits of a period, in transmission order, the index of the mother-code bit it carries,
 // counting mother bits as X1, Y1, X2, Y2, ... (index 2(i-1) for Xi, 2(i-1)+1 for Yi). Places from n on hold 0.
-#[derive(Drop)]
+#[derive(Clone, Copy)]
 pub struct Puncturing {
     pub period: usize,
     pub n: usize,

@@ -109,7 +109,7 @@ fn judge_frame(f: FrameForm, re: &[f64], im: &[f64], bytes: &[u8], counts: &mut 
 }
 
 // What judging answers: the points with a part outside its margin, or why it is turned back.
-#[derive(Drop)]
+#[derive(Clone, Copy)]
 pub enum FrameJudged {
     Judged(u32),
     Refused(Answer),

@@ -12,7 +12,7 @@ use isdbs_core::slots::{Plan, Run};
 use margins::{both, holds, is_bpsk};
 
 // Which parts of a point are free.
-#[derive(Drop)]
+#[derive(Clone, Copy)]
 pub struct Free {
     pub re: bool,
     pub im: bool,

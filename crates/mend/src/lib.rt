@@ -29,7 +29,7 @@ const MOST_CHANGED: u8 = 4;
 const PLACES: usize = 4;
 
 // What a call gives: how many positions were changed. Refused: 0.
-#[derive(Drop)]
+#[derive(Clone, Copy)]
 pub struct Mended {
     pub answer: Answer,
     pub count: usize,

@@ -19,7 +19,7 @@ use short_encode::encode;
 use short_rows::few;
 
 // A code, and the encoders of the first string and of the second before the call.
-#[derive(Drop)]
+#[derive(Clone, Copy)]
 pub struct Encoders {
     pub code: Code,
     pub first: ConvEncoder,
@@ -27,7 +27,7 @@ pub struct Encoders {
 }
 
 // The lengths that are lent: of both strings, of the place of their exclusive-or, and of the outputs of all three.
-#[derive(Drop)]
+#[derive(Clone, Copy)]
 pub struct Lengths {
     pub first: usize,
     pub second: usize,
@@ -38,7 +38,7 @@ pub struct Lengths {
 }
 
 // The answer, and the encoders of the first string, of the second and of their exclusive-or after the call.
-#[derive(Drop)]
+#[derive(Clone, Copy)]
 pub struct Encodings {
     pub answer: Answer,
     pub first: ConvEncoder,

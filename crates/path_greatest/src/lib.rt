@@ -16,7 +16,7 @@
 //   Corrected  at most four wrong coded bits are corrected
 //   Fresh      the path values of a fresh decoder
 
-#[derive(Drop)]
+#[derive(Clone, Copy)]
 pub enum Start {
     // A state, mod the number of states.
     Given(u8),

@@ -10,7 +10,7 @@ use panel::{Drawn, ON_LEFT, ON_RIGHT, PAIRED};
 use picture_sheet::{Sheet, Squares, put};
 
 // What is drawn: the frame's table; whether its gain or turn are off, so that its points are shown after alignment too, and the mean gain and turn as one number.
-#[derive(Drop)]
+#[derive(Clone, Copy)]
 pub struct Chart {
     pub table: Table,
     pub is_aside: bool,
@@ -19,7 +19,7 @@ pub struct Chart {
 }
 
 // The panels of the first `count` runs, and how they stand.
-#[derive(Drop)]
+#[derive(Clone, Copy)]
 struct Ordered {
     runs: [Run; 4],
     count: usize,

@@ -13,7 +13,7 @@ pub const ON_LEFT: u8 = 1;
 pub const ON_RIGHT: u8 = 2;
 
 // The panel of run i, where there is one.
-#[derive(Drop)]
+#[derive(Clone, Copy)]
 pub struct Drawn {
     pub is_there: bool,
     pub run: Run,

@@ -57,7 +57,7 @@ fn open(sheet: &mut Sheet, at: usize, n: usize) -> usize {
 }
 
 // What a picture is of: the frame's table, its steps and how many are strained, how many points lie outside their margins, and whether gain or turn are off.
-#[derive(Drop)]
+#[derive(Clone, Copy)]
 pub struct Facts {
     pub table: Table,
     pub steps: usize,

@@ -21,7 +21,7 @@ use viterbi_core::At;
 use viterbi_rows::some_beyond;
 
 // The answer, and how many bits stand at the front of the output.
-#[derive(Drop)]
+#[derive(Clone, Copy)]
 pub struct Done {
     pub answer: Answer,
     pub count: usize,

@@ -23,7 +23,7 @@ fn started(code: Code, start: Start) -> Made
 }
 
 // What each of the three calls leaves.
-#[derive(Drop)]
+#[derive(Clone, Copy)]
 pub struct Three {
     pub made: Made,
     pub pushed: Released,

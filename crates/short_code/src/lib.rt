@@ -7,7 +7,7 @@ ghost use Rattle.trellis.specs.Isdb;
 use viterbi_encode::{Coded, parity};
 
 // The constraint length, and the generators of the outputs X and Y.
-#[derive(Drop)]
+#[derive(Clone, Copy)]
 pub struct Code {
     pub constraint: u8,
     pub g1: u8,

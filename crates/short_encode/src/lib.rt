@@ -14,7 +14,7 @@ use short_code::{bad, encode_bit, half};
 use short_rows::few;
 
 // The answer, and the encoder after the call.
-#[derive(Drop)]
+#[derive(Clone, Copy)]
 pub struct Encoded {
     pub answer: Answer,
     pub enc: ConvEncoder,

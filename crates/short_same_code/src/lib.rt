@@ -37,21 +37,21 @@ pub fn isdb_code() -> Code
 }
 
 // What the call of the code returns, and that of ISDB.
-#[derive(Drop)]
+#[derive(Clone, Copy)]
 pub struct Both {
     pub short: Released,
     pub isdb: Released,
 }
 
 // The same of a fresh decoder.
-#[derive(Drop)]
+#[derive(Clone, Copy)]
 pub struct BothMade {
     pub short: Made,
     pub isdb: Made,
 }
 
 // The same of one input of the encoder.
-#[derive(Drop)]
+#[derive(Clone, Copy)]
 pub struct BothSent {
     pub short: Pushed,
     pub isdb: Pushed,
@@ -101,7 +101,7 @@ pub fn new_unknown_state(traceback: usize) -> BothMade
 }
 
 // What the call of the code returns, and that of ISDB-T, which also counts what it sends.
-#[derive(Drop)]
+#[derive(Clone, Copy)]
 pub struct BothEncoded {
     pub short: Encoded,
     pub isdbt: conv::Encoded,

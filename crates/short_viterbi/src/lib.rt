@@ -17,7 +17,7 @@ use viterbi_core::{At, clear, move_down};
 use viterbi_steps::Step;
 
 // What all steps of a call keep: the code, half the number of its states, and the traceback.
-#[derive(Drop)]
+#[derive(Clone, Copy)]
 pub struct Setup {
     pub code: Code,
     pub h: usize,

@@ -63,7 +63,7 @@ fn digest_values(start: u64, values: &[f32]) -> u64 {
 }
 
 // What a line asks for.
-#[derive(Drop)]
+#[derive(Clone, Copy)]
 struct Case {
     call: u8,
     rate: CodeRate,
@@ -84,7 +84,7 @@ fn elements(periods: usize, per: usize) -> usize {
 }
 
 // One encoding: the digest goes on with the sent bits and the state.
-#[derive(Drop)]
+#[derive(Clone, Copy)]
 struct Sent {
     enc: ConvEncoder,
     digest: u64,

@@ -23,7 +23,7 @@ pub use viterbi_step::renormalise;
 use viterbi_steps::Kind;
 
 // How far a call has come: the held words, and the bits put out.
-#[derive(Drop)]
+#[derive(Clone, Copy)]
 pub struct At {
     pub held: usize,
     pub count: usize,

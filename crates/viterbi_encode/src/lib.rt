@@ -11,7 +11,7 @@ const X_OUTPUTS: u64 = 0x55aa_aa55_aa55_55aa;
 const Y_OUTPUTS: u64 = 0x6699_9966_6699_9966;
 
 // The pair that an input gives, and the state that it leads to.
-#[derive(Drop)]
+#[derive(Clone, Copy)]
 pub struct Coded {
     pub state: u8,
     pub x: u8,

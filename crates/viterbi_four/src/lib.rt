@@ -22,7 +22,7 @@ pub fn join(low: u32, high: u32) -> u64
 }
 
 // The path values after a step, and its decision word.
-#[derive(Drop)]
+#[derive(Clone, Copy)]
 pub struct Stepped {
     pub values: [f32; STATES],
     pub word: u64,

@@ -10,7 +10,7 @@ use trellis::{INTERVAL, STATES};
 use viterbi_step::Stepped;
 
 // What a trellis step carries.
-#[derive(Drop)]
+#[derive(Clone, Copy)]
 pub enum Step {
     Pair(f32, f32),
     Four(f32, f32, f32, f32),
@@ -18,7 +18,7 @@ pub enum Step {
 }
 
 // What the steps of a call carry.
-#[derive(Drop)]
+#[derive(Clone, Copy)]
 pub enum Kind {
     Pairs,
     Fours,

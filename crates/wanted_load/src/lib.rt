@@ -128,7 +128,7 @@ fn earlier_answer(p: Plan, re: usize, im: usize, bytes: usize) -> Answer
 }
 
 // What the call answers: the bytes of the load, or why it is turned back.
-#[derive(Drop)]
+#[derive(Clone, Copy)]
 pub enum LoadFound {
     Load(usize),
     Refused(Answer),

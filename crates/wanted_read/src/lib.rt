@@ -146,7 +146,7 @@ fn read_input(
 }
 
 // A bit of the load, and the state after it.
-#[derive(Drop)]
+#[derive(Clone, Copy)]
 pub struct BitRead {
     pub bit: u8,
     pub state: u8,
@@ -201,7 +201,7 @@ fn read_bit(
 }
 
 // A byte of the load, and the state after it.
-#[derive(Drop)]
+#[derive(Clone, Copy)]
 pub struct ByteRead {
     pub byte: u8,
     pub state: u8,

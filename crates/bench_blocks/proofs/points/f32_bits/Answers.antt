@@ -1,0 +1,5 @@
+use Rattle.ieee.specs.Bits.{number}
+use Rattle.bench_blocks.proofs.points.f32_bits.Goals as goal
+
+pub float_to_bits-y : goal.float_to_bits-y
+float_to_bits-y c = number c.soft-y.result c.if-y.false

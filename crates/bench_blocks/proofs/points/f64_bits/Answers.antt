@@ -1,0 +1,5 @@
+use Rattle.ieee.specs.Bits.{number}
+use Rattle.bench_blocks.proofs.points.f64_bits.Goals as goal
+
+pub float_to_bits-result : goal.float_to_bits-result
+float_to_bits-result c = number c.args.x c.if-x.false

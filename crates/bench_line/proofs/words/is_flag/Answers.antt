@@ -1,0 +1,12 @@
+-- `is_flag` meets its contract.
+use Rattle.std.proofs.Common.{eq-eqb, ne_eqb}
+use Rattle.bench_line.specs.Words.{is_flag}
+use Rattle.bench_line.proofs.words.is_flag.Goals as goal
+
+pub returns-then-b-eq48 : goal.returns-then-b-eq48
+unfolding is_flag
+returns-then-b-eq48 c = rw (eq-eqb _ _ c.if-b-eq48.true)
+
+pub returns-else-b-eq48 : goal.returns-else-b-eq48
+unfolding is_flag
+returns-else-b-eq48 c = rw (ne_eqb _ _ c.if-b-eq48.false)

@@ -1,0 +1,43 @@
+use native.Mathlib.Omega.{arith}
+use Prim.Native.Nat.{◌/◌}
+use lib.ListN.{length}
+use Rattle.trellis.specs.Run.{quadruple}
+use Rattle.best_content.proofs.Slotwise.{start_room}
+use Rattle.best_content.proofs.Whole.{whole_words, whole_end, whole_bits, whole_start_lem, whole_cost, whole_saved}
+use Rattle.best_content.proofs.read_best.Goals as goal
+
+pub pass_slots-requires : goal.pass_slots-requires
+pass_slots-requires c =
+    let start-table = c in
+    let start = start-table in
+    let p = start.requires in
+    let a = start.args in
+    let few = p.1 in
+    (p.0, p.2, p.3, start_room a.start (length a.metrics.now / 4) start-table.start_table-first.result (omega arith) start-table.start_table-first.ensures)
+
+pub returns : goal.returns
+returns c =
+    let trace = c in
+    let cheapest-state = trace in
+    let pass-slots = cheapest-state in
+    let start-table = pass-slots in
+    let start = start-table in
+    let a = start.args in
+    let p = start.requires in
+    let st = start-table.start_table-first in
+    let ps = pass-slots.pass_slots in
+    let ch = cheapest-state.cheapest_state-end in
+    let tr = trace.trace in
+    let n = length a.metrics.now / 4 in
+    let q = quadruple a.metrics.now in
+    let w = whole_words a.start q n st.result ps.new.1.1.1.1.1.0 a.decisions-1.now st.ensures ps.ensures.1.0 in
+    let e = whole_end a.start q n st.result ps.new.0 ch.result st.ensures ps.ensures.0 ch.ensures.1 in (
+      whole_bits a.start q n ps.new.1.1.1.1.1.0 _ a.bits-1.now ch.result w e p.4 tr.ensures,
+      (
+        (c.traced_start-s.ensures.0, whole_start_lem a.start q n ps.new.1.1.1.1.1.0 ch.result c.traced_start-s.result w e c.traced_start-s.ensures.1),
+        (
+          whole_cost a.start q n st.result ps.new.0 ch.result st.ensures ps.ensures.0 e,
+          (whole_saved a.start q n st.result a.marks.now ps.new.1.1.1.1.0 a.slots st.ensures ps.ensures.1.1.0, ps.ensures.1.1.1),
+        ),
+      ),
+    )

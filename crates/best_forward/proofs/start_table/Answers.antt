@@ -1,0 +1,22 @@
+use mathlib.Core.Path.{◌≡◌, refl, sym, ap, ◌∙◌}
+use Prim.Native.Nat.{◌%◌}
+use native.Mathlib.Omega.{arith}
+use lib.ListN.{replicate}
+use Rattle.trellis.specs.Lists.{upto}
+use Rattle.trellis.specs.ListLaws.{set_replicate}
+use Rattle.best_grid.specs.Costs.{ruled, begun, anywhere}
+use Rattle.best_grid.specs.Best.{start_table}
+use Rattle.best_forward.proofs.start_table.Goals as goal
+
+zeros : replicate 64 0 ≡ anywhere
+unfolding anywhere upto
+zeros = refl
+
+pub returns-in-Given : goal.returns-in-Given
+unfolding begun
+returns-in-Given c = let k = c.start-1.given in
+    set_replicate 64 (k.0.0 % 64) ruled 0 (omega arith) ∙ sym (ap start_table k.1)
+
+pub returns-in-Unknown : goal.returns-in-Unknown
+returns-in-Unknown c = let k = c.enum_told-1.given in
+    zeros ∙ sym (ap start_table k.1)

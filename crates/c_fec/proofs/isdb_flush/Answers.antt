@@ -1,0 +1,35 @@
+-- `isdb_flush` meets its contract: the library's call on a copy of the state, handed back.
+use mathlib.Core.Path.{◌≡◌}
+use lib.ListN.{length, take}
+use Rattle.trellis.specs.Lists.{first_place}
+use Rattle.isdb_fec.specs.declared.conv.ViterbiDecoder.{ViterbiDecoder}
+use Rattle.isdb_fec.specs.Calls.{flush, handed}
+use Rattle.isdb_fec.specs.Rows.{handed_rows, flush_rows}
+use Rattle.c_decoder.specs.Decoders.{decoder_of}
+use Rattle.c_answers.specs.LengthLaws.{not_states, until_refuses}
+use Rattle.c_decoder.specs.StoredLaws.{unflushed}
+use Rattle.c_fec.proofs.Decoders.{flush_done}
+use Rattle.c_fec.proofs.isdb_flush.Goals as goal
+
+pub returns-then-pm-ne-STATES : goal.returns-then-pm-ne-STATES
+unfolding first_place
+returns-then-pm-ne-STATES c =
+    let a = c.args in
+    let w : ViterbiDecoder = decoder_of a.pm-1.now a.held.now a.traceback in
+    let f : ViterbiDecoder = decoder_of (take 64 a.pm-1.now) a.held.now a.traceback in
+    let n = c.not_states.result in
+    let h = until_refuses (handed_rows f) tt n c.not_states.ensures in
+    (not_states a.pm-1.now (flush_rows f (length a.decisions-1.now) (length a.out-1.now)) n c.if-pm-ne-STATES.true c.not_states.ensures, unflushed (flush (handed w a.decisions-1.now)).bits n w a.count.now a.decisions-1.now a.out-1.now h)
+
+pub returns : goal.returns
+returns c =
+    let s = c in
+    let p = s in
+    let d = p in
+    let if1 = d in
+    let start = if1 in
+    let a = start.args in
+    let v = d.decoder_of-v.result in
+    let w : ViterbiDecoder = decoder_of a.pm-1.now a.held.now a.traceback in
+    let e : v ≡ w = d.decoder_of-v.ensures in
+    flush_done v w e (λ v. flush_rows v (length a.decisions-1.now) (length a.out-1.now)) p.flush-r.result s.store.result s.store.new.1.0 s.store.new.1.1.0 a.count.now s.store.new.1.1.1.0 a.decisions-1.now p.flush-r.new.1.0 a.out-1.now p.flush-r.new.1.1.0 if1.if-pm-ne-STATES.false s.store.ensures.0 s.store.ensures.1.0 s.store.ensures.1.1.0 s.store.ensures.1.1.1 p.flush-r.ensures.0 (λ v. (flush (handed v a.decisions-1.now)).bits) p.flush-r.ensures.1

@@ -1,0 +1,42 @@
+-- `isdb_code_flush` meets its contract.
+use mathlib.Core.Path.{◌≡◌}
+use lib.ListN.{length, take}
+use Rattle.trellis.specs.Lists.{first_place}
+use Rattle.isdb_fec.specs.declared.conv.ViterbiDecoder.{ViterbiDecoder}
+use Rattle.short_fec.specs.Rows.{handed_rows, flush_rows}
+use Rattle.short_fec.specs.Calls.{best_of}
+use Rattle.c_decoder.specs.Decoders.{decoder_of}
+use Rattle.c_decoder.specs.StoredLaws.{unflushed}
+use Rattle.trellis.specs.Step.{traced}
+use Rattle.short_code.specs.Codes.{half_of}
+use Rattle.c_short.specs.Stored.{code_from}
+use Rattle.c_answers.specs.LengthLaws.{not_states, until_refuses}
+use Rattle.c_short.proofs.Laws.{flushed}
+use Rattle.c_short.proofs.isdb_code_flush.Goals as goal
+
+pub returns-then-pm-ne-STATES : goal.returns-then-pm-ne-STATES
+unfolding first_place
+returns-then-pm-ne-STATES c =
+    let code-from = c in
+    let start = code-from in
+    let a = start.args in
+    let k = code_from a.constraint a.g1 a.g2 in
+    let w : ViterbiDecoder = decoder_of a.pm-1.now a.held.now a.traceback in
+    let n = c.not_states.result in
+    let e = rw code-from.code_from-code.ensures at c.not_states.ensures in
+    let h = until_refuses (handed_rows k w) tt n e in
+    (not_states a.pm-1.now (flush_rows k w (length a.decisions-1.now) (length a.out-1.now)) n c.if-pm-ne-STATES.true e, unflushed (traced (half_of k) (take w.held a.decisions-1.now) (best_of k w)) n w a.count.now a.decisions-1.now a.out-1.now h)
+
+pub returns : goal.returns
+returns c =
+    let s = c in
+    let p = s in
+    let d = p in
+    let if1 = d in
+    let start = if1 in
+    let a = start.args in
+    let code = if1.code_from-code in
+    let v = d.decoder_of-v.result in
+    let w : ViterbiDecoder = decoder_of a.pm-1.now a.held.now a.traceback in
+    let e : v ≡ w = d.decoder_of-v.ensures in
+    flushed code.result (code_from a.constraint a.g1 a.g2) code.ensures v w e (λ k v. flush_rows k v (length a.decisions-1.now) (length a.out-1.now)) p.flush-r.result s.store.result s.store.new.1.0 s.store.new.1.1.0 a.count.now s.store.new.1.1.1.0 a.decisions-1.now p.flush-r.new.1.1.0 a.out-1.now p.flush-r.new.1.1.1.0 if1.if-pm-ne-STATES.false s.store.ensures.0 s.store.ensures.1.0 s.store.ensures.1.1.0 s.store.ensures.1.1.1 p.flush-r.ensures.0 (λ k v. best_of k v) p.flush-r.ensures.1

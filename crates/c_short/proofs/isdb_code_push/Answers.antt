@@ -1,0 +1,42 @@
+-- `isdb_code_push` meets its contract.
+use mathlib.Core.Path.{◌≡◌}
+use Prim.Native.Nat.{◌/◌}
+use lib.ListN.{length}
+use Rattle.trellis.specs.Lists.{first_place}
+use Rattle.isdb_fec.specs.declared.conv.ViterbiDecoder.{ViterbiDecoder}
+use Rattle.trellis.specs.Run.{pair_steps}
+use Rattle.short_fec.specs.Rows.{handed_rows, stream_rows}
+use Rattle.short_fec.specs.Calls.{call, handed, over}
+use Rattle.c_decoder.specs.Decoders.{decoder_of}
+use Rattle.c_decoder.specs.StoredLaws.{unstored}
+use Rattle.c_short.specs.Stored.{code_from}
+use Rattle.c_answers.specs.LengthLaws.{not_states, until_refuses}
+use Rattle.c_short.proofs.Laws.{pushed}
+use Rattle.c_short.proofs.isdb_code_push.Goals as goal
+
+pub returns-then-pm-ne-STATES : goal.returns-then-pm-ne-STATES
+unfolding first_place
+returns-then-pm-ne-STATES c =
+    let code-from = c in
+    let start = code-from in
+    let a = start.args in
+    let k = code_from a.constraint a.g1 a.g2 in
+    let w : ViterbiDecoder = decoder_of a.pm-1.now a.held.now a.traceback in
+    let n = c.not_states.result in
+    let e = rw code-from.code_from-code.ensures at c.not_states.ensures in
+    let h = until_refuses (handed_rows k w) tt n e in
+    (not_states a.pm-1.now (stream_rows k 2 w a.pairs.now (length a.decisions-1.now) (length a.out-1.now)) n c.if-pm-ne-STATES.true e, unstored n a.traceback (over a.pm-1.now (call k a.traceback (pair_steps a.pairs.now) (handed k w a.decisions-1.now) (length a.pairs.now / 2))) a.pm-1.now a.held.now a.count.now a.decisions-1.now a.out-1.now h)
+
+pub returns : goal.returns
+returns c =
+    let s = c in
+    let p = s in
+    let d = p in
+    let if1 = d in
+    let start = if1 in
+    let a = start.args in
+    let code = if1.code_from-code in
+    let v = d.decoder_of-v.result in
+    let w : ViterbiDecoder = decoder_of a.pm-1.now a.held.now a.traceback in
+    let e : v ≡ w = d.decoder_of-v.ensures in
+    pushed code.result (code_from a.constraint a.g1 a.g2) code.ensures v w e (λ k v. stream_rows k 2 v a.pairs.now (length a.decisions-1.now) (length a.out-1.now)) p.push-r.result s.store.result s.store.new.1.0 s.store.new.1.1.0 a.count.now s.store.new.1.1.1.0 a.decisions-1.now p.push-r.new.1.1.1.0 a.out-1.now p.push-r.new.1.1.1.1.0 if1.if-pm-ne-STATES.false s.store.ensures.0 s.store.ensures.1.0 s.store.ensures.1.1.0 s.store.ensures.1.1.1 p.push-r.ensures.0 (λ k v. call k v.traceback (pair_steps a.pairs.now) (handed k v a.decisions-1.now) (length a.pairs.now / 2)) p.push-r.ensures.1

@@ -1,0 +1,10 @@
+-- `not_states` meets its contract.
+use Rattle.short_fec.specs.Rows.{handed_rows}
+use Rattle.c_answers.specs.LengthLaws.{until_length_lem}
+use Rattle.c_decoder.specs.Decoders.{decoder_of}
+use Rattle.c_short.proofs.not_states.Goals as goal
+
+pub returns : goal.returns
+returns c =
+    let a = c.args in
+    until_length_lem (handed_rows a.code (decoder_of a.pm.now a.held a.traceback)) tt c.answer_lent.result c.answer_lent.ensures c.or_length.result c.or_length.ensures

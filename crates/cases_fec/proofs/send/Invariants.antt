@@ -1,0 +1,9 @@
+-- `send` is safe and ends.
+use Prim.Native.Nat.{◌-◌, ◌≤◌}
+use Rattle.cases_fec.proofs.send.Given as goal
+
+abbrev pub invariant-loop-k : goal.invariant-loop-k
+invariant-loop-k l = l.k ≤ 4226
+
+abbrev pub decreases-loop-k : goal.decreases-loop-k
+decreases-loop-k l = 4226 - l.k

@@ -1,0 +1,9 @@
+-- `cases_fec::tail` is safe and ends.
+use Prim.Native.Nat.{◌-◌, ◌≤◌}
+use Rattle.cases_fec.proofs.tail.Given as goal
+
+abbrev pub invariant-loop-k : goal.invariant-loop-k
+invariant-loop-k l = l.k ≤ 16
+
+abbrev pub decreases-loop-k : goal.decreases-loop-k
+decreases-loop-k l = 16 - l.k

@@ -1,0 +1,6 @@
+-- `float_bits` meets its contract.
+use Rattle.ieee.specs.Bits.{number}
+use Rattle.cases_lib.proofs.float_bits.Goals as goal
+
+pub float_to_bits-result : goal.float_to_bits-result
+float_to_bits-result c = number c.args.x c.if-x.false

@@ -1,0 +1,9 @@
+-- `send` meets its contract.
+use Prim.Native.Nat.{◌-◌, ◌≤◌}
+use Rattle.cases_mend.proofs.send.Given as goal
+
+abbrev pub invariant-loop-i : goal.invariant-loop-i
+invariant-loop-i l = l.i ≤ l.n
+
+abbrev pub decreases-loop-i : goal.decreases-loop-i
+decreases-loop-i l = l.n - l.i

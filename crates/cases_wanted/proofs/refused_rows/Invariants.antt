@@ -1,0 +1,9 @@
+-- `refused_rows` meets its contract.
+use Prim.Native.Nat.{◌-◌, ◌≤◌}
+use Rattle.cases_wanted.proofs.refused_rows.Given as goal
+
+abbrev pub invariant-loop-k : goal.invariant-loop-k
+invariant-loop-k l = l.k ≤ 6
+
+abbrev pub decreases-loop-k : goal.decreases-loop-k
+decreases-loop-k l = 6 - l.k

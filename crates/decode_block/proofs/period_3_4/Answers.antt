@@ -1,0 +1,28 @@
+-- `period_3_4` meets its contract.
+use native.Mathlib.Omega.{arith}
+use lib.ListN.{length-set}
+use Rattle.decode_block.proofs.PeriodPlaces.{period_3_4}
+use Rattle.decode_block.proofs.period_3_4.Goals as goal
+
+pub bounds-pairs-1 : goal.bounds-pairs-1
+bounds-pairs-1 c = simp (length-set) (omega arith)
+
+pub bounds-pairs-2 : goal.bounds-pairs-2
+bounds-pairs-2 c = simp (length-set) (omega arith)
+
+pub bounds-pairs-3 : goal.bounds-pairs-3
+bounds-pairs-3 c = simp (length-set) (omega arith)
+
+pub bounds-pairs-4 : goal.bounds-pairs-4
+bounds-pairs-4 c = simp (length-set) (omega arith)
+
+pub bounds-pairs-5 : goal.bounds-pairs-5
+bounds-pairs-5 c = simp (length-set) (omega arith)
+
+pub shape_of-pairs : goal.shape_of-pairs
+shape_of-pairs c = simp (length-set) (omega arith)
+
+pub returns : goal.returns
+returns c =
+    let st = c in
+    period_3_4 st.args.softs.now st.args.pairs.now st.requires.1

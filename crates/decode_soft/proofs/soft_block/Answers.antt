@@ -1,0 +1,15 @@
+-- `soft_block` meets its contract.
+use lib.ListN.{get_or}
+use lib.Ieee.{nan}
+use Rattle.ieee_cast.specs.Soft.{soft_of}
+use Rattle.decode_soft.proofs.Fill.{times}
+use Rattle.decode_soft.proofs.soft_block.Goals as goal
+
+pub returns : goal.returns
+returns c =
+    let soft-values = c in
+    let start = soft-values in
+    let scaled = c.scale_block in
+    let filled = soft-values.soft_values in
+    let a = start.args in
+    times (λ i. soft_of (get_or a.xs.now i nan)) a.out-1.now a.n a.scale filled.new.1.1.0 scaled.new.0 filled.ensures scaled.ensures

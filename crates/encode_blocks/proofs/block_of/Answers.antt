@@ -1,0 +1,24 @@
+-- `block_of` meets its contract.
+use mathlib.Core.Path.{refl}
+use Rattle.encode_blocks.proofs.block_of.Goals as goal
+
+pub returns-in-Bpsk1_2 : goal.returns-in-Bpsk1_2
+returns-in-Bpsk1_2 c = rw c.in-Bpsk1_2.is refl
+
+pub returns-in-Qpsk1_2 : goal.returns-in-Qpsk1_2
+returns-in-Qpsk1_2 c = rw c.in-Qpsk1_2.is refl
+
+pub returns-in-Qpsk2_3 : goal.returns-in-Qpsk2_3
+returns-in-Qpsk2_3 c = rw c.in-Qpsk2_3.is refl
+
+pub returns-in-Qpsk3_4 : goal.returns-in-Qpsk3_4
+returns-in-Qpsk3_4 c = rw c.in-Qpsk3_4.is refl
+
+pub returns-in-Qpsk5_6 : goal.returns-in-Qpsk5_6
+returns-in-Qpsk5_6 c = rw c.in-Qpsk5_6.is refl
+
+pub returns-in-Qpsk7_8 : goal.returns-in-Qpsk7_8
+returns-in-Qpsk7_8 c = rw c.in-Qpsk7_8.is refl
+
+pub returns-in-Tc8psk2_3 : goal.returns-in-Tc8psk2_3
+returns-in-Tc8psk2_3 c = rw c.in-Tc8psk2_3.is refl

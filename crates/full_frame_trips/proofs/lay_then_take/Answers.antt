@@ -1,0 +1,49 @@
+-- `lay_then_take` meets its contract.
+use mathlib.Core.Path.{◌≡◌, ap}
+use mathlib.Core.Bool.{◌||◌}
+use Rattle.refusal.specs.Rows.{number_of}
+use Rattle.refusal.specs.RowLaws.{zero_accepted}
+use Rattle.refusal.proofs.Told.{told}
+use Rattle.full_frame_parts.specs.declared.Input.TheVariants.{Header, Main, Burst}
+use Rattle.full_frame_parts.specs.Places.{lent_inputs, full_part}
+use Rattle.full_frame_parts.specs.Rows.{inputs_short, short_frame}
+use lib.ListN.{length, take}
+use Rattle.full_frame_trips.proofs.Both.{by_tests, none_short, kept, laid_taken}
+use Rattle.full_frame_trips.proofs.lay_then_take.Goals as goal
+
+pub returns-in_default : goal.returns-in_default
+returns-in_default c =
+    let short-parts = c in
+    let start = short-parts in
+    let x = start.args in
+    let res = lent_inputs x.header_re.now x.main_re.now x.burst_re.now in
+    let ims = lent_inputs x.header_im.now x.main_im.now x.burst_im.now in
+    let outs = lent_inputs x.out_header_re-1.now x.out_main_re-1.now x.out_burst_re-1.now in
+    let outs' = lent_inputs x.out_header_im-1.now x.out_main_im-1.now x.out_burst_im-1.now in
+    let a = c.first_row-answer.result in
+    let h = by_tests a (inputs_short res || inputs_short ims) (short_frame (length x.re-1.now) (length x.im-1.now)) (inputs_short outs || inputs_short outs') short-parts.short_parts-inputs.ensures c.short_frame.ensures c.short_parts-outputs.ensures c.first_row-answer.ensures in
+    let n : number_of a ≡ 0 → ⊥ = λ z. told a c.in-Accepted.keys2 (zero_accepted a z) in
+    (h, (kept a (full_part res) x.re-1.now n, (kept a (full_part ims) x.im-1.now n, (kept a (take 192 x.header_re.now) x.out_header_re-1.now n, (kept a (take 192 x.header_im.now) x.out_header_im-1.now n, (kept a (take 38976 x.main_re.now) x.out_main_re-1.now n, (kept a (take 38976 x.main_im.now) x.out_main_im-1.now n, (kept a (take 768 x.burst_re.now) x.out_burst_re-1.now n, kept a (take 768 x.burst_im.now) x.out_burst_im-1.now n))))))))
+
+pub returns : goal.returns
+returns c =
+    let take-apart = c in
+    let lay = take-apart in
+    let at-enum-told = lay in
+    let first-row = at-enum-told in
+    let short-parts2 = first-row in
+    let short-parts = short-parts2 in
+    let start = short-parts in
+    let x = start.args in
+    let res = lent_inputs x.header_re.now x.main_re.now x.burst_re.now in
+    let ims = lent_inputs x.header_im.now x.main_im.now x.burst_im.now in
+    let outs = lent_inputs x.out_header_re-1.now x.out_main_re-1.now x.out_burst_re-1.now in
+    let outs' = lent_inputs x.out_header_im-1.now x.out_main_im-1.now x.out_burst_im-1.now in
+    let a = first-row.first_row-answer.result in
+    let h = by_tests a (inputs_short res || inputs_short ims) (short_frame (length x.re-1.now) (length x.im-1.now)) (inputs_short outs || inputs_short outs') short-parts.short_parts-inputs.ensures first-row.short_frame.ensures short-parts2.short_parts-outputs.ensures first-row.first_row-answer.ensures in
+    let z : number_of a ≡ 0 = ap number_of at-enum-told.in-Accepted.is in
+    let tests = none_short a (inputs_short res || inputs_short ims) (short_frame (length x.re-1.now) (length x.im-1.now)) (inputs_short outs || inputs_short outs') h z in
+    let e = lay.lay.ensures in
+    let g = take-apart.take_apart.ensures in
+    let k = laid_taken res ims x.re-1.now x.im-1.now outs outs' tests _ _ lay.lay.result e.0 e.1.0 e.1.1 take-apart.take_apart.result g.0 in
+    (k.answer, (k.real, (k.imaginary, (k.real_back Header _ x.out_header_re-1.now g.1.0, (k.imaginary_back Header _ x.out_header_im-1.now g.1.1.0, (k.real_back Main _ x.out_main_re-1.now g.1.1.1.0, (k.imaginary_back Main _ x.out_main_im-1.now g.1.1.1.1.0, (k.real_back Burst _ x.out_burst_re-1.now g.1.1.1.1.1.0, k.imaginary_back Burst _ x.out_burst_im-1.now g.1.1.1.1.1.1))))))))

@@ -1,0 +1,48 @@
+-- `take_then_lay` meets its contract.
+use mathlib.Core.Path.{◌≡◌, ap}
+use mathlib.Core.Bool.{◌||◌}
+use Rattle.refusal.specs.Rows.{number_of}
+use Rattle.refusal.specs.RowLaws.{zero_accepted}
+use Rattle.refusal.proofs.Told.{told}
+use Rattle.full_frame_parts.specs.declared.Input.TheVariants.{Header, Main, Burst}
+use Rattle.full_frame_parts.specs.Places.{lent_inputs, taken}
+use Rattle.full_frame_parts.specs.Rows.{inputs_short, short_frame}
+use lib.ListN.{length, take}
+use Rattle.full_frame_trips.proofs.Both.{by_tests, none_short, kept, each_taken, taken_laid_again}
+use Rattle.full_frame_trips.proofs.take_then_lay.Goals as goal
+
+pub returns-in_default : goal.returns-in_default
+returns-in_default c =
+    let short-parts = c in
+    let start = short-parts in
+    let x = start.args in
+    let res = lent_inputs x.header_re-1.now x.main_re-1.now x.burst_re-1.now in
+    let ims = lent_inputs x.header_im-1.now x.main_im-1.now x.burst_im-1.now in
+    let a = c.first_row-answer.result in
+    let h = by_tests a (short_frame (length x.re.now) (length x.im.now)) (inputs_short res || inputs_short ims) (short_frame (length x.out_re-1.now) (length x.out_im-1.now)) c.short_frame-frame.ensures short-parts.short_parts-parts.ensures c.short_frame.ensures c.first_row-answer.ensures in
+    let n : number_of a ≡ 0 → ⊥ = λ z. told a c.in-Accepted.keys2 (zero_accepted a z) in
+    (h, (kept a (take 39936 x.re.now) x.out_re-1.now n, (kept a (take 39936 x.im.now) x.out_im-1.now n, (kept a (taken Header x.re.now) x.header_re-1.now n, (kept a (taken Header x.im.now) x.header_im-1.now n, (kept a (taken Main x.re.now) x.main_re-1.now n, (kept a (taken Main x.im.now) x.main_im-1.now n, (kept a (taken Burst x.re.now) x.burst_re-1.now n, kept a (taken Burst x.im.now) x.burst_im-1.now n))))))))
+
+pub returns : goal.returns
+returns c =
+    let lay = c in
+    let take-apart = lay in
+    let at-enum-told = take-apart in
+    let first-row = at-enum-told in
+    let short-frame = first-row in
+    let short-parts = short-frame in
+    let start = short-parts in
+    let x = start.args in
+    let res = lent_inputs x.header_re-1.now x.main_re-1.now x.burst_re-1.now in
+    let ims = lent_inputs x.header_im-1.now x.main_im-1.now x.burst_im-1.now in
+    let a = first-row.first_row-answer.result in
+    let h = by_tests a (short_frame (length x.re.now) (length x.im.now)) (inputs_short res || inputs_short ims) (short_frame (length x.out_re-1.now) (length x.out_im-1.now)) short-frame.short_frame-frame.ensures short-parts.short_parts-parts.ensures first-row.short_frame.ensures first-row.first_row-answer.ensures in
+    let z : number_of a ≡ 0 = ap number_of at-enum-told.in-Accepted.is in
+    let tests = none_short a (short_frame (length x.re.now) (length x.im.now)) (inputs_short res || inputs_short ims) (short_frame (length x.out_re-1.now) (length x.out_im-1.now)) h z in
+    let b = take-apart.take_apart.result in
+    let e = take-apart.take_apart.ensures in
+    let g = lay.lay.ensures in
+    let tr = each_taken b x.re.now x.header_re-1.now x.main_re-1.now x.burst_re-1.now e.1.0 e.1.1.1.0 e.1.1.1.1.1.0 in
+    let ti = each_taken b x.im.now x.header_im-1.now x.main_im-1.now x.burst_im-1.now e.1.1.0 e.1.1.1.1.0 e.1.1.1.1.1.1 in
+    let k = taken_laid_again x.re.now x.im.now res ims x.out_re-1.now x.out_im-1.now tests _ _ b e.0 tr ti lay.lay.result g.0 in
+    (k.answer, (k.real_again _ x.out_re-1.now g.1.0, (k.imaginary_again _ x.out_im-1.now g.1.1, (k.real Header, (k.imaginary Header, (k.real Main, (k.imaginary Main, (k.real Burst, k.imaginary Burst))))))))

@@ -1,0 +1,36 @@
+-- `conv::ViterbiDecoder::flush` meets its contract.
+use mathlib.Core.Path.{refl, sym, ◌∙◌}
+use Prim.Native.Nat.{◌-◌}
+use native.Mathlib.Omega.{arith}
+use lib.ListN.{length}
+use Rattle.isdb_fec.specs.AnswerLaws.{accepted, flush_enough}
+use Rattle.isdb_fec.specs.WholeLaws.{as_given}
+use Rattle.refusal.proofs.Told.{told}
+use Rattle.isdb_fec.proofs.conv.ViterbiDecoder.flush.Goals as goal
+
+pub returns-in_default : goal.returns-in_default
+returns-in_default c =
+    let a = c.args in
+    (c.answer_flush-answer.ensures, as_given a.self c.answer_flush-answer.result a.decisions-1.now a.out-1.now (told c.answer_flush-answer.result c.in-Accepted.keys2))
+
+pub finish-count-requires : goal.finish-count-requires
+finish-count-requires c =
+    let told = c in
+    let a = told.args in
+    let ok = sym told.in-Accepted.is ∙ told.answer_flush-answer.ensures in
+    let e = flush_enough a.self (length a.decisions-1.now) (length a.out-1.now) ok in
+    (omega arith, omega arith)
+
+pub returns : goal.returns
+returns c =
+    let finish = c in
+    let told = finish in
+    let answer-flush = told in
+    let start = answer-flush in
+    let a = start.args in
+    let ok = sym told.in-Accepted.is ∙ answer-flush.answer_flush-answer.ensures in
+    let e = flush_enough a.self (length a.decisions-1.now) (length a.out-1.now) ok in
+    let done = finish.finish-count.ensures in (
+      ok,
+      accepted (record { values = refl; held_is = refl; traceback_is = refl; count_is = done.0 ∙ omega arith; words = done.1; bits = done.2 }),
+    )

@@ -1,0 +1,5 @@
+-- `conv::ViterbiDecoder::new` meets its contract.
+use Rattle.isdb_fec.proofs.conv.ViterbiDecoder.new.Goals as goal
+
+pub returns : goal.returns
+returns c = rw c.start_at.ensures at c.fresh.ensures

@@ -1,0 +1,46 @@
+-- `conv::ViterbiDecoder::push` meets its contract: `run_steps` takes all its steps.
+use mathlib.Core.Path.{sym, ◌∙◌}
+use Prim.Native.Nat.{◌/◌}
+use native.Mathlib.Omega.{arith}
+use borrow.Author.Rules.{rules}
+use lib.ListN.{length}
+use Rattle.trellis.specs.Run.{pair_steps}
+use Rattle.isdb_fec.specs.AnswerLaws.{accepted, stream_enough}
+use Rattle.isdb_fec.specs.WholeLaws.{runs, closes, as_given}
+use Rattle.refusal.proofs.Told.{told}
+use Rattle.isdb_fec.proofs.conv.ViterbiDecoder.push.Goals as goal
+
+slice-aggregate-run-steps : tie.Need-slice-aggregate-run-steps
+slice-aggregate-run-steps c = search rules
+
+pub returns-in_default : goal.returns-in_default
+returns-in_default c =
+    let a = c.args in
+    (c.answer_stream-answer.ensures, as_given a.self c.answer_stream-answer.result a.decisions-1.now a.out-1.now (told c.answer_stream-answer.result c.in-Accepted.keys2))
+
+pub run_steps-at-requires : goal.run_steps-at-requires
+run_steps-at-requires c =
+    let known = c in
+    let a = known.args in
+    let e = stream_enough 2 a.self a.pairs.now (length a.decisions-1.now) (length a.out-1.now) (sym known.in-Accepted.is ∙ known.answer_stream-answer.ensures) in
+    let room = e.room in
+    (e.least, e.most, e.fewer, e.fits, omega arith, search rules, omega arith)
+
+pub returns : goal.returns
+returns c =
+    let run-steps = c in
+    let known = run-steps in
+    let answer-stream = known in
+    let start = answer-stream in
+    let ran = run-steps.run_steps-at in
+    let a = start.args in
+    let v = a.self in
+    let xs = pair_steps a.pairs.now in
+    let n = length a.pairs.now / 2 in
+    let dec = a.decisions-1.now in
+    let out = a.out-1.now in
+    let taken = sym known.in-Accepted.is ∙ answer-stream.answer_stream-answer.ensures in
+    let e = stream_enough 2 v a.pairs.now (length dec) (length out) taken in
+    let dec' = ran.new.1.1.1.1.1.1.1.1.0 in
+    let out' = ran.new.1.1.1.1.1.1.1.1.1.0 in
+    (taken, accepted (closes v xs n dec out e ran.new.0 c.renormalise.new.0 ran.result dec' out' (runs v xs n dec out e ran.result ran.new.0 dec' out' ran.ensures) c.renormalise.ensures))

@@ -1,0 +1,5 @@
+-- `conv::ViterbiDecoder::with_state` meets its contract.
+use Rattle.isdb_fec.proofs.conv.ViterbiDecoder.with_state.Goals as goal
+
+pub returns : goal.returns
+returns c = rw c.start_at.ensures at c.fresh.ensures

@@ -1,0 +1,49 @@
+-- `conv::encode_punctured` meets its contract.
+use mathlib.Core.Path.{refl, sym, ◌∙◌}
+use native.Mathlib.Omega.{arith}
+use lib.ListN.{length}
+use Rattle.isdbt_table.specs.NumberLaws.{numbers}
+use Rattle.isdbt_rows.specs.RowLaws.{encode_enough}
+use Rattle.isdb_fec.specs.AnswerLaws.{accepted, refused}
+use Rattle.refusal.proofs.Told.{told}
+use Rattle.isdbt_fec.proofs.Turns.{sent_count}
+use Rattle.isdbt_fec.proofs.conv.encode_punctured.Goals as goal
+
+pub returns-in_default : goal.returns-in_default
+returns-in_default c = (c.answer_encode-answer.ensures, refused c.answer_encode-answer.result (told c.answer_encode-answer.result c.in-Accepted.keys2) (record { state_is = refl; count_is = refl; bits_are = refl }))
+
+pub encode_periods-last-requires : goal.encode_periods-last-requires
+encode_periods-last-requires c =
+    let a = c.args in
+    let yes = sym c.in-Accepted.is ∙ c.answer_encode-answer.ensures in
+    encode_enough a.rate a.enc.state (length a.bits.now) (length a.out-1.now) yes
+
+pub nonzero_div-result : goal.nonzero_div-result
+nonzero_div-result c =
+    let new = c in
+    let start = new in
+    let r = (numbers start.args.rate _ new.new-p.ensures).ranges in
+    omega arith
+
+pub overflow_mul-result : goal.overflow_mul-result
+overflow_mul-result c =
+    let new = c in
+    let answer-encode = new in
+    let start = answer-encode in
+    let a = start.args in
+    let yes = sym new.in-Accepted.is ∙ answer-encode.answer_encode-answer.ensures in
+    let room = encode_enough a.rate a.enc.state (length a.bits.now) (length a.out-1.now) yes in
+    let count = sent_count a.rate _ (length a.bits.now) new.new-p.ensures in
+    omega arith
+
+pub returns : goal.returns
+returns c =
+    let encode-periods = c in
+    let new = encode-periods in
+    let answer-encode = new in
+    let start = answer-encode in
+    let a = start.args in
+    let yes = sym new.in-Accepted.is ∙ answer-encode.answer_encode-answer.ensures in
+    let count = sent_count a.rate _ (length a.bits.now) new.new-p.ensures in
+    let q = encode-periods.encode_periods-last.ensures in
+    (yes, accepted (record { state_is = q.0; count_is = count; bits_are = q.1 }))

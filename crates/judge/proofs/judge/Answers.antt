@@ -1,0 +1,43 @@
+-- `judge` meets its contract.
+use mathlib.Core.Path.{sym, ◌∙◌, ap}
+use native.Mathlib.Omega.{arith}
+use lib.ListN.{length}
+use Rattle.refusal.specs.Rows.{first_row}
+use Rattle.refusal.proofs.Told.{told}
+use Rattle.isdbs_tables.specs.declared.Table.{Table}
+use Rattle.isdbs_plan.specs.PlannedLaws.{table_is, plan_is, planned}
+use Rattle.judge.specs.Rows.{judge_rows}
+use Rattle.judge.proofs.JudgedLaws.{passed}
+use Rattle.judge.proofs.Calls.{refused, done}
+use Rattle.judge.proofs.judge.Goals as goal
+
+pub judge_answer-answer-requires : goal.judge_answer-answer-requires
+judge_answer-answer-requires c = plan_is c.plan_of-p.ensures.0
+
+pub returns-in_default : goal.returns-in_default
+returns-in_default c =
+    let a = c.args in
+    let et = table_is c.plan_of-p.ensures.0 in
+    let x = c.judge_answer-answer in
+    refused a.re.now a.im.now a.bytes.now a.t a.m a.first a.counts-1.now x.result (x.ensures ∙ ap (λ (z : Table). first_row (judge_rows z (length a.bytes.now) a.re.now a.im.now (length a.counts-1.now))) et) (told x.result c.in-Accepted.keys2)
+
+pub judge_frame-requires : goal.judge_frame-requires
+judge_frame-requires c =
+    let plan-of = c in
+    let a = plan-of.args in
+    let pl = plan-of.plan_of-p in
+    let et = table_is pl.ensures.0 in
+    let ok = sym c.in-Accepted.is ∙ c.judge_answer-answer.ensures ∙ ap (λ (z : Table). first_row (judge_rows z (length a.bytes.now) a.re.now a.im.now (length a.counts-1.now))) et in
+    let p = passed a.t (length a.bytes.now) a.re.now a.im.now (length a.counts-1.now) (sym ok) in
+    (planned pl.ensures.0 pl.ensures.1 p.table, p.real, p.imaginary, p.room)
+
+pub returns : goal.returns
+returns c =
+    let plan-of = c in
+    let a = plan-of.args in
+    let bytes = plan-of.type_inv.bytes in
+    let pl = plan-of.plan_of-p in
+    let et = table_is pl.ensures.0 in
+    let ok = sym c.in-Accepted.is ∙ c.judge_answer-answer.ensures ∙ ap (λ (z : Table). first_row (judge_rows z (length a.bytes.now) a.re.now a.im.now (length a.counts-1.now))) et in
+    let made = c.judge_frame in
+    done a.re.now a.im.now a.bytes.now a.t a.m a.first a.counts-1.now made.new.1.1.1.1.0 made.result ok (rw et at made.ensures) (λ k. omega (arith, bytes k))

@@ -1,0 +1,26 @@
+-- `known_end::flush_behind` meets its contract.
+use Prim.Native.Nat.{◌-◌}
+use native.Mathlib.Omega.{arith}
+use borrow.Rule.Slice.PartMut.{mid_of}
+use lib.ListN.{length}
+use Rattle.known_end.proofs.Compose.{length_tail, few_bits, behind}
+use Rattle.known_end.proofs.flush_behind.Goals as goal
+
+pub overflow_add-result : goal.overflow_add-result
+overflow_add-result c =
+    let x6 = c in
+    let at = x6 in
+    let g = x6.flush_at-rest.ensures in
+    let a = at.args in
+    let part = mid_of a.pushed.count (length a.out-1.now - a.pushed.count) a.out-1.now in
+    let k = few_bits a.end a.pushed.dec-1 x6.flush_at-rest.result a.decisions-1.now x6.flush_at-rest.new.1.1.0 part x6.flush_at-rest.new.1.1.1.0 g.0 g.1 in
+    let l = length_tail a.pushed.count a.out-1.now (omega arith) in
+    omega arith
+
+pub returns : goal.returns
+returns c =
+    let x6 = c in
+    let at = x6 in
+    let g = x6.flush_at-rest.ensures in
+    let a = at.args in
+    behind a.end a.pushed x6.flush_at-rest.result a.decisions-1.now x6.flush_at-rest.new.1.1.0 a.out-1.now x6.flush_at-rest.new.1.1.1.0 (omega arith) g.0 g.1

@@ -1,0 +1,68 @@
+-- `overlay::encode_overlaid` meets its contract.
+use mathlib.Core.Path.{refl, sym, ◌∙◌}
+use lib.ListN.{length}
+use borrow.Author.Rules.{rules}
+use Rattle.refusal.specs.RowLaws.{refused}
+use Rattle.refusal.proofs.Told.{told}
+use Rattle.overlay_parts.specs.Calls.{lent}
+use Rattle.overlay.proofs.Accepted.{enough, asks, overlaps}
+use Rattle.overlay.proofs.encode_overlaid.Goals as goal
+
+pub returns-in_default : goal.returns-in_default
+returns-in_default c =
+    let asked = c in
+    let n = told asked.answer_overlay-answer.result c.in-Accepted.keys2 in (
+      asked.answer_overlay-answer.ensures,
+      (
+        refused asked.answer_overlay-answer.result n refl,
+        (refused asked.answer_overlay-answer.result n (record { first_is = refl; second_is = refl; third_is = refl; outputs = refl }), λ y. absurd (n y)),
+      ),
+    )
+
+pub lay_overlaid-requires : goal.lay_overlaid-requires
+lay_overlaid-requires c =
+    let yes = c in
+    let asked = yes in
+    let a = asked.args in
+    let e = enough a.given.code-1 a.given.first-1.state a.given.second-1.state (length a.us.now) (length a.vs.now) (length a.ws-1.now) (length a.out1-1.now) (length a.out2-1.now) (length a.out3-1.now) (sym yes.in-Accepted.is ∙ asked.answer_overlay-answer.ensures) in
+    (e.long, e.bits_room)
+
+pub slice_bounds-encode_three-end : goal.slice_bounds-encode_three-end
+slice_bounds-encode_three-end c =
+    let yes = c in
+    let asked = yes in
+    let a = asked.args in
+    let e = enough a.given.code-1 a.given.first-1.state a.given.second-1.state (length a.us.now) (length a.vs.now) (length a.ws-1.now) (length a.out1-1.now) (length a.out2-1.now) (length a.out3-1.now) (sym yes.in-Accepted.is ∙ asked.answer_overlay-answer.ensures) in
+    let room = e.bits_room in
+    search rules
+
+pub encode_three-requires : goal.encode_three-requires
+encode_three-requires c =
+    let lay-overlaid = c in
+    let yes = lay-overlaid in
+    let asked = yes in
+    let start = asked in
+    let a = start.args in
+    let e = enough a.given.code-1 a.given.first-1.state a.given.second-1.state (length a.us.now) (length a.vs.now) (length a.ws-1.now) (length a.out1-1.now) (length a.out2-1.now) (length a.out3-1.now) (sym yes.in-Accepted.is ∙ asked.answer_overlay-answer.ensures) in
+    let laid = lay-overlaid.lay_overlaid in
+    asks a.given.code-1 a.given.first-1.state a.given.second-1.state a.us.now a.vs.now a.ws-1.now laid.new.1.1.0 (length a.out1-1.now) (length a.out2-1.now) (length a.out3-1.now) e laid.ensures
+
+pub returns : goal.returns
+returns c =
+    let made = c in
+    let laid = made in
+    let yes = laid in
+    let asked = yes in
+    let start = asked in
+    let a = start.args in
+    let e = enough a.given.code-1 a.given.first-1.state a.given.second-1.state (length a.us.now) (length a.vs.now) (length a.ws-1.now) (length a.out1-1.now) (length a.out2-1.now) (length a.out3-1.now) (sym yes.in-Accepted.is ∙ asked.answer_overlay-answer.ensures) in
+    let three = made.encode_three in
+    let ok = three.ensures.0 in
+    let law = overlaps a.given.code-1 a.given.first-1.state a.given.second-1.state a.us.now a.vs.now three.result (lent a.out1-1.now a.out2-1.now a.out3-1.now)
+    (lent three.new.1.1.1.1.0 three.new.1.1.1.1.1.0 three.new.1.1.1.1.1.1.0) e.good e.first_state e.second_state e.long three.ensures.1 in (
+      ok ∙ sym yes.in-Accepted.is ∙ asked.answer_overlay-answer.ensures,
+      (
+        ((λ y. laid.lay_overlaid.ensures), (λ never. absurd (never ok))),
+        (((λ y. three.ensures.1), (λ never. absurd (never ok))), λ y. law),
+      ),
+    )

@@ -1,0 +1,31 @@
+use mathlib.Core.Path.{◌≡◌, refl}
+use Prim.Native.Nat.{◌-◌, ◌<◌}
+use native.Mathlib.Omega.{arith}
+use lib.ListN.{length, length-set}
+use lib.Ieee.{nan}
+use Rattle.trellis.specs.Run.{start_unknown}
+use Rattle.trellis.specs.WrittenLaws.{written_none, written_more, written_whole}
+use Rattle.short_best.proofs.start_unknown.Invariants.{value}
+use Rattle.short_best.proofs.start_unknown.Goals as goal
+
+pub loop-k-init : goal.loop-k-init
+loop-k-init c = (refl, omega arith, refl, written_none nan value c.args.pm.now)
+
+pub loop-k-preserved : goal.loop-k-preserved
+loop-k-preserved c =
+    let at = c in
+    let inv = at.loop-k.invariant in
+    let h : at.loop-k.k < length at.loop-k.pm = omega arith in
+    (inv.0, omega arith, simp length-set inv.2, written_more nan value at.loop-k.k at.loop-k.pm _ h inv.3 refl)
+
+pub shape_of-pm : goal.shape_of-pm
+shape_of-pm c = c.loop-k.invariant.2
+
+pub returns : goal.returns
+unfolding start_unknown
+returns c =
+    let at = c in
+    let inv = at.loop-k.invariant in
+    let n = length at.args.pm.now in
+    let e : at.loop-k.k ≡ n = omega arith in
+    written_whole nan value n at.loop-k.pm inv.2 (rw e at inv).3

@@ -1,0 +1,60 @@
+-- `short_fec::push_known` meets its contract.
+use Rattle.short_code.specs.Codes.{labels}
+use Rattle.short_code.specs.CodeLaws.{good_length_lem}
+use Rattle.short_fec.proofs.Whole.{left}
+use lib.ListN.{length, take}
+use lib.Seq.{length-take-le}
+use Rattle.trellis.specs.Run.{after, holding, known_steps}
+use Rattle.trellis.specs.Isdb.{rule}
+use mathlib.Core.Path.{◌≡◌, refl, sym, ◌∙◌}
+use native.Mathlib.Omega.{arith}
+use Prim.Native.Nat.{◌-◌, ◌*◌}
+use Rattle.refusal.specs.RowLaws.{done}
+use Rattle.isdb_fec.specs.WholeLaws.{as_given}
+use Rattle.refusal.proofs.Told.{told}
+use Rattle.short_rows.specs.RowLaws.{known_enough}
+use lib.ListN.{length}
+use Rattle.short_fec.proofs.push_known.Goals as goal
+
+pub returns-in_default : goal.returns-in_default
+returns-in_default c =
+    let a = c.args in
+    (c.answer_known-answer.ensures, as_given a.dec c.answer_known-answer.result a.decisions-1.now a.out-1.now (told c.answer_known-answer.result c.in-Accepted.keys2))
+
+pub half-h-requires : goal.half-h-requires
+half-h-requires c =
+    let a = c.args in
+    good_length_lem a.code (known_enough a.code a.dec (length a.bits.now) (length a.decisions-1.now) (length a.out-1.now) (sym c.in-Accepted.is ∙ c.answer_known-answer.ensures)).0
+
+pub known_steps-end-requires : goal.known_steps-end-requires
+known_steps-end-requires c =
+    let at-half = c in
+    let t = at-half in
+    let answer-known = t in
+    let start = answer-known in
+    let a = start.args in
+    let half = at-half.half-h in
+    let n = half.ensures.1 in
+    let e = (known_enough a.code a.dec (length a.bits.now) (length a.decisions-1.now) (length a.out-1.now) (sym t.in-Accepted.is ∙ answer-known.answer_known-answer.ensures)).1 in
+    let long = c.states-all.ensures.1 in
+    let taken : length (take (2 * half.result - 0) a.dec.pm-1) ≡ 2 * half.result = length-take-le (2 * half.result - 0) a.dec.pm-1 (omega arith) ∙ omega arith in
+    (half.ensures.0, n, half.ensures.2, taken, e.least, e.most, e.fewer, refl, e.fits, e.room)
+
+pub returns : goal.returns
+returns c =
+    let known-steps = c in
+    let states = known-steps in
+    let at-half = states in
+    let t = at-half in
+    let answer-known = t in
+    let start = answer-known in
+    let a = start.args in
+    let half = at-half.half-h in
+    let end = known-steps.known_steps-end in
+    let n = half.ensures.1 in
+    let long = states.states-all.ensures.1 in
+    let taken = length-take-le (2 * half.result - 0) a.dec.pm-1 (omega arith) in (
+      (sym t.in-Accepted.is ∙ answer-known.answer_known-answer.ensures),
+      done (left a.code half.result (2 * half.result - 0) a.dec (λ h m. after h (labels a.code) rule a.dec.traceback (known_steps a.bits.now) (holding (take m a.dec.pm-1) a.dec.held a.decisions-1.now) (length a.bits.now))
+          end.new.0 end.result.held end.result.count a.decisions-1.now _ a.out-1.now _ half.ensures.2 (omega arith) (omega arith) end.ensures),
+    )

@@ -1,0 +1,19 @@
+-- `push_known` meets its contract: it is what the two calls promise, which is equal.
+use mathlib.Core.Path.{sym}
+use Rattle.short_same_code.specs.SameLaws.{push_known_agrees}
+use Rattle.short_same.proofs.push_known.Goals as goal
+
+pub returns : goal.returns
+returns c =
+    let push-known2 = c in
+    let push-known = push-known2 in
+    let isdb-code = push-known in
+    let states = isdb-code in
+    let start = states in
+    let isdb = push-known2.push_known-isdb in
+    let short = push-known.push_known-short in
+    let code = isdb-code.isdb_code.ensures in
+    let a = start.args in
+    let sa = rw code at short.ensures.0 in
+    let sl = rw code at short.ensures.1 in
+    (sa, (sl, (isdb.ensures.0, (isdb.ensures.1, λ e f. push_known_agrees a.dec states.states-all.ensures.1 short.result isdb.result a.decisions-1.now short.new.1.1.1.0 isdb.new.1.1.0 a.out-1.now short.new.1.1.1.1.0 isdb.new.1.1.1.0 a.bits.now sa sl (rw (sym e, sym f) at isdb.ensures.0) (rw (sym e, sym f) at isdb.ensures.1)))))

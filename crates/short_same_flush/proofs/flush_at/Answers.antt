@@ -1,0 +1,19 @@
+-- `flush_at` meets its contract: it is what the two calls promise, which is equal.
+use mathlib.Core.Path.{sym}
+use Rattle.short_same_code.specs.SameLaws.{flush_at_agrees}
+use Rattle.short_same_flush.proofs.flush_at.Goals as goal
+
+pub returns : goal.returns
+returns c =
+    let flush-at2 = c in
+    let flush-at = flush-at2 in
+    let isdb-code = flush-at in
+    let states = isdb-code in
+    let start = states in
+    let isdb = flush-at2.flush_at-isdb in
+    let short = flush-at.flush_at-short in
+    let code = isdb-code.isdb_code.ensures in
+    let a = start.args in
+    let sa = rw code at short.ensures.0 in
+    let sl = rw code at short.ensures.1 in
+    (sa, (sl, (isdb.ensures.0, (isdb.ensures.1, λ e f. flush_at_agrees a.dec states.states-all.ensures.1 short.result isdb.result a.decisions-1.now short.new.1.1.1.0 isdb.new.1.1.0 a.out-1.now short.new.1.1.1.1.0 isdb.new.1.1.1.0 a.end sa sl (rw (sym e, sym f) at isdb.ensures.0) (rw (sym e, sym f) at isdb.ensures.1)))))

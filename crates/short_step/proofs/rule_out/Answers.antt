@@ -1,0 +1,54 @@
+use mathlib.Core.Path.{◌≡◌, refl, ◌∙◌}
+use mathlib.Core.Logic.{⊎_elim}
+use mathlib.Core.List.{List}
+use Prim.Native.Nat.{ℕ, ◌-◌, ◌*◌, ◌/◌, ◌%◌, ◌<◌}
+use native.Mathlib.Omega.{arith}
+use lib.ListN.{length, get_or, length-set}
+use lib.Ieee.{Float, nan, binary32, neg, of_bits}
+use borrow.Author.Tests.{eq-eqb, ne_eqb}
+use Rattle.trellis.specs.Step.{ruled}
+use Rattle.trellis.specs.WrittenLaws.{written_none, written_more, written_skip, kept_more, kept_skip, written_whole}
+use Rattle.short_step.proofs.rule_out.Invariants.{ruled_at}
+use Rattle.short_step.proofs.rule_out.Goals as goal
+
+out : (h b : ℕ) (pm : List Float) (k : ℕ) → (k / h ≡ b % 2 → ⊥) → of_bits binary32 0xce6e_6b28 ≡ ruled_at h b pm k
+out h b pm k n = rw (ne_eqb (k / h) (b % 2) n)
+
+stays : (h b : ℕ) (pm : List Float) (k : ℕ) → k / h ≡ b % 2 → get_or pm k nan ≡ ruled_at h b pm k
+stays h b pm k e = rw (eq-eqb (k / h) (b % 2) e)
+
+pub loop-s-init : goal.loop-s-init
+loop-s-init c =
+    let start = c in
+    let pm = start.args.pm.now in
+    (refl, omega arith, refl, refl, written_none nan (ruled_at start.args.h start.args.b pm) pm, λ i h. refl)
+
+pub loop-s-preserved : goal.loop-s-preserved
+unfolding of_bits neg
+loop-s-preserved c =
+    let at = c in
+    let start = at in
+    let pm₀ = start.args.pm.now in
+    let pm = at.loop-s.pm in
+    let h = start.args.h in
+    let b = start.args.b in
+    let f = ruled_at h b pm₀ in
+    let s = at.loop-s.s in
+    let inv = at.loop-s.invariant in
+    let i : s < length pm = omega arith in
+    ⊎_elim
+    (λ w. rw w.1 (inv.0, omega arith, inv.2, simp length-set inv.3, written_more nan f s pm _ i inv.4 (out h b pm₀ s (rw inv.2 at w.0.true)), kept_more nan pm₀ s pm _ inv.5))
+    (λ w. rw w.1 (inv.0, omega arith, inv.2, inv.3, written_skip nan f s pm inv.4 (inv.5 s (omega arith) ∙ stays h b pm₀ s (w.0.left ∙ inv.2)), kept_skip nan pm₀ s pm inv.5))
+    c.if-s-h.branch-raw
+
+pub shape_of-pm : goal.shape_of-pm
+shape_of-pm c = c.loop-s.invariant.3
+
+pub returns : goal.returns
+unfolding ruled
+returns c =
+    let at = c in
+    let start = at in
+    let inv = at.loop-s.invariant in
+    let e : at.loop-s.s ≡ 2 * start.args.h = omega arith in
+    written_whole nan (ruled_at start.args.h start.args.b start.args.pm.now) (2 * start.args.h) at.loop-s.pm (omega arith) (rw e at inv).4

@@ -1,0 +1,42 @@
+-- `push` meets its contract.
+use mathlib.Core.Path.{refl, sym, ◌∙◌}
+use Prim.Native.Nat.{◌<◌, ◌≤◌}
+use native.Mathlib.Omega.{arith}
+use borrow.Author.Tests.{lt-ltb}
+use lib.ListN.{length}
+use Rattle.refusal.specs.declared.Answer.TheVariants.{Window, Space}
+use Rattle.strain_window.specs.After.{allowed}
+use Rattle.strain_window.proofs.Outcome.{turned_back, carried_out}
+use Rattle.strain_window.proofs.push.Goals as goal
+
+pub returns-then-is_outside : goal.returns-then-is_outside
+returns-then-is_outside c =
+    let a = c.args in
+    turned_back Window a.state a.clear a.sum a.kept-1.now c.refused.result c.refused.ensures (omega arith)
+    (rw (sym c.is_outside.ensures ∙ c.if-is_outside.true) refl)
+
+pub returns-then-kept-index : goal.returns-then-kept-index
+returns-then-kept-index c =
+    let past = c in
+    let a = past.args in
+    let inside = sym past.is_outside.ensures ∙ past.if-is_outside.false in
+    let short : length a.kept-1.now < a.state.window = rw past.index.ensures at past.if-kept-index.true in
+    turned_back Space a.state a.clear a.sum a.kept-1.now c.refused-then-kept-index.result c.refused-then-kept-index.ensures (omega arith)
+    (rw (inside, lt-ltb (length a.kept-1.now) a.state.window short) refl)
+
+pub keep_sum-requires : goal.keep_sum-requires
+keep_sum-requires c =
+    let past = c in
+    let a = past.args in
+    let inside = sym past.is_outside.ensures ∙ past.if-is_outside.false in
+    let room : a.state.window ≤ length a.kept-1.now = rw past.index.ensures at past.if-kept-index.false in
+    allowed a.state a.sum a.kept-1.now inside room
+
+pub returns : goal.returns
+returns c =
+    let done = c.keep_sum.ensures in
+    let past = c in
+    let a = past.args in
+    let inside = sym past.is_outside.ensures ∙ past.if-is_outside.false in
+    let room : a.state.window ≤ length a.kept-1.now = rw past.index.ensures at past.if-kept-index.false in
+    carried_out inside room done.0 done.1

@@ -1,0 +1,10 @@
+-- `encode_case` meets its contract.
+use native.Mathlib.Omega.{arith}
+use lib.ListN.{length-take}
+use Rattle.vectors_isdbt.proofs.encode_case.Goals as goal
+
+pub slice_bounds-encode_twice-end-2 : goal.slice_bounds-encode_twice-end-2
+slice_bounds-encode_twice-end-2 c = simp length-take (omega arith)
+
+pub slice_bounds-encode_twice-end-4 : goal.slice_bounds-encode_twice-end-4
+slice_bounds-encode_twice-end-4 c = simp length-take (omega arith)

@@ -1,0 +1,34 @@
+-- `viterbi_core::finish_at` meets its contract.
+use mathlib.Core.Path.{◌≡◌, refl, ◌∙◌, ap}
+use Prim.Native.Nat.{ℕ, ◌+◌, ◌-◌, ◌≤◌}
+use borrow.Author.Rules.{rules}
+use mathlib.Core.List.{List, ◌++◌}
+use lib.ListN.{length, take, drop}
+use lib.Seq.{length-take-le}
+use borrow.Rule.Slice.PartMut.{mid_of, put_mid}
+use Rattle.trellis.specs.Lists.{laid}
+use Rattle.trellis.specs.Isdb
+use Rattle.viterbi_core.specs.Calls.{traced}
+use Rattle.viterbi_core.specs.TracedLaws.{all_traced}
+use Rattle.viterbi_core.specs.PartLaws.{written_tail}
+use borrow.Author.Rules.{rules}
+use Rattle.viterbi_core.proofs.finish_at.Goals as goal
+
+-- the bits after the first `count` places
+put_out : (out p d : List ℕ) (count held s : ℕ) → count ≤ length out → held ≤ length d
+    → p ≡ laid (take held (traced (take held d) s)) (mid_of count (length out - count) out)
+    → put_mid count (length out - count) out p ≡ take count out ++ laid (traced (take held d) s) (drop count out)
+put_out out p d count held s h g ep =
+    let all : take held (traced (take held d) s) ≡ traced (take held d) s = all_traced Isdb.half (take held d) s held (length-take-le held d g) in
+    written_tail count out p (traced (take held d) s) h (ep ∙ ap (λ (x : List ℕ). laid x (mid_of count (length out - count) out)) all)
+
+pub returns : goal.returns
+returns c =
+    let cleared = c in
+    let traced-back = cleared in
+    let a = traced-back.args in (
+      refl,
+      cleared.clear.ensures,
+      put_out a.out-1.now traced-back.trace.new.1.1.1.1.0 a.decisions-1.now a.at.count a.at.held a.state
+          (search rules) (search rules) traced-back.trace.ensures,
+    )

@@ -1,0 +1,19 @@
+-- `viterbi_peak::rule_out` meets its contract. The invariant: the values below s are ruled, and the others are as they were.
+use mathlib.Core.Path.{◌≡◌}
+use mathlib.Core.Bool.{cond}
+use mathlib.Core.List.{List}
+use Prim.Native.Nat.{ℕ, ◌-◌, ◌/◌, ◌%◌, ◌≤◌}
+use lib.Dec.{eqb}
+use lib.ListN.{length, get_or}
+use lib.Ieee.{Float, nan, binary32, of_bits}
+use Rattle.trellis.specs.WrittenLaws.{Written, Kept}
+use Rattle.viterbi_peak.proofs.rule_out.Given as goal
+
+abbrev pub ruled_at : ℕ → List Float → ℕ → Float
+ruled_at b pm k = cond (eqb (k / 32) (b % 2)) (get_or pm k nan) (of_bits binary32 0xce6e_6b28)
+
+abbrev pub invariant-loop-s : goal.invariant-loop-s
+invariant-loop-s l = (l.s ≤ 64) × (l.kept ≡ l.b % 2) × (length l.pm ≡ 64) × Written nan (ruled_at l.b l.initial.pm) l.s l.pm × Kept nan l.initial.pm l.s l.pm
+
+abbrev pub decreases-loop-s : goal.decreases-loop-s
+decreases-loop-s l = 64 - l.s
