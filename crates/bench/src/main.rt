@@ -1,5 +1,7 @@
 // The technicians' bench program: makes ISDB-S frames for a tuner under test, and reads captures. With no argument it shows itself on
 // built-in data. The work is in bench_lib, and what it promises in the library below that.
+#![tactic(auto)]
+
 use bench_lib::LINE_BYTES;
 
 // Puts argument i into the line, and answers where it ends; the line's end where the argument is too long.

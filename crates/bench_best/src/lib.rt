@@ -1,4 +1,6 @@
 // The bench program's command best: the best reading of a frame, how strong it is in each slot, and whether read gives the same bytes.
+#![tactic(auto)]
+
 mod strength;
 
 use crate::strength::by_slot;

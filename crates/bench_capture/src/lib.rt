@@ -1,4 +1,6 @@
 // The bench program's command capture: every frame of a capture found, cut, turned right where that is asked, and read; a line for each.
+#![tactic(auto)]
+
 mod reading;
 mod searching;
 

@@ -1,4 +1,6 @@
 // The bench program's command check: frame after frame is read and compared with the load that was sent.
+#![tactic(auto)]
+
 ghost use Rattle.std.specs.Prelude.{◌<◌};
 
 use bench_compare::{differing, is_load};

@@ -1,4 +1,6 @@
 // CRC-32 of bytes and of files, as zip, gzip and crc32 have it.
+#![tactic(auto)]
+
 ghost use Rattle.std.specs.Prelude.{◌≡◌};
 ghost use Rattle.std.specs.Int.Bits.{bit_xor};
 ghost use Rattle.bench_checksum.specs.Crc.{shifted, stepped, register, checksum};

@@ -1,4 +1,6 @@
 // The bench program's command compare: how many bytes of two loads agree, and in which slots they do not.
+#![tactic(auto)]
+
 ghost use Rattle.std.specs.Prelude.{◌≤◌, ◌*◌};
 ghost use Rattle.isdbs_frame.specs.Frame.{slot_bytes};
 ghost use Rattle.isdbs_combination.specs.Combinations.{frame_slots};

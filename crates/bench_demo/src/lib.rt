@@ -1,4 +1,6 @@
 // The bench program's demonstration on built-in data.
+#![tactic(auto)]
+
 use bench_line::space::{BIT_SPACE, LOAD_SPACE};
 use bench_line::words::front;
 use bench_words::report;

@@ -1,4 +1,6 @@
 // The bench program's files, of bytes and of points.
+#![tactic(auto)]
+
 mod claims;
 pub mod files;
 mod hints;

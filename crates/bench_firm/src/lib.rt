@@ -1,4 +1,6 @@
 // When the reading of a valid slot is firm: its strength beside the level (signal by error power) of the frame's slots in which it lies. A measured rule, with its tables in docs/BENCH.md.
+#![tactic(auto)]
+
 mod levels;
 
 ghost use Rattle.std.specs.Prelude.{◌<◌};

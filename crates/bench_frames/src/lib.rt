@@ -1,4 +1,6 @@
 // The bench program's commands on captures of any length: frames and cut. A capture is read in pieces.
+#![tactic(auto)]
+
 mod cutting;
 pub mod searching;
 pub mod words;

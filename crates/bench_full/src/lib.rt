@@ -1,4 +1,6 @@
 // The bench program's commands on full frames of 39,936 points: lay and part.
+#![tactic(auto)]
+
 mod laying;
 mod points;
 mod taking;

@@ -1,4 +1,6 @@
 // What the header of a full frame says at the bench: how many of its 40 known signs agree, which frame of a superframe it is, and how it is turned.
+#![tactic(auto)]
+
 mod counting;
 mod words;
 

@@ -1,4 +1,6 @@
 // The points of a frame for the command read: read from its file, and taken out of a full frame, whose header is looked at.
+#![tactic(auto)]
+
 use bench_checksum::{BEGUN, Summed, ended, sum_of};
 use bench_files::files;
 use bench_files::files::Got;

@@ -1,4 +1,6 @@
 // A reading as one JSON object. Text is ASCII: any other byte of a name is written by its number, as \u00e9.
+#![tactic(auto)]
+
 mod slots;
 
 use bench_line::words::{Number, digits, part, parts};

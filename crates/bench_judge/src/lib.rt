@@ -1,4 +1,6 @@
 // The bench program's command judge: whether the points of a frame prove bytes at hand.
+#![tactic(auto)]
+
 use bench_files::files;
 use bench_files::files::Got;
 use bench_line::space::LOAD_SPACE;

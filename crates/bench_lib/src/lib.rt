@@ -1,5 +1,7 @@
 // The bench program's commands, on a line of words that are separated by 0 bytes. Reports go to standard output; the last line is ok, or
 // begins with doubtful, refused or failed. A crate for each command.
+#![tactic(auto)]
+
 pub use bench_line::space::LINE_BYTES;
 use bench_line::words::{part, parts, same};
 use bench_setting::usage;

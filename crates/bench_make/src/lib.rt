@@ -1,4 +1,6 @@
 // The bench program's command make: bytes of a load to points of a frame.
+#![tactic(auto)]
+
 use bench_files::files;
 use bench_line::space::LOAD_SPACE;
 use bench_line::words::{front, part};

@@ -1,4 +1,6 @@
 // The bench program's command on stored coded stretches: mend.
+#![tactic(auto)]
+
 use bench_files::files;
 use bench_line::space::LOAD_SPACE;
 use bench_line::words::{Number, digits, front, part, parts};

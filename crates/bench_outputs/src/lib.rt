@@ -1,4 +1,6 @@
 // The outputs of read: the bytes, and where they are asked for the best reading's bytes, a picture, a report, and the same as JSON. All are written, or none.
+#![tactic(auto)]
+
 ghost use Rattle.std.specs.Prelude.{◌≤◌};
 
 use bench_files::files;

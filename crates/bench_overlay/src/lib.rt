@@ -1,4 +1,6 @@
 // The bench program's command overlay: the exclusive-or of two loads.
+#![tactic(auto)]
+
 use bench_files::files;
 use bench_files::files::Got;
 use bench_line::space::{LOAD_BYTES, LOAD_SPACE};

@@ -1,4 +1,6 @@
 // The page that the command read says, and the upper part of the picture of a reading, where it is asked for.
+#![tactic(auto)]
+
 use bench_line::words::{front, part};
 use bench_quality::{Sums, frame_quality, is_aside, put_words, slot_quality};
 use bench_report::names::{put_quoted, put_word};

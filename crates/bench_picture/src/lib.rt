@@ -1,4 +1,6 @@
 // The panels of the picture of a reading.
+#![tactic(auto)]
+
 use bench_setting::choice::Reading;
 use bench_words::report;
 use isdbs_core::frame::MAIN_SYMBOLS;

@@ -1,4 +1,6 @@
 // How good received points are, from the sums that the library gives for each slot: modulation error ratio, gain, turn and offset, as numbers and in words.
+#![tactic(auto)]
+
 mod measure;
 mod words;
 

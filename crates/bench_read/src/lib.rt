@@ -1,4 +1,6 @@
 // The bench program's command read: points of a frame to bytes, with the verdict on them; and to a picture, a report and the best reading's bytes where they are asked for.
+#![tactic(auto)]
+
 mod keeping;
 
 use bench_calls::reading::read_of;

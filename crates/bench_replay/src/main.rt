@@ -1,6 +1,8 @@
 // The bench program's commands, run one after another on files of this folder: what is written is held to the file stdout.
 // The file data/lines has a line for each step: $ and a command of bench; # and words that are shown; or what is done to a file by hand:
 // show NAME, cut NAME SIZE, patch NAME PLACE BYTES (in hexadecimal digits), noise NAME, join NAME NAME OUT, turn NAME OUT.
+#![tactic(auto)]
+
 ghost use Rattle.std.specs.Prelude.{◌≤◌};
 
 use bench_line::space::LINE_BYTES;

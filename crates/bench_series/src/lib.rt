@@ -1,4 +1,6 @@
 // The bench program's command series: the strained steps of frame after frame, with the total and the greatest of the last frames, and what the reading of each frame is worth.
+#![tactic(auto)]
+
 pub mod plain;
 
 ghost use Rattle.std.specs.Prelude.{◌<◌, ◌≤◌};

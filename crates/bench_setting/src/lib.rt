@@ -1,4 +1,6 @@
 // What the words of a command say, and how the program is used where they are not understood.
+#![tactic(auto)]
+
 pub mod choice;
 mod options;
 pub mod setting;

@@ -1,4 +1,6 @@
 // Parts of a line of bytes, and two slices of bytes compared.
+#![tactic(auto)]
+
 ghost use Rattle.std.specs.Prelude.{◌≡◌, cond, [], ◌-◌, ◌≤◌, leb, length, take, drop};
 ghost use Rattle.bench_split.specs.Parts.{after, until, part_of, parts_of, equal};
 ghost use Rattle.bench_split.specs.Agreement.{agreement};

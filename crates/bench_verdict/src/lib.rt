@@ -1,4 +1,6 @@
 // The verdict in words: whether the points of a frame prove the bytes that were read, or those at hand; what a reading is worth; and its strain.
+#![tactic(auto)]
+
 pub mod facts;
 pub mod firm;
 pub mod last;

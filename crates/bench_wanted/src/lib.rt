@@ -1,4 +1,6 @@
 // The bench program's command bytes: the full load behind the points of a wanted frame.
+#![tactic(auto)]
+
 mod misfit;
 
 use bench_files::files;

@@ -1,4 +1,6 @@
 // What a reading is worth: judged by its points, laid beside the best reading, and held to the rule of firmness.
+#![tactic(auto)]
+
 use bench_calls::reading::{best_of, clean_leads};
 use bench_calls::strength::{byte_at, first_apart, strengths};
 use bench_compare::differing;

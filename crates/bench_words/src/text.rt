@@ -1,7 +1,9 @@
 // What is written on standard output.
 use bench_line::words::{part, parts};
 use isdbs_core::combination::Combination;
-use libc::STDOUT_FILENO;
+
+// The number of standard output.
+const STDOUT_FILENO: i32 = 1;
 
 pub fn text(s: &[u8]) {
     io::write_all(STDOUT_FILENO, s);

@@ -1,4 +1,6 @@
 // The verdict on a reading in a few words, for commands that read many frames: what the last line of read would say of it.
+#![tactic(auto)]
+
 mod words;
 
 use bench_line::space::LOAD_SPACE;

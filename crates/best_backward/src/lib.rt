@@ -1,4 +1,6 @@
 // The backward pass: of each state the least cost to the end, and that of a content which differs from the reading within the rest of its slot.
+#![tactic(auto)]
+
 ghost use Rattle.std.specs.Prelude.{◌≡◌, ◌+◌, ◌-◌, ◌*◌, ◌/◌, ◌%◌, ◌<◌, ◌≤◌, length};
 ghost use Rattle.viterbi_branches.specs.Branches.{BranchNumbers};
 ghost use Rattle.best_grid.specs.Sides.{mirror, two, price_at};

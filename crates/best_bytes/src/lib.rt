@@ -1,4 +1,6 @@
 // Between the steps of a frame and its load: the step at which each valid slot begins, and the bytes from the decoded bits and the uncoded ones, one of each for each step. No row is checked here.
+#![tactic(auto)]
+
 ghost use Rattle.std.specs.Prelude.{◌≡◌, ◌+◌, ◌*◌, ◌<◌, ◌≤◌, ◌^◌, length, get_or};
 ghost use Rattle.trellis.specs.Lists.{upto, laid};
 ghost use Rattle.trellis.specs.Isdb;

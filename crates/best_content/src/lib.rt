@@ -1,4 +1,6 @@
 // The best content of a stretch of metrics with sides, and by how much it leads in each slot: a forward pass, the bits traced back, their uncoded bits, and a backward pass, slot by slot.
+#![tactic(auto)]
+
 ghost use Rattle.std.specs.Prelude.{◌≡◌, ℕ, ◌+◌, ◌-◌, ◌*◌, ◌/◌, ◌%◌, ◌<◌, ◌≤◌, length, get_or, take};
 ghost use Rattle.trellis.specs.Lists.{upto, laid};
 ghost use Rattle.trellis.specs.Step.{back};

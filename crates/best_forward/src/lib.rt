@@ -1,4 +1,6 @@
 // The whole-number pass over a frame's metrics: of each state the least cost of a path to it, and a decision word for each step, by which the best path is traced back.
+#![tactic(auto)]
+
 ghost use Rattle.std.specs.Prelude.{◌≡◌, ◌+◌, ◌-◌, ◌*◌, ◌/◌, ◌%◌, ◌<◌, ◌≤◌, min, leb, length};
 ghost use Rattle.trellis.specs.Lists.{bit, upto, laid};
 ghost use Rattle.trellis.specs.Run.{quadruple};

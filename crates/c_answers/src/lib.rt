@@ -1,4 +1,6 @@
 // What the C calls have in common: a number for an answer, what a refused call leaves, and row 5 at its place. The definitions are in specs/.
+#![tactic(auto)]
+
 ghost use Rattle.std.specs.Prelude.{◌≡◌, cond};
 ghost use Rattle.refusal.specs.Rows.{number_of, accepted};
 

@@ -1,5 +1,7 @@
 // The call for C that gives the best reading of a frame and its lead in each valid slot. It answers document 01's number, 0 for accepted; refused, it leaves what is lent as it was.
 // include/isdb.h declares it.
+#![tactic(auto)]
+
 ghost use Rattle.std.specs.Prelude.{◌≡◌, ◌++◌};
 ghost use Rattle.isdbs_rows.specs.DecodeRows.{point_rows};
 ghost use Rattle.isdbs_metrics.specs.Scales.{received_by};

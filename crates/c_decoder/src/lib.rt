@@ -1,4 +1,6 @@
 // A decoder whose state C holds: 64 path values, how many decision words are held, and the traceback. Taken from the lent places, and handed back.
+#![tactic(auto)]
+
 ghost use Rattle.std.specs.Prelude.{◌≡◌, length, take};
 ghost use Rattle.refusal.specs.Rows.{number_of};
 ghost use Rattle.isdb_fec.specs.Rows.{handed_rows};

@@ -1,4 +1,6 @@
 // Demand 3 said of the C calls: what isdbs_encode_frame lays, received within its margins, isdbs_decode_frame reads back with a known start and all seven scales at 8.
+#![tactic(auto)]
+
 ghost use Rattle.std.specs.Prelude.{◌≡◌, true, length, replicate};
 ghost use Rattle.trellis.specs.Lists.{laid};
 ghost use Rattle.isdbs_points.specs.Frame.{end_state, frame_re, frame_im};

@@ -1,4 +1,6 @@
 // Calls for C on a decoder whose state the caller holds: 64 path values, how many decision words are held, and the traceback.
+#![tactic(auto)]
+
 ghost use Rattle.std.specs.Prelude.{ℕ, ◌/◌, ◌≡◌, length, take};
 ghost use Rattle.isdb_fec.specs.Calls.{steps, call, handed};
 ghost use Rattle.trellis.specs.Run.{pair_steps, four_steps, known_steps};

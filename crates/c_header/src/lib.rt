@@ -1,4 +1,6 @@
 // The calls for C on whole frames in a capture. Each answers document 01's number, 0 for accepted; refused, it leaves what it was lent as it was. include/isdb.h declares them.
+#![tactic(auto)]
+
 ghost use Rattle.std.specs.Prelude.{◌≡◌, ◌≤◌};
 ghost use Rattle.trellis.specs.Lists.{laid};
 ghost use Rattle.c_answers.specs.Answers.{answered, left};

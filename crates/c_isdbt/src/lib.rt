@@ -1,4 +1,6 @@
 // Calls for C on the punctured code of ISDB-T. Rates are numbered 0 to 4: 1/2, 2/3, 3/4, 5/6, 7/8.
+#![tactic(auto)]
+
 ghost use Rattle.std.specs.Prelude.{◌≡◌, [], ◌+◌, ◌*◌, ◌/◌, length, replicate};
 ghost use Rattle.trellis.specs.Lists.{laid};
 ghost use Rattle.trellis.specs.Code.{state_at};

@@ -1,5 +1,7 @@
 // The call for C that gives the verdict: the points of a frame outside the margins of a load. It answers document 01's number, 0 for accepted; refused, it leaves what is lent as it was.
 // include/isdb.h declares it.
+#![tactic(auto)]
+
 ghost use Rattle.std.specs.Prelude.{◌≡◌, length};
 ghost use Rattle.trellis.specs.Lists.{laid};
 ghost use Rattle.judge_points.specs.Outside.{outside_counts, outside_sum};

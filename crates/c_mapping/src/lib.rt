@@ -1,4 +1,6 @@
 // A mapping and flags as the C calls have them: one number each.
+#![tactic(auto)]
+
 ghost use Rattle.std.specs.Prelude.{◌≡◌};
 ghost use Rattle.c_mapping.specs.Mappings.{mapping_of};
 

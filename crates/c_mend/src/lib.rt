@@ -1,5 +1,7 @@
 // The call for C that mends a stored coded stretch. It answers document 01's number, 0 for accepted; refused, it leaves every lent number and slice as it was. include/isdb.h
 // declares it.
+#![tactic(auto)]
+
 ghost use Rattle.std.specs.Prelude.{length};
 ghost use Rattle.c_mend.specs.Calls.{Answers, Left};
 

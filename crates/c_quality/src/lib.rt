@@ -1,5 +1,7 @@
 // The call for C that gives the quality of a reading: sums of the received points of each slot against the points of the bytes. It answers document 01's number, 0 for accepted; refused, it
 // leaves what is lent as it was. include/isdb.h declares it.
+#![tactic(auto)]
+
 ghost use Rattle.std.specs.Prelude.{◌≡◌, length};
 ghost use Rattle.trellis.specs.Lists.{laid};
 ghost use Rattle.c_table.specs.Forms.{table_of};

@@ -1,4 +1,6 @@
 // Seven scales from a slice that C lends, and row 5 where they are not seven.
+#![tactic(auto)]
+
 ghost use Rattle.std.specs.Prelude.{◌≡◌, length};
 ghost use Rattle.isdbs_tables.specs.Tables.{table_rows};
 ghost use Rattle.c_answers.specs.Answers.{answered};

@@ -1,5 +1,7 @@
 // The C calls of a code of constraint length 3 to 7 with two generators. The caller holds the state: 64 path values at every length, how many decision words are
 // held, and the traceback.
+#![tactic(auto)]
+
 ghost use Rattle.std.specs.Prelude.{◌≡◌, ◌/◌, length};
 ghost use Rattle.trellis.specs.Lists.{laid};
 ghost use Rattle.trellis.specs.Encoded.{coded_bits, last_state};

@@ -1,4 +1,6 @@
 // Calls for C on a table, and positions.
+#![tactic(auto)]
+
 ghost use Rattle.std.specs.Prelude.{◌≡◌, ◌*◌, ◌<◌, length, get_or};
 ghost use Rattle.trellis.specs.Lists.{laid};
 ghost use Rattle.isdbs_combination.specs.Combinations.{combination_of, word_of, frame_slots};

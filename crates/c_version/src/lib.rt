@@ -1,4 +1,6 @@
 // The call for C that says the library's version. include/isdb.h declares it; compare/install.sh tests that the header and the bench say the same version.
+#![tactic(auto)]
+
 ghost use Rattle.std.specs.Prelude.{◌≡◌, ◌+◌, ◌*◌};
 ghost use Rattle.c_version.specs.Version.{major, minor, patch};
 

@@ -1,5 +1,7 @@
 // The call for C that gives the bytes behind a wanted frame (request P9). It answers document 01's number, 0 for accepted; refused, it leaves the lent bytes as they were. include/isdb.h
 // declares it.
+#![tactic(auto)]
+
 ghost use Rattle.std.specs.Prelude.{◌≡◌, length};
 ghost use Rattle.c_table.specs.Forms.{table_of};
 ghost use Rattle.c_mapping.specs.Mappings.{mapping_of, is_set};

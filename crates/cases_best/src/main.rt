@@ -1,5 +1,7 @@
 // Readings of whole quadruples beside a search through all paths: the greatest sum, how many paths have it, the first of them, and what
 // the decoder reads.
+#![tactic(auto)]
+
 ghost use Rattle.std.specs.Prelude.{◌≤◌};
 
 use cases_lib::{end_line, one, row, show, show_bits, show_one, wide};

@@ -1,5 +1,7 @@
 // The best content of stretches of four to ten steps beside a search through all contents (start, inputs, uncoded bits): the inputs and uncoded bits of the first of greatest sum, and by how much every
 // content that differs in a slot is smaller. A metric m is kept as m + 16 where the step has no uncoded bit, so a sum of n steps is kept plus 16 n. Few different metrics make equal sums.
+#![tactic(auto)]
+
 ghost use Rattle.std.specs.Prelude.{◌≡◌, true, ◌≤◌, ◌<◌, leb, length};
 ghost use Rattle.best_grid.specs.Grid.{below};
 ghost use Rattle.best_grid.specs.Sides.{Upright};

@@ -1,5 +1,7 @@
 // `best_reading` on frames of six tables: clean, from a known (case 1) and from an unknown start (2); with noise all over (3); with more noise in one stretch of symbols (4, 5). Of each are shown how many of
 // its bytes are read wrong, how many `decode_frame` reads otherwise, and the least, the greatest and the last lead, in whole units of a metric. Then rows 1, 6, 8 and 9.
+#![tactic(auto)]
+
 use best_frame::best_reading;
 use cases_frames::{load_bytes, mapping_of, show_table, table_of};
 use cases_lib::{alike, bytes_of, draw, least, row, show, step, text, words_of};

@@ -1,4 +1,6 @@
 // The examples of document 01 that are executed, and traps of its rules: what is written is held to the file stdout.
+#![tactic(auto)]
+
 use cases_frames::table_of;
 use cases_lib::{end_line, front, row, show, show_line, show_one, small, text};
 use isdbs_core::combination::{Combination, MaybeCombination};

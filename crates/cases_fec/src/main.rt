@@ -1,5 +1,7 @@
 // The inner code on published and worked values: the coded tails of the synchronization words, the counts of released bits, and the
 // places where a decoder is easily wrong. `stdout` has the values of document 01.
+#![tactic(auto)]
+
 ghost use Rattle.std.specs.Prelude.{◌≤◌, ◌<◌, length};
 
 use cases_lib::{alike, one, row, show, show_line, step, text, words_of};

@@ -1,4 +1,6 @@
 // What the executed programs on frames share: a table and a mapping as a number, the bytes of a load, a table as text. A table's entry i has its word at bit 16 i and its slots at bit 16 i + 8. All calls are total.
+#![tactic(auto)]
+
 ghost use Rattle.std.specs.Prelude.{◌*◌, ◌≤◌, ◌<◌};
 ghost use Rattle.isdbs_frame.specs.Frame.{slot_bytes};
 ghost use Rattle.isdbs_combination.specs.Combinations.{frame_slots};

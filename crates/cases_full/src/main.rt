@@ -1,5 +1,7 @@
 // A full frame whose point p holds p in its real part and -p in its imaginary part, taken apart and laid again. Place 0 has -0.0 and place 395 NaN. The slices of the frame are
 // ten points longer than it. A line for each place that the request names, for the frame laid again, and for each short slice.
+#![tactic(auto)]
+
 ghost use Rattle.std.specs.Prelude.{◌≤◌, length};
 
 use cases_lib::{nan, one, row, same_double, show};

@@ -1,6 +1,8 @@
 // `judge` (the verdict) on 32 frames: each mapping and kind of frame with four tables. Of each frame are judged: the clean frame; every part at an end of its margin; noise; two points of
 // the first run with one part at an end, or one ulp beyond it; the same points negated; the last point at the limit of a part, which is free where no run has it. A point outside must be
 // counted alone and in its slot. Then each row, alone and before a later one, with no count changed. The slices are four points longer than a frame, and these are beyond the limit.
+#![tactic(auto)]
+
 ghost use Rattle.std.specs.Prelude.{◌<◌, ◌≤◌};
 ghost use Rattle.isdbs_frame.specs.Frame.{main_symbols};
 

@@ -1,4 +1,6 @@
 // Stretches with a known end: one step with both bits wrong; the ten places of the least-weight difference, of which four may be wrong and five not; ends above 63; nothing held.
+#![tactic(auto)]
+
 use cases_lib::{bytes_of, end_line, row, show, show_bits, small, wide};
 use isdb_fec::conv::ViterbiDecoder;
 use trellis::FRAME_WORDS;

@@ -1,8 +1,12 @@
 // What the executed programs share: lines of text with numbers, pseudo-random numbers, comparing and counting, the hexadecimal numbers of a stored line. All calls are total.
+#![tactic(auto)]
+
 ghost use Rattle.std.specs.Prelude.{◌+◌, ◌≤◌, ◌<◌, length};
 
-use libc::STDOUT_FILENO;
 use refusal::Answer;
+
+// The number of standard output.
+const STDOUT_FILENO: i32 = 1;
 
 // ---- lines
 

@@ -3,6 +3,8 @@
 // is 65,536 or -65,536. Free are the imaginary parts of BPSK and both parts of the points outside every run. The slices are ten points longer than a frame, and these hold
 // 100,000, more than a part of a frame may be. A line for each frame shows its table as WORDxSLOTS, how many bytes of the load come back, and how many parts are free: one for each
 // symbol of BPSK, and two for each of the 38,976 that is in no run, a slot of a run being 812 symbols.
+#![tactic(auto)]
+
 ghost use Rattle.std.specs.Prelude.{◌≤◌, ◌<◌};
 
 use cases_frames::{TABLES, load_bytes, mapping_of, margin_end, show_table, table_of};

@@ -1,4 +1,6 @@
 // Mended stretches: the cases of request P13 and its rows, a stretch of 4,096 steps, and every stretch of up to 7 steps beside an exhaustive search.
+#![tactic(auto)]
+
 use cases_lib::{alike, front, row, show, small, wide, words_of};
 use isdb_fec::conv::ConvEncoder;
 use mend::Mended;

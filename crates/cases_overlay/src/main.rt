@@ -1,6 +1,8 @@
 // Two loads and their exclusive-or through both encoders. For each combination of ISDB-S, alone in a frame: of how many points the bits are the exclusive-or of those of both, and
 // whether the end states are. The same with the sum encoded from state 0, which is wrong for the first points, and with or in place of exclusive-or. Then each rate of ISDB-T, by the
 // bits that are sent; ISDB-S QPSK 2/3 beside ISDB-T 2/3; a code of length 3; the rows.
+#![tactic(auto)]
+
 ghost use Rattle.std.specs.Prelude.{◌≤◌};
 
 use cases_frames::{mapping_of, table_of};

@@ -1,5 +1,7 @@
 // A search through all paths of at most eight steps, for the programs that hold a reading to it, and lists of pseudo-random metrics. A metric m is kept as m + 16, from 0 to 32, so a sum of n
 // steps is kept plus 16 n. A code is given by its generators and by half the number of its states. All calls are total.
+#![tactic(auto)]
+
 ghost use Rattle.std.specs.Prelude.{◌+◌, ◌*◌, ◌≤◌, ◌<◌};
 
 fn parity(x: u32) -> u32

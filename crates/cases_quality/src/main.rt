@@ -1,5 +1,7 @@
 // `quality` on frames whose numbers can be worked out by hand: every sum is exact. Frame 0 has one slot of TC8PSK and four of BPSK, both of points (1, 0), then free slots; frames 1 and 2 have
 // 48 slots of TC8PSK of points (0, 1) and, conjugated, (0, -1). Each received point is the same. Then each row, alone or before a later one, with no number changed.
+#![tactic(auto)]
+
 ghost use Rattle.std.specs.Prelude.{◌<◌, ◌≤◌};
 
 use cases_frames::{load_bytes, mapping_of, table_of};

@@ -1,5 +1,7 @@
 // The codes of constraint length 3 to 7 run: the worked cases of length 3, readings of every length beside a search through all paths, and length 7 with 171
 // and 133 octal beside the calls of isdb_fec.
+#![tactic(auto)]
+
 ghost use Rattle.std.specs.Prelude.{◌+◌, ◌*◌, ◌≤◌, ◌<◌};
 
 use cases_lib::{alike, one, row, show, show_line, show_one, small, wide};

@@ -1,5 +1,7 @@
 // Length 7 with 171 and 133 octal beside the calls of isdb_fec: the same inputs to both, with the numbers, the states, the counts, the decisions and the output
 // compared. Calls of 4,500 and 9,000 steps, so that bits are released, and calls that are refused.
+#![tactic(auto)]
+
 ghost use Rattle.std.specs.Prelude.{◌+◌, ◌*◌, ◌≤◌, ◌<◌};
 
 use cases_lib::{alike, least, one, row, show_line, show_one};

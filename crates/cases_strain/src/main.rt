@@ -1,5 +1,7 @@
 // The strain that `decode_frame` counts on small frames: one symbol or one part of a clean frame is turned, so that one step is strained. The first six of 48 counts
 // are shown, which are 7 before, then how many of the 48 are 0 and how many are as they were lent.
+#![tactic(auto)]
+
 ghost use Rattle.std.specs.Prelude.{◌<◌, ◌≤◌};
 ghost use Rattle.isdbs_frame.specs.Frame.{main_symbols};
 

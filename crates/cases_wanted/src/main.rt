@@ -2,6 +2,8 @@
 // load is drawn and encoded; `wanted_load` must give it back, count its bytes and leave the others. Then one part of one point, as drawn, is changed in four ways: its sign is turned, it is moved by
 // its last bit, the sign of an imaginary part of the last point is turned, and it is no number. A changed frame must be answered by 13 with no byte changed, or by a load that encodes to it.
 // The slices are ten points longer than a frame, and these hold no numbers.
+#![tactic(auto)]
+
 ghost use Rattle.std.specs.Prelude.{◌*◌, ◌≤◌, ◌<◌};
 ghost use Rattle.isdbs_frame.specs.Frame.{main_symbols, slot_bytes};
 ghost use Rattle.isdbs_combination.specs.Combinations.{frame_slots};

@@ -1,4 +1,6 @@
 // Laws that hold the definitions to document 01 (specs/), and the public constants that no other proved code reads, held to their numbers.
+#![tactic(auto)]
+
 ghost use Rattle.std.specs.Prelude.{◌≡◌, [], ◌∷◌, ◌+◌, ◌-◌, ◌*◌};
 ghost use Rattle.isdbs_combination.specs.declared.Combination.TheVariants.{Bpsk1_2, Qpsk1_2, Qpsk2_3, Qpsk3_4, Qpsk5_6, Qpsk7_8, Tc8psk2_3};
 ghost use Rattle.checks.specs.Tails.{coded_tail};

@@ -1,4 +1,6 @@
 // The runs of a frame read one after the other, each with the scale of its combination. No row is checked here.
+#![tactic(auto)]
+
 ghost use Rattle.std.specs.Prelude.{◌≡◌, ◌-◌, ◌<◌, ◌≤◌, length};
 ghost use Rattle.trellis.specs.Lists.{upto, laid};
 ghost use Rattle.trellis.specs.Isdb.{frame_words};

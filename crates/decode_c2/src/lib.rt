@@ -1,4 +1,6 @@
 // C2 of a step of TC8PSK: the points of C2 = 0 by the register, and on which side of 0 a symbol lies along one. No row is checked here.
+#![tactic(auto)]
+
 ghost use Rattle.std.specs.Prelude.{◌≡◌, ◌<◌, length, get_or};
 ghost use Rattle.std.specs.Float.{nan};
 ghost use Rattle.std.specs.Float.Ieee.{lt};

@@ -1,4 +1,6 @@
 // The end of a frame: known bits, and all held bits leave.
+#![tactic(auto)]
+
 ghost use Rattle.std.specs.Prelude.{◌≡◌, ◌+◌, ◌<◌, ◌≤◌, length};
 ghost use Rattle.trellis.specs.Isdb.{frame_words};
 ghost use Rattle.decode_end.specs.End.{Ended};

@@ -1,4 +1,6 @@
 // A frame's bits, bytes and strain: all runs read into one decoder, its end, the bytes, and the strained steps of each slot.
+#![tactic(auto)]
+
 ghost use Rattle.trellis.specs.Isdb;
 ghost use Rattle.std.specs.Prelude.{◌≡◌, cond, true, false, ◌+◌, ◌≤◌, length, replicate};
 ghost use Rattle.std.specs.Float.{binary32};

@@ -1,5 +1,7 @@
 // What is taken of the symbols of a block before their metrics: the parts of QPSK in the order of its coded bits, the soft values of BPSK. The lent parts start at
 // the run's first symbol.
+#![tactic(auto)]
+
 ghost use Rattle.std.specs.Prelude.{◌≡◌, ◌+◌, ◌*◌, ◌≤◌, length, get_or};
 ghost use Rattle.std.specs.Float.{nan, binary32};
 ghost use Rattle.std.specs.Float.Ieee.{mul};

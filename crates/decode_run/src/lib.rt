@@ -1,4 +1,6 @@
 // The steps of a run, read in blocks of at most 64 periods.
+#![tactic(auto)]
+
 ghost use Rattle.std.specs.Prelude.{◌≡◌, ◌⊎◌, ◌*◌, ◌<◌, ◌≤◌, length};
 ghost use Rattle.trellis.specs.Lists.{upto, laid};
 ghost use Rattle.decode_block.specs.Blocks.{run_steps, run_mark};

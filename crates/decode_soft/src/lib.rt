@@ -1,4 +1,6 @@
 // The soft values of a block of parts, times the scale. Where all parts are zero or in the range of the f32's normal numbers, in loops without a branch, which the compiler makes vector code of.
+#![tactic(auto)]
+
 ghost use Rattle.std.specs.Prelude.{◌≡◌, true, ◌≤◌, ◌<◌, length, get_or};
 ghost use Rattle.std.specs.Float.{nan, binary32};
 ghost use Rattle.std.specs.Float.Ieee.{mul};

@@ -1,4 +1,6 @@
 // How many steps of each slot are strained: the marks of the steps against the labels of the bits that were read.
+#![tactic(auto)]
+
 ghost use Rattle.trellis.specs.Isdb;
 ghost use Rattle.std.specs.Prelude.{ℕ, ◌<◌, ◌≤◌, ◌+◌, ◌*◌, ◌/◌, ◌%◌, ◌^◌, length, ◌≡◌};
 ghost use Rattle.isdbs_combination.specs.Combinations.{slot_bits, frame_slots};

@@ -1,5 +1,7 @@
 // The bits of a frame's load, the trellis steps that they make, and several steps of the encoder at once. One number holds the state, its oldest stage
 // highest, and the inputs after it, the first highest: the register of each step is a window of seven of its digits.
+#![tactic(auto)]
+
 ghost use Rattle.trellis.specs.Isdb;
 ghost use Rattle.std.specs.Prelude.{◌≡◌, ◌<◌, ◌+◌, ◌%◌, ◌≤◌, ◌^◌, get_or};
 ghost use Rattle.encode_bits.specs.Windows.{backward, x_outputs, y_outputs, outputs_in};

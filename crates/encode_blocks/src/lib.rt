@@ -1,4 +1,6 @@
 // The points of a frame's runs in blocks: whole periods of a run, encoded into a small buffer. What is compared with a frame point by point need not hold it whole.
+#![tactic(auto)]
+
 ghost use Rattle.std.specs.Prelude.{◌≡◌, ℕ, ◌+◌, ◌*◌, ◌/◌, ◌<◌, ◌≤◌, ◌^◌, length, take};
 ghost use Rattle.trellis.specs.Code.{state_at};
 ghost use Rattle.encode_main.specs.Encoding.{inputs_of, Tiled};

@@ -1,4 +1,6 @@
 // The encoder of a frame: bytes to points. No row is checked here. After demod.rs of isdbs-phy.
+#![tactic(auto)]
+
 ghost use Rattle.std.specs.Prelude.{◌≡◌, ◌<◌, ◌≤◌, length, take};
 ghost use Rattle.trellis.specs.Lists.{upto, laid};
 ghost use Rattle.isdbs_frame.specs.Frame.{main_symbols};

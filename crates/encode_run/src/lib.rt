@@ -1,4 +1,6 @@
 // The points of a run of one combination, from a bit of the load and a state of the encoder on.
+#![tactic(auto)]
+
 ghost use Rattle.std.specs.Prelude.{◌≡◌, ◌+◌, ◌*◌, ◌/◌, ◌%◌, ◌<◌, ◌≤◌, ◌^◌, length, get_or};
 ghost use Rattle.std.specs.Float.{nan};
 ghost use Rattle.trellis.specs.Lists.{upto, laid};

@@ -3,6 +3,8 @@
 //   Frames      which frames lie within the margins
 //   Call        demand 3 of one call of `decode_frame`
 //   CallLaws    the call meets it, from its contract and the margins alone
+#![tactic(auto)]
+
 ghost use Rattle.std.specs.Prelude.{◌≡◌, true, length};
 ghost use Rattle.refusal.specs.Rows.{first_row, Either};
 ghost use Rattle.isdbs_phy.specs.DecodeRows.{decode_rows, frame_said, frame_answer, Kept, FrameLeft};

@@ -6,3 +6,4 @@
 //   StrainLaws  no step of such a frame is strained
 //   Unread      points past the 38,976th are not read
 //   Load        the frame depends on the bits of the valid slots alone
+#![tactic(auto)]

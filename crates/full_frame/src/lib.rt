@@ -1,4 +1,6 @@
 // The full frame of 39,936 symbols: laid from header, main signal and bursts, and taken apart again. Points are only copied.
+#![tactic(auto)]
+
 ghost use Rattle.std.specs.Prelude.{◌≡◌};
 ghost use Rattle.refusal.specs.Rows.{first_row};
 ghost use Rattle.full_frame_parts.specs.Places.{lent_inputs, full_part, taken};

@@ -1,4 +1,6 @@
 // One part, real or imaginary, of a full frame: laid from that part of header, main signal and bursts, and taken apart again; and the tests of the calls' rows.
+#![tactic(auto)]
+
 ghost use Rattle.std.specs.Prelude.{◌≡◌, ◌<◌, ◌≤◌, length};
 ghost use Rattle.trellis.specs.Lists.{laid};
 ghost use Rattle.full_frame_parts.specs.Places.{from, points_of, source_at, place_in, lent_inputs, lent_point, full_part, taken};

@@ -1,4 +1,6 @@
 // Laying a full frame and taking it apart undo each other: the two calls in a row, each way. The rows of both are tested first, so that a refused call writes nothing.
+#![tactic(auto)]
+
 ghost use Rattle.std.specs.Prelude.{◌≡◌, ◌||◌, take};
 ghost use Rattle.refusal.specs.Rows.{first_row};
 ghost use Rattle.full_frame_parts.specs.declared.Input.TheVariants.{Header, Main, Burst};

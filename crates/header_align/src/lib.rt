@@ -1,5 +1,7 @@
 // A frame turned right and brought to the size it was sent with, by the mean of its 40 known header symbols. Every part is an equation in f64
 // operations, each rounded once; nothing is promised of what it improves.
+#![tactic(auto)]
+
 ghost use Rattle.std.specs.Prelude.{◌≡◌, ◌+◌, ◌<◌, ◌≤◌, length, get_or};
 ghost use Rattle.refusal.specs.Rows.{first_row};
 ghost use Rattle.trellis.specs.Lists.{laid};

@@ -1,4 +1,6 @@
 // What the header of a frame says, and where a frame begins: kind, turn and the sums A and B, each held with 40 more.
+#![tactic(auto)]
+
 ghost use Rattle.std.specs.Prelude.{◌≡◌, ◌+◌, ◌≤◌, length};
 ghost use Rattle.isdbs_frame.specs.Frame.{frame_symbols};
 ghost use Rattle.header_find.specs.Headers.{header_at, header_says, doubted, find_says};

@@ -1,4 +1,6 @@
 // The mean of a frame's 40 known header symbols, and the turn that it tells. Every part is an equation in f64 operations, each rounded once.
+#![tactic(auto)]
+
 ghost use Rattle.std.specs.Prelude.{◌≡◌, ◌+◌, ◌≤◌, length};
 ghost use Rattle.trellis.specs.Step.{term};
 ghost use Rattle.isdbs_frame.specs.Frame.{frame_symbols};

@@ -1,6 +1,8 @@
 // How well a frame's header fits at a place, which frame of a superframe it is, and the place at which it fits best: by the signs of the 40 header symbols that every frame has.
 // Signs are counted; there is no float arithmetic here. Each number is its score and what keeps it from going below 0: 20 for the score of 20 symbols,
 // 40 for that of 40.
+#![tactic(auto)]
+
 ghost use Rattle.std.specs.Prelude.{◌≡◌, ◌+◌, ◌<◌, ◌≤◌, length, ltb};
 ghost use Rattle.isdbs_frame.specs.Frame.{frame_symbols};
 ghost use Rattle.header_sync.specs.Signs.{side, mark, marks, spread, smaller};

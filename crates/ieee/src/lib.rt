@@ -11,3 +11,4 @@
 //   Conversion  a float rounded to a format: order, identity, sign, bounds
 //   Bits        the bit pattern of a rounded value
 //   Within      the test of a value against a limit
+#![tactic(auto)]

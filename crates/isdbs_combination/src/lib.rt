@@ -1,5 +1,7 @@
 // Modulation-code combinations and their words (ITU-R BO.1408-1, Table 1), their slot units (MIC Ordinance No. 87 of 2011, annexed table 48, appended
 // note 3) and their punctured codes (BO.1408-1, Table 2; annexed table 49, note 4).
+#![tactic(auto)]
+
 ghost use Rattle.std.specs.Prelude.{◌≡◌, ◌*◌};
 ghost use Rattle.isdbs_combination.specs.Combinations.{combination_of, word_means, assigned_of, word_of, word_value, modulation_of, symbol_bits, rate_of, efficiency_of, rank_of, unit_of, slot_steps, slot_symbols, puncture_of, pairs_from, four_pairs, period_of};
 

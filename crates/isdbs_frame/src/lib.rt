@@ -4,6 +4,8 @@
 //     frame (39,936 symbols)
 //       header, 192 BPSK symbols
 //       192 x ( 203 main-signal symbols | 4 burst symbols )
+#![tactic(auto)]
+
 ghost use Rattle.std.specs.Prelude.{◌≡◌, ◌<◌};
 ghost use Rattle.isdbs_frame.specs.Answers.{position_said};
 ghost use Rattle.isdbs_frame.specs.Frame.{main_symbols, main, place_of, main_symbol_position, burst_symbol_position, high_first};

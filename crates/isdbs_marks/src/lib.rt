@@ -1,4 +1,6 @@
 // The combination of each slot of a table (ITU-R BO.1408-1, section 6.1), by its place in its unit.
+#![tactic(auto)]
+
 ghost use Rattle.std.specs.Prelude.{◌≡◌, replicate};
 ghost use Rattle.isdbs_tables.specs.Tables.{entry_combination};
 ghost use Rattle.isdbs_marks.specs.Marks.{marked, mark_in, mark_at, mark, marks_of, slot_marks};

@@ -1,4 +1,6 @@
 // What the metrics of a run are made from: the code of its combination, and its points as they are read.
+#![tactic(auto)]
+
 ghost use Rattle.std.specs.Prelude.{◌≡◌, ◌<◌, length, get_or};
 ghost use Rattle.std.specs.Float.{nan};
 ghost use Rattle.isdbs_combination.specs.Combinations.{modulation_of};

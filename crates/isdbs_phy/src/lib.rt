@@ -1,4 +1,6 @@
 // Bytes to signal points, and signal points to bytes.
+#![tactic(auto)]
+
 pub mod demod;
 
 pub use ieee_cast::soft;

@@ -1,4 +1,6 @@
 // The runs of a table: each combination's slots in the frame, and the plan of a frame (ITU-R BO.1408-1, sections 3.2 and 8).
+#![tactic(auto)]
+
 ghost use Rattle.std.specs.Prelude.{◌≡◌, ◌<◌, ◌≤◌};
 ghost use Rattle.isdbs_plan.specs.RunsOf.{run_of, plan_of, four_runs};
 

@@ -12,6 +12,8 @@
 //   Points     the points of BPSK, QPSK and 8PSK
 //   SizeLaws   the segments of an accepted table fit the frame
 //   AmongLaws  which segment has a step or a bit
+#![tactic(auto)]
+
 ghost use Rattle.std.specs.Prelude.{◌≡◌, true, false, ◌%◌, ◌<◌};
 ghost use Rattle.trellis.specs.Step.{term};
 ghost use Rattle.isdbs_points.specs.Points.{psk8_of, qpsk_of, subset, conjugated};

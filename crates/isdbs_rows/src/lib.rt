@@ -1,4 +1,6 @@
 // The answers of the frame calls by their rows, in the order of the table.
+#![tactic(auto)]
+
 ghost use Rattle.std.specs.Prelude.{◌≡◌, cond, not, ◌≤◌, length};
 ghost use Rattle.refusal.specs.Rows.{first_row};
 ghost use Rattle.isdbs_plan.specs.RunsOf.{plan_of, Planned};

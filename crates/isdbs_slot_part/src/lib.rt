@@ -1,4 +1,6 @@
 // The bytes of a valid slot, as a part of a frame's load.
+#![tactic(auto)]
+
 ghost use Rattle.std.specs.Prelude.{◌≡◌};
 ghost use Rattle.isdbs_slot_part.specs.SlotPart.{slot_part_answer, slot_part};
 

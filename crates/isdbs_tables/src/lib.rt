@@ -1,4 +1,6 @@
 // The table record of the TMCC information (ITU-R BO.1408-1, section 6.1, Fig. 8). The combination of each slot is in isdbs_marks.
+#![tactic(auto)]
+
 ghost use Rattle.std.specs.Prelude.{◌≡◌};
 ghost use Rattle.isdbs_tables.specs.Tables.{entry_combination, slot_sum, part_unit, reserved_word, some, table_answer};
 

@@ -1,4 +1,6 @@
 // The answers to the calls of ISDB-T by their rows. The calls are in isdbt_fec.
+#![tactic(auto)]
+
 ghost use Rattle.std.specs.Prelude.{◌≡◌, ◌*◌, ◌<◌, ltb};
 ghost use Rattle.refusal.specs.Rows.{first_row};
 ghost use Rattle.isdbt_rows.specs.Rows.{encode_rows, depuncture_rows, decode_rows};

@@ -1,5 +1,7 @@
 // The puncturing of ISDB-T (ARIB STD-B31, section 3.8, Table 3-8): the table, and the order of sent bits that it makes. After conv.rs of
 // isdbt-fec.
+#![tactic(auto)]
+
 ghost use Rattle.std.specs.Prelude.{◌≡◌, ◌+◌, ◌-◌, ◌*◌, ◌<◌, ◌≤◌};
 ghost use Rattle.isdbt_table.specs.Table.{row_of, spec_of, compiled};
 

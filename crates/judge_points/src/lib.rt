@@ -1,4 +1,6 @@
 // What a reading is worth: the points outside the margins of a load, counted slot by slot, and when no other load fits (theorems in specs/).
+#![tactic(auto)]
+
 ghost use Rattle.std.specs.Prelude.{◌≡◌, ℕ, ◌+◌, ◌<◌, ◌≤◌, length, get_or};
 ghost use Rattle.std.specs.Float.{nan};
 ghost use Rattle.trellis.specs.Lists.{upto, laid};

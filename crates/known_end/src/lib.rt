@@ -1,4 +1,6 @@
 // A stretch with a known end: a fresh decoder at the true start, one call of soft pairs, a flush from the true end. At most four wrong coded bits do no harm.
+#![tactic(auto)]
+
 ghost use Rattle.std.specs.Prelude.{◌≡◌, ◌-◌, ◌≤◌, length};
 ghost use Rattle.refusal.specs.Rows.{first_row};
 ghost use Rattle.isdb_fec.specs.Rows.{flush_rows};

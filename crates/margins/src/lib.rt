@@ -10,6 +10,8 @@
 //   Correlation  correlations of points within the margins
 //   Absolute     the absolute value of an f64
 //   Tc8psk       a TC8PSK point within the margins: its metrics and its uncoded bit
+#![tactic(auto)]
+
 ghost use Rattle.std.specs.Prelude.{◌≡◌, cond, ◌&&◌};
 ghost use Rattle.isdbs_combination.specs.Combinations.{modulation_of};
 ghost use Rattle.margins.specs.Margins.{between, keeps, any_accepted, holds, is_bpsk};

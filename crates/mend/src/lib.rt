@@ -1,4 +1,6 @@
 // Mending stored coded stretches (document 02, P13): hard X, Y bits with at most four wrong ones, between a known start and a known end.
+#![tactic(auto)]
+
 ghost use Rattle.std.specs.Prelude.{◌≡◌, ◌+◌, ◌*◌, ◌/◌, ◌%◌, ◌^◌, ◌≤◌, ◌<◌, length};
 ghost use Rattle.refusal.specs.Rows.{first_row};
 ghost use Rattle.trellis.specs.Lists.{upto, laid};

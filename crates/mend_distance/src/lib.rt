@@ -1,5 +1,7 @@
 // How near a stored stretch of X, Y bits comes to a coded one: of each state the least number of bits in which a coded stretch to it differs, counted up to 5, and the
 // decision words by which that stretch is traced back.
+#![tactic(auto)]
+
 ghost use Rattle.std.specs.Prelude.{◌≡◌, ◌+◌, ◌*◌, ◌/◌, ◌%◌, ◌<◌, ◌≤◌, min, ltb, length};
 ghost use Rattle.trellis.specs.Lists.{bit, upto, laid};
 ghost use Rattle.trellis.specs.Stretch.{Bits};

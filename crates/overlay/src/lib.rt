@@ -1,5 +1,7 @@
 // Overlaying two test patterns: two strings of equal length and their exclusive-or, encoded beside each other by a code of constraint length 3 to 7. What the call is
 // made of is in overlay_parts; that the code is linear, in overlay_laws, and of whole frames in overlay_frames.
+#![tactic(auto)]
+
 ghost use Rattle.std.specs.Prelude.{◌≡◌, length};
 ghost use Rattle.refusal.specs.Rows.{first_row, Either};
 ghost use Rattle.trellis.specs.Lists.{laid};

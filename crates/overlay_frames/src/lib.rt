@@ -6,3 +6,4 @@
 //   TwoThirds  2/3 of ISDB-S is two periods of ISDB-T
 //   Places     two encodings and their exclusive-or, by the place of a step
 //   Frames     the frame of every table
+#![tactic(auto)]

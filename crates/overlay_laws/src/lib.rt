@@ -4,3 +4,4 @@
 //   OverlaidLaws  laws of overlaid lists
 //   Coding        encoding the exclusive-or, of one code
 //   CodingLaws    it holds of every code of request P7
+#![tactic(auto)]

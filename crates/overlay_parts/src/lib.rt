@@ -3,6 +3,8 @@
 // The chapters of specs/:
 //   Rows   the refusal rows of the three encodings
 //   Calls  what the three encodings leave
+#![tactic(auto)]
+
 ghost use Rattle.std.specs.Prelude.{◌≡◌, true, ◌*◌, ◌≤◌, leb, length};
 ghost use Rattle.refusal.specs.Rows.{first_row};
 ghost use Rattle.trellis.specs.Lists.{laid};

@@ -15,6 +15,7 @@
 //   Hard       soft pairs of hard bits
 //   Corrected  at most four wrong coded bits are corrected
 //   Fresh      the path values of a fresh decoder
+#![tactic(auto)]
 
 #[derive(Clone, Copy)]
 pub enum Start {

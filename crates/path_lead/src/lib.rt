@@ -11,3 +11,4 @@
 //   Sent        the sent state always leads
 //   Known       known bits after the last step keep the lead
 //   Frame       a whole frame is decoded
+#![tactic(auto)]

@@ -1,4 +1,6 @@
 // A fresh decoder, one call of metrics, a flush: what comes out are the inputs of the first path of greatest sum.
+#![tactic(auto)]
+
 ghost use Rattle.std.specs.Prelude.{◌≡◌, cond, ◌++◌, ℕ, ◌-◌, ◌≤◌, length, take, drop};
 ghost use Rattle.refusal.specs.Rows.{first_row};
 ghost use Rattle.path_reading.specs.Calls.{fresh, Flushed, Left, GreatestSum};

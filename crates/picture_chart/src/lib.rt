@@ -1,4 +1,6 @@
 // The lower part of the picture of a frame that was read: the received points of each combination, and the same after alignment where gain or turn are off.
+#![tactic(auto)]
+
 mod cloud;
 mod panel;
 

@@ -1,4 +1,6 @@
 // The upper part of the picture of a frame that was read: the report's last line, what was read and how; by slot the strength, the strained steps, the modulation error ratio and the points outside the margins; and what the panels below show.
+#![tactic(auto)]
+
 mod levels;
 pub mod rows;
 

@@ -1,4 +1,6 @@
 // What a panel shows beside the points that it gathers: title, lines, squares, the ideal points of a modulation and their margins. It is 768 wide and high, and a part of 1 is 256 long.
+#![tactic(auto)]
+
 mod squares;
 
 use crate::squares::squares;

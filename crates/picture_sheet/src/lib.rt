@@ -1,4 +1,6 @@
 // A sheet of text that is filled from the front, and the places of a picture on it.
+#![tactic(auto)]
+
 ghost use Rattle.std.specs.Prelude.{◌≡◌, ◌*◌, ◌<◌, ◌≤◌, length};
 ghost use Rattle.picture_sheet.specs.Sheet.{Put, PutNumber};
 ghost use Rattle.picture_sheet.specs.Places.{bin_at, bin_of, height_of, unit_for};

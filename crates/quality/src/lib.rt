@@ -1,5 +1,7 @@
 // The quality of a reading: for each of the frame's 48 slots (812 symbols each) how many points are counted, and sums of the received points against the points of the bytes. From them follow
 // the modulation error ratio, the mean gain and turn, and the offset; here are only the sums, each one equation in f64 operations.
+#![tactic(auto)]
+
 ghost use Rattle.std.specs.Prelude.{◌≡◌, cond, ◌<◌, ◌≤◌, length, get_or};
 ghost use Rattle.trellis.specs.Lists.{laid};
 ghost use Rattle.refusal.specs.Rows.{first_row, accepted};

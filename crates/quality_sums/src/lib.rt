@@ -1,5 +1,7 @@
 // What received points and the encoded points beside them add to the seven numbers of their slots: how many they are, and sums of powers and of parts. Every number is an equation in f64
 // operations, each rounded once.
+#![tactic(auto)]
+
 ghost use Rattle.std.specs.Prelude.{◌≡◌, ◌+◌, ◌≤◌, length};
 ghost use Rattle.trellis.specs.Lists.{upto, laid};
 ghost use Rattle.isdbs_frame.specs.Frame.{main_symbols};

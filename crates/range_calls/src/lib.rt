@@ -11,6 +11,8 @@
 //   TwoCalls    a run in two calls
 //   CutAtOne    where two calls differ from one
 //   Finished    what a reading from a fresh decoder leaves
+#![tactic(auto)]
+
 ghost use Rattle.std.specs.Prelude.{◌≡◌, ◌/◌, length};
 ghost use Rattle.refusal.specs.Rows.{first_row, Either};
 ghost use Rattle.isdb_fec.specs.Calls.{call, handed, Leaves, Unchanged};

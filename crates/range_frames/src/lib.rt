@@ -1,4 +1,6 @@
 // The call of decode_frame with the ranges of a frame as its contract. The ranges and the theorem are in crates/range_metrics.
+#![tactic(auto)]
+
 ghost use Rattle.std.specs.Prelude.{◌≡◌, length};
 ghost use Rattle.refusal.specs.Rows.{first_row, Either};
 ghost use Rattle.isdbs_phy.specs.DecodeRows.{decode_rows, frame_said, frame_answer, Kept, FrameLeft};

@@ -8,3 +8,4 @@
 //   NumberLaws  the numbers belong together
 //   Ranges      what an accepted `decode_frame` keeps to
 //   Accepted    its rows give these ranges
+#![tactic(auto)]

@@ -9,3 +9,4 @@
 //   Known      a known bit keeps the bounds
 //   Run        the path values of a whole call
 //   Starts     fresh decoders keep the bounds
+#![tactic(auto)]

@@ -1,4 +1,6 @@
 // Where a call is turned back: the answers that every outside call gives, and their numbers.
+#![tactic(auto)]
+
 ghost use Rattle.std.specs.Prelude.{◌≡◌};
 ghost use Rattle.refusal.specs.Rows.{number_of};
 

@@ -1,5 +1,7 @@
 // The reading of metrics by a code of constraint length 3 to 7: the steps of a fresh decoder's call and a flush. What comes out are the inputs of the first
 // path of greatest sum.
+#![tactic(auto)]
+
 ghost use Rattle.std.specs.Prelude.{◌≡◌, ◌||◌, ◌*◌, ◌<◌, ◌≤◌, ◌/◌, ltb, length};
 ghost use Rattle.refusal.specs.Rows.{first_row, Either};
 ghost use Rattle.trellis.specs.Run.{start_unknown};

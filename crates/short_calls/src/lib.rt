@@ -1,4 +1,6 @@
 // The calls of short_fec in a row read the first path of greatest sum: a fresh decoder of traceback 128, `push_metrics`, `flush`. The theorem is in specs/.
+#![tactic(auto)]
+
 ghost use Rattle.std.specs.Prelude.{◌≡◌, length};
 ghost use Rattle.refusal.specs.Rows.{first_row, Either};
 ghost use Rattle.trellis.specs.Isdb.{frame_traceback};

@@ -1,4 +1,6 @@
 // The codes of constraint length 3 to 7 with two generators (document 02, P7): the test of a code, and one input of its encoder.
+#![tactic(auto)]
+
 ghost use Rattle.std.specs.Prelude.{◌≡◌, not, ◌&&◌, ◌*◌, ◌<◌, ◌≤◌, ◌%◌, leb, ltb};
 ghost use Rattle.trellis.specs.Code.{output, moved};
 ghost use Rattle.short_code.specs.Codes.{code_of, labels, good_code, Fits};

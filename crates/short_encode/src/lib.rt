@@ -1,4 +1,6 @@
 // The list encoder of a code of constraint length 3 to 7 with two generators: X then Y of each input bit, one in a byte.
+#![tactic(auto)]
+
 ghost use Rattle.std.specs.Prelude.{◌≡◌, ◌*◌, ◌<◌, ◌≤◌, length};
 ghost use Rattle.refusal.specs.Rows.{first_row, Either};
 ghost use Rattle.trellis.specs.Lists.{laid};

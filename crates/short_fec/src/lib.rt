@@ -1,5 +1,7 @@
 // Encoder and decoder of a code of constraint length 3 to 7 with two generators. The decoder's state is that of isdb_fec: 64 path values, of which the
 // first 2^(length-1) count, the held count and the traceback.
+#![tactic(auto)]
+
 ghost use Rattle.std.specs.Prelude.{◌≡◌, ◌⊎◌, true, ◌+◌, ◌*◌, ◌<◌, ◌≤◌, ◌/◌, ◌%◌, length};
 ghost use Rattle.refusal.specs.Rows.{first_row, Either};
 ghost use Rattle.trellis.specs.Code.{output, moved};

@@ -1,5 +1,7 @@
 // The answers to calls with a code of constraint length 3 to 7 by their rows: those of isdb_fec with row 12 right before 4. The calls are in short_fec.
 // `few` is a test of the rows of encodings (short_encode, overlay).
+#![tactic(auto)]
+
 ghost use Rattle.std.specs.Prelude.{◌≡◌, cond, ◌+◌, ◌*◌, ◌<◌, ◌≤◌, ltb, take};
 ghost use Rattle.refusal.specs.Rows.{first_row};
 ghost use Rattle.trellis.specs.Run.{traceback_limit, block};

@@ -1,6 +1,8 @@
 // Length 7 with 171 and 133 octal agrees with ISDB: for each call of the decoder, and for the encoder at rate 1/2, one function that makes both calls, the
 // second on copies of the lent slices. It promises all that each of the two promises, and that they leave the same. Here are the pushes; the flushes are in
 // short_same_flush, the laws and the other calls in short_same_code.
+#![tactic(auto)]
+
 ghost use Rattle.isdb_fec.specs.Rows as isdbRows;
 ghost use Rattle.isdb_fec.specs.Calls as isdbCalls;
 ghost use Rattle.short_fec.specs.Rows as shortRows;

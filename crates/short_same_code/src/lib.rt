@@ -1,5 +1,7 @@
 // Length 7 with 171 and 133 octal agrees with ISDB: what agreeing is and that the calls agree, the laws of specs/; and for one input of the encoder, for fresh
 // decoders and for the list encoder at rate 1/2 a function that makes both calls, as short_same has for the other calls.
+#![tactic(auto)]
+
 ghost use Rattle.trellis.specs.Isdb;
 ghost use Rattle.isdb_fec.specs.Rows as isdbRows;
 ghost use Rattle.short_fec.specs.Rows as shortRows;

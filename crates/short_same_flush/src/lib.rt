@@ -1,4 +1,6 @@
 // Length 7 with 171 and 133 octal agrees with ISDB: both flushes, as short_same has the other calls of the decoder.
+#![tactic(auto)]
+
 ghost use Rattle.isdb_fec.specs.Rows as isdbRows;
 ghost use Rattle.isdb_fec.specs.Calls as isdbCalls;
 ghost use Rattle.short_fec.specs.Rows as shortRows;

@@ -1,4 +1,6 @@
 // A trellis step of a code of constraint length 3 to 7 over its 2^(length-1) path values, and what is done with them between steps.
+#![tactic(auto)]
+
 ghost use Rattle.std.specs.Prelude.{◌≡◌, cond, ◌-◌, ◌*◌, ◌<◌, ◌≤◌, ◌%◌, eqb, length, get_or};
 ghost use Rattle.std.specs.Float.Ieee.{neg, of_bits};
 ghost use Rattle.std.specs.Float.{nan, binary32};

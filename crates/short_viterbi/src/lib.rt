@@ -1,5 +1,7 @@
 // The core of the decoder of a code of constraint length 3 to 7: a trellis step with the release that may follow, the steps of a call, and tracing. The
 // path values are a slice of 2^(length-1) values. The calls of crate short_fec check what these functions ask.
+#![tactic(auto)]
+
 ghost use Rattle.std.specs.Prelude.{◌≡◌, ◌⊎◌, ◌++◌, ℕ, ◌+◌, ◌-◌, ◌*◌, ◌<◌, ◌≤◌, ◌/◌, ◌%◌, length, take, drop, replicate};
 ghost use Rattle.trellis.specs.Lists.{laid};
 ghost use Rattle.trellis.specs.Step.{best, traced};

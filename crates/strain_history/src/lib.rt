@@ -3,3 +3,4 @@
 //   History      a run of pushes; total and greatest of the last accepted sums
 //   HistoryLaws  they are what every accepted push of a run gives
 //   Answers      which pushes of a run are refused
+#![tactic(auto)]

@@ -8,6 +8,8 @@
 //   SlotsLaws   the valid slots lie end to end
 //   Strain      which steps are strained, how many in each slot
 //   StrainLaws  laws of the strain of a frame
+#![tactic(auto)]
+
 ghost use Rattle.std.specs.Prelude.{◌≡◌, true, cond, [], ◌∷◌, ◌<◌};
 ghost use Rattle.std.specs.Float.{inf};
 ghost use Rattle.std.specs.Float.Ieee.{lt};

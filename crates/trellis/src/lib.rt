@@ -17,6 +17,7 @@
 //   Stretch       two coded stretches compared
 //   LinearLaws    the code is linear
 //   DistanceLaws  two different stretches differ in at least 10 coded bits
+#![tactic(auto)]
 
 // The states of the code, and half of them: 2 ^ 6 at the constraint length 7 of ITU-R BO.1408-1, section 9, Fig. 13 (`isdb` in specs/Code.antt).
 pub const STATES: usize = 64;

@@ -1,4 +1,6 @@
 // What a user of the library writes: a frame is made from a load and read again. The line of this crate in crates.txt is the one to copy: it names what such a user lists, and no more.
+#![tactic(auto)]
+
 use isdbs_core::frame::{LOAD_BYTES, MAIN_SYMBOLS, SLOT_BYTES, SLOTS};
 use isdbs_core::tmcc::{DUMMY, Entry, Table};
 use isdbs_phy::demod::{DemodOptions, FrameDecoded, Mapping, decode_frame, encode_frame};

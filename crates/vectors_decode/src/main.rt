@@ -1,6 +1,8 @@
 // `decode_frame` on 286 frames, held to what the given Rust makes of them: every combination alone and mixed, the empty table, all mappings, known and unknown
 // start, clean, noisy and random points, extreme parts, every part at a limit of row 7, scales from the least subnormal to 64, unequal scales. data/decode.hex is written by compare/vectors.sh; compare/README.md
 // has its fields. Lines that differ are shown, then how many agree and differ. The last line is that of the empty table with decision words of ones before it.
+#![tactic(auto)]
+
 ghost use Rattle.std.specs.Prelude.{◌≤◌, ◌<◌};
 
 use cases_frames::{mapping_of, table_of};

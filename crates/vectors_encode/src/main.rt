@@ -1,6 +1,8 @@
 // `encode_frame_with_state` on 389 frames, held to what the given Rust makes of them: every combination alone and mixed, all mappings and start states, loads
 // that are full, short and surplus. data/encode.hex is written by compare/vectors.sh; compare/README.md has its fields. Lines that differ are shown, then how
 // many agree and differ; last, the row of a part unit from a state that is none.
+#![tactic(auto)]
+
 ghost use Rattle.std.specs.Prelude.{◌≤◌, ◌<◌};
 
 use cases_frames::{mapping_of, table_of};

@@ -1,6 +1,8 @@
 // The ISDB-T calls on generated streams, held to what the given Rust made of them: data/isdbt.txt, written by compare/isdbt_vectors.sh. A
 // line: the call (e: encode_punctured twice, the encoder carried on; p: depuncture; v: decode_punctured), the rate's row in Table 3-8, the
 // traceback, the periods, and a digest of the output, all in hexadecimal. Lines that differ are shown, then how many agree and differ.
+#![tactic(auto)]
+
 ghost use Rattle.std.specs.Prelude.{◌≤◌, ◌<◌};
 
 use cases_lib::{float_bits, float_of, number, one, passed, read_line, show_agreeing, small, wide};

@@ -1,5 +1,7 @@
 // `soft` on 5,324 patterns around every boundary of rounding, held to what Rust's `as f32` made of them: data/soft.hex, a line of a pattern
 // and its answer each, in hexadecimal, written by compare/soft_vectors.rs. Lines that differ are shown, then how many agree and differ.
+#![tactic(auto)]
+
 ghost use Rattle.std.specs.Prelude.{◌≤◌, ◌<◌};
 
 use cases_lib::{double_of, float_bits, number, one, passed, read_line, show_agreeing};

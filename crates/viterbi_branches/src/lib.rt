@@ -1,4 +1,6 @@
 // The paths into a state, by the signs or the numbers of the branches: the tables of both, and a path by either.
+#![tactic(auto)]
+
 ghost use Rattle.std.specs.Prelude.{◌≡◌, cond, ◌+◌, ◌*◌, ◌%◌, ◌<◌, get_or};
 ghost use Rattle.std.specs.Float.Ieee.{lt, neg, of_bits};
 ghost use Rattle.std.specs.Float.{nan, binary32};

@@ -1,4 +1,6 @@
 // The choices of add-compare-select: of two paths, of two path values, and of all states. Every trellis step of the library chooses by these.
+#![tactic(auto)]
+
 ghost use Rattle.std.specs.Prelude.{◌≡◌, cond, ◌-◌, ◌*◌, ◌<◌, ◌≤◌, length};
 ghost use Rattle.std.specs.Float.Ieee.{lt};
 ghost use Rattle.trellis.specs.Lists.{bit};

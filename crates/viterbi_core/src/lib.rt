@@ -9,6 +9,8 @@
 //   HoldingLaws  the lent slices follow the decoder
 //   RunLaws      a call over two lists as two calls
 //   BlockLaws    blocks of steps with neither a subtraction nor a release
+#![tactic(auto)]
+
 ghost use Rattle.std.specs.Prelude.{◌≡◌, ◌++◌, cond, ◌+◌, ◌*◌, ◌<◌, ◌≤◌, ◌%◌, ◌^◌, ltb, length, take, drop, replicate};
 ghost use Rattle.trellis.specs.Lists.{laid};
 ghost use Rattle.trellis.specs.Step.{renormalised};

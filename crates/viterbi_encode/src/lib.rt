@@ -1,4 +1,6 @@
 // The code's encoder: one input of ISDB's code, the pair that it gives and the state that it leads to; and the parity of a byte, of which the outputs of every code are made.
+#![tactic(auto)]
+
 ghost use Rattle.std.specs.Prelude.{◌≡◌, ◌<◌, ◌%◌};
 ghost use Rattle.trellis.specs.Code.{isdb, output, moved};
 ghost use Rattle.trellis.specs.Parity.{ones};

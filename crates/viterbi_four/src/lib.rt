@@ -1,4 +1,6 @@
 // The step of four metrics: the metrics of the branches in rows, one for each input and low state bit, and both halves of the states in one loop.
+#![tactic(auto)]
+
 ghost use Rattle.std.specs.Prelude.{◌≡◌, ◌+◌, ◌*◌};
 ghost use Rattle.trellis.specs.Step.{four};
 ghost use Rattle.trellis.specs.Isdb.{nexts, word};

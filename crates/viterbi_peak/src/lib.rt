@@ -1,4 +1,6 @@
 // What is done with the 64 path values between steps: the maximum and its subtraction, the states that a known bit rules out, the best state.
+#![tactic(auto)]
+
 ghost use Rattle.std.specs.Prelude.{◌≡◌, ◌<◌, map, length};
 ghost use Rattle.std.specs.Float.{binary32};
 ghost use Rattle.std.specs.Float.Ieee.{sub};

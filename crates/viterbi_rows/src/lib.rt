@@ -1,4 +1,6 @@
 // The answers to calls on a handed decoder state by their rows: 64 path values, how many decision words are held, and the traceback. The calls are in isdb_fec.
+#![tactic(auto)]
+
 ghost use Rattle.std.specs.Prelude.{◌≡◌, cond, not, ℕ, ◌+◌, ◌<◌, ◌≤◌, take};
 ghost use Rattle.refusal.specs.Rows.{first_row};
 ghost use Rattle.trellis.specs.Isdb;

@@ -1,5 +1,7 @@
 // Add-compare-select: one step of the Viterbi decoder over its 64 path values, of a pair and of a known bit. The step of four metrics is in viterbi_four, what is
 // done with the path values between steps in viterbi_peak.
+#![tactic(auto)]
+
 ghost use Rattle.std.specs.Prelude.{◌≡◌, ◌<◌};
 ghost use Rattle.trellis.specs.Step.{pair, known, renormalised, ruled};
 ghost use Rattle.trellis.specs.Isdb.{nexts, word};

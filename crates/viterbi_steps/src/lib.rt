@@ -1,5 +1,7 @@
 // The trellis step, and steps in a row, their decision words to the front of a lent slice. The path values are a local of the loop, the step has one call, and each kind of step is
 // made by a function of its own: so the compiler makes a loop for each kind, with the step in one piece.
+#![tactic(auto)]
+
 ghost use Rattle.std.specs.Prelude.{◌≡◌, ◌+◌, ◌*◌, ◌%◌, ◌^◌, ◌<◌, ◌≤◌, length};
 ghost use Rattle.trellis.specs.Lists.{laid};
 ghost use Rattle.trellis.specs.Run.{interval, pair_steps, four_steps};

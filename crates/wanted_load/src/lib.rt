@@ -1,4 +1,6 @@
 // Request P9: the bytes behind a wanted frame. What the frame shows is read off, encoded again and compared (`wanted_match`); the lent bytes are written only then.
+#![tactic(auto)]
+
 ghost use Rattle.std.specs.Prelude.{◌≡◌, cond, ◌≤◌, length};
 ghost use Rattle.trellis.specs.Lists.{laid};
 ghost use Rattle.refusal.specs.Rows.{first_row, Either};

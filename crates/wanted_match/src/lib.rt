@@ -1,4 +1,6 @@
 // Whether a load encodes to a lent frame: it is encoded in blocks and compared bit by bit.
+#![tactic(auto)]
+
 ghost use Rattle.std.specs.Prelude.{◌+◌, ◌-◌, ◌≤◌, length, get_or};
 ghost use Rattle.std.specs.Float.{nan};
 ghost use Rattle.isdbs_frame.specs.Frame.{main_symbols};

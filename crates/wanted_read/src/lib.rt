@@ -1,4 +1,6 @@
 // What a received frame wants to be read as: each bit of the load by the signs of its points, run by run. `Wants` and what follows from it are in specs/.
+#![tactic(auto)]
+
 ghost use Rattle.trellis.specs.Isdb;
 ghost use Rattle.std.specs.Prelude.{◌≡◌, cond, ◌+◌, ◌*◌, ◌/◌, ◌%◌, ◌<◌, ◌≤◌, ◌^◌, ltb, length, get_or};
 ghost use Rattle.std.specs.Float.{nan};

@@ -10,7 +10,7 @@ overflow_add-result-2 c =
     let start = number in
     let a = start.args in
     let x = start.requires.4 (32 * a.u + a.s.j) in
-    let y = start.requires.5 number.number-n.result-1 in
+    let y = start.requires.5 number.number-n.result in
     omega arith
 
 pub returns : goal.returns

@@ -47,8 +47,8 @@ run_marks-requires c = let st = c in
     let s = w.filled.same in
     let ls = w.run.runs.steps in
     let lv = w.run.runs.valid in
-    let d = length-drop at.done at.marks-1 in
-    (omega arith, slot_few (get_or st.args.p.runs at.i no_run).combination _ c.steps_per_slot-steps.ensures, rw (tail_is at.done at.marks-1) (omega arith))
+    let d = length-drop at.done at.marks in
+    (omega arith, slot_few (get_or st.args.p.runs at.i no_run).combination _ c.steps_per_slot-steps.ensures, rw (tail_is at.done at.marks) (omega arith))
 
 pub overflow_mul-step : goal.overflow_mul-step
 overflow_mul-step c =

@@ -160,14 +160,14 @@ pack_run-requires c =
     let z = w.beside in
     let ls = w.run.runs.steps in
     let lv = w.run.runs.valid in
-    let d = length-drop at.done at.bytes-1 in
+    let d = length-drop at.done at.bytes in
     let du = length-drop at.step st.args.bits.now in
     let dz = length-drop at.step st.args.uncoded.now in (
       omega arith,
       rw (tail_is at.step st.args.bits.now, tail_is at.step st.args.uncoded.now) (steps_room (get_or st.args.p.runs at.i no_run).combination (get_or st.args.p.runs at.i no_run).valid_slots _ _ (omega arith) (omega arith)),
       rw (tail_is at.step st.args.bits.now) (drop_bits at.step st.args.bits.now st.requires.3),
       rw (tail_is at.step st.args.uncoded.now) (drop_bits at.step st.args.uncoded.now st.requires.4),
-      rw (tail_is at.done at.bytes-1) (omega arith),
+      rw (tail_is at.done at.bytes) (omega arith),
     )
 
 pub overflow_add-step : goal.overflow_add-step

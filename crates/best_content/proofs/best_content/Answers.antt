@@ -34,12 +34,12 @@ lead_slots-requires c =
     let kept = rb.ensures.1.1.1 in
     let lt = kept.1 in
     let lk = l.kept in
-    let zs = uncoded_whole (chosen a.sides.now bits rb.result.start) n _ a.uncoded-1.now l.beside wu.ensures in (
+    let zs = uncoded_whole (chosen a.sides.now bits rb.result.start) n _ a.uncoded.now l.beside wu.ensures in (
       l.marked,
       l.few,
       asked a.start a.metrics.now a.sides.now n bits _ rb.result.start l.few (omega arith) l.sided rb.ensures.0 zs,
       omega arith,
-      lowered a.start a.metrics.now a.marks.now (length a.leads-1.now) n rb.new.1.1.1.1.0 l.few l.marked kept.0,
+      lowered a.start a.metrics.now a.marks.now (length a.leads.now) n rb.new.1.1.1.1.0 l.few l.marked kept.0,
     )
 
 pub returns : goal.returns
@@ -55,6 +55,6 @@ returns c =
     let n = length a.metrics.now / 4 in
     let bits = rb.new.1.1.1.1.1.1.0 in
     let kept = rb.ensures.1.1.1 in
-    let zs = uncoded_whole (chosen a.sides.now bits rb.result.start) n _ a.uncoded-1.now l.beside wu.ensures in
-    whole_found a.start a.metrics.now a.sides.now a.marks.now (length a.leads-1.now) n l.few l.upright l.marked rb.new.1.1.1.1.0 bits _ _ rb.result.start rb.result.cost
+    let zs = uncoded_whole (chosen a.sides.now bits rb.result.start) n _ a.uncoded.now l.beside wu.ensures in
+    whole_found a.start a.metrics.now a.sides.now a.marks.now (length a.leads.now) n l.few l.upright l.marked rb.new.1.1.1.1.0 bits _ _ rb.result.start rb.result.cost
     kept.0 rb.ensures.0 rb.ensures.1.0.1 zs rb.ensures.1.1.0 ls.ensures

@@ -15,20 +15,20 @@ loop-s-init c = (omega arith, refl)
 pub bounds-tables-s : goal.bounds-tables-s
 bounds-tables-s c = let at = c in
     let a = at.args in
-    let l = length_laid_upto (seq a.d.now) at.loop-s.s a.tables-1.now (omega arith) in
+    let l = length_laid_upto (seq a.d.now) at.loop-s.s a.tables.now (omega arith) in
     rw at.loop-s.invariant.1 (omega arith)
 
 pub loop-s-preserved : goal.loop-s-preserved
 loop-s-preserved c = let at = c in
     let a = at.args in
     let s = at.loop-s.s in
-    let h : s < length a.tables-1.now = omega arith in
-    (omega arith, ap (λ (x : List ℕ). set x s (get_or a.d.now s 0)) at.loop-s.invariant.1 ∙ laid_upto (seq a.d.now) s a.tables-1.now (get_or a.d.now s 0) h refl)
+    let h : s < length a.tables.now = omega arith in
+    (omega arith, ap (λ (x : List ℕ). set x s (get_or a.d.now s 0)) at.loop-s.invariant.1 ∙ laid_upto (seq a.d.now) s a.tables.now (get_or a.d.now s 0) h refl)
 
 pub shape_of-tables : goal.shape_of-tables
 shape_of-tables c = let at = c in
     let a = at.args in
-    rw at.loop-s.invariant.1 (length_laid_upto (seq a.d.now) at.loop-s.s a.tables-1.now (omega arith))
+    rw at.loop-s.invariant.1 (length_laid_upto (seq a.d.now) at.loop-s.s a.tables.now (omega arith))
 
 pub returns : goal.returns
 returns c = let at = c in

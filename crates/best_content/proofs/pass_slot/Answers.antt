@@ -18,8 +18,8 @@ pass-requires c =
     let a = start.args in
     let p = start.requires in
     let e = part_length a.metrics.now a.a a.b p.0 p.1 in
-    let t = tail_whole a.a a.decisions-1.now [] [] (let q = p.3 in let w = p.0 in omega arith) in
-    let l = length-drop a.a a.decisions-1.now in
+    let t = tail_whole a.a a.decisions.now [] [] (let q = p.3 in let w = p.0 in omega arith) in
+    let l = length-drop a.a a.decisions.now in
     (rw e (rw t (rw l (let q = p.3 in omega arith))), λ k. rw e (p.4 k))
 
 pub returns : goal.returns
@@ -32,7 +32,7 @@ returns c =
     let w = rw e at c.pass.ensures in (
       w.0,
       (
-        written_tail a.a a.decisions-1.now c.pass.new.1.1.0 (upto (word_at a.d.now (cost_at (quadruple (piece (4 * a.a) (4 * a.b) a.metrics.now)))) (a.b - a.a)) (let q = p.3 in let v = p.0 in omega arith) w.1,
-        written_tail a.at a.tables-1.now keep-table.keep_table.new.1.0 (upto (seq a.d.now) 64) (let q = p.2 in omega arith) keep-table.keep_table.ensures,
+        written_tail a.a a.decisions.now c.pass.new.1.1.0 (upto (word_at a.d.now (cost_at (quadruple (piece (4 * a.a) (4 * a.b) a.metrics.now)))) (a.b - a.a)) (let q = p.3 in let v = p.0 in omega arith) w.1,
+        written_tail a.at a.tables.now keep-table.keep_table.new.1.0 (upto (seq a.d.now) 64) (let q = p.2 in omega arith) keep-table.keep_table.ensures,
       ),
     )

@@ -46,7 +46,7 @@ pass_slot-requires c =
     let de = p.2 in
     let n = length a.metrics.now / 4 in
     let lt = inv.3 in
-    let ld = length_laid_upto (word_at a.d.now (cost_at (quadruple a.metrics.now))) (get_or a.marks.now k 0) a.decisions-1.now (omega arith) in
+    let ld = length_laid_upto (word_at a.d.now (cost_at (quadruple a.metrics.now))) (get_or a.marks.now k 0) a.decisions.now (omega arith) in
     (omega arith, omega arith, omega arith, rw inv.2 (omega arith), room_on n a.d.now a.metrics.now (get_or a.marks.now k 0) (get_or a.marks.now (k + 1) 0) at.loop-k.d p.3 (omega arith) u inv.1)
 
 pub loop-k-preserved : goal.loop-k-preserved
@@ -71,7 +71,7 @@ loop-k-preserved c =
     let sv = saved_more a.d.now f a.marks.now k at.loop-k.tables _ at.loop-k.d (omega arith) inv.1 g.1.1 inv.4 in (
       omega arith,
       slot_table a.d.now a.metrics.now x y (omega arith) (omega arith) at.loop-k.d _ inv.1 g.0,
-      slot_words_lem a.d.now a.metrics.now x y (omega arith) (omega arith) at.loop-k.d at.loop-k.decisions a.decisions-1.now _ inv.1 inv.2 g.1.0,
+      slot_words_lem a.d.now a.metrics.now x y (omega arith) (omega arith) at.loop-k.d at.loop-k.decisions a.decisions.now _ inv.1 inv.2 g.1.0,
       sv.1 ∙ inv.3,
       sv.0,
     )
@@ -85,7 +85,7 @@ shape_of-decisions c = let at = c in
     let a = start.args in
     let u = start.requires.0.under at.loop-k.k at.loop-k.invariant.0 in
     let v = start.requires.2 in
-    rw at.loop-k.invariant.2 (length_laid_upto (word_at a.d.now (cost_at (quadruple a.metrics.now))) (get_or a.marks.now at.loop-k.k 0) a.decisions-1.now (omega arith))
+    rw at.loop-k.invariant.2 (length_laid_upto (word_at a.d.now (cost_at (quadruple a.metrics.now))) (get_or a.marks.now at.loop-k.k 0) a.decisions.now (omega arith))
 
 pub returns : goal.returns
 returns c = let at = c in

@@ -30,9 +30,9 @@ returns c =
     let tr = trace.trace in
     let n = length a.metrics.now / 4 in
     let q = quadruple a.metrics.now in
-    let w = whole_words a.start q n st.result ps.new.1.1.1.1.1.0 a.decisions-1.now st.ensures ps.ensures.1.0 in
+    let w = whole_words a.start q n st.result ps.new.1.1.1.1.1.0 a.decisions.now st.ensures ps.ensures.1.0 in
     let e = whole_end a.start q n st.result ps.new.0 ch.result st.ensures ps.ensures.0 ch.ensures.1 in (
-      whole_bits a.start q n ps.new.1.1.1.1.1.0 _ a.bits-1.now ch.result w e p.4 tr.ensures,
+      whole_bits a.start q n ps.new.1.1.1.1.1.0 _ a.bits.now ch.result w e p.4 tr.ensures,
       (
         (c.traced_start-s.ensures.0, whole_start_lem a.start q n ps.new.1.1.1.1.1.0 ch.result c.traced_start-s.result w e c.traced_start-s.ensures.1),
         (

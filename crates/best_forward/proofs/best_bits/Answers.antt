@@ -23,7 +23,7 @@ returns c = let tr = c in
     let n = length a.metrics.now / 4 in
     let q = quadruple a.metrics.now in (
       tr.trace.ensures
-          ∙ ap (λ (x : List ℕ). laid x a.bits-1.now)
-          (traced_best a.start q n ch.cheapest_state-end.result st.start_table-first.result _ _ a.decisions-1.now st.start_table-first.ensures pa.pass.ensures.0 pa.pass.ensures.1 ch.cheapest_state-end.ensures.1),
+          ∙ ap (λ (x : List ℕ). laid x a.bits.now)
+          (traced_best a.start q n ch.cheapest_state-end.result st.start_table-first.result _ _ a.decisions.now st.start_table-first.ensures pa.pass.ensures.0 pa.pass.ensures.1 ch.cheapest_state-end.ensures.1),
       best_reading a.start q n start.requires.0,
     )

@@ -10,7 +10,7 @@ overflow_add-result-2 c =
     let start = c in
     let a = start.args in
     let r = start.requires.4 (2 * a.j + a.b) in
-    let s = start.requires.5 c.number-n.result-1 in
+    let s = start.requires.5 c.number-n.result in
     omega arith
 
 pub returns : goal.returns

@@ -51,10 +51,10 @@ run_metrics-requires c =
     let g = w.fits in
     let s = w.filled.same in
     let ls = w.run.runs.steps in
-    let d = length-drop (4 * at.step) at.metrics-1 in (
+    let d = length-drop (4 * at.step) at.metrics in (
       run_periods (get_or st.args.p.runs at.i no_run) _ (w.run.runs.whole at.i) e,
       omega arith,
-      rw (tail_is (4 * at.step) at.metrics-1) (omega arith),
+      rw (tail_is (4 * at.step) at.metrics) (omega arith),
       part_covers _ _ w.run.runs _ st.args.re.now _ st.requires.1 e,
       part_covers _ _ w.run.runs _ st.args.im.now _ st.requires.2 e,
     )

@@ -36,4 +36,4 @@ returns c =
     let made = make-block.make_block in
     let block = made.new.1.1.1.1.1.1.0 in
     c.take_block.ensures
-    ∙ ap (λ (x : List Float). laid x a.out-1.now) (upto_cong (floats block) (λ i. fours ms (4 * a.k + i)) (4 * a.n) (λ i h. block_fours ms a.k a.n block made.ensures.0 i h))
+    ∙ ap (λ (x : List Float). laid x a.out.now) (upto_cong (floats block) (λ i. fours ms (4 * a.k + i)) (4 * a.n) (λ i h. block_fours ms a.k a.n block made.ensures.0 i h))

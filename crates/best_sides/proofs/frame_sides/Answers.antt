@@ -42,9 +42,9 @@ run_sides-requires c =
     let f = w.run.steps_fit in
     let g = w.fits in
     let s = same w in
-    let d = length-drop at.step at.sides-1 in (
+    let d = length-drop at.step at.sides in (
       room_by (get_or st.args.p.runs at.i no_run).combination _ _ _ (part_covers _ _ w.run.runs _ st.args.re.now _ st.requires.1 e) (part_covers _ _ w.run.runs _ st.args.im.now _ st.requires.2 e),
-      rw (tail_is at.step at.sides-1) (omega arith),
+      rw (tail_is at.step at.sides) (omega arith),
     )
 
 pub overflow_add-step : goal.overflow_add-step

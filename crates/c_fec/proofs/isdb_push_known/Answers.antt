@@ -17,11 +17,11 @@ unfolding first_place
 returns-then-pm-ne-STATES c =
     let start = c in
     let a = start.args in
-    let w : ViterbiDecoder = decoder_of a.pm-1.now a.held.now a.traceback in
-    let f : ViterbiDecoder = decoder_of (take 64 a.pm-1.now) a.held.now a.traceback in
+    let w : ViterbiDecoder = decoder_of a.pm.now a.held.now a.traceback in
+    let f : ViterbiDecoder = decoder_of (take 64 a.pm.now) a.held.now a.traceback in
     let n = c.not_states.result in
     let h = until_refuses (handed_rows f) tt n c.not_states.ensures in
-    (not_states a.pm-1.now (push_known_rows f (length a.bits.now) (length a.decisions-1.now) (length a.out-1.now)) n c.if-pm-ne-STATES.true c.not_states.ensures, unstored n a.traceback (steps a.traceback (known_steps a.bits.now) (handed w a.decisions-1.now) (length a.bits.now)) a.pm-1.now a.held.now a.count.now a.decisions-1.now a.out-1.now h)
+    (not_states a.pm.now (push_known_rows f (length a.bits.now) (length a.decisions.now) (length a.out.now)) n c.if-pm-ne-STATES.true c.not_states.ensures, unstored n a.traceback (steps a.traceback (known_steps a.bits.now) (handed w a.decisions.now) (length a.bits.now)) a.pm.now a.held.now a.count.now a.decisions.now a.out.now h)
 
 pub returns : goal.returns
 returns c =
@@ -32,6 +32,6 @@ returns c =
     let start = if1 in
     let a = start.args in
     let v = d.decoder_of-v.result in
-    let w : ViterbiDecoder = decoder_of a.pm-1.now a.held.now a.traceback in
+    let w : ViterbiDecoder = decoder_of a.pm.now a.held.now a.traceback in
     let e : v ≡ w = d.decoder_of-v.ensures in
-    pushed v w e (λ v. push_known_rows v (length a.bits.now) (length a.decisions-1.now) (length a.out-1.now)) p.push_known-r.result s.store.result s.store.new.1.0 s.store.new.1.1.0 a.count.now s.store.new.1.1.1.0 a.decisions-1.now p.push_known-r.new.1.1.0 a.out-1.now p.push_known-r.new.1.1.1.0 if1.if-pm-ne-STATES.false s.store.ensures.0 s.store.ensures.1.0 s.store.ensures.1.1.0 s.store.ensures.1.1.1 p.push_known-r.ensures.0 (λ v. steps v.traceback (known_steps a.bits.now) (handed v a.decisions-1.now) (length a.bits.now)) p.push_known-r.ensures.1
+    pushed v w e (λ v. push_known_rows v (length a.bits.now) (length a.decisions.now) (length a.out.now)) p.push_known-r.result s.store.result s.store.new.1.0 s.store.new.1.1.0 a.count.now s.store.new.1.1.1.0 a.decisions.now p.push_known-r.new.1.1.0 a.out.now p.push_known-r.new.1.1.1.0 if1.if-pm-ne-STATES.false s.store.ensures.0 s.store.ensures.1.0 s.store.ensures.1.1.0 s.store.ensures.1.1.1 p.push_known-r.ensures.0 (λ v. steps v.traceback (known_steps a.bits.now) (handed v a.decisions.now) (length a.bits.now)) p.push_known-r.ensures.1

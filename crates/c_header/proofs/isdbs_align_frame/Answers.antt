@@ -16,7 +16,7 @@ returns c =
     let m : n ≡ number_of call.align_frame-a.result = c.number.ensures in (
       m ∙ ap number_of e.0,
       (
-        e.1.0 ∙ ap (λ (k : ℕ). left k (laid (aligned_re x.re.now x.im.now x.at) x.out_re-1.now) x.out_re-1.now) (sym m),
-        e.1.1 ∙ ap (λ (k : ℕ). left k (laid (aligned_im x.re.now x.im.now x.at) x.out_im-1.now) x.out_im-1.now) (sym m),
+        e.1.0 ∙ ap (λ (k : ℕ). left k (laid (aligned_re x.re.now x.im.now x.at) x.out_re.now) x.out_re.now) (sym m),
+        e.1.1 ∙ ap (λ (k : ℕ). left k (laid (aligned_im x.re.now x.im.now x.at) x.out_im.now) x.out_im.now) (sym m),
       ),
     )

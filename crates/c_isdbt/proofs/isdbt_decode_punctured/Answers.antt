@@ -39,7 +39,7 @@ returns-then-answer-ne0 c =
     let k = t.in-Rate.c in
     let em : rate_by a.rate ≡ Rate k = sym q.rate_of-m.ensures ∙ t.in-Rate.is in
     let e = n.number-answer.ensures in
-    let rows : CodeRate → List Row = λ x. decode_rows x a.llrs.now a.traceback (length a.decisions-1.now) (length a.out-1.now) in
+    let rows : CodeRate → List Row = λ x. decode_rows x a.llrs.now a.traceback (length a.decisions.now) (length a.out.now) in
     let w = rate_answer (rate_by a.rate) k em (fresh_rows a.traceback) rows n.number-answer.result p.decode_punctured-r.result.answer e p.decode_punctured-r.ensures.0 in
     let h = c.if-answer-ne0.true in
     let l = p.decode_punctured-r.ensures.1.1 (refusing n.number-answer.result p.decode_punctured-r.result.answer e h) in
@@ -55,8 +55,8 @@ returns c =
     let k = t.in-Rate.c in
     let em : rate_by a.rate ≡ Rate k = sym q.rate_of-m.ensures ∙ t.in-Rate.is in
     let e = n.number-answer.ensures in
-    let rows : CodeRate → List Row = λ x. decode_rows x a.llrs.now a.traceback (length a.decisions-1.now) (length a.out-1.now) in
+    let rows : CodeRate → List Row = λ x. decode_rows x a.llrs.now a.traceback (length a.decisions.now) (length a.out.now) in
     let w = rate_answer (rate_by a.rate) k em (fresh_rows a.traceback) rows n.number-answer.result p.decode_punctured-r.result.answer e p.decode_punctured-r.ensures.0 in
     let z = c.if-answer-ne0.false in
     let l = p.decode_punctured-r.ensures.1.0 (zero_accepted p.decode_punctured-r.result.answer (sym e ∙ z)) in
-    (sym z ∙ w, (l.words, (l.bits_are ∙ ap (λ (x : List ℕ). laid x a.out-1.now) (rate_value (rate_by a.rate) k em [] (λ x. decoded_bits x a.llrs.now (depth a.traceback))), l.count_is ∙ rate_value (rate_by a.rate) k em 0 (λ x. length a.llrs.now / sent x * period x))))
+    (sym z ∙ w, (l.words, (l.bits_are ∙ ap (λ (x : List ℕ). laid x a.out.now) (rate_value (rate_by a.rate) k em [] (λ x. decoded_bits x a.llrs.now (depth a.traceback))), l.count_is ∙ rate_value (rate_by a.rate) k em 0 (λ x. length a.llrs.now / sent x * period x))))

@@ -38,7 +38,7 @@ returns-then-answer-ne0 c =
     let k = t.in-Rate.c in
     let em : rate_by a.rate ≡ Rate k = sym q.rate_of-m.ensures ∙ t.in-Rate.is in
     let e = n.number-answer.ensures in
-    let rows : CodeRate → List Row = λ x. encode_rows x a.state.now (length a.bits.now) (length a.out-1.now) in
+    let rows : CodeRate → List Row = λ x. encode_rows x a.state.now (length a.bits.now) (length a.out.now) in
     let w = rate_answer (rate_by a.rate) k em (encoder_rows a.state.now) rows n.number-answer.result p.encode_punctured-r.result.answer e p.encode_punctured-r.ensures.0 in
     let h = c.if-answer-ne0.true in
     let l = p.encode_punctured-r.ensures.1.1 (refusing n.number-answer.result p.encode_punctured-r.result.answer e h) in
@@ -54,8 +54,8 @@ returns c =
     let k = t.in-Rate.c in
     let em : rate_by a.rate ≡ Rate k = sym q.rate_of-m.ensures ∙ t.in-Rate.is in
     let e = n.number-answer.ensures in
-    let rows : CodeRate → List Row = λ x. encode_rows x a.state.now (length a.bits.now) (length a.out-1.now) in
+    let rows : CodeRate → List Row = λ x. encode_rows x a.state.now (length a.bits.now) (length a.out.now) in
     let w = rate_answer (rate_by a.rate) k em (encoder_rows a.state.now) rows n.number-answer.result p.encode_punctured-r.result.answer e p.encode_punctured-r.ensures.0 in
     let z = c.if-answer-ne0.false in
     let l = p.encode_punctured-r.ensures.1.0 (zero_accepted p.encode_punctured-r.result.answer (sym e ∙ z)) in
-    (sym z ∙ w, (l.state_is, (l.bits_are ∙ ap (λ (x : List ℕ). laid x a.out-1.now) (rate_value (rate_by a.rate) k em [] (λ x. punctured x a.state.now a.bits.now)), l.count_is ∙ rate_value (rate_by a.rate) k em 0 (λ x. length a.bits.now / period x * sent x))))
+    (sym z ∙ w, (l.state_is, (l.bits_are ∙ ap (λ (x : List ℕ). laid x a.out.now) (rate_value (rate_by a.rate) k em [] (λ x. punctured x a.state.now a.bits.now)), l.count_is ∙ rate_value (rate_by a.rate) k em 0 (λ x. length a.bits.now / period x * sent x))))

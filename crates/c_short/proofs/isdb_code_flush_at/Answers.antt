@@ -21,11 +21,11 @@ returns-then-pm-ne-STATES c =
     let start = code-from in
     let a = start.args in
     let k = code_from a.constraint a.g1 a.g2 in
-    let w : ViterbiDecoder = decoder_of a.pm-1.now a.held.now a.traceback in
+    let w : ViterbiDecoder = decoder_of a.pm.now a.held.now a.traceback in
     let n = c.not_states.result in
     let e = rw code-from.code_from-code.ensures at c.not_states.ensures in
     let h = until_refuses (handed_rows k w) tt n e in
-    (not_states a.pm-1.now (flush_rows k w (length a.decisions-1.now) (length a.out-1.now)) n c.if-pm-ne-STATES.true e, unflushed (traced (half_of k) (take w.held a.decisions-1.now) (end_of k a.end)) n w a.count.now a.decisions-1.now a.out-1.now h)
+    (not_states a.pm.now (flush_rows k w (length a.decisions.now) (length a.out.now)) n c.if-pm-ne-STATES.true e, unflushed (traced (half_of k) (take w.held a.decisions.now) (end_of k a.end)) n w a.count.now a.decisions.now a.out.now h)
 
 pub returns : goal.returns
 returns c =
@@ -37,6 +37,6 @@ returns c =
     let a = start.args in
     let code = if1.code_from-code in
     let v = d.decoder_of-v.result in
-    let w : ViterbiDecoder = decoder_of a.pm-1.now a.held.now a.traceback in
+    let w : ViterbiDecoder = decoder_of a.pm.now a.held.now a.traceback in
     let e : v ≡ w = d.decoder_of-v.ensures in
-    flushed code.result (code_from a.constraint a.g1 a.g2) code.ensures v w e (λ k v. flush_rows k v (length a.decisions-1.now) (length a.out-1.now)) p.flush_at-r.result s.store.result s.store.new.1.0 s.store.new.1.1.0 a.count.now s.store.new.1.1.1.0 a.decisions-1.now p.flush_at-r.new.1.1.1.0 a.out-1.now p.flush_at-r.new.1.1.1.1.0 if1.if-pm-ne-STATES.false s.store.ensures.0 s.store.ensures.1.0 s.store.ensures.1.1.0 s.store.ensures.1.1.1 p.flush_at-r.ensures.0 (λ k v. end_of k a.end) p.flush_at-r.ensures.1
+    flushed code.result (code_from a.constraint a.g1 a.g2) code.ensures v w e (λ k v. flush_rows k v (length a.decisions.now) (length a.out.now)) p.flush_at-r.result s.store.result s.store.new.1.0 s.store.new.1.1.0 a.count.now s.store.new.1.1.1.0 a.decisions.now p.flush_at-r.new.1.1.1.0 a.out.now p.flush_at-r.new.1.1.1.1.0 if1.if-pm-ne-STATES.false s.store.ensures.0 s.store.ensures.1.0 s.store.ensures.1.1.0 s.store.ensures.1.1.1 p.flush_at-r.ensures.0 (λ k v. end_of k a.end) p.flush_at-r.ensures.1

@@ -14,16 +14,16 @@ pub slice_bounds-mend_stretch-end-3 : goal.slice_bounds-mend_stretch-end-3
 slice_bounds-mend_stretch-end-3 c =
     let start = c in
     let a = start.args in
-    sym (length-take-le a.words a.decisions-1.now (search rules))
+    sym (length-take-le a.words a.decisions.now (search rules))
 
 pub slice_bounds-mend_stretch-end-5 : goal.slice_bounds-mend_stretch-end-5
 slice_bounds-mend_stretch-end-5 c =
     let start = c in
     let a = start.args in
-    sym (length-take-le a.places a.out-1.now (search rules))
+    sym (length-take-le a.places a.out.now (search rules))
 
 pub slice_bounds-mend_stretch-end-7 : goal.slice_bounds-mend_stretch-end-7
 slice_bounds-mend_stretch-end-7 c =
     let start = c in
     let a = start.args in
-    sym (length-take-le a.positions a.list-1.now (search rules))
+    sym (length-take-le a.positions a.list.now (search rules))

@@ -19,8 +19,8 @@ narrow-requires c =
     let room = st.requires.5 in
     let f : ℕ → ℕ = λ i. plan_mark p a.re.now a.im.now (p.from + i) in
     let marked = laid.lay_block.ensures.1 in
-    let same = laid_long f p.count _ a.wide-1.now marked (omega arith) in
-    (omega arith, st.requires.7, wide_few f p.count _ a.wide-1.now (λ i. mark_few (piece_metrics p.layout.combination a.re.now a.im.now p.mapping p.scale (p.from + i))) marked)
+    let same = laid_long f p.count _ a.wide.now marked (omega arith) in
+    (omega arith, st.requires.7, wide_few f p.count _ a.wide.now (λ i. mark_few (piece_metrics p.layout.combination a.re.now a.im.now p.mapping p.scale (p.from + i))) marked)
 
 pub returns : goal.returns
 returns c =
@@ -30,4 +30,4 @@ returns c =
     let p = a.plan in
     let f : ℕ → ℕ = λ i. plan_mark p a.re.now a.im.now (p.from + i) in
     let lay = laid.lay_block.ensures in
-    (lay.0, c.narrow.ensures ∙ narrowed f p.count _ a.wide-1.now a.marks-1.now lay.1)
+    (lay.0, c.narrow.ensures ∙ narrowed f p.count _ a.wide.now a.marks.now lay.1)

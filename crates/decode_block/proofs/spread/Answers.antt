@@ -53,7 +53,7 @@ loop-t-preserved c =
     let f = spread_soft co softs in
     let g = period_soft co (take (length softs - at.from) (drop at.from softs)) in
     let same : (a : ℕ) → a < bits → g a ≡ f (at.to + a) = λ a l. spread_at co softs at.from at.to at.t a ef et l in
-    let spread = written_tail at.to at.pairs-1 _ (upto g bits) (omega arith) spread-period.spread_period.ensures
+    let spread = written_tail at.to at.pairs _ (upto g bits) (omega arith) spread-period.spread_period.ensures
     ∙ ap (λ (l : List Float). take at.to l ++ laid (upto g bits) (drop at.to l)) h.6
     ∙ laid_part f g at.to bits st.args.pairs.now same in
     let ends : at.to + bits ≡ at.to + 2 * layout.period = ap (λ (x : ℕ). at.to + 2 * x) (sym ep) in (

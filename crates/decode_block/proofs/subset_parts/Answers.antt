@@ -40,8 +40,8 @@ loop-s-preserved c =
     let v = symbol.symbol-v.ensures in
     let now = c.put_parts.ensures in (
       omega arith,
-      ap length now ∙ length_four at.parts-1 (4 * at.s) (4 * at.s + 1) (4 * at.s + 2) (4 * at.s + 3) _ _ _ _ ∙ h.1,
-      now ∙ put_four (fours ms) at.s _ _ _ _ at.parts-1 st.args.parts.now (omega arith) h.2
+      ap length now ∙ length_four at.parts (4 * at.s) (4 * at.s + 1) (4 * at.s + 2) (4 * at.s + 3) _ _ _ _ ∙ h.1,
+      now ∙ put_four (fours ms) at.s _ _ _ _ at.parts st.args.parts.now (omega arith) h.2
           (rw (correlation2.correlation-a.ensures, v, subset-point.subset_point-p.ensures) (sym (fours_0 ms at.s)))
           (rw (correlation2.correlation-b.ensures, v, subset-point3.subset_point-q.ensures) (sym (fours_1 ms at.s)))
           (rw (correlation4.correlation-c.ensures, v, subset-point3.subset_point-r.ensures) (sym (fours_2 ms at.s)))

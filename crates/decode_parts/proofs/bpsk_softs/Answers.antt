@@ -7,4 +7,4 @@ use Rattle.decode_parts.proofs.bpsk_softs.Goals as goal
 pub returns : goal.returns
 returns c =
     let a = c.args in
-    c.soft_block.ensures ∙ soft_tail a.re.now a.scale (2 * a.k0) (2 * a.n) a.pairs-1.now
+    c.soft_block.ensures ∙ soft_tail a.re.now a.scale (2 * a.k0) (2 * a.n) a.pairs.now

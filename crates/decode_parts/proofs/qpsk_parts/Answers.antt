@@ -9,11 +9,11 @@ returns-then-m c =
     let if1 = c in
     let start = if1 in
     let a = start.args in
-    c.by_turns.ensures ∙ imaginary_first a.re.now a.im.now a.m a.from a.n a.parts-1.now if1.if-m.true
+    c.by_turns.ensures ∙ imaginary_first a.re.now a.im.now a.m a.from a.n a.parts.now if1.if-m.true
 
 pub returns-else-m : goal.returns-else-m
 returns-else-m c =
     let if1 = c in
     let start = if1 in
     let a = start.args in
-    c.by_turns-else-m.ensures ∙ real_first a.re.now a.im.now a.m a.from a.n a.parts-1.now if1.if-m.false
+    c.by_turns-else-m.ensures ∙ real_first a.re.now a.im.now a.m a.from a.n a.parts.now if1.if-m.false

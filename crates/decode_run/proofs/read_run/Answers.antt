@@ -129,10 +129,10 @@ loop-k-preserved c =
     let lm = h.5 in
     let room = st.requires.kept in
     let co = lay.result.combination in
-    let g = run_mark co st.args.re.now st.args.im.now st.args.run.mapping-1 st.args.run.scale in
-    let ys = run_steps co st.args.re.now st.args.im.now st.args.run.mapping-1 st.args.run.scale in
+    let g = run_mark co st.args.re.now st.args.im.now st.args.run.mapping st.args.run.scale in
+    let ys = run_steps co st.args.re.now st.args.im.now st.args.run.mapping st.args.run.scale in
     let f = upto (λ i. g (k + i)) bo.result in
-    let marked = written_tail k at.marks-1 _ f (omega arith) mb.1
+    let marked = written_tail k at.marks _ f (omega arith) mb.1
     ∙ ap (λ (l : List ℕ). take k l ++ laid f (drop k l)) h.6
     ∙ laid_part g (λ i. g (k + i)) k bo.result st.args.marks.now (λ i l. refl) in (
       omega arith,

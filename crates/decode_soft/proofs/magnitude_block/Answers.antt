@@ -13,4 +13,4 @@ returns c =
     let scaled = c.scale_block in
     let filled = soft-magnitudes.soft_magnitudes in
     let a = start.args in
-    times (λ i. soft_of (absolute (get_or a.xs.now i nan))) a.out-1.now a.n a.scale filled.new.1.1.0 scaled.new.0 filled.ensures scaled.ensures
+    times (λ i. soft_of (absolute (get_or a.xs.now i nan))) a.out.now a.n a.scale filled.new.1.1.0 scaled.new.0 filled.ensures scaled.ensures

@@ -12,4 +12,4 @@ returns c =
     let scaled = c.scale_block in
     let filled = soft-values.soft_values in
     let a = start.args in
-    times (λ i. soft_of (get_or a.xs.now i nan)) a.out-1.now a.n a.scale filled.new.1.1.0 scaled.new.0 filled.ensures scaled.ensures
+    times (λ i. soft_of (get_or a.xs.now i nan)) a.out.now a.n a.scale filled.new.1.1.0 scaled.new.0 filled.ensures scaled.ensures

@@ -75,8 +75,8 @@ put_pairs-requires c =
     let p = pattern-of.pattern_of-p.result in
     let ok = pattern-of.pattern_of-p.ensures in
     let w = pattern_within start.args.c p ok in
-    let o1 = outputs_of p.period p.count p.p1-1 shifts.shifts-s1.result ok.short ok.few shifts.shifts-s1.ensures (λ i l. (w i l).0) in
-    let o0 = outputs_of p.period p.count p.p0-1 shifts2.shifts-s0.result ok.short ok.few shifts2.shifts-s0.ensures (λ i l. (w i l).1) in
+    let o1 = outputs_of p.period p.count p.p1 shifts.shifts-s1.result ok.short ok.few shifts.shifts-s1.ensures (λ i l. (w i l).0) in
+    let o0 = outputs_of p.period p.count p.p0 shifts2.shifts-s0.result ok.short ok.few shifts2.shifts-s0.ensures (λ i l. (w i l).1) in
     (ok.few, bounds.re_room, bounds.im_room, at_most p.period p.count shifts.shifts-s1.result o1, at_most p.period p.count shifts2.shifts-s0.result o0)
 
 pub overflow_add-done : goal.overflow_add-done
@@ -104,8 +104,8 @@ loop-q-preserved c =
     let p = pattern-of.pattern_of-p.result in
     let ok = pattern-of.pattern_of-p.ensures in
     let w = pattern_within st.args.c p ok in
-    let o1 = outputs_of p.period p.count p.p1-1 shifts.shifts-s1.result ok.short ok.few shifts.shifts-s1.ensures (λ i l. (w i l).0) in
-    let o0 = outputs_of p.period p.count p.p0-1 shifts2.shifts-s0.result ok.short ok.few shifts2.shifts-s0.ensures (λ i l. (w i l).1) in
+    let o1 = outputs_of p.period p.count p.p1 shifts.shifts-s1.result ok.short ok.few shifts.shifts-s1.ensures (λ i l. (w i l).0) in
+    let o0 = outputs_of p.period p.count p.p0 shifts2.shifts-s0.result ok.short ok.few shifts2.shifts-s0.ensures (λ i l. (w i l).1) in
     encoding_next at.loop-q.invariant tested.loop-q-test.true o1 o0 encode-period.encode_period-e.result encode-period.encode_period-e.ensures encode-period.encode_period-e.ensures.small
     put-pairs.put_pairs.ensures.0 put-pairs.put_pairs.ensures.1
 

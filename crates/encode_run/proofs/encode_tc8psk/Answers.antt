@@ -47,9 +47,9 @@ loop-k-preserved c =
     let put = rw load_byte.load_byte-byte.ensures at put_byte.put_byte-state.ensures in (
       omega arith,
       omega (arith, inv.1),
-      going_byte bytes bit k st.requires.4 inv.1 st.args.n st.args.start t.re-1 t.im-1 state inv.2 h st.requires.2 st.requires.3 put_byte.put_byte-state.result put.state_is
-          (tail_back k looped.loop-k.re (upto (λ i. get_or t.re-1 (byte_register byte (backward state) i) nan) 4) (omega (arith, inv.2.points.re_length, st.requires.2)) put.re_is)
-          (tail_back k looped.loop-k.im (upto (λ i. get_or t.im-1 (byte_register byte (backward state) i) nan) 4) (omega (arith, inv.2.points.im_length, st.requires.3)) put.im_is),
+      going_byte bytes bit k st.requires.4 inv.1 st.args.n st.args.start t.re t.im state inv.2 h st.requires.2 st.requires.3 put_byte.put_byte-state.result put.state_is
+          (tail_back k looped.loop-k.re (upto (λ i. get_or t.re (byte_register byte (backward state) i) nan) 4) (omega (arith, inv.2.points.re_length, st.requires.2)) put.re_is)
+          (tail_back k looped.loop-k.im (upto (λ i. get_or t.im (byte_register byte (backward state) i) nan) 4) (omega (arith, inv.2.points.im_length, st.requires.3)) put.im_is),
       put.small,
     )
 
@@ -66,6 +66,6 @@ returns c =
     let e : c.loop-k.k ≡ n = omega arith in
     going_end Tc8psk2_3 m bytes bit n start
     (going_cong (rw (← c.reversed.ensures.0) at c.loop-k.invariant.2)
-    (λ i h. let l : i < n = omega arith in t.re_at (tc8psk_register bytes bit n start i) (tc8psk_register_small bytes bit n start st.requires.0 i l) ∙ ap (λ (z : Cplx). z.re-1) (tc8psk_labelled bytes bit n start st.requires.0 i l m))
-    (λ i h. let l : i < n = omega arith in t.im_at (tc8psk_register bytes bit n start i) (tc8psk_register_small bytes bit n start st.requires.0 i l) ∙ ap (λ (z : Cplx). z.im-1) (tc8psk_labelled bytes bit n start st.requires.0 i l m)))
+    (λ i h. let l : i < n = omega arith in t.re_at (tc8psk_register bytes bit n start i) (tc8psk_register_small bytes bit n start st.requires.0 i l) ∙ ap (λ (z : Cplx). z.re) (tc8psk_labelled bytes bit n start st.requires.0 i l m))
+    (λ i h. let l : i < n = omega arith in t.im_at (tc8psk_register bytes bit n start i) (tc8psk_register_small bytes bit n start st.requires.0 i l) ∙ ap (λ (z : Cplx). z.im) (tc8psk_labelled bytes bit n start st.requires.0 i l m)))
     e e

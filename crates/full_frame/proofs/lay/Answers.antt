@@ -30,7 +30,7 @@ returns-then-short_frame c =
     let x = start.args in
     let e : short_inputs (length x.header_re.now) (length x.main_re.now) (length x.burst_re.now) ≡ false = sym short-inputs.short_inputs.ensures ∙ if1.if-short_inputs.false in
     let f : short_inputs (length x.header_im.now) (length x.main_im.now) (length x.burst_im.now) ≡ false = sym c.short_inputs-2.ensures ∙ c.if-short_inputs-2.false in
-    let g : short_frame (length x.re-1.now) (length x.im-1.now) ≡ true = sym c.short_frame.ensures ∙ c.if-short_frame.true in
+    let g : short_frame (length x.re.now) (length x.im.now) ≡ true = sym c.short_frame.ensures ∙ c.if-short_frame.true in
     (rw (e, f, g), (refl, refl))
 
 pub lay_part-requires : goal.lay_part-requires
@@ -41,9 +41,9 @@ lay_part-requires c =
     let x = start.args in
     let e : short_inputs (length x.header_re.now) (length x.main_re.now) (length x.burst_re.now) ≡ false = sym short-inputs.short_inputs.ensures ∙ short-inputs2.if-short_inputs.false in
     let f : short_inputs (length x.header_im.now) (length x.main_im.now) (length x.burst_im.now) ≡ false = sym short-inputs2.short_inputs-2.ensures ∙ c.if-short_inputs-2.false in
-    let g : short_frame (length x.re-1.now) (length x.im-1.now) ≡ false = sym c.short_frame.ensures ∙ c.if-short_frame.false in
+    let g : short_frame (length x.re.now) (length x.im.now) ≡ false = sym c.short_frame.ensures ∙ c.if-short_frame.false in
     let p = inputs_long (length x.header_re.now) (length x.main_re.now) (length x.burst_re.now) e in
-    let l = frame_long (length x.re-1.now) (length x.im-1.now) g in
+    let l = frame_long (length x.re.now) (length x.im.now) g in
     (omega arith, omega arith, omega arith, omega arith)
 
 pub lay_part-requires-2 : goal.lay_part-requires-2
@@ -56,9 +56,9 @@ lay_part-requires-2 c =
     let x = start.args in
     let e : short_inputs (length x.header_re.now) (length x.main_re.now) (length x.burst_re.now) ≡ false = sym short-inputs.short_inputs.ensures ∙ if1.if-short_inputs.false in
     let f : short_inputs (length x.header_im.now) (length x.main_im.now) (length x.burst_im.now) ≡ false = sym if2.short_inputs-2.ensures ∙ if2.if-short_inputs-2.false in
-    let g : short_frame (length x.re-1.now) (length x.im-1.now) ≡ false = sym if3.short_frame.ensures ∙ if3.if-short_frame.false in
+    let g : short_frame (length x.re.now) (length x.im.now) ≡ false = sym if3.short_frame.ensures ∙ if3.if-short_frame.false in
     let p = inputs_long (length x.header_im.now) (length x.main_im.now) (length x.burst_im.now) f in
-    let l = frame_long (length x.re-1.now) (length x.im-1.now) g in
+    let l = frame_long (length x.re.now) (length x.im.now) g in
     let q = inputs_long (length x.header_re.now) (length x.main_re.now) (length x.burst_re.now) e in
     (omega arith, omega arith, omega arith, omega arith)
 
@@ -73,5 +73,5 @@ returns c =
     let x = start.args in
     let e : short_inputs (length x.header_re.now) (length x.main_re.now) (length x.burst_re.now) ≡ false = sym short-inputs.short_inputs.ensures ∙ if1.if-short_inputs.false in
     let f : short_inputs (length x.header_im.now) (length x.main_im.now) (length x.burst_im.now) ≡ false = sym if2.short_inputs-2.ensures ∙ if2.if-short_inputs-2.false in
-    let g : short_frame (length x.re-1.now) (length x.im-1.now) ≡ false = sym if3.short_frame.ensures ∙ if3.if-short_frame.false in
+    let g : short_frame (length x.re.now) (length x.im.now) ≡ false = sym if3.short_frame.ensures ∙ if3.if-short_frame.false in
     (rw (e, f, g), (lay-part.lay_part.ensures, c.lay_part-2.ensures))

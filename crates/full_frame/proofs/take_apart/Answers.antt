@@ -19,7 +19,7 @@ returns-then-short_inputs c =
     let start = c in
     let x = start.args in
     let e : short_frame (length x.re.now) (length x.im.now) ≡ false = sym c.short_frame.ensures ∙ c.if-short_frame.false in
-    let f : short_inputs (length x.header_re-1.now) (length x.main_re-1.now) (length x.burst_re-1.now) ≡ true = sym c.short_inputs.ensures ∙ c.if-short_inputs.true in
+    let f : short_inputs (length x.header_re.now) (length x.main_re.now) (length x.burst_re.now) ≡ true = sym c.short_inputs.ensures ∙ c.if-short_inputs.true in
     (rw (e, f), (refl, (refl, (refl, (refl, (refl, refl))))))
 
 pub returns-then-short_inputs-2 : goal.returns-then-short_inputs-2
@@ -29,8 +29,8 @@ returns-then-short_inputs-2 c =
     let start = short-frame in
     let x = start.args in
     let e : short_frame (length x.re.now) (length x.im.now) ≡ false = sym short-frame.short_frame.ensures ∙ if1.if-short_frame.false in
-    let f : short_inputs (length x.header_re-1.now) (length x.main_re-1.now) (length x.burst_re-1.now) ≡ false = sym c.short_inputs.ensures ∙ c.if-short_inputs.false in
-    let g : short_inputs (length x.header_im-1.now) (length x.main_im-1.now) (length x.burst_im-1.now) ≡ true = sym c.short_inputs-2.ensures ∙ c.if-short_inputs-2.true in
+    let f : short_inputs (length x.header_re.now) (length x.main_re.now) (length x.burst_re.now) ≡ false = sym c.short_inputs.ensures ∙ c.if-short_inputs.false in
+    let g : short_inputs (length x.header_im.now) (length x.main_im.now) (length x.burst_im.now) ≡ true = sym c.short_inputs-2.ensures ∙ c.if-short_inputs-2.true in
     (rw (e, f, g), (refl, (refl, (refl, (refl, (refl, refl))))))
 
 pub take_part-requires : goal.take_part-requires
@@ -41,10 +41,10 @@ take_part-requires c =
     let start = short-frame in
     let x = start.args in
     let e : short_frame (length x.re.now) (length x.im.now) ≡ false = sym short-frame.short_frame.ensures ∙ short-inputs.if-short_frame.false in
-    let f : short_inputs (length x.header_re-1.now) (length x.main_re-1.now) (length x.burst_re-1.now) ≡ false = sym short-inputs.short_inputs.ensures ∙ short-inputs2.if-short_inputs.false in
-    let g : short_inputs (length x.header_im-1.now) (length x.main_im-1.now) (length x.burst_im-1.now) ≡ false = sym short-inputs2.short_inputs-2.ensures ∙ c.if-short_inputs-2.false in
+    let f : short_inputs (length x.header_re.now) (length x.main_re.now) (length x.burst_re.now) ≡ false = sym short-inputs.short_inputs.ensures ∙ short-inputs2.if-short_inputs.false in
+    let g : short_inputs (length x.header_im.now) (length x.main_im.now) (length x.burst_im.now) ≡ false = sym short-inputs2.short_inputs-2.ensures ∙ c.if-short_inputs-2.false in
     let l = frame_long (length x.re.now) (length x.im.now) e in
-    let p = inputs_long (length x.header_re-1.now) (length x.main_re-1.now) (length x.burst_re-1.now) f in
+    let p = inputs_long (length x.header_re.now) (length x.main_re.now) (length x.burst_re.now) f in
     (omega arith, omega arith, omega arith, omega arith)
 
 pub take_part-requires-2 : goal.take_part-requires-2
@@ -56,10 +56,10 @@ take_part-requires-2 c =
     let start = short-frame in
     let x = start.args in
     let e : short_frame (length x.re.now) (length x.im.now) ≡ false = sym short-frame.short_frame.ensures ∙ if1.if-short_frame.false in
-    let f : short_inputs (length x.header_re-1.now) (length x.main_re-1.now) (length x.burst_re-1.now) ≡ false = sym if2.short_inputs.ensures ∙ if2.if-short_inputs.false in
-    let g : short_inputs (length x.header_im-1.now) (length x.main_im-1.now) (length x.burst_im-1.now) ≡ false = sym if3.short_inputs-2.ensures ∙ if3.if-short_inputs-2.false in
+    let f : short_inputs (length x.header_re.now) (length x.main_re.now) (length x.burst_re.now) ≡ false = sym if2.short_inputs.ensures ∙ if2.if-short_inputs.false in
+    let g : short_inputs (length x.header_im.now) (length x.main_im.now) (length x.burst_im.now) ≡ false = sym if3.short_inputs-2.ensures ∙ if3.if-short_inputs-2.false in
     let l = frame_long (length x.re.now) (length x.im.now) e in
-    let p = inputs_long (length x.header_im-1.now) (length x.main_im-1.now) (length x.burst_im-1.now) g in
+    let p = inputs_long (length x.header_im.now) (length x.main_im.now) (length x.burst_im.now) g in
     (omega arith, omega arith, omega arith, omega arith)
 
 pub returns : goal.returns
@@ -73,8 +73,8 @@ returns c =
     let start = short-frame in
     let x = start.args in
     let e : short_frame (length x.re.now) (length x.im.now) ≡ false = sym short-frame.short_frame.ensures ∙ if1.if-short_frame.false in
-    let f : short_inputs (length x.header_re-1.now) (length x.main_re-1.now) (length x.burst_re-1.now) ≡ false = sym if2.short_inputs.ensures ∙ if2.if-short_inputs.false in
-    let g : short_inputs (length x.header_im-1.now) (length x.main_im-1.now) (length x.burst_im-1.now) ≡ false = sym if3.short_inputs-2.ensures ∙ if3.if-short_inputs-2.false in
+    let f : short_inputs (length x.header_re.now) (length x.main_re.now) (length x.burst_re.now) ≡ false = sym if2.short_inputs.ensures ∙ if2.if-short_inputs.false in
+    let g : short_inputs (length x.header_im.now) (length x.main_im.now) (length x.burst_im.now) ≡ false = sym if3.short_inputs-2.ensures ∙ if3.if-short_inputs-2.false in
     let t = take_part.take_part.ensures in
     let u = take-part2.take_part-2.ensures in
     (rw (e, f, g), (t.0, (u.0, (t.1, (u.1, (t.2, u.2))))))

@@ -16,12 +16,12 @@ returns-in_default c =
     let short-parts = c in
     let start = short-parts in
     let x = start.args in
-    let res = lent_inputs x.header_re-1.now x.main_re-1.now x.burst_re-1.now in
-    let ims = lent_inputs x.header_im-1.now x.main_im-1.now x.burst_im-1.now in
+    let res = lent_inputs x.header_re.now x.main_re.now x.burst_re.now in
+    let ims = lent_inputs x.header_im.now x.main_im.now x.burst_im.now in
     let a = c.first_row-answer.result in
-    let h = by_tests a (short_frame (length x.re.now) (length x.im.now)) (inputs_short res || inputs_short ims) (short_frame (length x.out_re-1.now) (length x.out_im-1.now)) c.short_frame-frame.ensures short-parts.short_parts-parts.ensures c.short_frame.ensures c.first_row-answer.ensures in
+    let h = by_tests a (short_frame (length x.re.now) (length x.im.now)) (inputs_short res || inputs_short ims) (short_frame (length x.out_re.now) (length x.out_im.now)) c.short_frame-frame.ensures short-parts.short_parts-parts.ensures c.short_frame.ensures c.first_row-answer.ensures in
     let n : number_of a ≡ 0 → ⊥ = λ z. told a c.in-Accepted.keys2 (zero_accepted a z) in
-    (h, (kept a (take 39936 x.re.now) x.out_re-1.now n, (kept a (take 39936 x.im.now) x.out_im-1.now n, (kept a (taken Header x.re.now) x.header_re-1.now n, (kept a (taken Header x.im.now) x.header_im-1.now n, (kept a (taken Main x.re.now) x.main_re-1.now n, (kept a (taken Main x.im.now) x.main_im-1.now n, (kept a (taken Burst x.re.now) x.burst_re-1.now n, kept a (taken Burst x.im.now) x.burst_im-1.now n))))))))
+    (h, (kept a (take 39936 x.re.now) x.out_re.now n, (kept a (take 39936 x.im.now) x.out_im.now n, (kept a (taken Header x.re.now) x.header_re.now n, (kept a (taken Header x.im.now) x.header_im.now n, (kept a (taken Main x.re.now) x.main_re.now n, (kept a (taken Main x.im.now) x.main_im.now n, (kept a (taken Burst x.re.now) x.burst_re.now n, kept a (taken Burst x.im.now) x.burst_im.now n))))))))
 
 pub returns : goal.returns
 returns c =
@@ -33,16 +33,16 @@ returns c =
     let short-parts = short-frame in
     let start = short-parts in
     let x = start.args in
-    let res = lent_inputs x.header_re-1.now x.main_re-1.now x.burst_re-1.now in
-    let ims = lent_inputs x.header_im-1.now x.main_im-1.now x.burst_im-1.now in
+    let res = lent_inputs x.header_re.now x.main_re.now x.burst_re.now in
+    let ims = lent_inputs x.header_im.now x.main_im.now x.burst_im.now in
     let a = first-row.first_row-answer.result in
-    let h = by_tests a (short_frame (length x.re.now) (length x.im.now)) (inputs_short res || inputs_short ims) (short_frame (length x.out_re-1.now) (length x.out_im-1.now)) short-frame.short_frame-frame.ensures short-parts.short_parts-parts.ensures first-row.short_frame.ensures first-row.first_row-answer.ensures in
+    let h = by_tests a (short_frame (length x.re.now) (length x.im.now)) (inputs_short res || inputs_short ims) (short_frame (length x.out_re.now) (length x.out_im.now)) short-frame.short_frame-frame.ensures short-parts.short_parts-parts.ensures first-row.short_frame.ensures first-row.first_row-answer.ensures in
     let z : number_of a ≡ 0 = ap number_of at-enum-told.in-Accepted.is in
-    let tests = none_short a (short_frame (length x.re.now) (length x.im.now)) (inputs_short res || inputs_short ims) (short_frame (length x.out_re-1.now) (length x.out_im-1.now)) h z in
+    let tests = none_short a (short_frame (length x.re.now) (length x.im.now)) (inputs_short res || inputs_short ims) (short_frame (length x.out_re.now) (length x.out_im.now)) h z in
     let b = take-apart.take_apart.result in
     let e = take-apart.take_apart.ensures in
     let g = lay.lay.ensures in
-    let tr = each_taken b x.re.now x.header_re-1.now x.main_re-1.now x.burst_re-1.now e.1.0 e.1.1.1.0 e.1.1.1.1.1.0 in
-    let ti = each_taken b x.im.now x.header_im-1.now x.main_im-1.now x.burst_im-1.now e.1.1.0 e.1.1.1.1.0 e.1.1.1.1.1.1 in
-    let k = taken_laid_again x.re.now x.im.now res ims x.out_re-1.now x.out_im-1.now tests _ _ b e.0 tr ti lay.lay.result g.0 in
-    (k.answer, (k.real_again _ x.out_re-1.now g.1.0, (k.imaginary_again _ x.out_im-1.now g.1.1, (k.real Header, (k.imaginary Header, (k.real Main, (k.imaginary Main, (k.real Burst, k.imaginary Burst))))))))
+    let tr = each_taken b x.re.now x.header_re.now x.main_re.now x.burst_re.now e.1.0 e.1.1.1.0 e.1.1.1.1.1.0 in
+    let ti = each_taken b x.im.now x.header_im.now x.main_im.now x.burst_im.now e.1.1.0 e.1.1.1.1.0 e.1.1.1.1.1.1 in
+    let k = taken_laid_again x.re.now x.im.now res ims x.out_re.now x.out_im.now tests _ _ b e.0 tr ti lay.lay.result g.0 in
+    (k.answer, (k.real_again _ x.out_re.now g.1.0, (k.imaginary_again _ x.out_im.now g.1.1, (k.real Header, (k.imaginary Header, (k.real Main, (k.imaginary Main, (k.real Burst, k.imaginary Burst))))))))

@@ -18,7 +18,7 @@ returns-then-short_frame c =
     let good = c in
     let x = good.args in
     let e : bad_points x.re.now x.im.now x.mean.power ≡ false = sym good.bad_points.ensures ∙ good.if-bad_points.false in
-    let f : short_frame (length x.out_re-1.now) (length x.out_im-1.now) ≡ true = sym c.short_frame.ensures ∙ c.if-short_frame.true in
+    let f : short_frame (length x.out_re.now) (length x.out_im.now) ≡ true = sym c.short_frame.ensures ∙ c.if-short_frame.true in
     (rw (e, f) refl, (refl, refl))
 
 pub lay_re-requires : goal.lay_re-requires
@@ -26,8 +26,8 @@ lay_re-requires c =
     let long = c in
     let start = long in
     let x = start.args in
-    let f : short_frame (length x.out_re-1.now) (length x.out_im-1.now) ≡ false = sym long.short_frame.ensures ∙ long.if-short_frame.false in
-    let l = frame_long (length x.out_re-1.now) (length x.out_im-1.now) f in
+    let f : short_frame (length x.out_re.now) (length x.out_im.now) ≡ false = sym long.short_frame.ensures ∙ long.if-short_frame.false in
+    let l = frame_long (length x.out_re.now) (length x.out_im.now) f in
     (omega arith, omega arith, omega arith)
 
 pub lay_im-requires : goal.lay_im-requires
@@ -36,8 +36,8 @@ lay_im-requires c =
     let short-frame = long in
     let start = short-frame in
     let x = start.args in
-    let f : short_frame (length x.out_re-1.now) (length x.out_im-1.now) ≡ false = sym short-frame.short_frame.ensures ∙ long.if-short_frame.false in
-    let l = frame_long (length x.out_re-1.now) (length x.out_im-1.now) f in
+    let f : short_frame (length x.out_re.now) (length x.out_im.now) ≡ false = sym short-frame.short_frame.ensures ∙ long.if-short_frame.false in
+    let l = frame_long (length x.out_re.now) (length x.out_im.now) f in
     (omega arith, omega arith, omega arith)
 
 pub returns : goal.returns
@@ -48,5 +48,5 @@ returns c =
     let start = good in
     let x = start.args in
     let e : bad_points x.re.now x.im.now x.mean.power ≡ false = sym good.bad_points.ensures ∙ good.if-bad_points.false in
-    let f : short_frame (length x.out_re-1.now) (length x.out_im-1.now) ≡ false = sym long.short_frame.ensures ∙ long.if-short_frame.false in
+    let f : short_frame (length x.out_re.now) (length x.out_im.now) ≡ false = sym long.short_frame.ensures ∙ long.if-short_frame.false in
     (rw (e, f) refl, (lay-re.lay_re.ensures, c.lay_im.ensures))

@@ -17,5 +17,5 @@ returns c =
     let f = ended.finish-bits.ensures in (
       f.0,
       zeroed.clear.ensures ∙ ap (λ (l : List ℕ). laid (replicate (4096 + a.traceback) 0) l) f.1,
-      f.2 ∙ ap (λ (y : List Float). take a.at.count a.out-1.now ++ laid (traced (take a.at.held a.decisions-1.now) (best_state y)) (drop a.at.count a.out-1.now)) low.renormalise.ensures,
+      f.2 ∙ ap (λ (y : List Float). take a.at.count a.out.now ++ laid (traced (take a.at.held a.decisions.now) (best_state y)) (drop a.at.count a.out.now)) low.renormalise.ensures,
     )

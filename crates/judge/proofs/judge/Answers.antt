@@ -19,7 +19,7 @@ returns-in_default c =
     let a = c.args in
     let et = table_is c.plan_of-p.ensures.0 in
     let x = c.judge_answer-answer in
-    refused a.re.now a.im.now a.bytes.now a.t a.m a.first a.counts-1.now x.result (x.ensures ∙ ap (λ (z : Table). first_row (judge_rows z (length a.bytes.now) a.re.now a.im.now (length a.counts-1.now))) et) (told x.result c.in-Accepted.keys2)
+    refused a.re.now a.im.now a.bytes.now a.t a.m a.first a.counts.now x.result (x.ensures ∙ ap (λ (z : Table). first_row (judge_rows z (length a.bytes.now) a.re.now a.im.now (length a.counts.now))) et) (told x.result c.in-Accepted.keys2)
 
 pub judge_frame-requires : goal.judge_frame-requires
 judge_frame-requires c =
@@ -27,8 +27,8 @@ judge_frame-requires c =
     let a = plan-of.args in
     let pl = plan-of.plan_of-p in
     let et = table_is pl.ensures.0 in
-    let ok = sym c.in-Accepted.is ∙ c.judge_answer-answer.ensures ∙ ap (λ (z : Table). first_row (judge_rows z (length a.bytes.now) a.re.now a.im.now (length a.counts-1.now))) et in
-    let p = passed a.t (length a.bytes.now) a.re.now a.im.now (length a.counts-1.now) (sym ok) in
+    let ok = sym c.in-Accepted.is ∙ c.judge_answer-answer.ensures ∙ ap (λ (z : Table). first_row (judge_rows z (length a.bytes.now) a.re.now a.im.now (length a.counts.now))) et in
+    let p = passed a.t (length a.bytes.now) a.re.now a.im.now (length a.counts.now) (sym ok) in
     (planned pl.ensures.0 pl.ensures.1 p.table, p.real, p.imaginary, p.room)
 
 pub returns : goal.returns
@@ -38,6 +38,6 @@ returns c =
     let bytes = plan-of.type_inv.bytes in
     let pl = plan-of.plan_of-p in
     let et = table_is pl.ensures.0 in
-    let ok = sym c.in-Accepted.is ∙ c.judge_answer-answer.ensures ∙ ap (λ (z : Table). first_row (judge_rows z (length a.bytes.now) a.re.now a.im.now (length a.counts-1.now))) et in
+    let ok = sym c.in-Accepted.is ∙ c.judge_answer-answer.ensures ∙ ap (λ (z : Table). first_row (judge_rows z (length a.bytes.now) a.re.now a.im.now (length a.counts.now))) et in
     let made = c.judge_frame in
-    done a.re.now a.im.now a.bytes.now a.t a.m a.first a.counts-1.now made.new.1.1.1.1.0 made.result ok (rw et at made.ensures) (λ k. omega (arith, bytes k))
+    done a.re.now a.im.now a.bytes.now a.t a.m a.first a.counts.now made.new.1.1.1.1.0 made.result ok (rw et at made.ensures) (λ k. omega (arith, bytes k))

@@ -49,9 +49,9 @@ count_points-more-requires c =
     let clear = clear-counts.clear_counts in
     let loop = at.loop-at in
     let on = next-block.next_block-next.ensures.0 in
-    let size = ap length clear.ensures ∙ length_laid_upto (λ (_ : ℕ). 0) frame_slots a.counts-1.now st.requires.5 in
-    let done = subst (λ (z : List ℕ). Counted (outside a.re.now a.im.now a.bytes.now a.f.plan.table a.f.mapping a.f.first) 0 loop.at.symbol z loop.counts-1 loop.sum) clear.ensures loop.invariant.5 in
-    (four_runs a.f.plan st.requires.0, omega (arith, on.1, on.0.fits), st.requires.1, st.requires.2, omega (arith, loop.invariant.4, size, st.requires.5), counts_below a.f.plan st.requires.0 a.f.mapping a.f.first a.re.now a.im.now a.bytes.now a.counts-1.now loop.counts-1 loop.at.symbol loop.sum done)
+    let size = ap length clear.ensures ∙ length_laid_upto (λ (_ : ℕ). 0) frame_slots a.counts.now st.requires.5 in
+    let done = subst (λ (z : List ℕ). Counted (outside a.re.now a.im.now a.bytes.now a.f.plan.table a.f.mapping a.f.first) 0 loop.at.symbol z loop.counts loop.sum) clear.ensures loop.invariant.5 in
+    (four_runs a.f.plan st.requires.0, omega (arith, on.1, on.0.fits), st.requires.1, st.requires.2, omega (arith, loop.invariant.4, size, st.requires.5), counts_below a.f.plan st.requires.0 a.f.mapping a.f.first a.re.now a.im.now a.bytes.now a.counts.now loop.counts loop.at.symbol loop.sum done)
 
 pub overflow_add-sum : goal.overflow_add-sum
 overflow_add-sum c =
@@ -88,7 +88,7 @@ loop-at-preserved c =
       sizes.0 ∙ loop.invariant.2,
       sizes.1 ∙ loop.invariant.3,
       counted.ensures.size ∙ loop.invariant.4,
-      block_counted a.f.plan st.requires.0 a.f.mapping a.f.first a.re.now a.im.now a.bytes.now loop.at made.result _ _ _ _ block on.1 clear.new.0 loop.counts-1 _ loop.sum counted.result loop.invariant.5 counted.ensures,
+      block_counted a.f.plan st.requires.0 a.f.mapping a.f.first a.re.now a.im.now a.bytes.now loop.at made.result _ _ _ _ block on.1 clear.new.0 loop.counts _ loop.sum counted.result loop.invariant.5 counted.ensures,
     )
 
 pub overflow_sub-n-2 : goal.overflow_sub-n-2
@@ -102,9 +102,9 @@ count_points-rest-requires c =
     let a = st.args in
     let clear = clear-counts.clear_counts in
     let loop = at.loop-at in
-    let size = ap length clear.ensures ∙ length_laid_upto (λ (_ : ℕ). 0) frame_slots a.counts-1.now st.requires.5 in
-    let done = subst (λ (z : List ℕ). Counted (outside a.re.now a.im.now a.bytes.now a.f.plan.table a.f.mapping a.f.first) 0 loop.at.symbol z loop.counts-1 loop.sum) clear.ensures loop.invariant.5 in
-    (four_runs a.f.plan st.requires.0, omega (arith, loop.invariant.0.fits), st.requires.1, st.requires.2, omega (arith, loop.invariant.4, size, st.requires.5), counts_below a.f.plan st.requires.0 a.f.mapping a.f.first a.re.now a.im.now a.bytes.now a.counts-1.now loop.counts-1 loop.at.symbol loop.sum done)
+    let size = ap length clear.ensures ∙ length_laid_upto (λ (_ : ℕ). 0) frame_slots a.counts.now st.requires.5 in
+    let done = subst (λ (z : List ℕ). Counted (outside a.re.now a.im.now a.bytes.now a.f.plan.table a.f.mapping a.f.first) 0 loop.at.symbol z loop.counts loop.sum) clear.ensures loop.invariant.5 in
+    (four_runs a.f.plan st.requires.0, omega (arith, loop.invariant.0.fits), st.requires.1, st.requires.2, omega (arith, loop.invariant.4, size, st.requires.5), counts_below a.f.plan st.requires.0 a.f.mapping a.f.first a.re.now a.im.now a.bytes.now a.counts.now loop.counts loop.at.symbol loop.sum done)
 
 pub overflow_add-result : goal.overflow_add-result
 overflow_add-result c =
@@ -123,5 +123,5 @@ returns c =
     let clear = clear-counts.clear_counts in
     let loop = at.loop-at in
     let rest = c.count_points-rest in
-    let done = subst (λ (z : List ℕ). Counted (outside a.re.now a.im.now a.bytes.now a.f.plan.table a.f.mapping a.f.first) 0 loop.at.symbol z loop.counts-1 loop.sum) clear.ensures loop.invariant.5 in
-    rest_counted a.f.plan st.requires.0 a.f.mapping a.f.first a.re.now a.im.now a.bytes.now loop.at loop.invariant.0 c.loop-at-test.false loop.xs-1 loop.ys-1 a.counts-1.now loop.counts-1 _ loop.sum rest.result st.requires.5 done rest.ensures
+    let done = subst (λ (z : List ℕ). Counted (outside a.re.now a.im.now a.bytes.now a.f.plan.table a.f.mapping a.f.first) 0 loop.at.symbol z loop.counts loop.sum) clear.ensures loop.invariant.5 in
+    rest_counted a.f.plan st.requires.0 a.f.mapping a.f.first a.re.now a.im.now a.bytes.now loop.at loop.invariant.0 c.loop-at-test.false loop.xs loop.ys a.counts.now loop.counts _ loop.sum rest.result st.requires.5 done rest.ensures

@@ -12,9 +12,9 @@ overflow_add-result c =
     let at = x6 in
     let g = x6.flush_at-rest.ensures in
     let a = at.args in
-    let part = mid_of a.pushed.count (length a.out-1.now - a.pushed.count) a.out-1.now in
-    let k = few_bits a.end a.pushed.dec-1 x6.flush_at-rest.result a.decisions-1.now x6.flush_at-rest.new.1.1.0 part x6.flush_at-rest.new.1.1.1.0 g.0 g.1 in
-    let l = length_tail a.pushed.count a.out-1.now (omega arith) in
+    let part = mid_of a.pushed.count (length a.out.now - a.pushed.count) a.out.now in
+    let k = few_bits a.end a.pushed.dec x6.flush_at-rest.result a.decisions.now x6.flush_at-rest.new.1.1.0 part x6.flush_at-rest.new.1.1.1.0 g.0 g.1 in
+    let l = length_tail a.pushed.count a.out.now (omega arith) in
     omega arith
 
 pub returns : goal.returns
@@ -23,4 +23,4 @@ returns c =
     let at = x6 in
     let g = x6.flush_at-rest.ensures in
     let a = at.args in
-    behind a.end a.pushed x6.flush_at-rest.result a.decisions-1.now x6.flush_at-rest.new.1.1.0 a.out-1.now x6.flush_at-rest.new.1.1.1.0 (omega arith) g.0 g.1
+    behind a.end a.pushed x6.flush_at-rest.result a.decisions.now x6.flush_at-rest.new.1.1.0 a.out.now x6.flush_at-rest.new.1.1.1.0 (omega arith) g.0 g.1

@@ -10,12 +10,12 @@ pub returns-in_default : goal.returns-in_default
 returns-in_default c =
     let asked = c in
     let a = c.args in
-    turned_back a.start a.end a.bits.now a.decisions-1.now a.out-1.now a.list-1.now asked.answer_lent-answer.result asked.answer_lent-answer.ensures (told asked.answer_lent-answer.result c.in-Accepted.keys2)
+    turned_back a.start a.end a.bits.now a.decisions.now a.out.now a.list.now asked.answer_lent-answer.result asked.answer_lent-answer.ensures (told asked.answer_lent-answer.result c.in-Accepted.keys2)
 
 pub least_distance-requires : goal.least_distance-requires
 least_distance-requires c =
     let a = c.args in
-    (allowed a.bits.now (length a.decisions-1.now) (length a.out-1.now) (length a.list-1.now) (sym c.answer_lent-answer.ensures ∙ c.in-Accepted.is)).are_bits
+    (allowed a.bits.now (length a.decisions.now) (length a.out.now) (length a.list.now) (sym c.answer_lent-answer.ensures ∙ c.in-Accepted.is)).are_bits
 
 pub returns-then-least_distance-gt-MOST_CHANGED : goal.returns-then-least_distance-gt-MOST_CHANGED
 returns-then-least_distance-gt-MOST_CHANGED c =
@@ -24,7 +24,7 @@ returns-then-least_distance-gt-MOST_CHANGED c =
     let start = answer-lent in
     let a = start.args in
     let far = rw c.least_distance.ensures at c.if-least_distance-gt-MOST_CHANGED.true in
-    unmended a.start a.end a.bits.now a.decisions-1.now a.out-1.now a.list-1.now (sym answer-lent.answer_lent-answer.ensures ∙ yes.in-Accepted.is) far
+    unmended a.start a.end a.bits.now a.decisions.now a.out.now a.list.now (sym answer-lent.answer_lent-answer.ensures ∙ yes.in-Accepted.is) far
 
 pub mend_near-requires : goal.mend_near-requires
 mend_near-requires c =
@@ -33,7 +33,7 @@ mend_near-requires c =
     let answer-lent = yes in
     let start = answer-lent in
     let a = start.args in
-    (allowed a.bits.now (length a.decisions-1.now) (length a.out-1.now) (length a.list-1.now) (sym answer-lent.answer_lent-answer.ensures ∙ yes.in-Accepted.is), rw near.least_distance.ensures at near.if-least_distance-gt-MOST_CHANGED.false)
+    (allowed a.bits.now (length a.decisions.now) (length a.out.now) (length a.list.now) (sym answer-lent.answer_lent-answer.ensures ∙ yes.in-Accepted.is), rw near.least_distance.ensures at near.if-least_distance-gt-MOST_CHANGED.false)
 
 pub returns : goal.returns
 returns c =
@@ -44,5 +44,5 @@ returns c =
     let start = answer-lent in
     let a = start.args in
     let done = mend-near.mend_near in
-    mended a.start a.end a.bits.now a.decisions-1.now a.out-1.now a.list-1.now done.result _ _ _ (sym answer-lent.answer_lent-answer.ensures ∙ yes.in-Accepted.is)
+    mended a.start a.end a.bits.now a.decisions.now a.out.now a.list.now done.result _ _ _ (sym answer-lent.answer_lent-answer.ensures ∙ yes.in-Accepted.is)
     (rw near.least_distance.ensures at near.if-least_distance-gt-MOST_CHANGED.false) done.ensures.0 done.ensures.1

@@ -12,7 +12,7 @@ slice_bounds-list_changes-end-2 c =
     let write-stretch = c in
     let start = write-stretch in
     let a = start.args in
-    sym (front_long (a.start % 64) (a.end % 64) a.bits.now a.out-1.now _ write-stretch.write_stretch.ensures.1)
+    sym (front_long (a.start % 64) (a.end % 64) a.bits.now a.out.now _ write-stretch.write_stretch.ensures.1)
 
 pub list_changes-count-requires : goal.list_changes-count-requires
 list_changes-count-requires c =
@@ -20,7 +20,7 @@ list_changes-count-requires c =
     let start = write-stretch in
     let a = start.args in
     let w = write-stretch.write_stretch.ensures.1 in
-    (front_long (a.start % 64) (a.end % 64) a.bits.now a.out-1.now _ w, start.requires.0.few, front_near (a.start % 64) (a.end % 64) a.bits.now a.out-1.now _ w, start.requires.0.list_room)
+    (front_long (a.start % 64) (a.end % 64) a.bits.now a.out.now _ w, start.requires.0.few, front_near (a.start % 64) (a.end % 64) a.bits.now a.out.now _ w, start.requires.0.list_room)
 
 pub returns : goal.returns
 returns c =
@@ -33,7 +33,7 @@ returns c =
     let wrote = write-stretch.write_stretch.ensures in
     let listed = c.list_changes-count.ensures in
     let w = wrote.1 in
-    let front = front_is s (a.end % 64) bits a.out-1.now _ w in
+    let front = front_is s (a.end % 64) bits a.out.now _ w in
     let few = start.requires.0.few in (
       refl,
       record {
@@ -42,6 +42,6 @@ returns c =
         out_is = w.out_is;
         count_is = rw front at listed.0;
         list_is = rw front at listed.1;
-        decisions_is = cleared (word_at s bits) (length bits / 2) a.decisions-1.now _ _ (omega arith) wrote.0 clear.clear.ensures;
+        decisions_is = cleared (word_at s bits) (length bits / 2) a.decisions.now _ _ (omega arith) wrote.0 clear.clear.ensures;
       },
     )

@@ -20,7 +20,7 @@ bounds-decisions-t c =
     let keep-words = c in
     let start = keep-words in
     let a = start.args in
-    let l = kept_long (word_at (a.start % 64) a.bits.now) (length a.bits.now / 2) a.decisions-1.now _ start.requires.2 keep-words.keep_words.ensures in
+    let l = kept_long (word_at (a.start % 64) a.bits.now) (length a.bits.now / 2) a.decisions.now _ start.requires.2 keep-words.keep_words.ensures in
     omega arith
 
 pub bounds-out-t-in-loop-t : goal.bounds-out-t-in-loop-t
@@ -39,7 +39,7 @@ loop-t-preserved c =
     let pos : suc t ≡ at.loop-t.t = omega arith in
     let pred = c.kept_predecessor-from.ensures in
     let sent = c.encode_bit-sent.ensures in
-    let w = kept_at (word_at s bits) (length bits / 2) a.decisions-1.now _ keep-words.keep_words.ensures t (omega arith) in
+    let w = kept_at (word_at s bits) (length bits / 2) a.decisions.now _ keep-words.keep_words.ensures t (omega arith) in
     let out' = at.loop-t.out in (
       pred.0,
       simp length-set inv.1,
@@ -52,7 +52,7 @@ shape_of-decisions c =
     let keep-words = c in
     let start = keep-words in
     let a = start.args in
-    kept_long (word_at (a.start % 64) a.bits.now) (length a.bits.now / 2) a.decisions-1.now _ start.requires.2 keep-words.keep_words.ensures
+    kept_long (word_at (a.start % 64) a.bits.now) (length a.bits.now / 2) a.decisions.now _ start.requires.2 keep-words.keep_words.ensures
 
 pub shape_of-out : goal.shape_of-out
 shape_of-out c = c.loop-t.invariant.1

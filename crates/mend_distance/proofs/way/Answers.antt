@@ -23,4 +23,4 @@ returns c =
     let start = c in
     let a = start.args in
     let sent = c.encode_bit-sent in
-    way_is a.d.now a.k a.b a.x a.y sent.result-1.x sent.result-1.y start.requires.0 start.requires.2 start.requires.3 sent.ensures.0 sent.ensures.1
+    way_is a.d.now a.k a.b a.x a.y sent.result.x sent.result.y start.requires.0 start.requires.2 start.requires.3 sent.ensures.0 sent.ensures.1

@@ -24,7 +24,7 @@ lay_overlaid-requires c =
     let yes = c in
     let asked = yes in
     let a = asked.args in
-    let e = enough a.given.code-1 a.given.first-1.state a.given.second-1.state (length a.us.now) (length a.vs.now) (length a.ws-1.now) (length a.out1-1.now) (length a.out2-1.now) (length a.out3-1.now) (sym yes.in-Accepted.is ∙ asked.answer_overlay-answer.ensures) in
+    let e = enough a.given.code a.given.first.state a.given.second.state (length a.us.now) (length a.vs.now) (length a.ws.now) (length a.out1.now) (length a.out2.now) (length a.out3.now) (sym yes.in-Accepted.is ∙ asked.answer_overlay-answer.ensures) in
     (e.long, e.bits_room)
 
 pub slice_bounds-encode_three-end : goal.slice_bounds-encode_three-end
@@ -32,7 +32,7 @@ slice_bounds-encode_three-end c =
     let yes = c in
     let asked = yes in
     let a = asked.args in
-    let e = enough a.given.code-1 a.given.first-1.state a.given.second-1.state (length a.us.now) (length a.vs.now) (length a.ws-1.now) (length a.out1-1.now) (length a.out2-1.now) (length a.out3-1.now) (sym yes.in-Accepted.is ∙ asked.answer_overlay-answer.ensures) in
+    let e = enough a.given.code a.given.first.state a.given.second.state (length a.us.now) (length a.vs.now) (length a.ws.now) (length a.out1.now) (length a.out2.now) (length a.out3.now) (sym yes.in-Accepted.is ∙ asked.answer_overlay-answer.ensures) in
     let room = e.bits_room in
     search rules
 
@@ -43,9 +43,9 @@ encode_three-requires c =
     let asked = yes in
     let start = asked in
     let a = start.args in
-    let e = enough a.given.code-1 a.given.first-1.state a.given.second-1.state (length a.us.now) (length a.vs.now) (length a.ws-1.now) (length a.out1-1.now) (length a.out2-1.now) (length a.out3-1.now) (sym yes.in-Accepted.is ∙ asked.answer_overlay-answer.ensures) in
+    let e = enough a.given.code a.given.first.state a.given.second.state (length a.us.now) (length a.vs.now) (length a.ws.now) (length a.out1.now) (length a.out2.now) (length a.out3.now) (sym yes.in-Accepted.is ∙ asked.answer_overlay-answer.ensures) in
     let laid = lay-overlaid.lay_overlaid in
-    asks a.given.code-1 a.given.first-1.state a.given.second-1.state a.us.now a.vs.now a.ws-1.now laid.new.1.1.0 (length a.out1-1.now) (length a.out2-1.now) (length a.out3-1.now) e laid.ensures
+    asks a.given.code a.given.first.state a.given.second.state a.us.now a.vs.now a.ws.now laid.new.1.1.0 (length a.out1.now) (length a.out2.now) (length a.out3.now) e laid.ensures
 
 pub returns : goal.returns
 returns c =
@@ -55,10 +55,10 @@ returns c =
     let asked = yes in
     let start = asked in
     let a = start.args in
-    let e = enough a.given.code-1 a.given.first-1.state a.given.second-1.state (length a.us.now) (length a.vs.now) (length a.ws-1.now) (length a.out1-1.now) (length a.out2-1.now) (length a.out3-1.now) (sym yes.in-Accepted.is ∙ asked.answer_overlay-answer.ensures) in
+    let e = enough a.given.code a.given.first.state a.given.second.state (length a.us.now) (length a.vs.now) (length a.ws.now) (length a.out1.now) (length a.out2.now) (length a.out3.now) (sym yes.in-Accepted.is ∙ asked.answer_overlay-answer.ensures) in
     let three = made.encode_three in
     let ok = three.ensures.0 in
-    let law = overlaps a.given.code-1 a.given.first-1.state a.given.second-1.state a.us.now a.vs.now three.result (lent a.out1-1.now a.out2-1.now a.out3-1.now)
+    let law = overlaps a.given.code a.given.first.state a.given.second.state a.us.now a.vs.now three.result (lent a.out1.now a.out2.now a.out3.now)
     (lent three.new.1.1.1.1.0 three.new.1.1.1.1.1.0 three.new.1.1.1.1.1.1.0) e.good e.first_state e.second_state e.long three.ensures.1 in (
       ok ∙ sym yes.in-Accepted.is ∙ asked.answer_overlay-answer.ensures,
       (

@@ -16,7 +16,7 @@ pub returns-then-ws-us : goal.returns-then-ws-us
 returns-then-ws-us c =
     let one = c in
     let a = one.args in (
-      rw (eq-eqb (length a.us.now) (length a.vs.now) one.if-us-vs.false, lt-ltb (length a.ws-1.now) (length a.us.now) c.if-ws-us.true) refl,
+      rw (eq-eqb (length a.us.now) (length a.vs.now) one.if-us-vs.false, lt-ltb (length a.ws.now) (length a.us.now) c.if-ws-us.true) refl,
       refused Space (numbered Space (lit< tt)) refl,
     )
 
@@ -26,6 +26,6 @@ returns c =
     let two = laid in
     let one = two in
     let a = one.args in (
-      rw (eq-eqb (length a.us.now) (length a.vs.now) one.if-us-vs.false, le-ltb (length a.ws-1.now) (length a.us.now) two.if-ws-us.false) refl,
+      rw (eq-eqb (length a.us.now) (length a.vs.now) one.if-us-vs.false, le-ltb (length a.ws.now) (length a.us.now) two.if-ws-us.false) refl,
       done laid.lay_overlaid.ensures,
     )

@@ -11,6 +11,6 @@ returns c =
     let start = x in
     let a = start.args in (
       refl,
-      three a.given.code-1 a.given.first-1.state a.given.second-1.state a.us.now a.vs.now a.ws.now a.out1-1.now a.out2-1.now a.out3-1.now x.encode-x.new.1.1.1.0 y.encode-y.new.1.1.1.0 z.encode-z.new.1.1.1.0 start.requires
+      three a.given.code a.given.first.state a.given.second.state a.us.now a.vs.now a.ws.now a.out1.now a.out2.now a.out3.now x.encode-x.new.1.1.1.0 y.encode-y.new.1.1.1.0 z.encode-z.new.1.1.1.0 start.requires
           x.encode-x.result y.encode-y.result z.encode-z.result x.encode-x.ensures y.encode-y.ensures z.encode-z.ensures,
     )

@@ -11,7 +11,7 @@ returns-then-out-metrics c =
     let first = pushed in
     let begun = first in
     let a = begun.args in
-    let w = short a.start a.metrics.now [] pushed.push_metrics.new.1.1.0 a.out-1.now pushed.push_metrics.new.1.1.1.0 pushed.push_metrics.result begun.started-dec.result begun.started-dec.ensures pushed.push_metrics.ensures a.decisions-1.now first.if-out-metrics.true refl in
+    let w = short a.start a.metrics.now [] pushed.push_metrics.new.1.1.0 a.out.now pushed.push_metrics.new.1.1.1.0 pushed.push_metrics.result begun.started-dec.result begun.started-dec.ensures pushed.push_metrics.ensures a.decisions.now first.if-out-metrics.true refl in
     (w.answers, (w.leaves, w.greatest))
 
 pub returns-in_default : goal.returns-in_default
@@ -20,7 +20,7 @@ returns-in_default c =
     let first = pushed in
     let begun = first in
     let a = begun.args in
-    let w = refused a.start a.metrics.now a.decisions-1.now pushed.push_metrics-pushed.new.1.1.0 a.out-1.now pushed.push_metrics-pushed.new.1.1.1.0 pushed.push_metrics-pushed.result begun.started-dec.result begun.started-dec.ensures pushed.push_metrics-pushed.ensures first.if-out-metrics.false (told pushed.push_metrics-pushed.result.answer c.in-Accepted.keys2) in
+    let w = refused a.start a.metrics.now a.decisions.now pushed.push_metrics-pushed.new.1.1.0 a.out.now pushed.push_metrics-pushed.new.1.1.1.0 pushed.push_metrics-pushed.result begun.started-dec.result begun.started-dec.ensures pushed.push_metrics-pushed.ensures first.if-out-metrics.false (told pushed.push_metrics-pushed.result.answer c.in-Accepted.keys2) in
     (w.answers, (w.leaves, w.greatest))
 
 pub finished-requires : goal.finished-requires
@@ -32,7 +32,7 @@ finished-requires c =
     let first = pushed in
     let begun = first in
     let a = begun.args in
-    count_fits a.start a.metrics.now a.decisions-1.now pushed.push_metrics-pushed.new.1.1.0 a.out-1.now pushed.push_metrics-pushed.new.1.1.1.0 pushed.push_metrics-pushed.result begun.started-dec.result begun.started-dec.ensures pushed.push_metrics-pushed.ensures first.if-out-metrics.false yes.in-Accepted.is decs.decisions-2-1.given outs.out-2-1.given
+    count_fits a.start a.metrics.now a.decisions.now pushed.push_metrics-pushed.new.1.1.0 a.out.now pushed.push_metrics-pushed.new.1.1.1.0 pushed.push_metrics-pushed.result begun.started-dec.result begun.started-dec.ensures pushed.push_metrics-pushed.ensures first.if-out-metrics.false yes.in-Accepted.is decs.decisions-2-1.given outs.out-2-1.given
 
 pub returns : goal.returns
 returns c =
@@ -45,5 +45,5 @@ returns c =
     let begun = first in
     let known = begun in
     let a = known.args in
-    let w = accepted a.start a.metrics.now a.decisions-1.now pushed.push_metrics-pushed.new.1.1.0 a.out-1.now pushed.push_metrics-pushed.new.1.1.1.0 pushed.push_metrics-pushed.result begun.started-dec.result begun.started-dec.ensures pushed.push_metrics-pushed.ensures first.if-out-metrics.false yes.in-Accepted.is decs.decisions-2-1.given outs.out-2-1.given known.type_inv.metrics done.finished.result done.finished.new.1.0 done.finished.new.1.1.0 done.finished.ensures in
+    let w = accepted a.start a.metrics.now a.decisions.now pushed.push_metrics-pushed.new.1.1.0 a.out.now pushed.push_metrics-pushed.new.1.1.1.0 pushed.push_metrics-pushed.result begun.started-dec.result begun.started-dec.ensures pushed.push_metrics-pushed.ensures first.if-out-metrics.false yes.in-Accepted.is decs.decisions-2-1.given outs.out-2-1.given known.type_inv.metrics done.finished.result done.finished.new.1.0 done.finished.new.1.1.0 done.finished.ensures in
     (w.answers, (w.leaves, w.greatest))

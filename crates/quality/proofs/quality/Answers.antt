@@ -19,7 +19,7 @@ returns-in_default c =
     let a = c.args in
     let et = table_is c.plan_of-p.ensures.0 in
     let x = c.quality_answer-answer in
-    (x.ensures ∙ ap (λ (z : Table). first_row (quality_rows z (length a.bytes.now) a.re.now a.im.now (length a.out-1.now))) et, rw (is_refused x.result (told x.result c.in-Accepted.keys2)) refl)
+    (x.ensures ∙ ap (λ (z : Table). first_row (quality_rows z (length a.bytes.now) a.re.now a.im.now (length a.out.now))) et, rw (is_refused x.result (told x.result c.in-Accepted.keys2)) refl)
 
 pub sum_frame-requires : goal.sum_frame-requires
 sum_frame-requires c =
@@ -27,8 +27,8 @@ sum_frame-requires c =
     let a = plan-of.args in
     let pl = plan-of.plan_of-p in
     let et = table_is pl.ensures.0 in
-    let ok = sym c.in-Accepted.is ∙ c.quality_answer-answer.ensures ∙ ap (λ (z : Table). first_row (quality_rows z (length a.bytes.now) a.re.now a.im.now (length a.out-1.now))) et in
-    let p = passed a.t (length a.bytes.now) a.re.now a.im.now (length a.out-1.now) (sym ok) in
+    let ok = sym c.in-Accepted.is ∙ c.quality_answer-answer.ensures ∙ ap (λ (z : Table). first_row (quality_rows z (length a.bytes.now) a.re.now a.im.now (length a.out.now))) et in
+    let p = passed a.t (length a.bytes.now) a.re.now a.im.now (length a.out.now) (sym ok) in
     (planned pl.ensures.0 pl.ensures.1 p.table, p.real, p.imaginary, p.space)
 
 pub returns : goal.returns
@@ -38,4 +38,4 @@ returns c =
     let et = table_is plan-of.plan_of-p.ensures.0 in
     let x = c.quality_answer-answer in
     let ok = c.in-Accepted.is in
-    (x.ensures ∙ ap (λ (z : Table). first_row (quality_rows z (length a.bytes.now) a.re.now a.im.now (length a.out-1.now))) et, rw ok (rw et at c.sum_frame.ensures))
+    (x.ensures ∙ ap (λ (z : Table). first_row (quality_rows z (length a.bytes.now) a.re.now a.im.now (length a.out.now))) et, rw ok (rw et at c.sum_frame.ensures))

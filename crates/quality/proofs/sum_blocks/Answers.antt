@@ -25,7 +25,7 @@ loop-at-init c =
       refl,
       refl,
       refl,
-      running_start a.re.now a.im.now a.bytes.now a.f.plan.table a.f.mapping a.f.first begun.new.0 a.out-1.now begun.ensures,
+      running_start a.re.now a.im.now a.bytes.now a.f.plan.table a.f.mapping a.f.first begun.new.0 a.out.now begun.ensures,
     )
 
 pub bpsk_run-bpsk-requires : goal.bpsk_run-bpsk-requires
@@ -48,15 +48,15 @@ add_block-requires c =
     let at = next-block in
     let made = next-block.next_block-next in
     let loop = at.loop-at in
-    let lx : length made.new.1.1.1.1.0 ≡ length loop.xs-1 = search rules in
-    let ly : length made.new.1.1.1.1.1.0 ≡ length loop.ys-1 = search rules in
+    let lx : length made.new.1.1.1.1.0 ≡ length loop.xs = search rules in
+    let ly : length made.new.1.1.1.1.1.0 ≡ length loop.ys = search rules in
     let at-begin = at in
     let st = at-begin in
     let a = st.args in
     let on = made.ensures.0 in
     let fits = on.0.fits in
     let begun = at-begin.begin in
-    let lo : length begun.new.0 ≡ length a.out-1.now = ap length begun.ensures ∙ length_laid_upto (λ i. zero64) 336 a.out-1.now st.requires.5 in
+    let lo : length begun.new.0 ≡ length a.out.now = ap length begun.ensures ∙ length_laid_upto (λ i. zero64) 336 a.out.now st.requires.5 in
     (omega (arith, fits, on.1), st.requires.1, st.requires.2, omega (arith, on.2, lx, loop.invariant.2, st.requires.3), omega (arith, on.2, ly, loop.invariant.3, st.requires.4), omega (arith, lo, loop.invariant.4, st.requires.5))
 
 pub loop-at-smaller : goal.loop-at-smaller
@@ -72,8 +72,8 @@ loop-at-preserved c =
     let at = next-block in
     let made = next-block.next_block-next in
     let loop = at.loop-at in
-    let lx : length made.new.1.1.1.1.0 ≡ length loop.xs-1 = search rules in
-    let ly : length made.new.1.1.1.1.1.0 ≡ length loop.ys-1 = search rules in
+    let lx : length made.new.1.1.1.1.0 ≡ length loop.xs = search rules in
+    let ly : length made.new.1.1.1.1.1.0 ≡ length loop.ys = search rules in
     let bpsk-run = next-block in
     let at-begin = at in
     let st = at-begin in
@@ -86,7 +86,7 @@ loop-at-preserved c =
       lx ∙ loop.invariant.2,
       ly ∙ loop.invariant.3,
       search rules,
-      block_added_lem a.f.plan st.requires.0 a.re.now a.im.now a.bytes.now a.f.mapping a.f.first at-begin.begin.new.0 loop.at made.result _ _ _ _ block loop.invariant.0 bpsk-run.loop-at-test.true on.1 bpsk.result loop.out-1 _ bpsk.ensures loop.invariant.5 c.add_block.ensures,
+      block_added_lem a.f.plan st.requires.0 a.re.now a.im.now a.bytes.now a.f.mapping a.f.first at-begin.begin.new.0 loop.at made.result _ _ _ _ block loop.invariant.0 bpsk-run.loop-at-test.true on.1 bpsk.result loop.out _ bpsk.ensures loop.invariant.5 c.add_block.ensures,
     )
 
 pub returns : goal.returns
@@ -98,4 +98,4 @@ returns c =
     let loop = at.loop-at in
     let begun = at-begin.begin in
     loop.invariant.5 ∙ all_added a.f.plan st.requires.0 a.re.now a.im.now a.bytes.now a.f.mapping a.f.first begun.new.0 loop.at loop.invariant.0 c.loop-at-test.false
-    ∙ running_end a.re.now a.im.now a.bytes.now a.f.plan.table a.f.mapping a.f.first begun.new.0 a.out-1.now begun.ensures st.requires.5
+    ∙ running_end a.re.now a.im.now a.bytes.now a.f.plan.table a.f.mapping a.f.first begun.new.0 a.out.now begun.ensures st.requires.5

@@ -30,7 +30,7 @@ loop-i-preserved c =
     let zy = imaginary.imaginary-zy.ensures in
     let cy = imaginary2.imaginary-cy.ensures in
     let terms = terms-of.terms_of-terms.ensures in
-    (omega arith, search rules, block_more a.bpsk a.re.now a.im.now a.from a.xs.now a.ys.now a.out-1.now at.i at.out-1 _ _ _ _ at.invariant.2 zy cy terms e)
+    (omega arith, search rules, block_more a.bpsk a.re.now a.im.now a.from a.xs.now a.ys.now a.out.now at.i at.out _ _ _ _ at.invariant.2 zy cy terms e)
 
 pub returns : goal.returns
 returns c =

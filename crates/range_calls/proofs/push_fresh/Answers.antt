@@ -13,4 +13,4 @@ returns c =
     let made = w.with_state-made in
     let is = fresh_is a.state made.ensures.0 made.ensures.1 in
     let answers = rw is at p.push.ensures.0 in
-    (answers ∙ stream_answer (fresh_reached a.state) 2 a.pairs.now (length a.decisions-1.now) (length a.out-1.now), rw is at p.push.ensures.1)
+    (answers ∙ stream_answer (fresh_reached a.state) 2 a.pairs.now (length a.decisions.now) (length a.out.now), rw is at p.push.ensures.1)

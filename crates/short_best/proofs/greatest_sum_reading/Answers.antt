@@ -44,20 +44,20 @@ returns-in_default c =
     let r = c.answer_reading-answer.result in
     let no = told r c.in-Accepted.keys2 in
     let e = c.answer_reading-answer.ensures in
-    let l = unread a.code a.start a.metrics.now r a.decisions-1.now a.out-1.now no in
-    (e, (l, greatest_sum a.code a.start a.metrics.now (record { answer = r; count = 0 }) a.decisions-1.now _ a.out-1.now _ e l))
+    let l = unread a.code a.start a.metrics.now r a.decisions.now a.out.now no in
+    (e, (l, greatest_sum a.code a.start a.metrics.now (record { answer = r; count = 0 }) a.decisions.now _ a.out.now _ e l))
 
 pub half-h-requires : goal.half-h-requires
 half-h-requires c =
     let a = c.args in
-    let e = enough a.code a.metrics.now (length a.decisions-1.now) (length a.out-1.now) (sym c.in-Accepted.is ∙ c.answer_reading-answer.ensures) in
+    let e = enough a.code a.metrics.now (length a.decisions.now) (length a.out.now) (sym c.in-Accepted.is ∙ c.answer_reading-answer.ensures) in
     good_length_lem a.code e.good
 
 pub run-count-requires : goal.run-count-requires
 run-count-requires c =
     let t = c in
     let a = t.args in
-    let e = enough a.code a.metrics.now (length a.decisions-1.now) (length a.out-1.now) (sym t.in-Accepted.is ∙ t.answer_reading-answer.ensures) in
+    let e = enough a.code a.metrics.now (length a.decisions.now) (length a.out.now) (sym t.in-Accepted.is ∙ t.answer_reading-answer.ensures) in
     let half = c.half-h in
     let most = half.ensures.1 in
     let long = length-replicate 64 (of_bits binary32 0) in
@@ -72,5 +72,5 @@ returns c =
     let a = start.args in
     let run = at-run.run-count in
     let e = sym t.in-Accepted.is ∙ answer-reading.answer_reading-answer.ensures in
-    let l : Either answer.Accepted (Finished a.code a.start a.metrics.now run.result a.decisions-1.now run.new.1.1.1.1.1.0 a.out-1.now run.new.1.1.1.1.1.1.0) (Refused run.result a.decisions-1.now run.new.1.1.1.1.1.0 a.out-1.now run.new.1.1.1.1.1.1.0) = done run.ensures in
-    (e, (l, greatest_sum a.code a.start a.metrics.now (record { answer = answer.Accepted; count = run.result }) a.decisions-1.now run.new.1.1.1.1.1.0 a.out-1.now run.new.1.1.1.1.1.1.0 e l))
+    let l : Either answer.Accepted (Finished a.code a.start a.metrics.now run.result a.decisions.now run.new.1.1.1.1.1.0 a.out.now run.new.1.1.1.1.1.1.0) (Refused run.result a.decisions.now run.new.1.1.1.1.1.0 a.out.now run.new.1.1.1.1.1.1.0) = done run.ensures in
+    (e, (l, greatest_sum a.code a.start a.metrics.now (record { answer = answer.Accepted; count = run.result }) a.decisions.now run.new.1.1.1.1.1.0 a.out.now run.new.1.1.1.1.1.1.0 e l))

@@ -20,7 +20,7 @@ returns c =
           record {
             reads = λ n m good count few quads hd ho.
                 let made = made_is a.code a.start a.metrics.now n m good count few quads s.result s.ensures.0 s.ensures.1 in
-                let t = three_calls a.code a.start a.metrics.now n m good count few quads p.result f.result a.decisions-1.now p.new.1.1.1.0 f.new.1.1.0 a.out-1.now p.new.1.1.1.1.0 f.new.1.1.1.0 hd ho (rw made.1 at p.ensures.0) (rw made.1 at p.ensures.1) f.ensures.0 f.ensures.1 in
+                let t = three_calls a.code a.start a.metrics.now n m good count few quads p.result f.result a.decisions.now p.new.1.1.1.0 f.new.1.1.0 a.out.now p.new.1.1.1.1.0 f.new.1.1.1.0 hd ho (rw made.1 at p.ensures.0) (rw made.1 at p.ensures.1) f.ensures.0 f.ensures.1 in
                 (made.0, t.0, t.1, t.2, t.3, t.4);
           },
         ),

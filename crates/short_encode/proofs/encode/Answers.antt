@@ -38,14 +38,14 @@ returns-in_default c =
 pub half-requires : goal.half-requires
 half-requires c =
     let a = c.args in
-    let e = enough a.code a.enc.state (length a.bits.now) (length a.out-1.now) (sym c.in-Accepted.is ∙ c.answer_encode-answer.ensures) in
+    let e = enough a.code a.enc.state (length a.bits.now) (length a.out.now) (sym c.in-Accepted.is ∙ c.answer_encode-answer.ensures) in
     good_length_lem a.code e.good
 
 pub encode_all-last-requires : goal.encode_all-last-requires
 encode_all-last-requires c =
     let t = c in
     let a = t.args in
-    let e = enough a.code a.enc.state (length a.bits.now) (length a.out-1.now) (sym t.in-Accepted.is ∙ t.answer_encode-answer.ensures) in
+    let e = enough a.code a.enc.state (length a.bits.now) (length a.out.now) (sym t.in-Accepted.is ∙ t.answer_encode-answer.ensures) in
     let half = c.half in
     let all = states_are a.code half.result half.ensures.2 in
     let below = e.below in

@@ -17,7 +17,7 @@ use Rattle.short_fec.proofs.flush.Goals as goal
 pub returns-in_default : goal.returns-in_default
 returns-in_default c =
     let a = c.args in
-    (c.answer_flush-answer.ensures, as_given a.dec c.answer_flush-answer.result a.decisions-1.now a.out-1.now (told c.answer_flush-answer.result c.in-Accepted.keys2))
+    (c.answer_flush-answer.ensures, as_given a.dec c.answer_flush-answer.result a.decisions.now a.out.now (told c.answer_flush-answer.result c.in-Accepted.keys2))
 
 pub half-h-requires : goal.half-h-requires
 half-h-requires c =
@@ -25,7 +25,7 @@ half-h-requires c =
     let answer-flush = t in
     let start = answer-flush in
     let a = start.args in
-    good_length_lem a.code (flush_enough a.code a.dec (length a.decisions-1.now) (length a.out-1.now) (sym t.in-Accepted.is ∙ answer-flush.answer_flush-answer.ensures)).0
+    good_length_lem a.code (flush_enough a.code a.dec (length a.decisions.now) (length a.out.now) (sym t.in-Accepted.is ∙ answer-flush.answer_flush-answer.ensures)).0
 
 pub flush_from-requires : goal.flush_from-requires
 flush_from-requires c =
@@ -34,7 +34,7 @@ flush_from-requires c =
     let answer-flush = t in
     let start = answer-flush in
     let a = start.args in
-    let e = flush_enough a.code a.dec (length a.decisions-1.now) (length a.out-1.now) (sym t.in-Accepted.is ∙ answer-flush.answer_flush-answer.ensures) in
+    let e = flush_enough a.code a.dec (length a.decisions.now) (length a.out.now) (sym t.in-Accepted.is ∙ answer-flush.answer_flush-answer.ensures) in
     let half = at-half.half-h in
     let all = states_are a.code half.result half.ensures.2 in
     let under = c.best_state-best.ensures.0 in
@@ -57,5 +57,5 @@ returns c =
     let all = states_are a.code half.result half.ensures.2 in
     let e : 2 * half.result - 0 ≡ states_of a.code = omega arith in
     let is : best-state.result ≡ best_of a.code a.dec =
-    best-state.ensures.1 ∙ ap (λ (k : ℕ). best rule (take k a.dec.pm-1) (2 * half.result - 1)) e ∙ ap (λ (k : ℕ). best rule (take (states_of a.code) a.dec.pm-1) (k - 1)) all in
+    best-state.ensures.1 ∙ ap (λ (k : ℕ). best rule (take k a.dec.pm) (2 * half.result - 1)) e ∙ ap (λ (k : ℕ). best rule (take (states_of a.code) a.dec.pm) (k - 1)) all in
     (from.0 ∙ (sym t.in-Accepted.is ∙ answer-flush.answer_flush-answer.ensures), ((λ e. rw is at from.1), (λ n. absurd (n from.0))))

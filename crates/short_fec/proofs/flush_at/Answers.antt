@@ -13,12 +13,12 @@ use Rattle.short_fec.proofs.flush_at.Goals as goal
 pub returns-in_default : goal.returns-in_default
 returns-in_default c =
     let a = c.args in
-    (c.answer_flush-answer.ensures, as_given a.dec c.answer_flush-answer.result a.decisions-1.now a.out-1.now (told c.answer_flush-answer.result c.in-Accepted.keys2))
+    (c.answer_flush-answer.ensures, as_given a.dec c.answer_flush-answer.result a.decisions.now a.out.now (told c.answer_flush-answer.result c.in-Accepted.keys2))
 
 pub half-requires : goal.half-requires
 half-requires c =
     let a = c.args in
-    good_length_lem a.code (flush_enough a.code a.dec (length a.decisions-1.now) (length a.out-1.now) (sym c.in-Accepted.is ∙ c.answer_flush-answer.ensures)).0
+    good_length_lem a.code (flush_enough a.code a.dec (length a.decisions.now) (length a.out.now) (sym c.in-Accepted.is ∙ c.answer_flush-answer.ensures)).0
 
 pub flush_from-requires : goal.flush_from-requires
 flush_from-requires c =
@@ -27,7 +27,7 @@ flush_from-requires c =
     let start = answer-flush in
     let a = start.args in
     let half = c.half in
-    let e = flush_enough a.code a.dec (length a.decisions-1.now) (length a.out-1.now) (sym t.in-Accepted.is ∙ answer-flush.answer_flush-answer.ensures) in
+    let e = flush_enough a.code a.dec (length a.decisions.now) (length a.out.now) (sym t.in-Accepted.is ∙ answer-flush.answer_flush-answer.ensures) in
     let all = states_are a.code half.result half.ensures.2 in
     let some = half.ensures.0 in
     let pos : 0 < 2 * half.result = omega arith in

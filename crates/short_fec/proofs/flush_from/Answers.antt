@@ -34,6 +34,6 @@ returns c =
         traceback_is = refl;
         count_is = done.0 ∙ zero-add a.dec.held;
         words = done.1;
-        bits = done.2 ∙ ap (λ (k : ℕ). laid (traced k (take a.dec.held a.decisions-1.now) a.state) a.out-1.now) half.ensures.2.half_is;
+        bits = done.2 ∙ ap (λ (k : ℕ). laid (traced k (take a.dec.held a.decisions.now) a.state) a.out.now) half.ensures.2.half_is;
       },
     )

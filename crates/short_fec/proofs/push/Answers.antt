@@ -11,7 +11,7 @@ use Rattle.short_fec.proofs.push.Goals as goal
 pub returns-in_default : goal.returns-in_default
 returns-in_default c =
     let a = c.args in
-    (c.answer_stream-answer.ensures, as_given a.dec c.answer_stream-answer.result a.decisions-1.now a.out-1.now (told c.answer_stream-answer.result c.in-Accepted.keys2))
+    (c.answer_stream-answer.ensures, as_given a.dec c.answer_stream-answer.result a.decisions.now a.out.now (told c.answer_stream-answer.result c.in-Accepted.keys2))
 
 pub soft-requires : goal.soft-requires
 soft-requires c =
@@ -19,7 +19,7 @@ soft-requires c =
     let answer-stream = told in
     let start = answer-stream in
     let a = start.args in
-    let e = stream_enough a.code 2 a.dec a.pairs.now (length a.decisions-1.now) (length a.out-1.now) (sym told.in-Accepted.is ∙ answer-stream.answer_stream-answer.ensures) in
+    let e = stream_enough a.code 2 a.dec a.pairs.now (length a.decisions.now) (length a.out.now) (sym told.in-Accepted.is ∙ answer-stream.answer_stream-answer.ensures) in
     (inl refl, e.0, e.1)
 
 pub returns : goal.returns

@@ -19,12 +19,12 @@ use Rattle.short_fec.proofs.push_known.Goals as goal
 pub returns-in_default : goal.returns-in_default
 returns-in_default c =
     let a = c.args in
-    (c.answer_known-answer.ensures, as_given a.dec c.answer_known-answer.result a.decisions-1.now a.out-1.now (told c.answer_known-answer.result c.in-Accepted.keys2))
+    (c.answer_known-answer.ensures, as_given a.dec c.answer_known-answer.result a.decisions.now a.out.now (told c.answer_known-answer.result c.in-Accepted.keys2))
 
 pub half-h-requires : goal.half-h-requires
 half-h-requires c =
     let a = c.args in
-    good_length_lem a.code (known_enough a.code a.dec (length a.bits.now) (length a.decisions-1.now) (length a.out-1.now) (sym c.in-Accepted.is ∙ c.answer_known-answer.ensures)).0
+    good_length_lem a.code (known_enough a.code a.dec (length a.bits.now) (length a.decisions.now) (length a.out.now) (sym c.in-Accepted.is ∙ c.answer_known-answer.ensures)).0
 
 pub known_steps-end-requires : goal.known_steps-end-requires
 known_steps-end-requires c =
@@ -35,9 +35,9 @@ known_steps-end-requires c =
     let a = start.args in
     let half = at-half.half-h in
     let n = half.ensures.1 in
-    let e = (known_enough a.code a.dec (length a.bits.now) (length a.decisions-1.now) (length a.out-1.now) (sym t.in-Accepted.is ∙ answer-known.answer_known-answer.ensures)).1 in
+    let e = (known_enough a.code a.dec (length a.bits.now) (length a.decisions.now) (length a.out.now) (sym t.in-Accepted.is ∙ answer-known.answer_known-answer.ensures)).1 in
     let long = c.states-all.ensures.1 in
-    let taken : length (take (2 * half.result - 0) a.dec.pm-1) ≡ 2 * half.result = length-take-le (2 * half.result - 0) a.dec.pm-1 (omega arith) ∙ omega arith in
+    let taken : length (take (2 * half.result - 0) a.dec.pm) ≡ 2 * half.result = length-take-le (2 * half.result - 0) a.dec.pm (omega arith) ∙ omega arith in
     (half.ensures.0, n, half.ensures.2, taken, e.least, e.most, e.fewer, refl, e.fits, e.room)
 
 pub returns : goal.returns
@@ -53,8 +53,8 @@ returns c =
     let end = known-steps.known_steps-end in
     let n = half.ensures.1 in
     let long = states.states-all.ensures.1 in
-    let taken = length-take-le (2 * half.result - 0) a.dec.pm-1 (omega arith) in (
+    let taken = length-take-le (2 * half.result - 0) a.dec.pm (omega arith) in (
       (sym t.in-Accepted.is ∙ answer-known.answer_known-answer.ensures),
-      done (left a.code half.result (2 * half.result - 0) a.dec (λ h m. after h (labels a.code) rule a.dec.traceback (known_steps a.bits.now) (holding (take m a.dec.pm-1) a.dec.held a.decisions-1.now) (length a.bits.now))
-          end.new.0 end.result.held end.result.count a.decisions-1.now _ a.out-1.now _ half.ensures.2 (omega arith) (omega arith) end.ensures),
+      done (left a.code half.result (2 * half.result - 0) a.dec (λ h m. after h (labels a.code) rule a.dec.traceback (known_steps a.bits.now) (holding (take m a.dec.pm) a.dec.held a.decisions.now) (length a.bits.now))
+          end.new.0 end.result.held end.result.count a.decisions.now _ a.out.now _ half.ensures.2 (omega arith) (omega arith) end.ensures),
     )

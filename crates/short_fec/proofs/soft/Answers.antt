@@ -28,7 +28,7 @@ soft_run-end-requires c =
     let n = half.ensures.1 in
     let e = start.requires.2 in
     let long = c.states-all.ensures.1 in
-    let taken : length (take (2 * half.result - 0) a.dec.pm-1) ≡ 2 * half.result = length-take-le (2 * half.result - 0) a.dec.pm-1 (omega arith) ∙ omega arith in
+    let taken : length (take (2 * half.result - 0) a.dec.pm) ≡ 2 * half.result = length-take-le (2 * half.result - 0) a.dec.pm (omega arith) ∙ omega arith in
     let whole : a.per * (length a.values.now / a.per) ≤ length a.values.now = ⊎_elim (λ e. rw e (omega arith)) (λ e. rw e (omega arith)) start.requires.0 in
     (half.ensures.0, n, half.ensures.2, taken, start.requires.0, whole, e.least, e.most, e.fewer, refl, e.fits, e.room)
 
@@ -43,8 +43,8 @@ returns c =
     let end = soft-run.soft_run-end in
     let n = half.ensures.1 in
     let long = states.states-all.ensures.1 in
-    let taken = length-take-le (2 * half.result - 0) a.dec.pm-1 (omega arith) in (
+    let taken = length-take-le (2 * half.result - 0) a.dec.pm (omega arith) in (
       refl,
-      left a.code half.result (2 * half.result - 0) a.dec (λ h m. pushed h (labels a.code) rule a.dec.traceback (soft_steps a.per a.values.now) (holding (take m a.dec.pm-1) a.dec.held a.decisions-1.now) (length a.values.now / a.per))
-          end.new.0 end.result.held end.result.count a.decisions-1.now _ a.out-1.now _ half.ensures.2 (omega arith) (omega arith) end.ensures,
+      left a.code half.result (2 * half.result - 0) a.dec (λ h m. pushed h (labels a.code) rule a.dec.traceback (soft_steps a.per a.values.now) (holding (take m a.dec.pm) a.dec.held a.decisions.now) (length a.values.now / a.per))
+          end.new.0 end.result.held end.result.count a.decisions.now _ a.out.now _ half.ensures.2 (omega arith) (omega arith) end.ensures,
     )

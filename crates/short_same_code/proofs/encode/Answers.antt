@@ -15,4 +15,4 @@ returns c =
     let sa = rw code at short.ensures.0 in
     let ss = rw code at short.ensures.1.0 in
     let sc = rw code at short.ensures.1.1 in
-    (sa, (ss, (sc, (isdbt.ensures.0, (isdbt.ensures.1, (counts_coded a.enc.state a.bits.now a.out2-1.now isdbt.new.1.1.1.0 isdbt.result isdbt.ensures.1, λ e. encode_agrees a.enc.state a.bits.now a.out-1.now short.new.1.1.1.0 isdbt.new.1.1.1.0 short.result isdbt.result sa ss sc (rw (sym e) at isdbt.ensures.0) (rw (sym e) at isdbt.ensures.1)))))))
+    (sa, (ss, (sc, (isdbt.ensures.0, (isdbt.ensures.1, (counts_coded a.enc.state a.bits.now a.out2.now isdbt.new.1.1.1.0 isdbt.result isdbt.ensures.1, λ e. encode_agrees a.enc.state a.bits.now a.out.now short.new.1.1.1.0 isdbt.new.1.1.1.0 short.result isdbt.result sa ss sc (rw (sym e) at isdbt.ensures.0) (rw (sym e) at isdbt.ensures.1)))))))

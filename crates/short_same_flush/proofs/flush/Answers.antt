@@ -16,4 +16,4 @@ returns c =
     let a = start.args in
     let sa = rw code at short.ensures.0 in
     let sl = rw code at short.ensures.1 in
-    (sa, (sl, (isdb.ensures.0, (isdb.ensures.1, λ e f. flush_agrees a.dec states.states-all.ensures.1 short.result isdb.result a.decisions-1.now short.new.1.1.0 isdb.new.1.0 a.out-1.now short.new.1.1.1.0 isdb.new.1.1.0 sa sl (rw (sym e, sym f) at isdb.ensures.0) (rw (sym e, sym f) at isdb.ensures.1)))))
+    (sa, (sl, (isdb.ensures.0, (isdb.ensures.1, λ e f. flush_agrees a.dec states.states-all.ensures.1 short.result isdb.result a.decisions.now short.new.1.1.0 isdb.new.1.0 a.out.now short.new.1.1.1.0 isdb.new.1.1.0 sa sl (rw (sym e, sym f) at isdb.ensures.0) (rw (sym e, sym f) at isdb.ensures.1)))))

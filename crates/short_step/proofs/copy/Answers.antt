@@ -29,5 +29,5 @@ returns c =
     let at = c in
     let a = at.args in
     let inv = at.loop-i.invariant in
-    let e : at.loop-i.i ≡ length a.pm-1.now = omega arith in
-    written_whole nan (λ j. get_or a.new.now j nan) (length a.pm-1.now) at.loop-i.pm inv.2 (rw e at inv).3
+    let e : at.loop-i.i ≡ length a.pm.now = omega arith in
+    written_whole nan (λ j. get_or a.new.now j nan) (length a.pm.now) at.loop-i.pm inv.2 (rw e at inv).3

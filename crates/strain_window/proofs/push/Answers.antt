@@ -12,7 +12,7 @@ use Rattle.strain_window.proofs.push.Goals as goal
 pub returns-then-is_outside : goal.returns-then-is_outside
 returns-then-is_outside c =
     let a = c.args in
-    turned_back Window a.state a.clear a.sum a.kept-1.now c.refused.result c.refused.ensures (omega arith)
+    turned_back Window a.state a.clear a.sum a.kept.now c.refused.result c.refused.ensures (omega arith)
     (rw (sym c.is_outside.ensures ∙ c.if-is_outside.true) refl)
 
 pub returns-then-kept-index : goal.returns-then-kept-index
@@ -20,17 +20,17 @@ returns-then-kept-index c =
     let past = c in
     let a = past.args in
     let inside = sym past.is_outside.ensures ∙ past.if-is_outside.false in
-    let short : length a.kept-1.now < a.state.window = rw past.index.ensures at past.if-kept-index.true in
-    turned_back Space a.state a.clear a.sum a.kept-1.now c.refused-then-kept-index.result c.refused-then-kept-index.ensures (omega arith)
-    (rw (inside, lt-ltb (length a.kept-1.now) a.state.window short) refl)
+    let short : length a.kept.now < a.state.window = rw past.index.ensures at past.if-kept-index.true in
+    turned_back Space a.state a.clear a.sum a.kept.now c.refused-then-kept-index.result c.refused-then-kept-index.ensures (omega arith)
+    (rw (inside, lt-ltb (length a.kept.now) a.state.window short) refl)
 
 pub keep_sum-requires : goal.keep_sum-requires
 keep_sum-requires c =
     let past = c in
     let a = past.args in
     let inside = sym past.is_outside.ensures ∙ past.if-is_outside.false in
-    let room : a.state.window ≤ length a.kept-1.now = rw past.index.ensures at past.if-kept-index.false in
-    allowed a.state a.sum a.kept-1.now inside room
+    let room : a.state.window ≤ length a.kept.now = rw past.index.ensures at past.if-kept-index.false in
+    allowed a.state a.sum a.kept.now inside room
 
 pub returns : goal.returns
 returns c =
@@ -38,5 +38,5 @@ returns c =
     let past = c in
     let a = past.args in
     let inside = sym past.is_outside.ensures ∙ past.if-is_outside.false in
-    let room : a.state.window ≤ length a.kept-1.now = rw past.index.ensures at past.if-kept-index.false in
+    let room : a.state.window ≤ length a.kept.now = rw past.index.ensures at past.if-kept-index.false in
     carried_out inside room done.0 done.1

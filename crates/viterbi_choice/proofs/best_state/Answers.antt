@@ -28,7 +28,7 @@ loop-s-preserved c =
     let inv = at.loop-s.invariant in
     let step = more at.args.pm.now at.loop-s.best at.loop-s.s in
     ⊎_elim
-    (λ w. rw w.1 (inv.0, omega arith, omega arith, omega arith, step true inv.1 inv.4 w.0.taken))
+    (λ w. rw w.1 (inv.0, omega arith, omega arith, omega arith, step true inv.1 inv.4 w.0.true))
     (λ w. rw w.1 (inv.0, omega arith, omega arith, omega arith, step false inv.1 inv.4 w.0.left))
     c.if-not-pm-best.branch-raw
 

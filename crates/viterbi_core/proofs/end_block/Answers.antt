@@ -11,13 +11,13 @@ use Rattle.viterbi_core.proofs.end_block.Goals as goal
 pub returns-then-held-traceback : goal.returns-then-held-traceback
 returns-then-held-traceback c =
     let a = c.args in
-    kept_end a.traceback a.kind a.i a.pm.now a.at a.decisions-1.now a.out-1.now c.settle_block.new.0 c.settle_block.ensures c.if-held-traceback.true
+    kept_end a.traceback a.kind a.i a.pm.now a.at a.decisions.now a.out.now c.settle_block.new.0 c.settle_block.ensures c.if-held-traceback.true
 
 pub release-requires : goal.release-requires
 release-requires c =
     let start = c in
     let a = start.args in
-    let out = a.out-1.now in
+    let out = a.out.now in
     let full : a.at.held ≡ 4096 + a.traceback = omega arith in
     let room = start.requires.5 full in
     (start.requires.1, start.requires.3, rw (tail_whole a.at.count out out out start.requires.4, length-drop a.at.count out) (omega arith))
@@ -29,6 +29,6 @@ returns c =
     let start = settle-block in
     let settled = settle-block.settle_block in
     let a = start.args in
-    let out = a.out-1.now in
-    let_go_end a.traceback a.kind a.i a.pm.now a.at a.decisions-1.now out settled.new.0 settled.ensures freed.release.new.1.1.0 _ (omega arith) freed.release.ensures.1
-    (written_tail a.at.count out freed.release.new.1.1.1.0 (take 4096 (traced (take (4096 + a.traceback) a.decisions-1.now) (best_state settled.new.0))) start.requires.4 freed.release.ensures.0)
+    let out = a.out.now in
+    let_go_end a.traceback a.kind a.i a.pm.now a.at a.decisions.now out settled.new.0 settled.ensures freed.release.new.1.1.0 _ (omega arith) freed.release.ensures.1
+    (written_tail a.at.count out freed.release.new.1.1.1.0 (take 4096 (traced (take (4096 + a.traceback) a.decisions.now) (best_state settled.new.0))) start.requires.4 freed.release.ensures.0)

@@ -14,7 +14,7 @@ pub loop-k-init : goal.loop-k-init
 loop-k-init c =
     let start = c in
     let a = start.args in
-    (search rules, refl, refl, carried_none a.traceback start.requires.1 (steps_of a.kind a.values.now a.known.now) a.i a.pm.now a.at a.decisions-1.now a.out-1.now start.requires.2)
+    (search rules, refl, refl, carried_none a.traceback start.requires.1 (steps_of a.kind a.values.now a.known.now) a.i a.pm.now a.at a.decisions.now a.out.now start.requires.2)
 
 pub run-requires : goal.run-requires
 run-requires c =
@@ -49,14 +49,14 @@ end_block-now_at-requires c =
     let ld = at.loop-k.invariant.1 in
     let lo = at.loop-k.invariant.2 in
     let long = length_put held block.result (λ j. ys (k + j)) at.loop-k.pm dec ran.new.1.1.1.1.1.1.0 (omega arith) ran.ensures.1 in
-    let count = block_count a.traceback start.requires.1 ys a.i a.pm.now a.at a.decisions-1.now a.out-1.now a.kind of k block.result at.loop-k.now_at at.loop-k.pm dec at.loop-k.out z len.0 len.3 (omega arith) a.n (length a.out-1.now) at.loop-k.invariant.0 start.requires.4 in (
+    let count = block_count a.traceback start.requires.1 ys a.i a.pm.now a.at a.decisions.now a.out.now a.kind of k block.result at.loop-k.now_at at.loop-k.pm dec at.loop-k.out z len.0 len.3 (omega arith) a.n (length a.out.now) at.loop-k.invariant.0 start.requires.4 in (
       start.requires.0,
       start.requires.1,
       omega arith,
       omega arith,
       omega arith,
       λ full.
-          let room = block_room a.traceback start.requires.1 ys a.i a.pm.now a.at a.decisions-1.now a.out-1.now a.kind of k block.result at.loop-k.now_at at.loop-k.pm dec at.loop-k.out z len.0 len.3 (omega arith) a.n (length a.out-1.now) (omega arith) start.requires.4 full in
+          let room = block_room a.traceback start.requires.1 ys a.i a.pm.now a.at a.decisions.now a.out.now a.kind of k block.result at.loop-k.now_at at.loop-k.pm dec at.loop-k.out z len.0 len.3 (omega arith) a.n (length a.out.now) (omega arith) start.requires.4 full in
           omega arith,
     )
 
@@ -84,7 +84,7 @@ loop-k-preserved c =
       omega arith,
       omega arith,
       omega arith,
-      carried_more a.traceback start.requires.1 ys a.i a.pm.now a.at a.decisions-1.now a.out-1.now a.kind of k block.result at.loop-k.now_at at.loop-k.pm dec at.loop-k.out at.loop-k.invariant.3 len.0 len.3 (omega arith)
+      carried_more a.traceback start.requires.1 ys a.i a.pm.now a.at a.decisions.now a.out.now a.kind of k block.result at.loop-k.now_at at.loop-k.pm dec at.loop-k.out at.loop-k.invariant.3 len.0 len.3 (omega arith)
           ran.new.0 end.new.0 _ _ _ end.result ran.ensures.0
           (written_tail held dec ran.new.1.1.1.1.1.1.0 (run_words (λ j. ys (k + j)) at.loop-k.pm block.result) (omega arith) ran.ensures.1) end.ensures,
     )

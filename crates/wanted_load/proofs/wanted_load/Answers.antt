@@ -59,7 +59,7 @@ returns-then-find_load c =
     let f = w.yes c.if-find_load.true in
     let out : Either (first_row (earlier_rows t (length re) (length im) (length a.args.bytes.now))) (Outcome t a.args.m a.args.first re im (Load pl.result.bytes) a.args.bytes.now bytes)
     (Turned (first_row (earlier_rows t (length re) (length im) (length a.args.bytes.now))) (Load pl.result.bytes) a.args.bytes.now bytes) =
-    ((λ q. found (ap (λ (z : Plan). Load z.bytes-1) pl.ensures.0) f.0 f.1 f.2), (λ n. absurd (n (sym ok)))) in
+    ((λ q. found (ap (λ (z : Plan). Load z.bytes) pl.ensures.0) f.0 f.1 f.2), (λ n. absurd (n (sym ok)))) in
     (by_rows t a.args.m a.args.first re im (Load pl.result.bytes) a.args.bytes.now bytes out, out)
 
 pub returns-else-find_load : goal.returns-else-find_load

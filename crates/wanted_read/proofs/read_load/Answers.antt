@@ -32,10 +32,10 @@ read_run-state-requires c =
     let x = w.bytes_fit in
     let y = w.load_fits in
     let z = w.same in
-    let d = length-drop at.done at.bytes-1 in
+    let d = length-drop at.done at.bytes in
     let s = w.small in
     let r = start.requires.0 in
-    (omega arith, omega arith, load_room w, w.re_fits, w.im_fits, rw (tail_is at.done at.bytes-1) (omega arith))
+    (omega arith, omega arith, load_room w, w.re_fits, w.im_fits, rw (tail_is at.done at.bytes) (omega arith))
 
 pub overflow_add-done : goal.overflow_add-done
 overflow_add-done c =

@@ -20,12 +20,12 @@ pub returns-in_default : goal.returns-in_default
 returns-in_default c =
     let st = c in
     let t = st.args.t in
-    let rx = received_by st.args.re.now st.args.im.now st.args.o.mapping st.args.o.scales-1 in
+    let rx = received_by st.args.re.now st.args.im.now st.args.o.mapping st.args.o.scales in
     let sum = strain_sum t rx st.args.o.known_start st.args.first in
     let pl = c.plan_of-p in
     let et = table_is pl.ensures.0 in
     let da = c.decode_answer-answer in
-    let ea = da.ensures ∙ ap (λ (z : Table). first_row (decode_rows z st.args.re.now st.args.im.now st.args.o.scales-1 (length st.args.decisions.now) (length st.args.bits.now) (length st.args.bytes.now) (length st.args.counts.now))) et in
+    let ea = da.ensures ∙ ap (λ (z : Table). first_row (decode_rows z st.args.re.now st.args.im.now st.args.o.scales (length st.args.decisions.now) (length st.args.bits.now) (length st.args.bytes.now) (length st.args.counts.now))) et in
     let n = told da.result c.in-Accepted.keys2 in (
       refused_answer da.result t sum n ∙ ap (λ (z : Answer). frame_answer z t sum) ea,
       refused _ (λ q. n (ea ∙ q)) (record { words = refl; decoded = refl; load = refl; strain = refl }),
@@ -41,9 +41,9 @@ decode_strained-strained-requires c =
     let pl = plan-of.plan_of-p in
     let et = table_is pl.ensures.0 in
     let da = decode-answer.decode_answer-answer in
-    let ea = da.ensures ∙ ap (λ (z : Table). first_row (decode_rows z st.args.re.now st.args.im.now st.args.o.scales-1 (length st.args.decisions.now) (length st.args.bits.now) (length st.args.bytes.now) (length st.args.counts.now))) et in
+    let ea = da.ensures ∙ ap (λ (z : Table). first_row (decode_rows z st.args.re.now st.args.im.now st.args.o.scales (length st.args.decisions.now) (length st.args.bits.now) (length st.args.bytes.now) (length st.args.counts.now))) et in
     let ok = sym at-enum-told.in-Accepted.is ∙ ea in
-    let p = passed t st.args.re.now st.args.im.now (some_bad st.args.o.scales-1) (length st.args.decisions.now) (length st.args.bits.now) (length st.args.bytes.now) (length st.args.counts.now) ok in (
+    let p = passed t st.args.re.now st.args.im.now (some_bad st.args.o.scales) (length st.args.decisions.now) (length st.args.bits.now) (length st.args.bytes.now) (length st.args.counts.now) ok in (
       planned pl.ensures.0 pl.ensures.1 p.table,
       p.real,
       p.imaginary,
@@ -61,12 +61,12 @@ returns c =
     let plan-of = decode-answer in
     let st = plan-of in
     let t = st.args.t in
-    let rx = received_by st.args.re.now st.args.im.now st.args.o.mapping st.args.o.scales-1 in
+    let rx = received_by st.args.re.now st.args.im.now st.args.o.mapping st.args.o.scales in
     let sum = strain_sum t rx st.args.o.known_start st.args.first in
     let pl = plan-of.plan_of-p in
     let et = table_is pl.ensures.0 in
     let da = decode-answer.decode_answer-answer in
-    let ea = da.ensures ∙ ap (λ (z : Table). first_row (decode_rows z st.args.re.now st.args.im.now st.args.o.scales-1 (length st.args.decisions.now) (length st.args.bits.now) (length st.args.bytes.now) (length st.args.counts.now))) et in
+    let ea = da.ensures ∙ ap (λ (z : Table). first_row (decode_rows z st.args.re.now st.args.im.now st.args.o.scales (length st.args.decisions.now) (length st.args.bits.now) (length st.args.bytes.now) (length st.args.counts.now))) et in
     let ok = sym at-enum-told.in-Accepted.is ∙ ea in
     let ds = decode-strained.decode_strained-strained in
     let e = rw et at ds.ensures in (

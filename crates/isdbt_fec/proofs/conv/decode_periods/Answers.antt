@@ -106,7 +106,7 @@ end_call-requires c =
     let sum = d.sum in
     let words = d.words_long in
     let bits = d.bits_long in
-    let places = d.places-1 in
+    let places = d.places in
     (enough.most, omega arith, omega arith, omega arith)
 
 pub shape_of-decisions : goal.shape_of-decisions

@@ -16,7 +16,7 @@ decode_periods-count-requires c =
     let start = answer-decode in
     let a = start.args in
     let yes = sym c.in-Accepted.is ∙ answer-decode.answer_decode-answer.ensures in
-    let room = decode_enough a.rate a.llrs.now a.traceback (length a.decisions-1.now) (length a.out-1.now) yes in
+    let room = decode_enough a.rate a.llrs.now a.traceback (length a.decisions.now) (length a.out.now) yes in
     let d = depth_range a.traceback room.0 in
     rw c.depth_of.ensures (d.0, d.1, room.1, room.2)
 

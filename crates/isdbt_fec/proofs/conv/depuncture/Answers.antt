@@ -13,7 +13,7 @@ pub depuncture_periods-count-requires : goal.depuncture_periods-count-requires
 depuncture_periods-count-requires c =
     let a = c.args in
     let yes = sym c.in-Accepted.is ∙ c.answer_depuncture-answer.ensures in
-    depuncture_enough a.rate (length a.llrs.now) (length a.out-1.now) yes
+    depuncture_enough a.rate (length a.llrs.now) (length a.out.now) yes
 
 pub returns : goal.returns
 returns c =

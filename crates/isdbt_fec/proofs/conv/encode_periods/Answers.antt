@@ -17,7 +17,7 @@ loop-b-init c =
     let start = c in
     let a = start.args in
     let e = c.new-p.ensures in
-    (search rules, sendable a.rate _ e a.state a.bits.now a.out-1.now start.requires.2, coded_none a.rate _ e _ _ _)
+    (search rules, sendable a.rate _ e a.state a.bits.now a.out.now start.requires.2, coded_none a.rate _ e _ _ _)
 
 pub overflow_mul-from : goal.overflow_mul-from
 overflow_mul-from c =
@@ -78,7 +78,7 @@ send-requires c =
     let calls = at.invariant.1 in
     let i = calls.inside _ c.loop-b-test.true in
     let r = calls.ranges in
-    (r.eight, tail_long at.out-1 _ _ (omega arith), (λ j h. let g = calls.bits_below j h in omega arith))
+    (r.eight, tail_long at.out _ _ (omega arith), (λ j h. let g = calls.bits_below j h in omega arith))
 
 pub overflow_step-b : goal.overflow_step-b
 overflow_step-b c =
@@ -110,4 +110,4 @@ returns c =
     let a = start.args in
     let p = c.new-p in
     let end : c.loop-b.b ≡ length a.bits.now / p.result.period = omega arith in
-    coded_all a.rate _ p.ensures a.state a.bits.now a.out-1.now _ _ start.requires.1 (rw end at c.loop-b.invariant.2)
+    coded_all a.rate _ p.ensures a.state a.bits.now a.out.now _ _ start.requires.1 (rw end at c.loop-b.invariant.2)

@@ -16,7 +16,7 @@ pub encode_periods-last-requires : goal.encode_periods-last-requires
 encode_periods-last-requires c =
     let a = c.args in
     let yes = sym c.in-Accepted.is ∙ c.answer_encode-answer.ensures in
-    encode_enough a.rate a.enc.state (length a.bits.now) (length a.out-1.now) yes
+    encode_enough a.rate a.enc.state (length a.bits.now) (length a.out.now) yes
 
 pub nonzero_div-result : goal.nonzero_div-result
 nonzero_div-result c =
@@ -32,7 +32,7 @@ overflow_mul-result c =
     let start = answer-encode in
     let a = start.args in
     let yes = sym new.in-Accepted.is ∙ answer-encode.answer_encode-answer.ensures in
-    let room = encode_enough a.rate a.enc.state (length a.bits.now) (length a.out-1.now) yes in
+    let room = encode_enough a.rate a.enc.state (length a.bits.now) (length a.out.now) yes in
     let count = sent_count a.rate _ (length a.bits.now) new.new-p.ensures in
     omega arith
 

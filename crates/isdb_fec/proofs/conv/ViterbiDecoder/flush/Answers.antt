@@ -11,14 +11,14 @@ use Rattle.isdb_fec.proofs.conv.ViterbiDecoder.flush.Goals as goal
 pub returns-in_default : goal.returns-in_default
 returns-in_default c =
     let a = c.args in
-    (c.answer_flush-answer.ensures, as_given a.self c.answer_flush-answer.result a.decisions-1.now a.out-1.now (told c.answer_flush-answer.result c.in-Accepted.keys2))
+    (c.answer_flush-answer.ensures, as_given a.self c.answer_flush-answer.result a.decisions.now a.out.now (told c.answer_flush-answer.result c.in-Accepted.keys2))
 
 pub finish-count-requires : goal.finish-count-requires
 finish-count-requires c =
     let told = c in
     let a = told.args in
     let ok = sym told.in-Accepted.is ∙ told.answer_flush-answer.ensures in
-    let e = flush_enough a.self (length a.decisions-1.now) (length a.out-1.now) ok in
+    let e = flush_enough a.self (length a.decisions.now) (length a.out.now) ok in
     (omega arith, omega arith)
 
 pub returns : goal.returns
@@ -29,7 +29,7 @@ returns c =
     let start = answer-flush in
     let a = start.args in
     let ok = sym told.in-Accepted.is ∙ answer-flush.answer_flush-answer.ensures in
-    let e = flush_enough a.self (length a.decisions-1.now) (length a.out-1.now) ok in
+    let e = flush_enough a.self (length a.decisions.now) (length a.out.now) ok in
     let done = finish.finish-count.ensures in (
       ok,
       accepted (record { values = refl; held_is = refl; traceback_is = refl; count_is = done.0 ∙ omega arith; words = done.1; bits = done.2 }),

@@ -16,13 +16,13 @@ slice-aggregate-run-steps c = search rules
 pub returns-in_default : goal.returns-in_default
 returns-in_default c =
     let a = c.args in
-    (c.answer_stream-answer.ensures, as_given a.self c.answer_stream-answer.result a.decisions-1.now a.out-1.now (told c.answer_stream-answer.result c.in-Accepted.keys2))
+    (c.answer_stream-answer.ensures, as_given a.self c.answer_stream-answer.result a.decisions.now a.out.now (told c.answer_stream-answer.result c.in-Accepted.keys2))
 
 pub run_steps-at-requires : goal.run_steps-at-requires
 run_steps-at-requires c =
     let known = c in
     let a = known.args in
-    let e = stream_enough 2 a.self a.pairs.now (length a.decisions-1.now) (length a.out-1.now) (sym known.in-Accepted.is ∙ known.answer_stream-answer.ensures) in
+    let e = stream_enough 2 a.self a.pairs.now (length a.decisions.now) (length a.out.now) (sym known.in-Accepted.is ∙ known.answer_stream-answer.ensures) in
     let room = e.room in
     (e.least, e.most, e.fewer, e.fits, omega arith, search rules, omega arith)
 
@@ -37,8 +37,8 @@ returns c =
     let v = a.self in
     let xs = pair_steps a.pairs.now in
     let n = length a.pairs.now / 2 in
-    let dec = a.decisions-1.now in
-    let out = a.out-1.now in
+    let dec = a.decisions.now in
+    let out = a.out.now in
     let taken = sym known.in-Accepted.is ∙ answer-stream.answer_stream-answer.ensures in
     let e = stream_enough 2 v a.pairs.now (length dec) (length out) taken in
     let dec' = ran.new.1.1.1.1.1.1.1.1.0 in

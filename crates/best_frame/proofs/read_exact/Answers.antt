@@ -1,0 +1,104 @@
+-- `read_exact` meets its contract.
+use native.Mathlib.Omega.{arith}
+use lib.ListN.{length}
+use Rattle.isdbs_metrics.specs.Scales.{scale_of, received_by}
+use Rattle.best_frame.specs.ReadLaws.{metrics_whole, sides_whole, marks_at, marks_long, content_lent, found_long, found_wide, found_bits, found_twos, found_reads}
+use Rattle.best_frame.proofs.read_exact.Goals as goal
+
+pub best_content-requires : goal.best_content-requires
+best_content-requires c =
+    let slot-marks = c in
+    let frame-sides = slot-marks in
+    let frame-metrics = frame-sides in
+    let st = frame-metrics in
+    let a = st.args in
+    let pre = st.requires in
+    let t = a.p.table in
+    let ok = pre.0.accepted in
+    let r = received_by a.re.now a.im.now a.o.mapping a.o.scales in
+    let z = pre.4 in
+    let fq = frame-metrics.frame_metrics in
+    let sr = frame-sides.frame_sides in
+    let sm = slot-marks.slot_marks in
+    let em = metrics_whole t ok r a.start a.metrics.now fq.new.1.1.1.1.1.0 fq.ensures z.metrics_are in
+    let es = sides_whole t ok r a.start a.sides.now sr.new.1.1.1.1.0 (sr.ensures (scale_of a.o.scales)) z.sides_are in
+    let ma = marks_at t ok r a.start a.marks.now sm.new.1.0 sm.ensures in
+    let ml = marks_long t ok r a.start a.marks.now sm.new.1.0 sm.ensures pre.5 in
+    content_lent t ok r a.start pre.3 fq.new.1.1.1.1.1.0 sr.new.1.1.1.1.0 sm.new.1.0 a.tables.now a.words.now a.bits.now a.uncoded.now a.leads.now em es ml ma (omega (arith, z.tables_are)) (omega (arith, z.words_are)) z.bits_are z.uncoded_are z.leads_are
+
+pub write_load-requires : goal.write_load-requires
+write_load-requires c =
+    let best-content = c in
+    let slot-marks = best-content in
+    let frame-sides = slot-marks in
+    let frame-metrics = frame-sides in
+    let st = frame-metrics in
+    let a = st.args in
+    let pre = st.requires in
+    let t = a.p.table in
+    let ok = pre.0.accepted in
+    let r = received_by a.re.now a.im.now a.o.mapping a.o.scales in
+    let z = pre.4 in
+    let v = length a.leads.now in
+    let fq = frame-metrics.frame_metrics in
+    let sr = frame-sides.frame_sides in
+    let sm = slot-marks.slot_marks in
+    let em = metrics_whole t ok r a.start a.metrics.now fq.new.1.1.1.1.1.0 fq.ensures z.metrics_are in
+    let es = sides_whole t ok r a.start a.sides.now sr.new.1.1.1.1.0 (sr.ensures (scale_of a.o.scales)) z.sides_are in
+    let ma = marks_at t ok r a.start a.marks.now sm.new.1.0 sm.ensures in
+    let bc = best-content.best_content in
+    let l = found_long t ok r a.start v z.leads_are fq.new.1.1.1.1.1.0 sr.new.1.1.1.1.0 sm.new.1.0 bc.new.1.1.1.1.1.1.0 bc.new.1.1.1.1.1.1.1.0 bc.new.1.1.1.1.1.1.1.1.0 em es ma bc.ensures in
+    let w = found_wide t ok r a.start v z.leads_are fq.new.1.1.1.1.1.0 sr.new.1.1.1.1.0 sm.new.1.0 bc.new.1.1.1.1.1.1.0 bc.new.1.1.1.1.1.1.1.0 bc.new.1.1.1.1.1.1.1.1.0 em es ma bc.ensures in
+    let zb = z.bytes_are in
+    (pre.0, omega arith, omega arith, found_bits t ok r a.start v z.leads_are fq.new.1.1.1.1.1.0 sr.new.1.1.1.1.0 sm.new.1.0 bc.new.1.1.1.1.1.1.0 bc.new.1.1.1.1.1.1.1.0 bc.new.1.1.1.1.1.1.1.1.0 em es ma bc.ensures, found_twos t ok r a.start v z.leads_are fq.new.1.1.1.1.1.0 sr.new.1.1.1.1.0 sm.new.1.0 bc.new.1.1.1.1.1.1.0 bc.new.1.1.1.1.1.1.1.0 bc.new.1.1.1.1.1.1.1.1.0 em es ma bc.ensures, omega arith)
+
+pub shape_of-metrics : goal.shape_of-metrics
+shape_of-metrics c = c.metrics-1.given
+
+pub shape_of-sides : goal.shape_of-sides
+shape_of-sides c = c.sides-1.given
+
+pub shape_of-marks : goal.shape_of-marks
+shape_of-marks c = c.marks-1.given
+
+pub shape_of-words : goal.shape_of-words
+shape_of-words c = c.words-1.given
+
+pub shape_of-tables : goal.shape_of-tables
+shape_of-tables c = c.tables-1.given
+
+pub shape_of-bits : goal.shape_of-bits
+shape_of-bits c = c.bits-1.given
+
+pub shape_of-uncoded : goal.shape_of-uncoded
+shape_of-uncoded c = c.uncoded-1.given
+
+pub shape_of-bytes : goal.shape_of-bytes
+shape_of-bytes c = c.bytes-1.given
+
+pub shape_of-leads : goal.shape_of-leads
+shape_of-leads c = c.leads-1.given
+
+pub returns : goal.returns
+returns c =
+    let best-content = c in
+    let slot-marks = best-content in
+    let frame-sides = slot-marks in
+    let frame-metrics = frame-sides in
+    let st = frame-metrics in
+    let a = st.args in
+    let pre = st.requires in
+    let t = a.p.table in
+    let ok = pre.0.accepted in
+    let r = received_by a.re.now a.im.now a.o.mapping a.o.scales in
+    let z = pre.4 in
+    let v = length a.leads.now in
+    let fq = frame-metrics.frame_metrics in
+    let sr = frame-sides.frame_sides in
+    let sm = slot-marks.slot_marks in
+    let em = metrics_whole t ok r a.start a.metrics.now fq.new.1.1.1.1.1.0 fq.ensures z.metrics_are in
+    let es = sides_whole t ok r a.start a.sides.now sr.new.1.1.1.1.0 (sr.ensures (scale_of a.o.scales)) z.sides_are in
+    let ma = marks_at t ok r a.start a.marks.now sm.new.1.0 sm.ensures in
+    let bc = best-content.best_content in
+    let cb = c.write_load in
+    found_reads t ok r a.start v z.leads_are fq.new.1.1.1.1.1.0 sr.new.1.1.1.1.0 sm.new.1.0 bc.new.1.1.1.1.1.1.0 bc.new.1.1.1.1.1.1.1.0 bc.new.1.1.1.1.1.1.1.1.0 em es ma bc.ensures a.bytes.now cb.new.1.1.1.0 cb.ensures z.bytes_are
