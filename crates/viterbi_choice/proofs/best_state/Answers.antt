@@ -1,6 +1,5 @@
-use mathlib.Core.Path.{◌≡◌, refl}
-use mathlib.Core.Logic.{⊎_elim}
-use mathlib.Core.Bool.{Bool, true, false, cond}
+use mathlib.Core.Path.{◌≡◌, refl, ap}
+use mathlib.Core.Bool.{Bool, true, false, cond, not}
 use mathlib.Core.List.{List}
 use Prim.Native.Nat.{ℕ, suc, ◌+◌, ◌-◌, ◌*◌, ◌≤◌}
 use native.Mathlib.Omega.{arith}
@@ -9,6 +8,7 @@ use lib.Ieee.{Float, nan}
 use Rattle.trellis.specs.Step as trellis
 use Rattle.trellis.specs.Isdb.{rule}
 use Rattle.viterbi_choice.proofs.best_state.Goals as goal
+use Rattle.viterbi_choice.proofs.best_state.Goals.{then-not-pm-best, else-not-pm-best}
 
 more : (pm : List Float) (b s : ℕ) (t : Bool) → 1 ≤ s → b ≡ trellis.best rule pm (s - 1) → trellis.takes rule (get_or pm b nan) (get_or pm s nan) ≡ t
     → cond t s b ≡ trellis.best rule pm (s + 1 - 1)
@@ -27,10 +27,9 @@ loop-s-preserved c =
     let at = c in
     let inv = at.loop-s.invariant in
     let step = more at.args.pm.now at.loop-s.best at.loop-s.s in
-    ⊎_elim
-    (λ w. rw w.1 (inv.0, omega arith, omega arith, omega arith, step true inv.1 inv.4 w.0.true))
-    (λ w. rw w.1 (inv.0, omega arith, omega arith, omega arith, step false inv.1 inv.4 w.0.left))
-    c.if-not-pm-best.branch-raw
+    elim c.if-not-pm-best.branch [
+        then-not-pm-best w ↦ rw w.best-is (inv.0, omega arith, omega arith, omega arith, step true inv.1 inv.4 (ap not w.if-not-pm-best.true)) |
+        else-not-pm-best w ↦ rw w.best-is (inv.0, omega arith, omega arith, omega arith, step false inv.1 inv.4 (ap not w.if-not-pm-best.false)) ]
 
 pub returns : goal.returns
 returns c =
