@@ -10,15 +10,15 @@ use Rattle.viterbi_four.proofs.acs4.Goals as goal
 pub loop-j-init : goal.loop-j-init
 loop-j-init c =
     let start = c in
-    let long : length start.args.t1 ≡ 64 = start.well_formed.0.1.0.1 in
-    (omega arith, λ m rows. both_none start.args.t1 (four m) start.args.t1 long)
+    let long : length start.args.pm ≡ 64 = start.well_formed.0.1.0.1 in
+    (omega arith, λ m rows. both_none start.args.pm (four m) start.args.pm long)
 
 pub loop-j-preserved : goal.loop-j-preserved
 loop-j-preserved c =
     let turn = c in
     let at = turn in
     let start = at in
-    let pm = start.args.t1 in
+    let pm = start.args.pm in
     let j = at.loop-j.j in
     let h = turn.loop-j-test.true in (
       omega arith,
@@ -38,4 +38,4 @@ returns c =
     let start = first in
     let e : at.loop-j.j ≡ 32 = omega arith in
     let both = (rw e at at.loop-j.invariant).1 start.args.m (first.row00-p.ensures, second.row01-q.ensures, third.row10-r.ensures, fourth.row11-s.ensures) in
-    (both_values start.args.t1 (four start.args.m) _ _ _ both, c.join.ensures ∙ both_word start.args.t1 (four start.args.m) _ _ _ both)
+    (both_values start.args.pm (four start.args.m) _ _ _ both, c.join.ensures ∙ both_word start.args.pm (four start.args.m) _ _ _ both)
