@@ -4,8 +4,10 @@
 use isdbs_core::frame::{LOAD_BYTES, MAIN_SYMBOLS, SLOT_BYTES, SLOTS};
 use isdbs_core::tmcc::{DUMMY, Entry, Table};
 use isdbs_phy::demod::{DemodOptions, FrameDecoded, Mapping, decode_frame, encode_frame};
-use libc::STDOUT_FILENO;
 use refusal::Answer;
+
+// The number of standard output.
+const STDOUT_FILENO: i32 = 1;
 
 // The bytes that the frame carries.
 const CARRIED: usize = 45 * SLOT_BYTES;

@@ -13,6 +13,8 @@ use cases_lib::{
 use isdbs_core::frame::{FRAME_BITS, LOAD_BYTES, MAIN_SYMBOLS, SLOT_BYTES, SLOTS};
 use isdbs_phy::demod::{DemodOptions, FrameDecoded, decode_frame, encode_frame};
 use trellis::{FRAME_WORDS, LONGEST_FRAME};
+use std::fs::File;
+use std::os::fd::AsRawFd;
 
 const LINES: usize = 286;
 
@@ -328,15 +330,16 @@ fn wrong_scales() {
     show(b"rows above: #, #\n", &above);
 }
 
-fn main() {
-    let path = b"decode.hex";
-    let file = os::open_read(path);
-    if file < 0 {
-        os::fail(path);
-        return;
-    }
-    let agree = agreeing(file);
-    libc::close(file);
+fn main(rt: HostRuntime) {
+    let path = "decode.hex";
+    let file = match File::open(&rt, path) {
+        Ok(file) => file,
+        Err(e) => {
+            let _ = eprintln!(rt; "{path}: {e}");
+            return;
+        }
+    };
+    let agree = agreeing(file.as_raw_fd());
     show_agreeing(agree, LINES);
     wrong_scales();
     empty_table();

@@ -12,6 +12,8 @@ use cases_lib::{
 use isdb_fec::conv::ConvEncoder;
 use isdbs_core::frame::MAIN_SYMBOLS;
 use isdbs_phy::demod::{FrameEncoded, encode_frame_with_state};
+use std::fs::File;
+use std::os::fd::AsRawFd;
 
 const LINES: usize = 389;
 
@@ -91,15 +93,16 @@ fn part_unit() -> usize {
     row(answer)
 }
 
-fn main() {
-    let path = b"encode.hex";
-    let file = os::open_read(path);
-    if file < 0 {
-        os::fail(path);
-        return;
-    }
-    let agree = agreeing(file);
-    libc::close(file);
+fn main(rt: HostRuntime) {
+    let path = "encode.hex";
+    let file = match File::open(&rt, path) {
+        Ok(file) => file,
+        Err(e) => {
+            let _ = eprintln!(rt; "{path}: {e}");
+            return;
+        }
+    };
+    let agree = agreeing(file.as_raw_fd());
     show_agreeing(agree, LINES);
     show_one(b"part unit from state 64: refused #\n", part_unit());
 }

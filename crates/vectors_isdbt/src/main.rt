@@ -9,6 +9,8 @@ use cases_lib::{float_bits, float_of, number, one, passed, read_line, show_agree
 use isdb_fec::conv::ConvEncoder;
 use isdbt_fec::conv::{CodeRate, Puncturing, decode_punctured, depuncture, encode_punctured};
 use refusal::Answer;
+use std::fs::File;
+use std::os::fd::AsRawFd;
 
 const LINES: usize = 220;
 
@@ -258,14 +260,15 @@ fn agreeing(file: i32) -> usize
     agree
 }
 
-fn main() {
-    let path = b"isdbt.txt";
-    let file = os::open_read(path);
-    if file < 0 {
-        os::fail(path);
-        return;
-    }
-    let agree = agreeing(file);
-    libc::close(file);
+fn main(rt: HostRuntime) {
+    let path = "isdbt.txt";
+    let file = match File::open(&rt, path) {
+        Ok(file) => file,
+        Err(e) => {
+            let _ = eprintln!(rt; "{path}: {e}");
+            return;
+        }
+    };
+    let agree = agreeing(file.as_raw_fd());
     show_agreeing(agree, LINES);
 }

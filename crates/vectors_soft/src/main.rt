@@ -5,6 +5,8 @@
 ghost use Rattle.std.specs.Prelude.{◌≤◌, ◌<◌};
 
 use cases_lib::{double_of, float_bits, number, one, passed, read_line, show_agreeing};
+use std::fs::File;
+use std::os::fd::AsRawFd;
 
 const LINES: usize = 5324;
 
@@ -44,14 +46,15 @@ fn agreeing(file: i32) -> usize
     agree
 }
 
-fn main() {
-    let path = b"soft.hex";
-    let file = os::open_read(path);
-    if file < 0 {
-        os::fail(path);
-        return;
-    }
-    let agree = agreeing(file);
-    libc::close(file);
+fn main(rt: HostRuntime) {
+    let path = "soft.hex";
+    let file = match File::open(&rt, path) {
+        Ok(file) => file,
+        Err(e) => {
+            let _ = eprintln!(rt; "{path}: {e}");
+            return;
+        }
+    };
+    let agree = agreeing(file.as_raw_fd());
     show_agreeing(agree, LINES);
 }
