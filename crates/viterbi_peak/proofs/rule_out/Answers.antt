@@ -1,5 +1,4 @@
 use mathlib.Core.Path.{◌≡◌, refl, ◌∙◌}
-use mathlib.Core.Logic.{⊎_elim}
 use mathlib.Core.List.{List}
 use Prim.Native.Nat.{ℕ, ◌-◌, ◌/◌, ◌%◌, ◌<◌}
 use native.Mathlib.Omega.{arith}
@@ -10,6 +9,7 @@ use Rattle.trellis.specs.Step.{ruled}
 use Rattle.trellis.specs.WrittenLaws.{written_none, written_more, written_skip, kept_more, kept_skip, written_whole}
 use Rattle.viterbi_peak.proofs.rule_out.Invariants.{ruled_at}
 use Rattle.viterbi_peak.proofs.rule_out.Goals as goal
+use Rattle.viterbi_peak.proofs.rule_out.Goals.{then-s-kept, else-s-kept}
 
 out : (b : ℕ) (pm : List Float) (k : ℕ) → (k / 32 ≡ b % 2 → ⊥) → of_bits binary32 0xce6e_6b28 ≡ ruled_at b pm k
 out b pm k h = rw (ne_eqb (k / 32) (b % 2) h)
@@ -35,10 +35,9 @@ loop-s-preserved c =
     let s = at.loop-s.s in
     let inv = at.loop-s.invariant in
     let h : s < length pm = omega arith in
-    ⊎_elim
-    (λ w. rw w.1 (omega arith, refl, simp length-set inv.2, written_more nan f s pm _ h inv.3 (out b pm₀ s w.0.true), kept_more nan pm₀ s pm _ inv.4))
-    (λ w. rw w.1 (omega arith, refl, inv.2, written_skip nan f s pm inv.3 (inv.4 s (omega arith) ∙ stays b pm₀ s w.0.left), kept_skip nan pm₀ s pm inv.4))
-    c.if-s-kept.branch-raw
+    elim c.if-s-kept.branch [
+        then-s-kept w ↦ rw w.pm-is (omega arith, refl, simp length-set inv.2, written_more nan f s pm _ h inv.3 (out b pm₀ s w.if-s-kept.true), kept_more nan pm₀ s pm _ inv.4) |
+        else-s-kept w ↦ rw w.pm-is (omega arith, refl, inv.2, written_skip nan f s pm inv.3 (inv.4 s (omega arith) ∙ stays b pm₀ s w.if-s-kept.false), kept_skip nan pm₀ s pm inv.4) ]
 
 pub returns : goal.returns
 unfolding ruled
