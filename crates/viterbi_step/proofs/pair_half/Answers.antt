@@ -8,7 +8,7 @@ use Rattle.viterbi_step.proofs.pair_half.Goals as goal
 pub loop-j-init : goal.loop-j-init
 loop-j-init c =
     let start = c in
-    (omega arith, omega arith, half_none start.args.t1 (pair start.args.lx start.args.ly) start.args.u start.args.new.now c.states-n.ensures.1)
+    (omega arith, omega arith, half_none start.args.old (pair start.args.lx start.args.ly) start.args.u start.args.new.now c.states-n.ensures.1)
 
 pub loop-j-preserved : goal.loop-j-preserved
 loop-j-preserved c =
@@ -23,7 +23,7 @@ loop-j-preserved c =
     let h : j < 32 = rw inv.0 at turn.loop-j-test.true in (
       inv.0,
       omega arith,
-      half_more start.args.t1 (pair start.args.lx start.args.ly) start.args.u start.args.new.now j at.loop-j.new at.loop-j.w inv.2 start.requires.0 h _ _ _ _
+      half_more start.args.old (pair start.args.lx start.args.ly) start.args.u start.args.new.now j at.loop-j.new at.loop-j.w inv.2 start.requires.0 h _ _ _ _
           lower.pair_path-even.ensures upper.pair_path-odd.ensures chosen.larger.ensures c.beats.ensures,
     )
 
