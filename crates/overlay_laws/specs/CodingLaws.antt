@@ -83,12 +83,16 @@ reached_overlaid c (u ∷ us) (v ∷ vs) s r e hs hr =
     ap (λ (x : ℕ). reached c x (low_bits (overlaid us vs))) m
     ∙ reached_overlaid c us vs (moved (half c) (u % 2) s) (moved (half c) (v % 2) r) (omega arith) (moved_under (half c) (u % 2) s (omega arith) hs) (moved_under (half c) (v % 2) r (omega arith) hr)
 
+outputs_overlaid : (c : trellis.Code) (us vs : List ℕ) (s r : ℕ) → s < 2 * half c → r < 2 * half c
+    → coded_bits c (bit_xor s r) (overlaid us vs) ≡ overlaid (coded_bits c s us) (coded_bits c r vs)
+outputs_overlaid c us vs s r hs hr = ap bits_of (encoded_overlaid c us vs s r hs hr) ∙ parts_overlaid (encoded c s (low_bits us)) (encoded c r (low_bits vs))
+
 -- ---- THE THEOREM
 -- of any code, between its 2 * half states
 pub overlays : (c : trellis.Code) (us vs : List ℕ) (s r : ℕ) → length us ≡ length vs → s < 2 * half c → r < 2 * half c → Overlays c us vs s r
 overlays c us vs s r e hs hr =
     record {
-      outputs = ap bits_of (encoded_overlaid c us vs s r hs hr) ∙ parts_overlaid (encoded c s (low_bits us)) (encoded c r (low_bits vs));
+      outputs = outputs_overlaid c us vs s r hs hr;
       end = reached_overlaid c us vs s r e hs hr;
     }
 
@@ -100,7 +104,7 @@ pub overlays_chosen : (c : trellis.Code) (us vs : List ℕ) (s r : ℕ) → leng
     → chosen ps (coded_bits c (bit_xor s r) (overlaid us vs)) ≡ overlaid (chosen ps (coded_bits c s us)) (chosen ps (coded_bits c r vs))
 overlays_chosen c us vs s r e hs hr ps =
     let n : length (coded_bits c s us) ≡ length (coded_bits c r vs) = length_outputs c s us ∙ ap (λ (i : ℕ). 2 * i) e ∙ sym (length_outputs c r vs) in
-    ap (chosen ps) (overlays c us vs s r e hs hr).outputs ∙ chosen_overlaid ps (coded_bits c s us) (coded_bits c r vs) n
+    ap (chosen ps) (outputs_overlaid c us vs s r hs hr) ∙ chosen_overlaid ps (coded_bits c s us) (coded_bits c r vs) n
 
 -- "State it over every code of P7": its states are those below 2^(length-1)
 module _ (c : Code) (good : good_code c ≡ true) (us vs : List ℕ) (s r : ℕ) (e : length us ≡ length vs) (hs : s < states_of c) (hr : r < states_of c) where
@@ -109,7 +113,11 @@ module _ (c : Code) (good : good_code c ≡ true) (us vs : List ℕ) (s r : ℕ)
   state_sum = xor_lt (c.constraint - 1) s r hs hr
 
   pub code_overlays : Overlays (code_of c) us vs s r
-  code_overlays = overlays (code_of c) us vs s r e (rw (good_states c good) hs) (rw (good_states c good) hr)
+  code_overlays =
+      record {
+        outputs = outputs_overlaid (code_of c) us vs s r (rw (good_states c good) hs) (rw (good_states c good) hr);
+        end = reached_overlaid (code_of c) us vs s r e (rw (good_states c good) hs) (rw (good_states c good) hr);
+      }
 
   pub code_chosen : (ps : List ℕ)
       → chosen ps (coded_bits (code_of c) (bit_xor s r) (overlaid us vs)) ≡ overlaid (chosen ps (coded_bits (code_of c) s us)) (chosen ps (coded_bits (code_of c) r vs))
