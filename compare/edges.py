@@ -4,7 +4,7 @@
 After each run every output must be the old file or the new one, whole (where nothing was killed: all old, or as the last line says), the input must be as it was, and
 the last line must say what happened. After a kill the advice of the last line is followed, which must lead to a run that ends with ok. Runs are killed at
 every system call from the first file that is made on, by strace. Disk full: in a small tmpfs, which needs root, and by errors that strace hands to the program.
-Needs target/bin/bench (rt check bench; or BENCH=program) and strace. The last line is 'N passed, M failed'.
+Needs crates/bench/out/bench (cd crates/bench && rt run; or BENCH=program) and strace. The last line is 'N passed, M failed'.
 """
 import os
 import re
@@ -15,7 +15,7 @@ import tempfile
 from collections import Counter
 
 ROOT = os.path.dirname(os.path.dirname(os.path.realpath(__file__)))
-BENCH = os.path.abspath(os.environ.get("BENCH", f"{ROOT}/target/bin/bench"))
+BENCH = os.path.abspath(os.environ.get("BENCH", f"{ROOT}/crates/bench/out/bench"))
 # Each command: its words, its input, its outputs in the order in which they get their names, and its last line.
 COMMANDS = (
     ("read 7:44,1:4 001 first frame.cf64 new.bytes best new.best chart new.svg report new.report json new.json", "frame.cf64", "new.bytes new.best new.svg new.report new.json", "ok: certain"),

@@ -1,6 +1,6 @@
 #!/bin/sh
 # usage: compare/files.sh      tries what the gate cannot: pipes, integers against f64, names with line ends, closed and full outputs, broken runs.
-# It needs target/bin/bench (rt check bench) and python3; with strace it counts the calls of read and write. The last line is 'N passed, M failed'.
+# It needs crates/bench/out/bench (cd crates/bench && rt run) and python3; with strace it counts the calls of read and write. The last line is 'N passed, M failed'.
 set -u
 root=$(cd "$(dirname "$0")/.." && pwd -P)
 bench=$root/tools/bench
@@ -82,7 +82,7 @@ P
     is 'nothing is left' "$(echo frame.cf64*)" frame.cf64
 
     if command -v strace >/dev/null; then
-        strace -f -e trace=read,write -o calls "$root/target/bin/bench" read $words frame.cf64 bytes >report
+        strace -f -e trace=read,write -o calls "$root/crates/bench/out/bench" read $words frame.cf64 bytes >report
         echo "read of a frame of f64 parts: $(grep -c 'read(' calls) calls of read, $(grep -c 'write(' calls) of write"
     fi
 }

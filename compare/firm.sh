@@ -10,7 +10,7 @@ cd "$(dirname "$0")/.."
 mkdir -p target/compare/bin target/compare/lib
 if [ "${KEEP_ARCHIVE:-}" != 1 ]; then
     for crate in c_best c_frame; do
-        rt staticlib "$crate" >target/compare/firm.log 2>&1 || { tail -n 20 target/compare/firm.log >&2; exit 2; }
+        tools/archive "$crate" >target/compare/firm.log 2>&1 || { tail -n 20 target/compare/firm.log >&2; exit 2; }
     done
 fi
 compare/program.sh firm -A unexpected_cfgs --cfg best --cfg decode --cfg encode -L target/staticlib -l static=c_best -l static=c_frame

@@ -3,7 +3,7 @@
 
 Made frames of each combination and of mixed tables, with white noise from 1 to 5 dB above where bytes fail, some with a burst, and clean ones with a burst. The level of each
 of the frame's slots is worked out from the points and from the frame that `bench make` makes of the bytes that were read; it is held to the JSON's mer_db, and the rule to the
-JSON's strength and firm. Needs target/bin/bench (rt check bench; or BENCH=program). The last line is 'N flags, M different, ..'; FRAMES is how many for each table (6).
+JSON's strength and firm. Needs crates/bench/out/bench (cd crates/bench && rt run; or BENCH=program). The last line is 'N flags, M different, ..'; FRAMES is how many for each table (6).
 """
 import array
 import json
@@ -16,7 +16,7 @@ import sys
 import tempfile
 
 ROOT = os.path.dirname(os.path.dirname(os.path.realpath(__file__)))
-BENCH = os.path.abspath(os.environ.get("BENCH", f"{ROOT}/target/bin/bench"))
+BENCH = os.path.abspath(os.environ.get("BENCH", f"{ROOT}/crates/bench/out/bench"))
 SLOT = 812
 # By word: slots and valid slots of a unit, and where bytes fail in tenths of a dB.
 COMBINATIONS = {1: (4, 1, 0), 2: (2, 1, 30), 3: (3, 2, 50), 4: (4, 3, 70), 5: (6, 5, 70), 6: (8, 7, 80), 7: (1, 1, 90)}

@@ -4,6 +4,6 @@
 set -eu
 cd "$(dirname "$0")/.."
 mkdir -p target/compare/bin target/compare/lib
-rt staticlib c_header >/dev/null 2>&1
+tools/archive c_header >/dev/null 2>&1
 compare/program.sh found -L target/staticlib -l static=c_header
 target/compare/bin/found "${1:-500}" "${2:-100000000}"

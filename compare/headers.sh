@@ -4,6 +4,6 @@
 set -eu
 cd "$(dirname "$0")/.."
 mkdir -p target/compare/bin target/compare/lib
-rt staticlib c_header >/dev/null 2>&1
+tools/archive c_header >/dev/null 2>&1
 compare/program.sh headers -L target/staticlib -l static=c_header
 target/compare/bin/headers "${1:-1}"

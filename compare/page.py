@@ -3,7 +3,7 @@
 then holds every other `$ bench` example of README and BENCH to the gate's own output, crates/bench_replay/stdout. `stored`: this alone.
 
 A line of the page that is `..` stands for any lines; every other line shown must be there, in this order, and the last one last. Each bench command must also
-stand in crates/bench_replay/data/lines, in the same order, which the gate runs. Needs target/bin/bench (rt check bench). The last line is 'N passed, M failed'.
+stand in crates/bench_replay/data/lines, in the same order, which the gate runs. Needs crates/bench/out/bench (cd crates/bench && rt run). The last line is 'N passed, M failed'.
 """
 import os
 import shutil
