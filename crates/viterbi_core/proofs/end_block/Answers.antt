@@ -11,7 +11,7 @@ use Rattle.viterbi_core.proofs.end_block.Goals as goal
 pub returns-then-held-traceback : goal.returns-then-held-traceback
 returns-then-held-traceback c =
     let a = c.args in
-    kept_end a.traceback a.kind a.i a.pm.now a.at a.decisions.now a.out.now c.settle_block.new.0 c.settle_block.ensures c.if-held-traceback.true
+    kept_end a.traceback a.kind a.i a.pm.now a.at a.decisions.now a.out.now c.settle_block.new.pm c.settle_block.ensures c.if-held-traceback.true
 
 pub release-requires : goal.release-requires
 release-requires c =
@@ -30,5 +30,5 @@ returns c =
     let settled = settle-block.settle_block in
     let a = start.args in
     let out = a.out.now in
-    let_go_end a.traceback a.kind a.i a.pm.now a.at a.decisions.now out settled.new.0 settled.ensures freed.release.new.1.1.0 _ (omega arith) freed.release.ensures.1
-    (written_tail a.at.count out freed.release.new.1.1.1.0 (take 4096 (traced (take (4096 + a.traceback) a.decisions.now) (best_state settled.new.0))) start.requires.4 freed.release.ensures.0)
+    let_go_end a.traceback a.kind a.i a.pm.now a.at a.decisions.now out settled.new.pm settled.ensures freed.release.new.decisions _ (omega arith) freed.release.ensures.1
+    (written_tail a.at.count out freed.release.new.out (take 4096 (traced (take (4096 + a.traceback) a.decisions.now) (best_state settled.new.pm))) start.requires.4 freed.release.ensures.0)

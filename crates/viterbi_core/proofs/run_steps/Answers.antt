@@ -48,7 +48,7 @@ end_block-now_at-requires c =
     let few = z.few in
     let ld = at.loop-k.invariant.1 in
     let lo = at.loop-k.invariant.2 in
-    let long = length_put held block.result (λ j. ys (k + j)) at.loop-k.pm dec ran.new.1.1.1.1.1.1.0 (omega arith) ran.ensures.1 in
+    let long = length_put held block.result (λ j. ys (k + j)) at.loop-k.pm dec ran.new.words (omega arith) ran.ensures.1 in
     let count = block_count a.traceback start.requires.1 ys a.i a.pm.now a.at a.decisions.now a.out.now a.kind of k block.result at.loop-k.now_at at.loop-k.pm dec at.loop-k.out z len.0 len.3 (omega arith) a.n (length a.out.now) at.loop-k.invariant.0 start.requires.4 in (
       start.requires.0,
       start.requires.1,
@@ -80,13 +80,13 @@ loop-k-preserved c =
     let dec = at.loop-k.decisions in
     let few = at.loop-k.invariant.3.few in
     let ld = at.loop-k.invariant.1 in
-    let long = length_put held block.result (λ j. ys (k + j)) at.loop-k.pm dec ran.new.1.1.1.1.1.1.0 (omega arith) ran.ensures.1 in (
+    let long = length_put held block.result (λ j. ys (k + j)) at.loop-k.pm dec ran.new.words (omega arith) ran.ensures.1 in (
       omega arith,
       omega arith,
       omega arith,
       carried_more a.traceback start.requires.1 ys a.i a.pm.now a.at a.decisions.now a.out.now a.kind of k block.result at.loop-k.now_at at.loop-k.pm dec at.loop-k.out at.loop-k.invariant.3 len.0 len.3 (omega arith)
-          ran.new.0 end.new.0 _ _ _ end.result ran.ensures.0
-          (written_tail held dec ran.new.1.1.1.1.1.1.0 (run_words (λ j. ys (k + j)) at.loop-k.pm block.result) (omega arith) ran.ensures.1) end.ensures,
+          ran.new.pm end.new.pm _ _ _ end.result ran.ensures.0
+          (written_tail held dec ran.new.words (run_words (λ j. ys (k + j)) at.loop-k.pm block.result) (omega arith) ran.ensures.1) end.ensures,
     )
 
 pub returns : goal.returns
