@@ -8,7 +8,6 @@ use Rattle.viterbi_rows.specs.Rows.{handed_rows, short_of}
 use Rattle.refusal.specs.declared.Answer.TheVariants.{Space}
 use Rattle.refusal.specs.RowLaws.{refused_by, passed_by}
 use Rattle.viterbi_rows.specs.RowLaws.{sound}
-use Rattle.refusal.proofs.Told.{told}
 use borrow.Author.Rules.{rules}
 use Rattle.viterbi_rows.proofs.answer_flush.Goals as goal
 
@@ -16,7 +15,7 @@ pub returns-in_default : goal.returns-in_default
 returns-in_default c =
     let a = c.args in
     refused_by (handed_rows a.pm.now a.held a.traceback) ((Space, short_of a.held a.traceback a.decisions a.out) ∷ []) c.answer_handed-answer.result c.answer_handed-answer.ensures
-    (told c.answer_handed-answer.result c.in-Accepted.keys2)
+    c.in_default.not-Accepted
 
 pub returns-then-out-held : goal.returns-then-out-held
 returns-then-out-held c =

@@ -6,14 +6,13 @@ use Rattle.viterbi_rows.specs.Rows.{handed_rows, steps_short}
 use Rattle.refusal.specs.declared.Answer.TheVariants.{Space}
 use Rattle.refusal.specs.RowLaws.{refused_by, passed_by}
 use Rattle.viterbi_rows.specs.RowLaws.{sound}
-use Rattle.refusal.proofs.Told.{told}
 use Rattle.viterbi_rows.proofs.answer_known.Goals as goal
 
 pub returns-in_default : goal.returns-in_default
 returns-in_default c =
     let a = c.args in
     refused_by (handed_rows a.pm.now a.held a.traceback) ((Space, steps_short a.n a.held a.traceback a.decisions a.out) ∷ []) c.answer_handed-answer.result c.answer_handed-answer.ensures
-    (told c.answer_handed-answer.result c.in-Accepted.keys2)
+    c.in_default.not-Accepted
 
 pub answer_space-requires : goal.answer_space-requires
 answer_space-requires c =

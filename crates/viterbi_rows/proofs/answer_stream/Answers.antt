@@ -6,14 +6,13 @@ use borrow.Author.Tests.{eq-eqb, ne_eqb}
 use Rattle.viterbi_rows.specs.Rows.{handed_rows, stream_rest}
 use Rattle.refusal.specs.RowLaws.{refused_by, passed_by}
 use Rattle.viterbi_rows.specs.RowLaws.{sound}
-use Rattle.refusal.proofs.Told.{told}
 use Rattle.viterbi_rows.proofs.answer_stream.Goals as goal
 
 pub returns-in_default : goal.returns-in_default
 returns-in_default c =
     let a = c.args in
     refused_by (handed_rows a.pm.now a.held a.traceback) (stream_rest a.per a.held a.traceback a.values.now a.decisions a.out) c.answer_handed-answer.result c.answer_handed-answer.ensures
-    (told c.answer_handed-answer.result c.in-Accepted.keys2)
+    c.in_default.not-Accepted
 
 pub returns-then-values-per-ne0 : goal.returns-then-values-per-ne0
 returns-then-values-per-ne0 c =
