@@ -26,12 +26,12 @@ pub data Clean : Float → Type 0 where
 -- ---- which parts are clean
 pub clean_neg : (y : Float) → Clean y → Clean (neg y)
 unfolding neg of_bits
-clean_neg y clean-zero = clean-minus-zero
-clean_neg y clean-minus-zero = clean-zero
-clean_neg y clean-one = clean-minus-one
-clean_neg y clean-minus-one = clean-one
-clean_neg y clean-root = clean-minus-root
-clean_neg y clean-minus-root = clean-root
+clean_neg y clean_zero = clean_minus_zero
+clean_neg y clean_minus_zero = clean_zero
+clean_neg y clean_one = clean_minus_one
+clean_neg y clean_minus_one = clean_one
+clean_neg y clean_root = clean_minus_root
+clean_neg y clean_minus_root = clean_root
 
 turn_clean : (s : Bool) (y : Float) → Clean y → Clean (cond s (neg y) y)
 turn_clean true y c = clean_neg y c
@@ -44,14 +44,14 @@ pub term_clean : (b : ℕ) (y : Float) → Clean y → Clean (term b y)
 term_clean b y c = turn_clean (eqb b 1) y c
 
 pub psk8_clean : (l : ℕ) → l < 8 → Clean (psk8_of l).re × Clean (psk8_of l).im
-psk8_clean zero h = (clean-one, clean-zero)
-psk8_clean (suc zero) h = (clean-root, clean-root)
-psk8_clean (suc (suc zero)) h = (clean-minus-root, clean-root)
-psk8_clean (suc (suc (suc zero))) h = (clean-zero, clean-one)
-psk8_clean (suc (suc (suc (suc zero)))) h = (clean-minus-one, clean-zero)
-psk8_clean (suc (suc (suc (suc (suc zero))))) h = (clean-minus-root, clean-minus-root)
-psk8_clean (suc (suc (suc (suc (suc (suc zero)))))) h = (clean-root, clean-minus-root)
-psk8_clean (suc (suc (suc (suc (suc (suc (suc zero))))))) h = (clean-zero, clean-minus-one)
+psk8_clean zero h = (clean_one, clean_zero)
+psk8_clean (suc zero) h = (clean_root, clean_root)
+psk8_clean (suc (suc zero)) h = (clean_minus_root, clean_root)
+psk8_clean (suc (suc (suc zero))) h = (clean_zero, clean_one)
+psk8_clean (suc (suc (suc (suc zero)))) h = (clean_minus_one, clean_zero)
+psk8_clean (suc (suc (suc (suc (suc zero))))) h = (clean_minus_root, clean_minus_root)
+psk8_clean (suc (suc (suc (suc (suc (suc zero)))))) h = (clean_root, clean_minus_root)
+psk8_clean (suc (suc (suc (suc (suc (suc (suc zero))))))) h = (clean_zero, clean_minus_one)
 psk8_clean (suc (suc (suc (suc (suc (suc (suc (suc l)))))))) h = absurd (omega arith)
 
 -- ---- the ends of a margin
@@ -115,12 +115,12 @@ mirror a b x t = and_i (le (neg b) (neg x)) (le (neg x) (neg a)) (le_neg b x (an
 
 mirrored : (y x : Float) → Clean y → T (keeps (neg y) x) → T (keeps y (neg x))
 unfolding keeps eq neg of_bits
-mirrored y x clean-zero t = mirror (neg near0) near0 x t
-mirrored y x clean-minus-zero t = mirror (neg near0) near0 x t
-mirrored y x clean-one t = mirror (neg high1) (neg low1) x t
-mirrored y x clean-minus-one t = mirror low1 high1 x t
-mirrored y x clean-root t = mirror (neg high_root) (neg low_root) x t
-mirrored y x clean-minus-root t = mirror low_root high_root x t
+mirrored y x clean_zero t = mirror (neg near0) near0 x t
+mirrored y x clean_minus_zero t = mirror (neg near0) near0 x t
+mirrored y x clean_one t = mirror (neg high1) (neg low1) x t
+mirrored y x clean_minus_one t = mirror low1 high1 x t
+mirrored y x clean_root t = mirror (neg high_root) (neg low_root) x t
+mirrored y x clean_minus_root t = mirror low_root high_root x t
 
 pub conjugated_keeps : (w : Bool) (y x : Float) → Clean y → T (keeps (conjugated w y) x) → T (keeps y (conjugated w x))
 conjugated_keeps true y x c t = mirrored y x c t
@@ -129,12 +129,12 @@ conjugated_keeps false y x c t = t
 -- ---- a margin is not empty
 pub clean_within : (y : Float) → Clean y → T (keeps y y)
 unfolding keeps eq le neg of_bits
-clean_within y clean-zero = tt
-clean_within y clean-minus-zero = tt
-clean_within y clean-one = tt
-clean_within y clean-minus-one = tt
-clean_within y clean-root = tt
-clean_within y clean-minus-root = tt
+clean_within y clean_zero = tt
+clean_within y clean_minus_zero = tt
+clean_within y clean_one = tt
+clean_within y clean_minus_one = tt
+clean_within y clean_root = tt
+clean_within y clean_minus_root = tt
 
 pub record Other (y x : Float) : Type 0 where
   pub holds : T (fits binary64 x)

@@ -13,10 +13,4 @@ returns c =
     let x = start.args in
     let e = call.align_frame-a.ensures in
     let n = c.number.result in
-    let m : n ≡ number_of call.align_frame-a.result = c.number.ensures in (
-      m ∙ ap number_of e.0,
-      (
-        e.1.0 ∙ ap (λ (k : ℕ). left k (laid (aligned_re x.re.now x.im.now x.at) x.out_re.now) x.out_re.now) (sym m),
-        e.1.1 ∙ ap (λ (k : ℕ). left k (laid (aligned_im x.re.now x.im.now x.at) x.out_im.now) x.out_im.now) (sym m),
-      ),
-    )
+    let m : n ≡ number_of call.align_frame-a.result = c.number.ensures in record { answers = m ∙ ap number_of e.answers; real = e.real ∙ ap (λ (k : ℕ). left k (laid (aligned_re x.re.now x.im.now x.at) x.out_re.now) x.out_re.now) (sym m); imaginary = e.imaginary ∙ ap (λ (k : ℕ). left k (laid (aligned_im x.re.now x.im.now x.at) x.out_im.now) x.out_im.now) (sym m) }

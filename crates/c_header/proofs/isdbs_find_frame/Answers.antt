@@ -26,7 +26,7 @@ returns-in-Refused c =
     let h = found_header x.re.now x.im.now x.from in
     let t = unfound_told (short_at x.re.now x.im.now x.from) at.in-Refused.a q h (sym at.in-Refused.is ∙ at.find_frame-answer.ensures) in
     let n : c.number.result ≡ 6 = c.number.ensures ∙ ap number_of t.1 in
-    (rw t.0 n, (rw n refl, (rw n refl, (rw n refl, (rw n refl, rw n refl)))))
+    record { answers = rw t.0 n; place = rw n refl; kind = rw n refl; turn = rw n refl; real = rw n refl; imaginary = rw n refl }
 
 pub returns-in-Found : goal.returns-in-Found
 returns-in-Found c =
@@ -35,16 +35,4 @@ returns-in-Found c =
     let q = found_at x.re.now x.im.now x.from in
     let h = found_header x.re.now x.im.now x.from in
     let t = found_told (short_at x.re.now x.im.now x.from) at.in-Found.p q at.in-Found.h h (sym at.in-Found.is ∙ at.find_frame-answer.ensures) in
-    let p = c.put_header.ensures in (
-      rw t.0 refl,
-      (
-        t.1,
-        (
-          p.0 ∙ ap (λ (g : Header). kind_of g.first) t.2,
-          (
-            p.1.0 ∙ ap (λ (g : Header). g.turn) t.2,
-            (p.1.1.0 ∙ ap (λ (g : Header). sum_of g.re) t.2, p.1.1.1 ∙ ap (λ (g : Header). sum_of g.im) t.2),
-          ),
-        ),
-      ),
-    )
+    let p = c.put_header.ensures in record { answers = rw t.0 refl; place = t.1; kind = p.kind ∙ ap (λ (g : Header). kind_of g.first) t.2; turn = p.turn ∙ ap (λ (g : Header). g.turn) t.2; real = p.real ∙ ap (λ (g : Header). sum_of g.re) t.2; imaginary = p.imaginary ∙ ap (λ (g : Header). sum_of g.im) t.2 }

@@ -23,7 +23,7 @@ returns-in-Refused c =
     let h = header_at x.re.now x.im.now x.at in
     let t = unread_told (short_at x.re.now x.im.now x.at) at.in-Refused.a h (sym at.in-Refused.is ∙ at.header_at-answer.ensures) in
     let n : c.number.result ≡ 6 = c.number.ensures ∙ ap number_of t.1 in
-    (rw t.0 n, (rw n refl, (rw n refl, (rw n refl, rw n refl))))
+    record { answers = rw t.0 n; kind = rw n refl; turn = rw n refl; real = rw n refl; imaginary = rw n refl }
 
 pub returns-in-Read : goal.returns-in-Read
 returns-in-Read c =
@@ -31,13 +31,4 @@ returns-in-Read c =
     let x = at.args in
     let h = header_at x.re.now x.im.now x.at in
     let t = read_told (short_at x.re.now x.im.now x.at) at.in-Read.h h (sym at.in-Read.is ∙ at.header_at-answer.ensures) in
-    let p = c.put_header.ensures in (
-      rw t.0 refl,
-      (
-        p.0 ∙ ap (λ (g : Header). kind_of g.first) t.1,
-        (
-          p.1.0 ∙ ap (λ (g : Header). g.turn) t.1,
-          (p.1.1.0 ∙ ap (λ (g : Header). sum_of g.re) t.1, p.1.1.1 ∙ ap (λ (g : Header). sum_of g.im) t.1),
-        ),
-      ),
-    )
+    let p = c.put_header.ensures in record { answers = rw t.0 refl; kind = p.kind ∙ ap (λ (g : Header). kind_of g.first) t.1; turn = p.turn ∙ ap (λ (g : Header). g.turn) t.1; real = p.real ∙ ap (λ (g : Header). sum_of g.re) t.1; imaginary = p.imaginary ∙ ap (λ (g : Header). sum_of g.im) t.1 }

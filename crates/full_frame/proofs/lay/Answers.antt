@@ -12,7 +12,7 @@ returns-then-short_inputs c =
     let start = c in
     let x = start.args in
     let e : short_inputs (length x.header_re.now) (length x.main_re.now) (length x.burst_re.now) ≡ true = sym c.short_inputs.ensures ∙ c.if-short_inputs.true in
-    (rw e, (refl, refl))
+    record { answers = rw e; real = refl; imaginary = refl }
 
 pub returns-then-short_inputs-2 : goal.returns-then-short_inputs-2
 returns-then-short_inputs-2 c =
@@ -20,7 +20,7 @@ returns-then-short_inputs-2 c =
     let x = start.args in
     let e : short_inputs (length x.header_re.now) (length x.main_re.now) (length x.burst_re.now) ≡ false = sym c.short_inputs.ensures ∙ c.if-short_inputs.false in
     let f : short_inputs (length x.header_im.now) (length x.main_im.now) (length x.burst_im.now) ≡ true = sym c.short_inputs-2.ensures ∙ c.if-short_inputs-2.true in
-    (rw (e, f), (refl, refl))
+    record { answers = rw (e, f); real = refl; imaginary = refl }
 
 pub returns-then-short_frame : goal.returns-then-short_frame
 returns-then-short_frame c =
@@ -31,7 +31,7 @@ returns-then-short_frame c =
     let e : short_inputs (length x.header_re.now) (length x.main_re.now) (length x.burst_re.now) ≡ false = sym short-inputs.short_inputs.ensures ∙ if1.if-short_inputs.false in
     let f : short_inputs (length x.header_im.now) (length x.main_im.now) (length x.burst_im.now) ≡ false = sym c.short_inputs-2.ensures ∙ c.if-short_inputs-2.false in
     let g : short_frame (length x.re.now) (length x.im.now) ≡ true = sym c.short_frame.ensures ∙ c.if-short_frame.true in
-    (rw (e, f, g), (refl, refl))
+    record { answers = rw (e, f, g); real = refl; imaginary = refl }
 
 pub lay_part-requires : goal.lay_part-requires
 lay_part-requires c =
@@ -74,4 +74,4 @@ returns c =
     let e : short_inputs (length x.header_re.now) (length x.main_re.now) (length x.burst_re.now) ≡ false = sym short-inputs.short_inputs.ensures ∙ if1.if-short_inputs.false in
     let f : short_inputs (length x.header_im.now) (length x.main_im.now) (length x.burst_im.now) ≡ false = sym if2.short_inputs-2.ensures ∙ if2.if-short_inputs-2.false in
     let g : short_frame (length x.re.now) (length x.im.now) ≡ false = sym if3.short_frame.ensures ∙ if3.if-short_frame.false in
-    (rw (e, f, g), (lay-part.lay_part.ensures, c.lay_part-2.ensures))
+    record { answers = rw (e, f, g); real = lay-part.lay_part.ensures; imaginary = c.lay_part-2.ensures }

@@ -12,7 +12,7 @@ returns-then-short_frame c =
     let start = c in
     let x = start.args in
     let e : short_frame (length x.re.now) (length x.im.now) ≡ true = sym c.short_frame.ensures ∙ c.if-short_frame.true in
-    (rw e, (refl, (refl, (refl, (refl, (refl, refl))))))
+    record { answers = rw e; header_real = refl; header_imaginary = refl; main_real = refl; main_imaginary = refl; burst_real = refl; burst_imaginary = refl }
 
 pub returns-then-short_inputs : goal.returns-then-short_inputs
 returns-then-short_inputs c =
@@ -20,7 +20,7 @@ returns-then-short_inputs c =
     let x = start.args in
     let e : short_frame (length x.re.now) (length x.im.now) ≡ false = sym c.short_frame.ensures ∙ c.if-short_frame.false in
     let f : short_inputs (length x.header_re.now) (length x.main_re.now) (length x.burst_re.now) ≡ true = sym c.short_inputs.ensures ∙ c.if-short_inputs.true in
-    (rw (e, f), (refl, (refl, (refl, (refl, (refl, refl))))))
+    record { answers = rw (e, f); header_real = refl; header_imaginary = refl; main_real = refl; main_imaginary = refl; burst_real = refl; burst_imaginary = refl }
 
 pub returns-then-short_inputs-2 : goal.returns-then-short_inputs-2
 returns-then-short_inputs-2 c =
@@ -31,7 +31,7 @@ returns-then-short_inputs-2 c =
     let e : short_frame (length x.re.now) (length x.im.now) ≡ false = sym short-frame.short_frame.ensures ∙ if1.if-short_frame.false in
     let f : short_inputs (length x.header_re.now) (length x.main_re.now) (length x.burst_re.now) ≡ false = sym c.short_inputs.ensures ∙ c.if-short_inputs.false in
     let g : short_inputs (length x.header_im.now) (length x.main_im.now) (length x.burst_im.now) ≡ true = sym c.short_inputs-2.ensures ∙ c.if-short_inputs-2.true in
-    (rw (e, f, g), (refl, (refl, (refl, (refl, (refl, refl))))))
+    record { answers = rw (e, f, g); header_real = refl; header_imaginary = refl; main_real = refl; main_imaginary = refl; burst_real = refl; burst_imaginary = refl }
 
 pub take_part-requires : goal.take_part-requires
 take_part-requires c =
@@ -77,4 +77,4 @@ returns c =
     let g : short_inputs (length x.header_im.now) (length x.main_im.now) (length x.burst_im.now) ≡ false = sym if3.short_inputs-2.ensures ∙ if3.if-short_inputs-2.false in
     let t = take_part.take_part.ensures in
     let u = take-part2.take_part-2.ensures in
-    (rw (e, f, g), (t.0, (u.0, (t.1, (u.1, (t.2, u.2))))))
+    record { answers = rw (e, f, g); header_real = t.0; header_imaginary = u.0; main_real = t.1; main_imaginary = u.1; burst_real = t.2; burst_imaginary = u.2 }

@@ -22,8 +22,8 @@ returns-in_default c =
     let outs' = lent_inputs x.out_header_im.now x.out_main_im.now x.out_burst_im.now in
     let a = c.first_row-answer.result in
     let h = by_tests a (inputs_short res || inputs_short ims) (short_frame (length x.re.now) (length x.im.now)) (inputs_short outs || inputs_short outs') short-parts.short_parts-inputs.ensures c.short_frame.ensures c.short_parts-outputs.ensures c.first_row-answer.ensures in
-    let n : number_of a ≡ 0 → ⊥ = λ z. told a c.in-Accepted.keys2 (zero_accepted a z) in
-    (h, (kept a (full_part res) x.re.now n, (kept a (full_part ims) x.im.now n, (kept a (take 192 x.header_re.now) x.out_header_re.now n, (kept a (take 192 x.header_im.now) x.out_header_im.now n, (kept a (take 38976 x.main_re.now) x.out_main_re.now n, (kept a (take 38976 x.main_im.now) x.out_main_im.now n, (kept a (take 768 x.burst_re.now) x.out_burst_re.now n, kept a (take 768 x.burst_im.now) x.out_burst_im.now n))))))))
+    let n : number_of a ≡ 0 → ⊥ = λ z. c.in_default.not-Accepted (zero_accepted a z) in
+    record { answers = h; real = kept a (full_part res) x.re.now n; imaginary = kept a (full_part ims) x.im.now n; header_real = kept a (take 192 x.header_re.now) x.out_header_re.now n; header_imaginary = kept a (take 192 x.header_im.now) x.out_header_im.now n; main_real = kept a (take 38976 x.main_re.now) x.out_main_re.now n; main_imaginary = kept a (take 38976 x.main_im.now) x.out_main_im.now n; burst_real = kept a (take 768 x.burst_re.now) x.out_burst_re.now n; burst_imaginary = kept a (take 768 x.burst_im.now) x.out_burst_im.now n }
 
 pub returns : goal.returns
 returns c =
@@ -45,5 +45,5 @@ returns c =
     let tests = none_short a (inputs_short res || inputs_short ims) (short_frame (length x.re.now) (length x.im.now)) (inputs_short outs || inputs_short outs') h z in
     let e = lay.lay.ensures in
     let g = take-apart.take_apart.ensures in
-    let k = laid_taken res ims x.re.now x.im.now outs outs' tests _ _ lay.lay.result e.0 e.1.0 e.1.1 take-apart.take_apart.result g.0 in
-    (k.answer, (k.real, (k.imaginary, (k.real_back Header _ x.out_header_re.now g.1.0, (k.imaginary_back Header _ x.out_header_im.now g.1.1.0, (k.real_back Main _ x.out_main_re.now g.1.1.1.0, (k.imaginary_back Main _ x.out_main_im.now g.1.1.1.1.0, (k.real_back Burst _ x.out_burst_re.now g.1.1.1.1.1.0, k.imaginary_back Burst _ x.out_burst_im.now g.1.1.1.1.1.1))))))))
+    let k = laid_taken res ims x.re.now x.im.now outs outs' tests _ _ lay.lay.result e.answers e.real e.imaginary take-apart.take_apart.result g.answers in
+    record { answers = k.answer; real = k.real; imaginary = k.imaginary; header_real = k.real_back Header _ x.out_header_re.now g.header_real; header_imaginary = k.imaginary_back Header _ x.out_header_im.now g.header_imaginary; main_real = k.real_back Main _ x.out_main_re.now g.main_real; main_imaginary = k.imaginary_back Main _ x.out_main_im.now g.main_imaginary; burst_real = k.real_back Burst _ x.out_burst_re.now g.burst_real; burst_imaginary = k.imaginary_back Burst _ x.out_burst_im.now g.burst_imaginary }

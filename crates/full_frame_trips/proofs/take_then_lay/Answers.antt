@@ -20,8 +20,8 @@ returns-in_default c =
     let ims = lent_inputs x.header_im.now x.main_im.now x.burst_im.now in
     let a = c.first_row-answer.result in
     let h = by_tests a (short_frame (length x.re.now) (length x.im.now)) (inputs_short res || inputs_short ims) (short_frame (length x.out_re.now) (length x.out_im.now)) c.short_frame-frame.ensures short-parts.short_parts-parts.ensures c.short_frame.ensures c.first_row-answer.ensures in
-    let n : number_of a ≡ 0 → ⊥ = λ z. told a c.in-Accepted.keys2 (zero_accepted a z) in
-    (h, (kept a (take 39936 x.re.now) x.out_re.now n, (kept a (take 39936 x.im.now) x.out_im.now n, (kept a (taken Header x.re.now) x.header_re.now n, (kept a (taken Header x.im.now) x.header_im.now n, (kept a (taken Main x.re.now) x.main_re.now n, (kept a (taken Main x.im.now) x.main_im.now n, (kept a (taken Burst x.re.now) x.burst_re.now n, kept a (taken Burst x.im.now) x.burst_im.now n))))))))
+    let n : number_of a ≡ 0 → ⊥ = λ z. c.in_default.not-Accepted (zero_accepted a z) in
+    record { answers = h; real = kept a (take 39936 x.re.now) x.out_re.now n; imaginary = kept a (take 39936 x.im.now) x.out_im.now n; header_real = kept a (taken Header x.re.now) x.header_re.now n; header_imaginary = kept a (taken Header x.im.now) x.header_im.now n; main_real = kept a (taken Main x.re.now) x.main_re.now n; main_imaginary = kept a (taken Main x.im.now) x.main_im.now n; burst_real = kept a (taken Burst x.re.now) x.burst_re.now n; burst_imaginary = kept a (taken Burst x.im.now) x.burst_im.now n }
 
 pub returns : goal.returns
 returns c =
@@ -42,7 +42,7 @@ returns c =
     let b = take-apart.take_apart.result in
     let e = take-apart.take_apart.ensures in
     let g = lay.lay.ensures in
-    let tr = each_taken b x.re.now x.header_re.now x.main_re.now x.burst_re.now e.1.0 e.1.1.1.0 e.1.1.1.1.1.0 in
-    let ti = each_taken b x.im.now x.header_im.now x.main_im.now x.burst_im.now e.1.1.0 e.1.1.1.1.0 e.1.1.1.1.1.1 in
-    let k = taken_laid_again x.re.now x.im.now res ims x.out_re.now x.out_im.now tests _ _ b e.0 tr ti lay.lay.result g.0 in
-    (k.answer, (k.real_again _ x.out_re.now g.1.0, (k.imaginary_again _ x.out_im.now g.1.1, (k.real Header, (k.imaginary Header, (k.real Main, (k.imaginary Main, (k.real Burst, k.imaginary Burst))))))))
+    let tr = each_taken b x.re.now x.header_re.now x.main_re.now x.burst_re.now e.header_real e.main_real e.burst_real in
+    let ti = each_taken b x.im.now x.header_im.now x.main_im.now x.burst_im.now e.header_imaginary e.main_imaginary e.burst_imaginary in
+    let k = taken_laid_again x.re.now x.im.now res ims x.out_re.now x.out_im.now tests _ _ b e.answers tr ti lay.lay.result g.answers in
+    record { answers = k.answer; real = k.real_again _ x.out_re.now g.real; imaginary = k.imaginary_again _ x.out_im.now g.imaginary; header_real = k.real Header; header_imaginary = k.imaginary Header; main_real = k.real Main; main_imaginary = k.imaginary Main; burst_real = k.real Burst; burst_imaginary = k.imaginary Burst }

@@ -12,7 +12,7 @@ returns-then-no_frame c =
     let at = c in
     let x = at.args in
     let e : no_frame (length x.re.now) (length x.im.now) x.at ≡ true = sym at.no_frame.ensures ∙ at.if-no_frame.true in
-    (rw e refl, (refl, refl))
+    record { answers = rw e refl; real = refl; imaginary = refl }
 
 pub fit_here-fit-requires : goal.fit_here-fit-requires
 fit_here-fit-requires c =
@@ -99,4 +99,4 @@ returns c =
     let a = call.align_front.ensures in
     let p = rest_whole x.at x.re.now in
     let q = rest_whole x.at x.im.now in
-    (rw e (rw (m, f, p, q) at a.0), (rw (m, f, p, q) at a.1.0, rw (m, f, p, q) at a.1.1))
+    record { answers = rw e (rw (m, f, p, q) at a.answers); real = rw (m, f, p, q) at a.real; imaginary = rw (m, f, p, q) at a.imaginary }

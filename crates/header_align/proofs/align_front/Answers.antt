@@ -11,7 +11,7 @@ pub returns-then-bad_points : goal.returns-then-bad_points
 returns-then-bad_points c =
     let x = c.args in
     let e : bad_points x.re.now x.im.now x.mean.power ≡ true = sym c.bad_points.ensures ∙ c.if-bad_points.true in
-    (rw e refl, (refl, refl))
+    record { answers = rw e refl; real = refl; imaginary = refl }
 
 pub returns-then-short_frame : goal.returns-then-short_frame
 returns-then-short_frame c =
@@ -19,7 +19,7 @@ returns-then-short_frame c =
     let x = good.args in
     let e : bad_points x.re.now x.im.now x.mean.power ≡ false = sym good.bad_points.ensures ∙ good.if-bad_points.false in
     let f : short_frame (length x.out_re.now) (length x.out_im.now) ≡ true = sym c.short_frame.ensures ∙ c.if-short_frame.true in
-    (rw (e, f) refl, (refl, refl))
+    record { answers = rw (e, f) refl; real = refl; imaginary = refl }
 
 pub lay_re-requires : goal.lay_re-requires
 lay_re-requires c =
@@ -49,4 +49,4 @@ returns c =
     let x = start.args in
     let e : bad_points x.re.now x.im.now x.mean.power ≡ false = sym good.bad_points.ensures ∙ good.if-bad_points.false in
     let f : short_frame (length x.out_re.now) (length x.out_im.now) ≡ false = sym long.short_frame.ensures ∙ long.if-short_frame.false in
-    (rw (e, f) refl, (lay-re.lay_re.ensures, c.lay_im.ensures))
+    record { answers = rw (e, f) refl; real = lay-re.lay_re.ensures; imaginary = c.lay_im.ensures }

@@ -4,4 +4,4 @@ use Rattle.header_mean.proofs.near_axis.Goals as goal
 
 pub returns : goal.returns
 unfolding near_axis
-returns c = rw (c.size_of.ensures, c.type_size.ensures) refl
+returns c = rw (c.size_of.ensures, c.size_of-width.ensures) refl

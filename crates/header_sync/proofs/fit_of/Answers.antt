@@ -34,4 +34,4 @@ overflow_add-first-5 c =
 
 pub returns : goal.returns
 unfolding fit_of is_first
-returns c = (rw (c.Joined-of.ensures.0, c.joined_of-b.ensures.0) refl, c.Joined-of.ensures.1, c.joined_of-b.ensures.1)
+returns c = (rw (c.joined_of-a.ensures.0, c.joined_of-b.ensures.0) refl, c.joined_of-a.ensures.1, c.joined_of-b.ensures.1)
