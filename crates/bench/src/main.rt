@@ -3,36 +3,47 @@
 #![tactic(auto)]
 
 use bench_lib::LINE_BYTES;
+use std::env::{Env, FillError};
 
 // Puts argument i into the line, and answers where it ends; the line's end where the argument is too long.
-fn put_argument(line: &mut [u8; LINE_BYTES], at: usize, i: usize) -> usize {
+fn put_argument(rt: &HostRuntime, line: &mut [u8; LINE_BYTES], at: usize, i: usize) -> usize {
     let mut word = io::buffer();
-    let n = os::arg(i, &mut word);
-    if os::errno() != 0 {
-        return LINE_BYTES;
+    match rt.arg(i, &mut word) {
+        Ok(n) => bench_lib::put(line, at, &word[..n]),
+        Err(_) => LINE_BYTES,
     }
-    bench_lib::put(line, at, &word[..n])
+}
+
+// Whether there is an argument i.
+fn has_argument(rt: &HostRuntime, i: usize) -> bool {
+    let mut word = io::buffer();
+    match rt.arg(i, &mut word) {
+        Err(FillError::NotPresent) => false,
+        _ => true,
+    }
 }
 
 // The arguments, separated by 0 bytes, and where the last one ends.
-fn join(line: &mut [u8; LINE_BYTES], count: usize) -> usize {
+fn join(rt: &HostRuntime, line: &mut [u8; LINE_BYTES]) -> usize {
     let mut at: usize = 0;
-    for i in 1..count {
+    for i in 1..usize::MAX {
+        if !has_argument(rt, i) {
+            return at;
+        }
         if i > 1 {
             at = bench_lib::after_separator(at);
         }
-        at = put_argument(line, at, i);
+        at = put_argument(rt, line, at, i);
     }
     at
 }
 
-fn main() {
-    let count = os::arg_count();
-    if count < 2 {
+fn main(rt: HostRuntime) {
+    if !has_argument(&rt, 1) {
         bench_lib::demonstrate();
         return;
     }
     let mut line = io::buffer();
-    let n = join(&mut line, count);
-    bench_lib::run_first(&line, n);
+    let n = join(&rt, &mut line);
+    bench_lib::run_first(&rt, &line, n);
 }

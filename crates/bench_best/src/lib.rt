@@ -31,14 +31,15 @@ fn tell_apart(apart: &[u32; SLOTS], is_same: bool) {
 }
 
 // Writes the bytes.
-fn keep(name: &[u8], bytes: &[u8]) {
-    if files::write_bytes(name, bytes) {
+fn keep(rt: &HostRuntime, name: &[u8], bytes: &[u8]) {
+    if files::write_bytes(rt, name, bytes) {
         file(b"bytes", name, bytes.len(), b" bytes\nok\n");
     }
 }
 
 // Lays what read gives beside the best reading, reports both, and keeps the bytes.
 fn conclude(
+    rt: &HostRuntime,
     s: Reading,
     v: usize,
     line: &[u8],
@@ -55,11 +56,12 @@ fn conclude(
     );
     by_slot(t, leads, clean, &apart);
     tell_apart(&apart, bench_line::words::same(best, read));
-    keep(part(line, 0, 5), best);
+    keep(rt, part(line, 0, 5), best);
 }
 
 // The clean leads and what read gives of all points, and the report.
 fn lay_beside(
+    rt: &HostRuntime,
     s: Reading,
     line: &[u8],
     re: &[f64; MAIN_SYMBOLS],
@@ -78,7 +80,7 @@ fn lay_beside(
     let mut counts = [0u32; SLOTS];
     match read_of(s, MAIN_SYMBOLS, re, im, read, &mut counts) {
         FrameDecoded::Decoded(size, _, _) => {
-            conclude(s, v, line, best, front(read, size), leads, &clean)
+            conclude(rt, s, v, line, best, front(read, size), leads, &clean)
         }
         FrameDecoded::Refused(answer) => report::refuse(answer),
     }
@@ -86,6 +88,7 @@ fn lay_beside(
 
 // Reads the points, and reports what was read or says why they are refused.
 fn read_points(
+    rt: &HostRuntime,
     s: Reading,
     v: usize,
     line: &[u8],
@@ -106,11 +109,12 @@ fn read_points(
         return;
     }
     let best = front(bytes, SLOT_BYTES * v);
-    lay_beside(s, line, re, im, v, best, &leads, read);
+    lay_beside(rt, s, line, re, im, v, best, &leads, read);
 }
 
 // The same, on space of its own.
 fn read_in_space(
+    rt: &HostRuntime,
     s: Reading,
     v: usize,
     line: &[u8],
@@ -120,18 +124,22 @@ fn read_in_space(
 ) {
     let mut bytes = [0u8; LOAD_SPACE];
     let mut read = [0u8; LOAD_SPACE];
-    read_points(s, v, line, points, re, im, &mut bytes, &mut read);
+    read_points(rt, s, v, line, points, re, im, &mut bytes, &mut read);
 }
 
 // Reads the points of the frame; says what was read.
-fn points_of(line: &[u8], re: &mut [f64; MAIN_SYMBOLS], im: &mut [f64; MAIN_SYMBOLS]) -> Got {
+fn points_of(
+    rt: &HostRuntime,
+    line: &[u8],
+    re: &mut [f64; MAIN_SYMBOLS],
+    im: &mut [f64; MAIN_SYMBOLS],
+) -> Got {
     let input = part(line, 0, 4);
-    let opened = files::open_for(input, part(line, 0, 5));
-    if opened < 0 {
+    let Some(opened) = files::open_for(rt, input, part(line, 0, 5)) else {
         return files::nothing();
-    }
+    };
     text(b"reading the points\n");
-    let got = files::read_points(opened, input, re, im);
+    let got = files::read_points(rt, opened, input, re, im);
     if got.well {
         file(b"frame", input, got.count, b" points; searching\n");
     }
@@ -139,24 +147,24 @@ fn points_of(line: &[u8], re: &mut [f64; MAIN_SYMBOLS], im: &mut [f64; MAIN_SYMB
 }
 
 // Reads the frame.
-fn read_frame(s: Reading, v: usize, line: &[u8]) {
+fn read_frame(rt: &HostRuntime, s: Reading, v: usize, line: &[u8]) {
     let mut re = [0.0f64; MAIN_SYMBOLS];
     let mut im = [0.0f64; MAIN_SYMBOLS];
-    let got = points_of(line, &mut re, &mut im);
+    let got = points_of(rt, line, &mut re, &mut im);
     if got.well {
-        read_in_space(s, v, line, got, &re, &im);
+        read_in_space(rt, s, v, line, got, &re, &im);
     }
 }
 
 // bench best TABLE MAPPING KIND FRAME BYTES [unknown] [SCALES]
-pub fn best(line: &[u8]) {
+pub fn best(rt: &HostRuntime, line: &[u8]) {
     let s = best_reading_of(line);
     if !s.is_good {
         return;
     }
     let t = s.table;
     match report::table(t) {
-        Valid::Slots(v) => read_frame(s, v, line),
+        Valid::Slots(v) => read_frame(rt, s, v, line),
         Valid::Refused => {}
     }
 }

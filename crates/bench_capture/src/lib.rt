@@ -32,14 +32,21 @@ fn how_by(s: Setting, slots: usize, aligns: bool) -> How {
 }
 
 // Reads the capture, on space of its own.
-fn read_in_space(line: &[u8], how: How) {
+fn read_in_space(rt: &HostRuntime, line: &[u8], how: How) {
     let mut re = [0.0f64; PIECE];
     let mut im = [0.0f64; PIECE];
-    searching::capture(part(line, 0, 3), part(line, 0, 4), how, &mut re, &mut im);
+    searching::capture(
+        rt,
+        part(line, 0, 3),
+        part(line, 0, 4),
+        how,
+        &mut re,
+        &mut im,
+    );
 }
 
 // bench capture TABLE MAPPING CAPTURE REPORT [align]
-pub fn capture(line: &[u8]) {
+pub fn capture(rt: &HostRuntime, line: &[u8]) {
     if !is_capture(line) {
         misused(b"capture takes TABLE MAPPING CAPTURE REPORT [align]", b"");
         return;
@@ -51,7 +58,7 @@ pub fn capture(line: &[u8]) {
     }
     let t = s.table;
     match report::table(t) {
-        Valid::Slots(v) => read_in_space(line, how_by(s, v, parts(line, 0) == 6)),
+        Valid::Slots(v) => read_in_space(rt, line, how_by(s, v, parts(line, 0) == 6)),
         Valid::Refused => {}
     }
 }

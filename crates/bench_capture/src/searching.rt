@@ -12,6 +12,8 @@ use bench_tally::ending::{conclude, open_report};
 use bench_tally::tally::{Frame, Tally, enter, none_yet};
 use bench_words::text::text;
 use isdbs_core::frame::FRAMES;
+use std::fs::File;
+use std::os::fd::AsRawFd;
 
 // What is held, and the frames that were read.
 #[derive(Clone, Copy)]
@@ -64,8 +66,9 @@ fn look(
 
 // All pieces, until one cannot be read or a line cannot be written.
 fn all(
+    rt: &HostRuntime,
     how: How,
-    opened: i32,
+    opened: &File,
     name: &[u8],
     report: i32,
     re: &mut [f64; PIECE],
@@ -77,7 +80,7 @@ fn all(
         tally: none_yet(),
     };
     for _ in 0..PIECES {
-        let held = read_on(opened, name, run.held, re, im);
+        let held = read_on(rt, opened, name, run.held, re, im);
         let tally = run.tally;
         run = Run { held, tally };
         if !may_look(held) || !tally.is_written {
@@ -88,21 +91,25 @@ fn all(
     run
 }
 
-pub fn capture(name: &[u8], output: &[u8], how: How, re: &mut [f64; PIECE], im: &mut [f64; PIECE]) {
+pub fn capture(
+    rt: &HostRuntime,
+    name: &[u8],
+    output: &[u8],
+    how: How,
+    re: &mut [f64; PIECE],
+    im: &mut [f64; PIECE],
+) {
     if !files::is_plain(output) {
         return;
     }
-    let opened = files::open_for(name, output);
-    if opened < 0 {
+    let Some(opened) = files::open_for(rt, name, output) else {
         return;
-    }
-    let report = open_report(output);
-    if report < 0 {
-        libc::close(opened);
+    };
+    let Some(report) = open_report(rt, output) else {
         return;
-    }
+    };
     text(b"reading the capture\n");
-    let run = all(how, opened, name, report, re, im);
-    libc::close(opened);
-    conclude(name, output, how.slots, report, run.held, run.tally);
+    let run = all(rt, how, &opened, name, report.as_raw_fd(), re, im);
+    drop(opened);
+    conclude(rt, name, output, how.slots, report, run.held, run.tally);
 }

@@ -63,6 +63,7 @@ fn compare(s: Setting, v: usize, place: Place, name: &[u8], load: &[u8], read: &
 
 // Reads a frame, and compares it with the load.
 fn check_one(
+    rt: &HostRuntime,
     s: Setting,
     v: usize,
     place: Place,
@@ -72,7 +73,7 @@ fn check_one(
     im: &mut [f64; MAIN_SYMBOLS],
     bytes: &mut [u8; LOAD_SPACE],
 ) -> Seen {
-    let got = points_of(name, re, im);
+    let got = points_of(rt, name, re, im);
     if !got.well {
         return stopped();
     }
@@ -100,6 +101,7 @@ fn end(wrong: usize, all: usize) {
 
 // Reads frame after frame until one stops the run.
 fn check_all(
+    rt: &HostRuntime,
     line: &[u8],
     s: Setting,
     v: usize,
@@ -117,7 +119,7 @@ fn check_all(
             read: i - BEFORE,
             all: words - BEFORE,
         };
-        let seen = check_one(s, v, place, part(line, 0, i), load, re, im, bytes);
+        let seen = check_one(rt, s, v, place, part(line, 0, i), load, re, im, bytes);
         if !seen.on {
             return;
         }
@@ -127,37 +129,37 @@ fn check_all(
 }
 
 // Reads the frames of a run of `words` words, on space of its own.
-fn check_in_space(line: &[u8], s: Setting, v: usize, words: usize, load: &[u8])
+fn check_in_space(rt: &HostRuntime, line: &[u8], s: Setting, v: usize, words: usize, load: &[u8])
     requires { 5 < words }
 {
     let mut re = [0.0f64; MAIN_SYMBOLS];
     let mut im = [0.0f64; MAIN_SYMBOLS];
     let mut bytes = [0u8; LOAD_SPACE];
-    check_all(line, s, v, words, load, &mut re, &mut im, &mut bytes);
+    check_all(rt, line, s, v, words, load, &mut re, &mut im, &mut bytes);
 }
 
 // Reads the load, and the frames where it is one of the table.
-fn check_load(line: &[u8], s: Setting, v: usize, space: &mut [u8; LOAD_SPACE]) {
+fn check_load(rt: &HostRuntime, line: &[u8], s: Setting, v: usize, space: &mut [u8; LOAD_SPACE]) {
     let words = parts(line, 0);
     if words <= BEFORE {
         return;
     }
     let t = s.table;
     let name = part(line, 0, 4);
-    let got = files::bytes_of(name, space);
+    let got = files::bytes_of(rt, name, space);
     if !got.well {
         return;
     }
     let load = front(space, got.count);
     if is_load(t, name, load) {
-        check_in_space(line, s, v, words, load);
+        check_in_space(rt, line, s, v, words, load);
     }
 }
 
 // The same, on space of its own.
-fn check_by(line: &[u8], s: Setting, v: usize) {
+fn check_by(rt: &HostRuntime, line: &[u8], s: Setting, v: usize) {
     let mut space = [0u8; LOAD_SPACE];
-    check_load(line, s, v, &mut space);
+    check_load(rt, line, s, v, &mut space);
 }
 
 // How check is used, and compare with its last word.
@@ -170,7 +172,7 @@ pub fn show_usage() {
 }
 
 // bench check TABLE MAPPING KIND LOAD FRAME..
-pub fn check(line: &[u8]) {
+pub fn check(rt: &HostRuntime, line: &[u8]) {
     if parts(line, 0) <= BEFORE {
         show_usage();
         misused(b"check takes TABLE MAPPING KIND LOAD FRAME..", b"");
@@ -182,7 +184,7 @@ pub fn check(line: &[u8]) {
     }
     let t = s.table;
     match report::table(t) {
-        Valid::Slots(v) => check_by(line, s, v),
+        Valid::Slots(v) => check_by(rt, line, s, v),
         Valid::Refused => {}
     }
 }

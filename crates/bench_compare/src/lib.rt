@@ -115,6 +115,7 @@ fn compare_loads(every: bool, t: Table, v: usize, sent: &[u8], read: &[u8]) {
 
 // Reads both loads, and compares them.
 fn compare_files(
+    rt: &HostRuntime,
     every: bool,
     t: Table,
     v: usize,
@@ -124,11 +125,11 @@ fn compare_files(
 ) {
     let sent_name = part(line, 0, 2);
     let read_name = part(line, 0, 3);
-    let a = files::bytes_of(sent_name, sent);
+    let a = files::bytes_of(rt, sent_name, sent);
     if !a.well {
         return;
     }
-    let b = files::bytes_of(read_name, read);
+    let b = files::bytes_of(rt, read_name, read);
     if !b.well {
         return;
     }
@@ -143,10 +144,10 @@ fn compare_files(
 }
 
 // The same, on space of its own.
-fn compare_in_space(every: bool, t: Table, v: usize, line: &[u8]) {
+fn compare_in_space(rt: &HostRuntime, every: bool, t: Table, v: usize, line: &[u8]) {
     let mut sent = [0u8; LOAD_SPACE];
     let mut read = [0u8; LOAD_SPACE];
-    compare_files(every, t, v, line, &mut sent, &mut read);
+    compare_files(rt, every, t, v, line, &mut sent, &mut read);
 }
 
 // Whether the words end with `all`.
@@ -155,7 +156,7 @@ fn is_every(line: &[u8]) -> bool {
 }
 
 // bench compare TABLE SENT READ [all]
-pub fn compare(line: &[u8]) {
+pub fn compare(rt: &HostRuntime, line: &[u8]) {
     let every = is_every(line);
     if !every && parts(line, 0) != 4 {
         misused(b"compare takes TABLE SENT READ [all]", b"");
@@ -168,7 +169,7 @@ pub fn compare(line: &[u8]) {
         return;
     }
     match report::table(t) {
-        Valid::Slots(v) => compare_in_space(every, t, v, line),
+        Valid::Slots(v) => compare_in_space(rt, every, t, v, line),
         Valid::Refused => {}
     }
 }

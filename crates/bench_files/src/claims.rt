@@ -1,10 +1,15 @@
 // Which run is writing an output: the number of its process stands in a file beside the output, whose name ends in .run.
-ghost use Rattle.libc.specs.Io.{Ended};
-
-use crate::files::{closed, front_of, put, put_number, unsigned};
+use crate::files::{front_of, put, put_number};
+use crate::system;
 use bench_line::space::LINE_BYTES;
 use bench_line::words::{Number, digits, part};
 use bench_words::text::{name, one_of, say_named, text};
+use std::fs::File;
+use std::os::fd::AsRawFd;
+use std::process;
+
+// The number of standard output.
+const STDOUT_FILENO: i32 = 1;
 
 // The name of the file that has the number.
 fn run_name(output: &[u8], run: &mut [u8; LINE_BYTES]) -> usize {
@@ -13,30 +18,30 @@ fn run_name(output: &[u8], run: &mut [u8; LINE_BYTES]) -> usize {
 }
 
 // The path of the system's folder of a process.
-fn folder(process: u64) -> [u8; LINE_BYTES]
-    ensures { Ended result }
-{
-    let mut path = io::buffer();
-    let at = put(&mut path, 0, b"/proc/");
-    put_number(&mut path, at, process);
-    closed(path)
+fn folder(process: u64, path: &mut [u8; LINE_BYTES]) -> usize {
+    let at = put(path, 0, b"/proc/");
+    put_number(path, at, process)
+}
+
+// The number of this process.
+fn own_number(rt: &HostRuntime) -> u64 {
+    process::id(rt.process()) as u64
 }
 
 // Whether there is a process of this number on this machine.
-fn is_going(process: u64) -> bool {
-    let path = folder(process);
-    libc::access(&path, libc::F_OK) == 0
+fn is_going(rt: &HostRuntime, process: u64) -> bool {
+    let mut path = io::buffer();
+    let n = folder(process, &mut path);
+    system::is_there(rt, front_of(&path, n))
 }
 
 // The number in a file.
-fn process_in(run: &[u8]) -> Number {
+fn process_in(rt: &HostRuntime, run: &[u8]) -> Number {
     let mut space = io::buffer();
-    let file = os::open_read(run);
-    if file < 0 {
+    let Ok(file) = system::open_read(rt, run) else {
         return Number::Not;
-    }
-    let n = io::read_full(file, &mut space);
-    libc::close(file);
+    };
+    let n = io::read_full(file.as_raw_fd(), &mut space);
     digits(part(front_of(&space, n), b'\n', 0))
 }
 
@@ -56,20 +61,20 @@ fn refuse_unknown(output: &[u8]) {
 }
 
 // Ends the last line where another process has claimed an output.
-fn refuse_other(process: u64, output: &[u8]) {
+fn refuse_other(rt: &HostRuntime, process: u64, output: &[u8]) {
     text(b": process ");
-    io::print_decimal(libc::STDOUT_FILENO, process);
+    io::print_decimal(STDOUT_FILENO, process);
     one_of(
         b", which was writing it, was broken off: | is writing it: wait until it has ended; if that is no run of bench, ",
-        is_going(process) as usize,
+        is_going(rt, process) as usize,
     );
     say_remove(output);
 }
 
 // The last line of a run whose output is claimed.
-fn refuse(process: Number, output: &[u8]) {
+fn refuse(rt: &HostRuntime, process: Number, output: &[u8]) {
     say_named(b"failed: cannot write $", output);
-    let own = unsigned(libc::getpid());
+    let own = own_number(rt);
     let Number::Is(n) = process else {
         refuse_unknown(output);
         return;
@@ -78,42 +83,43 @@ fn refuse(process: Number, output: &[u8]) {
         text(b": another output of this run is the same file\n");
         return;
     }
-    if is_going(own) {
-        refuse_other(n as u64, output);
+    if is_going(rt, own) {
+        refuse_other(rt, n as u64, output);
     } else {
         refuse_unknown(output);
     }
 }
 
-// Puts the number of this process into a file.
-fn sign(file: i32) {
+// Puts the number of this process into a file, and closes it.
+fn sign(rt: &HostRuntime, file: File) {
     let mut space = io::buffer();
-    let at = put_number(&mut space, 0, unsigned(libc::getpid()));
+    let at = put_number(&mut space, 0, own_number(rt));
     let n = put(&mut space, at, b"\n");
-    io::write_all(file, front_of(&space, n));
-    libc::close(file);
+    io::write_all(file.as_raw_fd(), front_of(&space, n));
 }
 
 // Claims an output, and answers whether no other run has it; else says so. Where the claim cannot be written, neither can the output.
-pub(crate) fn claim(output: &[u8]) -> bool {
+pub(crate) fn claim(rt: &HostRuntime, output: &[u8]) -> bool {
     let mut space = io::buffer();
     let n = run_name(output, &mut space);
     let run = front_of(&space, n);
-    let file = os::create(run);
-    if file >= 0 {
-        sign(file);
+    let error = match system::create(rt, run) {
+        Ok(file) => {
+            sign(rt, file);
+            return true;
+        }
+        Err(error) => error,
+    };
+    if error != system::EEXIST {
         return true;
     }
-    if os::errno() != libc::EEXIST {
-        return true;
-    }
-    refuse(process_in(run), output);
+    refuse(rt, process_in(rt, run), output);
     false
 }
 
 // Gives a claim up.
-pub(crate) fn release(output: &[u8]) {
+pub(crate) fn release(rt: &HostRuntime, output: &[u8]) {
     let mut space = io::buffer();
     let n = run_name(output, &mut space);
-    os::unlink(front_of(&space, n));
+    system::remove(rt, front_of(&space, n));
 }

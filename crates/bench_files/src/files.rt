@@ -1,28 +1,37 @@
 // Files that are read, and outputs that may be written.
-ghost use Rattle.libc.specs.Io.{Ended};
-
 pub use crate::staging::{
     are_two, discard, is_plain, keep, stage_bytes, stage_points, write_bytes, write_points,
 };
-use crate::{hints, meta};
+use crate::system::{
+    EACCES, EEXIST, EFBIG, EILSEQ, EISDIR, ENAMETOOLONG, ENOENT, ENOSPC, ENOTDIR, EPERM, EROFS,
+};
+use crate::{hints, meta, system};
 use bench_blocks::forms::Form;
 use bench_blocks::{blocks, forms};
 use bench_line::space::{LINE_BYTES, LOAD_BYTES, LOAD_SPACE};
 use bench_line::words::{front, same};
 use bench_words::text::{number, one_of, say_named, text};
+use std::fs;
+use std::fs::File;
+use std::io::{Error, Result as Outcome};
+use std::os::fd::AsRawFd;
+use std::os::unix::fs::MetadataExt;
+use std::path::PathBuf;
+use std::str::from_utf8;
 
 // The place of an error of the system among those that have words, counted from 1; 0 where it has none.
 fn reason_place(error: i32) -> usize {
     match error {
-        libc::ENOENT => 1,
-        libc::EACCES | libc::EPERM => 2,
-        libc::EEXIST => 3,
-        libc::ENOTDIR => 4,
-        libc::EISDIR => 5,
-        libc::ENOSPC => 6,
-        libc::EFBIG => 7,
-        libc::EROFS => 8,
-        libc::ENAMETOOLONG => 9,
+        ENOENT => 1,
+        EACCES | EPERM => 2,
+        EEXIST => 3,
+        ENOTDIR => 4,
+        EISDIR => 5,
+        ENOSPC => 6,
+        EFBIG => 7,
+        EROFS => 8,
+        ENAMETOOLONG => 9,
+        EILSEQ => 10,
         _ => 0,
     }
 }
@@ -31,7 +40,7 @@ fn reason_place(error: i32) -> usize {
 fn reason(error: i32) {
     let place = reason_place(error);
     one_of(
-        b"the system's error |there is no such file or folder|permission is denied|it is there already; no run of this program is writing it: one was broken off, or it is another file: remove it, and run again|a part of its path is no folder|it is a folder|the disk is full|it would be larger than a file may be|the disk cannot be written|its name is too long",
+        b"the system's error |there is no such file or folder|permission is denied|it is there already; no run of this program is writing it: one was broken off, or it is another file: remove it, and run again|a part of its path is no folder|it is a folder|the disk is full|it would be larger than a file may be|the disk cannot be written|its name is too long|its name is not UTF-8",
         place,
     );
     if place == 0 {
@@ -45,14 +54,6 @@ pub(crate) fn unsigned(n: i32) -> u64 {
         return 0;
     }
     n as u64
-}
-
-// The same of a wider one.
-pub(crate) fn unsigned_wide(n: i64) -> usize {
-    if n < 0 {
-        return 0;
-    }
-    n as usize
 }
 
 // The last line of a run that a file stopped, with how it begins.
@@ -91,23 +92,10 @@ pub(crate) fn front_of<'a>(s: &'a [u8; LINE_BYTES], n: usize) -> &'a [u8] {
     front(s, n)
 }
 
-// The text with a 0 in its last place.
-pub(crate) fn closed(text: [u8; LINE_BYTES]) -> [u8; LINE_BYTES]
-    ensures { Ended result }
-{
-    let mut out = text;
-    out[LINE_BYTES - 1] = 0;
-    out
-}
-
 // The path of the system's link to an open file.
-fn link(file: u64) -> [u8; LINE_BYTES]
-    ensures { Ended result }
-{
-    let mut path = io::buffer();
-    let at = put(&mut path, 0, b"/proc/self/fd/");
-    put_number(&mut path, at, file);
-    closed(path)
+fn link(file: u64, path: &mut [u8; LINE_BYTES]) -> usize {
+    let at = put(path, 0, b"/proc/self/fd/");
+    put_number(path, at, file)
 }
 
 // Where two open files lie.
@@ -118,24 +106,44 @@ enum Places {
     Unknown,
 }
 
-// Reads where an open file lies, and answers how many bytes that has.
-fn read_place(file: u64, path: &mut [u8; LINE_BYTES]) -> usize {
-    let from = link(file);
-    io::count(libc::readlink(&from, path), path)
+// Reads where an open file lies.
+fn read_place(rt: &HostRuntime, file: &File) -> Outcome<PathBuf> {
+    let mut path = io::buffer();
+    let n = link(unsigned(file.as_raw_fd()), &mut path);
+    match from_utf8(front_of(&path, n)) {
+        Ok(from) => fs::read_link(rt, from),
+        Err(_) => Err(Error::from_raw_os_error(EILSEQ)),
+    }
 }
 
-fn compare_places(a: u64, b: u64) -> Places {
-    let mut pa = io::buffer();
-    let mut pb = io::buffer();
-    let na = read_place(a, &mut pa);
-    let nb = read_place(b, &mut pb);
-    if na == 0 || nb == 0 {
+fn places_by(is_same: bool) -> Places {
+    if is_same { Places::Same } else { Places::Apart }
+}
+
+// Where two open files lie, by their numbers on the disk.
+fn compare_numbers(a: &File, b: &File) -> Places {
+    let Ok(ma) = a.metadata() else {
         return Places::Unknown;
+    };
+    let Ok(mb) = b.metadata() else {
+        return Places::Unknown;
+    };
+    places_by(ma.dev() == mb.dev() && ma.ino() == mb.ino())
+}
+
+// The same where the place of one could not be read: by the numbers, where the system told it, but it is no text or no memory was left for it.
+fn compare_unread(error: Error, a: &File, b: &File) -> Places {
+    match error.raw_os_error() {
+        Some(_) => Places::Unknown,
+        None => compare_numbers(a, b),
     }
-    if same(front_of(&pa, na), front_of(&pb, nb)) {
-        Places::Same
-    } else {
-        Places::Apart
+}
+
+fn compare_places(rt: &HostRuntime, a: &File, b: &File) -> Places {
+    match (read_place(rt, a), read_place(rt, b)) {
+        (Ok(pa), Ok(pb)) => places_by(same(pa.as_str().as_bytes(), pb.as_str().as_bytes())),
+        (Err(e), _) => compare_unread(e, a, b),
+        (_, Err(e)) => compare_unread(e, a, b),
     }
 }
 
@@ -158,9 +166,8 @@ fn is_apart(places: Places, name: &[u8]) -> bool {
 }
 
 // Whether a file could not be opened because there is none; else says why it cannot be written.
-fn is_missing(name: &[u8]) -> bool {
-    let error = os::errno();
-    if error == libc::ENOENT {
+fn is_missing(name: &[u8], error: i32) -> bool {
+    if error == ENOENT {
         return true;
     }
     failed(b"failed: cannot write $: ", name, error);
@@ -168,14 +175,13 @@ fn is_missing(name: &[u8]) -> bool {
 }
 
 // Whether a file may be written at this name: there is none yet, or it is a plain file and not the input.
-pub fn may_write(name: &[u8], input: i32) -> bool {
-    let file = os::open_update(name);
-    if file < 0 {
-        return is_missing(name);
-    }
-    let places = compare_places(unsigned(file), unsigned(input));
-    let is_plain = libc::fsync(file) == 0;
-    libc::close(file);
+pub fn may_write(rt: &HostRuntime, name: &[u8], input: &File) -> bool {
+    let file = match system::open_update(rt, name) {
+        Ok(file) => file,
+        Err(error) => return is_missing(name, error),
+    };
+    let places = compare_places(rt, &file, input);
+    let is_plain = system::sync(&file) == 0;
     if !is_apart(places, name) {
         return false;
     }
@@ -185,42 +191,38 @@ pub fn may_write(name: &[u8], input: i32) -> bool {
     is_plain
 }
 
-// Opens a file for reading, or says why it cannot and answers -1.
-pub fn open(name: &[u8]) -> i32 {
-    let file = os::open_read(name);
-    if file < 0 {
-        failed(b"failed: cannot read $: ", name, os::errno());
+// Opens a file for reading, or says why it cannot.
+pub fn open(rt: &HostRuntime, name: &[u8]) -> Option<File> {
+    match system::open_read(rt, name) {
+        Ok(file) => Some(file),
+        Err(error) => {
+            failed(b"failed: cannot read $: ", name, error);
+            None
+        }
     }
-    file
 }
 
-// Opens the input, where the output may be written; else says why not and answers -1.
-pub fn open_for(input: &[u8], output: &[u8]) -> i32 {
-    let file = open(input);
-    if file < 0 {
-        return file;
+// Opens the input, where the output may be written; else says why not.
+pub fn open_for(rt: &HostRuntime, input: &[u8], output: &[u8]) -> Option<File> {
+    let file = open(rt, input)?;
+    if may_write(rt, output, &file) {
+        return Some(file);
     }
-    if may_write(output, file) {
-        return file;
-    }
-    libc::close(file);
-    -1
-}
-
-// Whether an open file has one more byte, which is then read.
-pub(crate) fn has_more(file: i32) -> bool {
-    let mut one = [0u8; 1];
-    libc::read(file, &mut one) > 0
+    None
 }
 
 // Whether the input has ended: one more read gives nothing, and does not fail.
-pub(crate) fn has_ended(file: i32, name: &[u8]) -> bool {
-    let mut one = [0u8; 1];
-    let got = libc::read(file, &mut one);
-    if got == 0 {
-        return true;
-    }
-    failed(b"failed: cannot read $: ", name, os::errno());
+pub(crate) fn has_ended(file: &File, name: &[u8]) -> bool {
+    let error = match system::read_one(file) {
+        Ok(n) => {
+            if n == 0 {
+                return true;
+            }
+            0
+        }
+        Err(error) => error,
+    };
+    failed(b"failed: cannot read $: ", name, error);
     false
 }
 
@@ -242,10 +244,9 @@ pub fn nothing() -> Got {
 }
 
 // Reads an open file's bytes, as many as the buffer holds, and closes it.
-fn read_bytes(file: i32, name: &[u8], bytes: &mut [u8; LOAD_SPACE]) -> Got {
-    let n = io::read_full(file, bytes);
-    let well = n > LOAD_BYTES || has_ended(file, name);
-    libc::close(file);
+fn read_bytes(file: File, name: &[u8], bytes: &mut [u8; LOAD_SPACE]) -> Got {
+    let n = io::read_full(file.as_raw_fd(), bytes);
+    let well = n > LOAD_BYTES || has_ended(&file, name);
     Got {
         well,
         count: n,
@@ -254,27 +255,30 @@ fn read_bytes(file: i32, name: &[u8], bytes: &mut [u8; LOAD_SPACE]) -> Got {
 }
 
 // Reads a file's bytes.
-pub fn bytes_of(name: &[u8], bytes: &mut [u8; LOAD_SPACE]) -> Got {
-    let file = open(name);
-    if file < 0 {
-        return nothing();
+pub fn bytes_of(rt: &HostRuntime, name: &[u8], bytes: &mut [u8; LOAD_SPACE]) -> Got {
+    match open(rt, name) {
+        Some(file) => read_bytes(file, name, bytes),
+        None => nothing(),
     }
-    read_bytes(file, name, bytes)
 }
 
 // Reads the input's bytes, where the output may be written.
-pub fn bytes_for(input: &[u8], output: &[u8], bytes: &mut [u8; LOAD_SPACE]) -> Got {
-    let file = open_for(input, output);
-    if file < 0 {
-        return nothing();
+pub fn bytes_for(
+    rt: &HostRuntime,
+    input: &[u8],
+    output: &[u8],
+    bytes: &mut [u8; LOAD_SPACE],
+) -> Got {
+    match open_for(rt, input, output) {
+        Some(file) => read_bytes(file, input, bytes),
+        None => nothing(),
     }
-    read_bytes(file, input, bytes)
 }
 
 // The form of an input's points; says why where it has none that is read.
-fn form_of(name: &[u8]) -> Form {
+fn form_of(rt: &HostRuntime, name: &[u8]) -> Form {
     if forms::is_sigmf(name) {
-        return meta::form_beside(name);
+        return meta::form_beside(rt, name);
     }
     if forms::ends(name, b".sigmf") {
         say_named(
@@ -287,7 +291,7 @@ fn form_of(name: &[u8]) -> Form {
 }
 
 // Whether the input has ended, after n points and some bytes, of which something may be said.
-fn is_short(file: i32, name: &[u8], form: Form, n: usize, over: usize) -> bool {
+fn is_short(file: &File, name: &[u8], form: Form, n: usize, over: usize) -> bool {
     let well = has_ended(file, name);
     if well {
         hints::short(file, name, form, n, over);
@@ -296,10 +300,10 @@ fn is_short(file: i32, name: &[u8], form: Form, n: usize, over: usize) -> bool {
 }
 
 // Reads an open file's next points in a form, as many as the slices hold.
-fn read_as(file: i32, name: &[u8], form: Form, re: &mut [f64], im: &mut [f64]) -> Got {
+fn read_as(file: &File, name: &[u8], form: Form, re: &mut [f64], im: &mut [f64]) -> Got {
     let all = re.len();
     let mut buffer = io::large_buffer();
-    let got = blocks::fill(file, form, re, im, &mut buffer);
+    let got = blocks::fill(file.as_raw_fd(), form, re, im, &mut buffer);
     let well = got.count == all || is_short(file, name, form, got.count, got.over);
     Got {
         well,
@@ -309,8 +313,14 @@ fn read_as(file: i32, name: &[u8], form: Form, re: &mut [f64], im: &mut [f64]) -
 }
 
 // Reads an open file's next points, as many as the slices hold, and leaves it open.
-pub fn read_next(file: i32, name: &[u8], re: &mut [f64], im: &mut [f64]) -> Got {
-    let form = form_of(name);
+pub fn read_next(
+    rt: &HostRuntime,
+    file: &File,
+    name: &[u8],
+    re: &mut [f64],
+    im: &mut [f64],
+) -> Got {
+    let form = form_of(rt, name);
     match form {
         Form::Other => nothing(),
         _ => read_as(file, name, form, re, im),
@@ -318,9 +328,9 @@ pub fn read_next(file: i32, name: &[u8], re: &mut [f64], im: &mut [f64]) -> Got 
 }
 
 // Reads an open file's points, as many as the slices hold; says where there are more.
-fn read_first(file: i32, name: &[u8], re: &mut [f64], im: &mut [f64]) -> Got {
+fn read_first(rt: &HostRuntime, file: &File, name: &[u8], re: &mut [f64], im: &mut [f64]) -> Got {
     let all = re.len();
-    let form = form_of(name);
+    let form = form_of(rt, name);
     let Form::Other = form else {
         let got = read_as(file, name, form, re, im);
         if got.count == all {
@@ -332,8 +342,12 @@ fn read_first(file: i32, name: &[u8], re: &mut [f64], im: &mut [f64]) -> Got {
 }
 
 // Reads an open file's points, as many as the slices hold, and closes it.
-pub fn read_points(file: i32, name: &[u8], re: &mut [f64], im: &mut [f64]) -> Got {
-    let got = read_first(file, name, re, im);
-    libc::close(file);
-    got
+pub fn read_points(
+    rt: &HostRuntime,
+    file: File,
+    name: &[u8],
+    re: &mut [f64],
+    im: &mut [f64],
+) -> Got {
+    read_first(rt, &file, name, re, im)
 }

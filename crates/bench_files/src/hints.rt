@@ -1,9 +1,10 @@
 // What is said of a file that has more points than are read, or half the bytes of a frame.
-use crate::files::{has_more, unsigned_wide};
+use crate::system;
 use bench_blocks::forms;
 use bench_blocks::forms::{Form, Whole};
 use bench_words::text::{one_of, say, say_named, text};
 use isdbs_frame::{FRAME_SYMBOLS, MAIN_SYMBOLS};
+use std::fs::File;
 
 // What n points in a form show by their number: 1 and 2 half the bytes of a frame, of f64 and of f32 parts; 3 a quarter of those of f64 parts; 0 nothing.
 fn share_of(form: Form, n: usize) -> usize {
@@ -37,12 +38,12 @@ fn tell(name: &[u8], form: Form, n: usize) {
 }
 
 // Where an open file is read next; 0 where that is not known.
-fn place(file: i32) -> usize {
-    unsigned_wide(libc::lseek(file, 0, libc::SEEK_CUR))
+fn place(file: &File) -> usize {
+    system::place(file).unwrap_or(0)
 }
 
 // Of a file that ended after n points and some bytes, if these are all of it.
-pub(crate) fn short(file: i32, name: &[u8], form: Form, n: usize, over: usize) {
+pub(crate) fn short(file: &File, name: &[u8], form: Form, n: usize, over: usize) {
     let all = forms::split(form, place(file));
     if over == 0 && all.count == n && all.over == 0 {
         tell(name, form, n);
@@ -65,15 +66,15 @@ fn of_all(all: Whole) {
 }
 
 // Says where an open file of which n points were read has more; its place may move.
-pub(crate) fn more(file: i32, name: &[u8], form: Form, n: usize) {
-    let end = libc::lseek(file, 0, libc::SEEK_END);
-    let all = forms::split(form, unsigned_wide(end));
+pub(crate) fn more(file: &File, name: &[u8], form: Form, n: usize) {
+    let end = system::to_end(file).unwrap_or(0);
+    let all = forms::split(form, end);
     if all.count > n || all.count == n && all.over > 0 {
         first_of(name, n);
         of_all(all);
         return;
     }
-    if has_more(file) {
+    if system::has_more(file) {
         first_of(name, n);
         text(b"\n");
     }

@@ -6,5 +6,6 @@ pub mod files;
 mod hints;
 mod meta;
 mod staging;
+pub mod system;
 
 pub use bench_blocks::points::f64_bits;

@@ -1,9 +1,11 @@
 // The meta of a SigMF capture: JSON text in the file beside it, of which the form of its points is read.
-use crate::files;
+use crate::{files, system};
 use bench_blocks::forms::Form;
 use bench_line::space::LINE_BYTES;
 use bench_line::words::{front, part, same};
 use bench_words::text::{one_of, say_named};
+use std::fs::File;
+use std::os::fd::AsRawFd;
 
 // The most bytes of a meta, and one.
 const META: usize = 65_536;
@@ -141,31 +143,28 @@ fn form_in(s: &[u8], name: &[u8]) -> Form {
     form_of(part(from(value, 1), b'"', 0), name)
 }
 
-// Opens the meta of a capture; says why where it cannot, and answers -1.
-fn open(name: &[u8], capture: &[u8]) -> i32 {
-    let file = os::open_read(name);
-    if file >= 0 {
-        return file;
-    }
-    let error = os::errno();
-    if error != libc::ENOENT {
+// Opens the meta of a capture; says why where it cannot.
+fn open(rt: &HostRuntime, name: &[u8], capture: &[u8]) -> Option<File> {
+    let error = match system::open_read(rt, name) {
+        Ok(file) => return Some(file),
+        Err(error) => error,
+    };
+    if error != system::ENOENT {
         files::failed(b"failed: cannot read $: ", name, error);
-        return -1;
+        return None;
     }
     say_named(b"refused: there is no $, which says the form of ", name);
     say_named(b"$\n", capture);
-    -1
+    None
 }
 
 // Reads a meta.
-fn read(name: &[u8], capture: &[u8], space: &mut [u8; META]) -> Form {
-    let file = open(name, capture);
-    if file < 0 {
+fn read(rt: &HostRuntime, name: &[u8], capture: &[u8], space: &mut [u8; META]) -> Form {
+    let Some(file) = open(rt, name, capture) else {
         return Form::Other;
-    }
-    let n = io::read_full(file, space);
-    let well = n >= META || files::has_ended(file, name);
-    libc::close(file);
+    };
+    let n = io::read_full(file.as_raw_fd(), space);
+    let well = n >= META || files::has_ended(&file, name);
     if !well {
         return Form::Other;
     }
@@ -182,9 +181,9 @@ fn name_of(capture: &[u8], name: &mut [u8; LINE_BYTES]) -> usize {
 }
 
 // The form that the meta beside a capture says; says why where there is none.
-pub(crate) fn form_beside(capture: &[u8]) -> Form {
+pub(crate) fn form_beside(rt: &HostRuntime, capture: &[u8]) -> Form {
     let mut space = io::buffer();
     let n = name_of(capture, &mut space);
     let mut meta = io::large_buffer();
-    read(files::front_of(&space, n), capture, &mut meta)
+    read(rt, files::front_of(&space, n), capture, &mut meta)
 }

@@ -1,10 +1,12 @@
 // Outputs: written whole beside their place under a name that ends in .part, and then given their own name; or not at all.
-use crate::claims;
 use crate::files::{failed, front_of, put};
+use crate::{claims, system};
 use bench_blocks::{blocks, forms};
 use bench_line::space::LINE_BYTES;
 use bench_line::words::same;
 use bench_words::text::say_named;
+use std::fs::File;
+use std::os::fd::AsRawFd;
 
 // Whether an output's name is free of the endings that files beside it have while it is written; else says so.
 pub fn is_plain(name: &[u8]) -> bool {
@@ -33,74 +35,83 @@ fn part_name(name: &[u8], part: &mut [u8; LINE_BYTES]) -> usize {
     put(part, at, b".part")
 }
 
-// Claims an output and makes the file that is written first, or says why it cannot and answers -1.
-fn make_part(name: &[u8], part: &[u8]) -> i32 {
-    if !claims::claim(name) {
-        return -1;
+// Claims an output and makes the file that is written first, or says why it cannot.
+fn make_part(rt: &HostRuntime, name: &[u8], part: &[u8]) -> Option<File> {
+    if !claims::claim(rt, name) {
+        return None;
     }
-    let file = os::create(part);
-    if file < 0 {
-        failed(b"failed: cannot make $: ", part, os::errno());
-        claims::release(name);
+    match system::create(rt, part) {
+        Ok(file) => Some(file),
+        Err(error) => {
+            failed(b"failed: cannot make $: ", part, error);
+            claims::release(rt, name);
+            None
+        }
     }
-    file
 }
 
 // Removes what stands beside an output while it is written.
-fn clear(name: &[u8], part: &[u8]) {
-    os::unlink(part);
-    claims::release(name);
+fn clear(rt: &HostRuntime, name: &[u8], part: &[u8]) {
+    system::remove(rt, part);
+    claims::release(rt, name);
+}
+
+// Why not all of a file is on the disk, from why it was not written: 0 where it is.
+fn unsynced(file: &File, error: i32) -> i32 {
+    if error == 0 {
+        return system::sync(file);
+    }
+    error
 }
 
 // Closes a file that was written first, and answers whether all of it is there; else removes it and says why.
-fn close_part(file: i32, is_written: bool, part: &[u8], name: &[u8]) -> bool {
-    let is_whole = is_written && libc::fsync(file) == 0;
-    let error = os::errno();
-    libc::close(file);
-    if !is_whole {
-        failed(b"failed: cannot write $: ", name, error);
-        clear(name, part);
+fn close_part(rt: &HostRuntime, file: File, error: i32, part: &[u8], name: &[u8]) -> bool {
+    let fault = unsynced(&file, error);
+    drop(file);
+    if fault != 0 {
+        failed(b"failed: cannot write $: ", name, fault);
+        clear(rt, name, part);
     }
-    is_whole
+    fault == 0
 }
 
 // Gives the file that was written first the output's name; else removes it and says why.
-pub fn keep(name: &[u8]) -> bool {
+pub fn keep(rt: &HostRuntime, name: &[u8]) -> bool {
     let mut space = io::buffer();
     let n = part_name(name, &mut space);
     let part = front_of(&space, n);
-    if os::rename(part, name) == 0 {
-        claims::release(name);
+    let error = system::rename(rt, part, name);
+    if error == 0 {
+        claims::release(rt, name);
         return true;
     }
-    failed(b"failed: cannot write $: ", name, os::errno());
-    clear(name, part);
+    failed(b"failed: cannot write $: ", name, error);
+    clear(rt, name, part);
     false
 }
 
 // Removes the file that was written first.
-pub fn discard(name: &[u8]) {
+pub fn discard(rt: &HostRuntime, name: &[u8]) {
     let mut space = io::buffer();
     let n = part_name(name, &mut space);
-    clear(name, front_of(&space, n));
+    clear(rt, name, front_of(&space, n));
 }
 
 // Writes bytes beside the output's place, and answers whether all are there: `keep` or `discard` follows.
-pub fn stage_bytes(name: &[u8], bytes: &[u8]) -> bool {
+pub fn stage_bytes(rt: &HostRuntime, name: &[u8], bytes: &[u8]) -> bool {
     let mut space = io::buffer();
     let n = part_name(name, &mut space);
     let part = front_of(&space, n);
-    let file = make_part(name, part);
-    if file < 0 {
+    let Some(file) = make_part(rt, name, part) else {
         return false;
-    }
-    let is_written = io::write_all(file, bytes);
-    close_part(file, is_written, part, name)
+    };
+    let error = system::write(&file, bytes);
+    close_part(rt, file, error, part, name)
 }
 
 // Writes a file of bytes, and answers whether it is there.
-pub fn write_bytes(name: &[u8], bytes: &[u8]) -> bool {
-    stage_bytes(name, bytes) && keep(name)
+pub fn write_bytes(rt: &HostRuntime, name: &[u8], bytes: &[u8]) -> bool {
+    stage_bytes(rt, name, bytes) && keep(rt, name)
 }
 
 // Whether points are written in the form that a name says; else says so.
@@ -115,29 +126,31 @@ fn is_written_form(name: &[u8]) -> bool {
     false
 }
 
-// Writes an open file's points.
-fn pour(file: i32, name: &[u8], re: &[f64], im: &[f64]) -> bool {
+// Writes an open file's points: 0 where all are written, else why not.
+fn pour(file: &File, name: &[u8], re: &[f64], im: &[f64]) -> i32 {
     let mut buffer = io::large_buffer();
-    blocks::pour(file, forms::by_name(name), re, im, &mut buffer)
+    if blocks::pour(file.as_raw_fd(), forms::by_name(name), re, im, &mut buffer) {
+        return 0;
+    }
+    system::why_not_written(file)
 }
 
 // Writes points beside the output's place, and answers whether all are there: `keep` or `discard` follows.
-pub fn stage_points(name: &[u8], re: &[f64], im: &[f64]) -> bool {
+pub fn stage_points(rt: &HostRuntime, name: &[u8], re: &[f64], im: &[f64]) -> bool {
     if !is_written_form(name) {
         return false;
     }
     let mut space = io::buffer();
     let n = part_name(name, &mut space);
     let part = front_of(&space, n);
-    let file = make_part(name, part);
-    if file < 0 {
+    let Some(file) = make_part(rt, name, part) else {
         return false;
-    }
-    let is_written = pour(file, name, re, im);
-    close_part(file, is_written, part, name)
+    };
+    let error = pour(&file, name, re, im);
+    close_part(rt, file, error, part, name)
 }
 
 // Writes a file of points, and answers whether it is there.
-pub fn write_points(name: &[u8], re: &[f64], im: &[f64]) -> bool {
-    stage_points(name, re, im) && keep(name)
+pub fn write_points(rt: &HostRuntime, name: &[u8], re: &[f64], im: &[f64]) -> bool {
+    stage_points(rt, name, re, im) && keep(rt, name)
 }

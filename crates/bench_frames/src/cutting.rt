@@ -11,6 +11,7 @@ use header_align::align_frame;
 use header_find::{HeaderAnswer, header_at};
 use isdbs_frame::FRAME_SYMBOLS;
 use refusal::Answer;
+use std::fs::File;
 
 // How a reading of so many points went: all were there, fewer, or the capture could not be read, which has been said.
 const ALL: u8 = 0;
@@ -27,21 +28,29 @@ fn outcome(well: bool, count: usize, n: usize) -> u8 {
 }
 
 // Passes over n points, at most a frame's.
-fn pass_few(opened: i32, name: &[u8], n: usize, re: &mut [f64], im: &mut [f64]) -> u8 {
-    let got = read_from(opened, name, minus(FRAME_SYMBOLS, n), re, im);
+fn pass_few(
+    rt: &HostRuntime,
+    opened: &File,
+    name: &[u8],
+    n: usize,
+    re: &mut [f64],
+    im: &mut [f64],
+) -> u8 {
+    let got = read_from(rt, opened, name, minus(FRAME_SYMBOLS, n), re, im);
     outcome(got.well, got.count, n)
 }
 
 // Passes over n frames' worth of points.
 fn pass_frames(
-    opened: i32,
+    rt: &HostRuntime,
+    opened: &File,
     name: &[u8],
     n: usize,
     re: &mut [f64; FRAME_SYMBOLS],
     im: &mut [f64; FRAME_SYMBOLS],
 ) -> u8 {
     for _ in 0..n {
-        let passed = pass_few(opened, name, FRAME_SYMBOLS, re, im);
+        let passed = pass_few(rt, opened, name, FRAME_SYMBOLS, re, im);
         if passed != ALL {
             return passed;
         }
@@ -51,33 +60,35 @@ fn pass_frames(
 
 // Reads the frame after n points.
 fn read_frame(
-    opened: i32,
+    rt: &HostRuntime,
+    opened: &File,
     name: &[u8],
     n: usize,
     re: &mut [f64; FRAME_SYMBOLS],
     im: &mut [f64; FRAME_SYMBOLS],
 ) -> u8 {
-    let frames = pass_frames(opened, name, n / FRAME_SYMBOLS, re, im);
+    let frames = pass_frames(rt, opened, name, n / FRAME_SYMBOLS, re, im);
     if frames != ALL {
         return frames;
     }
-    let few = pass_few(opened, name, n % FRAME_SYMBOLS, re, im);
+    let few = pass_few(rt, opened, name, n % FRAME_SYMBOLS, re, im);
     if few != ALL {
         return few;
     }
-    let got = files::read_next(opened, name, re, im);
+    let got = files::read_next(rt, opened, name, re, im);
     outcome(got.well, got.count, FRAME_SYMBOLS)
 }
 
 // Whether the points from `place` on are a whole frame, which is then held; else says why not.
 fn hold(
-    opened: i32,
+    rt: &HostRuntime,
+    opened: &File,
     name: &[u8],
     place: usize,
     re: &mut [f64; FRAME_SYMBOLS],
     im: &mut [f64; FRAME_SYMBOLS],
 ) -> bool {
-    let read = read_frame(opened, name, place, re, im);
+    let read = read_frame(rt, opened, name, place, re, im);
     if read == FEWER {
         report::refused(Answer::Symbols);
         say(b"there are no 39,936 points from point $ on\n", &[place]);
@@ -100,8 +111,14 @@ fn say_header(place: usize, re: &[f64; FRAME_SYMBOLS], im: &[f64; FRAME_SYMBOLS]
 }
 
 // Writes the frame, and ends.
-fn write(name: &[u8], is_told: bool, re: &[f64; FRAME_SYMBOLS], im: &[f64; FRAME_SYMBOLS]) {
-    if !files::write_points(name, re, im) {
+fn write(
+    rt: &HostRuntime,
+    name: &[u8],
+    is_told: bool,
+    re: &[f64; FRAME_SYMBOLS],
+    im: &[f64; FRAME_SYMBOLS],
+) {
+    if !files::write_points(rt, name, re, im) {
         return;
     }
     file(b"full frame", name, FRAME_SYMBOLS, b" points\n");
@@ -113,6 +130,7 @@ fn write(name: &[u8], is_told: bool, re: &[f64; FRAME_SYMBOLS], im: &[f64; FRAME
 
 // Writes the frame that is held, as it is or aligned.
 fn put(
+    rt: &HostRuntime,
     line: &[u8],
     is_told: bool,
     re: &[f64; FRAME_SYMBOLS],
@@ -121,7 +139,7 @@ fn put(
     out_im: &mut [f64; FRAME_SYMBOLS],
 ) {
     if parts(line, 0) < 5 {
-        write(part(line, 0, 3), is_told, re, im);
+        write(rt, part(line, 0, 3), is_told, re, im);
         return;
     }
     let answer = align_frame(re, im, 0, out_re, out_im);
@@ -130,10 +148,11 @@ fn put(
         return;
     };
     text(b"aligned by the mean of its header\n");
-    write(part(line, 0, 3), is_told, out_re, out_im);
+    write(rt, part(line, 0, 3), is_told, out_re, out_im);
 }
 
 fn cut_at(
+    rt: &HostRuntime,
     line: &[u8],
     place: usize,
     re: &mut [f64; FRAME_SYMBOLS],
@@ -146,19 +165,19 @@ fn cut_at(
     if !files::is_plain(output) {
         return;
     }
-    let opened = files::open_for(input, output);
-    if opened < 0 {
+    let Some(opened) = files::open_for(rt, input, output) else {
         return;
-    }
-    let is_held = hold(opened, input, place, re, im);
-    libc::close(opened);
+    };
+    let is_held = hold(rt, &opened, input, place, re, im);
+    drop(opened);
     if is_held {
         let is_told = say_header(place, re, im);
-        put(line, is_told, re, im, out_re, out_im);
+        put(rt, line, is_told, re, im, out_re, out_im);
     }
 }
 
 pub(crate) fn cut(
+    rt: &HostRuntime,
     line: &[u8],
     re: &mut [f64; FRAME_SYMBOLS],
     im: &mut [f64; FRAME_SYMBOLS],
@@ -171,6 +190,6 @@ pub(crate) fn cut(
             b"PLACE is a number of up to seven digits without commas, not",
             word,
         ),
-        Number::Is(n) => cut_at(line, n as usize, re, im, out_re, out_im),
+        Number::Is(n) => cut_at(rt, line, n as usize, re, im, out_re, out_im),
     }
 }

@@ -14,14 +14,14 @@ pub use words::show_usage;
 pub const PIECE: usize = 2 * FRAME_SYMBOLS - 1;
 
 // bench frames CAPTURE
-pub fn frames(line: &[u8]) {
+pub fn frames(rt: &HostRuntime, line: &[u8]) {
     if parts(line, 0) != 2 {
         misused(b"frames takes CAPTURE", b"");
         return;
     }
     let mut re = [0.0f64; PIECE];
     let mut im = [0.0f64; PIECE];
-    searching::frames(part(line, 0, 1), &mut re, &mut im);
+    searching::frames(rt, part(line, 0, 1), &mut re, &mut im);
 }
 
 // Whether the words of cut are four, or five with the word align.
@@ -33,7 +33,7 @@ fn is_cut(line: &[u8]) -> bool {
 }
 
 // bench cut CAPTURE PLACE FULL [align]
-pub fn cut(line: &[u8]) {
+pub fn cut(rt: &HostRuntime, line: &[u8]) {
     if !is_cut(line) {
         misused(b"cut takes CAPTURE PLACE FULL [align]", b"");
         return;
@@ -42,5 +42,5 @@ pub fn cut(line: &[u8]) {
     let mut im = [0.0f64; FRAME_SYMBOLS];
     let mut out_re = [0.0f64; FRAME_SYMBOLS];
     let mut out_im = [0.0f64; FRAME_SYMBOLS];
-    cutting::cut(line, &mut re, &mut im, &mut out_re, &mut out_im);
+    cutting::cut(rt, line, &mut re, &mut im, &mut out_re, &mut out_im);
 }

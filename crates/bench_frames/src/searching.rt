@@ -8,6 +8,7 @@ use bench_words::text::{file, one_of, say, text};
 use header_find::{FrameAnswer, Header, find_frame};
 use isdbs_frame::FRAME_SYMBOLS;
 use refusal::Answer;
+use std::fs::File;
 
 // The frames found: how many, how many of them begin within the one before, and the place after the last.
 #[derive(Clone, Copy)]
@@ -69,7 +70,8 @@ fn move_down(s: &mut [f64; PIECE], by: usize) {
 
 // Reads on into the slices, from a place on.
 pub(crate) fn read_from(
-    opened: i32,
+    rt: &HostRuntime,
+    opened: &File,
     name: &[u8],
     from: usize,
     re: &mut [f64],
@@ -81,18 +83,19 @@ pub(crate) fn read_from(
     if from > im.len() {
         return files::nothing();
     }
-    files::read_next(opened, name, &mut re[from..], &mut im[from..])
+    files::read_next(rt, opened, name, &mut re[from..], &mut im[from..])
 }
 
 // Reads on behind the points that are held.
 pub fn read_on(
-    opened: i32,
+    rt: &HostRuntime,
+    opened: &File,
     name: &[u8],
     held: Held,
     re: &mut [f64; PIECE],
     im: &mut [f64; PIECE],
 ) -> Held {
-    let got = read_from(opened, name, held.count, re, im);
+    let got = read_from(rt, opened, name, held.count, re, im);
     Held {
         count: plus(held.count, got.count),
         start: held.start,
@@ -194,7 +197,13 @@ pub fn may_look(held: Held) -> bool {
 }
 
 // All pieces.
-fn all(opened: i32, name: &[u8], re: &mut [f64; PIECE], im: &mut [f64; PIECE]) -> Run {
+fn all(
+    rt: &HostRuntime,
+    opened: &File,
+    name: &[u8],
+    re: &mut [f64; PIECE],
+    im: &mut [f64; PIECE],
+) -> Run {
     let mut run = Run {
         held: none_held(),
         found: Found {
@@ -204,7 +213,7 @@ fn all(opened: i32, name: &[u8], re: &mut [f64; PIECE], im: &mut [f64; PIECE]) -
         },
     };
     for _ in 0..PIECES {
-        let held = read_on(opened, name, run.held, re, im);
+        let held = read_on(rt, opened, name, run.held, re, im);
         let found = run.found;
         run = Run { held, found };
         if !may_look(held) {
@@ -261,13 +270,12 @@ fn end(name: &[u8], held: Held, found: Found) {
     verdict(plus(held.start, held.count), found);
 }
 
-pub(crate) fn frames(name: &[u8], re: &mut [f64; PIECE], im: &mut [f64; PIECE]) {
-    let opened = files::open(name);
-    if opened < 0 {
+pub(crate) fn frames(rt: &HostRuntime, name: &[u8], re: &mut [f64; PIECE], im: &mut [f64; PIECE]) {
+    let Some(opened) = files::open(rt, name) else {
         return;
-    }
-    let run = all(opened, name, re, im);
-    libc::close(opened);
+    };
+    let run = all(rt, &opened, name, re, im);
+    drop(opened);
     let held = run.held;
     if held.well {
         end(name, held, run.found);

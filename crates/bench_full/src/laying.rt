@@ -8,25 +8,46 @@ use isdbs_frame::{FRAME_SYMBOLS, HEADER_SYMBOLS, MAIN_SYMBOLS};
 use refusal::Answer;
 
 // Reads the points of the input in word i, where the output may be written.
-fn read_input(kind: &[u8], line: &[u8], i: usize, re: &mut [f64], im: &mut [f64]) -> Got {
+fn read_input(
+    rt: &HostRuntime,
+    kind: &[u8],
+    line: &[u8],
+    i: usize,
+    re: &mut [f64],
+    im: &mut [f64],
+) -> Got {
     let input = part(line, 0, i);
-    let opened = files::open_for(input, part(line, 0, 4));
-    if opened < 0 {
+    let Some(opened) = files::open_for(rt, input, part(line, 0, 4)) else {
         return files::nothing();
-    }
-    points::read(kind, opened, input, re, im)
+    };
+    points::read(rt, kind, opened, input, re, im)
 }
 
-fn read_header(line: &[u8], re: &mut [f64; HEADER_SYMBOLS], im: &mut [f64; HEADER_SYMBOLS]) -> Got {
-    read_input(b"header", line, 1, re, im)
+fn read_header(
+    rt: &HostRuntime,
+    line: &[u8],
+    re: &mut [f64; HEADER_SYMBOLS],
+    im: &mut [f64; HEADER_SYMBOLS],
+) -> Got {
+    read_input(rt, b"header", line, 1, re, im)
 }
 
-fn read_main(line: &[u8], re: &mut [f64; MAIN_SYMBOLS], im: &mut [f64; MAIN_SYMBOLS]) -> Got {
-    read_input(b"main", line, 2, re, im)
+fn read_main(
+    rt: &HostRuntime,
+    line: &[u8],
+    re: &mut [f64; MAIN_SYMBOLS],
+    im: &mut [f64; MAIN_SYMBOLS],
+) -> Got {
+    read_input(rt, b"main", line, 2, re, im)
 }
 
-fn read_burst(line: &[u8], re: &mut [f64; BURST_POINTS], im: &mut [f64; BURST_POINTS]) -> Got {
-    read_input(b"burst", line, 3, re, im)
+fn read_burst(
+    rt: &HostRuntime,
+    line: &[u8],
+    re: &mut [f64; BURST_POINTS],
+    im: &mut [f64; BURST_POINTS],
+) -> Got {
+    read_input(rt, b"burst", line, 3, re, im)
 }
 
 // Lays the frame from as many points as were read.
@@ -56,7 +77,13 @@ fn lay_read(
 }
 
 // Writes the frame where it was laid; else says why it was not.
-fn keep(answer: Answer, output: &[u8], re: &[f64; FRAME_SYMBOLS], im: &[f64; FRAME_SYMBOLS]) {
+fn keep(
+    rt: &HostRuntime,
+    answer: Answer,
+    output: &[u8],
+    re: &[f64; FRAME_SYMBOLS],
+    im: &[f64; FRAME_SYMBOLS],
+) {
     let Answer::Accepted = answer else {
         points::refuse(
             answer,
@@ -65,12 +92,13 @@ fn keep(answer: Answer, output: &[u8], re: &[f64; FRAME_SYMBOLS], im: &[f64; FRA
         return;
     };
     text(b"writing the full frame\n");
-    if files::write_points(output, re, im) {
+    if files::write_points(rt, output, re, im) {
         file(b"full frame", output, FRAME_SYMBOLS, b" points\nok\n");
     }
 }
 
 fn lay_over(
+    rt: &HostRuntime,
     line: &[u8],
     header_re: &mut [f64; HEADER_SYMBOLS],
     header_im: &mut [f64; HEADER_SYMBOLS],
@@ -81,15 +109,15 @@ fn lay_over(
     re: &mut [f64; FRAME_SYMBOLS],
     im: &mut [f64; FRAME_SYMBOLS],
 ) {
-    let h = read_header(line, header_re, header_im);
+    let h = read_header(rt, line, header_re, header_im);
     if !h.well {
         return;
     }
-    let m = read_main(line, main_re, main_im);
+    let m = read_main(rt, line, main_re, main_im);
     if !m.well {
         return;
     }
-    let b = read_burst(line, burst_re, burst_im);
+    let b = read_burst(rt, line, burst_re, burst_im);
     if !b.well {
         return;
     }
@@ -97,11 +125,11 @@ fn lay_over(
         h.count, m.count, b.count, header_re, header_im, main_re, main_im, burst_re, burst_im, re,
         im,
     );
-    keep(answer, part(line, 0, 4), re, im);
+    keep(rt, answer, part(line, 0, 4), re, im);
 }
 
 // The command on space of its own.
-pub(crate) fn lay(line: &[u8]) {
+pub(crate) fn lay(rt: &HostRuntime, line: &[u8]) {
     let mut header_re = [0.0f64; HEADER_SYMBOLS];
     let mut header_im = [0.0f64; HEADER_SYMBOLS];
     let mut main_re = [0.0f64; MAIN_SYMBOLS];
@@ -111,6 +139,7 @@ pub(crate) fn lay(line: &[u8]) {
     let mut re = [0.0f64; FRAME_SYMBOLS];
     let mut im = [0.0f64; FRAME_SYMBOLS];
     lay_over(
+        rt,
         line,
         &mut header_re,
         &mut header_im,

@@ -13,19 +13,19 @@ use isdbs_frame::{BURST_SYMBOLS, BURSTS};
 const BURST_POINTS: usize = BURSTS * BURST_SYMBOLS;
 
 // bench lay HEADER MAIN BURST FULL
-pub fn lay(line: &[u8]) {
+pub fn lay(rt: &HostRuntime, line: &[u8]) {
     if parts(line, 0) != 5 {
         misused(b"lay takes HEADER MAIN BURST FULL", b"");
         return;
     }
-    laying::lay(line);
+    laying::lay(rt, line);
 }
 
 // bench part FULL HEADER MAIN BURST
-pub fn take_apart(line: &[u8]) {
+pub fn take_apart(rt: &HostRuntime, line: &[u8]) {
     if parts(line, 0) != 5 {
         misused(b"part takes FULL HEADER MAIN BURST", b"");
         return;
     }
-    taking::take_apart(line);
+    taking::take_apart(rt, line);
 }

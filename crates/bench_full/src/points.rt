@@ -4,6 +4,7 @@ use bench_files::files::Got;
 use bench_words::report;
 use bench_words::text::{file, say, text};
 use refusal::Answer;
+use std::fs::File;
 
 // How many points a file has, and the bytes of one more.
 fn tell(kind: &[u8], name: &[u8], got: Got) {
@@ -15,8 +16,15 @@ fn tell(kind: &[u8], name: &[u8], got: Got) {
 }
 
 // Reads an open file's points, and reports how many there are.
-pub(crate) fn read(kind: &[u8], opened: i32, name: &[u8], re: &mut [f64], im: &mut [f64]) -> Got {
-    let got = files::read_points(opened, name, re, im);
+pub(crate) fn read(
+    rt: &HostRuntime,
+    kind: &[u8],
+    opened: File,
+    name: &[u8],
+    re: &mut [f64],
+    im: &mut [f64],
+) -> Got {
+    let got = files::read_points(rt, opened, name, re, im);
     if !got.well {
         return got;
     }

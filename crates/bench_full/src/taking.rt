@@ -6,6 +6,7 @@ use bench_line::words::{front_parts, part};
 use bench_words::text::{file, text};
 use isdbs_frame::{FRAME_SYMBOLS, HEADER_SYMBOLS, MAIN_SYMBOLS};
 use refusal::Answer;
+use std::fs::File;
 
 // Whether three outputs can be staged side by side; else says why not.
 fn are_three(header: &[u8], signal: &[u8], burst: &[u8]) -> bool {
@@ -17,21 +18,24 @@ fn are_three(header: &[u8], signal: &[u8], burst: &[u8]) -> bool {
         && files::are_two(signal, burst)
 }
 
-// Opens the full frame, where its three outputs may be written; else says why not and answers -1.
-fn open(input: &[u8], header: &[u8], signal: &[u8], burst: &[u8]) -> i32 {
-    let file = files::open_for(input, header);
-    if file < 0 {
-        return file;
+// Opens the full frame, where its three outputs may be written; else says why not.
+fn open(
+    rt: &HostRuntime,
+    input: &[u8],
+    header: &[u8],
+    signal: &[u8],
+    burst: &[u8],
+) -> Option<File> {
+    let file = files::open_for(rt, input, header)?;
+    if files::may_write(rt, signal, &file) && files::may_write(rt, burst, &file) {
+        return Some(file);
     }
-    if files::may_write(signal, file) && files::may_write(burst, file) {
-        return file;
-    }
-    libc::close(file);
-    -1
+    None
 }
 
 // Stages the three outputs, or none.
 fn stage(
+    rt: &HostRuntime,
     line: &[u8],
     header_re: &[f64; HEADER_SYMBOLS],
     header_im: &[f64; HEADER_SYMBOLS],
@@ -40,41 +44,41 @@ fn stage(
     burst_re: &[f64; BURST_POINTS],
     burst_im: &[f64; BURST_POINTS],
 ) -> bool {
-    if !files::stage_points(part(line, 0, 2), header_re, header_im) {
+    if !files::stage_points(rt, part(line, 0, 2), header_re, header_im) {
         return false;
     }
-    if !files::stage_points(part(line, 0, 3), main_re, main_im) {
-        files::discard(part(line, 0, 2));
+    if !files::stage_points(rt, part(line, 0, 3), main_re, main_im) {
+        files::discard(rt, part(line, 0, 2));
         return false;
     }
-    if !files::stage_points(part(line, 0, 4), burst_re, burst_im) {
-        files::discard(part(line, 0, 2));
-        files::discard(part(line, 0, 3));
+    if !files::stage_points(rt, part(line, 0, 4), burst_re, burst_im) {
+        files::discard(rt, part(line, 0, 2));
+        files::discard(rt, part(line, 0, 3));
         return false;
     }
     true
 }
 
 // Gives the staged outputs their names; where one cannot be given, the staged files that are left are removed.
-fn keep(header: &[u8], signal: &[u8], burst: &[u8]) -> bool {
-    if !files::keep(header) {
-        files::discard(signal);
-        files::discard(burst);
+fn keep(rt: &HostRuntime, header: &[u8], signal: &[u8], burst: &[u8]) -> bool {
+    if !files::keep(rt, header) {
+        files::discard(rt, signal);
+        files::discard(rt, burst);
         return false;
     }
-    if !files::keep(signal) {
-        files::discard(burst);
+    if !files::keep(rt, signal) {
+        files::discard(rt, burst);
         return false;
     }
-    files::keep(burst)
+    files::keep(rt, burst)
 }
 
 // Gives the outputs their names, and says them.
-fn keep_all(line: &[u8]) {
+fn keep_all(rt: &HostRuntime, line: &[u8]) {
     let header = part(line, 0, 2);
     let signal = part(line, 0, 3);
     let burst = part(line, 0, 4);
-    if keep(header, signal, burst) {
+    if keep(rt, header, signal, burst) {
         file(b"header", header, HEADER_SYMBOLS, b" points\n");
         file(b"main", signal, MAIN_SYMBOLS, b" points\n");
         file(b"burst", burst, BURST_POINTS, b" points\nok\n");
@@ -116,7 +120,12 @@ fn is_taken(answer: Answer) -> bool {
 }
 
 // Reads the full frame, where its three outputs may be written.
-fn read_full(line: &[u8], re: &mut [f64; FRAME_SYMBOLS], im: &mut [f64; FRAME_SYMBOLS]) -> Got {
+fn read_full(
+    rt: &HostRuntime,
+    line: &[u8],
+    re: &mut [f64; FRAME_SYMBOLS],
+    im: &mut [f64; FRAME_SYMBOLS],
+) -> Got {
     let input = part(line, 0, 1);
     let header = part(line, 0, 2);
     let signal = part(line, 0, 3);
@@ -124,14 +133,14 @@ fn read_full(line: &[u8], re: &mut [f64; FRAME_SYMBOLS], im: &mut [f64; FRAME_SY
     if !are_three(header, signal, burst) {
         return files::nothing();
     }
-    let opened = open(input, header, signal, burst);
-    if opened < 0 {
+    let Some(opened) = open(rt, input, header, signal, burst) else {
         return files::nothing();
-    }
-    points::read(b"full frame", opened, input, re, im)
+    };
+    points::read(rt, b"full frame", opened, input, re, im)
 }
 
 fn take_over(
+    rt: &HostRuntime,
     line: &[u8],
     header_re: &mut [f64; HEADER_SYMBOLS],
     header_im: &mut [f64; HEADER_SYMBOLS],
@@ -142,7 +151,7 @@ fn take_over(
     re: &mut [f64; FRAME_SYMBOLS],
     im: &mut [f64; FRAME_SYMBOLS],
 ) {
-    let got = read_full(line, re, im);
+    let got = read_full(rt, line, re, im);
     if !got.well {
         return;
     }
@@ -151,15 +160,15 @@ fn take_over(
     );
     if is_taken(answer) {
         if stage(
-            line, header_re, header_im, main_re, main_im, burst_re, burst_im,
+            rt, line, header_re, header_im, main_re, main_im, burst_re, burst_im,
         ) {
-            keep_all(line);
+            keep_all(rt, line);
         }
     }
 }
 
 // The command on space of its own.
-pub(crate) fn take_apart(line: &[u8]) {
+pub(crate) fn take_apart(rt: &HostRuntime, line: &[u8]) {
     let mut header_re = [0.0f64; HEADER_SYMBOLS];
     let mut header_im = [0.0f64; HEADER_SYMBOLS];
     let mut main_re = [0.0f64; MAIN_SYMBOLS];
@@ -169,6 +178,7 @@ pub(crate) fn take_apart(line: &[u8]) {
     let mut re = [0.0f64; FRAME_SYMBOLS];
     let mut im = [0.0f64; FRAME_SYMBOLS];
     take_over(
+        rt,
         line,
         &mut header_re,
         &mut header_im,

@@ -2,8 +2,8 @@
 #![tactic(auto)]
 
 use bench_checksum::{BEGUN, Summed, ended, sum_of};
-use bench_files::files;
 use bench_files::files::Got;
+use bench_files::{files, system};
 use bench_header::{Told, say_header, say_kind, told_at};
 use bench_line::words::part;
 use bench_outputs::may_write_all;
@@ -16,6 +16,8 @@ use full_frame::take_apart;
 use isdbs_core::frame::MAIN_SYMBOLS;
 use isdbs_frame::{FRAME_SYMBOLS, HEADER_SYMBOLS};
 use refusal::Answer;
+use std::fs::File;
+use std::os::fd::AsRawFd;
 
 // The points of a frame's bursts.
 const BURST_POINTS: usize = 768;
@@ -58,17 +60,13 @@ fn nothing(s: Reading) -> Held {
     holding(false, 0, 0, i, s)
 }
 
-// Opens the frame, where the outputs may be written; else says why not and answers -1.
-fn open(line: &[u8]) -> i32 {
-    let opened = files::open(part(line, 0, 4));
-    if opened < 0 {
-        return opened;
+// Opens the frame, where the outputs may be written; else says why not.
+fn open(rt: &HostRuntime, line: &[u8]) -> Option<File> {
+    let opened = files::open(rt, part(line, 0, 4))?;
+    if may_write_all(rt, line, &opened) {
+        return Some(opened);
     }
-    if may_write_all(line, opened) {
-        return opened;
-    }
-    libc::close(opened);
-    -1
+    None
 }
 
 fn no_sum(is_whole: bool) -> Summed {
@@ -80,14 +78,14 @@ fn no_sum(is_whole: bool) -> Summed {
 }
 
 // The bytes of an open file and their checksum, where a report asks for them; the file then stands at its first byte again.
-fn sum_for(line: &[u8], opened: i32) -> Summed {
+fn sum_for(line: &[u8], opened: &File) -> Summed {
     if !has(line, b"report") {
         if !has(line, b"json") {
             return no_sum(true);
         }
     }
-    let sum = sum_of(opened);
-    if libc::lseek(opened, 0, 0) == 0 {
+    let sum = sum_of(opened.as_raw_fd());
+    if system::to_start(opened) {
         return sum;
     }
     no_sum(false)
@@ -101,14 +99,6 @@ fn is_full(line: &[u8], points: usize) -> bool {
     has(line, b"full") || points == FRAME_SYMBOLS
 }
 
-// n, or 0 where it is negative.
-fn unsigned(n: i64) -> usize {
-    if n < 0 {
-        return 0;
-    }
-    n as usize
-}
-
 // a less b, 0 where that is below it.
 fn less(a: usize, b: usize) -> usize {
     if a > b { a - b } else { 0 }
@@ -118,19 +108,14 @@ fn less(a: usize, b: usize) -> usize {
 const MANY: usize = 0x2000_0000_0000_0000;
 
 // How many bytes of an open file were not read; of a pipe MANY where there are any.
-fn bytes_left(opened: i32) -> usize {
-    let here = libc::lseek(opened, 0, libc::SEEK_CUR);
-    if here < 0 {
-        let mut one = [0u8; 1];
-        if libc::read(opened, &mut one) > 0 {
+fn bytes_left(opened: &File) -> usize {
+    let Some(here) = system::place(opened) else {
+        if system::has_more(opened) {
             return MANY;
         }
         return 0;
-    }
-    less(
-        unsigned(libc::lseek(opened, 0, libc::SEEK_END)),
-        unsigned(here),
-    )
+    };
+    less(system::to_end(opened).unwrap_or(0), here)
 }
 
 // Part k.
@@ -340,15 +325,16 @@ fn plus(a: usize, b: usize) -> usize {
 
 // Reads the points of an open file, says what was read, and closes it.
 fn take_in(
+    rt: &HostRuntime,
     line: &[u8],
-    opened: i32,
+    opened: File,
     full_re: &mut [f64; FRAME_SYMBOLS],
     full_im: &mut [f64; FRAME_SYMBOLS],
 ) -> Got {
     text(b"reading the points\n");
-    let got = files::read_next(opened, part(line, 0, 4), full_re, full_im);
-    let rest = if got.well { bytes_left(opened) } else { 0 };
-    libc::close(opened);
+    let got = files::read_next(rt, &opened, part(line, 0, 4), full_re, full_im);
+    let rest = if got.well { bytes_left(&opened) } else { 0 };
+    drop(opened);
     if got.well {
         tell_points(line, got.count, plus(got.over, rest));
     }
@@ -357,21 +343,22 @@ fn take_in(
 
 // Holds the points of an open file, and closes it.
 fn read_open(
+    rt: &HostRuntime,
     s: Reading,
     line: &[u8],
-    opened: i32,
+    opened: File,
     full_re: &mut [f64; FRAME_SYMBOLS],
     full_im: &mut [f64; FRAME_SYMBOLS],
     re: &mut [f64; MAIN_SYMBOLS],
     im: &mut [f64; MAIN_SYMBOLS],
 ) -> Held {
-    let sum = sum_for(line, opened);
+    let sum = sum_for(line, &opened);
     if !sum.is_whole {
-        libc::close(opened);
+        drop(opened);
         text(b"failed: the input cannot be read twice, as a report asks\n");
         return nothing(s);
     }
-    let got = take_in(line, opened, full_re, full_im);
+    let got = take_in(rt, line, opened, full_re, full_im);
     if !got.well {
         return nothing(s);
     }
@@ -380,16 +367,16 @@ fn read_open(
 
 // Reads the points of the frame; says what was read, or why not.
 pub fn read_points(
+    rt: &HostRuntime,
     s: Reading,
     line: &[u8],
     re: &mut [f64; MAIN_SYMBOLS],
     im: &mut [f64; MAIN_SYMBOLS],
 ) -> Held {
-    let opened = open(line);
-    if opened < 0 {
+    let Some(opened) = open(rt, line) else {
         return nothing(s);
-    }
+    };
     let mut full_re = [0.0f64; FRAME_SYMBOLS];
     let mut full_im = [0.0f64; FRAME_SYMBOLS];
-    read_open(s, line, opened, &mut full_re, &mut full_im, re, im)
+    read_open(rt, s, line, opened, &mut full_re, &mut full_im, re, im)
 }

@@ -66,6 +66,7 @@ fn judge_read(
 
 // Reads the points of a frame, and judges bytes at hand by them.
 fn judge_frame(
+    rt: &HostRuntime,
     s: Setting,
     line: &[u8],
     bytes: &[u8],
@@ -73,12 +74,11 @@ fn judge_frame(
     im: &mut [f64; MAIN_SYMBOLS],
 ) {
     let frame = part(line, 0, 4);
-    let opened = files::open(frame);
-    if opened < 0 {
+    let Some(opened) = files::open(rt, frame) else {
         return;
-    }
+    };
     text(b"reading the points\n");
-    let got = files::read_points(opened, frame, re, im);
+    let got = files::read_points(rt, opened, frame, re, im);
     if !got.well {
         return;
     }
@@ -88,22 +88,22 @@ fn judge_frame(
 }
 
 // The same, on space of its own.
-fn judge_in_space(s: Setting, line: &[u8], bytes: &[u8]) {
+fn judge_in_space(rt: &HostRuntime, s: Setting, line: &[u8], bytes: &[u8]) {
     let mut re = [0.0f64; MAIN_SYMBOLS];
     let mut im = [0.0f64; MAIN_SYMBOLS];
-    judge_frame(s, line, bytes, &mut re, &mut im);
+    judge_frame(rt, s, line, bytes, &mut re, &mut im);
 }
 
 // Reads the bytes at hand, and judges them.
-fn judge_files(s: Setting, line: &[u8], bytes: &mut [u8; LOAD_SPACE]) {
-    let had = files::bytes_of(part(line, 0, 5), bytes);
+fn judge_files(rt: &HostRuntime, s: Setting, line: &[u8], bytes: &mut [u8; LOAD_SPACE]) {
+    let had = files::bytes_of(rt, part(line, 0, 5), bytes);
     if had.well {
-        judge_in_space(s, line, front(bytes, had.count));
+        judge_in_space(rt, s, line, front(bytes, had.count));
     }
 }
 
 // bench judge TABLE MAPPING KIND FRAME BYTES
-pub fn judge_command(line: &[u8]) {
+pub fn judge_command(rt: &HostRuntime, line: &[u8]) {
     let s = setting_for_two(line, b"judge takes TABLE MAPPING KIND FRAME BYTES");
     if !s.is_good {
         return;
@@ -111,7 +111,7 @@ pub fn judge_command(line: &[u8]) {
     let t = s.table;
     let mut bytes = [0u8; LOAD_SPACE];
     match report::table(t) {
-        Valid::Slots(_) => judge_files(s, line, &mut bytes),
+        Valid::Slots(_) => judge_files(rt, s, line, &mut bytes),
         Valid::Refused => {}
     }
 }

@@ -45,26 +45,26 @@ fn unknown(word: &[u8]) {
 }
 
 // Runs the command of a line, by its place.
-pub fn run(line: &[u8]) {
+pub fn run(rt: &HostRuntime, line: &[u8]) {
     let word = part(line, 0, 0);
     match command_of(word) {
-        0 => bench_make::make(line),
-        1 => bench_read::read(line),
-        2 => bench_judge::judge_command(line),
-        3 => bench_compare::compare(line),
-        4 => bench_full::lay(line),
-        5 => bench_full::take_apart(line),
-        6 => bench_wanted::bytes(line),
-        7 => bench_series::series(line),
-        8 => bench_mend::mend_command(line),
-        9 => bench_overlay::overlay_command(line),
-        10 => bench_best::best(line),
-        11 => bench_frames::frames(line),
-        12 => bench_frames::cut(line),
-        13 => bench_capture::capture(line),
+        0 => bench_make::make(rt, line),
+        1 => bench_read::read(rt, line),
+        2 => bench_judge::judge_command(rt, line),
+        3 => bench_compare::compare(rt, line),
+        4 => bench_full::lay(rt, line),
+        5 => bench_full::take_apart(rt, line),
+        6 => bench_wanted::bytes(rt, line),
+        7 => bench_series::series(rt, line),
+        8 => bench_mend::mend_command(rt, line),
+        9 => bench_overlay::overlay_command(rt, line),
+        10 => bench_best::best(rt, line),
+        11 => bench_frames::frames(rt, line),
+        12 => bench_frames::cut(rt, line),
+        13 => bench_capture::capture(rt, line),
         14 => usage::version(),
         15..=17 => help(),
-        18 => bench_check::check(line),
+        18 => bench_check::check(rt, line),
         _ => unknown(word),
     }
 }
@@ -75,12 +75,12 @@ pub fn demonstrate() {
 }
 
 // Runs the command in the first n bytes of a buffer.
-pub fn run_first(line: &[u8; LINE_BYTES], n: usize) {
+pub fn run_first(rt: &HostRuntime, line: &[u8; LINE_BYTES], n: usize) {
     if n >= LINE_BYTES {
         usage::misused(b"the words are longer than 4,095 bytes together", b"");
         return;
     }
-    run(bench_line::words::front(line, n));
+    run(rt, bench_line::words::front(line, n));
 }
 
 // The place after a byte that separates words.

@@ -31,6 +31,7 @@ fn load_line(name: &[u8], n: usize, carried: usize) {
 
 // Encodes the load and writes the frame.
 fn make_frame(
+    rt: &HostRuntime,
     s: Setting,
     load: &[u8],
     name: &[u8],
@@ -45,23 +46,23 @@ fn make_frame(
         return;
     };
     text(b"writing the frame\n");
-    if files::write_points(name, re, im) {
+    if files::write_points(rt, name, re, im) {
         file(b"frame", name, MAIN_SYMBOLS, b" points\nok\n");
     }
 }
 
 // The same, on space of its own.
-fn make_in_space(s: Setting, load: &[u8], name: &[u8]) {
+fn make_in_space(rt: &HostRuntime, s: Setting, load: &[u8], name: &[u8]) {
     let mut re = [0.0f64; MAIN_SYMBOLS];
     let mut im = [0.0f64; MAIN_SYMBOLS];
-    make_frame(s, load, name, &mut re, &mut im);
+    make_frame(rt, s, load, name, &mut re, &mut im);
 }
 
 // Reads the load of a table of v valid slots, and makes the frame.
-fn make_from(s: Setting, v: usize, line: &[u8], load: &mut [u8; LOAD_SPACE]) {
+fn make_from(rt: &HostRuntime, s: Setting, v: usize, line: &[u8], load: &mut [u8; LOAD_SPACE]) {
     let input = part(line, 0, 4);
     let output = part(line, 0, 5);
-    let got = files::bytes_for(input, output, load);
+    let got = files::bytes_for(rt, input, output, load);
     if !got.well {
         return;
     }
@@ -69,11 +70,11 @@ fn make_from(s: Setting, v: usize, line: &[u8], load: &mut [u8; LOAD_SPACE]) {
     if v <= SLOTS {
         load_line(input, n, SLOT_BYTES * v);
     }
-    make_in_space(s, front(load, n), output);
+    make_in_space(rt, s, front(load, n), output);
 }
 
 // bench make TABLE MAPPING KIND LOAD FRAME
-pub fn make(line: &[u8]) {
+pub fn make(rt: &HostRuntime, line: &[u8]) {
     let s = setting_for_two(line, b"make takes TABLE MAPPING KIND LOAD FRAME");
     if !s.is_good {
         return;
@@ -81,7 +82,7 @@ pub fn make(line: &[u8]) {
     let t = s.table;
     let mut load = [0u8; LOAD_SPACE];
     match report::table(t) {
-        Valid::Slots(v) => make_from(s, v, line, &mut load),
+        Valid::Slots(v) => make_from(rt, s, v, line, &mut load),
         Valid::Refused => {}
     }
 }

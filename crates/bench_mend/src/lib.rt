@@ -51,6 +51,7 @@ fn refuse(answer: Answer) {
 
 // Mends a stretch, and writes it.
 fn mend_read(
+    rt: &HostRuntime,
     stored: &[u8],
     start: u8,
     end: u8,
@@ -66,13 +67,14 @@ fn mend_read(
         return;
     };
     changes(list, m.count);
-    if files::write_bytes(output, front(out, stored.len())) {
+    if files::write_bytes(rt, output, front(out, stored.len())) {
         file(b"mended", output, stored.len(), b" bits\nok\n");
     }
 }
 
 // Reads a stretch between two states, and mends it.
 fn mend_file(
+    rt: &HostRuntime,
     line: &[u8],
     start: u8,
     end: u8,
@@ -82,20 +84,28 @@ fn mend_file(
 ) {
     let input = part(line, 0, 3);
     let output = part(line, 0, 4);
-    let got = files::bytes_for(input, output, bits);
+    let got = files::bytes_for(rt, input, output, bits);
     if !got.well {
         return;
     }
     file(b"stretch", input, got.count, b" bits\n");
-    mend_read(front(bits, got.count), start, end, output, decisions, out);
+    mend_read(
+        rt,
+        front(bits, got.count),
+        start,
+        end,
+        output,
+        decisions,
+        out,
+    );
 }
 
 // The same, on space of its own.
-fn mend_in_space(line: &[u8], start: u8, end: u8) {
+fn mend_in_space(rt: &HostRuntime, line: &[u8], start: u8, end: u8) {
     let mut decisions = [0u64; FRAME_WORDS];
     let mut bits = [0u8; LOAD_SPACE];
     let mut out = [0u8; LOAD_SPACE];
-    mend_file(line, start, end, &mut decisions, &mut bits, &mut out);
+    mend_file(rt, line, start, end, &mut decisions, &mut bits, &mut out);
 }
 
 // In place of a state, where a word is none.
@@ -112,7 +122,7 @@ fn state_of(word: &[u8]) -> u8 {
 }
 
 // bench mend START END BITS OUT; the states are taken mod 64.
-pub fn mend_command(line: &[u8]) {
+pub fn mend_command(rt: &HostRuntime, line: &[u8]) {
     if parts(line, 0) != 5 {
         misused(b"mend takes START END BITS OUT", b"");
         return;
@@ -125,5 +135,5 @@ pub fn mend_command(line: &[u8]) {
     if end == NO_STATE {
         return;
     }
-    mend_in_space(line, start, end);
+    mend_in_space(rt, line, start, end);
 }

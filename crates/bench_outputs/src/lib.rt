@@ -3,11 +3,12 @@
 
 ghost use Rattle.std.specs.Prelude.{◌≤◌};
 
-use bench_files::files;
+use bench_files::{files, system};
 use bench_line::space::LINE_BYTES;
 use bench_line::words::{front, part};
 use bench_setting::choice::named;
 use bench_words::text::{file, text};
+use std::fs::File;
 
 const OUTPUTS: usize = 5;
 
@@ -67,56 +68,56 @@ pub fn are_apart(line: &[u8]) -> bool {
 }
 
 // Whether output i may be written beside an open input; else says why not.
-fn may_write(line: &[u8], i: usize, input: i32) -> bool {
-    !is_asked(line, i) || files::may_write(name(line, i), input)
+fn may_write(rt: &HostRuntime, line: &[u8], i: usize, input: &File) -> bool {
+    !is_asked(line, i) || files::may_write(rt, name(line, i), input)
 }
 
 // Whether all outputs may be written beside an open input; else says why not.
-pub fn may_write_all(line: &[u8], input: i32) -> bool {
+pub fn may_write_all(rt: &HostRuntime, line: &[u8], input: &File) -> bool {
     for i in 0..OUTPUTS {
-        if !may_write(line, i, input) {
+        if !may_write(rt, line, i, input) {
             return false;
         }
     }
     true
 }
 
-fn discard(line: &[u8], i: usize) {
+fn discard(rt: &HostRuntime, line: &[u8], i: usize) {
     if is_asked(line, i) {
-        files::discard(name(line, i));
+        files::discard(rt, name(line, i));
     }
 }
 
 // Removes what was staged of outputs `from` up to but not including `to`.
-fn discard_between(line: &[u8], from: usize, to: usize) {
+fn discard_between(rt: &HostRuntime, line: &[u8], from: usize, to: usize) {
     for i in 0..OUTPUTS {
         if i >= from && i < to {
-            discard(line, i);
+            discard(rt, line, i);
         }
     }
 }
 
 // Stages output i; where that cannot be, removes those before it.
-fn stage(line: &[u8], i: usize, bytes: &[u8]) -> bool {
+fn stage(rt: &HostRuntime, line: &[u8], i: usize, bytes: &[u8]) -> bool {
     if !is_asked(line, i) {
         return true;
     }
-    if files::stage_bytes(name(line, i), bytes) {
+    if files::stage_bytes(rt, name(line, i), bytes) {
         return true;
     }
-    discard_between(line, 0, i);
+    discard_between(rt, line, 0, i);
     false
 }
 
-fn keep_one(line: &[u8], i: usize) -> bool {
-    !is_asked(line, i) || files::keep(name(line, i))
+fn keep_one(rt: &HostRuntime, line: &[u8], i: usize) -> bool {
+    !is_asked(line, i) || files::keep(rt, name(line, i))
 }
 
 // Gives every output its name.
-fn keep_staged(line: &[u8]) -> bool {
+fn keep_staged(rt: &HostRuntime, line: &[u8]) -> bool {
     for i in 0..OUTPUTS {
-        if !keep_one(line, i) {
-            discard_between(line, i, OUTPUTS);
+        if !keep_one(rt, line, i) {
+            discard_between(rt, line, i, OUTPUTS);
             return false;
         }
     }
@@ -132,25 +133,20 @@ fn tell(line: &[u8], i: usize, n: usize) {
 }
 
 // Whether there is a file of the name in the first n bytes.
-fn is_there(space: &[u8; LINE_BYTES], n: usize) -> bool {
-    let file = os::open_read(front(space, n));
-    if file < 0 {
-        return false;
-    }
-    libc::close(file);
-    true
+fn is_there(rt: &HostRuntime, space: &[u8; LINE_BYTES], n: usize) -> bool {
+    system::open_read(rt, front(space, n)).is_ok()
 }
 
 // Whether a run has claimed an output: the file with its number is there.
-fn is_claimed(name: &[u8]) -> bool {
+fn is_claimed(rt: &HostRuntime, name: &[u8]) -> bool {
     let mut space = io::buffer();
     let at = files::put(&mut space, 0, name);
     let n = files::put(&mut space, at, b".run");
-    is_there(&space, n)
+    is_there(rt, &space, n)
 }
 
-fn is_left(line: &[u8], i: usize) -> bool {
-    is_asked(line, i) && is_claimed(name(line, i))
+fn is_left(rt: &HostRuntime, line: &[u8], i: usize) -> bool {
+    is_asked(line, i) && is_claimed(rt, name(line, i))
 }
 
 fn tally(so: bool) -> usize
@@ -160,17 +156,17 @@ fn tally(so: bool) -> usize
 }
 
 // How many outputs are claimed.
-fn how_many_left(line: &[u8]) -> usize {
+fn how_many_left(rt: &HostRuntime, line: &[u8]) -> usize {
     let mut n: usize = 0;
     for i in 0..OUTPUTS {
-        n = n + tally(is_left(line, i));
+        n = n + tally(is_left(rt, line, i));
     }
     n
 }
 
 // Names the files that stand beside output i, where it is claimed.
-fn tell_left(line: &[u8], i: usize) {
-    if is_left(line, i) {
+fn tell_left(rt: &HostRuntime, line: &[u8], i: usize) {
+    if is_left(rt, line, i) {
         text(b"  ");
         quoted_with(name(line, i), b".run");
         text(b" and ");
@@ -188,20 +184,21 @@ fn quoted_with(s: &[u8], ending: &[u8]) {
 }
 
 // Names the files beside all outputs, where several are claimed, so that one removal does; the last line says by whom.
-fn tell_all_left(line: &[u8]) {
-    if how_many_left(line) < 2 {
+fn tell_all_left(rt: &HostRuntime, line: &[u8]) {
+    if how_many_left(rt, line) < 2 {
         return;
     }
     text(
         b"of this run's outputs several are claimed by another; if that was broken off, remove all of these, where they are there:\n",
     );
     for i in 0..OUTPUTS {
-        tell_left(line, i);
+        tell_left(rt, line, i);
     }
 }
 
 // Writes all outputs, or none.
 pub fn keep(
+    rt: &HostRuntime,
     line: &[u8],
     bytes: &[u8],
     best: &[u8],
@@ -209,16 +206,16 @@ pub fn keep(
     report: &[u8],
     json: &[u8],
 ) -> bool {
-    tell_all_left(line);
-    let is_staged = stage(line, 0, bytes)
-        && stage(line, 1, best)
-        && stage(line, 2, picture)
-        && stage(line, 3, report)
-        && stage(line, 4, json);
+    tell_all_left(rt, line);
+    let is_staged = stage(rt, line, 0, bytes)
+        && stage(rt, line, 1, best)
+        && stage(rt, line, 2, picture)
+        && stage(rt, line, 3, report)
+        && stage(rt, line, 4, json);
     if !is_staged {
         return false;
     }
-    if !keep_staged(line) {
+    if !keep_staged(rt, line) {
         return false;
     }
     tell(line, 0, bytes.len());

@@ -22,8 +22,8 @@ fn bytes_of(name: &[u8], n: usize) {
 }
 
 // Reads an input, where the output may be written.
-fn read(input: &[u8], output: &[u8], bytes: &mut [u8; LOAD_SPACE]) -> Got {
-    let got = files::bytes_for(input, output, bytes);
+fn read(rt: &HostRuntime, input: &[u8], output: &[u8], bytes: &mut [u8; LOAD_SPACE]) -> Got {
+    let got = files::bytes_for(rt, input, output, bytes);
     if got.well {
         bytes_of(input, got.count);
     }
@@ -31,9 +31,9 @@ fn read(input: &[u8], output: &[u8], bytes: &mut [u8; LOAD_SPACE]) -> Got {
 }
 
 // Writes the exclusive-or.
-fn keep(name: &[u8], bytes: &[u8]) {
+fn keep(rt: &HostRuntime, name: &[u8], bytes: &[u8]) {
     text(b"writing the exclusive-or\n");
-    if files::write_bytes(name, bytes) {
+    if files::write_bytes(rt, name, bytes) {
         file(b"overlaid", name, bytes.len(), b" bytes\nok\n");
     }
 }
@@ -46,6 +46,7 @@ fn refuse(answer: Answer, why: &[u8]) {
 
 // Overlays the first n and m bytes.
 fn overlay_read(
+    rt: &HostRuntime,
     n: usize,
     m: usize,
     output: &[u8],
@@ -59,32 +60,33 @@ fn overlay_read(
     }
     let answer = overlay::overlay(front(first, n), front(second, m), sum);
     match answer {
-        Answer::Accepted => keep(output, front(sum, n)),
+        Answer::Accepted => keep(rt, output, front(sum, n)),
         Answer::Length => refuse(answer, b"the two files do not have equally many bytes"),
         _ => report::refuse(answer),
     }
 }
 
 fn overlay_files(
+    rt: &HostRuntime,
     line: &[u8],
     first: &mut [u8; LOAD_SPACE],
     second: &mut [u8; LOAD_SPACE],
     sum: &mut [u8; LOAD_SPACE],
 ) {
     let output = part(line, 0, 3);
-    let a = read(part(line, 0, 1), output, first);
+    let a = read(rt, part(line, 0, 1), output, first);
     if !a.well {
         return;
     }
-    let b = read(part(line, 0, 2), output, second);
+    let b = read(rt, part(line, 0, 2), output, second);
     if !b.well {
         return;
     }
-    overlay_read(a.count, b.count, output, first, second, sum);
+    overlay_read(rt, a.count, b.count, output, first, second, sum);
 }
 
 // bench overlay LOAD1 LOAD2 OUT
-pub fn overlay_command(line: &[u8]) {
+pub fn overlay_command(rt: &HostRuntime, line: &[u8]) {
     if parts(line, 0) != 4 {
         misused(b"overlay takes LOAD1 LOAD2 OUT", b"");
         return;
@@ -92,5 +94,5 @@ pub fn overlay_command(line: &[u8]) {
     let mut first = [0u8; LOAD_SPACE];
     let mut second = [0u8; LOAD_SPACE];
     let mut sum = [0u8; LOAD_SPACE];
-    overlay_files(line, &mut first, &mut second, &mut sum);
+    overlay_files(rt, line, &mut first, &mut second, &mut sum);
 }

@@ -43,6 +43,7 @@ fn is_whole(line: &[u8], k: Kept) -> bool {
 
 // Keeps the bytes, the best reading's bytes, the picture, the report and the object.
 fn keep_all(
+    rt: &HostRuntime,
     texts: &Sheet,
     sheet: &Sheet,
     k: Kept,
@@ -54,6 +55,7 @@ fn keep_all(
         return false;
     }
     keep(
+        rt,
         line,
         bytes,
         front(best, bytes.len()),
@@ -65,6 +67,7 @@ fn keep_all(
 
 // Says the page and the last line after it, and keeps everything in between.
 fn say_and_keep(
+    rt: &HostRuntime,
     page: &Sheet,
     t: Texts,
     texts: &Sheet,
@@ -75,7 +78,7 @@ fn say_and_keep(
     best: &[u8; LOAD_SPACE],
 ) {
     text(between(page, 0, t.from));
-    if keep_all(texts, sheet, k, line, bytes, best) {
+    if keep_all(rt, texts, sheet, k, line, bytes, best) {
         text(between(page, t.from, t.words));
         text(b"\n");
     }
@@ -137,6 +140,7 @@ fn draw_lower(
 
 // Puts the page, the picture, the report and the object on sheets; says and keeps everything.
 pub fn conclude(
+    rt: &HostRuntime,
     o: Outcome,
     line: &[u8],
     bytes: &[u8],
@@ -159,5 +163,5 @@ pub fn conclude(
         object,
         picture,
     };
-    say_and_keep(&page, t, &texts, &sheet, k, line, bytes, best);
+    say_and_keep(rt, &page, t, &texts, &sheet, k, line, bytes, best);
 }

@@ -71,6 +71,7 @@ fn is_weighed(answer: Answer) -> bool {
 
 // Weighs what was read, on space of its own; says and keeps it.
 fn weigh(
+    rt: &HostRuntime,
     h: Held,
     line: &[u8],
     f: Frame,
@@ -91,6 +92,7 @@ fn weigh(
         let found = w.frame;
         tell(s, found, &facts, i.turn);
         conclude(
+            rt,
             outcome_of(h, found),
             line,
             bytes,
@@ -105,6 +107,7 @@ fn weigh(
 
 // Decodes the points over lent space for the bytes, and weighs what was read or says why they are refused.
 fn decode_over(
+    rt: &HostRuntime,
     h: Held,
     v: usize,
     line: &[u8],
@@ -118,6 +121,7 @@ fn decode_over(
     let done = read_of(s, n, re, im, bytes, &mut counts);
     match done {
         FrameDecoded::Decoded(size, steps, strained) => weigh(
+            rt,
             h,
             line,
             decoded(s, v, size, steps, strained),
@@ -131,33 +135,40 @@ fn decode_over(
 }
 
 // The same, on space of its own.
-fn decode_held(h: Held, v: usize, line: &[u8], re: &[f64; MAIN_SYMBOLS], im: &[f64; MAIN_SYMBOLS]) {
+fn decode_held(
+    rt: &HostRuntime,
+    h: Held,
+    v: usize,
+    line: &[u8],
+    re: &[f64; MAIN_SYMBOLS],
+    im: &[f64; MAIN_SYMBOLS],
+) {
     let mut bytes = [0u8; LOAD_SPACE];
-    decode_over(h, v, line, re, im, &mut bytes);
+    decode_over(rt, h, v, line, re, im, &mut bytes);
 }
 
 // Reads the frame, where the outputs can be written.
-fn read_frame(s: Reading, v: usize, line: &[u8]) {
+fn read_frame(rt: &HostRuntime, s: Reading, v: usize, line: &[u8]) {
     if !are_apart(line) {
         return;
     }
     let mut re = [0.0f64; MAIN_SYMBOLS];
     let mut im = [0.0f64; MAIN_SYMBOLS];
-    let h = read_points(s, line, &mut re, &mut im);
+    let h = read_points(rt, s, line, &mut re, &mut im);
     if h.is_good {
-        decode_held(h, v, line, &re, &im);
+        decode_held(rt, h, v, line, &re, &im);
     }
 }
 
 // bench read TABLE MAPPING KIND FRAME BYTES [unknown] [SCALES] [full] [all] [best BYTES2] [chart FILE] [report FILE] [json FILE]
-pub fn read(line: &[u8]) {
+pub fn read(rt: &HostRuntime, line: &[u8]) {
     let s = reading_of(line);
     if !s.is_good {
         return;
     }
     let t = s.table;
     match report::table(t) {
-        Valid::Slots(v) => read_frame(s, v, line),
+        Valid::Slots(v) => read_frame(rt, s, v, line),
         Valid::Refused => {}
     }
 }

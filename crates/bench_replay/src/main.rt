@@ -5,10 +5,16 @@
 
 ghost use Rattle.std.specs.Prelude.{◌≤◌};
 
+use bench_files::system;
 use bench_line::space::LINE_BYTES;
 use bench_line::words::{Number, digits, front, part, parts, same};
 use isdbs_frame::MAIN_SYMBOLS;
-use libc::STDOUT_FILENO;
+use std::fs::File;
+use std::os::fd::AsRawFd;
+use std::os::unix::fs::FileExt;
+
+// The number of standard output.
+const STDOUT_FILENO: i32 = 1;
 
 // The parts of a frame's points.
 const PARTS: usize = 2 * MAIN_SYMBOLS;
@@ -33,22 +39,22 @@ fn text(s: &[u8]) {
 }
 
 // Shows a command, and runs it.
-fn bench(words: &[u8]) {
+fn bench(rt: &HostRuntime, words: &[u8]) {
     text(b"$ bench ");
     text(words);
     text(b"\n");
     let mut line = io::buffer();
     let n = bench_lib::put(&mut line, 0, words);
     separate(&mut line);
-    bench_lib::run_first(&line, n);
+    bench_lib::run_first(rt, &line, n);
     text(b"\n");
 }
 
 // The number that word i of a line has.
-fn number(line: &[u8], i: usize) -> i64 {
+fn number(line: &[u8], i: usize) -> u64 {
     let n = digits(part(line, b' ', i));
     match n {
-        Number::Is(n) => n as i64,
+        Number::Is(n) => n as u64,
         Number::Not => 0,
     }
 }
@@ -79,32 +85,28 @@ fn unhex(digits: &[u8], bytes: &mut [u8; LINE_BYTES]) -> usize {
 }
 
 // Writes the bytes of a line into a file at its place.
-fn write_at(file: i32, line: &[u8], bytes: &mut [u8; LINE_BYTES]) {
+fn write_at(file: &File, line: &[u8], bytes: &mut [u8; LINE_BYTES]) {
     let n = unhex(part(line, b' ', 3), bytes);
-    libc::pwrite(file, front(bytes, n), number(line, 2));
+    let _ = file.write_at(front(bytes, n), number(line, 2));
 }
 
 // patch NAME PLACE BYTES: writes bytes into a file.
-fn patch(line: &[u8]) {
-    let file = os::open_update(part(line, b' ', 1));
-    if file < 0 {
+fn patch(rt: &HostRuntime, line: &[u8]) {
+    let Ok(file) = system::open_update(rt, part(line, b' ', 1)) else {
         text(b"no such file to patch\n");
         return;
-    }
+    };
     let mut bytes = io::buffer();
-    write_at(file, line, &mut bytes);
-    libc::close(file);
+    write_at(&file, line, &mut bytes);
 }
 
 // cut NAME SIZE: cuts a file.
-fn cut(line: &[u8]) {
-    let file = os::open_update(part(line, b' ', 1));
-    if file < 0 {
+fn cut(rt: &HostRuntime, line: &[u8]) {
+    let Ok(file) = system::open_update(rt, part(line, b' ', 1)) else {
         text(b"no such file to cut\n");
         return;
-    }
-    libc::ftruncate(file, number(line, 2));
-    libc::close(file);
+    };
+    let _ = file.set_len(number(line, 2));
 }
 
 // Copies some of an open file to another, and answers whether there may be more.
@@ -124,41 +126,35 @@ fn copy_all(from: i32, to: i32) {
 }
 
 // Shows a file that was written.
-fn show(name: &[u8]) {
+fn show(rt: &HostRuntime, name: &[u8]) {
     text(b"# the file ");
     text(name);
     text(b":\n");
-    let file = os::open_read(name);
-    if file < 0 {
+    let Ok(file) = system::open_read(rt, name) else {
         text(b"there is none\n\n");
         return;
-    }
-    copy_all(file, STDOUT_FILENO);
-    libc::close(file);
+    };
+    copy_all(file.as_raw_fd(), STDOUT_FILENO);
     text(b"\n");
 }
 
 // Adds a file to an open one.
-fn add(name: &[u8], to: i32) {
-    let file = os::open_read(name);
-    if file < 0 {
+fn add(rt: &HostRuntime, name: &[u8], to: &File) {
+    let Ok(file) = system::open_read(rt, name) else {
         text(b"no such file to join\n");
         return;
-    }
-    copy_all(file, to);
-    libc::close(file);
+    };
+    copy_all(file.as_raw_fd(), to.as_raw_fd());
 }
 
 // join NAME NAME OUT: one file after another.
-fn join(line: &[u8]) {
-    let out = os::open_overwrite(part(line, b' ', 3));
-    if out < 0 {
+fn join(rt: &HostRuntime, line: &[u8]) {
+    let Ok(out) = system::open_overwrite(rt, part(line, b' ', 3)) else {
         text(b"no file to join in\n");
         return;
-    }
-    add(part(line, b' ', 1), out);
-    add(part(line, b' ', 2), out);
-    libc::close(out);
+    };
+    add(rt, part(line, b' ', 1), &out);
+    add(rt, part(line, b' ', 2), &out);
 }
 
 // Copies a part with its other sign, and answers whether there may be more.
@@ -178,12 +174,16 @@ fn turn_all(from: i32, to: i32) {
 }
 
 // turn NAME OUT: the points of a file turned by 180 degrees.
-fn turn(line: &[u8]) {
-    let file = os::open_read(part(line, b' ', 1));
-    let out = os::open_overwrite(part(line, b' ', 2));
-    turn_all(file, out);
-    libc::close(file);
-    libc::close(out);
+fn turn(rt: &HostRuntime, line: &[u8]) {
+    let file = system::open_read(rt, part(line, b' ', 1));
+    let out = system::open_overwrite(rt, part(line, b' ', 2));
+    let Ok(from) = file else {
+        return;
+    };
+    let Ok(to) = out else {
+        return;
+    };
+    turn_all(from.as_raw_fd(), to.as_raw_fd());
 }
 
 // The next pseudo-random number.
@@ -217,14 +217,12 @@ fn write_noise(file: i32) {
 }
 
 // noise NAME: writes pseudo-random parts into a file of a frame.
-fn noise(name: &[u8]) {
-    let file = os::open_update(name);
-    if file < 0 {
+fn noise(rt: &HostRuntime, name: &[u8]) {
+    let Ok(file) = system::open_update(rt, name) else {
         text(b"no such file for noise\n");
         return;
-    }
-    write_noise(file);
-    libc::close(file);
+    };
+    write_noise(file.as_raw_fd());
 }
 
 // A line past its first two bytes.
@@ -236,30 +234,30 @@ fn rest<'a>(line: &'a [u8]) -> &'a [u8] {
 }
 
 // What is done to a file by hand.
-fn by_hand(line: &[u8]) {
+fn by_hand(rt: &HostRuntime, line: &[u8]) {
     let what = part(line, b' ', 0);
     if same(what, b"patch") {
-        patch(line);
+        patch(rt, line);
         return;
     }
     if same(what, b"cut") {
-        cut(line);
+        cut(rt, line);
         return;
     }
     if same(what, b"show") {
-        show(part(line, b' ', 1));
+        show(rt, part(line, b' ', 1));
         return;
     }
     if same(what, b"noise") {
-        noise(part(line, b' ', 1));
+        noise(rt, part(line, b' ', 1));
         return;
     }
     if same(what, b"join") {
-        join(line);
+        join(rt, line);
         return;
     }
     if same(what, b"turn") {
-        turn(line);
+        turn(rt, line);
         return;
     }
     text(b"no step: ");
@@ -268,31 +266,33 @@ fn by_hand(line: &[u8]) {
 }
 
 // One line; an empty one is none.
-fn step(line: &[u8]) {
+fn step(rt: &HostRuntime, line: &[u8]) {
     if line.len() == 0 {
         return;
     }
     match line[0] {
-        b'$' => bench(rest(line)),
+        b'$' => bench(rt, rest(line)),
         b'#' => {
             text(line);
             text(b"\n");
         }
-        _ => by_hand(line),
+        _ => by_hand(rt, line),
     }
 }
 
-fn run_lines(lines: &[u8]) {
+fn run_lines(rt: &HostRuntime, lines: &[u8]) {
     let n = parts(lines, b'\n');
     for i in 0..n {
-        step(part(lines, b'\n', i));
+        step(rt, part(lines, b'\n', i));
     }
 }
 
-fn main() {
-    let file = os::open_read(b"lines");
+fn main(rt: HostRuntime) {
+    let Ok(file) = File::open(&rt, "lines") else {
+        return;
+    };
     let mut lines = io::large_buffer();
-    let n = io::read_full(file, &mut lines);
-    libc::close(file);
-    run_lines(&lines[..n]);
+    let n = io::read_full(file.as_raw_fd(), &mut lines);
+    drop(file);
+    run_lines(&rt, &lines[..n]);
 }

@@ -152,6 +152,7 @@ fn weigh_and_keep(
 
 // Reads a frame, and keeps its sum.
 fn read_one(
+    rt: &HostRuntime,
     s: Setting,
     place: Place,
     name: &[u8],
@@ -161,7 +162,7 @@ fn read_one(
     im: &mut [f64; MAIN_SYMBOLS],
     bytes: &mut [u8; LOAD_SPACE],
 ) -> Went {
-    let got = points_of(name, re, im);
+    let got = points_of(rt, name, re, im);
     if !got.well {
         return stopped(state);
     }
@@ -206,6 +207,7 @@ fn end(doubtful: usize, all: usize) {
 
 // Reads frame after frame until one stops the run.
 fn read_all(
+    rt: &HostRuntime,
     line: &[u8],
     s: Setting,
     window: u32,
@@ -225,7 +227,7 @@ fn read_all(
             all: words - BEFORE,
         };
         let name = part(line, 0, i);
-        let went = read_one(s, place, name, state, sums, re, im, bytes);
+        let went = read_one(rt, s, place, name, state, sums, re, im, bytes);
         if !went.on {
             return;
         }
@@ -260,16 +262,25 @@ fn is_window(window: u32, sums: &mut [u32; LONGEST]) -> bool {
 }
 
 // Reads the frames of a series of `words` words, on space of its own.
-fn read_in_space(line: &[u8], s: Setting, window: u32, words: usize, sums: &mut [u32; LONGEST])
+fn read_in_space(
+    rt: &HostRuntime,
+    line: &[u8],
+    s: Setting,
+    window: u32,
+    words: usize,
+    sums: &mut [u32; LONGEST],
+)
     requires { 5 < words }
 {
     let mut re = [0.0f64; MAIN_SYMBOLS];
     let mut im = [0.0f64; MAIN_SYMBOLS];
     let mut bytes = [0u8; LOAD_SPACE];
-    read_all(line, s, window, words, sums, &mut re, &mut im, &mut bytes);
+    read_all(
+        rt, line, s, window, words, sums, &mut re, &mut im, &mut bytes,
+    );
 }
 
-fn series_of(line: &[u8], s: Setting, window: u32) {
+fn series_of(rt: &HostRuntime, line: &[u8], s: Setting, window: u32) {
     let words = parts(line, 0);
     if words <= BEFORE {
         return;
@@ -282,11 +293,11 @@ fn series_of(line: &[u8], s: Setting, window: u32) {
         b"window of $; a sum of 0 alone does not mean a good frame\n0 of $ frames read\n",
         &[wide(window), words - BEFORE],
     );
-    read_in_space(line, s, window, words, &mut sums);
+    read_in_space(rt, line, s, window, words, &mut sums);
 }
 
 // bench series WINDOW TABLE MAPPING KIND FRAME..
-pub fn series(line: &[u8]) {
+pub fn series(rt: &HostRuntime, line: &[u8]) {
     if parts(line, 0) <= BEFORE {
         misused(b"series takes WINDOW TABLE MAPPING KIND FRAME..", b"");
         return;
@@ -302,7 +313,7 @@ pub fn series(line: &[u8]) {
     }
     let t = s.table;
     match report::table(t) {
-        Valid::Slots(_) => series_of(line, s, window),
+        Valid::Slots(_) => series_of(rt, line, s, window),
         Valid::Refused => {}
     }
 }

@@ -9,12 +9,16 @@ use isdbs_core::frame::{MAIN_SYMBOLS, SLOTS};
 use isdbs_phy::demod::FrameDecoded;
 
 // Reads a file's points.
-pub fn points_of(name: &[u8], re: &mut [f64; MAIN_SYMBOLS], im: &mut [f64; MAIN_SYMBOLS]) -> Got {
-    let file = files::open(name);
-    if file < 0 {
-        return files::nothing();
+pub fn points_of(
+    rt: &HostRuntime,
+    name: &[u8],
+    re: &mut [f64; MAIN_SYMBOLS],
+    im: &mut [f64; MAIN_SYMBOLS],
+) -> Got {
+    match files::open(rt, name) {
+        Some(file) => files::read_points(rt, file, name, re, im),
+        None => files::nothing(),
     }
-    files::read_points(file, name, re, im)
 }
 
 // The reading of a setting with a known start and all scales at 8.

@@ -1,6 +1,7 @@
 // The report of a capture: its file, and the last lines of the run.
 use crate::tally::Tally;
-use bench_files::files;
+use bench_files::system::{EFBIG, ENOSPC};
+use bench_files::{files, system};
 use bench_frames::searching::{Held, tell_capture};
 use bench_header::plus;
 use bench_line::space::LINE_BYTES;
@@ -9,6 +10,7 @@ use bench_words::report;
 use bench_words::text::{one_of, say, say_named, text};
 use isdbs_core::frame::FRAME_SYMBOLS;
 use refusal::Answer;
+use std::fs::File;
 
 // The name of the report while it is written.
 fn part_name(name: &[u8], space: &mut [u8; LINE_BYTES]) -> usize {
@@ -16,15 +18,15 @@ fn part_name(name: &[u8], space: &mut [u8; LINE_BYTES]) -> usize {
     files::put(space, at, b".part")
 }
 
-fn open_named(space: &[u8; LINE_BYTES], n: usize) -> i32 {
-    os::open_update(front(space, n))
+fn open_named(rt: &HostRuntime, space: &[u8; LINE_BYTES], n: usize) -> Result<File, i32> {
+    system::open_update(rt, front(space, n))
 }
 
 // The place of an error of the system among those that have words; 0 where it has none.
 fn cause(error: i32) -> usize {
     match error {
-        libc::ENOSPC => 1,
-        libc::EFBIG => 2,
+        ENOSPC => 1,
+        EFBIG => 2,
         _ => 0,
     }
 }
@@ -38,19 +40,29 @@ fn cannot_write(name: &[u8], error: i32) {
     );
 }
 
-// Makes the file that is written first, and opens it; else says why it cannot and answers -1.
-pub fn open_report(name: &[u8]) -> i32 {
-    if !files::stage_bytes(name, b"") {
-        return -1;
+// Makes the file that is written first, and opens it; else says why it cannot.
+pub fn open_report(rt: &HostRuntime, name: &[u8]) -> Option<File> {
+    if !files::stage_bytes(rt, name, b"") {
+        return None;
     }
     let mut space = io::buffer();
     let n = part_name(name, &mut space);
-    let report = open_named(&space, n);
-    if report < 0 {
-        cannot_write(name, os::errno());
-        files::discard(name);
+    match open_named(rt, &space, n) {
+        Ok(report) => Some(report),
+        Err(error) => {
+            cannot_write(name, error);
+            files::discard(rt, name);
+            None
+        }
     }
-    report
+}
+
+// Why not all of a report is on the disk: 0 where it is.
+fn unwritten(report: &File, is_written: bool) -> i32 {
+    if is_written {
+        return system::sync(report);
+    }
+    system::why_not_written(report)
 }
 
 // ---- the last lines
@@ -75,38 +87,45 @@ fn say_end(t: Tally) {
 }
 
 // Keeps the report of a capture that was read to its end, or says why there is none.
-fn end(name: &[u8], output: &[u8], slots: usize, held: Held, t: Tally) {
+fn end(rt: &HostRuntime, name: &[u8], output: &[u8], slots: usize, held: Held, t: Tally) {
     if plus(held.start, held.count) < FRAME_SYMBOLS {
-        files::discard(output);
+        files::discard(rt, output);
         report::refused(Answer::Symbols);
         text(b"a whole frame has 39,936 points\n");
         return;
     }
     tell(name, slots, held, t);
     if t.frames == 0 {
-        files::discard(output);
+        files::discard(rt, output);
         text(b"doubtful: no frame was found; no report is written\n");
         return;
     }
-    if files::keep(output) {
+    if files::keep(rt, output) {
         say_named(b"report $: a line for each frame\n", output);
         say_end(t);
     }
 }
 
 // The capture, read to its end, or as far as it can be read and the report written.
-pub fn conclude(name: &[u8], output: &[u8], slots: usize, report: i32, held: Held, t: Tally) {
-    let is_whole = t.is_written && libc::fsync(report) == 0;
-    let error = os::errno();
-    libc::close(report);
+pub fn conclude(
+    rt: &HostRuntime,
+    name: &[u8],
+    output: &[u8],
+    slots: usize,
+    report: File,
+    held: Held,
+    t: Tally,
+) {
+    let error = unwritten(&report, t.is_written);
+    drop(report);
     if !held.well {
-        files::discard(output);
+        files::discard(rt, output);
         return;
     }
-    if !is_whole {
-        files::discard(output);
+    if error != 0 {
+        files::discard(rt, output);
         cannot_write(output, error);
         return;
     }
-    end(name, output, slots, held, t);
+    end(rt, name, output, slots, held, t);
 }

@@ -18,9 +18,9 @@ use refusal::Answer;
 use wanted_load::{LoadFound, wanted_load};
 
 // Writes the load.
-fn keep(name: &[u8], bytes: &[u8]) {
+fn keep(rt: &HostRuntime, name: &[u8], bytes: &[u8]) {
     text(b"writing the load\n");
-    if files::write_bytes(name, bytes) {
+    if files::write_bytes(rt, name, bytes) {
         file(b"bytes", name, bytes.len(), b" bytes\nok\n");
     }
 }
@@ -44,6 +44,7 @@ fn refuse(
 
 // Asks for the load of the points that were read, and writes it.
 fn find(
+    rt: &HostRuntime,
     points: Got,
     t: Table,
     m: Mapping,
@@ -56,13 +57,14 @@ fn find(
     let n = points.count;
     let found = wanted_load(front_parts(re, n), front_parts(im, n), t, m, first, bytes);
     match found {
-        LoadFound::Load(size) => keep(output, front(bytes, size)),
+        LoadFound::Load(size) => keep(rt, output, front(bytes, size)),
         LoadFound::Refused(answer) => refuse(answer, points, t, m, first, re, im, bytes),
     }
 }
 
 // Reads the points, and finds their load.
 fn find_in(
+    rt: &HostRuntime,
     s: Setting,
     line: &[u8],
     re: &mut [f64; MAIN_SYMBOLS],
@@ -73,36 +75,35 @@ fn find_in(
     let output = part(line, 0, 5);
     let t = s.table;
     let m = s.mapping;
-    let opened = files::open_for(input, output);
-    if opened < 0 {
+    let Some(opened) = files::open_for(rt, input, output) else {
         return;
-    }
+    };
     text(b"reading the points\n");
-    let got = files::read_points(opened, input, re, im);
+    let got = files::read_points(rt, opened, input, re, im);
     if !got.well {
         return;
     }
     file(b"frame", input, got.count, b" points\n");
-    find(got, t, m, s.first, output, re, im, load);
+    find(rt, got, t, m, s.first, output, re, im, load);
 }
 
 // The same, on space of its own.
-fn find_in_space(s: Setting, line: &[u8]) {
+fn find_in_space(rt: &HostRuntime, s: Setting, line: &[u8]) {
     let mut re = [0.0f64; MAIN_SYMBOLS];
     let mut im = [0.0f64; MAIN_SYMBOLS];
     let mut load = [0u8; LOAD_SPACE];
-    find_in(s, line, &mut re, &mut im, &mut load);
+    find_in(rt, s, line, &mut re, &mut im, &mut load);
 }
 
 // bench bytes TABLE MAPPING KIND FRAME BYTES
-pub fn bytes(line: &[u8]) {
+pub fn bytes(rt: &HostRuntime, line: &[u8]) {
     let s = setting_for_two(line, b"bytes takes TABLE MAPPING KIND FRAME BYTES");
     if !s.is_good {
         return;
     }
     let t = s.table;
     match report::table(t) {
-        Valid::Slots(_) => find_in_space(s, line),
+        Valid::Slots(_) => find_in_space(rt, s, line),
         Valid::Refused => {}
     }
 }

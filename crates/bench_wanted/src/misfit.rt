@@ -14,9 +14,11 @@ use isdbs_core::tmcc::{Table, table_answer};
 use isdbs_phy::demod::encode_frame;
 use isdbs_plan::plan_of;
 use isdbs_points::{Mapping, start_state};
-use libc::STDOUT_FILENO;
 use refusal::Answer;
 use wanted_read::read_load;
+
+// The number of standard output.
+const STDOUT_FILENO: i32 = 1;
 
 // Whether two parts have other bits.
 fn differ(x: f64, y: f64) -> bool {

@@ -1,5 +1,5 @@
 use Rattle.std.proofs.Common.{◌≡◌, false, length, sym, ◌∙◌, rules}
-use Rattle.header_sync.specs.FitLaws.{frame_there}
+use Rattle.header_sync.proofs.FitLaws.{frame_there}
 use Rattle.header_sync.specs.Fits.{no_frame}
 use Rattle.bench_frames.proofs.words.mean_there.Statement.{statement}
 use Rattle.bench_frames.proofs.words.mean_there.Tie as tie
