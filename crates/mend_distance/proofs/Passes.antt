@@ -9,7 +9,7 @@ use Rattle.trellis.specs.Lists.{upto, laid}
 use Rattle.trellis.specs.ListLaws.{length_upto}
 use Rattle.trellis.specs.LaidLaws.{laid_more, length_laid}
 use Rattle.mend_distance.specs.Distances.{pair_at, nexts, word, begun, nearest, Capped, word_at}
-use Rattle.mend_distance.specs.DistanceLaws.{capped}
+use Rattle.mend_distance.proofs.DistanceLaws.{capped}
 
 pub table_none : (s : ℕ) (r : ℕ → ℕ) (d : List ℕ) → d ≡ begun s → d ≡ nearest s r 0
 unfolding nearest

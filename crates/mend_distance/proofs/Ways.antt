@@ -10,7 +10,7 @@ use Rattle.trellis.specs.Code.{isdb, output}
 use Rattle.trellis.specs.Lists.{bit, packed}
 use Rattle.viterbi_choice.specs.PackedLaws.{packed_more}
 use Rattle.trellis.specs.WrittenLaws.{Written, written_none, written_more, written_whole}
-use Rattle.mend_distance.specs.StretchLaws.{label_x, label_y}
+use Rattle.mend_distance.proofs.StretchLaws.{label_x, label_y}
 use Rattle.mend_distance.specs.Distances.{far, through, next, nexts, odd, word}
 use Rattle.trellis.specs.Isdb
 

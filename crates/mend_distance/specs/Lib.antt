@@ -1,4 +1,2 @@
 pub mod Stretches
-pub mod StretchLaws
 pub mod Distances
-pub mod DistanceLaws

@@ -3,7 +3,7 @@ use Prim.Native.Nat.{◌+◌, ◌-◌, ◌*◌, ◌/◌, ◌%◌, ◌<◌}
 use native.Mathlib.Omega.{arith}
 use borrow.Author.Rules.{rules}
 use lib.ListN.{length}
-use Rattle.trellis.specs.DistanceLaws.{bits_at}
+use Rattle.trellis.proofs.DistanceLaws.{bits_at}
 use Rattle.mend_distance.specs.Distances.{pair_at, word_at}
 use Rattle.mend_distance.proofs.Passes.{table_none, table_more, table_capped, words_none, words_more, words_long, word_is}
 use Rattle.mend_distance.proofs.keep_words.Goals as goal

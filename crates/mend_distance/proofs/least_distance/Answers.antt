@@ -4,7 +4,7 @@ use Prim.Native.Nat.{ℕ, ◌+◌, ◌-◌, ◌*◌, ◌/◌, ◌%◌}
 use native.Mathlib.Omega.{arith}
 use borrow.Author.Rules.{rules}
 use lib.ListN.{length, get_or}
-use Rattle.trellis.specs.DistanceLaws.{bits_at}
+use Rattle.trellis.proofs.DistanceLaws.{bits_at}
 use Rattle.mend_distance.specs.Distances.{pair_at}
 use Rattle.mend_distance.proofs.Passes.{table_none, table_more, table_capped}
 use Rattle.mend_distance.proofs.least_distance.Goals as goal

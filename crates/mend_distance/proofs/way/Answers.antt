@@ -2,7 +2,7 @@
 use Prim.Native.Nat.{◌+◌, ◌*◌, ◌/◌, ◌%◌}
 use native.Mathlib.Omega.{arith}
 use Rattle.mend_distance.proofs.Ways.{way_is}
-use Rattle.trellis.specs.RunLaws.{output_bit_lem}
+use Rattle.trellis.proofs.RunLaws.{output_bit_lem}
 use Rattle.trellis.specs.Code.{isdb}
 use Rattle.mend_distance.proofs.way.Goals as goal
 

@@ -7,14 +7,14 @@ use native.Mathlib.Omega.{arith}
 use Rattle.std.proofs.Math.Dec.{eqb_refl}
 use Rattle.std.proofs.Math.ListN.{get_or, get_or-eq_default}
 use Rattle.trellis.specs.Code.{isdb, moved, state_at}
-use Rattle.trellis.specs.EncodedLaws.{reached_is}
+use Rattle.trellis.proofs.EncodedLaws.{reached_is}
 use Rattle.trellis.specs.Lists.{bit}
 use Rattle.trellis.specs.ListLaws.{length_upto, get_d_upto}
 use Rattle.trellis.specs.Stretch.{apart, Bits}
-use Rattle.trellis.specs.DistanceLaws.{wrong, bits_at}
+use Rattle.trellis.proofs.DistanceLaws.{wrong, bits_at}
 use Rattle.trellis.specs.WrittenLaws.{lt_or_ge}
 use Rattle.mend_distance.specs.Stretches.{most_changed, WithinFour}
-use Rattle.mend_distance.specs.StretchLaws.{by_labels_lem}
+use Rattle.mend_distance.proofs.StretchLaws.{by_labels_lem}
 use Rattle.mend_distance.specs.Distances.{pair_at, far, through, next, nexts, odd, begun, nearest, Capped, least, unmendable}
 use Rattle.trellis.specs.Isdb
 

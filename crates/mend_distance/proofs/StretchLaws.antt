@@ -4,10 +4,10 @@ use Rattle.std.proofs.Common.{sym, ap, ◌∙◌, subst, ⊎_elim, append-nil, a
 use Rattle.std.proofs.Math.Dec.{eqb_refl}
 use Rattle.trellis.specs.Code.{isdb, output, label, moved}
 use Rattle.trellis.specs.Encoded.{encoded, bits_of}
-use Rattle.trellis.specs.EncodedLaws.{length_encoded, encoded_at, length_bits}
-use Rattle.trellis.specs.RunLaws.{label_under}
+use Rattle.trellis.proofs.EncodedLaws.{length_encoded, encoded_at, length_bits}
+use Rattle.trellis.proofs.RunLaws.{label_under}
 use Rattle.trellis.specs.Stretch.{apart, differing, Bits}
-use Rattle.trellis.specs.DistanceLaws.{same_or_ten, wrong, first_out, by_place, wrong_same, triangle}
+use Rattle.trellis.proofs.DistanceLaws.{same_or_ten, wrong, first_out, by_place, wrong_same, triangle}
 use Rattle.mend_distance.specs.Stretches.{unlike, changed, sent_from, WithinFour}
 use Rattle.mend_distance.specs.Distances.{pair_at}
 use Rattle.trellis.specs.Isdb
