@@ -14,13 +14,13 @@ use Rattle.trellis.specs.ListLaws.{length_upto, get_d_upto}
 use Rattle.trellis.specs.LaidLaws.{upto_cong}
 use Rattle.trellis.specs.WrittenLaws.{lt_or_ge}
 use Rattle.trellis.specs.Run.{quadruple}
-use Rattle.trellis.specs.RunLaws.{label_under}
+use Rattle.trellis.proofs.RunLaws.{label_under}
 use Rattle.trellis.specs.Code.{isdb, moved}
 use Rattle.trellis.specs.Isdb
 use Rattle.best_grid.specs.Grid.{level, dearest, cost}
-use Rattle.best_grid.specs.GridLaws.{cost_bounds, above_most, below_most}
+use Rattle.best_grid.proofs.GridLaws.{cost_bounds, above_most, below_most}
 use Rattle.best_grid.specs.Sides.{mirror, two, better, price_at}
-use Rattle.best_grid.specs.SideLaws.{mirror_small}
+use Rattle.best_grid.proofs.SideLaws.{mirror_small}
 use Rattle.best_grid.specs.Backward.{far, low, turned, onward, backs, others, back_run, other_run}
 use Rattle.best_grid.specs.RunLaws.{low_both}
 use Rattle.best_grid.specs.Leading.{seq}

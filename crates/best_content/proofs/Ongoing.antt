@@ -13,7 +13,7 @@ use Rattle.trellis.specs.LaidLaws.{laid_part, length_laid}
 use Rattle.trellis.specs.WrittenLaws.{lt_or_ge}
 use Rattle.trellis.specs.Run.{quadruple}
 use Rattle.best_grid.specs.Grid.{cost, cost_at}
-use Rattle.best_grid.specs.TableLaws.{nexts_alike, word_alike, cost_small, room_at}
+use Rattle.best_grid.proofs.TableLaws.{nexts_alike, word_alike, cost_small, room_at}
 use Rattle.best_grid.specs.Costs.{nexts, word, table_at, word_at}
 use Rattle.best_forward.specs.Room.{RoomFor}
 use Rattle.best_grid.specs.Leading.{seq}

@@ -11,8 +11,8 @@ use Rattle.trellis.specs.Run.{quadruple}
 use Rattle.path_greatest.specs.declared.Start.{Start}
 use Rattle.best_grid.specs.Grid.{cost_at}
 use Rattle.best_grid.specs.Costs.{table_at}
-use Rattle.best_grid.specs.TableLaws.{small_start}
-use Rattle.best_content.specs.FoundLaws.{piece_at}
+use Rattle.best_grid.proofs.TableLaws.{small_start}
+use Rattle.best_content.proofs.FoundLaws.{piece_at}
 use Rattle.best_grid.specs.Best.{start_table}
 use Rattle.best_forward.specs.Room.{RoomFor}
 use Rattle.best_content.proofs.Ongoing.{room_on}
@@ -21,10 +21,10 @@ use Rattle.trellis.specs.ListLaws.{length_upto}
 use Rattle.trellis.specs.WrittenLaws.{lt_or_ge}
 use Rattle.trellis.specs.Isdb
 use Rattle.best_grid.specs.Sides.{two, price_at}
-use Rattle.best_grid.specs.SideLaws.{price_small}
+use Rattle.best_grid.proofs.SideLaws.{price_small}
 use Rattle.best_grid.specs.Backward.{low, onward, backs, back_at, back_run, other_run, least_of, fars}
 use Rattle.best_grid.specs.RunLaws.{back_split}
-use Rattle.best_grid.specs.Sequences.{back_small}
+use Rattle.best_grid.proofs.Sequences.{back_small}
 use Rattle.best_grid.specs.Leading.{seq}
 use Rattle.best_backward.specs.Prices.{Asked, BackRoom, Halved}
 use Rattle.best_content.specs.Slots.{Marked, Saved, Lowered, lead_at, piece}

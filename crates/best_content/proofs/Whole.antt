@@ -18,13 +18,13 @@ use Rattle.path_greatest.specs.declared.Start.{Start}
 use Rattle.best_grid.specs.Grid.{cost_at}
 use Rattle.best_grid.specs.Costs.{table_at, word_at, cheapest}
 use Rattle.best_grid.specs.Best.{start_table, best_words, best_end, best_bits, best_start}
-use Rattle.best_grid.specs.BestLaws.{best_found}
-use Rattle.best_grid.specs.SideLaws.{Upright, chosen_small}
+use Rattle.best_grid.proofs.BestLaws.{best_found}
+use Rattle.best_grid.proofs.SideLaws.{Upright, chosen_small}
 use Rattle.best_backward.specs.Prices.{Asked}
 use Rattle.best_grid.specs.Sides.{chosen}
 use Rattle.best_content.specs.Slots.{Marked, Saved, lead_at}
 use Rattle.best_content.specs.Found.{Found}
-use Rattle.best_content.specs.FoundLaws.{found, own_is}
+use Rattle.best_content.proofs.FoundLaws.{found, own_is}
 
 -- written over the whole of a list
 over : (x w : List ℕ) → length w ≡ length x → laid x w ≡ x

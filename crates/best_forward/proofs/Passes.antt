@@ -16,7 +16,7 @@ use Rattle.best_grid.specs.Best.{start_table, best_bits}
 use Rattle.trellis.specs.Run.{quadruple}
 use Rattle.trellis.specs.Isdb
 use Rattle.best_grid.specs.Grid.{dearest, cost, cost_at}
-use Rattle.best_grid.specs.TableLaws.{nexts_alike, word_alike, cost_small, room_at, small_start}
+use Rattle.best_grid.proofs.TableLaws.{nexts_alike, word_alike, cost_small, room_at, small_start}
 use Rattle.best_grid.specs.Costs.{nexts, word, table_at, word_at, cheapest}
 use Rattle.best_forward.specs.Room.{Roomy, RoomFor, Holds, listed}
 

@@ -10,7 +10,7 @@ use Rattle.trellis.specs.Code.{state_at, label_at}
 use Rattle.trellis.specs.Step.{upper}
 use Rattle.trellis.specs.Isdb
 use Rattle.path_greatest.specs.Paths.{Path, Tail, First, sumℤ}
-use Rattle.path_greatest.specs.Greatest.{at_more, at_under}
+use Rattle.path_greatest.proofs.Greatest.{at_more, at_under}
 
 -- ---- sums
 sum_front : (m : ℕ → ℕ → ℤ) (s : ℕ) (us ks : List ℕ) (k : ℕ) → k ≤ length us → sumℤ 32 Isdb.labels m s (us ++ ks) k ≡ sumℤ 32 Isdb.labels m s us k

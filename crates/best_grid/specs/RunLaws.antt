@@ -1,6 +1,6 @@
 -- The tables of the backward pass, some steps at a time.
 use Rattle.std.specs.Prelude.{◌≡◌, Bool}
-use Rattle.std.proofs.Math.Path.{refl, ap}
+use Rattle.std.proofs.Math.Path.{refl, ap, sym}
 use Rattle.std.proofs.Common.{◌∙◌}
 use Rattle.std.proofs.Math.Bool.{true, false, cond}
 use mathlib.Core.List.{List}
@@ -16,7 +16,7 @@ back_split m t zero j = let e : t + 0 ≡ t = omega arith in let f : 0 + j ≡ j
 back_split m t (suc r) j =
     let e : t + suc r ≡ suc t + r = omega arith in
     let f : suc r + j ≡ suc (r + j) = omega arith in
-    rw (e, f) (ap (λ (b : List ℕ). backs b (m t)) (back_split m (suc t) r j))
+    ap (back_at m t) f ∙ ap (λ (b : List ℕ). backs b (m t)) (back_split m (suc t) r j) ∙ ap (λ (x : ℕ). back_run (back_at m x j) m t (suc r)) (sym e)
 
 module _ (two : ℕ → Bool) (c : ℕ → ℕ → ℕ → ℕ) (us zs : ℕ → ℕ) where
   pub other_split : (t r j : ℕ) → other_at two c us zs t r (r + j) ≡ other_run two c us zs fars (back_at (low two c) (t + r) j) t r
@@ -25,9 +25,10 @@ module _ (two : ℕ → Bool) (c : ℕ → ℕ → ℕ → ℕ) (us zs : ℕ →
   other_split t (suc r) j =
       let e : t + suc r ≡ suc t + r = omega arith in
       let f : suc r + j ≡ suc (r + j) = omega arith in
-      rw (e, f)
-      (ap (λ (d : List ℕ). others d (back_at (low two c) (suc t) (r + j)) (c t (zs t)) (turned two c (zs t) t) (low two c t) (us t)) (other_split (suc t) r j)
+      ap (other_at two c us zs t (suc r)) f
+      ∙ (ap (λ (d : List ℕ). others d (back_at (low two c) (suc t) (r + j)) (c t (zs t)) (turned two c (zs t) t) (low two c t) (us t)) (other_split (suc t) r j)
       ∙ ap (λ (b : List ℕ). others (other_run two c us zs fars (back_at (low two c) (suc t + r) j) (suc t) r) b (c t (zs t)) (turned two c (zs t) t) (low two c t) (us t)) (back_split (low two c) (suc t) r j))
+      ∙ ap (λ (x : ℕ). other_run two c us zs fars (back_at (low two c) x j) t (suc r)) (sym e)
 
   -- the cheaper price is the less of both
   pub low_both : (t z l : ℕ) → z ≤ bit (two t) → c t z l ≤ far → low two c t l ≡ min (c t z l) (turned two c z t l)

@@ -13,9 +13,9 @@ use lib.Seq.{get_or-take, get_or-set_same, get_or-set_other, length-take-le}
 use lib.Ieee.{Float, nan, binary32, of_int, in_float}
 use Rattle.ieee.specs.Value.{lo}
 use Rattle.ieee.specs.Rounding.{pow2}
-use Rattle.ieee.specs.Whole.{of_int_on}
+use Rattle.ieee.proofs.Whole.{of_int_on}
 use Rattle.best_grid.specs.Grid.{below}
-use Rattle.best_grid.specs.GridLaws.{none_capped}
+use Rattle.best_grid.proofs.GridLaws.{none_capped}
 use Rattle.best_grid.specs.Sides.{Upright}
 use Rattle.best_content.specs.Slots.{Marked, Lent}
 

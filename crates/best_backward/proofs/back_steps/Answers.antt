@@ -123,7 +123,7 @@ loop-left-preserved c =
     let test = tested.loop-left-test.true in
     let pos : 0 < left = omega arith in
     let r = run_more a.metrics.now a.sides.now a.bits.now a.uncoded.now a.b.now a.d.now a.at n left at.loop-left.b at.loop-left.d pos w inv.1 inv.2
-    kp.result tp.result lp.result c.back_step.new.0 c.back_step.new.1.0 (get_or a.bits.now k 0) refl (asked.second k) kp.ensures tp.ensures lp.ensures c.back_step.ensures.0 c.back_step.ensures.1 in
+    kp.result tp.result lp.result c.back_step.new.b c.back_step.new.d (get_or a.bits.now k 0) refl (asked.second k) kp.ensures tp.ensures lp.ensures c.back_step.ensures.0 c.back_step.ensures.1 in
     (omega arith, r.0, r.1)
 
 pub returns : goal.returns

@@ -1,7 +1,7 @@
 use mathlib.Core.Path.{ap, ◌∙◌}
 use Prim.Native.Nat.{ℕ, ◌-◌}
 use native.Mathlib.Omega.{arith}
-use Rattle.best_grid.specs.GridLaws.{cost_bounds}
+use Rattle.best_grid.proofs.GridLaws.{cost_bounds}
 use Rattle.best_backward.proofs.Priced.{mirror_cost}
 use Rattle.best_backward.proofs.mirror_of.Goals as goal
 

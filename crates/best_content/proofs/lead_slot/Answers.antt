@@ -25,6 +25,6 @@ returns c =
     let bs = c.back_steps in
     let nd = none-differs.none_differs-none in (
       bs.ensures.0,
-      differing_is a.table.now (λ d. other_run (two a.metrics.now a.sides.now) (price_at a.metrics.now a.sides.now) (seq a.bits.now) (seq a.uncoded.now) d a.b.now a.at a.count) nd.result bs.new.1.0 c.least_sum.result
+      differing_is a.table.now (λ d. other_run (two a.metrics.now a.sides.now) (price_at a.metrics.now a.sides.now) (seq a.bits.now) (seq a.uncoded.now) d a.b.now a.at a.count) nd.result bs.new.d c.least_sum.result
           nd.ensures bs.ensures.1 c.least_sum.ensures,
     )

@@ -29,10 +29,8 @@ returns c =
     let a = start.args in
     let p = start.requires in
     let e = part_length a.metrics.now a.a a.b p.0 p.1 in
-    let w = rw e at c.pass.ensures in (
-      w.0,
-      (
-        written_tail a.a a.decisions.now c.pass.new.1.1.0 (upto (word_at a.d.now (cost_at (quadruple (piece (4 * a.a) (4 * a.b) a.metrics.now)))) (a.b - a.a)) (let q = p.3 in let v = p.0 in omega arith) w.1,
-        written_tail a.at a.tables.now keep-table.keep_table.new.1.0 (upto (seq a.d.now) 64) (let q = p.2 in omega arith) keep-table.keep_table.ensures,
-      ),
-    )
+    let w = rw e at c.pass.ensures in record {
+      table = w.table;
+      words = written_tail a.a a.decisions.now c.pass.new.decisions (upto (word_at a.d.now (cost_at (quadruple (piece (4 * a.a) (4 * a.b) a.metrics.now)))) (a.b - a.a)) (let q = p.3 in let v = p.0 in omega arith) w.words;
+      kept = written_tail a.at a.tables.now keep-table.keep_table.new.tables (upto (seq a.d.now) 64) (let q = p.2 in omega arith) keep-table.keep_table.ensures;
+    }

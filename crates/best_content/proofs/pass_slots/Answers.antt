@@ -68,10 +68,10 @@ loop-k-preserved c =
     let g = pass-slot.pass_slot.ensures in
     let lt = inv.3 in
     let ta = p.1 in
-    let sv = saved_more a.d.now f a.marks.now k at.loop-k.tables _ at.loop-k.d (omega arith) inv.1 g.1.1 inv.4 in (
+    let sv = saved_more a.d.now f a.marks.now k at.loop-k.tables _ at.loop-k.d (omega arith) inv.1 g.kept inv.4 in (
       omega arith,
-      slot_table a.d.now a.metrics.now x y (omega arith) (omega arith) at.loop-k.d _ inv.1 g.0,
-      slot_words_lem a.d.now a.metrics.now x y (omega arith) (omega arith) at.loop-k.d at.loop-k.decisions a.decisions.now _ inv.1 inv.2 g.1.0,
+      slot_table a.d.now a.metrics.now x y (omega arith) (omega arith) at.loop-k.d _ inv.1 g.table,
+      slot_words_lem a.d.now a.metrics.now x y (omega arith) (omega arith) at.loop-k.d at.loop-k.decisions a.decisions.now _ inv.1 inv.2 g.words,
       sv.1 ∙ inv.3,
       sv.0,
     )
@@ -92,5 +92,8 @@ returns c = let at = c in
     let start = c in
     let e : at.loop-k.k ≡ start.args.slots = omega arith in
     let inv = rw e at at.loop-k.invariant in
-    let l = start.requires.0.last in
-    (rw l at inv.1, (rw l at inv.2, (inv.4, inv.3)))
+    let l = start.requires.0.last in record {
+      table = rw l at inv.1;
+      words = rw l at inv.2;
+      kept = (inv.4, inv.3);
+    }

@@ -30,14 +30,10 @@ returns c =
     let tr = trace.trace in
     let n = length a.metrics.now / 4 in
     let q = quadruple a.metrics.now in
-    let w = whole_words a.start q n st.result ps.new.1.1.1.1.1.0 a.decisions.now st.ensures ps.ensures.1.0 in
-    let e = whole_end a.start q n st.result ps.new.0 ch.result st.ensures ps.ensures.0 ch.ensures.1 in (
-      whole_bits a.start q n ps.new.1.1.1.1.1.0 _ a.bits.now ch.result w e p.4 tr.ensures,
-      (
-        (c.traced_start-s.ensures.0, whole_start_lem a.start q n ps.new.1.1.1.1.1.0 ch.result c.traced_start-s.result w e c.traced_start-s.ensures.1),
-        (
-          whole_cost a.start q n st.result ps.new.0 ch.result st.ensures ps.ensures.0 e,
-          (whole_saved a.start q n st.result a.marks.now ps.new.1.1.1.1.0 a.slots st.ensures ps.ensures.1.1.0, ps.ensures.1.1.1),
-        ),
-      ),
-    )
+    let w = whole_words a.start q n st.result ps.new.decisions a.decisions.now st.ensures ps.ensures.words in
+    let e = whole_end a.start q n st.result ps.new.d ch.result st.ensures ps.ensures.table ch.ensures.1 in record {
+      reads = whole_bits a.start q n ps.new.decisions _ a.bits.now ch.result w e p.4 tr.ensures;
+      starts = (c.traced_start-s.ensures.0, whole_start_lem a.start q n ps.new.decisions ch.result c.traced_start-s.result w e c.traced_start-s.ensures.1);
+      costs = whole_cost a.start q n st.result ps.new.d ch.result st.ensures ps.ensures.table e;
+      kept = (whole_saved a.start q n st.result a.marks.now ps.new.tables a.slots st.ensures ps.ensures.kept.0, ps.ensures.kept.1);
+    }

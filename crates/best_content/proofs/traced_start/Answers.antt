@@ -5,7 +5,7 @@ use native.Mathlib.Nat.{sub_self}
 use borrow.Author.Rules.{rules}
 use Rattle.trellis.specs.Step as trellis
 use Rattle.trellis.specs.Step.{back}
-use Rattle.trellis.specs.RunLaws.{back_more}
+use Rattle.trellis.proofs.RunLaws.{back_more}
 use Rattle.best_content.proofs.traced_start.Goals as goal
 
 pub loop-t-init : goal.loop-t-init

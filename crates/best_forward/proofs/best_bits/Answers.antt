@@ -4,7 +4,7 @@ use Prim.Native.Nat.{ℕ, ◌/◌}
 use lib.ListN.{length}
 use Rattle.trellis.specs.Lists.{laid}
 use Rattle.trellis.specs.Run.{quadruple}
-use Rattle.best_grid.specs.BestLaws.{best_reading}
+use Rattle.best_grid.proofs.BestLaws.{best_reading}
 use Rattle.best_forward.proofs.Passes.{start_room, traced_best}
 use Rattle.best_forward.proofs.best_bits.Goals as goal
 
@@ -21,9 +21,9 @@ returns c = let tr = c in
     let start = st in
     let a = start.args in
     let n = length a.metrics.now / 4 in
-    let q = quadruple a.metrics.now in (
-      tr.trace.ensures
+    let q = quadruple a.metrics.now in record {
+      reads = tr.trace.ensures
           ∙ ap (λ (x : List ℕ). laid x a.bits.now)
-          (traced_best a.start q n ch.cheapest_state-end.result st.start_table-first.result _ _ a.decisions.now st.start_table-first.ensures pa.pass.ensures.0 pa.pass.ensures.1 ch.cheapest_state-end.ensures.1),
-      best_reading a.start q n start.requires.0,
-    )
+          (traced_best a.start q n ch.cheapest_state-end.result st.start_table-first.result _ _ a.decisions.now st.start_table-first.ensures pa.pass.ensures.table pa.pass.ensures.words ch.cheapest_state-end.ensures.1);
+      greatest = best_reading a.start q n start.requires.0;
+    }

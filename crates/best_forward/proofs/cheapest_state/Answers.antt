@@ -1,7 +1,6 @@
 use borrow.Author.Tests.{le-leb, lt-leb}
 use mathlib.Core.Path.{◌≡◌, refl}
 use mathlib.Core.Bool.{Bool, true, false, cond}
-use mathlib.Core.Logic.{⊎_elim}
 use mathlib.Core.List.{List}
 use Prim.Native.Nat.{ℕ, suc, ◌+◌, ◌-◌, ◌≤◌}
 use native.Mathlib.Omega.{arith}
@@ -9,6 +8,7 @@ use lib.Dec.{leb}
 use lib.ListN.{get_or}
 use Rattle.best_grid.specs.Costs.{cheapest}
 use Rattle.best_forward.proofs.cheapest_state.Goals as goal
+use Rattle.best_forward.proofs.cheapest_state.Goals.{then-d-s, else-d-s}
 
 -- the best of one state more
 more : (d : List ℕ) (b s : ℕ) (t : Bool) → 1 ≤ s → b ≡ cheapest d (s - 1) → leb (get_or d s 0) (get_or d b 0) ≡ t → cond t s b ≡ cheapest d (s + 1 - 1)
@@ -28,10 +28,10 @@ loop-s-preserved c = let at = c in
     let d = at.args.d.now in
     let b = at.loop-s.best in
     let s = at.loop-s.s in
-    ⊎_elim
-    (λ w. rw w.1 (omega arith, omega arith, omega arith, more d b s true inv.0 inv.3 (le-leb (get_or d s 0) (get_or d b 0) w.0.true)))
-    (λ w. rw w.1 (omega arith, omega arith, omega arith, more d b s false inv.0 inv.3 (lt-leb (get_or d s 0) (get_or d b 0) w.0.left)))
-    c.if-d-s.branch-raw
+    elim c.if-d-s.branch [
+      | then-d-s w ↦ rw w.best-is (omega arith, omega arith, omega arith, more d b s true inv.0 inv.3 (le-leb (get_or d s 0) (get_or d b 0) w.if-d-s.true))
+      | else-d-s w ↦ rw w.best-is (omega arith, omega arith, omega arith, more d b s false inv.0 inv.3 (lt-leb (get_or d s 0) (get_or d b 0) w.if-d-s.false))
+    ]
 
 pub returns : goal.returns
 returns c = let at = c in

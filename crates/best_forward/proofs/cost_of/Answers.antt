@@ -3,9 +3,9 @@ use mathlib.Core.Path.{sym, ap, ◌∙◌, subst}
 use native.Mathlib.Omega.{arith}
 use lib.Dec.{T}
 use lib.Ieee.Compare.{differs_from_itself}
-use Rattle.ieee.specs.Bits.{number}
+use Rattle.ieee.proofs.Bits.{number}
 use Rattle.best_grid.specs.Grid.{cost}
-use Rattle.best_grid.specs.Patterns.{cost_nan, cost_plus, cost_minus, units_at_most}
+use Rattle.best_grid.proofs.Patterns.{cost_nan, cost_plus, cost_minus, units_at_most}
 use Rattle.best_forward.proofs.cost_of.Goals as goal
 
 pub returns-then-x : goal.returns-then-x

@@ -2,7 +2,7 @@ use mathlib.Core.Path.{◌∙◌}
 use Prim.Native.Nat.{◌+◌, ◌*◌, ◌%◌}
 use native.Mathlib.Omega.{arith}
 use Rattle.trellis.specs.Code.{isdb}
-use Rattle.trellis.specs.RunLaws.{label_under}
+use Rattle.trellis.proofs.RunLaws.{label_under}
 use Rattle.best_grid.specs.Butterfly.{label_by_sum}
 use Rattle.best_forward.proofs.number.Goals as goal
 

@@ -57,4 +57,4 @@ shape_of-decisions c = let at = c in
 pub returns : goal.returns
 returns c = let at = c in
     let e : at.loop-k.k ≡ length at.args.metrics.now / 4 = omega arith in
-    ((rw e at at.loop-k.invariant).1, (rw e at at.loop-k.invariant).2)
+    record { table = (rw e at at.loop-k.invariant).1; words = (rw e at at.loop-k.invariant).2 }

@@ -14,9 +14,7 @@ zeros = refl
 
 pub returns-in-Given : goal.returns-in-Given
 unfolding begun
-returns-in-Given c = let k = c.start-1.given in
-    set_replicate 64 (k.0.0 % 64) ruled 0 (omega arith) ∙ sym (ap start_table k.1)
+returns-in-Given c = set_replicate 64 (c.in-Given.s % 64) ruled 0 (omega arith) ∙ sym (ap start_table c.in-Given.is)
 
 pub returns-in-Unknown : goal.returns-in-Unknown
-returns-in-Unknown c = let k = c.enum_told-1.given in
-    zeros ∙ sym (ap start_table k.1)
+returns-in-Unknown c = zeros ∙ sym (ap start_table c.in-Unknown.is)

@@ -2,7 +2,7 @@ use mathlib.Core.Path.{sym, ◌∙◌}
 use Prim.Native.Nat.{◌+◌, ◌-◌, ◌/◌, ◌%◌, ◌^◌, ◌<◌}
 use native.Mathlib.Omega.{arith}
 use lib.Pow.{shl_exact}
-use Rattle.best_grid.specs.Patterns.{units_none, units_inf, units_most, units_down, units_up}
+use Rattle.best_grid.proofs.Patterns.{units_none, units_inf, units_most, units_down, units_up}
 use borrow.Author.Rules.{rules}
 use Rattle.best_forward.proofs.units.Goals as goal
 

@@ -7,7 +7,7 @@ use lib.ListN.{length, get_or, set}
 use Rattle.trellis.specs.Lists.{upto}
 use Rattle.trellis.specs.LaidLaws.{laid_upto, length_laid_upto}
 use Rattle.trellis.specs.Code.{isdb, state_at}
-use Rattle.trellis.specs.RunLaws.{label_under}
+use Rattle.trellis.proofs.RunLaws.{label_under}
 use Rattle.best_grid.specs.Sides.{chosen}
 use Rattle.best_uncoded.proofs.write_uncoded.Goals as goal
 

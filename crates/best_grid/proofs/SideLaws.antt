@@ -7,17 +7,18 @@ use Prim.Native.Nat.{ℕ, zero, suc, ◌+◌, ◌/◌, ◌%◌, ◌^◌, ◌≤�
 use native.Mathlib.Omega.{arith}
 use Rattle.std.proofs.Math.ListN.{get_or}
 use Rattle.std.specs.Float.Ieee.{Float, nan}
-use Rattle.ieee.specs.Whole.{hi_z, lo_z, parts}
+use Rattle.ieee.specs.Whole.{hi_z, lo_z}
+use Rattle.ieee.proofs.Whole.{parts}
 use Rattle.trellis.specs.Code.{isdb, state_at}
 use Rattle.trellis.specs.Isdb
 use Rattle.trellis.specs.Lists.{bit}
 use Rattle.trellis.specs.Run.{quadruple}
-use Rattle.trellis.specs.RunLaws.{label_under}
+use Rattle.trellis.proofs.RunLaws.{label_under}
 use Rattle.path_greatest.specs.Paths.{sumℤ}
 use Rattle.path_greatest.specs.Viterbi.{Le}
-use Rattle.path_greatest.specs.Integers.{parts_of_lem, le_val, neg_parts}
+use Rattle.path_greatest.proofs.Integers.{parts_of_lem, le_val, neg_parts}
 use Rattle.best_grid.specs.Grid.{level, dearest, below, grid, cost, grid_at, cost_at}
-use Rattle.best_grid.specs.GridLaws.{cost_is, cost_bounds, above_most, below_most, grid_parts}
+use Rattle.best_grid.proofs.GridLaws.{cost_is, cost_bounds, above_most, below_most, grid_parts}
 use Rattle.best_grid.specs.Backward.{low}
 use Rattle.best_grid.specs.Contents.{worth}
 use Rattle.best_grid.specs.Sides.{mirror, two, better, worth_at, price_at, chosen_at, chosen}

@@ -8,9 +8,9 @@ use Rattle.path_greatest.specs.Fresh.{StartsIn}
 use Rattle.path_greatest.specs.declared.Start.{Start}
 use Rattle.path_greatest.specs.declared.Start.TheVariants.{Given, Unknown}
 use Rattle.best_grid.specs.Grid.{grid_at, cost_at}
-use Rattle.best_grid.specs.GridLaws.{costed}
+use Rattle.best_grid.proofs.GridLaws.{costed}
 use Rattle.best_grid.specs.Costs.{table_at, word_at, begun, anywhere, ruled, paid}
-use Rattle.best_grid.specs.Readings.{known_reading, any_reading, known_found, any_found, known_paid, any_paid, begun_here, begun_only, anywhere_zero}
+use Rattle.best_grid.proofs.Readings.{known_reading, any_reading, known_found, any_found, known_paid, any_paid, begun_here, begun_only, anywhere_zero}
 use Rattle.best_grid.specs.Best.{start_table, best_words, best_end, best_bits, best_start}
 
 -- its bits are the inputs of the first path of greatest sum on the grid, among all paths of the n steps: `Reading.best`; and there is no other: `Reading.only`

@@ -6,15 +6,15 @@ use Rattle.trellis.specs.Lists.{upto, packed}
 use Rattle.trellis.specs.ListLaws.{length_upto, get_d_upto}
 use Rattle.trellis.specs.LaidLaws.{upto_cong}
 use Rattle.trellis.specs.WrittenLaws.{lt_or_ge}
-use Rattle.trellis.specs.RunLaws.{label_under}
+use Rattle.trellis.proofs.RunLaws.{label_under}
 use Rattle.trellis.specs.Code.{isdb}
 use Rattle.trellis.specs.Isdb
 use Rattle.path_greatest.specs.declared.Start.{Start}
 use Rattle.path_greatest.specs.declared.Start.TheVariants.{Given, Unknown}
 use Rattle.best_grid.specs.Grid.{dearest, cost}
-use Rattle.best_grid.specs.GridLaws.{cost_bounds}
+use Rattle.best_grid.proofs.GridLaws.{cost_bounds}
 use Rattle.best_grid.specs.Costs.{through, next, nexts, odd, word, table_at, cheapest, ruled, begun}
-use Rattle.best_grid.specs.Readings.{anywhere_zero}
+use Rattle.best_grid.proofs.Readings.{anywhere_zero}
 use Rattle.best_grid.specs.Best.{start_table}
 
 -- ---- costs that agree on the labels

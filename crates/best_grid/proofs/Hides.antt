@@ -7,16 +7,17 @@ use native.Mathlib.Omega.{arith}
 use Rattle.std.proofs.Math.ListN.{get_or}
 use Rattle.std.specs.Float.Ieee.{nan, binary32}
 use Rattle.ieee.specs.Value.{hi, lo}
-use Rattle.ieee.specs.Whole.{hi_z, lo_z, parts}
+use Rattle.ieee.specs.Whole.{hi_z, lo_z}
+use Rattle.ieee.proofs.Whole.{parts}
 use Rattle.trellis.specs.Code.{label_at, state_at}
-use Rattle.trellis.specs.RunLaws.{label_under}
+use Rattle.trellis.proofs.RunLaws.{label_under}
 use Rattle.trellis.specs.Code.{isdb}
 use Rattle.trellis.specs.Isdb
 use Rattle.path_greatest.specs.Paths.{Path, sumℤ, Reading}
 use Rattle.path_greatest.specs.Viterbi.{Z, plus, Le, sum}
-use Rattle.path_greatest.specs.Integers.{Val, le_parts}
+use Rattle.path_greatest.proofs.Integers.{Val, le_parts}
 use Rattle.best_grid.specs.Grid.{unit, most, above, below, grid, grid_at}
-use Rattle.best_grid.specs.GridLaws.{grid_parts, capped, cut}
+use Rattle.best_grid.proofs.GridLaws.{grid_parts, capped, cut}
 
 -- the metric of the label l at step t in units of 2 ^ -149, exactly; and its parts on the grid
 abbrev pub exact_at : (ℕ → List Float) → ℕ → ℕ → Z

@@ -9,7 +9,7 @@ use Rattle.ieee.specs.Rounding.{le_or_ge}
 use Rattle.best_grid.specs.Grid.{dearest}
 use Rattle.best_grid.specs.Costs.{table_at}
 use Rattle.best_grid.specs.Backward.{far, low, other_at, least_of}
-use Rattle.best_grid.specs.Sequences.{state_f, Fine, state_under, put, put_here, put_fine, spent, ahead, split, other_least, other_met, table_least, table_met, ahead_alike, spent_alike, state_alike}
+use Rattle.best_grid.proofs.Sequences.{state_f, Fine, state_under, put, put_here, put_fine, spent, ahead, split, other_least, other_met, table_least, table_met, ahead_alike, spent_alike, state_alike}
 
 -- ---- the least of a list of sums
 pub least_under : (a d : List ℕ) (n s : ℕ) → s < n → least_of a d n ≤ get_or a s 0 + get_or d s 0

@@ -8,22 +8,23 @@ use Rattle.trellis.specs.ListLaws.{length_upto, get_d_upto}
 use Rattle.trellis.specs.Run.{quadruple}
 use Rattle.trellis.specs.Isdb
 use Rattle.path_greatest.specs.Paths.{First, sumℤ}
-use Rattle.path_greatest.specs.Greatest.{one_first}
-use Rattle.path_greatest.specs.Integers.{≤ℤ-antisymm}
+use Rattle.path_greatest.proofs.Greatest.{one_first}
+use Rattle.path_greatest.proofs.Integers.{≤ℤ-antisymm}
 use Rattle.path_greatest.specs.Fresh.{StartsIn}
 use Rattle.path_greatest.specs.declared.Start.{Start}
 use Rattle.best_grid.specs.Grid.{grid_at, cost_at}
 use Rattle.best_grid.specs.Costs.{table_at, paid}
 use Rattle.best_grid.specs.Best.{start_table, best_end, best_bits, best_start}
-use Rattle.best_grid.specs.BestLaws.{best_found, best_paid, starts_zero, starts_only}
+use Rattle.best_grid.proofs.BestLaws.{best_found, best_paid, starts_zero, starts_only}
 use Rattle.best_grid.specs.Contents.{Content, worth, Leads}
 use Rattle.best_grid.specs.Sides.{two, worth_at, price_at, chosen}
-use Rattle.best_grid.specs.SideLaws.{priced, price_small, Upright, low_is, worth_total, worth_under, chosen_small, price_chosen}
-use Rattle.best_grid.specs.TableLaws.{table_alike, cheapest_least}
+use Rattle.best_grid.proofs.SideLaws.{priced, price_small, Upright, low_is, worth_total, worth_under, chosen_small, price_chosen}
+use Rattle.best_grid.proofs.TableLaws.{table_alike, cheapest_least}
 use Rattle.best_grid.specs.Backward.{low, back_at, other_at, other_run, fars, least_of}
 use Rattle.best_grid.specs.RunLaws.{other_split}
-use Rattle.best_grid.specs.Sequences.{spent}
-use Rattle.best_grid.specs.Leading.{seq, state_same, greatest, leads}
+use Rattle.best_grid.proofs.Sequences.{spent}
+use Rattle.best_grid.specs.Leading.{seq}
+use Rattle.best_grid.proofs.Leading.{state_same, greatest, leads}
 use Rattle.best_content.specs.Slots.{Marked, Saved, lead_at, piece}
 use Rattle.best_content.specs.Found.{Found}
 

@@ -13,7 +13,7 @@ use Rattle.trellis.specs.ListLaws.{get_d_upto}
 use Rattle.trellis.specs.Code.{moved}
 use Rattle.trellis.specs.Isdb
 use Rattle.ieee.specs.Rounding.{le_or_ge}
-use Rattle.path_greatest.specs.Greatest.{bit_cases}
+use Rattle.path_greatest.proofs.Greatest.{bit_cases}
 use Rattle.best_grid.specs.Grid.{dearest}
 use Rattle.best_grid.specs.Costs.{through, next, nexts, table_at}
 use Rattle.best_grid.specs.Backward.{far, low, turned, onward, backs, back_at, others, other_at}

@@ -6,12 +6,12 @@ use Prim.Native.Nat.{ℕ, zero, suc, ◌+◌, ◌*◌, ◌/◌, ◌%◌, ◌^◌
 use native.Mathlib.Omega.{arith}
 use Rattle.trellis.specs.Lists.{bit}
 use Rattle.trellis.specs.ListLaws.{length_upto, get_d_upto, packed_bit}
-use Rattle.trellis.specs.RunLaws.{label_under}
+use Rattle.trellis.proofs.RunLaws.{label_under}
 use Rattle.trellis.specs.Code.{isdb}
 use Rattle.trellis.specs.Step.{upper}
 use Rattle.trellis.specs.Isdb
 use Rattle.path_greatest.specs.Viterbi.{Z, cand_z, wins_z, next_z, value, decision, best_z}
-use Rattle.path_greatest.specs.Greatest.{best_under}
+use Rattle.path_greatest.proofs.Greatest.{best_under}
 use Rattle.best_grid.specs.Grid.{level}
 use Rattle.best_grid.specs.Costs.{through, next, nexts, odd, word, table_at, word_at, cheapest}
 

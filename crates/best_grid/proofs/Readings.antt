@@ -11,19 +11,19 @@ use Rattle.trellis.specs.WrittenLaws.{lt_or_ge}
 use Rattle.ieee.specs.Whole.{hi_z, lo_z}
 use Rattle.trellis.specs.Lists.{bit, upto}
 use Rattle.trellis.specs.ListLaws.{length_upto, get_d_upto}
-use Rattle.trellis.specs.RunLaws.{label_under}
+use Rattle.trellis.proofs.RunLaws.{label_under}
 use Rattle.trellis.specs.Code.{isdb, state_at, label_at}
 use Rattle.trellis.specs.Step.{upper, input, back}
 use Rattle.trellis.specs.Isdb
 use Rattle.path_greatest.specs.Paths.{Walk, sumℤ, Best, Any, This, Reading}
 use Rattle.path_greatest.specs.Viterbi.{Z, sum, decision, inputs, origin}
-use Rattle.path_greatest.specs.Greatest.{Greatest, greatest, end, end_under, inputs_length, traced}
-use Rattle.path_greatest.specs.Decoded.{back_start, back_input}
-use Rattle.path_greatest.specs.Integers.{parts_of_lem, sum_val, le_val, same_val}
-use Rattle.path_greatest.specs.Starts.{the_reading}
+use Rattle.path_greatest.proofs.Greatest.{Greatest, greatest, end, end_under, inputs_length, traced}
+use Rattle.path_greatest.proofs.Decoded.{back_start, back_input}
+use Rattle.path_greatest.proofs.Integers.{parts_of_lem, sum_val, le_val, same_val}
+use Rattle.path_greatest.proofs.Starts.{the_reading}
 use Rattle.best_grid.specs.Grid.{level, most}
 use Rattle.best_grid.specs.Costs.{table_at, word_at, cheapest, ruled, begun, anywhere, paid}
-use Rattle.best_grid.specs.CostLaws.{tracks, said, ends}
+use Rattle.best_grid.proofs.CostLaws.{tracks, said, ends}
 
 -- of n steps the costs c are levels less the whole numbers g, which lie within the largest metric
 pub record Costed (g : ℕ → ℕ → ℤ) (c : ℕ → ℕ → ℕ) (n : ℕ) : Type 0 where

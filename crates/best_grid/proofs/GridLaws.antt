@@ -5,11 +5,12 @@ use Rattle.std.proofs.Math.Nat.{lt-div-mul-add, zero-div}
 use Rattle.std.specs.Float.{nan, binary32}
 use Rattle.std.specs.Float.Ieee.{minus, of_bits}
 use Rattle.std.specs.Float.Ieee.Exact.{HasValue, units_val}
-use Rattle.ieee.specs.Bits.{units_bits}
+use Rattle.ieee.proofs.Bits.{units_bits}
 use Rattle.ieee.specs.Value.{hi, lo}
 use Rattle.ieee.specs.Whole.{hi_z, lo_z}
 use Rattle.best_grid.specs.Grid.{unit, most, level, above, below, grid, cost, grid_at, cost_at}
-use Rattle.best_grid.specs.Readings.{Costed}
+use Rattle.best_grid.proofs.Readings.{Costed}
+use Rattle.best_grid.specs.Patterns.{magnitude}
 
 -- ---- costs
 record Minus (a b : ℕ) (z : ℤ) : Type 0 where
@@ -71,10 +72,6 @@ unfolding cost
 cost_bounds x = let a = above_most x in let b = below_most x in (omega arith, omega arith)
 
 -- ---- bit patterns
--- the magnitude of the pattern b, without its sign, in units of 2 ^ -149; the infinity has none
-unfoldable pub magnitude : ℕ → ℕ
-magnitude b = cond (ltb b 0x7f80_0000) (cond (ltb b 0x100_0000) b ((b % 0x80_0000 + 0x80_0000) * 2 ^ (b / 0x80_0000 - 1))) 0
-
 pub pattern_value : (s : Bool) (b : ℕ) → b < 0x7f80_0000 → HasValue (of_bits binary32 (cond s 0x8000_0000 0 + b)) s (magnitude b) (2 ^ 149)
 unfolding magnitude
 pattern_value s b h = go (ltb b 0x7f80_0000) refl (ltb b 0x100_0000) refl

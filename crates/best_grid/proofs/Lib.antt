@@ -1,0 +1,12 @@
+pub mod BestLaws
+pub mod CostLaws
+pub mod Examples
+pub mod Gaps
+pub mod GridLaws
+pub mod Hides
+pub mod Readings
+pub mod Sequences
+pub mod SideLaws
+pub mod TableLaws
+pub mod Leading
+pub mod Patterns
