@@ -18,7 +18,7 @@ use Rattle.isdbs_points.specs.AmongLaws.{steps_to, valid_to}
 use Rattle.isdbs_metrics.specs.FrameRunLaws.{RunAt, Listed, run_first, run_next, run_last, next_valid, valid_fit, all_valid}
 use Rattle.best_sides.specs.Filled.{Filled, filled_none, filled_more}
 use Rattle.best_loads.specs.Marks.{mark_in, mark_at, frame_marks}
-use Rattle.best_loads.specs.MarkLaws.{mark_own, mark_later, mark_last}
+use Rattle.best_loads.proofs.MarkLaws.{mark_own, mark_later, mark_last}
 
 -- the slots of run i begin each a slot's steps after the other
 mark_run : (rs : List Run) (i k : ℕ) → i < length rs → k < (get_or rs i no_run).valid_slots → mark_in rs (valid_to rs i + k) ≡ steps_to rs i + slot_steps (get_or rs i no_run).combination * k

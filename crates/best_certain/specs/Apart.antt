@@ -8,22 +8,23 @@ use Prim.Native.Nat.{ℕ, zero, suc, ◌+◌, ◌-◌, ◌≤◌, ◌<◌}
 use native.Mathlib.Omega.{arith}
 use Rattle.std.proofs.lemmas.Bool.{eqb-false}
 use Rattle.std.specs.Float.{nan}
-use Rattle.ieee.specs.Whole.{hi_z, lo_z, parts}
+use Rattle.ieee.specs.Whole.{hi_z, lo_z}
+use Rattle.ieee.proofs.Whole.{parts}
 use Rattle.trellis.specs.Lists.{bit}
 use Rattle.trellis.specs.Run.{quadruple}
 use Rattle.trellis.specs.Code.{state_at, isdb}
-use Rattle.trellis.specs.RunLaws.{label_under}
+use Rattle.trellis.proofs.RunLaws.{label_under}
 use Rattle.trellis.specs.Isdb
 use Rattle.path_lead.specs.Complement.{complement}
-use Rattle.path_greatest.specs.Greatest.{at_under}
+use Rattle.path_greatest.proofs.Greatest.{at_under}
 use Rattle.path_greatest.specs.Viterbi.{Z, plus}
-use Rattle.path_greatest.specs.Integers.{Val, le_val}
+use Rattle.path_greatest.proofs.Integers.{Val, le_val}
 use Rattle.best_grid.specs.Grid.{above, below, grid}
-use Rattle.best_grid.specs.GridLaws.{grid_parts}
+use Rattle.best_grid.proofs.GridLaws.{grid_parts}
 use Rattle.best_grid.specs.Sides.{two, better, worth_at}
-use Rattle.best_grid.specs.SideLaws.{Upright}
+use Rattle.best_grid.proofs.SideLaws.{Upright}
 use Rattle.best_grid.specs.Contents.{Content, worth}
-use Rattle.best_grid.specs.Sequences.{turned_bit}
+use Rattle.best_grid.proofs.Sequences.{turned_bit}
 use Rattle.best_certain.specs.Gaps.{least}
 
 -- ---- what a step is worth, as a difference

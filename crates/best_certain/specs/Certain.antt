@@ -8,7 +8,7 @@ use Rattle.std.proofs.Math.ListN.{get_or}
 use Rattle.std.specs.Float.{nan, binary32}
 use Rattle.ieee.specs.Order.{le→value}
 use Rattle.trellis.specs.Code.{state_at, isdb}
-use Rattle.trellis.specs.RunLaws.{label_under}
+use Rattle.trellis.proofs.RunLaws.{label_under}
 use Rattle.trellis.specs.Isdb
 use Rattle.path_greatest.specs.Fresh.{StartsIn}
 use Rattle.path_greatest.specs.declared.Start.TheVariants.{Given}
@@ -34,9 +34,9 @@ use Rattle.best_sides.specs.FrameSides.{frame_metrics, frame_sides, side_by}
 use Rattle.best_sides.specs.FrameLaws.{quadruple_is, frame_upright, frame_held, chosen_uncoded}
 use Rattle.best_loads.specs.Fit.{fit, Sent, LeadsIn, BestReading}
 use Rattle.best_loads.specs.Held.{uncoded_bits, uncoded_by}
-use Rattle.best_loads.specs.FitLaws.{beside_at, none_beside, load_worth, load_content}
-use Rattle.best_loads.specs.HeldLaws.{load_only}
-use Rattle.best_loads.specs.OnlyLaws.{below_same, no_gain, ≤ℤ-trans}
+use Rattle.best_loads.proofs.FitLaws.{beside_at, none_beside, load_worth, load_content}
+use Rattle.best_loads.proofs.HeldLaws.{load_only}
+use Rattle.best_loads.proofs.OnlyLaws.{below_same, no_gain, ≤ℤ-trans}
 use Rattle.best_certain.specs.Gaps.{least, grid_ordered, grid_apart}
 use Rattle.best_certain.specs.Apart.{Ahead, apart}
 

@@ -8,7 +8,7 @@ use Rattle.ieee.specs.Order.{Le}
 use Rattle.ieee.specs.Rounding.{pow2, pow2_is, pow2_add}
 use Rattle.path_lead.specs.Favour.{Above, margin}
 use Rattle.best_grid.specs.Grid.{unit, most, above, below}
-use Rattle.best_grid.specs.GridLaws.{capped}
+use Rattle.best_grid.proofs.GridLaws.{capped}
 
 -- by how much a load leads within its margins, at least: the margin of 7 in units of 2 ^ -20, less one for the cuts
 abbrev pub least : ℕ

@@ -23,10 +23,10 @@ use Rattle.best_sides.specs.FrameLaws.{frame_upright}
 use Rattle.best_content.specs.Slots as content
 use Rattle.best_content.specs.Found.{Found}
 use Rattle.best_loads.specs.Marks.{mark_at, frame_marks}
-use Rattle.best_loads.specs.MarkLaws.{marked_of}
+use Rattle.best_loads.proofs.MarkLaws.{marked_of}
 use Rattle.best_loads.specs.Held.{load_of, held_bit}
-use Rattle.best_loads.specs.HeldLaws.{content_inputs, content_uncoded, content_bits, content_twos}
-use Rattle.best_loads.specs.LoadLaws.{best_reading}
+use Rattle.best_loads.proofs.HeldLaws.{content_inputs, content_uncoded, content_bits, content_twos}
+use Rattle.best_loads.proofs.LoadLaws.{best_reading}
 use Rattle.best_frame.specs.declared.Lengths.{Lengths}
 use Rattle.best_frame.specs.Lent.{Lent, lent, lengths}
 use Rattle.best_frame.specs.Left.{Room, Just, Reads, Left}

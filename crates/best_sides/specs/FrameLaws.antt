@@ -23,13 +23,13 @@ use Rattle.isdbs_metrics.specs.Reading.{Received, metrics_in, metrics_at, uncode
 use Rattle.range_metrics.specs.Metrics.{Sized, metric_in, metrics_up}
 use Rattle.range_metrics.specs.Rising.{Up}
 use Rattle.best_grid.specs.Grid.{unit, most, below}
-use Rattle.best_grid.specs.Hides.{Held}
-use Rattle.best_grid.specs.GridLaws.{none_capped}
+use Rattle.best_grid.proofs.Hides.{Held}
+use Rattle.best_grid.proofs.GridLaws.{none_capped}
 use Rattle.best_grid.specs.Sides.{chosen_at, chosen}
-use Rattle.trellis.specs.RunLaws.{label_under}
+use Rattle.trellis.proofs.RunLaws.{label_under}
 use Rattle.trellis.specs.Code.{isdb, state_at}
 use Rattle.isdbs_points.specs.Frame.{label_at}
-use Rattle.best_grid.specs.SideLaws.{Upright}
+use Rattle.best_grid.proofs.SideLaws.{Upright}
 use Rattle.best_sides.specs.FrameSides.{frame_metrics, better_in, side_by, side_in, side_at, frame_sides}
 
 -- ---- the flat list in fours

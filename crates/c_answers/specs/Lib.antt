@@ -1,4 +1,3 @@
 pub mod Answers
 pub mod AnswerLaws
 pub mod Lengths
-pub mod LengthLaws

@@ -6,13 +6,13 @@ use lib.ListN.{length}
 use lib.Ieee.{Float}
 use Rattle.refusal.specs.declared.Answer.{Answer}
 use Rattle.refusal.specs.Rows.{Row, number_of, first_row, Either}
-use Rattle.refusal.specs.RowLaws.{zero_accepted}
+use Rattle.refusal.proofs.RowLaws.{zero_accepted}
 use Rattle.isdbs_tables.specs.declared.Table.{Table}
 use Rattle.isdbs_tables.specs.Tables.{table_rows}
-use Rattle.isdbs_tables.specs.TableLaws.{table_refusing}
+use Rattle.isdbs_tables.proofs.TableLaws.{table_refusing}
 use Rattle.c_answers.specs.Answers.{answered}
 use Rattle.c_answers.specs.Lengths.{until_length}
-use Rattle.c_answers.specs.LengthLaws.{until_refuses}
+use Rattle.c_answers.proofs.LengthLaws.{until_refuses}
 use Rattle.c_scales.specs.Scales.{with_scales}
 use Rattle.c_scales.specs.ScaleLaws.{seven_rows, not_seven}
 

@@ -8,7 +8,7 @@ use lib.Ieee.{Float, nan}
 use borrow.Author.Tests.{eq-eqb, ne_eqb}
 use Rattle.refusal.specs.declared.Answer.{Answer}
 use Rattle.refusal.specs.Rows.{number_of, accepted, first_row, Said}
-use Rattle.refusal.specs.RowLaws.{zero_accepted, says_number, said_some}
+use Rattle.refusal.proofs.RowLaws.{zero_accepted, says_number, said_some}
 use Rattle.trellis.specs.Lists.{laid, upto}
 use Rattle.trellis.specs.ListLaws.{length_upto, get_d_upto}
 use Rattle.isdbs_tables.specs.declared.Table as tmcc
@@ -24,7 +24,7 @@ use Rattle.isdbs_metrics.specs.Scales.{received_by}
 use Rattle.strain_marks.specs.Strain.{strain_counts, strain_sum}
 use Rattle.exact_frame.specs.Frames.{encoded_within}
 use Rattle.exact_frame.specs.Call.{eights, ReadsBack, exactly, short}
-use Rattle.exact_frame.specs.CallLaws.{read_back}
+use Rattle.exact_frame.proofs.CallLaws.{read_back}
 use Rattle.c_answers.specs.Answers.{answered, left}
 use Rattle.c_exact.specs.Call.{Lays, ReadsBackC, exactly-c, short-c, ExactC, WithinLaid}
 

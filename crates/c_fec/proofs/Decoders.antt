@@ -11,7 +11,7 @@ use lib.Ieee.{Float}
 use borrow.Author.Tests.{eq-eqb, ne_eqb, eqb-true, eqb-false}
 use Rattle.refusal.specs.declared.Answer.TheVariants.{Accepted}
 use Rattle.refusal.specs.Rows.{Row, number_of, first_row, Either}
-use Rattle.refusal.specs.RowLaws.{zero_accepted}
+use Rattle.refusal.proofs.RowLaws.{zero_accepted}
 use Rattle.trellis.specs.Run.{Decoder}
 use Rattle.isdb_fec.specs.declared.conv.ViterbiDecoder.{ViterbiDecoder}
 use Rattle.isdb_fec.specs.declared.conv.Released.{Released}
@@ -19,7 +19,7 @@ use Rattle.isdb_fec.specs.Calls.{Leaves, Emits, Unchanged}
 use Rattle.c_answers.specs.Answers.{answered, left}
 use Rattle.c_answers.specs.Lengths.{with_states}
 use Rattle.c_decoder.specs.Decoders.{decoder_of, Stored, Emitted}
-use Rattle.c_answers.specs.LengthLaws.{states_answer}
+use Rattle.c_answers.proofs.LengthLaws.{states_answer}
 
 module _ (v : ViterbiDecoder) (r : Released) (n : ℕ) (pm : List Float) (held count₀ count : ℕ) (decisions₀ decisions out₀ out : List ℕ)
     (en : n ≡ number_of r.answer) (ep : pm ≡ left n r.dec.pm v.pm) (eh : held ≡ left n r.dec.held v.held) (ec : count ≡ left n r.count count₀) where

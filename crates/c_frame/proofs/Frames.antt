@@ -6,7 +6,7 @@ use lib.ListN.{get_or}
 use Rattle.refusal.specs.declared.Answer.{Answer}
 use Rattle.refusal.specs.declared.Answer.TheVariants.{Accepted}
 use Rattle.refusal.specs.Rows.{number_of}
-use Rattle.refusal.specs.RowLaws.{said_some, said_none}
+use Rattle.refusal.proofs.RowLaws.{said_some, said_none}
 use Rattle.isdbs_tables.specs.declared.Table.{Table}
 use Rattle.isdbs_plan.specs.RunsOf.{frame_steps, load_bytes}
 use Rattle.isdbs_phy.specs.declared.demod.FrameDecoded.{FrameDecoded}

@@ -6,7 +6,7 @@ use Rattle.std.specs.Int.{w32}
 use Rattle.trellis.specs.ListLaws.{every, every_at}
 use Rattle.refusal.specs.declared.Answer.{Answer}
 use Rattle.refusal.specs.declared.Answer.TheVariants.{Symbols}
-use Rattle.header_sync.specs.FitLaws.{fit_most}
+use Rattle.header_sync.proofs.FitLaws.{fit_most}
 use Rattle.header_find.specs.declared.Header.{Header}
 use Rattle.header_find.specs.declared.HeaderAnswer.{HeaderAnswer}
 use Rattle.header_find.specs.declared.HeaderAnswer.TheVariants as read

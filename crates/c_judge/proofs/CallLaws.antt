@@ -8,7 +8,7 @@ use lib.Ieee.{Float}
 use Rattle.trellis.specs.Lists.{laid}
 use Rattle.refusal.specs.declared.Answer.{Answer}
 use Rattle.refusal.specs.Rows.{number_of, first_row, Either}
-use Rattle.refusal.specs.RowLaws.{zero_accepted, said_some, said_none}
+use Rattle.refusal.proofs.RowLaws.{zero_accepted, said_some, said_none}
 use Rattle.isdbs_tables.specs.declared.Table.{Table}
 use Rattle.isdbs_points.specs.declared.Mapping.{Mapping}
 use Rattle.judge_points.specs.Outside.{outside_counts, outside_sum}

@@ -4,7 +4,7 @@ use mathlib.Core.List.{List}
 use Prim.Native.Nat.{ℕ}
 use native.Mathlib.Omega.{arith}
 use Rattle.refusal.specs.Rows.{number_of}
-use Rattle.refusal.specs.RowLaws.{zero_accepted, same_number}
+use Rattle.refusal.proofs.RowLaws.{zero_accepted, same_number}
 use Rattle.refusal.specs.declared.Answer.TheVariants.{Unmendable}
 use Rattle.mend.specs.declared.Mended.{Mended}
 use Rattle.mend.specs.Calls.{Called}

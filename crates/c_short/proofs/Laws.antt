@@ -10,7 +10,7 @@ use borrow.Author.Tests.{eqb-true, eqb-false}
 use Rattle.refusal.specs.declared.Answer.{Answer}
 use Rattle.refusal.specs.declared.Answer.TheVariants as answer
 use Rattle.refusal.specs.Rows.{Row, number_of, first_row, Either}
-use Rattle.refusal.specs.RowLaws.{zero_accepted}
+use Rattle.refusal.proofs.RowLaws.{zero_accepted}
 use Rattle.trellis.specs.Run.{Decoder}
 use Rattle.isdb_fec.specs.declared.conv.ViterbiDecoder.{ViterbiDecoder}
 use Rattle.isdb_fec.specs.declared.conv.Released.{Released}
@@ -24,7 +24,7 @@ use Rattle.short_fec.specs.Calls.{Leaves, Flushes}
 use Rattle.c_answers.specs.Answers.{answered, left}
 use Rattle.c_answers.specs.AnswerLaws.{kept}
 use Rattle.c_answers.specs.Lengths.{with_states}
-use Rattle.c_answers.specs.LengthLaws.{states_answer}
+use Rattle.c_answers.proofs.LengthLaws.{states_answer}
 use Rattle.c_short.specs.Stored.{Stored, Traced}
 
 -- ---- what is handed back

@@ -7,11 +7,12 @@ use mathlib.Core.List.{List, ◌++◌, append-nil}
 use Rattle.std.proofs.Math.ListN.{length}
 use Rattle.refusal.specs.declared.Answer.TheVariants.{Length}
 use Rattle.refusal.specs.Rows.{Row, first_row}
-use Rattle.refusal.specs.RowLaws.{zero_accepted, refusing, condition_of, passed}
+use Rattle.refusal.specs.RowLaws.{refusing, condition_of}
+use Rattle.refusal.proofs.RowLaws.{zero_accepted, passed}
 use Rattle.trellis.specs.Lists.{first_place, laid}
 use Rattle.trellis.specs.Step.{Step, traced}
 use Rattle.trellis.specs.Run.{Decoder, decisions_after, pair_steps, four_steps, known_steps, holding}
-use Rattle.trellis.specs.RunLaws.{renormalised_length}
+use Rattle.trellis.proofs.RunLaws.{renormalised_length}
 use Rattle.trellis.specs.Isdb as isdb
 use Rattle.isdb_fec.specs.declared.conv.ViterbiDecoder.{ViterbiDecoder}
 use Rattle.isdb_fec.specs.Rows as fec

@@ -10,7 +10,7 @@ use borrow.Author.Tests.{lt-ltb, le-ltb, eq-eqb}
 use Rattle.refusal.specs.declared.Answer.{Answer}
 use Rattle.refusal.specs.declared.Answer.TheVariants as answer
 use Rattle.refusal.specs.Rows.{number_of, accepted, Row, first_row}
-use Rattle.refusal.specs.RowLaws.{zero_accepted, said_some, said_none}
+use Rattle.refusal.proofs.RowLaws.{zero_accepted, said_some, said_none}
 use Rattle.isdbs_combination.specs.declared.Combination.{Combination}
 use Rattle.isdbs_combination.specs.declared.MaybeCombination.{MaybeCombination}
 use Rattle.isdbs_combination.specs.declared.MaybeCombination.TheVariants.{Some}
@@ -27,7 +27,7 @@ use Rattle.isdbs_plan.specs.RunsOf.{runs_of, no_run, four_runs}
 use Rattle.isdbs_plan.specs.RunLaws.{each_at}
 use Rattle.isdbs_tables.specs.Tables.{slot_sum, table_answer, TableAccepted}
 use Rattle.isdbs_marks.specs.Marks.{slot_marks, mark, mark_at}
-use Rattle.isdbs_tables.specs.TableLaws.{sum_fits, then_rows, before_rows}
+use Rattle.isdbs_tables.proofs.TableLaws.{sum_fits, then_rows, before_rows}
 use Rattle.c_table.specs.Forms.{table_of, run_numbers, run_number}
 use Rattle.c_table.proofs.Runs.{Small, small_number, runs_small, runs_count}
 use Rattle.isdbs_core.specs.Symbols.{symbol_of_bit, bit_rows, bit_symbol}

@@ -9,7 +9,7 @@ use lib.ListN.{length}
 use lib.Ieee.{Float}
 use Rattle.refusal.specs.declared.Answer.TheVariants.{Accepted}
 use Rattle.refusal.specs.Rows.{number_of, first_row, Either, Said}
-use Rattle.refusal.specs.RowLaws.{zero_accepted, decided, says_number}
+use Rattle.refusal.proofs.RowLaws.{zero_accepted, decided, says_number}
 use Rattle.isdbs_tables.specs.declared.Table.{Table}
 use Rattle.isdbs_plan.specs.RunsOf.{load_bytes}
 use Rattle.isdbs_points.specs.declared.Mapping.{Mapping}

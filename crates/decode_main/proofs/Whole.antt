@@ -18,10 +18,10 @@ use Rattle.decode_main.specs.DecodedLaws.{decoded_count, decoded_from}
 use Rattle.isdbs_metrics.specs.FrameRunLaws.{front_is}
 use Rattle.strain_marks.specs.Counts.{summed}
 use Rattle.strain_marks.specs.CountsLaws.{summed_same}
-use Rattle.strain_marks.specs.SlotsLaws.{by_slot_same}
+use Rattle.strain_marks.proofs.SlotsLaws.{by_slot_same}
 use Rattle.strain_marks.specs.Strain.{strained, strain_of, StrainLaid}
 use Rattle.strain_marks.specs.Marks.{frame_mark, marked}
-use Rattle.strain_marks.specs.MarksLaws.{marked_is}
+use Rattle.strain_marks.proofs.MarksLaws.{marked_is}
 use Rattle.decode_strain.specs.Pieces.{frame_strain}
 use Rattle.decode_main.specs.Final.{final_bits, FrameCounted}
 

@@ -14,7 +14,7 @@ use lib.Ieee.Exact.{HasValue, units_val}
 use lib.Ieee.Bits.{of_bits-fits}
 use Rattle.ieee.specs.Value.{mag, hi, lo, Num, hi_of, lo_of, hi_neg, lo_neg, num_neg, finite_of, one_side}
 use Rattle.ieee.specs.Order.{or_l, le→value, lt→value, num_between}
-use Rattle.ieee.specs.Bits.{units_bits}
+use Rattle.ieee.proofs.Bits.{units_bits}
 use Rattle.decode_soft.specs.Range.{Between, InRange}
 
 -- ---- the pattern of n of the smallest units, without the sign

@@ -11,9 +11,9 @@ use lib.Ieee.{Float, nan, inf, fin, binary32, binary64, up, down, units, fits, t
 use lib.Ieee.Exact.{HasValue, units_val}
 use lib.Ieee.Fits.{fits_widens}
 use lib.Ieee.Bits.{of_bits-fits, of_bits-to_bits, to_bits-lt, nan_bits_is, nan_bits_above}
-use Rattle.ieee.specs.Bits.{units_bits}
+use Rattle.ieee.proofs.Bits.{units_bits}
 use Rattle.ieee.specs.Conversion.{rounded}
-use Rattle.ieee.specs.ConversionLaws.{rounded_value, rounded_self, rounded_fits}
+use Rattle.ieee.proofs.ConversionLaws.{rounded_value, rounded_self, rounded_fits}
 use Rattle.ieee_cast.specs.Soft.{soft_of}
 use Rattle.ieee_cast.specs.NarrowLaws.{tiny}
 use Rattle.isdbs_metrics.specs.Reading.{absolute}

@@ -10,7 +10,7 @@ use Rattle.strain_marks.specs.CountsLaws.{summed_few}
 use Rattle.strain_marks.specs.Marks.{marked}
 use Rattle.decode_strain.specs.declared.Slot.{Slot}
 use Rattle.decode_strain.specs.Counted.{Labels, Counted}
-use Rattle.trellis.specs.RunLaws.{label_under}
+use Rattle.trellis.proofs.RunLaws.{label_under}
 
 abbrev pub slot : ℕ → ℕ → Slot
 slot count state = record { count = count; state = state }

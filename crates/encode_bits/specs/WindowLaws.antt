@@ -11,7 +11,7 @@ use Rattle.std.proofs.Math.Dec.{eqb→eq}
 use Rattle.std.proofs.Math.ListN.{get_or}
 use Rattle.std.proofs.Math.Pow.{high}
 use Rattle.trellis.specs.Code.{isdb, output, tapped, label, moved, state_at}
-use Rattle.trellis.specs.LinearLaws.{xor_low}
+use Rattle.trellis.proofs.LinearLaws.{xor_low}
 use Rattle.trellis.specs.ListLaws.{every, every_at}
 use Rattle.encode_bits.specs.Windows.{backward, x_outputs, y_outputs, outputs_in}
 use Rattle.trellis.specs.Isdb

@@ -13,7 +13,7 @@ use Rattle.isdbs_tables.specs.declared.Entry.{Entry}
 use Rattle.isdbs_tables.specs.declared.Table.{Table}
 use Rattle.isdbs_tables.specs.Tables.{TableAccepted, entry_combination}
 use Rattle.isdbs_plan.specs.RunsOf.{runs_of, Planned, no_run, RunFits}
-use Rattle.isdbs_tables.specs.TableLaws.{sum_fits}
+use Rattle.isdbs_tables.proofs.TableLaws.{sum_fits}
 use Rattle.isdbs_plan.specs.PlanLaws.{table_laid}
 use Rattle.isdbs_points.specs.declared.Cplx.{Cplx}
 use Rattle.isdbs_points.specs.declared.Mapping.{Mapping}

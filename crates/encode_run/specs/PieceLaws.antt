@@ -21,7 +21,7 @@ use Rattle.isdbs_points.specs.StateLaws.{Follow, state_shift, label_shift}
 use Rattle.trellis.specs.LaidLaws.{upto_cong, laid_upto, laid_part, length_laid_upto}
 use Rattle.trellis.specs.ListLaws.{get_d_upto}
 use Rattle.trellis.specs.Isdb
-use Rattle.trellis.specs.RunLaws.{output_bit_lem}
+use Rattle.trellis.proofs.RunLaws.{output_bit_lem}
 
 -- a part from a on, written at its front and put back
 pub tail_back : {A : Type 0} (a : ℕ) (l f : List A) {p : List A} → a ≤ length l → p ≡ laid f (take (length l - a) (drop a l))

@@ -21,14 +21,14 @@ use Rattle.isdbs_points.specs.Layout.{Segment, segments, at_symbol, load_bit, Fu
 use Rattle.isdbs_points.specs.Frame.{inputs, label_at, sent_bit, point_by, point_in, point_at, frame_re, frame_im, start_state}
 use Rattle.isdbs_metrics.specs.Reading.{decoded_bytes, received}
 use Rattle.margins.specs.Margins.{keeps, any_accepted, holds, free_re, free_im, Within}
-use Rattle.margins.specs.Clean.{Clean, clean-zero, clean-minus-zero, clean-one, clean-minus-one, clean-root, clean-minus-root, conjugated_clean, term_clean, psk8_clean, low_end, high_end, keeps_accepted, clean_within, Other}
+use Rattle.margins.proofs.Clean.{Clean, clean-zero, clean-minus-zero, clean-one, clean-minus-one, clean-root, clean-minus-root, conjugated_clean, term_clean, psk8_clean, low_end, high_end, keeps_accepted, clean_within, Other}
 use Rattle.isdbs_points.specs.PlaceLaws.{among_all}
 use Rattle.isdbs_points.specs.BitLaws.{subset_small, load_bit_small}
 use Rattle.encode_main.specs.Laid.{FrameLaid}
 use Rattle.exact_load.specs.Exact.{decoded_load}
 use Rattle.isdbs_frame.specs.Frame.{main_symbols}
 use Rattle.margin_ends.specs.Ends.{eight}
-use Rattle.trellis.specs.RunLaws.{label_under}
+use Rattle.trellis.proofs.RunLaws.{label_under}
 
 -- ---- row 7, "not finite; beyond" 65,536: no part within the margins is so
 holds_accepted : (free : Bool) (clean x : Float) → T (holds free clean x) → T (any_accepted x)

@@ -1,3 +1,2 @@
 pub mod Frames
 pub mod Call
-pub mod CallLaws

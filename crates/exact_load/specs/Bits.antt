@@ -6,7 +6,7 @@ use Rattle.trellis.specs.Step.{term}
 use Rattle.isdbs_points.specs.Points.{point, root64, qpsk_of, conjugated}
 use Rattle.isdbs_metrics.specs.Reading.{part_of}
 use Rattle.margins.specs.Margins.{keeps}
-use Rattle.margins.specs.Clean.{clean-root, term_clean, conjugated_keeps}
+use Rattle.margins.proofs.Clean.{clean-root, term_clean, conjugated_keeps}
 use Rattle.trellis.specs.Isdb
 
 -- ---- QPSK: the parts of a symbol that carry p1 and p0

@@ -11,7 +11,7 @@ use Rattle.trellis.specs.Lists.{upto}
 use Rattle.trellis.specs.Code.{state_at}
 use Rattle.trellis.specs.Isdb.{rule, frame_traceback}
 use Rattle.path_lead.specs.Favour.{Favours}
-use Rattle.path_lead.specs.Frame.{decoded_sent}
+use Rattle.path_lead.proofs.Frame.{decoded_sent}
 use Rattle.isdbs_combination.specs.declared.Modulation.{Modulation}
 use Rattle.isdbs_tables.specs.declared.Table.{Table}
 use Rattle.isdbs_combination.specs.Combinations.{modulation_of, unit_of, slot_steps, slot_bits}

@@ -28,16 +28,16 @@ use Rattle.isdbs_points.specs.Layout.{Segment, segments, order_of, steps_per_per
 use Rattle.isdbs_points.specs.Frame.{inputs, label_at, coded_bit, sent_bit, point_by, point_in, point_at, start_state}
 use Rattle.isdbs_metrics.specs.Reading.{Received, scaled, part_of, carrier, soft_at, pair_metrics, correlation, metrics_by, metrics_in, metrics_at, received_at, received}
 use Rattle.margins.specs.Margins.{keeps, is_bpsk, Within}
-use Rattle.margins.specs.Clean.{psk8_clean, conjugated_keeps}
+use Rattle.margins.proofs.Clean.{psk8_clean, conjugated_keeps}
 use Rattle.margin_ends.specs.Ends.{eight}
-use Rattle.margins.specs.Speaks.{Speaks, Said, one_speaks, root_speaks}
-use Rattle.margins.specs.Pairs.{pair_favours}
-use Rattle.margins.specs.Tc8psk.{tc_favours, tc_uncoded}
+use Rattle.margins.proofs.Speaks.{Speaks, Said, one_speaks, root_speaks}
+use Rattle.margins.proofs.Pairs.{pair_favours}
+use Rattle.margins.proofs.Tc8psk.{tc_favours, tc_uncoded}
 use Rattle.isdbs_points.specs.SizeLaws.{table_whole, symbol_fits, at_symbol_lem, at_step_lem, find_step}
 use Rattle.isdbs_points.specs.OrderLaws.{Sends, Pairs, Kind, one, two, three, kind, Kept, mother, number, sent_at}
 use Rattle.isdbs_points.specs.BitLaws.{load_bit_small, coded_small, subset_small, of_pair}
 use Rattle.exact_load.specs.Bits.{carries}
-use Rattle.trellis.specs.RunLaws.{label_under}
+use Rattle.trellis.proofs.RunLaws.{label_under}
 
 -- ---- a frame within the margins, as it is read at the scale 8
 module _ (t : Table) (fit : TableAccepted t) (m : Mapping) (first : Bool) (load : List ℕ) (re im : List Float) (within : Within re im load t m first) where

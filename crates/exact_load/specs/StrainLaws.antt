@@ -18,12 +18,12 @@ use Rattle.isdbs_metrics.specs.Reading.{Received, metrics_at, decoded_bits, deco
 use Rattle.isdbs_points.specs.Layout.{FullLoad}
 use Rattle.margins.specs.Margins.{Within}
 use Rattle.strain_marks.specs.Strain.{strained_by, strained, strain_of, strain_counts, strain_sum}
-use Rattle.strain_marks.specs.StrainLaws.{none_above, strain_none, strain_of_none}
+use Rattle.strain_marks.proofs.StrainLaws.{none_above, strain_none, strain_of_none}
 use Rattle.isdbs_points.specs.InputLaws.{label_alike}
 use Rattle.exact_load.specs.Steps.{step_favours}
 use Rattle.exact_load.specs.Exact.{sent_bits, decoded_load}
 use Rattle.margin_ends.specs.Ends.{eight}
-use Rattle.trellis.specs.RunLaws.{label_under}
+use Rattle.trellis.proofs.RunLaws.{label_under}
 
 -- at a step that favours the pair c, none of the metrics is strictly greater than that of c
 favour_unstrained : (m : List Float) (c : ℕ) → c < 4 → Favour m c → strained_by m c ≡ false

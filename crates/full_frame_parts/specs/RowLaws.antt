@@ -1,7 +1,7 @@
 -- What follows from the tests of the rows.
 use Rattle.std.specs.Prelude.{◌≡◌, false, ◌||◌, ℕ, ◌≤◌, ltb}
 use Rattle.std.proofs.Common.{ltb-false}
-use Rattle.refusal.specs.RowLaws.{neither}
+use Rattle.refusal.proofs.RowLaws.{neither}
 use Rattle.full_frame_parts.specs.Rows.{short_inputs, short_frame}
 use Rattle.isdbs_frame.specs.Frame.{frame_symbols, main_symbols, burst_points, header_symbols}
 

@@ -10,7 +10,7 @@ use Rattle.refusal.specs.declared.Answer.{Answer}
 use Rattle.refusal.specs.declared.Answer.TheVariants.{Accepted, Symbols, Space}
 use Rattle.refusal.specs.Rows.{number_of, first_row}
 use Rattle.trellis.specs.Lists.{laid}
-use Rattle.refusal.specs.RowLaws.{neither, neither_holds, passed, none_accepted, zero_accepted}
+use Rattle.refusal.proofs.RowLaws.{neither, neither_holds, passed, none_accepted, zero_accepted}
 use Rattle.trellis.specs.LaidLaws.{length_laid_upto}
 use Rattle.full_frame_parts.specs.declared.Input.{Input}
 use Rattle.full_frame_parts.specs.declared.Input.TheVariants.{Header, Main, Burst}

@@ -3,7 +3,7 @@ use Rattle.std.specs.Prelude.{List, ℕ, ◌+◌, ◌<◌, ◌≤◌, length, Fl
 use Rattle.std.proofs.Common.{arith}
 use Rattle.isdbs_frame.specs.Frame.{frame_symbols}
 use Rattle.header_sync.specs.Search.{peak_at, further_of, found_at}
-use Rattle.header_sync.specs.SearchLaws.{first_greatest}
+use Rattle.header_sync.proofs.SearchLaws.{first_greatest}
 
 -- p is such a place; at none of them is A A + B B greater, and at each before p it is less
 pub record FirstFound (re im : List Float) (from p : ℕ) : Type 0 where

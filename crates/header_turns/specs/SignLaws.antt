@@ -12,7 +12,7 @@ use Rattle.std.specs.Float.Ieee.{nan, inf, fin, up, down, unlike, prec, emax, lo
 use Rattle.std.specs.Float.Ieee.Fits.{up_pos, down_pos}
 use borrow.Author.Tests.{lt-ltb, le-ltb, ltb-true, ltb-false, ne_eqb}
 use Rattle.ieee.specs.Rounding.{round_neg}
-use Rattle.ieee.specs.Zero.{round_zero}
+use Rattle.ieee.proofs.Zero.{round_zero}
 use Rattle.header_sync.specs.Signs.{zero64}
 
 pub same_test : (a b x y : ℕ) → (a < b → x < y) → (b ≤ a → y ≤ x) → ltb a b ≡ ltb x y

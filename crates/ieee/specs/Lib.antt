@@ -2,13 +2,6 @@ pub mod Nearest
 pub mod Value
 pub mod Order
 pub mod Rounding
-pub mod Bounds
-pub mod Sums
-pub mod Zero
 pub mod Whole
-pub mod Products
-pub mod Constants
 pub mod Conversion
-pub mod ConversionLaws
-pub mod Bits
 pub mod Within

@@ -197,12 +197,6 @@ pub record Near (f : Format) (z : Float) (P N E : ℕ) : Type 0 where
   pub rounds : Rounds f z P N
   pub off : Off f z P N E
 
-pub rounds_near : {f : Format} {z : Float} {P N : ℕ} (j : ℕ) → Rounds f z P N → P < N + 2 ^ suc (prec f) * pow2 j → N < P + 2 ^ suc (prec f) * pow2 j → Near f z P N (pow2 j)
-rounds_near {f} {z} {P} {N} j r h k = record {
-  rounds = r;
-  off = subst (λ (x : ℕ). Off f z P N x) (sym (pow2_is j)) (rounds_err j r (subst (λ (x : ℕ). P < N + x) (pow2_suc (prec f) j) h) (subst (λ (x : ℕ). N < P + x) (pow2_suc (prec f) j) k));
-}
-
 -- ---- exactness: multiples of 2 ^ j units whose sum is at most 2 ^ prec of them
 pub record Exactly (f : Format) (z : Float) (p n u : ℕ) : Type 0 where
   pub hi_is : hi f z ≡ (p - n) * u
@@ -210,13 +204,3 @@ pub record Exactly (f : Format) (z : Float) (p n u : ℕ) : Type 0 where
 
 pub sub_mul : (a b u : ℕ) → a * u - b * u ≡ (a - b) * u
 sub_mul a b u = ap (λ (x : ℕ). x - b * u) (mul_comm a u) ∙ ap (λ (x : ℕ). u * a - x) (mul_comm b u) ∙ sym (mul-sub u a b) ∙ mul_comm u (a - b)
-
-pub rounds_exact : {f : Format} {z : Float} {P N : ℕ} (p n j : ℕ) → Rounds f z P N → P ≡ p * 2 ^ j → N ≡ n * 2 ^ j → p ≤ n + 2 ^ prec f → n ≤ p + 2 ^ prec f → Exactly f z p n (2 ^ j)
-rounds_exact {f} {z} {P} {N} p n j r d e h k =
-    record {
-      hi_is = r.hi_is ∙ one P N p n d e h;
-      lo_is = r.lo_is ∙ one N P n p e d k;
-    }
-  where
-    one : (P N p n : ℕ) → P ≡ p * 2 ^ j → N ≡ n * 2 ^ j → p ≤ n + 2 ^ prec f → near (prec f) (P - N) ≡ (p - n) * 2 ^ j
-    one P N p n d e h = ap (λ (x : ℕ). near (prec f) (x - N)) d ∙ ap (λ (x : ℕ). near (prec f) (p * 2 ^ j - x)) e ∙ ap (λ (x : ℕ). near (prec f) x) (sub_mul p n (2 ^ j)) ∙ near_fix (prec f) (p - n) j (prec_pos f) (omega arith)

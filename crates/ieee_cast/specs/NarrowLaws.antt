@@ -7,9 +7,9 @@ use Rattle.std.specs.Float.Ieee.{size, units, round, hid, top, of_bits}
 use Rattle.std.specs.Float.Ieee.Digits.{size-le}
 use Rattle.std.specs.Float.Ieee.Exact.{units_val}
 use Rattle.std.specs.Float.Ieee.Nearest.{closest}
-use Rattle.ieee.specs.Bits.{size_exact, units_bits, inf_bits, round_bits, closest_le, round_over}
+use Rattle.ieee.proofs.Bits.{size_exact, units_bits, inf_bits, round_bits, closest_le, round_over}
 use Rattle.ieee.specs.Conversion.{rounded}
-use Rattle.ieee.specs.ConversionLaws.{rounded_value}
+use Rattle.ieee.proofs.ConversionLaws.{rounded_value}
 use Rattle.ieee_cast.specs.Narrowed.{Narrowed}
 use Rattle.ieee_cast.specs.ShiftLaws.{closest_add, closest_none}
 

@@ -2,8 +2,8 @@
 use Rattle.std.specs.Prelude.{◌≡◌, false, List, [], ◌∷◌, ℕ, ◌+◌, ◌*◌, ◌/◌, ◌≤◌, ◌<◌, ltb, length, Float}
 use Rattle.std.proofs.Common.{sym, ltb-false}
 use Rattle.refusal.specs.Rows.{Row, first_row, Either}
-pub use Rattle.refusal.specs.RowLaws.{refused, numbered, neither}
-use Rattle.refusal.specs.RowLaws.{done, passed, both_passed}
+pub use Rattle.refusal.proofs.RowLaws.{refused, numbered, neither}
+use Rattle.refusal.proofs.RowLaws.{done, passed, both_passed}
 use Rattle.refusal.specs.declared.Answer.TheVariants.{Accepted, Space}
 use Rattle.trellis.specs.Run.{traceback_limit, block, releases}
 use Rattle.viterbi_rows.specs.RowLaws as handed

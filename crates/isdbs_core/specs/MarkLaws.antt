@@ -12,9 +12,9 @@ use Rattle.trellis.specs.Lists.{upto}
 use Rattle.isdbs_tables.specs.Tables.{entry_combination, slot_sum, unfilled, TableAccepted}
 use Rattle.isdbs_marks.specs.Marks.{marked, mark_in, mark_at, mark, marks_of}
 use Rattle.isdbs_plan.specs.RunsOf.{entry_runs, entry_symbols, runs_from, valid_in, valid_total}
-use Rattle.isdbs_tables.specs.TableLaws.{WholeUnits}
+use Rattle.isdbs_tables.proofs.TableLaws.{WholeUnits}
 use Rattle.isdbs_plan.specs.RunLaws.{no_part}
-use Rattle.isdbs_tables.specs.TableLaws.{sum_fits, units_whole}
+use Rattle.isdbs_tables.proofs.TableLaws.{sum_fits, units_whole}
 use Rattle.isdbs_core.specs.Symbols.{marked_before}
 use Rattle.isdbs_core.specs.SymbolLaws.{marked_whole}
 use Rattle.isdbs_combination.specs.Combinations.{frame_slots}

@@ -8,7 +8,7 @@ use lib.ListN.{length, get_or, drop, drop_of_length-le}
 use Rattle.isdbs_combination.specs.declared.MaybeCombination.TheVariants.{None}
 use Rattle.isdbs_tables.specs.declared.Entry.{Entry}
 use Rattle.isdbs_tables.specs.Tables.{entry_combination}
-use Rattle.isdbs_tables.specs.EntryLaws.{no_entry, next}
+use Rattle.isdbs_tables.proofs.EntryLaws.{no_entry, next}
 use Rattle.isdbs_marks.specs.Marks.{mark_in, mark_at}
 
 module _ (es : List Entry) (i : ℕ) where

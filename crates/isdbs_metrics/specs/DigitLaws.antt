@@ -17,7 +17,7 @@ use Rattle.isdbs_metrics.specs.Reading.{correlation, bit_by}
 use Rattle.isdbs_points.specs.Layout.{byte_of}
 use Rattle.isdbs_metrics.specs.Steps.{digits, piece_bit, Bits}
 use Rattle.trellis.specs.Isdb
-use Rattle.trellis.specs.RunLaws.{output_bit_lem}
+use Rattle.trellis.proofs.RunLaws.{output_bit_lem}
 
 pub digits_small : (f : ℕ → ℕ) (n : ℕ) → ((i : ℕ) → i < n → f i < 2) → digits f n < 2 ^ n
 unfolding digits

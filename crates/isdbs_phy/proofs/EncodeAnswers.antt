@@ -7,10 +7,10 @@ use lib.Dec.{ltb}
 use Rattle.refusal.specs.declared.Answer.{Answer}
 use Rattle.refusal.specs.declared.Answer.TheVariants.{Accepted, State, Space}
 use Rattle.refusal.specs.Rows.{Row, first_row}
-use Rattle.refusal.specs.RowLaws.{neither, passed, row_false}
+use Rattle.refusal.proofs.RowLaws.{neither, passed, row_false}
 use Rattle.isdbs_tables.specs.declared.Table.{Table}
 use Rattle.isdbs_tables.specs.Tables.{table_rows, TableAccepted}
-use Rattle.isdbs_tables.specs.TableLaws.{then_accepted}
+use Rattle.isdbs_tables.proofs.TableLaws.{then_accepted}
 use Rattle.isdbs_phy.specs.EncodeRows.{short_parts, encode_rows, encode_frame_rows}
 
 module _ (t : Table) (s a b : ℕ) where

@@ -8,14 +8,14 @@ use lib.ListN.{length}
 use lib.Ieee.{Float}
 use borrow.Author.Tests.{ltb-false}
 use Rattle.refusal.specs.Rows.{Row, first_row}
-use Rattle.refusal.specs.RowLaws as row
-use Rattle.refusal.specs.RowLaws.{neither, is_refused}
+use Rattle.refusal.proofs.RowLaws as row
+use Rattle.refusal.proofs.RowLaws.{neither, is_refused}
 use Rattle.refusal.specs.declared.Answer.{Answer}
 use Rattle.refusal.specs.declared.Answer.TheVariants.{Accepted, Symbols, Space}
 use Rattle.isdbs_phy.specs.declared.demod.FrameDecoded.TheVariants.{Refused}
 use Rattle.isdbs_tables.specs.declared.Table.{Table}
 use Rattle.isdbs_tables.specs.Tables.{TableAccepted}
-use Rattle.isdbs_tables.specs.TableLaws.{then_accepted}
+use Rattle.isdbs_tables.proofs.TableLaws.{then_accepted}
 use Rattle.isdbs_frame.specs.Frame.{main_symbols}
 use Rattle.isdbs_plan.specs.RunsOf.{valid_total, frame_steps, load_bytes}
 use Rattle.trellis.specs.Isdb.{frame_words}

@@ -16,7 +16,7 @@ use Rattle.trellis.specs.Lists.{padded}
 use Rattle.isdbs_tables.specs.Tables.{entry_combination}
 use Rattle.isdbs_plan.specs.RunsOf.{entry_runs, entry_symbols, run_of, runs_from, symbols_in, valid_in, steps_in, steps_of, no_run, plan_of}
 use Rattle.isdbs_plan.specs.RunLaws.{valid_append, steps_append}
-use Rattle.isdbs_tables.specs.EntryLaws.{no_entry, next}
+use Rattle.isdbs_tables.proofs.EntryLaws.{no_entry, next}
 
 module _ (es : List Entry) where
   -- the runs of the first i entries stand at the front, and those of the others follow

@@ -2,7 +2,7 @@
 use Rattle.std.specs.Prelude.{◌≡◌, refl, true}
 use Rattle.std.proofs.Common.{ap, lit≤}
 use Rattle.refusal.specs.Rows.{accepted}
-use Rattle.refusal.specs.RowLaws.{accepted_is}
+use Rattle.refusal.proofs.RowLaws.{accepted_is}
 use Rattle.isdbs_combination.specs.declared.Combination.TheVariants.{Bpsk1_2}
 use Rattle.isdbs_tables.specs.declared.Table.{Table}
 use Rattle.isdbs_plan.specs.declared.FrameRuns.{FrameRuns}
@@ -10,7 +10,7 @@ use Rattle.trellis.specs.Lists.{Each, padded}
 use Rattle.isdbs_tables.specs.Tables.{table_answer, TableAccepted}
 use Rattle.isdbs_plan.specs.RunsOf.{runs_of, valid_total, no_run, four_runs, RunFits}
 use Rattle.isdbs_plan.specs.RunLaws.{Whole, run_whole, each_padded, Laid, laid}
-use Rattle.isdbs_tables.specs.TableLaws.{sum_fits, units_whole}
+use Rattle.isdbs_tables.proofs.TableLaws.{sum_fits, units_whole}
 
 -- its slots are 48 at most and each run is whole units: no slot is left over
 pub table_laid : (t : Table) → TableAccepted t → Laid t

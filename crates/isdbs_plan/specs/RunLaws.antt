@@ -12,7 +12,7 @@ use Rattle.isdbs_plan.specs.declared.Run.{Run}
 use Rattle.trellis.specs.Lists.{Each, padded}
 use Rattle.isdbs_combination.specs.Combinations.{unit_of, slot_steps, puncture_of, modulation_of, period_steps, period_symbols, step_bits, frame_slots, slot_bits, slot_symbols}
 use Rattle.isdbs_tables.specs.Tables.{entry_combination, slot_sum, unfilled, part_unit}
-use Rattle.isdbs_tables.specs.TableLaws.{WholeUnits}
+use Rattle.isdbs_tables.proofs.TableLaws.{WholeUnits}
 use Rattle.isdbs_plan.specs.RunsOf.{units_in, symbols_in, run_of, entry_runs, entry_symbols, runs_from, runs_of, valid_in, valid_total, steps_of, steps_in, frame_steps, RunFits}
 use Rattle.trellis.specs.Isdb.{longest_frame}
 

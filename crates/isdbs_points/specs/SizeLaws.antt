@@ -12,8 +12,8 @@ use Rattle.isdbs_plan.specs.declared.Run.{Run}
 use Rattle.isdbs_frame.specs.Frame.{main_symbols}
 use Rattle.isdbs_combination.specs.Combinations.{unit_of, slot_steps, slot_bits, slot_symbols}
 use Rattle.isdbs_tables.specs.Tables.{slot_sum, entry_combination, unfilled, TableAccepted}
-use Rattle.isdbs_tables.specs.TableLaws.{sum_fits, units_whole}
-use Rattle.isdbs_tables.specs.TableLaws.{WholeUnits}
+use Rattle.isdbs_tables.proofs.TableLaws.{sum_fits, units_whole}
+use Rattle.isdbs_tables.proofs.TableLaws.{WholeUnits}
 use Rattle.isdbs_plan.specs.RunLaws.{entry_units}
 use Rattle.isdbs_plan.specs.RunsOf.{units_in, symbols_in, run_of, entry_runs, entry_symbols, runs_from, runs_of, valid_in, valid_total, load_bytes, steps_of, steps_in, frame_steps}
 use Rattle.isdbs_points.specs.Layout.{Segment, segment_of, segments_from, segments, at_symbol, at_step, at_bit, In, here, there}

@@ -3,7 +3,7 @@ use Rattle.std.specs.Prelude.{◌≡◌, List, ℕ, zero, suc, ◌+◌, ◌<◌,
 use Rattle.std.proofs.Common.{sym, ◌∙◌, ap, add-zero, add-suc, arith}
 use Rattle.trellis.specs.Code.{isdb, state_at}
 use Rattle.trellis.specs.Encoded.{encoded, reached}
-use Rattle.trellis.specs.EncodedLaws.{encoded_at, reached_is}
+use Rattle.trellis.proofs.EncodedLaws.{encoded_at, reached_is}
 use Rattle.trellis.specs.ListLaws.{length_upto}
 use Rattle.isdbs_tables.specs.declared.Table.{Table}
 use Rattle.isdbs_plan.specs.RunsOf.{frame_steps}

@@ -6,10 +6,10 @@ use lib.Dec.{ltb}
 use Rattle.refusal.specs.declared.Answer.{Answer}
 use Rattle.refusal.specs.declared.Answer.TheVariants.{Accepted, State, Space}
 use Rattle.refusal.specs.Rows.{Row, first_row}
-use Rattle.refusal.specs.RowLaws.{refused_by, passed_by}
+use Rattle.refusal.proofs.RowLaws.{refused_by, passed_by}
 use Rattle.isdbs_tables.specs.declared.Table.{Table}
 use Rattle.isdbs_tables.specs.Tables.{table_rows, table_answer}
-use Rattle.isdbs_tables.specs.TableLaws.{table_refusing}
+use Rattle.isdbs_tables.proofs.TableLaws.{table_refusing}
 use Rattle.isdbs_rows.specs.EncodeRows.{short_parts, encode_rows}
 
 module _ (t : Table) (s a b : ℕ) where

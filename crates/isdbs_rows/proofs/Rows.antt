@@ -7,12 +7,12 @@ use native.Mathlib.Omega.{arith}
 use lib.ListN.{get_or}
 use lib.Ieee.{Float, nan}
 use Rattle.refusal.specs.Rows.{Row, first_row}
-use Rattle.refusal.specs.RowLaws.{refused_by, passed_by}
+use Rattle.refusal.proofs.RowLaws.{refused_by, passed_by}
 use Rattle.refusal.specs.declared.Answer.{Answer}
 use Rattle.refusal.specs.declared.Answer.TheVariants.{Accepted}
 use Rattle.isdbs_tables.specs.declared.Table.{Table}
 use Rattle.isdbs_tables.specs.Tables.{table_rows, table_answer}
-use Rattle.isdbs_tables.specs.TableLaws.{table_refusing}
+use Rattle.isdbs_tables.proofs.TableLaws.{table_refusing}
 use Rattle.isdbs_rows.specs.DecodeRows.{some_of, point_rows, last_rows, frame_rows}
 
 -- one value more

@@ -10,10 +10,10 @@ use lib.Seq.{get_or-take, get_or-drop, take-add}
 use borrow.Author.Tests.{leb-false, eqb-true, not-false, le-leb, lt-leb, eq-eqb, ne_eqb}
 use Rattle.refusal.specs.declared.Answer.TheVariants.{Accepted, Position, Length}
 use Rattle.refusal.specs.Rows.{accepted, Row, first_row}
-use Rattle.refusal.specs.RowLaws.{accepted_is, refused_is, passed}
+use Rattle.refusal.proofs.RowLaws.{accepted_is, refused_is, passed}
 use Rattle.isdbs_tables.specs.declared.Table as declared
 use Rattle.isdbs_tables.specs.Tables.{table_answer}
-use Rattle.isdbs_tables.specs.TableLaws.{then_rows, before_rows, then_accepted}
+use Rattle.isdbs_tables.proofs.TableLaws.{then_rows, before_rows, then_accepted}
 use Rattle.isdbs_plan.specs.RunsOf.{valid_total, load_bytes}
 use Rattle.isdbs_slot_part.specs.SlotPart.{slot_part_answer, slot_part}
 

@@ -17,7 +17,7 @@ use Rattle.isdb_fec.specs.AnswerLaws.{Enough}
 use Rattle.viterbi_core.specs.Calls.{Carried}
 use Rattle.viterbi_core.specs.CountLaws.{counted, releases_le}
 use Rattle.viterbi_core.specs.BlockLaws.{from_steps}
-use Rattle.isdb_fec.specs.WholeLaws.{begins, lengths}
+use Rattle.isdb_fec.proofs.WholeLaws.{begins, lengths}
 use Rattle.isdbt_table.specs.declared.CodeRate.{CodeRate}
 use Rattle.isdbt_table.specs.declared.Puncturing.{Puncturing}
 use Rattle.isdbt_table.specs.Table.{period, sent, compiled}

@@ -16,7 +16,7 @@ use Rattle.trellis.specs.Encoded.{low_bits}
 use Rattle.trellis.specs.LaidLaws.{upto_cong}
 use Rattle.isdbt_table.specs.NumberLaws.{numbers}
 use Rattle.isdbt_table.specs.SizeLaws.{sizes, order_at, order_below, place_in_lem}
-use Rattle.trellis.specs.EncodedLaws.{low_at}
+use Rattle.trellis.proofs.EncodedLaws.{low_at}
 
 pub state_next : (s : ℕ) (us : List ℕ) (n : ℕ) → state_at 32 s us (n + 1) ≡ moved 32 (get_or us n 0) (state_at 32 s us n)
 unfolding state_at

@@ -28,7 +28,7 @@ use Rattle.encode_blocks.specs.FrameLaws.{point_is, end_symbol}
 use Rattle.margins.specs.Margins.{is_bpsk}
 use Rattle.judge_points.specs.Outside.{outside}
 use Rattle.judge_points.specs.Given.{outside_given, given_at, Counted}
-use Rattle.judge_points.specs.GivenLaws.{counted_same, counted_both, counts_few, outside_is, outside_free, counts_are, sum_is}
+use Rattle.judge_points.proofs.GivenLaws.{counted_same, counted_both, counts_few, outside_is, outside_free, counts_are, sum_is}
 use Rattle.judge.specs.Judged.{CountsLaid}
 
 module _ (p : Plan) (planned : Planned p) where

@@ -11,19 +11,19 @@ use borrow.Author.Tests.{ltb-false, eqb-true, not-false}
 use Rattle.refusal.specs.declared.Answer.{Answer}
 use Rattle.refusal.specs.declared.Answer.TheVariants.{Accepted, Length, Symbols, Space}
 use Rattle.refusal.specs.Rows.{first_row}
-use Rattle.refusal.specs.RowLaws as row
-use Rattle.refusal.specs.RowLaws.{neither}
+use Rattle.refusal.proofs.RowLaws as row
+use Rattle.refusal.proofs.RowLaws.{neither}
 use Rattle.isdbs_tables.specs.declared.Table.{Table}
 use Rattle.isdbs_frame.specs.Frame.{main_symbols}
 use Rattle.isdbs_combination.specs.Combinations.{frame_slots}
 use Rattle.isdbs_tables.specs.Tables.{TableAccepted}
-use Rattle.isdbs_tables.specs.TableLaws.{then_accepted}
+use Rattle.isdbs_tables.proofs.TableLaws.{then_accepted}
 use Rattle.isdbs_plan.specs.RunsOf.{load_bytes}
 use Rattle.isdbs_points.specs.declared.Mapping.{Mapping}
 use Rattle.isdbs_points.specs.Layout.{FullLoad}
 use Rattle.judge_points.specs.Outside.{outside_sum}
-use Rattle.judge_points.specs.OutsideLaws.{sum_zero_within, within_sum_zero}
-use Rattle.judge_points.specs.CertainLaws.{certain}
+use Rattle.judge_points.proofs.OutsideLaws.{sum_zero_within, within_sum_zero}
+use Rattle.judge_points.proofs.CertainLaws.{certain}
 use Rattle.judge.specs.Rows.{lent_rows, judge_rows}
 use Rattle.judge.specs.Judged.{Worth}
 use Rattle.judge.specs.declared.FrameJudged.TheVariants.{Judged, Refused}

@@ -1,2 +1,5 @@
 pub mod Runs
 pub mod Counting
+pub mod CertainLaws
+pub mod GivenLaws
+pub mod OutsideLaws

@@ -1,5 +1,2 @@
 pub mod Outside
-pub mod OutsideLaws
-pub mod CertainLaws
 pub mod Given
-pub mod GivenLaws

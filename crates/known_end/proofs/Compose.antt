@@ -13,12 +13,12 @@ use lib.Ieee.{Float}
 use Rattle.refusal.specs.Rows.{first_row, Either}
 use Rattle.refusal.specs.declared.Answer.{Answer}
 use Rattle.refusal.specs.declared.Answer.TheVariants.{Accepted, Space}
-use Rattle.refusal.specs.RowLaws.{none_accepted, refused, decided}
+use Rattle.refusal.proofs.RowLaws.{none_accepted, refused, decided}
 use Rattle.trellis.specs.Isdb
 use Rattle.trellis.specs.Isdb.{flush_at}
 use Rattle.trellis.specs.Lists.{laid}
 use Rattle.trellis.specs.Run.{Decoder, block, start_at, depth, releases, pair_steps}
-use Rattle.path_greatest.specs.Corrected.{length_soft, soft_at_lem, known_end}
+use Rattle.path_greatest.proofs.Corrected.{length_soft, soft_at_lem, known_end}
 use Rattle.viterbi_core.specs.CountLaws.{Counted, releases_le}
 use Rattle.viterbi_core.specs.HoldingLaws.{bare, holding_is}
 use Rattle.trellis.specs.LaidLaws.{take_laid, laid_after}
@@ -30,12 +30,12 @@ use Rattle.isdb_fec.specs.declared.conv.Released.{Released}
 use Rattle.isdb_fec.specs.Rows.{fresh_rows, stream_rest, push_rows, flush_rows}
 use Rattle.isdb_fec.specs.Calls.{call, handed, Fresh, Zero, Leaves, FlushesAt, Unchanged}
 use Rattle.isdb_fec.specs.AnswerLaws.{flush_enough}
-use Rattle.isdb_fec.specs.TwoCallLaws.{soft_call}
+use Rattle.isdb_fec.proofs.TwoCallLaws.{soft_call}
 use Rattle.range_calls.specs.Reached.{Reached, Floats, with-state}
 use Rattle.range_calls.specs.Handed.{push_hands}
-use Rattle.range_calls.specs.Answers.{stream_answer, flush_answer}
+use Rattle.range_calls.proofs.Answers.{stream_answer, flush_answer}
 use Rattle.range_calls.specs.Finished.{Finished}
-use Rattle.trellis.specs.RunLaws.{depth_range}
+use Rattle.trellis.proofs.RunLaws.{depth_range}
 use Rattle.known_end.specs.Calls.{read, between_rows, Left, Corrects}
 use Rattle.known_end.specs.Behind.{Behind}
 use Rattle.known_end.proofs.Rows.{started, Passed, passed, fresh_passes, fresh_is, started_is, soft_rows}

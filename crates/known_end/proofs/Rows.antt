@@ -9,13 +9,13 @@ use lib.Dec.{eqb, ltb}
 use lib.ListN.{length, replicate}
 use lib.Ieee.{Float, binary32, neg, le, of_bits}
 use Rattle.refusal.specs.Rows.{first_row, Either}
-use Rattle.refusal.specs.RowLaws as row
-use Rattle.refusal.specs.RowLaws.{neither}
+use Rattle.refusal.proofs.RowLaws as row
+use Rattle.refusal.proofs.RowLaws.{neither}
 use Rattle.refusal.specs.declared.Answer.{Answer}
 use Rattle.refusal.specs.declared.Answer.TheVariants.{Accepted, Traceback, Length, Sample, Space}
 use Rattle.trellis.specs.Run.{block, start_at, depth}
 use Rattle.path_greatest.specs.Hard.{soft_pairs}
-use Rattle.path_greatest.specs.Corrected.{length_soft}
+use Rattle.path_greatest.proofs.Corrected.{length_soft}
 use Rattle.isdb_fec.specs.declared.conv.ViterbiDecoder.{ViterbiDecoder}
 use Rattle.ieee.specs.Within.{within}
 use Rattle.isdb_fec.specs.Values.{some_beyond, stream_limit}

@@ -9,7 +9,7 @@ use Rattle.std.specs.Float.Ieee.Fits.{down_pos, and_l, and_r, and_i, eq→eqb}
 use Rattle.std.specs.Float.Ieee.Scale.{finite}
 use Rattle.ieee.specs.Order.{sum_test, of_le, lt_or}
 use Rattle.ieee.specs.Conversion.{rounded}
-use Rattle.ieee.specs.ConversionLaws.{rounded_mono}
+use Rattle.ieee.proofs.ConversionLaws.{rounded_mono}
 
 -- ---- a finite float is (above - below) / under, and above or below is 0
 abbrev pub above : Float → ℕ

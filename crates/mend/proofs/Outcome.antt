@@ -7,16 +7,16 @@ use native.Mathlib.Omega.{arith}
 use borrow.Author.Tests.{lt-ltb, le-ltb}
 use lib.ListN.{length, take, replicate, length-replicate}
 use Rattle.refusal.specs.Rows.{first_row, Row}
-use Rattle.refusal.specs.RowLaws.{numbered, refused, refused_by, passed_by, not_answered}
+use Rattle.refusal.proofs.RowLaws.{numbered, refused, refused_by, passed_by, not_answered}
 use Rattle.refusal.specs.declared.Answer.{Answer}
 use Rattle.refusal.specs.declared.Answer.TheVariants.{Accepted, Unmendable}
 use Rattle.trellis.specs.Lists.{upto, laid}
 use Rattle.trellis.specs.ListLaws.{length_upto}
 use Rattle.trellis.specs.LaidLaws.{laid_laid, take_laid}
 use Rattle.mend_distance.specs.Stretches.{most_changed, unlike, sent_from}
-use Rattle.mend_distance.specs.StretchLaws.{length_sent}
+use Rattle.mend_distance.proofs.StretchLaws.{length_sent}
 use Rattle.mend_distance.specs.Distances.{least, unmendable}
-use Rattle.mend_distance.specs.DistanceLaws.{none_within}
+use Rattle.mend_distance.proofs.DistanceLaws.{none_within}
 use Rattle.mend.specs.declared.Mended.{Mended}
 use Rattle.mend.specs.Rows.{lent_rows}
 use Rattle.trellis.specs.Isdb.{frame_words}

@@ -12,7 +12,7 @@ use lib.Seq.{take-suc, drop-cons, length-take-le, take-length}
 use Rattle.trellis.specs.Lists.{laid}
 use Rattle.trellis.specs.LaidLaws.{laid_more, length_laid}
 use Rattle.mend_distance.specs.Stretches.{unlike, changed}
-use Rattle.mend_distance.specs.StretchLaws.{length_changed, changed_more, unlike_split}
+use Rattle.mend_distance.proofs.StretchLaws.{length_changed, changed_more, unlike_split}
 
 -- the positions below i
 abbrev pub passed : List ℕ → List ℕ → ℕ → List ℕ

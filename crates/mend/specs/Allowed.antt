@@ -3,8 +3,8 @@ use Rattle.std.specs.Prelude.{◌≡◌, refl, false, not, ◌||◌, List, [], �
 use Rattle.std.proofs.Common.{arith, ltb-false, eqb-true, le-ltb}
 use Rattle.std.proofs.lemmas.Bool.{not-false}
 use Rattle.refusal.specs.Rows.{first_row}
-use Rattle.refusal.specs.RowLaws as row
-use Rattle.refusal.specs.RowLaws.{neither}
+use Rattle.refusal.proofs.RowLaws as row
+use Rattle.refusal.proofs.RowLaws.{neither}
 use Rattle.refusal.specs.declared.Answer.TheVariants.{Accepted, Length, Space}
 use Rattle.trellis.specs.Stretch.{Bits}
 use Rattle.mend.specs.Rows.{some_no_bit, most_bits, places, lent_rows}

@@ -3,4 +3,3 @@ pub mod Calls
 pub mod Allowed
 pub mod Tail
 pub mod Listed
-pub mod Promises

@@ -9,14 +9,14 @@ use Rattle.trellis.specs.Code.{isdb, output, moved}
 use Rattle.trellis.specs.Encoded.{encoded, reached}
 use Rattle.trellis.specs.Lists.{bit, upto, laid}
 use Rattle.trellis.specs.ListLaws.{packed_bit, length_upto, get_d_upto}
-use Rattle.trellis.specs.RunLaws.{label_under}
+use Rattle.trellis.proofs.RunLaws.{label_under}
 use Rattle.trellis.specs.Stretch.{apart, Bits}
-use Rattle.trellis.specs.DistanceLaws.{bits_at}
+use Rattle.trellis.proofs.DistanceLaws.{bits_at}
 use Rattle.trellis.specs.LaidLaws.{length_laid}
 use Rattle.mend_distance.specs.Stretches.{most_changed, unlike, sent_from, WithinFour}
-use Rattle.mend_distance.specs.StretchLaws.{label_x, label_y, pair_apart, length_sent}
+use Rattle.mend_distance.proofs.StretchLaws.{label_x, label_y, pair_apart, length_sent}
 use Rattle.mend_distance.specs.Distances.{pair_at, through, odd, word, nearest, word_at}
-use Rattle.mend_distance.specs.DistanceLaws.{chosen, next_at, from_start}
+use Rattle.mend_distance.proofs.DistanceLaws.{chosen, next_at, from_start}
 use Rattle.trellis.specs.Isdb
 
 pub record Tail (start e : ℕ) (bits out₀ : List ℕ) (t s : ℕ) (out : List ℕ) : Type 0 where

@@ -9,7 +9,7 @@ use lib.Bits.{bit_xor}
 use lib.Dec.{eqb, leb, ltb}
 use lib.ListN.{length, take}
 use Rattle.refusal.specs.Rows.{first_row}
-use Rattle.refusal.specs.RowLaws.{neither, passed}
+use Rattle.refusal.proofs.RowLaws.{neither, passed}
 use Rattle.refusal.specs.declared.Answer.TheVariants as answer
 use Rattle.trellis.specs.Lists.{laid}
 use Rattle.trellis.specs.Encoded.{coded_bits, last_state}
@@ -18,7 +18,7 @@ use Rattle.short_code.specs.declared.Code.{Code}
 use Rattle.short_code.specs.Codes.{code_of, good_code, states_of}
 use Rattle.overlay_laws.specs.Overlaid.{overlaid}
 use Rattle.overlay_laws.specs.OverlaidLaws.{length_overlaid}
-use Rattle.overlay_laws.specs.CodingLaws.{length_outputs, code_overlays}
+use Rattle.overlay_laws.proofs.CodingLaws.{length_outputs, code_overlays}
 use Rattle.overlay_parts.specs.declared.Encodings.{Encodings}
 use Rattle.overlay_parts.specs.Rows.{overlay_rows}
 use Rattle.overlay_parts.specs.Calls.{Lent, Three, Encodes, Overlays}

@@ -6,7 +6,7 @@ use Rattle.std.proofs.lemmas.Nat.{xor_block, xor_shr, xor_mod}
 use Rattle.std.proofs.Math.ListN.{get_or-eq_default}
 use Rattle.trellis.specs.Lists.{upto}
 use Rattle.trellis.specs.ListLaws.{length_upto, get_d_upto}
-use Rattle.trellis.specs.LinearLaws.{xor_bit}
+use Rattle.trellis.proofs.LinearLaws.{xor_bit}
 use Rattle.trellis.specs.Code.{isdb, state_at}
 use Rattle.isdbs_tables.specs.declared.Table.{Table}
 use Rattle.isdbs_plan.specs.RunsOf.{frame_steps}
@@ -17,7 +17,7 @@ use Rattle.isdbs_points.specs.PlaceLaws.{among_all}
 use Rattle.overlay_laws.specs.Overlaid.{overlaid}
 use Rattle.overlay_laws.specs.OverlaidLaws.{overlaid_at}
 use Rattle.overlay_frames.specs.Places.{Sums, state_xor, pair_xor}
-use Rattle.trellis.specs.RunLaws.{label_under}
+use Rattle.trellis.proofs.RunLaws.{label_under}
 use Rattle.isdbs_points.specs.BitLaws.{subset_small}
 
 -- ---- one coded bit

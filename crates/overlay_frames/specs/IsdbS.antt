@@ -14,7 +14,7 @@ use Rattle.isdbs_points.specs.Pieces.{piece}
 use Rattle.overlay_laws.specs.Overlaid.{overlaid, chosen}
 use Rattle.overlay_laws.specs.OverlaidLaws.{length_overlaid}
 use Rattle.trellis.specs.Encoded.{low_bits, coded_bits}
-use Rattle.overlay_laws.specs.CodingLaws.{overlays_chosen}
+use Rattle.overlay_laws.proofs.CodingLaws.{overlays_chosen}
 use Rattle.overlay_frames.specs.Kept.{kept_is}
 
 -- ---- definitions

@@ -6,7 +6,7 @@ use Rattle.std.specs.Int.Bits.{bit_xor}
 use Rattle.std.proofs.lemmas.List.{length-map}
 use Rattle.trellis.specs.Lists.{upto}
 use Rattle.trellis.specs.Code.{isdb, output, label, state_at}
-use Rattle.trellis.specs.EncodedLaws.{reached_is}
+use Rattle.trellis.proofs.EncodedLaws.{reached_is}
 use Rattle.isdbs_points.specs.Frame.{label_at, coded_bit}
 use Rattle.isdbt_table.specs.declared.CodeRate.{CodeRate}
 use Rattle.isdbt_table.specs.declared.CodeRate.TheVariants.{R1_2, R2_3, R3_4, R5_6, R7_8}
@@ -16,7 +16,7 @@ use Rattle.isdbt_table.specs.SizeLaws.{order_below}
 use Rattle.overlay_laws.specs.Overlaid.{overlaid, chosen}
 use Rattle.overlay_laws.specs.OverlaidLaws.{length_overlaid}
 use Rattle.trellis.specs.Encoded.{coded_bits, last_state, low_bits}
-use Rattle.overlay_laws.specs.CodingLaws.{overlays, overlays_chosen}
+use Rattle.overlay_laws.proofs.CodingLaws.{overlays, overlays_chosen}
 use Rattle.overlay_frames.specs.Kept.{kept_is}
 use Rattle.trellis.specs.Isdb
 

@@ -5,7 +5,7 @@ use Rattle.std.proofs.lemmas.List.{map-append, length-map}
 use Rattle.trellis.specs.Lists.{upto}
 use Rattle.trellis.specs.Code.{isdb}
 use Rattle.trellis.specs.Encoded.{encoded, low_bits, bits_of, coded_bits}
-use Rattle.trellis.specs.EncodedLaws.{encoded_at}
+use Rattle.trellis.proofs.EncodedLaws.{encoded_at}
 use Rattle.isdbs_points.specs.Frame.{label_at, coded_bit}
 use Rattle.trellis.specs.LaidLaws.{upto_cong}
 use Rattle.overlay_laws.specs.Overlaid.{chosen}

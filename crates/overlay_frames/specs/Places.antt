@@ -6,8 +6,8 @@ use Prim.Native.Nat.{ℕ, zero, suc, ◌+◌, ◌*◌, ◌/◌, ◌%◌, ◌<◌
 use Rattle.std.specs.Int.Bits.{bit_xor}
 use Rattle.std.proofs.Math.ListN.{get_or}
 use Rattle.trellis.specs.Code.{Code, half, label, moved, state_at}
-use Rattle.trellis.specs.LinearLaws.{moved_xor}
-use Rattle.overlay_laws.specs.CodingLaws.{label_xor, moved_under}
+use Rattle.trellis.proofs.LinearLaws.{moved_xor}
+use Rattle.overlay_laws.proofs.CodingLaws.{label_xor, moved_under}
 
 -- ws holds the sums modulo 2 of the bits us and vs
 pub record Sums (us vs ws : List ℕ) : Type 0 where

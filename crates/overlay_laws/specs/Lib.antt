@@ -1,4 +1,3 @@
 pub mod Overlaid
 pub mod OverlaidLaws
 pub mod Coding
-pub mod CodingLaws

@@ -8,7 +8,7 @@ use borrow.Author.Tests.{le-ltb, lt-leb}
 use lib.Bits.{bit_xor}
 use lib.ListN.{length}
 use Rattle.refusal.specs.Rows.{first_row, Either}
-use Rattle.refusal.specs.RowLaws.{none_accepted}
+use Rattle.refusal.proofs.RowLaws.{none_accepted}
 use Rattle.refusal.specs.declared.Answer.TheVariants as answer
 use Rattle.trellis.specs.Lists.{laid}
 use Rattle.trellis.specs.Encoded.{coded_bits, last_state}
@@ -18,7 +18,7 @@ use Rattle.short_fec.specs.Rows.{encode_rows}
 use Rattle.short_encode.specs.declared.Encoded.{Encoded}
 use Rattle.overlay_laws.specs.Overlaid.{overlaid}
 use Rattle.overlay_laws.specs.OverlaidLaws.{length_overlaid}
-use Rattle.overlay_laws.specs.CodingLaws.{state_sum}
+use Rattle.overlay_laws.proofs.CodingLaws.{state_sum}
 use Rattle.overlay_parts.specs.Calls.{lent, Three, Encodes}
 
 module _ (c : Code) (s r : ℕ) (us vs : List ℕ) where

@@ -1,15 +1,5 @@
 pub mod Paths
 pub mod Viterbi
-pub mod Greatest
-pub mod Order
-pub mod Exact
-pub mod Tracks
-pub mod Branches
-pub mod Decoded
-pub mod Integers
 pub mod Starts
-pub mod Calls
-pub mod Examples
 pub mod Hard
-pub mod Corrected
 pub mod Fresh

@@ -4,7 +4,7 @@ use Rattle.std.specs.Prelude.{◌≡◌, Bool, ℕ, zero, suc, ◌+◌, ◌-◌,
 use Rattle.std.proofs.Common.{arith, eqb→eq}
 use Rattle.trellis.specs.Code.{Code, isdb, output, tapped, label}
 use Rattle.trellis.specs.ListLaws.{every, every_at}
-use Rattle.trellis.specs.RunLaws.{label_under}
+use Rattle.trellis.proofs.RunLaws.{label_under}
 use Rattle.trellis.specs.Isdb
 
 -- the two pairs that leave the state s are 2 X + Y and its complement, 3 - (2 X + Y)

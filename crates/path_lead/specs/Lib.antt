@@ -4,10 +4,5 @@ pub mod Favour
 pub mod Lists
 pub mod Ties
 pub mod Complement
-pub mod Step
-pub mod Maximum
-pub mod Window
 pub mod Traceback
 pub mod Sent
-pub mod Known
-pub mod Frame

@@ -13,7 +13,7 @@ use Rattle.ieee.specs.Rounding.{le_or_ge}
 use Rattle.trellis.specs.Step.{Step, Tie, nexts, word, best, kept, back, input, traced}
 use Rattle.trellis.specs.Run.{Decoder, block, values_at, word_at, settled, decoded, released, stepped, after, flushed}
 use Rattle.trellis.specs.ListLaws.{length_upto, get_d_upto}
-use Rattle.trellis.specs.RunLaws.{after_values}
+use Rattle.trellis.proofs.RunLaws.{after_values}
 use Rattle.path_lead.specs.Ties.{same}
 
 -- what holds below a, and of the b numbers from a on

@@ -14,17 +14,18 @@ use Rattle.trellis.specs.Isdb
 use Rattle.trellis.specs.Step.{four}
 use Rattle.trellis.specs.Run.{block, quadruple, releases, four_steps, fresh_from}
 use Rattle.path_greatest.specs.Paths.{longest, Quadruples, Reading}
-use Rattle.path_greatest.specs.Calls.{read_bits, isdb_given, isdb_unknown}
-use Rattle.refusal.specs.RowLaws as row
-use Rattle.refusal.specs.RowLaws.{neither, neither_holds}
+use Rattle.path_greatest.proofs.Calls.{read_bits, isdb_given, isdb_unknown}
+use Rattle.refusal.proofs.RowLaws as row
+use Rattle.refusal.specs.RowLaws.{replaced}
+use Rattle.refusal.proofs.RowLaws.{neither, neither_holds}
 use borrow.Author.Tests.{ltb-false, lt-ltb, le-ltb}
 use Rattle.isdb_fec.specs.Values.{some_beyond, stream_limit}
 use Rattle.isdb_fec.specs.Rows.{push_metrics_rows, flush_rows, reading_rows}
 use Rattle.isdb_fec.specs.Calls.{flush}
 use Rattle.viterbi_core.specs.CountLaws.{counted, releases_le}
 use Rattle.range_calls.specs.Reached.{Reached, with-state, unknown-state}
-use Rattle.range_calls.specs.Closed.{Fit, soft_fit, four_soft, values_inside, reached_fit, state_fit, traceback_fit}
-use Rattle.range_calls.specs.Answers.{stream_answer}
+use Rattle.range_calls.proofs.Closed.{Fit, soft_fit, four_soft, values_inside, reached_fit, state_fit, traceback_fit}
+use Rattle.range_calls.proofs.Answers.{stream_answer}
 use Rattle.path_greatest.specs.declared.Start.{Start}
 use Rattle.path_greatest.specs.declared.Start.TheVariants.{Given, Unknown}
 use Rattle.path_greatest.specs.Fresh.{start_values, StartsIn}
@@ -43,7 +44,7 @@ module _ (start : Start) (xs : List Float) where
   same_rows D O h =
       let r = releases_le 128 0 (length xs / 4) (lit≤ tt) in
       stream_answer (start_reached start) 4 xs D O
-      ∙ ap (λ (w : Bool). first_row (row.replaced Space (w || ltb D (block + 128)) (reading_rows xs D O))) (le-ltb O (block * releases 128 0 (length xs / 4)) (omega arith) ∙ sym (le-ltb O (length xs / 4) h))
+      ∙ ap (λ (w : Bool). first_row (replaced Space (w || ltb D (block + 128)) (reading_rows xs D O))) (le-ltb O (block * releases 128 0 (length xs / 4)) (omega arith) ∙ sym (le-ltb O (length xs / 4) h))
 
   -- with too few they are those of `push_metrics` that is lent no decisions
   space_short : (D O : ℕ) → O < length xs / 4 → (ltb O (length xs / 4) || ltb D (block + 128)) ≡ true
@@ -52,7 +53,7 @@ module _ (start : Start) (xs : List Float) where
   pub short_rows : (D O : ℕ) → O < length xs / 4 → first_row (push_metrics_rows (fresh start) xs 0 O) ≡ first_row (reading_rows xs D O)
   short_rows D O h =
       stream_answer (start_reached start) 4 xs 0 O
-      ∙ ap (λ (w : Bool). first_row (row.replaced Space w (reading_rows xs D O))) (second (ltb O (block * releases 128 0 (length xs / 4))) ∙ sym (space_short D O h))
+      ∙ ap (λ (w : Bool). first_row (replaced Space w (reading_rows xs D O))) (second (ltb O (block * releases 128 0 (length xs / 4))) ∙ sym (space_short D O h))
     where
       second : (a : Bool) → (a || true) ≡ true
       second true = refl

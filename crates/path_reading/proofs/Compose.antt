@@ -22,7 +22,7 @@ use Rattle.isdb_fec.specs.declared.conv.ViterbiDecoder.{ViterbiDecoder}
 use Rattle.isdb_fec.specs.declared.conv.Released.{Released}
 use Rattle.isdb_fec.specs.Rows.{push_metrics_rows, flush_rows, reading_rows}
 use Rattle.isdb_fec.specs.Calls.{call, flush, handed, best_state, Fresh, Zero, Leaves, Flushes, Unchanged}
-use Rattle.refusal.specs.RowLaws.{decided, passed}
+use Rattle.refusal.proofs.RowLaws.{decided, passed}
 use Rattle.trellis.specs.LaidLaws.{take_laid, laid_after}
 use Rattle.path_greatest.specs.declared.Start.{Start}
 use Rattle.range_calls.specs.Finished.{Finished}

@@ -7,14 +7,14 @@ use lib.ListN.{length}
 use lib.Ieee.{Float}
 use borrow.Author.Tests.{ltb-false}
 use Rattle.refusal.specs.Rows.{first_row}
-use Rattle.refusal.specs.RowLaws as row
-use Rattle.refusal.specs.RowLaws.{neither, refused_by, passed_by}
+use Rattle.refusal.proofs.RowLaws as row
+use Rattle.refusal.proofs.RowLaws.{neither, refused_by, passed_by}
 use Rattle.refusal.specs.declared.Answer.{Answer}
 use Rattle.refusal.specs.declared.Answer.TheVariants.{Accepted, Symbols, Space}
 use Rattle.isdbs_frame.specs.Frame.{main_symbols}
 use Rattle.isdbs_tables.specs.declared.Table.{Table}
 use Rattle.isdbs_tables.specs.Tables.{table_rows, table_answer, TableAccepted}
-use Rattle.isdbs_tables.specs.TableLaws.{table_refusing, then_accepted}
+use Rattle.isdbs_tables.proofs.TableLaws.{table_refusing, then_accepted}
 use Rattle.isdbs_plan.specs.RunsOf.{load_bytes}
 use Rattle.quality_sums.specs.Terms.{quality_numbers}
 use Rattle.quality.specs.Rows.{lent_rows, quality_rows}

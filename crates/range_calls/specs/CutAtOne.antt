@@ -14,7 +14,7 @@ use Rattle.trellis.specs.Step as step
 use Rattle.trellis.specs.Step.{Step, four, branch, cand, wins, next, top, renormalised}
 use Rattle.trellis.specs.Run as run
 use Rattle.trellis.specs.Run.{Decoder, start_unknown, settled, four_steps}
-use Rattle.trellis.specs.RunLaws.{after_values}
+use Rattle.trellis.proofs.RunLaws.{after_values}
 use Rattle.isdb_fec.specs.Calls.{steps}
 use Rattle.viterbi_core.specs.HoldingLaws.{bare}
 use Rattle.viterbi_core.specs.Calls.{four_call}

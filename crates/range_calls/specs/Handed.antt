@@ -4,7 +4,7 @@ use Rattle.std.specs.Prelude.{◌≡◌, refl, ◌⊎◌, List, ℕ, ◌/◌, le
 use Rattle.std.proofs.Common.{sym, ◌∙◌, inl, inr}
 use Rattle.refusal.specs.Rows.{first_row, Either}
 use Rattle.refusal.specs.declared.Answer.TheVariants.{Accepted}
-use Rattle.refusal.specs.RowLaws.{decided}
+use Rattle.refusal.proofs.RowLaws.{decided}
 use Rattle.trellis.specs.Run.{start_at, start_unknown, pair_steps, four_steps, known_steps}
 use Rattle.isdb_fec.specs.declared.conv.ViterbiDecoder.{ViterbiDecoder}
 use Rattle.isdb_fec.specs.declared.conv.Made.{Made}

@@ -7,8 +7,5 @@ pub mod Inside
 pub mod MetricLaws
 pub mod Reached
 pub mod Handed
-pub mod Closed
-pub mod Answers
-pub mod TwoCalls
 pub mod CutAtOne
 pub mod Finished

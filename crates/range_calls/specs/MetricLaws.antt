@@ -6,11 +6,12 @@ use Rattle.std.specs.Float.Ieee.{neg, le, of_bits, fits}
 use Rattle.std.specs.Float.Ieee.Fits.{and_i}
 use Rattle.ieee.specs.Value.{hi, lo}
 use Rattle.ieee.specs.Rounding.{pow2}
-use Rattle.ieee.specs.Whole.{on_neg, hi_z, lo_z}
+use Rattle.ieee.specs.Whole.{hi_z, lo_z}
+use Rattle.ieee.proofs.Whole.{on_neg}
 use Rattle.trellis.specs.Run.{quadruple}
 use Rattle.path_greatest.specs.Paths.{bound, Integer, Quadruples}
-use Rattle.path_greatest.specs.Exact.{Whole, le_from}
-use Rattle.path_greatest.specs.Integers.{integer_whole, hi_most, lo_most}
+use Rattle.path_greatest.proofs.Exact.{Whole, le_from}
+use Rattle.path_greatest.proofs.Integers.{integer_whole, hi_most, lo_most}
 use Rattle.ieee.specs.Within.{within}
 use Rattle.isdb_fec.specs.Values.{some_beyond, stream_limit}
 use Rattle.range_calls.specs.Inside.{none_beyond}

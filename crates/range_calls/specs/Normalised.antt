@@ -7,12 +7,13 @@ use Rattle.std.specs.Float.{nan, inf, fin, binary32}
 use Rattle.std.specs.Float.Ieee.{low, up, down, neg, round, sum, add, sub, fits}
 use Rattle.ieee.specs.Value.{mag, hi, lo, Num, one_side, hi_neg, lo_neg, num_neg}
 use Rattle.ieee.specs.Rounding.{rounds_le, rounds_ge}
-use Rattle.ieee.specs.Sums.{sub_is}
-use Rattle.ieee.specs.Zero.{plain, unique, sub_plain, add_neutral}
+use Rattle.ieee.proofs.Sums.{sub_is}
+use Rattle.ieee.proofs.Zero.{plain, unique, sub_plain, add_neutral}
 use Rattle.trellis.specs.Step.{top, renormalised}
-use Rattle.range_paths.specs.Invariant.{Limits, Bounded, bounded_within}
-use Rattle.path_lead.specs.Maximum.{get_d_renormalised}
-use Rattle.range_paths.specs.Maximum.{Top, top_is, renormalised_bounded}
+use Rattle.range_paths.specs.Invariant.{Limits, Bounded}
+use Rattle.range_paths.proofs.Invariant.{bounded_within}
+use Rattle.path_lead.proofs.Maximum.{get_d_renormalised}
+use Rattle.range_paths.proofs.Maximum.{Top, top_is, renormalised_bounded}
 
 abbrev pub Normalised : List Float → Type 0
 Normalised pm = renormalised 32 pm ≡ pm

@@ -5,6 +5,4 @@ pub mod Rising
 pub mod Metrics
 pub mod Limits
 pub mod Numbers
-pub mod NumberLaws
 pub mod Ranges
-pub mod Accepted

@@ -8,11 +8,11 @@ use Rattle.ieee.specs.Nearest.{rnd}
 use Rattle.ieee.specs.Value.{mag, hi, lo, Num, one_side, hi_neg, lo_neg}
 use Rattle.ieee.specs.Order.{value→le}
 use Rattle.ieee.specs.Rounding.{prec_pos, le_or_ge}
-use Rattle.ieee.specs.Bounds.{rounds_floor}
-use Rattle.ieee.specs.Sums.{add_rounds, add_fine, sub_is}
-use Rattle.ieee.specs.Products.{mul_rounds, fine_by, rnd_zero}
-use Rattle.ieee.specs.Constants.{two_to, two_to_num}
-use Rattle.ieee.specs.ConversionLaws.{rounded_between}
+use Rattle.ieee.proofs.Bounds.{rounds_floor}
+use Rattle.ieee.proofs.Sums.{add_rounds, add_fine, sub_is}
+use Rattle.ieee.proofs.Products.{mul_rounds, fine_by, rnd_zero}
+use Rattle.ieee.proofs.Constants.{two_to, two_to_num}
+use Rattle.ieee.proofs.ConversionLaws.{rounded_between}
 use Rattle.range_paths.specs.Values.{nothing}
 use Rattle.ieee_cast.specs.Soft.{soft_of}
 use Rattle.isdbs_metrics.specs.Reading.{absolute, pair_metrics}

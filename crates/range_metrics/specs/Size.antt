@@ -7,10 +7,10 @@ use Rattle.std.specs.Float.Ieee.{fits, emax, low, neg, add, sub, mul, of_bits}
 use Rattle.ieee.specs.Value.{mag, hi, lo, Num, one_side, hi_neg, lo_neg, num_neg}
 use Rattle.ieee.specs.Order.{Le, value→le}
 use Rattle.ieee.specs.Rounding.{pow2, pow2_is, pow2_add, Between}
-use Rattle.ieee.specs.Sums.{add_between, sub_between}
-use Rattle.ieee.specs.Products.{mul_bound}
-use Rattle.ieee.specs.Constants.{two_to, two_to_num}
-use Rattle.ieee.specs.ConversionLaws.{rounded_between}
+use Rattle.ieee.proofs.Sums.{add_between, sub_between}
+use Rattle.ieee.proofs.Products.{mul_bound}
+use Rattle.ieee.proofs.Constants.{two_to, two_to_num}
+use Rattle.ieee.proofs.ConversionLaws.{rounded_between}
 use Rattle.ieee_cast.specs.Soft.{soft_of}
 use Rattle.isdbs_metrics.specs.Reading.{absolute}
 

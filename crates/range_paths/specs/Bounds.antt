@@ -7,8 +7,8 @@ use Rattle.std.specs.Float.Ieee.{neg, add, sub}
 use Rattle.ieee.specs.Value.{hi, lo, Num, hi_neg, lo_neg, num_neg}
 use Rattle.ieee.specs.Order.{Le}
 use Rattle.ieee.specs.Rounding.{pow2, fine_pow2}
-use Rattle.ieee.specs.Sums.{add_rounds, sub_rounds}
-use Rattle.ieee.specs.Bounds.{rounds_cap, rounds_floor}
+use Rattle.ieee.proofs.Sums.{add_rounds, sub_rounds}
+use Rattle.ieee.proofs.Bounds.{rounds_cap, rounds_floor}
 
 -- 512, in units of 2 ^ -149
 abbrev pub U : ℕ

@@ -5,7 +5,3 @@ pub mod Values
 pub mod Steps
 pub mod Reach
 pub mod Invariant
-pub mod Maximum
-pub mod Known
-pub mod Run
-pub mod Starts

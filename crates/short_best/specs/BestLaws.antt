@@ -9,8 +9,8 @@ use Rattle.trellis.specs.Step.{four}
 use Rattle.trellis.specs.Run.{block, quadruple}
 use Rattle.trellis.specs.LaidLaws.{take_laid}
 use Rattle.path_greatest.specs.Paths.{longest, Quadruples, Reading}
-use Rattle.path_greatest.specs.Calls as best-path
-use Rattle.path_greatest.specs.Calls.{code_start}
+use Rattle.path_greatest.proofs.Calls as best-path
+use Rattle.path_greatest.proofs.Calls.{code_start}
 use Rattle.short_code.specs.declared.Code.{Code}
 use Rattle.short_code.specs.Codes.{code_of, labels, half_of, states_of, good_code}
 use Rattle.short_code.specs.CodeLaws.{good_states}

@@ -8,26 +8,27 @@ use Rattle.std.specs.Float.Ieee.{neg, le, of_bits, fits}
 use Rattle.std.specs.Float.Ieee.Fits.{and_i}
 use Rattle.ieee.specs.Value.{hi, lo}
 use Rattle.ieee.specs.Rounding.{pow2}
-use Rattle.ieee.specs.Whole.{on_neg}
+use Rattle.ieee.proofs.Whole.{on_neg}
 use Rattle.refusal.specs.Rows.{first_row, Either}
-use Rattle.refusal.specs.RowLaws.{passed}
+use Rattle.refusal.proofs.RowLaws.{passed}
 use Rattle.refusal.specs.declared.Answer.TheVariants as answer
 use Rattle.trellis.specs.Isdb.{rule, frame_traceback, frame_words}
 use Rattle.trellis.specs.Lists.{laid}
 use Rattle.trellis.specs.ListLaws.{length_upto, none_listed}
-use Rattle.trellis.specs.RunLaws.{label_under, after_values, renormalised_length}
+use Rattle.trellis.proofs.RunLaws.{label_under, after_values, renormalised_length}
 use Rattle.trellis.specs.Step.{Step, four, renormalised, traced, best}
 use Rattle.trellis.specs.Run.{Decoder, block, start_at, start_unknown, values_at, decisions_after, four_steps, releases, quadruple, fresh_from}
 use Rattle.viterbi_core.specs.CountLaws.{counted, releases_is}
 use Rattle.trellis.specs.LaidLaws.{take_laid, length_laid}
 use Rattle.path_greatest.specs.Paths.{longest, Quadruples, Reading}
 use Rattle.path_greatest.specs.Viterbi.{Z, value}
-use Rattle.path_greatest.specs.Exact.{Whole, le_from}
-use Rattle.path_greatest.specs.Tracks.{Tracks, times, times_step, tracks}
-use Rattle.path_greatest.specs.Decoded.{Started, start_tracks}
-use Rattle.path_greatest.specs.Starts.{given, level, given_started, unknown_started}
-use Rattle.path_greatest.specs.Integers.{parts_of_lem, quadruples}
-use Rattle.path_greatest.specs.Calls.{plain_four, follows, start_given, start_unknown_lem}
+use Rattle.path_greatest.proofs.Exact.{Whole, le_from}
+use Rattle.path_greatest.proofs.Tracks.{Tracks, times, times_step, tracks}
+use Rattle.path_greatest.proofs.Decoded.{Started, start_tracks}
+use Rattle.path_greatest.specs.Starts.{given, level}
+use Rattle.path_greatest.proofs.Starts.{given_started, unknown_started}
+use Rattle.path_greatest.proofs.Integers.{parts_of_lem, quadruples}
+use Rattle.path_greatest.proofs.Calls.{plain_four, follows, start_given, start_unknown_lem}
 use Rattle.isdb_fec.specs.declared.conv.ViterbiDecoder.{ViterbiDecoder}
 use Rattle.isdb_fec.specs.declared.conv.Released.{Released}
 use Rattle.isdb_fec.specs.Values.{some_beyond, path_limit}

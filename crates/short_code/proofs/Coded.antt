@@ -16,7 +16,7 @@ use Rattle.short_code.specs.declared.Code.{Code}
 use Rattle.short_code.specs.Codes.{code_of, labels, good_length, good_generator, good_code, Fits}
 use Rattle.short_code.specs.CodeLaws.{states_are}
 use Rattle.short_code.specs.RegisterLaws.{output_parity}
-use Rattle.trellis.specs.RunLaws.{output_bit_lem}
+use Rattle.trellis.proofs.RunLaws.{output_bit_lem}
 
 -- half of the states by a shift
 pub half_fits : (c : Code) (h : ℕ) → 3 ≤ c.constraint → c.constraint ≤ 7 → h ≡ (1 * 2 ^ (c.constraint - 2)) % 2 ^ 64 → (1 ≤ h) × (h ≤ 32) × Fits c h

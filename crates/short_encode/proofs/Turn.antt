@@ -9,7 +9,7 @@ use lib.Seq.{take_all}
 use Rattle.trellis.specs.Lists.{laid}
 use Rattle.trellis.specs.Code.{output, moved, state_at}
 use Rattle.trellis.specs.Encoded.{low_bits, coded_bits, last_state}
-use Rattle.trellis.specs.EncodedLaws.{reached_is, low_at}
+use Rattle.trellis.proofs.EncodedLaws.{reached_is, low_at}
 use Rattle.trellis.specs.LaidLaws.{laid_next}
 use Rattle.short_code.specs.declared.Code.{Code}
 use Rattle.short_code.specs.Codes.{code_of, half_of}

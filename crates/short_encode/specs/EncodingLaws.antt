@@ -7,7 +7,7 @@ use Rattle.std.proofs.lemmas.List.{length-map}
 use Rattle.trellis.specs.Code as trellis
 use Rattle.trellis.specs.Code.{output, state_at}
 use Rattle.trellis.specs.Encoded.{encoded, low_bits, bits_of, coded_bits}
-use Rattle.trellis.specs.EncodedLaws.{length_encoded, encoded_at, length_bits, low_at}
+use Rattle.trellis.proofs.EncodedLaws.{length_encoded, encoded_at, length_bits, low_at}
 use Rattle.short_code.specs.declared.Code.{Code}
 use Rattle.short_code.specs.Codes.{code_of, half_of}
 

@@ -8,12 +8,12 @@ use Rattle.std.proofs.lemmas.List.{length-replicate}
 use Rattle.std.specs.Float.{nan}
 use Rattle.std.specs.Float.Ieee.{binary32, of_bits}
 use Rattle.refusal.specs.Rows.{first_row, Either}
-use Rattle.refusal.specs.RowLaws.{decided}
+use Rattle.refusal.proofs.RowLaws.{decided}
 use Rattle.trellis.specs.Lists.{laid}
 use Rattle.trellis.specs.ListLaws.{length_upto}
 use Rattle.trellis.specs.Step.{Step, Tie, pair, four, known, nexts, renormalised, ruled, traced}
 use Rattle.trellis.specs.Run.{Decoder, settled, values_at, after, start_at, start_unknown, pair_steps, four_steps, known_steps, holding}
-use Rattle.trellis.specs.RunLaws.{after_values, renormalised_length, nexts_length}
+use Rattle.trellis.proofs.RunLaws.{after_values, renormalised_length, nexts_length}
 use Rattle.trellis.specs.Isdb as isdb
 use Rattle.isdb_fec.specs.declared.conv.ViterbiDecoder.{ViterbiDecoder}
 use Rattle.isdb_fec.specs.declared.conv.Released.{Released}
@@ -22,7 +22,7 @@ use Rattle.isdb_fec.specs.Calls as fec-calls
 use Rattle.isdb_fec.specs.declared.conv.Made.{Made}
 use Rattle.isdb_fec.specs.declared.conv.Pushed.{Pushed}
 use Rattle.isdb_fec.specs.Calls.{Unchanged, Fresh, Zero}
-use Rattle.isdb_fec.specs.TwoCallLaws.{leaves_same}
+use Rattle.isdb_fec.proofs.TwoCallLaws.{leaves_same}
 use Rattle.short_code.specs.declared.Code.{Code}
 use Rattle.trellis.specs.Code as trellis
 use Rattle.trellis.specs.Code.{output, moved}

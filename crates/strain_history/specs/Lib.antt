@@ -1,3 +1,1 @@
 pub mod History
-pub mod HistoryLaws
-pub mod Answers

@@ -6,7 +6,7 @@ use Prim.Native.Nat.{ℕ, ◌<◌, ◌≤◌}
 use borrow.Author.Tests.{le-ltb}
 use lib.ListN.{length}
 use Rattle.refusal.specs.Rows.{number_of, first_row}
-use Rattle.refusal.specs.RowLaws.{numbered, none_accepted}
+use Rattle.refusal.proofs.RowLaws.{numbered, none_accepted}
 use Rattle.refusal.specs.declared.Answer.{Answer}
 use Rattle.refusal.specs.declared.Answer.TheVariants.{Accepted}
 use Rattle.strain_window.specs.declared.WindowState.{WindowState}

@@ -6,12 +6,8 @@ pub mod EachLaws
 pub mod Code
 pub mod Step
 pub mod Run
-pub mod Taps
 pub mod Parity
 pub mod Encoded
-pub mod EncodedLaws
-pub mod RunLaws
 pub mod Isdb
 pub mod Stretch
-pub mod LinearLaws
 pub mod DistanceLaws

@@ -12,9 +12,9 @@ use cases_lib::{
 };
 use isdbs_core::frame::{FRAME_BITS, LOAD_BYTES, MAIN_SYMBOLS, SLOT_BYTES, SLOTS};
 use isdbs_phy::demod::{DemodOptions, FrameDecoded, decode_frame, encode_frame};
-use trellis::{FRAME_WORDS, LONGEST_FRAME};
 use std::fs::File;
 use std::os::fd::AsRawFd;
+use trellis::{FRAME_WORDS, LONGEST_FRAME};
 
 const LINES: usize = 286;
 

@@ -12,7 +12,7 @@ use lib.Ieee.{Float, nan, inf, fin, binary32, low, up, down, lt, fits, of_bits}
 use lib.Ieee.Scale.{overflow}
 use Rattle.ieee.specs.Value.{mag, hi, lo, Num, hi_under, lo_under, one_side}
 use Rattle.ieee.specs.Order.{lt→value, value→lt}
-use Rattle.ieee.specs.Zero.{plain, unique}
+use Rattle.ieee.proofs.Zero.{plain, unique}
 use Rattle.viterbi_peak.specs.Sign.{NotZero}
 
 false_of : (b : Bool) → (T b → ⊥) → b ≡ false

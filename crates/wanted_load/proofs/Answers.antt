@@ -10,10 +10,11 @@ use lib.Ieee.{Float}
 use Rattle.refusal.specs.declared.Answer.{Answer}
 use Rattle.refusal.specs.declared.Answer.TheVariants.{Accepted, NoLoad}
 use Rattle.refusal.specs.Rows.{Row, first_row, Either, says}
-use Rattle.refusal.specs.RowLaws.{refusing, decided, is_refused, refused_above, passed_above}
+use Rattle.refusal.specs.RowLaws.{refusing}
+use Rattle.refusal.proofs.RowLaws.{decided, is_refused, refused_above, passed_above}
 use Rattle.isdbs_tables.specs.declared.Table.{Table}
 use Rattle.isdbs_tables.specs.Tables.{table_rows}
-use Rattle.isdbs_tables.specs.TableLaws.{then_refusing}
+use Rattle.isdbs_tables.proofs.TableLaws.{then_refusing}
 use Rattle.isdbs_plan.specs.RunsOf.{load_bytes}
 use Rattle.isdbs_points.specs.declared.Mapping.{Mapping}
 use Rattle.wanted_read.specs.Wanted.{Unwanted}

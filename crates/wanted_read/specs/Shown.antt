@@ -10,7 +10,7 @@ use Rattle.isdbs_points.specs.declared.Cplx.{Cplx}
 use Rattle.isdbs_points.specs.Points.{point, zero64, one64, root64, psk8_of, qpsk_of, conjugated}
 use Rattle.isdbs_points.specs.Frame.{coded_bit}
 use Rattle.isdbs_metrics.specs.Reading.{part_of}
-use Rattle.trellis.specs.RunLaws.{output_bit_lem}
+use Rattle.trellis.proofs.RunLaws.{output_bit_lem}
 use Rattle.wanted_read.specs.ReadOff.{hard, by_sign, psk8_label}
 use Rattle.trellis.specs.Isdb
 

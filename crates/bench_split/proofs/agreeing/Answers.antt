@@ -1,6 +1,6 @@
 use native.Mathlib.Omega.{arith}
 use borrow.Author.Rules.{rules}
-use Prim.Native.Nat.{◌-◌, ◌≤◌, ◌<◌}
+use Prim.Native.Nat.{◌≤◌, ◌<◌}
 use lib.ListN.{length, drop_of_length-le}
 use Rattle.bench_split.specs.Agreement.{agreement}
 use Rattle.bench_split.proofs.Laws.{agreement_none, agreement_next}

@@ -1,7 +1,7 @@
 use mathlib.Core.Path.{◌≡◌, refl}
 use native.Mathlib.Omega.{arith}
 use borrow.Author.Rules.{rules}
-use Prim.Native.Nat.{◌-◌, ◌≤◌, ◌<◌}
+use Prim.Native.Nat.{◌≤◌, ◌<◌}
 use lib.ListN.{length, drop, drop_of_length-le}
 use Rattle.bench_split.specs.Parts.{stops}
 use Rattle.bench_split.proofs.Laws.{stops_next}

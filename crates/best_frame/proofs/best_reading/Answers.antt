@@ -6,10 +6,10 @@ use lib.Ieee.{nan, binary32, fits}
 use lib.ListN.{get_or}
 use Rattle.refusal.proofs.Told.{told}
 use Rattle.refusal.specs.Rows.{first_row}
-use Rattle.refusal.specs.RowLaws.{refused}
+use Rattle.refusal.proofs.RowLaws.{refused}
 use Rattle.isdbs_tables.specs.declared.Table.{Table}
 use Rattle.isdbs_plan.specs.PlannedLaws.{table_is, plan_is, planned}
-use Rattle.range_metrics.specs.Accepted.{sized_by}
+use Rattle.range_metrics.proofs.Accepted.{sized_by}
 use Rattle.range_metrics.proofs.Elements.{elem_fits}
 use Rattle.best_frame.specs.Lent.{lent, lengths}
 use Rattle.best_frame.specs.BestRows.{best_rows}
@@ -26,8 +26,10 @@ returns-in_default c =
     let plan = c.plan_of-p in
     let answer = c.best_answer-answer in
     let same = table_is plan.ensures.0 in
-    let said = answer.ensures ∙ ap (λ (z : Table). first_row (best_rows z a.re.now a.im.now a.o.scales (lengths (lent a.metrics.now a.sides.now a.words.now a.tables.now a.bits.now a.uncoded.now a.bytes.now a.leads.now)))) same in
-    (said, refused answer.result (told answer.result c.in-Accepted.keys2) refl)
+    let said = answer.ensures ∙ ap (λ (z : Table). first_row (best_rows z a.re.now a.im.now a.o.scales (lengths (lent a.metrics.now a.sides.now a.words.now a.tables.now a.bits.now a.uncoded.now a.bytes.now a.leads.now)))) same in record {
+      answers = said;
+      leaves = refused answer.result (told answer.result c.in-Accepted.keys2) refl
+    }
 
 pub read_fronts-requires : goal.read_fronts-requires
 read_fronts-requires c =
@@ -92,5 +94,7 @@ returns c =
     let said = answer.ensures ∙ ap (λ (z : Table). first_row (best_rows z a.re.now a.im.now a.o.scales (lengths (lent a.metrics.now a.sides.now a.words.now a.tables.now a.bits.now a.uncoded.now a.bytes.now a.leads.now)))) same in
     let yes = start_of_lem.in-Accepted.is in
     let from = start_of_lem.start_of_lem in
-    let read = read-fronts.read_fronts in
-    (said, ((λ e. rw (same, from.ensures) at read.ensures), (λ n. absurd (n yes))))
+    let read = read-fronts.read_fronts in record {
+      answers = said;
+      leaves = ((λ e. rw (same, from.ensures) at read.ensures), (λ n. absurd (n yes)))
+    }

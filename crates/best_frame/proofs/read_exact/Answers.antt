@@ -20,11 +20,11 @@ best_content-requires c =
     let fq = frame-metrics.frame_metrics in
     let sr = frame-sides.frame_sides in
     let sm = slot-marks.slot_marks in
-    let em = metrics_whole t ok r a.start a.metrics.now fq.new.1.1.1.1.1.0 fq.ensures z.metrics_are in
-    let es = sides_whole t ok r a.start a.sides.now sr.new.1.1.1.1.0 (sr.ensures (scale_of a.o.scales)) z.sides_are in
-    let ma = marks_at t ok r a.start a.marks.now sm.new.1.0 sm.ensures in
-    let ml = marks_long t ok r a.start a.marks.now sm.new.1.0 sm.ensures pre.5 in
-    content_lent t ok r a.start pre.3 fq.new.1.1.1.1.1.0 sr.new.1.1.1.1.0 sm.new.1.0 a.tables.now a.words.now a.bits.now a.uncoded.now a.leads.now em es ml ma (omega (arith, z.tables_are)) (omega (arith, z.words_are)) z.bits_are z.uncoded_are z.leads_are
+    let em = metrics_whole t ok r a.start a.metrics.now fq.new.metrics fq.ensures z.metrics_are in
+    let es = sides_whole t ok r a.start a.sides.now sr.new.sides (sr.ensures (scale_of a.o.scales)) z.sides_are in
+    let ma = marks_at t ok r a.start a.marks.now sm.new.marks sm.ensures in
+    let ml = marks_long t ok r a.start a.marks.now sm.new.marks sm.ensures pre.5 in
+    content_lent t ok r a.start pre.3 fq.new.metrics sr.new.sides sm.new.marks a.tables.now a.words.now a.bits.now a.uncoded.now a.leads.now em es ml ma (omega (arith, z.tables_are)) (omega (arith, z.words_are)) z.bits_are z.uncoded_are z.leads_are
 
 pub write_load-requires : goal.write_load-requires
 write_load-requires c =
@@ -43,14 +43,14 @@ write_load-requires c =
     let fq = frame-metrics.frame_metrics in
     let sr = frame-sides.frame_sides in
     let sm = slot-marks.slot_marks in
-    let em = metrics_whole t ok r a.start a.metrics.now fq.new.1.1.1.1.1.0 fq.ensures z.metrics_are in
-    let es = sides_whole t ok r a.start a.sides.now sr.new.1.1.1.1.0 (sr.ensures (scale_of a.o.scales)) z.sides_are in
-    let ma = marks_at t ok r a.start a.marks.now sm.new.1.0 sm.ensures in
+    let em = metrics_whole t ok r a.start a.metrics.now fq.new.metrics fq.ensures z.metrics_are in
+    let es = sides_whole t ok r a.start a.sides.now sr.new.sides (sr.ensures (scale_of a.o.scales)) z.sides_are in
+    let ma = marks_at t ok r a.start a.marks.now sm.new.marks sm.ensures in
     let bc = best-content.best_content in
-    let l = found_long t ok r a.start v z.leads_are fq.new.1.1.1.1.1.0 sr.new.1.1.1.1.0 sm.new.1.0 bc.new.1.1.1.1.1.1.0 bc.new.1.1.1.1.1.1.1.0 bc.new.1.1.1.1.1.1.1.1.0 em es ma bc.ensures in
-    let w = found_wide t ok r a.start v z.leads_are fq.new.1.1.1.1.1.0 sr.new.1.1.1.1.0 sm.new.1.0 bc.new.1.1.1.1.1.1.0 bc.new.1.1.1.1.1.1.1.0 bc.new.1.1.1.1.1.1.1.1.0 em es ma bc.ensures in
+    let l = found_long t ok r a.start v z.leads_are fq.new.metrics sr.new.sides sm.new.marks bc.new.bits bc.new.uncoded bc.new.leads em es ma bc.ensures in
+    let w = found_wide t ok r a.start v z.leads_are fq.new.metrics sr.new.sides sm.new.marks bc.new.bits bc.new.uncoded bc.new.leads em es ma bc.ensures in
     let zb = z.bytes_are in
-    (pre.0, omega arith, omega arith, found_bits t ok r a.start v z.leads_are fq.new.1.1.1.1.1.0 sr.new.1.1.1.1.0 sm.new.1.0 bc.new.1.1.1.1.1.1.0 bc.new.1.1.1.1.1.1.1.0 bc.new.1.1.1.1.1.1.1.1.0 em es ma bc.ensures, found_twos t ok r a.start v z.leads_are fq.new.1.1.1.1.1.0 sr.new.1.1.1.1.0 sm.new.1.0 bc.new.1.1.1.1.1.1.0 bc.new.1.1.1.1.1.1.1.0 bc.new.1.1.1.1.1.1.1.1.0 em es ma bc.ensures, omega arith)
+    (pre.0, omega arith, omega arith, found_bits t ok r a.start v z.leads_are fq.new.metrics sr.new.sides sm.new.marks bc.new.bits bc.new.uncoded bc.new.leads em es ma bc.ensures, found_twos t ok r a.start v z.leads_are fq.new.metrics sr.new.sides sm.new.marks bc.new.bits bc.new.uncoded bc.new.leads em es ma bc.ensures, omega arith)
 
 pub shape_of-metrics : goal.shape_of-metrics
 shape_of-metrics c = c.metrics-1.given
@@ -96,9 +96,9 @@ returns c =
     let fq = frame-metrics.frame_metrics in
     let sr = frame-sides.frame_sides in
     let sm = slot-marks.slot_marks in
-    let em = metrics_whole t ok r a.start a.metrics.now fq.new.1.1.1.1.1.0 fq.ensures z.metrics_are in
-    let es = sides_whole t ok r a.start a.sides.now sr.new.1.1.1.1.0 (sr.ensures (scale_of a.o.scales)) z.sides_are in
-    let ma = marks_at t ok r a.start a.marks.now sm.new.1.0 sm.ensures in
+    let em = metrics_whole t ok r a.start a.metrics.now fq.new.metrics fq.ensures z.metrics_are in
+    let es = sides_whole t ok r a.start a.sides.now sr.new.sides (sr.ensures (scale_of a.o.scales)) z.sides_are in
+    let ma = marks_at t ok r a.start a.marks.now sm.new.marks sm.ensures in
     let bc = best-content.best_content in
     let cb = c.write_load in
-    found_reads t ok r a.start v z.leads_are fq.new.1.1.1.1.1.0 sr.new.1.1.1.1.0 sm.new.1.0 bc.new.1.1.1.1.1.1.0 bc.new.1.1.1.1.1.1.1.0 bc.new.1.1.1.1.1.1.1.1.0 em es ma bc.ensures a.bytes.now cb.new.1.1.1.0 cb.ensures z.bytes_are
+    found_reads t ok r a.start v z.leads_are fq.new.metrics sr.new.sides sm.new.marks bc.new.bits bc.new.uncoded bc.new.leads em es ma bc.ensures a.bytes.now cb.new.bytes cb.ensures z.bytes_are

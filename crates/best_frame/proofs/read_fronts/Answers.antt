@@ -127,56 +127,56 @@ shape_of-metrics c =
     let back = c in
     let read-exact = back in
     let a = read-exact.args in
-    length_front a.metrics.now read-exact.read_exact.new.1.1.1.1.1.0 (4 * a.p.steps) back.metrics-1.given.0
+    length_front a.metrics.now read-exact.read_exact.new.metrics (4 * a.p.steps) back.metrics-1.given.0
 
 pub shape_of-sides : goal.shape_of-sides
 shape_of-sides c =
     let back = c in
     let read-exact = back in
     let a = read-exact.args in
-    length_front a.sides.now read-exact.read_exact.new.1.1.1.1.1.1.0 a.p.steps back.sides-1.given.0
+    length_front a.sides.now read-exact.read_exact.new.sides a.p.steps back.sides-1.given.0
 
 pub shape_of-words : goal.shape_of-words
 shape_of-words c =
     let back = c in
     let read-exact = back in
     let a = read-exact.args in
-    length_front a.words.now read-exact.read_exact.new.1.1.1.1.1.1.1.1.0 a.p.steps back.words-1.given.0
+    length_front a.words.now read-exact.read_exact.new.words a.p.steps back.words-1.given.0
 
 pub shape_of-tables : goal.shape_of-tables
 shape_of-tables c =
     let back = c in
     let read-exact = back in
     let a = read-exact.args in
-    length_front a.tables.now read-exact.read_exact.new.1.1.1.1.1.1.1.1.1.0 (64 * a.p.valid_slots) back.tables-1.given.0
+    length_front a.tables.now read-exact.read_exact.new.tables (64 * a.p.valid_slots) back.tables-1.given.0
 
 pub shape_of-bits : goal.shape_of-bits
 shape_of-bits c =
     let back = c in
     let read-exact = back in
     let a = read-exact.args in
-    length_front a.bits.now read-exact.read_exact.new.1.1.1.1.1.1.1.1.1.1.0 a.p.steps back.bits-1.given.0
+    length_front a.bits.now read-exact.read_exact.new.bits a.p.steps back.bits-1.given.0
 
 pub shape_of-uncoded : goal.shape_of-uncoded
 shape_of-uncoded c =
     let back = c in
     let read-exact = back in
     let a = read-exact.args in
-    length_front a.uncoded.now read-exact.read_exact.new.1.1.1.1.1.1.1.1.1.1.1.0 a.p.steps back.uncoded-1.given.0
+    length_front a.uncoded.now read-exact.read_exact.new.uncoded a.p.steps back.uncoded-1.given.0
 
 pub shape_of-bytes : goal.shape_of-bytes
 shape_of-bytes c =
     let back = c in
     let read-exact = back in
     let a = read-exact.args in
-    length_front a.bytes.now read-exact.read_exact.new.1.1.1.1.1.1.1.1.1.1.1.1.0 a.p.bytes back.bytes-1.given.0
+    length_front a.bytes.now read-exact.read_exact.new.bytes a.p.bytes back.bytes-1.given.0
 
 pub shape_of-leads : goal.shape_of-leads
 shape_of-leads c =
     let back = c in
     let read-exact = back in
     let a = read-exact.args in
-    length_front a.leads.now read-exact.read_exact.new.1.1.1.1.1.1.1.1.1.1.1.1.1.0 a.p.valid_slots back.leads-1.given.0
+    length_front a.leads.now read-exact.read_exact.new.leads a.p.valid_slots back.leads-1.given.0
 
 pub returns : goal.returns
 returns c =
@@ -190,7 +190,7 @@ returns c =
     let st = read-exact in
     let f = fronts st.args.p (lengths (lent st.args.metrics.now st.args.sides.now st.args.words.now st.args.tables.now st.args.bits.now st.args.uncoded.now st.args.bytes.now st.args.leads.now)) st.requires.0 st.requires.4 in
     let called = read-exact.read_exact in
-    left_of st.args.p (lent st.args.metrics.now st.args.sides.now st.args.words.now st.args.tables.now st.args.bits.now st.args.uncoded.now st.args.bytes.now st.args.leads.now) (lent called.new.1.1.1.1.1.0 called.new.1.1.1.1.1.1.0 called.new.1.1.1.1.1.1.1.1.0 called.new.1.1.1.1.1.1.1.1.1.0 called.new.1.1.1.1.1.1.1.1.1.1.0 called.new.1.1.1.1.1.1.1.1.1.1.1.0 called.new.1.1.1.1.1.1.1.1.1.1.1.1.0 called.new.1.1.1.1.1.1.1.1.1.1.1.1.1.0) st.requires.0 f
+    left_of st.args.p (lent st.args.metrics.now st.args.sides.now st.args.words.now st.args.tables.now st.args.bits.now st.args.uncoded.now st.args.bytes.now st.args.leads.now) (lent called.new.metrics called.new.sides called.new.words called.new.tables called.new.bits called.new.uncoded called.new.bytes called.new.leads) st.requires.0 f
     (record {
       metrics = at-metrics.metrics-1.given.0;
       sides = at-sides.sides-1.given.0;

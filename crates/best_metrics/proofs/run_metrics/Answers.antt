@@ -136,7 +136,7 @@ loop-k-preserved c =
     let l = h.2 in
     let room = st.requires.2 in
     let ms = piece_metrics co a.re.now a.im.now a.m a.scale in
-    let done = more_metrics ms k bo.result at.metrics a.metrics.now _ h.3 (written_tail (4 * k) at.metrics wb.new.1.1.1.1.1.1.1.0 (upto (λ i. fours ms (4 * k + i)) (4 * bo.result)) (omega arith) wb.ensures) in (
+    let done = more_metrics ms k bo.result at.metrics a.metrics.now _ h.3 (written_tail (4 * k) at.metrics wb.new.out (upto (λ i. fours ms (4 * k + i)) (4 * bo.result)) (omega arith) wb.ensures) in (
       omega arith,
       more_periods co k bo.result h.1 (block_periods co a.n k bo.result (rw lay.ensures.0 st.requires.0) h.1 h.0 (rw lay.ensures.1.period at bo.ensures.3)),
       ap length done ∙ length_laid_upto (fours ms) (4 * (k + bo.result)) a.metrics.now (omega arith),

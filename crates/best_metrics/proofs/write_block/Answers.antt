@@ -25,7 +25,7 @@ pub take_block-requires : goal.take_block-requires
 take_block-requires c =
     let make-block = c in
     let st = make-block in
-    (make-block.make_block.ensures.0.long, st.requires.7)
+    (make-block.make_block.ensures.made.long, st.requires.7)
 
 pub returns : goal.returns
 returns c =
@@ -34,6 +34,6 @@ returns c =
     let a = st.args in
     let ms = piece_metrics a.layout.combination a.re.now a.im.now a.m a.scale in
     let made = make-block.make_block in
-    let block = made.new.1.1.1.1.1.1.0 in
+    let block = made.new.block in
     c.take_block.ensures
-    ∙ ap (λ (x : List Float). laid x a.out.now) (upto_cong (floats block) (λ i. fours ms (4 * a.k + i)) (4 * a.n) (λ i h. block_fours ms a.k a.n block made.ensures.0 i h))
+    ∙ ap (λ (x : List Float). laid x a.out.now) (upto_cong (floats block) (λ i. fours ms (4 * a.k + i)) (4 * a.n) (λ i h. block_fours ms a.k a.n block made.ensures.made i h))

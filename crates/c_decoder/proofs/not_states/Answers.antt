@@ -1,7 +1,7 @@
 -- `not_states` meets its contract.
 use lib.ListN.{take}
 use Rattle.isdb_fec.specs.Rows.{handed_rows}
-use Rattle.c_answers.specs.LengthLaws.{until_length_lem}
+use Rattle.c_answers.proofs.LengthLaws.{until_length_lem}
 use Rattle.c_decoder.specs.Decoders.{decoder_of}
 use Rattle.c_decoder.proofs.not_states.Goals as goal
 

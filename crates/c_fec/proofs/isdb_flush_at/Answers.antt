@@ -7,7 +7,7 @@ use Rattle.isdb_fec.specs.declared.conv.ViterbiDecoder.{ViterbiDecoder}
 use Rattle.isdb_fec.specs.Calls.{handed}
 use Rattle.isdb_fec.specs.Rows.{handed_rows, flush_rows}
 use Rattle.c_decoder.specs.Decoders.{decoder_of}
-use Rattle.c_answers.specs.LengthLaws.{not_states, until_refuses}
+use Rattle.c_answers.proofs.LengthLaws.{not_states, until_refuses}
 use Rattle.c_decoder.specs.StoredLaws.{unflushed}
 use Rattle.c_fec.proofs.Decoders.{flush_done}
 use Rattle.c_fec.proofs.isdb_flush_at.Goals as goal
@@ -20,7 +20,10 @@ returns-then-pm-ne-STATES c =
     let f : ViterbiDecoder = decoder_of (take 64 a.pm.now) a.held.now a.traceback in
     let n = c.not_states.result in
     let h = until_refuses (handed_rows f) tt n c.not_states.ensures in
-    (not_states a.pm.now (flush_rows f (length a.decisions.now) (length a.out.now)) n c.if-pm-ne-STATES.true c.not_states.ensures, unflushed (flush_at a.end (handed w a.decisions.now)).bits n w a.count.now a.decisions.now a.out.now h)
+    record {
+      answers = not_states a.pm.now (flush_rows f (length a.decisions.now) (length a.out.now)) n c.if-pm-ne-STATES.true c.not_states.ensures;
+      leaves = unflushed (flush_at a.end (handed w a.decisions.now)).bits n w a.count.now a.decisions.now a.out.now h;
+    }
 
 pub returns : goal.returns
 returns c =
@@ -33,4 +36,5 @@ returns c =
     let v = d.decoder_of-v.result in
     let w : ViterbiDecoder = decoder_of a.pm.now a.held.now a.traceback in
     let e : v ≡ w = d.decoder_of-v.ensures in
-    flush_done v w e (λ v. flush_rows v (length a.decisions.now) (length a.out.now)) p.flush_at-r.result s.store.result s.store.new.1.0 s.store.new.1.1.0 a.count.now s.store.new.1.1.1.0 a.decisions.now p.flush_at-r.new.1.1.0 a.out.now p.flush_at-r.new.1.1.1.0 if1.if-pm-ne-STATES.false s.store.ensures.0 s.store.ensures.1.0 s.store.ensures.1.1.0 s.store.ensures.1.1.1 p.flush_at-r.ensures.0 (λ v. (flush_at a.end (handed v a.decisions.now)).bits) p.flush_at-r.ensures.1
+    let both = flush_done v w e (λ v. flush_rows v (length a.decisions.now) (length a.out.now)) p.flush_at-r.result s.store.result s.store.new.pm s.store.new.held a.count.now s.store.new.count a.decisions.now p.flush_at-r.new.decisions a.out.now p.flush_at-r.new.out if1.if-pm-ne-STATES.false s.store.ensures.answers s.store.ensures.values s.store.ensures.counts.0 s.store.ensures.counts.1 p.flush_at-r.ensures.answers (λ v. (flush_at a.end (handed v a.decisions.now)).bits) p.flush_at-r.ensures.leaves in
+    record { answers = both.0; leaves = both.1 }

@@ -7,7 +7,7 @@ use Rattle.isdb_fec.specs.Rows.{handed_rows, push_known_rows}
 use Rattle.isdb_fec.specs.Calls.{steps, handed}
 use Rattle.trellis.specs.Run.{known_steps}
 use Rattle.c_decoder.specs.Decoders.{decoder_of}
-use Rattle.c_answers.specs.LengthLaws.{not_states, until_refuses}
+use Rattle.c_answers.proofs.LengthLaws.{not_states, until_refuses}
 use Rattle.c_decoder.specs.StoredLaws.{unstored}
 use Rattle.c_fec.proofs.Decoders.{pushed}
 use Rattle.c_fec.proofs.isdb_push_known.Goals as goal
@@ -21,7 +21,10 @@ returns-then-pm-ne-STATES c =
     let f : ViterbiDecoder = decoder_of (take 64 a.pm.now) a.held.now a.traceback in
     let n = c.not_states.result in
     let h = until_refuses (handed_rows f) tt n c.not_states.ensures in
-    (not_states a.pm.now (push_known_rows f (length a.bits.now) (length a.decisions.now) (length a.out.now)) n c.if-pm-ne-STATES.true c.not_states.ensures, unstored n a.traceback (steps a.traceback (known_steps a.bits.now) (handed w a.decisions.now) (length a.bits.now)) a.pm.now a.held.now a.count.now a.decisions.now a.out.now h)
+    record {
+      answers = not_states a.pm.now (push_known_rows f (length a.bits.now) (length a.decisions.now) (length a.out.now)) n c.if-pm-ne-STATES.true c.not_states.ensures;
+      leaves = unstored n a.traceback (steps a.traceback (known_steps a.bits.now) (handed w a.decisions.now) (length a.bits.now)) a.pm.now a.held.now a.count.now a.decisions.now a.out.now h;
+    }
 
 pub returns : goal.returns
 returns c =
@@ -34,4 +37,5 @@ returns c =
     let v = d.decoder_of-v.result in
     let w : ViterbiDecoder = decoder_of a.pm.now a.held.now a.traceback in
     let e : v ≡ w = d.decoder_of-v.ensures in
-    pushed v w e (λ v. push_known_rows v (length a.bits.now) (length a.decisions.now) (length a.out.now)) p.push_known-r.result s.store.result s.store.new.1.0 s.store.new.1.1.0 a.count.now s.store.new.1.1.1.0 a.decisions.now p.push_known-r.new.1.1.0 a.out.now p.push_known-r.new.1.1.1.0 if1.if-pm-ne-STATES.false s.store.ensures.0 s.store.ensures.1.0 s.store.ensures.1.1.0 s.store.ensures.1.1.1 p.push_known-r.ensures.0 (λ v. steps v.traceback (known_steps a.bits.now) (handed v a.decisions.now) (length a.bits.now)) p.push_known-r.ensures.1
+    let both = pushed v w e (λ v. push_known_rows v (length a.bits.now) (length a.decisions.now) (length a.out.now)) p.push_known-r.result s.store.result s.store.new.pm s.store.new.held a.count.now s.store.new.count a.decisions.now p.push_known-r.new.decisions a.out.now p.push_known-r.new.out if1.if-pm-ne-STATES.false s.store.ensures.answers s.store.ensures.values s.store.ensures.counts.0 s.store.ensures.counts.1 p.push_known-r.ensures.answers (λ v. steps v.traceback (known_steps a.bits.now) (handed v a.decisions.now) (length a.bits.now)) p.push_known-r.ensures.leaves in
+    record { answers = both.0; leaves = both.1 }

@@ -8,8 +8,8 @@ use Rattle.isdbt_table.specs.declared.CodeRate.{CodeRate}
 use Rattle.c_isdbt.specs.declared.MaybeRate.TheVariants.{Rate, NoRate}
 use Rattle.c_isdbt.specs.Rates.{rate_by}
 use Rattle.c_answers.specs.AnswerLaws.{kept, refusing}
-use Rattle.c_answers.specs.LengthLaws.{until_refuses}
-use Rattle.refusal.specs.RowLaws.{zero_accepted}
+use Rattle.c_answers.proofs.LengthLaws.{until_refuses}
+use Rattle.refusal.proofs.RowLaws.{zero_accepted}
 use Rattle.c_isdbt.proofs.Rates.{rate_answer, rate_value}
 use Prim.Native.Nat.{ℕ, ◌*◌, ◌/◌}
 use Rattle.isdb_fec.specs.Rows.{fresh_rows}

@@ -8,7 +8,7 @@ use Rattle.isdbt_table.specs.declared.CodeRate.{CodeRate}
 use Rattle.c_isdbt.specs.declared.MaybeRate.TheVariants.{Rate}
 use Rattle.c_isdbt.specs.Rates.{rate_by}
 use Rattle.c_answers.specs.AnswerLaws.{kept, refusing}
-use Rattle.refusal.specs.RowLaws.{zero_accepted}
+use Rattle.refusal.proofs.RowLaws.{zero_accepted}
 use Rattle.c_isdbt.proofs.Rates.{rate_answer, rate_value}
 use Prim.Native.Nat.{◌*◌, ◌/◌}
 use lib.Ieee.{Float}

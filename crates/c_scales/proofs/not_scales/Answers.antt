@@ -4,8 +4,8 @@ use mathlib.Core.Bool.{true}
 use mathlib.Core.List.{[], ◌∷◌}
 use Rattle.refusal.specs.declared.Answer.TheVariants.{Length}
 use Rattle.refusal.specs.Rows.{number_of}
-use Rattle.refusal.specs.RowLaws.{zero_accepted}
-use Rattle.isdbs_tables.specs.TableLaws.{then_rows, before_rows}
+use Rattle.refusal.proofs.RowLaws.{zero_accepted}
+use Rattle.isdbs_tables.proofs.TableLaws.{then_rows, before_rows}
 use Rattle.c_scales.proofs.not_scales.Goals as goal
 
 pub returns-then-answer-ne0 : goal.returns-then-answer-ne0

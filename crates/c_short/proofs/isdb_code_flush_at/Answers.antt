@@ -10,7 +10,7 @@ use Rattle.c_decoder.specs.StoredLaws.{unflushed}
 use Rattle.trellis.specs.Step.{traced}
 use Rattle.short_code.specs.Codes.{half_of}
 use Rattle.c_short.specs.Stored.{code_from}
-use Rattle.c_answers.specs.LengthLaws.{not_states, until_refuses}
+use Rattle.c_answers.proofs.LengthLaws.{not_states, until_refuses}
 use Rattle.c_short.proofs.Laws.{flushed}
 use Rattle.c_short.proofs.isdb_code_flush_at.Goals as goal
 

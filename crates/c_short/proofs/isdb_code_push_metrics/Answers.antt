@@ -10,7 +10,7 @@ use Rattle.short_fec.specs.Calls.{call, handed, over}
 use Rattle.c_decoder.specs.Decoders.{decoder_of}
 use Rattle.c_decoder.specs.StoredLaws.{unstored}
 use Rattle.c_short.specs.Stored.{code_from}
-use Rattle.c_answers.specs.LengthLaws.{not_states, until_refuses}
+use Rattle.c_answers.proofs.LengthLaws.{not_states, until_refuses}
 use Rattle.c_short.proofs.Laws.{pushed}
 use Rattle.c_short.proofs.isdb_code_push_metrics.Goals as goal
 

@@ -1,6 +1,6 @@
 -- `not_states` meets its contract.
 use Rattle.short_fec.specs.Rows.{handed_rows}
-use Rattle.c_answers.specs.LengthLaws.{until_length_lem}
+use Rattle.c_answers.proofs.LengthLaws.{until_length_lem}
 use Rattle.c_decoder.specs.Decoders.{decoder_of}
 use Rattle.c_short.proofs.not_states.Goals as goal
 

@@ -1,5 +1,5 @@
 -- `float_bits` meets its contract.
-use Rattle.ieee.specs.Bits.{number}
+use Rattle.ieee.proofs.Bits.{number}
 use Rattle.cases_lib.proofs.float_bits.Goals as goal
 
 pub float_to_bits-result : goal.float_to_bits-result

@@ -128,9 +128,9 @@ loop-i-preserved c =
     let at = looped.loop-i in
     let l = tested.loop-i-test.true in
     let e = steps_by_lem (get_or st.args.p.runs at.i no_run) _ steps-per-slot.steps_per_slot.ensures in
-    let x = ap (λ (k : ℕ). get_or st.args.t3 k nan) scale-place.scale_place-place.ensures.0 in
+    let x = ap (λ (k : ℕ). get_or st.args.scales k nan) scale-place.scale_place-place.ensures.0 in
     let k = read-run.read_run-at in
-    (read_next at.invariant.0 l e k.auto.1.1.1.1.1.0 k.auto.1.1.1.1.1.1.0 _ x k.ensures.0, marked_next at.invariant.0.run at.invariant.1 l e _ x k.ensures.1)
+    (read_next at.invariant.0 l e k.auto.decisions k.auto.bits _ x k.ensures.read, marked_next at.invariant.0.run at.invariant.1 l e _ x k.ensures.marked)
 
 pub shape_of-decisions : goal.shape_of-decisions
 shape_of-decisions c = c.loop-i.invariant.0.same_words
@@ -146,4 +146,4 @@ returns c =
     let st = c in
     let l = listed_runs st.args.p st.requires.0 in
     let h = c.loop-i.invariant in
-    (read_last l h.0 c.loop-i-test.false, marked_last l h.0.run c.loop-i-test.false h.1)
+    record { read = read_last l h.0 c.loop-i-test.false; marked = marked_last l h.0.run c.loop-i-test.false h.1 }

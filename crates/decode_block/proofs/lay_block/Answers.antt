@@ -35,7 +35,7 @@ pub lay_pairs-requires-in-Qpsk : goal.lay_pairs-requires-in-Qpsk
 lay_pairs-requires-in-Qpsk c =
     let qpsk-softs = c in
     let st = qpsk-softs in
-    let kept : length qpsk-softs.qpsk_softs.new.1.1.1.1.0 ≡ length st.args.block.now = qpsk-softs.qpsk_softs.auto.1.1.1.1.0 in
+    let kept : length qpsk-softs.qpsk_softs.new.softs ≡ length st.args.block.now = qpsk-softs.qpsk_softs.auto.softs in
     let few = steps_few st.args.plan.layout.combination st.args.plan.count st.requires.0.few in
     let long = st.requires.4 in
     let same = laid_long _ _ _ st.args.pairs.now qpsk-softs.qpsk_softs.ensures (omega arith) in
@@ -83,10 +83,10 @@ returns-in-Bpsk c =
     let few = steps_few co a.plan.count st.requires.0.few in
     let long = st.requires.6 in
     let laying = lay-pairs.lay_pairs.ensures in
-    let pairs = bpsk-softs.bpsk_softs.new.1.1.1.1.0 in
+    let pairs = bpsk-softs.bpsk_softs.new.pairs in
     let same = laid_long _ _ _ a.block.now laying.0 (omega arith) in
     let made = bpsk_made co a.re.now a.im.now a.plan.mapping a.plan.scale a.plan.from a.plan.count _ a.pairs.now _ a.block.now e (omega arith) bpsk-softs.bpsk_softs.ensures laying.0 in
-    (made, laying.1 ∙ pair_marks pairs _ a.plan.count a.block.now a.wide.now laying.0 ∙ marks_made co a.re.now a.im.now a.plan.mapping a.plan.scale a.plan.from a.plan.count _ a.wide.now made)
+    record { made = made; marked = laying.1 ∙ pair_marks pairs _ a.plan.count a.block.now a.wide.now laying.0 ∙ marks_made co a.re.now a.im.now a.plan.mapping a.plan.scale a.plan.from a.plan.count _ a.wide.now made }
 
 pub returns-in-Qpsk : goal.returns-in-Qpsk
 returns-in-Qpsk c =
@@ -100,12 +100,12 @@ returns-in-Qpsk c =
     let few = steps_few co a.plan.count st.requires.0.few in
     let long = st.requires.6 in
     let laying = lay-pairs2.lay_pairs-in-Qpsk.ensures in
-    let pairs = qpsk-softs.qpsk_softs.new.1.1.1.1.1.0 in
-    let softs = qpsk-softs.qpsk_softs.new.1.1.1.1.0 in
-    let kept : length softs ≡ length a.block.now = qpsk-softs.qpsk_softs.auto.1.1.1.1.0 in
+    let pairs = qpsk-softs.qpsk_softs.new.pairs in
+    let softs = qpsk-softs.qpsk_softs.new.softs in
+    let kept : length softs ≡ length a.block.now = qpsk-softs.qpsk_softs.auto.softs in
     let same = laid_long _ _ _ softs laying.0 (omega arith) in
     let made = qpsk_made co a.re.now a.im.now a.plan.mapping a.plan.scale a.plan.from a.plan.count _ a.pairs.now _ softs e (omega arith) qpsk-softs.qpsk_softs.ensures laying.0 in
-    (made, laying.1 ∙ pair_marks pairs _ a.plan.count softs a.wide.now laying.0 ∙ marks_made co a.re.now a.im.now a.plan.mapping a.plan.scale a.plan.from a.plan.count _ a.wide.now made)
+    record { made = made; marked = laying.1 ∙ pair_marks pairs _ a.plan.count softs a.wide.now laying.0 ∙ marks_made co a.re.now a.im.now a.plan.mapping a.plan.scale a.plan.from a.plan.count _ a.wide.now made }
 
 pub returns-in-Tc8psk : goal.returns-in-Tc8psk
 returns-in-Tc8psk c =
@@ -121,4 +121,4 @@ returns-in-Tc8psk c =
     let magnitudes = magnitude-block.magnitude_block.ensures in
     let same = laid_long _ _ _ a.block.now magnitudes (omega arith) in
     let made = tc8psk_made co a.re.now a.im.now a.plan.mapping a.plan.scale a.plan.from a.plan.count _ a.parts.now _ a.block.now e (omega arith) subset-parts.subset_parts.ensures magnitudes in
-    (made, c.mark_block.ensures ∙ marks_made co a.re.now a.im.now a.plan.mapping a.plan.scale a.plan.from a.plan.count _ a.wide.now made)
+    record { made = made; marked = c.mark_block.ensures ∙ marks_made co a.re.now a.im.now a.plan.mapping a.plan.scale a.plan.from a.plan.count _ a.wide.now made }

@@ -37,21 +37,6 @@ uncoded_bit-c2-requires c =
     let b = at.invariant.bits at.i (omega arith) in
     (omega arith, omega arith, omega arith)
 
-pub overflow_mul-byte : goal.overflow_mul-byte
-overflow_mul-byte c =
-    let f = (overflow_add-byte-in-loop-i c).ranges in
-    record { fits = omega arith }
-
-pub overflow_add-byte : goal.overflow_add-byte
-overflow_add-byte c =
-    let f = (overflow_add-byte-in-loop-i c).ranges in
-    record { fits = omega arith }
-
-pub overflow_mul-byte-in-loop-i : goal.overflow_mul-byte-in-loop-i
-overflow_mul-byte-in-loop-i c =
-    let f = (overflow_add-byte-in-loop-i c).ranges in
-    record { fits = omega arith }
-
 pub overflow_add-byte-in-loop-i : goal.overflow_add-byte-in-loop-i
 overflow_add-byte-in-loop-i c =
     let turn = c in
@@ -63,6 +48,21 @@ overflow_add-byte-in-loop-i c =
     let read = point_read st.args.m.tc8psk_c1_is_y st.args.xs.now st.args.ys.now st.requires.0 u s b at.loop-i.invariant.small in
     let moves : (64 * u + s) / 2 ≡ 32 * u + s / 2 = omega arith in
     record { fits = (taken_next st.args.re.now st.args.im.now st.args.m st.args.start st.args.bits.now at.loop-i.byte s at.loop-i.i _ _ at.loop-i.invariant turn.loop-i-test.true moves (c.uncoded_bit-c2.ensures ∙ ap (λ (p : Cplx). bit (lt (correlation (point (get_or st.args.re.now at.loop-i.i nan) (conjugated st.args.m.conjugate (get_or st.args.im.now at.loop-i.i nan))) p) zero64)) read)).0 }
+
+pub overflow_mul-byte : goal.overflow_mul-byte
+overflow_mul-byte c =
+    let f = (overflow_add-byte-in-loop-i c).fits in
+    record { fits = omega arith }
+
+pub overflow_add-byte : goal.overflow_add-byte
+overflow_add-byte c =
+    let f = (overflow_add-byte-in-loop-i c).fits in
+    record { fits = omega arith }
+
+pub overflow_mul-byte-in-loop-i : goal.overflow_mul-byte-in-loop-i
+overflow_mul-byte-in-loop-i c =
+    let f = (overflow_add-byte-in-loop-i c).fits in
+    record { fits = omega arith }
 
 pub loop-i-preserved : goal.loop-i-preserved
 loop-i-preserved c =

@@ -12,9 +12,6 @@ use Rattle.viterbi_core.specs.CountLaws.{releases_le}
 use Rattle.decode_end.proofs.Ending.{ended}
 use Rattle.decode_end.proofs.read_end.Goals as goal
 
-slice-aggregate-run-steps-2 : tie.Need-slice-aggregate-run-steps-2
-slice-aggregate-run-steps-2 c = search rules
-
 pub run_steps-now_at-requires : goal.run_steps-now_at-requires
 run_steps-now_at-requires c =
     let made = c in

@@ -1,6 +1,6 @@
 -- `decode` meets its contract.
 use Rattle.isdbs_metrics.specs.FrameRunLaws.{front_is}
-use Rattle.trellis.specs.DistanceLaws.{bits_at}
+use Rattle.trellis.proofs.DistanceLaws.{bits_at}
 use Rattle.decode_main.specs.DecodedLaws.{from_count, from_binary, decoded_from}
 use Rattle.decode_main.specs.Runs.{bits_from}
 use Rattle.isdbs_metrics.specs.Scales.{scale_of, received_by}

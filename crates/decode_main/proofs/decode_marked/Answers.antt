@@ -5,7 +5,7 @@ use Rattle.isdbs_points.specs.SizeLaws.{few_steps}
 use Rattle.isdbs_metrics.specs.Reading.{decoded_bits}
 use Rattle.isdbs_metrics.specs.Scales.{received_by}
 use Rattle.decode_main.specs.DecodedLaws.{decoded_count, decoded_binary}
-use Rattle.trellis.specs.DistanceLaws.{bits_at}
+use Rattle.trellis.proofs.DistanceLaws.{bits_at}
 use Rattle.decode_main.proofs.Whole.{steps_are, front, final_is, marks_are}
 use borrow.Author.Rules.{rules}
 use Rattle.decode_main.proofs.decode_marked.Goals as goal

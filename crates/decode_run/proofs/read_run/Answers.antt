@@ -14,9 +14,6 @@ use Rattle.decode_block.specs.PeriodLaws.{short, more_periods}
 use Rattle.decode_run.specs.BlockLaws.{block_periods, no_periods, read_start, read_block}
 use Rattle.decode_run.proofs.read_run.Goals as goal
 
-slice-aggregate-run-steps-2 : tie.Need-slice-aggregate-run-steps-2 invariant-loop decreases-loop
-slice-aggregate-run-steps-2 c = search rules
-
 pub loop-k-init : goal.loop-k-init
 unfolding upto
 loop-k-init c =
@@ -31,13 +28,12 @@ block_of-len-requires c =
 
 pub make_block-requires : goal.make_block-requires
 make_block-requires c =
-    let Block-of = c in
-    let looped = Block-of.before.before in
-    let layout_of = looped in
+    let looped = c in
+    let layout_of = c in
     let st = layout_of in
     let at = looped.loop-k in
-    let inside = Block-of.before.loop-test.true in
-    let bo = Block-of.Block-of in
+    let inside = c.loop-k-test.true in
+    let bo = c.block_of-len in
     let le = bo.ensures.0 in
     let lay = layout_of.layout_of-layout in
     let co = lay.result.combination in
@@ -75,7 +71,7 @@ run_steps-now_at-requires c =
     let st = looped in
     let at = looped.loop-k in
     let inside = blocked.loop-k-test.true in
-    let bo = blocked.Block-of in
+    let bo = blocked.block_of-len in
     let le = bo.ensures.0 in
     let z = at.invariant.4 in
     let held = z.few in
@@ -86,7 +82,7 @@ run_steps-now_at-requires c =
     let enough = st.requires.held in
     let room = st.requires.room in
     let fits = st.requires.under in
-    let long = made.make_block.ensures.0.long in
+    let long = made.make_block.ensures.made.long in
     (lit≤ tt, lit≤ tt, held, omega arith, omega arith, omega arith, omega arith)
 
 pub overflow_add-k : goal.overflow_add-k
@@ -95,14 +91,14 @@ overflow_add-k c =
     let tested = blocked in
     let start = tested in
     let inside = tested.loop-k-test.true in
-    let le = blocked.Block-of.ensures.0 in
+    let le = blocked.block_of-len.ensures.0 in
     let fits = start.requires.under in
     omega arith
 
 pub loop-k-smaller : goal.loop-k-smaller
 loop-k-smaller c =
     let blocked = c in
-    let bo = blocked.Block-of in
+    let bo = blocked.block_of-len in
     let le = bo.ensures.0 in
     let inside = blocked.loop-k-test.true in
     let some : 0 < bo.result = bo.ensures.2 (omega arith) in
@@ -118,7 +114,7 @@ loop-k-preserved c =
     let st = layout_of in
     let at = looped.loop-k in
     let inside = blocked.loop-k-test.true in
-    let bo = blocked.Block-of in
+    let bo = blocked.block_of-len in
     let le = bo.ensures.0 in
     let lay = layout_of.layout_of-layout in
     let called = made.make_block in
@@ -132,20 +128,20 @@ loop-k-preserved c =
     let g = run_mark co st.args.re.now st.args.im.now st.args.run.mapping st.args.run.scale in
     let ys = run_steps co st.args.re.now st.args.im.now st.args.run.mapping st.args.run.scale in
     let f = upto (λ i. g (k + i)) bo.result in
-    let marked = written_tail k at.marks _ f (omega arith) mb.1
+    let marked = written_tail k at.marks _ f (omega arith) mb.marked
     ∙ ap (λ (l : List ℕ). take k l ++ laid f (drop k l)) h.6
     ∙ laid_part g (λ i. g (k + i)) k bo.result st.args.marks.now (λ i l. refl) in (
       omega arith,
       more_periods co k bo.result h.1 (block_periods co st.args.run.count k bo.result (rw lay.ensures.0 st.requires.whole) h.1 h.0 (rw lay.ensures.1.period at bo.ensures.3)),
-      ran.run_steps-now_at.auto.1.1.1.1.1.1.1.1.0 ∙ h.2,
-      ran.run_steps-now_at.auto.1.1.1.1.1.1.1.1.1.0 ∙ h.3,
-      read_block ys st.args.run.first _ st.args.at _ _ k bo.result _ _ _ _ _ _ _ _ _ h.4 mb.0 rf,
+      ran.run_steps-now_at.auto.decisions ∙ h.2,
+      ran.run_steps-now_at.auto.out ∙ h.3,
+      read_block ys st.args.run.first _ st.args.at _ _ k bo.result _ _ _ _ _ _ _ _ _ h.4 mb.made rf,
       ap length marked ∙ length_laid_upto g (k + bo.result) st.args.marks.now (omega arith),
       marked,
-      called.auto.1.1.1.0 ∙ h.7,
-      called.auto.1.1.1.1.0 ∙ h.8,
-      called.auto.1.1.1.1.1.0 ∙ h.9,
-      called.auto.1.1.1.1.1.1.0 ∙ h.10,
+      called.auto.parts ∙ h.7,
+      called.auto.pairs ∙ h.8,
+      called.auto.wide ∙ h.9,
+      called.auto.block ∙ h.10,
     )
 
 pub returns : goal.returns
@@ -156,4 +152,4 @@ returns c =
     let n : looped.loop-k.k ≡ st.args.run.count = omega arith in
     let h = rw n at looped.loop-k.invariant in
     let e = layout_of.layout_of-layout.ensures.0 in
-    (rw e at h.4, rw e at h.6)
+    record { read = rw e at h.4; marked = rw e at h.6 }

@@ -7,9 +7,7 @@ use Rattle.decode_soft.proofs.soft_block.Goals as goal
 
 pub returns : goal.returns
 returns c =
-    let soft-values = c in
-    let start = soft-values in
     let scaled = c.scale_block in
-    let filled = soft-values.soft_values in
-    let a = start.args in
-    times (λ i. soft_of (get_or a.xs.now i nan)) a.out.now a.n a.scale filled.new.1.1.0 scaled.new.0 filled.ensures scaled.ensures
+    let filled = c.soft_values in
+    let a = c.args in
+    times (λ i. soft_of (get_or a.xs.now i nan)) a.out.now a.n a.scale filled.new.out scaled.new.out filled.ensures scaled.ensures

@@ -2,7 +2,7 @@
 use mathlib.Core.Path.{sym, subst}
 use lib.Dec.{T}
 use lib.Ieee.Compare.{differs_from_itself}
-use Rattle.ieee.specs.Bits.{number}
+use Rattle.ieee.proofs.Bits.{number}
 use Rattle.decode_soft.proofs.Bits.{unsigned_is, unsigned_number}
 use Rattle.decode_soft.proofs.unsigned.Goals as goal
 

@@ -4,7 +4,7 @@ use Prim.Native.Nat.{◌%◌, ◌<◌}
 use native.Mathlib.Nat.{mod-lt}
 use lib.Dec.{lit<}
 use Rattle.trellis.specs.Code.{label, isdb}
-use Rattle.trellis.specs.RunLaws.{output_bit_lem}
+use Rattle.trellis.proofs.RunLaws.{output_bit_lem}
 use Rattle.encode_bits.proofs.encode_input.Goals as goal
 
 pub overflow_mul-label : goal.overflow_mul-label

@@ -1,6 +1,6 @@
 -- `exact_frame::read_frame` meets its contract: that of `decode_frame` at a known start and the scale 8, and the theorem about it.
 use lib.Ieee.{of_bits}
-use Rattle.exact_frame.specs.CallLaws.{read_back}
+use Rattle.exact_frame.proofs.CallLaws.{read_back}
 use Rattle.exact_frame.proofs.read_frame.Goals as goal
 
 pub returns : goal.returns

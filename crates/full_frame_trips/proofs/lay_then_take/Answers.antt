@@ -2,8 +2,7 @@
 use mathlib.Core.Path.{◌≡◌, ap}
 use mathlib.Core.Bool.{◌||◌}
 use Rattle.refusal.specs.Rows.{number_of}
-use Rattle.refusal.specs.RowLaws.{zero_accepted}
-use Rattle.refusal.proofs.Told.{told}
+use Rattle.refusal.proofs.RowLaws.{zero_accepted}
 use Rattle.full_frame_parts.specs.declared.Input.TheVariants.{Header, Main, Burst}
 use Rattle.full_frame_parts.specs.Places.{lent_inputs, full_part}
 use Rattle.full_frame_parts.specs.Rows.{inputs_short, short_frame}

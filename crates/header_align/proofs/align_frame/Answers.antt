@@ -1,5 +1,5 @@
 use Rattle.header_align.proofs.Rest.{rest_whole, rest_long}
-use Rattle.header_sync.specs.FitLaws.{frame_there}
+use Rattle.header_sync.proofs.FitLaws.{frame_there}
 use Rattle.header_sync.specs.Fits.{no_frame}
 use lib.ListN.{length}
 use mathlib.Core.Bool.{true, false}

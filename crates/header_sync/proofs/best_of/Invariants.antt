@@ -1,5 +1,5 @@
 use Prim.Native.Nat.{◌-◌, ◌+◌, ◌≤◌}
-use Rattle.header_sync.specs.SearchLaws.{best_at}
+use Rattle.header_sync.proofs.SearchLaws.{best_at}
 use Rattle.header_sync.specs.Search.{peak_by}
 use mathlib.Core.Path.{◌≡◌}
 use Rattle.header_sync.proofs.best_of.Given as goal

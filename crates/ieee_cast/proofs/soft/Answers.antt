@@ -5,7 +5,7 @@ use native.Mathlib.Omega.{arith}
 use lib.Dec.{T}
 use lib.Ieee.{Float, binary32, binary64, div, of_bits, to_bits}
 use lib.Ieee.Compare.{differs_from_itself}
-use Rattle.ieee.specs.Bits.{number}
+use Rattle.ieee.proofs.Bits.{number}
 use Rattle.ieee.specs.Conversion.{rounded}
 use Rattle.ieee_cast.specs.SignLaws.{at_most_inf, pattern_ok, sign_lt, whole}
 use Rattle.ieee_cast.proofs.soft.Goals as goal

@@ -1,7 +1,7 @@
 -- `slot_combinations` meets its contract.
 use mathlib.Core.Path.{sym, ◌∙◌, ap}
 use Rattle.refusal.specs.Rows.{accepted}
-use Rattle.refusal.specs.RowLaws.{is_refused}
+use Rattle.refusal.proofs.RowLaws.{is_refused}
 use Rattle.refusal.proofs.Told.{told}
 use Rattle.isdbs_tables.specs.Tables.{table_answer}
 use Rattle.isdbs_marks.proofs.slot_combinations.Goals as goal
@@ -12,7 +12,7 @@ returns-in_default c =
     rw (
       c.no_marks-slots.ensures,
       st.table_answer-answer.ensures,
-      is_refused (table_answer st.args.t) (λ q. told st.table_answer-answer.result c.in-Accepted.keys2 (st.table_answer-answer.ensures ∙ q)),
+      is_refused (table_answer st.args.t) (λ q. c.in_default.not-Accepted (st.table_answer-answer.ensures ∙ q)),
     )
 
 pub returns : goal.returns

@@ -1,6 +1,6 @@
 use Prim.Native.Nat.{◌-◌, ◌<◌}
 use Rattle.isdbs_plan.proofs.Built.{built_none, built_skip, built_more, built_end}
-use Rattle.isdbs_tables.specs.EntryLaws.{no_entry, entry_word}
+use Rattle.isdbs_tables.proofs.EntryLaws.{no_entry, entry_word}
 use Rattle.isdbs_combination.specs.contracts.CombinationWord.{enum}
 use Rattle.isdbs_combination.specs.Combinations.{assigned_of}
 use Rattle.isdbs_plan.specs.RunLaws.{entry_fits}
@@ -23,7 +23,7 @@ no_assigned Dummy h = refl
 no_assigned (Reserved w) h = refl
 
 pub loop-i-init : goal.loop-i-init
-loop-i-init c = (omega arith, omega arith, omega arith, omega arith, omega arith, built_none c.args.t1.entries)
+loop-i-init c = (omega arith, omega arith, omega arith, omega arith, omega arith, built_none c.args.t.entries)
 
 pub from_word-word-requires : goal.from_word-word-requires
 from_word-word-requires c = tt
@@ -34,8 +34,8 @@ enum_known-word c = c.in-Assigned.keys1
 pub loop-i-preserved-in_default : goal.loop-i-preserved-in_default
 loop-i-preserved-in_default c =
     let at = c in
-    let es = at.args.t1.entries in
-    let four : length es ≡ 4 = simp length-map at at.well_formed.0.1.1.0.1.0.1 in
+    let es = at.args.t.entries in
+    let four : length es ≡ 4 = omega arith in
     let h : at.loop-i.i < length es = omega arith in
     let e = get_or es at.loop-i.i no_entry in
     let none = entry_word e _ c.from_word-word.ensures ∙ no_assigned c.from_word-word.result c.in-Assigned.keys2 in
@@ -48,7 +48,7 @@ pub offset_bounds-runs-count : goal.offset_bounds-runs-count
 offset_bounds-runs-count c =
     let at = c in
     let start = at in
-    let es = start.args.t1.entries in
+    let es = start.args.t.entries in
     let e = get_or es at.loop-i.i no_entry in
     let k = c.in-Assigned.c in
     let fits = entry_fits k e.slots in
@@ -60,7 +60,7 @@ pub bounds-runs-count : goal.bounds-runs-count
 bounds-runs-count c =
     let at = c in
     let start = at in
-    let es = start.args.t1.entries in
+    let es = start.args.t.entries in
     let e = get_or es at.loop-i.i no_entry in
     let k = c.in-Assigned.c in
     let fits = entry_fits k e.slots in
@@ -72,7 +72,7 @@ pub overflow_add-count : goal.overflow_add-count
 overflow_add-count c =
     let at = c in
     let start = at in
-    let es = start.args.t1.entries in
+    let es = start.args.t.entries in
     let e = get_or es at.loop-i.i no_entry in
     let k = c.in-Assigned.c in
     let fits = entry_fits k e.slots in
@@ -84,7 +84,7 @@ pub overflow_add-valid_slots : goal.overflow_add-valid_slots
 overflow_add-valid_slots c =
     let at = c in
     let start = at in
-    let es = start.args.t1.entries in
+    let es = start.args.t.entries in
     let e = get_or es at.loop-i.i no_entry in
     let k = c.in-Assigned.c in
     let fits = entry_fits k e.slots in
@@ -101,7 +101,7 @@ overflow_mul-steps c =
     let word = c in
     let at = word in
     let start = at in
-    let es = start.args.t1.entries in
+    let es = start.args.t.entries in
     let e = get_or es at.loop-i.i no_entry in
     let k = word.in-Assigned.c in
     let fits = entry_fits k e.slots in
@@ -112,7 +112,7 @@ overflow_add-steps c =
     let word = c in
     let at = word in
     let start = at in
-    let es = start.args.t1.entries in
+    let es = start.args.t.entries in
     let e = get_or es at.loop-i.i no_entry in
     let k = word.in-Assigned.c in
     let fits = entry_fits k e.slots in
@@ -124,12 +124,12 @@ loop-i-preserved c =
     let from-word = word in
     let at = from-word in
     let start = at in
-    let es = start.args.t1.entries in
+    let es = start.args.t.entries in
     let e = get_or es at.loop-i.i no_entry in
     let k = word.in-Assigned.c in
     let fits = entry_fits k e.slots in
     let b = at.loop-i.invariant.5 in
-    let four : length es ≡ 4 = simp length-map at start.well_formed.0.1.1.0.1.0.1 in
+    let four : length es ≡ 4 = omega arith in
     let h : at.loop-i.i < length es = omega arith in
     let some : entry_combination e ≡ Some k = entry_word e _ from-word.from_word-word.ensures ∙ ap assigned_of word.in-Assigned.is in
     rw (c.steps_per_slot.ensures, c.run_of-r.ensures) (omega arith, omega arith, omega arith, omega arith, omega (arith, fits.steps), built_more es b h k (omega arith) some)
@@ -137,7 +137,7 @@ loop-i-preserved c =
 pub returns : goal.returns
 returns c =
     let at = c in
-    let t = at.args.t1 in
-    let four : length t.entries ≡ 4 = simp length-map at at.well_formed.0.1.1.0.1.0.1 in
+    let t = at.args.t in
+    let four : length t.entries ≡ 4 = omega arith in
     let end = built_end t at.loop-i.invariant.5 (omega arith) in
     (end.0, omega (arith, end.1))

@@ -1,6 +1,6 @@
 -- `runs` meets its contract.
 use Rattle.refusal.specs.Rows.{accepted}
-use Rattle.refusal.specs.RowLaws.{is_refused}
+use Rattle.refusal.proofs.RowLaws.{is_refused}
 use Rattle.refusal.proofs.Told.{told}
 use Rattle.isdbs_plan.specs.RunsOf.{valid_in}
 use Rattle.isdbs_tables.specs.Tables.{table_answer}
@@ -16,7 +16,7 @@ returns-in_default c =
     let st = c in
     rw (
       st.table_answer-answer.ensures,
-      is_refused (table_answer st.args.t) (λ q. told st.table_answer-answer.result c.in-Accepted.keys2 (st.table_answer-answer.ensures ∙ q)),
+      is_refused (table_answer st.args.t) (λ q. c.in_default.not-Accepted (st.table_answer-answer.ensures ∙ q)),
     )
 
 pub plan_of-p-requires : goal.plan_of-p-requires

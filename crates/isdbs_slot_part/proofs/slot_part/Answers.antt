@@ -2,7 +2,7 @@
 use Prim.Native.Nat.{ℕ, ◌+◌, ◌-◌, ◌*◌}
 use lib.ListN.{take, drop}
 use Rattle.refusal.specs.Rows.{accepted}
-use Rattle.refusal.specs.RowLaws.{is_refused}
+use Rattle.refusal.proofs.RowLaws.{is_refused}
 use Rattle.refusal.proofs.Told.{told}
 use Rattle.isdbs_slot_part.proofs.PartLaws.{part_whole, part_is}
 use Rattle.isdbs_slot_part.specs.SlotPart.{slot_part_answer}

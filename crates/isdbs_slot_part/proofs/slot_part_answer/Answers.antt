@@ -1,6 +1,6 @@
 -- `slot_part_answer` meets its contract.
 use Rattle.refusal.specs.Rows.{accepted}
-use Rattle.refusal.specs.RowLaws.{accepted_is, is_refused}
+use Rattle.refusal.proofs.RowLaws.{accepted_is, is_refused}
 use Rattle.refusal.proofs.Told.{told}
 use Rattle.isdbs_plan.specs.PlanLaws.{runs_answer, valid_are}
 use Rattle.isdbs_slot_part.proofs.PartLaws.{by_table, by_position, by_length, by_none}

@@ -1,5 +1,5 @@
 use Prim.Native.Nat.{◌-◌, ◌<◌}
-use Rattle.isdbs_tables.specs.EntryLaws.{sum_more, sum_end}
+use Rattle.isdbs_tables.proofs.EntryLaws.{sum_more, sum_end}
 use lib.ListN.{length, length-map}
 use mathlib.Core.Path.{◌≡◌}
 use native.Mathlib.Omega.{arith}
@@ -11,8 +11,8 @@ loop-i-init c = (omega arith, omega arith, omega arith)
 pub loop-i-preserved : goal.loop-i-preserved
 loop-i-preserved c =
     let at = c in
-    let es = at.args.t1.entries in
-    let four : length es ≡ 4 = simp length-map at at.well_formed.0.1.1.0.1.0.1 in
+    let es = at.args.t.entries in
+    let four : length es ≡ 4 = omega arith in
     let h : at.loop-i.i < length es = omega arith in
     let e = sum_more es at.loop-i.i at.loop-i.sum h in (
       omega arith,
@@ -23,7 +23,7 @@ loop-i-preserved c =
 pub returns : goal.returns
 returns c =
     let at = c in
-    let es = at.args.t1.entries in
-    let four : length es ≡ 4 = simp length-map at at.well_formed.0.1.1.0.1.0.1 in
+    let es = at.args.t.entries in
+    let four : length es ≡ 4 = omega arith in
     let e = sum_end es at.loop-i.i (omega arith) in
     omega arith

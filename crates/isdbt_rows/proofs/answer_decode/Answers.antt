@@ -3,7 +3,7 @@ use mathlib.Core.Path.{refl, sym, ◌∙◌}
 use mathlib.Core.Bool.{true, false}
 use native.Mathlib.Omega.{arith}
 use borrow.Author.Tests.{lt-ltb, le-ltb, eq-eqb, ne_eqb}
-use Rattle.trellis.specs.RunLaws.{depth_range}
+use Rattle.trellis.proofs.RunLaws.{depth_range}
 use Rattle.isdbt_table.specs.NumberLaws.{numbers}
 use Rattle.isdbt_rows.proofs.Refusals.{decode_answer}
 use Rattle.isdbt_rows.proofs.answer_decode.Goals as goal

@@ -3,7 +3,6 @@ use mathlib.Core.Path.{sym, ◌∙◌, ap}
 use native.Mathlib.Omega.{arith}
 use lib.ListN.{length}
 use Rattle.refusal.specs.Rows.{first_row}
-use Rattle.refusal.proofs.Told.{told}
 use Rattle.isdbs_tables.specs.declared.Table.{Table}
 use Rattle.isdbs_plan.specs.PlannedLaws.{table_is, plan_is, planned}
 use Rattle.judge.specs.Rows.{judge_rows}
@@ -19,7 +18,8 @@ returns-in_default c =
     let a = c.args in
     let et = table_is c.plan_of-p.ensures.0 in
     let x = c.judge_answer-answer in
-    refused a.re.now a.im.now a.bytes.now a.t a.m a.first a.counts.now x.result (x.ensures ∙ ap (λ (z : Table). first_row (judge_rows z (length a.bytes.now) a.re.now a.im.now (length a.counts.now))) et) (told x.result c.in-Accepted.keys2)
+    let k = refused a.re.now a.im.now a.bytes.now a.t a.m a.first a.counts.now x.result (x.ensures ∙ ap (λ (z : Table). first_row (judge_rows z (length a.bytes.now) a.re.now a.im.now (length a.counts.now))) et) c.in_default.not-Accepted in
+    record { answers = k.0; leaves = k.1.0; worth = k.1.1 }
 
 pub judge_frame-requires : goal.judge_frame-requires
 judge_frame-requires c =
@@ -40,4 +40,5 @@ returns c =
     let et = table_is pl.ensures.0 in
     let ok = sym c.in-Accepted.is ∙ c.judge_answer-answer.ensures ∙ ap (λ (z : Table). first_row (judge_rows z (length a.bytes.now) a.re.now a.im.now (length a.counts.now))) et in
     let made = c.judge_frame in
-    done a.re.now a.im.now a.bytes.now a.t a.m a.first a.counts.now made.new.1.1.1.1.0 made.result ok (rw et at made.ensures) (λ k. omega (arith, bytes k))
+    let k = done a.re.now a.im.now a.bytes.now a.t a.m a.first a.counts.now made.new.counts made.result ok (rw et at made.ensures) (λ k. omega (arith, bytes k)) in
+    record { answers = k.0; leaves = k.1.0; worth = k.1.1 }

@@ -10,7 +10,7 @@ use Rattle.isdbs_points.specs.Frame.{start_state}
 use Rattle.encode_blocks.specs.FrameLaws.{runs_length, runs_tiled, here_start, state_start}
 use Rattle.judge_points.specs.Outside.{outside}
 use Rattle.judge_points.specs.Given.{Counted}
-use Rattle.judge_points.specs.GivenLaws.{counted_nothing, sum_few}
+use Rattle.judge_points.proofs.GivenLaws.{counted_nothing, sum_few}
 use Rattle.judge.proofs.Frames.{four_runs, counts_below, block_sizes, block_counted, rest_counted}
 use Rattle.judge.proofs.judge_load.Goals as goal
 
@@ -20,7 +20,7 @@ loop-at-init c =
     let st = clear-counts in
     let a = st.args in
     let s = c.start_state in
-    let cleared = clear-counts.clear_counts.new.0 in
+    let cleared = clear-counts.clear_counts.new.counts in
     rw (c.start_place-at.ensures, s.ensures.0) (
       here_start a.f.plan st.requires.0 (start_state a.f.first) (rw s.ensures.0 at s.ensures.1),
       state_start a.f.plan st.requires.0 a.bytes.now (start_state a.f.first),
@@ -48,7 +48,7 @@ count_points-more-requires c =
     let a = st.args in
     let clear = clear-counts.clear_counts in
     let loop = at.loop-at in
-    let on = next-block.next_block-next.ensures.0 in
+    let on = next-block.next_block-next.ensures.place in
     let size = ap length clear.ensures ∙ length_laid_upto (λ (_ : ℕ). 0) frame_slots a.counts.now st.requires.5 in
     let done = subst (λ (z : List ℕ). Counted (outside a.re.now a.im.now a.bytes.now a.f.plan.table a.f.mapping a.f.first) 0 loop.at.symbol z loop.counts loop.sum) clear.ensures loop.invariant.5 in
     (four_runs a.f.plan st.requires.0, omega (arith, on.1, on.0.fits), st.requires.1, st.requires.2, omega (arith, loop.invariant.4, size, st.requires.5), counts_below a.f.plan st.requires.0 a.f.mapping a.f.first a.re.now a.im.now a.bytes.now a.counts.now loop.counts loop.at.symbol loop.sum done)
@@ -57,7 +57,7 @@ pub overflow_add-sum : goal.overflow_add-sum
 overflow_add-sum c =
     let next-block = c in
     let loop = next-block.loop-at in
-    let on = next-block.next_block-next.ensures.0 in
+    let on = next-block.next_block-next.ensures.place in
     let few = sum_few _ _ _ _ _ loop.sum loop.invariant.5 in
     let more = sum_few _ _ _ _ _ c.count_points-more.result c.count_points-more.ensures in
     record { fits = omega (arith, few, more, on.0.fits, on.1) }
@@ -65,7 +65,7 @@ overflow_add-sum c =
 pub loop-at-smaller : goal.loop-at-smaller
 loop-at-smaller c =
     let next-block = c in
-    let on = next-block.next_block-next.ensures.0 in
+    let on = next-block.next_block-next.ensures.place in
     let inv = next-block.loop-at.invariant in
     omega (arith, on.3, on.0.few, on.0.fits, inv.0.fits, inv.0.few)
 
@@ -80,15 +80,15 @@ loop-at-preserved c =
     let loop = at.loop-at in
     let made = next-block.next_block-next in
     let counted = c.count_points-more in
-    let block = made.ensures.1 (start_state a.f.first) loop.invariant.1 in
-    let on = made.ensures.0 in
+    let block = made.ensures.block (start_state a.f.first) loop.invariant.1 in
+    let on = made.ensures.place in
     let sizes = block_sizes a.f.plan st.requires.0 a.f.mapping a.f.first a.re.now a.im.now a.bytes.now loop.at made.result _ _ _ _ block on.1 (omega (arith, on.1, on.2, loop.invariant.2, st.requires.3)) (omega (arith, on.1, on.2, loop.invariant.3, st.requires.4)) in (
       on.0,
       block.state_is,
       sizes.0 ∙ loop.invariant.2,
       sizes.1 ∙ loop.invariant.3,
       counted.ensures.size ∙ loop.invariant.4,
-      block_counted a.f.plan st.requires.0 a.f.mapping a.f.first a.re.now a.im.now a.bytes.now loop.at made.result _ _ _ _ block on.1 clear.new.0 loop.counts _ loop.sum counted.result loop.invariant.5 counted.ensures,
+      block_counted a.f.plan st.requires.0 a.f.mapping a.f.first a.re.now a.im.now a.bytes.now loop.at made.result _ _ _ _ block on.1 clear.new.counts loop.counts _ loop.sum counted.result loop.invariant.5 counted.ensures,
     )
 
 pub overflow_sub-n-2 : goal.overflow_sub-n-2

@@ -5,11 +5,10 @@ use borrow.Author.Tests.{lt-ltb, le-ltb, eq-eqb, ne_eqb}
 use lib.Dec.{ltb}
 use Prim.Native.Nat.{ℕ}
 use Rattle.refusal.specs.Rows.{Row}
-use Rattle.refusal.specs.RowLaws.{refused_by, passed_by}
+use Rattle.refusal.proofs.RowLaws.{refused_by, passed_by}
 use Rattle.refusal.specs.declared.Answer.TheVariants.{Space}
 use Rattle.isdbs_rows.specs.DecodeRows.{point_rows}
 use Rattle.isdbs_combination.specs.Combinations.{frame_slots}
-use Rattle.refusal.proofs.Told.{told}
 use Rattle.judge.proofs.lent_answer.Goals as goal
 
 -- row 9
@@ -23,7 +22,7 @@ pub returns-in_default : goal.returns-in_default
 returns-in_default c =
     let points = c.points_answer-points in
     let a = c.args in
-    rw (eq-eqb _ _ c.if-bytes-need.false) (refused_by (point_rows a.re.now a.im.now) (last a.counts) points.result points.ensures (told points.result c.in-Accepted.keys2))
+    rw (eq-eqb _ _ c.if-bytes-need.false) (refused_by (point_rows a.re.now a.im.now) (last a.counts) points.result points.ensures c.in_default.not-Accepted)
 
 pub returns-then-counts-lt-FRAME_SLOTS : goal.returns-then-counts-lt-FRAME_SLOTS
 returns-then-counts-lt-FRAME_SLOTS c =

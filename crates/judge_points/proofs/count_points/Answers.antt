@@ -5,7 +5,7 @@ use lib.ListN.{length}
 use borrow.Author.Rules.{rules}
 use Rattle.isdbs_combination.specs.Combinations.{slot_symbols}
 use Rattle.judge_points.specs.Given.{given_at}
-use Rattle.judge_points.specs.GivenLaws.{counted_nothing, counts_few, sum_few}
+use Rattle.judge_points.proofs.GivenLaws.{counted_nothing, counts_few, sum_few}
 use Rattle.judge_points.proofs.Counting.{bool_few, counted_more, given_is}
 use Rattle.judge_points.proofs.count_points.Goals as goal
 

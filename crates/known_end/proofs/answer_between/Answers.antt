@@ -5,7 +5,7 @@ use borrow.Author.Rules.{rules}
 use borrow.Author.Tests.{lt-ltb, le-ltb, eq-eqb, ne_eqb}
 use lib.ListN.{length}
 use Rattle.trellis.specs.Run.{depth}
-use Rattle.trellis.specs.RunLaws.{depth_range}
+use Rattle.trellis.proofs.RunLaws.{depth_range}
 use Rattle.known_end.proofs.answer_between.Goals as goal
 
 pub returns-then-traceback-gt-TRACEBACK_LIMIT : goal.returns-then-traceback-gt-TRACEBACK_LIMIT

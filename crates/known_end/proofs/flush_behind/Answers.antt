@@ -13,7 +13,7 @@ overflow_add-result c =
     let g = x6.flush_at-rest.ensures in
     let a = at.args in
     let part = mid_of a.pushed.count (length a.out.now - a.pushed.count) a.out.now in
-    let k = few_bits a.end a.pushed.dec x6.flush_at-rest.result a.decisions.now x6.flush_at-rest.new.1.1.0 part x6.flush_at-rest.new.1.1.1.0 g.0 g.1 in
+    let k = few_bits a.end a.pushed.dec x6.flush_at-rest.result a.decisions.now x6.flush_at-rest.new.decisions part x6.flush_at-rest.new.out g.answers g.leaves in
     let l = length_tail a.pushed.count a.out.now (omega arith) in
     omega arith
 
@@ -23,4 +23,5 @@ returns c =
     let at = x6 in
     let g = x6.flush_at-rest.ensures in
     let a = at.args in
-    behind a.end a.pushed x6.flush_at-rest.result a.decisions.now x6.flush_at-rest.new.1.1.0 a.out.now x6.flush_at-rest.new.1.1.1.0 (omega arith) g.0 g.1
+    let w = behind a.end a.pushed x6.flush_at-rest.result a.decisions.now x6.flush_at-rest.new.decisions a.out.now x6.flush_at-rest.new.out (omega arith) g.answers g.leaves in
+    record { answers = w.0; leaves = w.1 }

@@ -1,11 +1,11 @@
 use mathlib.Core.Path.{◌≡◌, refl}
-use mathlib.Core.Logic.{⊎_elim}
 use Prim.Native.Nat.{◌-◌, ◌<◌}
 use native.Mathlib.Omega.{arith}
 use borrow.Author.Rules.{rules}
 use lib.ListN.{length}
 use Rattle.mend.proofs.Positions.{passed_whole, passed_room, filled_long, filled_more, filled_same}
 use Rattle.mend.proofs.list_changes.Goals as goal
+use Rattle.mend.proofs.list_changes.Goals.{then-mended-i, else-mended-i}
 
 pub loop-i-init : goal.loop-i-init
 loop-i-init c = (search rules, refl, refl)
@@ -49,14 +49,13 @@ loop-i-preserved c =
     let ys = start.args.bits.now in
     let inv = at.loop-i.invariant in
     let h : at.loop-i.i < length xs = search rules in
-    ⊎_elim
-    (λ w.
-    let f = filled_more xs ys start.requires.0 start.args.list.now start.requires.2 start.requires.3 at.loop-i.i at.loop-i.count at.loop-i.list h w.0.true inv.1 inv.2 in
-    rw (w.1, w.2) (search rules, f.0, f.1))
-    (λ w.
-    let f = filled_same xs ys start.requires.0 start.args.list.now start.requires.2 start.requires.3 at.loop-i.i at.loop-i.count at.loop-i.list h w.0.left inv.1 inv.2 in
-    rw (w.1, w.2) (search rules, f.0, f.1))
-    c.if-mended-i.branch-raw
+    elim c.if-mended-i.branch [
+        then-mended-i w ↦
+            let f = filled_more xs ys start.requires.0 start.args.list.now start.requires.2 start.requires.3 at.loop-i.i at.loop-i.count at.loop-i.list h w.if-mended-i.true inv.1 inv.2 in
+            rw (w.list-is, w.count-is) (search rules, f.0, f.1) |
+        else-mended-i w ↦
+            let f = filled_same xs ys start.requires.0 start.args.list.now start.requires.2 start.requires.3 at.loop-i.i at.loop-i.count at.loop-i.list h w.if-mended-i.false inv.1 inv.2 in
+            rw (w.list-is, w.count-is) (search rules, f.0, f.1) ]
 
 pub shape_of-list : goal.shape_of-list
 shape_of-list c =

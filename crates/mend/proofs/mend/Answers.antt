@@ -3,14 +3,13 @@ use mathlib.Core.Path.{sym, ◌∙◌}
 use lib.ListN.{length}
 use Rattle.mend.specs.Allowed.{allowed}
 use Rattle.mend.proofs.Outcome.{turned_back, unmended, mended}
-use Rattle.refusal.proofs.Told.{told}
 use Rattle.mend.proofs.mend.Goals as goal
 
 pub returns-in_default : goal.returns-in_default
 returns-in_default c =
     let asked = c in
     let a = c.args in
-    turned_back a.start a.end a.bits.now a.decisions.now a.out.now a.list.now asked.answer_lent-answer.result asked.answer_lent-answer.ensures (told asked.answer_lent-answer.result c.in-Accepted.keys2)
+    turned_back a.start a.end a.bits.now a.decisions.now a.out.now a.list.now asked.answer_lent-answer.result asked.answer_lent-answer.ensures c.in_default.not-Accepted
 
 pub least_distance-requires : goal.least_distance-requires
 least_distance-requires c =

@@ -12,14 +12,14 @@ slice_bounds-list_changes-end-2 c =
     let write-stretch = c in
     let start = write-stretch in
     let a = start.args in
-    sym (front_long (a.start % 64) (a.end % 64) a.bits.now a.out.now _ write-stretch.write_stretch.ensures.1)
+    sym (front_long (a.start % 64) (a.end % 64) a.bits.now a.out.now _ write-stretch.write_stretch.ensures.writes)
 
 pub list_changes-count-requires : goal.list_changes-count-requires
 list_changes-count-requires c =
     let write-stretch = c in
     let start = write-stretch in
     let a = start.args in
-    let w = write-stretch.write_stretch.ensures.1 in
+    let w = write-stretch.write_stretch.ensures.writes in
     (front_long (a.start % 64) (a.end % 64) a.bits.now a.out.now _ w, start.requires.0.few, front_near (a.start % 64) (a.end % 64) a.bits.now a.out.now _ w, start.requires.0.list_room)
 
 pub returns : goal.returns
@@ -32,7 +32,7 @@ returns c =
     let s = a.start % 64 in
     let wrote = write-stretch.write_stretch.ensures in
     let listed = c.list_changes-count.ensures in
-    let w = wrote.1 in
+    let w = wrote.writes in
     let front = front_is s (a.end % 64) bits a.out.now _ w in
     let few = start.requires.0.few in (
       refl,
@@ -42,6 +42,6 @@ returns c =
         out_is = w.out_is;
         count_is = rw front at listed.0;
         list_is = rw front at listed.1;
-        decisions_is = cleared (word_at s bits) (length bits / 2) a.decisions.now _ _ (omega arith) wrote.0 clear.clear.ensures;
+        decisions_is = cleared (word_at s bits) (length bits / 2) a.decisions.now _ _ (omega arith) wrote.words clear.clear.ensures;
       },
     )

@@ -65,4 +65,7 @@ returns c =
     let a = start.args in
     let e : at.loop-t.t ≡ 0 = omega arith in
     let inv = rw e at at.loop-t.invariant in
-    (keep-words.keep_words.ensures, tail_whole (a.start % 64) (a.end % 64) a.bits.now a.out.now start.requires.0 start.requires.3 at.loop-t.s at.loop-t.out inv.0 inv.3)
+    record {
+      words = keep-words.keep_words.ensures;
+      writes = tail_whole (a.start % 64) (a.end % 64) a.bits.now a.out.now start.requires.0 start.requires.3 at.loop-t.s at.loop-t.out inv.0 inv.3;
+    }

@@ -2,7 +2,7 @@
 use mathlib.Core.Path.{refl, sym, ◌∙◌}
 use lib.ListN.{length}
 use borrow.Author.Rules.{rules}
-use Rattle.refusal.specs.RowLaws.{refused}
+use Rattle.refusal.proofs.RowLaws.{refused}
 use Rattle.refusal.proofs.Told.{told}
 use Rattle.overlay_parts.specs.Calls.{lent}
 use Rattle.overlay.proofs.Accepted.{enough, asks, overlaps}

@@ -3,7 +3,7 @@ use mathlib.Core.Path.{refl}
 use borrow.Author.Tests.{lt-ltb, le-ltb, eq-eqb, ne_eqb}
 use lib.Dec.{lit<}
 use lib.ListN.{length}
-use Rattle.refusal.specs.RowLaws.{numbered, refused, done}
+use Rattle.refusal.proofs.RowLaws.{numbered, refused, done}
 use Rattle.refusal.specs.declared.Answer.TheVariants.{Length, Space}
 use Rattle.overlay.proofs.overlay.Goals as goal
 

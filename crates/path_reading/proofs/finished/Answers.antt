@@ -14,7 +14,7 @@ overflow_add-result c =
     let at = x6 in
     let g = x6.flush-rest.ensures in
     let part = mid_of at.args.pushed.count (length at.args.out.now - at.args.pushed.count) at.args.out.now in
-    let k = flushed_few at.args.pushed.dec x6.flush-rest.result at.args.decisions.now x6.flush-rest.new.1.0 part x6.flush-rest.new.1.1.0 g.0 g.1 in
+    let k = flushed_few at.args.pushed.dec x6.flush-rest.result at.args.decisions.now x6.flush-rest.new.decisions part x6.flush-rest.new.out g.answers g.leaves in
     let l : length part ≡ length at.args.out.now - at.args.pushed.count = ap length (mid_rest at.args.pushed.count at.args.out.now) ∙ length-drop at.args.pushed.count at.args.out.now in
     omega arith
 
@@ -23,4 +23,4 @@ returns c =
     let x6 = c in
     let at = x6 in
     let g = x6.flush-rest.ensures in
-    flushed at.args.pushed x6.flush-rest.result at.args.decisions.now x6.flush-rest.new.1.0 at.args.out.now (mid_of at.args.pushed.count (length at.args.out.now - at.args.pushed.count) at.args.out.now) x6.flush-rest.new.1.1.0 _ (omega arith) (mid_rest at.args.pushed.count at.args.out.now) g.0 g.1 (put_rest at.args.pushed.count at.args.out.now x6.flush-rest.new.1.1.0 (omega arith))
+    flushed at.args.pushed x6.flush-rest.result at.args.decisions.now x6.flush-rest.new.decisions at.args.out.now (mid_of at.args.pushed.count (length at.args.out.now - at.args.pushed.count) at.args.out.now) x6.flush-rest.new.out _ (omega arith) (mid_rest at.args.pushed.count at.args.out.now) g.answers g.leaves (put_rest at.args.pushed.count at.args.out.now x6.flush-rest.new.out (omega arith))

@@ -6,7 +6,8 @@ use Rattle.picture_sheet.proofs.bin_at.Goals as goal
 
 pub truncating_f64_to_u64-n-requires : goal.truncating_f64_to_u64-n-requires
 unfolding of_bits neg
-truncating_f64_to_u64-n-requires c = (subst T (sym c.if-t.true) tt, subst T (sym c.if-t-2.true) tt)
+truncating_f64_to_u64-n-requires c =
+    record { lower_bound = subst T (sym c.if-t.true) tt; upper_bound = subst T (sym c.if-t-2.true) tt }
 
 pub returns-then-n-le191 : goal.returns-then-n-le191
 unfolding bin_at

@@ -4,4 +4,4 @@ use Rattle.picture_sheet.proofs.number.Goals as goal
 pub returns : goal.returns
 returns c =
     let d = c.decimal-k in
-    record { count = d.result; fewest = d.ensures.1.0; put = rw d.ensures.1.1 at c.put.ensures }
+    record { count = d.result; fewest = d.ensures.len; put = rw d.ensures.digits at c.put.ensures }

@@ -1,4 +1,4 @@
-use Rattle.std.proofs.Common.{◌≡◌, ℕ, ◌+◌, ◌-◌, ◌<◌, ◌≤◌, List, length, refl, add-one, arith, length-set, le-leb}
+use Rattle.std.proofs.Common.{◌≡◌, ℕ, ◌+◌, ◌<◌, ◌≤◌, List, length, refl, add-one, arith, length-set, le-leb}
 use lib.Seq.{paste, paste-zero, paste-suc, take-length}
 use borrow.Author.Tests.{lt-leb}
 use Rattle.picture_sheet.specs.Sheet.{Put}

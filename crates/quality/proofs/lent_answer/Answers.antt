@@ -5,7 +5,7 @@ use borrow.Author.Tests.{lt-ltb, le-ltb, eq-eqb, ne_eqb}
 use lib.Dec.{ltb}
 use Prim.Native.Nat.{ℕ}
 use Rattle.refusal.specs.Rows.{Row}
-use Rattle.refusal.specs.RowLaws.{refused_by, passed_by}
+use Rattle.refusal.proofs.RowLaws.{refused_by, passed_by}
 use Rattle.refusal.specs.declared.Answer.TheVariants.{Space}
 use Rattle.isdbs_rows.specs.DecodeRows.{point_rows}
 use Rattle.quality_sums.specs.Terms.{quality_numbers}

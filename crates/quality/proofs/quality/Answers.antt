@@ -3,7 +3,7 @@ use mathlib.Core.Path.{refl, sym, ◌∙◌, ap}
 use Prim.Native.Nat.{◌-◌}
 use lib.ListN.{length}
 use Rattle.refusal.specs.Rows.{first_row}
-use Rattle.refusal.specs.RowLaws.{is_refused}
+use Rattle.refusal.proofs.RowLaws.{is_refused}
 use Rattle.refusal.proofs.Told.{told}
 use Rattle.isdbs_tables.specs.declared.Table.{Table}
 use Rattle.isdbs_plan.specs.PlannedLaws.{table_is, plan_is, planned}
@@ -18,8 +18,10 @@ pub returns-in_default : goal.returns-in_default
 returns-in_default c =
     let a = c.args in
     let et = table_is c.plan_of-p.ensures.0 in
-    let x = c.quality_answer-answer in
-    (x.ensures ∙ ap (λ (z : Table). first_row (quality_rows z (length a.bytes.now) a.re.now a.im.now (length a.out.now))) et, rw (is_refused x.result (told x.result c.in-Accepted.keys2)) refl)
+    let x = c.quality_answer-answer in record {
+      answers = x.ensures ∙ ap (λ (z : Table). first_row (quality_rows z (length a.bytes.now) a.re.now a.im.now (length a.out.now))) et;
+      leaves = rw (is_refused x.result (told x.result c.in-Accepted.keys2)) refl
+    }
 
 pub sum_frame-requires : goal.sum_frame-requires
 sum_frame-requires c =
@@ -37,5 +39,7 @@ returns c =
     let a = plan-of.args in
     let et = table_is plan-of.plan_of-p.ensures.0 in
     let x = c.quality_answer-answer in
-    let ok = c.in-Accepted.is in
-    (x.ensures ∙ ap (λ (z : Table). first_row (quality_rows z (length a.bytes.now) a.re.now a.im.now (length a.out.now))) et, rw ok (rw et at c.sum_frame.ensures))
+    let ok = c.in-Accepted.is in record {
+      answers = x.ensures ∙ ap (λ (z : Table). first_row (quality_rows z (length a.bytes.now) a.re.now a.im.now (length a.out.now))) et;
+      leaves = rw ok (rw et at c.sum_frame.ensures)
+    }

@@ -25,7 +25,7 @@ loop-at-init c =
       refl,
       refl,
       refl,
-      running_start a.re.now a.im.now a.bytes.now a.f.plan.table a.f.mapping a.f.first begun.new.0 a.out.now begun.ensures,
+      running_start a.re.now a.im.now a.bytes.now a.f.plan.table a.f.mapping a.f.first begun.new.out a.out.now begun.ensures,
     )
 
 pub bpsk_run-bpsk-requires : goal.bpsk_run-bpsk-requires
@@ -48,21 +48,21 @@ add_block-requires c =
     let at = next-block in
     let made = next-block.next_block-next in
     let loop = at.loop-at in
-    let lx : length made.new.1.1.1.1.0 ≡ length loop.xs = search rules in
-    let ly : length made.new.1.1.1.1.1.0 ≡ length loop.ys = search rules in
+    let lx : length made.new.xs ≡ length loop.xs = search rules in
+    let ly : length made.new.ys ≡ length loop.ys = search rules in
     let at-begin = at in
     let st = at-begin in
     let a = st.args in
-    let on = made.ensures.0 in
+    let on = made.ensures.place in
     let fits = on.0.fits in
     let begun = at-begin.begin in
-    let lo : length begun.new.0 ≡ length a.out.now = ap length begun.ensures ∙ length_laid_upto (λ i. zero64) 336 a.out.now st.requires.5 in
+    let lo : length begun.new.out ≡ length a.out.now = ap length begun.ensures ∙ length_laid_upto (λ i. zero64) 336 a.out.now st.requires.5 in
     (omega (arith, fits, on.1), st.requires.1, st.requires.2, omega (arith, on.2, lx, loop.invariant.2, st.requires.3), omega (arith, on.2, ly, loop.invariant.3, st.requires.4), omega (arith, lo, loop.invariant.4, st.requires.5))
 
 pub loop-at-smaller : goal.loop-at-smaller
 loop-at-smaller c =
     let next-block = c in
-    let on = next-block.next_block-next.ensures.0 in
+    let on = next-block.next_block-next.ensures.place in
     let inv = next-block.loop-at.invariant in
     omega (arith, on.3, on.0.few, on.0.fits, inv.0.fits, inv.0.few)
 
@@ -72,21 +72,21 @@ loop-at-preserved c =
     let at = next-block in
     let made = next-block.next_block-next in
     let loop = at.loop-at in
-    let lx : length made.new.1.1.1.1.0 ≡ length loop.xs = search rules in
-    let ly : length made.new.1.1.1.1.1.0 ≡ length loop.ys = search rules in
+    let lx : length made.new.xs ≡ length loop.xs = search rules in
+    let ly : length made.new.ys ≡ length loop.ys = search rules in
     let bpsk-run = next-block in
     let at-begin = at in
     let st = at-begin in
     let a = st.args in
     let bpsk = bpsk-run.bpsk_run-bpsk in
-    let on = made.ensures.0 in
-    let block = made.ensures.1 (start_state a.f.first) loop.invariant.1 in (
+    let on = made.ensures.place in
+    let block = made.ensures.block (start_state a.f.first) loop.invariant.1 in (
       on.0,
       block.state_is,
       lx ∙ loop.invariant.2,
       ly ∙ loop.invariant.3,
       search rules,
-      block_added_lem a.f.plan st.requires.0 a.re.now a.im.now a.bytes.now a.f.mapping a.f.first at-begin.begin.new.0 loop.at made.result _ _ _ _ block loop.invariant.0 bpsk-run.loop-at-test.true on.1 bpsk.result loop.out _ bpsk.ensures loop.invariant.5 c.add_block.ensures,
+      block_added_lem a.f.plan st.requires.0 a.re.now a.im.now a.bytes.now a.f.mapping a.f.first at-begin.begin.new.out loop.at made.result _ _ _ _ block loop.invariant.0 bpsk-run.loop-at-test.true on.1 bpsk.result loop.out _ bpsk.ensures loop.invariant.5 c.add_block.ensures,
     )
 
 pub returns : goal.returns
@@ -97,5 +97,5 @@ returns c =
     let a = st.args in
     let loop = at.loop-at in
     let begun = at-begin.begin in
-    loop.invariant.5 ∙ all_added a.f.plan st.requires.0 a.re.now a.im.now a.bytes.now a.f.mapping a.f.first begun.new.0 loop.at loop.invariant.0 c.loop-at-test.false
-    ∙ running_end a.re.now a.im.now a.bytes.now a.f.plan.table a.f.mapping a.f.first begun.new.0 a.out.now begun.ensures st.requires.5
+    loop.invariant.5 ∙ all_added a.f.plan st.requires.0 a.re.now a.im.now a.bytes.now a.f.mapping a.f.first begun.new.out loop.at loop.invariant.0 c.loop-at-test.false
+    ∙ running_end a.re.now a.im.now a.bytes.now a.f.plan.table a.f.mapping a.f.first begun.new.out a.out.now begun.ensures st.requires.5

@@ -18,7 +18,7 @@ unfolding added
 loop-n-preserved c =
     let a = c.args in
     let at = c.loop-n in
-    let grow : (l : List Float) → l ≡ added a.t1 a.at a.out.now at.n → set l (a.at + at.n) (add binary64 (get_or l (a.at + at.n) nan) (get_or a.t1 at.n nan)) ≡ added a.t1 a.at a.out.now (at.n + 1) =
+    let grow : (l : List Float) → l ≡ added a.terms a.at a.out.now at.n → set l (a.at + at.n) (add binary64 (get_or l (a.at + at.n) nan) (get_or a.terms at.n nan)) ≡ added a.terms a.at a.out.now (at.n + 1) =
     λ l e. rw (add-one at.n, e) refl in
     (omega arith, search rules, grow at.out at.invariant.2)
 

@@ -2,7 +2,7 @@
 use mathlib.Core.Path.{◌∙◌}
 use lib.ListN.{length}
 use Rattle.range_calls.specs.Handed.{fresh_reached, fresh_is}
-use Rattle.range_calls.specs.Answers.{stream_answer}
+use Rattle.range_calls.proofs.Answers.{stream_answer}
 use Rattle.range_calls.proofs.push_fresh.Goals as goal
 
 pub returns : goal.returns

@@ -4,7 +4,7 @@ use Prim.Native.Nat.{ℕ}
 use lib.Ieee.{nan, binary32, fits}
 use lib.ListN.{length, get_or}
 use Rattle.trellis.specs.Isdb.{rule}
-use Rattle.range_metrics.specs.Accepted.{frame_ranges}
+use Rattle.range_metrics.proofs.Accepted.{frame_ranges}
 use Rattle.range_metrics.proofs.Elements.{elem_fits}
 use Rattle.range_frames.proofs.decode_in_range.Goals as goal
 

@@ -11,7 +11,7 @@ use lib.Seq.{length-take-le}
 use lib.Ieee.{Float, binary32, of_bits}
 use Rattle.refusal.specs.Rows.{first_row, Either}
 use Rattle.refusal.specs.declared.Answer.{Answer}
-use Rattle.refusal.specs.RowLaws.{done, refused, passed, neither}
+use Rattle.refusal.proofs.RowLaws.{done, refused, passed, neither}
 use Rattle.refusal.specs.declared.Answer.TheVariants as answer
 use Rattle.refusal.proofs.Told.{told}
 use Rattle.short_code.specs.declared.Code.{Code}

@@ -6,7 +6,7 @@ use native.Mathlib.Omega.{arith}
 use lib.ListN.{length}
 use borrow.Author.Tests.{leb-false, ltb-false, not-false}
 use Rattle.refusal.specs.Rows.{first_row}
-use Rattle.refusal.specs.RowLaws.{done, refused, passed}
+use Rattle.refusal.proofs.RowLaws.{done, refused, passed}
 use Rattle.refusal.specs.declared.Answer.TheVariants as answer
 use Rattle.refusal.proofs.Told.{told}
 use Rattle.short_code.specs.declared.Code.{Code}

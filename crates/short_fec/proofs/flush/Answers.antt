@@ -8,9 +8,9 @@ use Rattle.short_code.specs.CodeLaws.{states_are, good_length_lem}
 use mathlib.Core.Path.{◌≡◌, sym, ◌∙◌, ap}
 use native.Mathlib.Omega.{arith}
 use Prim.Native.Nat.{ℕ, ◌-◌, ◌*◌}
-use Rattle.isdb_fec.specs.WholeLaws.{as_given}
+use Rattle.isdb_fec.proofs.WholeLaws.{as_given}
 use Rattle.refusal.proofs.Told.{told}
-use Rattle.short_rows.specs.RowLaws.{flush_enough}
+use Rattle.short_rows.proofs.RowLaws.{flush_enough}
 use lib.ListN.{length}
 use Rattle.short_fec.proofs.flush.Goals as goal
 

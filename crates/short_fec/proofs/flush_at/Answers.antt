@@ -4,9 +4,9 @@ use native.Mathlib.Nat.{mod-lt}
 use mathlib.Core.Path.{sym, ◌∙◌}
 use native.Mathlib.Omega.{arith}
 use Prim.Native.Nat.{◌-◌, ◌*◌, ◌<◌}
-use Rattle.isdb_fec.specs.WholeLaws.{as_given}
+use Rattle.isdb_fec.proofs.WholeLaws.{as_given}
 use Rattle.refusal.proofs.Told.{told}
-use Rattle.short_rows.specs.RowLaws.{flush_enough}
+use Rattle.short_rows.proofs.RowLaws.{flush_enough}
 use lib.ListN.{length}
 use Rattle.short_fec.proofs.flush_at.Goals as goal
 

@@ -2,7 +2,7 @@
 use mathlib.Core.Path.{refl, sym, ◌∙◌}
 use native.Mathlib.Omega.{arith}
 use borrow.Author.Tests.{lt-ltb, le-ltb}
-use Rattle.refusal.specs.RowLaws.{done, refused, numbered}
+use Rattle.refusal.proofs.RowLaws.{done, refused, numbered}
 use Rattle.refusal.specs.declared.Answer.TheVariants as answer
 use Rattle.short_fec.proofs.fresh.Goals as goal
 

@@ -5,7 +5,7 @@ use Prim.Native.Nat.{◌-◌, ◌^◌, ◌≤◌}
 use Rattle.short_code.specs.Codes.{states_of, good_code}
 use Rattle.short_code.specs.CodeLaws.{good_length_lem}
 use Rattle.short_fec.proofs.Whole.{unknown}
-use Rattle.refusal.specs.RowLaws.{passed}
+use Rattle.refusal.proofs.RowLaws.{passed}
 use Rattle.refusal.specs.declared.Answer.TheVariants as answer
 use borrow.Author.Tests.{not-false}
 use Rattle.short_fec.specs.Rows.{fresh_rows}

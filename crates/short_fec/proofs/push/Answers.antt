@@ -1,9 +1,9 @@
 -- `short_fec::push` meets its contract.
 use mathlib.Core.Path.{refl, sym, ◌∙◌}
 use Prim.Native.Nat.{◌-◌}
-use Rattle.isdb_fec.specs.WholeLaws.{as_given}
+use Rattle.isdb_fec.proofs.WholeLaws.{as_given}
 use Rattle.refusal.proofs.Told.{told}
-use Rattle.short_rows.specs.RowLaws.{stream_enough}
+use Rattle.short_rows.proofs.RowLaws.{stream_enough}
 use lib.ListN.{length}
 use mathlib.Core.Logic.{inl}
 use Rattle.short_fec.proofs.push.Goals as goal

@@ -4,7 +4,7 @@ use native.Mathlib.Omega.{arith}
 use Prim.Native.Nat.{ℕ, ◌-◌, ◌%◌, ◌<◌}
 use Rattle.short_code.specs.Codes.{states_of}
 use Rattle.short_code.specs.CodeLaws.{states_are, good_length_lem}
-use Rattle.refusal.specs.RowLaws.{done, refused, passed}
+use Rattle.refusal.proofs.RowLaws.{done, refused, passed}
 use Rattle.refusal.proofs.Told.{told}
 use Rattle.refusal.specs.declared.Answer.TheVariants as answer
 use borrow.Author.Tests.{leb-false, not-false}

@@ -9,10 +9,10 @@ use Rattle.trellis.specs.Isdb.{rule}
 use mathlib.Core.Path.{◌≡◌, refl, sym, ◌∙◌}
 use native.Mathlib.Omega.{arith}
 use Prim.Native.Nat.{◌-◌, ◌*◌}
-use Rattle.refusal.specs.RowLaws.{done}
-use Rattle.isdb_fec.specs.WholeLaws.{as_given}
+use Rattle.refusal.proofs.RowLaws.{done}
+use Rattle.isdb_fec.proofs.WholeLaws.{as_given}
 use Rattle.refusal.proofs.Told.{told}
-use Rattle.short_rows.specs.RowLaws.{known_enough}
+use Rattle.short_rows.proofs.RowLaws.{known_enough}
 use lib.ListN.{length}
 use Rattle.short_fec.proofs.push_known.Goals as goal
 

@@ -3,7 +3,7 @@ use mathlib.Core.Path.{◌≡◌, sym, ◌∙◌}
 use mathlib.Core.Bool.{true}
 use Prim.Native.Nat.{◌-◌}
 use Rattle.short_code.specs.Codes.{good_code}
-use Rattle.refusal.specs.RowLaws.{passed}
+use Rattle.refusal.proofs.RowLaws.{passed}
 use Rattle.refusal.specs.declared.Answer.TheVariants as answer
 use borrow.Author.Tests.{not-false}
 use Rattle.short_fec.specs.Rows.{fresh_rows}

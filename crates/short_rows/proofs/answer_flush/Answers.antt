@@ -7,8 +7,8 @@ use borrow.Author.Tests.{lt-ltb, le-ltb}
 use Rattle.isdb_fec.specs.Rows.{short_of}
 use Rattle.short_rows.specs.Rows.{handed_rows}
 use Rattle.refusal.specs.declared.Answer.TheVariants.{Space}
-use Rattle.refusal.specs.RowLaws.{refused_by, passed_by}
-use Rattle.short_rows.specs.RowLaws.{sound}
+use Rattle.refusal.proofs.RowLaws.{refused_by, passed_by}
+use Rattle.short_rows.proofs.RowLaws.{sound}
 use Rattle.refusal.proofs.Told.{told}
 use borrow.Author.Rules.{rules}
 use Rattle.short_rows.proofs.answer_flush.Goals as goal

@@ -5,8 +5,8 @@ use mathlib.Core.List.{[], ◌∷◌}
 use Rattle.isdb_fec.specs.Rows.{steps_short}
 use Rattle.short_rows.specs.Rows.{handed_rows}
 use Rattle.refusal.specs.declared.Answer.TheVariants.{Space}
-use Rattle.refusal.specs.RowLaws.{refused_by, passed_by}
-use Rattle.short_rows.specs.RowLaws.{sound}
+use Rattle.refusal.proofs.RowLaws.{refused_by, passed_by}
+use Rattle.short_rows.proofs.RowLaws.{sound}
 use Rattle.refusal.proofs.Told.{told}
 use Rattle.short_rows.proofs.answer_known.Goals as goal
 

@@ -5,8 +5,8 @@ use lib.ListN.{length}
 use borrow.Author.Tests.{eq-eqb, ne_eqb}
 use Rattle.isdb_fec.specs.Rows.{stream_rest}
 use Rattle.short_rows.specs.Rows.{handed_rows}
-use Rattle.refusal.specs.RowLaws.{refused_by, passed_by}
-use Rattle.short_rows.specs.RowLaws.{sound}
+use Rattle.refusal.proofs.RowLaws.{refused_by, passed_by}
+use Rattle.short_rows.proofs.RowLaws.{sound}
 use Rattle.refusal.proofs.Told.{told}
 use Rattle.short_rows.proofs.answer_stream.Goals as goal
 

@@ -1,6 +1,6 @@
 -- `encode` meets its contract: it is what the two calls promise, which is equal.
 use mathlib.Core.Path.{sym}
-use Rattle.short_same_code.specs.Agrees.{encode_agrees, counts_coded}
+use Rattle.short_same_code.proofs.Agrees.{encode_agrees, counts_coded}
 use Rattle.short_same_code.proofs.encode.Goals as goal
 
 pub returns : goal.returns

@@ -25,4 +25,4 @@ returns c =
     let start = select in
     let a = start.args in
     let selected = select.select-w in
-    (c.copy.ensures ∙ copied selected.new.1.0 (next a.h (labels a.code) rule a.pm.now (step_of a.x)) (2 * a.h) (length a.pm.now) start.requires.3 selected.ensures.0, selected.ensures.1)
+    (c.copy.ensures ∙ copied selected.new.new (next a.h (labels a.code) rule a.pm.now (step_of a.x)) (2 * a.h) (length a.pm.now) start.requires.3 selected.ensures.0, selected.ensures.1)

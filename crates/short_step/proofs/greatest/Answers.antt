@@ -4,7 +4,7 @@ use native.Mathlib.Omega.{arith}
 use lib.ListN.{length}
 use lib.Ieee.{neg, of_bits}
 use Rattle.trellis.specs.Step.{top}
-use Rattle.trellis.specs.RunLaws.{top_more}
+use Rattle.trellis.proofs.RunLaws.{top_more}
 use Rattle.short_step.proofs.greatest.Goals as goal
 
 pub loop-s-init : goal.loop-s-init

@@ -10,6 +10,7 @@ use Rattle.trellis.specs.Step.{ruled}
 use Rattle.trellis.specs.WrittenLaws.{written_none, written_more, written_skip, kept_more, kept_skip, written_whole}
 use Rattle.short_step.proofs.rule_out.Invariants.{ruled_at}
 use Rattle.short_step.proofs.rule_out.Goals as goal
+use Rattle.short_step.proofs.rule_out.Goals.{then-s-h, else-s-h}
 
 out : (h b : ℕ) (pm : List Float) (k : ℕ) → (k / h ≡ b % 2 → ⊥) → of_bits binary32 0xce6e_6b28 ≡ ruled_at h b pm k
 out h b pm k n = rw (ne_eqb (k / h) (b % 2) n)
@@ -36,10 +37,10 @@ loop-s-preserved c =
     let s = at.loop-s.s in
     let inv = at.loop-s.invariant in
     let i : s < length pm = omega arith in
-    ⊎_elim
-    (λ w. rw w.1 (inv.0, omega arith, inv.2, simp length-set inv.3, written_more nan f s pm _ i inv.4 (out h b pm₀ s (rw inv.2 at w.0.true)), kept_more nan pm₀ s pm _ inv.5))
-    (λ w. rw w.1 (inv.0, omega arith, inv.2, inv.3, written_skip nan f s pm inv.4 (inv.5 s (omega arith) ∙ stays h b pm₀ s (w.0.left ∙ inv.2)), kept_skip nan pm₀ s pm inv.5))
-    c.if-s-h.branch-raw
+    elim c.if-s-h.branch [
+    then-s-h w ↦ rw w.pm-is (inv.0, omega arith, inv.2, simp length-set inv.3, written_more nan f s pm _ i inv.4 (out h b pm₀ s (rw inv.2 at w.if-s-h.true)), kept_more nan pm₀ s pm _ inv.5)
+    | else-s-h w ↦ rw w.pm-is (inv.0, omega arith, inv.2, inv.3, written_skip nan f s pm inv.4 (inv.5 s (omega arith) ∙ stays h b pm₀ s (w.if-s-h.false ∙ inv.2)), kept_skip nan pm₀ s pm inv.5)
+    ]
 
 pub shape_of-pm : goal.shape_of-pm
 shape_of-pm c = c.loop-s.invariant.3

@@ -17,7 +17,7 @@ returns-then-held-s c =
     let step = c in
     let start = step in
     let a = start.args in
-    kept_step a.s.h (labels a.s.code) rule a.s.traceback a.i (step_of a.x) a.pm.now step.trellis_step-w.new.0 a.at.held a.at.count step.trellis_step-w.result a.decisions.now a.out.now
+    kept_step a.s.h (labels a.s.code) rule a.s.traceback a.i (step_of a.x) a.pm.now step.trellis_step-w.new.pm a.at.held a.at.count step.trellis_step-w.result a.decisions.now a.out.now
     (omega arith) step.trellis_step-w.ensures.0 step.trellis_step-w.ensures.1 c.if-held-s.true
 
 pub release-requires : goal.release-requires
@@ -54,6 +54,6 @@ returns c =
     let a = start.args in
     let out = a.out.now in
     let dec = set a.decisions.now a.at.held step.trellis_step-w.result in
-    released_step a.s.h (labels a.s.code) rule a.s.traceback a.i (step_of a.x) a.pm.now step.trellis_step-w.new.0 a.at.held a.at.count step.trellis_step-w.result a.decisions.now out
-    (omega arith) step.trellis_step-w.ensures.0 step.trellis_step-w.ensures.1 freed.new.1.1.1.0 _ (omega arith) freed.ensures.1
-    (written_tail a.at.count out freed.new.1.1.1.1.0 (take 4096 (traced a.s.h (take (4096 + a.s.traceback) dec) (best rule step.trellis_step-w.new.0 (2 * a.s.h - 1)))) (search rules) freed.ensures.0)
+    released_step a.s.h (labels a.s.code) rule a.s.traceback a.i (step_of a.x) a.pm.now step.trellis_step-w.new.pm a.at.held a.at.count step.trellis_step-w.result a.decisions.now out
+    (omega arith) step.trellis_step-w.ensures.0 step.trellis_step-w.ensures.1 freed.new.decisions _ (omega arith) freed.ensures.1
+    (written_tail a.at.count out freed.new.out (take 4096 (traced a.s.h (take (4096 + a.s.traceback) dec) (best rule step.trellis_step-w.new.pm (2 * a.s.h - 1)))) (search rules) freed.ensures.0)

@@ -28,6 +28,6 @@ returns c =
     let a = traced-back.args in (
       refl,
       cleared.clear.ensures,
-      put_out a.h a.out.now traced-back.trace.new.1.1.1.1.1.0 a.decisions.now a.at.count a.at.held a.state
+      put_out a.h a.out.now traced-back.trace.new.out a.decisions.now a.at.count a.at.held a.state
           (search rules) (search rules) traced-back.trace.ensures,
     )

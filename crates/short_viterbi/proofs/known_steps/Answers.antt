@@ -30,7 +30,7 @@ loop-i-preserved c =
     let a = start.args in
     let stepped = advance.advance-place in
     let more = tested.loop-i-test.true in
-    (at.loop-i.invariant.0, omega arith, omega arith, goes_on a.s.h (labels a.s.code) (known_steps a.bits.now) (length a.bits.now) a.s.traceback a.at.held a.pm.now a.decisions.now a.out.now start.requires.4 start.requires.5 start.requires.6 start.requires.8 start.requires.9 at.loop-i.pm at.loop-i.place at.loop-i.decisions at.loop-i.out at.loop-i.i at.loop-i.invariant.3 stepped.result stepped.new.0 _ _ stepped.ensures)
+    (at.loop-i.invariant.0, omega arith, omega arith, goes_on a.s.h (labels a.s.code) (known_steps a.bits.now) (length a.bits.now) a.s.traceback a.at.held a.pm.now a.decisions.now a.out.now start.requires.4 start.requires.5 start.requires.6 start.requires.8 start.requires.9 at.loop-i.pm at.loop-i.place at.loop-i.decisions at.loop-i.out at.loop-i.i at.loop-i.invariant.3 stepped.result stepped.new.pm _ _ stepped.ensures)
 
 pub shape_of-pm : goal.shape_of-pm
 shape_of-pm c =

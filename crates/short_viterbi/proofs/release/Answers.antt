@@ -17,5 +17,5 @@ returns c =
     let best = traced-back in
     let a = best.args in (
       traced-back.trace.ensures ∙ ap (λ (s : ℕ). laid (take 4096 (traced a.h (take (4096 + a.traceback) a.decisions.now) s)) a.out.now) best.best_state-s.ensures.1,
-      shifted a.decisions.now moved.move_down.new.0 cleared.clear.new.0 4096 a.traceback (search rules) moved.move_down.ensures cleared.clear.ensures,
+      shifted a.decisions.now moved.move_down.new.decisions cleared.clear.new.decisions 4096 a.traceback (search rules) moved.move_down.ensures cleared.clear.ensures,
     )

@@ -36,7 +36,7 @@ loop-i-preserved c =
     let a = start.args in
     let stepped = advance.advance-place in
     let more = soft-step.loop-i-test.true in
-    (omega arith, omega arith, goes_on a.s.h (labels a.s.code) (soft_steps a.per a.values.now) a.n a.s.traceback a.at.held a.pm.now a.decisions.now a.out.now start.requires.6 start.requires.7 start.requires.8 start.requires.10 start.requires.11 at.loop-i.pm at.loop-i.place at.loop-i.decisions at.loop-i.out at.loop-i.i at.loop-i.invariant.2 stepped.result stepped.new.0 _ _ (rw soft-step.soft_step-x.ensures at stepped.ensures))
+    (omega arith, omega arith, goes_on a.s.h (labels a.s.code) (soft_steps a.per a.values.now) a.n a.s.traceback a.at.held a.pm.now a.decisions.now a.out.now start.requires.6 start.requires.7 start.requires.8 start.requires.10 start.requires.11 at.loop-i.pm at.loop-i.place at.loop-i.decisions at.loop-i.out at.loop-i.i at.loop-i.invariant.2 stepped.result stepped.new.pm _ _ (rw soft-step.soft_step-x.ensures at stepped.ensures))
 
 pub shape_of-pm : goal.shape_of-pm
 shape_of-pm c =

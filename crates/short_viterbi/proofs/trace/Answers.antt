@@ -10,8 +10,9 @@ use borrow.Author.Rules.{rules}
 use Rattle.trellis.specs.Step as trellis
 use Rattle.trellis.specs.Step.{back, input}
 use Rattle.trellis.specs.WrittenLaws.{between_more, kept_set, laid_whole}
-use Rattle.trellis.specs.RunLaws.{back_more, input_read}
+use Rattle.trellis.proofs.RunLaws.{back_more, input_read}
 use Rattle.short_viterbi.proofs.trace.Goals as goal
+use Rattle.short_viterbi.proofs.trace.Goals.{then-t-count, else-t-count}
 
 pub loop-t-init : goal.loop-t-init
 unfolding back
@@ -56,19 +57,19 @@ loop-t-preserved c =
     let halves = two_halves h s at.requires.0 inv.2 in
     let older = back_more h d n state t s pos inv.0 inv.3 in
     let j : t ≡ t - 1 + 1 = omega arith in
-    ⊎_elim
-    (λ w.
+    elim c.if-t-count.branch [
+    then-t-count w ↦
     let i : t - 1 < length out = omega arith in
-    rw w.1 (
+    rw w.out-is (
       omega arith,
       simp length-set inv.1,
       omega arith,
       older,
       between_more 0 f (t - 1) count out (s / h) i (rw j at inv.4) (input_read h (take n d) n state t s pos inv.3),
-      kept_set 0 out₀ count (t - 1) out (s / h) w.0.true inv.5,
-    ))
-    (λ w. rw w.1 (omega arith, inv.1, omega arith, older, λ i a b. absurd (omega arith), inv.5))
-    c.if-t-count.branch-raw
+      kept_set 0 out₀ count (t - 1) out (s / h) w.if-t-count.true inv.5,
+    )
+    | else-t-count w ↦ rw w.out-is (omega arith, inv.1, omega arith, older, λ i a b. absurd (omega arith), inv.5)
+    ]
 
 pub returns : goal.returns
 unfolding trellis.traced

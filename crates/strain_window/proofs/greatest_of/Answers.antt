@@ -6,7 +6,7 @@ use borrow.Author.Rules.{rules}
 use lib.ListN.{length}
 use lib.Seq.{take-length}
 use Rattle.strain_window.specs.Calls.{greatest_of}
-use Rattle.strain_window.specs.WindowLaws.{greatest_next}
+use Rattle.strain_window.proofs.WindowLaws.{greatest_next}
 use Rattle.strain_window.proofs.greatest_of.Goals as goal
 
 pub loop-i-init : goal.loop-i-init

@@ -6,7 +6,7 @@ use borrow.Author.Tests.{lt-ltb, le-ltb}
 use lib.ListN.{length}
 use lib.Seq.{length-take-le}
 use Rattle.strain_window.specs.Rows.{most_sum, sum_above}
-use Rattle.strain_window.specs.WindowLaws.{take_min}
+use Rattle.strain_window.proofs.WindowLaws.{take_min}
 use Rattle.strain_window.proofs.is_outside.Goals as goal
 
 pub returns-then-bad_state : goal.returns-then-bad_state

@@ -1,7 +1,7 @@
 -- `keep_sum` meets its contract.
 use mathlib.Core.Path.{refl, sym, ◌∙◌, ap}
 use Rattle.strain_window.specs.declared.WindowState.{WindowState}
-use Rattle.strain_window.specs.After.{written}
+use Rattle.strain_window.proofs.After.{written}
 use Rattle.strain_window.proofs.keep_sum.Goals as goal
 
 pub bounds-kept-place : goal.bounds-kept-place

@@ -5,7 +5,7 @@ use native.Mathlib.Omega.{arith}
 use native.Mathlib.Nat.{min-eq_left, min-eq_right}
 use borrow.Author.Rules.{rules}
 use Rattle.strain_window.specs.Calls.{push_place}
-use Rattle.strain_window.specs.After.{place_below}
+use Rattle.strain_window.proofs.After.{place_below}
 use Rattle.strain_window.proofs.moved_on.Goals as goal
 
 pub overflow_add-next : goal.overflow_add-next

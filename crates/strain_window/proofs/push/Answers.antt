@@ -5,7 +5,7 @@ use native.Mathlib.Omega.{arith}
 use borrow.Author.Tests.{lt-ltb}
 use lib.ListN.{length}
 use Rattle.refusal.specs.declared.Answer.TheVariants.{Window, Space}
-use Rattle.strain_window.specs.After.{allowed}
+use Rattle.strain_window.proofs.After.{allowed}
 use Rattle.strain_window.proofs.Outcome.{turned_back, carried_out}
 use Rattle.strain_window.proofs.push.Goals as goal
 

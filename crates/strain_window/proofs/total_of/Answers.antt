@@ -7,7 +7,7 @@ use lib.ListN.{length, get_or}
 use lib.Seq.{take-length}
 use Rattle.strain_window.specs.Rows.{most_sum}
 use Rattle.strain_window.specs.Calls.{total_of}
-use Rattle.strain_window.specs.WindowLaws.{total_next, none_above}
+use Rattle.strain_window.proofs.WindowLaws.{total_next, none_above}
 use Rattle.strain_window.proofs.total_of.Goals as goal
 
 pub loop-i-init : goal.loop-i-init

@@ -1,7 +1,7 @@
 -- `viterbi_branches::metric_of` meets its contract: the metric is that of the branch's number.
 use Prim.Native.Nat.{◌+◌, ◌*◌}
 use Rattle.trellis.specs.Code.{isdb}
-use Rattle.trellis.specs.RunLaws.{label_under}
+use Rattle.trellis.proofs.RunLaws.{label_under}
 use Rattle.viterbi_branches.proofs.metric_of.Goals as goal
 
 pub metric-requires : goal.metric-requires

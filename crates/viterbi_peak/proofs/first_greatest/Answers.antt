@@ -3,7 +3,7 @@ use Prim.Native.Nat.{◌-◌}
 use native.Mathlib.Omega.{arith}
 use lib.Ieee.{neg, of_bits}
 use Rattle.trellis.specs.Step.{top}
-use Rattle.trellis.specs.RunLaws.{top_more}
+use Rattle.trellis.proofs.RunLaws.{top_more}
 use Rattle.viterbi_peak.proofs.first_greatest.Goals as goal
 
 pub loop-s-init : goal.loop-s-init

@@ -4,7 +4,7 @@ use native.Mathlib.Omega.{arith}
 use native.Mathlib.Nat.{sub_self}
 use borrow.Author.Rules.{rules}
 use Rattle.trellis.specs.Step.{back}
-use Rattle.trellis.specs.RunLaws.{back_more}
+use Rattle.trellis.proofs.RunLaws.{back_more}
 use Rattle.viterbi_release.proofs.state_after.Goals as goal
 
 pub loop-t-init : goal.loop-t-init

@@ -10,7 +10,7 @@ use Rattle.trellis.specs.Step.{back, input}
 use Rattle.trellis.specs.Lists.{upto}
 use Rattle.trellis.specs.ListLaws.{length_upto}
 use Rattle.trellis.specs.WrittenLaws.{between_more, kept_set, laid_whole}
-use Rattle.trellis.specs.RunLaws.{back_more, input_read}
+use Rattle.trellis.proofs.RunLaws.{back_more, input_read}
 use Rattle.viterbi_release.proofs.trace_all.Goals as goal
 
 pub loop-t-init : goal.loop-t-init

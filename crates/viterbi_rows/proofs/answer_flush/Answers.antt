@@ -6,7 +6,7 @@ use mathlib.Core.List.{[], ◌∷◌}
 use borrow.Author.Tests.{lt-ltb, le-ltb}
 use Rattle.viterbi_rows.specs.Rows.{handed_rows, short_of}
 use Rattle.refusal.specs.declared.Answer.TheVariants.{Space}
-use Rattle.refusal.specs.RowLaws.{refused_by, passed_by}
+use Rattle.refusal.proofs.RowLaws.{refused_by, passed_by}
 use Rattle.viterbi_rows.specs.RowLaws.{sound}
 use borrow.Author.Rules.{rules}
 use Rattle.viterbi_rows.proofs.answer_flush.Goals as goal

@@ -4,7 +4,7 @@ use Prim.Native.Nat.{◌-◌}
 use mathlib.Core.List.{[], ◌∷◌}
 use Rattle.viterbi_rows.specs.Rows.{handed_rows, steps_short}
 use Rattle.refusal.specs.declared.Answer.TheVariants.{Space}
-use Rattle.refusal.specs.RowLaws.{refused_by, passed_by}
+use Rattle.refusal.proofs.RowLaws.{refused_by, passed_by}
 use Rattle.viterbi_rows.specs.RowLaws.{sound}
 use Rattle.viterbi_rows.proofs.answer_known.Goals as goal
 

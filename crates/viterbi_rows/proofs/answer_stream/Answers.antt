@@ -4,7 +4,7 @@ use Prim.Native.Nat.{◌-◌, ◌%◌}
 use lib.ListN.{length}
 use borrow.Author.Tests.{eq-eqb, ne_eqb}
 use Rattle.viterbi_rows.specs.Rows.{handed_rows, stream_rest}
-use Rattle.refusal.specs.RowLaws.{refused_by, passed_by}
+use Rattle.refusal.proofs.RowLaws.{refused_by, passed_by}
 use Rattle.viterbi_rows.specs.RowLaws.{sound}
 use Rattle.viterbi_rows.proofs.answer_stream.Goals as goal
 

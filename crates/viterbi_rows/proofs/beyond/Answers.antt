@@ -1,6 +1,6 @@
 -- `beyond` meets its contract.
 use lib.Ieee.{neg, le}
-use Rattle.refusal.specs.RowLaws.{either_fails}
+use Rattle.refusal.proofs.RowLaws.{either_fails}
 use Rattle.viterbi_rows.proofs.beyond.Goals as goal
 
 pub returns : goal.returns

@@ -34,5 +34,5 @@ returns c =
     let l = read-load.read_load in
     let n = ap (λ (z : Plan). z.bytes) a.requires.0.is in
     let e = read_is a.args.f.plan.table a.args.f.mapping a.args.f.first a.args.re.now a.args.im.now _ a.args.f.plan.bytes _ _ start-state.start_state-start.ensures.0 n l.ensures in
-    let k = rw e at keep_Load.keep_Load.ensures in
-    searched a.args.f.plan.table a.requires.0.accepted a.args.f.mapping a.args.f.first a.args.re.now a.args.im.now keep_Load.keep_Load.result k.0 a.args.bytes.now _ k.1
+    let k = rw e at keep_Load.keep_load.ensures in
+    searched a.args.f.plan.table a.requires.0.accepted a.args.f.mapping a.args.f.first a.args.re.now a.args.im.now keep_Load.keep_load.result k.0 a.args.bytes.now _ k.1

@@ -4,8 +4,7 @@ use lib.ListN.{length}
 use Rattle.refusal.specs.declared.Answer.{Answer}
 use Rattle.refusal.specs.declared.Answer.TheVariants.{NoLoad}
 use Rattle.refusal.specs.Rows.{first_row, Either}
-use Rattle.refusal.specs.RowLaws.{refused}
-use Rattle.refusal.proofs.Told.{told}
+use Rattle.refusal.proofs.RowLaws.{refused}
 use Rattle.isdbs_plan.specs.declared.Plan.{Plan}
 use Rattle.isdbs_tables.specs.declared.Table.{Table}
 use Rattle.isdbs_plan.specs.PlannedLaws.{table_is, plan_is, planned}
@@ -25,12 +24,14 @@ returns-in_default c =
     let et = table_is c.plan_of-p.ensures.0 in
     let ans = c.earlier_answer-answer in
     let ea = ans.ensures ∙ ap (λ (z : Table). first_row (earlier_rows z (length a.args.re.now) (length a.args.im.now) (length a.args.bytes.now))) et in
-    let n = told ans.result c.in-Accepted.keys2 in
+    let n = c.in_default.not-Accepted in
     let out : Either (first_row (earlier_rows a.args.t (length a.args.re.now) (length a.args.im.now) (length a.args.bytes.now)))
     (Outcome a.args.t a.args.m a.args.first a.args.re.now a.args.im.now (Refused ans.result) a.args.bytes.now a.args.bytes.now)
     (Turned (first_row (earlier_rows a.args.t (length a.args.re.now) (length a.args.im.now) (length a.args.bytes.now))) (Refused ans.result) a.args.bytes.now a.args.bytes.now) =
-    refused _ (λ q. n (ea ∙ q)) (record { answer = ap (λ (z : Answer). Refused z) ea; kept = refl }) in
-    (by_rows a.args.t a.args.m a.args.first a.args.re.now a.args.im.now (Refused ans.result) a.args.bytes.now a.args.bytes.now out, out)
+    refused _ (λ q. n (ea ∙ q)) (record { answer = ap (λ (z : Answer). Refused z) ea; kept = refl }) in record {
+      answers = by_rows a.args.t a.args.m a.args.first a.args.re.now a.args.im.now (Refused ans.result) a.args.bytes.now a.args.bytes.now out;
+      leaves = out
+    }
 
 pub find_load-requires : goal.find_load-requires
 find_load-requires c =
@@ -55,12 +56,14 @@ returns-then-find_load c =
     let et = table_is pl.ensures.0 in
     let ok = sym at-enum-told.in-Accepted.is ∙ earlier-answer.earlier_answer-answer.ensures ∙ ap (λ (z : Table). first_row (earlier_rows z (length re) (length im) (length a.args.bytes.now))) et in
     let w = rw et at find-load.find_load.ensures in
-    let bytes = find-load.find_load.new.1.1.1.0 in
+    let bytes = find-load.find_load.new.bytes in
     let f = w.yes c.if-find_load.true in
     let out : Either (first_row (earlier_rows t (length re) (length im) (length a.args.bytes.now))) (Outcome t a.args.m a.args.first re im (Load pl.result.bytes) a.args.bytes.now bytes)
     (Turned (first_row (earlier_rows t (length re) (length im) (length a.args.bytes.now))) (Load pl.result.bytes) a.args.bytes.now bytes) =
-    ((λ q. found (ap (λ (z : Plan). Load z.bytes) pl.ensures.0) f.0 f.1 f.2), (λ n. absurd (n (sym ok)))) in
-    (by_rows t a.args.m a.args.first re im (Load pl.result.bytes) a.args.bytes.now bytes out, out)
+    ((λ q. found (ap (λ (z : Plan). Load z.bytes) pl.ensures.0) f.0 f.1 f.2), (λ n. absurd (n (sym ok)))) in record {
+      answers = by_rows t a.args.m a.args.first re im (Load pl.result.bytes) a.args.bytes.now bytes out;
+      leaves = out
+    }
 
 pub returns-else-find_load : goal.returns-else-find_load
 returns-else-find_load c =
@@ -75,9 +78,11 @@ returns-else-find_load c =
     let et = table_is pl.ensures.0 in
     let ok = sym at-enum-told.in-Accepted.is ∙ earlier-answer.earlier_answer-answer.ensures ∙ ap (λ (z : Table). first_row (earlier_rows z (length re) (length im) (length a.args.bytes.now))) et in
     let w = rw et at find-load.find_load.ensures in
-    let bytes = find-load.find_load.new.1.1.1.0 in
+    let bytes = find-load.find_load.new.bytes in
     let f = w.no c.if-find_load.false in
     let out : Either (first_row (earlier_rows t (length re) (length im) (length a.args.bytes.now))) (Outcome t a.args.m a.args.first re im (Refused NoLoad) a.args.bytes.now bytes)
     (Turned (first_row (earlier_rows t (length re) (length im) (length a.args.bytes.now))) (Refused NoLoad) a.args.bytes.now bytes) =
-    ((λ q. none refl f.0 f.1), (λ n. absurd (n (sym ok)))) in
-    (by_rows t a.args.m a.args.first re im (Refused NoLoad) a.args.bytes.now bytes out, out)
+    ((λ q. none refl f.0 f.1), (λ n. absurd (n (sym ok)))) in record {
+      answers = by_rows t a.args.m a.args.first re im (Refused NoLoad) a.args.bytes.now bytes out;
+      leaves = out
+    }

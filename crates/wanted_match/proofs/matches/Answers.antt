@@ -36,10 +36,10 @@ same_block-requires c =
     let at = next-block in
     let made = next-block.next_block-next in
     let loop = at.loop-at in
-    let lx : length made.new.1.1.1.1.0 ≡ length loop.xs = search rules in
-    let ly : length made.new.1.1.1.1.1.0 ≡ length loop.ys = search rules in
+    let lx : length made.new.xs ≡ length loop.xs = search rules in
+    let ly : length made.new.ys ≡ length loop.ys = search rules in
     let st = at in
-    let on = made.ensures.0 in
+    let on = made.ensures.place in
     let fits = on.0.fits in
     (omega (arith, fits, on.1, st.requires.1), omega (arith, fits, on.1, st.requires.2), omega (arith, on.2, lx, loop.invariant.2, st.requires.3), omega (arith, on.2, ly, loop.invariant.3, st.requires.4))
 
@@ -51,14 +51,14 @@ returns-else-same_block c =
     let a = st.args in
     let inv = at.loop-at.invariant in
     let made = next-block.next_block-next in
-    let on = made.ensures.0 in
-    block_differs a.f.plan st.requires.0 a.f.mapping a.f.first a.re.now a.im.now a.load.now at.loop-at.at made.result _ _ _ _ (made.ensures.1 (start_state a.f.first) inv.1) on.1 on.0.fits c.same_block.result c.if-same_block.false c.same_block.ensures
+    let on = made.ensures.place in
+    block_differs a.f.plan st.requires.0 a.f.mapping a.f.first a.re.now a.im.now a.load.now at.loop-at.at made.result _ _ _ _ (made.ensures.block (start_state a.f.first) inv.1) on.1 on.0.fits c.same_block.result c.if-same_block.false c.same_block.ensures
 
 pub loop-at-smaller : goal.loop-at-smaller
 loop-at-smaller c =
     let next-block = c in
     let at = next-block in
-    let on = next-block.next_block-next.ensures.0 in
+    let on = next-block.next_block-next.ensures.place in
     let inv = at.loop-at.invariant in
     omega (arith, on.3, on.0.few, on.0.fits, inv.0.fits, inv.0.few)
 
@@ -68,13 +68,13 @@ loop-at-preserved c =
     let at = next-block in
     let made = next-block.next_block-next in
     let loop = at.loop-at in
-    let lx : length made.new.1.1.1.1.0 ≡ length loop.xs = search rules in
-    let ly : length made.new.1.1.1.1.1.0 ≡ length loop.ys = search rules in
+    let lx : length made.new.xs ≡ length loop.xs = search rules in
+    let ly : length made.new.ys ≡ length loop.ys = search rules in
     let st = at in
     let a = st.args in
     let inv = loop.invariant in
-    let on = made.ensures.0 in
-    let block = made.ensures.1 (start_state a.f.first) inv.1 in (
+    let on = made.ensures.place in
+    let block = made.ensures.block (start_state a.f.first) inv.1 in (
       on.0,
       block.state_is,
       lx ∙ inv.2,

@@ -4,7 +4,7 @@ use mathlib.Core.Bool.{not}
 use lib.Dec.{T}
 use lib.Ieee.{is_nan}
 use borrow.Author.Rules.{rules}
-use Rattle.ieee.specs.Bits.{number}
+use Rattle.ieee.proofs.Bits.{number}
 use Rattle.wanted_match.proofs.Compare.{same_nan, same_nan_2, same_bits, same_unequal}
 use Rattle.wanted_match.proofs.same_bits.Goals as goal
 

@@ -1,4 +1,4 @@
-use Rattle.ieee.specs.Bits.{number}
+use Rattle.ieee.proofs.Bits.{number}
 use Rattle.bench_blocks.proofs.points.f32_bits.Goals as goal
 
 pub float_to_bits-y : goal.float_to_bits-y

@@ -3,7 +3,7 @@ use mathlib.Core.Path.{◌≡◌, refl, sym, ◌∙◌, ap}
 use lib.ListN.{length}
 use Rattle.refusal.specs.declared.Answer.{Answer}
 use Rattle.refusal.specs.Rows.{first_row, number_of}
-use Rattle.refusal.specs.RowLaws.{zero_accepted}
+use Rattle.refusal.proofs.RowLaws.{zero_accepted}
 use Rattle.isdbs_phy.specs.DecodeRows.{decode_rows}
 use Rattle.isdbs_tables.specs.Tables.{table_rows}
 use Rattle.isdbs_metrics.specs.Scales.{received_by}
@@ -11,8 +11,8 @@ use Rattle.strain_marks.specs.Strain.{strain_sum}
 use Rattle.c_table.specs.Forms.{table_of}
 use Rattle.c_answers.specs.Answers.{answered}
 use Rattle.c_answers.specs.Lengths.{until_length}
-use Rattle.c_answers.specs.LengthLaws.{until_refuses}
-use Rattle.isdbs_tables.specs.TableLaws.{table_refusing}
+use Rattle.c_answers.proofs.LengthLaws.{until_refuses}
+use Rattle.isdbs_tables.proofs.TableLaws.{table_refusing}
 use Rattle.c_frame.specs.Lengths.{scales_rows}
 use Rattle.c_frame.specs.LengthLaws.{seven_rows, not_seven}
 use Rattle.c_mapping.specs.Mappings.{mapping_of, is_set}

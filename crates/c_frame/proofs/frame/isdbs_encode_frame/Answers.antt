@@ -7,7 +7,7 @@ use Rattle.c_table.specs.Forms.{table_of}
 use Rattle.c_mapping.specs.Mappings.{mapping_of}
 use Rattle.c_answers.specs.Answers.{answered}
 use Rattle.c_answers.specs.AnswerLaws.{kept}
-use Rattle.refusal.specs.RowLaws.{zero_accepted}
+use Rattle.refusal.proofs.RowLaws.{zero_accepted}
 use Rattle.c_answers.specs.AnswerLaws.{refusing}
 use Rattle.c_frame.proofs.frame.isdbs_encode_frame.Goals as goal
 

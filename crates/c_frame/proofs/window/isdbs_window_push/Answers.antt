@@ -1,7 +1,7 @@
 -- `isdbs_window_push` meets its contract: it is one push of the library.
 use mathlib.Core.Path.{sym, ◌∙◌, ap}
 use Rattle.refusal.specs.Rows.{number_of}
-use Rattle.refusal.specs.RowLaws.{zero_accepted}
+use Rattle.refusal.proofs.RowLaws.{zero_accepted}
 use Rattle.strain_window.specs.declared.WindowState.{WindowState}
 use Rattle.c_answers.specs.AnswerLaws.{kept}
 use Rattle.c_frame.proofs.window.isdbs_window_push.Goals as goal

@@ -24,17 +24,17 @@ right g t w u s e h k =
     rw (top, rest) at (eqb→eq (ones 8 (bit_and w g) % 2) (output isdb g (w / 64) (w % 64)) (each 128 (same g) t w (omega arith)))
 
 pub returns-then-state-ge-STATES : goal.returns-then-state-ge-STATES
-returns-then-state-ge-STATES c = (rw (lt-ltb 63 c.args.state (omega arith)) refl, refused State (numbered State (omega arith)) (refl, refl))
+returns-then-state-ge-STATES c = record { answers = rw (lt-ltb 63 c.args.state (omega arith)) refl; outputs = refused State (numbered State (omega arith)) (refl, refl) }
 
 pub returns : goal.returns
 unfolding output tapped ones
 returns c =
     let a = c.args in
     let h : a.state < 64 = omega arith in
-    let w : (a.u % 2 * 64) % 256 + a.state ≡ 64 * (a.u % 2) + a.state = omega arith in (
-      rw (le-ltb 63 a.state (omega arith)) refl,
-      accepted (
+    let w : (a.u % 2 * 64) % 256 + a.state ≡ 64 * (a.u % 2) + a.state = omega arith in record {
+      answers = rw (le-ltb 63 a.state (omega arith)) refl;
+      outputs = accepted (
         c.parity.ensures ∙ right 121 tt ((a.u % 2 * 64) % 256 + a.state) (a.u % 2) a.state w h (omega arith),
         c.parity-2.ensures ∙ right 91 tt ((a.u % 2 * 64) % 256 + a.state) (a.u % 2) a.state w h (omega arith),
-      ),
-    )
+      );
+    }

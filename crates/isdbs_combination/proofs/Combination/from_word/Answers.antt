@@ -22,6 +22,3 @@ returns-in-6 c = rw c.in-6.is
 
 pub returns-in-7 : goal.returns-in-7
 returns-in-7 c = rw c.in-7.is
-
-pub returns-in_default : goal.returns-in_default
-returns-in_default c = other c.args.w c.in-1.rest

@@ -26,6 +26,3 @@ returns-in-7 c = rw c.in-7.is
 
 pub returns-in-15 : goal.returns-in-15
 returns-in-15 c = rw c.in-15.is
-
-pub returns-in_default : goal.returns-in_default
-returns-in_default c = reserved (c.args.w % 16) c.in-1.rest.0 c.in-1.rest.1

@@ -1,6 +1,6 @@
 -- `slot_byte_symbol` meets its contract.
 use Rattle.refusal.specs.Rows.{accepted}
-use Rattle.refusal.specs.RowLaws.{is_refused}
+use Rattle.refusal.proofs.RowLaws.{is_refused}
 use Rattle.refusal.proofs.Told.{told}
 use Rattle.isdbs_plan.specs.PlanLaws.{runs_answer, runs_are, runs_in, runs_units}
 use Rattle.isdbs_plan.specs.RunsOf.{runs_of}

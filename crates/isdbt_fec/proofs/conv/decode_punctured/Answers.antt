@@ -1,8 +1,8 @@
 -- `conv::decode_punctured` meets its contract.
 use mathlib.Core.Path.{refl, sym, ◌∙◌}
 use lib.ListN.{length}
-use Rattle.isdbt_rows.specs.RowLaws.{decode_enough}
-use Rattle.trellis.specs.RunLaws.{depth_range}
+use Rattle.isdbt_rows.proofs.RowLaws.{decode_enough}
+use Rattle.trellis.proofs.RunLaws.{depth_range}
 use Rattle.isdb_fec.specs.AnswerLaws.{accepted, refused}
 use Rattle.refusal.proofs.Told.{told}
 use Rattle.isdbt_fec.proofs.conv.decode_punctured.Goals as goal

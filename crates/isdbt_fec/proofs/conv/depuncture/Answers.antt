@@ -1,7 +1,7 @@
 -- `conv::depuncture` meets its contract.
 use mathlib.Core.Path.{refl, sym, ◌∙◌}
 use lib.ListN.{length}
-use Rattle.isdbt_rows.specs.RowLaws.{depuncture_enough}
+use Rattle.isdbt_rows.proofs.RowLaws.{depuncture_enough}
 use Rattle.isdb_fec.specs.AnswerLaws.{accepted, refused}
 use Rattle.refusal.proofs.Told.{told}
 use Rattle.isdbt_fec.proofs.conv.depuncture.Goals as goal

@@ -8,7 +8,7 @@ use Rattle.trellis.specs.Code.{state_at}
 use Rattle.isdbt_table.specs.Puncture.{mother}
 use Rattle.trellis.specs.Encoded.{low_bits}
 use Rattle.isdbt_fec.specs.EncodeLaws.{state_next, state_below, mother_x, mother_y, written_pair}
-use Rattle.trellis.specs.EncodedLaws.{low_at}
+use Rattle.trellis.proofs.EncodedLaws.{low_at}
 use Rattle.isdbt_fec.proofs.conv.encode_period.Goals as goal
 
 pub loop-i-init : goal.loop-i-init

@@ -3,7 +3,7 @@ use mathlib.Core.Path.{refl, sym, ◌∙◌}
 use native.Mathlib.Omega.{arith}
 use lib.ListN.{length}
 use Rattle.isdbt_table.specs.NumberLaws.{numbers}
-use Rattle.isdbt_rows.specs.RowLaws.{encode_enough}
+use Rattle.isdbt_rows.proofs.RowLaws.{encode_enough}
 use Rattle.isdb_fec.specs.AnswerLaws.{accepted, refused}
 use Rattle.refusal.proofs.Told.{told}
 use Rattle.isdbt_fec.proofs.Turns.{sent_count}

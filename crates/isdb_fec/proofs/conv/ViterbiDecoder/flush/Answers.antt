@@ -4,14 +4,16 @@ use Prim.Native.Nat.{◌-◌}
 use native.Mathlib.Omega.{arith}
 use lib.ListN.{length}
 use Rattle.isdb_fec.specs.AnswerLaws.{accepted, flush_enough}
-use Rattle.isdb_fec.specs.WholeLaws.{as_given}
-use Rattle.refusal.proofs.Told.{told}
+use Rattle.isdb_fec.proofs.WholeLaws.{as_given}
 use Rattle.isdb_fec.proofs.conv.ViterbiDecoder.flush.Goals as goal
 
 pub returns-in_default : goal.returns-in_default
 returns-in_default c =
     let a = c.args in
-    (c.answer_flush-answer.ensures, as_given a.self c.answer_flush-answer.result a.decisions.now a.out.now (told c.answer_flush-answer.result c.in-Accepted.keys2))
+    record {
+      answers = c.answer_flush-answer.ensures;
+      leaves = as_given a.self c.answer_flush-answer.result a.decisions.now a.out.now c.in_default.not-Accepted;
+    }
 
 pub finish-count-requires : goal.finish-count-requires
 finish-count-requires c =
@@ -30,7 +32,7 @@ returns c =
     let a = start.args in
     let ok = sym told.in-Accepted.is ∙ answer-flush.answer_flush-answer.ensures in
     let e = flush_enough a.self (length a.decisions.now) (length a.out.now) ok in
-    let done = finish.finish-count.ensures in (
-      ok,
-      accepted (record { values = refl; held_is = refl; traceback_is = refl; count_is = done.0 ∙ omega arith; words = done.1; bits = done.2 }),
-    )
+    let done = finish.finish-count.ensures in record {
+      answers = ok;
+      leaves = accepted (record { values = refl; held_is = refl; traceback_is = refl; count_is = done.0 ∙ omega arith; words = done.1; bits = done.2 });
+    }

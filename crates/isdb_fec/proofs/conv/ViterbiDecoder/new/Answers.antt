@@ -2,4 +2,4 @@
 use Rattle.isdb_fec.proofs.conv.ViterbiDecoder.new.Goals as goal
 
 pub returns : goal.returns
-returns c = rw c.start_at.ensures at c.fresh.ensures
+returns c = record { answers = c.fresh.ensures.answers; made = rw c.start_at.ensures at c.fresh.ensures.made }

@@ -5,17 +5,16 @@ use borrow.Author.Rules.{rules}
 use lib.ListN.{length}
 use Rattle.trellis.specs.Run.{known_steps}
 use Rattle.isdb_fec.specs.AnswerLaws.{accepted, known_enough}
-use Rattle.isdb_fec.specs.WholeLaws.{runs, ends, as_given}
-use Rattle.refusal.proofs.Told.{told}
+use Rattle.isdb_fec.proofs.WholeLaws.{runs, ends, as_given}
 use Rattle.isdb_fec.proofs.conv.ViterbiDecoder.push_known.Goals as goal
-
-slice-aggregate-run-steps : tie.Need-slice-aggregate-run-steps
-slice-aggregate-run-steps c = search rules
 
 pub returns-in_default : goal.returns-in_default
 returns-in_default c =
     let a = c.args in
-    (c.answer_known-answer.ensures, as_given a.self c.answer_known-answer.result a.decisions.now a.out.now (told c.answer_known-answer.result c.in-Accepted.keys2))
+    record {
+      answers = c.answer_known-answer.ensures;
+      leaves = as_given a.self c.answer_known-answer.result a.decisions.now a.out.now c.in_default.not-Accepted;
+    }
 
 pub run_steps-at-requires : goal.run_steps-at-requires
 run_steps-at-requires c =
@@ -40,6 +39,9 @@ returns c =
     let out = a.out.now in
     let taken = sym known.in-Accepted.is ∙ answer-known.answer_known-answer.ensures in
     let e = known_enough v (length a.bits.now) (length dec) (length out) taken in
-    let dec' = ran.new.1.1.1.1.1.1.1.1.0 in
-    let out' = ran.new.1.1.1.1.1.1.1.1.1.0 in
-    (taken, accepted (ends v xs n dec out e ran.new.0 ran.result dec' out' (runs v xs n dec out e ran.result ran.new.0 dec' out' ran.ensures)))
+    let dec' = ran.new.decisions in
+    let out' = ran.new.out in
+    record {
+      answers = taken;
+      leaves = accepted (ends v xs n dec out e ran.new.pm ran.result dec' out' (runs v xs n dec out e ran.result ran.new.pm dec' out' ran.ensures));
+    }

@@ -6,17 +6,16 @@ use borrow.Author.Rules.{rules}
 use lib.ListN.{length}
 use Rattle.trellis.specs.Run.{four_steps}
 use Rattle.isdb_fec.specs.AnswerLaws.{accepted, stream_enough}
-use Rattle.isdb_fec.specs.WholeLaws.{runs, closes, as_given}
-use Rattle.refusal.proofs.Told.{told}
+use Rattle.isdb_fec.proofs.WholeLaws.{runs, closes, as_given}
 use Rattle.isdb_fec.proofs.conv.ViterbiDecoder.push_metrics.Goals as goal
-
-slice-aggregate-run-steps : tie.Need-slice-aggregate-run-steps
-slice-aggregate-run-steps c = search rules
 
 pub returns-in_default : goal.returns-in_default
 returns-in_default c =
     let a = c.args in
-    (c.answer_stream-answer.ensures, as_given a.self c.answer_stream-answer.result a.decisions.now a.out.now (told c.answer_stream-answer.result c.in-Accepted.keys2))
+    record {
+      answers = c.answer_stream-answer.ensures;
+      leaves = as_given a.self c.answer_stream-answer.result a.decisions.now a.out.now c.in_default.not-Accepted;
+    }
 
 pub run_steps-at-requires : goal.run_steps-at-requires
 run_steps-at-requires c =
@@ -41,6 +40,9 @@ returns c =
     let out = a.out.now in
     let taken = sym known.in-Accepted.is ∙ answer-stream.answer_stream-answer.ensures in
     let e = stream_enough 4 v a.metrics.now (length dec) (length out) taken in
-    let dec' = ran.new.1.1.1.1.1.1.1.1.0 in
-    let out' = ran.new.1.1.1.1.1.1.1.1.1.0 in
-    (taken, accepted (closes v xs n dec out e ran.new.0 c.renormalise.new.0 ran.result dec' out' (runs v xs n dec out e ran.result ran.new.0 dec' out' ran.ensures) c.renormalise.ensures))
+    let dec' = ran.new.decisions in
+    let out' = ran.new.out in
+    record {
+      answers = taken;
+      leaves = accepted (closes v xs n dec out e ran.new.pm c.renormalise.new.pm ran.result dec' out' (runs v xs n dec out e ran.result ran.new.pm dec' out' ran.ensures) c.renormalise.ensures);
+    }

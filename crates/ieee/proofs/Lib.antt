@@ -1,0 +1,10 @@
+pub mod Bits
+pub mod Bounds
+pub mod Constants
+pub mod ConversionLaws
+pub mod Products
+pub mod Sums
+pub mod Zero
+pub mod Rounding
+pub mod Whole
+pub mod WholeDifference

@@ -1,0 +1,3 @@
+pub mod OneCall
+pub mod TwoCallLaws
+pub mod WholeLaws

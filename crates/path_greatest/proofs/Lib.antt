@@ -1,0 +1,11 @@
+pub mod Branches
+pub mod Calls
+pub mod Corrected
+pub mod Decoded
+pub mod Exact
+pub mod Examples
+pub mod Greatest
+pub mod Integers
+pub mod Order
+pub mod Tracks
+pub mod Starts

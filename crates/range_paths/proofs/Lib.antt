@@ -1,0 +1,5 @@
+pub mod Known
+pub mod Maximum
+pub mod Run
+pub mod Starts
+pub mod Invariant
