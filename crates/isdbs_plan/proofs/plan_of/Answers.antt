@@ -6,6 +6,7 @@ use Rattle.isdbs_combination.specs.Combinations.{assigned_of}
 use Rattle.isdbs_plan.specs.RunLaws.{entry_fits}
 use Rattle.isdbs_tables.specs.Tables.{entry_combination}
 use Rattle.isdbs_combination.specs.declared.CombinationWord.TheVariants.{Assigned, Dummy, Reserved}
+use Rattle.isdbs_combination.specs.declared.Combination.{Combination}
 use Rattle.isdbs_combination.specs.declared.CombinationWord.{CombinationWord}
 use Rattle.isdbs_combination.specs.declared.MaybeCombination.TheVariants.{Some, None}
 use denote.Enum.Declared.{tag_of, declared}
@@ -16,9 +17,8 @@ use native.Mathlib.Omega.{arith}
 use Rattle.isdbs_plan.proofs.plan_of.Goals as goal
 
 -- a word that is not the first variant has no combination
-no_assigned : (x : CombinationWord) → (tag_of (declared enum) x ≡ 1) ⊎ (tag_of (declared enum) x ≡ 2) → assigned_of x ≡ None
-no_assigned (Assigned c) (inl h) = absurd (omega arith)
-no_assigned (Assigned c) (inr h) = absurd (omega arith)
+no_assigned : (x : CombinationWord) → ((c : Combination) → x ≡ Assigned c → ⊥) → assigned_of x ≡ None
+no_assigned (Assigned c) h = absurd (h c refl)
 no_assigned Dummy h = refl
 no_assigned (Reserved w) h = refl
 
@@ -28,9 +28,6 @@ loop-i-init c = (omega arith, omega arith, omega arith, omega arith, omega arith
 pub from_word-word-requires : goal.from_word-word-requires
 from_word-word-requires c = tt
 
-pub enum_known-word : goal.enum_known-word
-enum_known-word c = c.in-Assigned.keys1
-
 pub loop-i-preserved-in_default : goal.loop-i-preserved-in_default
 loop-i-preserved-in_default c =
     let at = c in
@@ -38,7 +35,7 @@ loop-i-preserved-in_default c =
     let four : length es ≡ 4 = omega arith in
     let h : at.loop-i.i < length es = omega arith in
     let e = get_or es at.loop-i.i no_entry in
-    let none = entry_word e _ c.from_word-word.ensures ∙ no_assigned c.from_word-word.result c.in-Assigned.keys2 in
+    let none = entry_word e _ c.from_word-word.ensures ∙ no_assigned c.from_word-word.result c.in_default.not-Assigned in
     (omega arith, omega arith, omega arith, omega arith, omega arith, built_skip es at.loop-i.invariant.5 h none)
 
 pub run_of-r-requires : goal.run_of-r-requires
