@@ -3,7 +3,7 @@ pub mod CostLaws
 pub mod Examples
 pub mod Gaps
 pub mod GridLaws
-pub mod Hides
+pub mod HideLaws
 pub mod Readings
 pub mod Sequences
 pub mod SideLaws

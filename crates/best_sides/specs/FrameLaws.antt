@@ -23,7 +23,7 @@ use Rattle.isdbs_metrics.specs.Reading.{Received, metrics_in, metrics_at, uncode
 use Rattle.range_metrics.specs.Metrics.{Sized, metric_in, metrics_up}
 use Rattle.range_metrics.specs.Rising.{Up}
 use Rattle.best_grid.specs.Grid.{unit, most, below}
-use Rattle.best_grid.proofs.Hides.{Held}
+use Rattle.best_grid.proofs.HideLaws.{Held}
 use Rattle.best_grid.proofs.GridLaws.{none_capped}
 use Rattle.best_grid.specs.Sides.{chosen_at, chosen}
 use Rattle.trellis.proofs.RunLaws.{label_under}
