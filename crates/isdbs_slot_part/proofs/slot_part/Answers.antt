@@ -19,7 +19,7 @@ returns-in_default c =
     let bytes = st.args.bytes.now in
     let t = st.args.t in
     let k = st.args.k in
-    rw (is_refused (slot_part_answer bytes t k) (λ q. told st.slot_part_answer-answer.result c.in-Accepted.keys2 (st.slot_part_answer-answer.ensures ∙ q)))
+    rw (is_refused (slot_part_answer bytes t k) (λ q. c.in_default.not-Accepted (st.slot_part_answer-answer.ensures ∙ q)))
 
 pub overflow_mul-result : goal.overflow_mul-result
 overflow_mul-result c =

@@ -19,7 +19,7 @@ returns-in_default c =
     let t = st.args.t in
     let r = st.runs-all.result in
     let e = st.runs-all.ensures in
-    let no = is_refused (table_answer t) (λ q. told r.answer c.in-Accepted.keys2 (runs_answer t r e ∙ q)) in
+    let no = is_refused (table_answer t) (λ q. c.in_default.not-Accepted (runs_answer t r e ∙ q)) in
     let bytes = st.args.bytes.now in
     let k = st.args.k in
     runs_answer t r e ∙ sym (by_table bytes t k no)

@@ -18,14 +18,14 @@ has_slot-requires c = tt
 pub overflow_sub-slot : goal.overflow_sub-slot
 overflow_sub-slot c =
     let at = c in
-    let runs = at.args.t1 in
+    let runs = at.args.runs in
     let r = get_or runs at.loop-i.i no_run in
     let h = has_in r at.args.slot c.has_slot.result c.has_slot.ensures c.if-has_slot.true in h.0
 
 pub run_byte-requires : goal.run_byte-requires
 run_byte-requires c =
     let at = c in
-    let runs = at.args.t1 in
+    let runs = at.args.runs in
     let r = get_or runs at.loop-i.i no_run in
     let h = has_in r at.args.slot c.has_slot.result c.has_slot.ensures c.if-has_slot.true in
     let four : length runs ≡ 4 = search rules in
@@ -36,7 +36,7 @@ run_byte-requires c =
 pub returns-then-has_slot : goal.returns-then-has_slot
 returns-then-has_slot c =
     let at = c in
-    let runs = at.args.t1 in
+    let runs = at.args.runs in
     let four : length runs ≡ 4 = search rules in
     let more = byte_more runs at.loop-i.i at.args.slot at.args.byte no_run (omega arith) in
     c.run_byte.ensures ∙ sym (rw (sym c.has_slot.ensures ∙ c.if-has_slot.true) at more) ∙ at.loop-i.invariant.1
@@ -44,7 +44,7 @@ returns-then-has_slot c =
 pub loop-i-preserved : goal.loop-i-preserved
 loop-i-preserved c =
     let at = c in
-    let runs = at.args.t1 in
+    let runs = at.args.runs in
     let four : length runs ≡ 4 = search rules in
     let more = byte_more runs at.loop-i.i at.args.slot at.args.byte no_run (omega arith) in
     (omega arith, sym (rw (sym c.has_slot.ensures ∙ c.if-has_slot.false) at more) ∙ at.loop-i.invariant.1)
@@ -52,6 +52,6 @@ loop-i-preserved c =
 pub returns : goal.returns
 returns c =
     let at = c in
-    let runs = at.args.t1 in
+    let runs = at.args.runs in
     let four : length runs ≡ 4 = search rules in
     sym (byte_end runs at.loop-i.i at.args.slot at.args.byte (omega arith)) ∙ at.loop-i.invariant.1

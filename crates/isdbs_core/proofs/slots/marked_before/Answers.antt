@@ -1,10 +1,10 @@
 use Prim.Native.Nat.{◌-◌}
 use Rattle.isdbs_core.specs.SymbolLaws.{marked_more}
 use Rattle.isdbs_core.specs.Symbols.{marked_before}
-use mathlib.Core.Logic.{⊎_elim}
 use mathlib.Core.Path.{◌≡◌, refl}
 use native.Mathlib.Omega.{arith}
 use Rattle.isdbs_core.proofs.slots.marked_before.Goals as goal
+use Rattle.isdbs_core.proofs.slots.marked_before.Goals.{then-is_marked, else-is_marked}
 
 pub loop-j-init : goal.loop-j-init
 unfolding marked_before
@@ -18,10 +18,9 @@ loop-j-preserved c =
     let at = c in
     let more = marked_more at.args.c at.loop-j.j c.is_marked.result c.is_marked.ensures in
     let inv = at.loop-j.invariant in
-    ⊎_elim
-    (λ w. let e = rw w.0.true at more in rw w.1 (omega arith, omega arith, omega arith))
-    (λ w. let e = rw w.0.left at more in rw w.1 (omega arith, omega arith, omega arith))
-    c.if-is_marked.branch-raw
+    elim c.if-is_marked.branch [
+      then-is_marked w ↦ let e = rw w.if-is_marked.true at more in rw w.n-is (omega arith, omega arith, omega arith)
+    | else-is_marked w ↦ let e = rw w.if-is_marked.false at more in rw w.n-is (omega arith, omega arith, omega arith) ]
 
 pub returns : goal.returns
 returns c =

@@ -8,6 +8,7 @@ use Rattle.isdbs_core.specs.SymbolLaws.{byte_padded, byte_said_lem}
 use Rattle.isdbs_core.specs.Symbols.{byte_in, slot_byte_symbol, slot_byte_said}
 use Rattle.isdbs_core.specs.Answers.{byte_said}
 use Rattle.isdbs_core.specs.declared.slots.SlotByte.{SlotByte}
+use Rattle.isdbs_core.specs.declared.slots.SlotByte.TheVariants.{Nothing, Refused}
 use Rattle.isdbs_tables.specs.declared.Table.{Table}
 use Prim.Native.Nat.{ℕ}
 use Rattle.isdbs_tables.specs.Tables.{table_answer}
@@ -18,9 +19,9 @@ use Rattle.isdbs_core.proofs.Bytes.{byte_none}
 use mathlib.Core.Path.{◌≡◌, sym, ◌∙◌, ap}
 use Rattle.isdbs_core.proofs.slots.slot_byte_symbol.Goals as goal
 
--- both clauses from the first
-with_said : (t : Table) (slot byte : ℕ) (r : SlotByte) → r ≡ slot_byte_symbol t slot byte → (r ≡ slot_byte_symbol t slot byte) × (byte_said r ≡ slot_byte_said t slot byte)
-with_said t slot byte r e = (e, ap byte_said e ∙ byte_said_lem t slot byte)
+-- the second clause from the first
+said_by : (t : Table) (slot byte : ℕ) (r : SlotByte) → r ≡ slot_byte_symbol t slot byte → byte_said r ≡ slot_byte_said t slot byte
+said_by t slot byte r e = ap byte_said e ∙ byte_said_lem t slot byte
 
 pub runs-all-requires : goal.runs-all-requires
 runs-all-requires c = tt
@@ -31,8 +32,9 @@ returns-in_default c =
     let t = st.args.t in
     let r = st.runs-all.result in
     let e = st.runs-all.ensures in
-    let no = is_refused (table_answer t) (λ q. told r.answer c.in-Accepted.keys2 (runs_answer t r e ∙ q)) in
-    with_said t st.args.slot st.args.byte _ (rw (runs_answer t r e, no))
+    let no = is_refused (table_answer t) (λ q. c.in_default.not-Accepted (runs_answer t r e ∙ q)) in
+    let is : Refused r.answer ≡ slot_byte_symbol t st.args.slot st.args.byte = rw (runs_answer t r e, no) in
+    record { is = is; said = said_by t st.args.slot st.args.byte (Refused r.answer) is }
 
 pub returns-then-byte-ge-SLOT_BYTES : goal.returns-then-byte-ge-SLOT_BYTES
 returns-then-byte-ge-SLOT_BYTES c =
@@ -42,7 +44,9 @@ returns-then-byte-ge-SLOT_BYTES c =
     let e = st.runs-all.ensures in
     let ok = ap accepted (sym (runs_answer t r e) ∙ c.in-Accepted.is) in
     let byte = st.args.byte in
-    with_said t st.args.slot byte _ (sym (byte_none (runs_of t) st.args.slot byte (le-ltb byte 203 c.if-byte-ge-SLOT_BYTES.true)) ∙ rw ok)
+    let is : Nothing ≡ slot_byte_symbol t st.args.slot byte =
+        sym (byte_none (runs_of t) st.args.slot byte (le-ltb byte 203 c.if-byte-ge-SLOT_BYTES.true)) ∙ rw ok in
+    record { is = is; said = said_by t st.args.slot byte Nothing is }
 
 pub byte_in-requires : goal.byte_in-requires
 byte_in-requires c =
@@ -62,4 +66,6 @@ returns c =
     let ok = ap accepted (sym (runs_answer t r e) ∙ c.in-Accepted.is) in
     let slot = st.args.slot in
     let byte = st.args.byte in
-    with_said t slot byte _ (c.byte_in.ensures ∙ ap (λ (l : List Run). byte_in l slot byte) (runs_are t r e ok) ∙ byte_padded 4 (runs_of t) slot byte ∙ rw ok)
+    let is : c.byte_in.result ≡ slot_byte_symbol t slot byte =
+        c.byte_in.ensures ∙ ap (λ (l : List Run). byte_in l slot byte) (runs_are t r e ok) ∙ byte_padded 4 (runs_of t) slot byte ∙ rw ok in
+    record { is = is; said = said_by t slot byte c.byte_in.result is }

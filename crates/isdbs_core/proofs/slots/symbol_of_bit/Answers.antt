@@ -10,9 +10,6 @@ use Rattle.isdbs_core.proofs.slots.symbol_of_bit.Goals as goal
 pub puncturing-requires : goal.puncturing-requires
 puncturing-requires c = tt
 
-pub enum_known-p : goal.enum_known-p
-enum_known-p c = c.in-Some.keys1
-
 pub period-period-requires : goal.period-period-requires
 period-period-requires c = tt
 
@@ -43,9 +40,6 @@ overflow_add-result c =
     let f = period_fits p in
     let g = first_most (b % period_of p) (pairs_of p) in
     rw (c.first_pair.ensures, c.period-period.ensures, c.pairs-all.ensures) (omega arith)
-
-pub enum_told-1 : goal.enum_told-1
-enum_told-1 c = c.in-Some.keys2
 
 pub efficiency-e-requires : goal.efficiency-e-requires
 efficiency-e-requires c = tt
