@@ -11,7 +11,10 @@ returns-then-answer-ne0 c =
     let a = start.args in
     let n = c.number-answer in
     let m = mend.mend-m in
-    (record { far = m.ensures.far; answers = n.ensures ∙ ap number_of m.ensures.answers }, left_refused a.start a.end a.bits.now m.result a.decisions.now _ a.out.now _ a.places.now _ m.ensures n.result n.ensures a.count.now c.if-answer-ne0.true)
+    record {
+      answers = record { far = m.ensures.far; answers = n.ensures ∙ ap number_of m.ensures.answers };
+      leaves = left_refused a.start a.end a.bits.now m.result a.decisions.now _ a.out.now _ a.places.now _ m.ensures n.result n.ensures a.count.now c.if-answer-ne0.true;
+    }
 
 pub returns : goal.returns
 returns c =
@@ -20,4 +23,7 @@ returns c =
     let a = start.args in
     let n = c.number-answer in
     let m = mend.mend-m in
-    (record { far = m.ensures.far; answers = sym c.if-answer-ne0.false ∙ n.ensures ∙ ap number_of m.ensures.answers }, left_accepted a.start a.end a.bits.now m.result a.decisions.now _ a.out.now _ a.places.now _ m.ensures n.result n.ensures a.count.now c.if-answer-ne0.false)
+    record {
+      answers = record { far = m.ensures.far; answers = sym c.if-answer-ne0.false ∙ n.ensures ∙ ap number_of m.ensures.answers };
+      leaves = left_accepted a.start a.end a.bits.now m.result a.decisions.now _ a.out.now _ a.places.now _ m.ensures n.result n.ensures a.count.now c.if-answer-ne0.false;
+    }
