@@ -30,6 +30,7 @@ module _ (first size : Segment → ℕ) where
 
   pub fill_member : (g : Segment) (gs : List Segment) (a b : ℕ) → In g gs → Fill gs a b → (a ≤ first g) × (first g + size g ≤ b)
   unfolding Fill
+  fill_member g [] a b x c = elim x [ ]
   fill_member g (h ∷ gs) a b here c = let n = fill_ends gs (a + size g) b c.1 in let e = c.0 in (omega arith, omega arith)
   fill_member g (h ∷ gs) a b (there m) c = let n = fill_member g gs (a + size h) b m c.1 in (omega arith, omega arith)
 
@@ -37,6 +38,7 @@ module _ (first size : Segment → ℕ) where
   pub among_at : {A : Type 0} (none : A) (f : Segment → ℕ → A) (g : Segment) (gs : List Segment) (a b : ℕ)
       → In g gs → Fill gs a b → (i : ℕ) → i < size g → among first size none f gs (first g + i) ≡ f g i
   unfolding Fill among
+  among_at none f g [] a b x c i l = elim x [ ]
   among_at none f g (h ∷ gs) a b here c i l =
       let e : first g + i - first g ≡ i = omega arith in
       rw (lt-ltb (first g + i) (first g + size g) (omega arith), e)

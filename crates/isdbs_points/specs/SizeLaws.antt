@@ -113,6 +113,7 @@ entry_whole None n slot symbol rs s b g p h m = h s b m
 
 from_whole : (es : List Entry) (slot symbol s b : ℕ) (g : Segment) → WholeUnits es → In g (segments_from (runs_from es slot symbol) s b) → Whole g
 unfolding segments_from runs_from
+from_whole [] slot symbol s b g w m = elim m [ ]
 from_whole (e ∷ es) slot symbol s b g w m =
     let k = entry_symbols (entry_combination e) e.slots in
     entry_whole (entry_combination e) e.slots slot symbol (runs_from es (slot + e.slots) (symbol + k)) s b g w.0 (λ s b. from_whole es (slot + e.slots) (symbol + k) s b g w.1) m
