@@ -8,13 +8,13 @@ use Rattle.isdbs_rows.proofs.decode_answer.Goals as goal
 pub returns-in_default : goal.returns-in_default
 returns-in_default c =
     let st = c in
-    by_table st.args.p.table st.args.re.now st.args.im.now (some_bad st.args.scales) st.args.decisions st.args.bits st.args.bytes st.args.counts c.table_answer-table.result c.table_answer-table.ensures (told c.table_answer-table.result c.in-Accepted.keys2)
+    by_table st.args.p.table st.args.re.now st.args.im.now (some_bad st.args.scales) st.args.decisions st.args.bits st.args.bytes st.args.counts c.table_answer-table.result c.table_answer-table.ensures c.in_default.not-Accepted
 
 pub returns-in_default-points : goal.returns-in_default-points
 returns-in_default-points c =
     let st = c in
     by_points st.args.p.table st.args.re.now st.args.im.now (some_bad st.args.scales) st.args.decisions st.args.bits st.args.bytes st.args.counts (sym c.in-Accepted.is ∙ c.table_answer-table.ensures)
-    c.points_answer-points.result c.points_answer-points.ensures (told c.points_answer-points.result c.in-Accepted-points.keys2)
+    c.points_answer-points.result c.points_answer-points.ensures c.in_default-points.not-Accepted
 
 pub returns-then-some_bad : goal.returns-then-some_bad
 returns-then-some_bad c =

@@ -8,7 +8,7 @@ use Rattle.isdbs_rows.proofs.encode_answer.Goals as goal
 pub returns-in_default : goal.returns-in_default
 returns-in_default c =
     let a = c.args in
-    table_refuses a.t a.state a.a a.b c.table_answer-first.result c.table_answer-first.ensures (told c.table_answer-first.result c.in-Accepted.keys2)
+    table_refuses a.t a.state a.a a.b c.table_answer-first.result c.table_answer-first.ensures c.in_default.not-Accepted
 
 pub returns-then-state-gt63 : goal.returns-then-state-gt63
 returns-then-state-gt63 c = table_passes c.args.t c.args.state c.args.a c.args.b c.table_answer-first.result c.table_answer-first.ensures c.in-Accepted.is (rw (lt-ltb 63 c.args.state c.if-state-gt63.true))

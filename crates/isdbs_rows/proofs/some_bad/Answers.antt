@@ -12,7 +12,7 @@ loop-i-init c = (omega arith, refl)
 pub loop-i-preserved : goal.loop-i-preserved
 loop-i-preserved c =
     let at = c in
-    (omega arith, some_more bad_scale at.args.t1 at.loop-i.i at.loop-i.some c.bad_scale-some.result at.loop-i.invariant.1 c.bad_scale-some.ensures)
+    (omega arith, some_more bad_scale at.args.scales at.loop-i.i at.loop-i.some c.bad_scale-some.result at.loop-i.invariant.1 c.bad_scale-some.ensures)
 
 pub returns : goal.returns
 returns c = let e : c.loop-i.i ≡ 7 = omega arith in rw e at c.loop-i.invariant.1
