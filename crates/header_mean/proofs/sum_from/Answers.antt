@@ -1,4 +1,3 @@
-use Prim.Native.Nat.{◌-◌}
 use native.Mathlib.Numerals.{add-one}
 use Rattle.header_mean.specs.Means.{sum_from}
 use native.Mathlib.Omega.{arith}

@@ -1,5 +1,5 @@
 use native.Mathlib.Numerals.{add-one}
-use Prim.Native.Nat.{ℕ, suc, ◌-◌, ◌+◌}
+use Prim.Native.Nat.{ℕ, suc, ◌+◌}
 use Rattle.header_sync.proofs.SearchLaws.{best_at, best_next, first_greatest}
 use Rattle.header_sync.specs.Search.{peak_by, found_by}
 use native.Mathlib.Omega.{arith}

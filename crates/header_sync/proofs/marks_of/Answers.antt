@@ -1,7 +1,6 @@
 use Rattle.header_sync.specs.Signs.{marks}
 use native.Mathlib.Numerals.{add-one}
 use native.Mathlib.Omega.{arith}
-use Prim.Native.Nat.{◌-◌}
 use mathlib.Core.Path.{◌≡◌, refl}
 use Rattle.header_sync.proofs.marks_of.Goals as goal
 

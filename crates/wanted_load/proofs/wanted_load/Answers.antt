@@ -30,7 +30,7 @@ returns-in_default c =
     (Turned (first_row (earlier_rows a.args.t (length a.args.re.now) (length a.args.im.now) (length a.args.bytes.now))) (Refused ans.result) a.args.bytes.now a.args.bytes.now) =
     refused _ (λ q. n (ea ∙ q)) (record { answer = ap (λ (z : Answer). Refused z) ea; kept = refl }) in record {
       answers = by_rows a.args.t a.args.m a.args.first a.args.re.now a.args.im.now (Refused ans.result) a.args.bytes.now a.args.bytes.now out;
-      leaves = out
+      leaves = out;
     }
 
 pub find_load-requires : goal.find_load-requires
@@ -62,7 +62,7 @@ returns-then-find_load c =
     (Turned (first_row (earlier_rows t (length re) (length im) (length a.args.bytes.now))) (Load pl.result.bytes) a.args.bytes.now bytes) =
     ((λ q. found (ap (λ (z : Plan). Load z.bytes) pl.ensures.0) f.0 f.1 f.2), (λ n. absurd (n (sym ok)))) in record {
       answers = by_rows t a.args.m a.args.first re im (Load pl.result.bytes) a.args.bytes.now bytes out;
-      leaves = out
+      leaves = out;
     }
 
 pub returns-else-find_load : goal.returns-else-find_load
@@ -84,5 +84,5 @@ returns-else-find_load c =
     (Turned (first_row (earlier_rows t (length re) (length im) (length a.args.bytes.now))) (Refused NoLoad) a.args.bytes.now bytes) =
     ((λ q. none refl f.0 f.1), (λ n. absurd (n (sym ok)))) in record {
       answers = by_rows t a.args.m a.args.first re im (Refused NoLoad) a.args.bytes.now bytes out;
-      leaves = out
+      leaves = out;
     }
