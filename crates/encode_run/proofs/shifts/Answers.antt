@@ -15,12 +15,12 @@ below_four P a b c d = below_more P 3 (below_more P 2 (below_more P 1 (below_mor
 pub returns : goal.returns
 returns c =
     let n = c.args.n in
-    let p = c.args.t1 in
-    let e0 = c.Shift-of.ensures in
+    let p = c.args.p in
+    let e0 = c.shift_of-a.ensures in
     let e1 = c.shift_of-b.ensures in
     let e2 = c.shift_of-c.ensures in
     let e3 = c.shift_of-d.ensures in
-    let s = c.Shift-of.result ∷ c.shift_of-b.result ∷ c.shift_of-c.result ∷ c.shift_of-d.result ∷ [] in
+    let s = c.shift_of-a.result ∷ c.shift_of-b.result ∷ c.shift_of-c.result ∷ c.shift_of-d.result ∷ [] in
     record {
       each = below_four (λ i. get_or s i 0 ≡ shift_of n (get_or p i 0)) e0.0 e1.0 e2.0 e3.0;
       few = below_four (λ i. get_or s i 0 ≤ 31) (omega arith) (omega arith) (omega arith) (omega arith);
