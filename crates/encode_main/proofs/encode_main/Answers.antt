@@ -99,7 +99,8 @@ returns c =
     let made = rw (runs_front s.args.p s.requires.0) at encode-runs.encode_runs-made.ensures in
     let small = end_small s.args.p.table s.args.m s.args.bytes.now s.args.start tl made s.requires.2 s.requires.3 in
     let lr = re_length s.args.p.table s.args.m s.args.bytes.now s.args.start tl made s.requires.2 s.requires.3 in
-    let li = im_length s.args.p.table s.args.m s.args.bytes.now s.args.start tl made s.requires.2 s.requires.3 in (
-      runs_state s.args.p.table s.args.m s.args.bytes.now s.args.start tl made s.requires.2 s.requires.3,
-      frame_laid s.args.p.table s.args.m s.args.bytes.now s.args.start tl made s.requires.2 s.requires.3 put-unused.put_unused.ensures.0 put-unused.put_unused.ensures.1,
-    )
+    let li = im_length s.args.p.table s.args.m s.args.bytes.now s.args.start tl made s.requires.2 s.requires.3 in
+    record {
+      state = runs_state s.args.p.table s.args.m s.args.bytes.now s.args.start tl made s.requires.2 s.requires.3;
+      frame = frame_laid s.args.p.table s.args.m s.args.bytes.now s.args.start tl made s.requires.2 s.requires.3 put-unused.put_unused.ensures.0 put-unused.put_unused.ensures.1;
+    }

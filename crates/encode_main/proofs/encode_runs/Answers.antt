@@ -16,7 +16,7 @@ use Rattle.encode_main.proofs.encode_runs.Goals as goal
 
 pub loop-i-init : goal.loop-i-init
 loop-i-init c =
-    let segs = segments_from (take c.args.count c.args.t2) 0 0 in (
+    let segs = segments_from (take c.args.count c.args.list) 0 0 in (
       search rules,
       sym (before_zero (λ g. g.bits) segs),
       sym (before_zero (λ g. g.symbols) segs),
@@ -26,36 +26,36 @@ loop-i-init c =
     )
 
 pub overflow_mul-n : goal.overflow_mul-n
-overflow_mul-n c = let a = run_in c.args.t2 c.args.count c.loop-i.i c.requires.1 c.requires.2 c.loop-i-test.true in rw c.steps_per_slot.ensures (omega (arith, a.few_steps))
+overflow_mul-n c = let a = run_in c.args.list c.args.count c.loop-i.i c.requires.1 c.requires.2 c.loop-i-test.true in rw c.steps_per_slot.ensures (omega (arith, a.few_steps))
 
 pub offset_bounds-re-first : goal.offset_bounds-re-first
-offset_bounds-re-first c = let a = run_in c.args.t2 c.args.count c.loop-i.i c.requires.1 c.requires.2 c.loop-i-test.true in omega (arith, a.starts, a.symbols, a.fits)
+offset_bounds-re-first c = let a = run_in c.args.list c.args.count c.loop-i.i c.requires.1 c.requires.2 c.loop-i-test.true in omega (arith, a.starts, a.symbols, a.fits)
 
 pub slice_bounds-encode_run-count : goal.slice_bounds-encode_run-count
-slice_bounds-encode_run-count c = let a = run_in c.args.t2 c.args.count c.loop-i.i c.requires.1 c.requires.2 c.loop-i-test.true in omega (arith, a.starts, a.symbols, a.fits, c.requires.4, c.loop-i.invariant.4.points.re_length)
+slice_bounds-encode_run-count c = let a = run_in c.args.list c.args.count c.loop-i.i c.requires.1 c.requires.2 c.loop-i-test.true in omega (arith, a.starts, a.symbols, a.fits, c.requires.4, c.loop-i.invariant.4.points.re_length)
 
 pub slice_bounds-encode_run-start : goal.slice_bounds-encode_run-start
-slice_bounds-encode_run-start c = let a = run_in c.args.t2 c.args.count c.loop-i.i c.requires.1 c.requires.2 c.loop-i-test.true in omega (arith, a.starts, a.symbols, a.fits, c.requires.4, c.loop-i.invariant.4.points.re_length)
+slice_bounds-encode_run-start c = let a = run_in c.args.list c.args.count c.loop-i.i c.requires.1 c.requires.2 c.loop-i-test.true in omega (arith, a.starts, a.symbols, a.fits, c.requires.4, c.loop-i.invariant.4.points.re_length)
 
 pub offset_bounds-im-first : goal.offset_bounds-im-first
 offset_bounds-im-first c =
     let at = c in
     let start = at in
-    let a = run_in start.args.t2 start.args.count at.loop-i.i start.requires.1 start.requires.2 c.loop-i-test.true in
+    let a = run_in start.args.list start.args.count at.loop-i.i start.requires.1 start.requires.2 c.loop-i-test.true in
     omega (arith, a.starts, a.symbols, a.fits)
 
 pub slice_bounds-encode_run-count-in-loop-i : goal.slice_bounds-encode_run-count-in-loop-i
 slice_bounds-encode_run-count-in-loop-i c =
     let at = c in
     let start = at in
-    let a = run_in start.args.t2 start.args.count at.loop-i.i start.requires.1 start.requires.2 c.loop-i-test.true in
+    let a = run_in start.args.list start.args.count at.loop-i.i start.requires.1 start.requires.2 c.loop-i-test.true in
     omega (arith, a.starts, a.symbols, a.fits, start.requires.5, at.loop-i.invariant.4.points.im_length)
 
 pub slice_bounds-encode_run-start-in-loop-i : goal.slice_bounds-encode_run-start-in-loop-i
 slice_bounds-encode_run-start-in-loop-i c =
     let at = c in
     let start = at in
-    let a = run_in start.args.t2 start.args.count at.loop-i.i start.requires.1 start.requires.2 c.loop-i-test.true in
+    let a = run_in start.args.list start.args.count at.loop-i.i start.requires.1 start.requires.2 c.loop-i-test.true in
     omega (arith, a.starts, a.symbols, a.fits, start.requires.5, at.loop-i.invariant.4.points.im_length)
 
 pub encode_run-state-requires : goal.encode_run-state-requires
@@ -63,7 +63,7 @@ encode_run-state-requires c =
     let tested = c in
     let at = tested in
     let start = at in
-    let a = run_in start.args.t2 start.args.count at.loop-i.i start.requires.1 start.requires.2 tested.loop-i-test.true in
+    let a = run_in start.args.list start.args.count at.loop-i.i start.requires.1 start.requires.2 tested.loop-i-test.true in
     let inv = at.loop-i.invariant in
     let z = a.size in
     rw c.steps_per_slot.ensures (
@@ -73,7 +73,7 @@ encode_run-state-requires c =
       simp (length-take, length-drop) (omega (arith, z.symbols_are, a.starts, a.ends, a.symbols, a.fits, start.requires.4, inv.4.points.re_length)),
       simp (length-take, length-drop) (omega (arith, z.symbols_are, a.starts, a.ends, a.symbols, a.fits, start.requires.5, inv.4.points.im_length)),
       inv.5,
-      slot_steps_four (get_or start.args.t2 at.loop-i.i no_run).combination (get_or start.args.t2 at.loop-i.i no_run).valid_slots,
+      slot_steps_four (get_or start.args.list at.loop-i.i no_run).combination (get_or start.args.list at.loop-i.i no_run).valid_slots,
     )
 
 pub overflow_mul-bit : goal.overflow_mul-bit
@@ -81,7 +81,7 @@ overflow_mul-bit c =
     let tested = c in
     let at = tested in
     let start = at in
-    let a = run_in start.args.t2 start.args.count at.loop-i.i start.requires.1 start.requires.2 tested.loop-i-test.true in
+    let a = run_in start.args.list start.args.count at.loop-i.i start.requires.1 start.requires.2 tested.loop-i-test.true in
     omega (arith, a.few_bits, a.symbols, a.fits)
 
 pub overflow_add-bit : goal.overflow_add-bit
@@ -89,7 +89,7 @@ overflow_add-bit c =
     let tested = c in
     let at = tested in
     let start = at in
-    let a = run_in start.args.t2 start.args.count at.loop-i.i start.requires.1 start.requires.2 tested.loop-i-test.true in
+    let a = run_in start.args.list start.args.count at.loop-i.i start.requires.1 start.requires.2 tested.loop-i-test.true in
     omega (arith, a.few_bits, a.symbols, a.fits, at.loop-i.invariant.3, at.loop-i.invariant.2)
 
 pub loop-i-preserved : goal.loop-i-preserved
@@ -99,14 +99,14 @@ loop-i-preserved c =
     let tested = steps-per-slot in
     let at = tested in
     let start = at in
-    let a = run_in start.args.t2 start.args.count at.loop-i.i start.requires.1 start.requires.2 tested.loop-i-test.true in
+    let a = run_in start.args.list start.args.count at.loop-i.i start.requires.1 start.requires.2 tested.loop-i-test.true in
     let inv = at.loop-i.invariant in
-    let run = get_or start.args.t2 at.loop-i.i no_run in (
+    let run = get_or start.args.list at.loop-i.i no_run in (
       omega (arith, tested.loop-i-test.true),
       omega (arith, inv.1, a.bits),
       a.ends,
       omega (arith, inv.1, inv.2, inv.3, a.few_bits, a.ends, a.symbols),
-      run_more start.args.t2 start.args.count start.args.m start.args.bytes.now start.args.start start.requires.1 start.requires.2 at.loop-i.i tested.loop-i-test.true
+      run_more start.args.list start.args.count start.args.m start.args.bytes.now start.args.start start.requires.1 start.requires.2 at.loop-i.i tested.loop-i-test.true
           inv.4 start.requires.4 start.requires.5 at.loop-i.bit (steps-per-slot.steps_per_slot.result * run.valid_slots) encode-run.encode_run-state.result inv.1
           (ap (λ (x : ℕ). x * run.valid_slots) steps-per-slot.steps_per_slot.ensures) encode-run.encode_run-state.ensures,
       omega (arith, inv.5),
@@ -115,7 +115,7 @@ loop-i-preserved c =
 pub returns : goal.returns
 returns c =
     let inv = c.loop-i.invariant in
-    let rs = take c.args.count c.args.t2 in
+    let rs = take c.args.count c.args.list in
     let segs = segments_from rs 0 0 in
     let e : c.loop-i.i ≡ length segs = omega (arith, c.loop-i-test.false, length_segments rs 0 0, c.requires.1) in
     let steps : before (λ g. g.steps) segs (length segs) ≡ steps_in rs = omega (arith, fill_last (λ g. g.step) (λ g. g.steps) segs 0 (0 + steps_in rs) (fill_steps rs 0 0)) in
