@@ -5,6 +5,7 @@ mod levels;
 pub mod rows;
 
 ghost use Rattle.std.specs.Prelude.{◌≤◌};
+ghost use Rattle.isdbs_combination.specs.Combinations.{frame_slots};
 
 use isdbs_combination::SLOT_SYMBOLS;
 use isdbs_core::frame::SLOTS;
@@ -124,7 +125,9 @@ fn panel(sheet: &mut Sheet, at: usize, i: usize, title: &[u8], below: &[u8]) -> 
 }
 
 // The valid slot after those of a run whose first is `from`; at most the last one's end.
-fn after(from: usize, r: Run) -> usize {
+fn after(from: usize, r: Run) -> usize
+    ensures { result ≤ frame_slots }
+{
     bars::after(from, r.valid_slots)
 }
 

@@ -2,9 +2,6 @@
 use Rattle.std.proofs.Common.{◌-◌, ◌≤◌, length, drop, arith, length-drop, take_all, rules, le-ltb, lt-ltb}
 use Rattle.bench_line.proofs.words.is_narrow.Goals as goal
 
-slice-aggregate-same : tie.Need-slice-aggregate-same
-slice-aggregate-same c = search rules
-
 pub returns-then-n-lt5 : goal.returns-then-n-lt5
 returns-then-n-lt5 c = rw (lt-ltb _ _ c.if-n-lt5.true)
 

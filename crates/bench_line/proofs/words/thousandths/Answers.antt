@@ -30,8 +30,8 @@ overflow_add-result-in-2 c =
 pub overflow_add-result-in_default : goal.overflow_add-result-in_default
 unfolding most
 overflow_add-result-in_default c =
-    let e : c.args.n ≡ 3 = omega (arith, c.in-0.rest.1, c.in-0.rest.0.1, c.in-0.rest.0.0.1) in
-    let f : c.args.fraction < 1000 = subst (λ (n : ℕ). c.args.fraction < most n) (e) c.requires.1.1 in
+    let e : c.args.n ≡ 3 = omega arith in
+    let f : c.args.fraction < 1000 = subst (λ (n : ℕ). c.args.fraction < most n) e c.requires.1.1 in
     search rules
 
 pub returns-in-0 : goal.returns-in-0
@@ -58,7 +58,7 @@ returns-in-2 c =
 pub returns-in_default : goal.returns-in_default
 unfolding most
 returns-in_default c =
-    let e : c.args.n ≡ 3 = omega (arith, c.in-0.rest.1, c.in-0.rest.0.1, c.in-0.rest.0.0.1) in
-    let f : c.args.fraction < 1000 = subst (λ (n : ℕ). c.args.fraction < most n) (e) c.requires.1.1 in
+    let e : c.args.n ≡ 3 = omega arith in
+    let f : c.args.fraction < 1000 = subst (λ (n : ℕ). c.args.fraction < most n) e c.requires.1.1 in
     let z : 10 ^ (3 - c.args.n) ≡ 1 = rw e in
     (rw z (omega arith), omega arith)
