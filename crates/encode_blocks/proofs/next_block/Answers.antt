@@ -48,7 +48,7 @@ encode_run-state-requires c =
     let lt = q.requires.4 in
     let run : Run = get_or list at₀.run no_run in
     let steps = steps-per-slot.steps_per_slot.ensures in
-    let block = c.Block-of.ensures in
+    let block = c.block_of-b.ensures in
     let k : ℕ = block_steps (steps_of run - at₀.step) (block_for run.combination).steps in
     let e : c.block_steps-n.result ≡ k = rw (steps, block) at c.block_steps-n.ensures in
     let n = x list count at₀ el tl hr lt in
@@ -76,7 +76,7 @@ place_after-requires c =
     let lt = q.requires.4 in
     let run : Run = get_or list at₀.run no_run in
     let steps = steps-per-slot.steps_per_slot.ensures in
-    let block = block-steps.Block-of.ensures in
+    let block = block-steps.block_of-b.ensures in
     let k : ℕ = block_steps (steps_of run - at₀.step) (block_for run.combination).steps in
     let e : block-steps.block_steps-n.result ≡ k = rw (steps, block) at block-steps.block_steps-n.ensures in
     let n = x list count at₀ el tl hr lt in
@@ -107,7 +107,7 @@ returns c =
     let lt = q.requires.4 in
     let run : Run = get_or list at₀.run no_run in
     let steps = steps-per-slot.steps_per_slot.ensures in
-    let block = block-steps.Block-of.ensures in
+    let block = block-steps.block_of-b.ensures in
     let k : ℕ = block_steps (steps_of run - at₀.step) (block_for run.combination).steps in
     let e : block-steps.block_steps-n.result ≡ k = rw (steps, block) at block-steps.block_steps-n.ensures in
     let n = x list count at₀ el tl hr lt in
@@ -115,7 +115,8 @@ returns c =
     let state = run-made.result in
     let piece = rw e at run-made.ensures in
     let is : c.place_after.result ≡ place_after at₀ (block_for run.combination) k (steps_of run - at₀.step) state = rw (steps, block, e) at c.place_after.ensures in
-    let w : After list count at₀ el tl hr lt state piece.small c.place_after.result = rw is (after list count at₀ el tl hr lt state piece.small) in (
-      (w.here, omega (arith, w.symbol_is), omega (arith, w.symbol_is, n.fits), w.on),
-      made list count at₀ el tl hr lt state piece.small q.args.m q.args.bytes.now q.args.xs.now _ q.args.ys.now _ piece c.place_after.result w,
-    )
+    let w : After list count at₀ el tl hr lt state piece.small c.place_after.result = rw is (after list count at₀ el tl hr lt state piece.small) in
+    record {
+      place = (w.here, omega (arith, w.symbol_is), omega (arith, w.symbol_is, n.fits), w.on);
+      block = made list count at₀ el tl hr lt state piece.small q.args.m q.args.bytes.now q.args.xs.now _ q.args.ys.now _ piece c.place_after.result w;
+    }
