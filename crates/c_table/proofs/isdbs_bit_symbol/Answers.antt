@@ -11,8 +11,9 @@ returns-in-At c =
     let at_c = b in
     let from-word = at_c in
     let st = from-word in
-    bit_found st.args.word st.args.bit (combination_of st.args.word) at_c.in-Some.c b.bit_symbol.result
-    (sym from-word.from_word.ensures ∙ at_c.in-Some.is) b.bit_symbol.ensures c.in-At.symbol c.in-At.is
+    let q = bit_found st.args.word st.args.bit (combination_of st.args.word) at_c.in-Some.c b.bit_symbol.result
+    (sym from-word.from_word.ensures ∙ at_c.in-Some.is) b.bit_symbol.ensures c.in-At.symbol c.in-At.is in
+    record { answers = q.0; leaves = q.1 }
 
 pub returns-in-Refused : goal.returns-in-Refused
 returns-in-Refused c =
@@ -22,4 +23,4 @@ returns-in-Refused c =
     let st = from-word in
     let q = bit_lost st.args.word st.args.bit (combination_of st.args.word) at_c.in-Some.c b.bit_symbol.result
     (sym from-word.from_word.ensures ∙ at_c.in-Some.is) b.bit_symbol.ensures c.number.result c.in-Refused.answer c.in-Refused.is c.number.ensures in
-    (q.0, kept c.number.result _ _ q.1)
+    record { answers = q.0; leaves = kept c.number.result _ _ q.1 }

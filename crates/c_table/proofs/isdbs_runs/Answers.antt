@@ -15,7 +15,7 @@ returns-then-answer-ne0 c =
     let m = c in
     let st = m in
     let e = runs_number st.args.table m.table_of.result m.runs-all.result m.number-answer.result m.table_of.ensures m.runs-all.ensures m.number-answer.ensures in
-    (table_refused (table_of st.args.table) (6 * length (runs_of (table_of st.args.table))) (length st.args.out.now) m.number-answer.result e c.if-answer-ne0.true, (kept m.number-answer.result _ _ c.if-answer-ne0.true, kept m.number-answer.result _ _ c.if-answer-ne0.true))
+    record { answers = table_refused (table_of st.args.table) (6 * length (runs_of (table_of st.args.table))) (length st.args.out.now) m.number-answer.result e c.if-answer-ne0.true; leaves = kept m.number-answer.result _ _ c.if-answer-ne0.true; counts = kept m.number-answer.result _ _ c.if-answer-ne0.true }
 
 pub overflow_mul-places : goal.overflow_mul-places
 overflow_mul-places c =
@@ -30,7 +30,7 @@ returns-then-out-places c =
     let st = m in
     let e = runs_number st.args.table m.table_of.result m.runs-all.result m.number-answer.result m.table_of.ensures m.runs-all.ensures m.number-answer.ensures in
     let z = c.if-answer-ne0.false in
-    (table_short (table_of st.args.table) (6 * length (runs_of (table_of st.args.table))) (length st.args.out.now) m.number-answer.result e z (rw (count_is st.args.table m.table_of.result m.runs-all.result m.number-answer.result m.table_of.ensures m.runs-all.ensures m.number-answer.ensures z) at c.if-out-places.true), (refl, refl))
+    record { answers = table_short (table_of st.args.table) (6 * length (runs_of (table_of st.args.table))) (length st.args.out.now) m.number-answer.result e z (rw (count_is st.args.table m.table_of.result m.runs-all.result m.number-answer.result m.table_of.ensures m.runs-all.ensures m.number-answer.ensures z) at c.if-out-places.true); leaves = refl; counts = refl }
 
 pub loop-i-init : goal.loop-i-init
 unfolding upto
@@ -88,4 +88,4 @@ returns c =
     let e = runs_number st.args.table m.table_of.result m.runs-all.result m.number-answer.result m.table_of.ensures m.runs-all.ensures m.number-answer.ensures in
     let v = h.loop-i.invariant in
     let z : h.loop-i.i ≡ 6 * length (runs_of (table_of st.args.table)) = omega arith in
-    (table_enough (table_of st.args.table) (6 * length (runs_of (table_of st.args.table))) (length st.args.out.now) m.number-answer.result e h.if-answer-ne0.false (omega arith), (rw z at v.1, v.4))
+    record { answers = table_enough (table_of st.args.table) (6 * length (runs_of (table_of st.args.table))) (length st.args.out.now) m.number-answer.result e h.if-answer-ne0.false (omega arith); leaves = rw z at v.1; counts = v.4 }

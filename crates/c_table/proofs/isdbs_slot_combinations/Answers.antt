@@ -16,14 +16,14 @@ returns-then-answer-ne0 c =
     let m = c in
     let st = m in
     let e = marks_number st.args.table m.table_of.result m.slot_combinations-marks.result m.number-answer.result m.table_of.ensures m.slot_combinations-marks.ensures m.number-answer.ensures in
-    (table_refused (table_of st.args.table) 48 (length st.args.out.now) m.number-answer.result e c.if-answer-ne0.true, kept m.number-answer.result _ _ c.if-answer-ne0.true)
+    record { answers = table_refused (table_of st.args.table) 48 (length st.args.out.now) m.number-answer.result e c.if-answer-ne0.true; leaves = kept m.number-answer.result _ _ c.if-answer-ne0.true }
 
 pub returns-then-out-lt-FRAME_SLOTS : goal.returns-then-out-lt-FRAME_SLOTS
 returns-then-out-lt-FRAME_SLOTS c =
     let m = c in
     let st = m in
     let e = marks_number st.args.table m.table_of.result m.slot_combinations-marks.result m.number-answer.result m.table_of.ensures m.slot_combinations-marks.ensures m.number-answer.ensures in
-    (table_short (table_of st.args.table) 48 (length st.args.out.now) m.number-answer.result e c.if-answer-ne0.false c.if-out-lt-FRAME_SLOTS.true, refl)
+    record { answers = table_short (table_of st.args.table) 48 (length st.args.out.now) m.number-answer.result e c.if-answer-ne0.false c.if-out-lt-FRAME_SLOTS.true; leaves = refl }
 
 pub loop-s-init : goal.loop-s-init
 unfolding upto
@@ -53,4 +53,4 @@ returns c =
     let st = m in
     let e = marks_number st.args.table m.table_of.result m.slot_combinations-marks.result m.number-answer.result m.table_of.ensures m.slot_combinations-marks.ensures m.number-answer.ensures in
     let z : h.loop-s.s ≡ 48 = omega arith in
-    (table_enough (table_of st.args.table) 48 (length st.args.out.now) m.number-answer.result e h.if-answer-ne0.false h.loop-s.invariant.3, rw z at h.loop-s.invariant.1)
+    record { answers = table_enough (table_of st.args.table) 48 (length st.args.out.now) m.number-answer.result e h.if-answer-ne0.false h.loop-s.invariant.3; leaves = rw z at h.loop-s.invariant.1 }
