@@ -31,7 +31,7 @@ use Rattle.isdb_fec.specs.Rows.{fresh_rows, stream_rest, push_rows, flush_rows}
 use Rattle.isdb_fec.specs.Calls.{call, handed, Fresh, Zero, Leaves, FlushesAt, Unchanged}
 use Rattle.isdb_fec.specs.AnswerLaws.{flush_enough}
 use Rattle.isdb_fec.proofs.TwoCallLaws.{soft_call}
-use Rattle.range_calls.specs.Reached.{Reached, Floats, with-state}
+use Rattle.range_calls.specs.Reached.{Reached, Floats, with_state}
 use Rattle.range_calls.specs.Handed.{push_hands}
 use Rattle.range_calls.proofs.Answers.{stream_answer, flush_answer}
 use Rattle.range_calls.specs.Finished.{Finished}
@@ -129,7 +129,7 @@ module _ (tb s e : ℕ) (xs : List Float) (dec₀ dec₁ out₀ out₁ : List �
   says = subst (λ (v : ViterbiDecoder). Push v xs p dec₀ dec₁ out₀ out₁) (started_is tb s m.answer m.dec pass.traceback made.0 made.1) pushes
 
   begun : Reached (started tb s)
-  begun = with-state tb s (fresh_passes tb pass.traceback) (record { values = refl; held_is = refl; traceback_is = refl })
+  begun = with_state tb s (fresh_passes tb pass.traceback) (record { values = refl; held_is = refl; traceback_is = refl })
 
   -- `push` accepts
   yes : p.answer ≡ Accepted

@@ -23,7 +23,7 @@ use Rattle.isdb_fec.specs.Values.{some_beyond, stream_limit}
 use Rattle.isdb_fec.specs.Rows.{push_metrics_rows, flush_rows, reading_rows}
 use Rattle.isdb_fec.specs.Calls.{flush}
 use Rattle.viterbi_core.specs.CountLaws.{counted, releases_le}
-use Rattle.range_calls.specs.Reached.{Reached, with-state, unknown-state}
+use Rattle.range_calls.specs.Reached.{Reached, with_state, unknown_state}
 use Rattle.range_calls.proofs.Closed.{Fit, soft_fit, four_soft, values_inside, reached_fit, state_fit, traceback_fit}
 use Rattle.range_calls.proofs.Answers.{stream_answer}
 use Rattle.path_greatest.specs.declared.Start.{Start}
@@ -34,8 +34,8 @@ use Rattle.path_reading.specs.Calls.{fresh, read, state_of}
 
 -- ---- the start
 start_reached : (start : Start) → Reached (fresh start)
-start_reached (Given s) = with-state 128 s refl (record { values = refl; held_is = refl; traceback_is = refl })
-start_reached Unknown = unknown-state 128 refl (record { values = refl; held_is = refl; traceback_is = refl })
+start_reached (Given s) = with_state 128 s refl (record { values = refl; held_is = refl; traceback_is = refl })
+start_reached Unknown = unknown_state 128 refl (record { values = refl; held_is = refl; traceback_is = refl })
 
 -- ---- the rows of `push_metrics`
 module _ (start : Start) (xs : List Float) where

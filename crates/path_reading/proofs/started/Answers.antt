@@ -8,11 +8,9 @@ use Rattle.path_reading.proofs.started.Goals as goal
 pub returns-in-Given : goal.returns-in-Given
 returns-in-Given c =
     let g = c.with_state-made.ensures in
-    let k = c.start-1.given in
-    fresh_is c.args.start _ c.with_state-made.result.answer c.with_state-made.result.dec (ap (start_values Isdb.states) k.1) g.answers g.made
+    fresh_is c.args.start _ c.with_state-made.result.answer c.with_state-made.result.dec (ap (start_values Isdb.states) c.in-Given.is) g.answers g.made
 
 pub returns-in-Unknown : goal.returns-in-Unknown
 returns-in-Unknown c =
     let g = c.new_unknown_state-made.ensures in
-    let k = c.enum_told-1.given in
-    fresh_is c.args.start _ c.new_unknown_state-made.result.answer c.new_unknown_state-made.result.dec (ap (start_values Isdb.states) k.1) g.answers g.made
+    fresh_is c.args.start _ c.new_unknown_state-made.result.answer c.new_unknown_state-made.result.dec (ap (start_values Isdb.states) c.in-Unknown.is) g.answers g.made

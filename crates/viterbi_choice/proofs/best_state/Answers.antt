@@ -28,8 +28,9 @@ loop-s-preserved c =
     let inv = at.loop-s.invariant in
     let step = more at.args.pm.now at.loop-s.best at.loop-s.s in
     elim c.if-not-pm-best.branch [
-        then-not-pm-best w ↦ rw w.best-is (inv.0, omega arith, omega arith, omega arith, step true inv.1 inv.4 (ap not w.if-not-pm-best.true)) |
-        else-not-pm-best w ↦ rw w.best-is (inv.0, omega arith, omega arith, omega arith, step false inv.1 inv.4 (ap not w.if-not-pm-best.false)) ]
+      | then-not-pm-best w ↦ rw w.best-is (inv.0, omega arith, omega arith, omega arith, step true inv.1 inv.4 (ap not w.if-not-pm-best.true))
+      | else-not-pm-best w ↦ rw w.best-is (inv.0, omega arith, omega arith, omega arith, step false inv.1 inv.4 (ap not w.if-not-pm-best.false))
+    ]
 
 pub returns : goal.returns
 returns c =

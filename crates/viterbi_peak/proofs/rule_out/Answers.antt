@@ -36,8 +36,9 @@ loop-s-preserved c =
     let inv = at.loop-s.invariant in
     let h : s < length pm = omega arith in
     elim c.if-s-kept.branch [
-        then-s-kept w ↦ rw w.pm-is (omega arith, refl, simp length-set inv.2, written_more nan f s pm _ h inv.3 (out b pm₀ s w.if-s-kept.true), kept_more nan pm₀ s pm _ inv.4) |
-        else-s-kept w ↦ rw w.pm-is (omega arith, refl, inv.2, written_skip nan f s pm inv.3 (inv.4 s (omega arith) ∙ stays b pm₀ s w.if-s-kept.false), kept_skip nan pm₀ s pm inv.4) ]
+      | then-s-kept w ↦ rw w.pm-is (omega arith, refl, simp length-set inv.2, written_more nan f s pm _ h inv.3 (out b pm₀ s w.if-s-kept.true), kept_more nan pm₀ s pm _ inv.4)
+      | else-s-kept w ↦ rw w.pm-is (omega arith, refl, inv.2, written_skip nan f s pm inv.3 (inv.4 s (omega arith) ∙ stays b pm₀ s w.if-s-kept.false), kept_skip nan pm₀ s pm inv.4)
+    ]
 
 pub returns : goal.returns
 unfolding ruled
