@@ -26,7 +26,7 @@ use Rattle.exact_frame.specs.Frames.{encoded_within}
 use Rattle.exact_frame.specs.Call.{eights, ReadsBack, exactly, short}
 use Rattle.exact_frame.proofs.CallLaws.{read_back}
 use Rattle.c_answers.specs.Answers.{answered, left}
-use Rattle.c_exact.specs.Call.{Lays, ReadsBackC, exactly-c, short-c, ExactC, WithinLaid}
+use Rattle.c_exact.specs.Call.{Lays, ReadsBackC, exactly_c, short_c, ExactC, WithinLaid}
 
 -- ---- what is laid
 
@@ -100,8 +100,8 @@ module _
 
   number_of_lem : (load : List ℕ) → ReadsBack t load (length decisions₀) (length bits₀) (length bytes₀) (length counts₀) (answer_of a t strain) bytes counts
       → ReadsBackC t load (length decisions₀) (length bits₀) (length bytes₀) (length counts₀) answer bytes counts sum
-  number_of_lem load (exactly e h k) = exactly-c (said 0 (load_bytes t ∷ frame_steps t ∷ 0 ∷ []) e) h k (no_strain e)
-  number_of_lem load (short e h) = short-c (said 9 [] e) h
+  number_of_lem load (exactly e h k) = exactly_c (said 0 (load_bytes t ∷ frame_steps t ∷ 0 ∷ []) e) h k (no_strain e)
+  number_of_lem load (short e h) = short_c (said 9 [] e) h
 
   pub reads_back : ExactC t m first re im (length decisions₀) (length bits₀) (length bytes₀) (length counts₀) answer bytes counts sum
   reads_back load fit full w =

@@ -21,7 +21,7 @@ use Rattle.isdbs_points.specs.Layout.{Segment, segments, at_symbol, load_bit, Fu
 use Rattle.isdbs_points.specs.Frame.{inputs, label_at, sent_bit, point_by, point_in, point_at, frame_re, frame_im, start_state}
 use Rattle.isdbs_metrics.specs.Reading.{decoded_bytes, received}
 use Rattle.margins.specs.Margins.{keeps, any_accepted, holds, free_re, free_im, Within}
-use Rattle.margins.proofs.Clean.{Clean, clean-zero, clean-minus-zero, clean-one, clean-minus-one, clean-root, clean-minus-root, conjugated_clean, term_clean, psk8_clean, low_end, high_end, keeps_accepted, clean_within, Other}
+use Rattle.margins.proofs.Clean.{Clean, clean_zero, clean_minus_zero, clean_one, clean_minus_one, clean_root, clean_minus_root, conjugated_clean, term_clean, psk8_clean, low_end, high_end, keeps_accepted, clean_within, Other}
 use Rattle.isdbs_points.specs.PlaceLaws.{among_all}
 use Rattle.isdbs_points.specs.BitLaws.{subset_small, load_bit_small}
 use Rattle.encode_main.specs.Laid.{FrameLaid}
@@ -47,8 +47,8 @@ abbrev CleanPoint : Cplx → Type 0
 CleanPoint p = Clean p.re × Clean p.im
 
 qpsk_clean : (reverse : Bool) (p1 p0 : ℕ) → CleanPoint (qpsk_of reverse p1 p0)
-qpsk_clean true p1 p0 = (term_clean p0 root64 clean-root, term_clean p1 root64 clean-root)
-qpsk_clean false p1 p0 = (term_clean p1 root64 clean-root, term_clean p0 root64 clean-root)
+qpsk_clean true p1 p0 = (term_clean p0 root64 clean_root, term_clean p1 root64 clean_root)
+qpsk_clean false p1 p0 = (term_clean p1 root64 clean_root, term_clean p0 root64 clean_root)
 
 module _ (t : Table) (m : Mapping) (load : List ℕ) (s : ℕ) where
   abbrev at : ℕ → ℕ
@@ -56,7 +56,7 @@ module _ (t : Table) (m : Mapping) (load : List ℕ) (s : ℕ) where
 
   by_clean : (n : Modulation) (g : Segment) (j : ℕ) → CleanPoint (point_by n m load at g j)
   unfolding point_by
-  by_clean Bpsk g j = (term_clean (sent_bit at g j) one64 clean-one, clean-zero)
+  by_clean Bpsk g j = (term_clean (sent_bit at g j) one64 clean_one, clean_zero)
   by_clean Qpsk g j = qpsk_clean m.qpsk_p1_on_q (sent_bit at g (2 * j)) (sent_bit at g (2 * j + 1))
   by_clean Tc8psk g j =
       let k = g.step + j in
@@ -68,7 +68,7 @@ module _ (t : Table) (m : Mapping) (load : List ℕ) (s : ℕ) where
   unfolding point_at
   point_clean k =
       let p = at_symbol unused (point_in m load at) t k in
-      let c : CleanPoint p = among_all CleanPoint (λ g. g.symbol) (λ g. g.symbols) unused (point_in m load at) (clean-zero, clean-zero) (λ g j. by_clean (modulation_of g.combination) g j) (segments t) k in
+      let c : CleanPoint p = among_all CleanPoint (λ g. g.symbol) (λ g. g.symbols) unused (point_in m load at) (clean_zero, clean_zero) (λ g j. by_clean (modulation_of g.combination) g j) (segments t) k in
       (c.0, conjugated_clean m.conjugate p.im c.1)
 
 -- ---- a frame made of the encoded one, part by part, by a function that keeps the margins
@@ -118,12 +118,12 @@ laid_within t m load first {re₀} {re} {im₀} {im} l =
 -- ---- other frames: each part at the lower or the upper end of its margin
 -- a test that the six clean parts pass
 clean_all : (test : Float → Bool) → T (test zero64) → T (test (neg zero64)) → T (test one64) → T (test (neg one64)) → T (test root64) → T (test (neg root64)) → (y : Float) → Clean y → T (test y)
-clean_all test a b c d e f y clean-zero = a
-clean_all test a b c d e f y clean-minus-zero = b
-clean_all test a b c d e f y clean-one = c
-clean_all test a b c d e f y clean-minus-one = d
-clean_all test a b c d e f y clean-root = e
-clean_all test a b c d e f y clean-minus-root = f
+clean_all test a b c d e f y clean_zero = a
+clean_all test a b c d e f y clean_minus_zero = b
+clean_all test a b c d e f y clean_one = c
+clean_all test a b c d e f y clean_minus_one = d
+clean_all test a b c d e f y clean_root = e
+clean_all test a b c d e f y clean_minus_root = f
 
 low_other : (y : Float) → Clean y → Other y (low_end y)
 unfolding keeps eq le neg of_bits fits

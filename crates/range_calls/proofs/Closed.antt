@@ -29,7 +29,7 @@ use Rattle.viterbi_core.specs.CountLaws.{counted}
 use Rattle.refusal.proofs.RowLaws.{passed, none_accepted}
 use Rattle.range_calls.specs.Inside.{inside_within, within_inside, none_beyond, all_inside}
 use Rattle.range_calls.specs.Reached as reached
-use Rattle.range_calls.specs.Reached.{Reached, Floats, with-state, unknown-state}
+use Rattle.range_calls.specs.Reached.{Reached, Floats, with_state, unknown_state}
 use Rattle.range_calls.specs.Numbers.{step_most, stream_most, deepest, least_path, path_most, room}
 use Rattle.range_calls.proofs.Numbers.{stream_limits, path_limit_lem, stream_limit_lem, least_path_lem, room_enough}
 
@@ -124,8 +124,8 @@ flushed_fit g l =
 
 -- ---- every such state
 pub reached_fit : {v : ViterbiDecoder} → Reached v → Fit v
-reached_fit (with-state tb s e f) = fresh_fit e (given_bounded stream_limits s) f
-reached_fit (unknown-state tb e f) = fresh_fit e (unknown_bounded stream_limits) f
+reached_fit (with_state tb s e f) = fresh_fit e (given_bounded stream_limits s) f
+reached_fit (unknown_state tb e f) = fresh_fit e (unknown_bounded stream_limits) f
 reached_fit (reached.push {v} pairs decisions₀ decisions out₀ out i f e l) =
     leaves_fit (soft_fit (reached_fit i) (pair_steps pairs) (length pairs / 2) (pair_soft pairs (stream_inside 2 v pairs (length decisions₀) (length out₀) f e)) decisions₀) l
 reached_fit (reached.push_metrics {v} metrics decisions₀ decisions out₀ out i f e l) =

@@ -33,7 +33,7 @@ use Rattle.isdb_fec.proofs.TwoCallLaws as calls
 use Rattle.isdb_fec.proofs.TwoCallLaws.{both}
 use Rattle.range_calls.specs.Normalised.{Normalised, normalised_start, renormalised_twice}
 use Rattle.range_calls.specs.Reached as reached
-use Rattle.range_calls.specs.Reached.{Reached, Floats, with-state, unknown-state}
+use Rattle.range_calls.specs.Reached.{Reached, Floats, with_state, unknown_state}
 use Rattle.range_calls.proofs.Closed.{Fit, reached_fit, stream_inside, pair_soft, four_soft}
 use Rattle.range_calls.specs.Numbers.{step_most, room}
 use Rattle.range_calls.proofs.Numbers.{stream_limits, room_enough}
@@ -96,10 +96,10 @@ start_plain false = tt
 
 pub reached_normalised : {v : ViterbiDecoder} → Reached v → Normalised v.pm
 unfolding start_at start_unknown
-reached_normalised (with-state tb s e f) =
+reached_normalised (with_state tb s e f) =
     rw f.values (normalised_start stream_limits (start_at 64 s) (given_bounded stream_limits s)
     (λ k h. rw (get_d_upto (λ k. cond (eqb k (s % 64)) (of_bits binary32 0) (of_bits binary32 0xc974_2400)) nan 64 k h) (start_plain (eqb k (s % 64)))))
-reached_normalised (unknown-state tb e f) =
+reached_normalised (unknown_state tb e f) =
     rw f.values (normalised_start stream_limits (start_unknown 64) (unknown_bounded stream_limits) (λ k h. rw (get_d_upto (λ k. of_bits binary32 0) nan 64 k h) (start_plain true)))
 reached_normalised (reached.push {v} pairs decisions₀ decisions out₀ out i f e l) =
     rw l.values

@@ -11,19 +11,19 @@ use Rattle.isdb_fec.specs.declared.conv.Made.{Made}
 use Rattle.isdb_fec.specs.declared.conv.Released.{Released}
 use Rattle.isdb_fec.specs.Rows.{fresh_rows, push_rows, push_metrics_rows, push_known_rows, flush_rows}
 use Rattle.isdb_fec.specs.Calls.{call, steps, handed, Fresh, Zero, Leaves, Flushes, FlushesAt, Unchanged}
-use Rattle.range_calls.specs.Reached.{Reached, Floats, with-state, unknown-state, push, push-metrics, push-known, flush, flush-at}
+use Rattle.range_calls.specs.Reached.{Reached, Floats, with_state, unknown_state, push, push_metrics, push_known, flush, flush_at}
 use Rattle.range_calls.specs.Finished.{fresh}
 use Rattle.trellis.specs.Isdb.{frame_traceback}
 
 -- ---- a fresh start that is accepted
 pub made_given : {r : Made} (traceback state : ℕ) → r.answer ≡ first_row (fresh_rows traceback) → Either r.answer (Fresh traceback (start_at 64 state) r.dec) (Zero r.dec) → r.answer ≡ Accepted → Reached r.dec
-made_given traceback state a e y = with-state traceback state (sym y ∙ a) (e.0 y)
+made_given traceback state a e y = with_state traceback state (sym y ∙ a) (e.0 y)
 
 pub made_unknown : {r : Made} (traceback : ℕ) → r.answer ≡ first_row (fresh_rows traceback) → Either r.answer (Fresh traceback (start_unknown 64) r.dec) (Zero r.dec) → r.answer ≡ Accepted → Reached r.dec
-made_unknown traceback a e y = unknown-state traceback (sym y ∙ a) (e.0 y)
+made_unknown traceback a e y = unknown_state traceback (sym y ∙ a) (e.0 y)
 
 pub fresh_reached : (state : ℕ) → Reached (fresh state)
-fresh_reached state = with-state frame_traceback state refl (record { values = refl; held_is = refl; traceback_is = refl })
+fresh_reached state = with_state frame_traceback state refl (record { values = refl; held_is = refl; traceback_is = refl })
 
 pub fresh_is : {r : Made} (state : ℕ) → r.answer ≡ first_row (fresh_rows frame_traceback) → Either r.answer (Fresh frame_traceback (start_at 64 state) r.dec) (Zero r.dec) → r.dec ≡ fresh state
 fresh_is state a e =
@@ -50,15 +50,15 @@ module _ {v : ViterbiDecoder} (i : Reached v) (r : Released) (decisions₀ decis
   pub metrics_hand : (metrics : List Float) → Floats metrics → r.answer ≡ first_row (push_metrics_rows v metrics (length decisions₀) (length out₀))
       → Either r.answer (Leaves v.traceback (call v.traceback (four_steps metrics) (handed v decisions₀) (length metrics / 4)) r decisions₀ decisions out₀ out) (Unchanged v r decisions₀ decisions out₀ out)
       → Reached r.dec
-  metrics_hand metrics f a e = kept e (λ l y. push-metrics metrics decisions₀ decisions out₀ out i f (sym y ∙ a) l)
+  metrics_hand metrics f a e = kept e (λ l y. push_metrics metrics decisions₀ decisions out₀ out i f (sym y ∙ a) l)
 
   pub known_hands : (bits : List ℕ) → r.answer ≡ first_row (push_known_rows v (length bits) (length decisions₀) (length out₀))
       → Either r.answer (Leaves v.traceback (steps v.traceback (known_steps bits) (handed v decisions₀) (length bits)) r decisions₀ decisions out₀ out) (Unchanged v r decisions₀ decisions out₀ out)
       → Reached r.dec
-  known_hands bits a e = kept e (λ l y. push-known bits decisions₀ decisions out₀ out i (sym y ∙ a) l)
+  known_hands bits a e = kept e (λ l y. push_known bits decisions₀ decisions out₀ out i (sym y ∙ a) l)
 
   pub flush_hands : r.answer ≡ first_row (flush_rows v (length decisions₀) (length out₀)) → Either r.answer (Flushes v r decisions₀ decisions out₀ out) (Unchanged v r decisions₀ decisions out₀ out) → Reached r.dec
   flush_hands a e = kept e (λ l y. flush decisions₀ decisions out₀ out i (sym y ∙ a) l)
 
   pub flush_at_hands : (end : ℕ) → r.answer ≡ first_row (flush_rows v (length decisions₀) (length out₀)) → Either r.answer (FlushesAt end v r decisions₀ decisions out₀ out) (Unchanged v r decisions₀ decisions out₀ out) → Reached r.dec
-  flush_at_hands end a e = kept e (λ l y. flush-at end decisions₀ decisions out₀ out i (sym y ∙ a) l)
+  flush_at_hands end a e = kept e (λ l y. flush_at end decisions₀ decisions out₀ out i (sym y ∙ a) l)

@@ -6,9 +6,13 @@ use Rattle.c_exact.proofs.lay_frame.Goals as goal
 
 pub returns : goal.returns
 returns c =
-    let isdbs-encode-frame = c in
-    let start = isdbs-encode-frame in
-    let d = isdbs-encode-frame.isdbs_encode_frame in
-    let a = start.args in
-    let l = lays d.result (table_of a.table) (mapping_of a.mapping) a.bytes.now a.state a.re.now a.im.now d.new.1.1.1.1.0 d.new.1.1.1.1.1.0 d.ensures.1.0 d.ensures.1.1.0 in
-    (d.ensures.0, (d.ensures.1.0, (d.ensures.1.1.0, (d.ensures.1.1.1, l))))
+    let d = c.isdbs_encode_frame in
+    let e = d.ensures in
+    let a = c.args in
+    record {
+      answers = e.answers;
+      real = e.real;
+      imaginary = e.imaginary;
+      state = e.state;
+      within = lays d.result (table_of a.table) (mapping_of a.mapping) a.bytes.now a.state a.re.now a.im.now d.new.re d.new.im e.real e.imaginary;
+    }

@@ -13,12 +13,19 @@ use Rattle.c_exact.proofs.read_frame.Goals as goal
 pub returns : goal.returns
 unfolding of_bits
 returns c =
-    let isdbs-decode-frame = c in
-    let start = isdbs-decode-frame in
-    let d = isdbs-decode-frame.isdbs_decode_frame in
-    let a = start.args in
+    let d = c.isdbs_decode_frame in
+    let n = d.new in
+    let e = d.ensures in
+    let a = c.args in
     let t = table_of a.table in
     let seven = seven_rows t a.re.now a.im.now eights (length a.decisions.now) (length a.bits.now) (length a.bytes.now) (length a.counts.now) refl in
-    let w = d.ensures.0 ∙ ap number_of seven in
-    let e = reads_back t (mapping_of a.mapping) (is_set a.first) a.re.now a.im.now a.decisions.now d.new.1.1.1.1.1.1.1.0 a.bits.now d.new.1.1.1.1.1.1.1.1.0 a.bytes.now d.new.1.1.1.1.1.1.1.1.1.0 a.counts.now d.new.1.1.1.1.1.1.1.1.1.1.0 a.sum.now d.new.1.1.1.1.1.1.1.1.1.1.1.0 d.result w d.ensures.1.0 d.ensures.1.1.0 d.ensures.1.1.1.0 d.ensures.1.1.1.1.0 d.ensures.1.1.1.1.1 in
-    (w, (d.ensures.1.0, (d.ensures.1.1.0, (d.ensures.1.1.1.0, (d.ensures.1.1.1.1.0, (d.ensures.1.1.1.1.1, e))))))
+    let w = e.answers ∙ ap number_of seven in
+    record {
+      answers = w;
+      words = e.words;
+      decoded = e.decoded;
+      load = e.load;
+      strain = e.strain;
+      total = e.total;
+      exact = reads_back t (mapping_of a.mapping) (is_set a.first) a.re.now a.im.now a.decisions.now n.decisions a.bits.now n.bits a.bytes.now n.bytes a.counts.now n.counts a.sum.now n.sum d.result w e.words e.decoded e.load e.strain e.total;
+    }

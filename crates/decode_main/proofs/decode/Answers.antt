@@ -42,7 +42,7 @@ write_bytes-requires c =
     let db = decode-bits.decode_bits in
     let n = from_count st.args.f.plan.table rx pm in
     let ps = ap (λ (z : Plan). z.steps) st.requires.0.is in
-    let front : take (st.args.f.plan.steps + 16 - 0) db.new.1.1.1.1.1.0 ≡ bits_from st.args.f.plan.table rx pm = front_is _ (bits_from st.args.f.plan.table rx pm) st.args.bits.now (st.args.f.plan.steps + 16 - 0) db.ensures.0.0 (omega arith) in (
+    let front : take (st.args.f.plan.steps + 16 - 0) db.new.bits ≡ bits_from st.args.f.plan.table rx pm = front_is _ (bits_from st.args.f.plan.table rx pm) st.args.bits.now (st.args.f.plan.steps + 16 - 0) db.ensures.read.0 (omega arith) in (
       start-state.start_state-state.ensures.1,
       st.requires.0,
       st.requires.1,
@@ -64,15 +64,16 @@ returns c =
     let db = decode-bits.decode_bits in
     let n = from_count st.args.f.plan.table rx pm in
     let ps = ap (λ (z : Plan). z.steps) st.requires.0.is in
-    let front : take (st.args.f.plan.steps + 16 - 0) db.new.1.1.1.1.1.0 ≡ bits_from st.args.f.plan.table rx pm = front_is _ (bits_from st.args.f.plan.table rx pm) st.args.bits.now (st.args.f.plan.steps + 16 - 0) db.ensures.0.0 (omega arith) in
+    let front : take (st.args.f.plan.steps + 16 - 0) db.new.bits ≡ bits_from st.args.f.plan.table rx pm = front_is _ (bits_from st.args.f.plan.table rx pm) st.args.bits.now (st.args.f.plan.steps + 16 - 0) db.ensures.read.0 (omega arith) in
     let es = start-state.start_state-state.ensures.0 in
     let epm : pm ≡ start_values st.args.f.options.known_start st.args.f.first = start-values.start_values-start.ensures ∙ ap (λ (z : ℕ). cond st.args.f.options.known_start (start_at 64 z) (start_unknown 64)) es in
     let whole : bits_from st.args.f.plan.table rx pm ≡ decoded_bits st.args.f.plan.table rx st.args.f.options.known_start st.args.f.first =
-    ap (λ (z : List Float). bits_from st.args.f.plan.table rx z) epm ∙ sym (decoded_from st.args.f.plan.table rx st.args.f.options.known_start st.args.f.first) in (
-      record {
-        words = db.ensures.0.1;
-        decoded = db.ensures.0.0 ∙ ap (λ (z : List ℕ). laid z st.args.bits.now) whole;
+    ap (λ (z : List Float). bits_from st.args.f.plan.table rx z) epm ∙ sym (decoded_from st.args.f.plan.table rx st.args.f.options.known_start st.args.f.first) in
+    record {
+      read = record {
+        words = db.ensures.read.1;
+        decoded = db.ensures.read.0 ∙ ap (λ (z : List ℕ). laid z st.args.bits.now) whole;
         load = rw (front ∙ whole, es) at (c.write_bytes.ensures (scale_of st.args.f.options.scales));
-      },
-      db.ensures.1,
-    )
+      };
+      marked = db.ensures.marked;
+    }

@@ -7,4 +7,4 @@ returns c =
     let read-runs = read-end in
     let st = read-runs in
     let rr = read-runs.read_runs-at.ensures in
-    (read-end.read_end.ensures.ends _ _ _ st.requires.3 rr.0.holds, rr.1)
+    record { read = read-end.read_end.ensures.ends _ _ _ st.requires.3 rr.read.holds; marked = rr.marked }

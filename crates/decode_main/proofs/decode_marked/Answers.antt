@@ -39,7 +39,7 @@ count_strain-requires c =
     let rx = received_by st.args.re.now st.args.im.now st.args.f.options.mapping st.args.f.options.scales in
     let us = decoded_bits p.table rx st.args.f.options.known_start st.args.f.first in
     let n = decoded_count p.table rx st.args.f.options.known_start st.args.f.first in
-    let f = front p rx st.args.f.options.known_start st.args.f.first _ st.args.bits.now st.requires.0 decode.decode.ensures.0.decoded in (
+    let f = front p rx st.args.f.options.known_start st.args.f.first _ st.args.bits.now st.requires.0 decode.decode.ensures.read.decoded in (
       start-state.start_state-begun.ensures.1,
       st.requires.0,
       search rules,
@@ -56,7 +56,7 @@ returns c =
     let p = st.args.f.plan in
     let rx = received_by st.args.re.now st.args.im.now st.args.f.options.mapping st.args.f.options.scales in
     let read = decode.decode.ensures in
-    let f = front p rx st.args.f.options.known_start st.args.f.first _ st.args.bits.now st.requires.0 read.0.decoded ∙ final_is p.table rx st.args.f.options.known_start st.args.f.first in
+    let f = front p rx st.args.f.options.known_start st.args.f.first _ st.args.bits.now st.requires.0 read.read.decoded ∙ final_is p.table rx st.args.f.options.known_start st.args.f.first in
     let e = start-state.start_state-begun.ensures.0 in
     let k = rw (f, e) at c.count_strain.ensures in
-    (read.0, record { marks_are = marks_are p.table rx _ _ read.1; counts_are = k.0; sum_is = k.1 })
+    record { read = read.read; counted = record { marks_are = marks_are p.table rx _ _ read.marked; counts_are = k.0; sum_is = k.1 } }

@@ -10,4 +10,4 @@ returns c =
     let p = st.args.f.plan in
     let rx = received_by st.args.re.now st.args.im.now st.args.f.options.mapping st.args.f.options.scales in
     let k = decode-marked.decode_marked.ensures in
-    (k.0, strain_laid p.table rx st.args.f.options.known_start st.args.f.first st.requires.0.accepted _ _ _ _ k.1)
+    record { read = k.read; strain = strain_laid p.table rx st.args.f.options.known_start st.args.f.first st.requires.0.accepted _ _ _ _ k.counted }

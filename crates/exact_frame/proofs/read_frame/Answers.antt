@@ -6,21 +6,18 @@ use Rattle.exact_frame.proofs.read_frame.Goals as goal
 pub returns : goal.returns
 unfolding of_bits
 returns c =
-    let decode-frame = c in
-    let start = decode-frame in
-    let d = decode-frame.decode_frame in
-    let a = start.args in (
-      d.ensures.0,
-      (
-        d.ensures.1,
-        λ load fit full w.
-            read_back a.t fit a.mapping a.first load full a.re.now a.im.now w a.decisions.now d.new.1.1.1.1.1.0 a.bits.now d.new.1.1.1.1.1.1.0
-            a.bytes.now
-            d.new.1.1.1.1.1.1.1.0
-            a.counts.now
-            d.new.1.1.1.1.1.1.1.1.0
-            d.result
-            d.ensures.0
-            d.ensures.1,
-      ),
-    )
+    let d = c.decode_frame in
+    let a = c.args in
+    record {
+      answers = d.ensures.answers;
+      leaves = d.ensures.leaves;
+      exact = λ load fit full w.
+          read_back a.t fit a.mapping a.first load full a.re.now a.im.now w a.decisions.now d.new.decisions a.bits.now d.new.bits
+          a.bytes.now
+          d.new.bytes
+          a.counts.now
+          d.new.counts
+          d.result
+          d.ensures.answers
+          d.ensures.leaves;
+    }

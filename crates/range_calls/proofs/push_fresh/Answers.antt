@@ -7,10 +7,11 @@ use Rattle.range_calls.proofs.push_fresh.Goals as goal
 
 pub returns : goal.returns
 returns c =
-    let p = c in
-    let w = p in
-    let a = w.args in
-    let made = w.with_state-made in
-    let is = fresh_is a.state made.ensures.0 made.ensures.1 in
-    let answers = rw is at p.push.ensures.0 in
-    (answers ∙ stream_answer (fresh_reached a.state) 2 a.pairs.now (length a.decisions.now) (length a.out.now), rw is at p.push.ensures.1)
+    let a = c.args in
+    let made = c.with_state-made in
+    let is = fresh_is a.state made.ensures.answers made.ensures.made in
+    let answers = rw is at c.push.ensures.answers in
+    record {
+      answers = answers ∙ stream_answer (fresh_reached a.state) 2 a.pairs.now (length a.decisions.now) (length a.out.now);
+      leaves = rw is at c.push.ensures.leaves;
+    }
