@@ -26,8 +26,7 @@ returns-in_default c =
     let em : rate_by a.rate ≡ NoRate = sym q.rate_of-m.ensures ∙ c.in_default.is in
     let n = c.unknown_with_traceback.result in
     let e = c.unknown_with_traceback.ensures in
-    let h = until_refuses (fresh_rows a.traceback) tt n e in
-    (rw em e, (kept n _ _ h, (kept n _ _ h, kept n _ _ h)))
+    let h = until_refuses (fresh_rows a.traceback) tt n e in record { answers = rw em e; words = kept n _ _ h; leaves = kept n _ _ h; counts = kept n _ _ h }
 
 pub returns-then-answer-ne0 : goal.returns-then-answer-ne0
 returns-then-answer-ne0 c =
@@ -40,10 +39,9 @@ returns-then-answer-ne0 c =
     let em : rate_by a.rate ≡ Rate k = sym q.rate_of-m.ensures ∙ t.in-Rate.is in
     let e = n.number-answer.ensures in
     let rows : CodeRate → List Row = λ x. decode_rows x a.llrs.now a.traceback (length a.decisions.now) (length a.out.now) in
-    let w = rate_answer (rate_by a.rate) k em (fresh_rows a.traceback) rows n.number-answer.result p.decode_punctured-r.result.answer e p.decode_punctured-r.ensures.0 in
+    let w = rate_answer (rate_by a.rate) k em (fresh_rows a.traceback) rows n.number-answer.result p.decode_punctured-r.result.answer e p.decode_punctured-r.ensures.answers in
     let h = c.if-answer-ne0.true in
-    let l = p.decode_punctured-r.ensures.1.1 (refusing n.number-answer.result p.decode_punctured-r.result.answer e h) in
-    (w, (l.words ∙ kept n.number-answer.result _ _ h, (l.bits_are ∙ kept n.number-answer.result _ _ h, kept n.number-answer.result _ _ h)))
+    let l = p.decode_punctured-r.ensures.leaves.1 (refusing n.number-answer.result p.decode_punctured-r.result.answer e h) in record { answers = w; words = l.words ∙ kept n.number-answer.result _ _ h; leaves = l.bits_are ∙ kept n.number-answer.result _ _ h; counts = kept n.number-answer.result _ _ h }
 
 pub returns : goal.returns
 returns c =
@@ -56,7 +54,6 @@ returns c =
     let em : rate_by a.rate ≡ Rate k = sym q.rate_of-m.ensures ∙ t.in-Rate.is in
     let e = n.number-answer.ensures in
     let rows : CodeRate → List Row = λ x. decode_rows x a.llrs.now a.traceback (length a.decisions.now) (length a.out.now) in
-    let w = rate_answer (rate_by a.rate) k em (fresh_rows a.traceback) rows n.number-answer.result p.decode_punctured-r.result.answer e p.decode_punctured-r.ensures.0 in
+    let w = rate_answer (rate_by a.rate) k em (fresh_rows a.traceback) rows n.number-answer.result p.decode_punctured-r.result.answer e p.decode_punctured-r.ensures.answers in
     let z = c.if-answer-ne0.false in
-    let l = p.decode_punctured-r.ensures.1.0 (zero_accepted p.decode_punctured-r.result.answer (sym e ∙ z)) in
-    (sym z ∙ w, (l.words, (l.bits_are ∙ ap (λ (x : List ℕ). laid x a.out.now) (rate_value (rate_by a.rate) k em [] (λ x. decoded_bits x a.llrs.now (depth a.traceback))), l.count_is ∙ rate_value (rate_by a.rate) k em 0 (λ x. length a.llrs.now / sent x * period x))))
+    let l = p.decode_punctured-r.ensures.leaves.0 (zero_accepted p.decode_punctured-r.result.answer (sym e ∙ z)) in record { answers = sym z ∙ w; words = l.words; leaves = l.bits_are ∙ ap (λ (x : List ℕ). laid x a.out.now) (rate_value (rate_by a.rate) k em [] (λ x. decoded_bits x a.llrs.now (depth a.traceback))); counts = l.count_is ∙ rate_value (rate_by a.rate) k em 0 (λ x. length a.llrs.now / sent x * period x) }

@@ -28,10 +28,9 @@ returns-then-answer-ne0 c =
     let em : rate_by a.rate ≡ Rate k = sym q.rate_of-m.ensures ∙ t.in-Rate.is in
     let e = n.number-answer.ensures in
     let rows : CodeRate → List Row = λ x. depuncture_rows x (length a.llrs.now) (length a.out.now) in
-    let w = rate_answer (rate_by a.rate) k em [] rows n.number-answer.result p.depuncture-r.result.answer e p.depuncture-r.ensures.0 in
+    let w = rate_answer (rate_by a.rate) k em [] rows n.number-answer.result p.depuncture-r.result.answer e p.depuncture-r.ensures.answers in
     let h = c.if-answer-ne0.true in
-    let l = p.depuncture-r.ensures.1.1 (refusing n.number-answer.result p.depuncture-r.result.answer e h) in
-    (w, (l.values ∙ kept n.number-answer.result _ _ h, kept n.number-answer.result _ _ h))
+    let l = p.depuncture-r.ensures.leaves.1 (refusing n.number-answer.result p.depuncture-r.result.answer e h) in record { answers = w; leaves = l.values ∙ kept n.number-answer.result _ _ h; counts = kept n.number-answer.result _ _ h }
 
 pub returns : goal.returns
 returns c =
@@ -44,7 +43,6 @@ returns c =
     let em : rate_by a.rate ≡ Rate k = sym q.rate_of-m.ensures ∙ t.in-Rate.is in
     let e = n.number-answer.ensures in
     let rows : CodeRate → List Row = λ x. depuncture_rows x (length a.llrs.now) (length a.out.now) in
-    let w = rate_answer (rate_by a.rate) k em [] rows n.number-answer.result p.depuncture-r.result.answer e p.depuncture-r.ensures.0 in
+    let w = rate_answer (rate_by a.rate) k em [] rows n.number-answer.result p.depuncture-r.result.answer e p.depuncture-r.ensures.answers in
     let z = c.if-answer-ne0.false in
-    let l = p.depuncture-r.ensures.1.0 (zero_accepted p.depuncture-r.result.answer (sym e ∙ z)) in
-    (sym z ∙ w, (l.values ∙ ap (λ (x : List Float). laid x a.out.now) (rate_value (rate_by a.rate) k em [] (λ x. depunctured x a.llrs.now)), l.count_is ∙ rate_value (rate_by a.rate) k em 0 (λ x. length a.llrs.now / sent x * (2 * period x))))
+    let l = p.depuncture-r.ensures.leaves.0 (zero_accepted p.depuncture-r.result.answer (sym e ∙ z)) in record { answers = sym z ∙ w; leaves = l.values ∙ ap (λ (x : List Float). laid x a.out.now) (rate_value (rate_by a.rate) k em [] (λ x. depunctured x a.llrs.now)); counts = l.count_is ∙ rate_value (rate_by a.rate) k em 0 (λ x. length a.llrs.now / sent x * (2 * period x)) }

@@ -25,8 +25,7 @@ returns-in_default c =
     let em : rate_by a.rate ≡ NoRate = sym q.rate_of-m.ensures ∙ c.in_default.is in
     let n = c.unknown_with_state.result in
     let e = c.unknown_with_state.ensures in
-    let h = until_refuses (encoder_rows a.state.now) tt n e in
-    (rw em e, (kept n _ _ h, (kept n _ _ h, kept n _ _ h)))
+    let h = until_refuses (encoder_rows a.state.now) tt n e in record { answers = rw em e; state = kept n _ _ h; leaves = kept n _ _ h; counts = kept n _ _ h }
 
 pub returns-then-answer-ne0 : goal.returns-then-answer-ne0
 returns-then-answer-ne0 c =
@@ -39,10 +38,9 @@ returns-then-answer-ne0 c =
     let em : rate_by a.rate ≡ Rate k = sym q.rate_of-m.ensures ∙ t.in-Rate.is in
     let e = n.number-answer.ensures in
     let rows : CodeRate → List Row = λ x. encode_rows x a.state.now (length a.bits.now) (length a.out.now) in
-    let w = rate_answer (rate_by a.rate) k em (encoder_rows a.state.now) rows n.number-answer.result p.encode_punctured-r.result.answer e p.encode_punctured-r.ensures.0 in
+    let w = rate_answer (rate_by a.rate) k em (encoder_rows a.state.now) rows n.number-answer.result p.encode_punctured-r.result.answer e p.encode_punctured-r.ensures.answers in
     let h = c.if-answer-ne0.true in
-    let l = p.encode_punctured-r.ensures.1.1 (refusing n.number-answer.result p.encode_punctured-r.result.answer e h) in
-    (w, (kept n.number-answer.result _ _ h, (l.bits_are ∙ kept n.number-answer.result _ _ h, kept n.number-answer.result _ _ h)))
+    let l = p.encode_punctured-r.ensures.leaves.1 (refusing n.number-answer.result p.encode_punctured-r.result.answer e h) in record { answers = w; state = kept n.number-answer.result _ _ h; leaves = l.bits_are ∙ kept n.number-answer.result _ _ h; counts = kept n.number-answer.result _ _ h }
 
 pub returns : goal.returns
 returns c =
@@ -55,7 +53,6 @@ returns c =
     let em : rate_by a.rate ≡ Rate k = sym q.rate_of-m.ensures ∙ t.in-Rate.is in
     let e = n.number-answer.ensures in
     let rows : CodeRate → List Row = λ x. encode_rows x a.state.now (length a.bits.now) (length a.out.now) in
-    let w = rate_answer (rate_by a.rate) k em (encoder_rows a.state.now) rows n.number-answer.result p.encode_punctured-r.result.answer e p.encode_punctured-r.ensures.0 in
+    let w = rate_answer (rate_by a.rate) k em (encoder_rows a.state.now) rows n.number-answer.result p.encode_punctured-r.result.answer e p.encode_punctured-r.ensures.answers in
     let z = c.if-answer-ne0.false in
-    let l = p.encode_punctured-r.ensures.1.0 (zero_accepted p.encode_punctured-r.result.answer (sym e ∙ z)) in
-    (sym z ∙ w, (l.state_is, (l.bits_are ∙ ap (λ (x : List ℕ). laid x a.out.now) (rate_value (rate_by a.rate) k em [] (λ x. punctured x a.state.now a.bits.now)), l.count_is ∙ rate_value (rate_by a.rate) k em 0 (λ x. length a.bits.now / period x * sent x))))
+    let l = p.encode_punctured-r.ensures.leaves.0 (zero_accepted p.encode_punctured-r.result.answer (sym e ∙ z)) in record { answers = sym z ∙ w; state = l.state_is; leaves = l.bits_are ∙ ap (λ (x : List ℕ). laid x a.out.now) (rate_value (rate_by a.rate) k em [] (λ x. punctured x a.state.now a.bits.now)); counts = l.count_is ∙ rate_value (rate_by a.rate) k em 0 (λ x. length a.bits.now / period x * sent x) }

@@ -1,5 +1,6 @@
 -- `rate_of` meets its contract.
 use Rattle.c_isdbt.proofs.Rates.{other}
+use native.Mathlib.Omega.{arith}
 use Rattle.c_isdbt.proofs.rate_of.Goals as goal
 
 pub returns-in-0 : goal.returns-in-0
@@ -18,4 +19,4 @@ pub returns-in-4 : goal.returns-in-4
 returns-in-4 c = rw c.in-4.is
 
 pub returns-in_default : goal.returns-in_default
-returns-in_default c = other c.args.rate c.in-0.rest
+returns-in_default c = other c.args.rate (((((tt, λ e. omega arith), λ e. omega arith), λ e. omega arith), λ e. omega arith), λ e. omega arith)

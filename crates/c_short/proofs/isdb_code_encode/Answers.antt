@@ -11,8 +11,7 @@ returns-then-answer-ne0 c =
     let a = start.args in
     let code = code-from.code_from-code in
     let x = encode.encode-r in
-    let t = encode_refused code.result (code_from a.constraint a.g1 a.g2) code.ensures a.state.now c.number-answer.result x.result.answer a.bits.now a.out.now _ x.result.enc.state c.number-answer.ensures x.ensures.0 x.ensures.1.0 x.ensures.1.1 c.if-answer-ne0.true in
-    (t.0, (t.1, t.2))
+    let t = encode_refused code.result (code_from a.constraint a.g1 a.g2) code.ensures a.state.now c.number-answer.result x.result.answer a.bits.now a.out.now _ x.result.enc.state c.number-answer.ensures x.ensures.answers x.ensures.state x.ensures.coded c.if-answer-ne0.true in record { answers = t.0; state = t.1; coded = t.2 }
 
 pub returns : goal.returns
 returns c =
@@ -23,5 +22,4 @@ returns c =
     let code = code-from.code_from-code in
     let x = encode.encode-r in
     let n = c.number-answer in
-    let t = encode_done code.result (code_from a.constraint a.g1 a.g2) code.ensures a.state.now n.result x.result.answer a.bits.now a.out.now _ x.result.enc.state n.ensures x.ensures.0 x.ensures.1.0 x.ensures.1.1 c.if-answer-ne0.false in
-    (t.0, (t.1, t.2))
+    let t = encode_done code.result (code_from a.constraint a.g1 a.g2) code.ensures a.state.now n.result x.result.answer a.bits.now a.out.now _ x.result.enc.state n.ensures x.ensures.answers x.ensures.state x.ensures.coded c.if-answer-ne0.false in record { answers = t.0; state = t.1; coded = t.2 }

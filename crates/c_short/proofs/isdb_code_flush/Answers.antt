@@ -24,8 +24,7 @@ returns-then-pm-ne-STATES c =
     let w : ViterbiDecoder = decoder_of a.pm.now a.held.now a.traceback in
     let n = c.not_states.result in
     let e = rw code-from.code_from-code.ensures at c.not_states.ensures in
-    let h = until_refuses (handed_rows k w) tt n e in
-    (not_states a.pm.now (flush_rows k w (length a.decisions.now) (length a.out.now)) n c.if-pm-ne-STATES.true e, unflushed (traced (half_of k) (take w.held a.decisions.now) (best_of k w)) n w a.count.now a.decisions.now a.out.now h)
+    let h = until_refuses (handed_rows k w) tt n e in record { answers = not_states a.pm.now (flush_rows k w (length a.decisions.now) (length a.out.now)) n c.if-pm-ne-STATES.true e; leaves = unflushed (traced (half_of k) (take w.held a.decisions.now) (best_of k w)) n w a.count.now a.decisions.now a.out.now h }
 
 pub returns : goal.returns
 returns c =
@@ -39,4 +38,5 @@ returns c =
     let v = d.decoder_of-v.result in
     let w : ViterbiDecoder = decoder_of a.pm.now a.held.now a.traceback in
     let e : v ≡ w = d.decoder_of-v.ensures in
-    flushed code.result (code_from a.constraint a.g1 a.g2) code.ensures v w e (λ k v. flush_rows k v (length a.decisions.now) (length a.out.now)) p.flush-r.result s.store.result s.store.new.1.0 s.store.new.1.1.0 a.count.now s.store.new.1.1.1.0 a.decisions.now p.flush-r.new.1.1.0 a.out.now p.flush-r.new.1.1.1.0 if1.if-pm-ne-STATES.false s.store.ensures.0 s.store.ensures.1.0 s.store.ensures.1.1.0 s.store.ensures.1.1.1 p.flush-r.ensures.0 (λ k v. best_of k v) p.flush-r.ensures.1
+    let t = flushed code.result (code_from a.constraint a.g1 a.g2) code.ensures v w e (λ k v. flush_rows k v (length a.decisions.now) (length a.out.now)) p.flush-r.result s.store.result s.store.new.pm s.store.new.held a.count.now s.store.new.count a.decisions.now p.flush-r.new.decisions a.out.now p.flush-r.new.out if1.if-pm-ne-STATES.false s.store.ensures.answers s.store.ensures.values s.store.ensures.counts.0 s.store.ensures.counts.1 p.flush-r.ensures.answers (λ k v. best_of k v) p.flush-r.ensures.leaves in
+    record { answers = t.0; leaves = t.1 }

@@ -23,8 +23,7 @@ returns-then-pm-ne-STATES c =
     let w : ViterbiDecoder = decoder_of a.pm.now a.held.now a.traceback in
     let n = c.not_states.result in
     let e = rw code-from.code_from-code.ensures at c.not_states.ensures in
-    let h = until_refuses (handed_rows k w) tt n e in
-    (not_states a.pm.now (known_rows k w (length a.bits.now) (length a.decisions.now) (length a.out.now)) n c.if-pm-ne-STATES.true e, unstored n a.traceback (over a.pm.now (steps k a.traceback (known_steps a.bits.now) (handed k w a.decisions.now) (length a.bits.now))) a.pm.now a.held.now a.count.now a.decisions.now a.out.now h)
+    let h = until_refuses (handed_rows k w) tt n e in record { answers = not_states a.pm.now (known_rows k w (length a.bits.now) (length a.decisions.now) (length a.out.now)) n c.if-pm-ne-STATES.true e; leaves = unstored n a.traceback (over a.pm.now (steps k a.traceback (known_steps a.bits.now) (handed k w a.decisions.now) (length a.bits.now))) a.pm.now a.held.now a.count.now a.decisions.now a.out.now h }
 
 pub returns : goal.returns
 returns c =
@@ -38,4 +37,5 @@ returns c =
     let v = d.decoder_of-v.result in
     let w : ViterbiDecoder = decoder_of a.pm.now a.held.now a.traceback in
     let e : v ≡ w = d.decoder_of-v.ensures in
-    pushed code.result (code_from a.constraint a.g1 a.g2) code.ensures v w e (λ k v. known_rows k v (length a.bits.now) (length a.decisions.now) (length a.out.now)) p.push_known-r.result s.store.result s.store.new.1.0 s.store.new.1.1.0 a.count.now s.store.new.1.1.1.0 a.decisions.now p.push_known-r.new.1.1.1.0 a.out.now p.push_known-r.new.1.1.1.1.0 if1.if-pm-ne-STATES.false s.store.ensures.0 s.store.ensures.1.0 s.store.ensures.1.1.0 s.store.ensures.1.1.1 p.push_known-r.ensures.0 (λ k v. steps k v.traceback (known_steps a.bits.now) (handed k v a.decisions.now) (length a.bits.now)) p.push_known-r.ensures.1
+    let t = pushed code.result (code_from a.constraint a.g1 a.g2) code.ensures v w e (λ k v. known_rows k v (length a.bits.now) (length a.decisions.now) (length a.out.now)) p.push_known-r.result s.store.result s.store.new.pm s.store.new.held a.count.now s.store.new.count a.decisions.now p.push_known-r.new.decisions a.out.now p.push_known-r.new.out if1.if-pm-ne-STATES.false s.store.ensures.answers s.store.ensures.values s.store.ensures.counts.0 s.store.ensures.counts.1 p.push_known-r.ensures.answers (λ k v. steps k v.traceback (known_steps a.bits.now) (handed k v a.decisions.now) (length a.bits.now)) p.push_known-r.ensures.leaves in
+    record { answers = t.0; leaves = t.1 }

@@ -13,7 +13,6 @@ use Rattle.refusal.specs.Rows.{first_row, Either}
 use Rattle.refusal.specs.declared.Answer.{Answer}
 use Rattle.refusal.proofs.RowLaws.{done, refused, passed, neither}
 use Rattle.refusal.specs.declared.Answer.TheVariants as answer
-use Rattle.refusal.proofs.Told.{told}
 use Rattle.short_code.specs.declared.Code.{Code}
 use Rattle.short_code.specs.Codes.{good_code}
 use Rattle.short_code.specs.CodeLaws.{good_length_lem}
@@ -42,10 +41,9 @@ pub returns-in_default : goal.returns-in_default
 returns-in_default c =
     let a = c.args in
     let r = c.answer_reading-answer.result in
-    let no = told r c.in-Accepted.keys2 in
+    let no = c.in_default.not-Accepted in
     let e = c.answer_reading-answer.ensures in
-    let l = unread a.code a.start a.metrics.now r a.decisions.now a.out.now no in
-    (e, (l, greatest_sum a.code a.start a.metrics.now (record { answer = r; count = 0 }) a.decisions.now _ a.out.now _ e l))
+    let l = unread a.code a.start a.metrics.now r a.decisions.now a.out.now no in record { answers = e; leaves = l; greatest = greatest_sum a.code a.start a.metrics.now (record { answer = r; count = 0 }) a.decisions.now _ a.out.now _ e l }
 
 pub half-h-requires : goal.half-h-requires
 half-h-requires c =
@@ -72,5 +70,4 @@ returns c =
     let a = start.args in
     let run = at-run.run-count in
     let e = sym t.in-Accepted.is ∙ answer-reading.answer_reading-answer.ensures in
-    let l : Either answer.Accepted (Finished a.code a.start a.metrics.now run.result a.decisions.now run.new.1.1.1.1.1.0 a.out.now run.new.1.1.1.1.1.1.0) (Refused run.result a.decisions.now run.new.1.1.1.1.1.0 a.out.now run.new.1.1.1.1.1.1.0) = done run.ensures in
-    (e, (l, greatest_sum a.code a.start a.metrics.now (record { answer = answer.Accepted; count = run.result }) a.decisions.now run.new.1.1.1.1.1.0 a.out.now run.new.1.1.1.1.1.1.0 e l))
+    let l : Either answer.Accepted (Finished a.code a.start a.metrics.now run.result a.decisions.now run.new.decisions a.out.now run.new.out) (Refused run.result a.decisions.now run.new.decisions a.out.now run.new.out) = done run.ensures in record { answers = e; leaves = l; greatest = greatest_sum a.code a.start a.metrics.now (record { answer = answer.Accepted; count = run.result }) a.decisions.now run.new.decisions a.out.now run.new.out e l }

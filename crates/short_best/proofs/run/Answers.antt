@@ -22,7 +22,7 @@ finish_at-requires c =
     let start = c in
     let a = start.args in
     let steps = c.soft_steps-end in
-    let k = all_counted a.code a.h start.requires.2 a.start a.metrics.now a.decisions.now a.out.now c.begin.new.0 in
+    let k = all_counted a.code a.h start.requires.2 a.start a.metrics.now a.decisions.now a.out.now c.begin.new.pm in
     let few = k.0 in
     let sum = k.1 in
     let eh = steps.ensures.held_is in
@@ -43,5 +43,5 @@ returns c =
     let low = renormalise.renormalise in
     let best = best-state.best_state-best in
     let end = finish-at.finish_at in
-    finished a.code a.h start.requires.2 a.start a.metrics.now a.decisions.now a.out.now begin.new.0 _ low.new.0 steps.result.held steps.result.count best.result end.result _ _ _ _
+    finished a.code a.h start.requires.2 a.start a.metrics.now a.decisions.now a.out.now begin.new.pm _ low.new.pm steps.result.held steps.result.count best.result end.result _ _ _ _
     (begin.ensures ∙ ap (λ (n : ℕ). start_values n a.start) start.requires.3) steps.ensures low.ensures best.ensures.1 end.ensures.0 end.ensures.1 end.ensures.2

@@ -3,10 +3,8 @@ use Rattle.short_calls.proofs.started.Goals as goal
 
 pub returns-in-Given : goal.returns-in-Given
 returns-in-Given c =
-    let g = c.with_state.ensures in
-    (g.0, rw c.in-Given.is g.1)
+    let g = c.with_state.ensures in record { answers = g.answers; made = rw c.in-Given.is g.made }
 
 pub returns-in-Unknown : goal.returns-in-Unknown
 returns-in-Unknown c =
-    let g = c.new_unknown_state.ensures in
-    (g.0, rw c.in-Unknown.is g.1)
+    let g = c.new_unknown_state.ensures in record { answers = g.answers; made = rw c.in-Unknown.is g.made }

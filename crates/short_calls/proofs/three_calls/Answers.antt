@@ -11,18 +11,14 @@ returns c =
     let f = flush.flush-flushed in
     let p = push-metrics.push_metrics-pushed in
     let s = started.started-made in
-    let a = start.args in (
-      s.ensures.0,
-      (
-        s.ensures.1,
-        (
-          record { words = p.new.1.1.1.0; sent = p.new.1.1.1.1.0; push_answers = p.ensures.0; push_leaves = p.ensures.1; flush_answers = f.ensures.0; flush_leaves = f.ensures.1 },
-          record {
-            reads = λ n m good count few quads hd ho.
-                let made = made_is a.code a.start a.metrics.now n m good count few quads s.result s.ensures.0 s.ensures.1 in
-                let t = three_calls a.code a.start a.metrics.now n m good count few quads p.result f.result a.decisions.now p.new.1.1.1.0 f.new.1.1.0 a.out.now p.new.1.1.1.1.0 f.new.1.1.1.0 hd ho (rw made.1 at p.ensures.0) (rw made.1 at p.ensures.1) f.ensures.0 f.ensures.1 in
-                (made.0, t.0, t.1, t.2, t.3, t.4);
-          },
-        ),
-      ),
-    )
+    let a = start.args in record {
+      answers = s.ensures.answers;
+      made = s.ensures.made;
+      leaves = record { words = p.new.decisions; sent = p.new.out; push_answers = p.ensures.answers; push_leaves = p.ensures.leaves; flush_answers = f.ensures.answers; flush_leaves = f.ensures.leaves };
+      reads = record {
+        reads = λ n m good count few quads hd ho.
+            let made = made_is a.code a.start a.metrics.now n m good count few quads s.result s.ensures.answers s.ensures.made in
+            let t = three_calls a.code a.start a.metrics.now n m good count few quads p.result f.result a.decisions.now p.new.decisions f.new.decisions a.out.now p.new.out f.new.out hd ho (rw made.1 at p.ensures.answers) (rw made.1 at p.ensures.leaves) f.ensures.answers f.ensures.leaves in
+            (made.0, t.0, t.1, t.2, t.3, t.4);
+      };
+    }

@@ -8,7 +8,6 @@ use borrow.Author.Tests.{leb-false, ltb-false, not-false}
 use Rattle.refusal.specs.Rows.{first_row}
 use Rattle.refusal.proofs.RowLaws.{done, refused, passed}
 use Rattle.refusal.specs.declared.Answer.TheVariants as answer
-use Rattle.refusal.proofs.Told.{told}
 use Rattle.short_code.specs.declared.Code.{Code}
 use Rattle.short_code.specs.Codes.{good_code, states_of}
 use Rattle.short_code.specs.CodeLaws.{states_are, good_length_lem}
@@ -32,8 +31,7 @@ enough code state n out e =
 
 pub returns-in_default : goal.returns-in_default
 returns-in_default c =
-    let n = told c.answer_encode-answer.result c.in-Accepted.keys2 in
-    (c.answer_encode-answer.ensures, (refused c.answer_encode-answer.result n refl, refused c.answer_encode-answer.result n refl))
+    let n = c.in_default.not-Accepted in record { answers = c.answer_encode-answer.ensures; state = refused c.answer_encode-answer.result n refl; coded = refused c.answer_encode-answer.result n refl }
 
 pub half-requires : goal.half-requires
 half-requires c =
@@ -54,5 +52,4 @@ encode_all-last-requires c =
 pub returns : goal.returns
 returns c =
     let t = c in
-    let x = c.encode_all-last.ensures in
-    (sym t.in-Accepted.is ∙ t.answer_encode-answer.ensures, (done x.0, done x.1))
+    let x = c.encode_all-last.ensures in record { answers = sym t.in-Accepted.is ∙ t.answer_encode-answer.ensures; state = done x.0; coded = done x.1 }

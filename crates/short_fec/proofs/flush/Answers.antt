@@ -9,15 +9,13 @@ use mathlib.Core.Path.{◌≡◌, sym, ◌∙◌, ap}
 use native.Mathlib.Omega.{arith}
 use Prim.Native.Nat.{ℕ, ◌-◌, ◌*◌}
 use Rattle.isdb_fec.proofs.WholeLaws.{as_given}
-use Rattle.refusal.proofs.Told.{told}
 use Rattle.short_rows.proofs.RowLaws.{flush_enough}
 use lib.ListN.{length}
 use Rattle.short_fec.proofs.flush.Goals as goal
 
 pub returns-in_default : goal.returns-in_default
 returns-in_default c =
-    let a = c.args in
-    (c.answer_flush-answer.ensures, as_given a.dec c.answer_flush-answer.result a.decisions.now a.out.now (told c.answer_flush-answer.result c.in-Accepted.keys2))
+    let a = c.args in record { answers = c.answer_flush-answer.ensures; leaves = as_given a.dec c.answer_flush-answer.result a.decisions.now a.out.now c.in_default.not-Accepted }
 
 pub half-h-requires : goal.half-h-requires
 half-h-requires c =
@@ -57,5 +55,4 @@ returns c =
     let all = states_are a.code half.result half.ensures.2 in
     let e : 2 * half.result - 0 ≡ states_of a.code = omega arith in
     let is : best-state.result ≡ best_of a.code a.dec =
-    best-state.ensures.1 ∙ ap (λ (k : ℕ). best rule (take k a.dec.pm) (2 * half.result - 1)) e ∙ ap (λ (k : ℕ). best rule (take (states_of a.code) a.dec.pm) (k - 1)) all in
-    (from.0 ∙ (sym t.in-Accepted.is ∙ answer-flush.answer_flush-answer.ensures), ((λ e. rw is at from.1), (λ n. absurd (n from.0))))
+    best-state.ensures.1 ∙ ap (λ (k : ℕ). best rule (take k a.dec.pm) (2 * half.result - 1)) e ∙ ap (λ (k : ℕ). best rule (take (states_of a.code) a.dec.pm) (k - 1)) all in record { answers = from.0 ∙ (sym t.in-Accepted.is ∙ answer-flush.answer_flush-answer.ensures); leaves = ((λ e. rw is at from.1), (λ n. absurd (n from.0))) }

@@ -5,15 +5,13 @@ use mathlib.Core.Path.{sym, ◌∙◌}
 use native.Mathlib.Omega.{arith}
 use Prim.Native.Nat.{◌-◌, ◌*◌, ◌<◌}
 use Rattle.isdb_fec.proofs.WholeLaws.{as_given}
-use Rattle.refusal.proofs.Told.{told}
 use Rattle.short_rows.proofs.RowLaws.{flush_enough}
 use lib.ListN.{length}
 use Rattle.short_fec.proofs.flush_at.Goals as goal
 
 pub returns-in_default : goal.returns-in_default
 returns-in_default c =
-    let a = c.args in
-    (c.answer_flush-answer.ensures, as_given a.dec c.answer_flush-answer.result a.decisions.now a.out.now (told c.answer_flush-answer.result c.in-Accepted.keys2))
+    let a = c.args in record { answers = c.answer_flush-answer.ensures; leaves = as_given a.dec c.answer_flush-answer.result a.decisions.now a.out.now c.in_default.not-Accepted }
 
 pub half-requires : goal.half-requires
 half-requires c =
@@ -46,5 +44,4 @@ returns c =
     let a = start.args in
     let half = at-half.half in
     let from = flush-from.flush_from.ensures in
-    let all = states_are a.code half.result half.ensures.2 in
-    (from.0 ∙ (sym t.in-Accepted.is ∙ answer-flush.answer_flush-answer.ensures), ((λ e. rw all at from.1), (λ n. absurd (n from.0))))
+    let all = states_are a.code half.result half.ensures.2 in record { answers = from.0 ∙ (sym t.in-Accepted.is ∙ answer-flush.answer_flush-answer.ensures); leaves = ((λ e. rw all at from.1), (λ n. absurd (n from.0))) }

@@ -15,14 +15,14 @@ use Rattle.short_fec.proofs.new_unknown_state.Goals as goal
 pub returns : goal.returns
 returns c =
     let a = c.args in
-    let f = c.fresh.ensures in (
-      f.0,
-      (
+    let f = c.fresh.ensures in record {
+      answers = f.answers;
+      made = (
         (λ e.
-            let k = f.1.0 e in
-            let good = good_length_lem a.code (not-false (good_code a.code) (passed (fresh_rows a.code a.traceback) tt (sym f.0 ∙ e) answer.Code)) in
+            let k = f.made.0 e in
+            let good = good_length_lem a.code (not-false (good_code a.code) (passed (fresh_rows a.code a.traceback) tt (sym f.answers ∙ e) answer.Code)) in
             let few : states_of a.code ≤ 2 ^ 6 = pow_mono {i = a.code.constraint - 1} {j = 6} (omega arith) in
             record { values = k.values ∙ unknown (states_of a.code) few; held_is = k.held_is; traceback_is = k.traceback_is }),
-        f.1.1,
-      ),
-    )
+        f.made.1,
+      );
+    }

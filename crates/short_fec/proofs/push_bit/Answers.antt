@@ -15,8 +15,7 @@ use Rattle.short_fec.proofs.push_bit.Goals as goal
 
 pub returns-in_default : goal.returns-in_default
 returns-in_default c =
-    let a = c.args in
-    (c.answer_encoder-answer.ensures, refused c.answer_encoder-answer.result (told c.answer_encoder-answer.result c.in-Accepted.keys2) (refl, refl, refl))
+    let a = c.args in record { answers = c.answer_encoder-answer.ensures; outputs = refused c.answer_encoder-answer.result c.in_default.not-Accepted (refl, refl, refl) }
 
 pub half-requires : goal.half-requires
 half-requires c =
@@ -38,7 +37,4 @@ returns c =
     let a = c.args in
     let told = c in
     let half = c.half in
-    let x = c.encode_bit-c.ensures in (
-      sym told.in-Accepted.is ∙ told.answer_encoder-answer.ensures,
-      done (x.0, x.1, x.2 ∙ ap (λ (k : ℕ). moved k (a.u % 2) a.enc.state) half.ensures.2.half_is),
-    )
+    let x = c.encode_bit-c.ensures in record { answers = sym told.in-Accepted.is ∙ told.answer_encoder-answer.ensures; outputs = done (x.0, x.1, x.2 ∙ ap (λ (k : ℕ). moved k (a.u % 2) a.enc.state) half.ensures.2.half_is) }

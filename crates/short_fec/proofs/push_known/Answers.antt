@@ -11,15 +11,13 @@ use native.Mathlib.Omega.{arith}
 use Prim.Native.Nat.{◌-◌, ◌*◌}
 use Rattle.refusal.proofs.RowLaws.{done}
 use Rattle.isdb_fec.proofs.WholeLaws.{as_given}
-use Rattle.refusal.proofs.Told.{told}
 use Rattle.short_rows.proofs.RowLaws.{known_enough}
 use lib.ListN.{length}
 use Rattle.short_fec.proofs.push_known.Goals as goal
 
 pub returns-in_default : goal.returns-in_default
 returns-in_default c =
-    let a = c.args in
-    (c.answer_known-answer.ensures, as_given a.dec c.answer_known-answer.result a.decisions.now a.out.now (told c.answer_known-answer.result c.in-Accepted.keys2))
+    let a = c.args in record { answers = c.answer_known-answer.ensures; leaves = as_given a.dec c.answer_known-answer.result a.decisions.now a.out.now c.in_default.not-Accepted }
 
 pub half-h-requires : goal.half-h-requires
 half-h-requires c =
@@ -53,8 +51,8 @@ returns c =
     let end = known-steps.known_steps-end in
     let n = half.ensures.1 in
     let long = states.states-all.ensures.1 in
-    let taken = length-take-le (2 * half.result - 0) a.dec.pm (omega arith) in (
-      (sym t.in-Accepted.is ∙ answer-known.answer_known-answer.ensures),
-      done (left a.code half.result (2 * half.result - 0) a.dec (λ h m. after h (labels a.code) rule a.dec.traceback (known_steps a.bits.now) (holding (take m a.dec.pm) a.dec.held a.decisions.now) (length a.bits.now))
-          end.new.0 end.result.held end.result.count a.decisions.now _ a.out.now _ half.ensures.2 (omega arith) (omega arith) end.ensures),
-    )
+    let taken = length-take-le (2 * half.result - 0) a.dec.pm (omega arith) in record {
+      answers = (sym t.in-Accepted.is ∙ answer-known.answer_known-answer.ensures);
+      leaves = done (left a.code half.result (2 * half.result - 0) a.dec (λ h m. after h (labels a.code) rule a.dec.traceback (known_steps a.bits.now) (holding (take m a.dec.pm) a.dec.held a.decisions.now) (length a.bits.now))
+          end.new.pm end.result.held end.result.count a.decisions.now _ a.out.now _ half.ensures.2 (omega arith) (omega arith) end.ensures);
+    }

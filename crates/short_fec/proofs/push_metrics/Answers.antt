@@ -10,8 +10,7 @@ use Rattle.short_fec.proofs.push_metrics.Goals as goal
 
 pub returns-in_default : goal.returns-in_default
 returns-in_default c =
-    let a = c.args in
-    (c.answer_stream-answer.ensures, as_given a.dec c.answer_stream-answer.result a.decisions.now a.out.now (told c.answer_stream-answer.result c.in-Accepted.keys2))
+    let a = c.args in record { answers = c.answer_stream-answer.ensures; leaves = as_given a.dec c.answer_stream-answer.result a.decisions.now a.out.now c.in_default.not-Accepted }
 
 pub soft-requires : goal.soft-requires
 soft-requires c =
@@ -25,5 +24,4 @@ soft-requires c =
 pub returns : goal.returns
 returns c =
     let soft = c.soft.ensures in
-    let told = c in
-    (soft.0 ∙ sym told.in-Accepted.is ∙ told.answer_stream-answer.ensures, ((λ e. soft.1), (λ n. absurd (n soft.0))))
+    let told = c in record { answers = soft.0 ∙ sym told.in-Accepted.is ∙ told.answer_stream-answer.ensures; leaves = ((λ e. soft.1), (λ n. absurd (n soft.0))) }

@@ -14,4 +14,4 @@ returns c =
     let a = start.args in
     let all = soft-steps.soft_steps-end in
     holds_closed a.s.h (labels a.s.code) rule a.s.traceback (soft_steps a.per a.values.now) (holding a.pm.now a.at.held a.decisions.now) a.n a.decisions.now a.out.now
-    all.new.0 c.renormalise.new.0 all.result.held all.result.count _ _ all.ensures c.renormalise.ensures
+    all.new.pm c.renormalise.new.pm all.result.held all.result.count _ _ all.ensures c.renormalise.ensures

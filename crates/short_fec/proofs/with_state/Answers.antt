@@ -14,5 +14,4 @@ returns c =
     let a = c.args in
     let f = c.fresh.ensures in
     let good : c.fresh.result.answer ≡ answer.Accepted → good_code a.code ≡ true =
-    λ e. not-false (good_code a.code) (passed (fresh_rows a.code a.traceback) tt (sym f.0 ∙ e) answer.Code) in
-    (f.0, ((λ e. let k = f.1.0 e in record { values = k.values ∙ c.start.ensures (good e); held_is = k.held_is; traceback_is = k.traceback_is }), f.1.1))
+    λ e. not-false (good_code a.code) (passed (fresh_rows a.code a.traceback) tt (sym f.answers ∙ e) answer.Code) in record { answers = f.answers; made = ((λ e. let k = f.made.0 e in record { values = k.values ∙ c.start.ensures (good e); held_is = k.held_is; traceback_is = k.traceback_is }), f.made.1) }

@@ -17,7 +17,7 @@ pub returns-in_default : goal.returns-in_default
 returns-in_default c =
     let a = c.args in
     refused_by (handed_rows a.code a.dec) ((Space, short_of a.dec.held a.dec a.decisions a.out) ∷ []) c.answer_handed-answer.result c.answer_handed-answer.ensures
-    (told c.answer_handed-answer.result c.in-Accepted.keys2)
+    c.in_default.not-Accepted
 
 pub returns-then-out-dec : goal.returns-then-out-dec
 returns-then-out-dec c =

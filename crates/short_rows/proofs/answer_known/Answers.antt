@@ -7,14 +7,13 @@ use Rattle.short_rows.specs.Rows.{handed_rows}
 use Rattle.refusal.specs.declared.Answer.TheVariants.{Space}
 use Rattle.refusal.proofs.RowLaws.{refused_by, passed_by}
 use Rattle.short_rows.proofs.RowLaws.{sound}
-use Rattle.refusal.proofs.Told.{told}
 use Rattle.short_rows.proofs.answer_known.Goals as goal
 
 pub returns-in_default : goal.returns-in_default
 returns-in_default c =
     let a = c.args in
     refused_by (handed_rows a.code a.dec) ((Space, steps_short a.n a.dec a.decisions a.out) ∷ []) c.answer_handed-answer.result c.answer_handed-answer.ensures
-    (told c.answer_handed-answer.result c.in-Accepted.keys2)
+    c.in_default.not-Accepted
 
 pub answer_space-requires : goal.answer_space-requires
 answer_space-requires c =

@@ -14,7 +14,7 @@ pub returns-in_default : goal.returns-in_default
 returns-in_default c =
     let a = c.args in
     refused_by (handed_rows a.code a.dec) (stream_rest a.per a.dec a.values.now a.decisions a.out) c.answer_handed-answer.result c.answer_handed-answer.ensures
-    (told c.answer_handed-answer.result c.in-Accepted.keys2)
+    c.in_default.not-Accepted
 
 pub returns-then-values-per-ne0 : goal.returns-then-values-per-ne0
 returns-then-values-per-ne0 c =

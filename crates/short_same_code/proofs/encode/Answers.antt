@@ -12,7 +12,6 @@ returns c =
     let short = encode.encode-short in
     let code = isdb-code.isdb_code.ensures in
     let a = start.args in
-    let sa = rw code at short.ensures.0 in
-    let ss = rw code at short.ensures.1.0 in
-    let sc = rw code at short.ensures.1.1 in
-    (sa, (ss, (sc, (isdbt.ensures.0, (isdbt.ensures.1, (counts_coded a.enc.state a.bits.now a.out2.now isdbt.new.1.1.1.0 isdbt.result isdbt.ensures.1, λ e. encode_agrees a.enc.state a.bits.now a.out.now short.new.1.1.1.0 isdbt.new.1.1.1.0 short.result isdbt.result sa ss sc (rw (sym e) at isdbt.ensures.0) (rw (sym e) at isdbt.ensures.1)))))))
+    let sa = rw code at short.ensures.answers in
+    let ss = rw code at short.ensures.state in
+    let sc = rw code at short.ensures.coded in record { short_answers = sa; short_state = ss; short_coded = sc; isdbt_answers = isdbt.ensures.answers; isdbt_leaves = isdbt.ensures.leaves; count = counts_coded a.enc.state a.bits.now a.out2.now isdbt.new.out isdbt.result isdbt.ensures.leaves; alike = λ e. encode_agrees a.enc.state a.bits.now a.out.now short.new.out isdbt.new.out short.result isdbt.result sa ss sc (rw (sym e) at isdbt.ensures.answers) (rw (sym e) at isdbt.ensures.leaves) }

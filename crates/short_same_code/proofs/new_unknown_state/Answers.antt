@@ -7,6 +7,5 @@ returns c =
     let short = c.new_unknown_state-short in
     let a = c.args in
     let e = c.isdb_code.ensures in
-    let sa = rw e at short.ensures.0 in
-    let sl = rw e at short.ensures.1 in
-    (sa, (sl, (c.new_unknown_state-isdb.ensures.0, (c.new_unknown_state-isdb.ensures.1, unknown_state_agrees a.traceback short.result c.new_unknown_state-isdb.result sa sl c.new_unknown_state-isdb.ensures.0 c.new_unknown_state-isdb.ensures.1))))
+    let sa = rw e at short.ensures.answers in
+    let sl = rw e at short.ensures.made in record { short_answers = sa; short_made = sl; isdb_answers = c.new_unknown_state-isdb.ensures.answers; isdb_made = c.new_unknown_state-isdb.ensures.made; agree = unknown_state_agrees a.traceback short.result c.new_unknown_state-isdb.result sa sl c.new_unknown_state-isdb.ensures.answers c.new_unknown_state-isdb.ensures.made }

@@ -8,6 +8,5 @@ returns c =
     let code = c.isdb_code in
     let a = c.args in
     let e = code.ensures in
-    let sa = rw e at short.ensures.0 in
-    let sl = rw e at short.ensures.1 in
-    (sa, (sl, (c.push-isdb.ensures.0, (c.push-isdb.ensures.1, bit_agrees a.enc.state a.u short.result c.push-isdb.result sa sl c.push-isdb.ensures.0 c.push-isdb.ensures.1))))
+    let sa = rw e at short.ensures.answers in
+    let sl = rw e at short.ensures.outputs in record { short_answers = sa; short_outputs = sl; isdb_answers = c.push-isdb.ensures.answers; isdb_outputs = c.push-isdb.ensures.outputs; agree = bit_agrees a.enc.state a.u short.result c.push-isdb.result sa sl c.push-isdb.ensures.answers c.push-isdb.ensures.outputs }

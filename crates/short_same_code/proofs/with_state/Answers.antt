@@ -7,6 +7,5 @@ returns c =
     let short = c.with_state-short in
     let a = c.args in
     let e = c.isdb_code.ensures in
-    let sa = rw e at short.ensures.0 in
-    let sl = rw e at short.ensures.1 in
-    (sa, (sl, (c.with_state-isdb.ensures.0, (c.with_state-isdb.ensures.1, with_state_agrees a.traceback short.result c.with_state-isdb.result a.state sa sl c.with_state-isdb.ensures.0 c.with_state-isdb.ensures.1))))
+    let sa = rw e at short.ensures.answers in
+    let sl = rw e at short.ensures.made in record { short_answers = sa; short_made = sl; isdb_answers = c.with_state-isdb.ensures.answers; isdb_made = c.with_state-isdb.ensures.made; agree = with_state_agrees a.traceback short.result c.with_state-isdb.result a.state sa sl c.with_state-isdb.ensures.answers c.with_state-isdb.ensures.made }

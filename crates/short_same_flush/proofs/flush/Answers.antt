@@ -14,6 +14,5 @@ returns c =
     let short = flush.flush-short in
     let code = isdb-code.isdb_code.ensures in
     let a = start.args in
-    let sa = rw code at short.ensures.0 in
-    let sl = rw code at short.ensures.1 in
-    (sa, (sl, (isdb.ensures.0, (isdb.ensures.1, λ e f. flush_agrees a.dec states.states-all.ensures.1 short.result isdb.result a.decisions.now short.new.1.1.0 isdb.new.1.0 a.out.now short.new.1.1.1.0 isdb.new.1.1.0 sa sl (rw (sym e, sym f) at isdb.ensures.0) (rw (sym e, sym f) at isdb.ensures.1)))))
+    let sa = rw code at short.ensures.answers in
+    let sl = rw code at short.ensures.leaves in record { short_answers = sa; short_leaves = sl; isdb_answers = isdb.ensures.answers; isdb_leaves = isdb.ensures.leaves; agree = λ e f. flush_agrees a.dec states.states-all.ensures.1 short.result isdb.result a.decisions.now short.new.decisions isdb.new.decisions a.out.now short.new.out isdb.new.out sa sl (rw (sym e, sym f) at isdb.ensures.answers) (rw (sym e, sym f) at isdb.ensures.leaves) }

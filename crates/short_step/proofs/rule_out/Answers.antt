@@ -38,8 +38,8 @@ loop-s-preserved c =
     let inv = at.loop-s.invariant in
     let i : s < length pm = omega arith in
     elim c.if-s-h.branch [
-    then-s-h w ↦ rw w.pm-is (inv.0, omega arith, inv.2, simp length-set inv.3, written_more nan f s pm _ i inv.4 (out h b pm₀ s (rw inv.2 at w.if-s-h.true)), kept_more nan pm₀ s pm _ inv.5)
-    | else-s-h w ↦ rw w.pm-is (inv.0, omega arith, inv.2, inv.3, written_skip nan f s pm inv.4 (inv.5 s (omega arith) ∙ stays h b pm₀ s (w.if-s-h.false ∙ inv.2)), kept_skip nan pm₀ s pm inv.5)
+      | then-s-h w ↦ rw w.pm-is (inv.0, omega arith, inv.2, simp length-set inv.3, written_more nan f s pm _ i inv.4 (out h b pm₀ s (rw inv.2 at w.if-s-h.true)), kept_more nan pm₀ s pm _ inv.5)
+      | else-s-h w ↦ rw w.pm-is (inv.0, omega arith, inv.2, inv.3, written_skip nan f s pm inv.4 (inv.5 s (omega arith) ∙ stays h b pm₀ s (w.if-s-h.false ∙ inv.2)), kept_skip nan pm₀ s pm inv.5)
     ]
 
 pub shape_of-pm : goal.shape_of-pm

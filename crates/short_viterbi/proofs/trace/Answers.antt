@@ -58,17 +58,17 @@ loop-t-preserved c =
     let older = back_more h d n state t s pos inv.0 inv.3 in
     let j : t ≡ t - 1 + 1 = omega arith in
     elim c.if-t-count.branch [
-    then-t-count w ↦
-    let i : t - 1 < length out = omega arith in
-    rw w.out-is (
-      omega arith,
-      simp length-set inv.1,
-      omega arith,
-      older,
-      between_more 0 f (t - 1) count out (s / h) i (rw j at inv.4) (input_read h (take n d) n state t s pos inv.3),
-      kept_set 0 out₀ count (t - 1) out (s / h) w.if-t-count.true inv.5,
-    )
-    | else-t-count w ↦ rw w.out-is (omega arith, inv.1, omega arith, older, λ i a b. absurd (omega arith), inv.5)
+      | then-t-count w ↦
+          let i : t - 1 < length out = omega arith in
+          rw w.out-is (
+            omega arith,
+            simp length-set inv.1,
+            omega arith,
+            older,
+            between_more 0 f (t - 1) count out (s / h) i (rw j at inv.4) (input_read h (take n d) n state t s pos inv.3),
+            kept_set 0 out₀ count (t - 1) out (s / h) w.if-t-count.true inv.5,
+          )
+      | else-t-count w ↦ rw w.out-is (omega arith, inv.1, omega arith, older, λ i a b. absurd (omega arith), inv.5)
     ]
 
 pub returns : goal.returns

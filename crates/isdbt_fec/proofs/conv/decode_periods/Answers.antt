@@ -10,9 +10,6 @@ use Rattle.isdbt_fec.proofs.Turns.{bit_count, bits_twice, readable, readable_alo
 use Rattle.isdbt_fec.proofs.Decoding.{decoding_none, decoding_ready, decoding_block, decoding_same, decoded}
 use Rattle.isdbt_fec.proofs.conv.decode_periods.Goals as goal
 
-slice-aggregate-run-steps-2 : tie.Need-slice-aggregate-run-steps-2 invariant-loop decreases-loop
-slice-aggregate-run-steps-2 c = search rules
-
 pub places_of-places-requires : goal.places_of-places-requires
 places_of-places-requires c =
     let made = c in
@@ -52,7 +49,7 @@ pub soft_block-requires : goal.soft_block-requires
 soft_block-requires c =
     let inv = c.loop-i.invariant in
     let r = inv.2 in
-    let len = c.Block-of.ensures in
+    let len = c.block_of-len.ensures in
     let inside = c.loop-i-test.true in
     (r.eight, r.least, r.most, len.2 (omega arith), len.1, omega arith, λ k h. r.there k (omega arith))
 
@@ -61,7 +58,7 @@ run_steps-at-requires c =
     let made = c in
     let blocked = made in
     let inv = blocked.loop-i.invariant in
-    let len = blocked.Block-of in
+    let len = blocked.block_of-len in
     let bound = len.ensures in
     let inside = blocked.loop-i-test.true in
     let long = made.soft_block.ensures.0 in
@@ -73,16 +70,16 @@ overflow_add-i c =
     let blocked = c in
     let at = blocked in
     let inv = at.loop-i.invariant in
-    let len = blocked.Block-of.ensures in
+    let len = blocked.block_of-len.ensures in
     let inside = blocked.loop-i-test.true in
     omega arith
 
 pub loop-i-smaller : goal.loop-i-smaller
 loop-i-smaller c =
     let blocked = c in
-    let len = blocked.Block-of.ensures in
+    let len = blocked.block_of-len.ensures in
     let inside = blocked.loop-i-test.true in
-    let some : 0 < blocked.Block-of.result = len.2 (omega arith) in
+    let some : 0 < blocked.block_of-len.result = len.2 (omega arith) in
     omega arith
 
 pub loop-i-preserved : goal.loop-i-preserved
@@ -92,7 +89,7 @@ loop-i-preserved c =
     let blocked = soft-block in
     let at = blocked in
     let inv = at.loop-i.invariant in
-    let len = blocked.Block-of.ensures in
+    let len = blocked.block_of-len.ensures in
     let inside = blocked.loop-i-test.true in
     let soft = soft-block.soft_block.ensures in
     (omega arith, inv.1, inv.2, decoding_block inv.3 (omega arith) soft.1 run-steps.run_steps-at.ensures)
@@ -113,13 +110,13 @@ pub shape_of-decisions : goal.shape_of-decisions
 shape_of-decisions c =
     let end-call = c in
     let at = end-call in
-    end-call.end_call.auto.1.1.1.0 ∙ at.loop-i.invariant.3.words_long
+    end-call.end_call.auto.decisions ∙ at.loop-i.invariant.3.words_long
 
 pub shape_of-out : goal.shape_of-out
 shape_of-out c =
     let end-call = c in
     let at = end-call in
-    end-call.end_call.auto.1.1.1.1.0 ∙ at.loop-i.invariant.3.bits_long
+    end-call.end_call.auto.out ∙ at.loop-i.invariant.3.bits_long
 
 pub returns : goal.returns
 returns c =

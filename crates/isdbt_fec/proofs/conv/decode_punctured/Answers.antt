@@ -4,11 +4,10 @@ use lib.ListN.{length}
 use Rattle.isdbt_rows.proofs.RowLaws.{decode_enough}
 use Rattle.trellis.proofs.RunLaws.{depth_range}
 use Rattle.isdb_fec.specs.AnswerLaws.{accepted, refused}
-use Rattle.refusal.proofs.Told.{told}
 use Rattle.isdbt_fec.proofs.conv.decode_punctured.Goals as goal
 
 pub returns-in_default : goal.returns-in_default
-returns-in_default c = (c.answer_decode-answer.ensures, refused c.answer_decode-answer.result (told c.answer_decode-answer.result c.in-Accepted.keys2) (record { count_is = refl; words = refl; bits_are = refl }))
+returns-in_default c = record { answers = c.answer_decode-answer.ensures; leaves = refused c.answer_decode-answer.result c.in_default.not-Accepted (record { count_is = refl; words = refl; bits_are = refl }) }
 
 pub decode_periods-count-requires : goal.decode_periods-count-requires
 decode_periods-count-requires c =
@@ -28,5 +27,4 @@ returns c =
     let start = answer-decode in
     let a = start.args in
     let yes = sym depth-of.in-Accepted.is ∙ answer-decode.answer_decode-answer.ensures in
-    let q = rw depth-of.depth_of.ensures at decode-periods.decode_periods-count.ensures in
-    (yes, accepted (record { count_is = q.0; words = q.1; bits_are = q.2 }))
+    let q = rw depth-of.depth_of.ensures at decode-periods.decode_periods-count.ensures in record { answers = yes; leaves = accepted (record { count_is = q.0; words = q.1; bits_are = q.2 }) }

@@ -7,7 +7,7 @@ use Rattle.refusal.proofs.Told.{told}
 use Rattle.isdbt_fec.proofs.conv.depuncture.Goals as goal
 
 pub returns-in_default : goal.returns-in_default
-returns-in_default c = (c.answer_depuncture-answer.ensures, refused c.answer_depuncture-answer.result (told c.answer_depuncture-answer.result c.in-Accepted.keys2) (record { count_is = refl; values = refl }))
+returns-in_default c = record { answers = c.answer_depuncture-answer.ensures; leaves = refused c.answer_depuncture-answer.result c.in_default.not-Accepted (record { count_is = refl; values = refl }) }
 
 pub depuncture_periods-count-requires : goal.depuncture_periods-count-requires
 depuncture_periods-count-requires c =
@@ -22,5 +22,4 @@ returns c =
     let start = answer-depuncture in
     let a = start.args in
     let yes = sym at-enum-told.in-Accepted.is ∙ answer-depuncture.answer_depuncture-answer.ensures in
-    let q = c.depuncture_periods-count.ensures in
-    (yes, accepted (record { count_is = q.0; values = q.1 }))
+    let q = c.depuncture_periods-count.ensures in record { answers = yes; leaves = accepted (record { count_is = q.0; values = q.1 }) }

@@ -54,7 +54,7 @@ encode_period-q-requires c =
     let start = c in
     let at = c.loop-b in
     let i = at.invariant.1.inside _ c.loop-b-test.true in
-    let part = part_long start.args.bits.now _ _ i.true in
+    let part = part_long start.args.bits.now _ _ i.taken in
     (coded_below at.invariant.2 start.requires.0, rw part at.invariant.1.ranges.most)
 
 pub slice_bounds-send-count : goal.slice_bounds-send-count

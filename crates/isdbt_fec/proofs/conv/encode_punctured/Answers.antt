@@ -5,12 +5,11 @@ use lib.ListN.{length}
 use Rattle.isdbt_table.specs.NumberLaws.{numbers}
 use Rattle.isdbt_rows.proofs.RowLaws.{encode_enough}
 use Rattle.isdb_fec.specs.AnswerLaws.{accepted, refused}
-use Rattle.refusal.proofs.Told.{told}
 use Rattle.isdbt_fec.proofs.Turns.{sent_count}
 use Rattle.isdbt_fec.proofs.conv.encode_punctured.Goals as goal
 
 pub returns-in_default : goal.returns-in_default
-returns-in_default c = (c.answer_encode-answer.ensures, refused c.answer_encode-answer.result (told c.answer_encode-answer.result c.in-Accepted.keys2) (record { state_is = refl; count_is = refl; bits_are = refl }))
+returns-in_default c = record { answers = c.answer_encode-answer.ensures; leaves = refused c.answer_encode-answer.result c.in_default.not-Accepted (record { state_is = refl; count_is = refl; bits_are = refl }) }
 
 pub encode_periods-last-requires : goal.encode_periods-last-requires
 encode_periods-last-requires c =
@@ -45,5 +44,4 @@ returns c =
     let a = start.args in
     let yes = sym new.in-Accepted.is ∙ answer-encode.answer_encode-answer.ensures in
     let count = sent_count a.rate _ (length a.bits.now) new.new-p.ensures in
-    let q = encode-periods.encode_periods-last.ensures in
-    (yes, accepted (record { state_is = q.0; count_is = count; bits_are = q.1 }))
+    let q = encode-periods.encode_periods-last.ensures in record { answers = yes; leaves = accepted (record { state_is = q.0; count_is = count; bits_are = q.1 }) }
