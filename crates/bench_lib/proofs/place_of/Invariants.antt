@@ -1,0 +1,9 @@
+-- `place_of` is safe and ends.
+use Prim.Native.Nat.{◌-◌, ◌≤◌}
+use Rattle.bench_lib.proofs.place_of.Given as goal
+
+abbrev pub invariant-loop-i : goal.invariant-loop-i
+invariant-loop-i l = l.i ≤ l.n
+
+abbrev pub decreases-loop-i : goal.decreases-loop-i
+decreases-loop-i l = l.n - l.i

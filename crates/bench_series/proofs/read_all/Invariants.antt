@@ -1,0 +1,11 @@
+-- `read_all` is safe and ends: each turn takes one word more, and at most one frame more is doubtful.
+use Prim.Native.Nat.{◌-◌, ◌+◌, ◌≤◌}
+use Rattle.bench_series.proofs.read_all.Given as goal
+
+abbrev pub invariant-loop-i : goal.invariant-loop-i
+invariant-loop-i l =
+    (5 ≤ l.i) × (l.i ≤ l.words) × (l.doubtful + 5 ≤ l.i)
+
+abbrev pub decreases-loop-i : goal.decreases-loop-i
+decreases-loop-i l =
+    l.words - l.i
