@@ -148,6 +148,12 @@ counted p h = record {
   valid_few = (table_laid p.table h.accepted).valid;
 }
 
+pub four_few : (p : Plan) → Planned p → 4 * p.steps ≤ 272832
+four_few p h = let c = counted p h in let s = c.steps_are in let f = c.steps_few in omega arith
+
+pub kept_few : (p : Plan) → Planned p → 64 * p.valid_slots ≤ 3072
+kept_few p h = let c = counted p h in let v = c.valid_are in let f = c.valid_few in omega arith
+
 pub four_fits : (p : Plan) → Planned p → Fits w64 (4 * p.steps)
 four_fits p h = let c = counted p h in let s = c.steps_are in let f = c.steps_few in record { fits = omega arith }
 

@@ -110,6 +110,7 @@ pub record Slotted (rs : List Run) (s b : ℕ) (g : Segment) : Type 0 where
 
 pub slotted : (rs : List Run) (s b : ℕ) (g : Segment) → In g (segments_from rs s b) → Slotted rs s b g
 unfolding segments_from
+slotted [] s b g x' = elim x' [ ]
 slotted (r ∷ rs) s b g here = record {
   before = 0;
   valid = r.valid_slots;

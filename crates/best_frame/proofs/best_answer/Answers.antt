@@ -1,6 +1,5 @@
 -- `best_answer` meets its contract.
 use mathlib.Core.Path.{sym, ◌∙◌}
-use Rattle.refusal.proofs.Told.{told}
 use Rattle.best_frame.specs.RowLaws.{by_table, by_points, by_last}
 use Rattle.best_frame.proofs.best_answer.Goals as goal
 
@@ -8,14 +7,14 @@ pub returns-in_default : goal.returns-in_default
 returns-in_default c =
     let a = c.args in
     let table = c.table_answer-table in
-    by_table a.p.table a.re.now a.im.now a.scales a.l table.result table.ensures (told table.result c.in-Accepted.keys2)
+    by_table a.p.table a.re.now a.im.now a.scales a.l table.result table.ensures c.in_default.not-Accepted
 
 pub returns-in_default-points : goal.returns-in_default-points
 returns-in_default-points c =
     let a = c.args in
     let table = c.table_answer-table in
     let points = c.points_answer-points in
-    by_points a.p.table a.re.now a.im.now a.scales a.l (sym c.in-Accepted.is ∙ table.ensures) points.result points.ensures (told points.result c.in-Accepted-points.keys2)
+    by_points a.p.table a.re.now a.im.now a.scales a.l (sym c.in-Accepted.is ∙ table.ensures) points.result points.ensures c.in_default-points.not-Accepted
 
 pub returns-then-some_bad : goal.returns-then-some_bad
 returns-then-some_bad c =

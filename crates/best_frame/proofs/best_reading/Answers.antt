@@ -4,7 +4,6 @@ use Prim.Native.Nat.{ℕ}
 use lib.Dec.{T}
 use lib.Ieee.{nan, binary32, fits}
 use lib.ListN.{get_or}
-use Rattle.refusal.proofs.Told.{told}
 use Rattle.refusal.specs.Rows.{first_row}
 use Rattle.refusal.proofs.RowLaws.{refused}
 use Rattle.isdbs_tables.specs.declared.Table.{Table}
@@ -28,7 +27,7 @@ returns-in_default c =
     let same = table_is plan.ensures.0 in
     let said = answer.ensures ∙ ap (λ (z : Table). first_row (best_rows z a.re.now a.im.now a.o.scales (lengths (lent a.metrics.now a.sides.now a.words.now a.tables.now a.bits.now a.uncoded.now a.bytes.now a.leads.now)))) same in record {
       answers = said;
-      leaves = refused answer.result (told answer.result c.in-Accepted.keys2) refl
+      leaves = refused answer.result c.in_default.not-Accepted refl;
     }
 
 pub read_fronts-requires : goal.read_fronts-requires
@@ -56,30 +55,6 @@ read_fronts-requires c =
       rw same p.room,
     )
 
-pub shape_of-metrics : goal.shape_of-metrics
-shape_of-metrics c = c.metrics-1.given
-
-pub shape_of-sides : goal.shape_of-sides
-shape_of-sides c = c.sides-1.given
-
-pub shape_of-words : goal.shape_of-words
-shape_of-words c = c.words-1.given
-
-pub shape_of-tables : goal.shape_of-tables
-shape_of-tables c = c.tables-1.given
-
-pub shape_of-bits : goal.shape_of-bits
-shape_of-bits c = c.bits-1.given
-
-pub shape_of-uncoded : goal.shape_of-uncoded
-shape_of-uncoded c = c.uncoded-1.given
-
-pub shape_of-bytes : goal.shape_of-bytes
-shape_of-bytes c = c.bytes-1.given
-
-pub shape_of-leads : goal.shape_of-leads
-shape_of-leads c = c.leads-1.given
-
 pub returns : goal.returns
 returns c =
     let read-fronts = c in
@@ -93,8 +68,8 @@ returns c =
     let same = table_is plan.ensures.0 in
     let said = answer.ensures ∙ ap (λ (z : Table). first_row (best_rows z a.re.now a.im.now a.o.scales (lengths (lent a.metrics.now a.sides.now a.words.now a.tables.now a.bits.now a.uncoded.now a.bytes.now a.leads.now)))) same in
     let yes = start_of_lem.in-Accepted.is in
-    let from = start_of_lem.start_of_lem in
+    let from = start_of_lem.start_of-start in
     let read = read-fronts.read_fronts in record {
       answers = said;
-      leaves = ((λ e. rw (same, from.ensures) at read.ensures), (λ n. absurd (n yes)))
+      leaves = ((λ e. rw (same, from.ensures) at read.ensures), (λ n. absurd (n yes)));
     }

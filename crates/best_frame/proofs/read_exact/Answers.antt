@@ -52,33 +52,6 @@ write_load-requires c =
     let zb = z.bytes_are in
     (pre.0, omega arith, omega arith, found_bits t ok r a.start v z.leads_are fq.new.metrics sr.new.sides sm.new.marks bc.new.bits bc.new.uncoded bc.new.leads em es ma bc.ensures, found_twos t ok r a.start v z.leads_are fq.new.metrics sr.new.sides sm.new.marks bc.new.bits bc.new.uncoded bc.new.leads em es ma bc.ensures, omega arith)
 
-pub shape_of-metrics : goal.shape_of-metrics
-shape_of-metrics c = c.metrics-1.given
-
-pub shape_of-sides : goal.shape_of-sides
-shape_of-sides c = c.sides-1.given
-
-pub shape_of-marks : goal.shape_of-marks
-shape_of-marks c = c.marks-1.given
-
-pub shape_of-words : goal.shape_of-words
-shape_of-words c = c.words-1.given
-
-pub shape_of-tables : goal.shape_of-tables
-shape_of-tables c = c.tables-1.given
-
-pub shape_of-bits : goal.shape_of-bits
-shape_of-bits c = c.bits-1.given
-
-pub shape_of-uncoded : goal.shape_of-uncoded
-shape_of-uncoded c = c.uncoded-1.given
-
-pub shape_of-bytes : goal.shape_of-bytes
-shape_of-bytes c = c.bytes-1.given
-
-pub shape_of-leads : goal.shape_of-leads
-shape_of-leads c = c.leads-1.given
-
 pub returns : goal.returns
 returns c =
     let best-content = c in

@@ -122,62 +122,6 @@ read_exact-requires c =
     let f = fronts st.args.p (lengths (lent st.args.metrics.now st.args.sides.now st.args.words.now st.args.tables.now st.args.bits.now st.args.uncoded.now st.args.bytes.now st.args.leads.now)) st.requires.0 st.requires.4 in
     (st.requires.0, st.requires.1, st.requires.2, st.requires.3, just st.args.p (lent st.args.metrics.now st.args.sides.now st.args.words.now st.args.tables.now st.args.bits.now st.args.uncoded.now st.args.bytes.now st.args.leads.now) st.requires.0 f, marks_fit st.args.p st.requires.0)
 
-pub shape_of-metrics : goal.shape_of-metrics
-shape_of-metrics c =
-    let back = c in
-    let read-exact = back in
-    let a = read-exact.args in
-    length_front a.metrics.now read-exact.read_exact.new.metrics (4 * a.p.steps) back.metrics-1.given.0
-
-pub shape_of-sides : goal.shape_of-sides
-shape_of-sides c =
-    let back = c in
-    let read-exact = back in
-    let a = read-exact.args in
-    length_front a.sides.now read-exact.read_exact.new.sides a.p.steps back.sides-1.given.0
-
-pub shape_of-words : goal.shape_of-words
-shape_of-words c =
-    let back = c in
-    let read-exact = back in
-    let a = read-exact.args in
-    length_front a.words.now read-exact.read_exact.new.words a.p.steps back.words-1.given.0
-
-pub shape_of-tables : goal.shape_of-tables
-shape_of-tables c =
-    let back = c in
-    let read-exact = back in
-    let a = read-exact.args in
-    length_front a.tables.now read-exact.read_exact.new.tables (64 * a.p.valid_slots) back.tables-1.given.0
-
-pub shape_of-bits : goal.shape_of-bits
-shape_of-bits c =
-    let back = c in
-    let read-exact = back in
-    let a = read-exact.args in
-    length_front a.bits.now read-exact.read_exact.new.bits a.p.steps back.bits-1.given.0
-
-pub shape_of-uncoded : goal.shape_of-uncoded
-shape_of-uncoded c =
-    let back = c in
-    let read-exact = back in
-    let a = read-exact.args in
-    length_front a.uncoded.now read-exact.read_exact.new.uncoded a.p.steps back.uncoded-1.given.0
-
-pub shape_of-bytes : goal.shape_of-bytes
-shape_of-bytes c =
-    let back = c in
-    let read-exact = back in
-    let a = read-exact.args in
-    length_front a.bytes.now read-exact.read_exact.new.bytes a.p.bytes back.bytes-1.given.0
-
-pub shape_of-leads : goal.shape_of-leads
-shape_of-leads c =
-    let back = c in
-    let read-exact = back in
-    let a = read-exact.args in
-    length_front a.leads.now read-exact.read_exact.new.leads a.p.valid_slots back.leads-1.given.0
-
 pub returns : goal.returns
 returns c =
     let at-uncoded = c in

@@ -88,7 +88,7 @@ loop-i-preserved c =
     let s = w.filled.same in
     let ls = w.run.runs.steps in
     let l = tested.loop-i-test.true in
-    let x = ap (λ (k : ℕ). get_or st.args.t3 k nan) scale-place.scale_place-place.ensures.0 in
+    let x = ap (λ (k : ℕ). get_or st.args.scales k nan) scale-place.scale_place-place.ensures.0 in
     written_next w l e _ x c.run_metrics.ensures
 
 pub shape_of-metrics : goal.shape_of-metrics

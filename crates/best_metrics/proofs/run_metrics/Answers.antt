@@ -61,13 +61,13 @@ slice_bounds-write_block-start c =
 pub write_block-requires : goal.write_block-requires
 write_block-requires c =
     let Block-of = c in
-    let tested = Block-of.before in
+    let tested = Block-of in
     let looped = tested in
     let layout_of = looped in
     let st = layout_of in
     let at = looped.loop-k in
     let inside = tested.loop-k-test.true in
-    let bo = Block-of.Block-of in
+    let bo = Block-of.block_of-len in
     let le = bo.ensures.0 in
     let lay = layout_of.layout_of-layout in
     let co = lay.result.combination in
@@ -91,13 +91,13 @@ write_block-requires c =
 pub overflow_add-k : goal.overflow_add-k
 overflow_add-k c =
     let Block-of = c in
-    let tested = Block-of.before in
+    let tested = Block-of in
     let looped = tested in
     let layout_of = looped in
     let st = layout_of in
     let at = looped.loop-k in
     let inside = tested.loop-k-test.true in
-    let bo = Block-of.Block-of in
+    let bo = Block-of.block_of-len in
     let le = bo.ensures.0 in
     let fits = st.requires.1 in
     omega arith
@@ -105,13 +105,13 @@ overflow_add-k c =
 pub loop-k-smaller : goal.loop-k-smaller
 loop-k-smaller c =
     let Block-of = c in
-    let tested = Block-of.before in
+    let tested = Block-of in
     let looped = tested in
     let layout_of = looped in
     let st = layout_of in
     let at = looped.loop-k in
     let inside = tested.loop-k-test.true in
-    let bo = Block-of.Block-of in
+    let bo = Block-of.block_of-len in
     let le = bo.ensures.0 in
     let some : 0 < bo.result = bo.ensures.2 (omega arith) in
     omega arith
@@ -119,13 +119,13 @@ loop-k-smaller c =
 pub loop-k-preserved : goal.loop-k-preserved
 loop-k-preserved c =
     let Block-of = c in
-    let tested = Block-of.before in
+    let tested = Block-of in
     let looped = tested in
     let layout_of = looped in
     let st = layout_of in
     let at = looped.loop-k in
     let inside = tested.loop-k-test.true in
-    let bo = Block-of.Block-of in
+    let bo = Block-of.block_of-len in
     let le = bo.ensures.0 in
     let a = st.args in
     let wb = c.write_block in

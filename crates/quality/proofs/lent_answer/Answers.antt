@@ -9,7 +9,6 @@ use Rattle.refusal.proofs.RowLaws.{refused_by, passed_by}
 use Rattle.refusal.specs.declared.Answer.TheVariants.{Space}
 use Rattle.isdbs_rows.specs.DecodeRows.{point_rows}
 use Rattle.quality_sums.specs.Terms.{quality_numbers}
-use Rattle.refusal.proofs.Told.{told}
 use Rattle.quality.proofs.lent_answer.Goals as goal
 
 -- row 9
@@ -23,7 +22,7 @@ pub returns-in_default : goal.returns-in_default
 returns-in_default c =
     let points = c.points_answer-points in
     let a = c.args in
-    rw (eq-eqb _ _ c.if-bytes-need.false) (refused_by (point_rows a.re.now a.im.now) (last a.room) points.result points.ensures (told points.result c.in-Accepted.keys2))
+    rw (eq-eqb _ _ c.if-bytes-need.false) (refused_by (point_rows a.re.now a.im.now) (last a.room) points.result points.ensures c.in_default.not-Accepted)
 
 pub returns-then-room-lt-QUALITY_NUMBERS : goal.returns-then-room-lt-QUALITY_NUMBERS
 returns-then-room-lt-QUALITY_NUMBERS c =

@@ -4,7 +4,6 @@ use Prim.Native.Nat.{◌-◌}
 use lib.ListN.{length}
 use Rattle.refusal.specs.Rows.{first_row}
 use Rattle.refusal.proofs.RowLaws.{is_refused}
-use Rattle.refusal.proofs.Told.{told}
 use Rattle.isdbs_tables.specs.declared.Table.{Table}
 use Rattle.isdbs_plan.specs.PlannedLaws.{table_is, plan_is, planned}
 use Rattle.quality.specs.Rows.{quality_rows}
@@ -20,7 +19,7 @@ returns-in_default c =
     let et = table_is c.plan_of-p.ensures.0 in
     let x = c.quality_answer-answer in record {
       answers = x.ensures ∙ ap (λ (z : Table). first_row (quality_rows z (length a.bytes.now) a.re.now a.im.now (length a.out.now))) et;
-      leaves = rw (is_refused x.result (told x.result c.in-Accepted.keys2)) refl
+      leaves = rw (is_refused x.result c.in_default.not-Accepted) refl;
     }
 
 pub sum_frame-requires : goal.sum_frame-requires
@@ -41,5 +40,5 @@ returns c =
     let x = c.quality_answer-answer in
     let ok = c.in-Accepted.is in record {
       answers = x.ensures ∙ ap (λ (z : Table). first_row (quality_rows z (length a.bytes.now) a.re.now a.im.now (length a.out.now))) et;
-      leaves = rw ok (rw et at c.sum_frame.ensures)
+      leaves = rw ok (rw et at c.sum_frame.ensures);
     }

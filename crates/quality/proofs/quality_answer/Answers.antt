@@ -2,7 +2,6 @@
 use mathlib.Core.Path.{sym, ◌∙◌, ap}
 use Prim.Native.Nat.{ℕ}
 use Rattle.refusal.specs.Rows.{first_row}
-use Rattle.refusal.proofs.Told.{told}
 use Rattle.isdbs_plan.specs.declared.Plan.{Plan}
 use Rattle.quality.specs.Rows.{lent_rows}
 use Rattle.quality.proofs.Rows.{by_table, by_lent}
@@ -11,7 +10,7 @@ use Rattle.quality.proofs.quality_answer.Goals as goal
 pub returns-in_default : goal.returns-in_default
 returns-in_default c =
     let a = c.args in
-    by_table a.p.table a.bytes a.re.now a.im.now a.room c.table_answer-table.result c.table_answer-table.ensures (told c.table_answer-table.result c.in-Accepted.keys2)
+    by_table a.p.table a.bytes a.re.now a.im.now a.room c.table_answer-table.result c.table_answer-table.ensures c.in_default.not-Accepted
 
 pub returns : goal.returns
 returns c =
