@@ -50,12 +50,13 @@ loop-i-preserved c =
     let inv = at.loop-i.invariant in
     let h : at.loop-i.i < length xs = search rules in
     elim c.if-mended-i.branch [
-        then-mended-i w ↦
-            let f = filled_more xs ys start.requires.0 start.args.list.now start.requires.2 start.requires.3 at.loop-i.i at.loop-i.count at.loop-i.list h w.if-mended-i.true inv.1 inv.2 in
-            rw (w.list-is, w.count-is) (search rules, f.0, f.1) |
-        else-mended-i w ↦
-            let f = filled_same xs ys start.requires.0 start.args.list.now start.requires.2 start.requires.3 at.loop-i.i at.loop-i.count at.loop-i.list h w.if-mended-i.false inv.1 inv.2 in
-            rw (w.list-is, w.count-is) (search rules, f.0, f.1) ]
+      | then-mended-i w ↦
+          let f = filled_more xs ys start.requires.0 start.args.list.now start.requires.2 start.requires.3 at.loop-i.i at.loop-i.count at.loop-i.list h w.if-mended-i.true inv.1 inv.2 in
+          rw (w.list-is, w.count-is) (search rules, f.0, f.1)
+      | else-mended-i w ↦
+          let f = filled_same xs ys start.requires.0 start.args.list.now start.requires.2 start.requires.3 at.loop-i.i at.loop-i.count at.loop-i.list h w.if-mended-i.false inv.1 inv.2 in
+          rw (w.list-is, w.count-is) (search rules, f.0, f.1)
+    ]
 
 pub shape_of-list : goal.shape_of-list
 shape_of-list c =

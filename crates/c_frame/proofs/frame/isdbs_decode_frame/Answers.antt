@@ -29,7 +29,14 @@ returns-then-scales-ne7 c =
     let e : n ≡ answered (until_length (table_rows (table_of a.table))) = c.not_scales.ensures ∙ rw q.table_of-t.ensures refl in
     let h = until_refuses (table_rows (table_of a.table)) (table_refusing (table_of a.table)) n e in
     let w = e ∙ ap number_of (sym (not_seven (table_of a.table) a.re.now a.im.now a.scales.now (length a.decisions.now) (length a.bits.now) (length a.bytes.now) (length a.counts.now) c.if-scales-ne7.true)) in
-    (w, (kept n _ _ h, (kept n _ _ h, (kept n _ _ h, (kept n _ _ h, kept n _ _ h)))))
+    record {
+      answers = w;
+      words = kept n _ _ h;
+      decoded = kept n _ _ h;
+      load = kept n _ _ h;
+      strain = kept n _ _ h;
+      total = kept n _ _ h;
+    }
 
 pub returns-in-Decoded : goal.returns-in-Decoded
 returns-in-Decoded c =
@@ -46,10 +53,17 @@ returns-in-Decoded c =
     let seven = seven_rows (table_of a.table) a.re.now a.im.now a.scales.now (length a.decisions.now) (length a.bits.now) (length a.bytes.now) (length a.counts.now) g.if-scales-ne7.false in
     let k-is : k ≡ first_row (scales_rows (table_of a.table) a.re.now a.im.now a.scales.now (length a.decisions.now) (length a.bits.now) (length a.bytes.now) (length a.counts.now)) = rw (t, z) (sym seven) in
     let x = strain_sum q.table_of-t.result (received_by a.re.now a.im.now g.mapping_of-m.result o.scales_of-all.result) (is_set a.known_start) (is_set a.first) in
-    let e = p.decode_frame-r.ensures.0 in
+    let e = p.decode_frame-r.ensures.answers in
     let s = decoded k q.table_of-t.result x p.decode_frame-r.result e _ _ _ c.in-Decoded.is in
-    let f = p.decode_frame-r.ensures.1.0 s.0 in
-    (sym (ap number_of s.0) ∙ ap number_of k-is, (f.read.words, (f.read.decoded ∙ rw (t, m, z) refl, (f.read.load ∙ rw (t, m, z) refl, (f.strain ∙ rw (t, m, z) refl, s.1 ∙ rw (t, m, z) refl)))))
+    let f = p.decode_frame-r.ensures.leaves.0 s.0 in
+    record {
+      answers = sym (ap number_of s.0) ∙ ap number_of k-is;
+      words = f.read.words;
+      decoded = f.read.decoded ∙ rw (t, m, z) refl;
+      load = f.read.load ∙ rw (t, m, z) refl;
+      strain = f.strain ∙ rw (t, m, z) refl;
+      total = s.1 ∙ rw (t, m, z) refl;
+    }
 
 pub returns-in-Refused : goal.returns-in-Refused
 returns-in-Refused c =
@@ -66,9 +80,16 @@ returns-in-Refused c =
     let seven = seven_rows (table_of a.table) a.re.now a.im.now a.scales.now (length a.decisions.now) (length a.bits.now) (length a.bytes.now) (length a.counts.now) g.if-scales-ne7.false in
     let k-is : k ≡ first_row (scales_rows (table_of a.table) a.re.now a.im.now a.scales.now (length a.decisions.now) (length a.bits.now) (length a.bytes.now) (length a.counts.now)) = rw (t, z) (sym seven) in
     let x = strain_sum q.table_of-t.result (received_by a.re.now a.im.now g.mapping_of-m.result o.scales_of-all.result) (is_set a.known_start) (is_set a.first) in
-    let e = p.decode_frame-r.ensures.0 in
+    let e = p.decode_frame-r.ensures.answers in
     let n = refused k q.table_of-t.result x p.decode_frame-r.result e c.in-Refused.a c.in-Refused.is in
     let w : c.number.result ≡ number_of k = c.number.ensures ∙ n.0 in
     let h : c.number.result ≡ 0 → ⊥ = λ z. n.1 (zero_accepted k (sym w ∙ z)) in
-    let l = p.decode_frame-r.ensures.1.1 n.1 in
-    (w ∙ ap number_of k-is, (l.words ∙ kept c.number.result _ _ h, (l.decoded ∙ kept c.number.result _ _ h, (l.load ∙ kept c.number.result _ _ h, (l.strain ∙ kept c.number.result _ _ h, kept c.number.result _ _ h)))))
+    let l = p.decode_frame-r.ensures.leaves.1 n.1 in
+    record {
+      answers = w ∙ ap number_of k-is;
+      words = l.words ∙ kept c.number.result _ _ h;
+      decoded = l.decoded ∙ kept c.number.result _ _ h;
+      load = l.load ∙ kept c.number.result _ _ h;
+      strain = l.strain ∙ kept c.number.result _ _ h;
+      total = kept c.number.result _ _ h;
+    }

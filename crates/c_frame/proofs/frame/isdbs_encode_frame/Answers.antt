@@ -22,10 +22,15 @@ returns-then-answer-ne0 c =
     let m : g.mapping_of-m.result ≡ mapping_of a.mapping = g.mapping_of-m.ensures in
     let e = n.number-answer.ensures in
     let w : n.number-answer.result ≡ answered (encode_rows (table_of a.table) a.state (length a.re.now) (length a.im.now)) =
-    e ∙ ap number_of p.encode_frame_with_state-made.ensures.0 ∙ rw t refl in
+    e ∙ ap number_of p.encode_frame_with_state-made.ensures.answers ∙ rw t refl in
     let h = c.if-answer-ne0.true in
-    let l = p.encode_frame_with_state-made.ensures.1.1.1 (refusing n.number-answer.result p.encode_frame_with_state-made.result.answer e h) in
-    (w, (l.re_is ∙ kept n.number-answer.result _ _ h, (l.im_is ∙ kept n.number-answer.result _ _ h, kept n.number-answer.result _ _ h)))
+    let l = p.encode_frame_with_state-made.ensures.frame.1 (refusing n.number-answer.result p.encode_frame_with_state-made.result.answer e h) in
+    record {
+      answers = w;
+      real = l.re_is ∙ kept n.number-answer.result _ _ h;
+      imaginary = l.im_is ∙ kept n.number-answer.result _ _ h;
+      state = kept n.number-answer.result _ _ h;
+    }
 
 pub returns : goal.returns
 returns c =
@@ -38,9 +43,14 @@ returns c =
     let m : g.mapping_of-m.result ≡ mapping_of a.mapping = g.mapping_of-m.ensures in
     let e = n.number-answer.ensures in
     let w : n.number-answer.result ≡ answered (encode_rows (table_of a.table) a.state (length a.re.now) (length a.im.now)) =
-    e ∙ ap number_of p.encode_frame_with_state-made.ensures.0 ∙ rw t refl in
+    e ∙ ap number_of p.encode_frame_with_state-made.ensures.answers ∙ rw t refl in
     let z = c.if-answer-ne0.false in
     let y = zero_accepted p.encode_frame_with_state-made.result.answer (sym e ∙ z) in
-    let f = p.encode_frame_with_state-made.ensures.1.1.0 y in
-    let l = p.encode_frame_with_state-made.ensures.1.0.0 y in
-    (sym z ∙ w, (f.re_is ∙ rw (t, m) refl, (f.im_is ∙ rw (t, m) refl, l ∙ rw t refl)))
+    let f = p.encode_frame_with_state-made.ensures.frame.0 y in
+    let l = p.encode_frame_with_state-made.ensures.state.0 y in
+    record {
+      answers = sym z ∙ w;
+      real = f.re_is ∙ rw (t, m) refl;
+      imaginary = f.im_is ∙ rw (t, m) refl;
+      state = l ∙ rw t refl;
+    }

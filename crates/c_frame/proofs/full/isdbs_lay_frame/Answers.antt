@@ -14,4 +14,8 @@ returns c =
     let e = lay.lay-a.ensures in
     let n = c.number.result in
     let m : n ≡ number_of a = c.number.ensures in
-    (m ∙ ap number_of e.0, (by_number n a m (full_part (lent_inputs x.header_re.now x.main_re.now x.burst_re.now)) x.re.now e.1.0, by_number n a m (full_part (lent_inputs x.header_im.now x.main_im.now x.burst_im.now)) x.im.now e.1.1))
+    record {
+      answers = m ∙ ap number_of e.answers;
+      real = by_number n a m (full_part (lent_inputs x.header_re.now x.main_re.now x.burst_re.now)) x.re.now e.real;
+      imaginary = by_number n a m (full_part (lent_inputs x.header_im.now x.main_im.now x.burst_im.now)) x.im.now e.imaginary;
+    }

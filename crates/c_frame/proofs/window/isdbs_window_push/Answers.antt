@@ -11,10 +11,15 @@ returns-then-answer-ne0 c =
     let n = c.number-answer in
     let s = c.push-r.ensures in
     let h = c.if-answer-ne0.true in
-    let l = s.leaves.1 (λ y. h (n.ensures ∙ ap number_of y)) in (
-      n.ensures ∙ ap number_of s.answers,
-      (kept n.result _ _ h, (kept n.result _ _ h, (l.kept_is ∙ kept n.result _ _ h, (kept n.result _ _ h, kept n.result _ _ h)))),
-    )
+    let l = s.leaves.1 (λ y. h (n.ensures ∙ ap number_of y)) in
+    record {
+      answers = n.ensures ∙ ap number_of s.answers;
+      filled = kept n.result _ _ h;
+      follows = kept n.result _ _ h;
+      keeps = l.kept_is ∙ kept n.result _ _ h;
+      sums = kept n.result _ _ h;
+      tops = kept n.result _ _ h;
+    }
 
 pub returns : goal.returns
 returns c =
@@ -22,7 +27,12 @@ returns c =
     let p = c.push-r in
     let s = p.ensures in
     let z = c.if-answer-ne0.false in
-    let l = s.leaves.0 (zero_accepted p.result.answer (sym n.ensures ∙ z)) in (
-      sym z ∙ n.ensures ∙ ap number_of s.answers,
-      (ap (λ (v : WindowState). v.fill) l.state_is, (ap (λ (v : WindowState). v.next) l.state_is, (l.kept_is, (l.total_is, l.greatest_is)))),
-    )
+    let l = s.leaves.0 (zero_accepted p.result.answer (sym n.ensures ∙ z)) in
+    record {
+      answers = sym z ∙ n.ensures ∙ ap number_of s.answers;
+      filled = ap (λ (v : WindowState). v.fill) l.state_is;
+      follows = ap (λ (v : WindowState). v.next) l.state_is;
+      keeps = l.kept_is;
+      sums = l.total_is;
+      tops = l.greatest_is;
+    }

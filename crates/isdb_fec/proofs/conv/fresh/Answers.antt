@@ -8,9 +8,9 @@ use Rattle.isdb_fec.proofs.conv.fresh.Goals as goal
 
 pub returns-then-traceback-gt-TRACEBACK_LIMIT : goal.returns-then-traceback-gt-TRACEBACK_LIMIT
 returns-then-traceback-gt-TRACEBACK_LIMIT c = record {
-      answers = rw (lt-ltb 1024 c.args.traceback c.if-traceback-gt-TRACEBACK_LIMIT.true) refl;
-      made = refused Traceback (numbered Traceback (omega arith)) (record { values = refl; held_is = refl; traceback_is = refl });
-    }
+  answers = rw (lt-ltb 1024 c.args.traceback c.if-traceback-gt-TRACEBACK_LIMIT.true) refl;
+  made = refused Traceback (numbered Traceback (omega arith)) (record { values = refl; held_is = refl; traceback_is = refl });
+}
 
 pub returns : goal.returns
 returns c =

@@ -19,8 +19,9 @@ loop-j-preserved c =
     let more = marked_more at.args.c at.loop-j.j c.is_marked.result c.is_marked.ensures in
     let inv = at.loop-j.invariant in
     elim c.if-is_marked.branch [
-      then-is_marked w ↦ let e = rw w.if-is_marked.true at more in rw w.n-is (omega arith, omega arith, omega arith)
-    | else-is_marked w ↦ let e = rw w.if-is_marked.false at more in rw w.n-is (omega arith, omega arith, omega arith) ]
+      | then-is_marked w ↦ let e = rw w.if-is_marked.true at more in rw w.n-is (omega arith, omega arith, omega arith)
+      | else-is_marked w ↦ let e = rw w.if-is_marked.false at more in rw w.n-is (omega arith, omega arith, omega arith)
+    ]
 
 pub returns : goal.returns
 returns c =

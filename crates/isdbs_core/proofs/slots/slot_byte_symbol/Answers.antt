@@ -45,7 +45,7 @@ returns-then-byte-ge-SLOT_BYTES c =
     let ok = ap accepted (sym (runs_answer t r e) ∙ c.in-Accepted.is) in
     let byte = st.args.byte in
     let is : Nothing ≡ slot_byte_symbol t st.args.slot byte =
-        sym (byte_none (runs_of t) st.args.slot byte (le-ltb byte 203 c.if-byte-ge-SLOT_BYTES.true)) ∙ rw ok in
+    sym (byte_none (runs_of t) st.args.slot byte (le-ltb byte 203 c.if-byte-ge-SLOT_BYTES.true)) ∙ rw ok in
     record { is = is; said = said_by t st.args.slot byte Nothing is }
 
 pub byte_in-requires : goal.byte_in-requires
@@ -67,5 +67,5 @@ returns c =
     let slot = st.args.slot in
     let byte = st.args.byte in
     let is : c.byte_in.result ≡ slot_byte_symbol t slot byte =
-        c.byte_in.ensures ∙ ap (λ (l : List Run). byte_in l slot byte) (runs_are t r e ok) ∙ byte_padded 4 (runs_of t) slot byte ∙ rw ok in
+    c.byte_in.ensures ∙ ap (λ (l : List Run). byte_in l slot byte) (runs_are t r e ok) ∙ byte_padded 4 (runs_of t) slot byte ∙ rw ok in
     record { is = is; said = said_by t slot byte c.byte_in.result is }

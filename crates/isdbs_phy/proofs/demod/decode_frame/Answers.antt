@@ -26,10 +26,11 @@ returns-in_default c =
     let et = table_is pl.ensures.0 in
     let da = c.decode_answer-answer in
     let ea = da.ensures ∙ ap (λ (z : Table). first_row (decode_rows z st.args.re.now st.args.im.now st.args.o.scales (length st.args.decisions.now) (length st.args.bits.now) (length st.args.bytes.now) (length st.args.counts.now))) et in
-    let n = told da.result c.in-Accepted.keys2 in (
-      refused_answer da.result t sum n ∙ ap (λ (z : Answer). frame_answer z t sum) ea,
-      refused _ (λ q. n (ea ∙ q)) (record { words = refl; decoded = refl; load = refl; strain = refl }),
-    )
+    let n = c.in_default.not-Accepted in
+    record {
+      answers = refused_answer da.result t sum n ∙ ap (λ (z : Answer). frame_answer z t sum) ea;
+      leaves = refused _ (λ q. n (ea ∙ q)) (record { words = refl; decoded = refl; load = refl; strain = refl });
+    }
 
 pub decode_strained-strained-requires : goal.decode_strained-strained-requires
 decode_strained-strained-requires c =
@@ -69,7 +70,9 @@ returns c =
     let ea = da.ensures ∙ ap (λ (z : Table). first_row (decode_rows z st.args.re.now st.args.im.now st.args.o.scales (length st.args.decisions.now) (length st.args.bits.now) (length st.args.bytes.now) (length st.args.counts.now))) et in
     let ok = sym at-enum-told.in-Accepted.is ∙ ea in
     let ds = decode-strained.decode_strained-strained in
-    let e = rw et at ds.ensures in (
-      rw (pl.ensures.0, e.1.sum_is_lem) (ap (λ (z : Answer). frame_answer z t sum) ok),
-      ((λ q. record { read = e.0; strain = e.1.counts_are }), (λ n. absurd (n (sym ok)))),
-    )
+    let read = rw et at ds.ensures.read in
+    let strain = rw et at ds.ensures.strain in
+    record {
+      answers = rw (pl.ensures.0, strain.sum_is) (ap (λ (z : Answer). frame_answer z t sum) ok);
+      leaves = ((λ q. record { read = read; strain = strain.counts_are }), (λ n. absurd (n (sym ok))));
+    }

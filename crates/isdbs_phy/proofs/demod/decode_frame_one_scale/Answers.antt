@@ -24,12 +24,13 @@ returns c =
     let k = length a.counts.now in
     let rx = received_by a.re.now a.im.now a.o.mapping (replicate 7 s) in
     let one = equal_scales a.re.now a.im.now a.o.mapping s in
-    let rows : first_row (decode_rows a.t a.re.now a.im.now (replicate 7 s) n b y k) ≡ first_row (one_scale_rows a.t a.re.now a.im.now s n b y k) = ap first_row (equal_rows a.t a.re.now a.im.now s n b y k) in (
-      d.ensures.0 ∙ ap (λ (z : Answer). frame_answer z a.t (strain_sum a.t rx a.o.known_start a.first)) rows ∙ ap (λ (z : Received). frame_answer (first_row (one_scale_rows a.t a.re.now a.im.now s n b y k)) a.t (strain_sum a.t z a.o.known_start a.first)) one,
-      (
+    let rows : first_row (decode_rows a.t a.re.now a.im.now (replicate 7 s) n b y k) ≡ first_row (one_scale_rows a.t a.re.now a.im.now s n b y k) = ap first_row (equal_rows a.t a.re.now a.im.now s n b y k) in
+    record {
+      answers = d.ensures.answers ∙ ap (λ (z : Answer). frame_answer z a.t (strain_sum a.t rx a.o.known_start a.first)) rows ∙ ap (λ (z : Received). frame_answer (first_row (one_scale_rows a.t a.re.now a.im.now s n b y k)) a.t (strain_sum a.t z a.o.known_start a.first)) one;
+      leaves = (
         (λ q.
-            subst (λ (z : Received). FrameLeft a.t z a.o.known_start a.first a.decisions.now d.new.1.1.1.1.1.0 a.bits.now d.new.1.1.1.1.1.1.0 a.bytes.now d.new.1.1.1.1.1.1.1.0 a.counts.now d.new.1.1.1.1.1.1.1.1.0) one
-            (d.ensures.1.0 (rows ∙ q))),
-        (λ q. d.ensures.1.1 (λ z. q (sym rows ∙ z))),
-      ),
-    )
+            subst (λ (z : Received). FrameLeft a.t z a.o.known_start a.first a.decisions.now d.new.decisions a.bits.now d.new.bits a.bytes.now d.new.bytes a.counts.now d.new.counts) one
+            (d.ensures.leaves.0 (rows ∙ q))),
+        (λ q. d.ensures.leaves.1 (λ z. q (sym rows ∙ z))),
+      );
+    }

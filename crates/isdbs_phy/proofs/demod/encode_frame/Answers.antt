@@ -14,4 +14,7 @@ returns c =
     let start = start-state in
     let s = start-state.start_state.result in
     let a = start.args in
-    (encode-frame-with-state.encode_frame_with_state-made.ensures.0 ∙ fewer_rows a.t s (length a.re.now) (length a.im.now) (le-ltb 63 s (omega (arith, start-state.start_state.ensures.1))), rw start-state.start_state.ensures.0 at encode-frame-with-state.encode_frame_with_state-made.ensures.1.1)
+    record {
+      answers = encode-frame-with-state.encode_frame_with_state-made.ensures.answers ∙ fewer_rows a.t s (length a.re.now) (length a.im.now) (le-ltb 63 s (omega (arith, start-state.start_state.ensures.1)));
+      frame = rw start-state.start_state.ensures.0 at encode-frame-with-state.encode_frame_with_state-made.ensures.frame;
+    }

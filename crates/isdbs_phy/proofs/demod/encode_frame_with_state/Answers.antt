@@ -13,8 +13,8 @@ use Rattle.isdbs_phy.proofs.demod.encode_frame_with_state.Goals as goal
 pub returns-in_default : goal.returns-in_default
 returns-in_default c =
     let a = c.encode_answer-answer.result in
-    let n = told a c.in-Accepted.keys2 in
-    (c.encode_answer-answer.ensures, (refused a n refl, refused a n (record { re_is = refl; im_is = refl })))
+    let n = c.in_default.not-Accepted in
+    record { answers = c.encode_answer-answer.ensures; state = refused a n refl; frame = refused a n (record { re_is = refl; im_is = refl }) }
 
 pub encode_main-end-requires : goal.encode_main-end-requires
 encode_main-end-requires c =
@@ -34,5 +34,6 @@ returns c =
     let a = encode-answer.encode_answer-answer in
     let z = plan-of.in-Accepted.is in
     let et = table_is plan-of.plan_of-p.ensures.0 in
-    let made = rw et at encode-main.encode_main-end.ensures in
-    (a.ensures, ((λ e. made.0, λ n. absurd (n z)), (λ e. made.1, λ n. absurd (n z))))
+    let end = rw et at encode-main.encode_main-end.ensures.state in
+    let made = rw et at encode-main.encode_main-end.ensures.frame in
+    record { answers = a.ensures; state = (λ e. end, λ n. absurd (n z)); frame = (λ e. made, λ n. absurd (n z)) }
