@@ -19,7 +19,8 @@ returns-then-scales-ne7 c =
     let n = c.not_scales.result in
     let e : n ≡ answered (until_length (table_rows (table_of a.table))) = c.not_scales.ensures ∙ rw q.table_of-t.ensures refl in
     let l = lengths (lent a.metrics.now a.sides.now a.words.now a.tables.now a.bits.now a.uncoded.now a.bytes.now a.leads.now) in
-    other_c (table_of a.table) a.scales.now (point_rows a.re.now a.im.now ++ last_rows (table_of a.table) a.scales.now l) c.if-scales-ne7.true n e refl
+    let s = other_c (table_of a.table) a.scales.now (point_rows a.re.now a.im.now ++ last_rows (table_of a.table) a.scales.now l) c.if-scales-ne7.true n e refl in
+    record { answers = s.0; leaves = s.1.0; keeps = s.1.1 }
 
 pub returns : goal.returns
 returns c =
@@ -31,4 +32,5 @@ returns c =
     let a = start.args in
     let l = lengths (lent a.metrics.now a.sides.now a.words.now a.tables.now a.bits.now a.uncoded.now a.bytes.now a.leads.now) in
     let w = rw (q.table_of-t.ensures, o.scales_of-all.ensures, g.mapping_of-m.ensures) at p.best_reading-r.ensures in
-    seven_c (table_of a.table) a.scales.now (point_rows a.re.now a.im.now ++ last_rows (table_of a.table) a.scales.now l) g.if-scales-ne7.false p.best_reading-r.result c.number.result c.number.ensures w.0 w.1
+    let s = seven_c (table_of a.table) a.scales.now (point_rows a.re.now a.im.now ++ last_rows (table_of a.table) a.scales.now l) g.if-scales-ne7.false p.best_reading-r.result c.number.result c.number.ensures w.answers w.leaves in
+    record { answers = s.0; leaves = s.1.0; keeps = s.1.1 }

@@ -18,6 +18,6 @@ returns c =
     let w = rw (c.table_of-t.ensures, c.mapping_of-m.ensures) at q.ensures in
     let m : c.number.result ≡ number_of q.result = c.number.ensures in
     let new : List Float = laid (qualities a.re.now a.im.now a.bytes.now (table_of a.table) (mapping_of a.mapping) (is_set a.first)) a.out.now in record {
-      answers = m ∙ ap number_of w.0;
-      leaves = w.1 ∙ ap (λ (k : ℕ). left k new a.out.now) (sym m)
+      answers = m ∙ ap number_of w.answers;
+      leaves = w.leaves ∙ ap (λ (k : ℕ). left k new a.out.now) (sym m)
     }
