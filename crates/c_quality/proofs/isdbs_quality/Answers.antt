@@ -19,5 +19,5 @@ returns c =
     let m : c.number.result ≡ number_of q.result = c.number.ensures in
     let new : List Float = laid (qualities a.re.now a.im.now a.bytes.now (table_of a.table) (mapping_of a.mapping) (is_set a.first)) a.out.now in record {
       answers = m ∙ ap number_of w.answers;
-      leaves = w.leaves ∙ ap (λ (k : ℕ). left k new a.out.now) (sym m)
+      leaves = w.leaves ∙ ap (λ (k : ℕ). left k new a.out.now) (sym m);
     }
