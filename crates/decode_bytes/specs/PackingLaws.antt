@@ -57,7 +57,7 @@ module _ (re im : List Float) (m : Mapping) (s : ℕ) (us : List ℕ) (j : ℕ) 
       let q : (8 * j + i) / 2 ≡ 4 * j + i / 2 = omega arith in
       rw (e, q, zero-add (4 * j + i / 2))
 
-  tc8psk_is : (x v : ℕ) → x ≡ state_at 32 s us (4 * j) → v ≡ byte_of (piece_bit Tc8psk2_3 (drop (4 * j) re) (drop (4 * j) im) m x (drop (4 * j) us))
+  pub tc8psk_is : (x v : ℕ) → x ≡ state_at 32 s us (4 * j) → v ≡ byte_of (piece_bit Tc8psk2_3 (drop (4 * j) re) (drop (4 * j) im) m x (drop (4 * j) us))
       → v ≡ byte_of (λ i. piece_bit Tc8psk2_3 re im m s us (8 * j + i))
   tc8psk_is x v e q =
       q ∙ byte_cong (piece_bit Tc8psk2_3 (drop (4 * j) re) (drop (4 * j) im) m x (drop (4 * j) us)) (λ i. piece_bit Tc8psk2_3 re im m s us (8 * j + i))
