@@ -13,11 +13,8 @@ use bench_line::words::{front, part};
 use bench_setting::choice::{Reading, best_reading_of};
 use bench_verdict::places;
 use bench_words::report;
-use bench_words::report::Valid;
 use bench_words::text::{file, text};
 use isdbs_core::frame::{MAIN_SYMBOLS, SLOT_BYTES, SLOTS};
-use isdbs_phy::demod::FrameDecoded;
-use refusal::Answer;
 
 // Whether read gives the same bytes, or in which slots it does not.
 fn tell_apart(apart: &[u32; SLOTS], is_same: bool) {
@@ -72,17 +69,14 @@ fn lay_beside(
     read: &mut [u8; LOAD_SPACE],
 ) {
     let mut clean = [0u64; SLOTS];
-    let answer = clean_leads(s, best, &mut clean);
-    let Answer::Accepted = answer else {
-        report::refuse(answer);
+    if let Err(row) = clean_leads(s, best, &mut clean) {
+        report::refuse(row);
         return;
-    };
+    }
     let mut counts = [0u32; SLOTS];
     match read_of(s, MAIN_SYMBOLS, re, im, read, &mut counts) {
-        FrameDecoded::Decoded(size, _, _) => {
-            conclude(rt, s, v, line, best, front(read, size), leads, &clean)
-        }
-        FrameDecoded::Refused(answer) => report::refuse(answer),
+        Ok(r) => conclude(rt, s, v, line, best, front(read, r.bytes), leads, &clean),
+        Err(row) => report::refuse(row),
     }
 }
 
@@ -100,11 +94,10 @@ fn read_points(
 ) {
     let n = points.count;
     let mut leads = [0u64; SLOTS];
-    let answer = best_of(s, n, re, im, bytes, &mut leads);
-    let Answer::Accepted = answer else {
-        report::refuse_reading(answer, n, points.over, re, im);
+    if let Err(row) = best_of(s, n, re, im, bytes, &mut leads) {
+        report::refuse_reading(row, n, points.over, re, im);
         return;
-    };
+    }
     if v > SLOTS {
         return;
     }
@@ -158,13 +151,11 @@ fn read_frame(rt: &HostRuntime, s: Reading, v: usize, line: &[u8]) {
 
 // bench best TABLE MAPPING KIND FRAME BYTES [unknown] [SCALES]
 pub fn best(rt: &HostRuntime, line: &[u8]) {
-    let s = best_reading_of(line);
-    if !s.is_good {
+    let Some(s) = best_reading_of(line) else {
         return;
-    }
+    };
     let t = s.table;
-    match report::table(t) {
-        Valid::Slots(v) => read_frame(rt, s, v, line),
-        Valid::Refused => {}
+    if let Some(v) = report::table(t) {
+        read_frame(rt, s, v, line);
     }
 }

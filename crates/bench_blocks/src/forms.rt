@@ -2,15 +2,14 @@
 ghost use Rattle.std.specs.Prelude.{◌<◌, ◌≤◌};
 
 use crate::points::BLOCK;
-use bench_line::words::{is_narrow, same};
+use bench_line::words::is_narrow;
 
-// f64 parts, f32 parts, 16-bit integers in units of 1/32,768; or none of these.
+// f64 parts, f32 parts, or 16-bit integers in units of 1/32,768.
 #[derive(Clone, Copy)]
 pub enum Form {
     F64,
     F32,
     I16,
-    Other,
 }
 
 // A number of whole points, and the bytes of one more.
@@ -28,7 +27,7 @@ pub fn bytes(form: Form, n: usize) -> usize {
     match form {
         Form::F32 => 8 * n,
         Form::I16 => 4 * n,
-        _ => 16 * n,
+        Form::F64 => 16 * n,
     }
 }
 
@@ -39,41 +38,26 @@ pub fn points(form: Form) -> usize
     match form {
         Form::F32 => BLOCK / 8,
         Form::I16 => BLOCK / 4,
-        _ => BLOCK / 16,
+        Form::F64 => BLOCK / 16,
     }
 }
 
 // How many points so many bytes are.
 pub fn split(form: Form, bytes: usize) -> Whole {
-    match form {
-        Form::F32 => Whole {
-            count: bytes / 8,
-            over: bytes % 8,
-        },
-        Form::I16 => Whole {
-            count: bytes / 4,
-            over: bytes % 4,
-        },
-        _ => Whole {
-            count: bytes / 16,
-            over: bytes % 16,
-        },
+    let size = match form {
+        Form::F32 => 8,
+        Form::I16 => 4,
+        Form::F64 => 16,
+    };
+    Whole {
+        count: bytes / size,
+        over: bytes % size,
     }
-}
-
-// Whether a name has an ending.
-pub fn ends(name: &[u8], ending: &[u8]) -> bool {
-    let n = name.len();
-    let m = ending.len();
-    if n < m {
-        return false;
-    }
-    same(&name[n - m..], ending)
 }
 
 // Whether the name is that of a SigMF capture, whose form is in its meta.
 pub fn is_sigmf(name: &[u8]) -> bool {
-    ends(name, b".sigmf-data")
+    name.ends_with(b".sigmf-data")
 }
 
 // The form that a name says: 16-bit integers and f32 parts by its ending, else f64 parts.
@@ -81,7 +65,7 @@ pub fn by_name(name: &[u8]) -> Form {
     if is_narrow(name) {
         return Form::F32;
     }
-    if ends(name, b".ci16") {
+    if name.ends_with(b".ci16") {
         return Form::I16;
     }
     Form::F64

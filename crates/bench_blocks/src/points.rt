@@ -13,23 +13,6 @@ pub struct Point {
     pub im: f64,
 }
 
-fn wide(b: u8) -> u64
-    ensures { result < 256 }
-{
-    b as u64
-}
-
-fn wide32(n: u32) -> u64 {
-    n as u64
-}
-
-// A number of four bytes, the low one first.
-fn four(a: u8, b: u8, c: u8, d: u8) -> u64
-    ensures { result < 4294967296 }
-{
-    wide(a) + wide(b) * 0x100 + wide(c) * 0x1_0000 + wide(d) * 0x100_0000
-}
-
 // The f64 of a pattern, a NaN's too.
 fn f64_of(bits: u64) -> f64 {
     if bits % 0x8000_0000_0000_0000 <= 0x7ff0_0000_0000_0000 {
@@ -37,13 +20,6 @@ fn f64_of(bits: u64) -> f64 {
     } else {
         0.0f64 / 0.0f64
     }
-}
-
-// The f64 of a pattern's low and high half.
-fn f64_of_halves(low: u64, high: u64) -> f64
-    requires { (low < 4294967296) × (high < 4294967296) }
-{
-    f64_of(low + high * 0x1_0000_0000)
 }
 
 // The f32 of a pattern, a NaN's too.
@@ -55,38 +31,39 @@ fn f32_of(bits: u32) -> f32 {
     }
 }
 
-// The f64 of an f32's pattern.
-fn f64_of_f32(bits: u64) -> f64
-    requires { bits < 4294967296 }
+// The number of the four bytes from `at` on; 0 where the block ends before.
+fn four_at(b: &[u8; BLOCK], at: usize) -> u32 {
+    if at > BLOCK - 4 {
+        return 0;
+    }
+    u32::from_le_bytes([b[at], b[at + 1], b[at + 2], b[at + 3]])
+}
+
+fn f64_at(b: &[u8; BLOCK], at: usize) -> f64
+    requires { at ≤ 1048584 }
 {
-    std::num::f32_to_f64_with_nan(f32_of(bits as u32))
+    f64_of(u64::from(four_at(b, at)) + u64::from(four_at(b, at + 4)) * 0x1_0000_0000)
+}
+
+fn f32_at(b: &[u8; BLOCK], at: usize) -> f64 {
+    std::num::f32_to_f64_with_nan(f32_of(four_at(b, at)))
 }
 
 // The part that two bytes in two's complement give, in units of 1/32,768: every step is exact.
 fn f64_of_i16(low: u8, high: u8) -> f64 {
-    let n = std::num::nearest_u64_to_f64(wide(low) + wide(high) * 0x100);
+    let n = std::num::nearest_u64_to_f64(u64::from(u16::from_le_bytes([low, high])));
     if high < 128 {
         return n / 32_768.0f64;
     }
     (n - 65_536.0f64) / 32_768.0f64
 }
 
-// The number of the four bytes from `at` on; 0 where the block ends before.
-fn four_at(b: &[u8; BLOCK], at: usize) -> u64
-    ensures { result < 4294967296 }
-{
-    if at > BLOCK - 4 {
-        return 0;
-    }
-    four(b[at], b[at + 1], b[at + 2], b[at + 3])
-}
-
 fn read_f64(b: &[u8; BLOCK], at: usize) -> Point
     requires { at ≤ 1048576 }
 {
     Point {
-        re: f64_of_halves(four_at(b, at), four_at(b, at + 4)),
-        im: f64_of_halves(four_at(b, at + 8), four_at(b, at + 12)),
+        re: f64_at(b, at),
+        im: f64_at(b, at + 8),
     }
 }
 
@@ -94,8 +71,8 @@ fn read_f32(b: &[u8; BLOCK], at: usize) -> Point
     requires { at ≤ 1048576 }
 {
     Point {
-        re: f64_of_f32(four_at(b, at)),
-        im: f64_of_f32(four_at(b, at + 4)),
+        re: f32_at(b, at),
+        im: f32_at(b, at + 4),
     }
 }
 
@@ -122,7 +99,7 @@ fn place_of(form: Form, i: usize) -> usize
     match form {
         Form::F32 => 8 * i,
         Form::I16 => 4 * i,
-        _ => 16 * i,
+        Form::F64 => 16 * i,
     }
 }
 
@@ -132,7 +109,7 @@ pub fn point_of(form: Form, b: &[u8; BLOCK], i: usize) -> Point {
     match form {
         Form::F32 => read_f32(b, at),
         Form::I16 => read_i16(b, at),
-        _ => read_f64(b, at),
+        Form::F64 => read_f64(b, at),
     }
 }
 
@@ -145,45 +122,28 @@ pub fn f64_bits(x: f64) -> u64 {
 }
 
 // The pattern of the f32 nearest to x.
-fn f32_bits(x: f64) -> u64 {
+fn f32_bits(x: f64) -> u32 {
     let y = ieee_cast::soft(x);
     if y != y {
         return 0x7fc0_0000;
     }
-    wide32(f32::to_bits(y))
+    f32::to_bits(y)
 }
 
-fn low(n: u64) -> u8 {
-    (n % 256) as u8
-}
-
-// Puts the low four bytes of a number at a place of a block, the low one first, where they fit.
-fn put_four(b: &mut [u8; BLOCK], at: usize, n: u64) {
-    if at > BLOCK - 4 {
-        return;
+// Puts a point's parts as f64 at a place of a block, the low byte first, where they fit.
+fn put_f64(b: &mut [u8; BLOCK], at: usize, x: f64, y: f64) {
+    if at <= BLOCK - 16 {
+        b[at..at + 8].copy_from_slice(&f64_bits(x).to_le_bytes());
+        b[at + 8..at + 16].copy_from_slice(&f64_bits(y).to_le_bytes());
     }
-    b[at] = low(n);
-    b[at + 1] = low(n / 0x100);
-    b[at + 2] = low(n / 0x1_0000);
-    b[at + 3] = low(n / 0x100_0000);
 }
 
-fn put_f64(b: &mut [u8; BLOCK], at: usize, x: f64, y: f64)
-    requires { at ≤ 1048576 }
-{
-    let n = f64_bits(x);
-    let m = f64_bits(y);
-    put_four(b, at, n);
-    put_four(b, at + 4, n / 0x1_0000_0000);
-    put_four(b, at + 8, m);
-    put_four(b, at + 12, m / 0x1_0000_0000);
-}
-
-fn put_f32(b: &mut [u8; BLOCK], at: usize, x: f64, y: f64)
-    requires { at ≤ 1048576 }
-{
-    put_four(b, at, f32_bits(x));
-    put_four(b, at + 4, f32_bits(y));
+// The same as f32.
+fn put_f32(b: &mut [u8; BLOCK], at: usize, x: f64, y: f64) {
+    if at <= BLOCK - 8 {
+        b[at..at + 4].copy_from_slice(&f32_bits(x).to_le_bytes());
+        b[at + 4..at + 8].copy_from_slice(&f32_bits(y).to_le_bytes());
+    }
 }
 
 // Puts a point at place i of a block, as f32 or as f64.

@@ -1,11 +1,11 @@
 // The calls on the points of a frame, each on space of its own.
 use bench_line::space::{BIT_SPACE, LOAD_SPACE};
-use bench_line::words::front_parts;
+use bench_line::words::front;
 use bench_setting::choice::Reading;
 use best_frame::best_reading;
 use isdbs_core::frame::{MAIN_SYMBOLS, SLOTS};
 use isdbs_phy::demod::{DemodOptions, FrameDecoded, decode_frame, encode_frame};
-use refusal::Answer;
+use refusal::Refusal;
 use trellis::{FRAME_WORDS, STATES};
 
 // Four metrics for each step.
@@ -37,12 +37,12 @@ fn best_over(
     uncoded: &mut [u8; BIT_SPACE],
     bytes: &mut [u8; LOAD_SPACE],
     leads: &mut [u64; SLOTS],
-) -> Answer {
+) -> Result<(), Refusal> {
     let t = s.table;
     let o = options(s);
     best_reading(
-        front_parts(re, n),
-        front_parts(im, n),
+        front(re, n),
+        front(im, n),
         t,
         s.first,
         o,
@@ -65,7 +65,7 @@ pub fn best_of(
     im: &[f64; MAIN_SYMBOLS],
     bytes: &mut [u8; LOAD_SPACE],
     leads: &mut [u64; SLOTS],
-) -> Answer {
+) -> Result<(), Refusal> {
     let mut metrics = [0.0f32; METRIC_SPACE];
     let mut sides = [0u8; BIT_SPACE];
     let mut words = [0u64; BIT_SPACE];
@@ -96,18 +96,15 @@ fn clean_over(
     im: &mut [f64; MAIN_SYMBOLS],
     bytes: &mut [u8; LOAD_SPACE],
     leads: &mut [u64; SLOTS],
-) -> Answer {
+) -> Result<(), Refusal> {
     let t = s.table;
     let m = s.mapping;
-    let answer = encode_frame(load, t, s.first, m, re, im);
-    let Answer::Accepted = answer else {
-        return answer;
-    };
+    encode_frame(load, t, s.first, m, re, im)?;
     best_of(s, MAIN_SYMBOLS, re, im, bytes, leads)
 }
 
 // The leads in the clean frame of a load, read in the same way.
-pub fn clean_leads(s: Reading, load: &[u8], leads: &mut [u64; SLOTS]) -> Answer {
+pub fn clean_leads(s: Reading, load: &[u8], leads: &mut [u64; SLOTS]) -> Result<(), Refusal> {
     let mut re = [0.0f64; MAIN_SYMBOLS];
     let mut im = [0.0f64; MAIN_SYMBOLS];
     let mut bytes = [0u8; LOAD_SPACE];
@@ -124,12 +121,12 @@ fn read_over(
     bits: &mut [u8; BIT_SPACE],
     bytes: &mut [u8; LOAD_SPACE],
     counts: &mut [u32; SLOTS],
-) -> FrameDecoded {
+) -> Result<FrameDecoded, Refusal> {
     let t = s.table;
     let o = options(s);
     decode_frame(
-        front_parts(re, n),
-        front_parts(im, n),
+        front(re, n),
+        front(im, n),
         t,
         s.first,
         o,
@@ -148,7 +145,7 @@ pub fn read_of(
     im: &[f64; MAIN_SYMBOLS],
     bytes: &mut [u8; LOAD_SPACE],
     counts: &mut [u32; SLOTS],
-) -> FrameDecoded {
+) -> Result<FrameDecoded, Refusal> {
     let mut decisions = [0u64; FRAME_WORDS];
     let mut bits = [0u8; BIT_SPACE];
     read_over(s, n, re, im, &mut decisions, &mut bits, bytes, counts)

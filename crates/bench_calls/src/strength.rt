@@ -1,4 +1,4 @@
-// The strength of slots: their leads beside those of a clean frame; and where two loads differ.
+// The strength of slots: their leads beside those of a clean frame.
 ghost use Rattle.std.specs.Prelude.{◌<◌};
 
 use isdbs_core::frame::SLOTS;
@@ -30,34 +30,12 @@ pub fn percent(lead: u64, clean: u64) -> u64 {
     hundredths(lead, clean)
 }
 
-// A strength, up to the most that is told apart.
-fn told(percent: u64) -> u32 {
-    if percent > 999_900 {
-        return 999_900;
-    }
-    percent as u32
-}
+// More is not told apart, in percent.
+const MOST: u64 = 999_900;
 
 // The strength of each slot, of its lead and the clean one.
 pub fn strengths(leads: &[u64; SLOTS], clean: &[u64; SLOTS], out: &mut [u32; SLOTS]) {
     for k in 0..SLOTS {
-        out[k] = told(percent(leads[k], clean[k]));
+        out[k] = percent(leads[k], clean[k]).min(MOST) as u32;
     }
-}
-
-// The first place at which two loads differ, or the shorter one's end.
-pub fn first_apart(a: &[u8], b: &[u8]) -> usize {
-    let mut i: usize = 0;
-    while i < a.len() && i < b.len() {
-        if a[i] != b[i] {
-            break;
-        }
-        i = i + 1;
-    }
-    i
-}
-
-// The byte at a place; 0 where there is none.
-pub fn byte_at(s: &[u8], i: usize) -> u8 {
-    if i < s.len() { s[i] } else { 0 }
 }

@@ -9,7 +9,6 @@ use bench_frames::words::misused;
 use bench_line::words::{part, parts, same};
 use bench_setting::setting::{Setting, setting_of};
 use bench_words::report;
-use bench_words::report::Valid;
 use reading::How;
 
 // Whether the words of capture are five, or six with the word align.
@@ -52,13 +51,11 @@ pub fn capture(rt: &HostRuntime, line: &[u8]) {
         return;
     }
     // the kinds are told by the headers
-    let s = setting_of(part(line, 0, 1), part(line, 0, 2), b"first");
-    if !s.is_good {
+    let Some(s) = setting_of(part(line, 0, 1), part(line, 0, 2), b"first") else {
         return;
-    }
+    };
     let t = s.table;
-    match report::table(t) {
-        Valid::Slots(v) => read_in_space(rt, line, how_by(s, v, parts(line, 0) == 6)),
-        Valid::Refused => {}
+    if let Some(v) = report::table(t) {
+        read_in_space(rt, line, how_by(s, v, parts(line, 0) == 6));
     }
 }

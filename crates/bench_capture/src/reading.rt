@@ -5,7 +5,6 @@ use bench_line::words::front;
 use bench_setting::choice::Reading;
 use bench_tally::tally::Worth;
 use bench_verdict::facts::Frame;
-use bench_verdict::last;
 use bench_weigh::decoded;
 use bench_worth::{Verdict, weigh};
 use header_align::align_frame;
@@ -13,9 +12,8 @@ use isdbs_core::frame::{
     BURST_SYMBOLS, BURSTS, FRAME_SYMBOLS, HEADER_SYMBOLS, MAIN_SYMBOLS, SLOTS,
 };
 use isdbs_core::tmcc::Table;
-use isdbs_phy::demod::FrameDecoded;
 use isdbs_points::Mapping;
-use refusal::Answer;
+use refusal::Refusal;
 
 // The burst points of a full frame.
 const BURST_POINTS: usize = BURSTS * BURST_SYMBOLS;
@@ -29,42 +27,18 @@ pub struct How {
     pub aligns: bool,
 }
 
-fn wide(n: u32) -> usize {
-    n as usize
-}
-
-fn refused(answer: Answer) -> Worth {
-    Worth {
-        row: wide(refusal::number(answer)),
-        worth: last::WEAK,
-        outside: 0,
-        slots: 0,
-        first: 0,
-        steps: 0,
-        strained: 0,
-        weakest: SLOTS,
-        strength: 0,
-    }
-}
-
 // ---- the worth of bytes
 
 // The worth of a frame of these steps by the verdict on its bytes.
 fn worth_by(v: Verdict, steps: usize, strained: u32) -> Worth {
-    let answer = v.answer;
-    let Answer::Accepted = answer else {
-        return refused(answer);
-    };
     Worth {
-        row: 0,
         worth: v.worth,
-        outside: wide(v.outside),
+        outside: v.outside as usize,
         slots: v.slots,
         first: v.first,
         steps,
         strained,
         weakest: v.weakest,
-        strength: wide(v.strength),
     }
 }
 
@@ -75,8 +49,9 @@ fn weigh_bytes(
     bytes: &[u8],
     re: &[f64; MAIN_SYMBOLS],
     im: &[f64; MAIN_SYMBOLS],
-) -> Worth {
-    worth_by(weigh(s, f, bytes, re, im), f.steps, f.strained)
+) -> Result<Worth, Refusal> {
+    let v = weigh(s, f, bytes, re, im)?;
+    Ok(worth_by(v, f.steps, f.strained))
 }
 
 // ---- the reading
@@ -88,16 +63,11 @@ fn read_over(
     re: &[f64; MAIN_SYMBOLS],
     im: &[f64; MAIN_SYMBOLS],
     bytes: &mut [u8; LOAD_SPACE],
-) -> Worth {
+) -> Result<Worth, Refusal> {
     let mut counts = [0u32; SLOTS];
-    let done = read_of(s, MAIN_SYMBOLS, re, im, bytes, &mut counts);
-    match done {
-        FrameDecoded::Decoded(size, steps, strained) => {
-            let f = decoded(s, slots, size, steps, strained);
-            weigh_bytes(s, f, front(bytes, size), re, im)
-        }
-        FrameDecoded::Refused(answer) => refused(answer),
-    }
+    let r = read_of(s, MAIN_SYMBOLS, re, im, bytes, &mut counts)?;
+    let f = decoded(s, slots, r.bytes, r.steps, r.strained);
+    weigh_bytes(s, f, front(bytes, r.bytes), re, im)
 }
 
 // The same, on space of its own.
@@ -106,36 +76,20 @@ fn read_main(
     slots: usize,
     re: &[f64; MAIN_SYMBOLS],
     im: &[f64; MAIN_SYMBOLS],
-) -> Worth {
+) -> Result<Worth, Refusal> {
     let mut bytes = [0u8; LOAD_SPACE];
     read_over(s, slots, re, im, &mut bytes)
 }
 
-// Header, main and burst points of the frame at the front of two parts.
-fn take(
-    re: &[f64],
-    im: &[f64],
-    header_re: &mut [f64; HEADER_SYMBOLS],
-    header_im: &mut [f64; HEADER_SYMBOLS],
-    main_re: &mut [f64; MAIN_SYMBOLS],
-    main_im: &mut [f64; MAIN_SYMBOLS],
-    burst_re: &mut [f64; BURST_POINTS],
-    burst_im: &mut [f64; BURST_POINTS],
-) -> Answer {
-    full_frame::take_apart(
-        re, im, header_re, header_im, main_re, main_im, burst_re, burst_im,
-    )
-}
-
 // Reads the main points of the frame at the front of two parts.
-fn read_front(s: Reading, slots: usize, re: &[f64], im: &[f64]) -> Worth {
+fn read_front(s: Reading, slots: usize, re: &[f64], im: &[f64]) -> Result<Worth, Refusal> {
     let mut header_re = [0.0f64; HEADER_SYMBOLS];
     let mut header_im = [0.0f64; HEADER_SYMBOLS];
     let mut main_re = [0.0f64; MAIN_SYMBOLS];
     let mut main_im = [0.0f64; MAIN_SYMBOLS];
     let mut burst_re = [0.0f64; BURST_POINTS];
     let mut burst_im = [0.0f64; BURST_POINTS];
-    let answer = take(
+    full_frame::take_apart(
         re,
         im,
         &mut header_re,
@@ -144,10 +98,7 @@ fn read_front(s: Reading, slots: usize, re: &[f64], im: &[f64]) -> Worth {
         &mut main_im,
         &mut burst_re,
         &mut burst_im,
-    );
-    let Answer::Accepted = answer else {
-        return refused(answer);
-    };
+    )?;
     read_main(s, slots, &main_re, &main_im)
 }
 
@@ -168,11 +119,8 @@ fn read_aligned(
     at: usize,
     out_re: &mut [f64; FRAME_SYMBOLS],
     out_im: &mut [f64; FRAME_SYMBOLS],
-) -> Worth {
-    let answer = align_frame(re, im, at, out_re, out_im);
-    let Answer::Accepted = answer else {
-        return refused(answer);
-    };
+) -> Result<Worth, Refusal> {
+    align_frame(re, im, at, out_re, out_im)?;
     read_front(s, slots, out_re, out_im)
 }
 
@@ -181,7 +129,6 @@ fn reading_by(how: How, first: bool) -> Reading {
     let table = how.table;
     let mapping = how.mapping;
     Reading {
-        is_good: true,
         table,
         mapping,
         first,
@@ -191,7 +138,7 @@ fn reading_by(how: How, first: bool) -> Reading {
 }
 
 // Reads the frame at a place of two parts, of a kind.
-pub fn read_at(how: How, first: bool, re: &[f64], im: &[f64], at: usize) -> Worth {
+pub fn read_at(how: How, first: bool, re: &[f64], im: &[f64], at: usize) -> Result<Worth, Refusal> {
     let s = reading_by(how, first);
     if !how.aligns {
         return read_front(s, how.slots, from_place(re, at), from_place(im, at));

@@ -7,7 +7,7 @@ use bench_frames::searching::{
 };
 use bench_frames::words::mean_there;
 use bench_header::{agreed, plus};
-use bench_line::words::front_parts;
+use bench_line::words::front;
 use bench_tally::ending::{conclude, open_report};
 use bench_tally::tally::{Frame, Tally, enter, none_yet};
 use bench_words::text::text;
@@ -26,10 +26,10 @@ struct Run {
 fn frame_of(how: How, held: Held, s: Seen, re: &[f64; PIECE], im: &[f64; PIECE]) -> Frame {
     let h = s.header;
     let n = held.count;
-    let told = agreed(h, front_parts(re, n), front_parts(im, n), s.at);
+    let told = agreed(h, front(re, n), front(im, n), s.at);
     let first = told.first;
-    let mean = mean_there(first, front_parts(re, n), front_parts(im, n), s.at);
-    let worth = read_at(how, first, front_parts(re, n), front_parts(im, n), s.at);
+    let mean = mean_there(first, front(re, n), front(im, n), s.at);
+    let worth = read_at(how, first, front(re, n), front(im, n), s.at);
     Frame {
         place: plus(held.start, s.at),
         told,
@@ -50,11 +50,10 @@ fn look(
 ) -> Run {
     let held = run.held;
     let tally = run.tally;
-    let s = look_for(held, re, im);
-    if !s.is_frame {
+    let Some(s) = look_for(held, re, im) else {
         let rest = forget(held, looked_at(held), re, im);
         return Run { held: rest, tally };
-    }
+    };
     let f = frame_of(how, held, s, re, im);
     let more = enter(report, tally, f, sums);
     let rest = forget(held, plus(s.at, 1), re, im);

@@ -9,32 +9,16 @@ use bench_line::agreement::agreeing;
 use bench_line::space::LOAD_SPACE;
 use bench_line::words::{front, part, parts};
 use bench_series::plain::{decode, points_of};
-use bench_series::{Place, frame_name, refused_line, tally};
+use bench_series::{Place, frame_name, refused_line};
 use bench_setting::setting::{Setting, setting_at};
 use bench_setting::usage::misused;
 use bench_verdict::places;
 use bench_words::report;
-use bench_words::report::Valid;
 use bench_words::text::{say, text};
 use isdbs_core::frame::{MAIN_SYMBOLS, SLOTS};
-use isdbs_phy::demod::FrameDecoded;
 
 // The words before the first frame: check, TABLE, MAPPING, KIND and LOAD.
 const BEFORE: usize = 5;
-
-// Whether the run goes on, and whether the frame has the bytes of the load.
-#[derive(Clone, Copy)]
-struct Seen {
-    on: bool,
-    same: bool,
-}
-
-fn stopped() -> Seen {
-    Seen {
-        on: false,
-        same: false,
-    }
-}
 
 // How many bytes are wrong, and in which valid slots.
 fn wrong_bytes(s: Setting, v: usize, n: usize, load: &[u8], read: &[u8]) {
@@ -49,19 +33,16 @@ fn wrong_bytes(s: Setting, v: usize, n: usize, load: &[u8], read: &[u8]) {
 }
 
 // The line of a frame that was read, and whether it has the bytes of the load.
-fn compare(s: Setting, v: usize, place: Place, name: &[u8], load: &[u8], read: &[u8]) -> Seen {
+fn compare(s: Setting, v: usize, place: Place, name: &[u8], load: &[u8], read: &[u8]) -> bool {
     let n = agreeing(load, read);
     frame_name(place, name);
     text(b", ");
     report::agree(n, load.len());
     wrong_bytes(s, v, n, load, read);
-    Seen {
-        on: true,
-        same: n == load.len(),
-    }
+    n == load.len()
 }
 
-// Reads a frame, and compares it with the load.
+// Reads a frame, and answers whether it has the bytes of the load; none where it cannot be read, which stops the run.
 fn check_one(
     rt: &HostRuntime,
     s: Setting,
@@ -72,20 +53,18 @@ fn check_one(
     re: &mut [f64; MAIN_SYMBOLS],
     im: &mut [f64; MAIN_SYMBOLS],
     bytes: &mut [u8; LOAD_SPACE],
-) -> Seen {
+) -> Option<bool> {
     let got = points_of(rt, name, re, im);
     if !got.well {
-        return stopped();
+        return None;
     }
     let done = decode(s, got.count, re, im, bytes);
     match done {
-        FrameDecoded::Decoded(size, _, _) => {
-            compare(s, v, place, name, load, front(bytes, size))
-        }
-        FrameDecoded::Refused(answer) => {
-            refused_line(place, name, answer);
-            report::refuse_reading(answer, got.count, got.over, re, im);
-            stopped()
+        Ok(r) => Some(compare(s, v, place, name, load, front(bytes, r.bytes))),
+        Err(row) => {
+            refused_line(place, name, row);
+            report::refuse_reading(row, got.count, got.over, re, im);
+            None
         }
     }
 }
@@ -119,11 +98,13 @@ fn check_all(
             read: i - BEFORE,
             all: words - BEFORE,
         };
-        let seen = check_one(rt, s, v, place, part(line, 0, i), load, re, im, bytes);
-        if !seen.on {
+        let name = part(line, 0, i);
+        let Some(is_same) = check_one(rt, s, v, place, name, load, re, im, bytes) else {
             return;
+        };
+        if !is_same {
+            wrong += 1;
         }
-        wrong = wrong + tally(!seen.same);
     }
     end(wrong, words - BEFORE);
 }
@@ -178,13 +159,11 @@ pub fn check(rt: &HostRuntime, line: &[u8]) {
         misused(b"check takes TABLE MAPPING KIND LOAD FRAME..", b"");
         return;
     }
-    let s = setting_at(line);
-    if !s.is_good {
+    let Some(s) = setting_at(line) else {
         return;
-    }
+    };
     let t = s.table;
-    match report::table(t) {
-        Valid::Slots(v) => check_by(rt, line, s, v),
-        Valid::Refused => {}
+    if let Some(v) = report::table(t) {
+        check_by(rt, line, s, v);
     }
 }

@@ -15,17 +15,11 @@ fn shift(r: u32) -> u32
     r / 2
 }
 
-fn wide(b: u8) -> u32
-    ensures { result ≡ b }
-{
-    b as u32
-}
-
 // The register after a byte.
 fn step(r: u32, b: u8) -> u32
     ensures { result ≡ stepped r b }
 {
-    let a = shift(shift(shift(shift(r ^ wide(b)))));
+    let a = shift(shift(shift(shift(r ^ u32::from(b)))));
     shift(shift(shift(shift(a))))
 }
 
@@ -34,8 +28,8 @@ pub fn more(r: u32, s: &[u8]) -> u32
     ensures { result ≡ register r s.now }
 {
     let mut t = r;
-    for i in 0..s.len() {
-        t = step(t, s[i]);
+    for b in s {
+        t = step(t, *b);
     }
     t
 }
@@ -57,49 +51,32 @@ pub fn crc32(s: &[u8]) -> u32
     ended(more(BEGUN, s))
 }
 
-// The bytes of a file so far, and the register after them; whether there may be more.
+// How many bytes of a file there are so far, and the register after them.
 #[derive(Clone, Copy)]
 pub struct Summed {
     pub bytes: usize,
     pub register: u32,
-    pub is_whole: bool,
-}
-
-// a + b, or a where that is too large.
-fn plus(a: usize, b: usize) -> usize {
-    if b <= 0xffff_ffff_ffff_ffff - a {
-        return a + b;
-    }
-    a
-}
-
-// The sum with the next bytes of an open file.
-fn next(file: i32, sum: Summed) -> Summed {
-    let mut block = io::large_buffer();
-    let n = io::read_full(file, &mut block);
-    let register = more(sum.register, &block[..n]);
-    Summed {
-        bytes: plus(sum.bytes, n),
-        register,
-        is_whole: n == 0,
-    }
 }
 
 // The most blocks of a file that are summed.
 const BLOCKS: usize = 1_000_000;
 
-// The bytes of an open file from where it stands, and the register after them.
-pub fn sum_of(file: i32) -> Summed {
+// The bytes of an open file from where it stands, and the register after them; none of a file of more than so many blocks.
+pub fn sum_of(file: i32) -> Option<Summed> {
     let mut sum = Summed {
         bytes: 0,
         register: BEGUN,
-        is_whole: false,
     };
     for _ in 0..BLOCKS {
-        if sum.is_whole {
-            return sum;
+        let mut block = io::large_buffer();
+        let n = io::read_full(file, &mut block);
+        if n == 0 {
+            return Some(sum);
         }
-        sum = next(file, sum);
+        sum = Summed {
+            bytes: sum.bytes.saturating_add(n),
+            register: more(sum.register, &block[..n]),
+        };
     }
-    sum
+    None
 }

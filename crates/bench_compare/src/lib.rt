@@ -12,12 +12,11 @@ use bench_line::words;
 use bench_line::words::{front, part, parts, same};
 use bench_setting::usage::misused;
 use bench_words::report;
-use bench_words::report::Valid;
 use bench_words::text::{quoted, say, text};
 use isdbs_core::frame::{SLOT_BYTES, SLOTS};
 use isdbs_core::slots;
 use isdbs_core::tmcc::Table;
-use refusal::Answer;
+use refusal::Refusal;
 
 // The line of a valid slot that differs, or of every one; answers how many of its bytes agree.
 fn slot_line(every: bool, k: usize, a: &[u8], b: &[u8]) -> usize
@@ -71,24 +70,23 @@ fn load_reason(n: usize) {
 }
 
 // The refusal of a file that is not a load of the table.
-fn refuse_load(answer: Answer, name: &[u8], n: usize) {
-    match answer {
-        Answer::Length => {
-            report::refused(answer);
+fn refuse_load(row: Refusal, name: &[u8], n: usize) {
+    match row {
+        Refusal::Length => {
+            report::refused(row);
             quoted(name);
             load_reason(n);
         }
-        _ => report::refuse(answer),
+        _ => report::refuse(row),
     }
 }
 
 // Whether the bytes are a whole load of the table; else says why not.
 pub fn is_load(t: Table, name: &[u8], bytes: &[u8]) -> bool {
-    let answer = slots::slot_part_answer(bytes, t, 0);
-    let Answer::Accepted = answer else {
-        refuse_load(answer, name, bytes.len());
+    if let Err(row) = slots::slot_part_answer(bytes, t, 0) {
+        refuse_load(row, name, bytes.len());
         return false;
-    };
+    }
     true
 }
 
@@ -162,14 +160,11 @@ pub fn compare(rt: &HostRuntime, line: &[u8]) {
         misused(b"compare takes TABLE SENT READ [all]", b"");
         return;
     }
-    let parsed = words::table(part(line, 0, 1));
-    let t = parsed.table;
-    if !parsed.is_table {
+    let Some(t) = words::table(part(line, 0, 1)) else {
         misused(b"this is no TABLE:", part(line, 0, 1));
         return;
-    }
-    match report::table(t) {
-        Valid::Slots(v) => compare_in_space(rt, every, t, v, line),
-        Valid::Refused => {}
+    };
+    if let Some(v) = report::table(t) {
+        compare_in_space(rt, every, t, v, line);
     }
 }

@@ -8,8 +8,7 @@ use bench_words::text::{one_of, say, text};
 use isdbs_core::frame::{MAIN_SYMBOLS, SLOT_BYTES, SLOTS};
 use isdbs_core::tmcc;
 use isdbs_core::tmcc::{Entry, Table};
-use isdbs_phy::demod::{DemodOptions, FrameDecoded, Mapping, decode_frame, encode_frame};
-use refusal::Answer;
+use isdbs_phy::demod::{DemodOptions, Mapping, decode_frame, encode_frame};
 use trellis::FRAME_WORDS;
 
 // The valid slots of the table, and their bytes.
@@ -65,11 +64,10 @@ fn make(
     im: &mut [f64; MAIN_SYMBOLS],
 ) -> bool {
     let m = Mapping::default();
-    let answer = encode_frame(load, table(), true, m, re, im);
-    let Answer::Accepted = answer else {
-        report::refuse(answer);
+    if let Err(row) = encode_frame(load, table(), true, m, re, im) {
+        report::refuse(row);
         return false;
-    };
+    }
     say(
         b"The load is $ built-in bytes: $ valid slots of $ bytes each.\nThe frame is made: $ points, $ for each of the $ slots.\n",
         &[
@@ -110,12 +108,12 @@ fn read(
         &mut counts,
     );
     match done {
-        FrameDecoded::Decoded(_, steps, strained) => {
-            read_line(steps);
-            bench_verdict::in_all(steps, strained);
+        Ok(r) => {
+            read_line(r.steps);
+            bench_verdict::in_all(r.steps, r.strained);
             say_agreement(front(load, CARRIED), front(bytes, CARRIED));
         }
-        FrameDecoded::Refused(answer) => report::refuse(answer),
+        Err(row) => report::refuse(row),
     }
 }
 

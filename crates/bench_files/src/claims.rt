@@ -2,7 +2,7 @@
 use crate::files::{front_of, put, put_number};
 use crate::system;
 use bench_line::space::LINE_BYTES;
-use bench_line::words::{Number, digits, part};
+use bench_line::words::{digits, part};
 use bench_words::text::{name, one_of, say_named, text};
 use std::fs::File;
 use std::os::fd::AsRawFd;
@@ -25,7 +25,7 @@ fn folder(process: u64, path: &mut [u8; LINE_BYTES]) -> usize {
 
 // The number of this process.
 fn own_number(rt: &HostRuntime) -> u64 {
-    process::id(rt.process()) as u64
+    u64::from(process::id(rt.process()))
 }
 
 // Whether there is a process of this number on this machine.
@@ -36,11 +36,9 @@ fn is_going(rt: &HostRuntime, process: u64) -> bool {
 }
 
 // The number in a file.
-fn process_in(rt: &HostRuntime, run: &[u8]) -> Number {
+fn process_in(rt: &HostRuntime, run: &[u8]) -> Option<u32> {
     let mut space = io::buffer();
-    let Ok(file) = system::open_read(rt, run) else {
-        return Number::Not;
-    };
+    let file = system::open_read(rt, run).ok()?;
     let n = io::read_full(file.as_raw_fd(), &mut space);
     digits(part(front_of(&space, n), b'\n', 0))
 }
@@ -72,19 +70,19 @@ fn refuse_other(rt: &HostRuntime, process: u64, output: &[u8]) {
 }
 
 // The last line of a run whose output is claimed.
-fn refuse(rt: &HostRuntime, process: Number, output: &[u8]) {
+fn refuse(rt: &HostRuntime, process: Option<u32>, output: &[u8]) {
     say_named(b"failed: cannot write $", output);
     let own = own_number(rt);
-    let Number::Is(n) = process else {
+    let Some(n) = process else {
         refuse_unknown(output);
         return;
     };
-    if n as u64 == own {
+    if u64::from(n) == own {
         text(b": another output of this run is the same file\n");
         return;
     }
     if is_going(rt, own) {
-        refuse_other(rt, n as u64, output);
+        refuse_other(rt, u64::from(n), output);
     } else {
         refuse_unknown(output);
     }

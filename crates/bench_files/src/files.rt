@@ -10,7 +10,7 @@ use bench_blocks::forms::Form;
 use bench_blocks::{blocks, forms};
 use bench_line::space::{LINE_BYTES, LOAD_BYTES, LOAD_SPACE};
 use bench_line::words::{front, same};
-use bench_words::text::{number, one_of, say_named, text};
+use bench_words::text::{number, say_named, text};
 use std::fs;
 use std::fs::File;
 use std::io::{Error, Result as Outcome};
@@ -19,41 +19,31 @@ use std::os::unix::fs::MetadataExt;
 use std::path::PathBuf;
 use std::str::from_utf8;
 
-// The place of an error of the system among those that have words, counted from 1; 0 where it has none.
-fn reason_place(error: i32) -> usize {
-    match error {
-        ENOENT => 1,
-        EACCES | EPERM => 2,
-        EEXIST => 3,
-        ENOTDIR => 4,
-        EISDIR => 5,
-        ENOSPC => 6,
-        EFBIG => 7,
-        EROFS => 8,
-        ENAMETOOLONG => 9,
-        EILSEQ => 10,
-        _ => 0,
-    }
-}
-
 // Why the system failed, in words.
 fn reason(error: i32) {
-    let place = reason_place(error);
-    one_of(
-        b"the system's error |there is no such file or folder|permission is denied|it is there already; no run of this program is writing it: one was broken off, or it is another file: remove it, and run again|a part of its path is no folder|it is a folder|the disk is full|it would be larger than a file may be|the disk cannot be written|its name is too long|its name is not UTF-8",
-        place,
-    );
-    if place == 0 {
-        number(unsigned(error));
+    match error {
+        ENOENT => text(b"there is no such file or folder"),
+        EACCES | EPERM => text(b"permission is denied"),
+        EEXIST => text(
+            b"it is there already; no run of this program is writing it: one was broken off, or it is another file: remove it, and run again",
+        ),
+        ENOTDIR => text(b"a part of its path is no folder"),
+        EISDIR => text(b"it is a folder"),
+        ENOSPC => text(b"the disk is full"),
+        EFBIG => text(b"it would be larger than a file may be"),
+        EROFS => text(b"the disk cannot be written"),
+        ENAMETOOLONG => text(b"its name is too long"),
+        EILSEQ => text(b"its name is not UTF-8"),
+        _ => {
+            text(b"the system's error ");
+            number(unsigned(error));
+        }
     }
 }
 
 // n, or 0 where it is negative.
 pub(crate) fn unsigned(n: i32) -> u64 {
-    if n < 0 {
-        return 0;
-    }
-    n as u64
+    u64::try_from(n).unwrap_or(0)
 }
 
 // The last line of a run that a file stopped, with how it begins.
@@ -63,21 +53,14 @@ pub(crate) fn failed(form: &[u8], name: &[u8], error: i32) {
     text(b"\n");
 }
 
-// The next place of a buffer, or its end.
-pub fn next(j: usize) -> usize {
-    if j < LINE_BYTES { j + 1 } else { j }
-}
-
 // Puts src into dst from `at` on, as far as it goes, and answers where it ends.
 pub fn put(dst: &mut [u8; LINE_BYTES], at: usize, src: &[u8]) -> usize {
-    let mut i: usize = 0;
-    let mut j = at;
-    while i < src.len() && j < LINE_BYTES {
-        dst[j] = src[i];
-        i = i + 1;
-        j = next(j);
+    if at >= LINE_BYTES {
+        return at;
     }
-    j
+    let n = src.len().min(LINE_BYTES - at);
+    dst[at..at + n].copy_from_slice(&src[..n]);
+    at + n
 }
 
 // Puts a number's digits into dst from `at` on, and answers where they end.
@@ -98,14 +81,6 @@ fn link(file: u64, path: &mut [u8; LINE_BYTES]) -> usize {
     put_number(path, at, file)
 }
 
-// Where two open files lie.
-#[derive(Clone, Copy)]
-enum Places {
-    Same,
-    Apart,
-    Unknown,
-}
-
 // Reads where an open file lies.
 fn read_place(rt: &HostRuntime, file: &File) -> Outcome<PathBuf> {
     let mut path = io::buffer();
@@ -116,46 +91,39 @@ fn read_place(rt: &HostRuntime, file: &File) -> Outcome<PathBuf> {
     }
 }
 
-fn places_by(is_same: bool) -> Places {
-    if is_same { Places::Same } else { Places::Apart }
-}
-
-// Where two open files lie, by their numbers on the disk.
-fn compare_numbers(a: &File, b: &File) -> Places {
-    let Ok(ma) = a.metadata() else {
-        return Places::Unknown;
-    };
-    let Ok(mb) = b.metadata() else {
-        return Places::Unknown;
-    };
-    places_by(ma.dev() == mb.dev() && ma.ino() == mb.ino())
+// Whether two open files are one, by their numbers on the disk; none where these are not known.
+fn compare_numbers(a: &File, b: &File) -> Option<bool> {
+    let ma = a.metadata().ok()?;
+    let mb = b.metadata().ok()?;
+    Some(ma.dev() == mb.dev() && ma.ino() == mb.ino())
 }
 
 // The same where the place of one could not be read: by the numbers, where the system told it, but it is no text or no memory was left for it.
-fn compare_unread(error: Error, a: &File, b: &File) -> Places {
+fn compare_unread(error: Error, a: &File, b: &File) -> Option<bool> {
     match error.raw_os_error() {
-        Some(_) => Places::Unknown,
+        Some(_) => None,
         None => compare_numbers(a, b),
     }
 }
 
-fn compare_places(rt: &HostRuntime, a: &File, b: &File) -> Places {
+// Whether two open files are one; none where that cannot be told.
+fn are_same(rt: &HostRuntime, a: &File, b: &File) -> Option<bool> {
     match (read_place(rt, a), read_place(rt, b)) {
-        (Ok(pa), Ok(pb)) => places_by(same(pa.as_str().as_bytes(), pb.as_str().as_bytes())),
+        (Ok(pa), Ok(pb)) => Some(same(pa.as_str().as_bytes(), pb.as_str().as_bytes())),
         (Err(e), _) => compare_unread(e, a, b),
         (_, Err(e)) => compare_unread(e, a, b),
     }
 }
 
 // Whether the output is known to be another file than the input; else says that it is not.
-fn is_apart(places: Places, name: &[u8]) -> bool {
-    match places {
-        Places::Apart => true,
-        Places::Same => {
+fn is_apart(are_same: Option<bool>, name: &[u8]) -> bool {
+    match are_same {
+        Some(false) => true,
+        Some(true) => {
             say_named(b"refused: the output $ is the input\n", name);
             false
         }
-        Places::Unknown => {
+        None => {
             say_named(
                 b"refused: the output $ is there already, and without /proc it cannot be told from the input\n",
                 name,
@@ -180,9 +148,9 @@ pub fn may_write(rt: &HostRuntime, name: &[u8], input: &File) -> bool {
         Ok(file) => file,
         Err(error) => return is_missing(name, error),
     };
-    let places = compare_places(rt, &file, input);
+    let are_same = are_same(rt, &file, input);
     let is_plain = system::sync(&file) == 0;
-    if !is_apart(places, name) {
+    if !is_apart(are_same, name) {
         return false;
     }
     if !is_plain {
@@ -214,12 +182,8 @@ pub fn open_for(rt: &HostRuntime, input: &[u8], output: &[u8]) -> Option<File> {
 // Whether the input has ended: one more read gives nothing, and does not fail.
 pub(crate) fn has_ended(file: &File, name: &[u8]) -> bool {
     let error = match system::read_one(file) {
-        Ok(n) => {
-            if n == 0 {
-                return true;
-            }
-            0
-        }
+        Ok(0) => return true,
+        Ok(_) => 0,
         Err(error) => error,
     };
     failed(b"failed: cannot read $: ", name, error);
@@ -276,18 +240,18 @@ pub fn bytes_for(
 }
 
 // The form of an input's points; says why where it has none that is read.
-fn form_of(rt: &HostRuntime, name: &[u8]) -> Form {
+fn form_of(rt: &HostRuntime, name: &[u8]) -> Option<Form> {
     if forms::is_sigmf(name) {
         return meta::form_beside(rt, name);
     }
-    if forms::ends(name, b".sigmf") {
+    if name.ends_with(b".sigmf") {
         say_named(
             b"refused: $ is a SigMF archive: unpack it, and give its .sigmf-data\n",
             name,
         );
-        return Form::Other;
+        return None;
     }
-    forms::by_name(name)
+    Some(forms::by_name(name))
 }
 
 // Whether the input has ended, after n points and some bytes, of which something may be said.
@@ -320,25 +284,23 @@ pub fn read_next(
     re: &mut [f64],
     im: &mut [f64],
 ) -> Got {
-    let form = form_of(rt, name);
-    match form {
-        Form::Other => nothing(),
-        _ => read_as(file, name, form, re, im),
+    match form_of(rt, name) {
+        Some(form) => read_as(file, name, form, re, im),
+        None => nothing(),
     }
 }
 
 // Reads an open file's points, as many as the slices hold; says where there are more.
 fn read_first(rt: &HostRuntime, file: &File, name: &[u8], re: &mut [f64], im: &mut [f64]) -> Got {
-    let all = re.len();
-    let form = form_of(rt, name);
-    let Form::Other = form else {
-        let got = read_as(file, name, form, re, im);
-        if got.count == all {
-            hints::more(file, name, form, all);
-        }
-        return got;
+    let Some(form) = form_of(rt, name) else {
+        return nothing();
     };
-    nothing()
+    let all = re.len();
+    let got = read_as(file, name, form, re, im);
+    if got.count == all {
+        hints::more(file, name, form, all);
+    }
+    got
 }
 
 // Reads an open file's points, as many as the slices hold, and closes it.

@@ -2,39 +2,34 @@
 use crate::system;
 use bench_blocks::forms;
 use bench_blocks::forms::{Form, Whole};
-use bench_words::text::{one_of, say, say_named, text};
+use bench_words::text::{say, say_named, text};
 use isdbs_frame::{FRAME_SYMBOLS, MAIN_SYMBOLS};
 use std::fs::File;
 
-// What n points in a form show by their number: 1 and 2 half the bytes of a frame, of f64 and of f32 parts; 3 a quarter of those of f64 parts; 0 nothing.
-fn share_of(form: Form, n: usize) -> usize {
+// What n points in a form show by their number, where they are half the bytes of a frame, or a quarter of them: how much of it, and what form they are
+// probably of.
+fn share_of(form: Form, n: usize) -> Option<(&'static [u8], &'static [u8])> {
     let is_half = n == MAIN_SYMBOLS / 2 || n == FRAME_SYMBOLS / 2;
     let is_quarter = n == MAIN_SYMBOLS / 4 || n == FRAME_SYMBOLS / 4;
     match form {
-        Form::F64 => {
-            if is_half {
-                return 1;
-            }
-            if is_quarter { 3 } else { 0 }
-        }
-        Form::F32 => { if is_half { 2 } else { 0 } }
-        _ => 0,
+        Form::F64 if is_half => Some((b"half", b"cf32_le, which a name that ends in .cf32 says\n")),
+        Form::F32 if is_half => Some((b"half", b"ci16_le, which a name that ends in .ci16 says\n")),
+        Form::F64 if is_quarter => Some((
+            b"a quarter of",
+            b"ci16_le, which a name that ends in .ci16 says\n",
+        )),
+        _ => None,
     }
 }
 
 // Says so where a file has exactly half the bytes of a frame, or a quarter of them in f64: it is probably of another form.
 fn tell(name: &[u8], form: Form, n: usize) {
-    let share = share_of(form, n);
-    if share == 0 {
-        return;
+    if let Some((share, other)) = share_of(form, n) {
+        say_named(b"  $ has exactly ", name);
+        text(share);
+        text(b" the bytes of a frame in the form that it is taken for: its points are probably ");
+        text(other);
     }
-    say_named(b"  $ has exactly ", name);
-    one_of(b"|half|half|a quarter of", share);
-    text(b" the bytes of a frame in the form that it is taken for: its points are probably ");
-    one_of(
-        b"|cf32_le, which a name that ends in .cf32 says\n|ci16_le, which a name that ends in .ci16 says\n|ci16_le, which a name that ends in .ci16 says\n",
-        share,
-    );
 }
 
 // Where an open file is read next; 0 where that is not known.

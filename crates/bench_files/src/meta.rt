@@ -3,7 +3,7 @@ use crate::{files, system};
 use bench_blocks::forms::Form;
 use bench_line::space::LINE_BYTES;
 use bench_line::words::{front, part, same};
-use bench_words::text::{one_of, say_named};
+use bench_words::text::{say_named, text};
 use std::fs::File;
 use std::os::fd::AsRawFd;
 
@@ -12,18 +12,12 @@ const META: usize = 65_536;
 
 // What stands at place i; 0 where there is nothing.
 fn byte_at(s: &[u8], i: usize) -> u8 {
-    if i < s.len() {
-        return s[i];
-    }
-    0
+    s.get(i).copied().unwrap_or(0)
 }
 
 // The bytes from a place on.
 fn from<'a>(s: &'a [u8], at: usize) -> &'a [u8] {
-    if at > s.len() {
-        return &s[0..0];
-    }
-    &s[at..]
+    s.get(at..).unwrap_or(b"")
 }
 
 fn is_space(b: u8) -> bool {
@@ -32,14 +26,7 @@ fn is_space(b: u8) -> bool {
 
 // s past its spaces.
 fn past_spaces<'a>(s: &'a [u8]) -> &'a [u8] {
-    let mut i: usize = 0;
-    while i < s.len() {
-        if !is_space(s[i]) {
-            break;
-        }
-        i = i + 1;
-    }
-    from(s, i)
+    from(s, s.iter().take_while(|b| is_space(**b)).count())
 }
 
 // What follows a colon, with spaces before and after it; nothing where there is no colon.
@@ -54,21 +41,14 @@ fn past_colon<'a>(s: &'a [u8]) -> &'a [u8] {
 // Whether a key, in its quotation marks, and a colon stand at place i.
 fn is_key(s: &[u8], i: usize, key: &[u8]) -> bool {
     let rest = from(s, i);
-    if !same(front(rest, key.len()), key) {
-        return false;
-    }
-    let value = past_colon(from(rest, key.len()));
-    value.len() > 0
+    rest.starts_with(key) && !past_colon(from(rest, key.len())).is_empty()
 }
 
 // The place of a key, or the end.
 fn place_of(s: &[u8], key: &[u8]) -> usize {
-    for i in 0..s.len() {
-        if is_key(s, i, key) {
-            return i;
-        }
-    }
-    s.len()
+    (0..s.len())
+        .position(|i| is_key(s, i, key))
+        .unwrap_or(s.len())
 }
 
 // What follows a key and its colon; nothing where there is no such key.
@@ -79,7 +59,7 @@ fn value_of<'a>(s: &'a [u8], key: &[u8]) -> &'a [u8] {
 
 // Whether a value is missing or the number that one digit is.
 fn is_missing_or(value: &[u8], digit: u8) -> bool {
-    if value.len() == 0 {
+    if value.is_empty() {
         return true;
     }
     byte_at(value, 0) == digit && !is_more(byte_at(value, 1))
@@ -91,56 +71,49 @@ fn is_more(b: u8) -> bool {
 }
 
 // The form of a datatype; says which it is where it is none of the three.
-fn form_of(datatype: &[u8], name: &[u8]) -> Form {
+fn form_of(datatype: &[u8], name: &[u8]) -> Option<Form> {
     if same(datatype, b"cf64_le") {
-        return Form::F64;
+        return Some(Form::F64);
     }
     if same(datatype, b"cf32_le") {
-        return Form::F32;
+        return Some(Form::F32);
     }
     if same(datatype, b"ci16_le") {
-        return Form::I16;
+        return Some(Form::I16);
     }
     say_named(b"refused: $ says core:datatype ", name);
     say_named(b"$; cf64_le, cf32_le and ci16_le are read\n", datatype);
-    Form::Other
+    None
 }
 
-// Why a meta is not taken, by the place of the reason; 0 where nothing speaks against it.
-fn fault_of(s: &[u8]) -> usize {
+// The text after a datatype's first quotation mark; why a meta is not taken, where it is not.
+fn datatype_in<'a>(s: &'a [u8]) -> Result<&'a [u8], &'static [u8]> {
     if s.len() >= META {
-        return 1;
+        return Err(b" is longer than 65,535 bytes\n");
     }
     if !is_missing_or(value_of(s, b"\"core:num_channels\""), b'1') {
-        return 2;
+        return Err(b" says core:num_channels, and one channel is read\n");
     }
     if !is_missing_or(value_of(s, b"\"core:header_bytes\""), b'0') {
-        return 3;
-    }
-    0
-}
-
-// Says why a meta is not taken.
-fn refuse(name: &[u8], fault: usize) -> Form {
-    say_named(b"refused: $", name);
-    one_of(
-        b" has no core:datatype\n| is longer than 65,535 bytes\n| says core:num_channels, and one channel is read\n| says core:header_bytes, and points alone are read\n",
-        fault,
-    );
-    Form::Other
-}
-
-// The form that a meta's text says.
-fn form_in(s: &[u8], name: &[u8]) -> Form {
-    let fault = fault_of(s);
-    if fault > 0 {
-        return refuse(name, fault);
+        return Err(b" says core:header_bytes, and points alone are read\n");
     }
     let value = value_of(s, b"\"core:datatype\"");
     if byte_at(value, 0) != b'"' {
-        return refuse(name, fault);
+        return Err(b" has no core:datatype\n");
     }
-    form_of(part(from(value, 1), b'"', 0), name)
+    Ok(part(from(value, 1), b'"', 0))
+}
+
+// The form that a meta's text says; says why where it is not taken.
+fn form_in(s: &[u8], name: &[u8]) -> Option<Form> {
+    match datatype_in(s) {
+        Ok(datatype) => form_of(datatype, name),
+        Err(fault) => {
+            say_named(b"refused: $", name);
+            text(fault);
+            None
+        }
+    }
 }
 
 // Opens the meta of a capture; says why where it cannot.
@@ -159,14 +132,12 @@ fn open(rt: &HostRuntime, name: &[u8], capture: &[u8]) -> Option<File> {
 }
 
 // Reads a meta.
-fn read(rt: &HostRuntime, name: &[u8], capture: &[u8], space: &mut [u8; META]) -> Form {
-    let Some(file) = open(rt, name, capture) else {
-        return Form::Other;
-    };
+fn read(rt: &HostRuntime, name: &[u8], capture: &[u8], space: &mut [u8; META]) -> Option<Form> {
+    let file = open(rt, name, capture)?;
     let n = io::read_full(file.as_raw_fd(), space);
     let well = n >= META || files::has_ended(&file, name);
     if !well {
-        return Form::Other;
+        return None;
     }
     form_in(front(space, n), name)
 }
@@ -181,7 +152,7 @@ fn name_of(capture: &[u8], name: &mut [u8; LINE_BYTES]) -> usize {
 }
 
 // The form that the meta beside a capture says; says why where there is none.
-pub(crate) fn form_beside(rt: &HostRuntime, capture: &[u8]) -> Form {
+pub(crate) fn form_beside(rt: &HostRuntime, capture: &[u8]) -> Option<Form> {
     let mut space = io::buffer();
     let n = name_of(capture, &mut space);
     let mut meta = io::large_buffer();

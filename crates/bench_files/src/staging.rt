@@ -10,7 +10,7 @@ use std::os::fd::AsRawFd;
 
 // Whether an output's name is free of the endings that files beside it have while it is written; else says so.
 pub fn is_plain(name: &[u8]) -> bool {
-    if !forms::ends(name, b".part") && !forms::ends(name, b".run") {
+    if !name.ends_with(b".part") && !name.ends_with(b".run") {
         return true;
     }
     say_named(
@@ -116,7 +116,7 @@ pub fn write_bytes(rt: &HostRuntime, name: &[u8], bytes: &[u8]) -> bool {
 
 // Whether points are written in the form that a name says; else says so.
 fn is_written_form(name: &[u8]) -> bool {
-    if !forms::ends(name, b".ci16") && !forms::is_sigmf(name) {
+    if !name.ends_with(b".ci16") && !forms::is_sigmf(name) {
         return true;
     }
     say_named(

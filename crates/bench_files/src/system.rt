@@ -55,18 +55,12 @@ fn done(outcome: Outcome<()>) -> i32 {
 
 // The file that was opened, or why none was.
 fn opened(outcome: Outcome<File>) -> Result<File, i32> {
-    match outcome {
-        Ok(file) => Ok(file),
-        Err(e) => Err(number_of(e)),
-    }
+    outcome.map_err(number_of)
 }
 
 // A name as text: the library takes no other.
 pub(crate) fn text_of<'a>(name: &'a [u8]) -> Result<&'a str, i32> {
-    match from_utf8(name) {
-        Ok(text) => Ok(text),
-        Err(_) => Err(EILSEQ),
-    }
+    from_utf8(name).map_err(|_| EILSEQ)
 }
 
 // Opens a file for reading.
@@ -148,18 +142,12 @@ pub fn why_not_written(file: &File) -> i32 {
 pub(crate) fn read_one(file: &File) -> Result<usize, i32> {
     let mut from = file;
     let mut one = [0u8; 1];
-    match from.read(&mut one) {
-        Ok(n) => Ok(n),
-        Err(e) => Err(number_of(e)),
-    }
+    from.read(&mut one).map_err(number_of)
 }
 
 // Whether an open file has one more byte, which is then read.
 pub fn has_more(file: &File) -> bool {
-    match read_one(file) {
-        Ok(n) => n > 0,
-        Err(_) => false,
-    }
+    matches!(read_one(file), Ok(1..))
 }
 
 fn seek(file: &File, to: SeekFrom) -> Option<usize> {
@@ -182,8 +170,5 @@ pub fn to_end(file: &File) -> Option<usize> {
 
 // Moves an open file to its first byte, and answers whether it stands there.
 pub fn to_start(file: &File) -> bool {
-    match seek(file, SeekFrom::Start(0)) {
-        Some(n) => n == 0,
-        None => false,
-    }
+    seek(file, SeekFrom::Start(0)) == Some(0)
 }

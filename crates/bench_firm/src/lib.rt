@@ -14,17 +14,26 @@ use isdbs_core::slots::Run;
 use isdbs_core::tmcc::Table;
 use levels::{Levels, level_at, levels_of, lower, middle_of, slot_of, worst_of};
 
-// What a slot lacks: nothing, level, the level of the others, strength.
-pub const NOTHING: u32 = 0;
+// What a slot lacks to be firm: level, the level of the others, strength.
+#[derive(Clone, Copy, PartialEq, Eq)]
+pub enum Lack {
+    Noisy,
+    Disturbed,
+    Weak,
+}
 
-pub const NOISY: u32 = 1;
+// What a slot lacks to be firm, and the strength that it needs for that: none where no strength would do because of its level, or there is no slot.
+#[derive(Clone, Copy)]
+pub struct Firmness {
+    pub lack: Option<Lack>,
+    pub need: Option<u32>,
+}
 
-pub const DISTURBED: u32 = 2;
-
-pub const WEAK: u32 = 3;
-
-// In place of the strength that a slot needs, where none would do because of its level, or there is no slot.
-pub const NO_NEED: u32 = 1_000_000;
+// Of no slot.
+pub const NO_SLOT: Firmness = Firmness {
+    lack: None,
+    need: None,
+};
 
 // A level is in tenths of a decibel, with 300 more.
 const ZERO: u32 = 300;
@@ -57,21 +66,6 @@ const END_LEAST: u32 = 45;
 
 const END_TENTHS: u32 = 36;
 
-// a less b, 0 where that is below it.
-fn less(a: u32, b: u32) -> u32 {
-    if a > b { a - b } else { 0 }
-}
-
-// Both together, where each is below a million.
-fn plus(a: u32, b: u32) -> u32 {
-    if a < 1_000_000 {
-        if b < 1_000_000 {
-            return a + b;
-        }
-    }
-    2_000_000
-}
-
 // The level at which bytes begin to fail under white noise.
 fn fails_at(c: Combination) -> u32 {
     match c {
@@ -102,12 +96,8 @@ fn least(c: Combination) -> u32 {
 
 // The strength that the middle level asks for, where bytes fail at `fails`.
 fn asked(c: Combination, middle: u32, fails: u32) -> u32 {
-    let x = less(middle, plus(fails, 10));
-    let low = least(c);
-    if x < low {
-        return low;
-    }
-    if x > MOST { MOST } else { x }
+    let x = middle.saturating_sub(fails.saturating_add(10));
+    x.max(least(c)).min(MOST)
 }
 
 // The level from which on the last slot needs less.
@@ -121,7 +111,7 @@ fn falls_at(c: Combination) -> u32 {
 
 // The strength that the middle level asks for in the last slot.
 fn asked_at_end(c: Combination, middle: u32) -> u32 {
-    let x = less(middle, falls_at(c));
+    let x = middle.saturating_sub(falls_at(c));
     if x > END_TENTHS {
         return END_LEAST;
     }
@@ -142,30 +132,28 @@ fn most_short(is_last: bool) -> u32 {
 }
 
 // The strength that is asked for in any case.
-fn in_any_case(middle: u32, beside: u32) -> u32 {
-    if plus(beside, LOWER) < middle {
-        return HIGH;
+fn in_any_case(middle: u32, beside: Option<u32>) -> u32 {
+    match beside {
+        Some(level) if level.saturating_add(LOWER) < middle => HIGH,
+        _ => 0,
     }
-    0
 }
 
 // What the frame around a slot says: the middle level, the worst of its own, the worst beside it; and whether it is the last.
 #[derive(Clone, Copy)]
 struct Around {
     middle: u32,
-    worst: u32,
-    beside: u32,
+    worst: Option<u32>,
+    beside: Option<u32>,
     is_last: bool,
-}
-
-// The greater of two.
-fn greater(a: u32, b: u32) -> u32 {
-    if a > b { a } else { b }
 }
 
 // By how much the level of a slot is short of the middle one.
 fn short_of(c: Combination, a: Around) -> u32 {
-    less(a.middle, plus(a.worst, usual(c)))
+    match a.worst {
+        Some(level) => a.middle.saturating_sub(level.saturating_add(usual(c))),
+        None => 0,
+    }
 }
 
 // The strength that the middle level asks for.
@@ -178,48 +166,42 @@ fn by_level(c: Combination, a: Around) -> u32 {
 
 // The strength that a slot needs whose level is good enough.
 fn strength_for(c: Combination, a: Around) -> u32 {
-    let need = plus(by_level(c, a), made_up(short_of(c, a)));
-    greater(need, in_any_case(a.middle, a.beside))
+    let need = by_level(c, a).saturating_add(made_up(short_of(c, a)));
+    need.max(in_any_case(a.middle, a.beside))
 }
 
 // What the level of a slot lacks.
-fn level_lack(c: Combination, a: Around) -> u32 {
-    if a.worst < plus(fails_at(c), ABOVE) {
-        return NOISY;
+fn level_lack(c: Combination, a: Around) -> Option<Lack> {
+    match a.worst {
+        Some(level) if level < fails_at(c).saturating_add(ABOVE) => Some(Lack::Noisy),
+        _ if short_of(c, a) > most_short(a.is_last) => Some(Lack::Disturbed),
+        _ => None,
     }
-    if short_of(c, a) > most_short(a.is_last) {
-        return DISTURBED;
-    }
-    NOTHING
 }
 
-// The strength that a slot needs, and what a slot of its strength lacks.
-#[derive(Clone, Copy)]
-struct Found {
-    need: u32,
-    lack: u32,
-}
-
-fn firmness(c: Combination, a: Around, strength: u32) -> Found {
+fn firmness_by(c: Combination, a: Around, strength: u32) -> Firmness {
     let lack = level_lack(c, a);
-    if lack != NOTHING {
-        return Found {
-            need: NO_NEED,
-            lack,
-        };
+    if lack.is_some() {
+        return Firmness { lack, need: None };
     }
     let need = strength_for(c, a);
-    if strength < need {
-        return Found { need, lack: WEAK };
+    Firmness {
+        lack: if strength < need {
+            Some(Lack::Weak)
+        } else {
+            None
+        },
+        need: Some(need),
     }
-    Found { need, lack }
 }
 
-fn before(levels: &Levels, j: usize) -> u32 {
+// The level of the slot before slot j, where there is one.
+fn before(levels: &Levels, j: usize) -> Option<u32> {
     if j == 0 {
-        return level_at(levels, SLOTS);
+        None
+    } else {
+        level_at(levels, j - 1)
     }
-    level_at(levels, j - 1)
 }
 
 // The slots of the frame in which valid slot i of a run lies, without the last.
@@ -262,15 +244,6 @@ fn span_in(c: Combination, i: usize) -> Span
     }
 }
 
-fn plus_slots(a: usize, b: usize) -> usize {
-    if a < 65_536 {
-        if b < 65_536 {
-            return a + b;
-        }
-    }
-    SLOTS
-}
-
 fn span_of(r: Run, i: usize) -> Span {
     let first = slot_of(r.symbol_start);
     let c = r.combination;
@@ -282,8 +255,8 @@ fn span_of(r: Run, i: usize) -> Span {
     }
     let own = span_in(c, i);
     Span {
-        from: plus_slots(first, own.from),
-        to: plus_slots(first, own.to),
+        from: first.saturating_add(own.from),
+        to: first.saturating_add(own.to),
     }
 }
 
@@ -295,7 +268,7 @@ fn firmness_in(
     levels: &Levels,
     middle: u32,
     strength: u32,
-) -> Found {
+) -> Firmness {
     let span = span_of(r, i);
     let around = Around {
         middle,
@@ -304,77 +277,37 @@ fn firmness_in(
         is_last,
     };
     let c = r.combination;
-    firmness(c, around, strength)
+    firmness_by(c, around, strength)
 }
 
-// The run of valid slot k and its number in it, of the runs from a on that have it.
+// The run of a valid slot, and the slot's number in it.
 #[derive(Clone, Copy)]
-struct Place {
-    run: usize,
-    i: usize,
+pub struct Place {
+    pub run: Run,
+    pub i: usize,
 }
 
-fn late_place(a: Run, k: usize) -> Place {
-    if k < a.valid_slots {
-        return Place { run: 2, i: k };
-    }
-    Place {
-        run: 3,
-        i: k - a.valid_slots,
-    }
-}
-
-fn place_of(rs: [Run; 4], k: usize) -> Place {
-    let a = rs[0];
-    if k < a.valid_slots {
-        return Place { run: 0, i: k };
-    }
-    let i = k - a.valid_slots;
-    let b = rs[1];
-    if i < b.valid_slots {
-        return Place { run: 1, i };
-    }
-    late_place(rs[2], i - b.valid_slots)
-}
-
-// What each of the `valid` valid slots of these strengths lacks, NOTHING past them, and the strength that each needs.
-pub fn lacks(
-    t: Table,
-    valid: usize,
-    sums: &Sums,
-    strong: &[u32; SLOTS],
-    out: &mut [u32; SLOTS],
-    needs: &mut [u32; SLOTS],
-) {
-    let all = slots::runs(t);
-    let rs = all.runs;
-    let levels = levels_of(rs, all.count, sums);
-    let middle = middle_of(&levels);
-    for k in 0..SLOTS {
-        let found = firmness_at(rs, valid, k, &levels, middle, strong[k]);
-        out[k] = found.lack;
-        needs[k] = found.need;
-    }
-}
-
-fn firmness_at(
-    rs: [Run; 4],
-    valid: usize,
-    k: usize,
-    levels: &Levels,
-    middle: u32,
-    strength: u32,
-) -> Found {
-    if k < valid {
-        let p = place_of(rs, k);
-        let n = p.run;
-        if n < 4 {
-            let r = rs[n];
-            return firmness_in(r, p.i, k == valid - 1, levels, middle, strength);
+// Where valid slot k lies; past the other runs in the last one.
+pub fn place_of(rs: [Run; 4], k: usize) -> Place {
+    let mut i = k;
+    for &run in &rs[..3] {
+        if i < run.valid_slots {
+            return Place { run, i };
         }
+        i -= run.valid_slots;
     }
-    Found {
-        need: NO_NEED,
-        lack: NOTHING,
+    Place { run: rs[3], i }
+}
+
+// What each of the `valid` valid slots of these strengths lacks, and the strength that each needs.
+pub fn lacks(t: Table, valid: usize, sums: &Sums, strong: &[u32; SLOTS]) -> [Firmness; SLOTS] {
+    let all = slots::runs(t).unwrap_or(slots::NO_RUNS);
+    let levels = levels_of(all.runs, all.count, sums);
+    let middle = middle_of(&levels);
+    let mut found = [NO_SLOT; SLOTS];
+    for k in 0..valid.min(SLOTS) {
+        let p = place_of(all.runs, k);
+        found[k] = firmness_in(p.run, p.i, k == valid - 1, &levels, middle, strong[k]);
     }
+    found
 }

@@ -4,13 +4,13 @@ use crate::words;
 use crate::words::misused;
 use bench_files::files;
 use bench_header::minus;
-use bench_line::words::{Number, digits, part, parts};
+use bench_line::words::{digits, part, parts};
 use bench_words::report;
 use bench_words::text::{file, one_of, say, text};
 use header_align::align_frame;
-use header_find::{HeaderAnswer, header_at};
+use header_find::header_at;
 use isdbs_frame::FRAME_SYMBOLS;
-use refusal::Answer;
+use refusal::Refusal;
 use std::fs::File;
 
 // How a reading of so many points went: all were there, fewer, or the capture could not be read, which has been said.
@@ -90,7 +90,7 @@ fn hold(
 ) -> bool {
     let read = read_frame(rt, opened, name, place, re, im);
     if read == FEWER {
-        report::refused(Answer::Symbols);
+        report::refused(Refusal::Symbols);
         say(b"there are no 39,936 points from point $ on\n", &[place]);
     }
     read == ALL
@@ -98,10 +98,9 @@ fn hold(
 
 // Says what the header says, and answers whether it tells a turn.
 fn say_header(place: usize, re: &[f64; FRAME_SYMBOLS], im: &[f64; FRAME_SYMBOLS]) -> bool {
-    let answer = header_at(re, im, 0);
-    match answer {
-        HeaderAnswer::Refused(_) => false,
-        HeaderAnswer::Read(h) => {
+    match header_at(re, im, 0) {
+        Err(_) => false,
+        Ok(h) => {
             let is_told = h.turn <= 7;
             say(b"frame at point $", &[place]);
             words::header(h, re, im, 0);
@@ -142,11 +141,10 @@ fn put(
         write(rt, part(line, 0, 3), is_told, re, im);
         return;
     }
-    let answer = align_frame(re, im, 0, out_re, out_im);
-    let Answer::Accepted = answer else {
-        report::refuse(answer);
+    if let Err(row) = align_frame(re, im, 0, out_re, out_im) {
+        report::refuse(row);
         return;
-    };
+    }
     text(b"aligned by the mean of its header\n");
     write(rt, part(line, 0, 3), is_told, out_re, out_im);
 }
@@ -186,10 +184,10 @@ pub(crate) fn cut(
 ) {
     let word = part(line, 0, 2);
     match digits(word) {
-        Number::Not => misused(
+        None => misused(
             b"PLACE is a number of up to seven digits without commas, not",
             word,
         ),
-        Number::Is(n) => cut_at(rt, line, n as usize, re, im, out_re, out_im),
+        Some(n) => cut_at(rt, line, n as usize, re, im, out_re, out_im),
     }
 }

@@ -2,12 +2,12 @@
 use crate::{PIECE, words};
 use bench_files::files;
 use bench_header::{minus, plus};
-use bench_line::words::front_parts;
+use bench_line::words::front;
 use bench_words::report;
-use bench_words::text::{file, one_of, say, text};
-use header_find::{FrameAnswer, Header, find_frame};
+use bench_words::text::{file, say, text};
+use header_find::{Header, find_frame};
 use isdbs_frame::FRAME_SYMBOLS;
-use refusal::Answer;
+use refusal::Refusal;
 use std::fs::File;
 
 // The frames found: how many, how many of them begin within the one before, and the place after the last.
@@ -27,10 +27,9 @@ pub struct Held {
     pub over: usize,
 }
 
-// Whether a frame was found among the points that are held, at which of them, and what its header says.
+// A frame that was found among the points that are held: at which of them, and what its header says.
 #[derive(Clone, Copy)]
 pub struct Seen {
-    pub is_frame: bool,
     pub at: usize,
     pub header: Header,
 }
@@ -52,19 +51,10 @@ pub fn none_held() -> Held {
     }
 }
 
-// Puts what stands at place j to place i, where both are.
-fn copy_down(s: &mut [f64], i: usize, j: usize) {
-    if i < s.len() {
-        if j < s.len() {
-            s[i] = s[j];
-        }
-    }
-}
-
 // Moves the points from a place on to the front.
 fn move_down(s: &mut [f64; PIECE], by: usize) {
-    for i in 0..PIECE {
-        copy_down(s, i, plus(i, by));
+    if by < PIECE {
+        s.copy_within(by.., 0);
     }
 }
 
@@ -105,25 +95,14 @@ pub fn read_on(
 }
 
 // Looks for a frame among the points that are held.
-pub fn look_for(held: Held, re: &[f64; PIECE], im: &[f64; PIECE]) -> Seen {
+pub fn look_for(held: Held, re: &[f64; PIECE], im: &[f64; PIECE]) -> Option<Seen> {
     let count = held.count;
-    let answer = find_frame(front_parts(re, count), front_parts(im, count), 0);
-    match answer {
-        FrameAnswer::Found(p, h) => Seen {
-            is_frame: h.turn <= 7,
-            at: p,
-            header: h,
-        },
-        FrameAnswer::Refused(_) => Seen {
-            is_frame: false,
-            at: 0,
-            header: Header {
-                first: false,
-                turn: 8,
-                re: 40,
-                im: 40,
-            },
-        },
+    match find_frame(front(re, count), front(im, count), 0) {
+        Ok(found) if found.header.turn <= 7 => Some(Seen {
+            at: found.place,
+            header: found.header,
+        }),
+        _ => None,
     }
 }
 
@@ -171,15 +150,14 @@ fn look(run: Run, re: &mut [f64; PIECE], im: &mut [f64; PIECE]) -> Run {
     let held = run.held;
     let found = run.found;
     let count = held.count;
-    let s = look_for(held, re, im);
-    if !s.is_frame {
+    let Some(s) = look_for(held, re, im) else {
         let rest = forget(held, looked_at(held), re, im);
         return Run { held: rest, found };
-    }
+    };
     let h = s.header;
     let place = plus(held.start, s.at);
     say(b"frame at point $", &[place]);
-    words::header(h, front_parts(re, count), front_parts(im, count), s.at);
+    words::header(h, front(re, count), front(im, count), s.at);
     let more = next_found(found, place);
     let rest = forget(held, plus(s.at, 1), re, im);
     Run {
@@ -224,25 +202,20 @@ fn all(
     run
 }
 
-// Why the frames found are doubtful: 1 where there is none, 2 where one begins within another; else 0.
-fn doubt(found: Found) -> usize {
-    if found.frames == 0 {
-        return 1;
-    }
-    if found.within > 0 { 2 } else { 0 }
-}
-
 // The last line, by the points of the capture.
 fn verdict(points: usize, found: Found) {
     if points < FRAME_SYMBOLS {
-        report::refused(Answer::Symbols);
+        report::refused(Refusal::Symbols);
         text(b"a whole frame has 39,936 points\n");
         return;
     }
-    one_of(
-        b"ok\n|doubtful: no frame was found\n|doubtful: a frame begins within another\n",
-        doubt(found),
-    );
+    text(if found.frames == 0 {
+        b"doubtful: no frame was found\n"
+    } else if found.within > 0 {
+        b"doubtful: a frame begins within another\n"
+    } else {
+        b"ok\n"
+    });
 }
 
 // How many points of a capture follow its last frame.

@@ -2,10 +2,10 @@
 use crate::{BURST_POINTS, points};
 use bench_files::files;
 use bench_files::files::Got;
-use bench_line::words::{front_parts, part};
+use bench_line::words::{front, part};
 use bench_words::text::{file, text};
 use isdbs_frame::{FRAME_SYMBOLS, HEADER_SYMBOLS, MAIN_SYMBOLS};
-use refusal::Answer;
+use refusal::Refusal;
 
 // Reads the points of the input in word i, where the output may be written.
 fn read_input(
@@ -23,33 +23,6 @@ fn read_input(
     points::read(rt, kind, opened, input, re, im)
 }
 
-fn read_header(
-    rt: &HostRuntime,
-    line: &[u8],
-    re: &mut [f64; HEADER_SYMBOLS],
-    im: &mut [f64; HEADER_SYMBOLS],
-) -> Got {
-    read_input(rt, b"header", line, 1, re, im)
-}
-
-fn read_main(
-    rt: &HostRuntime,
-    line: &[u8],
-    re: &mut [f64; MAIN_SYMBOLS],
-    im: &mut [f64; MAIN_SYMBOLS],
-) -> Got {
-    read_input(rt, b"main", line, 2, re, im)
-}
-
-fn read_burst(
-    rt: &HostRuntime,
-    line: &[u8],
-    re: &mut [f64; BURST_POINTS],
-    im: &mut [f64; BURST_POINTS],
-) -> Got {
-    read_input(rt, b"burst", line, 3, re, im)
-}
-
 // Lays the frame from as many points as were read.
 fn lay_read(
     h: usize,
@@ -63,34 +36,21 @@ fn lay_read(
     burst_im: &[f64; BURST_POINTS],
     re: &mut [f64; FRAME_SYMBOLS],
     im: &mut [f64; FRAME_SYMBOLS],
-) -> Answer {
+) -> Result<(), Refusal> {
     full_frame::lay(
-        front_parts(header_re, h),
-        front_parts(header_im, h),
-        front_parts(main_re, m),
-        front_parts(main_im, m),
-        front_parts(burst_re, b),
-        front_parts(burst_im, b),
+        front(header_re, h),
+        front(header_im, h),
+        front(main_re, m),
+        front(main_im, m),
+        front(burst_re, b),
+        front(burst_im, b),
         re,
         im,
     )
 }
 
-// Writes the frame where it was laid; else says why it was not.
-fn keep(
-    rt: &HostRuntime,
-    answer: Answer,
-    output: &[u8],
-    re: &[f64; FRAME_SYMBOLS],
-    im: &[f64; FRAME_SYMBOLS],
-) {
-    let Answer::Accepted = answer else {
-        points::refuse(
-            answer,
-            b"a full frame takes 192 header, 38,976 main and 768 burst points",
-        );
-        return;
-    };
+// Writes the frame that was laid.
+fn keep(rt: &HostRuntime, output: &[u8], re: &[f64; FRAME_SYMBOLS], im: &[f64; FRAME_SYMBOLS]) {
     text(b"writing the full frame\n");
     if files::write_points(rt, output, re, im) {
         file(b"full frame", output, FRAME_SYMBOLS, b" points\nok\n");
@@ -109,23 +69,28 @@ fn lay_over(
     re: &mut [f64; FRAME_SYMBOLS],
     im: &mut [f64; FRAME_SYMBOLS],
 ) {
-    let h = read_header(rt, line, header_re, header_im);
+    let h = read_input(rt, b"header", line, 1, header_re, header_im);
     if !h.well {
         return;
     }
-    let m = read_main(rt, line, main_re, main_im);
+    let m = read_input(rt, b"main", line, 2, main_re, main_im);
     if !m.well {
         return;
     }
-    let b = read_burst(rt, line, burst_re, burst_im);
+    let b = read_input(rt, b"burst", line, 3, burst_re, burst_im);
     if !b.well {
         return;
     }
-    let answer = lay_read(
+    match lay_read(
         h.count, m.count, b.count, header_re, header_im, main_re, main_im, burst_re, burst_im, re,
         im,
-    );
-    keep(rt, answer, part(line, 0, 4), re, im);
+    ) {
+        Ok(()) => keep(rt, part(line, 0, 4), re, im),
+        Err(row) => points::refuse(
+            row,
+            b"a full frame takes 192 header, 38,976 main and 768 burst points",
+        ),
+    }
 }
 
 // The command on space of its own.

@@ -3,7 +3,7 @@ use bench_files::files;
 use bench_files::files::Got;
 use bench_words::report;
 use bench_words::text::{file, say, text};
-use refusal::Answer;
+use refusal::Refusal;
 use std::fs::File;
 
 // How many points a file has, and the bytes of one more.
@@ -33,13 +33,13 @@ pub(crate) fn read(
 }
 
 // The last line of a call that was turned back for want of points.
-pub(crate) fn refuse(answer: Answer, why: &[u8]) {
-    match answer {
-        Answer::Symbols => {
-            report::refused(answer);
+pub(crate) fn refuse(row: Refusal, why: &[u8]) {
+    match row {
+        Refusal::Symbols => {
+            report::refused(row);
             text(why);
             text(b"\n");
         }
-        _ => report::refuse(answer),
+        _ => report::refuse(row),
     }
 }

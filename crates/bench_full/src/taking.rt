@@ -2,10 +2,10 @@
 use crate::{BURST_POINTS, points};
 use bench_files::files;
 use bench_files::files::Got;
-use bench_line::words::{front_parts, part};
+use bench_line::words::{front, part};
 use bench_words::text::{file, text};
 use isdbs_frame::{FRAME_SYMBOLS, HEADER_SYMBOLS, MAIN_SYMBOLS};
-use refusal::Answer;
+use refusal::Refusal;
 use std::fs::File;
 
 // Whether three outputs can be staged side by side; else says why not.
@@ -96,10 +96,10 @@ fn take(
     main_im: &mut [f64; MAIN_SYMBOLS],
     burst_re: &mut [f64; BURST_POINTS],
     burst_im: &mut [f64; BURST_POINTS],
-) -> Answer {
+) -> Result<(), Refusal> {
     full_frame::take_apart(
-        front_parts(re, n),
-        front_parts(im, n),
+        front(re, n),
+        front(im, n),
         header_re,
         header_im,
         main_re,
@@ -107,16 +107,6 @@ fn take(
         burst_re,
         burst_im,
     )
-}
-
-// Whether the frame was taken apart; else says why not.
-fn is_taken(answer: Answer) -> bool {
-    let Answer::Accepted = answer else {
-        points::refuse(answer, b"a full frame has 39,936 points");
-        return false;
-    };
-    text(b"writing header, main and burst points\n");
-    true
 }
 
 // Reads the full frame, where its three outputs may be written.
@@ -155,15 +145,17 @@ fn take_over(
     if !got.well {
         return;
     }
-    let answer = take(
+    if let Err(row) = take(
         got.count, re, im, header_re, header_im, main_re, main_im, burst_re, burst_im,
-    );
-    if is_taken(answer) {
-        if stage(
-            rt, line, header_re, header_im, main_re, main_im, burst_re, burst_im,
-        ) {
-            keep_all(rt, line);
-        }
+    ) {
+        points::refuse(row, b"a full frame has 39,936 points");
+        return;
+    }
+    text(b"writing header, main and burst points\n");
+    if stage(
+        rt, line, header_re, header_im, main_re, main_im, burst_re, burst_im,
+    ) {
+        keep_all(rt, line);
     }
 }
 

@@ -1,8 +1,7 @@
 // The signs that agree. A known symbol agrees where its point, turned back by the turn that the header tells, has a real part of the sign that was sent.
-use header_find::{Header, HeaderAnswer, header_at};
+use header_find::{Header, header_at};
 use isdbs_frame::{
-    CODED_TAIL_BITS, W1_CODED_TAIL, W1_TAIL_AT, W2_CODED_TAIL, W3_CODED_TAIL, W23_TAIL_AT,
-    tail_bits,
+    W1_CODED_TAIL, W1_TAIL_AT, W2_CODED_TAIL, W3_CODED_TAIL, W23_TAIL_AT, tail_bits,
 };
 
 // First frame of a superframe or another one; the turn in eighths, 8 where none is told; whether the frame is told and not turned; how many of W1's 20 known
@@ -26,7 +25,7 @@ pub fn plus(a: usize, b: usize) -> usize {
 
 // a - b, or 0.
 pub fn minus(a: usize, b: usize) -> usize {
-    if b <= a { a - b } else { 0 }
+    a.saturating_sub(b)
 }
 
 // The real part of a point turned back by so many eighths, times a number above 0. Where no turn is told, the point is taken as it is.
@@ -45,31 +44,24 @@ fn turned_back(x: f64, y: f64, turn: u8) -> f64 {
 
 // The same of the point at a place; 0 where there is none.
 fn part_at(re: &[f64], im: &[f64], at: usize, turn: u8) -> f64 {
-    if at < re.len() {
-        if at < im.len() {
-            return turned_back(re[at], im[at], turn);
-        }
+    match (re.get(at), im.get(at)) {
+        (Some(x), Some(y)) => turned_back(*x, *y, turn),
+        _ => 0.0f64,
     }
-    0.0f64
 }
 
-// 1 where a part has the sign of a bit: above 0 for bit 0, below 0 for bit 1. A NaN has none.
-fn agrees(bit: u8, x: f64) -> usize {
-    if bit == 0 {
-        return if x > 0.0f64 { 1 } else { 0 };
-    }
-    if x < 0.0f64 { 1 } else { 0 }
+// Whether a part has the sign of a bit: above 0 for bit 0, below 0 for bit 1. A NaN has none.
+fn agrees(bit: u8, x: f64) -> bool {
+    if bit == 0 { x > 0.0f64 } else { x < 0.0f64 }
 }
 
 // How many of the 20 symbols from a place on agree with a tail.
 fn agreeing(tail: u32, re: &[f64], im: &[f64], at: usize, turn: u8) -> usize {
-    let bits = tail_bits(tail);
-    let mut sum: usize = 0;
-    for i in 0..CODED_TAIL_BITS {
-        let x = part_at(re, im, plus(at, i), turn);
-        sum = plus(sum, agrees(bits[i], x));
-    }
-    sum
+    tail_bits(tail)
+        .iter()
+        .enumerate()
+        .filter(|(i, bit)| agrees(**bit, part_at(re, im, plus(at, *i), turn)))
+        .count()
 }
 
 fn last_tail(first: bool) -> u32 {
@@ -85,17 +77,16 @@ pub fn agreed(h: Header, re: &[f64], im: &[f64], at: usize) -> Told {
         first: h.first,
         turn: h.turn,
         fits: h.turn == 0,
-        w1: w1,
-        last: last,
+        w1,
+        last,
     }
 }
 
 // What the header of the frame says that begins at a place; that none is told where no frame of 39,936 points fits there.
 pub fn told_at(re: &[f64], im: &[f64], at: usize) -> Told {
-    let answer = header_at(re, im, at);
-    match answer {
-        HeaderAnswer::Read(h) => agreed(h, re, im, at),
-        HeaderAnswer::Refused(_) => Told {
+    match header_at(re, im, at) {
+        Ok(h) => agreed(h, re, im, at),
+        Err(_) => Told {
             first: false,
             turn: 8,
             fits: false,

@@ -1,29 +1,29 @@
 // What is said of a header.
 use crate::counting::Told;
-use bench_words::text::{one_of, say, text};
-
-// The place of a turn in eighths among its words.
-fn turn_place(turn: u8) -> usize {
-    if turn > 7 {
-        return 8;
-    }
-    turn as usize
-}
+use bench_words::text::{say, text};
 
 // The turn in eighths, in degrees.
 pub fn say_turn(turn: u8) {
-    one_of(
-        b"not turned|turned by 45 degrees|turned by 90 degrees|turned by 135 degrees|turned by 180 degrees|turned by 225 degrees|turned by 270 degrees|turned by 315 degrees|no header",
-        turn_place(turn),
-    );
+    text(match turn {
+        0 => b"not turned",
+        1 => b"turned by 45 degrees",
+        2 => b"turned by 90 degrees",
+        3 => b"turned by 135 degrees",
+        4 => b"turned by 180 degrees",
+        5 => b"turned by 225 degrees",
+        6 => b"turned by 270 degrees",
+        7 => b"turned by 315 degrees",
+        _ => b"no header",
+    });
 }
 
 // Which frame of a superframe it is.
 fn say_first(first: bool) {
-    one_of(
-        b"another frame of a superframe|first frame of a superframe",
-        first as usize,
-    );
+    text(if first {
+        b"first frame of a superframe"
+    } else {
+        b"another frame of a superframe"
+    });
 }
 
 // The end of the line: kind and turn, or that there is no header.

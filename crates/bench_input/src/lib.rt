@@ -15,49 +15,20 @@ use bench_words::text::{file, say, text};
 use full_frame::take_apart;
 use isdbs_core::frame::MAIN_SYMBOLS;
 use isdbs_frame::{FRAME_SYMBOLS, HEADER_SYMBOLS};
-use refusal::Answer;
+use refusal::Refusal;
 use std::fs::File;
 use std::os::fd::AsRawFd;
 
 // The points of a frame's bursts.
 const BURST_POINTS: usize = 768;
 
-// Whether main points are held and how they are to be read; how many, and how many bytes of one more point there are; and the file that they are from.
+// Main points that are held, and how they are to be read: how many, and how many bytes of one more point there are; and the file that they are from.
 #[derive(Clone, Copy)]
 pub struct Held {
-    pub is_good: bool,
     pub count: usize,
     pub over: usize,
     pub input: Input,
     pub reading: Reading,
-}
-
-fn no_input() -> Input {
-    Input {
-        bytes: 0,
-        checksum: 0,
-        points: 0,
-        turn: NO_HEADER,
-        w1: 0,
-        last: 0,
-    }
-}
-
-// Points of a file, and how they are to be read.
-fn holding(is_good: bool, count: usize, over: usize, input: Input, reading: Reading) -> Held {
-    Held {
-        is_good,
-        count,
-        over,
-        input,
-        reading,
-    }
-}
-
-// No points.
-fn nothing(s: Reading) -> Held {
-    let i = no_input();
-    holding(false, 0, 0, i, s)
 }
 
 // Opens the frame, where the outputs may be written; else says why not.
@@ -69,26 +40,16 @@ fn open(rt: &HostRuntime, line: &[u8]) -> Option<File> {
     None
 }
 
-fn no_sum(is_whole: bool) -> Summed {
-    Summed {
-        bytes: 0,
-        register: BEGUN,
-        is_whole,
-    }
-}
-
-// The bytes of an open file and their checksum, where a report asks for them; the file then stands at its first byte again.
-fn sum_for(line: &[u8], opened: &File) -> Summed {
-    if !has(line, b"report") {
-        if !has(line, b"json") {
-            return no_sum(true);
-        }
+// The bytes of an open file and their checksum, where a report asks for them; the file then stands at its first byte again. None where it cannot.
+fn sum_for(line: &[u8], opened: &File) -> Option<Summed> {
+    if !has(line, b"report") && !has(line, b"json") {
+        return Some(Summed {
+            bytes: 0,
+            register: BEGUN,
+        });
     }
     let sum = sum_of(opened.as_raw_fd());
-    if system::to_start(opened) {
-        return sum;
-    }
-    no_sum(false)
+    if system::to_start(opened) { sum } else { None }
 }
 
 // Whether the points are those of a full frame.
@@ -97,11 +58,6 @@ fn is_full(line: &[u8], points: usize) -> bool {
         return false;
     }
     has(line, b"full") || points == FRAME_SYMBOLS
-}
-
-// a less b, 0 where that is below it.
-fn less(a: usize, b: usize) -> usize {
-    if a > b { a - b } else { 0 }
 }
 
 // More bytes than a file has: of a pipe it is not known how many are left.
@@ -115,22 +71,7 @@ fn bytes_left(opened: &File) -> usize {
         }
         return 0;
     };
-    less(system::to_end(opened).unwrap_or(0), here)
-}
-
-// Part k.
-fn part_at(from: &[f64; FRAME_SYMBOLS], k: usize) -> f64 {
-    if k < FRAME_SYMBOLS {
-        return from[k];
-    }
-    0.0f64
-}
-
-// Copies the first parts.
-fn copy(from: &[f64; FRAME_SYMBOLS], to: &mut [f64; MAIN_SYMBOLS]) {
-    for k in 0..MAIN_SYMBOLS {
-        to[k] = part_at(from, k);
-    }
+    system::to_end(opened).unwrap_or(0).saturating_sub(here)
 }
 
 // The main points of a full frame, over lent space for the others.
@@ -143,7 +84,7 @@ fn take_over(
     header_im: &mut [f64; HEADER_SYMBOLS],
     burst_re: &mut [f64; BURST_POINTS],
     burst_im: &mut [f64; BURST_POINTS],
-) -> Answer {
+) -> Result<(), Refusal> {
     take_apart(
         full_re, full_im, header_re, header_im, re, im, burst_re, burst_im,
     )
@@ -155,7 +96,7 @@ fn take_main(
     full_im: &[f64; FRAME_SYMBOLS],
     re: &mut [f64; MAIN_SYMBOLS],
     im: &mut [f64; MAIN_SYMBOLS],
-) -> Answer {
+) -> Result<(), Refusal> {
     let mut header_re = [0.0f64; HEADER_SYMBOLS];
     let mut header_im = [0.0f64; HEADER_SYMBOLS];
     let mut burst_re = [0.0f64; BURST_POINTS];
@@ -174,10 +115,7 @@ fn take_main(
 
 // How many of the points are main points.
 fn main_points(points: usize) -> usize {
-    if points < MAIN_SYMBOLS {
-        return points;
-    }
-    MAIN_SYMBOLS
+    points.min(MAIN_SYMBOLS)
 }
 
 // The input of so many points.
@@ -206,20 +144,24 @@ fn hold_full(
     full_im: &[f64; FRAME_SYMBOLS],
     re: &mut [f64; MAIN_SYMBOLS],
     im: &mut [f64; MAIN_SYMBOLS],
-) -> Held {
+) -> Option<Held> {
     let h = told_at(full_re, full_im, 0);
     say_header(h);
     if !kind_is_header(line) {
         say_kind(h, s.first);
     }
-    let answer = take_main(full_re, full_im, re, im);
-    let Answer::Accepted = answer else {
-        report::refuse(answer);
-        return nothing(s);
-    };
+    if let Err(row) = take_main(full_re, full_im, re, im) {
+        report::refuse(row);
+        return None;
+    }
     let i = input_of(sum, FRAME_SYMBOLS, h.turn, h.w1, h.last);
     let r = of_kind(s, kind_by(h, s.first));
-    holding(true, MAIN_SYMBOLS, 0, i, r)
+    Some(Held {
+        count: MAIN_SYMBOLS,
+        over: 0,
+        input: i,
+        reading: r,
+    })
 }
 
 // Main points: nothing tells their kind.
@@ -232,16 +174,21 @@ fn hold_main(
     full_im: &[f64; FRAME_SYMBOLS],
     re: &mut [f64; MAIN_SYMBOLS],
     im: &mut [f64; MAIN_SYMBOLS],
-) -> Held {
+) -> Option<Held> {
     if kind_is_header(line) {
         text(b"failed: KIND is header, and these are main points without one\n");
-        return nothing(s);
+        return None;
     }
-    copy(full_re, re);
-    copy(full_im, im);
+    re.copy_from_slice(&full_re[..MAIN_SYMBOLS]);
+    im.copy_from_slice(&full_im[..MAIN_SYMBOLS]);
     let count = main_points(got.count);
     let i = input_of(sum, count, NO_HEADER, 0, 0);
-    holding(true, count, got.over, i, s)
+    Some(Held {
+        count,
+        over: got.over,
+        input: i,
+        reading: s,
+    })
 }
 
 // The last line where a full frame has too few points.
@@ -302,25 +249,15 @@ fn hold(
     full_im: &[f64; FRAME_SYMBOLS],
     re: &mut [f64; MAIN_SYMBOLS],
     im: &mut [f64; MAIN_SYMBOLS],
-) -> Held {
+) -> Option<Held> {
     if !is_full(line, got.count) {
         return hold_main(s, line, sum, got, full_re, full_im, re, im);
     }
     if got.count < FRAME_SYMBOLS {
         refuse_full(got);
-        return nothing(s);
+        return None;
     }
     hold_full(s, line, sum, full_re, full_im, re, im)
-}
-
-// Both together, where each is below 2^62.
-fn plus(a: usize, b: usize) -> usize {
-    if a < 0x4000_0000_0000_0000 {
-        if b < 0x4000_0000_0000_0000 {
-            return a + b;
-        }
-    }
-    a
 }
 
 // Reads the points of an open file, says what was read, and closes it.
@@ -336,7 +273,7 @@ fn take_in(
     let rest = if got.well { bytes_left(&opened) } else { 0 };
     drop(opened);
     if got.well {
-        tell_points(line, got.count, plus(got.over, rest));
+        tell_points(line, got.count, got.over.saturating_add(rest));
     }
     got
 }
@@ -351,16 +288,15 @@ fn read_open(
     full_im: &mut [f64; FRAME_SYMBOLS],
     re: &mut [f64; MAIN_SYMBOLS],
     im: &mut [f64; MAIN_SYMBOLS],
-) -> Held {
-    let sum = sum_for(line, &opened);
-    if !sum.is_whole {
+) -> Option<Held> {
+    let Some(sum) = sum_for(line, &opened) else {
         drop(opened);
         text(b"failed: the input cannot be read twice, as a report asks\n");
-        return nothing(s);
-    }
+        return None;
+    };
     let got = take_in(rt, line, opened, full_re, full_im);
     if !got.well {
-        return nothing(s);
+        return None;
     }
     hold(s, line, sum, got, full_re, full_im, re, im)
 }
@@ -372,10 +308,8 @@ pub fn read_points(
     line: &[u8],
     re: &mut [f64; MAIN_SYMBOLS],
     im: &mut [f64; MAIN_SYMBOLS],
-) -> Held {
-    let Some(opened) = open(rt, line) else {
-        return nothing(s);
-    };
+) -> Option<Held> {
+    let opened = open(rt, line)?;
     let mut full_re = [0.0f64; FRAME_SYMBOLS];
     let mut full_im = [0.0f64; FRAME_SYMBOLS];
     read_open(rt, s, line, opened, &mut full_re, &mut full_im, re, im)

@@ -4,33 +4,31 @@
 use bench_files::files;
 use bench_files::files::Got;
 use bench_line::space::LOAD_SPACE;
-use bench_line::words::{front, front_parts, part};
+use bench_line::words::{front, part};
 use bench_setting::setting::{Setting, setting_for_two};
 use bench_verdict::{end, tell_at_hand};
 use bench_words::report;
-use bench_words::report::Valid;
 use bench_words::text::{file, say, text};
 use isdbs_core::frame::{MAIN_SYMBOLS, SLOTS};
-use judge::FrameJudged;
-use refusal::Answer;
+use refusal::Refusal;
 
 // The last line of bytes that were not judged.
 fn refuse(
-    answer: Answer,
+    row: Refusal,
     points: Got,
     size: usize,
     re: &[f64; MAIN_SYMBOLS],
     im: &[f64; MAIN_SYMBOLS],
 ) {
-    match answer {
-        Answer::Length => {
-            report::refused(answer);
+    match row {
+        Refusal::Length => {
+            report::refused(row);
             say(
                 b"the file has $ bytes, which are not those that the frame carries\n",
                 &[size],
             );
         }
-        _ => report::refuse_reading(answer, points.count, points.over, re, im),
+        _ => report::refuse_reading(row, points.count, points.over, re, im),
     }
 }
 
@@ -47,8 +45,8 @@ fn judge_read(
     let n = points.count;
     let mut outside = [0u32; SLOTS];
     let done = judge::judge(
-        front_parts(re, n),
-        front_parts(im, n),
+        front(re, n),
+        front(im, n),
         t,
         m,
         s.first,
@@ -56,11 +54,11 @@ fn judge_read(
         &mut outside,
     );
     match done {
-        FrameJudged::Judged(sum) => {
+        Ok(sum) => {
             tell_at_hand(bytes.len(), sum, &outside);
             end(sum);
         }
-        FrameJudged::Refused(answer) => refuse(answer, points, bytes.len(), re, im),
+        Err(row) => refuse(row, points, bytes.len(), re, im),
     }
 }
 
@@ -104,14 +102,12 @@ fn judge_files(rt: &HostRuntime, s: Setting, line: &[u8], bytes: &mut [u8; LOAD_
 
 // bench judge TABLE MAPPING KIND FRAME BYTES
 pub fn judge_command(rt: &HostRuntime, line: &[u8]) {
-    let s = setting_for_two(line, b"judge takes TABLE MAPPING KIND FRAME BYTES");
-    if !s.is_good {
+    let Some(s) = setting_for_two(line, b"judge takes TABLE MAPPING KIND FRAME BYTES") else {
         return;
-    }
+    };
     let t = s.table;
     let mut bytes = [0u8; LOAD_SPACE];
-    match report::table(t) {
-        Valid::Slots(_) => judge_files(rt, s, line, &mut bytes),
-        Valid::Refused => {}
+    if report::table(t).is_some() {
+        judge_files(rt, s, line, &mut bytes);
     }
 }

@@ -85,5 +85,5 @@ pub fn run_first(rt: &HostRuntime, line: &[u8; LINE_BYTES], n: usize) {
 
 // The place after a byte that separates words.
 pub fn after_separator(at: usize) -> usize {
-    bench_files::files::next(at)
+    if at < LINE_BYTES { at + 1 } else { at }
 }

@@ -1,5 +1,5 @@
 -- Laws of written numbers.
-use Rattle.std.specs.Prelude.{◌≡◌, ℕ, zero, suc, ◌+◌, ◌*◌, ◌<◌, ◌≤◌, Bool, true, false, cond, ◌&&◌, List, [], ◌∷◌, length, drop, pos, nat_le, nat_lt, slice_index, refl, Float}
+use Rattle.std.specs.Prelude.{◌≡◌, ℕ, zero, suc, ◌+◌, ◌*◌, ◌<◌, ◌≤◌, Bool, true, false, cond, ◌&&◌, List, [], ◌∷◌, length, drop, pos, nat_le, nat_lt, slice_index, refl, Option, None, Some, Float}
 use Rattle.std.proofs.Common.{subst, sym, ap, ◌∙◌, add-one, mul_assoc, mul_comm, arith, leb-true, le-leb, lt-ltb, lit<, lit≤, drop-cons}
 use Rattle.std.specs.Float.{nan, inf, fin, binary32}
 use Rattle.std.specs.Float.Ieee.{up, down, round, div, of_int}
@@ -7,8 +7,6 @@ use Rattle.std.specs.Float.Ieee.Exact.{HasValue}
 use Rattle.std.specs.Float.Ieee.Back.{round_whole}
 use Rattle.std.specs.Float.Ieee.Scale.{round_same}
 use Rattle.std.specs.Float.Ieee.Fits.{down_pos}
-use Rattle.bench_line.specs.declared.words.Number.{Number}
-use Rattle.bench_line.specs.declared.words.Number.TheVariants as number
 use Rattle.bench_line.specs.Numbers.{digit_of, number_from, digits_of}
 
 -- numbers of i digits are below most i
@@ -32,7 +30,7 @@ unfolding most
 most_six i h = most_le i 6 h
 
 pub number_next : (v : ℕ) (s : List ℕ) (i : ℕ) → i < length s
-    → number_from v (drop i s) ≡ cond (nat_le (digit_of (slice_index s i)) 9) (number_from (v * 10 + digit_of (slice_index s i)) (drop (i + 1) s)) number.Not
+    → number_from v (drop i s) ≡ cond (nat_le (digit_of (slice_index s i)) 9) (number_from (v * 10 + digit_of (slice_index s i)) (drop (i + 1) s)) None
 unfolding number_from
 number_next v s i h = rw (add-one, drop-cons s i 0)
 
@@ -41,9 +39,9 @@ unfolding digits_of
 digits_within s p q = rw (le-leb _ _ q, lt-ltb _ _ p)
 
 -- a number, where it is one, is below k
-abbrev pub Below : ℕ → Number → Type 0
-Below k (number.Is v) = v < k
-Below k number.Not = Unit
+abbrev pub Below : ℕ → Option ℕ → Type 0
+Below k (Some v) = v < k
+Below k None = Unit
 
 -- j digits and then those of s
 pub number_below : (v j k : ℕ) (s : List ℕ) → v < most j → j + length s ≤ k → Below (most k) (number_from v s)
@@ -51,7 +49,7 @@ unfolding number_from most
 number_below v j k [] h l = let m = most_le j k (omega arith) in omega arith
 number_below v j k (b ∷ s) h l = go (nat_le (digit_of b) 9) refl (λ d. number_below (v * 10 + digit_of b) (suc j) k s d (omega arith))
   where
-    go : (t : Bool) → nat_le (digit_of b) 9 ≡ t → (v * 10 + digit_of b < most j * 10 → Below (most k) (number_from (v * 10 + digit_of b) s)) → Below (most k) (cond t (number_from (v * 10 + digit_of b) s) number.Not)
+    go : (t : Bool) → nat_le (digit_of b) 9 ≡ t → (v * 10 + digit_of b < most j * 10 → Below (most k) (number_from (v * 10 + digit_of b) s)) → Below (most k) (cond t (number_from (v * 10 + digit_of b) s) None)
     go true e f = let d = leb-true (digit_of b) 9 e in f (omega arith)
     go false e f = tt
 
@@ -59,7 +57,7 @@ pub digits_below : (k : ℕ) (s : List ℕ) → length s ≤ k → Below (most k
 unfolding digits_of most
 digits_below k s h = go (nat_le (length s) 7 && nat_lt 0 (length s))
   where
-    go : (t : Bool) → Below (most k) (cond t (number_from 0 s) number.Not)
+    go : (t : Bool) → Below (most k) (cond t (number_from 0 s) None)
     go true = number_below 0 0 k s (lit< tt) (omega arith)
     go false = tt
 

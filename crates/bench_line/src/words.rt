@@ -1,221 +1,123 @@
 // The words of a command: parts of a line, and what they mean.
-ghost use Rattle.std.specs.Prelude.{◌≡◌, ◌+◌, ◌-◌, ◌*◌, ◌^◌, ◌<◌, ◌≤◌, false};
+ghost use Rattle.std.specs.Prelude.{◌≡◌, ◌+◌, ◌-◌, ◌*◌, ◌^◌, ◌<◌, ◌≤◌, ◌==◌, cond, false, nat_le, None, Some};
 ghost use Rattle.std.specs.Float.{binary32};
 ghost use Rattle.std.specs.Float.Ieee.{round};
 ghost use Rattle.bench_line.specs.Numbers.{digit_of, digits_of, scale_from, scale_of};
 ghost use Rattle.bench_line.specs.NumberLaws.{most, Below};
-ghost use Rattle.bench_line.specs.Words.{entry_from, entry_of, entry_at, no_table, table_from, table_of, is_flag, mapping_from, mapping_of, narrow_name};
+ghost use Rattle.bench_line.specs.Words.{entry_from, entry_of, entry_at, table_of, is_flag, mapping_of, narrow_name};
 
-pub use bench_split::{front, front_parts, part, parts, same};
+pub use bench_split::{front, part, parts, same};
 use isdbs_core::tmcc;
 use isdbs_core::tmcc::{Entry, Table};
 use isdbs_points::Mapping;
 
-fn wide(b: u8) -> u32
-    ensures { result ≡ b }
-{
-    b as u32
-}
-
-// The number of a digit, or 10.
-fn digit(b: u8) -> u32
-    ensures { (result ≡ digit_of b) × (result ≤ 10) }
+// The number of a digit.
+fn digit(b: u8) -> Option<u32>
+    ensures { result ≡ cond (nat_le (digit_of b) 9) (Some (digit_of b)) None }
 {
     match b {
-        b'0'..=b'9' => wide(b) - 48,
-        _ => 10,
+        b'0'..=b'9' => Some(u32::from(b - b'0')),
+        _ => None,
     }
-}
-
-#[derive(Clone, Copy)]
-pub enum Number {
-    Is(u32),
-    Not,
 }
 
 // A number of one to seven decimal digits.
-pub fn digits(s: &[u8]) -> Number
+pub fn digits(s: &[u8]) -> Option<u32>
     ensures { result ≡ digits_of s.now }
 {
-    if s.len() == 0 {
-        return Number::Not;
+    if s.is_empty() {
+        return None;
     }
     if s.len() > 7 {
-        return Number::Not;
+        return None;
     }
     let mut value: u32 = 0;
-    for i in 0..s.len() {
-        let d = digit(s[i]);
-        if d > 9 {
-            return Number::Not;
-        }
-        value = value * 10 + d;
+    for b in s {
+        value = value * 10 + digit(*b)?;
     }
-    Number::Is(value)
-}
-
-#[derive(Clone, Copy)]
-pub enum MaybeEntry {
-    Is(Entry),
-    Not,
+    Some(value)
 }
 
 // An entry of a word up to 15 and a slot count up to 255.
-fn entry(word: u32, slots: u32) -> MaybeEntry
-    ensures { result ≡ entry_from (Number.Is word) (Number.Is slots) }
-{
-    if word > 15 {
-        return MaybeEntry::Not;
-    }
-    if slots > 255 {
-        return MaybeEntry::Not;
-    }
-    let word = word as u8;
-    let slots = slots as u8;
-    MaybeEntry::Is(Entry { word, slots })
-}
-
-fn entry_from(word: Number, slots: Number) -> MaybeEntry
+fn entry_from(word: Option<u32>, slots: Option<u32>) -> Option<Entry>
     ensures { result ≡ entry_from word slots }
 {
-    let Number::Is(w) = word else {
-        return MaybeEntry::Not;
-    };
-    let Number::Is(n) = slots else {
-        return MaybeEntry::Not;
-    };
-    entry(w, n)
+    let w = word?;
+    let n = slots?;
+    if w > 15 || n > 255 {
+        return None;
+    }
+    Some(Entry {
+        word: w as u8,
+        slots: n as u8,
+    })
 }
 
 // word:slots.
-fn entry_of(s: &[u8]) -> MaybeEntry
+fn entry_of(s: &[u8]) -> Option<Entry>
     ensures { result ≡ entry_of s.now }
 {
     if parts(s, b':') != 2 {
-        return MaybeEntry::Not;
+        return None;
     }
     entry_from(digits(part(s, b':', 0)), digits(part(s, b':', 1)))
 }
 
 // Entry i of a table, one not in use where the table has fewer.
-fn entry_at(s: &[u8], i: usize) -> MaybeEntry
+fn entry_at(s: &[u8], i: usize) -> Option<Entry>
     ensures { result ≡ entry_at s.now i }
 {
     if i < parts(s, b',') {
         entry_of(part(s, b',', i))
     } else {
-        MaybeEntry::Is(tmcc::DUMMY)
-    }
-}
-
-#[derive(Clone, Copy)]
-pub struct MaybeTable {
-    pub is_table: bool,
-    pub table: Table,
-}
-
-fn no_table() -> MaybeTable
-    ensures { result ≡ no_table }
-{
-    MaybeTable {
-        is_table: false,
-        table: Table {
-            entries: [tmcc::DUMMY; 4],
-        },
-    }
-}
-
-// The table of four entries, where all are entries.
-fn table_from(
-    first: MaybeEntry,
-    second: MaybeEntry,
-    third: MaybeEntry,
-    fourth: MaybeEntry,
-) -> MaybeTable
-    ensures { result ≡ table_from first second third fourth }
-{
-    let MaybeEntry::Is(a) = first else {
-        return no_table();
-    };
-    let MaybeEntry::Is(b) = second else {
-        return no_table();
-    };
-    let MaybeEntry::Is(c) = third else {
-        return no_table();
-    };
-    let MaybeEntry::Is(d) = fourth else {
-        return no_table();
-    };
-    MaybeTable {
-        is_table: true,
-        table: Table {
-            entries: [a, b, c, d],
-        },
+        Some(tmcc::DUMMY)
     }
 }
 
 // One to four entries joined by commas.
-pub fn table(s: &[u8]) -> MaybeTable
+pub fn table(s: &[u8]) -> Option<Table>
     ensures { result ≡ table_of s.now }
 {
     if parts(s, b',') > 4 {
-        return no_table();
+        return None;
     }
-    table_from(
-        entry_at(s, 0),
-        entry_at(s, 1),
-        entry_at(s, 2),
-        entry_at(s, 3),
-    )
+    let a = entry_at(s, 0)?;
+    let b = entry_at(s, 1)?;
+    let c = entry_at(s, 2)?;
+    let d = entry_at(s, 3)?;
+    Some(Table {
+        entries: [a, b, c, d],
+    })
 }
 
-// Whether a byte is the digit 0 or 1.
-fn is_flag(b: u8) -> bool
-    ensures { result ≡ is_flag b }
+// What a digit 0 or 1 says.
+fn flag(b: u8) -> Option<bool>
+    ensures { result ≡ cond (is_flag b) (Some (b == 49)) None }
 {
-    b == b'0' || b == b'1'
-}
-
-#[derive(Clone, Copy)]
-pub enum MaybeMapping {
-    Is(Mapping),
-    Not,
-}
-
-fn mapping_of(a: u8, b: u8, c: u8) -> MaybeMapping
-    ensures { result ≡ mapping_from a b c }
-{
-    if !is_flag(a) {
-        return MaybeMapping::Not;
+    if b == b'0' {
+        Some(false)
+    } else if b == b'1' {
+        Some(true)
+    } else {
+        None
     }
-    if !is_flag(b) {
-        return MaybeMapping::Not;
-    }
-    if !is_flag(c) {
-        return MaybeMapping::Not;
-    }
-    let m = Mapping {
-        conjugate: a == b'1',
-        qpsk_p1_on_q: b == b'1',
-        tc8psk_c1_is_y: c == b'1',
-    };
-    MaybeMapping::Is(m)
 }
 
 // Three digits 0 or 1: conjugate, qpsk_p1_on_q, tc8psk_c1_is_y.
-pub fn mapping(s: &[u8]) -> MaybeMapping
+pub fn mapping(s: &[u8]) -> Option<Mapping>
     ensures { result ≡ mapping_of s.now }
 {
     if s.len() != 3 {
-        return MaybeMapping::Not;
+        return None;
     }
-    mapping_of(s[0], s[1], s[2])
-}
-
-#[derive(Clone, Copy)]
-pub enum MaybeScale {
-    Is(f32),
-    Not,
+    let conjugate = flag(s[0])?;
+    let qpsk_p1_on_q = flag(s[1])?;
+    let tc8psk_c1_is_y = flag(s[2])?;
+    Some(Mapping {
+        conjugate,
+        qpsk_p1_on_q,
+        tc8psk_c1_is_y,
+    })
 }
 
 // whole and a fraction of n digits, in thousandths.
@@ -240,24 +142,20 @@ fn decimal(thousandths: u32) -> f32
 }
 
 // The scale of the digits before a point, and of the n digits after it where there is one.
-fn scale_from(plain: bool, whole: Number, fraction: Number, n: usize) -> MaybeScale
+fn scale_from(plain: bool, whole: Option<u32>, fraction: Option<u32>, n: usize) -> Option<f32>
     requires { (n ≤ 3) × (Below 1000 whole × Below (most n) fraction) }
     ensures { result ≡ scale_from plain whole fraction n }
 {
-    let Number::Is(w) = whole else {
-        return MaybeScale::Not;
-    };
+    let w = whole?;
     if plain {
-        return MaybeScale::Is(decimal(thousandths(w, 0, 0)));
+        return Some(decimal(thousandths(w, 0, 0)));
     }
-    let Number::Is(f) = fraction else {
-        return MaybeScale::Not;
-    };
-    MaybeScale::Is(decimal(thousandths(w, f, n)))
+    let f = fraction?;
+    Some(decimal(thousandths(w, f, n)))
 }
 
 // Up to three digits, and up to three more after a point.
-pub fn scale(s: &[u8]) -> MaybeScale
+pub fn scale(s: &[u8]) -> Option<f32>
     ensures { result ≡ scale_of s.now }
 {
     let before = part(s, b'.', 0);
@@ -265,13 +163,13 @@ pub fn scale(s: &[u8]) -> MaybeScale
     let n = after.len();
     let count = parts(s, b'.');
     if count > 2 {
-        return MaybeScale::Not;
+        return None;
     }
     if before.len() > 3 {
-        return MaybeScale::Not;
+        return None;
     }
     if n > 3 {
-        return MaybeScale::Not;
+        return None;
     }
     scale_from(count == 1, digits(before), digits(after), n)
 }

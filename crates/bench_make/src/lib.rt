@@ -6,11 +6,9 @@ use bench_line::space::LOAD_SPACE;
 use bench_line::words::{front, part};
 use bench_setting::setting::{Setting, setting_for_two};
 use bench_words::report;
-use bench_words::report::Valid;
 use bench_words::text::{file, say, say_named, text};
 use isdbs_core::frame::{MAIN_SYMBOLS, SLOT_BYTES, SLOTS};
 use isdbs_phy::demod::encode_frame;
-use refusal::Answer;
 
 // The load that was read, against what the frame carries.
 fn load_line(name: &[u8], n: usize, carried: usize) {
@@ -40,11 +38,10 @@ fn make_frame(
 ) {
     let t = s.table;
     let m = s.mapping;
-    let answer = encode_frame(load, t, s.first, m, re, im);
-    let Answer::Accepted = answer else {
-        report::refuse(answer);
+    if let Err(row) = encode_frame(load, t, s.first, m, re, im) {
+        report::refuse(row);
         return;
-    };
+    }
     text(b"writing the frame\n");
     if files::write_points(rt, name, re, im) {
         file(b"frame", name, MAIN_SYMBOLS, b" points\nok\n");
@@ -75,14 +72,12 @@ fn make_from(rt: &HostRuntime, s: Setting, v: usize, line: &[u8], load: &mut [u8
 
 // bench make TABLE MAPPING KIND LOAD FRAME
 pub fn make(rt: &HostRuntime, line: &[u8]) {
-    let s = setting_for_two(line, b"make takes TABLE MAPPING KIND LOAD FRAME");
-    if !s.is_good {
+    let Some(s) = setting_for_two(line, b"make takes TABLE MAPPING KIND LOAD FRAME") else {
         return;
-    }
+    };
     let t = s.table;
     let mut load = [0u8; LOAD_SPACE];
-    match report::table(t) {
-        Valid::Slots(v) => make_from(rt, s, v, line, &mut load),
-        Valid::Refused => {}
+    if let Some(v) = report::table(t) {
+        make_from(rt, s, v, line, &mut load);
     }
 }

@@ -3,11 +3,11 @@
 
 use bench_files::files;
 use bench_line::space::LOAD_SPACE;
-use bench_line::words::{Number, digits, front, part, parts};
+use bench_line::words::{digits, front, part, parts};
 use bench_setting::usage::misused;
 use bench_words::report;
 use bench_words::text::{file, say, text};
-use refusal::Answer;
+use refusal::Refusal;
 use trellis::FRAME_WORDS;
 
 // A position in words.
@@ -17,14 +17,6 @@ fn position(place: u32) {
     say(part(forms, b'|', (place % 2) as usize), &[step]);
 }
 
-fn position_at(list: [u32; 4], n: usize, i: usize) {
-    if i < n {
-        if i < 4 {
-            position(list[i]);
-        }
-    }
-}
-
 // How many bits were changed, and which.
 fn changes(list: [u32; 4], n: usize) {
     if n == 0 {
@@ -32,20 +24,19 @@ fn changes(list: [u32; 4], n: usize) {
         return;
     }
     say(b"bits changed: $\n", &[n]);
-    position_at(list, n, 0);
-    position_at(list, n, 1);
-    position_at(list, n, 2);
-    position_at(list, n, 3);
+    for place in list.iter().take(n) {
+        position(*place);
+    }
 }
 
 // The last line of a call that was turned back.
-fn refuse(answer: Answer) {
-    match answer {
-        Answer::Length => {
-            report::refused(answer);
+fn refuse(row: Refusal) {
+    match row {
+        Refusal::Length => {
+            report::refused(row);
             text(b"a stretch is bytes of 0 or 1, two for each of at most 4,096 steps\n");
         }
-        _ => report::refuse(answer),
+        _ => report::refuse(row),
     }
 }
 
@@ -60,13 +51,14 @@ fn mend_read(
     out: &mut [u8; LOAD_SPACE],
 ) {
     let mut list = [0u32; 4];
-    let m = mend::mend(stored, start, end, decisions, out, &mut list);
-    let answer = m.answer;
-    let Answer::Accepted = answer else {
-        refuse(answer);
-        return;
+    let count = match mend::mend(stored, start, end, decisions, out, &mut list) {
+        Ok(count) => count,
+        Err(row) => {
+            refuse(row);
+            return;
+        }
     };
-    changes(list, m.count);
+    changes(list, count);
     if files::write_bytes(rt, output, front(out, stored.len())) {
         file(b"mended", output, stored.len(), b" bits\nok\n");
     }
@@ -108,17 +100,13 @@ fn mend_in_space(rt: &HostRuntime, line: &[u8], start: u8, end: u8) {
     mend_file(rt, line, start, end, &mut decisions, &mut bits, &mut out);
 }
 
-// In place of a state, where a word is none.
-const NO_STATE: u8 = 64;
-
 // The state that a word gives, taken mod 64; where it is none, says so.
-fn state_of(word: &[u8]) -> u8 {
-    let number = digits(word);
-    let Number::Is(n) = number else {
+fn state_of(word: &[u8]) -> Option<u8> {
+    let Some(n) = digits(word) else {
         misused(b"this is no state:", word);
-        return NO_STATE;
+        return None;
     };
-    (n % 64) as u8
+    Some((n % 64) as u8)
 }
 
 // bench mend START END BITS OUT; the states are taken mod 64.
@@ -127,13 +115,11 @@ pub fn mend_command(rt: &HostRuntime, line: &[u8]) {
         misused(b"mend takes START END BITS OUT", b"");
         return;
     }
-    let start = state_of(part(line, 0, 1));
-    if start == NO_STATE {
+    let Some(start) = state_of(part(line, 0, 1)) else {
         return;
-    }
-    let end = state_of(part(line, 0, 2));
-    if end == NO_STATE {
+    };
+    let Some(end) = state_of(part(line, 0, 2)) else {
         return;
-    }
+    };
     mend_in_space(rt, line, start, end);
 }

@@ -1,8 +1,6 @@
 // The outputs of read: the bytes, and where they are asked for the best reading's bytes, a picture, a report, and the same as JSON. All are written, or none.
 #![tactic(auto)]
 
-ghost use Rattle.std.specs.Prelude.{◌≤◌};
-
 use bench_files::{files, system};
 use bench_line::space::LINE_BYTES;
 use bench_line::words::{front, part};
@@ -21,12 +19,12 @@ pub fn name<'a>(line: &'a [u8], i: usize) -> &'a [u8] {
 }
 
 fn is_asked(line: &[u8], i: usize) -> bool {
-    i == 0 || name(line, i).len() > 0
+    i == 0 || !name(line, i).is_empty()
 }
 
 // Whether the bytes are the only output.
 fn is_alone(line: &[u8]) -> bool {
-    !is_asked(line, 1) && !is_asked(line, 2) && !is_asked(line, 3) && !is_asked(line, 4)
+    (1..OUTPUTS).all(|i| !is_asked(line, i))
 }
 
 // Whether output i can be staged; else says why not.
@@ -35,31 +33,21 @@ fn is_plain(line: &[u8], i: usize) -> bool {
 }
 
 fn are_plain(line: &[u8]) -> bool {
-    for i in 0..OUTPUTS {
-        if !is_plain(line, i) {
-            return false;
-        }
-    }
-    true
+    (0..OUTPUTS).all(|i| is_plain(line, i))
 }
 
-// Whether output i has another name than output j, where j is before i; else says so.
+// Whether output i has another name than output j; else says so.
 fn are_two(line: &[u8], i: usize, j: usize) -> bool {
-    if j >= i {
-        return true;
-    }
     !is_asked(line, i) || !is_asked(line, j) || files::are_two(name(line, j), name(line, i))
 }
 
-const PAIRS: usize = OUTPUTS * OUTPUTS;
+// Whether output i has another name than those before it; else says so.
+fn is_another(line: &[u8], i: usize) -> bool {
+    (0..i).all(|j| are_two(line, i, j))
+}
 
 fn are_all_two(line: &[u8]) -> bool {
-    for n in 0..PAIRS {
-        if !are_two(line, n / OUTPUTS, n % OUTPUTS) {
-            return false;
-        }
-    }
-    true
+    (0..OUTPUTS).all(|i| is_another(line, i))
 }
 
 // Whether the outputs can be staged side by side; else says why not.
@@ -74,12 +62,7 @@ fn may_write(rt: &HostRuntime, line: &[u8], i: usize, input: &File) -> bool {
 
 // Whether all outputs may be written beside an open input; else says why not.
 pub fn may_write_all(rt: &HostRuntime, line: &[u8], input: &File) -> bool {
-    for i in 0..OUTPUTS {
-        if !may_write(rt, line, i, input) {
-            return false;
-        }
-    }
-    true
+    (0..OUTPUTS).all(|i| may_write(rt, line, i, input))
 }
 
 fn discard(rt: &HostRuntime, line: &[u8], i: usize) {
@@ -90,10 +73,8 @@ fn discard(rt: &HostRuntime, line: &[u8], i: usize) {
 
 // Removes what was staged of outputs `from` up to but not including `to`.
 fn discard_between(rt: &HostRuntime, line: &[u8], from: usize, to: usize) {
-    for i in 0..OUTPUTS {
-        if i >= from && i < to {
-            discard(rt, line, i);
-        }
+    for i in from..to {
+        discard(rt, line, i);
     }
 }
 
@@ -149,19 +130,9 @@ fn is_left(rt: &HostRuntime, line: &[u8], i: usize) -> bool {
     is_asked(line, i) && is_claimed(rt, name(line, i))
 }
 
-fn tally(so: bool) -> usize
-    ensures { result ≤ 1 }
-{
-    if so { 1 } else { 0 }
-}
-
 // How many outputs are claimed.
 fn how_many_left(rt: &HostRuntime, line: &[u8]) -> usize {
-    let mut n: usize = 0;
-    for i in 0..OUTPUTS {
-        n = n + tally(is_left(rt, line, i));
-    }
-    n
+    (0..OUTPUTS).filter(|i| is_left(rt, line, *i)).count()
 }
 
 // Names the files that stand beside output i, where it is claimed.

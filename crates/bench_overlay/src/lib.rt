@@ -8,7 +8,7 @@ use bench_line::words::{front, part, parts};
 use bench_setting::usage::misused;
 use bench_words::report;
 use bench_words::text::{file, quoted, text};
-use refusal::Answer;
+use refusal::Refusal;
 
 // What was read of a file.
 fn bytes_of(name: &[u8], n: usize) {
@@ -38,8 +38,8 @@ fn keep(rt: &HostRuntime, name: &[u8], bytes: &[u8]) {
     }
 }
 
-fn refuse(answer: Answer, why: &[u8]) {
-    report::refused(answer);
+fn refuse(row: Refusal, why: &[u8]) {
+    report::refused(row);
     text(why);
     text(b"\n");
 }
@@ -55,14 +55,16 @@ fn overlay_read(
     sum: &mut [u8; LOAD_SPACE],
 ) {
     if n > LOAD_BYTES || m > LOAD_BYTES {
-        refuse(Answer::Length, b"a load has at most 9,744 bytes");
+        refuse(Refusal::Length, b"a load has at most 9,744 bytes");
         return;
     }
-    let answer = overlay::overlay(front(first, n), front(second, m), sum);
-    match answer {
-        Answer::Accepted => keep(rt, output, front(sum, n)),
-        Answer::Length => refuse(answer, b"the two files do not have equally many bytes"),
-        _ => report::refuse(answer),
+    match overlay::overlay(front(first, n), front(second, m), sum) {
+        Ok(()) => keep(rt, output, front(sum, n)),
+        Err(Refusal::Length) => refuse(
+            Refusal::Length,
+            b"the two files do not have equally many bytes",
+        ),
+        Err(row) => report::refuse(row),
     }
 }
 

@@ -4,8 +4,6 @@
 mod measure;
 mod words;
 
-ghost use Rattle.std.specs.Prelude.{◌≤◌};
-
 use isdbs_frame::SLOTS;
 use measure::{at_most, decibels, decibels_down, root, turn};
 pub use words::{put_aside, put_json, put_words};
@@ -23,11 +21,10 @@ pub const NO_OFFSET: u32 = 100_000;
 
 pub const NO_DECIBELS: u32 = 300;
 
-// Whether there are points; their modulation error ratio in tenths of a decibel, gain in hundredths, turn in tenths of a degree, offset in thousandths, each but the
+// Of points their modulation error ratio in tenths of a decibel, gain in hundredths, turn in tenths of a degree, offset in thousandths, each but the
 // gain with its zero more.
 #[derive(Clone, Copy)]
 pub struct Quality {
-    pub is_there: bool,
     pub ratio: u32,
     pub gain: u32,
     pub turn: u32,
@@ -35,12 +32,22 @@ pub struct Quality {
     pub im: u32,
 }
 
+// The sums of a slot, or of all.
+#[derive(Clone, Copy)]
+struct Summed {
+    points: f64,
+    signal: f64,
+    error: f64,
+    product_re: f64,
+    product_im: f64,
+    difference_re: f64,
+    difference_im: f64,
+}
+
 // Sum q of slot j.
 fn sum_at(sums: &Sums, j: usize, q: usize) -> f64 {
-    if j < SLOTS {
-        if q < NUMBERS {
-            return sums[NUMBERS * j + q];
-        }
+    if j < SLOTS && q < NUMBERS {
+        return sums[NUMBERS * j + q];
     }
     0.0f64
 }
@@ -49,9 +56,35 @@ fn sum_at(sums: &Sums, j: usize, q: usize) -> f64 {
 fn total(sums: &Sums, q: usize) -> f64 {
     let mut x: f64 = 0.0;
     for j in 0..SLOTS {
-        x = x + sum_at(sums, j, q);
+        x += sum_at(sums, j, q);
     }
     x
+}
+
+// The sums of slot j; 0 where there is no such slot.
+fn of_slot(sums: &Sums, j: usize) -> Summed {
+    Summed {
+        points: sum_at(sums, j, 0),
+        signal: sum_at(sums, j, 1),
+        error: sum_at(sums, j, 2),
+        product_re: sum_at(sums, j, 3),
+        product_im: sum_at(sums, j, 4),
+        difference_re: sum_at(sums, j, 5),
+        difference_im: sum_at(sums, j, 6),
+    }
+}
+
+// The sums over all slots.
+fn of_frame(sums: &Sums) -> Summed {
+    Summed {
+        points: total(sums, 0),
+        signal: total(sums, 1),
+        error: total(sums, 2),
+        product_re: total(sums, 3),
+        product_im: total(sums, 4),
+        difference_re: total(sums, 5),
+        difference_im: total(sums, 6),
+    }
 }
 
 // Thousandths of x, with the zero of an offset more.
@@ -62,66 +95,39 @@ fn offset(x: f64) -> u32 {
     NO_OFFSET + at_most(x * 1000.0f64 + 0.5f64, NO_OFFSET)
 }
 
-fn none() -> Quality {
-    Quality {
-        is_there: false,
-        ratio: NO_DECIBELS,
-        gain: 0,
-        turn: NO_TURN,
-        re: NO_OFFSET,
-        im: NO_OFFSET,
+// The quality of what was summed, where there are points with a signal.
+fn measured(s: Summed) -> Option<Quality> {
+    if !(s.points > 0.0f64 && s.signal > 0.0f64) {
+        return None;
     }
-}
-
-// The quality by the products and differences of n points with so much signal and error.
-fn measured(n: f64, signal: f64, error: f64, x: f64, y: f64, re: f64, im: f64) -> Quality {
-    if !(n > 0.0f64 && signal > 0.0f64) {
-        return none();
-    }
-    let a = x / signal;
-    let b = y / signal;
-    Quality {
-        is_there: true,
-        ratio: decibels(signal, error),
+    let a = s.product_re / s.signal;
+    let b = s.product_im / s.signal;
+    Some(Quality {
+        ratio: decibels(s.signal, s.error),
         gain: at_most(root(a * a + b * b) * 100.0f64 + 0.5f64, 100_000),
         turn: turn(a, b),
-        re: offset(re / n),
-        im: offset(im / n),
+        re: offset(s.difference_re / s.points),
+        im: offset(s.difference_im / s.points),
+    })
+}
+
+// The quality of slot j, where it has points.
+pub fn slot_quality(sums: &Sums, j: usize) -> Option<Quality> {
+    measured(of_slot(sums, j))
+}
+
+// The modulation error ratio of slot j in tenths of a decibel, cut down to a whole one, with 300 more; none where no point counts.
+pub fn slot_level(sums: &Sums, j: usize) -> Option<u32> {
+    let s = of_slot(sums, j);
+    if s.points > 0.0f64 {
+        return Some(decibels_down(s.signal, s.error));
     }
+    None
 }
 
-// The quality of slot j.
-pub fn slot_quality(sums: &Sums, j: usize) -> Quality {
-    measured(
-        sum_at(sums, j, 0),
-        sum_at(sums, j, 1),
-        sum_at(sums, j, 2),
-        sum_at(sums, j, 3),
-        sum_at(sums, j, 4),
-        sum_at(sums, j, 5),
-        sum_at(sums, j, 6),
-    )
-}
-
-// The modulation error ratio of slot j in tenths of a decibel, cut down to a whole one, with 300 more; `none` where no point counts.
-pub fn slot_level(sums: &Sums, j: usize, none: u32) -> u32 {
-    if sum_at(sums, j, 0) > 0.0f64 {
-        return decibels_down(sum_at(sums, j, 1), sum_at(sums, j, 2));
-    }
-    none
-}
-
-// The quality of the frame.
-pub fn frame_quality(sums: &Sums) -> Quality {
-    measured(
-        total(sums, 0),
-        total(sums, 1),
-        total(sums, 2),
-        total(sums, 3),
-        total(sums, 4),
-        total(sums, 5),
-        total(sums, 6),
-    )
+// The quality of the frame, where it has points.
+pub fn frame_quality(sums: &Sums) -> Option<Quality> {
+    measured(of_frame(sums))
 }
 
 // The mean gain and turn of the frame as one number.
@@ -133,10 +139,10 @@ pub struct Mean {
 
 // The sums of the products by the signal.
 pub fn frame_mean(sums: &Sums) -> Mean {
-    let signal = total(sums, 1);
+    let s = of_frame(sums);
     Mean {
-        re: total(sums, 3) / signal,
-        im: total(sums, 4) / signal,
+        re: s.product_re / s.signal,
+        im: s.product_im / s.signal,
     }
 }
 
@@ -151,8 +157,7 @@ const MOST_TURN: u32 = NO_TURN + 18;
 
 // Whether the gain or the turn alone takes ideal points out of their margins.
 pub fn is_aside(q: Quality) -> bool {
-    if !q.is_there {
-        return false;
-    }
-    q.gain < LEAST_GAIN || q.gain > MOST_GAIN || q.turn < LEAST_TURN || q.turn > MOST_TURN
+    let gains = LEAST_GAIN..=MOST_GAIN;
+    let turns = LEAST_TURN..=MOST_TURN;
+    !gains.contains(&q.gain) || !turns.contains(&q.turn)
 }

@@ -1,5 +1,5 @@
 // From sums to numbers: decibels, degrees, roots, each by a table or by steps, without a logarithm.
-ghost use Rattle.std.specs.Prelude.{◌≤◌};
+ghost use Rattle.std.specs.Prelude.{◌≤◌, length};
 
 // Ratios of 0 to 9 decibels.
 const DECIBELS: [f64; 10] = [
@@ -26,6 +26,19 @@ const TENTHS: [f64; 10] = [
     1.1748975549395295f64,
     1.202264434617413f64,
     1.2302687708123816f64,
+];
+// Ratios of 0 to 90 decibels in tens.
+const TENS: [f64; 10] = [
+    1.0f64,
+    10.0f64,
+    100.0f64,
+    1000.0f64,
+    10000.0f64,
+    100000.0f64,
+    1000000.0f64,
+    10000000.0f64,
+    100000000.0f64,
+    1000000000.0f64,
 ];
 // The tangents of 0 to 45 degrees.
 const TANGENTS: [f64; 46] = [
@@ -80,81 +93,37 @@ const TANGENTS: [f64; 46] = [
 // Half a tenth of a decibel.
 const HALF: f64 = 1.0115794542598986f64;
 
-fn tally(so: bool) -> u32
-    ensures { result ≤ 1 }
-{
-    if so { 1 } else { 0 }
-}
-
 // How many of a table's ratios x reaches.
-fn reached(x: f64, table: [f64; 10]) -> u32
-    ensures { result ≤ 10 }
+fn reached(x: f64, table: &[f64]) -> usize
+    ensures { result ≤ length table.now }
 {
-    let mut n: u32 = 0;
-    for k in 0..10 {
-        n = n + tally(x >= table[k]);
-    }
-    n
+    table.iter().filter(|&&ratio| x >= ratio).count()
 }
 
 // The place of the last ratio of a table that x reaches; 0 where it reaches none.
-fn place(x: f64, table: [f64; 10]) -> u32
+fn place(x: f64, table: &[f64; 10]) -> usize
     ensures { result ≤ 9 }
 {
-    let n = reached(x, table);
-    if n == 0 {
-        return 0;
-    }
-    n - 1
-}
-
-// The ratio at a place of a table.
-fn ratio(table: [f64; 10], k: u32) -> f64
-    requires { k ≤ 9 }
-{
-    table[k as usize]
+    reached(x, table).saturating_sub(1)
 }
 
 // The tenths of a decibel of a ratio from 1 up to 10.
 fn tenths(x: f64) -> u32
     ensures { result ≤ 99 }
 {
-    let k = place(x, DECIBELS);
-    10 * k + place(x / ratio(DECIBELS, k), TENTHS)
+    let k = place(x, &DECIBELS);
+    (10 * k + place(x / DECIBELS[k], &TENTHS)) as u32
 }
 
-// The tenths of a decibel of a ratio above -30 decibels.
+// The tenths of a decibel of a ratio above -30 decibels, up to 900.
 fn tenths_above(x: f64) -> u32
     ensures { result ≤ 900 }
 {
-    if x >= 1000000000.0f64 {
+    let k = place(x, &TENS);
+    if k == 9 {
         return 900;
     }
-    if x >= 100000000.0f64 {
-        return 800 + tenths(x / 100000000.0f64);
-    }
-    if x >= 10000000.0f64 {
-        return 700 + tenths(x / 10000000.0f64);
-    }
-    if x >= 1000000.0f64 {
-        return 600 + tenths(x / 1000000.0f64);
-    }
-    if x >= 100000.0f64 {
-        return 500 + tenths(x / 100000.0f64);
-    }
-    if x >= 10000.0f64 {
-        return 400 + tenths(x / 10000.0f64);
-    }
-    if x >= 1000.0f64 {
-        return 300 + tenths(x / 1000.0f64);
-    }
-    if x >= 100.0f64 {
-        return 200 + tenths(x / 100.0f64);
-    }
-    if x >= 10.0f64 {
-        return 100 + tenths(x / 10.0f64);
-    }
-    tenths(x)
+    100 * (k as u32) + tenths(x / TENS[k])
 }
 
 // A ratio of powers in tenths of a decibel, to the nearest, with 300 more: from -30 to 60 decibels.
@@ -171,48 +140,18 @@ pub fn decibels_down(signal: f64, error: f64) -> u32
     tenths_above(signal * 1000.0f64 / error)
 }
 
-// Where t is above -1 and below 2^64, its whole part; 0 elsewhere.
-pub fn whole(t: f64) -> u64 {
-    if t > -1.0f64 {
-        if t < 18446744073709551616.0f64 {
-            let n = std::num::truncating_f64_to_u64(t);
-            return n;
-        }
-        return 0;
-    }
-    0
-}
-
-// The whole part of t, at most `most`.
+// The whole part of t, at most `most`; 0 where t is negative or no number.
 pub fn at_most(t: f64, most: u32) -> u32
     ensures { result ≤ most }
 {
-    let n = whole(t);
-    if t >= 4294967296.0f64 {
-        return most;
-    }
-    if n > most as u64 {
-        return most;
-    }
-    n as u32
+    std::num::saturating_f64_to_u32(t).min(most)
 }
 
 // How many of the tangents of 1 to 44 degrees t reaches.
 fn degrees(t: f64) -> usize
     ensures { result ≤ 44 }
 {
-    let table = TANGENTS;
-    let mut n: usize = 0;
-    for k in 0..44 {
-        n = n + if_so(t >= table[k + 1]);
-    }
-    n
-}
-
-fn if_so(so: bool) -> usize
-    ensures { result ≤ 1 }
-{
-    if so { 1 } else { 0 }
+    reached(t, &TANGENTS[1..45])
 }
 
 // The tenths of a degree, 0 to 450, of a tangent from 0 to 1: between two degrees in proportion.
@@ -236,15 +175,11 @@ fn quarter(x: f64, y: f64) -> u32
     900 - eighth(x / y)
 }
 
-fn size(x: f64) -> f64 {
-    if x < 0.0f64 { -x } else { x }
-}
-
 // The same of (x, y), of which y is 0 or more.
 fn half(x: f64, y: f64) -> u32
     ensures { result ≤ 1800 }
 {
-    let a = quarter(size(x), y);
+    let a = quarter(x.abs(), y);
     if x < 0.0f64 {
         return 1_800 - a;
     }
@@ -255,7 +190,7 @@ fn half(x: f64, y: f64) -> u32
 pub fn turn(x: f64, y: f64) -> u32
     ensures { result ≤ 3600 }
 {
-    let a = half(x, size(y));
+    let a = half(x, y.abs());
     if y < 0.0f64 {
         return 1_800 - a;
     }

@@ -3,7 +3,7 @@ use bench_json::put_object;
 use bench_line::space::LOAD_SPACE;
 use bench_line::words::front;
 use bench_outputs::keep;
-use bench_pages::{Texts, between, draw_upper, put_texts};
+use bench_pages::{Texts, draw_upper, put_texts};
 use bench_picture::draw_reading;
 use bench_quality::{Sums, frame_mean, frame_quality, is_aside};
 use bench_report::page::{Outcome, put_report};
@@ -11,47 +11,29 @@ use bench_setting::choice::has;
 use bench_verdict::facts::Facts;
 use bench_words::text::text;
 use isdbs_core::frame::MAIN_SYMBOLS;
-use picture_chart::Chart;
+use picture_chart::{Chart, Mean};
 use picture_sheet::{SHEET_BYTES, Sheet};
 
-// Where the report ends, the object after it, and the picture, each on its sheet.
-#[derive(Clone, Copy)]
-struct Kept {
-    report: usize,
-    object: usize,
-    picture: usize,
-}
-
-// Whether what was put up to a place fits on its sheet; else says that it does not.
-fn fits(at: usize) -> bool {
-    if at <= SHEET_BYTES {
+// Whether what was put on a sheet fits on it; else says that it does not.
+fn fits(sheet: &Sheet) -> bool {
+    if sheet.at <= SHEET_BYTES {
         return true;
     }
     text(b"failed: the report or the picture is too large\n");
     false
 }
 
-// Whether everything that is asked for was drawn and fits; else says so.
-fn is_whole(line: &[u8], k: Kept) -> bool {
-    if k.picture == 0 {
-        if has(line, b"chart") {
-            return false;
-        }
-    }
-    fits(k.picture) && fits(k.object)
-}
-
-// Keeps the bytes, the best reading's bytes, the picture, the report and the object.
+// Keeps the bytes, the best reading's bytes, the picture, the report that ends at a place of the texts and the object after it.
 fn keep_all(
     rt: &HostRuntime,
     texts: &Sheet,
+    report: usize,
     sheet: &Sheet,
-    k: Kept,
     line: &[u8],
     bytes: &[u8],
     best: &[u8; LOAD_SPACE],
 ) -> bool {
-    if !is_whole(line, k) {
+    if !fits(sheet) || !fits(texts) {
         return false;
     }
     keep(
@@ -59,86 +41,51 @@ fn keep_all(
         line,
         bytes,
         front(best, bytes.len()),
-        between(sheet, 0, k.picture),
-        between(texts, 0, k.report),
-        between(texts, k.report, k.object),
+        sheet.between(0, sheet.at),
+        texts.between(0, report),
+        texts.between(report, texts.at),
     )
 }
 
-// Says the page and the last line after it, and keeps everything in between.
-fn say_and_keep(
-    rt: &HostRuntime,
-    page: &Sheet,
-    t: Texts,
-    texts: &Sheet,
-    sheet: &Sheet,
-    k: Kept,
-    line: &[u8],
-    bytes: &[u8],
-    best: &[u8; LOAD_SPACE],
-) {
-    text(between(page, 0, t.from));
-    if keep_all(rt, texts, sheet, k, line, bytes, best) {
-        text(between(page, t.from, t.words));
-        text(b"\n");
+// The mean by which the points are shown after alignment, where their gain or turn is off.
+fn aside_of(sums: &Sums) -> Option<Mean> {
+    match frame_quality(sums) {
+        Some(q) if is_aside(q) => {
+            let mean = frame_mean(sums);
+            Some(Mean {
+                re: mean.re,
+                im: mean.im,
+            })
+        }
+        _ => None,
     }
 }
 
-// Puts the report on a sheet, and answers where it ends. Its last line is that of a page.
-fn put_first(
-    texts: &mut Sheet,
-    page: &Sheet,
-    t: Texts,
-    line: &[u8],
-    o: Outcome,
-    facts: &Facts,
-    sums: &Sums,
-) -> usize {
-    let words = between(page, t.from, t.words);
-    put_report(texts, line, o, facts, sums, words)
-}
-
-// Puts the object after it.
-fn put_second(
-    texts: &mut Sheet,
-    at: usize,
-    page: &Sheet,
-    t: Texts,
-    line: &[u8],
-    o: Outcome,
-    facts: &Facts,
-    sums: &Sums,
-) -> usize {
-    let words = between(page, t.from, t.words);
-    put_object(texts, at, line, o, facts, sums, words)
-}
-
-// Draws the panels after the upper part, where there is one, and answers where the picture ends.
-fn draw_lower(
+// Draws the picture where it is asked for; answers whether it is whole, else says why not.
+fn draw(
     sheet: &mut Sheet,
-    at: usize,
+    page: &Sheet,
+    t: Texts,
     o: Outcome,
-    sums: &Sums,
+    line: &[u8],
     bytes: &[u8],
+    facts: &Facts,
+    sums: &Sums,
     re: &[f64; MAIN_SYMBOLS],
     im: &[f64; MAIN_SYMBOLS],
-) -> usize {
-    if at == 0 {
-        return 0;
+) -> bool {
+    if !has(line, b"chart") {
+        return true;
     }
-    let s = o.reading;
-    let table = s.table;
-    let mean = frame_mean(sums);
+    draw_upper(sheet, page, t, o.frame, facts, sums);
     let chart = Chart {
-        table,
-        is_aside: is_aside(frame_quality(sums)),
-        mean_re: mean.re,
-        mean_im: mean.im,
+        table: o.reading.table,
+        aside: aside_of(sums),
     };
-    draw_reading(sheet, at, s, chart, bytes, re, im)
+    draw_reading(sheet, o.reading, chart, bytes, re, im)
 }
 
-// Puts the page, the picture, the report and the object on sheets; says and keeps everything.
+// Puts the page, the picture, the report and the object on sheets; says the page and the last line after it, and keeps everything in between.
 pub fn conclude(
     rt: &HostRuntime,
     o: Outcome,
@@ -150,18 +97,27 @@ pub fn conclude(
     re: &[f64; MAIN_SYMBOLS],
     im: &[f64; MAIN_SYMBOLS],
 ) {
-    let mut page = [0u8; SHEET_BYTES];
-    let mut sheet = [0u8; SHEET_BYTES];
-    let mut texts = [0u8; SHEET_BYTES];
-    let t = put_texts(&mut page, line, o, facts, sums);
-    let a = draw_upper(&mut sheet, &page, t, o, line, facts, sums);
-    let picture = draw_lower(&mut sheet, a, o, sums, bytes, re, im);
-    let report = put_first(&mut texts, &page, t, line, o, facts, sums);
-    let object = put_second(&mut texts, report, &page, t, line, o, facts, sums);
-    let k = Kept {
-        report,
-        object,
-        picture,
+    let mut page = Sheet {
+        bytes: [0u8; SHEET_BYTES],
+        at: 0,
     };
-    say_and_keep(rt, &page, t, &texts, &sheet, k, line, bytes, best);
+    let mut sheet = Sheet {
+        bytes: [0u8; SHEET_BYTES],
+        at: 0,
+    };
+    let mut texts = Sheet {
+        bytes: [0u8; SHEET_BYTES],
+        at: 0,
+    };
+    let t = put_texts(&mut page, line, o, facts, sums);
+    let is_drawn = draw(&mut sheet, &page, t, o, line, bytes, facts, sums, re, im);
+    let last = page.between(t.from, t.words);
+    put_report(&mut texts, line, o, facts, sums, last);
+    let report = texts.at;
+    put_object(&mut texts, line, o, facts, sums, last);
+    text(page.between(0, t.from));
+    if is_drawn && keep_all(rt, &texts, report, &sheet, line, bytes, best) {
+        text(last);
+        text(b"\n");
+    }
 }

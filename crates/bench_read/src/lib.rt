@@ -11,26 +11,16 @@ use bench_outputs::are_apart;
 use bench_quality::NUMBERS;
 use bench_report::page::Outcome;
 use bench_setting::choice::{Reading, reading_of};
-use bench_verdict::facts::{Facts, Frame, OUTSIDE, ROWS, STRAINED, set_row, take_row};
+use bench_verdict::facts::{Facts, Frame, facts_of};
 use bench_weigh::{decoded, weigh_over};
 use bench_words::report;
-use bench_words::report::Valid;
 use bench_words::text::{say, text};
 use isdbs_core::frame::{MAIN_SYMBOLS, SLOTS};
-use isdbs_phy::demod::FrameDecoded;
 use keeping::conclude;
-use refusal::Answer;
-
-fn is_eight(x: f32) -> bool {
-    x == 8.0f32
-}
 
 // Whether the reading was by a known start and all scales at 8.
 fn is_plain(s: Reading) -> bool {
-    let a = s.scales;
-    let low = is_eight(a[0]) & is_eight(a[1]) & is_eight(a[2]) & is_eight(a[3]);
-    let high = is_eight(a[4]) & is_eight(a[5]) & is_eight(a[6]);
-    s.known_start & low & high
+    s.known_start && s.scales.iter().all(|&scale| scale == 8.0f32)
 }
 
 // Reports what was read, and whether the points prove it.
@@ -42,11 +32,14 @@ fn tell(s: Reading, f: Frame, facts: &Facts, turn: u8) {
             b"read by other settings than a known start and all scales at 8; judged are the bytes that they gave\n",
         );
     }
-    let mut counts = [0u32; SLOTS];
-    let mut outside = [0u32; SLOTS];
-    take_row(facts, STRAINED, &mut counts);
-    take_row(facts, OUTSIDE, &mut outside);
-    bench_verdict::tell(f.size, f.outside, &outside, f.strained, &counts, turn);
+    bench_verdict::tell(
+        f.size,
+        f.outside,
+        &facts.outside,
+        f.strained,
+        &facts.strained,
+        turn,
+    );
 }
 
 // What was read of held points, and what was found of it.
@@ -58,15 +51,6 @@ fn outcome_of(h: Held, frame: Frame) -> Outcome {
         input,
         frame,
     }
-}
-
-// Whether what was read could be weighed; else says why not.
-fn is_weighed(answer: Answer) -> bool {
-    let Answer::Accepted = answer else {
-        report::refuse(answer);
-        return false;
-    };
-    true
 }
 
 // Weighs what was read, on space of its own; says and keeps it.
@@ -83,25 +67,15 @@ fn weigh(
     let s = h.reading;
     let i = h.input;
     let mut best = [0u8; LOAD_SPACE];
-    let mut facts = [0u32; ROWS * SLOTS];
+    let mut facts = facts_of(*counts);
     let mut sums = [0.0f64; NUMBERS * SLOTS];
-    set_row(&mut facts, STRAINED, counts);
-    let w = weigh_over(s, f, bytes, re, im, &mut best, &mut facts, &mut sums);
-    let answer = w.answer;
-    if is_weighed(answer) {
-        let found = w.frame;
-        tell(s, found, &facts, i.turn);
-        conclude(
-            rt,
-            outcome_of(h, found),
-            line,
-            bytes,
-            &best,
-            &facts,
-            &sums,
-            re,
-            im,
-        );
+    match weigh_over(s, f, bytes, re, im, &mut best, &mut facts, &mut sums) {
+        Ok(found) => {
+            tell(s, found, &facts, i.turn);
+            let outcome = outcome_of(h, found);
+            conclude(rt, outcome, line, bytes, &best, &facts, &sums, re, im);
+        }
+        Err(row) => report::refuse(row),
     }
 }
 
@@ -118,19 +92,18 @@ fn decode_over(
     let s = h.reading;
     let n = h.count;
     let mut counts = [0u32; SLOTS];
-    let done = read_of(s, n, re, im, bytes, &mut counts);
-    match done {
-        FrameDecoded::Decoded(size, steps, strained) => weigh(
+    match read_of(s, n, re, im, bytes, &mut counts) {
+        Ok(r) => weigh(
             rt,
             h,
             line,
-            decoded(s, v, size, steps, strained),
-            front(bytes, size),
+            decoded(s, v, r.bytes, r.steps, r.strained),
+            front(bytes, r.bytes),
             &counts,
             re,
             im,
         ),
-        FrameDecoded::Refused(answer) => report::refuse_reading(answer, n, h.over, re, im),
+        Err(row) => report::refuse_reading(row, n, h.over, re, im),
     }
 }
 
@@ -154,21 +127,18 @@ fn read_frame(rt: &HostRuntime, s: Reading, v: usize, line: &[u8]) {
     }
     let mut re = [0.0f64; MAIN_SYMBOLS];
     let mut im = [0.0f64; MAIN_SYMBOLS];
-    let h = read_points(rt, s, line, &mut re, &mut im);
-    if h.is_good {
+    if let Some(h) = read_points(rt, s, line, &mut re, &mut im) {
         decode_held(rt, h, v, line, &re, &im);
     }
 }
 
 // bench read TABLE MAPPING KIND FRAME BYTES [unknown] [SCALES] [full] [all] [best BYTES2] [chart FILE] [report FILE] [json FILE]
 pub fn read(rt: &HostRuntime, line: &[u8]) {
-    let s = reading_of(line);
-    if !s.is_good {
+    let Some(s) = reading_of(line) else {
         return;
-    }
+    };
     let t = s.table;
-    match report::table(t) {
-        Valid::Slots(v) => read_frame(rt, s, v, line),
-        Valid::Refused => {}
+    if let Some(v) = report::table(t) {
+        read_frame(rt, s, v, line);
     }
 }

@@ -7,7 +7,7 @@ ghost use Rattle.std.specs.Prelude.{◌≤◌};
 
 use bench_files::system;
 use bench_line::space::LINE_BYTES;
-use bench_line::words::{Number, digits, front, part, parts, same};
+use bench_line::words::{digits, front, part, parts, same};
 use isdbs_frame::MAIN_SYMBOLS;
 use std::fs::File;
 use std::os::fd::AsRawFd;
@@ -52,11 +52,7 @@ fn bench(rt: &HostRuntime, words: &[u8]) {
 
 // The number that word i of a line has.
 fn number(line: &[u8], i: usize) -> u64 {
-    let n = digits(part(line, b' ', i));
-    match n {
-        Number::Is(n) => n as u64,
-        Number::Not => 0,
-    }
+    digits(part(line, b' ', i)).map_or(0, |n| u64::from(n))
 }
 
 // The number of hexadecimal digit i; 0 where there is none.

@@ -1,33 +1,5 @@
-// Names of files on a sheet, so that no byte of them can pass for something else; and the combination of a slot.
-use isdbs_core::combination::Combination;
-use isdbs_core::slots::Run;
-use picture_sheet::{Sheet, put};
-
-// The run of the last two that has valid slot k, counted from the first of them.
-fn late_combination(a: Run, b: Run, k: usize) -> Combination {
-    if k < a.valid_slots {
-        let c = a.combination;
-        return c;
-    }
-    let c = b.combination;
-    c
-}
-
-// The combination of valid slot k.
-pub fn combination_of(rs: [Run; 4], k: usize) -> Combination {
-    let a = rs[0];
-    if k < a.valid_slots {
-        let c = a.combination;
-        return c;
-    }
-    let i = k - a.valid_slots;
-    let b = rs[1];
-    if i < b.valid_slots {
-        let c = b.combination;
-        return c;
-    }
-    late_combination(rs[2], rs[3], i - b.valid_slots)
-}
+// Names of files on a sheet, so that no byte of them can pass for something else.
+use picture_sheet::Sheet;
 
 // The digit of a number below 16.
 fn digit(n: u8) -> u8 {
@@ -39,51 +11,38 @@ fn digit(n: u8) -> u8 {
 }
 
 // Two hexadecimal digits.
-pub fn put_hex(sheet: &mut Sheet, at: usize, b: u8) -> usize {
-    let two = [digit(b / 16), digit(b % 16)];
-    put(sheet, at, &two)
+pub fn put_hex(sheet: &mut Sheet, b: u8) {
+    sheet.put(&[digit(b / 16), digit(b % 16)]);
 }
 
 // A byte after a mark, in hexadecimal digits.
-pub fn put_marked(sheet: &mut Sheet, at: usize, b: u8, mark: &[u8]) -> usize {
-    let a = put(sheet, at, mark);
-    put_hex(sheet, a, b)
+pub fn put_marked(sheet: &mut Sheet, b: u8, mark: &[u8]) {
+    sheet.put(mark);
+    put_hex(sheet, b);
 }
 
 // A byte of a name: as it is where it is printable ASCII, else after a mark.
-fn put_letter(sheet: &mut Sheet, at: usize, b: u8, mark: &[u8]) -> usize {
-    let one = [b];
+fn put_letter(sheet: &mut Sheet, b: u8, mark: &[u8]) {
     match b {
-        b'"' => put(sheet, at, b"\\\""),
-        b'\\' => put(sheet, at, b"\\\\"),
-        32..=126 => put(sheet, at, &one),
-        _ => put_marked(sheet, at, b, mark),
+        b'"' => sheet.put(b"\\\""),
+        b'\\' => sheet.put(b"\\\\"),
+        32..=126 => sheet.put(&[b]),
+        _ => put_marked(sheet, b, mark),
     }
 }
 
 // A text in quotation marks, a byte that is no printable ASCII being written after a mark.
-pub fn put_quoted(sheet: &mut Sheet, at: usize, s: &[u8], mark: &[u8]) -> usize {
-    let a = put(sheet, at, b"\"");
-    let b = put_letters(sheet, a, s, mark);
-    put(sheet, b, b"\"")
-}
-
-fn put_letters(sheet: &mut Sheet, at: usize, s: &[u8], mark: &[u8]) -> usize {
-    let mut place = at;
-    for i in 0..s.len() {
-        place = put_letter(sheet, place, s[i], mark);
+pub fn put_quoted(sheet: &mut Sheet, s: &[u8], mark: &[u8]) {
+    sheet.put(b"\"");
+    for &b in s {
+        put_letter(sheet, b, mark);
     }
-    place
-}
-
-fn low(n: u32) -> u8 {
-    (n % 256) as u8
+    sheet.put(b"\"");
 }
 
 // The eight hexadecimal digits of a number.
-pub fn put_word(sheet: &mut Sheet, at: usize, n: u32) -> usize {
-    let a = put_hex(sheet, at, low(n / 0x100_0000));
-    let b = put_hex(sheet, a, low(n / 0x1_0000));
-    let c = put_hex(sheet, b, low(n / 0x100));
-    put_hex(sheet, c, low(n))
+pub fn put_word(sheet: &mut Sheet, n: u32) {
+    for b in n.to_be_bytes() {
+        put_hex(sheet, b);
+    }
 }

@@ -8,8 +8,8 @@ use bench_setting::usage::VERSION;
 use bench_verdict::facts::{Facts, Frame};
 use bench_verdict::last::{NO_HEADER, NOT_TOLD, put_turn};
 use isdbs_core::frame::SLOT_BYTES;
-use picture_bars::form::{fill_form, put_one};
-use picture_sheet::{Sheet, put};
+use picture_bars::form::fill_form;
+use picture_sheet::Sheet;
 
 // The file that was read: its bytes, their checksum and its points; of its header the turn in eighths (8: not told, 9: there is none) and how many of W1's 20
 // symbols and of the last 20 agree.
@@ -31,154 +31,139 @@ pub struct Outcome {
     pub frame: Frame,
 }
 
-fn wide(n: u32) -> usize {
-    n as usize
-}
-
 // The mean quality of the frame's points.
-fn put_quality(sheet: &mut Sheet, at: usize, sums: &Sums) -> usize {
-    let a = put(sheet, at, b"quality: ");
-    let b = put_words(sheet, a, frame_quality(sums));
-    put(sheet, b, b"\n")
+fn put_quality(sheet: &mut Sheet, sums: &Sums) {
+    sheet.put(b"quality: ");
+    put_words(sheet, frame_quality(sums));
+    sheet.put(b"\n");
 }
 
 // The page for the screen: the slots that want a look, or all, and the sums.
-pub fn put_page(
-    sheet: &mut Sheet,
-    at: usize,
-    f: Frame,
-    facts: &Facts,
-    sums: &Sums,
-    is_all: bool,
-) -> usize {
-    let a = put_slots(sheet, at, f, facts, is_all);
-    let b = if_all(sheet, a, facts, sums, is_all);
-    let c = put_strengths(sheet, b, f, facts);
-    let d = put_quality(sheet, c, sums);
-    put_difference(sheet, d, f)
-}
-
-fn if_all(sheet: &mut Sheet, at: usize, facts: &Facts, sums: &Sums, is_all: bool) -> usize {
+pub fn put_page(sheet: &mut Sheet, f: Frame, facts: &Facts, sums: &Sums, is_all: bool) {
+    put_slots(sheet, f, facts, is_all);
     if is_all {
-        return put_places(sheet, at, facts, sums);
+        put_places(sheet, facts, sums);
     }
-    at
+    put_strengths(sheet, f, facts);
+    put_quality(sheet, sums);
+    put_difference(sheet, f);
 }
 
 // A line of a name and a text.
-fn put_line(sheet: &mut Sheet, at: usize, name: &[u8], s: &[u8]) -> usize {
-    let a = put(sheet, at, name);
-    let b = put(sheet, a, s);
-    put(sheet, b, b"\n")
+fn put_line(sheet: &mut Sheet, name: &[u8], s: &[u8]) {
+    sheet.put(name);
+    sheet.put(s);
+    sheet.put(b"\n");
 }
 
 // The word for a kind.
-fn put_kind(sheet: &mut Sheet, at: usize, first: bool) -> usize {
-    put_one(sheet, at, b"kind: other|kind: first", first as usize)
+fn put_kind(sheet: &mut Sheet, first: bool) {
+    sheet.put(if first {
+        b"kind: first"
+    } else {
+        b"kind: other"
+    });
 }
 
 // Where the kind is from.
-fn put_origin(sheet: &mut Sheet, at: usize, is_told: bool) -> usize {
-    put_one(
-        sheet,
-        at,
-        b", as given\n|, as the header says\n",
-        is_told as usize,
-    )
+fn put_origin(sheet: &mut Sheet, is_told: bool) {
+    let origin: &[u8] = if is_told {
+        b", as the header says\n"
+    } else {
+        b", as given\n"
+    };
+    sheet.put(origin);
 }
 
 // The scales as they were given.
-fn put_scales(sheet: &mut Sheet, at: usize, line: &[u8]) -> usize {
+fn put_scales(sheet: &mut Sheet, line: &[u8]) {
     if has(line, b"scale") {
-        return put_line(sheet, at, b"scales: all ", named(line, b"scale"));
+        put_line(sheet, b"scales: all ", named(line, b"scale"));
+        return;
     }
     if has(line, b"scales") {
-        return put_line(sheet, at, b"scales: ", named(line, b"scales"));
+        put_line(sheet, b"scales: ", named(line, b"scales"));
+        return;
     }
-    put(sheet, at, b"scales: all 8\n")
+    sheet.put(b"scales: all 8\n");
 }
 
-fn put_start(sheet: &mut Sheet, at: usize, is_known: bool) -> usize {
-    put_one(
-        sheet,
-        at,
-        b"start: unknown\n|start: known\n",
-        is_known as usize,
-    )
+fn put_start(sheet: &mut Sheet, is_known: bool) {
+    let start: &[u8] = if is_known {
+        b"start: known\n"
+    } else {
+        b"start: unknown\n"
+    };
+    sheet.put(start);
 }
 
 // How the frame was read.
-fn put_setting(sheet: &mut Sheet, at: usize, line: &[u8], s: Reading, is_told: bool) -> usize {
-    let a = put_line(sheet, at, b"table: ", part(line, 0, 1));
-    let b = put_line(sheet, a, b"mapping: ", part(line, 0, 2));
-    let c = put_kind(sheet, b, s.first);
-    let d = put_origin(sheet, c, is_told);
-    let e = put_start(sheet, d, s.known_start);
-    put_scales(sheet, e, line)
+fn put_setting(sheet: &mut Sheet, line: &[u8], s: Reading, is_told: bool) {
+    put_line(sheet, b"table: ", part(line, 0, 1));
+    put_line(sheet, b"mapping: ", part(line, 0, 2));
+    put_kind(sheet, s.first);
+    put_origin(sheet, is_told);
+    put_start(sheet, s.known_start);
+    put_scales(sheet, line);
 }
 
 // The file that was read.
-fn put_input(sheet: &mut Sheet, at: usize, name: &[u8], i: Input) -> usize {
-    let a = put(sheet, at, b"input: ");
-    let b = put_quoted(sheet, a, name, b"\\x");
-    let c = fill_form(
-        sheet,
-        b,
-        b", @ bytes, @ points, CRC-32 ",
-        &[i.bytes, i.points],
-    );
-    let d = put_word(sheet, c, i.checksum);
-    put(sheet, d, b"\n")
+fn put_input(sheet: &mut Sheet, name: &[u8], i: Input) {
+    sheet.put(b"input: ");
+    put_quoted(sheet, name, b"\\x");
+    fill_form(sheet, b", @ bytes, @ points, CRC-32 ", &[i.bytes, i.points]);
+    put_word(sheet, i.checksum);
+    sheet.put(b"\n");
 }
 
 // What the header says.
-fn put_header(sheet: &mut Sheet, at: usize, i: Input) -> usize {
+fn put_header(sheet: &mut Sheet, i: Input) {
     let turn = i.turn;
     if turn == NO_HEADER {
-        return put(
-            sheet,
-            at,
-            b"header: none: these are main points, and cut and phase are taken as given\n",
-        );
+        sheet.put(b"header: none: these are main points, and cut and phase are taken as given\n");
+        return;
     }
-    let a = fill_form(
+    fill_form(
         sheet,
-        at,
         b"header: W1 @ of 20, the last @ of 20: ",
         &[i.w1, i.last],
     );
-    let b = put_turn(sheet, a, turn);
-    put(sheet, b, b"\n")
+    put_turn(sheet, turn);
+    sheet.put(b"\n");
 }
 
 // The first byte of which the best reading has another.
-fn put_difference(sheet: &mut Sheet, at: usize, f: Frame) -> usize {
-    let n = f.apart_at;
-    if n >= f.size {
-        return put(sheet, at, b"best: no other reading fits better\n");
-    }
-    let a = fill_form(
+fn put_difference(sheet: &mut Sheet, f: Frame) {
+    let Some(first) = f.apart else {
+        sheet.put(b"best: no other reading fits better\n");
+        return;
+    };
+    fill_form(
         sheet,
-        at,
         b"not the best: first difference in valid slot @ at byte @: read 0x",
-        &[n / SLOT_BYTES, n % SLOT_BYTES],
+        &[first.at / SLOT_BYTES, first.at % SLOT_BYTES],
     );
-    let b = put_hex(sheet, a, f.read_byte);
-    let c = put_marked(sheet, b, f.best_byte, b", best 0x");
-    put(sheet, c, b"\n")
+    put_hex(sheet, first.read);
+    put_marked(sheet, first.best, b", best 0x");
+    sheet.put(b"\n");
 }
 
 // The sums of the frame.
-fn put_sums(sheet: &mut Sheet, at: usize, f: Frame) -> usize {
+fn put_sums(sheet: &mut Sheet, f: Frame) {
     fill_form(
         sheet,
-        at,
         b"valid slots: @\nbytes: @\nsteps: @\nstrained: @\npoints outside the margins: @\n",
-        &[f.valid, f.size, f.steps, wide(f.strained), wide(f.outside)],
-    )
+        &[
+            f.valid,
+            f.size,
+            f.steps,
+            f.strained as usize,
+            f.outside as usize,
+        ],
+    );
 }
 
-// The text that is kept, with the header's line and the last line.
+// Puts the text that is kept, with the header's line and the last line.
 pub fn put_report(
     sheet: &mut Sheet,
     line: &[u8],
@@ -186,19 +171,19 @@ pub fn put_report(
     facts: &Facts,
     sums: &Sums,
     last: &[u8],
-) -> usize {
+) {
     let s = o.reading;
     let i = o.input;
     let f = o.frame;
-    let a = put_line(sheet, 0, b"bench read, version ", &VERSION);
-    let b = put_setting(sheet, a, line, s, i.turn < NOT_TOLD);
-    let c = put_input(sheet, b, part(line, 0, 4), i);
-    let d = put_header(sheet, c, i);
-    let e = put_sums(sheet, d, f);
-    let g = put_strengths(sheet, e, f, facts);
-    let h = put_quality(sheet, g, sums);
-    let j = put_difference(sheet, h, f);
-    let k = put_line(sheet, j, b"verdict: ", last);
-    let l = put_slots(sheet, k, f, facts, true);
-    put_places(sheet, l, facts, sums)
+    put_line(sheet, b"bench read, version ", &VERSION);
+    put_setting(sheet, line, s, i.turn < NOT_TOLD);
+    put_input(sheet, part(line, 0, 4), i);
+    put_header(sheet, i);
+    put_sums(sheet, f);
+    put_strengths(sheet, f, facts);
+    put_quality(sheet, sums);
+    put_difference(sheet, f);
+    put_line(sheet, b"verdict: ", last);
+    put_slots(sheet, f, facts, true);
+    put_places(sheet, facts, sums);
 }

@@ -3,22 +3,21 @@
 
 pub mod plain;
 
-ghost use Rattle.std.specs.Prelude.{◌<◌, ◌≤◌};
+ghost use Rattle.std.specs.Prelude.{◌<◌};
 
 use crate::plain::{decode, plain_reading, points_of};
 use bench_line::space::LOAD_SPACE;
-use bench_line::words::{Number, digits, front, part, parts};
+use bench_line::words::{digits, front, part, parts};
 use bench_setting::setting::{Setting, setting_of};
 use bench_setting::usage::misused;
 use bench_verdict::last::is_ok;
 use bench_weigh::decoded;
 use bench_words::report;
-use bench_words::report::Valid;
 use bench_words::text::{quoted, say, text};
 use bench_worth::{Verdict, say_worth, weigh};
 use isdbs_core::frame::{MAIN_SYMBOLS, SLOT_BYTES};
 use isdbs_phy::demod::FrameDecoded;
-use refusal::Answer;
+use refusal::Refusal;
 use strain_window::{Pushed, WindowState, push};
 
 // The longest window.
@@ -42,16 +41,11 @@ struct Found {
     verdict: Verdict,
 }
 
-// Whether the run goes on, whether the frame's reading is good, and the window after it.
+// Whether a frame's reading is good, and the window after it.
 #[derive(Clone, Copy)]
 struct Went {
-    on: bool,
     is_ok: bool,
     state: WindowState,
-}
-
-fn wide(n: u32) -> usize {
-    n as usize
 }
 
 // The words of the line of a frame that was read, before what was found of it.
@@ -65,7 +59,7 @@ pub fn frame_name(place: Place, name: &[u8]) {
 // What the reading of a frame is worth.
 fn say_verdict(v: Verdict) {
     if v.outside > 0 {
-        say(b"; points outside the margins: $", &[wide(v.outside)]);
+        say(b"; points outside the margins: $", &[v.outside as usize]);
     }
     text(b"; ");
     say_worth(v);
@@ -79,11 +73,11 @@ fn frame_line(place: Place, name: &[u8], found: Found, kept: Pushed) {
     say(
         b", $ of $ steps strained; last $: total $, greatest $",
         &[
-            wide(found.strained),
+            found.strained as usize,
             found.steps,
-            wide(state.fill),
-            wide(kept.total),
-            wide(kept.greatest),
+            state.fill as usize,
+            kept.total as usize,
+            kept.greatest as usize,
         ],
     );
     let v = found.verdict;
@@ -91,63 +85,76 @@ fn frame_line(place: Place, name: &[u8], found: Found, kept: Pushed) {
 }
 
 // The line above the last one of a run that a frame's refusal ends.
-pub fn refused_line(place: Place, name: &[u8], answer: Answer) {
+pub fn refused_line(place: Place, name: &[u8], row: Refusal) {
     quoted(name);
     say(
         b" is refused by row $; before it $ of $ frames read\n",
-        &[wide(refusal::number(answer)), place.read, place.all],
+        &[refusal::number(Err(row)) as usize, place.read, place.all],
     );
 }
 
-fn stopped(state: WindowState) -> Went {
-    Went {
-        on: false,
-        is_ok: false,
-        state,
-    }
+// The last lines of a run that ends at a frame that was read.
+fn refuse(place: Place, name: &[u8], row: Refusal) {
+    refused_line(place, name, row);
+    report::refuse(row);
 }
 
-// Keeps the sum of a frame that was read; the first one's push clears.
+// Keeps the sum of a frame that was read; the first one's push clears. None where that stops the run.
 fn keep(
     place: Place,
     name: &[u8],
     found: Found,
     state: WindowState,
     sums: &mut [u32; LONGEST],
-) -> Went {
-    let kept = push(state, place.read == 0, found.strained, sums);
-    let answer = kept.answer;
-    let Answer::Accepted = answer else {
-        refused_line(place, name, answer);
-        report::refuse(answer);
-        return stopped(state);
-    };
-    frame_line(place, name, found, kept);
-    let state = kept.state;
-    let v = found.verdict;
-    Went {
-        on: true,
-        is_ok: is_ok(v.worth),
-        state,
+) -> Option<Went> {
+    match push(state, place.read == 0, found.strained, sums) {
+        Ok(kept) => {
+            frame_line(place, name, found, kept);
+            Some(Went {
+                is_ok: is_ok(found.verdict.worth),
+                state: kept.state,
+            })
+        }
+        Err(row) => {
+            refuse(place, name, row);
+            None
+        }
     }
 }
 
 // Weighs a frame that was read, and keeps its sum; or says why it cannot be weighed.
 fn weigh_and_keep(
+    s: Setting,
+    r: FrameDecoded,
     place: Place,
     name: &[u8],
-    found: Found,
     state: WindowState,
     sums: &mut [u32; LONGEST],
-) -> Went {
-    let v = found.verdict;
-    let answer = v.answer;
-    let Answer::Accepted = answer else {
-        refused_line(place, name, answer);
-        report::refuse(answer);
-        return stopped(state);
-    };
-    keep(place, name, found, state, sums)
+    re: &[f64; MAIN_SYMBOLS],
+    im: &[f64; MAIN_SYMBOLS],
+    bytes: &[u8; LOAD_SPACE],
+) -> Option<Went> {
+    let FrameDecoded {
+        bytes: size,
+        steps,
+        strained,
+        ..
+    } = r;
+    let f = decoded(plain_reading(s), size / SLOT_BYTES, size, steps, strained);
+    match weigh(plain_reading(s), f, front(bytes, size), re, im) {
+        Ok(verdict) => {
+            let found = Found {
+                steps,
+                strained,
+                verdict,
+            };
+            keep(place, name, found, state, sums)
+        }
+        Err(row) => {
+            refuse(place, name, row);
+            None
+        }
+    }
 }
 
 // Reads a frame, and keeps its sum.
@@ -161,36 +168,19 @@ fn read_one(
     re: &mut [f64; MAIN_SYMBOLS],
     im: &mut [f64; MAIN_SYMBOLS],
     bytes: &mut [u8; LOAD_SPACE],
-) -> Went {
+) -> Option<Went> {
     let got = points_of(rt, name, re, im);
     if !got.well {
-        return stopped(state);
+        return None;
     }
-    let done = decode(s, got.count, re, im, bytes);
-    match done {
-        FrameDecoded::Decoded(size, steps, strained) => {
-            let f = decoded(plain_reading(s), size / SLOT_BYTES, size, steps, strained);
-            let verdict = weigh(plain_reading(s), f, front(bytes, size), re, im);
-            let found = Found {
-                steps,
-                strained,
-                verdict,
-            };
-            weigh_and_keep(place, name, found, state, sums)
-        }
-        FrameDecoded::Refused(answer) => {
-            refused_line(place, name, answer);
-            report::refuse_reading(answer, got.count, got.over, re, im);
-            stopped(state)
+    match decode(s, got.count, re, im, bytes) {
+        Ok(r) => weigh_and_keep(s, r, place, name, state, sums, re, im, bytes),
+        Err(row) => {
+            refused_line(place, name, row);
+            report::refuse_reading(row, got.count, got.over, re, im);
+            None
         }
     }
-}
-
-// 1 where it is so.
-pub fn tally(so: bool) -> usize
-    ensures { result ≤ 1 }
-{
-    if so { 1 } else { 0 }
 }
 
 // The last line of a run in which every frame was read.
@@ -227,12 +217,13 @@ fn read_all(
             all: words - BEFORE,
         };
         let name = part(line, 0, i);
-        let went = read_one(rt, s, place, name, state, sums, re, im, bytes);
-        if !went.on {
+        let Some(went) = read_one(rt, s, place, name, state, sums, re, im, bytes) else {
             return;
-        }
+        };
         state = went.state;
-        doubtful = doubtful + tally(!went.is_ok);
+        if !went.is_ok {
+            doubtful += 1;
+        }
     }
     end(doubtful, words - BEFORE);
 }
@@ -248,17 +239,15 @@ fn fresh(window: u32) -> WindowState {
 
 // Whether a window of this length is taken; else says why not. The sum that is tried is forgotten by the first frame's push.
 fn is_window(window: u32, sums: &mut [u32; LONGEST]) -> bool {
-    let tried = push(fresh(window), true, 0, sums);
-    let answer = tried.answer;
-    let Answer::Accepted = answer else {
-        report::refused(answer);
-        say(
-            b"a window is of 1 to $ frames, not of $\n",
-            &[LONGEST, wide(window)],
-        );
-        return false;
+    let Err(row) = push(fresh(window), true, 0, sums) else {
+        return true;
     };
-    true
+    report::refused(row);
+    say(
+        b"a window is of 1 to $ frames, not of $\n",
+        &[LONGEST, window as usize],
+    );
+    false
 }
 
 // Reads the frames of a series of `words` words, on space of its own.
@@ -291,7 +280,7 @@ fn series_of(rt: &HostRuntime, line: &[u8], s: Setting, window: u32) {
     }
     say(
         b"window of $; a sum of 0 alone does not mean a good frame\n0 of $ frames read\n",
-        &[wide(window), words - BEFORE],
+        &[window as usize, words - BEFORE],
     );
     read_in_space(rt, line, s, window, words, &mut sums);
 }
@@ -302,18 +291,15 @@ pub fn series(rt: &HostRuntime, line: &[u8]) {
         misused(b"series takes WINDOW TABLE MAPPING KIND FRAME..", b"");
         return;
     }
-    let length = digits(part(line, 0, 1));
-    let Number::Is(window) = length else {
+    let Some(window) = digits(part(line, 0, 1)) else {
         misused(b"this is no WINDOW:", part(line, 0, 1));
         return;
     };
-    let s = setting_of(part(line, 0, 2), part(line, 0, 3), part(line, 0, 4));
-    if !s.is_good {
+    let Some(s) = setting_of(part(line, 0, 2), part(line, 0, 3), part(line, 0, 4)) else {
         return;
-    }
+    };
     let t = s.table;
-    match report::table(t) {
-        Valid::Slots(_) => series_of(rt, line, s, window),
-        Valid::Refused => {}
+    if report::table(t).is_some() {
+        series_of(rt, line, s, window);
     }
 }

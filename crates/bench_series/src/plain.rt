@@ -7,6 +7,7 @@ use bench_setting::choice::Reading;
 use bench_setting::setting::Setting;
 use isdbs_core::frame::{MAIN_SYMBOLS, SLOTS};
 use isdbs_phy::demod::FrameDecoded;
+use refusal::Refusal;
 
 // Reads a file's points.
 pub fn points_of(
@@ -26,7 +27,6 @@ pub fn plain_reading(s: Setting) -> Reading {
     let table = s.table;
     let mapping = s.mapping;
     Reading {
-        is_good: true,
         table,
         mapping,
         first: s.first,
@@ -42,7 +42,7 @@ pub fn decode(
     re: &[f64; MAIN_SYMBOLS],
     im: &[f64; MAIN_SYMBOLS],
     bytes: &mut [u8; LOAD_SPACE],
-) -> FrameDecoded {
+) -> Result<FrameDecoded, Refusal> {
     let mut counts = [0u32; SLOTS];
     read_of(plain_reading(s), n, re, im, bytes, &mut counts)
 }

@@ -1,5 +1,5 @@
 // The words after BYTES: each at most once, in any order. Some take the word after them.
-use bench_line::words::{front, part, parts, same};
+use bench_line::words::{front, part, parts};
 
 // The place of the first of them on a line.
 const FIRST: usize = 6;
@@ -8,13 +8,7 @@ const LAST: usize = 4_096;
 
 // Whether a word is one of a list's.
 fn is_in(list: &[u8], word: &[u8]) -> bool {
-    let n = parts(list, b' ');
-    for i in 0..n {
-        if same(part(list, b' ', i), word) {
-            return true;
-        }
-    }
-    false
+    (0..parts(list, b' ')).any(|i| part(list, b' ', i) == word)
 }
 
 // Whether an option takes the word after it.
@@ -27,7 +21,7 @@ fn is_option(line: &[u8], i: usize, is_taken: bool, name: &[u8]) -> bool {
     if i < FIRST || is_taken {
         return false;
     }
-    same(part(line, 0, i), name)
+    part(line, 0, i) == name
 }
 
 // Whether word i takes the one after it.
@@ -38,17 +32,17 @@ fn takes_next(line: &[u8], i: usize, is_taken: bool) -> bool {
     takes_word(part(line, 0, i))
 }
 
-// The place of an option on a line; 0 where it is not there.
-fn place_of(line: &[u8], name: &[u8]) -> usize {
+// The place of an option on a line.
+fn place_of(line: &[u8], name: &[u8]) -> Option<usize> {
     let n = parts(line, 0);
     let mut is_taken = false;
     for i in 0..n {
         if is_option(line, i, is_taken, name) {
-            return i;
+            return Some(i);
         }
         is_taken = takes_next(line, i, is_taken);
     }
-    0
+    None
 }
 
 // The word after word i.
@@ -65,7 +59,7 @@ fn is_good(line: &[u8], i: usize, list: &[u8]) -> bool {
     if !is_in(list, word) {
         return false;
     }
-    if place_of(line, word) != i {
+    if place_of(line, word) != Some(i) {
         return false;
     }
     word_after(line, i).len() > 0 || !takes_word(word)
@@ -79,29 +73,28 @@ fn is_bad(line: &[u8], i: usize, is_taken: bool, list: &[u8]) -> bool {
     !is_good(line, i, list)
 }
 
-// The place of the first word that is not understood; 0 where all are.
-pub(crate) fn first_bad(line: &[u8], list: &[u8]) -> usize {
+// The place of the first word that is not understood.
+pub(crate) fn first_bad(line: &[u8], list: &[u8]) -> Option<usize> {
     let n = parts(line, 0);
     let mut is_taken = false;
     for i in 0..n {
         if is_bad(line, i, is_taken, list) {
-            return i;
+            return Some(i);
         }
         is_taken = takes_next(line, i, is_taken);
     }
-    0
+    None
 }
 
 // Whether an option is there.
 pub fn has(line: &[u8], name: &[u8]) -> bool {
-    place_of(line, name) > 0
+    place_of(line, name).is_some()
 }
 
 // The word after an option, or none.
 pub fn named<'a>(line: &'a [u8], name: &[u8]) -> &'a [u8] {
-    let i = place_of(line, name);
-    if i == 0 {
-        return front(line, 0);
+    match place_of(line, name) {
+        Some(i) => word_after(line, i),
+        None => front(line, 0),
     }
-    word_after(line, i)
 }

@@ -65,7 +65,7 @@ pub fn misused(why: &[u8], word: &[u8]) {
     usage();
     text(b"failed: ");
     text(why);
-    if word.len() > 0 {
+    if !word.is_empty() {
         text(b" ");
         quoted(word);
     }

@@ -9,8 +9,12 @@ use borrow.Author.Tests.{eqb-true}
 use lib.Dec.{eqb}
 use lib.ListN.{length, get_or, take, drop}
 use lib.Seq.{drop-cons}
-use Rattle.bench_split.specs.Parts.{after, until, stops, equal}
+use Rattle.std.specs.Cmp.Lexicographic.{pointwise}
 use Rattle.bench_split.specs.Agreement.{agreement}
+use Rattle.bench_split.specs.Parts.{after, until, stops, equal}
+use Rattle.std.specs.List.{count_by}
+use Rattle.std.proofs.Common.{◌≤◌, lit≤}
+use Rattle.std.proofs.lemmas.List.Recursion.{is_count_by}
 
 -- lists are equal where `equal` says so
 pub equal_so : (a b : List ℕ) → equal a b ≡ true → a ≡ b
@@ -32,20 +36,64 @@ equal_not a b h = go (equal a b) refl
     go true e = absurd (h (equal_so a b e))
     go false e = refl
 
--- no bytes agree with none
-pub agreement_none : (a : List ℕ) → agreement a [] ≡ 0
-unfolding agreement
-agreement_none [] = refl
-agreement_none (x ∷ a) = refl
-
 module _ (a b : List ℕ) (i : ℕ) (ha : i < length a) (hb : i < length b) where
-  pub agreement_next : agreement (drop i a) (drop i b) ≡ cond (eqb (get_or a i 0) (get_or b i 0)) 1 0 + agreement (drop (i + 1) a) (drop (i + 1) b)
-  unfolding agreement
-  agreement_next = rw (add-one, drop-cons a i 0, drop-cons b i 0)
-
   pub equal_next : equal (drop i a) (drop i b) ≡ (eqb (get_or a i 0) (get_or b i 0) && equal (drop (i + 1) a) (drop (i + 1) b))
   unfolding equal
   equal_next = rw (add-one, drop-cons a i 0, drop-cons b i 0)
+
+-- `equal` compares place by place
+pub equal_pointwise : (a b : List ℕ) → pointwise eqb a b ≡ equal a b
+unfolding equal
+equal_pointwise [] [] = refl
+equal_pointwise [] (y ∷ b) = refl
+equal_pointwise (x ∷ a) [] = refl
+equal_pointwise (x ∷ a) (y ∷ b) = ap (λ (t : Bool). eqb x y && t) (equal_pointwise a b)
+
+-- no bytes agree with none
+pub agreement_none : (a b : List ℕ) → length b ≡ 0 → agreement a b ≡ 0
+unfolding agreement
+agreement_none [] b h = refl
+agreement_none (x ∷ a) [] h = refl
+agreement_none (x ∷ a) (y ∷ b) h = absurd (omega arith)
+
+pub none_agreement : (a b : List ℕ) → length a ≡ 0 → agreement a b ≡ 0
+unfolding agreement
+none_agreement [] b h = refl
+none_agreement (x ∷ a) b h = absurd (omega arith)
+
+pub agreement_next : (a b c d : List ℕ) (x y : ℕ) → a ≡ x ∷ c → b ≡ y ∷ d → agreement a b ≡ cond (eqb x y) 1 0 + agreement c d
+unfolding agreement
+agreement_next a b c d x y e f = rw (e, f)
+
+-- no more agree than there are
+pub agreement_fits : (a b : List ℕ) → agreement a b ≤ length a
+unfolding agreement
+agreement_fits [] b = lit≤ tt
+agreement_fits (x ∷ a) [] = omega arith
+agreement_fits (x ∷ a) (y ∷ b) = go (eqb x y) (agreement_fits a b)
+  where
+    go : (t : Bool) → agreement a b ≤ length a → cond t 1 0 + agreement a b ≤ suc (length a)
+    go true h = omega arith
+    go false h = omega arith
+
+-- the stops are the elements that equal the stop
+pub stops_count : (stop : ℕ) (s : List ℕ) → stops stop s ≡ count_by (λ (b : ℕ). eqb b stop) s
+unfolding stops
+stops_count stop s = is_count_by (stops stop) (λ (b : ℕ). eqb b stop) refl (λ b t. go (eqb b stop) (stops stop t)) s
+  where
+    go : (t : Bool) (n : ℕ) → cond t 1 0 + n ≡ cond t (1 + n) n
+    go true n = refl
+    go false n = omega arith
+
+-- what stands before the first stop is no longer than the whole
+pub until_fits : (stop : ℕ) (s : List ℕ) → length (until stop s) ≤ length s
+unfolding until
+until_fits stop [] = lit≤ tt
+until_fits stop (b ∷ s) = go (eqb b stop) (until_fits stop s)
+  where
+    go : (t : Bool) → length (until stop s) ≤ length s → length (cond t [] (b ∷ until stop s)) ≤ suc (length s)
+    go true e = omega arith
+    go false e = omega arith
 
 pub after_none : (stop k : ℕ) → after stop k [] ≡ []
 unfolding after

@@ -1,37 +1,32 @@
 // Parts of a line of bytes, and two slices of bytes compared.
 #![tactic(auto)]
 
-ghost use Rattle.std.specs.Prelude.{◌≡◌, cond, [], ◌-◌, ◌≤◌, leb, length, take, drop};
+ghost use Rattle.std.specs.Prelude.{◌≡◌, cond, [], ◌≤◌, leb, length, take, drop};
 ghost use Rattle.bench_split.specs.Parts.{after, until, part_of, parts_of, equal};
 ghost use Rattle.bench_split.specs.Agreement.{agreement};
-
-// 1 where it is so, else 0.
-fn tally(so: bool) -> usize
-    ensures { (result ≡ cond so 1 0) × (result ≤ 1) }
-{
-    if so { 1 } else { 0 }
-}
 
 // Where part i of s starts, the parts being separated by `stop`; the end of s where there are fewer.
 fn start_of(s: &[u8], stop: u8, i: usize) -> usize
     ensures { (result ≤ length s.now) × (drop result s.now ≡ after stop i s.now) }
 {
-    let mut seen: usize = 0;
-    let mut j: usize = 0;
-    while j < s.len() && seen < i {
-        seen = seen + tally(s[j] == stop);
-        j = j + 1;
+    let mut left = i;
+    for (j, b) in s.iter().enumerate() {
+        if left == 0 {
+            return j;
+        }
+        if *b == stop {
+            left -= 1;
+        }
     }
-    j
+    s.len()
 }
 
-// The first `stop` of s from `from` on, or the end of s.
-fn end_of(s: &[u8], stop: u8, from: usize) -> usize
-    requires { from ≤ length s.now }
-    ensures { ((from ≤ result) × (result ≤ length s.now)) × (result - from ≡ length (until stop (drop from s.now))) }
+// How many bytes stand before the first `stop` of s; all where there is none.
+fn bytes_before(s: &[u8], stop: u8) -> usize
+    ensures { result ≡ length (until stop s.now) }
 {
-    for j in from..s.len() {
-        if s[j] == stop {
+    for (j, b) in s.iter().enumerate() {
+        if *b == stop {
             return j;
         }
     }
@@ -42,60 +37,40 @@ fn end_of(s: &[u8], stop: u8, from: usize) -> usize
 pub fn part<'a>(s: &'a [u8], stop: u8, i: usize) -> &'a [u8]
     ensures { result.now ≡ part_of stop s.now i }
 {
-    let start = start_of(s, stop, i);
-    let end = end_of(s, stop, start);
-    &s[start..end]
+    let rest = &s[start_of(s, stop, i)..];
+    &rest[..bytes_before(rest, stop)]
 }
 
-// The first n bytes, or none where there are fewer.
-pub fn front<'a>(s: &'a [u8], n: usize) -> &'a [u8]
+// The first n of what s holds, or none where there are fewer.
+pub fn front<'a, T>(s: &'a [T], n: usize) -> &'a [T]
     ensures { result.now ≡ cond (leb n (length s.now)) (take n s.now) [] }
 {
-    if n <= s.len() { &s[0..n] } else { &s[0..0] }
-}
-
-// The first n parts of points, or none where there are fewer.
-pub fn front_parts<'a>(s: &'a [f64], n: usize) -> &'a [f64]
-    ensures { result.now ≡ cond (leb n (length s.now)) (take n s.now) [] }
-{
-    if n <= s.len() { &s[0..n] } else { &s[0..0] }
+    if n <= s.len() { &s[..n] } else { &s[..0] }
 }
 
 // How many parts s has.
 pub fn parts(s: &[u8], stop: u8) -> usize
     ensures { result ≡ parts_of stop s.now }
 {
-    let mut n: usize = 0;
-    for j in 0..s.len() {
-        n = n + tally(s[j] == stop);
-    }
-    n + 1
+    s.iter().filter(|b| **b == stop).count() + 1
 }
 
 // Whether two slices hold the same bytes.
 pub fn same(a: &[u8], b: &[u8]) -> bool
     ensures { result ≡ equal a.now b.now }
 {
-    if a.len() != b.len() {
-        return false;
-    }
-    for i in 0..a.len() {
-        if a[i] != b[i] {
-            return false;
-        }
-    }
-    true
+    a == b
 }
 
 // How many bytes of two slices agree, place by place.
 pub fn agreeing(a: &[u8], b: &[u8]) -> usize
     ensures { result ≡ agreement a.now b.now }
 {
-    let mut n: usize = 0;
-    let mut i: usize = 0;
-    while i < a.len() && i < b.len() {
-        n = n + tally(a[i] == b[i]);
-        i = i + 1;
+    let mut n = 0;
+    for (x, y) in a.iter().zip(b) {
+        if x == y {
+            n += 1;
+        }
     }
     n
 }

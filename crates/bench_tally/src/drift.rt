@@ -9,10 +9,6 @@ pub struct Drift {
     pub hertz: f64,
 }
 
-fn size_of(x: f64) -> f64 {
-    if x < 0.0f64 { -x } else { x }
-}
-
 // The tangent of half the angle of a tangent.
 fn half(t: f64) -> f64 {
     t / (1.0f64 + root(1.0f64 + t * t))
@@ -36,7 +32,7 @@ fn acute(x: f64, y: f64) -> f64 {
 
 // The angle of a point in degrees.
 fn degrees_of(x: f64, y: f64) -> f64 {
-    let a = acute(size_of(x), size_of(y));
+    let a = acute(x.abs(), y.abs());
     let b = if x < 0.0f64 { 180.0f64 - a } else { a };
     if y < 0.0f64 { -b } else { b }
 }

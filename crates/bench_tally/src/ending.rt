@@ -9,7 +9,7 @@ use bench_line::words::front;
 use bench_words::report;
 use bench_words::text::{one_of, say, say_named, text};
 use isdbs_core::frame::FRAME_SYMBOLS;
-use refusal::Answer;
+use refusal::Refusal;
 use std::fs::File;
 
 // The name of the report while it is written.
@@ -90,7 +90,7 @@ fn say_end(t: Tally) {
 fn end(rt: &HostRuntime, name: &[u8], output: &[u8], slots: usize, held: Held, t: Tally) {
     if plus(held.start, held.count) < FRAME_SYMBOLS {
         files::discard(rt, output);
-        report::refused(Answer::Symbols);
+        report::refused(Refusal::Symbols);
         text(b"a whole frame has 39,936 points\n");
         return;
     }

@@ -1,92 +1,109 @@
 // A line of the report, put together in a buffer. Numbers have no commas, as PLACE of cut has none.
 use crate::drift::Drift;
-use bench_files::files::put;
+use bench_files::files;
 use bench_frames::words::whole;
 use bench_header::Told;
 use bench_line::space::LINE_BYTES;
-use bench_line::words::{front, part, parts};
+use bench_line::words::front;
 
-fn put_number(line: &mut [u8; LINE_BYTES], at: usize, number: u64) -> usize {
-    let mut digits = [0u8; 20];
-    let n = io::decimal(number, &mut digits);
-    put(line, at, &digits[..n])
+// A line, and the place after what was put on it. What does not fit is cut off.
+#[derive(Drop)]
+pub(crate) struct Line {
+    bytes: [u8; LINE_BYTES],
+    at: usize,
 }
 
-// Number i, where there is one.
-fn put_one(line: &mut [u8; LINE_BYTES], at: usize, numbers: &[usize], i: usize) -> usize {
-    if i < numbers.len() {
-        return put_number(line, at, numbers[i] as u64);
+impl Line {
+    pub(crate) fn new() -> Line {
+        Line {
+            bytes: io::buffer(),
+            at: 0,
+        }
     }
-    at
-}
 
-// A form, each $ of it replaced by the next of the numbers.
-pub fn put_form(line: &mut [u8; LINE_BYTES], from: usize, form: &[u8], numbers: &[usize]) -> usize {
-    let mut at = from;
-    let n = parts(form, b'$');
-    for i in 0..n {
-        let after = put(line, at, part(form, b'$', i));
-        at = put_one(line, after, numbers, i);
+    pub(crate) fn put(&mut self, s: &[u8]) {
+        self.at = files::put(&mut self.bytes, self.at, s);
     }
-    at
+
+    fn number(&mut self, n: u64) {
+        let mut digits = [0u8; 20];
+        let k = io::decimal(n, &mut digits);
+        self.put(&digits[..k]);
+    }
+
+    // A form: each $ in it is the next of the numbers, where there is one.
+    pub(crate) fn form(&mut self, form: &[u8], numbers: &[usize]) {
+        let mut rest = numbers.iter();
+        for &b in form {
+            if b != b'$' {
+                self.put(&[b]);
+            } else if let Some(&n) = rest.next() {
+                self.number(n as u64);
+            }
+        }
+    }
+
+    // Writes what was put, and answers whether all of it is there.
+    pub(crate) fn write(&self, report: i32) -> bool {
+        io::write_all(report, front(&self.bytes, self.at))
+    }
 }
 
 // A number of 0 or more, to the nearest hundredth.
-fn put_hundredths(line: &mut [u8; LINE_BYTES], from: usize, x: f64) -> usize {
+fn put_hundredths(line: &mut Line, x: f64) {
     if x < 1000000000.0f64 {
         let n = whole(x * 100.0f64 + 0.5f64);
-        let a = put_number(line, from, n / 100);
-        let b = put(line, a, b".");
-        let c = put_number(line, b, n / 10 % 10);
-        return put_number(line, c, n % 10);
+        line.number(n / 100);
+        line.put(b".");
+        line.number(n / 10 % 10);
+        line.number(n % 10);
+    } else {
+        line.put(b"beyond measure");
     }
-    put(line, from, b"beyond measure")
 }
 
 // A number after some words.
-fn put_signed(line: &mut [u8; LINE_BYTES], at: usize, words: &[u8], x: f64) -> usize {
-    let from = put(line, at, words);
+fn put_signed(line: &mut Line, words: &[u8], x: f64) {
+    line.put(words);
     if x <= -0.005f64 {
-        let a = put(line, from, b"-");
-        return put_hundredths(line, a, -x);
+        line.put(b"-");
+        put_hundredths(line, -x);
+    } else if x < 0.0f64 {
+        line.put(b"0.00");
+    } else {
+        put_hundredths(line, x);
     }
-    if x < 0.0f64 {
-        return put(line, from, b"0.00");
-    }
-    put_hundredths(line, from, x)
 }
 
-pub fn put_drift(line: &mut [u8; LINE_BYTES], from: usize, d: Drift) -> usize {
-    let a = put_signed(line, from, b"; drift ", d.degrees);
-    let b = put_signed(line, a, b" degrees, ", d.hertz);
-    put(line, b, b" Hz")
+pub(crate) fn put_drift(line: &mut Line, d: Drift) {
+    put_signed(line, b"; drift ", d.degrees);
+    put_signed(line, b" degrees, ", d.hertz);
+    line.put(b" Hz");
 }
 
 // The degrees of a turn in eighths.
 fn degrees(turn: u8) -> usize {
-    if turn < 8 {
-        return 45 * (turn as usize);
-    }
-    0
+    if turn < 8 { 45 * (turn as usize) } else { 0 }
 }
 
-pub fn put_turn(line: &mut [u8; LINE_BYTES], from: usize, turn: u8) -> usize {
+pub(crate) fn put_turn(line: &mut Line, turn: u8) {
     if turn == 0 {
-        return put(line, from, b"not turned");
+        line.put(b"not turned");
+    } else {
+        line.form(b"turned by $ degrees", &[degrees(turn)]);
     }
-    put_form(line, from, b"turned by $ degrees", &[degrees(turn)])
 }
 
 // Its kind, with the frame's number in its superframe, where that is known.
-fn put_kind(line: &mut [u8; LINE_BYTES], from: usize, first: bool, position: usize) -> usize {
+fn put_kind(line: &mut Line, first: bool, position: Option<usize>) {
     if first {
-        return put(line, from, b"first");
+        line.put(b"first");
+        return;
     }
-    let a = put(line, from, b"other");
-    if position == 0 {
-        return a;
+    line.put(b"other");
+    if let Some(n) = position {
+        line.form(b" ($ of 8)", &[n]);
     }
-    put_form(line, a, b" ($ of 8)", &[position])
 }
 
 // The number of the last word of a header: W2 in the first frame of a superframe, W3 in another.
@@ -95,20 +112,12 @@ fn last_word(first: bool) -> usize {
 }
 
 // What the header says.
-pub fn put_header(line: &mut [u8; LINE_BYTES], from: usize, told: Told, position: usize) -> usize {
-    let first = told.first;
-    let a = put_kind(line, from, first, position);
-    let b = put(line, a, b", ");
-    let c = put_turn(line, b, told.turn);
-    put_form(
-        line,
-        c,
+pub(crate) fn put_header(line: &mut Line, told: Told, position: Option<usize>) {
+    put_kind(line, told.first, position);
+    line.put(b", ");
+    put_turn(line, told.turn);
+    line.form(
         b", W1 $ of 20, W$ $ of 20",
-        &[told.w1, last_word(first), told.last],
-    )
-}
-
-// Writes the first n bytes, and answers whether all are there.
-pub fn write(report: i32, line: &[u8; LINE_BYTES], n: usize) -> bool {
-    io::write_all(report, front(line, n))
+        &[told.w1, last_word(told.first), told.last],
+    );
 }

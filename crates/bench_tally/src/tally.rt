@@ -1,44 +1,40 @@
 // The frames that were read so far, each entered with its line.
 use crate::drift::between;
 use crate::line;
-use crate::line::put_form;
-use bench_files::files::put;
+use crate::line::Line;
 use bench_header::{Told, plus};
-use bench_line::space::LINE_BYTES;
-use bench_line::words::part;
+use bench_verdict::firm::Weakest;
 use bench_verdict::last;
 use header_mean::Mean;
-use isdbs_core::frame::{FRAME_SYMBOLS, FRAMES, SLOTS};
+use isdbs_core::frame::{FRAME_SYMBOLS, FRAMES};
+use refusal::Refusal;
 use strain_window::{Pushed, WindowState, push};
 
-// What a frame's reading is worth: the number of the row that refused it, or 0; the worth that bench_verdict gives it; the points outside the margins of its
-// bytes; how many slots are weak or not the best, and the first of them; its steps and strained steps; its weakest valid slot, 48 where there is none, and the strength
-// there in percent.
+// What a frame's reading is worth: the worth that bench_verdict gives it; the points outside the margins of its bytes; how many slots are weak or not the best,
+// and the first of them; its steps and strained steps; its weakest valid slot, where there is one.
 #[derive(Clone, Copy)]
 pub struct Worth {
-    pub row: usize,
-    pub worth: u8,
+    pub worth: last::Worth,
     pub outside: usize,
     pub slots: usize,
     pub first: usize,
     pub steps: usize,
     pub strained: u32,
-    pub weakest: usize,
-    pub strength: usize,
+    pub weakest: Option<Weakest>,
 }
 
-// A frame of the capture: its place, what its header says, the header's mean, whether it was turned right before it was read, and what its reading is worth.
+// A frame of the capture: its place, what its header says, the header's mean, whether it was turned right before it was read, and what its reading is worth or why it was refused.
 #[derive(Clone, Copy)]
 pub struct Frame {
     pub place: usize,
     pub told: Told,
     pub mean: Mean,
     pub is_aligned: bool,
-    pub worth: Worth,
+    pub worth: Result<Worth, Refusal>,
 }
 
-// How many frames, and how many of each verdict; whether every line was written; the place after the last frame, its number in its superframe (0 where that is
-// not known) and its header's mean; and the window of strain.
+// How many frames, and how many of each verdict; whether every line was written; the place after the last frame, its number in its superframe, where that is
+// known, and its header's mean; and the window of strain.
 #[derive(Clone, Copy)]
 pub struct Tally {
     pub frames: usize,
@@ -47,27 +43,22 @@ pub struct Tally {
     pub doubtful: usize,
     pub is_written: bool,
     pub end: usize,
-    pub position: usize,
+    pub position: Option<usize>,
     pub mean: Mean,
     pub window: WindowState,
 }
 
-// Why a frame is doubtful.
-const NOT: u8 = 0;
-
-const TURNED: u8 = 1;
-
-const WITHIN: u8 = 2;
-
-const DISORDER: u8 = 3;
-
-const REFUSED: u8 = 4;
-
-const OTHER_BYTES: u8 = 5;
-
-const WEAK: u8 = 6;
-
-const ASIDE: u8 = 7;
+// Why a frame is doubtful, with the numbers that are said of it.
+#[derive(Clone, Copy)]
+enum Reason {
+    Turned(u8),
+    Within,
+    Disorder,
+    Refused(Refusal),
+    OtherBytes(usize),
+    Weak(Worth),
+    Aside(usize),
+}
 
 // The window of strain: a superframe.
 const WINDOW: u32 = 8;
@@ -80,7 +71,7 @@ pub fn none_yet() -> Tally {
         doubtful: 0,
         is_written: true,
         end: 0,
-        position: 0,
+        position: None,
         mean: Mean {
             re: 0.0,
             im: 0.0,
@@ -94,222 +85,183 @@ pub fn none_yet() -> Tally {
     }
 }
 
-fn wide(n: u32) -> usize {
-    n as usize
-}
-
 // Whether a frame follows at once on the one before it.
 fn follows(t: Tally, place: usize) -> bool {
     t.frames > 0 && place == t.end
 }
 
-// The number of a frame in its superframe, 0 where it is not known.
-fn next_position(t: Tally, place: usize, first: bool) -> usize {
+// The number of a frame in its superframe, where it is known.
+fn next_position(t: Tally, place: usize, first: bool) -> Option<usize> {
     if first {
-        return 1;
+        return Some(1);
     }
-    if follows(t, place) && t.position > 0 && t.position < FRAMES {
-        return plus(t.position, 1);
+    match t.position {
+        Some(n) if follows(t, place) && n < FRAMES => Some(plus(n, 1)),
+        _ => None,
     }
-    0
 }
 
 // Whether the kind of a frame that follows at once is not the one that follows in a superframe of eight.
 fn is_disorder(t: Tally, place: usize, first: bool) -> bool {
-    if t.position == 0 || !follows(t, place) {
-        return false;
+    match t.position {
+        Some(n) if follows(t, place) => first == (n != FRAMES),
+        _ => false,
     }
-    if first {
-        return t.position != FRAMES;
-    }
-    t.position == FRAMES
 }
 
-// Why a frame is doubtful, the first reason that holds; or that it is not.
-fn reason(t: Tally, f: Frame) -> u8 {
+// Why a frame is doubtful, the first reason that holds.
+fn reason_of(t: Tally, f: Frame) -> Option<Reason> {
     let h = f.told;
-    let w = f.worth;
     if !h.fits && !f.is_aligned {
-        return TURNED;
+        return Some(Reason::Turned(h.turn));
     }
     if f.place < t.end {
-        return WITHIN;
+        return Some(Reason::Within);
     }
     if is_disorder(t, f.place, h.first) {
-        return DISORDER;
+        return Some(Reason::Disorder);
     }
-    if w.row > 0 {
-        return REFUSED;
+    match f.worth {
+        Ok(w) => by_worth(w, f.is_aligned),
+        Err(row) => Some(Reason::Refused(row)),
     }
-    by_worth(w.worth, f.is_aligned)
 }
 
 // Why a reading of this worth is doubtful. What the mean of a header leaves of gain and turn in a frame that was turned right is no reason.
-fn by_worth(worth: u8, is_aligned: bool) -> u8 {
-    match worth {
-        last::CERTAIN | last::FIRM => NOT,
-        last::WEAK => WEAK,
-        last::OTHER => OTHER_BYTES,
-        _ => {
+fn by_worth(w: Worth, is_aligned: bool) -> Option<Reason> {
+    match w.worth {
+        last::Worth::Certain | last::Worth::Firm => None,
+        last::Worth::Weak => Some(Reason::Weak(w)),
+        last::Worth::Other => Some(Reason::OtherBytes(w.outside)),
+        last::Worth::Turned | last::Worth::Aside => {
             if is_aligned {
-                return NOT;
+                return None;
             }
-            ASIDE
+            Some(Reason::Aside(w.outside))
         }
     }
 }
 
-// A reason that has no number.
-fn put_order(line: &mut [u8; LINE_BYTES], from: usize, is_within: bool) -> usize {
-    let reasons =
-        b"its kind is not the next one of a superframe|it begins within the frame before it";
-    put(line, from, part(reasons, b'|', is_within as usize))
-}
-
-// A reason that has the number of the points outside the margins alone.
-fn put_outside(line: &mut [u8; LINE_BYTES], from: usize, is_aside: bool, outside: usize) -> usize {
-    let reasons =
-        b"$ points outside the margins, and another reading fits better|gain or turn off: align first; $ points outside the margins";
-    put_form(
-        line,
-        from,
-        part(reasons, b'|', is_aside as usize),
-        &[outside],
-    )
-}
-
-fn put_reason(line: &mut [u8; LINE_BYTES], from: usize, why: u8, f: Frame) -> usize {
-    let h = f.told;
-    let w = f.worth;
+fn put_reason(line: &mut Line, why: Reason) {
     match why {
-        TURNED => line::put_turn(line, from, h.turn),
-        WITHIN | DISORDER => put_order(line, from, why == WITHIN),
-        REFUSED => put_form(line, from, b"refused $", &[w.row]),
-        WEAK => put_form(
-            line,
-            from,
+        Reason::Turned(turn) => line::put_turn(line, turn),
+        Reason::Within => line.put(b"it begins within the frame before it"),
+        Reason::Disorder => line.put(b"its kind is not the next one of a superframe"),
+        Reason::Refused(row) => { line.form(b"refused $", &[refusal::number(Err(row)) as usize]) }
+        Reason::OtherBytes(outside) => line.form(
+            b"$ points outside the margins, and another reading fits better",
+            &[outside],
+        ),
+        Reason::Weak(w) => line.form(
             b"valid slots weak: $, the weakest slot $; $ points outside the margins",
             &[w.slots, w.first, w.outside],
         ),
-        _ => put_outside(line, from, why == ASIDE, w.outside),
+        Reason::Aside(outside) => line.form(
+            b"gain or turn off: align first; $ points outside the margins",
+            &[outside],
+        ),
     }
 }
 
-fn put_verdict(line: &mut [u8; LINE_BYTES], from: usize, why: u8, f: Frame) -> usize {
-    let w = f.worth;
-    if why != NOT {
-        let a = put(line, from, b"; doubtful: ");
-        return put_reason(line, a, why, f);
+// The points outside the margins of the bytes that were read; 0 of a frame that was refused.
+fn outside_of(f: Frame) -> usize {
+    match f.worth {
+        Ok(w) => w.outside,
+        Err(_) => 0,
     }
-    if w.outside == 0 {
-        return put(line, from, b"; certain");
+}
+
+fn put_verdict(line: &mut Line, why: Option<Reason>, f: Frame) {
+    if let Some(reason) = why {
+        line.put(b"; doubtful: ");
+        put_reason(line, reason);
+        return;
     }
-    put_form(
-        line,
-        from,
-        b"; best, firm in every slot: $ points outside the margins",
-        &[w.outside],
-    )
+    match outside_of(f) {
+        0 => line.put(b"; certain"),
+        n => line.form(
+            b"; best, firm in every slot: $ points outside the margins",
+            &[n],
+        ),
+    }
 }
 
 // Strain and the weakest slot of a frame that was read.
-fn put_strain(line: &mut [u8; LINE_BYTES], from: usize, w: Worth, kept: Pushed) -> usize {
-    let state = kept.state;
-    if w.row > 0 {
-        return from;
-    }
-    let a = put_form(
-        line,
-        from,
+fn put_strain(line: &mut Line, w: Worth, kept: Pushed) {
+    line.form(
         b"; $ of $ steps strained, last $: total $, greatest $",
         &[
-            wide(w.strained),
+            w.strained as usize,
             w.steps,
-            wide(state.fill),
-            wide(kept.total),
-            wide(kept.greatest),
+            kept.state.fill as usize,
+            kept.total as usize,
+            kept.greatest as usize,
         ],
     );
-    if w.weakest >= SLOTS {
-        return a;
+    if let Some(weakest) = w.weakest {
+        line.form(
+            b"; weakest valid slot $: strength $ %",
+            &[weakest.slot, weakest.strength as usize],
+        );
     }
-    put_form(
-        line,
-        a,
-        b"; weakest valid slot $: strength $ %",
-        &[w.weakest, w.strength],
-    )
 }
 
-// The line of a frame, and where it ends.
-fn put_frame(line: &mut [u8; LINE_BYTES], t: Tally, f: Frame, why: u8, kept: Pushed) -> usize {
-    let h = f.told;
-    let position = next_position(t, f.place, h.first);
-    let a = put_form(
-        line,
-        0,
-        b"frame $ at point $: ",
-        &[plus(t.frames, 1), f.place],
-    );
-    let b = line::put_header(line, a, h, position);
-    let c = if follows(t, f.place) {
-        line::put_drift(line, b, between(t.mean, f.mean))
-    } else {
-        b
-    };
-    let d = put_verdict(line, c, why, f);
-    let e = put_strain(line, d, f.worth, kept);
-    put(line, e, b"\n")
-}
-
-// Writes the line of a frame.
-fn write_frame(report: i32, t: Tally, f: Frame, why: u8, kept: Pushed) -> bool {
-    let mut line = io::buffer();
-    let n = put_frame(&mut line, t, f, why, kept);
-    line::write(report, &line, n)
-}
-
-fn one(so: bool) -> usize {
-    if so { 1 } else { 0 }
+// Writes the line of a frame, and answers whether all of it is there.
+fn write_frame(report: i32, t: Tally, f: Frame, why: Option<Reason>, kept: Pushed) -> bool {
+    let mut line = Line::new();
+    line.form(b"frame $ at point $: ", &[plus(t.frames, 1), f.place]);
+    line::put_header(&mut line, f.told, next_position(t, f.place, f.told.first));
+    if follows(t, f.place) {
+        line::put_drift(&mut line, between(t.mean, f.mean));
+    }
+    put_verdict(&mut line, why, f);
+    if let Ok(w) = f.worth {
+        put_strain(&mut line, w, kept);
+    }
+    line.put(b"\n");
+    line.write(report)
 }
 
 // The tally with one frame more.
-fn counted(t: Tally, f: Frame, why: u8, is_written: bool, window: WindowState) -> Tally {
-    let h = f.told;
-    let w = f.worth;
-    let mean = f.mean;
-    let is_certain = why == NOT && w.outside == 0;
+fn counted(
+    t: Tally,
+    f: Frame,
+    why: Option<Reason>,
+    is_written: bool,
+    window: WindowState,
+) -> Tally {
+    let is_best = why.is_none() && outside_of(f) > 0;
+    let is_certain = why.is_none() && !is_best;
     Tally {
         frames: plus(t.frames, 1),
-        certain: plus(t.certain, one(is_certain)),
-        best: plus(t.best, one(why == NOT && !is_certain)),
-        doubtful: plus(t.doubtful, one(why != NOT)),
+        certain: plus(t.certain, usize::from(is_certain)),
+        best: plus(t.best, usize::from(is_best)),
+        doubtful: plus(t.doubtful, usize::from(why.is_some())),
         is_written,
         end: plus(f.place, FRAME_SYMBOLS),
-        position: next_position(t, f.place, h.first),
-        mean,
+        position: next_position(t, f.place, f.told.first),
+        mean: f.mean,
         window,
     }
 }
 
-// Keeps the strain of a frame that was read; that of another one is not kept.
-fn keep_strain(t: Tally, w: Worth, sums: &mut [u32; FRAMES]) -> Pushed {
-    let window = t.window;
-    if w.row > 0 {
-        return Pushed {
-            answer: refusal::Answer::Accepted,
-            state: window,
-            total: 0,
-            greatest: 0,
-        };
+// Keeps the strain of a frame that was read. Where nothing is kept: the window as it was, and no sums to tell of.
+fn keep_strain(t: Tally, f: Frame, sums: &mut [u32; FRAMES]) -> Pushed {
+    let unmoved = Pushed {
+        state: t.window,
+        total: 0,
+        greatest: 0,
+    };
+    match f.worth {
+        Ok(w) => push(t.window, false, w.strained, sums).unwrap_or(unmoved),
+        Err(_) => unmoved,
     }
-    push(window, false, w.strained, sums)
 }
 
 // Enters a frame: its line to the report, and the tally with it.
 pub fn enter(report: i32, t: Tally, f: Frame, sums: &mut [u32; FRAMES]) -> Tally {
-    let why = reason(t, f);
-    let kept = keep_strain(t, f.worth, sums);
+    let why = reason_of(t, f);
+    let kept = keep_strain(t, f, sums);
     let is_written = write_frame(report, t, f, why, kept);
     counted(t, f, why, is_written, kept.state)
 }

@@ -28,42 +28,24 @@ pub fn in_all(steps: usize, strained: u32) {
 // More slots than these are counted and not named.
 const NAMED: usize = 8;
 
-fn tally(so: bool) -> usize
-    ensures { result ≤ 1 }
-{
-    if so { 1 } else { 0 }
-}
-
 // How many of the counts are not 0.
 fn counted(counts: &[u32; SLOTS]) -> usize
     ensures { result ≤ frame_slots }
 {
-    let mut n: usize = 0;
-    for k in 0..SLOTS {
-        n = n + tally(counts[k] != 0);
-    }
-    n
+    counts.iter().filter(|&&n| n != 0).count()
 }
 
-// Names slot k where its count is not 0, the one of n of which `left` are not yet named; then how many are left.
-fn slot_name(n: usize, left: usize, k: usize, amount: u32) -> usize {
-    if amount == 0 {
-        return left;
-    }
-    if left == 0 {
-        return left;
-    }
-    if left < n {
-        one_of(b", | and ", (left == 1) as usize);
-    }
-    count(k);
-    left - 1
-}
-
+// Names the n slots whose counts are not 0.
 fn slot_names(counts: &[u32; SLOTS], n: usize) {
     let mut left = n;
-    for k in 0..SLOTS {
-        left = slot_name(n, left, k, counts[k]);
+    for (k, &amount) in counts.iter().enumerate() {
+        if amount != 0 && left > 0 {
+            if left < n {
+                one_of(b", | and ", (left == 1) as usize);
+            }
+            count(k);
+            left -= 1;
+        }
     }
 }
 

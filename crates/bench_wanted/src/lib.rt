@@ -6,16 +6,15 @@ mod misfit;
 use bench_files::files;
 use bench_files::files::Got;
 use bench_line::space::LOAD_SPACE;
-use bench_line::words::{front, front_parts, part};
+use bench_line::words::{front, part};
 use bench_setting::setting::{Setting, setting_for_two};
 use bench_words::report;
-use bench_words::report::Valid;
 use bench_words::text::{file, text};
 use isdbs_core::frame::MAIN_SYMBOLS;
 use isdbs_core::tmcc::Table;
 use isdbs_points::Mapping;
-use refusal::Answer;
-use wanted_load::{LoadFound, wanted_load};
+use refusal::Refusal;
+use wanted_load::wanted_load;
 
 // Writes the load.
 fn keep(rt: &HostRuntime, name: &[u8], bytes: &[u8]) {
@@ -27,7 +26,7 @@ fn keep(rt: &HostRuntime, name: &[u8], bytes: &[u8]) {
 
 // The last lines of a frame that was turned back.
 fn refuse(
-    answer: Answer,
+    row: Refusal,
     points: Got,
     t: Table,
     m: Mapping,
@@ -36,9 +35,9 @@ fn refuse(
     im: &[f64; MAIN_SYMBOLS],
     load: &mut [u8; LOAD_SPACE],
 ) {
-    match answer {
-        Answer::NoLoad => misfit::show(t, m, first, re, im, load),
-        _ => report::refuse_reading(answer, points.count, points.over, re, im),
+    match row {
+        Refusal::NoLoad => misfit::show(t, m, first, re, im, load),
+        _ => report::refuse_reading(row, points.count, points.over, re, im),
     }
 }
 
@@ -55,10 +54,9 @@ fn find(
     bytes: &mut [u8; LOAD_SPACE],
 ) {
     let n = points.count;
-    let found = wanted_load(front_parts(re, n), front_parts(im, n), t, m, first, bytes);
-    match found {
-        LoadFound::Load(size) => keep(rt, output, front(bytes, size)),
-        LoadFound::Refused(answer) => refuse(answer, points, t, m, first, re, im, bytes),
+    match wanted_load(front(re, n), front(im, n), t, m, first, bytes) {
+        Ok(size) => keep(rt, output, front(bytes, size)),
+        Err(row) => refuse(row, points, t, m, first, re, im, bytes),
     }
 }
 
@@ -97,13 +95,11 @@ fn find_in_space(rt: &HostRuntime, s: Setting, line: &[u8]) {
 
 // bench bytes TABLE MAPPING KIND FRAME BYTES
 pub fn bytes(rt: &HostRuntime, line: &[u8]) {
-    let s = setting_for_two(line, b"bytes takes TABLE MAPPING KIND FRAME BYTES");
-    if !s.is_good {
+    let Some(s) = setting_for_two(line, b"bytes takes TABLE MAPPING KIND FRAME BYTES") else {
         return;
-    }
+    };
     let t = s.table;
-    match report::table(t) {
-        Valid::Slots(_) => find_in_space(rt, s, line),
-        Valid::Refused => {}
+    if report::table(t).is_some() {
+        find_in_space(rt, s, line);
     }
 }

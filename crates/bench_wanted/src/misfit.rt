@@ -1,20 +1,18 @@
 // The first point that fits no load: the load that the points show is read off and encoded again, and the frames are compared point by point.
-ghost use Rattle.std.specs.Prelude.{◌≤◌};
-ghost use Rattle.isdbs_frame.specs.Frame.{main_symbols};
 ghost use Rattle.isdbs_plan.specs.RunsOf.{Planned};
 
 use bench_files::f64_bits;
 use bench_line::space::LOAD_SPACE;
 use bench_line::words::front;
 use bench_words::report;
-use bench_words::text::{one_of, say, text};
+use bench_words::text::{say, text};
 use isdbs_core::frame::MAIN_SYMBOLS;
 use isdbs_core::slots::Plan;
 use isdbs_core::tmcc::{Table, table_answer};
 use isdbs_phy::demod::encode_frame;
 use isdbs_plan::plan_of;
 use isdbs_points::{Mapping, start_state};
-use refusal::Answer;
+use refusal::Refusal;
 use wanted_read::read_load;
 
 // The number of standard output.
@@ -25,44 +23,20 @@ fn differ(x: f64, y: f64) -> bool {
     f64_bits(x) != f64_bits(y)
 }
 
-// The first point in which two frames differ, or the end of the frames.
-fn first_difference(
-    re: &[f64; MAIN_SYMBOLS],
-    im: &[f64; MAIN_SYMBOLS],
-    xs: &[f64; MAIN_SYMBOLS],
-    ys: &[f64; MAIN_SYMBOLS],
-) -> usize
-    ensures { result ≤ main_symbols }
-{
-    for k in 0..MAIN_SYMBOLS {
-        if differ(re[k], xs[k]) || differ(im[k], ys[k]) {
-            return k;
-        }
-    }
-    MAIN_SYMBOLS
-}
-
-// The place of a part, given by its bits, among those that are shown as numbers, counted from 1; 0 where it is none of them.
-fn part_place(bits: u64) -> usize {
-    match bits {
-        0 => 1,
-        0x8000_0000_0000_0000 => 2,
-        0x3ff0_0000_0000_0000 => 3,
-        0xbff0_0000_0000_0000 => 4,
-        0x3fe6_a09e_667f_3bcd => 5,
-        0xbfe6_a09e_667f_3bcd => 6,
-        0x7ff8_0000_0000_0000 => 7,
-        _ => 0,
-    }
-}
-
 // A part in words: those of a made frame as numbers, others by their bits.
 fn part(x: f64) {
-    let n = f64_bits(x);
-    let place = part_place(n);
-    one_of(b"0x|0|-0|1|-1|0.7071|-0.7071|NaN", place);
-    if place == 0 {
-        io::print_hex(STDOUT_FILENO, n, 16);
+    match f64_bits(x) {
+        0 => text(b"0"),
+        0x8000_0000_0000_0000 => text(b"-0"),
+        0x3ff0_0000_0000_0000 => text(b"1"),
+        0xbff0_0000_0000_0000 => text(b"-1"),
+        0x3fe6_a09e_667f_3bcd => text(b"0.7071"),
+        0xbfe6_a09e_667f_3bcd => text(b"-0.7071"),
+        0x7ff8_0000_0000_0000 => text(b"NaN"),
+        bits => {
+            text(b"0x");
+            io::print_hex(STDOUT_FILENO, bits, 16);
+        }
     }
 }
 
@@ -80,19 +54,22 @@ fn refuse_at(k: usize, x: f64, y: f64, u: f64, v: f64) {
     say(b"point $ is ", &[k]);
     point(b"(", x, y, b"); the load that the points show has (");
     point(b"", u, v, b") there\n");
-    report::refused(Answer::NoLoad);
+    report::refused(Refusal::NoLoad);
     say(b"point $ fits no load (points are counted from 0)\n", &[k]);
 }
 
+// The last lines: the first point in which two frames differ.
 fn refuse_first(
     re: &[f64; MAIN_SYMBOLS],
     im: &[f64; MAIN_SYMBOLS],
     xs: &[f64; MAIN_SYMBOLS],
     ys: &[f64; MAIN_SYMBOLS],
 ) {
-    let k = first_difference(re, im, xs, ys);
-    if k < MAIN_SYMBOLS {
-        refuse_at(k, re[k], im[k], xs[k], ys[k]);
+    for k in 0..MAIN_SYMBOLS {
+        if differ(re[k], xs[k]) || differ(im[k], ys[k]) {
+            refuse_at(k, re[k], im[k], xs[k], ys[k]);
+            return;
+        }
     }
 }
 
@@ -122,7 +99,7 @@ fn read_by_table(
     let p = plan_of(t);
     let n = p.bytes;
     let answer = table_answer(t);
-    let Answer::Accepted = answer else {
+    let Ok(()) = answer else {
         return 0;
     };
     read_off(p, m, first, re, im, load);
@@ -140,12 +117,10 @@ fn show_against(
     xs: &mut [f64; MAIN_SYMBOLS],
     ys: &mut [f64; MAIN_SYMBOLS],
 ) {
-    let answer = encode_frame(load, t, first, m, xs, ys);
-    let Answer::Accepted = answer else {
-        report::refuse(answer);
-        return;
-    };
-    refuse_first(re, im, xs, ys);
+    match encode_frame(load, t, first, m, xs, ys) {
+        Ok(()) => refuse_first(re, im, xs, ys),
+        Err(row) => report::refuse(row),
+    }
 }
 
 // The last lines of a frame that no load has, on lent space for the load that its points show.

@@ -1,31 +1,27 @@
 // Reports: the table as understood, refusals, and differences.
 ghost use Rattle.std.specs.Prelude.{◌≡◌, ◌-◌, ◌%◌, ◌<◌, ◌≤◌};
 ghost use Rattle.isdbs_combination.specs.Combinations.{unit_of};
-ghost use Rattle.isdbs_frame.specs.Frame.{main_symbols, slot_bytes};
+ghost use Rattle.isdbs_frame.specs.Frame.{slot_bytes};
 
 use crate::text::{byte, combination, one_of, say, text};
 use bench_line::agreement::agreeing;
 use bench_line::words::part;
-use isdbs_core::combination::{Combination, MaybeCombination};
+use isdbs_core::combination::Combination;
 use isdbs_core::frame::{MAIN_SYMBOLS, SLOT_BYTES, SLOTS};
 use isdbs_core::slots;
 use isdbs_core::slots::Run;
 use isdbs_core::tmcc::{Entry, Table};
 use isdbs_points::PART_LIMIT;
-use refusal::Answer;
-
-fn wide(n: u32) -> usize {
-    n as usize
-}
+use refusal::Refusal;
 
 fn word_of(e: Entry) -> usize {
-    e.word as usize
+    usize::from(e.word)
 }
 
 fn slots_of(e: Entry) -> usize
     ensures { result < 256 }
 {
-    e.slots as usize
+    usize::from(e.slots)
 }
 
 // An entry that takes slots and carries nothing.
@@ -35,8 +31,8 @@ fn entry_line(e: Entry) {
     }
     let c = e.combination();
     match c {
-        MaybeCombination::Some(_) => {}
-        MaybeCombination::None => say(
+        Some(_) => {}
+        None => say(
             b"  word $: no combination, $ slots that carry nothing\n",
             &[word_of(e), slots_of(e)],
         ),
@@ -61,16 +57,8 @@ fn run_line(r: Run) {
     );
 }
 
-fn run_at(rs: [Run; 4], n: usize, i: usize) {
-    if i < n {
-        if i < 4 {
-            run_line(rs[i]);
-        }
-    }
-}
-
 // What each row of document 01's table says, by its number; 0 is none of them.
-fn row(number: usize) {
+fn meaning(number: usize) {
     let rows = b"the library does not take this\n\
         the table takes more than 48 slots\n\
         the table has no valid slot to compare\n\
@@ -90,15 +78,19 @@ fn row(number: usize) {
     text(part(rows, b'\n', number));
 }
 
+fn number_of(row: Refusal) -> usize {
+    refusal::number(Err(row)) as usize
+}
+
 // How the last line of a refused run begins.
-pub fn refused(answer: Answer) {
-    say(b"refused $: ", &[wide(refusal::number(answer))]);
+pub fn refused(row: Refusal) {
+    say(b"refused $: ", &[number_of(row)]);
 }
 
 // The last line of a call that was turned back.
-pub fn refuse(answer: Answer) {
-    refused(answer);
-    row(wide(refusal::number(answer)));
+pub fn refuse(row: Refusal) {
+    refused(row);
+    meaning(number_of(row));
     text(b"\n");
 }
 
@@ -122,11 +114,11 @@ fn filled(n: usize, unit: usize) -> usize
 fn refuse_part(i: usize, e: Entry) {
     let c = e.combination();
     match c {
-        MaybeCombination::Some(c) => {
+        Some(c) => {
             let n = slots_of(e);
             let unit = unit_of(c);
             let low = filled(n, unit);
-            refused(Answer::PartUnit);
+            refused(Refusal::PartUnit);
             say(b"entry $, ", &[i]);
             combination(c);
             say(
@@ -134,7 +126,7 @@ fn refuse_part(i: usize, e: Entry) {
                 &[n, unit, low, low + unit],
             );
         }
-        MaybeCombination::None => {}
+        None => {}
     }
 }
 
@@ -150,7 +142,7 @@ fn part_at(i: usize, e: Entry) -> bool {
 // Whether entry i gives slots to a reserved word; then it is shown.
 fn reserved_at(i: usize, e: Entry) -> bool {
     if e.reserved_word() {
-        refused(Answer::ReservedWord);
+        refused(Refusal::ReservedWord);
         say(
             b"entry $, word $ with $ slots: the word is reserved; with 0 slots, or with word 15, it would be taken\n",
             &[i, word_of(e), slots_of(e)],
@@ -160,33 +152,27 @@ fn reserved_at(i: usize, e: Entry) -> bool {
     false
 }
 
-// Whether an answer is about entry i; then it is shown.
-fn entry_at(answer: Answer, i: usize, e: Entry) -> bool {
-    match answer {
-        Answer::PartUnit => part_at(i, e),
+// Whether a refusal is about entry i; then it is shown.
+fn entry_at(row: Refusal, i: usize, e: Entry) -> bool {
+    match row {
+        Refusal::PartUnit => part_at(i, e),
         _ => reserved_at(i, e),
     }
 }
 
-// The first entry that an answer is about.
-fn refuse_entry(t: Table, answer: Answer) {
-    let es = t.entries;
-    if entry_at(answer, 1, es[0]) {
-        return;
+// The first entry that a refusal is about.
+fn refuse_entry(t: Table, row: Refusal) {
+    for (i, e) in t.entries.iter().enumerate() {
+        if entry_at(row, i + 1, *e) {
+            return;
+        }
     }
-    if entry_at(answer, 2, es[1]) {
-        return;
-    }
-    if entry_at(answer, 3, es[2]) {
-        return;
-    }
-    entry_at(answer, 4, es[3]);
 }
 
 // The slots of a table that are too many.
-fn refuse_sum(t: Table, answer: Answer) {
+fn refuse_sum(t: Table, row: Refusal) {
     let es = t.entries;
-    refused(answer);
+    refused(row);
     let sum = slots_of(es[0]) + slots_of(es[1]) + slots_of(es[2]) + slots_of(es[3]);
     say(
         b"the table takes $ slots, and a frame has $\n",
@@ -195,58 +181,40 @@ fn refuse_sum(t: Table, answer: Answer) {
 }
 
 // The last line of a table that was turned back.
-fn refuse_table(t: Table, answer: Answer) {
-    match answer {
-        Answer::Table => refuse_sum(t, answer),
-        Answer::PartUnit => refuse_entry(t, answer),
-        Answer::ReservedWord => refuse_entry(t, answer),
-        _ => refuse(answer),
+fn refuse_table(t: Table, row: Refusal) {
+    match row {
+        Refusal::Table => refuse_sum(t, row),
+        Refusal::PartUnit | Refusal::ReservedWord => refuse_entry(t, row),
+        _ => refuse(row),
     }
 }
 
-fn entry_lines(t: Table) {
-    let es = t.entries;
-    entry_line(es[0]);
-    entry_line(es[1]);
-    entry_line(es[2]);
-    entry_line(es[3]);
-}
-
-fn run_lines(rs: [Run; 4], n: usize) {
-    run_at(rs, n, 0);
-    run_at(rs, n, 1);
-    run_at(rs, n, 2);
-    run_at(rs, n, 3);
-}
-
-// Whether a table is accepted.
-#[derive(Clone, Copy)]
-pub enum Valid {
-    Slots(usize),
-    Refused,
-}
-
-// The table as understood, and its valid slots, at most those of a frame; or the refusal.
-pub fn table(t: Table) -> Valid {
-    let all = slots::runs(t);
-    let answer = all.answer;
-    let Answer::Accepted = answer else {
-        refuse_table(t, answer);
-        return Valid::Refused;
+// The table as understood, and its valid slots, at most those of a frame; none where it is refused, which is then said.
+pub fn table(t: Table) -> Option<usize> {
+    let all = match slots::runs(t) {
+        Ok(all) => all,
+        Err(row) => {
+            refuse_table(t, row);
+            return None;
+        }
     };
     text(b"table:\n");
     let rs = all.runs;
-    run_lines(rs, all.count);
-    entry_lines(t);
+    for r in rs.iter().take(all.count) {
+        run_line(*r);
+    }
+    for e in &t.entries {
+        entry_line(*e);
+    }
     let v = all.valid_slots;
     if v > SLOTS {
-        return Valid::Refused;
+        return None;
     }
     say(
         b"  in all $ valid slots of $ bytes: the frame carries $ bytes\n",
         &[v, SLOT_BYTES, SLOT_BYTES * v],
     );
-    Valid::Slots(v)
+    Some(v)
 }
 
 // Whether a part of a point is refused by row 7.
@@ -258,18 +226,6 @@ fn is_number(x: f64) -> bool {
     x - x == 0.0f64
 }
 
-// The first point of the frame with a bad part, or the end of the frame.
-fn first_bad(re: &[f64; MAIN_SYMBOLS], im: &[f64; MAIN_SYMBOLS]) -> usize
-    ensures { result ≤ main_symbols }
-{
-    for k in 0..MAIN_SYMBOLS {
-        if is_bad(re[k]) || is_bad(im[k]) {
-            return k;
-        }
-    }
-    MAIN_SYMBOLS
-}
-
 fn bad_part(k: usize, name: &[u8], x: f64) {
     say(b"refused 7: point $'s ", &[k]);
     text(name);
@@ -279,15 +235,16 @@ fn bad_part(k: usize, name: &[u8], x: f64) {
     );
 }
 
+// The first point of the frame with a bad part.
 fn refuse_sample(re: &[f64; MAIN_SYMBOLS], im: &[f64; MAIN_SYMBOLS]) {
-    let k = first_bad(re, im);
-    if k < MAIN_SYMBOLS {
-        let x = re[k];
-        let y = im[k];
-        if is_bad(x) {
-            bad_part(k, b"real", x);
-        } else {
-            bad_part(k, b"imaginary", y);
+    for k in 0..MAIN_SYMBOLS {
+        if is_bad(re[k]) {
+            bad_part(k, b"real", re[k]);
+            return;
+        }
+        if is_bad(im[k]) {
+            bad_part(k, b"imaginary", im[k]);
+            return;
         }
     }
 }
@@ -301,38 +258,29 @@ fn refuse_symbols(points: usize, over: usize) {
 
 // The last line of a reading that was turned back.
 pub fn refuse_reading(
-    answer: Answer,
+    row: Refusal,
     points: usize,
     over: usize,
     re: &[f64; MAIN_SYMBOLS],
     im: &[f64; MAIN_SYMBOLS],
 ) {
-    match answer {
-        Answer::Symbols => refuse_symbols(points, over),
-        Answer::Sample => refuse_sample(re, im),
-        _ => refuse(answer),
+    match row {
+        Refusal::Symbols => refuse_symbols(points, over),
+        Refusal::Sample => refuse_sample(re, im),
+        _ => refuse(row),
     }
 }
 
-// The first place where two slices differ, or the shorter one's end.
-fn first_difference(a: &[u8], b: &[u8]) -> usize {
-    let mut i: usize = 0;
-    while i < a.len() && i < b.len() {
-        if a[i] != b[i] {
-            break;
-        }
-        i = i + 1;
-    }
-    i
-}
-
+// The first place where two slices differ.
 fn difference(a: &[u8], b: &[u8]) {
-    let i = first_difference(a, b);
-    if i < a.len() && i < b.len() {
-        say(b"; first difference at byte $: sent 0x", &[i]);
-        byte(a[i]);
-        text(b", read 0x");
-        byte(b[i]);
+    for (i, (x, y)) in a.iter().zip(b).enumerate() {
+        if x != y {
+            say(b"; first difference at byte $: sent 0x", &[i]);
+            byte(*x);
+            text(b", read 0x");
+            byte(*y);
+            return;
+        }
     }
 }
 
@@ -344,10 +292,7 @@ pub fn slot_line(k: usize, a: &[u8], b: &[u8]) -> usize
     say(b"  valid slot $: $ of $ bytes agree", &[k, n, SLOT_BYTES]);
     difference(a, b);
     text(b"\n");
-    if n < SLOT_BYTES {
-        return n;
-    }
-    SLOT_BYTES
+    n.min(SLOT_BYTES)
 }
 
 // n of m bytes agree.

@@ -40,19 +40,13 @@ pub fn count(n: usize) {
     number(n as u64);
 }
 
-// Number i, where there is one.
-fn number_at(numbers: &[usize], i: usize) {
-    if i < numbers.len() {
-        count(numbers[i]);
-    }
-}
-
 // Writes a form, each $ of it replaced by the next of the numbers.
 pub fn say(form: &[u8], numbers: &[usize]) {
-    let n = parts(form, b'$');
-    for i in 0..n {
+    for i in 0..parts(form, b'$') {
         text(part(form, b'$', i));
-        number_at(numbers, i);
+        if let Some(n) = numbers.get(i) {
+            count(*n);
+        }
     }
 }
 
@@ -63,16 +57,6 @@ pub fn byte(b: u8) {
 // Whether a byte is shown as it is: no control byte.
 fn is_shown(b: u8) -> bool {
     b >= 32 && b != 127
-}
-
-// Whether every byte of a name is shown as it is.
-fn is_all_shown(s: &[u8]) -> bool {
-    for i in 0..s.len() {
-        if !is_shown(s[i]) {
-            return false;
-        }
-    }
-    true
 }
 
 // A byte of a name: a control byte as \x and its two digits.
@@ -87,12 +71,12 @@ fn letter(b: u8) {
 
 // A name with its control bytes as \x and their digits, so that it stays within its line.
 pub fn name(s: &[u8]) {
-    if is_all_shown(s) {
+    if s.iter().all(|b| is_shown(*b)) {
         text(s);
         return;
     }
-    for i in 0..s.len() {
-        letter(s[i]);
+    for b in s {
+        letter(*b);
     }
 }
 
@@ -124,22 +108,14 @@ pub fn file(kind: &[u8], path: &[u8], n: usize, what: &[u8]) {
     text(what);
 }
 
-// The place of a combination among their names.
-fn combination_place(c: Combination) -> usize {
-    match c {
-        Combination::Bpsk1_2 => 0,
-        Combination::Qpsk1_2 => 1,
-        Combination::Qpsk2_3 => 2,
-        Combination::Qpsk3_4 => 3,
-        Combination::Qpsk5_6 => 4,
-        Combination::Qpsk7_8 => 5,
-        Combination::Tc8psk2_3 => 6,
-    }
-}
-
 pub fn combination(c: Combination) {
-    one_of(
-        b"BPSK 1/2|QPSK 1/2|QPSK 2/3|QPSK 3/4|QPSK 5/6|QPSK 7/8|TC8PSK 2/3",
-        combination_place(c),
-    );
+    text(match c {
+        Combination::Bpsk1_2 => b"BPSK 1/2",
+        Combination::Qpsk1_2 => b"QPSK 1/2",
+        Combination::Qpsk2_3 => b"QPSK 2/3",
+        Combination::Qpsk3_4 => b"QPSK 3/4",
+        Combination::Qpsk5_6 => b"QPSK 5/6",
+        Combination::Qpsk7_8 => b"QPSK 7/8",
+        Combination::Tc8psk2_3 => b"TC8PSK 2/3",
+    });
 }

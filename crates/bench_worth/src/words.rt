@@ -1,6 +1,6 @@
 // A verdict in a few words.
 use crate::Verdict;
-use bench_verdict::last;
+use bench_verdict::last::Worth;
 use bench_words::text::{say, text};
 
 // So many slots, and the weakest of them.
@@ -12,12 +12,11 @@ fn say_slots(what: &[u8], v: Verdict) {
 
 // Why a reading is good or doubtful.
 pub fn say_worth(v: Verdict) {
-    let worth = v.worth;
-    match worth {
-        last::CERTAIN => text(b"certain"),
-        last::FIRM => text(b"best, firm in every slot"),
-        last::WEAK => say_slots(b"weak", v),
-        last::OTHER => say_slots(b"not the best", v),
-        _ => text(b"doubtful: gain or turn off: align first"),
+    match v.worth {
+        Worth::Certain => text(b"certain"),
+        Worth::Firm => text(b"best, firm in every slot"),
+        Worth::Weak => say_slots(b"weak", v),
+        Worth::Other => say_slots(b"not the best", v),
+        Worth::Turned | Worth::Aside => text(b"doubtful: gain or turn off: align first"),
     }
 }

@@ -10,7 +10,7 @@ ghost use Rattle.best_backward.specs.Prices.{Halved, BackRoom, price_of, turned_
 ghost use Rattle.best_forward.specs.Room.{listed};
 ghost use Rattle.trellis.specs.Isdb;
 
-use best_forward::{cost_of, number, smaller, states};
+use best_forward::{cost_of, number, states};
 use best_grid::{FAR, LEVEL};
 use trellis::{HALF, STATES};
 use viterbi_branches::{BRANCH, Numbers};
@@ -58,8 +58,8 @@ fn back_state(
     let later = ahead(differing, t, kept, u, s);
     let aside = ahead(after, t, turned, u, s);
     Onward {
-        least: smaller(same, other),
-        other: smaller(later, smaller(aside, other)),
+        least: same.min(other),
+        other: later.min(aside.min(other)),
     }
 }
 
@@ -153,10 +153,10 @@ fn turned_prices(metrics: &[f32], k: usize, side: u8, z: u8) -> [u64; 4]
 fn low_prices(kept: &[u64; 4], turned: &[u64; 4]) -> [u64; 4]
     ensures { Lower kept.now turned.now result }
 {
-    let a = smaller(kept[0], turned[0]);
-    let b = smaller(kept[1], turned[1]);
-    let c = smaller(kept[2], turned[2]);
-    let e = smaller(kept[3], turned[3]);
+    let a = kept[0].min(turned[0]);
+    let b = kept[1].min(turned[1]);
+    let c = kept[2].min(turned[2]);
+    let e = kept[3].min(turned[3]);
     [a, b, c, e]
 }
 
@@ -176,9 +176,7 @@ pub fn back_steps(
         × (d.new ≡ other_run (two metrics.now sides.now) (price_at metrics.now sides.now) (seq bits.now) (seq uncoded.now) d.old b.old at count) × Halved d.new }
 {
     let t = BRANCH;
-    let mut left = count;
-    while left > 0 {
-        left -= 1;
+    for left in (0..count).rev() {
         let k = at + left;
         let side = sides[k];
         let z = uncoded[k];

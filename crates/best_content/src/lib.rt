@@ -18,7 +18,7 @@ ghost use Rattle.best_grid.specs.Best.{start_table, best_bits, best_start, best_
 ghost use Rattle.trellis.specs.Isdb;
 
 use best_backward::back_steps;
-use best_forward::{cheapest_state, pass, smaller, start_table};
+use best_forward::{cheapest_state, pass, start_table};
 use best_grid::FAR;
 use best_uncoded::write_uncoded;
 use path_greatest::Start;
@@ -31,9 +31,7 @@ fn traced_start(decisions: &[u64], n: usize, state: usize) -> usize
     ensures { (result < Isdb.states) × (result ≡ back Isdb.half (take n decisions.now) n state n) }
 {
     let mut s = state;
-    let mut t = n;
-    while t > 0 {
-        t -= 1;
+    for t in (0..n).rev() {
         s = 2 * (s % HALF) + ((decisions[t] >> s) % 2) as usize;
     }
     s
@@ -46,7 +44,7 @@ fn least_sum(table: &[u64], d: &[u64; STATES]) -> u64
 {
     let mut m: u64 = FAR + FAR;
     for s in 0..STATES {
-        m = smaller(m, table[s] + d[s]);
+        m = m.min(table[s] + d[s]);
     }
     m
 }
@@ -56,9 +54,7 @@ fn keep_table(d: &[u64; STATES], tables: &mut [u64])
     requires { Isdb.states ≤ length tables.old }
     ensures { tables.new ≡ laid (upto (seq d.now) Isdb.states) tables.old }
 {
-    for s in 0..STATES {
-        tables[s] = d[s];
-    }
+    tables[..STATES].copy_from_slice(d);
 }
 
 // The forward pass over the steps from a up to b: the table before them is kept at the place `at`, their words lie from a on.
@@ -104,13 +100,6 @@ fn pass_slots(
     }
 }
 
-// By how much m is beyond n.
-fn beyond(m: u64, n: u64) -> u64
-    ensures { result ≡ m - n }
-{
-    if m < n { 0 } else { m - n }
-}
-
 // No content differs yet.
 fn none_differs() -> [u64; STATES]
     ensures { result ≡ fars }
@@ -133,8 +122,7 @@ fn lead_slot(
     ensures { (b.new ≡ back_run b.old (low (two metrics.now sides.now) (price_at metrics.now sides.now)) at count)
         × (result ≡ least_of table.now (other_run (two metrics.now sides.now) (price_at metrics.now sides.now) (seq bits.now) (seq uncoded.now) fars b.old at count) Isdb.states) }
 {
-    let none = none_differs();
-    let mut d = none;
+    let mut d = none_differs();
     back_steps(b, &mut d, metrics, sides, bits, uncoded, at, count);
     least_sum(table, &d)
 }
@@ -154,11 +142,8 @@ fn lead_slots(
         × (Isdb.states * length leads.old ≤ length tables.now) × Lowered (length leads.old) tables.now }
     ensures { leads.new ≡ upto (lead_at metrics.now sides.now bits.now uncoded.now marks.now tables.now own (length metrics.now / 4)) (length leads.old) }
 {
-    let zeros = [0u64; STATES];
-    let mut b = zeros;
-    let mut left = leads.len();
-    while left > 0 {
-        left -= 1;
+    let mut b = [0u64; STATES];
+    for left in (0..leads.len()).rev() {
         let at = marks[left] as usize;
         let to = marks[left + 1] as usize;
         let from = 64 * left;
@@ -173,7 +158,7 @@ fn lead_slots(
             to - at,
             &tables[from..end],
         );
-        leads[left] = beyond(m, own);
+        leads[left] = m.saturating_sub(own);
     }
 }
 
@@ -201,8 +186,7 @@ fn read_best(
     ensures kept { Saved (start_table start) (cost_at (quadruple metrics.now)) marks.now slots tables.new × (length tables.new ≡ length tables.old) }
 {
     let n = metrics.len() / 4;
-    let first = start_table(start);
-    let mut d = first;
+    let mut d = start_table(start);
     pass_slots(&mut d, metrics, marks, slots, tables, decisions);
     let end = cheapest_state(&d);
     let cost = d[end];

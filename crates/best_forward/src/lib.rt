@@ -1,7 +1,7 @@
 // The whole-number pass over a frame's metrics: of each state the least cost of a path to it, and a decision word for each step, by which the best path is traced back.
 #![tactic(auto)]
 
-ghost use Rattle.std.specs.Prelude.{◌≡◌, ◌+◌, ◌-◌, ◌*◌, ◌/◌, ◌%◌, ◌<◌, ◌≤◌, min, leb, length};
+ghost use Rattle.std.specs.Prelude.{◌≡◌, ◌+◌, ◌-◌, ◌*◌, ◌/◌, ◌%◌, ◌<◌, ◌≤◌, leb, length};
 ghost use Rattle.trellis.specs.Lists.{bit, upto, laid};
 ghost use Rattle.trellis.specs.Run.{quadruple};
 ghost use Rattle.viterbi_branches.specs.Branches.{BranchNumbers};
@@ -20,12 +20,6 @@ use path_greatest::Start;
 use trellis::{HALF, STATES};
 use viterbi_branches::{BRANCH, Numbers};
 use viterbi_release::trace;
-
-fn wide(x: u32) -> u64
-    ensures { result ≡ x }
-{
-    x as u64
-}
 
 // The units of 2^-20 in the f32 of this pattern without its sign, cut to whole ones, 2^43 at most; none in the infinity. An f32 of the exponent's field e is its 24 digits
 // over 2^(130 - e) units.
@@ -57,7 +51,7 @@ pub fn cost_of(x: f32) -> u64
     if x != x {
         return LEVEL;
     }
-    let bits = wide(f32::to_bits(x));
+    let bits = u64::from(f32::to_bits(x));
     let u = units(bits % 0x8000_0000);
     if bits < 0x8000_0000 {
         LEVEL - u
@@ -74,17 +68,11 @@ pub fn states(d: &[u64; STATES]) -> usize
     numbers.len()
 }
 
-pub fn smaller(a: u64, b: u64) -> u64
-    ensures { result ≡ min a b }
-{
-    if b <= a { b } else { a }
-}
-
 // Whether the odd way costs no more, as a bit.
 fn beats(odd: u64, even: u64) -> u64
     ensures { result ≡ bit (leb odd even) }
 {
-    (odd <= even) as u64
+    u64::from(odd <= even)
 }
 
 // The number 2X + Y of the branch from the state 2j + b on the input u. The sum of u and b tells it, so both halves of a step read the same entries.
@@ -126,8 +114,8 @@ fn cost_step(d: &mut [u64; STATES], t: &Numbers, m: &[u64; 4]) -> u64
         let odd = way(&old, t, m, 0, 1, j);
         let even_above = way(&old, t, m, 1, 0, j);
         let odd_above = way(&old, t, m, 1, 1, j);
-        d[j] = smaller(even, odd);
-        d[HALF + j] = smaller(even_above, odd_above);
+        d[j] = even.min(odd);
+        d[HALF + j] = even_above.min(odd_above);
         low = low | (beats(odd, even) << j);
         high = high | (beats(odd_above, even_above) << j);
     }
@@ -196,8 +184,7 @@ pub fn best_bits(metrics: &[f32], start: Start, decisions: &mut [u64], bits: &mu
     ensures greatest { Reading Isdb.half Isdb.labels Isdb.rule (StartsIn Isdb.states start) (grid_at (quadruple metrics.now)) (length metrics.now / 4)
         (best_bits start (quadruple metrics.now) (length metrics.now / 4)) }
 {
-    let first = start_table(start);
-    let mut d = first;
+    let mut d = start_table(start);
     let n = metrics.len() / 4;
     pass(&mut d, metrics, decisions);
     let end = cheapest_state(&d);

@@ -1,9 +1,7 @@
 -- Laws of row 5 at its place.
 use Rattle.std.specs.Prelude.{◌≡◌, refl, Bool, true, false, cond, List, [], ◌∷◌, ℕ, T, length, Float}
 use Rattle.std.proofs.Common.{sym, ◌∙◌, ap, lit<, eq-eqb, ne_eqb}
-use Rattle.refusal.specs.declared.Answer.{Answer}
-use Rattle.refusal.specs.declared.Answer.TheVariants.{Traceback, State, Length, Sample, Space}
-use Rattle.refusal.specs.Rows.{Row, number_of, first_row, accepted}
+use Rattle.refusal.specs.Rows.{Answer, Traceback, State, Length, Sample, Space, Row, number_of, first_row, accepted}
 use Rattle.refusal.specs.RowLaws.{refusing}
 use Rattle.refusal.proofs.RowLaws.{numbered, zero_accepted, placed_false, last_refuses, accepted_is, refused_is, refused_above, passed_above}
 use Rattle.trellis.specs.Lists.{first_place}

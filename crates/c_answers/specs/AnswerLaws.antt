@@ -1,9 +1,7 @@
 -- Laws of answers by number, and of copied lists.
 use Rattle.std.specs.Prelude.{◌≡◌, List, ℕ, ◌<◌, length, get_or}
 use Rattle.std.proofs.Common.{sym, ◌∙◌, ap, arith, ext_get_or, ne_eqb}
-use Rattle.refusal.specs.declared.Answer.{Answer}
-use Rattle.refusal.specs.declared.Answer.TheVariants.{Accepted}
-use Rattle.refusal.specs.Rows.{number_of}
+use Rattle.refusal.specs.Rows.{Answer, Accepted, number_of}
 use Rattle.c_answers.specs.Answers.{left}
 
 -- refused, what was there stays

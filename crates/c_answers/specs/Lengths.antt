@@ -1,7 +1,6 @@
 -- Row 5 of what only a C call can be handed: path values that are not 64, and lengths that the rows above do not depend on.
 use Rattle.std.specs.Prelude.{Bool, true, not, List, [], ◌∷◌, ◌++◌, eqb, ltb, length, Float}
-use Rattle.refusal.specs.declared.Answer.TheVariants.{Length}
-use Rattle.refusal.specs.Rows.{Row, place, placed}
+use Rattle.refusal.specs.Rows.{Length, Row, place, placed}
 use Rattle.trellis.specs.Isdb
 
 -- a row that stands above row 5 in document 01's table

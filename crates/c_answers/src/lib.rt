@@ -2,17 +2,17 @@
 #![tactic(auto)]
 
 ghost use Rattle.std.specs.Prelude.{◌≡◌, cond};
-ghost use Rattle.refusal.specs.Rows.{number_of, accepted};
+ghost use Rattle.refusal.specs.Rows.{number_of, accepted, Length};
 
-use refusal::{Answer, number};
+use refusal::{Refusal, number};
 
 // The number where row 5 holds: that of the rows above it, else 5.
-pub fn or_length(above: Answer) -> u32
-    ensures { result ≡ number_of (cond (accepted above) Answer.Length above) }
+pub fn or_length(above: Result<(), Refusal>) -> u32
+    ensures { result ≡ number_of (cond (accepted above) Length above) }
 {
     let n = number(above);
     if n != 0 {
         return n;
     }
-    number(Answer::Length)
+    number(Err(Refusal::Length))
 }

@@ -4,8 +4,7 @@ use mathlib.Core.List.{List, ◌++◌}
 use Prim.Native.Nat.{ℕ}
 use lib.ListN.{length}
 use lib.Ieee.{Float}
-use Rattle.refusal.specs.declared.Answer.{Answer}
-use Rattle.refusal.specs.Rows.{Row, number_of, first_row, Either}
+use Rattle.refusal.specs.Rows.{Answer, Row, number_of, first_row, Either}
 use Rattle.refusal.proofs.RowLaws.{zero_accepted}
 use Rattle.isdbs_tables.specs.declared.Table.{Table}
 use Rattle.isdbs_tables.specs.Tables.{table_rows}

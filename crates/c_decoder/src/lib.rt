@@ -1,16 +1,17 @@
 // A decoder whose state C holds: 64 path values, how many decision words are held, and the traceback. Taken from the lent places, and handed back.
 #![tactic(auto)]
 
-ghost use Rattle.std.specs.Prelude.{◌≡◌, length, take};
-ghost use Rattle.refusal.specs.Rows.{number_of};
+ghost use Rattle.std.specs.Prelude.{◌≡◌, length, take, MatchResult};
+ghost use Rattle.refusal.specs.Rows.{number_of, answer_of};
 ghost use Rattle.isdb_fec.specs.Rows.{handed_rows};
-ghost use Rattle.c_answers.specs.Answers.{answered, left};
+ghost use Rattle.c_answers.specs.Answers.{answered};
 ghost use Rattle.c_answers.specs.Lengths.{until_length};
 ghost use Rattle.c_decoder.specs.Decoders.{decoder_of};
 ghost use Rattle.trellis.specs.Isdb;
 
 use c_answers::or_length;
 use isdb_fec::conv::{Released, ViterbiDecoder};
+use refusal::Refusal;
 use trellis::STATES;
 use viterbi_rows::answer_lent;
 use viterbi_step::states;
@@ -50,21 +51,22 @@ fn put_values(values: &[f32; STATES], pm: &mut [f32])
 }
 
 // Hands the state back where the call was accepted.
-pub fn store(r: Released, pm: &mut [f32], held: &mut u64, count: &mut u64) -> u32
+pub fn store(r: Result<Released, Refusal>, pm: &mut [f32], held: &mut u64, count: &mut u64) -> u32
     requires { length pm.old ≡ Isdb.states }
-    ensures answers { result ≡ number_of r.answer }
-    ensures values { pm.new ≡ left result r.dec.pm pm.old }
-    ensures counts { (held.new ≡ left result r.dec.held held.old) × (count.new ≡ left result r.count count.old) }
+    ensures answers { result ≡ number_of (answer_of r) }
+    ensures places { MatchResult r
+        (λ x. (pm.new ≡ x.dec.pm) × (held.new ≡ x.dec.held) × (count.new ≡ x.count))
+        (λ _. (pm.new ≡ pm.old) × (held.new ≡ held.old) × (count.new ≡ count.old)) }
 {
-    let a = r.answer;
-    let answer = refusal::number(a);
-    if answer != 0 {
-        return answer;
+    match r {
+        Ok(released) => {
+            let dec = released.dec;
+            let values = dec.pm;
+            put_values(&values, pm);
+            *held = dec.held as u64;
+            *count = released.count as u64;
+            0
+        }
+        Err(row) => refusal::number(Err(row)),
     }
-    let dec = r.dec;
-    let values = dec.pm;
-    put_values(&values, pm);
-    *held = dec.held as u64;
-    *count = r.count as u64;
-    0
 }

@@ -6,9 +6,8 @@ use Prim.Native.Nat.{ℕ, ◌<◌}
 use lib.ListN.{length, get_or, drop, replicate, get_or-append}
 use lib.Ieee.{Float, nan}
 use borrow.Author.Tests.{eq-eqb, ne_eqb}
-use Rattle.refusal.specs.declared.Answer.{Answer}
-use Rattle.refusal.specs.Rows.{number_of, accepted, first_row, Said}
-use Rattle.refusal.proofs.RowLaws.{zero_accepted, says_number, said_some}
+use Rattle.refusal.specs.Rows.{Answer, number_of, accepted, first_row, Said}
+use Rattle.refusal.proofs.RowLaws.{zero_accepted, says_number, said_some, is_refused, err_refuses}
 use Rattle.trellis.specs.Lists.{laid, upto}
 use Rattle.trellis.specs.ListLaws.{length_upto, get_d_upto}
 use Rattle.isdbs_tables.specs.declared.Table as tmcc
@@ -17,7 +16,9 @@ use Rattle.isdbs_points.specs.declared.Mapping.{Mapping}
 use Rattle.isdbs_points.specs.Frame.{point_at, frame_re, frame_im, start_state}
 use Rattle.isdbs_metrics.specs.Reading.{decoded_bits, decoded_bytes}
 use Rattle.isdbs_phy.specs.declared.demod.FrameDecoded.{FrameDecoded}
-use Rattle.isdbs_phy.specs.declared.demod.FrameDecoded.TheVariants.{Decoded, Refused}
+use Rattle.refusal.specs.declared.Refusal.{Refusal}
+use Rattle.refusal.specs.Rows as row
+use Rattle.std.specs.Prelude.{Result, Ok, Err}
 use Rattle.isdbs_phy.specs.DecodeRows.{decode_rows, frame_said, frame_answer}
 use Rattle.margins.specs.Margins.{Within}
 use Rattle.isdbs_metrics.specs.Scales.{received_by}
@@ -59,16 +60,13 @@ lays answer t m load state re₀ im₀ re im er ei = record {
 -- ---- what is read
 
 -- the answer of `decode_frame` whose rows answer a
-answer_of : Answer → tmcc.Table → ℕ → FrameDecoded
-answer_of a t n = cond (accepted a) (Decoded (load_bytes t) (frame_steps t) n) (Refused a)
+answer_of : Answer → tmcc.Table → ℕ → Result FrameDecoded Refusal
+answer_of a t n = row.answered a (record { bytes = load_bytes t; steps = frame_steps t; strained = n })
 
 answer_said : (a : Answer) (t : tmcc.Table) (n : ℕ) → frame_said (answer_of a t n) ≡ frame_answer a t n
 unfolding answer_of
-answer_said a t n = go (accepted a)
-  where
-    go : (b : Bool) → frame_said (cond b (Decoded (load_bytes t) (frame_steps t) n) (Refused a)) ≡ cond {A = Said} b (0, load_bytes t ∷ frame_steps t ∷ n ∷ []) (number_of a, [])
-    go true = refl
-    go false = refl
+answer_said (Ok _) t n = refl
+answer_said (Err row) t n = rw (is_refused (Err row) err_refuses)
 
 -- THE THEOREM about the call: whatever the lent slices held, the load comes back without strain, or a slice is too short
 module _

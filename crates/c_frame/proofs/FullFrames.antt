@@ -3,8 +3,7 @@ use mathlib.Core.Path.{◌≡◌, sym, ◌∙◌, ap}
 use mathlib.Core.List.{List}
 use Prim.Native.Nat.{ℕ}
 use lib.Ieee.{Float}
-use Rattle.refusal.specs.declared.Answer.{Answer}
-use Rattle.refusal.specs.Rows.{number_of}
+use Rattle.refusal.specs.Rows.{Answer, number_of}
 use Rattle.trellis.specs.Lists.{laid}
 use Rattle.full_frame_parts.specs.Rows.{leaves}
 use Rattle.c_answers.specs.Answers.{left}

@@ -18,7 +18,7 @@ use c_mapping::mapping_of;
 use c_scales::{not_scales, scales_of};
 use c_table::table_of;
 use isdb_fec::conv::ConvEncoder;
-use isdbs_phy::demod::{DemodOptions, FrameDecoded};
+use isdbs_phy::demod::DemodOptions;
 
 // The 38,976 points of a frame from its bytes, with the encoder at a state, and the state that it ends in.
 #[unsafe(no_mangle)]
@@ -39,15 +39,13 @@ pub extern "C" fn isdbs_encode_frame(
     let t = table_of(table);
     let m = mapping_of(mapping);
     let enc = ConvEncoder { state };
-    let made = isdbs_phy::demod::encode_frame_with_state(bytes, t, enc, m, re, im);
-    let a = made.answer;
-    let answer = refusal::number(a);
-    if answer != 0 {
-        return answer;
+    match isdbs_phy::demod::encode_frame_with_state(bytes, t, enc, m, re, im) {
+        Ok(after) => {
+            *end = after.state;
+            0
+        }
+        Err(row) => refusal::number(Err(row)),
     }
-    let after = made.enc;
-    *end = after.state;
-    0
 }
 
 // The bytes of a frame from its 38,976 points. `first` and `known_start` are true unless 0. `scales` has one for each combination, in the order of words 1
@@ -97,11 +95,11 @@ pub extern "C" fn isdbs_decode_frame(
         counts,
     );
     match r {
-        FrameDecoded::Decoded(_, _, strained) => {
-            *sum = strained;
+        Ok(f) => {
+            *sum = f.strained;
             0
         }
-        FrameDecoded::Refused(a) => refusal::number(a),
+        Err(row) => refusal::number(Err(row)),
     }
 }
 

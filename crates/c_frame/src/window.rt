@@ -31,15 +31,14 @@ pub extern "C" fn isdbs_window_push(
         fill: *fill,
         next: *next,
     };
-    let r = strain_window::push(state, clear != 0, sum, kept);
-    let a = r.answer;
-    let answer = refusal::number(a);
-    if answer != 0 {
-        return answer;
+    match strain_window::push(state, clear != 0, sum, kept) {
+        Ok(r) => {
+            *fill = r.state.fill;
+            *next = r.state.next;
+            *total = r.total;
+            *greatest = r.greatest;
+            0
+        }
+        Err(row) => refusal::number(Err(row)),
     }
-    *fill = r.state.fill;
-    *next = r.state.next;
-    *total = r.total;
-    *greatest = r.greatest;
-    0
 }

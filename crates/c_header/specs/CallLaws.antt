@@ -1,17 +1,14 @@
 -- The sums as 32-bit numbers, and what an answer of `header_at` or `find_frame` tells.
-use Rattle.std.specs.Prelude.{◌≡◌, refl, Bool, true, false, cond, List, ℕ, ◌≤◌, ◌^◌, T, ltb, pos, Float}
+use Rattle.std.specs.Prelude.{◌≡◌, refl, Bool, true, false, cond, List, ℕ, ◌≤◌, ◌^◌, T, ltb, pos, Float, Result, Ok, Err}
 use Rattle.std.proofs.Common.{arith, SFits, to_z, of_z, to_z-of_z, lt-ltb, ltb-true}
 use Rattle.std.specs.Int.Signed.{mag}
 use Rattle.std.specs.Int.{w32}
 use Rattle.trellis.specs.ListLaws.{every, every_at}
-use Rattle.refusal.specs.declared.Answer.{Answer}
-use Rattle.refusal.specs.declared.Answer.TheVariants.{Symbols}
+use Rattle.refusal.specs.declared.Refusal.{Refusal}
+use Rattle.refusal.specs.Rows.{Accepted, Symbols, answered}
 use Rattle.header_sync.proofs.FitLaws.{fit_most}
 use Rattle.header_find.specs.declared.Header.{Header}
-use Rattle.header_find.specs.declared.HeaderAnswer.{HeaderAnswer}
-use Rattle.header_find.specs.declared.HeaderAnswer.TheVariants as read
-use Rattle.header_find.specs.declared.FrameAnswer.{FrameAnswer}
-use Rattle.header_find.specs.declared.FrameAnswer.TheVariants as found
+use Rattle.header_find.specs.declared.Found.{Found}
 use Rattle.header_find.specs.Headers.{header_of, header_at, doubted}
 use Rattle.c_header.specs.Calls.{sum_of}
 
@@ -38,21 +35,13 @@ pub stored : (s : ℕ) → s ≤ 80 → to_z w32 (of_z w32 (sum_of s)) ≡ sum_o
 stored s h = to_z-of_z (sum_small s h)
 
 -- ---- the answers
-pub read_told : (b : Bool) (h g : Header) → read.Read h ≡ cond {A = HeaderAnswer} b (read.Refused Symbols) (read.Read g) → (b ≡ false) × (h ≡ g)
-read_told true h g e = let z : ◌≡◌ {A = ℕ} 0 1 = cc in absurd (omega arith)
-read_told false h g e = (refl, cc)
+pub told : {A : Type 0} (b : Bool) (v w : A) → Ok v ≡ answered (cond b Symbols Accepted) w → (b ≡ false) × (v ≡ w)
+told true v w e = let z : ◌≡◌ {A = ℕ} 0 1 = cc in absurd (omega arith)
+told false v w e = (refl, cc)
 
-pub unread_told : (b : Bool) (a : Answer) (g : Header) → read.Refused a ≡ cond {A = HeaderAnswer} b (read.Refused Symbols) (read.Read g) → (b ≡ true) × (a ≡ Symbols)
-unread_told true a g e = (refl, cc)
-unread_told false a g e = let z : ◌≡◌ {A = ℕ} 0 1 = cc in absurd (omega arith)
-
-pub found_told : (b : Bool) (p q : ℕ) (h g : Header) → found.Found p h ≡ cond {A = FrameAnswer} b (found.Refused Symbols) (found.Found q g) → (b ≡ false) × (p ≡ q) × (h ≡ g)
-found_told true p q h g e = let z : ◌≡◌ {A = ℕ} 0 1 = cc in absurd (omega arith)
-found_told false p q h g e = (refl, cc, cc)
-
-pub unfound_told : (b : Bool) (a : Answer) (q : ℕ) (g : Header) → found.Refused a ≡ cond {A = FrameAnswer} b (found.Refused Symbols) (found.Found q g) → (b ≡ true) × (a ≡ Symbols)
-unfound_told true a q g e = (refl, cc)
-unfound_told false a q g e = let z : ◌≡◌ {A = ℕ} 0 1 = cc in absurd (omega arith)
+pub untold : {A : Type 0} (b : Bool) (row : Refusal) (w : A) → Err row ≡ answered (cond b Symbols Accepted) w → (b ≡ true) × (Err row ≡ Symbols)
+untold true row w e = (refl, cc)
+untold false row w e = let z : ◌≡◌ {A = ℕ} 0 1 = cc in absurd (omega arith)
 
 -- ---- the sums of a header
 pub header_most : (re im : List Float) (at : ℕ) → ((header_at re im at).re ≤ 80) × ((header_at re im at).im ≤ 80)

@@ -1,7 +1,6 @@
 -- The rows and the values of the C calls on headers.
 use Rattle.std.specs.Prelude.{Bool, cond, List, [], ◌∷◌, ℕ, ℤ, pos, ◌-ℤ◌, Float}
-use Rattle.refusal.specs.declared.Answer.TheVariants.{Symbols}
-use Rattle.refusal.specs.Rows.{Row}
+use Rattle.refusal.specs.Rows.{Symbols, Row}
 use Rattle.header_sync.specs.Fits.{short_at}
 use Rattle.header_sync.specs.Search.{found_at}
 use Rattle.header_find.specs.declared.Header.{Header}

@@ -10,7 +10,7 @@ ghost use Rattle.header_align.specs.Align.{align_rows, aligned_re, aligned_im};
 ghost use Rattle.c_header.specs.Calls.{header_rows, kind_of, sum_of, found_header};
 
 use header_align::align_frame;
-use header_find::{FrameAnswer, Header, HeaderAnswer, find_frame, header_at};
+use header_find::{Header, find_frame, header_at};
 
 fn kind_of(first: bool) -> u8
     ensures { result ≡ kind_of first }
@@ -58,10 +58,9 @@ pub extern "C" fn isdbs_header(
     ensures real { re_sum.new ≡ left result (sum_of (header_at re.now im.now at).re) re_sum.old }
     ensures imaginary { im_sum.new ≡ left result (sum_of (header_at re.now im.now at).im) im_sum.old }
 {
-    let answer = header_at(re, im, at as usize);
-    match answer {
-        HeaderAnswer::Refused(a) => refusal::number(a),
-        HeaderAnswer::Read(h) => {
+    match header_at(re, im, at as usize) {
+        Err(row) => refusal::number(Err(row)),
+        Ok(h) => {
             put_header(h, kind, turn, re_sum, im_sum);
             0
         }
@@ -87,12 +86,11 @@ pub extern "C" fn isdbs_find_frame(
     ensures real { re_sum.new ≡ left result (sum_of (found_header re.now im.now from).re) re_sum.old }
     ensures imaginary { im_sum.new ≡ left result (sum_of (found_header re.now im.now from).im) im_sum.old }
 {
-    let answer = find_frame(re, im, from as usize);
-    match answer {
-        FrameAnswer::Refused(a) => refusal::number(a),
-        FrameAnswer::Found(p, h) => {
-            *place = p as u64;
-            put_header(h, kind, turn, re_sum, im_sum);
+    match find_frame(re, im, from as usize) {
+        Err(row) => refusal::number(Err(row)),
+        Ok(found) => {
+            *place = found.place as u64;
+            put_header(found.header, kind, turn, re_sum, im_sum);
             0
         }
     }

@@ -19,24 +19,17 @@ ghost use Rattle.trellis.specs.Isdb;
 use isdb_fec::conv::{ConvEncoder, TRACEBACK_LIMIT};
 use isdbt_fec::conv::CodeRate;
 
-// A code rate or none.
-#[derive(Clone, Copy)]
-pub enum MaybeRate {
-    Rate(CodeRate),
-    NoRate,
-}
-
 // The rate of a number.
-fn rate_of(rate: u8) -> MaybeRate
+fn rate_of(rate: u8) -> Option<CodeRate>
     ensures { result ≡ rate_by rate }
 {
     match rate {
-        0 => MaybeRate::Rate(CodeRate::R1_2),
-        1 => MaybeRate::Rate(CodeRate::R2_3),
-        2 => MaybeRate::Rate(CodeRate::R3_4),
-        3 => MaybeRate::Rate(CodeRate::R5_6),
-        4 => MaybeRate::Rate(CodeRate::R7_8),
-        _ => MaybeRate::NoRate,
+        0 => Some(CodeRate::R1_2),
+        1 => Some(CodeRate::R2_3),
+        2 => Some(CodeRate::R3_4),
+        3 => Some(CodeRate::R5_6),
+        4 => Some(CodeRate::R7_8),
+        _ => None,
     }
 }
 
@@ -75,20 +68,19 @@ pub extern "C" fn isdbt_encode_punctured(
     ensures counts { count.new ≡ left result (by_rate (rate_by rate) 0 (λ c. length bits.now / period c * sent c)) count.old }
 {
     let m = rate_of(rate);
-    let MaybeRate::Rate(c) = m else {
+    let Some(c) = m else {
         return unknown_with_state(*state);
     };
     let enc = ConvEncoder { state: *state };
-    let r = isdbt_fec::conv::encode_punctured(enc, c, bits, out);
-    let a = r.answer;
-    let answer = refusal::number(a);
-    if answer != 0 {
-        return answer;
+    match isdbt_fec::conv::encode_punctured(enc, c, bits, out) {
+        Ok(encoded) => {
+            let end = encoded.enc;
+            *state = end.state;
+            *count = encoded.count as u64;
+            0
+        }
+        Err(row) => refusal::number(Err(row)),
     }
-    let end = r.enc;
-    *state = end.state;
-    *count = r.count as u64;
-    0
 }
 
 // Puts soft values in whole periods back to their places among the mother code's, 0 at those that were not sent.
@@ -99,17 +91,16 @@ pub extern "C" fn isdbt_depuncture(rate: u8, llrs: &[f32], out: &mut [f32], coun
     ensures counts { count.new ≡ left result (by_rate (rate_by rate) 0 (λ c. length llrs.now / sent c * (2 * period c))) count.old }
 {
     let m = rate_of(rate);
-    let MaybeRate::Rate(c) = m else {
+    let Some(c) = m else {
         return 5;
     };
-    let r = isdbt_fec::conv::depuncture(c, llrs, out);
-    let a = r.answer;
-    let answer = refusal::number(a);
-    if answer != 0 {
-        return answer;
+    match isdbt_fec::conv::depuncture(c, llrs, out) {
+        Ok(n) => {
+            *count = n as u64;
+            0
+        }
+        Err(row) => refusal::number(Err(row)),
     }
-    *count = r.count as u64;
-    0
 }
 
 // Decodes a punctured block whole, from state 0.
@@ -128,15 +119,14 @@ pub extern "C" fn isdbt_decode_punctured(
     ensures counts { count.new ≡ left result (by_rate (rate_by rate) 0 (λ c. length llrs.now / sent c * period c)) count.old }
 {
     let m = rate_of(rate);
-    let MaybeRate::Rate(c) = m else {
+    let Some(c) = m else {
         return unknown_with_traceback(traceback);
     };
-    let r = isdbt_fec::conv::decode_punctured(c, llrs, traceback as usize, decisions, out);
-    let a = r.answer;
-    let answer = refusal::number(a);
-    if answer != 0 {
-        return answer;
+    match isdbt_fec::conv::decode_punctured(c, llrs, traceback as usize, decisions, out) {
+        Ok(n) => {
+            *count = n as u64;
+            0
+        }
+        Err(row) => refusal::number(Err(row)),
     }
-    *count = r.count as u64;
-    0
 }

@@ -14,25 +14,26 @@ ghost use Rattle.c_judge.specs.Calls.{sum_of, WorthC};
 
 use c_mapping::mapping_of;
 use c_table::table_of;
-use judge::{FrameJudged, judge};
+use judge::judge;
+use refusal::Refusal;
 
 // The number of an answer.
-fn number_of(r: FrameJudged) -> u32
+fn number_of(r: Result<u32, Refusal>) -> u32
     ensures { result ≡ (judged_said r).0 }
 {
     match r {
-        FrameJudged::Judged(_) => 0,
-        FrameJudged::Refused(a) => refusal::number(a),
+        Ok(_) => 0,
+        Err(row) => refusal::number(Err(row)),
     }
 }
 
 // Its sum, or the number that was there.
-fn sum_of(r: FrameJudged, old: u32) -> u32
+fn sum_of(r: Result<u32, Refusal>, old: u32) -> u32
     ensures { result ≡ sum_of r old }
 {
     match r {
-        FrameJudged::Judged(sum) => sum,
-        FrameJudged::Refused(_) => old,
+        Ok(sum) => sum,
+        Err(_) => old,
     }
 }
 

@@ -1,30 +1,31 @@
 -- What the C call leaves, from what `mend` leaves and its answer's number.
-use mathlib.Core.Path.{◌≡◌, refl, sym, ap, ◌∙◌}
+use mathlib.Core.Path.{◌≡◌, refl, sym, ◌∙◌}
 use mathlib.Core.List.{List}
 use Prim.Native.Nat.{ℕ}
 use native.Mathlib.Omega.{arith}
-use Rattle.refusal.specs.Rows.{number_of}
-use Rattle.refusal.proofs.RowLaws.{zero_accepted, same_number}
-use Rattle.refusal.specs.declared.Answer.TheVariants.{Unmendable}
-use Rattle.mend.specs.declared.Mended.{Mended}
+use Rattle.std.specs.Prelude.{Ok, Err}
+use Rattle.refusal.specs.declared.Refusal.{Refusal}
+use Rattle.refusal.specs.Rows.{number_of, Unmendable}
+use Rattle.refusal.proofs.RowLaws.{zero_accepted, err_refuses, same_number}
 use Rattle.mend.specs.Calls.{Called}
 use Rattle.c_mend.specs.Calls.{Left}
 
-module _ (s e : ℕ) (bits : List ℕ) (r : Mended) (decisions₀ decisions out₀ out list₀ list : List ℕ) (call : Called s e bits r decisions₀ decisions out₀ out list₀ list) (n : ℕ) (is : n ≡ number_of r.answer) where
-  pub left_refused : (count : ℕ) → (n ≡ 0 → ⊥) → Left s e bits n count count decisions₀ decisions out₀ out list₀ list
-  left_refused count h =
-      let k = call.leaves.1 (λ y. h (is ∙ ap number_of y)) in
+module _ (s e : ℕ) (bits decisions₀ decisions out₀ out list₀ list : List ℕ) where
+  pub left_refused : (row : Refusal) → Called s e bits (Err row) decisions₀ decisions out₀ out list₀ list → (n : ℕ) → n ≡ number_of (Err row)
+      → (count : ℕ) → Left s e bits n count count decisions₀ decisions out₀ out list₀ list
+  left_refused row call n is count =
+      let k = call.leaves in
       record {
-        mends = λ z. absurd (h z);
+        mends = λ z. absurd (err_refuses {row = row} (zero_accepted (Err row) (sym is ∙ z)));
         keeps = λ z. (refl, k.decisions_is, k.out_is, k.list_is);
-        none = λ z. call.none (same_number r.answer Unmendable (sym is ∙ z));
+        none = λ z. call.none (same_number (Err row) Unmendable (sym is ∙ z));
       }
 
-  pub left_accepted : (count₀ : ℕ) → n ≡ 0 → Left s e bits 0 count₀ r.count decisions₀ decisions out₀ out list₀ list
-  left_accepted count₀ z =
-      let m = call.leaves.0 (zero_accepted r.answer (sym is ∙ z)) in
+  pub left_accepted : (changed : ℕ) → Called s e bits (Ok changed) decisions₀ decisions out₀ out list₀ list
+      → (count₀ : ℕ) → Left s e bits 0 count₀ changed decisions₀ decisions out₀ out list₀ list
+  left_accepted changed call count₀ =
       record {
-        mends = λ y. record { inputs = m.inputs; within = m.within; out_is = m.out_is; count_is = m.count_is; list_is = m.list_is; decisions_is = m.decisions_is };
+        mends = λ y. call.leaves;
         keeps = λ y. absurd (y refl);
         none = λ y. absurd (omega arith);
       }

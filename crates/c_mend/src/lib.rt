@@ -19,12 +19,11 @@ pub extern "C" fn isdb_mend(
     ensures answers { Answers bits.now (length decisions.old) (length out.old) (length places.old) result }
     ensures leaves { Left start end bits.now result count.old count.new decisions.old decisions.new out.old out.new places.old places.new }
 {
-    let m = mend::mend(bits, start, end, decisions, out, places);
-    let a = m.answer;
-    let answer = refusal::number(a);
-    if answer != 0 {
-        return answer;
+    match mend::mend(bits, start, end, decisions, out, places) {
+        Ok(changed) => {
+            *count = changed as u64;
+            0
+        }
+        Err(row) => refusal::number(Err(row)),
     }
-    *count = m.count as u64;
-    0
 }

@@ -1,8 +1,7 @@
 -- Laws of row 5 of the scales at its place.
 use Rattle.std.specs.Prelude.{◌≡◌, List, ◌++◌, length, Float}
 use Rattle.std.proofs.Common.{eq-eqb, ne_eqb}
-use Rattle.refusal.specs.declared.Answer.TheVariants.{Length}
-use Rattle.refusal.specs.Rows.{Row, first_row}
+use Rattle.refusal.specs.Rows.{Length, Row, first_row}
 use Rattle.refusal.proofs.RowLaws.{row_false, row_true}
 use Rattle.isdbs_tables.specs.declared.Table.{Table}
 use Rattle.isdbs_tables.specs.Tables.{table_rows}

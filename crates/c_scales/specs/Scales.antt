@@ -1,7 +1,6 @@
 -- Row 5 of scales that are not seven.
 use Rattle.std.specs.Prelude.{not, List, ◌∷◌, ◌++◌, eqb, length, Float}
-use Rattle.refusal.specs.declared.Answer.TheVariants.{Length}
-use Rattle.refusal.specs.Rows.{Row}
+use Rattle.refusal.specs.Rows.{Length, Row}
 use Rattle.isdbs_tables.specs.declared.Table.{Table}
 use Rattle.isdbs_tables.specs.Tables.{table_rows}
 

@@ -5,8 +5,7 @@ use Rattle.std.proofs.Math.Path.{refl, sym, ap}
 use Rattle.std.proofs.Common.{◌∙◌, arith, drop_of_length-le, take_all, eqb-true}
 use mathlib.Core.List.{List, ◌++◌, append-nil}
 use Rattle.std.proofs.Math.ListN.{length}
-use Rattle.refusal.specs.declared.Answer.TheVariants.{Length}
-use Rattle.refusal.specs.Rows.{Row, first_row}
+use Rattle.refusal.specs.Rows.{Length, Row, first_row}
 use Rattle.refusal.specs.RowLaws.{refusing, condition_of}
 use Rattle.refusal.proofs.RowLaws.{zero_accepted, passed}
 use Rattle.trellis.specs.Lists.{first_place, laid}

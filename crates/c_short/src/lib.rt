@@ -51,15 +51,13 @@ pub extern "C" fn isdb_code_encode(
 {
     let code = code_from(constraint, g1, g2);
     let enc = ConvEncoder { state: *state };
-    let r = short_encode::encode(code, enc, bits, out);
-    let a = r.answer;
-    let answer = refusal::number(a);
-    if answer != 0 {
-        return answer;
+    match short_encode::encode(code, enc, bits, out) {
+        Ok(after) => {
+            *state = after.state;
+            0
+        }
+        Err(row) => refusal::number(Err(row)),
     }
-    let after = r.enc;
-    *state = after.state;
-    0
 }
 
 // Feeds soft values, two for each step.

@@ -7,8 +7,7 @@ use native.Mathlib.Omega.{arith}
 use lib.ListN.{length, get_or}
 use Rattle.isdbs_combination.specs.declared.Combination.{Combination}
 use Rattle.isdbs_combination.specs.declared.Combination.TheVariants.{Bpsk1_2, Qpsk1_2, Qpsk2_3, Qpsk3_4, Qpsk5_6, Qpsk7_8, Tc8psk2_3}
-use Rattle.isdbs_combination.specs.declared.MaybeCombination.{MaybeCombination}
-use Rattle.isdbs_combination.specs.declared.MaybeCombination.TheVariants.{Some, None}
+use Rattle.std.specs.Prelude.{Option, Some, None}
 use Rattle.isdbs_tables.specs.declared.Entry.{Entry}
 use Rattle.isdbs_plan.specs.declared.Run.{Run}
 use Rattle.trellis.specs.Lists.{Each}
@@ -57,11 +56,11 @@ run_small c n slot symbol h s =
       symbol_end = omega arith;
     }
 
-each_entry : (m : MaybeCombination) (n slot symbol : ℕ) (rs : List Run) → ((c : Combination) → Small (run_of c n slot symbol)) → Each Small rs → Each Small (entry_runs m n slot symbol ++ rs)
+each_entry : (m : Option Combination) (n slot symbol : ℕ) (rs : List Run) → ((c : Combination) → Small (run_of c n slot symbol)) → Each Small rs → Each Small (entry_runs m n slot symbol ++ rs)
 each_entry (Some c) n slot symbol rs p h = (p c, h)
 each_entry None n slot symbol rs p h = h
 
-entry_symbols_lem : (m : MaybeCombination) (n : ℕ) → entry_symbols m n ≤ n * 812
+entry_symbols_lem : (m : Option Combination) (n : ℕ) → entry_symbols m n ≤ n * 812
 entry_symbols_lem (Some c) n = omega arith
 entry_symbols_lem None n = omega arith
 
@@ -75,7 +74,7 @@ runs_small (e ∷ es) slot symbol h s =
     (λ c. run_small c e.slots slot symbol (omega arith) s)
     (runs_small es (slot + e.slots) (symbol + entry_symbols (entry_combination e) e.slots) (omega arith) (omega arith))
 
-entry_count : (m : MaybeCombination) (n slot symbol : ℕ) (rs : List Run) (k : ℕ) → length rs ≤ k → length (entry_runs m n slot symbol ++ rs) ≤ suc k
+entry_count : (m : Option Combination) (n slot symbol : ℕ) (rs : List Run) (k : ℕ) → length rs ≤ k → length (entry_runs m n slot symbol ++ rs) ≤ suc k
 entry_count (Some c) n slot symbol rs k h = omega arith
 entry_count None n slot symbol rs k h = omega arith
 

@@ -1,7 +1,6 @@
 -- How a C call's numbers stand for the library's values.
-use Rattle.std.specs.Prelude.{List, [], ◌∷◌, ℕ, ◌/◌, ◌%◌, ◌^◌, get_or}
-use Rattle.isdbs_combination.specs.declared.MaybeCombination.{MaybeCombination}
-use Rattle.isdbs_combination.specs.declared.MaybeCombination.TheVariants.{Some, None}
+use Rattle.isdbs_combination.specs.declared.Combination.{Combination}
+use Rattle.std.specs.Prelude.{List, [], ◌∷◌, ℕ, ◌/◌, ◌%◌, ◌^◌, get_or, Option, Some, None}
 use Rattle.isdbs_tables.specs.declared.Entry.{Entry}
 use Rattle.isdbs_tables.specs.declared.Table.{Table}
 use Rattle.isdbs_plan.specs.declared.Run.{Run}
@@ -17,7 +16,7 @@ abbrev pub table_of : ℕ → Table
 table_of n = record { entries = entry_of n ∷ entry_of (n / 2 ^ 16) ∷ entry_of (n / 2 ^ 32) ∷ entry_of (n / 2 ^ 48) ∷ [] }
 
 -- the word of a slot's combination, "0 for none"
-abbrev pub mark_word : MaybeCombination → ℕ
+abbrev pub mark_word : Option Combination → ℕ
 mark_word (Some c) = word_of c
 mark_word None = 0
 

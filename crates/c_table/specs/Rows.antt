@@ -1,10 +1,8 @@
 -- The refusal rows of the C calls that have rows of their own, in document 01's order, and what their slices hold.
-use Rattle.std.specs.Prelude.{Bool, true, false, List, [], ◌∷◌, ◌++◌, ℕ, ◌*◌, ltb, length}
-use Rattle.refusal.specs.declared.Answer.TheVariants.{Position, Space}
-use Rattle.refusal.specs.Rows.{Row}
+use Rattle.isdbs_combination.specs.declared.Combination.{Combination}
+use Rattle.std.specs.Prelude.{Bool, true, false, List, [], ◌∷◌, ◌++◌, ℕ, ◌*◌, ltb, length, Option, Some, None}
+use Rattle.refusal.specs.Rows.{Position, Space, Row}
 use Rattle.trellis.specs.Lists.{upto}
-use Rattle.isdbs_combination.specs.declared.MaybeCombination.{MaybeCombination}
-use Rattle.isdbs_combination.specs.declared.MaybeCombination.TheVariants.{Some, None}
 use Rattle.isdbs_tables.specs.declared.Table.{Table}
 use Rattle.isdbs_combination.specs.Combinations.{combination_of, frame_slots}
 use Rattle.isdbs_tables.specs.Tables.{table_rows}
@@ -25,7 +23,7 @@ slot_words t = upto (λ s. mark_word (mark_at t.entries s)) frame_slots
 abbrev pub all_numbers : Table → List ℕ
 all_numbers t = upto (run_number (runs_of t)) (6 * length (runs_of t))
 
-abbrev pub is_none : MaybeCombination → Bool
+abbrev pub is_none : Option Combination → Bool
 is_none (Some c) = false
 is_none None = true
 
@@ -33,6 +31,6 @@ is_none None = true
 abbrev pub bit_symbol_rows : ℕ → ℕ → List Row
 bit_symbol_rows word bit = (Position, is_none (combination_of word)) ∷ bit_rows bit
 
-abbrev pub symbol_or_zero : MaybeCombination → ℕ → ℕ
+abbrev pub symbol_or_zero : Option Combination → ℕ → ℕ
 symbol_or_zero (Some c) bit = symbol_of_bit c bit
 symbol_or_zero None bit = 0

@@ -10,11 +10,9 @@ ghost use Rattle.c_answers.specs.Answers.{answered, left};
 ghost use Rattle.c_table.specs.Rows.{places_rows, slot_words, all_numbers, bit_symbol_rows, symbol_or_zero};
 
 use isdbs_combination::FRAME_SLOTS;
-use isdbs_core::combination::{Combination, MaybeCombination};
-use isdbs_core::frame::Position;
+use isdbs_core::combination::Combination;
 use isdbs_core::slots::Run;
 use isdbs_core::tmcc::{Entry, Table};
-use refusal::Answer;
 
 fn entry_of(bits: u64) -> Entry
     ensures { result ≡ entry_of bits }
@@ -39,12 +37,12 @@ pub fn table_of(table: u64) -> Table
 }
 
 // The word of a combination, 0 for none.
-fn mark_word(m: MaybeCombination) -> u8
+fn mark_word(m: Option<Combination>) -> u8
     ensures { result ≡ mark_word m }
 {
     match m {
-        MaybeCombination::Some(c) => c.word(),
-        MaybeCombination::None => 0,
+        Some(c) => c.word(),
+        None => 0,
     }
 }
 
@@ -54,22 +52,20 @@ pub extern "C" fn isdbs_slot_combinations(table: u64, out: &mut [u8]) -> u32
     ensures answers { result ≡ answered (places_rows (table_of table) frame_slots (length out.old)) }
     ensures leaves { out.new ≡ left result (laid (slot_words (table_of table)) out.old) out.old }
 {
-    let marks = isdbs_core::tmcc::slot_combinations(table_of(table));
-    let a = marks.answer;
-    let answer = refusal::number(a);
-    if answer != 0 {
-        return answer;
+    match isdbs_core::tmcc::slot_combinations(table_of(table)) {
+        Ok(slots) => {
+            if out.len() < FRAME_SLOTS {
+                return 9;
+            }
+            for s in 0..FRAME_SLOTS {
+                let slot = slots[s];
+                let m = slot.mark;
+                out[s] = mark_word(m);
+            }
+            0
+        }
+        Err(row) => refusal::number(Err(row)),
     }
-    if out.len() < FRAME_SLOTS {
-        return 9;
-    }
-    let slots = marks.slots;
-    for s in 0..FRAME_SLOTS {
-        let slot = slots[s];
-        let m = slot.mark;
-        out[s] = mark_word(m);
-    }
-    0
 }
 
 fn word_number(c: Combination) -> usize
@@ -109,24 +105,23 @@ pub extern "C" fn isdbs_runs(table: u64, out: &mut [u32], count: &mut u32) -> u3
     ensures leaves { out.new ≡ left result (laid (all_numbers (table_of table)) out.old) out.old }
     ensures counts { count.new ≡ left result (length (runs_of (table_of table))) count.old }
 {
-    let all = isdbs_core::slots::runs(table_of(table));
-    let a = all.answer;
-    let answer = refusal::number(a);
-    if answer != 0 {
-        return answer;
+    match isdbs_core::slots::runs(table_of(table)) {
+        Ok(all) => {
+            let runs = all.runs;
+            let n = all.count;
+            let places = 6 * n;
+            if out.len() < places {
+                return 9;
+            }
+            for i in 0..places {
+                let r = runs[i / 6];
+                out[i] = run_number(r, i % 6) as u32;
+            }
+            *count = n as u32;
+            0
+        }
+        Err(row) => refusal::number(Err(row)),
     }
-    let runs = all.runs;
-    let n = all.count;
-    let places = 6 * n;
-    if out.len() < places {
-        return 9;
-    }
-    for i in 0..places {
-        let r = runs[i / 6];
-        out[i] = run_number(r, i % 6) as u32;
-    }
-    *count = n as u32;
-    0
 }
 
 // The symbol, from the start of its run, of an information bit.
@@ -136,13 +131,13 @@ pub extern "C" fn isdbs_bit_symbol(word: u8, bit: u64, out: &mut u64) -> u32
     ensures leaves { out.new ≡ left result (symbol_or_zero (combination_of word) bit) out.old }
 {
     match Combination::from_word(word) {
-        MaybeCombination::Some(c) => match isdbs_core::slots::bit_symbol(c, bit as usize) {
-            Position::At(symbol) => {
+        Some(c) => match isdbs_core::slots::bit_symbol(c, bit as usize) {
+            Ok(symbol) => {
                 *out = symbol as u64;
                 0
             }
-            Position::Refused(answer) => refusal::number(answer),
+            Err(row) => refusal::number(Err(row)),
         },
-        MaybeCombination::None => 2,
+        None => 2,
     }
 }

@@ -10,15 +10,16 @@ ghost use Rattle.c_wanted.specs.Calls.{AnsweredC, Left};
 
 use c_mapping::mapping_of;
 use c_table::table_of;
-use wanted_load::{LoadFound, wanted_load};
+use refusal::Refusal;
+use wanted_load::wanted_load;
 
 // The number of an answer.
-fn number_of(r: LoadFound) -> u32
+fn number_of(r: Result<usize, Refusal>) -> u32
     ensures { result ≡ (load_said r).0 }
 {
     match r {
-        LoadFound::Load(_) => 0,
-        LoadFound::Refused(a) => refusal::number(a),
+        Ok(_) => 0,
+        Err(row) => refusal::number(Err(row)),
     }
 }
 

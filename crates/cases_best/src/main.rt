@@ -40,9 +40,7 @@ fn read(
     out: &mut [u8; 8],
 ) -> usize {
     let xs = floats(metrics);
-    let r = path_reading::greatest_sum_reading(&xs, start, decisions, out);
-    let answer = r.answer;
-    row(answer)
+    row(path_reading::greatest_sum_reading(&xs, start, decisions, out).map(|_| ()))
 }
 
 fn show_eight(bits: &[u8; 8]) {
@@ -82,9 +80,10 @@ fn agrees(
 {
     let all: &[f32] = xs;
     let end = 4 * n;
-    let r = path_reading::greatest_sum_reading(&all[..end], start, decisions, out);
-    let answer = r.answer;
-    (row(answer) == 0) & (r.count == n) & has_inputs(out, n, inputs)
+    let Ok(r) = path_reading::greatest_sum_reading(&all[..end], start, decisions, out) else {
+        return false;
+    };
+    (r.count == n) & has_inputs(out, n, inputs)
 }
 
 // Whether the reading is the first path of greatest sum, and how many paths have that sum.

@@ -6,7 +6,7 @@ use best_frame::best_reading;
 use cases_frames::{load_bytes, mapping_of, show_table, table_of};
 use cases_lib::{alike, bytes_of, draw, least, row, show, step, text, words_of};
 use isdbs_core::frame::{FRAME_BITS, LOAD_BYTES, MAIN_SYMBOLS, SLOTS};
-use isdbs_phy::demod::{DemodOptions, FrameDecoded, decode_frame, encode_frame};
+use isdbs_phy::demod::{DemodOptions, decode_frame, encode_frame};
 use trellis::FRAME_WORDS;
 
 // Each combination alone but QPSK 2/3, 3/4 and 5/6; four in all slots; one twice.
@@ -110,8 +110,8 @@ fn read_plain(
         &mut counts,
     );
     match r {
-        FrameDecoded::Decoded(_, _, _) => 0,
-        FrameDecoded::Refused(a) => row(a),
+        Ok(_) => 0,
+        Err(a) => row(Err(a)),
     }
 }
 
@@ -293,7 +293,7 @@ fn noise_of(table: u64) -> f64 {
 fn make(c: Case, re: &mut [f64; MAIN_SYMBOLS], im: &mut [f64; MAIN_SYMBOLS]) {
     let mut load = [0u8; LOAD_BYTES];
     draw(&mut load, load_bytes(c.table), seed_of(c));
-    encode_frame(
+    let _ = encode_frame(
         &load,
         table_of(c.table),
         is_first(c.way),

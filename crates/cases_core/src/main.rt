@@ -3,11 +3,11 @@
 
 use cases_frames::table_of;
 use cases_lib::{end_line, front, row, show, show_line, show_one, small, text};
-use isdbs_core::combination::{Combination, MaybeCombination};
-use isdbs_core::frame::Position;
-use isdbs_core::slots::{Run, SlotByte};
+use isdbs_core::combination::Combination;
+use isdbs_core::slots::{FrameRuns, NO_RUN, Run};
 use isdbs_core::tmcc::{Entry, SlotMark, Table};
 use isdbs_core::{combination, frame, slots, tmcc};
+use refusal::Refusal;
 
 // Tables are numbers: entry i has its word at bit 16 i and its slots at bit 16 i + 8. Word 15 with no slots is an entry not in use.
 
@@ -19,23 +19,23 @@ fn word(c: Combination) -> usize {
     small(c.word())
 }
 
-fn refused(a: refusal::Answer) {
-    show_one(b" refused #", row(a));
+fn refused(a: Refusal) {
+    show_one(b" refused #", row(Err(a)));
 }
 
 // A position, or the number of the row.
-fn position(p: Position) {
+fn position(p: Result<usize, Refusal>) {
     match p {
-        Position::At(n) => count(n),
-        Position::Refused(a) => refused(a),
+        Ok(n) => count(n),
+        Err(a) => refused(a),
     }
 }
 
-fn slot_byte(p: SlotByte) {
+fn slot_byte(p: Result<Option<usize>, Refusal>) {
     match p {
-        SlotByte::At(n) => count(n),
-        SlotByte::Nothing => text(b" nothing"),
-        SlotByte::Refused(a) => refused(a),
+        Ok(Some(n)) => count(n),
+        Ok(None) => text(b" nothing"),
+        Err(a) => refused(a),
     }
 }
 
@@ -56,16 +56,35 @@ fn run(r: Run) {
 }
 
 fn four_runs(rs: [Run; 4]) {
-    for i in 0..4usize {
-        run(rs[i]);
+    for r in rs {
+        run(r);
+    }
+}
+
+// The row of a table.
+fn answer(t: Table) -> usize {
+    match slots::runs(t) {
+        Ok(_) => 0,
+        Err(a) => row(Err(a)),
+    }
+}
+
+// Its runs: none where it is turned back.
+fn runs_of(t: Table) -> FrameRuns {
+    match slots::runs(t) {
+        Ok(all) => all,
+        Err(_) => FrameRuns {
+            count: 0,
+            runs: [NO_RUN; 4],
+            valid_slots: 0,
+        },
     }
 }
 
 // The answer of `runs`: row, count, valid slots, and the four records.
 fn runs(t: Table) {
-    let all = slots::runs(t);
-    let answer = all.answer;
-    let found = [row(answer), all.count, all.valid_slots];
+    let all = runs_of(t);
+    let found = [answer(t), all.count, all.valid_slots];
     show(b" # # #", &found);
     let rs = all.runs;
     four_runs(rs);
@@ -88,20 +107,13 @@ const SHOWN: [u64; 11] = [
 
 fn tables() {
     let shown = SHOWN;
-    for k in 0..11usize {
+    for (k, table) in shown.iter().enumerate() {
         show_line(
             b"48 slots:\n49 slots:\n200 and 56:\nword 0x17:\nQPSK 7/8 x 48:\nTC8PSK x 48:\nempty QPSK 1/2, TC8PSK 1:\nunder a unit:\nQPSK 2/3, 5:\n15 x 10, QPSK 1/2, 2:\nBPSK 4, TC8PSK 44:",
             k + 1,
         );
-        runs(table_of(shown[k]));
+        runs(table_of(*table));
     }
-}
-
-// The row of a table.
-fn answer(t: Table) -> usize {
-    let all = slots::runs(t);
-    let a = all.answer;
-    row(a)
 }
 
 // Rows 10 and 11: 3:5; 8:3,3:5; 0x13:5; a part unit in the last entry; 3:3,8:3; 0x18:1; 0:1; 14:1 in the last entry; 1, and 1, 10 and 11 at once. Accepted: 8:0; 15:10,2:2; 0x1f:10; 1:0.
@@ -125,9 +137,8 @@ const ANSWERED: [u64; 14] = [
 fn answers() -> [usize; 14] {
     let tables = ANSWERED;
     let mut found = [99usize; 14];
-    for k in 0..14usize {
-        let n = answer(table_of(tables[k]));
-        found[k] = n;
+    for (place, table) in found.iter_mut().zip(tables.iter()) {
+        *place = answer(table_of(*table));
     }
     found
 }
@@ -142,17 +153,16 @@ fn answered_tables() {
 
 // a times b, for a per slot and b slots.
 fn times(a: usize, b: usize) -> usize {
-    if a <= slots::SLOT_BITS {
-        if b <= frame::SLOTS {
-            return a * b;
-        }
+    if a <= slots::SLOT_BITS && b <= frame::SLOTS {
+        a * b
+    } else {
+        0
     }
-    0
 }
 
 // Bytes of a full load and trellis steps, where one run has all the valid slots.
 fn load(t: Table) {
-    let all = slots::runs(t);
+    let all = runs_of(t);
     let rs = all.runs;
     let r = rs[0];
     let c = r.combination;
@@ -174,19 +184,20 @@ fn loads() {
 fn mark(m: SlotMark) {
     let c = m.mark;
     match c {
-        MaybeCombination::Some(c) => count(word(c)),
-        MaybeCombination::None => text(b" -"),
+        Some(c) => count(word(c)),
+        None => text(b" -"),
     }
 }
 
 // The word of each slot's mark.
 fn marks(t: Table) {
-    let all = tmcc::slot_combinations(t);
-    let answer = all.answer;
-    count(row(answer));
-    let ms = all.slots;
-    for s in 0..48 {
-        mark(ms[s]);
+    let ms = match tmcc::slot_combinations(t) {
+        Ok(ms) => ms,
+        Err(_) => [SlotMark { mark: None }; 48],
+    };
+    count(answer(t));
+    for m in ms {
+        mark(m);
     }
     end_line();
 }
@@ -200,12 +211,12 @@ const MARKED: [u64; 4] = [
 
 fn all_marks() {
     let tables = MARKED;
-    for k in 0..4usize {
+    for (k, table) in tables.iter().enumerate() {
         show_line(
             b"marks, under a unit:\nmarks, QPSK 2/3, 6:\nmarks, 15 x 10, QPSK 1/2, 2:\nmarks, 49 slots:",
             k + 1,
         );
-        marks(table_of(tables[k]));
+        marks(table_of(*table));
     }
 }
 
@@ -218,8 +229,8 @@ fn bit(c: Combination, b: usize) {
 fn bits_of_2_3() {
     let bits = [0usize, 1, 2, 3, 4, 5, 6, 7, 1_000_000, 1_000_001];
     text(b"bit_symbol 2/3:");
-    for k in 0..10usize {
-        bit(Combination::Qpsk2_3, bits[k]);
+    for b in bits {
+        bit(Combination::Qpsk2_3, b);
     }
     end_line();
 }
@@ -297,10 +308,9 @@ fn header_words() {
 
 // The combinations in their order.
 fn combinations() {
-    let all = combination::ALL;
     text(b"by efficiency:");
-    for k in 0..7usize {
-        count(word(all[k]));
+    for c in combination::ALL {
+        count(word(c));
     }
     end_line();
 }
@@ -320,9 +330,8 @@ fn not_in_use() {
 
 // The bits of a coded tail.
 fn tail(t: u32) {
-    let bits = frame::tail_bits(t);
-    for i in 0..20 {
-        count(small(bits[i]));
+    for bit in frame::tail_bits(t) {
+        count(small(bit));
     }
     end_line();
 }
@@ -334,16 +343,16 @@ fn tails() {
         frame::W3_CODED_TAIL,
         0xFFF0_0001,
     ];
-    for k in 0..4usize {
+    for (k, bits) in all.iter().enumerate() {
         show_line(b"W1 tail:\nW2 tail:\nW3 tail:\nhigh bits ignored:", k + 1);
-        tail(all[k]);
+        tail(*bits);
     }
 }
 
-fn maybe(c: MaybeCombination) {
+fn maybe(c: Option<Combination>) {
     match c {
-        MaybeCombination::Some(c) => count(word(c)),
-        MaybeCombination::None => text(b" none"),
+        Some(c) => count(word(c)),
+        None => text(b" none"),
     }
 }
 
@@ -357,12 +366,12 @@ fn assigned(word: u8) {
 
 fn words() {
     let all = [0x17u8, 7, 0, 8, 15];
-    for k in 0..5usize {
+    for (k, word) in all.iter().enumerate() {
         show_line(
             b"word 0x17, whole and low 4 bits:\nword 7:\nword 0:\nword 8:\nword 15:",
             k + 1,
         );
-        assigned(all[k]);
+        assigned(*word);
     }
 }
 
@@ -388,10 +397,8 @@ fn part(bytes: &[u8], t: Table, k: usize) {
 
 // Byte i is i mod 251.
 fn fill_bytes(bytes: &mut [u8]) {
-    let mut b: u8 = 0;
-    for i in 0..bytes.len() {
-        bytes[i] = b;
-        b = (b + 1) % 251;
+    for (i, byte) in bytes.iter_mut().enumerate() {
+        *byte = (i % 251) as u8;
     }
 }
 

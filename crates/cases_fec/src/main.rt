@@ -6,7 +6,8 @@ ghost use Rattle.std.specs.Prelude.{◌≤◌, ◌<◌, length};
 
 use cases_lib::{alike, one, row, show, show_line, step, text, words_of};
 use cases_paths::isdb_label;
-use isdb_fec::conv::{ConvEncoder, Made, Released, ViterbiDecoder, branch_output};
+use isdb_fec::conv::{ConvEncoder, Released, ViterbiDecoder, branch_output};
+use refusal::Refusal;
 use trellis::FRAME_WORDS;
 use viterbi_step::branch_number;
 
@@ -40,7 +41,9 @@ fn tail(word: u32, start: u8) -> u32 {
     let mut coded: u32 = 0;
     for k in 0..16u32 {
         let bit = ((word >> (15 - k)) % 2) as u8;
-        let p = enc.push(bit);
+        let Ok(p) = enc.push(bit) else {
+            return 0;
+        };
         enc = p.enc;
         coded = coded % 262144 * 4 + (p.x % 2) as u32 * 2 + (p.y % 2) as u32;
     }
@@ -63,9 +66,11 @@ fn count_known(
     if n > bits.len() {
         return 0;
     }
-    let made = ViterbiDecoder::new(traceback);
-    let r = made.dec.push_known(&bits[..n], decisions, out);
-    r.count
+    let Ok(dec) = ViterbiDecoder::new(traceback) else {
+        return 0;
+    };
+    dec.push_known(&bits[..n], decisions, out)
+        .map_or(0, |r| r.count)
 }
 
 // How many bits n steps release, of known zeros from the state 0.
@@ -89,21 +94,21 @@ fn after_pairs(pm: [f32; 64], pairs: &[f32]) -> [f32; 64] {
     let mut decisions = [0u64; FRAME_WORDS];
     let mut out = [0u8; 4];
     let r = handed(pm).push(pairs, &mut decisions, &mut out);
-    r.dec.pm
+    r.map_or(pm, |p| p.dec.pm)
 }
 
 fn after_metrics(pm: [f32; 64], metrics: &[f32]) -> [f32; 64] {
     let mut decisions = [0u64; FRAME_WORDS];
     let mut out = [0u8; 4];
     let r = handed(pm).push_metrics(metrics, &mut decisions, &mut out);
-    r.dec.pm
+    r.map_or(pm, |p| p.dec.pm)
 }
 
 fn after_known(pm: [f32; 64], bits: &[u8]) -> [f32; 64] {
     let mut decisions = [0u64; FRAME_WORDS];
     let mut out = [0u8; 4];
     let r = handed(pm).push_known(bits, &mut decisions, &mut out);
-    r.dec.pm
+    r.map_or(pm, |p| p.dec.pm)
 }
 
 // The maximum is subtracted at the end of an empty call of soft values, and not at that of known bits.
@@ -132,8 +137,8 @@ fn two_additions() -> bool {
 fn rising() -> [f32; 64] {
     let mut pm = [0.0f32; 64];
     let mut number = 0.0f32;
-    for i in 0..64usize {
-        pm[i] = 1000.3 + 0.7 * number;
+    for value in &mut pm {
+        *value = 1000.3 + 0.7 * number;
         number = number + 1.0;
     }
     pm
@@ -166,38 +171,48 @@ struct Left {
     second: u8,
 }
 
-fn flushed(pushed: Released, decisions: &mut [u64; FRAME_WORDS], out: &mut [u8; 4]) -> Left {
+fn flushed(
+    pushed: Released,
+    decisions: &mut [u64; FRAME_WORDS],
+    out: &mut [u8; 4],
+) -> Result<Left, Refusal> {
     let dec = pushed.dec;
     let pm = dec.pm;
     let word = decisions[0];
-    let b = dec.flush(decisions, out);
-    Left {
+    let b = dec.flush(decisions, out)?;
+    Ok(Left {
         pm,
         word,
         count: b.count,
         first: out[0],
         second: out[1],
-    }
+    })
 }
 
-fn known_and_flush(dec: ViterbiDecoder, bits: &[u8; 1]) -> Left {
+fn known_and_flush(dec: ViterbiDecoder, bits: &[u8; 1]) -> Result<Left, Refusal> {
     let mut decisions = [0u64; FRAME_WORDS];
     let mut out = [7u8; 4];
-    let a = dec.push_known(bits, &mut decisions, &mut out);
+    let a = dec.push_known(bits, &mut decisions, &mut out)?;
     flushed(a, &mut decisions, &mut out)
 }
 
-fn metrics_and_flush(made: Made, metrics: &[f32; 4]) -> Left {
+fn metrics_and_flush(
+    made: Result<ViterbiDecoder, Refusal>,
+    metrics: &[f32; 4],
+) -> Result<Left, Refusal> {
     let mut decisions = [0u64; FRAME_WORDS];
     let mut out = [7u8; 4];
-    let a = made.dec.push_metrics(metrics, &mut decisions, &mut out);
+    let dec = made?;
+    let a = dec.push_metrics(metrics, &mut decisions, &mut out)?;
     flushed(a, &mut decisions, &mut out)
 }
 
 // Below -1.0e9 a known bit is not the decoded one.
 fn known_bit_loses() -> bool {
     let bits = [0u8; 1];
-    let l = known_and_flush(handed([-4.0e9f32; 64]), &bits);
+    let Ok(l) = known_and_flush(handed([-4.0e9f32; 64]), &bits) else {
+        return false;
+    };
     let p = l.pm;
     (p[0] == -3.0e9) & (p[32] == 0.0) & (l.count == 1) & (l.first == 1)
 }
@@ -205,7 +220,9 @@ fn known_bit_loses() -> bool {
 // A known start is no stronger than 1,000,000: the path of this one step does not begin in state 0.
 fn start_loses() -> bool {
     let metrics = [-1048576.0f32, 1048576.0, -1048576.0, -1048576.0];
-    let l = metrics_and_flush(ViterbiDecoder::new(128), &metrics);
+    let Ok(l) = metrics_and_flush(ViterbiDecoder::new(128), &metrics) else {
+        return false;
+    };
     let p = l.pm;
     (p[0] < 0.0) & (p[1] == 0.0) & (l.count == 1) & (l.first == 1) & (l.second == 7)
 }
@@ -213,14 +230,15 @@ fn start_loses() -> bool {
 // An odd predecessor takes a tie, and the highest of the best states is traced.
 fn ties() -> bool {
     let metrics = [0.0f32; 4];
-    let l = metrics_and_flush(ViterbiDecoder::new_unknown_state(128), &metrics);
+    let Ok(l) = metrics_and_flush(ViterbiDecoder::new_unknown_state(128), &metrics) else {
+        return false;
+    };
     (l.word == 0xffff_ffff_ffff_ffff) & (l.count == 1) & (l.first == 1)
 }
 
 // The row's number in a call's answer.
-fn number(r: Released) -> usize {
-    let answer = r.answer;
-    row(answer)
+fn number<T: Copy>(r: Result<T, Refusal>) -> usize {
+    row(r.map(|_| ()))
 }
 
 fn pushed(dec: ViterbiDecoder, pairs: &[f32]) -> usize {
@@ -270,7 +288,7 @@ fn push_part(
     to: usize,
     decisions: &mut [u64],
     out: &mut [u8],
-) -> Released
+) -> Result<Released, Refusal>
     requires { (from ≤ to) × (to ≤ length metrics.now) }
 {
     dec.push_metrics(&metrics[from..to], decisions, out)
@@ -278,18 +296,14 @@ fn push_part(
 
 // How many path values are x.
 fn count_of(pm: &[f32; 64], x: f32) -> usize {
-    let mut n: usize = 0;
-    for i in 0..64usize {
-        n += one(pm[i] == x);
-    }
-    n
+    pm.iter().filter(|value| **value == x).count()
 }
 
 // 128 quadruples in two calls, the first of n metrics, by a decoder with all path values 0 and the held count given. Each quadruple is 2^20 four times, but the last is
 // 2^20 and three times 2^20 - 2.5. Of the two branches into a state the outputs are complements, so 32 states have a branch (0, 0) and 32 have not, at the last step. The
 // values are then k 2^20 and k 2^20 - 2.5 rounded, k being the steps since the maximum was subtracted: a difference of 2 for k from 17 to 32 (a unit is 2), 4 for k from
 // 33 to 64 (a unit is 4) and 0 for k from 65 to 128 (a unit is 8). Shown is how many path values are 0, -2 and -4.
-fn counted(case: usize, held: usize, n: usize)
+fn counted(case: usize, held: usize, n: usize) -> Result<(), Refusal>
     requires { n ≤ 512 }
 {
     let mut metrics = [1048576.0f32; 512];
@@ -303,8 +317,8 @@ fn counted(case: usize, held: usize, n: usize)
     };
     let mut decisions = [0u64; FRAME_WORDS];
     let mut out = [0u8; 4];
-    let a = push_part(dec, &metrics, 0, n, &mut decisions, &mut out);
-    let b = push_part(a.dec, &metrics, n, 512, &mut decisions, &mut out);
+    let a = push_part(dec, &metrics, 0, n, &mut decisions, &mut out)?;
+    let b = push_part(a.dec, &metrics, n, 512, &mut decisions, &mut out)?;
     let pm = b.dec.pm;
     let values = [count_of(&pm, 0.0), count_of(&pm, -2.0), count_of(&pm, -4.0)];
     show_line(
@@ -312,37 +326,30 @@ fn counted(case: usize, held: usize, n: usize)
         case,
     );
     show(b": # path values are 0, # are -2, # are -4\n", &values);
+    Ok(())
 }
 
 // Whether `branch_output`, and the number that the step of four metrics reads, are the coded pair, for the register 64 u + state.
 fn is_branch(register: u32) -> bool {
     let state = (register % 64) as u8;
     let u = (register / 64 % 256) as u8;
-    let b = branch_output(state, u);
-    let answer = b.answer;
+    let Ok(b) = branch_output(state, u) else {
+        return false;
+    };
     let pair = isdb_label(register / 64, register);
-    (row(answer) == 0)
-        & (b.x < 2)
-        & (2 * (b.x as u32) + (b.y as u32) == pair)
-        & (branch_number(u, state) as u32 == pair)
+    (b.x < 2) & (2 * (b.x as u32) + (b.y as u32) == pair) & (branch_number(u, state) as u32 == pair)
 }
 
 // How many of the 128 pairs of state and input have the branch output and the branch number that are worked out here.
 fn branches() -> usize {
-    let mut n: usize = 0;
-    for r in 0..128u32 {
-        n += one(is_branch(r));
-    }
-    n
+    (0..128u32).filter(|r| is_branch(*r)).count()
 }
 
 // All 128 pairs agree. States up to 63 are accepted, 64 is refused by row 4.
 fn show_branches() {
-    let b = branch_output(64, 1);
-    let refused = b.answer;
-    let p = ConvEncoder { state: 64 }.push(1);
-    let answer = p.answer;
-    let found = [branches(), row(refused), row(answer)];
+    let refused = branch_output(64, 1);
+    let answer = ConvEncoder { state: 64 }.push(1);
+    let found = [branches(), number(refused), number(answer)];
     show(
         b"branch_output and branch_number: # of 128 pairs agree; in state 64 branch_output answers #, an encoder's push #\n",
         &found,
@@ -381,13 +388,13 @@ fn release_sent(
     metrics: &[f32; 16904],
     decisions: &mut [u64; 4230],
     out: &mut [u8; 4096],
-) -> ViterbiDecoder
+) -> Result<ViterbiDecoder, Refusal>
     requires { traceback ≤ 128 }
 {
-    let made = ViterbiDecoder::new(traceback);
+    let made = ViterbiDecoder::new(traceback)?;
     let last = 4095 + traceback;
-    let a = push_part(made.dec, metrics, 0, 4 * last, decisions, out);
-    let b = push_part(a.dec, metrics, 4 * last, 4 * last + 4, decisions, out);
+    let a = push_part(made, metrics, 0, 4 * last, decisions, out)?;
+    let b = push_part(a.dec, metrics, 4 * last, 4 * last + 4, decisions, out)?;
     let found = [
         last,
         a.count,
@@ -400,7 +407,7 @@ fn release_sent(
         b"# quadruples release # bits, one more #: # as sent, # freed words are 0, # past them are kept\n",
         &found,
     );
-    b.dec
+    Ok(b.dec)
 }
 
 // The flush puts out the 128 bits left, as sent, and zeroes their words; a second one has none. Path values stay, so the next two steps go on: 2 bits as sent. From path values 0 or those of state 0 they would be read as
@@ -411,13 +418,13 @@ fn flush_sent(
     metrics: &[f32; 16904],
     decisions: &mut [u64; 4230],
     out: &mut [u8; 4096],
-) {
-    let f = dec.flush(decisions, out);
+) -> Result<(), Refusal> {
+    let f = dec.flush(decisions, out)?;
     let same = alike(bits, 4096, out, 128);
     let zeros = words_of(decisions, 0, FRAME_WORDS, 0);
-    let g = f.dec.flush(decisions, out);
-    let t = push_part(g.dec, metrics, 16896, 16904, decisions, out);
-    let h = t.dec.flush(decisions, out);
+    let g = f.dec.flush(decisions, out)?;
+    let t = push_part(g.dec, metrics, 16896, 16904, decisions, out)?;
+    let h = t.dec.flush(decisions, out)?;
     let found = [
         f.count,
         same,
@@ -430,22 +437,23 @@ fn flush_sent(
         b"flush: # bits, # as sent, # words are 0; again: # bits; two steps more: # bits, # as sent\n",
         &found,
     );
+    Ok(())
 }
 
-fn sent_and_released() {
+fn sent_and_released() -> Result<(), Refusal> {
     let mut bits = [0u8; 4226];
     let mut metrics = [0.0f32; 16904];
     let mut decisions = [0xffff_ffff_ffff_ffffu64; 4230];
     let mut out = [7u8; 4096];
     send(&mut bits, &mut metrics);
     let mut other = [7u8; 4096];
-    release_sent(1, &bits, &metrics, &mut decisions, &mut other);
-    let dec = release_sent(128, &bits, &metrics, &mut decisions, &mut out);
-    flush_sent(dec, &bits, &metrics, &mut decisions, &mut out);
+    release_sent(1, &bits, &metrics, &mut decisions, &mut other)?;
+    let dec = release_sent(128, &bits, &metrics, &mut decisions, &mut out)?;
+    flush_sent(dec, &bits, &metrics, &mut decisions, &mut out)
 }
 
 // Held words are traced as they are handed. With zeros every predecessor is even: from state 63, the highest best, the last six bits are the state's and the ten before them are 0.
-fn handed_words() {
+fn handed_words() -> Result<(), Refusal> {
     let dec = ViterbiDecoder {
         pm: [0.0f32; 64],
         held: 16,
@@ -453,19 +461,14 @@ fn handed_words() {
     };
     let mut decisions = [0u64; FRAME_WORDS];
     let mut out = [7u8; 16];
-    let r = dec.flush(&mut decisions, &mut out);
+    let r = dec.flush(&mut decisions, &mut out)?;
     let traced = [0u8, 0, 0, 0, 0, 0, 0, 0, 0, 0, 1, 1, 1, 1, 1, 1];
     let found = [r.count, alike(&traced, 0, &out, 16)];
     show(
         b"held words of zeros: # bits, # as in 0000000000111111\n",
         &found,
     );
-}
-
-// The row's number in a constructor's answer.
-fn made_number(m: Made) -> usize {
-    let answer = m.answer;
-    row(answer)
+    Ok(())
 }
 
 // Row 3 comes before 4,096 + traceback is worked out: 18,446,744,073,709,551,615 and 1,025 give 3 in every call; 1,024 is accepted (0), with no output place and just
@@ -480,9 +483,9 @@ fn tracebacks(traceback: usize, decisions: &mut [u64; 5120], out: &mut [u8; 0]) 
     let bits = [0u8; 1];
     let found = [
         traceback,
-        made_number(ViterbiDecoder::new(traceback)),
-        made_number(ViterbiDecoder::new_unknown_state(traceback)),
-        made_number(ViterbiDecoder::with_state(traceback, 64)),
+        number(ViterbiDecoder::new(traceback)),
+        number(ViterbiDecoder::new_unknown_state(traceback)),
+        number(ViterbiDecoder::with_state(traceback, 64)),
         number(dec.push(&values, decisions, out)),
         number(dec.push_metrics(&values, decisions, out)),
         number(dec.push_known(&bits, decisions, out)),
@@ -495,8 +498,8 @@ fn all_tracebacks() {
     let mut decisions = [0u64; 5120];
     let mut out = [0u8; 0];
     let tried = [0usize, 1024, 1025, 18446744073709551615];
-    for k in 0..4usize {
-        tracebacks(tried[k], &mut decisions, &mut out);
+    for traceback in tried {
+        tracebacks(traceback, &mut decisions, &mut out);
     }
 }
 
@@ -521,21 +524,29 @@ fn cases() {
     );
 }
 
+// Calls that all accept.
+fn accepted() -> Result<(), Refusal> {
+    // The maximum is subtracted after steps 64 and 128.
+    counted(1, 0, 512)?;
+    // After steps 64, 100 and 128.
+    counted(2, 0, 400)?;
+    // After steps 64 and 128: the count restarts at each call.
+    counted(3, 0, 256)?;
+    // The same: held steps do not count. If they did, it would be after steps 36, 100 and 128.
+    counted(4, 28, 512)?;
+    sent_and_released()?;
+    handed_words()
+}
+
 fn main() {
     print_tails(0);
     print_tails(17);
     print_tails(63);
     cases();
-    // The maximum is subtracted after steps 64 and 128.
-    counted(1, 0, 512);
-    // After steps 64, 100 and 128.
-    counted(2, 0, 400);
-    // After steps 64 and 128: the count restarts at each call.
-    counted(3, 0, 256);
-    // The same: held steps do not count. If they did, it would be after steps 36, 100 and 128.
-    counted(4, 28, 512);
-    sent_and_released();
-    handed_words();
+    let Ok(()) = accepted() else {
+        text(b"refused\n");
+        return;
+    };
     all_tracebacks();
     show_branches();
 }

@@ -81,8 +81,10 @@ pub fn mapping_of(bits: u64) -> Mapping {
 pub fn load_bytes(table: u64) -> usize
     ensures { result ≤ frame_slots * slot_bytes }
 {
-    let r = runs(table_of(table));
-    let valid = r.valid_slots;
+    let valid = match runs(table_of(table)) {
+        Ok(all) => all.valid_slots,
+        Err(_) => 0,
+    };
     valid % (SLOTS + 1) * SLOT_BYTES
 }
 

@@ -11,22 +11,21 @@ use isdbs_frame::MAIN_SYMBOLS;
 // Point p of the frame holds p and -p.
 fn fill_points(re: &mut [f64; 39946], im: &mut [f64; 39946]) {
     let mut x = 0.0;
-    for p in 0..39946usize {
-        re[p] = x;
-        im[p] = -x;
+    for (real, imaginary) in re.iter_mut().zip(im.iter_mut()) {
+        *real = x;
+        *imaginary = -x;
         x = x + 1.0;
     }
     re[395] = nan();
     im[395] = nan();
 }
 
-// How many of the 39,946 places are the same.
+// How many of the 39,946 places are the same: not by ==, since the sign of a zero counts, and a NaN is as another.
 fn alike(a: &[f64; 39946], b: &[f64; 39946]) -> usize {
-    let mut n: usize = 0;
-    for p in 0..39946usize {
-        n += one(same_double(a[p], b[p]));
-    }
-    n
+    a.iter()
+        .zip(b.iter())
+        .filter(|(x, y)| same_double(**x, **y))
+        .count()
 }
 
 // Whether a point is that of a place.
@@ -184,9 +183,8 @@ fn refused_lay(
     im: &mut [f64; 39946],
 ) {
     let mut found = [99usize; 6];
-    for case in 0..6usize {
-        let n = lay_case(case, hs, ms, bs, re, im);
-        found[case] = n;
+    for (case, number) in found.iter_mut().enumerate() {
+        *number = lay_case(case, hs, ms, bs, re, im);
     }
     show_lay(found);
 }
@@ -252,9 +250,8 @@ fn refused_take(
     mi: &mut [f64; MAIN_SYMBOLS],
 ) {
     let mut found = [99usize; 3];
-    for case in 0..3usize {
-        let n = take_case(case, re, im, mr, mi);
-        found[case] = n;
+    for (case, number) in found.iter_mut().enumerate() {
+        *number = take_case(case, re, im, mr, mi);
     }
     show_take(found);
 }

@@ -10,7 +10,7 @@ use cases_frames::{load_bytes, mapping_of, margin_end, table_of};
 use cases_lib::{draw, front, least, nan, one, row, show, step, wide};
 use isdbs_core::frame::{LOAD_BYTES, MAIN_SYMBOLS, SLOTS};
 use isdbs_phy::demod::encode_frame;
-use judge::{FrameJudged, judge};
+use judge::judge;
 
 // The tables. Entry i has its word at bit 16 i and its slots at bit 16 i + 8.
 const TABLES: [u64; 8] = [
@@ -27,11 +27,6 @@ const TABLES: [u64; 8] = [
 // The kind of frame k: both with each mapping.
 fn is_first(k: u64) -> bool {
     k / 8 % 2 == 1
-}
-
-// The first n parts, or none where there are fewer.
-fn front_parts<'a>(s: &'a [f64], n: usize) -> &'a [f64] {
-    if n <= s.len() { &s[0..n] } else { &s[0..0] }
 }
 
 // ---- changed parts
@@ -74,11 +69,11 @@ fn spread_part(clean: f64, draw: u64, noisy: bool) -> f64 {
 // Every part of the frame so.
 fn spread(re: &mut [f64; 38980], im: &mut [f64; 38980], seed: u64, noisy: bool) {
     let mut x = seed;
-    for k in 0..MAIN_SYMBOLS {
+    for (real, imaginary) in re.iter_mut().zip(im.iter_mut()).take(MAIN_SYMBOLS) {
         x = step(x);
-        re[k] = spread_part(re[k], x, noisy);
+        *real = spread_part(*real, x, noisy);
         x = step(x);
-        im[k] = spread_part(im[k], x, noisy);
+        *imaginary = spread_part(*imaginary, x, noisy);
     }
 }
 
@@ -112,9 +107,9 @@ fn ask(way: u64, table: u64, re: &[f64], im: &[f64], bytes: &[u8], counts: &mut 
     let m = mapping_of(way);
     let r = judge(re, im, t, m, is_first(way), bytes, counts);
     match r {
-        FrameJudged::Judged(n) => Told { number: 0, sum: n },
-        FrameJudged::Refused(a) => Told {
-            number: row(a),
+        Ok(n) => Told { number: 0, sum: n },
+        Err(reason) => Told {
+            number: row(Err(reason)),
             sum: 0,
         },
     }
@@ -137,8 +132,8 @@ fn ask_front(
 // The sum of the 48 counts.
 fn total(counts: &[u32; 50]) -> u32 {
     let mut sum: u32 = 0;
-    for j in 0..SLOTS {
-        sum = std::num::wrapping_add_u32(sum, counts[j]);
+    for count in counts.iter().take(SLOTS) {
+        sum = sum.wrapping_add(*count);
     }
     sum
 }
@@ -390,8 +385,8 @@ fn one_row(i: usize, re: &[f64; 38980], im: &mut [f64; 38980], load: &[u8; 9750]
     let told = ask_front(
         4,
         lent_table(i),
-        front_parts(re, lent(i, 1)),
-        front_parts(im, lent(i, 2)),
+        front(re, lent(i, 1)),
+        front(im, lent(i, 2)),
         front(load, lent(i, 0)),
         &mut counts,
         lent(i, 3),
@@ -401,7 +396,7 @@ fn one_row(i: usize, re: &[f64; 38980], im: &mut [f64; 38980], load: &[u8; 9750]
     (told.number == number) & (kept == (number != 0))
 }
 
-// How many of the 17 are.
+// How many of the 17 are. A closure in a shared function would be called with any number; a case needs one below 17.
 fn rows(re: &[f64; 38980], im: &mut [f64; 38980], load: &[u8; 9750]) -> usize {
     let mut right: usize = 0;
     for i in 0..17usize {

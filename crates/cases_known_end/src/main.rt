@@ -3,6 +3,7 @@
 
 use cases_lib::{bytes_of, end_line, row, show, show_bits, small, wide};
 use isdb_fec::conv::ViterbiDecoder;
+use refusal::Refusal;
 use trellis::FRAME_WORDS;
 
 // The coded bits, X of step t at 2t and Y at 2t + 1, in which the inputs 1000000 differ from 0000000, as powers of 2: 0, 1, 2, 4, 5, 6, 7, 11, 12, 13. All
@@ -31,9 +32,7 @@ fn read(
     out: &mut [u8; 7],
 ) -> usize {
     let xs = soft_pairs(received);
-    let r = known_end::read_between(1024, start, end, &xs, decisions, out);
-    let answer = r.answer;
-    row(answer)
+    row(known_end::read_between(1024, start, end, &xs, decisions, out).map(|_| ()))
 }
 
 fn are_zero(out: &[u8; 7]) -> bool {
@@ -88,32 +87,31 @@ fn survey(wanted: u32) {
 }
 
 // The input 1 from state 0 with both bits wrong: what is read from the best state, and from the true end.
-fn one_step() {
+fn one_step() -> Result<(), Refusal> {
     let mut decisions = [7u64; FRAME_WORDS];
     let mut out = [9u8; 2];
-    let made = ViterbiDecoder::with_state(128, 0);
-    let dec = made.dec;
+    let dec = ViterbiDecoder::with_state(128, 0)?;
     let pair = [1.0f32, 1.0f32];
-    let pushed = dec.push(&pair, &mut decisions, &mut out);
-    let best = pushed.dec.flush(&mut decisions, &mut out);
+    let pushed = dec.push(&pair, &mut decisions, &mut out)?;
+    let best = pushed.dec.flush(&mut decisions, &mut out)?;
     let first = small(out[0]);
-    let again = dec.push(&pair, &mut decisions, &mut out);
-    let end = again.dec.flush_at(32, &mut decisions, &mut out);
+    let again = dec.push(&pair, &mut decisions, &mut out)?;
+    let end = again.dec.flush_at(32, &mut decisions, &mut out)?;
     let second = small(out[0]);
     let none = end.dec.flush_at(5, &mut decisions, &mut out);
-    let answer = none.answer;
     let found = [
         best.count,
         first,
         end.count,
         second,
-        row(answer),
-        none.count,
+        row(none.map(|_| ())),
+        none.map_or(0, |r| r.count),
     ];
     show(
         b"one step: flush % #, flush_at 32 % #, nothing held: answer % bits %\n",
         &found,
     );
+    Ok(())
 }
 
 fn show_out(out: &[u8; 7]) {
@@ -132,7 +130,9 @@ fn line(start: u8, end: u8) {
 }
 
 fn main() {
-    one_step();
+    let Ok(()) = one_step() else {
+        return;
+    };
     for wrong in 1..6u32 {
         survey(wrong);
     }

@@ -3,7 +3,7 @@
 
 ghost use Rattle.std.specs.Prelude.{◌+◌, ◌≤◌, ◌<◌, length};
 
-use refusal::Answer;
+use refusal::Refusal;
 
 // The number of standard output.
 const STDOUT_FILENO: i32 = 1;
@@ -70,10 +70,7 @@ fn put_number(mark: u8, n: usize) {
 }
 
 fn is_mark(byte: u8) -> bool {
-    match byte {
-        b'#' | b'%' | b'$' | b'&' | b'@' => true,
-        _ => false,
-    }
+    matches!(byte, b'#' | b'%' | b'$' | b'&' | b'@')
 }
 
 // A byte of a text, or the number that stands for it. How many numbers were shown.
@@ -91,8 +88,8 @@ fn put_next(byte: u8, numbers: &[usize], k: usize) -> usize {
 // A text with numbers, a mark for each: # in decimal, % by three digits, $ by five, & for "agree" where it is 1 and else "DIFFER", @ for "holds" or "FAILS".
 pub fn show(words: &[u8], numbers: &[usize]) {
     let mut k: usize = 0;
-    for i in 0..words.len() {
-        k = put_next(words[i], numbers, k);
+    for b in words {
+        k = put_next(*b, numbers, k);
     }
 }
 
@@ -105,7 +102,7 @@ pub fn show_one(words: &[u8], number: usize) {
 // A byte of the lines, where it stands in the first of those left. How many lines are still before the one that is shown.
 fn put_left(byte: u8, left: usize) -> usize {
     if byte == b'\n' {
-        return if left == 0 { 0 } else { left - 1 };
+        return left.saturating_sub(1);
     }
     if left == 1 {
         put(byte);
@@ -116,8 +113,8 @@ fn put_left(byte: u8, left: usize) -> usize {
 // Line k of a text, the first being 1, without its end.
 pub fn show_line(lines: &[u8], k: usize) {
     let mut left = k;
-    for i in 0..lines.len() {
-        left = put_left(lines[i], left);
+    for b in lines {
+        left = put_left(*b, left);
     }
 }
 
@@ -131,15 +128,15 @@ fn put_bit(bit: u8) {
 
 // Bits as 0 and 1, anything else as ?.
 pub fn show_bits(bits: &[u8]) {
-    for i in 0..bits.len() {
-        put_bit(bits[i]);
+    for b in bits {
+        put_bit(*b);
     }
 }
 
 // ---- numbers
 
 // The row's number, and 0 for accepted.
-pub fn row(answer: Answer) -> usize {
+pub fn row(answer: Result<(), Refusal>) -> usize {
     refusal::number(answer) as usize
 }
 
@@ -167,51 +164,44 @@ pub fn step(x: u64) -> u64 {
 pub fn draw(bytes: &mut [u8], count: usize, seed: u64) {
     let end = least(count, bytes.len());
     let mut x = seed;
-    for i in 0..end {
+    for b in &mut bytes[..end] {
         x = step(x);
-        bytes[i] = (x / 0x100_0000_0000_0000 % 256) as u8;
+        *b = (x / 0x100_0000_0000_0000 % 256) as u8;
     }
 }
 
-// A number as it is shown: a call leaves a caller no need, where a cast can.
+// A number as it is shown: `usize::from` takes no u32.
 pub fn wide(n: u32) -> usize {
     n as usize
 }
 
 pub fn small(n: u8) -> usize {
-    n as usize
-}
-
-fn word_of(byte: u8) -> u64
-    ensures { result < 256 }
-{
-    byte as u64
+    usize::from(n)
 }
 
 // The lists' digest of the first n bytes.
 pub fn digest(bytes: &[u8], n: usize) -> u64 {
     let end = least(n, bytes.len());
     let mut h: u64 = 0x9e37_79b9_7f4a_7c15;
-    for i in 0..end {
-        h = step(h ^ word_of(bytes[i]));
+    for b in &bytes[..end] {
+        h = step(h ^ u64::from(*b));
     }
     h
 }
 
 fn digit(byte: u8) -> u64 {
     match byte {
-        b'0'..=b'9' => word_of(byte - b'0'),
-        b'a'..=b'f' => word_of(byte - b'a') + 10,
+        b'0'..=b'9' => u64::from(byte - b'0'),
+        b'a'..=b'f' => u64::from(byte - b'a') + 10,
         _ => 0,
     }
 }
 
 // The number of the hexadecimal digits from..to of a line, of which the last 16 count.
 pub fn number(line: &[u8], from: usize, to: usize) -> u64 {
-    let end = least(to, line.len());
     let mut value: u64 = 0;
-    for i in from..end {
-        value = value % 0x1000_0000_0000_0000 * 16 + digit(line[i]) % 16;
+    for byte in line.iter().take(to).skip(from) {
+        value = value % 0x1000_0000_0000_0000 * 16 + digit(*byte) % 16;
     }
     value
 }
@@ -261,13 +251,9 @@ pub fn same_double(a: f64, b: f64) -> bool {
     double_bits(a) == double_bits(b)
 }
 
-// The first n bytes, or none where there are fewer.
-pub fn front<'a>(bytes: &'a [u8], n: usize) -> &'a [u8] {
-    if n <= bytes.len() {
-        &bytes[0..n]
-    } else {
-        &bytes[0..0]
-    }
+// The first n of a list, or none where there are fewer.
+pub fn front<'a, T>(all: &'a [T], n: usize) -> &'a [T] {
+    if n <= all.len() { &all[..n] } else { &all[..0] }
 }
 
 // How many of the n bytes of a from `from` on are those of b, as far as both reach.
@@ -278,31 +264,31 @@ pub fn alike(a: &[u8], from: usize, b: &[u8], n: usize) -> usize
         return 0;
     }
     let end = least(n, least(a.len() - from, b.len()));
-    let mut same: usize = 0;
-    for i in 0..end {
-        same += one(a[from + i] == b[i]);
-    }
-    same
+    a[from..from + end]
+        .iter()
+        .zip(b[..end].iter())
+        .filter(|(x, y)| **x == **y)
+        .count()
 }
 
 // How many of the bytes from..to are x, as far as they reach.
 pub fn bytes_of(bytes: &[u8], from: usize, to: usize, x: u8) -> usize {
-    let end = least(to, bytes.len());
-    let mut n: usize = 0;
-    for i in from..end {
-        n += one(bytes[i] == x);
-    }
-    n
+    bytes
+        .iter()
+        .take(to)
+        .skip(from)
+        .filter(|b| **b == x)
+        .count()
 }
 
 // How many of the words from..to are w, as far as they reach.
 pub fn words_of(words: &[u64], from: usize, to: usize, w: u64) -> usize {
-    let end = least(to, words.len());
-    let mut n: usize = 0;
-    for i in from..end {
-        n += one(words[i] == w);
-    }
-    n
+    words
+        .iter()
+        .take(to)
+        .skip(from)
+        .filter(|word| **word == w)
+        .count()
 }
 
 // ---- stored lists
@@ -310,6 +296,20 @@ pub fn words_of(words: &[u64], from: usize, to: usize, w: u64) -> usize {
 // Whether the file has a whole line more, which is put in the slice.
 pub fn read_line(file: i32, line: &mut [u8]) -> bool {
     io::read_full(file, line) == line.len()
+}
+
+// How many of so many lines of a file, each as long as the slice that they are put in, agree: none of those that are missing. A line that does not is shown.
+pub fn agreeing<F: Fn(&[u8]) -> bool>(file: i32, lines: usize, line: &mut [u8], agrees: F) -> usize
+    requires { F.IsAlwaysCallable agrees }
+    ensures { result ≤ lines }
+{
+    let mut agree: usize = 0;
+    for i in 0..lines {
+        if read_line(file, line) {
+            agree += one(passed(line, agrees(line)));
+        }
+    }
+    agree
 }
 
 // Shows a line that does not agree, and says whether it does.

@@ -8,11 +8,12 @@
 ghost use Rattle.std.specs.Prelude.{◌≤◌, ◌<◌};
 
 use cases_frames::{TABLES, load_bytes, mapping_of, margin_end, show_table, table_of};
-use cases_lib::{alike, draw, least, one, row, show, show_one, step, text};
+use cases_lib::{alike, draw, front, one, row, show, show_one, step, text};
 use isdbs_core::combination::Combination;
 use isdbs_core::frame::{FRAME_BITS, LOAD_BYTES, MAIN_SYMBOLS, SLOTS};
 use isdbs_core::slots::{Run, runs};
 use isdbs_phy::demod::{FrameDecoded, encode_frame};
+use refusal::Refusal;
 use trellis::FRAME_WORDS;
 
 // Table k: those that each program goes through, and the empty table. Frame k has the mapping k % 8.
@@ -65,9 +66,11 @@ fn bpsk_run(before: Symbols, run: Run) -> Symbols {
 
 // The symbols of BPSK in a table, in which it stands once at most.
 fn bpsk_symbols(table: u64) -> Symbols {
-    let r = runs(table_of(table));
-    let rs = r.runs;
     let none = Symbols { from: 0, to: 0 };
+    let Ok(all) = runs(table_of(table)) else {
+        return none;
+    };
+    let rs = all.runs;
     let a = bpsk_run(none, rs[0]);
     let b = bpsk_run(a, rs[1]);
     let c = bpsk_run(b, rs[2]);
@@ -117,10 +120,9 @@ fn clean(
     re: &mut [f64; 38986],
     im: &mut [f64; 38986],
 ) -> usize {
-    let n = least(count, bytes.len());
     let t = table_of(table);
     let m = mapping_of(k);
-    row(encode_frame(&bytes[0..n], t, is_first(k), m, re, im))
+    row(encode_frame(front(bytes, count), t, is_first(k), m, re, im))
 }
 
 // What is read.
@@ -132,7 +134,7 @@ fn read(
     decisions: &mut [u64; FRAME_WORDS],
     bits: &mut [u8; FRAME_BITS],
     bytes: &mut [u8; LOAD_BYTES],
-) -> FrameDecoded {
+) -> Result<FrameDecoded, Refusal> {
     let t = table_of(table);
     let m = mapping_of(k);
     let first = is_first(k);
@@ -141,10 +143,10 @@ fn read(
 }
 
 // Whether the answer is that of a load of so many bytes, without strain.
-fn told(r: FrameDecoded, count: usize) -> bool {
+fn told(r: Result<FrameDecoded, Refusal>, count: usize) -> bool {
     match r {
-        FrameDecoded::Decoded(n, _, strained) => (n == count) & (strained == 0),
-        FrameDecoded::Refused(_) => false,
+        Ok(f) => (f.bytes == count) & (f.strained == 0),
+        Err(_) => false,
     }
 }
 
@@ -167,15 +169,10 @@ fn make(
 // Lends words that are not 0, another one at each place.
 fn soil(decisions: &mut [u64; FRAME_WORDS], seed: u64) {
     let mut x = seed;
-    for t in 0..4224usize {
+    for word in decisions {
         x = step(x);
-        decisions[t] = x;
+        *word = x;
     }
-}
-
-// How many of the first `count` bytes are the same.
-fn same_bytes(load: &[u8; LOAD_BYTES], bytes: &[u8; LOAD_BYTES], count: usize) -> usize {
-    alike(load, 0, bytes, count)
 }
 
 // How many bytes of the load of frame k come back: none where the answer is not that of a full load without strain.
@@ -193,7 +190,7 @@ fn read_back(
     soil(&mut decisions, k ^ 0x9e37_79b9_7f4a_7c15);
     let r = read(k, table, re, im, &mut decisions, &mut bits, &mut bytes);
     if told(r, count) {
-        return same_bytes(load, &bytes, count);
+        return alike(load, 0, &bytes, count);
     }
     99999
 }

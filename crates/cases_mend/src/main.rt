@@ -1,9 +1,9 @@
 // Mended stretches: the cases of request P13 and its rows, a stretch of 4,096 steps, and every stretch of up to 7 steps beside an exhaustive search.
 #![tactic(auto)]
 
-use cases_lib::{alike, front, row, show, small, wide, words_of};
+use cases_lib::{alike, front, row, show, show_one, small, wide, words_of};
 use isdb_fec::conv::ConvEncoder;
-use mend::Mended;
+use refusal::Refusal;
 use trellis::FRAME_WORDS;
 
 // A coded stretch of up to 7 steps: its bits, the first of them at bit 0, and the state that it leads to.
@@ -32,7 +32,9 @@ fn send(start: u8, inputs: u32, n: u32) -> Sent {
     let mut bits: u32 = 0;
     let mut weight: u32 = 1;
     for i in 0..n {
-        let pushed = enc.push((rest % 2) as u8);
+        let Ok(pushed) = enc.push((rest % 2) as u8) else {
+            break;
+        };
         bits = bits | weighed(pushed.x, weight) | weighed(pushed.y, weight % 16384 * 2);
         let after = pushed.enc;
         enc = after;
@@ -58,13 +60,10 @@ fn send_all(start: u8, n: u32, bits: &mut [u32; 128], ends: &mut [u8; 128]) {
 fn search(stored: u32, end: u8, count: u32, bits: &[u32; 128], ends: &[u8; 128]) -> Near {
     let mut found: u32 = 0;
     let mut last: u32 = 0;
-    for i in 0..128u32 {
-        if i < count {
-            let sent = bits[i as usize];
-            if ends[i as usize] == end && u32::count_ones(sent ^ stored) <= 4 {
-                found = found % 128 + 1;
-                last = sent;
-            }
+    for (sent, reached) in bits.iter().zip(ends.iter()).take(count as usize) {
+        if *reached == end && u32::count_ones(*sent ^ stored) <= 4 {
+            found = found % 128 + 1;
+            last = *sent;
         }
     }
     Near {
@@ -76,8 +75,8 @@ fn search(stored: u32, end: u8, count: u32, bits: &[u32; 128], ends: &[u8; 128])
 fn unpack(stored: u32) -> [u8; 14] {
     let mut bits = [0u8; 14];
     let mut rest = stored;
-    for k in 0..14 {
-        bits[k] = (rest % 2) as u8;
+    for bit in bits.iter_mut() {
+        *bit = (rest % 2) as u8;
         rest = rest / 2;
     }
     bits
@@ -91,19 +90,16 @@ fn mend_stretch(
     decisions: &mut [u64],
     out: &mut [u8],
     list: &mut [u32],
-) -> Mended {
+) -> Result<usize, Refusal> {
     mend::mend(bits, start, end, decisions, out, list)
 }
 
 // Whether the first `count` places hold the bits of `sent`, and the others what they held before.
 fn out_is(out: &[u8; 14], sent: u32, count: usize) -> bool {
     let mut rest = sent;
-    for k in 0..14 {
-        let bit = (rest % 2) as u8;
-        if k < count && out[k] != bit {
-            return false;
-        }
-        if k >= count && out[k] != 9 {
+    for (k, place) in out.iter().enumerate() {
+        let wanted = if k < count { (rest % 2) as u8 } else { 9 };
+        if *place != wanted {
             return false;
         }
         rest = rest / 2;
@@ -113,12 +109,7 @@ fn out_is(out: &[u8; 14], sent: u32, count: usize) -> bool {
 
 // Whether the places from `count` on hold what they held before.
 fn rest_kept(list: &[u32; 6], count: usize) -> bool {
-    for k in 0..6 {
-        if k >= count && list[k] != 77 {
-            return false;
-        }
-    }
-    true
+    list.iter().skip(count).all(|place| *place == 77)
 }
 
 // Whether the first `count` places hold the places of the ones of `changes`, rising, and the others what they held before.
@@ -185,9 +176,8 @@ fn mend_and_compare(
     let mut list = [77u32; 6];
     let n = steps % 8 * 2;
     let m = mend_stretch(front(&bits, n), start, end, decisions, &mut out, &mut list);
-    let answer = m.answer;
-    let number = refusal::number(answer);
-    let count = m.count;
+    let count = m.unwrap_or(0);
+    let number = number(m);
     if number == 15 {
         return add(
             t,
@@ -268,22 +258,18 @@ fn survey(steps: usize, start: u8, decisions: &mut [u64; 4226]) {
 
 // Fills the words anew.
 fn reset_words(decisions: &mut [u64; 4226]) {
-    for k in 0..4226 {
-        decisions[k] = 7;
-    }
+    decisions.fill(7);
 }
 
 // The places of an output as digits.
 fn put_out(out: &[u8; 14]) {
-    for k in 0..14 {
-        let one = [small(out[k])];
-        show(b"#", &one);
+    for place in out.iter() {
+        show_one(b"#", small(*place));
     }
 }
 
-fn number(m: Mended) -> usize {
-    let answer = m.answer;
-    row(answer)
+fn number(m: Result<usize, Refusal>) -> usize {
+    row(m.map(|_| ()))
 }
 
 // The list whole, and the words that became 0.
@@ -308,7 +294,7 @@ fn stretch(stored: u32, steps: usize, start: u8, end: u8, decisions: &mut [u64; 
     let mut list = [77u32; 6];
     let n = steps % 8 * 2;
     let m = mend_stretch(front(&bits, n), start, end, decisions, &mut out, &mut list);
-    let found = [steps, small(start), small(end), number(m), m.count];
+    let found = [steps, small(start), small(end), number(m), m.unwrap_or(0)];
     show(b"steps # from # to #: answer #, changed #, output ", &found);
     put_out(&out);
     put_lent(&list, decisions);
@@ -420,7 +406,9 @@ fn rows(decisions: &mut [u64; 4226]) {
 fn encode_long(bits: &mut [u8; 8192]) -> u8 {
     let mut enc = ConvEncoder { state: 5 };
     for t in 0..4096usize {
-        let pushed = enc.push((t / 3 % 2) as u8);
+        let Ok(pushed) = enc.push((t / 3 % 2) as u8) else {
+            break;
+        };
         bits[2 * t] = pushed.x;
         bits[2 * t + 1] = pushed.y;
         let after = pushed.enc;
@@ -438,10 +426,8 @@ fn flip(bits: &mut [u8; 8192], k: usize) {
 // Makes the first `wrong` of the places 8191, 4096, 1, 0 and 8190 wrong.
 fn spoil(bits: &mut [u8; 8192], wrong: usize) {
     let places = [8191usize, 4096, 1, 0, 8190];
-    for k in 0..5 {
-        if k < wrong {
-            flip(bits, places[k]);
-        }
+    for place in places.iter().take(wrong) {
+        flip(bits, *place);
     }
 }
 
@@ -459,7 +445,12 @@ fn long(
     spoil(bits, wrong);
     let mut list = [77u32; 6];
     let m = mend_stretch(bits, 5, end, decisions, out, &mut list);
-    let found = [wrong, number(m), m.count, 8192 - alike(out, 0, sent, 8192)];
+    let found = [
+        wrong,
+        number(m),
+        m.unwrap_or(0),
+        8192 - alike(out, 0, sent, 8192),
+    ];
     show(
         b"steps 4096, wrong bits #: answer #, changed #, output unlike what was sent in #",
         &found,
@@ -471,9 +462,8 @@ fn longs(decisions: &mut [u64; 4226]) {
     let mut sent = [0u8; 8192];
     let mut bits = [0u8; 8192];
     let mut out = [9u8; 8192];
-    let wrong = [5usize, 4, 1, 0];
-    for k in 0..4usize {
-        long(wrong[k], &mut sent, &mut bits, &mut out, decisions);
+    for wrong in [5usize, 4, 1, 0] {
+        long(wrong, &mut sent, &mut bits, &mut out, decisions);
     }
 }
 

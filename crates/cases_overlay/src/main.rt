@@ -6,13 +6,12 @@
 ghost use Rattle.std.specs.Prelude.{◌≤◌};
 
 use cases_frames::{mapping_of, table_of};
-use cases_lib::{least, one, row, show, show_bits, show_one, small, step, text};
+use cases_lib::{one, row, show, show_bits, show_one, small, step, text};
 use isdb_fec::conv::ConvEncoder;
 use isdbs_core::frame::{LOAD_BYTES, MAIN_SYMBOLS};
 use isdbs_phy::demod::encode_frame_with_state;
 use isdbt_fec::conv::{CodeRate, Encoded, encode_punctured};
 use overlay::{Code, Encoders, encode_overlaid, overlay};
-use refusal::Answer;
 
 // The start states of the first load and of the second; their exclusive-or is 58.
 const FIRST: u8 = 5;
@@ -20,21 +19,36 @@ const FIRST: u8 = 5;
 const SECOND: u8 = 63;
 
 // Two loads, their exclusive-or, and their or.
-fn fill_loads(
-    first: &mut [u8; LOAD_BYTES],
-    second: &mut [u8; LOAD_BYTES],
-    sum: &mut [u8; LOAD_BYTES],
-    either: &mut [u8; LOAD_BYTES],
-) {
-    let mut x: u64 = 0x9e37_79b9_7f4a_7c15;
-    for i in 0..9744usize {
-        x = step(x);
-        let p = (x / 65536 % 256) as u8;
-        let q = (x / 16777216 % 256) as u8;
-        first[i] = p;
-        second[i] = q;
-        sum[i] = p ^ q;
-        either[i] = p | q;
+#[derive(Drop)]
+struct Loads {
+    first: [u8; LOAD_BYTES],
+    second: [u8; LOAD_BYTES],
+    sum: [u8; LOAD_BYTES],
+    either: [u8; LOAD_BYTES],
+}
+
+impl Loads {
+    fn new() -> Self {
+        let mut first = [0u8; LOAD_BYTES];
+        let mut second = [0u8; LOAD_BYTES];
+        let mut sum = [0u8; LOAD_BYTES];
+        let mut either = [0u8; LOAD_BYTES];
+        let mut x: u64 = 0x9e37_79b9_7f4a_7c15;
+        for i in 0..LOAD_BYTES {
+            x = step(x);
+            let p = (x / 65536 % 256) as u8;
+            let q = (x / 16777216 % 256) as u8;
+            first[i] = p;
+            second[i] = q;
+            sum[i] = p ^ q;
+            either[i] = p | q;
+        }
+        Self {
+            first,
+            second,
+            sum,
+            either,
+        }
     }
 }
 
@@ -82,8 +96,8 @@ fn lay(
     im: &[f64; MAIN_SYMBOLS],
     bits: &mut [u8; MAIN_SYMBOLS],
 ) {
-    for k in 0..MAIN_SYMBOLS {
-        bits[k] = bits_of(word, re[k], im[k]);
+    for (k, bit) in bits.iter_mut().enumerate() {
+        *bit = bits_of(word, re[k], im[k]);
     }
 }
 
@@ -96,12 +110,10 @@ fn encode(
     im: &mut [f64; MAIN_SYMBOLS],
 ) -> u8 {
     let t = table_of(0x000f_000f_000f_3000 + word as u64);
-    let made = encode_frame_with_state(load, t, ConvEncoder { state }, mapping_of(4), re, im);
-    let answer = made.answer;
-    let Answer::Accepted = answer else {
-        return 255;
-    };
-    made.enc.state
+    match encode_frame_with_state(load, t, ConvEncoder { state }, mapping_of(4), re, im) {
+        Ok(end) => end.state,
+        Err(_) => 255,
+    }
 }
 
 // The same with the bits of the points alone.
@@ -115,12 +127,11 @@ fn frame(load: &[u8; LOAD_BYTES], word: u8, state: u8, bits: &mut [u8; MAIN_SYMB
 
 // How many places of the third list are the exclusive-or of those of the first and the second, as far as all reach.
 fn overlaid(a: &[u8], b: &[u8], c: &[u8]) -> usize {
-    let end = least(a.len(), least(b.len(), c.len()));
-    let mut n: usize = 0;
-    for k in 0..end {
-        n += one(a[k] ^ b[k] == c[k]);
-    }
-    n
+    a.iter()
+        .zip(b.iter())
+        .zip(c.iter())
+        .filter(|((x, y), z)| **x ^ **y == **z)
+        .count()
 }
 
 // Of how many points the bits are right, and whether the end state is.
@@ -128,10 +139,6 @@ fn overlaid(a: &[u8], b: &[u8], c: &[u8]) -> usize {
 struct Laid {
     right: usize,
     ends: usize,
-}
-
-fn points(a: &[u8; MAIN_SYMBOLS], b: &[u8; MAIN_SYMBOLS], c: &[u8; MAIN_SYMBOLS]) -> usize {
-    overlaid(a, b, c)
 }
 
 // A load in the place of the sum, from a state.
@@ -146,25 +153,19 @@ fn third(
     let mut c = [0u8; MAIN_SYMBOLS];
     let last = frame(load, word, state, &mut c);
     Laid {
-        right: points(a, b, &c),
+        right: overlaid(a, b, &c),
         ends: one(last == end),
     }
 }
 
-fn combination(
-    word: u8,
-    first: &[u8; LOAD_BYTES],
-    second: &[u8; LOAD_BYTES],
-    sum: &[u8; LOAD_BYTES],
-    either: &[u8; LOAD_BYTES],
-) {
+fn combination(word: u8, loads: &Loads) {
     let mut a = [0u8; MAIN_SYMBOLS];
     let mut b = [0u8; MAIN_SYMBOLS];
-    let after = frame(first, word, FIRST, &mut a);
-    let end = after ^ frame(second, word, SECOND, &mut b);
-    let x = third(word, sum, 58, end, &a, &b);
-    let y = third(word, sum, 0, end, &a, &b);
-    let z = third(word, either, 58, end, &a, &b);
+    let after = frame(&loads.first, word, FIRST, &mut a);
+    let end = after ^ frame(&loads.second, word, SECOND, &mut b);
+    let x = third(word, &loads.sum, 58, end, &a, &b);
+    let y = third(word, &loads.sum, 0, end, &a, &b);
+    let z = third(word, &loads.either, 58, end, &a, &b);
     let found = [
         small(word),
         x.right,
@@ -180,17 +181,6 @@ fn combination(
     );
 }
 
-fn combinations(
-    first: &[u8; LOAD_BYTES],
-    second: &[u8; LOAD_BYTES],
-    sum: &[u8; LOAD_BYTES],
-    either: &[u8; LOAD_BYTES],
-) {
-    for word in 1..8u8 {
-        combination(word, first, second, sum, either);
-    }
-}
-
 // ---- ISDB-T
 
 fn rate_of(row: usize) -> CodeRate {
@@ -204,12 +194,9 @@ fn rate_of(row: usize) -> CodeRate {
 }
 
 // What is sent for the first 210 bytes of a load, of which only the low bits count, from a state. Places past it hold 0.
-fn send(load: &[u8], row: usize, state: u8, out: &mut [u8; 420]) -> Encoded {
+fn send(load: &[u8; LOAD_BYTES], row: usize, state: u8, out: &mut [u8; 420]) -> Encoded {
     let enc = ConvEncoder { state };
-    if load.len() < 210 {
-        return encode_punctured(enc, rate_of(row), load, out);
-    }
-    encode_punctured(enc, rate_of(row), &load[0..210], out)
+    encode_punctured(enc, rate_of(row), &load[..210], out).unwrap_or(Encoded { enc, count: 0 })
 }
 
 fn last(x: Encoded) -> u8 {
@@ -225,10 +212,6 @@ struct SumSent {
     last: u8,
 }
 
-fn places(a: &[u8; 420], b: &[u8; 420], c: &[u8; 420]) -> usize {
-    overlaid(a, b, c)
-}
-
 fn third_sent(
     row: usize,
     sum: &[u8; LOAD_BYTES],
@@ -240,17 +223,18 @@ fn third_sent(
     let z = send(sum, row, state, &mut c);
     SumSent {
         count: z.count,
-        right: places(a, b, &c),
+        right: overlaid(a, b, &c),
         last: last(z),
     }
 }
 
-fn rate(row: usize, first: &[u8; LOAD_BYTES], second: &[u8; LOAD_BYTES], sum: &[u8; LOAD_BYTES]) {
+fn rate(row: usize, loads: &Loads) {
     let mut a = [0u8; 420];
     let mut b = [0u8; 420];
-    let end = last(send(first, row, FIRST, &mut a)) ^ last(send(second, row, SECOND, &mut b));
-    let x = third_sent(row, sum, 58, &a, &b);
-    let y = third_sent(row, sum, 0, &a, &b);
+    let end = last(send(&loads.first, row, FIRST, &mut a))
+        ^ last(send(&loads.second, row, SECOND, &mut b));
+    let x = third_sent(row, &loads.sum, 58, &a, &b);
+    let y = third_sent(row, &loads.sum, 0, &a, &b);
     let found = [
         row,
         x.count,
@@ -270,24 +254,24 @@ fn rate(row: usize, first: &[u8; LOAD_BYTES], second: &[u8; LOAD_BYTES], sum: &[
 
 // The bits of 105 bytes, high bit first.
 fn unpack(load: &[u8; LOAD_BYTES], bits: &mut [u8; 840]) {
-    for j in 0..840usize {
-        bits[j] = (load[j / 8] >> (7 - j % 8)) % 2;
+    for (j, bit) in bits.iter_mut().enumerate() {
+        *bit = (load[j / 8] >> (7 - j % 8)) % 2;
     }
 }
 
 // Of how many of the first 630 points the bits are those that ISDB-T sends.
 fn pairs(points: &[u8; MAIN_SYMBOLS], sent: &[u8; 1260]) -> usize {
-    let mut n: usize = 0;
-    for j in 0..630usize {
-        n += one((points[j] % 2 == sent[2 * j]) & (points[j] / 2 == sent[2 * j + 1]));
-    }
-    n
+    (0..630usize)
+        .filter(|&j| points[j] % 2 == sent[2 * j] && points[j] / 2 == sent[2 * j + 1])
+        .count()
 }
 
 // What ISDB-T sends at 2/3 for the bits; how many they are.
 fn send_bits(bits: &[u8; 840], sent: &mut [u8; 1260]) -> usize {
-    let x = encode_punctured(ConvEncoder { state: FIRST }, CodeRate::R2_3, bits, sent);
-    x.count
+    match encode_punctured(ConvEncoder { state: FIRST }, CodeRate::R2_3, bits, sent) {
+        Ok(x) => x.count,
+        Err(_) => 0,
+    }
 }
 
 // 210 periods of ISDB-S QPSK 2/3, which are 420 of ISDB-T 2/3.
@@ -340,9 +324,11 @@ fn length_three() {
     let mut x = [9u8; 12];
     let mut y = [9u8; 12];
     let mut z = [9u8; 12];
-    let e = encode_overlaid(encoders(3, 1, 3), &us, &vs, &mut ws, &mut x, &mut y, &mut z);
-    let answer = e.answer;
-    show_one(b"length 3: answer #\n", row(answer));
+    let made = encode_overlaid(encoders(3, 1, 3), &us, &vs, &mut ws, &mut x, &mut y, &mut z);
+    show_one(b"length 3: answer #\n", row(made.map(|_| ())));
+    let Ok(e) = made else {
+        return;
+    };
     line(b"first  ", &x, e.first);
     line(b"second ", &y, e.second);
     line(b"sum    ", &z, e.third);
@@ -367,8 +353,7 @@ fn answer(k: u8, s: u8, r: u8, n: usize, m: usize, w: usize, v: usize) -> usize
         &mut out2,
         &mut out3[0..v],
     );
-    let a = e.answer;
-    row(a)
+    row(e.map(|_| ()))
 }
 
 // The answer to the exclusive-or of strings of n and m bytes into w places.
@@ -403,16 +388,14 @@ fn rows() {
 }
 
 fn main() {
-    let mut first = [0u8; LOAD_BYTES];
-    let mut second = [0u8; LOAD_BYTES];
-    let mut sum = [0u8; LOAD_BYTES];
-    let mut either = [0u8; LOAD_BYTES];
-    fill_loads(&mut first, &mut second, &mut sum, &mut either);
-    combinations(&first, &second, &sum, &either);
-    for row in 0..5usize {
-        rate(row, &first, &second, &sum);
+    let loads = Loads::new();
+    for word in 1..8u8 {
+        combination(word, &loads);
     }
-    two_thirds(&first);
+    for row in 0..5usize {
+        rate(row, &loads);
+    }
+    two_thirds(&loads.first);
     length_three();
     rows();
 }

@@ -179,9 +179,9 @@ pub fn next(x: u32) -> u32
 pub fn scattered(seed: u32, few: bool) -> [u8; 32] {
     let mut x = seed % 65536;
     let mut ms = [16u8; 32];
-    for k in 0..32 {
+    for m in ms.iter_mut() {
         x = next(x);
-        ms[k] = metric(x, few);
+        *m = metric(x, few);
     }
     ms
 }
@@ -189,9 +189,8 @@ pub fn scattered(seed: u32, few: bool) -> [u8; 32] {
 // The metrics as the decoder takes them.
 pub fn floats(metrics: &[u8; 32]) -> [f32; 32] {
     let mut xs = [0.0f32; 32];
-    for k in 0..32 {
-        let m = metrics[k] as f32;
-        xs[k] = m - 16.0;
+    for (x, m) in xs.iter_mut().zip(metrics.iter()) {
+        *x = *m as f32 - 16.0;
     }
     xs
 }
@@ -199,9 +198,9 @@ pub fn floats(metrics: &[u8; 32]) -> [f32; 32] {
 // Whether the first n places hold the inputs, and the others 9.
 pub fn has_inputs(out: &[u8; 8], n: usize, inputs: u32) -> bool {
     let mut bits = inputs;
-    for k in 0..8 {
+    for (k, place) in out.iter().enumerate() {
         let wanted = if k < n { (bits % 2) as u8 } else { 9 };
-        if out[k] != wanted {
+        if *place != wanted {
             return false;
         }
         bits = bits / 2;
@@ -209,6 +208,7 @@ pub fn has_inputs(out: &[u8; 8], n: usize, inputs: u32) -> bool {
     true
 }
 
+// Here for cases_short, which calls it.
 pub fn larger(a: u32, b: u32) -> u32 {
-    if a < b { b } else { a }
+    a.max(b)
 }

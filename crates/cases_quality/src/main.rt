@@ -66,27 +66,15 @@ fn known(i: usize, k: usize) -> f64 {
     all[w][k % 7]
 }
 
-fn fill_part(part: &mut [f64; 38980], x: f64) {
-    for k in 0..MAIN_SYMBOLS {
-        part[k] = x;
-    }
-}
-
-fn fill_load(load: &mut [u8; 9750], b: u8) {
-    for k in 0..LOAD_BYTES {
-        load[k] = b;
-    }
-}
-
 // How many numbers are as known.
 fn right(i: usize, out: &[f64; 338]) -> usize
     ensures { result ≤ 336 }
 {
-    let mut n: usize = 0;
-    for k in 0..QUALITY_NUMBERS {
-        n = n + one(out[k] == known(i, k));
-    }
-    n
+    out[..QUALITY_NUMBERS]
+        .iter()
+        .enumerate()
+        .filter(|(k, number)| **number == known(i, *k))
+        .count()
 }
 
 // How many numbers of frame i are, where what stands past them is as it was.
@@ -95,9 +83,9 @@ fn one_frame(i: usize, re: &mut [f64; 38980], im: &mut [f64; 38980], load: &mut 
 {
     let mut out = [7.5f64; 338];
     let t = table(i);
-    fill_part(re, real(i));
-    fill_part(im, imaginary(i));
-    fill_load(load, byte(i));
+    re[..MAIN_SYMBOLS].fill(real(i));
+    im[..MAIN_SYMBOLS].fill(imaginary(i));
+    load[..LOAD_BYTES].fill(byte(i));
     let bytes = front(load, load_bytes(t));
     let m = mapping_of(if i == 2 { 5 } else { 4 });
     let answer = quality(re, im, table_of(t), m, i == 0, bytes, &mut out);
@@ -124,11 +112,6 @@ const LENT: [[usize; 5]; 9] = [
     [9743, 38975, 335, 1, 5],
 ];
 
-// The first n parts, or none where there are fewer.
-fn front_parts<'a>(s: &'a [f64], n: usize) -> &'a [f64] {
-    if n <= s.len() { &s[0..n] } else { &s[0..0] }
-}
-
 // The number that `quality` answers with the first n places.
 fn ask(re: &[f64], im: &[f64], bytes: &[u8], out: &mut [f64], n: usize) -> usize {
     let e = least(n, out.len());
@@ -153,7 +136,7 @@ fn one_row(i: usize, re: &[f64; 38980], im: &mut [f64; 38980], load: &[u8; 9750]
     let mut out = [7.5f64; 338];
     im[MAIN_SYMBOLS - 1] = if lent[3] == 1 { nan() } else { 0.0 };
     let number = ask(
-        front_parts(re, lent[1]),
+        front(re, lent[1]),
         im,
         front(load, lent[0]),
         &mut out,
@@ -163,7 +146,7 @@ fn one_row(i: usize, re: &[f64; 38980], im: &mut [f64; 38980], load: &[u8; 9750]
     (number == lent[4]) & (kept == (number != 0))
 }
 
-// How many of the nine are.
+// How many of the nine are. A closure in a shared function would be called with any number; a case needs one below nine.
 fn rows(re: &[f64; 38980], im: &mut [f64; 38980], load: &[u8; 9750]) -> usize {
     let mut right: usize = 0;
     for i in 0..9usize {

@@ -6,7 +6,8 @@ ghost use Rattle.std.specs.Prelude.{◌+◌, ◌*◌, ◌≤◌, ◌<◌};
 
 use cases_lib::{alike, one, row, show, show_line, show_one, small, wide};
 use cases_paths::{floats, has_inputs, larger, scattered, search_all};
-use isdb_fec::conv::{ConvEncoder, Made, Released, ViterbiDecoder};
+use isdb_fec::conv::{ConvEncoder, Released, ViterbiDecoder};
+use refusal::Refusal;
 use short_best::Start;
 use short_fec::Code;
 use trellis::FRAME_WORDS;
@@ -28,9 +29,10 @@ fn three_inputs() -> bool {
     let mut out = [9u8; 7];
     let enc = ConvEncoder { state: 0 };
     let wanted = [1u8, 1, 1, 0, 1, 1, 9];
-    let r = short_encode::encode(three(), enc, &bits, &mut out);
-    let answer = r.answer;
-    (row(answer) == 0) & (alike(&out, 0, &wanted, 7) == 7) & (r.enc.state == 0)
+    let Ok(after) = short_encode::encode(three(), enc, &bits, &mut out) else {
+        return false;
+    };
+    (alike(&out, 0, &wanted, 7) == 7) & (after.state == 0)
 }
 
 // The answer to three inputs from a state, with a place for each bit.
@@ -38,9 +40,7 @@ fn encoder_answer(state: u8) -> usize {
     let bits = [1u8, 0, 0];
     let mut out = [9u8; 6];
     let enc = ConvEncoder { state };
-    let r = short_encode::encode(three(), enc, &bits, &mut out);
-    let answer = r.answer;
-    row(answer)
+    row(short_encode::encode(three(), enc, &bits, &mut out).map(|_| ()))
 }
 
 // And with a place too few.
@@ -48,15 +48,14 @@ fn five_places() -> usize {
     let bits = [1u8, 0, 0];
     let mut out = [9u8; 5];
     let enc = ConvEncoder { state: 0 };
-    let r = short_encode::encode(three(), enc, &bits, &mut out);
-    let answer = r.answer;
-    row(answer)
+    row(short_encode::encode(three(), enc, &bits, &mut out).map(|_| ()))
 }
 
 // Start 5 is state 1 of four; the values past them are 0.
 fn fifth_start() -> bool {
-    let made = short_fec::with_state(three(), 128, 5);
-    let dec = made.dec;
+    let Ok(dec) = short_fec::with_state(three(), 128, 5) else {
+        return false;
+    };
     let pm = dec.pm;
     (pm[0] == -1.0e6)
         & (pm[1] == 0.0)
@@ -75,16 +74,15 @@ fn handed(pm: [f32; 64], held: usize, traceback: usize) -> ViterbiDecoder {
 }
 
 // An empty push of a decoder.
-fn nothing_pushed(code: Code, dec: ViterbiDecoder) -> Released {
+fn nothing_pushed(code: Code, dec: ViterbiDecoder) -> Result<Released, Refusal> {
     let mut decisions = [0u64; 5120];
     let mut out = [9u8; 4];
     let pairs = [0.0f32; 2];
     short_fec::push(code, dec, &pairs[..0], &mut decisions, &mut out)
 }
 
-fn number(r: Released) -> usize {
-    let answer = r.answer;
-    row(answer)
+fn number(r: Result<Released, Refusal>) -> usize {
+    row(r.map(|_| ()))
 }
 
 // The greatest of the four values is subtracted from them alone.
@@ -94,11 +92,12 @@ fn four_values() -> bool {
     pm[1] = -6.0;
     pm[2] = -7.0;
     pm[3] = -8.0;
-    let r = nothing_pushed(three(), handed(pm, 0, 128));
+    let Ok(r) = nothing_pushed(three(), handed(pm, 0, 128)) else {
+        return false;
+    };
     let dec = r.dec;
     let q = dec.pm;
-    (number(r) == 0)
-        & (q[0] == 0.0)
+    (q[0] == 0.0)
         & (q[1] == -1.0)
         & (q[2] == -2.0)
         & (q[3] == -3.0)
@@ -106,14 +105,15 @@ fn four_values() -> bool {
         & (q[63] == 0.0)
 }
 
-// The answer to an empty push where place k holds no number, and whether it comes back.
+// The answer to an empty push where place k holds no number, and whether it is still there.
 fn no_number(k: usize) -> usize
     requires { k < 64 }
 {
     let mut pm = [0.0f32; 64];
     pm[k] = 0.0f32 / 0.0f32;
-    let r = nothing_pushed(three(), handed(pm, 0, 128));
-    let dec = r.dec;
+    let before = handed(pm, 0, 128);
+    let r = nothing_pushed(three(), before);
+    let dec = r.map_or(before, |p| p.dec);
     let q = dec.pm;
     let x = q[k];
     if x == x {
@@ -124,9 +124,7 @@ fn no_number(k: usize) -> usize
 
 // The answer of a fresh decoder of traceback 128.
 fn fresh_answer(code: Code) -> usize {
-    let made = short_fec::new_unknown_state(code, 128);
-    let answer = made.answer;
-    row(answer)
+    row(short_fec::new_unknown_state(code, 128).map(|_| ()))
 }
 
 // The answer to an empty push of a state that holds so many words.
@@ -184,12 +182,13 @@ fn read_once(
     decisions: &mut [u64; FRAME_WORDS],
 ) -> bool {
     let mut out = [9u8; 8];
-    let r = short_best::greatest_sum_reading(code, xs, start, decisions, &mut out);
-    let answer = r.answer;
-    (row(answer) == 0) & (r.count == 8) & has_inputs(&out, 8, inputs)
+    let Ok(count) = short_best::greatest_sum_reading(code, xs, start, decisions, &mut out) else {
+        return false;
+    };
+    (count == 8) & has_inputs(&out, 8, inputs)
 }
 
-fn fresh(code: Code, start: Start) -> Made {
+fn fresh(code: Code, start: Start) -> Result<ViterbiDecoder, Refusal> {
     match start {
         Start::Given(s) => short_fec::with_state(code, 128, s),
         Start::Unknown => short_fec::new_unknown_state(code, 128),
@@ -205,14 +204,16 @@ fn read_by_calls(
     decisions: &mut [u64; FRAME_WORDS],
 ) -> bool {
     let mut out = [9u8; 8];
-    let made = fresh(code, start);
-    let p = short_fec::push_metrics(code, made.dec, xs, decisions, &mut out);
-    let r = short_fec::flush(code, p.dec, decisions, &mut out);
-    (number(p) == 0)
-        & (p.count == 0)
-        & (number(r) == 0)
-        & (r.count == 8)
-        & has_inputs(&out, 8, inputs)
+    let Ok(dec) = fresh(code, start) else {
+        return false;
+    };
+    let Ok(p) = short_fec::push_metrics(code, dec, xs, decisions, &mut out) else {
+        return false;
+    };
+    let Ok(r) = short_fec::flush(code, p.dec, decisions, &mut out) else {
+        return false;
+    };
+    (p.count == 0) & (r.count == 8) & has_inputs(&out, 8, inputs)
 }
 
 // Whether the reading is the first path of greatest sum, and how many paths have that sum.

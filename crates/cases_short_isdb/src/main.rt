@@ -6,7 +6,8 @@ ghost use Rattle.std.specs.Prelude.{◌+◌, ◌*◌, ◌≤◌, ◌<◌};
 
 use cases_lib::{alike, least, one, row, show_line, show_one};
 use cases_paths::next;
-use isdb_fec::conv::{ConvEncoder, Made, Released, ViterbiDecoder};
+use isdb_fec::conv::{ConvEncoder, Released, ViterbiDecoder};
+use refusal::Refusal;
 use short_fec::Code;
 use trellis::FRAME_WORDS;
 
@@ -14,34 +15,16 @@ fn seven() -> Code {
     short_same::isdb_code()
 }
 
-fn same_values(a: [f32; 64], b: [f32; 64]) -> bool {
-    for s in 0..64 {
-        if a[s] != b[s] {
-            return false;
-        }
-    }
-    true
-}
-
 fn same_state(a: ViterbiDecoder, b: ViterbiDecoder) -> bool {
-    let p = a.pm;
-    let q = b.pm;
-    (a.held == b.held) & (a.traceback == b.traceback) & same_values(p, q)
+    (a.held == b.held) & (a.traceback == b.traceback) & (a.pm == b.pm)
 }
 
-fn same_made(a: Made, b: Made) -> bool {
-    let x = a.answer;
-    let y = b.answer;
-    (row(x) == row(y)) & same_state(a.dec, b.dec)
-}
-
-fn same_words(a: &[u64; 4300], b: &[u64; 4300]) -> bool {
-    for k in 0..4300 {
-        if a[k] != b[k] {
-            return false;
-        }
+fn same_made(a: Result<ViterbiDecoder, Refusal>, b: Result<ViterbiDecoder, Refusal>) -> bool {
+    match (a, b) {
+        (Ok(v), Ok(w)) => same_state(v, w),
+        (Err(x), Err(y)) => row(Err(x)) == row(Err(y)),
+        _ => false,
     }
-    true
 }
 
 // A soft value from -8 to 8.
@@ -53,23 +36,23 @@ fn soft(x: u32) -> f32 {
 
 fn fill_values(values: &mut [f32; 18000], seed: u32) {
     let mut x = seed % 65536;
-    for k in 0..18000 {
+    for value in values.iter_mut() {
         x = next(x);
-        values[k] = soft(x);
+        *value = soft(x);
     }
 }
 
 fn fill_bits(bits: &mut [u8; 4500], seed: u32) {
     let mut x = seed % 65536;
-    for k in 0..4500 {
+    for bit in bits.iter_mut() {
         x = next(x);
-        bits[k] = (x / 256) as u8;
+        *bit = (x / 256) as u8;
     }
 }
 
 // Fresh decoders at the state s, with a traceback that may be refused.
 fn fresh_agree(s: u8) -> bool {
-    let tb = 8 * (s as usize);
+    let tb = 8 * usize::from(s);
     let given = same_made(
         short_fec::with_state(seven(), tb, s),
         ViterbiDecoder::with_state(tb, s),
@@ -84,24 +67,20 @@ fn fresh_agree(s: u8) -> bool {
 // The encoder at the state s, which may be past the last.
 fn bit_agrees(s: u8, u: u8) -> bool {
     let enc = ConvEncoder { state: s };
-    let a = short_fec::push_bit(seven(), enc, u);
-    let b = enc.push(u);
-    let x = a.answer;
-    let y = b.answer;
-    let after = a.enc;
-    let other = b.enc;
-    (row(x) == row(y)) & (a.x == b.x) & (a.y == b.y) & (after.state == other.state)
+    match (short_fec::push_bit(seven(), enc, u), enc.push(u)) {
+        (Ok(a), Ok(b)) => {
+            let after = a.enc;
+            let other = b.enc;
+            (a.x == b.x) & (a.y == b.y) & (after.state == other.state)
+        }
+        (Err(x), Err(y)) => row(Err(x)) == row(Err(y)),
+        _ => false,
+    }
 }
 
 // Every state and more, with the inputs 254 and 3.
 fn starts() -> bool {
-    for s in 0..256usize {
-        let state = (s % 256) as u8;
-        if !(fresh_agree(state) & bit_agrees(state, 254) & bit_agrees(state, 3)) {
-            return false;
-        }
-    }
-    true
+    (0..=255u8).all(|s| fresh_agree(s) && bit_agrees(s, 254) && bit_agrees(s, 3))
 }
 
 // ---- calls one after another
@@ -174,7 +153,7 @@ fn by_code(
     bits: &[u8; 4500],
     words: &mut [u64; 4300],
     out: &mut [u8; 9000],
-) -> Released {
+) -> Result<Released, Refusal> {
     match call {
         Call::Push => short_fec::push(seven(), dec, values, words, out),
         Call::Metrics => short_fec::push_metrics(seven(), dec, values, words, out),
@@ -191,7 +170,7 @@ fn by_isdb(
     bits: &[u8; 4500],
     words: &mut [u64; 4300],
     out: &mut [u8; 9000],
-) -> Released {
+) -> Result<Released, Refusal> {
     match call {
         Call::Push => dec.push(values, words, out),
         Call::Metrics => dec.push_metrics(values, words, out),
@@ -221,13 +200,12 @@ fn show_call(call: Call, holds: bool) {
 }
 
 // Whether two results are the same, with the number that is expected.
-fn same_result(k: usize, a: Released, b: Released) -> bool {
-    let x = a.answer;
-    let y = b.answer;
-    (row(x) == expected(k))
-        & (row(y) == expected(k))
-        & (a.count == b.count)
-        & same_state(a.dec, b.dec)
+fn same_result(k: usize, a: Result<Released, Refusal>, b: Result<Released, Refusal>) -> bool {
+    match (a, b) {
+        (Ok(r), Ok(s)) => (expected(k) == 0) & (r.count == s.count) & same_state(r.dec, s.dec),
+        (Err(x), Err(y)) => (row(Err(x)) == expected(k)) & (row(Err(y)) == expected(k)),
+        _ => false,
+    }
 }
 
 // The first n values.
@@ -237,7 +215,7 @@ fn front<'a>(values: &'a [f32; 18000], n: usize) -> &'a [f32] {
     &all[0..end]
 }
 
-// Call k by both, and how the states go on.
+// Call k by both, and how the states go on: where it is refused, with the decoder that was handed.
 fn compared(
     k: usize,
     before: ViterbiDecoder,
@@ -252,9 +230,9 @@ fn compared(
     let xs = front(values, lent(k));
     let a = by_code(call_of(k), dec, xs, bits, words, out);
     let b = by_isdb(call_of(k), dec, xs, bits, others, other);
-    let same = same_result(k, a, b) & same_words(words, others);
+    let same = same_result(k, a, b) & (*words == *others);
     show_call(call_of(k), same & (alike(out, 0, other, 9000) == 9000));
-    a.dec
+    a.map_or(dec, |r| r.dec)
 }
 
 fn run(values: &[f32; 18000], bits: &[u8; 4500]) {
@@ -262,10 +240,12 @@ fn run(values: &[f32; 18000], bits: &[u8; 4500]) {
     let mut others = [7u64; 4300];
     let mut out = [9u8; 9000];
     let mut other = [9u8; 9000];
-    let made = short_fec::with_state(seven(), 128, 69);
-    let mut dec = made.dec;
+    let Ok(made) = short_fec::with_state(seven(), 128, 69) else {
+        return;
+    };
+    let mut dec = made;
     for k in 0..11usize {
-        let next = compared(
+        dec = compared(
             k,
             dec,
             values,
@@ -275,7 +255,6 @@ fn run(values: &[f32; 18000], bits: &[u8; 4500]) {
             &mut out,
             &mut other,
         );
-        dec = next;
     }
 }
 

@@ -6,9 +6,10 @@ ghost use Rattle.std.specs.Prelude.{◌<◌, ◌≤◌};
 ghost use Rattle.isdbs_frame.specs.Frame.{main_symbols};
 
 use cases_frames::{mapping_of, table_of};
-use cases_lib::{one, row, show, show_line, show_one, wide};
+use cases_lib::{row, show, show_line, show_one, wide};
 use isdbs_core::frame::{FRAME_BITS, LOAD_BYTES, MAIN_SYMBOLS, SLOTS};
 use isdbs_phy::demod::{DemodOptions, FrameDecoded, decode_frame, encode_frame};
+use refusal::Refusal;
 use trellis::FRAME_WORDS;
 
 // The tables: QPSK 1/2 in four slots, QPSK 5/6 in six, TC8PSK in two; TC8PSK and BPSK in all. Entry i has its word at bit 16 i and its slots at bit 16 i + 8; the other entries are not in use.
@@ -26,19 +27,15 @@ const MAPPING: u64 = 4;
 // The load: 3, 10, 17 and so on, modulo 256.
 fn fill_load(load: &mut [u8; LOAD_BYTES]) {
     let mut b: u8 = 3;
-    for i in 0..9744usize {
-        load[i] = b;
-        b = std::num::wrapping_add_u8(b, 7);
+    for byte in load.iter_mut() {
+        *byte = b;
+        b = b.wrapping_add(7);
     }
 }
 
 // How many of the counts are w.
 fn places(counts: &[u32; SLOTS], w: u32) -> usize {
-    let mut n: usize = 0;
-    for i in 0..SLOTS {
-        n += one(counts[i] == w);
-    }
-    n
+    counts.iter().filter(|count| **count == w).count()
 }
 
 fn show_counts(counts: &[u32; SLOTS]) {
@@ -55,14 +52,14 @@ fn show_counts(counts: &[u32; SLOTS]) {
     show(b"; counts # # # # # #; # are 0, # as lent\n", &found);
 }
 
-fn show_answer(r: FrameDecoded) {
+fn show_answer(r: Result<FrameDecoded, Refusal>) {
     match r {
-        FrameDecoded::Decoded(_, steps, strained) => {
-            let found = [wide(strained), steps];
+        Ok(f) => {
+            let found = [wide(f.strained), f.steps];
             show(b": strained # of #", &found);
         }
-        FrameDecoded::Refused(a) => {
-            show_one(b": refused #", row(a));
+        Err(a) => {
+            show_one(b": refused #", row(Err(a)));
         }
     }
 }
@@ -77,7 +74,7 @@ fn decode(
     bits: &mut [u8; FRAME_BITS],
     bytes: &mut [u8; LOAD_BYTES],
     counts: &mut [u32],
-) -> FrameDecoded {
+) -> Result<FrameDecoded, Refusal> {
     let o = DemodOptions {
         mapping: mapping_of(MAPPING),
         known_start: first,
@@ -136,7 +133,7 @@ fn encode(
     re: &mut [f64; MAIN_SYMBOLS],
     im: &mut [f64; MAIN_SYMBOLS],
 ) {
-    encode_frame(load, table_of(table), first, mapping_of(MAPPING), re, im);
+    let _ = encode_frame(load, table_of(table), first, mapping_of(MAPPING), re, im);
 }
 
 // The clean frame of the load.

@@ -14,7 +14,8 @@ use cases_lib::{
 };
 use isdbs_core::frame::{LOAD_BYTES, MAIN_SYMBOLS};
 use isdbs_phy::demod::encode_frame;
-use wanted_load::{LoadFound, wanted_load};
+use refusal::Refusal;
+use wanted_load::wanted_load;
 
 // The tables: those that each program goes through, and one with no valid slot.
 fn table(i: usize) -> u64
@@ -50,14 +51,14 @@ struct Told {
     bytes: usize,
 }
 
-fn tell(r: LoadFound) -> Told {
+fn tell(r: Result<usize, Refusal>) -> Told {
     match r {
-        LoadFound::Load(n) => Told {
+        Ok(n) => Told {
             number: 0,
             bytes: n,
         },
-        LoadFound::Refused(a) => Told {
-            number: row(a),
+        Err(reason) => Told {
+            number: row(Err(reason)),
             bytes: 0,
         },
     }
@@ -115,12 +116,11 @@ fn change(re: &mut [f64; 38986], im: &mut [f64; 38986], real: bool, k: usize, ho
 
 // Whether two frames are the same.
 fn same_points(a: &[f64; 38986], b: &[f64; 38986]) -> bool {
-    for k in 0..MAIN_SYMBOLS {
-        if !same_double(a[k], b[k]) {
-            return false;
-        }
-    }
-    true
+    // Not ==: the sign of a zero counts, and a NaN is as another.
+    a.iter()
+        .zip(b.iter())
+        .take(MAIN_SYMBOLS)
+        .all(|(x, y)| same_double(*x, *y))
 }
 
 // What the changed frames of a table gave.

@@ -1,5 +1,5 @@
 -- "The first row that holds, from the top, gives the number returned": the rows of every call stand in the table's order.
-use Rattle.std.specs.Prelude.{Bool, true, false, cond, List, [], ◌∷◌, ◌++◌, ℕ, T, Float}
+use Rattle.std.specs.Prelude.{Bool, true, false, cond, List, [], ◌∷◌, ◌++◌, ℕ, T, Float, None}
 use Rattle.refusal.specs.Rows.{Row, from_top}
 use Rattle.isdb_fec.specs.declared.conv.ViterbiDecoder.{ViterbiDecoder}
 use Rattle.isdb_fec.specs.Rows.{encoder_rows, fresh_rows, handed_rows, stream_rest, push_rows, push_metrics_rows, push_known_rows, flush_rows, reading_rows}
@@ -36,7 +36,6 @@ use Rattle.c_table.specs.Rows.{places_rows, bit_symbol_rows}
 use Rattle.c_answers.specs.Lengths.{with_states}
 use Rattle.c_frame.specs.Lengths.{scales_rows}
 use Rattle.c_isdbt.specs.Rates.{rate_rows}
-use Rattle.c_isdbt.specs.declared.MaybeRate.TheVariants.{NoRate}
 use Rattle.trellis.specs.Lists.{first_place}
 
 abbrev pub each_from_top : List (List Row) → Bool
@@ -131,9 +130,9 @@ module _ (t : Table) (v : ViterbiDecoder) (c : Code) (w : WindowState) (n : Leng
       ∷ scales_rows t re im xs i j k l
       ∷ with_scales t xs (point_rows re im ++ last_rows t xs n)
       -- with a rate that is unknown: where it is known, they are those of isdbt_fec
-      ∷ rate_rows (encoder_rows i) NoRate (λ c. isdbt.encode_rows c i j k)
-      ∷ rate_rows [] NoRate (λ c. isdbt.depuncture_rows c i j)
-      ∷ rate_rows (fresh_rows i) NoRate (λ c. isdbt.decode_rows c xs i j k)
+      ∷ rate_rows (encoder_rows i) None (λ c. isdbt.encode_rows c i j k)
+      ∷ rate_rows [] None (λ c. isdbt.depuncture_rows c i j)
+      ∷ rate_rows (fresh_rows i) None (λ c. isdbt.decode_rows c xs i j k)
       ∷ []
 
   pub all_from_top : T (each_from_top row_lists)

@@ -42,12 +42,9 @@ pub fn read_runs(
     ensures read { RunsRead p.table (received_by re.now im.now m scales) pm.old decisions.old bits.old result pm.new decisions.new bits.new }
     ensures marked { marks.new ≡ laid (upto (frame_mark p.table (received_by re.now im.now m scales)) (frame_steps p.table)) marks.old }
 {
-    let count = p.count;
-    let list = p.runs;
     let mut at = At { held: 0, count: 0 };
     let mut step: usize = 0;
-    for i in 0..count {
-        let r = list[i];
+    for r in &p.runs[..p.count] {
         let c = r.combination;
         let n = c.steps_per_slot() * r.valid_slots;
         let start = r.symbol_start;

@@ -7,9 +7,9 @@ use Rattle.std.specs.Float.{nan}
 use Rattle.trellis.specs.Lists.{upto, laid}
 use Rattle.trellis.specs.Code.{state_at}
 use Rattle.isdbs_combination.specs.declared.Combination.{Combination}
-use Rattle.isdbs_combination.specs.declared.Combination.TheVariants.{Bpsk1_2, Qpsk1_2, Qpsk2_3, Qpsk3_4, Qpsk5_6, Qpsk7_8, Tc8psk2_3}
+use Rattle.isdbs_combination.specs.declared.Combination.TheVariants.{Tc8psk2_3}
 use Rattle.isdbs_combination.specs.declared.Modulation.{Modulation}
-use Rattle.isdbs_combination.specs.declared.Modulation.TheVariants.{Bpsk, Qpsk, Tc8psk}
+use Rattle.isdbs_combination.specs.declared.Modulation.TheVariants.{Bpsk, Qpsk}
 use Rattle.isdbs_combination.specs.Combinations.{modulation_of}
 use Rattle.isdbs_plan.specs.declared.Run.{Run}
 use Rattle.isdbs_points.specs.declared.Mapping.{Mapping}

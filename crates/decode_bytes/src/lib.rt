@@ -46,12 +46,12 @@ fn plain_byte(bits: &[u8]) -> u8
     16 * high + low
 }
 
-// The encoder's state after 8 bits, whatever it was before: the last six, the newest highest.
-fn byte_state(bits: &[u8]) -> u8
-    requires { (8 ≤ length bits.now) × Bits bits.now 8 }
-    ensures { (result < Isdb.states) × ((s : ℕ) → s < Isdb.states → result ≡ state_at Isdb.half s bits.now 8) }
+// The encoder's state after six bits, whatever it was before: the newest highest.
+pub fn six_state(bits: &[u8]) -> u8
+    requires { (6 ≤ length bits.now) × Bits bits.now 6 }
+    ensures { (result < Isdb.states) × ((s : ℕ) → s < Isdb.states → result ≡ state_at Isdb.half s bits.now 6) }
 {
-    32 * bits[7] + 16 * bits[6] + 8 * bits[5] + 4 * bits[4] + 2 * bits[3] + bits[2]
+    32 * bits[5] + 16 * bits[4] + 8 * bits[3] + 4 * bits[2] + 2 * bits[1] + bits[0]
 }
 
 // The state after the bits of n bytes.
@@ -62,8 +62,7 @@ fn last_state(bits: &[u8], n: usize, start: u8) -> u8
     if n == 0 {
         return start;
     }
-    let from = 8 * n - 8;
-    byte_state(&bits[from..])
+    six_state(&bits[8 * n - 6..])
 }
 
 // The byte of 4 steps of TC8PSK: C2, then the decoded bit, of each.
@@ -164,13 +163,10 @@ pub fn write_bytes(
     requires { (start < Isdb.states) × Planned p × (main_symbols ≤ length re.now) × (main_symbols ≤ length im.now) × (frame_steps p.table ≤ length bits.now) × Bits bits.now (frame_steps p.table) × (load_bytes p.table ≤ length bytes.old) }
     ensures { (scales : Combination → Float) → bytes.new ≡ laid (upto (byte_at p.table (received_with re.now im.now m scales) start bits.now) (load_bytes p.table)) bytes.old }
 {
-    let count = p.count;
-    let list = p.runs;
     let mut state = start;
     let mut step: usize = 0;
     let mut done: usize = 0;
-    for i in 0..count {
-        let r = list[i];
+    for r in &p.runs[..p.count] {
         let c = r.combination;
         let from = r.symbol_start;
         let n = SLOT_BYTES * r.valid_slots;

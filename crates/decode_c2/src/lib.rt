@@ -10,18 +10,11 @@ ghost use Rattle.isdbs_metrics.specs.Reading.{correlation};
 ghost use Rattle.decode_c2.specs.Registers.{ByRegister};
 
 use isdbs_metrics::{correlation, symbol};
-use isdbs_points::{Cplx, psk8_point, subset_of};
+use isdbs_points::{Cplx, PointTable, psk8_point, subset_of};
 use viterbi_encode::encode_bit;
 
-// The points of C2 = 0 by the register 64u + state of a step, so that no outputs are worked out for a step.
-#[derive(Clone, Copy)]
-pub struct RegisterPoints {
-    pub re: [f64; 128],
-    pub im: [f64; 128],
-}
-
-// Those under the mapping of C1.
-pub fn register_points(c1_is_y: bool) -> RegisterPoints
+// The points of C2 = 0 by the register 64u + state of a step, under the mapping of C1: no outputs are worked out for a step.
+pub fn register_points(c1_is_y: bool) -> PointTable<128>
     ensures { ByRegister c1_is_y result.re result.im }
 {
     let mut re = [0.0; 128];
@@ -33,7 +26,7 @@ pub fn register_points(c1_is_y: bool) -> RegisterPoints
         re[k] = p.re;
         im[k] = p.im;
     }
-    RegisterPoints { re, im }
+    PointTable { re, im }
 }
 
 // C2 of symbol k: on which side of 0 it lies along the point of C2 = 0 at the register.

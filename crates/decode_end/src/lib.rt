@@ -19,8 +19,8 @@ fn known_bits() -> [u8; SYNC_BITS]
     ensures { result ≡ upto (word_bit w1) sync_bits }
 {
     let mut known = [0u8; SYNC_BITS];
-    for i in 0..SYNC_BITS {
-        known[i] = word_bit(W1, i);
+    for (i, bit) in known.iter_mut().enumerate() {
+        *bit = word_bit(W1, i);
     }
     known
 }

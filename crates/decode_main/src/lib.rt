@@ -37,14 +37,13 @@ pub struct DemodOptions {
     pub scales: [f32; 7],
 }
 
-impl DemodOptions {
-    pub fn default() -> Self
-        ensures { (result.mapping.conjugate ≡ false) × (result.mapping.qpsk_p1_on_q ≡ false) × (result.mapping.tc8psk_c1_is_y ≡ true)
-            × (result.known_start ≡ true) × (result.scales ≡ replicate 7 (of_bits binary32 0x4100_0000)) }
-    {
-        let mapping = Mapping::default();
+impl Default for DemodOptions {
+    ghost is_default = { λ o. (o.mapping.conjugate ≡ false) × (o.mapping.qpsk_p1_on_q ≡ false) × (o.mapping.tc8psk_c1_is_y ≡ true)
+        × (o.known_start ≡ true) × (o.scales ≡ replicate 7 (of_bits binary32 0x4100_0000)) };
+
+    fn default() -> Self {
         Self {
-            mapping,
+            mapping: Mapping::default(),
             known_start: true,
             scales: [8.0; 7],
         }

@@ -19,8 +19,7 @@ pub fn block_of(left: usize, period: usize) -> usize
     requires { (0 < period) × (period ≤ 7) }
     ensures { (result ≤ left) × (result ≤ 64 * period) × (0 < left → 0 < result) × ((result ≡ left) ⊎ (result ≡ 64 * period)) }
 {
-    let most = 64 * period;
-    if left < most { left } else { most }
+    left.min(64 * period)
 }
 
 // A run and how it is read: its combination, the mapping, its scale, the step of the frame that is its first, and the number of its steps.

@@ -16,6 +16,7 @@ use Rattle.trellis.specs.ListLaws.{every, every_at}
 use Rattle.isdbs_points.specs.Frame.{label_at}
 use Rattle.isdbs_points.specs.StateLaws.{state_shift}
 use Rattle.isdbs_metrics.specs.Steps.{Bits}
+use Rattle.decode_bytes.specs.SixLaws.{six_bits}
 use Rattle.strain_marks.specs.Counts.{summed}
 use Rattle.strain_marks.specs.CountsLaws.{summed_same, summed_append, summed_few}
 use Rattle.strain_marks.specs.Marks.{marked}
@@ -93,19 +94,6 @@ state_small s us zero h b = h
 state_small s us (suc n) h b =
     let p = state_small s us n h (λ i l. b i (omega arith)) in
     let q = b n (omega arith) in
-    omega arith
-
-pub six_bits : (s : ℕ) (us : List ℕ) → s < 64 → Bits us 6
-    → state_at 32 s us 6 ≡ 32 * get_or us 5 0 + 16 * get_or us 4 0 + 8 * get_or us 3 0 + 4 * get_or us 2 0 + 2 * get_or us 1 0 + get_or us 0 0
-unfolding state_at
-six_bits s us h b =
-    let u : ℕ → ℕ = λ i. get_or us i 0 in
-    let b0 : u 0 < 2 = b 0 (omega arith) in
-    let x1 : state_at 32 s us 1 ≡ 32 * u 0 + s / 2 = omega arith in
-    let x2 : state_at 32 s us 2 ≡ 32 * u 1 + 16 * u 0 + s / 4 = omega arith in
-    let x3 : state_at 32 s us 3 ≡ 32 * u 2 + 16 * u 1 + 8 * u 0 + s / 8 = omega arith in
-    let x4 : state_at 32 s us 4 ≡ 32 * u 3 + 16 * u 2 + 8 * u 1 + 4 * u 0 + s / 16 = omega arith in
-    let x5 : state_at 32 s us 5 ≡ 32 * u 4 + 16 * u 3 + 8 * u 2 + 4 * u 1 + 2 * u 0 + s / 32 = omega arith in
     omega arith
 
 module _ (s : ℕ) (us : List ℕ) (h : s < 64) where

@@ -13,6 +13,7 @@ ghost use Rattle.decode_strain.specs.Windows.{window_label, window_mark};
 ghost use Rattle.trellis.specs.Code.{state_at};
 ghost use Rattle.decode_strain.specs.Pieces.{RunCounted, frame_strain};
 
+use decode_bytes::six_state;
 use isdbs_core::slots::Plan;
 
 // 2 X + Y of the input u at the state s, at 64 u + s: the code with the generators 171 and 133 octal (`labels`, crates/trellis/specs/Isdb.antt); viterbi_branches has the same by branches.
@@ -110,7 +111,7 @@ fn count_windows(n: usize, marks: &[u8], bits: &[u8]) -> u8
 fn piece(n: usize) -> usize
     ensures { (result ≤ n) × (result ≤ 240) × (0 < n → 0 < result) }
 {
-    if n < 240 { n } else { 240 }
+    n.min(240)
 }
 
 // The strained steps among n from step 6 on.
@@ -127,14 +128,6 @@ fn count_rest(n: usize, marks: &[u8], bits: &[u8]) -> u32
         k = k + len;
     }
     count
-}
-
-// The encoder's state after six bits, whatever it was before: the newest highest.
-fn six_state(bits: &[u8]) -> u8
-    requires { (6 ≤ length bits.now) × Bits bits.now 6 }
-    ensures { (result < Isdb.states) × ((s : ℕ) → s < Isdb.states → result ≡ state_at Isdb.half s bits.now 6) }
-{
-    32 * bits[5] + 16 * bits[4] + 8 * bits[3] + 4 * bits[2] + 2 * bits[1] + bits[0]
 }
 
 // n steps by their marks and decoded bits: the first six by the state, which the others do not see.
@@ -192,15 +185,12 @@ pub fn count_strain(p: Plan, start: usize, marks: &[u8], bits: &[u8], counts: &m
     requires { (start < Isdb.states) × Planned p × (frame_steps p.table ≤ length marks.now) × (frame_steps p.table ≤ length bits.now) × Bits bits.now (frame_steps p.table) × (valid_total p.table ≤ length counts.old) }
     ensures { (counts.new ≡ laid (upto (frame_strain p.table marks.now start bits.now) (valid_total p.table)) counts.old) × (result ≡ summed (frame_strain p.table marks.now start bits.now) (valid_total p.table)) }
 {
-    let count = p.count;
-    let list = p.runs;
     let labels = labels();
     let mut state = start;
     let mut step: usize = 0;
     let mut done: usize = 0;
     let mut sum: u32 = 0;
-    for i in 0..count {
-        let r = list[i];
+    for r in &p.runs[..p.count] {
         let c = r.combination;
         let n = r.valid_slots;
         let w = c.steps_per_slot();

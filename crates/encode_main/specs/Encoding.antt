@@ -3,7 +3,6 @@ use Rattle.std.specs.Prelude.{◌≡◌, List, ℕ, ◌<◌, ◌≤◌, Float, l
 use Rattle.trellis.specs.Lists.{upto, laid}
 use Rattle.trellis.specs.Code.{state_at}
 use Rattle.isdbs_plan.specs.declared.Run.{Run}
-use Rattle.isdbs_tables.specs.declared.Table.{Table}
 use Rattle.isdbs_frame.specs.Frame.{main_symbols}
 use Rattle.isdbs_plan.specs.RunsOf.{steps_in, no_run}
 use Rattle.isdbs_points.specs.declared.Cplx.{Cplx}

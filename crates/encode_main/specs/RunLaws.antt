@@ -1,7 +1,8 @@
 -- A frame is its runs' points one after the other: the points of a run by itself, encoded from the state reached, are those of its place in the frame.
-use Rattle.std.specs.Prelude.{◌≡◌, refl, Bool, true, false, cond, List, [], ◌∷◌, ◌++◌, ℕ, zero, suc, ◌+◌, ◌-◌, ◌*◌, ◌/◌, ◌%◌, ◌<◌, ◌≤◌, Float, length, get_or, take, drop}
+use Rattle.isdbs_combination.specs.declared.Puncture.{Puncture}
+use Rattle.std.specs.Prelude.{◌≡◌, refl, Bool, true, false, cond, List, [], ◌∷◌, ◌++◌, ℕ, zero, suc, ◌+◌, ◌-◌, ◌*◌, ◌/◌, ◌%◌, ◌<◌, ◌≤◌, Float, length, get_or, take, drop, Option, Some, None}
 use Rattle.std.proofs.Math.Path.{sym, ap}
-use Rattle.std.proofs.Common.{◌∙◌, zero-add, add-zero, add_assoc, not-suc-le-zero, mul-le-mul_right, div-mul-le_self, div-lt_iff_lt-mul, mod-lt, arith, get_or-take}
+use Rattle.std.proofs.Common.{◌∙◌, zero-add, add-zero, add_assoc, not-suc-le-zero, mul-le-mul_right, div-mul-le_self, div-lt_iff_lt-mul, arith, get_or-take}
 use Rattle.trellis.specs.Lists.{upto, laid}
 use Rattle.trellis.specs.Code.{state_at}
 use Rattle.trellis.specs.ListLaws.{get_d_upto}
@@ -9,8 +10,6 @@ use Rattle.isdbs_combination.specs.declared.Combination.{Combination}
 use Rattle.isdbs_combination.specs.declared.Combination.TheVariants.{Bpsk1_2, Qpsk1_2, Qpsk2_3, Qpsk3_4, Qpsk5_6, Qpsk7_8, Tc8psk2_3}
 use Rattle.isdbs_combination.specs.declared.Modulation.{Modulation}
 use Rattle.isdbs_combination.specs.declared.Modulation.TheVariants.{Bpsk, Qpsk, Tc8psk}
-use Rattle.isdbs_combination.specs.declared.MaybePuncture.{MaybePuncture}
-use Rattle.isdbs_combination.specs.declared.MaybePuncture.TheVariants.{Some, None}
 use Rattle.isdbs_plan.specs.declared.Run.{Run}
 use Rattle.isdbs_combination.specs.Combinations.{modulation_of, puncture_of, unit_of, slot_steps, period_steps}
 use Rattle.isdbs_plan.specs.RunsOf.{steps_in, steps_of, no_run}
@@ -19,21 +18,21 @@ use Rattle.isdbs_points.specs.declared.Mapping.{Mapping}
 use Rattle.isdbs_points.specs.Points.{unused, bpsk_of, qpsk_of, psk8_of, subset}
 use Rattle.isdbs_points.specs.Layout.{Segment, segment_of, segments_from, among, sent_order, order_of, steps_per_period, order_in, load_bit, In}
 use Rattle.isdbs_points.specs.Frame.{input_in, coded_bit, sent_bit, label_at, point_in, point_by}
-use Rattle.isdbs_points.specs.Pieces.{piece, piece_inputs, piece_label, piece_state, piece_symbols, mapped}
+use Rattle.isdbs_points.specs.Pieces.{piece, piece_inputs, piece_state, piece_symbols, mapped}
 use Rattle.encode_run.specs.Encoded.{piece_point, piece_re, piece_im, PieceEncoded}
 use Rattle.isdbs_points.specs.StateLaws.{Follow, state_shift, label_shift}
-use Rattle.isdbs_points.specs.PlaceLaws.{Fill, fill_member, among_at, get_d_in, before, before_more, fill_first}
-use Rattle.isdbs_points.specs.SizeLaws.{Whole, fill_steps, fill_bits}
+use Rattle.isdbs_points.specs.PlaceLaws.{fill_member, among_at, get_d_in, before, before_more, fill_first}
+use Rattle.isdbs_points.specs.SizeLaws.{Whole, fill_steps}
 use Rattle.encode_main.specs.Encoding.{symbols_of, inputs_of, point_of, Tiled, RunsMade}
-use Rattle.encode_run.specs.PieceLaws.{Put, put_part, Going, tail_back}
+use Rattle.encode_run.specs.PieceLaws.{put_part, Going, tail_back}
 use Rattle.encode_run.specs.PatternLaws.{pattern_some, pattern_none}
 
 -- ---- the coded bits that a run sends are of its steps
-within_period : (p : MaybePuncture) (k : ℕ) → get_or (order_in p) k 0 / 2 < period_steps p
+within_period : (p : Option Puncture) (k : ℕ) → get_or (order_in p) k 0 / 2 < period_steps p
 within_period (Some p) k = rw (← (pattern_some p).period_is) ((pattern_some p).within k)
 within_period None k = pattern_none.within k
 
-pub some_order : (p : MaybePuncture) → 0 < length (order_in p)
+pub some_order : (p : Option Puncture) → 0 < length (order_in p)
 some_order (Some p) = omega (arith, (pattern_some p).count_is, (pattern_some p).pairs_many)
 some_order None = omega (arith, pattern_none.count_is, pattern_none.pairs_many)
 

@@ -1,17 +1,14 @@
 -- The runs of an accepted table fill its frame.
-use Rattle.std.specs.Prelude.{◌≡◌, refl, Bool, true, false, cond, List, [], ◌∷◌, ◌++◌, ℕ, zero, suc, ◌+◌, ◌-◌, ◌*◌, ◌<◌, ◌≤◌, Float, get_or, take, drop, replicate}
+use Rattle.std.specs.Prelude.{◌≡◌, refl, Bool, true, false, cond, List, [], ◌∷◌, ◌++◌, ℕ, zero, suc, ◌+◌, ◌-◌, ◌*◌, ◌<◌, ◌≤◌, Float, get_or, take, drop, replicate, Option, Some, None}
 use Rattle.std.proofs.Math.Path.{sym}
-use Rattle.std.proofs.Common.{◌∙◌, ap, not-suc-le-zero, zero-add, arith, length-append}
+use Rattle.std.proofs.Common.{◌∙◌, ap, not-suc-le-zero, arith}
 use Rattle.std.proofs.Math.ListN.{length}
 use Rattle.std.proofs.Math.Seq.{take-append_seam}
 use Rattle.trellis.specs.Lists.{upto, laid, Each, padded}
-use Rattle.isdbs_combination.specs.declared.MaybeCombination.{MaybeCombination}
-use Rattle.isdbs_combination.specs.declared.MaybeCombination.TheVariants.{Some, None}
 use Rattle.isdbs_plan.specs.declared.Run.{Run}
 use Rattle.isdbs_plan.specs.declared.Plan.{Plan}
-use Rattle.isdbs_tables.specs.declared.Entry.{Entry}
 use Rattle.isdbs_tables.specs.declared.Table.{Table}
-use Rattle.isdbs_tables.specs.Tables.{TableAccepted, entry_combination}
+use Rattle.isdbs_tables.specs.Tables.{TableAccepted}
 use Rattle.isdbs_plan.specs.RunsOf.{runs_of, Planned, no_run, RunFits}
 use Rattle.isdbs_tables.proofs.TableLaws.{sum_fits}
 use Rattle.isdbs_plan.specs.PlanLaws.{table_laid}
@@ -19,10 +16,10 @@ use Rattle.isdbs_points.specs.declared.Cplx.{Cplx}
 use Rattle.isdbs_points.specs.declared.Mapping.{Mapping}
 use Rattle.encode_main.specs.declared.RunsEncoded.{RunsEncoded}
 use Rattle.isdbs_points.specs.Points.{zero64, unused, conjugated}
-use Rattle.isdbs_points.specs.Layout.{Segment, segments_from}
+use Rattle.isdbs_points.specs.Layout.{segments_from}
 use Rattle.isdbs_points.specs.Frame.{inputs, label_at, point_in, point_at, end_state}
 use Rattle.trellis.specs.LaidLaws.{laid_part, length_laid_upto}
-use Rattle.isdbs_points.specs.PlaceLaws.{Fill, before, fill_last, among_past}
+use Rattle.isdbs_points.specs.PlaceLaws.{fill_last, among_past}
 use Rattle.isdbs_points.specs.SizeLaws.{symbol_sum, fill_symbols, symbol_sum_few, table_whole}
 use Rattle.encode_main.specs.Encoding.{symbols_of, inputs_of, point_of, Tiled, RunsMade}
 use Rattle.encode_main.specs.Laid.{FrameLaid}

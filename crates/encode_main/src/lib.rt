@@ -21,11 +21,8 @@ fn put_unused(n: usize, m: Mapping, re: &mut [f64], im: &mut [f64])
     requires { (n ≤ length re.old) × (n ≤ length im.old) }
     ensures { (re.new ≡ laid (upto (λ i. zero64) n) re.old) × (im.new ≡ laid (upto (λ i. conjugated m.conjugate zero64) n) im.old) }
 {
-    let y = mirror(m.conjugate, 0.0);
-    for i in 0..n {
-        re[i] = 0.0;
-        im[i] = y;
-    }
+    re[..n].fill(0.0);
+    im[..n].fill(mirror(m.conjugate, 0.0));
 }
 
 // What the runs leave: the state after their last bit, and the symbol after their last one.
@@ -51,8 +48,7 @@ fn encode_runs(
     let mut state = start;
     let mut bit: usize = 0;
     let mut end: usize = 0;
-    for i in 0..count {
-        let r = list[i];
+    for r in &list[..count] {
         let c = r.combination;
         let first = r.symbol_start;
         let valid = r.valid_slots;

@@ -22,7 +22,7 @@ use Rattle.isdbs_points.specs.declared.Cplx.{Cplx}
 use Rattle.isdbs_points.specs.declared.Mapping.{Mapping}
 use Rattle.encode_run.specs.declared.Pattern.{Pattern}
 use Rattle.encode_run.specs.declared.Period.{Period}
-use Rattle.encode_run.specs.declared.PointTable.{PointTable}
+use Rattle.isdbs_points.specs.declared.PointTable.{PointTable}
 use Rattle.isdbs_points.specs.Points.{qpsk_of}
 use Rattle.isdbs_points.specs.Layout.{order_of, steps_per_period, load_bit}
 use Rattle.isdbs_points.specs.Frame.{sent_bit, label_at, point_in, point_by}
@@ -347,7 +347,7 @@ module _ (c : Combination) (p : Pattern) (r : PatternOf (puncture_of c) p) (s1 s
         bit_is i base l (get_or p.p0 i 0) (get_or s0 i 0) w.1 (x0.each i (omega (arith, r.few))),
       )
 
-module _ (c : Combination) (p : Pattern) (r : PatternOf (puncture_of c) p) (s1 s0 : List ℕ) (x1 : Shifted p.period p.p1 s1) (x0 : Shifted p.period p.p0 s0) (m : Mapping) (t : PointTable) (w : TableOf 4 (qpsk_label m) t) (load : List ℕ) (bit n s : ℕ) (e : modulation_of c ≡ Qpsk) where
+module _ (c : Combination) (p : Pattern) (r : PatternOf (puncture_of c) p) (s1 s0 : List ℕ) (x1 : Shifted p.period p.p1 s1) (x0 : Shifted p.period p.p0 s0) (m : Mapping) (t : PointTable 8) (w : TableOf 4 (qpsk_label m) t) (load : List ℕ) (bit n s : ℕ) (e : modulation_of c ≡ Qpsk) where
   abbrev in_table : List Float → ℕ → Float
   in_table = tabled load bit n s p.period p.count s1 s0
 

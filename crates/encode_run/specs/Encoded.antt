@@ -1,17 +1,16 @@
 -- What encoding one run of a frame leaves, and its pieces: a table of points, a byte of TC8PSK, a period of QPSK.
-use Rattle.std.specs.Prelude.{◌≡◌, cond, List, ℕ, ◌+◌, ◌-◌, ◌*◌, ◌/◌, ◌%◌, ◌<◌, ◌≤◌, eqb, ltb, length, get_or, Float}
+use Rattle.isdbs_combination.specs.declared.Puncture.{Puncture}
+use Rattle.std.specs.Prelude.{◌≡◌, cond, List, ℕ, ◌+◌, ◌-◌, ◌*◌, ◌/◌, ◌%◌, ◌<◌, ◌≤◌, eqb, ltb, length, get_or, Float, Option}
 use Rattle.std.specs.Float.{nan}
 use Rattle.trellis.specs.Lists.{upto, laid}
 use Rattle.trellis.specs.Code.{state_at}
 use Rattle.encode_bits.specs.Windows.{backward}
 use Rattle.isdbs_combination.specs.declared.Combination.{Combination}
-use Rattle.isdbs_combination.specs.declared.MaybePuncture.{MaybePuncture}
 use Rattle.isdbs_points.specs.declared.Cplx.{Cplx}
 use Rattle.isdbs_points.specs.declared.Mapping.{Mapping}
 use Rattle.encode_run.specs.declared.Pattern.{Pattern}
 use Rattle.encode_run.specs.declared.Period.{Period}
-use Rattle.encode_run.specs.declared.PointTable.{PointTable}
-use Rattle.encode_run.specs.declared.RegisterTable.{RegisterTable}
+use Rattle.isdbs_points.specs.declared.PointTable.{PointTable}
 use Rattle.isdbs_points.specs.Points.{qpsk_of, psk8_of, subset}
 use Rattle.isdbs_points.specs.Layout.{order_in}
 use Rattle.isdbs_combination.specs.Combinations.{period_steps}
@@ -39,7 +38,7 @@ pub record PieceEncoded (c : Combination) (m : Mapping) (load : List ℕ) (bit n
 
 -- ---- the points by label
 -- a table that has the points f 0, f 1, .., n of them
-pub record TableOf (n : ℕ) (f : ℕ → Cplx) (t : PointTable) : Type 0 where
+pub record TableOf (n : ℕ) (f : ℕ → Cplx) (t : PointTable 8) : Type 0 where
   pub re_at : (l : ℕ) → l < n → get_or t.re l nan ≡ (f l).re
   pub im_at : (l : ℕ) → l < n → get_or t.im l nan ≡ (f l).im
 
@@ -60,7 +59,7 @@ abbrev pub register_label : ℕ → ℕ
 register_label w = 4 * (w / 128) + Isdb.labels (w % 2) (backward (w / 2 % Isdb.states))
 
 -- a table that has the points there
-pub record ByRegister (m : Mapping) (t : RegisterTable) : Type 0 where
+pub record ByRegister (m : Mapping) (t : PointTable 256) : Type 0 where
   pub re_at : (w : ℕ) → w < 256 → get_or t.re w nan ≡ (psk8_label m (register_label w)).re
   pub im_at : (w : ℕ) → w < 256 → get_or t.im w nan ≡ (psk8_label m (register_label w)).im
 
@@ -105,7 +104,7 @@ pub record PeriodEncoded (load : List ℕ) (bit n s : ℕ) (r : Period) : Type 0
   pub bits_are : (i : ℕ) → IsOutput n i → word_bit r.word i ≡ output_bit (label_at (backward s) (plain_inputs load bit n)) n 0 i
 
 -- a pattern in the code's form: its steps, and its mother bits in pairs
-pub record PatternOf (p : MaybePuncture) (r : Pattern) : Type 0 where
+pub record PatternOf (p : Option Puncture) (r : Pattern) : Type 0 where
   pub period_is : r.period ≡ period_steps p
   pub count_is : length (order_in p) ≡ 2 * r.count
   pub short : r.period ≤ 8

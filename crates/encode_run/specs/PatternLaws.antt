@@ -1,10 +1,9 @@
 -- The pattern of a punctured code as pairs of mother bits.
-use Rattle.std.specs.Prelude.{◌≡◌, refl, Bool, true, ◌&&◌, List, [], ◌∷◌, ℕ, zero, suc, ◌+◌, ◌*◌, ◌/◌, ◌<◌, T, eqb, ltb, get_or}
+use Rattle.std.specs.Prelude.{◌≡◌, refl, Bool, true, ◌&&◌, List, [], ◌∷◌, ℕ, zero, suc, ◌+◌, ◌*◌, ◌/◌, ◌<◌, T, eqb, ltb, get_or, Some, None}
 use Rattle.std.proofs.Common.{not-suc-le-zero, arith, below_more, eqb→eq, ltb→lt, lit<, lit≤}
 use Rattle.isdbs_combination.specs.declared.BitPair.{BitPair}
 use Rattle.isdbs_combination.specs.declared.Puncture.{Puncture}
 use Rattle.isdbs_combination.specs.declared.Puncture.TheVariants.{R2_3, R3_4, R5_6, R7_8}
-use Rattle.isdbs_combination.specs.declared.MaybePuncture.TheVariants.{Some, None}
 use Rattle.isdbs_combination.specs.Combinations.{period_of, four_pairs, pairs_of}
 use Rattle.std.proofs.Math.Facts.{and_yes}
 use Rattle.encode_run.specs.declared.Pattern.{Pattern}

@@ -14,18 +14,11 @@ ghost use Rattle.encode_run.specs.Encoded.{PieceEncoded, ByteEncoded, TableOf, q
 ghost use Rattle.trellis.specs.Isdb;
 
 use encode_bits::{byte_bit, coded_inputs, encode_step, load_bits, load_byte, outputs, reversed};
-use isdbs_core::combination::{Combination, MaybePuncture, Modulation};
-use isdbs_points::{Mapping, mirror, psk8_point, qpsk_mapped, subset_of};
-
-// The points of a modulation under a mapping, by label.
-#[derive(Clone, Copy)]
-pub struct PointTable {
-    pub re: [f64; 8],
-    pub im: [f64; 8],
-}
+use isdbs_core::combination::{Combination, Modulation};
+use isdbs_points::{Mapping, PointTable, mirror, psk8_point, qpsk_mapped, subset_of};
 
 // The QPSK points by 2 P1 + P0.
-fn qpsk_table(m: Mapping) -> PointTable
+fn qpsk_table(m: Mapping) -> PointTable<8>
     ensures { TableOf 4 (qpsk_label m) result }
 {
     let mut re = [0.0; 8];
@@ -39,7 +32,7 @@ fn qpsk_table(m: Mapping) -> PointTable
 }
 
 // The TC8PSK points by 4 C2 + 2 X + Y.
-fn psk8_table(m: Mapping) -> PointTable
+fn psk8_table(m: Mapping) -> PointTable<8>
     ensures { TableOf 8 (psk8_label m) result }
 {
     let mut re = [0.0; 8];
@@ -62,14 +55,7 @@ fn digit(word: usize, i: usize) -> usize
 }
 
 // The TC8PSK points at 128 C2 + the register of the step, its oldest stage highest: no outputs are worked out for a step.
-#[derive(Clone, Copy)]
-pub struct RegisterTable {
-    pub re: [f64; 256],
-    pub im: [f64; 256],
-}
-
-// Those under a mapping.
-fn register_table(m: Mapping) -> RegisterTable
+fn register_table(m: Mapping) -> PointTable<256>
     ensures { ByRegister m result }
 {
     let t = psk8_table(m);
@@ -83,7 +69,7 @@ fn register_table(m: Mapping) -> RegisterTable
         re[w] = xs[l];
         im[w] = ys[l];
     }
-    RegisterTable { re, im }
+    PointTable { re, im }
 }
 
 // A run of BPSK: X, then Y, on successive symbols.
@@ -153,11 +139,10 @@ fn encode_tc8psk(
     let xs = t.re;
     let ys = t.im;
     let mut state = reversed(start);
-    let mut k: usize = 0;
-    while k < n {
-        let byte = load_byte(bytes, bit / 8 + k / 4);
+    for j in 0..n / 4 {
+        let k = 4 * j;
+        let byte = load_byte(bytes, bit / 8 + j);
         state = put_byte(byte, state, &xs, &ys, &mut re[k..], &mut im[k..]);
-        k += 4;
     }
     reversed(state)
 }
@@ -196,7 +181,7 @@ fn pattern_of(c: Combination) -> Pattern
 {
     let code = c.puncturing();
     match code {
-        MaybePuncture::Some(p) => {
+        Some(p) => {
             let all = p.pairs();
             let pairs = all.pairs;
             let a = pairs[0];
@@ -210,7 +195,7 @@ fn pattern_of(c: Combination) -> Pattern
                 p0: [a.p0, b.p0, c.p0, d.p0],
             }
         }
-        MaybePuncture::None => Pattern {
+        None => Pattern {
             period: 1,
             count: 1,
             p1: [0, 0, 0, 0],

@@ -1,12 +1,11 @@
 -- Demand 3 about the call `decode_frame`: from its contract and the margins alone.
-use Rattle.std.specs.Prelude.{◌≡◌, refl, Bool, true, false, not, ◌||◌, List, [], ◌∷◌, ◌++◌, ℕ, zero, suc, ◌<◌, T, ltb, length, get_or, drop, replicate, Float}
+use Rattle.std.specs.Prelude.{◌≡◌, refl, Bool, true, false, not, ◌||◌, List, [], ◌∷◌, ◌++◌, ℕ, zero, suc, ◌<◌, T, ltb, length, get_or, drop, replicate, Float, Result}
 use Rattle.std.proofs.Common.{◌∙◌, arith, take_at, le-ltb}
 use Rattle.std.proofs.lemmas.List.{length-replicate}
 use Rattle.std.specs.Float.{nan}
 use Rattle.std.specs.Float.Ieee.{lt, of_bits}
-use Rattle.refusal.specs.declared.Answer.{Answer}
-use Rattle.refusal.specs.declared.Answer.TheVariants.{Scale, Space}
-use Rattle.refusal.specs.Rows.{first_row, Either}
+use Rattle.refusal.specs.declared.Refusal.{Refusal}
+use Rattle.refusal.specs.Rows.{Answer, Scale, Space, first_row, Either}
 use Rattle.refusal.proofs.RowLaws.{neither_holds, none_accepted, passed_above, fails}
 use Rattle.isdbs_tables.specs.declared.Table.{Table}
 use Rattle.isdbs_tables.specs.Tables.{TableAccepted}
@@ -58,7 +57,7 @@ last_row t fit m first load re im w d b y n =
 
 -- THE THEOREM about the call: whatever the lent slices held, the load comes back without strain, or a slice is too short
 module _ (t : Table) (fit : TableAccepted t) (m : Mapping) (first : Bool) (load : List ℕ) (full : FullLoad load (load_bytes t)) (re im : List Float) (w : Within re im load t m first)
-    (decisions₀ decisions bits₀ bits bytes₀ bytes counts₀ counts : List ℕ) (r : FrameDecoded) where
+    (decisions₀ decisions bits₀ bits bytes₀ bytes counts₀ counts : List ℕ) (r : Result FrameDecoded Refusal) where
   abbrev a : Answer
   a = first_row (decode_rows t re im eights (length decisions₀) (length bits₀) (length bytes₀) (length counts₀))
 

@@ -14,6 +14,7 @@ ghost use Rattle.exact_frame.specs.Call.{eights, Exact};
 
 use isdbs_core::tmcc::Table;
 use isdbs_phy::demod::{DemodOptions, FrameDecoded, Mapping, decode_frame};
+use refusal::Refusal;
 
 // decode_frame with a known start and all seven scales at 8. For every accepted table, every mapping and frame kind, every full load and every frame
 // within the load's margins, whatever the four lent slices held: the load comes back and no step is strained, or 9 where one of the slices is too short.
@@ -27,7 +28,7 @@ pub fn read_frame(
     bits: &mut [u8],
     bytes: &mut [u8],
     counts: &mut [u32],
-) -> FrameDecoded
+) -> Result<FrameDecoded, Refusal>
     ensures answers { frame_said result ≡ frame_answer (first_row (decode_rows t re.now im.now eights (length decisions.old) (length bits.old) (length bytes.old) (length counts.old))) t (strain_sum t (received_by re.now im.now mapping eights) true first) }
     ensures leaves { Either (first_row (decode_rows t re.now im.now eights (length decisions.old) (length bits.old) (length bytes.old) (length counts.old)))
         (FrameLeft t (received_by re.now im.now mapping eights) true first decisions.old decisions.new bits.old bits.new bytes.old bytes.new counts.old counts.new)

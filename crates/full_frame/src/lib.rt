@@ -8,7 +8,7 @@ ghost use Rattle.full_frame_parts.specs.Rows.{lay_rows, take_rows, leaves};
 
 pub use full_frame_parts::{Input, short_frame, short_inputs};
 use full_frame_parts::{lay_part, take_part};
-use refusal::Answer;
+use refusal::Refusal;
 
 // A full frame from header, main signal and bursts; symbol j of burst b is point 4 b + j of the burst input.
 pub fn lay(
@@ -20,23 +20,23 @@ pub fn lay(
     burst_im: &[f64],
     re: &mut [f64],
     im: &mut [f64],
-) -> Answer
+) -> Result<(), Refusal>
     ensures answers { result ≡ first_row (lay_rows (lent_inputs header_re.now main_re.now burst_re.now) (lent_inputs header_im.now main_im.now burst_im.now) re.old im.old) }
     ensures real { re.new ≡ leaves result (full_part (lent_inputs header_re.now main_re.now burst_re.now)) re.old }
     ensures imaginary { im.new ≡ leaves result (full_part (lent_inputs header_im.now main_im.now burst_im.now)) im.old }
 {
     if short_inputs(header_re.len(), main_re.len(), burst_re.len()) {
-        return Answer::Symbols;
+        return Err(Refusal::Symbols);
     }
     if short_inputs(header_im.len(), main_im.len(), burst_im.len()) {
-        return Answer::Symbols;
+        return Err(Refusal::Symbols);
     }
     if short_frame(re.len(), im.len()) {
-        return Answer::Space;
+        return Err(Refusal::Space);
     }
     lay_part(header_re, main_re, burst_re, re);
     lay_part(header_im, main_im, burst_im, im);
-    Answer::Accepted
+    Ok(())
 }
 
 // Header, main signal and bursts of a full frame.
@@ -49,7 +49,7 @@ pub fn take_apart(
     main_im: &mut [f64],
     burst_re: &mut [f64],
     burst_im: &mut [f64],
-) -> Answer
+) -> Result<(), Refusal>
     ensures answers { result ≡ first_row (take_rows re.now im.now (lent_inputs header_re.old main_re.old burst_re.old) (lent_inputs header_im.old main_im.old burst_im.old)) }
     ensures header_real { header_re.new ≡ leaves result (taken Input.Header re.now) header_re.old }
     ensures header_imaginary { header_im.new ≡ leaves result (taken Input.Header im.now) header_im.old }
@@ -59,15 +59,15 @@ pub fn take_apart(
     ensures burst_imaginary { burst_im.new ≡ leaves result (taken Input.Burst im.now) burst_im.old }
 {
     if short_frame(re.len(), im.len()) {
-        return Answer::Symbols;
+        return Err(Refusal::Symbols);
     }
     if short_inputs(header_re.len(), main_re.len(), burst_re.len()) {
-        return Answer::Space;
+        return Err(Refusal::Space);
     }
     if short_inputs(header_im.len(), main_im.len(), burst_im.len()) {
-        return Answer::Space;
+        return Err(Refusal::Space);
     }
     take_part(re, header_re, main_re, burst_re);
     take_part(im, header_im, main_im, burst_im);
-    Answer::Accepted
+    Ok(())
 }

@@ -1,8 +1,6 @@
 -- Document 02, P1: the rows of laying and of taking apart, and what a call leaves in a lent slice.
 use Rattle.std.specs.Prelude.{Bool, cond, ◌||◌, List, [], ◌∷◌, ℕ, ltb, length, Float}
-use Rattle.refusal.specs.declared.Answer.{Answer}
-use Rattle.refusal.specs.declared.Answer.TheVariants.{Symbols, Space}
-use Rattle.refusal.specs.Rows.{accepted, Row}
+use Rattle.refusal.specs.Rows.{Answer, Symbols, Space, accepted, Row}
 use Rattle.trellis.specs.Lists.{laid}
 use Rattle.full_frame_parts.specs.declared.Input.{Input}
 use Rattle.full_frame_parts.specs.declared.Input.TheVariants.{Header, Main, Burst}

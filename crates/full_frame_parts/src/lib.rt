@@ -37,9 +37,10 @@ fn point_at(header: &[f64], signal: &[f64], bursts: &[f64], p: usize) -> f64
     let b = (p - HEADER_SYMBOLS) / PERIOD;
     let q = (p - HEADER_SYMBOLS) % PERIOD;
     if q < BURST_PERIOD {
-        return signal[BURST_PERIOD * b + q];
+        signal[BURST_PERIOD * b + q]
+    } else {
+        bursts[BURST_SYMBOLS * b + (q - BURST_PERIOD)]
     }
-    bursts[BURST_SYMBOLS * b + (q - BURST_PERIOD)]
 }
 
 // One part of a frame from that part of the three inputs.
@@ -103,24 +104,17 @@ pub fn take_part(full: &[f64], header: &mut [f64], signal: &mut [f64], bursts: &
 // ---- the rows, over lengths
 
 // Whether one part of header, main signal or bursts is short.
+#[tactic(auto, unfolding(crate::specs::Rows::short_inputs))]
 pub fn short_inputs(header: usize, signal: usize, bursts: usize) -> bool
     ensures { result ≡ short_inputs header signal bursts }
 {
-    if header < HEADER_SYMBOLS {
-        return true;
-    }
-    if signal < MAIN_SYMBOLS {
-        return true;
-    }
-    bursts < BURST_POINTS
+    header < HEADER_SYMBOLS || signal < MAIN_SYMBOLS || bursts < BURST_POINTS
 }
 
 // Whether either part of a full frame is short.
+#[tactic(auto, unfolding(crate::specs::Rows::short_frame))]
 pub fn short_frame(re: usize, im: usize) -> bool
     ensures { result ≡ short_frame re im }
 {
-    if re < FRAME_SYMBOLS {
-        return true;
-    }
-    im < FRAME_SYMBOLS
+    re < FRAME_SYMBOLS || im < FRAME_SYMBOLS
 }

@@ -6,9 +6,7 @@ use Prim.Native.Nat.{ℕ, ◌≤◌}
 use lib.ListN.{length, get_or, take}
 use lib.Ieee.{Float, nan}
 use borrow.Author.Tests.{eq-eqb, ne_eqb}
-use Rattle.refusal.specs.declared.Answer.{Answer}
-use Rattle.refusal.specs.declared.Answer.TheVariants.{Accepted, Symbols, Space}
-use Rattle.refusal.specs.Rows.{number_of, first_row}
+use Rattle.refusal.specs.Rows.{Answer, Accepted, Symbols, Space, number_of, first_row}
 use Rattle.trellis.specs.Lists.{laid}
 use Rattle.refusal.proofs.RowLaws.{neither, neither_holds, passed, none_accepted, zero_accepted}
 use Rattle.trellis.specs.LaidLaws.{length_laid_upto}

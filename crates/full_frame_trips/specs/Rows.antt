@@ -1,7 +1,6 @@
 -- The rows of laying and taking apart in a row, each way: those of both calls, tested before the first.
 use Rattle.std.specs.Prelude.{Bool, ◌||◌, List, [], ◌∷◌, length, Float}
-use Rattle.refusal.specs.declared.Answer.TheVariants.{Symbols, Space}
-use Rattle.refusal.specs.Rows.{Row}
+use Rattle.refusal.specs.Rows.{Symbols, Space, Row}
 use Rattle.full_frame_parts.specs.declared.Input.{Input}
 use Rattle.full_frame_parts.specs.Rows.{inputs_short, short_frame}
 

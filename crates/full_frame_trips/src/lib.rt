@@ -10,7 +10,7 @@ ghost use Rattle.full_frame_trips.specs.Rows.{both_rows, lay_take_rows, take_lay
 ghost use Rattle.isdbs_frame.specs.Frame.{frame_symbols, main_symbols, burst_points, header_symbols};
 
 use full_frame::{lay, short_frame, short_inputs, take_apart};
-use refusal::Answer;
+use refusal::Refusal;
 
 // Whether either part of header, main signal or bursts is short.
 fn short_parts(
@@ -30,19 +30,19 @@ fn short_parts(
 }
 
 // The rows of two calls: a short input, then a short output of the first or of the second.
-fn first_row(input: bool, output: bool, last: bool) -> Answer
+fn first_row(input: bool, output: bool, last: bool) -> Result<(), Refusal>
     ensures { result ≡ first_row (both_rows input output last) }
 {
     if input {
-        return Answer::Symbols;
+        return Err(Refusal::Symbols);
     }
     if output {
-        return Answer::Space;
+        return Err(Refusal::Space);
     }
     if last {
-        return Answer::Space;
+        return Err(Refusal::Space);
     }
-    Answer::Accepted
+    Ok(())
 }
 
 // Laying and then taking apart gives the first 192, 38,976 and 768 points of each part back.
@@ -61,7 +61,7 @@ pub fn lay_then_take(
     out_main_im: &mut [f64],
     out_burst_re: &mut [f64],
     out_burst_im: &mut [f64],
-) -> Answer
+) -> Result<(), Refusal>
     ensures answers { result ≡ first_row (lay_take_rows (lent_inputs header_re.now main_re.now burst_re.now) (lent_inputs header_im.now main_im.now burst_im.now) re.old im.old (lent_inputs out_header_re.old out_main_re.old out_burst_re.old) (lent_inputs out_header_im.old out_main_im.old out_burst_im.old)) }
     ensures real { re.new ≡ leaves result (full_part (lent_inputs header_re.now main_re.now burst_re.now)) re.old }
     ensures imaginary { im.new ≡ leaves result (full_part (lent_inputs header_im.now main_im.now burst_im.now)) im.old }
@@ -88,11 +88,8 @@ pub fn lay_then_take(
         out_burst_re.len(),
         out_burst_im.len(),
     );
-    let answer = first_row(inputs, short_frame(re.len(), im.len()), outputs);
-    let Answer::Accepted = answer else {
-        return answer;
-    };
-    lay(
+    first_row(inputs, short_frame(re.len(), im.len()), outputs)?;
+    let _ = lay(
         header_re, header_im, main_re, main_im, burst_re, burst_im, re, im,
     );
     take_apart(
@@ -119,7 +116,7 @@ pub fn take_then_lay(
     burst_im: &mut [f64],
     out_re: &mut [f64],
     out_im: &mut [f64],
-) -> Answer
+) -> Result<(), Refusal>
     ensures answers { result ≡ first_row (take_lay_rows re.now im.now (lent_inputs header_re.old main_re.old burst_re.old) (lent_inputs header_im.old main_im.old burst_im.old) out_re.old out_im.old) }
     ensures real { out_re.new ≡ leaves result (take frame_symbols re.now) out_re.old }
     ensures imaginary { out_im.new ≡ leaves result (take frame_symbols im.now) out_im.old }
@@ -139,11 +136,8 @@ pub fn take_then_lay(
         burst_im.len(),
     );
     let frame = short_frame(re.len(), im.len());
-    let answer = first_row(frame, parts, short_frame(out_re.len(), out_im.len()));
-    let Answer::Accepted = answer else {
-        return answer;
-    };
-    take_apart(
+    first_row(frame, parts, short_frame(out_re.len(), out_im.len()))?;
+    let _ = take_apart(
         re, im, header_re, header_im, main_re, main_im, burst_re, burst_im,
     );
     lay(

@@ -2,8 +2,7 @@
 use Rattle.std.specs.Prelude.{Bool, not, ◌||◌, List, [], ◌∷◌, ℕ, length, get_or, drop, Float}
 use Rattle.std.specs.Float.{nan, binary64}
 use Rattle.std.specs.Float.Ieee.{add, sub, mul, div, lt}
-use Rattle.refusal.specs.declared.Answer.TheVariants.{Symbols, Sample, Space}
-use Rattle.refusal.specs.Rows.{Row}
+use Rattle.refusal.specs.Rows.{Symbols, Sample, Space, Row}
 use Rattle.trellis.specs.Lists.{upto}
 use Rattle.isdbs_frame.specs.Frame.{frame_symbols}
 use Rattle.full_frame_parts.specs.Rows.{short_frame}

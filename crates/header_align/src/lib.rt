@@ -15,7 +15,7 @@ use header_sync::{fit_here, no_frame};
 use isdbs_core::frame::FRAME_SYMBOLS;
 use isdbs_points::PART_LIMIT;
 use isdbs_rows::some_beyond;
-use refusal::Answer;
+use refusal::Refusal;
 
 // ---- the points
 
@@ -66,21 +66,27 @@ fn bad_points(re: &[f64], im: &[f64], power: f64) -> bool
 }
 
 // The frame at the front of two parts, by its mean: rows 7 and 9.
-fn align_front(mean: Mean, re: &[f64], im: &[f64], out_re: &mut [f64], out_im: &mut [f64]) -> Answer
+fn align_front(
+    mean: Mean,
+    re: &[f64],
+    im: &[f64],
+    out_re: &mut [f64],
+    out_im: &mut [f64],
+) -> Result<(), Refusal>
     requires { (frame_symbols ≤ length re.now) × (frame_symbols ≤ length im.now) }
     ensures answers { result ≡ first_row (front_rows mean re.now im.now out_re.old out_im.old) }
     ensures real { out_re.new ≡ leaves result (laid_re mean re.now im.now) out_re.old }
     ensures imaginary { out_im.new ≡ leaves result (laid_im mean re.now im.now) out_im.old }
 {
     if bad_points(re, im, mean.power) {
-        return Answer::Sample;
+        return Err(Refusal::Sample);
     }
     if short_frame(out_re.len(), out_im.len()) {
-        return Answer::Space;
+        return Err(Refusal::Space);
     }
     lay_re(mean, re, im, out_re);
     lay_im(mean, re, im, out_im);
-    Answer::Accepted
+    Ok(())
 }
 
 // The frame that begins at point `at`.
@@ -90,13 +96,13 @@ pub fn align_frame(
     at: usize,
     out_re: &mut [f64],
     out_im: &mut [f64],
-) -> Answer
+) -> Result<(), Refusal>
     ensures answers { result ≡ first_row (align_rows re.now im.now at out_re.old out_im.old) }
     ensures real { out_re.new ≡ leaves result (aligned_re re.now im.now at) out_re.old }
     ensures imaginary { out_im.new ≡ leaves result (aligned_im re.now im.now at) out_im.old }
 {
     if no_frame(re.len(), im.len(), at) {
-        return Answer::Symbols;
+        return Err(Refusal::Symbols);
     }
     let fit = fit_here(re, im, at);
     let mean = mean_at(fit.first, re, im, at);

@@ -28,13 +28,14 @@ fn signed(bit: u8, x: f64) -> f64
 }
 
 // A sum, and the 20 parts from a place on, each times its sign.
+#[tactic(auto, unfolding(crate::specs::Means::sum_from))]
 fn sum_from(start: f64, tail: &[u8; 20], part: &[f64], at: usize) -> f64
     requires { at + 20 ≤ length part.now }
     ensures { result ≡ sum_from start tail.now part.now at 20 }
 {
     let mut sum = start;
-    for i in 0..20 {
-        sum = sum + signed(tail[i], part[at + i]);
+    for (i, bit) in tail.iter().enumerate() {
+        sum += signed(*bit, part[at + i]);
     }
     sum
 }
@@ -43,14 +44,11 @@ fn sum_from(start: f64, tail: &[u8; 20], part: &[f64], at: usize) -> f64
 fn last_tail(first: bool) -> [u8; 20]
     ensures { result ≡ last_tail first }
 {
-    if first {
-        tail_bits(W2_CODED_TAIL)
-    } else {
-        tail_bits(W3_CODED_TAIL)
-    }
+    tail_bits(if first { W2_CODED_TAIL } else { W3_CODED_TAIL })
 }
 
 // The mean of one part of the 40 symbols of the frame that begins at a place.
+#[tactic(auto, unfolding(crate::specs::Means::mean_part))]
 fn mean_part(first: bool, part: &[f64], at: usize) -> f64
     requires { at + frame_symbols ≤ length part.now }
     ensures { result ≡ mean_part first part.now at }
@@ -63,6 +61,7 @@ fn mean_part(first: bool, part: &[f64], at: usize) -> f64
 }
 
 // The mean of the frame that begins at a place, by its kind.
+#[tactic(auto, unfolding(crate::specs::Means::mean_of, crate::specs::Means::power_of))]
 pub fn mean_at(first: bool, re: &[f64], im: &[f64], at: usize) -> Mean
     requires { (at + frame_symbols ≤ length re.now) × (at + frame_symbols ≤ length im.now) }
     ensures { result ≡ mean_of first re.now im.now at }
@@ -78,6 +77,7 @@ pub fn mean_at(first: bool, re: &[f64], im: &[f64], at: usize) -> Mean
 
 // ---- the turn
 
+#[tactic(auto, unfolding(crate::specs::Means::size_of))]
 fn size_of(x: f64) -> f64
     ensures { result ≡ size_of x }
 {
@@ -85,6 +85,7 @@ fn size_of(x: f64) -> f64
 }
 
 // Whether a point (x, y) lies within 22.5 degrees of the axis of x.
+#[tactic(auto, unfolding(crate::specs::Means::near_axis))]
 fn near_axis(x: f64, y: f64) -> bool
     ensures { result ≡ near_axis x y }
 {
@@ -93,6 +94,7 @@ fn near_axis(x: f64, y: f64) -> bool
 }
 
 // One of two turns by the sign of a part.
+#[tactic(auto, unfolding(crate::specs::Means::by_sign))]
 fn by_sign(x: f64, above: u8, else_turn: u8) -> u8
     ensures { result ≡ by_sign x above else_turn }
 {
@@ -100,29 +102,27 @@ fn by_sign(x: f64, above: u8, else_turn: u8) -> u8
 }
 
 // The turn of a point that is not 0, in eighths.
+#[tactic(auto, unfolding(crate::specs::Means::turn_by))]
 fn turn_by(x: f64, y: f64) -> u8
     ensures { result ≡ turn_by x y }
 {
     if near_axis(x, y) {
-        return by_sign(x, 0, 4);
+        by_sign(x, 0, 4)
+    } else if near_axis(y, x) {
+        by_sign(y, 2, 6)
+    } else {
+        by_sign(y, by_sign(x, 1, 3), by_sign(x, 7, 5))
     }
-    if near_axis(y, x) {
-        return by_sign(y, 2, 6);
-    }
-    let above = by_sign(x, 1, 3);
-    let below = by_sign(x, 7, 5);
-    by_sign(y, above, below)
 }
 
 // The turn by A A + B B and the mean: 8 where there is none.
+#[tactic(auto, unfolding(crate::specs::Means::turn_of))]
 pub fn turn_of(squares: usize, mean: Mean) -> u8
     ensures { result ≡ turn_of squares mean }
 {
-    if squares < 784 {
-        return 8;
+    if squares >= 784 && mean.power > 0.0 {
+        turn_by(mean.re, mean.im)
+    } else {
+        8
     }
-    if mean.power > 0.0 {
-        return turn_by(mean.re, mean.im);
-    }
-    8
 }

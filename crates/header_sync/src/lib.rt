@@ -5,7 +5,7 @@
 
 ghost use Rattle.std.specs.Prelude.{◌≡◌, ◌+◌, ◌<◌, ◌≤◌, length, ltb};
 ghost use Rattle.isdbs_frame.specs.Frame.{frame_symbols};
-ghost use Rattle.header_sync.specs.Signs.{side, mark, marks, spread, smaller};
+ghost use Rattle.header_sync.specs.Signs.{side, mark, marks};
 ghost use Rattle.header_sync.specs.Fits.{joined, fit_of, fit_by, fit_at, no_frame};
 ghost use Rattle.header_sync.specs.Search.{squares, peak_by, peak_at, found_by, further_of};
 ghost use Rattle.header_sync.specs.SearchLaws.{better};
@@ -32,19 +32,21 @@ pub struct Best {
 // ---- the scores of one part
 
 // A part's score against the sign +1, and 1 more: 2 above 0, 0 below 0, 1 where it is 0 or a NaN.
+#[tactic(auto, unfolding(crate::specs::Signs::side))]
 fn side_of(x: f64) -> usize
     ensures { (result ≡ side x) × (result ≤ 2) }
 {
     if x > 0.0 {
-        return 2;
+        2
+    } else if x < 0.0 {
+        0
+    } else {
+        1
     }
-    if x < 0.0 {
-        return 0;
-    }
-    1
 }
 
 // The same against the sign of a bit: +1 for bit 0, -1 for bit 1.
+#[tactic(auto, unfolding(crate::specs::Signs::mark))]
 fn mark_of(bit: u8, x: f64) -> usize
     ensures { (result ≡ mark bit x) × (result ≤ 2) }
 {
@@ -53,13 +55,14 @@ fn mark_of(bit: u8, x: f64) -> usize
 }
 
 // The score of the 20 symbols from a place on against a tail, and 20 more.
+#[tactic(auto, unfolding(crate::specs::Signs::marks))]
 fn marks_of(tail: &[u8; 20], part: &[f64], at: usize) -> usize
     requires { at + 20 ≤ length part.now }
     ensures { (result ≡ marks tail.now part.now at 20) × (result ≤ 40) }
 {
-    let mut sum: usize = 0;
-    for i in 0..20 {
-        sum = sum + mark_of(tail[i], part[at + i]);
+    let mut sum = 0;
+    for (i, bit) in tail.iter().enumerate() {
+        sum += mark_of(*bit, part[at + i]);
     }
     sum
 }
@@ -67,6 +70,7 @@ fn marks_of(tail: &[u8; 20], part: &[f64], at: usize) -> usize
 // ---- the fit of a header
 
 // The score of both tails, the second with its sign, and 40 more.
+#[tactic(auto, unfolding(crate::specs::Fits::joined))]
 fn joined_of(first: bool, one: usize, two: usize) -> usize
     requires { (one ≤ 40) × (two ≤ 40) }
     ensures { (result ≡ joined first one two) × (result ≤ 80) }
@@ -75,6 +79,7 @@ fn joined_of(first: bool, one: usize, two: usize) -> usize
 }
 
 // The fit by the four scores.
+#[tactic(auto, unfolding(crate::specs::Fits::fit_of, crate::specs::Fits::is_first))]
 fn fit_of(re1: usize, re2: usize, im1: usize, im2: usize) -> Fit
     requires { (re1 ≤ 40) × (re2 ≤ 40) × (im1 ≤ 40) × (im2 ≤ 40) }
     ensures { (result ≡ fit_of re1 re2 im1 im2) × (result.re ≤ 80) × (result.im ≤ 80) }
@@ -83,13 +88,14 @@ fn fit_of(re1: usize, re2: usize, im1: usize, im2: usize) -> Fit
     let a = joined_of(first, re1, re2);
     let b = joined_of(first, im1, im2);
     Fit {
-        first: first,
+        first,
         re: a,
         im: b,
     }
 }
 
 // The fit of the frame that begins at a place, by the two tails.
+#[tactic(auto, unfolding(crate::specs::Fits::fit_by))]
 fn fit_at(tail1: &[u8; 20], tail2: &[u8; 20], re: &[f64], im: &[f64], at: usize) -> Fit
     requires { (at + frame_symbols ≤ length re.now) × (at + frame_symbols ≤ length im.now) }
     ensures { (result ≡ fit_by tail1.now tail2.now re.now im.now at) × (result.re ≤ 80) × (result.im ≤ 80) }
@@ -117,57 +123,37 @@ pub fn fit_here(re: &[f64], im: &[f64], at: usize) -> Fit
 fn short_at(points: usize, at: usize) -> bool
     ensures { result ≡ ltb points (at + frame_symbols) }
 {
-    if points < FRAME_SYMBOLS {
-        return true;
-    }
-    points - FRAME_SYMBOLS < at
+    points < FRAME_SYMBOLS || points - FRAME_SYMBOLS < at
 }
 
 // Whether one of the two parts, of so many points each, has none.
+#[tactic(auto, unfolding(crate::specs::Fits::no_frame))]
 pub fn no_frame(re: usize, im: usize, at: usize) -> bool
     ensures { result ≡ no_frame re im at }
 {
-    if short_at(re, at) {
-        return true;
-    }
-    short_at(im, at)
+    short_at(re, at) || short_at(im, at)
 }
 
 // ---- the search
 
-// How far a sum that is held with 40 more is from 0.
-fn spread_of(sum: usize) -> usize
-    requires { sum ≤ 80 }
-    ensures { (result ≡ spread sum 40) × (result ≤ 40) }
-{
-    if sum < 40 { 40 - sum } else { sum - 40 }
-}
-
-fn smaller_of(a: usize, b: usize) -> usize
-    ensures { result ≡ smaller a b }
-{
-    if a < b { a } else { b }
-}
-
-// A A + B B.
+// A A + B B, of the sums that are held with 40 more.
+#[tactic(auto, unfolding(crate::specs::Search::squares))]
 pub fn squares_of(re: usize, im: usize) -> usize
     requires { (re ≤ 80) × (im ≤ 80) }
     ensures { result ≡ squares re im }
 {
-    let a = spread_of(re);
-    let b = spread_of(im);
+    let a = re.abs_diff(40);
+    let b = im.abs_diff(40);
     a * a + b * b
 }
 
 // The better of the best place so far and a later one: the earlier one of equals.
+#[tactic(auto, unfolding(crate::specs::SearchLaws::better))]
 fn better_of(best: Best, place: usize, peak: usize) -> Best
     ensures { result ≡ better best place peak }
 {
     if best.peak < peak {
-        Best {
-            place: place,
-            peak: peak,
-        }
+        Best { place, peak }
     } else {
         best
     }
@@ -187,10 +173,7 @@ fn best_of(
 {
     let fit = fit_at(tail1, tail2, re, im, from);
     let peak = squares_of(fit.re, fit.im);
-    let mut best = Best {
-        place: from,
-        peak: peak,
-    };
+    let mut best = Best { place: from, peak };
     for k in 0..count {
         let place = from + k + 1;
         let next = fit_at(tail1, tail2, re, im, place);
@@ -215,6 +198,5 @@ pub fn further_of(re: usize, im: usize, from: usize) -> usize
     requires { (from + frame_symbols ≤ re) × (from + frame_symbols ≤ im) }
     ensures { result ≡ further_of re im from }
 {
-    let room = smaller_of(re, im);
-    room - FRAME_SYMBOLS - from
+    re.min(im) - FRAME_SYMBOLS - from
 }

@@ -4,12 +4,11 @@ use Rattle.std.specs.Float.{nan, inf}
 use Rattle.std.specs.Float.Ieee.{mul, neg, lt, le, of_bits, of_fields, odd}
 use Rattle.trellis.specs.Lists.{upto}
 use Rattle.isdbs_points.specs.Points.{one64, root64}
-use Rattle.refusal.specs.declared.Answer.TheVariants.{Symbols}
+use Rattle.refusal.specs.Rows.{Symbols, answer_of}
 use Rattle.header_sync.specs.Signs.{tail1, tail2, tail3, zero64, side, mark, marks}
 use Rattle.header_sync.specs.Fits.{is_first, joined, fit_of, fit_by, no_frame}
 use Rattle.header_sync.specs.Search.{squares, found_by}
 use Rattle.header_mean.specs.Means.{size_of, near_axis, by_sign, turn_by, turn_of}
-use Rattle.header_find.specs.declared.HeaderAnswer.TheVariants.{Refused}
 use Rattle.header_find.specs.Headers.{header_of, header_at, header_says, doubted}
 
 -- "+1 where it is above 0 .., 0 where it is 0 or a NaN": with 1 more
@@ -50,7 +49,7 @@ unfolding header_of fit_by turn_of fit_of squares is_first joined marks mark upt
 nothing = refl
 
 -- too few points, also at the greatest u64
-pub too_few : (header_says [] [] 0 ≡ Refused Symbols) × (header_says [] [] 0xffff_ffff_ffff_ffff ≡ Refused Symbols)
+pub too_few : (answer_of (header_says [] [] 0) ≡ Symbols) × (answer_of (header_says [] [] 0xffff_ffff_ffff_ffff) ≡ Symbols)
 unfolding no_frame
 too_few = (refl, refl)
 

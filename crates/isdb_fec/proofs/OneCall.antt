@@ -3,8 +3,7 @@
 use Rattle.std.specs.Prelude.{◌≡◌, refl, false, not, List, [], ◌∷◌, ◌++◌, ℕ, ◌+◌, ◌*◌, ◌/◌, ◌%◌, ◌≤◌, eqb, length, drop, Float}
 use Rattle.std.proofs.Common.{sym, ◌∙◌, ap, arith, le-ltb, eqb-true, length-append, length-drop}
 use Rattle.std.proofs.lemmas.Bool.{not-false}
-use Rattle.refusal.specs.Rows.{first_row}
-use Rattle.refusal.specs.declared.Answer.TheVariants.{Accepted, Length, Sample, Space}
+use Rattle.refusal.specs.Rows.{first_row, Accepted, Length, Sample, Space}
 use Rattle.refusal.proofs.RowLaws as row
 use Rattle.refusal.proofs.RowLaws.{both_passed, passed_by}
 use Rattle.trellis.specs.Run.{Decoder, releases, pair_steps, four_steps}

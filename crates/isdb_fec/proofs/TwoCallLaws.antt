@@ -2,8 +2,7 @@
 -- first leaves, and the output behind the first one's bits: together they leave what one call over both lists leaves, state, count and both lent slices.
 use Rattle.std.specs.Prelude.{◌≡◌, refl, List, [], ◌∷◌, ◌++◌, ℕ, ◌+◌, ◌*◌, ◌/◌, ◌%◌, ◌<◌, ◌≤◌, length, take, drop, Float}
 use Rattle.std.proofs.Common.{sym, ◌∙◌, ap, append-nil, arith, length-append}
-use Rattle.refusal.specs.Rows.{first_row}
-use Rattle.refusal.specs.declared.Answer.TheVariants.{Accepted}
+use Rattle.refusal.specs.Rows.{first_row, Accepted}
 use Rattle.trellis.specs.Isdb
 use Rattle.trellis.specs.Lists.{laid}
 use Rattle.trellis.specs.Step as trellis
@@ -23,7 +22,7 @@ use Rattle.viterbi_core.specs.RunLaws.{then, known_run, pair_run, four_run}
 
 -- the result of two calls: the state of the second, and how many bits both put out
 abbrev pub both : Released → Released → Released
-both first second = record { answer = second.answer; dec = second.dec; count = first.count + second.count }
+both first second = record { dec = second.dec; count = first.count + second.count }
 
 -- ---- the lent decisions after two calls
 decisions_then : (tb : ℕ) (ws bs more new dec : List ℕ) → length ws < block + tb → (length new ≡ 0 → length ws ≤ length more)

@@ -1,8 +1,6 @@
 -- A whole call of n steps on a handed decoder: how it begins and what it leaves.
 use Rattle.std.specs.Prelude.{◌≡◌, refl, List, ℕ, ◌+◌, ◌*◌, ◌<◌, ◌≤◌, length, take, Float}
 use Rattle.std.proofs.Common.{sym, ◌∙◌, ap, arith, zero-add, length-take-le}
-use Rattle.refusal.specs.declared.Answer.{Answer}
-use Rattle.refusal.specs.declared.Answer.TheVariants.{Accepted}
 use Rattle.trellis.specs.Isdb
 use Rattle.trellis.specs.Step as trellis
 use Rattle.trellis.specs.Step.{renormalised}
@@ -10,8 +8,7 @@ use Rattle.trellis.specs.Run.{after, block, releases}
 use Rattle.viterbi_core.specs.declared.At.{At}
 use Rattle.isdb_fec.specs.declared.conv.ViterbiDecoder.{ViterbiDecoder}
 use Rattle.isdb_fec.specs.Calls.{steps, call, handed, Holds, Leaves, Unchanged}
-use Rattle.refusal.specs.Rows.{Either}
-use Rattle.isdb_fec.specs.AnswerLaws.{Enough, refused}
+use Rattle.isdb_fec.specs.AnswerLaws.{Enough}
 use Rattle.viterbi_core.specs.Calls.{steps_from, Carried}
 use Rattle.viterbi_core.specs.BlockLaws.{from_steps}
 use Rattle.viterbi_core.specs.HoldingLaws.{holds_start, steps_lengths}
@@ -46,13 +43,13 @@ module _ (v : ViterbiDecoder) (xs : ℕ → trellis.Step) (n : ℕ) (dec₀ out�
 
   -- the end, of known bits and of soft values or metrics
   pub ends : (pm : List Float) (at : At) (dec out : List ℕ) → Holds v.traceback dec₀ out₀ (steps v.traceback xs (handed v dec₀) n) pm at.held at.count dec out
-      → Leaves v.traceback (steps v.traceback xs (handed v dec₀) n) (record { answer = Accepted; dec = record { pm = pm; held = at.held; traceback = v.traceback }; count = at.count }) dec₀ dec out₀ out
+      → Leaves v.traceback (steps v.traceback xs (handed v dec₀) n) (record { dec = record { pm = pm; held = at.held; traceback = v.traceback }; count = at.count }) dec₀ dec out₀ out
   ends pm at dec out h =
       record { values = h.values; held_is = h.held_is; traceback_is = refl; count_is = h.count_is; words = h.words; bits = h.bits }
 
   pub closes : (pm low : List Float) (at : At) (dec out : List ℕ) → Holds v.traceback dec₀ out₀ (steps v.traceback xs (handed v dec₀) n) pm at.held at.count dec out
       → low ≡ renormalised 32 pm
-      → Leaves v.traceback (call v.traceback xs (handed v dec₀) n) (record { answer = Accepted; dec = record { pm = low; held = at.held; traceback = v.traceback }; count = at.count }) dec₀ dec out₀ out
+      → Leaves v.traceback (call v.traceback xs (handed v dec₀) n) (record { dec = record { pm = low; held = at.held; traceback = v.traceback }; count = at.count }) dec₀ dec out₀ out
   closes pm low at dec out h r =
       record {
         values = r ∙ ap (λ (y : List Float). renormalised 32 y) h.values;
@@ -63,6 +60,6 @@ module _ (v : ViterbiDecoder) (xs : ℕ → trellis.Step) (n : ℕ) (dec₀ out�
         bits = h.bits;
       }
 
--- "states come back as given and no buffer changes"
-pub as_given : {P : Type 0} (v : ViterbiDecoder) (a : Answer) (dec out : List ℕ) → (a ≡ Accepted → ⊥) → Either a P (Unchanged v (record { answer = a; dec = v; count = 0 }) dec dec out out)
-as_given v a dec out n = refused a n (record { state = refl; count_is = refl; words = refl; bits = refl })
+-- "no buffer changes"
+pub as_given : (dec out : List ℕ) → Unchanged dec dec out out
+as_given dec out = record { words = refl; bits = refl }

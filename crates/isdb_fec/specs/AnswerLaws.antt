@@ -1,10 +1,9 @@
 -- How a call's outcome follows from its answer, and its answer from its rows.
 use Rattle.std.specs.Prelude.{◌≡◌, false, List, [], ◌∷◌, ℕ, ◌+◌, ◌*◌, ◌/◌, ◌≤◌, ◌<◌, ltb, length, Float}
 use Rattle.std.proofs.Common.{sym, ltb-false}
-use Rattle.refusal.specs.Rows.{Row, first_row, Either}
+use Rattle.refusal.specs.Rows.{Row, first_row, Either, Accepted, Space}
 pub use Rattle.refusal.proofs.RowLaws.{refused, numbered, neither}
 use Rattle.refusal.proofs.RowLaws.{done, passed, both_passed}
-use Rattle.refusal.specs.declared.Answer.TheVariants.{Accepted, Space}
 use Rattle.trellis.specs.Run.{traceback_limit, block, releases}
 use Rattle.viterbi_rows.specs.RowLaws as handed
 use Rattle.isdb_fec.specs.declared.conv.ViterbiDecoder.{ViterbiDecoder}

@@ -1,14 +1,11 @@
 -- What each call leaves: the decoder of crate trellis at the code of ISDB.
 use Rattle.std.specs.Prelude.{◌≡◌, List, ℕ, length, replicate, Float}
-use Rattle.std.specs.Float.{binary32}
-use Rattle.std.specs.Float.Ieee.{of_bits}
 use Rattle.trellis.specs.Isdb.{flush_at}
 use Rattle.trellis.specs.Lists.{laid}
 use Rattle.trellis.specs.Run.{Decoder, decisions_after, depth, holding}
 pub use Rattle.viterbi_core.specs.Calls.{nexts, word, best_state, traced, settle, step_once, steps, call, flush, Holds}
 use Rattle.isdb_fec.specs.declared.conv.ViterbiDecoder.{ViterbiDecoder}
 use Rattle.isdb_fec.specs.declared.conv.Released.{Released}
-use Rattle.trellis.specs.Isdb
 
 -- a decoder as its path values and the front of the lent decisions hold it
 abbrev pub handed : ViterbiDecoder → List ℕ → Decoder
@@ -19,12 +16,6 @@ pub record Fresh (tb : ℕ) (pm : List Float) (v : ViterbiDecoder) : Type 0 wher
   pub values : v.pm ≡ pm
   pub held_is : v.held ≡ 0
   pub traceback_is : v.traceback ≡ depth tb
-
--- what stands in place of a decoder that is refused: every call refuses it by row 3
-pub record Zero (v : ViterbiDecoder) : Type 0 where
-  pub values : v.pm ≡ replicate Isdb.states (of_bits binary32 0)
-  pub held_is : v.held ≡ 0
-  pub traceback_is : v.traceback ≡ 0
 
 -- what an accepted call leaves, whole: the state, the count and both lent slices
 pub record Leaves (tb : ℕ) (d : Decoder) (r : Released) (decisions₀ decisions out₀ out : List ℕ) : Type 0 where
@@ -51,9 +42,7 @@ Flushes v r decisions₀ = Emits (flush (handed v decisions₀)).bits v r decisi
 abbrev pub FlushesAt : ℕ → ViterbiDecoder → Released → List ℕ → List ℕ → List ℕ → List ℕ → Type 0
 FlushesAt e v r decisions₀ = Emits (flush_at e (handed v decisions₀)).bits v r decisions₀
 
--- "states come back as given and no buffer changes"
-pub record Unchanged (v : ViterbiDecoder) (r : Released) (decisions₀ decisions out₀ out : List ℕ) : Type 0 where
-  pub state : r.dec ≡ v
-  pub count_is : r.count ≡ 0
+-- "no buffer changes"; the state that was given is the caller's
+pub record Unchanged (decisions₀ decisions out₀ out : List ℕ) : Type 0 where
   pub words : decisions ≡ decisions₀
   pub bits : out ≡ out₀

@@ -1,7 +1,6 @@
 -- The refusal rows of each call, in document 01's order.
 use Rattle.std.specs.Prelude.{Bool, not, ◌||◌, List, [], ◌∷◌, ℕ, ◌/◌, ◌%◌, eqb, leb, ltb, length, Float}
-use Rattle.refusal.specs.Rows.{Row}
-use Rattle.refusal.specs.declared.Answer.TheVariants.{Traceback, State, Length, Sample, Space}
+use Rattle.refusal.specs.Rows.{Row, Traceback, State, Length, Sample, Space}
 use Rattle.trellis.specs.Isdb.{frame_words}
 use Rattle.trellis.specs.Run.{traceback_limit}
 use Rattle.viterbi_rows.specs.Values.{some_beyond, stream_limit}

@@ -4,15 +4,15 @@
 //
 // The figures have six stages. X sums the input and the stages 1, 2, 3 and 6, Y the input and the stages 2, 3, 5 and 6; with the input as the
 // highest of seven digits these are 171 and 133 octal.
-ghost use Rattle.std.specs.Prelude.{◌≡◌, ◌+◌, ◌*◌, ◌<◌, ◌/◌, ◌%◌, length};
-ghost use Rattle.refusal.specs.Rows.{first_row, Either};
+ghost use Rattle.std.specs.Prelude.{◌≡◌, ◌+◌, ◌*◌, ◌<◌, ◌/◌, ◌%◌, length, IfOk, MatchResult};
+ghost use Rattle.refusal.specs.Rows.{first_row, answer_of};
 ghost use Rattle.trellis.specs.Code.{isdb, output, moved};
 ghost use Rattle.trellis.specs.Run.{start_at, start_unknown, pair_steps, four_steps, known_steps};
 ghost use Rattle.isdb_fec.specs.Rows.{encoder_rows, fresh_rows, stream_rows, push_rows, push_metrics_rows, push_known_rows, flush_rows};
-ghost use Rattle.isdb_fec.specs.Calls.{steps, call, handed, Leaves, Flushes, FlushesAt, Unchanged, Fresh, Zero};
+ghost use Rattle.isdb_fec.specs.Calls.{steps, call, handed, Leaves, Flushes, FlushesAt, Unchanged, Fresh};
 ghost use Rattle.trellis.specs.Isdb;
 
-use refusal::Answer;
+use refusal::Refusal;
 pub use trellis::{STATES, TRACEBACK_LIMIT};
 use viterbi_core::{
     At, depth_of, finish, finish_at, renormalise, run_steps, start_at, start_unknown,
@@ -32,29 +32,23 @@ pub const DEFAULT_TRACEBACK: usize = 112;
 
 #[derive(Clone, Copy)]
 pub struct Branch {
-    pub answer: Answer,
     pub x: u8,
     pub y: u8,
 }
 
 // (X, Y) for the input u at the state.
-pub fn branch_output(state: u8, u: u8) -> Branch
-    ensures answers { result.answer ≡ first_row (encoder_rows state) }
-    ensures outputs { Either result.answer ((result.x ≡ output isdb 0o171 (u % 2) state) × (result.y ≡ output isdb 0o133 (u % 2) state)) ((result.x ≡ 0) × (result.y ≡ 0)) }
+pub fn branch_output(state: u8, u: u8) -> Result<Branch, Refusal>
+    ensures answers { answer_of result ≡ first_row (encoder_rows state) }
+    ensures outputs { IfOk result (λ b. (b.x ≡ output isdb 0o171 (u % 2) state) × (b.y ≡ output isdb 0o133 (u % 2) state)) }
 {
     if (state as usize) >= STATES {
-        return Branch {
-            answer: Answer::State,
-            x: 0,
-            y: 0,
-        };
+        return Err(Refusal::State);
     }
     let register = ((u % 2) << (CONSTRAINT_LENGTH - 1)) + state;
-    Branch {
-        answer: Answer::Accepted,
+    Ok(Branch {
         x: parity(register & G1),
         y: parity(register & G2),
-    }
+    })
 }
 
 // The encoder: the last six inputs, the newest in bit 5.
@@ -65,7 +59,6 @@ pub struct ConvEncoder {
 
 #[derive(Clone, Copy)]
 pub struct Pushed {
-    pub answer: Answer,
     pub enc: ConvEncoder,
     pub x: u8,
     pub y: u8,
@@ -85,26 +78,20 @@ impl ConvEncoder {
     }
 
     // Encodes one bit.
-    pub fn push(self, u: u8) -> Pushed
-        ensures answers { result.answer ≡ first_row (encoder_rows self.state) }
-        ensures outputs { Either result.answer ((result.x ≡ output isdb 0o171 (u % 2) self.state) × (result.y ≡ output isdb 0o133 (u % 2) self.state) × (result.enc.state ≡ moved Isdb.half (u % 2) self.state)) ((result.x ≡ 0) × (result.y ≡ 0) × (result.enc.state ≡ self.state)) }
+    pub fn push(self, u: u8) -> Result<Pushed, Refusal>
+        ensures answers { answer_of result ≡ first_row (encoder_rows self.state) }
+        ensures outputs { IfOk result (λ p. (p.x ≡ output isdb 0o171 (u % 2) self.state) × (p.y ≡ output isdb 0o133 (u % 2) self.state) × (p.enc.state ≡ moved Isdb.half (u % 2) self.state)) }
     {
         let state = self.state;
         if state > 63 {
-            return Pushed {
-                answer: Answer::State,
-                enc: self,
-                x: 0,
-                y: 0,
-            };
+            return Err(Refusal::State);
         }
         let c = encode_bit(state, u);
-        Pushed {
-            answer: Answer::Accepted,
+        Ok(Pushed {
             enc: ConvEncoder { state: c.state },
             x: c.x,
             y: c.y,
-        }
+        })
     }
 }
 
@@ -117,42 +104,25 @@ pub struct ViterbiDecoder {
 }
 
 #[derive(Clone, Copy)]
-pub struct Made {
-    pub answer: Answer,
-    pub dec: ViterbiDecoder,
-}
-
-#[derive(Clone, Copy)]
 pub struct Released {
-    pub answer: Answer,
     pub dec: ViterbiDecoder,
     pub count: usize,
 }
 
-// A fresh decoder with the path values pm; a refused one is all zero.
-fn fresh(traceback: usize, pm: [f32; STATES]) -> Made
-    ensures answers { result.answer ≡ first_row (fresh_rows traceback) }
-    ensures made { Either result.answer (Fresh traceback pm result.dec) (Zero result.dec) }
+// A fresh decoder with the path values pm.
+fn fresh(traceback: usize, pm: [f32; STATES]) -> Result<ViterbiDecoder, Refusal>
+    ensures answers { answer_of result ≡ first_row (fresh_rows traceback) }
+    ensures made { IfOk result (λ v. Fresh traceback pm v) }
 {
     if traceback > TRACEBACK_LIMIT {
-        return Made {
-            answer: Answer::Traceback,
-            dec: ViterbiDecoder {
-                pm: [0.0f32; STATES],
-                held: 0,
-                traceback: 0,
-            },
-        };
+        return Err(Refusal::Traceback);
     }
     let depth = depth_of(traceback);
-    Made {
-        answer: Answer::Accepted,
-        dec: ViterbiDecoder {
-            pm,
-            held: 0,
-            traceback: depth,
-        },
-    }
+    Ok(ViterbiDecoder {
+        pm,
+        held: 0,
+        traceback: depth,
+    })
 }
 
 // The depth of 16 constraint lengths.
@@ -164,25 +134,25 @@ pub fn default_traceback() -> usize
 
 impl ViterbiDecoder {
     // A decoder that starts in state 0.
-    pub fn new(traceback: usize) -> Made
-        ensures answers { result.answer ≡ first_row (fresh_rows traceback) }
-        ensures made { Either result.answer (Fresh traceback (start_at Isdb.states 0) result.dec) (Zero result.dec) }
+    pub fn new(traceback: usize) -> Result<ViterbiDecoder, Refusal>
+        ensures answers { answer_of result ≡ first_row (fresh_rows traceback) }
+        ensures made { IfOk result (λ v. Fresh traceback (start_at Isdb.states 0) v) }
     {
         fresh(traceback, start_at(0))
     }
 
     // A decoder whose start state is not known.
-    pub fn new_unknown_state(traceback: usize) -> Made
-        ensures answers { result.answer ≡ first_row (fresh_rows traceback) }
-        ensures made { Either result.answer (Fresh traceback (start_unknown Isdb.states) result.dec) (Zero result.dec) }
+    pub fn new_unknown_state(traceback: usize) -> Result<ViterbiDecoder, Refusal>
+        ensures answers { answer_of result ≡ first_row (fresh_rows traceback) }
+        ensures made { IfOk result (λ v. Fresh traceback (start_unknown Isdb.states) v) }
     {
         fresh(traceback, start_unknown())
     }
 
     // A decoder that starts in the given state, mod 64.
-    pub fn with_state(traceback: usize, state: u8) -> Made
-        ensures answers { result.answer ≡ first_row (fresh_rows traceback) }
-        ensures made { Either result.answer (Fresh traceback (start_at Isdb.states state) result.dec) (Zero result.dec) }
+    pub fn with_state(traceback: usize, state: u8) -> Result<ViterbiDecoder, Refusal>
+        ensures answers { answer_of result ≡ first_row (fresh_rows traceback) }
+        ensures made { IfOk result (λ v. Fresh traceback (start_at Isdb.states state) v) }
     {
         fresh(traceback, start_at(state))
     }
@@ -202,7 +172,13 @@ impl ViterbiDecoder {
     }
 
     // The answer to a call of soft values or metrics, `per` for each step.
-    fn answer_stream(self, values: &[f32], per: usize, decisions: usize, out: usize) -> Answer
+    fn answer_stream(
+        self,
+        values: &[f32],
+        per: usize,
+        decisions: usize,
+        out: usize,
+    ) -> Result<(), Refusal>
         requires { 0 < per }
         ensures { result ≡ first_row (stream_rows per self values.now decisions out) }
     {
@@ -211,7 +187,7 @@ impl ViterbiDecoder {
     }
 
     // The answer to a call of n known bits.
-    fn answer_known(self, n: usize, decisions: usize, out: usize) -> Answer
+    fn answer_known(self, n: usize, decisions: usize, out: usize) -> Result<(), Refusal>
         ensures { result ≡ first_row (push_known_rows self n decisions out) }
     {
         let pm = self.pm;
@@ -219,20 +195,18 @@ impl ViterbiDecoder {
     }
 
     // Feeds soft-value pairs.
-    pub fn push(self, pairs: &[f32], decisions: &mut [u64], out: &mut [u8]) -> Released
-        ensures answers { result.answer ≡ first_row (push_rows self pairs.now (length decisions.old) (length out.old)) }
-        ensures leaves { Either result.answer
-            (Leaves self.traceback (call self.traceback (pair_steps pairs.now) (handed self decisions.old) (length pairs.now / 2)) result decisions.old decisions.new out.old out.new)
-            (Unchanged self result decisions.old decisions.new out.old out.new) }
+    pub fn push(
+        self,
+        pairs: &[f32],
+        decisions: &mut [u64],
+        out: &mut [u8],
+    ) -> Result<Released, Refusal>
+        ensures answers { answer_of result ≡ first_row (push_rows self pairs.now (length decisions.old) (length out.old)) }
+        ensures leaves { MatchResult result
+            (λ r. Leaves self.traceback (call self.traceback (pair_steps pairs.now) (handed self decisions.old) (length pairs.now / 2)) r decisions.old decisions.new out.old out.new)
+            (λ _. Unchanged decisions.old decisions.new out.old out.new) }
     {
-        let answer = self.answer_stream(pairs, 2, decisions.len(), out.len());
-        let Answer::Accepted = answer else {
-            return Released {
-                answer,
-                dec: self,
-                count: 0,
-            };
-        };
+        self.answer_stream(pairs, 2, decisions.len(), out.len())?;
         let traceback = self.traceback;
         let mut pm = self.pm;
         let start = At {
@@ -253,32 +227,29 @@ impl ViterbiDecoder {
             out,
         );
         renormalise(&mut pm);
-        Released {
-            answer: Answer::Accepted,
+        Ok(Released {
             dec: ViterbiDecoder {
                 pm,
                 held: at.held,
                 traceback,
             },
             count: at.count,
-        }
+        })
     }
 
     // Feeds metrics, four for each step: that of the branches with the outputs (X, Y) at 2X + Y.
-    pub fn push_metrics(self, metrics: &[f32], decisions: &mut [u64], out: &mut [u8]) -> Released
-        ensures answers { result.answer ≡ first_row (push_metrics_rows self metrics.now (length decisions.old) (length out.old)) }
-        ensures leaves { Either result.answer
-            (Leaves self.traceback (call self.traceback (four_steps metrics.now) (handed self decisions.old) (length metrics.now / 4)) result decisions.old decisions.new out.old out.new)
-            (Unchanged self result decisions.old decisions.new out.old out.new) }
+    pub fn push_metrics(
+        self,
+        metrics: &[f32],
+        decisions: &mut [u64],
+        out: &mut [u8],
+    ) -> Result<Released, Refusal>
+        ensures answers { answer_of result ≡ first_row (push_metrics_rows self metrics.now (length decisions.old) (length out.old)) }
+        ensures leaves { MatchResult result
+            (λ r. Leaves self.traceback (call self.traceback (four_steps metrics.now) (handed self decisions.old) (length metrics.now / 4)) r decisions.old decisions.new out.old out.new)
+            (λ _. Unchanged decisions.old decisions.new out.old out.new) }
     {
-        let answer = self.answer_stream(metrics, 4, decisions.len(), out.len());
-        let Answer::Accepted = answer else {
-            return Released {
-                answer,
-                dec: self,
-                count: 0,
-            };
-        };
+        self.answer_stream(metrics, 4, decisions.len(), out.len())?;
         let traceback = self.traceback;
         let mut pm = self.pm;
         let start = At {
@@ -299,32 +270,29 @@ impl ViterbiDecoder {
             out,
         );
         renormalise(&mut pm);
-        Released {
-            answer: Answer::Accepted,
+        Ok(Released {
             dec: ViterbiDecoder {
                 pm,
                 held: at.held,
                 traceback,
             },
             count: at.count,
-        }
+        })
     }
 
     // Advances over known input bits: only the low bit of each byte counts.
-    pub fn push_known(self, bits: &[u8], decisions: &mut [u64], out: &mut [u8]) -> Released
-        ensures answers { result.answer ≡ first_row (push_known_rows self (length bits.now) (length decisions.old) (length out.old)) }
-        ensures leaves { Either result.answer
-            (Leaves self.traceback (steps self.traceback (known_steps bits.now) (handed self decisions.old) (length bits.now)) result decisions.old decisions.new out.old out.new)
-            (Unchanged self result decisions.old decisions.new out.old out.new) }
+    pub fn push_known(
+        self,
+        bits: &[u8],
+        decisions: &mut [u64],
+        out: &mut [u8],
+    ) -> Result<Released, Refusal>
+        ensures answers { answer_of result ≡ first_row (push_known_rows self (length bits.now) (length decisions.old) (length out.old)) }
+        ensures leaves { MatchResult result
+            (λ r. Leaves self.traceback (steps self.traceback (known_steps bits.now) (handed self decisions.old) (length bits.now)) r decisions.old decisions.new out.old out.new)
+            (λ _. Unchanged decisions.old decisions.new out.old out.new) }
     {
-        let answer = self.answer_known(bits.len(), decisions.len(), out.len());
-        let Answer::Accepted = answer else {
-            return Released {
-                answer,
-                dec: self,
-                count: 0,
-            };
-        };
+        self.answer_known(bits.len(), decisions.len(), out.len())?;
         let traceback = self.traceback;
         let mut pm = self.pm;
         let start = At {
@@ -344,83 +312,71 @@ impl ViterbiDecoder {
             decisions,
             out,
         );
-        Released {
-            answer: Answer::Accepted,
+        Ok(Released {
             dec: ViterbiDecoder {
                 pm,
                 held: at.held,
                 traceback,
             },
             count: at.count,
-        }
+        })
     }
 
     // Puts out all held bits, traced from the best state.
-    pub fn flush(self, decisions: &mut [u64], out: &mut [u8]) -> Released
-        ensures answers { result.answer ≡ first_row (flush_rows self (length decisions.old) (length out.old)) }
-        ensures leaves { Either result.answer
-            (Flushes self result decisions.old decisions.new out.old out.new)
-            (Unchanged self result decisions.old decisions.new out.old out.new) }
+    pub fn flush(self, decisions: &mut [u64], out: &mut [u8]) -> Result<Released, Refusal>
+        ensures answers { answer_of result ≡ first_row (flush_rows self (length decisions.old) (length out.old)) }
+        ensures leaves { MatchResult result
+            (λ r. Flushes self r decisions.old decisions.new out.old out.new)
+            (λ _. Unchanged decisions.old decisions.new out.old out.new) }
     {
-        let answer = self.answer_flush(decisions.len(), out.len());
-        let Answer::Accepted = answer else {
-            return Released {
-                answer,
-                dec: self,
-                count: 0,
-            };
-        };
+        self.answer_flush(decisions.len(), out.len())?;
         let pm = self.pm;
         let at = At {
             held: self.held,
             count: 0,
         };
         let count = finish(&pm, at, decisions, out);
-        Released {
-            answer: Answer::Accepted,
+        Ok(Released {
             dec: ViterbiDecoder {
                 pm,
                 held: 0,
                 traceback: self.traceback,
             },
             count,
-        }
+        })
     }
 
     // Puts out all held bits, traced from the given state, mod 64.
-    pub fn flush_at(self, end: u8, decisions: &mut [u64], out: &mut [u8]) -> Released
-        ensures answers { result.answer ≡ first_row (flush_rows self (length decisions.old) (length out.old)) }
-        ensures leaves { Either result.answer
-            (FlushesAt end self result decisions.old decisions.new out.old out.new)
-            (Unchanged self result decisions.old decisions.new out.old out.new) }
+    pub fn flush_at(
+        self,
+        end: u8,
+        decisions: &mut [u64],
+        out: &mut [u8],
+    ) -> Result<Released, Refusal>
+        ensures answers { answer_of result ≡ first_row (flush_rows self (length decisions.old) (length out.old)) }
+        ensures leaves { MatchResult result
+            (λ r. FlushesAt end self r decisions.old decisions.new out.old out.new)
+            (λ _. Unchanged decisions.old decisions.new out.old out.new) }
     {
-        let answer = self.answer_flush(decisions.len(), out.len());
-        let Answer::Accepted = answer else {
-            return Released {
-                answer,
-                dec: self,
-                count: 0,
-            };
-        };
+        self.answer_flush(decisions.len(), out.len())?;
         let pm = self.pm;
         let at = At {
             held: self.held,
             count: 0,
         };
         let count = finish_at((end % 64) as usize, at, decisions, out);
-        Released {
-            answer: Answer::Accepted,
+        Ok(Released {
             dec: ViterbiDecoder {
                 pm,
                 held: 0,
                 traceback: self.traceback,
             },
             count,
-        }
+        })
     }
 
     // The answer to a flush.
-    fn answer_flush(self, decisions: usize, out: usize) -> Answer
+    fn answer_flush(self, decisions: usize, out: usize) -> Result<(), Refusal>
         ensures { result ≡ first_row (flush_rows self decisions out) }
     {
         let pm = self.pm;

@@ -4,7 +4,7 @@ use mathlib.Core.Bool.{cond}
 use Prim.Native.Nat.{ℕ, zero, suc}
 use lib.Dec.{eqb}
 use borrow.Author.Tests.{ne_eqb}
-use Rattle.isdbs_combination.specs.declared.MaybeCombination.TheVariants.{None}
+use Rattle.std.specs.Prelude.{None}
 use Rattle.isdbs_combination.specs.declared.CombinationWord.TheVariants.{Dummy, Reserved}
 use Rattle.isdbs_combination.specs.Combinations.{combination_of, unassigned}
 

@@ -1,11 +1,9 @@
 -- Laws of the combinations' tables.
-use Rattle.std.specs.Prelude.{◌≡◌, refl, Bool, true, false, cond, ℕ, ◌≤◌, ◌<◌, eqb, length}
+use Rattle.std.specs.Prelude.{◌≡◌, refl, Bool, true, false, cond, ℕ, ◌≤◌, ◌<◌, eqb, length, Option, Some, None}
 use Rattle.std.proofs.Common.{lit<, lit≤}
 use Rattle.isdbs_combination.specs.declared.Combination.{Combination}
 use Rattle.isdbs_combination.specs.declared.Combination.TheVariants.{Bpsk1_2, Qpsk1_2, Qpsk2_3, Qpsk3_4, Qpsk5_6, Qpsk7_8, Tc8psk2_3}
 use Rattle.isdbs_combination.specs.declared.CombinationWord.TheVariants.{Dummy, Reserved}
-use Rattle.isdbs_combination.specs.declared.MaybeCombination.{MaybeCombination}
-use Rattle.isdbs_combination.specs.declared.MaybeCombination.TheVariants.{Some, None}
 use Rattle.isdbs_combination.specs.declared.Puncture.{Puncture}
 use Rattle.isdbs_combination.specs.declared.Puncture.TheVariants.{R2_3, R3_4, R5_6, R7_8}
 use Rattle.isdbs_combination.specs.declared.Modulation.TheVariants.{Tc8psk}
@@ -16,7 +14,7 @@ neither true w = refl
 neither false w = refl
 
 -- what a word means has the word's combination
-pub assigned : (w : ℕ) (m : MaybeCombination) → assigned_of (unassigned w m) ≡ m
+pub assigned : (w : ℕ) (m : Option Combination) → assigned_of (unassigned w m) ≡ m
 assigned w (Some c) = refl
 assigned w None = neither (eqb w 15) w
 

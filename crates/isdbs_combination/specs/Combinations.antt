@@ -1,18 +1,14 @@
 -- The combinations of modulation and code, as document 01, "Runs and points", lists them. The Rust cites ITU-R BO.1408-1 and MIC Ordinance No. 87 of 2011 for them: at each table which.
 --
-use Rattle.std.specs.Prelude.{cond, List, [], ◌∷◌, ℕ, suc, ◌+◌, ◌-◌, ◌*◌, ◌/◌, ◌%◌, eqb, ltb, length, get_or}
+use Rattle.std.specs.Prelude.{cond, List, [], ◌∷◌, ℕ, suc, ◌+◌, ◌-◌, ◌*◌, ◌/◌, ◌%◌, eqb, ltb, length, get_or, Option, Some, None}
 use Rattle.isdbs_combination.specs.declared.Combination.{Combination}
 use Rattle.isdbs_combination.specs.declared.Combination.TheVariants.{Bpsk1_2, Qpsk1_2, Qpsk2_3, Qpsk3_4, Qpsk5_6, Qpsk7_8, Tc8psk2_3}
 use Rattle.isdbs_combination.specs.declared.Modulation.{Modulation}
 use Rattle.isdbs_combination.specs.declared.Modulation.TheVariants.{Bpsk, Qpsk, Tc8psk}
 use Rattle.isdbs_combination.specs.declared.CombinationWord.{CombinationWord}
 use Rattle.isdbs_combination.specs.declared.CombinationWord.TheVariants.{Assigned, Dummy, Reserved}
-use Rattle.isdbs_combination.specs.declared.MaybeCombination.{MaybeCombination}
-use Rattle.isdbs_combination.specs.declared.MaybeCombination.TheVariants.{Some, None}
 use Rattle.isdbs_combination.specs.declared.Puncture.{Puncture}
 use Rattle.isdbs_combination.specs.declared.Puncture.TheVariants.{R2_3, R3_4, R5_6, R7_8}
-use Rattle.isdbs_combination.specs.declared.MaybePuncture.{MaybePuncture}
-use Rattle.isdbs_combination.specs.declared.MaybePuncture.TheVariants as puncture
 use Rattle.isdbs_combination.specs.declared.Ratio.{Ratio}
 use Rattle.isdbs_combination.specs.declared.SlotUnit.{SlotUnit}
 use Rattle.isdbs_combination.specs.declared.BitPair.{BitPair}
@@ -20,7 +16,7 @@ use Rattle.isdbs_combination.specs.declared.BitPairs.{BitPairs}
 use Rattle.trellis.specs.Lists.{padded}
 
 -- "words 1 to 7 are BPSK 1/2, QPSK 1/2, 2/3, 3/4, 5/6, 7/8, TC8PSK 2/3" (BO.1408-1, Table 1); no other word has a combination
-abbrev pub words : List MaybeCombination
+abbrev pub words : List (Option Combination)
 words =
     None
     ∷ Some Bpsk1_2
@@ -32,11 +28,11 @@ words =
     ∷ Some Tc8psk2_3
     ∷ []
 
-abbrev pub combination_of : ℕ → MaybeCombination
+abbrev pub combination_of : ℕ → Option Combination
 combination_of w = get_or words w None
 
 -- a word without combination: 15 is the dummy of unused entries, the others are reserved
-abbrev pub unassigned : ℕ → MaybeCombination → CombinationWord
+abbrev pub unassigned : ℕ → Option Combination → CombinationWord
 unassigned w (Some c) = Assigned c
 unassigned w None = cond (eqb w 15) Dummy (Reserved w)
 
@@ -44,7 +40,7 @@ unassigned w None = cond (eqb w 15) Dummy (Reserved w)
 abbrev pub word_means : ℕ → CombinationWord
 word_means w = unassigned (w % 16) (combination_of (w % 16))
 
-abbrev pub assigned_of : CombinationWord → MaybeCombination
+abbrev pub assigned_of : CombinationWord → Option Combination
 assigned_of (Assigned c) = Some c
 assigned_of Dummy = None
 assigned_of (Reserved w) = None
@@ -75,18 +71,18 @@ pub record Figures : Type 0 where
   pub efficiency : Ratio
   pub slot_unit : SlotUnit
   pub steps : ℕ
-  pub punctured : MaybePuncture
+  pub punctured : Option Puncture
 
 -- "words 1 to 7 are BPSK 1/2, QPSK 1/2, 2/3, 3/4, 5/6, 7/8, TC8PSK 2/3, with (slots, valid slots) per unit (4,1) (2,1) (3,2) (4,3) (6,5) (8,7) (1,1)" (words: BO.1408-1, Table 1;
 -- units: the ordinance, annexed table 48, appended note 3; efficiency: BO.1408-1, section 3.2, equation (1))
 abbrev pub figures : Combination → Figures
-figures Bpsk1_2 = record { word = 1; modulation = Bpsk; rate = ratio 1 2; efficiency = ratio 1 2; slot_unit = unit 4 1; steps = slot_bits; punctured = puncture.None }
-figures Qpsk1_2 = record { word = 2; modulation = Qpsk; rate = ratio 1 2; efficiency = ratio 2 2; slot_unit = unit 2 1; steps = slot_bits; punctured = puncture.None }
-figures Qpsk2_3 = record { word = 3; modulation = Qpsk; rate = ratio 2 3; efficiency = ratio 4 3; slot_unit = unit 3 2; steps = slot_bits; punctured = puncture.Some R2_3 }
-figures Qpsk3_4 = record { word = 4; modulation = Qpsk; rate = ratio 3 4; efficiency = ratio 6 4; slot_unit = unit 4 3; steps = slot_bits; punctured = puncture.Some R3_4 }
-figures Qpsk5_6 = record { word = 5; modulation = Qpsk; rate = ratio 5 6; efficiency = ratio 10 6; slot_unit = unit 6 5; steps = slot_bits; punctured = puncture.Some R5_6 }
-figures Qpsk7_8 = record { word = 6; modulation = Qpsk; rate = ratio 7 8; efficiency = ratio 14 8; slot_unit = unit 8 7; steps = slot_bits; punctured = puncture.Some R7_8 }
-figures Tc8psk2_3 = record { word = 7; modulation = Tc8psk; rate = ratio 2 3; efficiency = ratio 2 1; slot_unit = unit 1 1; steps = slot_bits / 2; punctured = puncture.None }
+figures Bpsk1_2 = record { word = 1; modulation = Bpsk; rate = ratio 1 2; efficiency = ratio 1 2; slot_unit = unit 4 1; steps = slot_bits; punctured = None }
+figures Qpsk1_2 = record { word = 2; modulation = Qpsk; rate = ratio 1 2; efficiency = ratio 2 2; slot_unit = unit 2 1; steps = slot_bits; punctured = None }
+figures Qpsk2_3 = record { word = 3; modulation = Qpsk; rate = ratio 2 3; efficiency = ratio 4 3; slot_unit = unit 3 2; steps = slot_bits; punctured = Some R2_3 }
+figures Qpsk3_4 = record { word = 4; modulation = Qpsk; rate = ratio 3 4; efficiency = ratio 6 4; slot_unit = unit 4 3; steps = slot_bits; punctured = Some R3_4 }
+figures Qpsk5_6 = record { word = 5; modulation = Qpsk; rate = ratio 5 6; efficiency = ratio 10 6; slot_unit = unit 6 5; steps = slot_bits; punctured = Some R5_6 }
+figures Qpsk7_8 = record { word = 6; modulation = Qpsk; rate = ratio 7 8; efficiency = ratio 14 8; slot_unit = unit 8 7; steps = slot_bits; punctured = Some R7_8 }
+figures Tc8psk2_3 = record { word = 7; modulation = Tc8psk; rate = ratio 2 3; efficiency = ratio 2 1; slot_unit = unit 1 1; steps = slot_bits / 2; punctured = None }
 
 abbrev pub word_of : Combination → ℕ
 word_of c = (figures c).word
@@ -106,7 +102,7 @@ unit_of c = (figures c).slot_unit
 abbrev pub slot_steps : Combination → ℕ
 slot_steps c = (figures c).steps
 
-abbrev pub puncture_of : Combination → MaybePuncture
+abbrev pub puncture_of : Combination → Option Puncture
 puncture_of c = (figures c).punctured
 
 -- the word that a meaning has
@@ -164,15 +160,15 @@ abbrev pub four_pairs : Puncture → BitPairs
 four_pairs p = record { count = length (pairs_of p); pairs = padded 4 (pair 0 0) (pairs_of p) }
 
 -- a period of a combination: as many steps as symbols carry whole. Unpunctured, a step is a period: BPSK sends X then Y, QPSK and TC8PSK one symbol
-abbrev pub period_steps : MaybePuncture → ℕ
-period_steps (puncture.Some p) = period_of p
-period_steps puncture.None = 1
+abbrev pub period_steps : Option Puncture → ℕ
+period_steps (Some p) = period_of p
+period_steps None = 1
 
-abbrev pub period_symbols : MaybePuncture → Modulation → ℕ
-period_symbols (puncture.Some p) m = length (pairs_of p)
-period_symbols puncture.None Bpsk = 2
-period_symbols puncture.None Qpsk = 1
-period_symbols puncture.None Tc8psk = 1
+abbrev pub period_symbols : Option Puncture → Modulation → ℕ
+period_symbols (Some p) m = length (pairs_of p)
+period_symbols None Bpsk = 2
+period_symbols None Qpsk = 1
+period_symbols None Tc8psk = 1
 
 -- information bits of a step: TC8PSK takes C2 uncoded besides the coded bit
 abbrev pub step_bits : Modulation → ℕ

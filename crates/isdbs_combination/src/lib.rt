@@ -56,13 +56,6 @@ pub enum CombinationWord {
     Reserved(u8),
 }
 
-// A combination or none.
-#[derive(Clone, Copy)]
-pub enum MaybeCombination {
-    Some(Combination),
-    None,
-}
-
 // The punctured codes of QPSK (BO.1408-1, Table 2).
 #[derive(Clone, Copy)]
 pub enum Puncture {
@@ -70,13 +63,6 @@ pub enum Puncture {
     R3_4,
     R5_6,
     R7_8,
-}
-
-// A punctured code or none.
-#[derive(Clone, Copy)]
-pub enum MaybePuncture {
-    Some(Puncture),
-    None,
 }
 
 // num / den.
@@ -136,13 +122,13 @@ impl CombinationWord {
         }
     }
 
-    pub fn combination(self) -> MaybeCombination
+    pub fn combination(self) -> Option<Combination>
         ensures { result ≡ assigned_of self }
     {
         match self {
-            CombinationWord::Assigned(c) => MaybeCombination::Some(c),
-            CombinationWord::Dummy => MaybeCombination::None,
-            CombinationWord::Reserved(_) => MaybeCombination::None,
+            CombinationWord::Assigned(c) => Some(c),
+            CombinationWord::Dummy => None,
+            CombinationWord::Reserved(_) => None,
         }
     }
 }
@@ -164,18 +150,18 @@ impl Combination {
     }
 
     // By the whole byte.
-    pub fn from_word(w: u8) -> MaybeCombination
+    pub fn from_word(w: u8) -> Option<Combination>
         ensures { result ≡ combination_of w }
     {
         match w {
-            1 => MaybeCombination::Some(Combination::Bpsk1_2),
-            2 => MaybeCombination::Some(Combination::Qpsk1_2),
-            3 => MaybeCombination::Some(Combination::Qpsk2_3),
-            4 => MaybeCombination::Some(Combination::Qpsk3_4),
-            5 => MaybeCombination::Some(Combination::Qpsk5_6),
-            6 => MaybeCombination::Some(Combination::Qpsk7_8),
-            7 => MaybeCombination::Some(Combination::Tc8psk2_3),
-            _ => MaybeCombination::None,
+            1 => Some(Combination::Bpsk1_2),
+            2 => Some(Combination::Qpsk1_2),
+            3 => Some(Combination::Qpsk2_3),
+            4 => Some(Combination::Qpsk3_4),
+            5 => Some(Combination::Qpsk5_6),
+            6 => Some(Combination::Qpsk7_8),
+            7 => Some(Combination::Tc8psk2_3),
+            _ => None,
         }
     }
 
@@ -288,17 +274,17 @@ impl Combination {
     }
 
     // The punctured code (Table 2); none at rate 1/2 and for the coded bit of TC8PSK.
-    pub fn puncturing(self) -> MaybePuncture
+    pub fn puncturing(self) -> Option<Puncture>
         ensures { result ≡ puncture_of self }
     {
         match self {
-            Combination::Bpsk1_2 => MaybePuncture::None,
-            Combination::Qpsk1_2 => MaybePuncture::None,
-            Combination::Qpsk2_3 => MaybePuncture::Some(Puncture::R2_3),
-            Combination::Qpsk3_4 => MaybePuncture::Some(Puncture::R3_4),
-            Combination::Qpsk5_6 => MaybePuncture::Some(Puncture::R5_6),
-            Combination::Qpsk7_8 => MaybePuncture::Some(Puncture::R7_8),
-            Combination::Tc8psk2_3 => MaybePuncture::None,
+            Combination::Bpsk1_2 => None,
+            Combination::Qpsk1_2 => None,
+            Combination::Qpsk2_3 => Some(Puncture::R2_3),
+            Combination::Qpsk3_4 => Some(Puncture::R3_4),
+            Combination::Qpsk5_6 => Some(Puncture::R5_6),
+            Combination::Qpsk7_8 => Some(Puncture::R7_8),
+            Combination::Tc8psk2_3 => None,
         }
     }
 }

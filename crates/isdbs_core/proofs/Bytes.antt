@@ -9,8 +9,7 @@ use borrow.Author.Tests.{leb-true, ltb-true}
 use Rattle.isdbs_plan.specs.declared.Run.{Run}
 use Rattle.isdbs_frame.specs.Frame.{slot_bytes}
 use Rattle.isdbs_marks.specs.Marks.{marked}
-use Rattle.isdbs_core.specs.declared.slots.SlotByte.{SlotByte}
-use Rattle.isdbs_core.specs.declared.slots.SlotByte.TheVariants.{Nothing}
+use Rattle.std.specs.Prelude.{Option, None}
 use Rattle.isdbs_core.specs.Symbols.{has_slot, run_byte, byte_in}
 
 two : (a b : Bool) → a && b ≡ true → (a ≡ true) × (b ≡ true)
@@ -24,18 +23,18 @@ has_in r slot b e h =
     (leb-true r.slot_start slot w.0, ltb-true slot r.slot_end w.1)
 
 -- a byte that a slot has not is nowhere
-unmarked : (m l : Bool) (x : SlotByte) → l ≡ false → cond (m && l) x Nothing ≡ Nothing
+unmarked : (m l : Bool) (x : Option ℕ) → l ≡ false → cond (m && l) x None ≡ None
 unmarked true l x e = rw e
 unmarked false l x e = refl
 
-nowhere : (b : Bool) (x y : SlotByte) → x ≡ Nothing → y ≡ Nothing → cond b x y ≡ Nothing
+nowhere : (b : Bool) (x y : Option ℕ) → x ≡ None → y ≡ None → cond b x y ≡ None
 nowhere true x y e f = e
 nowhere false x y e f = f
 
-run_none : (r : Run) (k byte : ℕ) → ltb byte slot_bytes ≡ false → run_byte r k byte ≡ Nothing
+run_none : (r : Run) (k byte : ℕ) → ltb byte slot_bytes ≡ false → run_byte r k byte ≡ None
 run_none r k byte e = unmarked (marked r.combination k) (ltb byte slot_bytes) _ e
 
-pub byte_none : (rs : List Run) (slot byte : ℕ) → ltb byte slot_bytes ≡ false → byte_in rs slot byte ≡ Nothing
+pub byte_none : (rs : List Run) (slot byte : ℕ) → ltb byte slot_bytes ≡ false → byte_in rs slot byte ≡ None
 unfolding byte_in
 byte_none [] slot byte e = refl
 byte_none (r ∷ rs) slot byte e =

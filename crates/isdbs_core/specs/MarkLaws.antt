@@ -1,9 +1,7 @@
 -- The marked slots of an accepted table are as many as its valid slots.
-use Rattle.std.specs.Prelude.{◌≡◌, refl, Bool, true, false, cond, List, [], ◌∷◌, ◌++◌, ℕ, zero, suc, ◌+◌, ◌-◌, ◌≤◌, ◌<◌}
+use Rattle.std.specs.Prelude.{◌≡◌, refl, Bool, true, false, cond, List, [], ◌∷◌, ◌++◌, ℕ, zero, suc, ◌+◌, ◌-◌, ◌≤◌, ◌<◌, Option, Some, None}
 use Rattle.std.proofs.Common.{sym, ◌∙◌, ap, arith, lt-ltb, le-ltb}
 use Rattle.isdbs_combination.specs.declared.Combination.{Combination}
-use Rattle.isdbs_combination.specs.declared.MaybeCombination.{MaybeCombination}
-use Rattle.isdbs_combination.specs.declared.MaybeCombination.TheVariants.{Some, None}
 use Rattle.isdbs_tables.specs.declared.Entry.{Entry}
 use Rattle.isdbs_tables.specs.declared.Table as declared
 use Rattle.isdbs_marks.specs.declared.SlotMark.{SlotMark}
@@ -19,7 +17,7 @@ use Rattle.isdbs_core.specs.Symbols.{marked_before}
 use Rattle.isdbs_core.specs.SymbolLaws.{marked_whole}
 use Rattle.isdbs_combination.specs.Combinations.{frame_slots}
 
-abbrev pub one : MaybeCombination → ℕ
+abbrev pub one : Option Combination → ℕ
 one (Some c) = 1
 one None = 0
 
@@ -29,7 +27,7 @@ marks_in [] = 0
 marks_in (m ∷ ms) = one m.mark + marks_in ms
 
 -- how many of the first n slots are, where f says each slot's mark
-unfoldable count : (ℕ → MaybeCombination) → ℕ → ℕ
+unfoldable count : (ℕ → Option Combination) → ℕ → ℕ
 count f zero = 0
 count f (suc n) = count f n + one (f n)
 
@@ -38,22 +36,22 @@ unfolding marks_in
 marks_more [] m = omega arith
 marks_more (x ∷ ms) m = let e = marks_more ms m in omega arith
 
-marks_table : (f : ℕ → MaybeCombination) (n : ℕ) → marks_in (upto (λ s. mark (f s)) n) ≡ count f n
+marks_table : (f : ℕ → Option Combination) (n : ℕ) → marks_in (upto (λ s. mark (f s)) n) ≡ count f n
 unfolding marks_in count upto
 marks_table f zero = refl
 marks_table f (suc n) = let e = marks_table f n in let m = marks_more (upto (λ s. mark (f s)) n) (mark (f n)) in omega arith
 
-count_alike : (f g : ℕ → MaybeCombination) (n : ℕ) → ((k : ℕ) → k < n → f k ≡ g k) → count f n ≡ count g n
+count_alike : (f g : ℕ → Option Combination) (n : ℕ) → ((k : ℕ) → k < n → f k ≡ g k) → count f n ≡ count g n
 unfolding count
 count_alike f g zero h = refl
 count_alike f g (suc n) h = rw (count_alike f g n (λ k l. h k (omega arith)), h n (omega arith))
 
-count_none : (f : ℕ → MaybeCombination) (n : ℕ) → ((k : ℕ) → f k ≡ None) → count f n ≡ 0
+count_none : (f : ℕ → Option Combination) (n : ℕ) → ((k : ℕ) → f k ≡ None) → count f n ≡ 0
 unfolding count
 count_none f zero h = refl
 count_none f (suc n) h = let e = count_none f n h in let z : one (f n) ≡ 0 = ap one (h n) in omega arith
 
-count_split : (f g h : ℕ → MaybeCombination) (n m : ℕ) → ((k : ℕ) → k < n → f k ≡ g k) → ((k : ℕ) → f (n + k) ≡ h k) → count f (n + m) ≡ count g n + count h m
+count_split : (f g h : ℕ → Option Combination) (n m : ℕ) → ((k : ℕ) → k < n → f k ≡ g k) → ((k : ℕ) → f (n + k) ≡ h k) → count f (n + m) ≡ count g n + count h m
 unfolding count
 count_split f g h n zero a b = let e : n + 0 ≡ n = omega arith in let z = count_alike f g n a in rw e (omega arith)
 count_split f g h n (suc m) a b =
@@ -71,7 +69,7 @@ count_marked c (suc n) = by (marked c n) (count (mark_in (Some c)) n) (marked_be
     by true x y e = omega arith
     by false x y e = omega arith
 
-entry_marked : (m : MaybeCombination) (n slot symbol : ℕ) (rs : List Run) (k : ℕ) → unfilled m n ≡ false → k ≡ valid_in rs → count (mark_in m) n + k ≡ valid_in (entry_runs m n slot symbol ++ rs)
+entry_marked : (m : Option Combination) (n slot symbol : ℕ) (rs : List Run) (k : ℕ) → unfilled m n ≡ false → k ≡ valid_in rs → count (mark_in m) n + k ≡ valid_in (entry_runs m n slot symbol ++ rs)
 unfolding valid_in
 entry_marked (Some c) n slot symbol rs k w e =
     rw (count_marked c n, marked_whole c n (no_part c n w), e)

@@ -1,17 +1,15 @@
 -- Laws of bits and bytes in a run.
-use Rattle.std.specs.Prelude.{◌≡◌, refl, Bool, true, false, cond, List, [], ◌∷◌, ◌++◌, ℕ, zero, suc, ◌+◌, ◌-◌, ◌*◌, ◌/◌, ◌%◌, ◌≤◌, ◌<◌, ltb, length, get_or, drop, replicate}
+use Rattle.std.specs.Prelude.{◌≡◌, refl, Bool, true, false, cond, List, [], ◌∷◌, ◌++◌, ℕ, zero, suc, ◌+◌, ◌-◌, ◌*◌, ◌/◌, ◌%◌, ◌≤◌, ◌<◌, ltb, length, get_or, drop, replicate, Option, None, Ok, Err}
 use Rattle.std.proofs.Common.{◌∙◌, arith, add-one, lit<, ltb-true, ltb-false, drop_of_length-le, drop-cons}
 use Rattle.std.proofs.Math.Dec.{leb-zero, leb-suc-zero}
-use Rattle.refusal.specs.declared.Answer.{Answer}
-use Rattle.refusal.specs.Rows.{number_of, accepted, Said}
+use Rattle.refusal.specs.Rows.{Answer, answered, number_of, accepted, Said}
+use Rattle.refusal.proofs.RowLaws.{err_refuses, is_refused}
 use Rattle.isdbs_combination.specs.declared.Combination.{Combination}
 use Rattle.isdbs_combination.specs.declared.Combination.TheVariants.{Bpsk1_2, Qpsk1_2, Qpsk2_3, Qpsk3_4, Qpsk5_6, Qpsk7_8, Tc8psk2_3}
 use Rattle.isdbs_combination.specs.declared.Puncture.{Puncture}
 use Rattle.isdbs_combination.specs.declared.Puncture.TheVariants.{R2_3, R3_4, R5_6, R7_8}
 use Rattle.isdbs_combination.specs.declared.BitPair.{BitPair}
 use Rattle.isdbs_plan.specs.declared.Run.{Run}
-use Rattle.isdbs_core.specs.declared.slots.SlotByte.{SlotByte}
-use Rattle.isdbs_core.specs.declared.slots.SlotByte.TheVariants.{Nothing, Refused}
 use Rattle.trellis.specs.Lists.{padded}
 use Rattle.isdbs_combination.specs.Combinations.{pairs_of, period_of, unit_of, slot_bits, slot_symbols}
 use Rattle.isdbs_tables.specs.declared.Table.{Table}
@@ -185,15 +183,15 @@ pub byte_more : (rs : List Run) (i slot byte : ℕ) (d : Run) → i < length rs 
 unfolding byte_in
 byte_more rs i slot byte d h = rw (add-one i, drop-cons rs i d h)
 
-pub byte_end : (rs : List Run) (i slot byte : ℕ) → length rs ≤ i → byte_in (drop i rs) slot byte ≡ Nothing
+pub byte_end : (rs : List Run) (i slot byte : ℕ) → length rs ≤ i → byte_in (drop i rs) slot byte ≡ None
 unfolding byte_in
 byte_end rs i slot byte h = rw (drop_of_length-le rs h)
 
 -- the run past the count has no slot
-skipped : (slot byte : ℕ) (x : SlotByte) → cond (has_slot no_run slot) (run_byte no_run (slot - 0) byte) x ≡ x
+skipped : (slot byte : ℕ) (x : Option ℕ) → cond (has_slot no_run slot) (run_byte no_run (slot - 0) byte) x ≡ x
 skipped slot byte x = rw (leb-zero slot, leb-suc-zero slot)
 
-no_slot : (n slot byte : ℕ) → byte_in (replicate n no_run) slot byte ≡ Nothing
+no_slot : (n slot byte : ℕ) → byte_in (replicate n no_run) slot byte ≡ None
 unfolding byte_in
 no_slot zero slot byte = refl
 no_slot (suc n) slot byte = skipped slot byte (byte_in (replicate n no_run) slot byte) ∙ no_slot n slot byte
@@ -207,9 +205,9 @@ pub byte_padded : (n : ℕ) (rs : List Run) (slot byte : ℕ) → byte_in (padde
 byte_padded n rs slot byte = byte_append rs (n - length rs) slot byte
 
 -- ---- document 01's number and values of a slot's byte: 0 and the place, 0 and none, or the table's row and none
-said_by : (b : Bool) (x : SlotByte) (a : Answer) → byte_said (cond b x (Refused a)) ≡ cond {A = Said} b (byte_said x) (number_of a, [])
-said_by true x a = refl
-said_by false x a = refl
+said_by : (a : Answer) (x : Option ℕ) → byte_said (answered a x) ≡ cond {A = Said} (accepted a) (byte_said (Ok x)) (number_of a, [])
+said_by (Ok _) x = refl
+said_by (Err row) x = rw (is_refused (Err row) err_refuses)
 
 pub byte_said_lem : (t : Table) (slot byte : ℕ) → byte_said (slot_byte_symbol t slot byte) ≡ slot_byte_said t slot byte
-byte_said_lem t slot byte = said_by (accepted (table_answer t)) (byte_in (runs_of t) slot byte) (table_answer t)
+byte_said_lem t slot byte = said_by (table_answer t) (byte_in (runs_of t) slot byte)

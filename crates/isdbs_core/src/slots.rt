@@ -10,13 +10,13 @@ ghost use Rattle.isdbs_core.specs.Answers.{byte_said};
 ghost use Rattle.isdbs_frame.specs.Frame.{slot_bytes};
 
 pub use isdbs_combination::SLOT_BITS;
-use isdbs_combination::{BitPair, Combination, MaybePuncture, Puncture};
-use isdbs_frame::{Position, SLOT_BYTES, main_place};
+use isdbs_combination::{BitPair, Combination, Puncture};
+use isdbs_frame::{SLOT_BYTES, main_place};
 use isdbs_marks::is_marked;
-pub use isdbs_plan::{FrameRuns, NO_RUN, Plan, Run, runs};
+pub use isdbs_plan::{FrameRuns, NO_RUN, NO_RUNS, Plan, Run, runs};
 pub use isdbs_slot_part::{slot_part, slot_part_answer};
 use isdbs_tables::Table;
-use refusal::Answer;
+use refusal::Refusal;
 
 // The last information bit that has a position (document 01, refusal 2: "bit above 1,000,000").
 pub const LAST_BIT: usize = 1_000_000;
@@ -54,12 +54,12 @@ fn symbol_of_bit(c: Combination, b: usize) -> usize
     ensures { result ≡ symbol_of_bit c b }
 {
     match c.puncturing() {
-        MaybePuncture::Some(p) => {
+        Some(p) => {
             let period = p.period();
             let all = p.pairs();
             (b / period) * all.count + first_pair(p, b % period)
         }
-        MaybePuncture::None => {
+        None => {
             let e = c.efficiency();
             b * e.den / e.num
         }
@@ -67,22 +67,14 @@ fn symbol_of_bit(c: Combination, b: usize) -> usize
 }
 
 // The symbol, counted from the start of a run, that carries the first coded bit of the run's information bit b.
-pub fn bit_symbol(c: Combination, b: usize) -> Position
+pub fn bit_symbol(c: Combination, b: usize) -> Result<usize, Refusal>
     ensures { position_said result ≡ bit_symbol c b }
 {
     if b > LAST_BIT {
-        Position::Refused(Answer::Position)
+        Err(Refusal::Position)
     } else {
-        Position::At(symbol_of_bit(c, b))
+        Ok(symbol_of_bit(c, b))
     }
-}
-
-// Where a byte of a slot starts in the frame; nothing for a slot that is not sent or a byte that a slot has not.
-#[derive(Clone, Copy)]
-pub enum SlotByte {
-    At(usize),
-    Nothing,
-    Refused(Answer),
 }
 
 // The marked slots of a run before its slot k.
@@ -99,16 +91,16 @@ fn marked_before(c: Combination, k: usize) -> usize
 }
 
 // Byte of slot k of a run.
-fn run_byte(r: Run, k: usize, byte: usize) -> SlotByte
+fn run_byte(r: Run, k: usize, byte: usize) -> Option<usize>
     requires { (r.slot_start + k < r.slot_end) × RunFits r × Whole r × (byte < slot_bytes) }
     ensures { result ≡ run_byte r k byte }
 {
     let c = r.combination;
     if is_marked(c, k) {
         let m = r.symbol_start + symbol_of_bit(c, marked_before(c, k) * SLOT_BITS + 8 * byte);
-        return SlotByte::At(main_place(m));
+        return Some(main_place(m));
     }
-    SlotByte::Nothing
+    None
 }
 
 // Whether a run has a slot.
@@ -119,7 +111,7 @@ fn has_slot(r: Run, slot: usize) -> bool
 }
 
 // Byte of a slot, in the run that has the slot.
-fn byte_in(runs: [Run; 4], slot: usize, byte: usize) -> SlotByte
+fn byte_in(runs: [Run; 4], slot: usize, byte: usize) -> Option<usize>
     requires { Each RunFits runs × Each Whole runs × (byte < slot_bytes) }
     ensures { result ≡ byte_in runs slot byte }
 {
@@ -129,22 +121,18 @@ fn byte_in(runs: [Run; 4], slot: usize, byte: usize) -> SlotByte
             return run_byte(r, slot - r.slot_start, byte);
         }
     }
-    SlotByte::Nothing
+    None
 }
 
-// Symbol within the frame at which byte `byte` of slot `slot` starts.
-pub fn slot_byte_symbol(t: Table, slot: usize, byte: usize) -> SlotByte
+// Symbol within the frame at which byte `byte` of slot `slot` starts; none for a slot that is not sent or a byte that a slot has not.
+pub fn slot_byte_symbol(t: Table, slot: usize, byte: usize) -> Result<Option<usize>, Refusal>
     ensures is { result ≡ slot_byte_symbol t slot byte }
     ensures said { byte_said result ≡ slot_byte_said t slot byte }
 {
-    let all = runs(t);
-    let answer = all.answer;
-    let Answer::Accepted = answer else {
-        return SlotByte::Refused(answer);
-    };
+    let all = runs(t)?;
     if byte >= SLOT_BYTES {
-        return SlotByte::Nothing;
+        return Ok(None);
     }
     let rs = all.runs;
-    byte_in(rs, slot, byte)
+    Ok(byte_in(rs, slot, byte))
 }

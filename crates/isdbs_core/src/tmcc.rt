@@ -1,3 +1,3 @@
 // The table record of the TMCC information, and the combination of each slot.
-pub use isdbs_marks::{SlotMark, SlotMarks, slot_combinations};
+pub use isdbs_marks::{SlotMark, slot_combinations};
 pub use isdbs_tables::{CM, DUMMY, Entry, Table, table_answer};

@@ -1,9 +1,8 @@
 -- Document 01's number and values for each case of a position.
-use Rattle.std.specs.Prelude.{[], ◌∷◌}
+use Rattle.std.specs.Prelude.{[], ◌∷◌, ℕ, Result, Ok, Err}
+use Rattle.refusal.specs.declared.Refusal.{Refusal}
 use Rattle.refusal.specs.Rows.{number_of, Said}
-use Rattle.isdbs_frame.specs.declared.Position.{Position}
-use Rattle.isdbs_frame.specs.declared.Position.TheVariants.{At, Refused}
 
-abbrev pub position_said : Position → Said
-position_said (At p) = (0, p ∷ [])
-position_said (Refused a) = (number_of a, [])
+abbrev pub position_said : Result ℕ Refusal → Said
+position_said (Ok p) = (0, p ∷ [])
+position_said (Err row) = (number_of (Err row), [])

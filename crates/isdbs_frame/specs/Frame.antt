@@ -1,8 +1,7 @@
 -- The frame: a header of 192 symbols, then 192 times 203 main-signal symbols and a burst of 4. Document 01, P1 and its examples; for the numbers the Rust cites ITU-R BO.1408-1, Appendix 1,
 -- Table 3, and section 7 (bursts), for the layout MIC Ordinance No. 87 of 2011, annexed tables 45, 50 and 51.
 use Rattle.std.specs.Prelude.{cond, ◌||◌, List, [], ◌∷◌, ℕ, ◌+◌, ◌-◌, ◌*◌, ◌/◌, ◌%◌, ◌^◌, leb, ltb}
-use Rattle.refusal.specs.declared.Answer.TheVariants.{Position}
-use Rattle.refusal.specs.Rows.{Row, first_row, Said, says}
+use Rattle.refusal.specs.Rows.{Position, Row, first_row, Said, says}
 use Rattle.trellis.specs.Lists.{upto}
 
 -- a header; 192 stretches of 203 main-signal symbols, each with a burst of 4 symbols behind it

@@ -11,7 +11,7 @@ ghost use Rattle.isdbs_frame.specs.Answers.{position_said};
 ghost use Rattle.isdbs_frame.specs.Frame.{main_symbols, main, place_of, main_symbol_position, burst_symbol_position, high_first};
 
 use isdbs_combination::FRAME_SLOTS;
-use refusal::Answer;
+use refusal::Refusal;
 use trellis::LONGEST_FRAME;
 
 // Slots per frame, N (Table 3 item 1).
@@ -71,13 +71,6 @@ pub const W1_TAIL_AT: usize = 12;
 
 pub const W23_TAIL_AT: usize = 172;
 
-// A position, or why there is none.
-#[derive(Clone, Copy)]
-pub enum Position {
-    At(usize),
-    Refused(Answer),
-}
-
 // Symbol index within a frame of a main-signal symbol.
 pub fn main_place(k: usize) -> usize
     requires { k < main_symbols }
@@ -87,28 +80,26 @@ pub fn main_place(k: usize) -> usize
 }
 
 // Symbol index within a frame of main-signal symbol k.
-pub fn main_symbol_position(k: usize) -> Position
+pub fn main_symbol_position(k: usize) -> Result<usize, Refusal>
     ensures { position_said result ≡ main_symbol_position k }
 {
     if k < MAIN_SYMBOLS {
-        Position::At(main_place(k))
+        Ok(main_place(k))
     } else {
-        Position::Refused(Answer::Position)
+        Err(Refusal::Position)
     }
 }
 
 // Symbol index within a frame of symbol j of burst b.
-pub fn burst_symbol_position(b: usize, j: usize) -> Position
+pub fn burst_symbol_position(b: usize, j: usize) -> Result<usize, Refusal>
     ensures { position_said result ≡ burst_symbol_position b j }
 {
     if b < BURSTS {
         if j < BURST_SYMBOLS {
-            return Position::At(
-                HEADER_SYMBOLS + b * (BURST_PERIOD + BURST_SYMBOLS) + BURST_PERIOD + j,
-            );
+            return Ok(HEADER_SYMBOLS + b * (BURST_PERIOD + BURST_SYMBOLS) + BURST_PERIOD + j);
         }
     }
-    Position::Refused(Answer::Position)
+    Err(Refusal::Position)
 }
 
 // The low 20 bits of tail, high bit first, one in each byte.

@@ -5,7 +5,7 @@ use mathlib.Core.List.{List}
 use Prim.Native.Nat.{ℕ, ◌+◌, ◌-◌, ◌≤◌, ◌<◌}
 use lib.Dec.{ltb}
 use lib.ListN.{length, get_or, drop, drop_of_length-le}
-use Rattle.isdbs_combination.specs.declared.MaybeCombination.TheVariants.{None}
+use Rattle.std.specs.Prelude.{None}
 use Rattle.isdbs_tables.specs.declared.Entry.{Entry}
 use Rattle.isdbs_tables.specs.Tables.{entry_combination}
 use Rattle.isdbs_tables.proofs.EntryLaws.{no_entry, next}

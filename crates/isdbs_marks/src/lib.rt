@@ -6,21 +6,14 @@ ghost use Rattle.isdbs_tables.specs.Tables.{entry_combination};
 ghost use Rattle.isdbs_marks.specs.Marks.{marked, mark_in, mark_at, mark, marks_of, slot_marks};
 ghost use Rattle.isdbs_combination.specs.Combinations.{frame_slots};
 
-use isdbs_combination::{Combination, FRAME_SLOTS, MaybeCombination};
+use isdbs_combination::{Combination, FRAME_SLOTS};
 use isdbs_tables::{Entry, Table, table_answer};
-use refusal::Answer;
+use refusal::Refusal;
 
 // The mark of a slot.
 #[derive(Clone, Copy)]
 pub struct SlotMark {
-    pub mark: MaybeCombination,
-}
-
-// The marks of a frame's slots.
-#[derive(Clone, Copy)]
-pub struct SlotMarks {
-    pub answer: Answer,
-    pub slots: [SlotMark; FRAME_SLOTS],
+    pub mark: Option<Combination>,
 }
 
 // Whether place k of an entry is marked.
@@ -32,23 +25,17 @@ pub fn is_marked(c: Combination, k: usize) -> bool
 }
 
 // The mark of place k of an entry.
-fn mark_in(e: Entry, k: usize) -> MaybeCombination
+fn mark_in(e: Entry, k: usize) -> Option<Combination>
     ensures { result ≡ mark_in (entry_combination e) k }
 {
     match e.combination() {
-        MaybeCombination::Some(c) => {
-            if is_marked(c, k) {
-                MaybeCombination::Some(c)
-            } else {
-                MaybeCombination::None
-            }
-        }
-        MaybeCombination::None => MaybeCombination::None,
+        Some(c) => { if is_marked(c, k) { Some(c) } else { None } }
+        None => None,
     }
 }
 
 // The mark of slot s.
-fn mark_at(t: Table, s: usize) -> MaybeCombination
+fn mark_at(t: Table, s: usize) -> Option<Combination>
     ensures { result ≡ mark_at t.entries s }
 {
     let mut k = s;
@@ -60,16 +47,14 @@ fn mark_at(t: Table, s: usize) -> MaybeCombination
         }
         k -= n;
     }
-    MaybeCombination::None
+    None
 }
 
 // No slot marked.
 fn no_marks() -> [SlotMark; FRAME_SLOTS]
-    ensures { result ≡ replicate frame_slots (mark MaybeCombination.None) }
+    ensures { result ≡ replicate frame_slots (mark None) }
 {
-    [SlotMark {
-        mark: MaybeCombination::None,
-    }; FRAME_SLOTS]
+    [SlotMark { mark: None }; FRAME_SLOTS]
 }
 
 // The marks of the slots of any table.
@@ -85,14 +70,9 @@ fn marks(t: Table) -> [SlotMark; FRAME_SLOTS]
 }
 
 // The combination of each of the 48 slots, by its place in its unit.
-pub fn slot_combinations(t: Table) -> SlotMarks
+pub fn slot_combinations(t: Table) -> Result<[SlotMark; FRAME_SLOTS], Refusal>
     ensures { result ≡ slot_marks t }
 {
-    let answer = table_answer(t);
-    let Answer::Accepted = answer else {
-        let slots = no_marks();
-        return SlotMarks { answer, slots };
-    };
-    let slots = marks(t);
-    SlotMarks { answer, slots }
+    table_answer(t)?;
+    Ok(marks(t))
 }

@@ -2,6 +2,8 @@
 use Rattle.std.specs.Prelude.{◌≡◌, refl, List, [], ◌∷◌, ◌++◌, ℕ, zero, suc, ◌+◌, ◌-◌, ◌*◌, ◌<◌, ◌≤◌, ◌^◌, length, get_or, take, drop, replicate, Float}
 use Rattle.std.proofs.Common.{sym, ◌∙◌, ap, arith, add-one, length-drop, take_at, take_all}
 use Rattle.std.proofs.Math.Seq.{take-length}
+use Rattle.std.proofs.lemmas.List.{take-take}
+use Rattle.std.proofs.Common.{le_refl}
 use Rattle.isdbs_combination.specs.declared.Combination.{Combination}
 use Rattle.isdbs_combination.specs.declared.Combination.TheVariants.{Bpsk1_2, Qpsk1_2, Qpsk2_3, Qpsk3_4, Qpsk5_6, Qpsk7_8, Tc8psk2_3}
 use Rattle.isdbs_plan.specs.declared.Run.{Run}
@@ -70,6 +72,30 @@ listed_runs p h =
         fits = λ i. rw (at i) (each_any RunFits rs i (record { slots = omega arith; starts = omega arith; ends = omega arith }) l.fit);
       };
     }
+
+-- the runs that the code walks: those before `count`
+taken_runs : {t : Table} {count : ℕ} {list : List Run} → Listed t count list → Listed t count (take count list)
+taken_runs {t} {count} {list} l =
+    let r = l.runs in
+    let e : take count (take count list) ≡ take count list = take-take count count list (le_refl count) in
+    record {
+      listed = e ∙ l.listed;
+      runs = record {
+        few = r.few;
+        steps = rw e r.steps;
+        valid = rw e r.valid;
+        counted = rw e r.counted;
+        at = λ i. rw e refl;
+        whole = λ i. rw (← r.at i) (r.whole i);
+        fits = λ i. rw (← r.at i) (r.fits i);
+      };
+    }
+
+pub walked_runs : (p : Plan) → Planned p → Listed p.table p.count (take p.count p.runs)
+walked_runs p h = taken_runs (listed_runs p h)
+
+pub walked_count : (p : Plan) → Planned p → length (take p.count p.runs) ≡ p.count
+walked_count p h = (listed_runs p h).runs.counted
 
 -- the points of a run are enough for its steps
 covers_by : (c : Combination) (steps symbols periods n : ℕ) → steps ≡ periods * period_steps (puncture_of c) → symbols ≡ periods * period_symbols (puncture_of c) (modulation_of c)

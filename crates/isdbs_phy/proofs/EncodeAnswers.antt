@@ -4,9 +4,7 @@ use mathlib.Core.Bool.{false}
 use mathlib.Core.List.{List, [], ◌∷◌}
 use Prim.Native.Nat.{ℕ}
 use lib.Dec.{ltb}
-use Rattle.refusal.specs.declared.Answer.{Answer}
-use Rattle.refusal.specs.declared.Answer.TheVariants.{Accepted, State, Space}
-use Rattle.refusal.specs.Rows.{Row, first_row}
+use Rattle.refusal.specs.Rows.{Answer, Accepted, State, Space, Row, first_row}
 use Rattle.refusal.proofs.RowLaws.{neither, passed, row_false}
 use Rattle.isdbs_tables.specs.declared.Table.{Table}
 use Rattle.isdbs_tables.specs.Tables.{table_rows, TableAccepted}

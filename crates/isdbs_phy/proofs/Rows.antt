@@ -7,12 +7,11 @@ use lib.Dec.{ltb}
 use lib.ListN.{length}
 use lib.Ieee.{Float}
 use borrow.Author.Tests.{ltb-false}
-use Rattle.refusal.specs.Rows.{Row, first_row}
+use Rattle.refusal.specs.Rows.{Row, first_row, Answer, Accepted, Symbols, Space}
 use Rattle.refusal.proofs.RowLaws as row
-use Rattle.refusal.proofs.RowLaws.{neither, is_refused}
-use Rattle.refusal.specs.declared.Answer.{Answer}
-use Rattle.refusal.specs.declared.Answer.TheVariants.{Accepted, Symbols, Space}
-use Rattle.isdbs_phy.specs.declared.demod.FrameDecoded.TheVariants.{Refused}
+use Rattle.refusal.proofs.RowLaws.{neither, is_refused, err_refuses}
+use Rattle.std.specs.Prelude.{Err}
+use Rattle.refusal.specs.declared.Refusal.{Refusal}
 use Rattle.isdbs_tables.specs.declared.Table.{Table}
 use Rattle.isdbs_tables.specs.Tables.{TableAccepted}
 use Rattle.isdbs_tables.proofs.TableLaws.{then_accepted}
@@ -54,5 +53,5 @@ module _ (t : Table) (re im : List Float) (bad : Bool) (decisions bits bytes cou
       }
 
 -- a refusal's answer
-pub refused_answer : (a : Answer) (t : Table) (sum : ℕ) → (a ≡ Accepted → ⊥) → frame_said (Refused a) ≡ frame_answer a t sum
-refused_answer a t sum n = rw (is_refused a n)
+pub refused_answer : (row : Refusal) (t : Table) (sum : ℕ) → frame_said (Err row) ≡ frame_answer (Err row) t sum
+refused_answer row t sum = rw (is_refused (Err row) err_refuses)

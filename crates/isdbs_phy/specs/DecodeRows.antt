@@ -1,9 +1,8 @@
 -- The refusal rows of `decode_frame`, its answer, and what a call leaves. Document 01, "Where a call is turned back".
-use Rattle.std.specs.Prelude.{◌≡◌, Bool, List, [], ◌∷◌, ℕ}
-use Rattle.refusal.specs.Rows.{number_of, Said, says}
-use Rattle.refusal.specs.declared.Answer.{Answer}
+use Rattle.std.specs.Prelude.{◌≡◌, Bool, List, [], ◌∷◌, ℕ, Result, Ok, Err}
+use Rattle.refusal.specs.Rows.{number_of, Said, says, Answer}
 use Rattle.isdbs_phy.specs.declared.demod.FrameDecoded.{FrameDecoded}
-use Rattle.isdbs_phy.specs.declared.demod.FrameDecoded.TheVariants.{Decoded, Refused}
+use Rattle.refusal.specs.declared.Refusal.{Refusal}
 use Rattle.isdbs_tables.specs.declared.Table.{Table}
 use Rattle.isdbs_plan.specs.RunsOf.{frame_steps, load_bytes}
 use Rattle.trellis.specs.Lists.{laid}
@@ -15,9 +14,9 @@ unfoldable pub use Rattle.isdbs_rows.specs.DecodeRows.{some_of}
 pub use Rattle.isdbs_rows.specs.DecodeRows.{some_of_beyond, part_limit, scale_limit, bad_scale, some_bad, short_space, point_rows, last_rows, frame_rows, decode_rows, one_scale_rows}
 
 -- document 01's number and values for each case of its answer
-abbrev pub frame_said : FrameDecoded → Said
-frame_said (Decoded bytes steps strained) = (0, bytes ∷ steps ∷ strained ∷ [])
-frame_said (Refused a) = (number_of a, [])
+abbrev pub frame_said : Result FrameDecoded Refusal → Said
+frame_said (Ok d) = (0, d.bytes ∷ d.steps ∷ d.strained ∷ [])
+frame_said (Err row) = (number_of (Err row), [])
 
 -- what it says where the rows answer a: the bytes, the steps and the sum of the strained ones
 abbrev pub frame_answer : Answer → Table → ℕ → Said

@@ -14,8 +14,8 @@
 // metrics for each coded bit, then the 16 bits of the next frame's W1, which it knows, and puts out all bits. For each (C1, C0) the two points of TC8PSK
 // lie opposite each other: the metric is the magnitude of the correlation with the one of C2 = 0, and C2 is read from its sign once the bits are known,
 // which are encoded again for it.
-ghost use Rattle.std.specs.Prelude.{◌≡◌, length};
-ghost use Rattle.refusal.specs.Rows.{first_row, Either};
+ghost use Rattle.std.specs.Prelude.{◌≡◌, length, IfOk};
+ghost use Rattle.refusal.specs.Rows.{first_row, answer_of, Either};
 ghost use Rattle.isdbs_points.specs.Frame.{start_state, end_state};
 ghost use Rattle.isdbs_phy.specs.DecodeRows.{decode_rows, one_scale_rows, frame_said, frame_answer, Kept, FrameLeft};
 ghost use Rattle.isdbs_phy.specs.EncodeRows.{encode_rows, encode_frame_rows, PartsKept};
@@ -33,16 +33,9 @@ use isdbs_plan::plan_of;
 pub use isdbs_points::{Mapping, PART_LIMIT, psk8_point, qpsk_point, start_state, state_after};
 pub use isdbs_rows::SCALE_LIMIT;
 use isdbs_rows::{decode_answer, encode_answer};
-use refusal::Answer;
+use refusal::Refusal;
 
-// What encoding a frame answers: the encoder after the last bit, or as it was given.
-#[derive(Clone, Copy)]
-pub struct FrameEncoded {
-    pub answer: Answer,
-    pub enc: ConvEncoder,
-}
-
-// The 38,976 points of a frame from its bytes, 203 for each valid slot, with the encoder as it is handed.
+// The 38,976 points of a frame from its bytes, 203 for each valid slot, with the encoder as it is handed: the encoder after the last bit, or why the call is turned back.
 pub fn encode_frame_with_state(
     bytes: &[u8],
     t: Table,
@@ -50,22 +43,16 @@ pub fn encode_frame_with_state(
     m: Mapping,
     re: &mut [f64],
     im: &mut [f64],
-) -> FrameEncoded
-    ensures answers { result.answer ≡ first_row (encode_rows t enc.state (length re.old) (length im.old)) }
-    ensures state { Either result.answer (result.enc.state ≡ end_state t bytes.now enc.state) (result.enc ≡ enc) }
-    ensures frame { Either result.answer (FrameLaid t m bytes.now enc.state re.old re.new im.old im.new) (PartsKept re.old re.new im.old im.new) }
+) -> Result<ConvEncoder, Refusal>
+    ensures answers { answer_of result ≡ first_row (encode_rows t enc.state (length re.old) (length im.old)) }
+    ensures state { IfOk result (λ e. e.state ≡ end_state t bytes.now enc.state) }
+    ensures frame { Either (answer_of result) (FrameLaid t m bytes.now enc.state re.old re.new im.old im.new) (PartsKept re.old re.new im.old im.new) }
 {
     let state = enc.state;
-    let answer = encode_answer(t, state, re.len(), im.len());
-    let Answer::Accepted = answer else {
-        return FrameEncoded { answer, enc };
-    };
+    encode_answer(t, state, re.len(), im.len())?;
     let p = plan_of(t);
     let end = encode_main(p, bytes, state, m, re, im);
-    FrameEncoded {
-        answer,
-        enc: ConvEncoder { state: end },
-    }
+    Ok(ConvEncoder { state: end })
 }
 
 // The same from the start state of the frame's kind.
@@ -76,24 +63,25 @@ pub fn encode_frame(
     m: Mapping,
     re: &mut [f64],
     im: &mut [f64],
-) -> Answer
+) -> Result<(), Refusal>
     ensures answers { result ≡ first_row (encode_frame_rows t (length re.old) (length im.old)) }
     ensures frame { Either result (FrameLaid t m bytes.now (start_state first) re.old re.new im.old im.new) (PartsKept re.old re.new im.old im.new) }
 {
     let enc = ConvEncoder {
         state: start_state(first),
     };
-    let made = encode_frame_with_state(bytes, t, enc, m, re, im);
-    made.answer
+    encode_frame_with_state(bytes, t, enc, m, re, im)?;
+    Ok(())
 }
 
 // ---- decoding
 
-// What decoding a frame answers: the bytes of its load, its trellis steps and how many of them are strained, or why it is turned back.
+// A decoded frame: the bytes of its load, its trellis steps and how many of them are strained.
 #[derive(Clone, Copy)]
-pub enum FrameDecoded {
-    Decoded(usize, usize, u32),
-    Refused(Answer),
+pub struct FrameDecoded {
+    pub bytes: usize,
+    pub steps: usize,
+    pub strained: u32,
 }
 
 // The main signal of a frame to bytes. `first`: the first frame of a superframe. Afterwards `bits` begins with the decoded bits, `bytes` with the load,
@@ -108,7 +96,7 @@ pub fn decode_frame(
     bits: &mut [u8],
     bytes: &mut [u8],
     counts: &mut [u32],
-) -> FrameDecoded
+) -> Result<FrameDecoded, Refusal>
     ensures answers { frame_said result ≡ frame_answer (first_row (decode_rows t re.now im.now o.scales (length decisions.old) (length bits.old) (length bytes.old) (length counts.old))) t (strain_sum t (received_by re.now im.now o.mapping o.scales) o.known_start first) }
     ensures leaves { Either (first_row (decode_rows t re.now im.now o.scales (length decisions.old) (length bits.old) (length bytes.old) (length counts.old)))
         (FrameLeft t (received_by re.now im.now o.mapping o.scales) o.known_start first decisions.old decisions.new bits.old bits.new bytes.old bytes.new counts.old counts.new)
@@ -116,7 +104,7 @@ pub fn decode_frame(
 {
     let p = plan_of(t);
     let scales = o.scales;
-    let answer = decode_answer(
+    decode_answer(
         p,
         re,
         im,
@@ -125,17 +113,18 @@ pub fn decode_frame(
         bits.len(),
         bytes.len(),
         counts.len(),
-    );
-    let Answer::Accepted = answer else {
-        return FrameDecoded::Refused(answer);
-    };
+    )?;
     let f = FrameTask {
         plan: p,
         first,
         options: o,
     };
     let strained = decode_strained(f, re, im, decisions, bits, bytes, counts);
-    FrameDecoded::Decoded(p.bytes, p.steps, strained)
+    Ok(FrameDecoded {
+        bytes: p.bytes,
+        steps: p.steps,
+        strained,
+    })
 }
 
 // Decoder settings with one scale for all combinations.
@@ -157,7 +146,7 @@ pub fn decode_frame_one_scale(
     bits: &mut [u8],
     bytes: &mut [u8],
     counts: &mut [u32],
-) -> FrameDecoded
+) -> Result<FrameDecoded, Refusal>
     ensures answers { frame_said result ≡ frame_answer (first_row (one_scale_rows t re.now im.now o.llr_scale (length decisions.old) (length bits.old) (length bytes.old) (length counts.old))) t (strain_sum t (received re.now im.now o.mapping o.llr_scale) o.known_start first) }
     ensures leaves { Either (first_row (one_scale_rows t re.now im.now o.llr_scale (length decisions.old) (length bits.old) (length bytes.old) (length counts.old)))
         (FrameLeft t (received re.now im.now o.mapping o.llr_scale) o.known_start first decisions.old decisions.new bits.old bits.new bytes.old bytes.new counts.old counts.new)

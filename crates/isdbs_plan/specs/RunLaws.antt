@@ -1,11 +1,9 @@
 -- Laws of runs: they lie end to end within the frame, and their symbols, valid slots, steps and periods agree.
-use Rattle.std.specs.Prelude.{◌≡◌, refl, false, List, [], ◌∷◌, ◌++◌, ℕ, zero, suc, ◌+◌, ◌-◌, ◌*◌, ◌/◌, ◌%◌, ◌≤◌, ◌<◌, eqb, length, get_or, replicate}
+use Rattle.std.specs.Prelude.{◌≡◌, refl, false, List, [], ◌∷◌, ◌++◌, ℕ, zero, suc, ◌+◌, ◌-◌, ◌*◌, ◌/◌, ◌%◌, ◌≤◌, ◌<◌, eqb, length, get_or, replicate, Option, Some, None}
 use Rattle.std.proofs.Common.{arith, not-suc-le-zero, le_of_suc-le-suc, eqb-true}
 use Rattle.std.proofs.lemmas.Bool.{not-false}
 use Rattle.isdbs_combination.specs.declared.Combination.{Combination}
 use Rattle.isdbs_combination.specs.declared.Combination.TheVariants.{Bpsk1_2, Qpsk1_2, Qpsk2_3, Qpsk3_4, Qpsk5_6, Qpsk7_8, Tc8psk2_3}
-use Rattle.isdbs_combination.specs.declared.MaybeCombination.{MaybeCombination}
-use Rattle.isdbs_combination.specs.declared.MaybeCombination.TheVariants.{Some, None}
 use Rattle.isdbs_tables.specs.declared.Entry.{Entry}
 use Rattle.isdbs_tables.specs.declared.Table.{Table}
 use Rattle.isdbs_plan.specs.declared.Run.{Run}
@@ -75,7 +73,7 @@ abbrev pub InOrder : ℕ → List Run → Type 0
 InOrder s [] = Unit
 InOrder s (r ∷ rs) = (s ≤ r.slot_start) × (r.slot_start ≤ r.slot_end) × InOrder r.slot_end rs
 
-entry_end_to_end : (m : MaybeCombination) (n slot symbol : ℕ) (rs : List Run) → EndToEnd (symbol + entry_symbols m n) rs → EndToEnd symbol (entry_runs m n slot symbol ++ rs)
+entry_end_to_end : (m : Option Combination) (n slot symbol : ℕ) (rs : List Run) → EndToEnd (symbol + entry_symbols m n) rs → EndToEnd symbol (entry_runs m n slot symbol ++ rs)
 entry_end_to_end (Some c) n slot symbol rs h = (refl, h)
 entry_end_to_end None n slot symbol rs h = let e : symbol + 0 ≡ symbol = omega arith in rw e at h
 
@@ -91,7 +89,7 @@ later : (s z : ℕ) (rs : List Run) → s ≤ z → InOrder z rs → InOrder s r
 later s z [] h o = tt
 later s z (r ∷ rs) h o = (omega (arith, o.0), o.1, o.2)
 
-order_entry : (m : MaybeCombination) (n slot symbol : ℕ) (rs : List Run) → InOrder (slot + n) rs → InOrder slot (entry_runs m n slot symbol ++ rs)
+order_entry : (m : Option Combination) (n slot symbol : ℕ) (rs : List Run) → InOrder (slot + n) rs → InOrder slot (entry_runs m n slot symbol ++ rs)
 order_entry (Some c) n slot symbol rs h = (omega arith, omega arith, h)
 order_entry None n slot symbol rs h = later slot (slot + n) rs (omega arith) h
 
@@ -104,7 +102,7 @@ in_order (e ∷ es) slot symbol =
     (in_order es (slot + e.slots) (symbol + entry_symbols (entry_combination e) e.slots))
 
 module _ (P : Run → Type 0) where
-  each_entry : (m : MaybeCombination) (n slot symbol : ℕ) (rs : List Run) → ((c : Combination) → P (run_of c n slot symbol)) → Each P rs → Each P (entry_runs m n slot symbol ++ rs)
+  each_entry : (m : Option Combination) (n slot symbol : ℕ) (rs : List Run) → ((c : Combination) → P (run_of c n slot symbol)) → Each P rs → Each P (entry_runs m n slot symbol ++ rs)
   each_entry (Some c) n slot symbol rs p h = (p c, h)
   each_entry None n slot symbol rs p h = h
 
@@ -121,7 +119,7 @@ entry_units Qpsk5_6 n p = let w = no_part Qpsk5_6 n p in omega arith
 entry_units Qpsk7_8 n p = let w = no_part Qpsk7_8 n p in omega arith
 entry_units Tc8psk2_3 n p = let w = no_part Tc8psk2_3 n p in omega arith
 
-whole_entry : (m : MaybeCombination) (n slot symbol : ℕ) (rs : List Run) → unfilled m n ≡ false → Each Whole rs → Each Whole (entry_runs m n slot symbol ++ rs)
+whole_entry : (m : Option Combination) (n slot symbol : ℕ) (rs : List Run) → unfilled m n ≡ false → Each Whole rs → Each Whole (entry_runs m n slot symbol ++ rs)
 whole_entry (Some c) n slot symbol rs w h = (run_whole c n slot symbol (no_part c n w), h)
 whole_entry None n slot symbol rs w h = h
 
@@ -137,7 +135,7 @@ runs_whole (e ∷ es) slot symbol w =
 run_fits : (c : Combination) (n slot symbol : ℕ) → slot + n ≤ frame_slots → symbol ≤ slot * slot_symbols → RunFits (run_of c n slot symbol)
 run_fits c n slot symbol h s = record { slots = h; starts = omega arith; ends = omega arith }
 
-entry_symbols_lem : (m : MaybeCombination) (n : ℕ) → entry_symbols m n ≤ n * slot_symbols
+entry_symbols_lem : (m : Option Combination) (n : ℕ) → entry_symbols m n ≤ n * slot_symbols
 entry_symbols_lem (Some c) n = omega arith
 entry_symbols_lem None n = omega arith
 
@@ -158,7 +156,7 @@ unfolding valid_in
 valid_append [] r = omega arith
 valid_append (x ∷ rs) r = let e = valid_append rs r in omega arith
 
-valid_entry : (m : MaybeCombination) (n slot symbol : ℕ) (rs : List Run) (k : ℕ) → valid_in rs ≤ k → valid_in (entry_runs m n slot symbol ++ rs) ≤ n + k
+valid_entry : (m : Option Combination) (n slot symbol : ℕ) (rs : List Run) (k : ℕ) → valid_in rs ≤ k → valid_in (entry_runs m n slot symbol ++ rs) ≤ n + k
 unfolding valid_in
 valid_entry (Some c) n slot symbol rs k h = let f = entry_fits c n in omega arith
 valid_entry None n slot symbol rs k h = omega arith
@@ -177,7 +175,7 @@ unfolding steps_in
 steps_append [] r = omega arith
 steps_append (x ∷ rs) r = let e = steps_append rs r in omega arith
 
-steps_entry : (m : MaybeCombination) (n slot symbol : ℕ) (rs : List Run) (k : ℕ) → steps_in rs ≤ k * 1421 → steps_in (entry_runs m n slot symbol ++ rs) ≤ (n + k) * 1421
+steps_entry : (m : Option Combination) (n slot symbol : ℕ) (rs : List Run) (k : ℕ) → steps_in rs ≤ k * 1421 → steps_in (entry_runs m n slot symbol ++ rs) ≤ (n + k) * 1421
 unfolding steps_in
 steps_entry (Some c) n slot symbol rs k h = let f = entry_fits c n in omega arith
 steps_entry None n slot symbol rs k h = omega arith

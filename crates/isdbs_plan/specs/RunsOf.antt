@@ -1,11 +1,9 @@
 -- Document 01, "Runs and points": the runs of a table.
-use Rattle.std.specs.Prelude.{◌≡◌, cond, List, [], ◌∷◌, ◌++◌, ℕ, ◌+◌, ◌*◌, ◌/◌, ◌≤◌, length}
-use Rattle.refusal.specs.declared.Answer.{Answer}
-use Rattle.refusal.specs.Rows.{accepted}
+use Rattle.std.specs.Prelude.{◌≡◌, cond, List, [], ◌∷◌, ◌++◌, ℕ, ◌+◌, ◌*◌, ◌/◌, ◌≤◌, length, Option, Some, None, Result}
+use Rattle.refusal.specs.declared.Refusal.{Refusal}
+use Rattle.refusal.specs.Rows.{answered}
 use Rattle.isdbs_combination.specs.declared.Combination.{Combination}
 use Rattle.isdbs_combination.specs.declared.Combination.TheVariants.{Bpsk1_2}
-use Rattle.isdbs_combination.specs.declared.MaybeCombination.{MaybeCombination}
-use Rattle.isdbs_combination.specs.declared.MaybeCombination.TheVariants.{Some, None}
 use Rattle.isdbs_tables.specs.declared.Entry.{Entry}
 use Rattle.isdbs_tables.specs.declared.Table.{Table}
 use Rattle.isdbs_plan.specs.declared.Run.{Run}
@@ -37,11 +35,11 @@ run_of c n slot symbol =
     }
 
 -- one run for each entry with a combination
-abbrev pub entry_runs : MaybeCombination → ℕ → ℕ → ℕ → List Run
+abbrev pub entry_runs : Option Combination → ℕ → ℕ → ℕ → List Run
 entry_runs (Some c) n slot symbol = run_of c n slot symbol ∷ []
 entry_runs None n slot symbol = []
 
-abbrev pub entry_symbols : MaybeCombination → ℕ → ℕ
+abbrev pub entry_symbols : Option Combination → ℕ → ℕ
 entry_symbols (Some c) n = symbols_in n
 entry_symbols None n = 0
 
@@ -83,12 +81,12 @@ abbrev pub no_run : Run
 no_run = run_of Bpsk1_2 0 0 0
 
 -- runs as `runs` answers them
-abbrev pub four_of : Answer → List Run → FrameRuns
-four_of a rs = record { answer = a; count = length rs; runs = padded 4 no_run rs; valid_slots = valid_in rs }
+abbrev pub four_of : List Run → FrameRuns
+four_of rs = record { count = length rs; runs = padded 4 no_run rs; valid_slots = valid_in rs }
 
--- the answer of `runs`; refused: no run
-abbrev pub four_runs : Table → FrameRuns
-four_runs t = four_of (table_answer t) (cond (accepted (table_answer t)) (runs_of t) [])
+-- the answer of `runs`
+abbrev pub four_runs : Table → Result FrameRuns Refusal
+four_runs t = answered (table_answer t) (four_of (runs_of t))
 
 -- the plan of a table, as `plan_of` answers it
 abbrev pub plan_of : Table → Plan

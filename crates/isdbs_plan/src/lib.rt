@@ -7,7 +7,7 @@ ghost use Rattle.isdbs_plan.specs.RunsOf.{run_of, plan_of, four_runs};
 use isdbs_combination::{Combination, CombinationWord, SLOT_SYMBOLS};
 use isdbs_frame::SLOT_BYTES;
 use isdbs_tables::{Table, table_answer};
-use refusal::Answer;
+use refusal::Refusal;
 
 // One combination's slots in a frame.
 #[derive(Clone, Copy)]
@@ -35,11 +35,17 @@ pub const NO_RUN: Run = Run {
 // The first `count` of four runs, and the valid slots of all.
 #[derive(Clone, Copy)]
 pub struct FrameRuns {
-    pub answer: Answer,
     pub count: usize,
     pub runs: [Run; 4],
     pub valid_slots: usize,
 }
+
+// The runs of a table that is turned back, for a caller that goes on without any.
+pub const NO_RUNS: FrameRuns = FrameRuns {
+    count: 0,
+    runs: [NO_RUN; 4],
+    valid_slots: 0,
+};
 
 // The run of an entry of n slots.
 fn run_of(c: Combination, n: usize, slot: usize, symbol: usize) -> Run
@@ -106,25 +112,16 @@ pub fn plan_of(t: Table) -> Plan
     }
 }
 
-// The runs of a table, in slot order.
-pub fn runs(t: Table) -> FrameRuns
+// The runs of a table, in slot order, or why it is turned back.
+pub fn runs(t: Table) -> Result<FrameRuns, Refusal>
     ensures { result ≡ four_runs t }
 {
-    let answer = table_answer(t);
-    let Answer::Accepted = answer else {
-        return FrameRuns {
-            answer,
-            count: 0,
-            runs: [NO_RUN; 4],
-            valid_slots: 0,
-        };
-    };
+    table_answer(t)?;
     let p = plan_of(t);
     let runs = p.runs;
-    FrameRuns {
-        answer,
+    Ok(FrameRuns {
         count: p.count,
         runs,
         valid_slots: p.valid_slots,
-    }
+    })
 }

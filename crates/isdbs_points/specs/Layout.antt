@@ -1,8 +1,7 @@
 -- Where the symbols, the trellis steps and the load's bits of each run lie in the frame.
-use Rattle.std.specs.Prelude.{◌≡◌, cond, List, [], ◌∷◌, ℕ, ◌+◌, ◌-◌, ◌*◌, ◌/◌, ◌%◌, ◌^◌, ◌<◌, get_or, length, ltb}
+use Rattle.isdbs_combination.specs.declared.Puncture.{Puncture}
+use Rattle.std.specs.Prelude.{◌≡◌, cond, List, [], ◌∷◌, ℕ, ◌+◌, ◌-◌, ◌*◌, ◌/◌, ◌%◌, ◌^◌, ◌<◌, get_or, length, ltb, Option, Some, None}
 use Rattle.isdbs_combination.specs.declared.Combination.{Combination}
-use Rattle.isdbs_combination.specs.declared.MaybePuncture.{MaybePuncture}
-use Rattle.isdbs_combination.specs.declared.MaybePuncture.TheVariants.{Some, None}
 use Rattle.isdbs_combination.specs.declared.BitPair.{BitPair}
 use Rattle.isdbs_plan.specs.declared.Run.{Run}
 use Rattle.isdbs_tables.specs.declared.Table.{Table}
@@ -15,7 +14,7 @@ unfoldable pub sent_order : List BitPair → List ℕ
 sent_order [] = []
 sent_order (p ∷ ps) = p.p1 ∷ p.p0 ∷ sent_order ps
 
-abbrev pub order_in : MaybePuncture → List ℕ
+abbrev pub order_in : Option Puncture → List ℕ
 order_in (Some p) = sent_order (pairs_of p)
 order_in None = 0 ∷ 1 ∷ []
 

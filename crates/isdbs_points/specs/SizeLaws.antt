@@ -1,11 +1,9 @@
 -- The segments of a table lie end to end in symbols, in steps and in bits; of an accepted one each has whole units, its symbols fit the frame and its steps
 -- are at most 68,208.
-use Rattle.std.specs.Prelude.{◌≡◌, refl, false, List, [], ◌∷◌, ◌++◌, ℕ, ◌+◌, ◌-◌, ◌*◌, ◌%◌, ◌<◌, ◌≤◌}
+use Rattle.std.specs.Prelude.{◌≡◌, refl, false, List, [], ◌∷◌, ◌++◌, ℕ, ◌+◌, ◌-◌, ◌*◌, ◌%◌, ◌<◌, ◌≤◌, Option, Some, None}
 use Rattle.std.proofs.Common.{add_assoc, add-zero, zero-add, arith}
 use Rattle.isdbs_combination.specs.declared.Combination.{Combination}
 use Rattle.isdbs_combination.specs.declared.Combination.TheVariants.{Bpsk1_2, Qpsk1_2, Qpsk2_3, Qpsk3_4, Qpsk5_6, Qpsk7_8, Tc8psk2_3}
-use Rattle.isdbs_combination.specs.declared.MaybeCombination.{MaybeCombination}
-use Rattle.isdbs_combination.specs.declared.MaybeCombination.TheVariants.{Some, None}
 use Rattle.isdbs_tables.specs.declared.Entry.{Entry}
 use Rattle.isdbs_tables.specs.declared.Table.{Table}
 use Rattle.isdbs_plan.specs.declared.Run.{Run}
@@ -41,7 +39,7 @@ symbol_sum (e ∷ es) = entry_symbols (entry_combination e) e.slots + symbol_sum
 abbrev FillSymbols : List Segment → ℕ → ℕ → Type 0
 FillSymbols = Fill (λ g. g.symbol) (λ g. g.symbols)
 
-entry_symbols_lem : (c : MaybeCombination) (n slot symbol end : ℕ) (rs : List Run) (s b : ℕ) → ((s b : ℕ) → FillSymbols (segments_from rs s b) (symbol + entry_symbols c n) end)
+entry_symbols_lem : (c : Option Combination) (n slot symbol end : ℕ) (rs : List Run) (s b : ℕ) → ((s b : ℕ) → FillSymbols (segments_from rs s b) (symbol + entry_symbols c n) end)
     → FillSymbols (segments_from (entry_runs c n slot symbol ++ rs) s b) symbol end
 unfolding Fill segments_from
 entry_symbols_lem (Some c) n slot symbol end rs s b h =
@@ -69,7 +67,7 @@ steps_few Qpsk5_6 n = omega arith
 steps_few Qpsk7_8 n = omega arith
 steps_few Tc8psk2_3 n = omega arith
 
-entry_symbols_few : (c : MaybeCombination) (n : ℕ) → entry_symbols c n ≤ slot_symbols * n
+entry_symbols_few : (c : Option Combination) (n : ℕ) → entry_symbols c n ≤ slot_symbols * n
 entry_symbols_few (Some c) n = omega arith
 entry_symbols_few None n = omega arith
 
@@ -78,7 +76,7 @@ unfolding symbol_sum slot_sum
 symbol_sum_few [] = omega arith
 symbol_sum_few (e ∷ es) = omega (arith, entry_symbols_few (entry_combination e) e.slots, symbol_sum_few es)
 
-entry_steps_few : (c : MaybeCombination) (n slot symbol : ℕ) (rs : List Run) → steps_in (entry_runs c n slot symbol ++ rs) ≤ 1421 * n + steps_in rs
+entry_steps_few : (c : Option Combination) (n slot symbol : ℕ) (rs : List Run) → steps_in (entry_runs c n slot symbol ++ rs) ≤ 1421 * n + steps_in rs
 unfolding steps_in
 entry_steps_few (Some c) n slot symbol rs = let h = steps_few c n in omega arith
 entry_steps_few None n slot symbol rs = omega arith
@@ -101,7 +99,7 @@ of_cons : (P : Segment → Type 0) {g h : Segment} {gs : List Segment} → P h �
 of_cons P p q here = p
 of_cons P p q (there m) = q m
 
-entry_whole : (c : MaybeCombination) (n slot symbol : ℕ) (rs : List Run) (s b : ℕ) (g : Segment) → unfilled c n ≡ false → ((s b : ℕ) → In g (segments_from rs s b) → Whole g)
+entry_whole : (c : Option Combination) (n slot symbol : ℕ) (rs : List Run) (s b : ℕ) (g : Segment) → unfilled c n ≡ false → ((s b : ℕ) → In g (segments_from rs s b) → Whole g)
     → In g (segments_from (entry_runs c n slot symbol ++ rs) s b) → Whole g
 unfolding segments_from
 entry_whole (Some c) n slot symbol rs s b g p h m =

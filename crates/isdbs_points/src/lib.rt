@@ -37,6 +37,13 @@ pub struct Cplx {
     pub im: f64,
 }
 
+// N points by their parts: by label, or by the register of a trellis step.
+#[derive(Clone, Copy)]
+pub struct PointTable<const N: usize> {
+    pub re: [f64; N],
+    pub im: [f64; N],
+}
+
 // How coded bits map to points.
 #[derive(Clone, Copy)]
 pub struct Mapping {
@@ -48,11 +55,11 @@ pub struct Mapping {
     pub tc8psk_c1_is_y: bool,
 }
 
-impl Mapping {
-    // The usual reading (annexed table 46; BO.1408-1, Fig. 15).
-    pub fn default() -> Self
-        ensures { (result.conjugate ≡ false) × (result.qpsk_p1_on_q ≡ false) × (result.tc8psk_c1_is_y ≡ true) }
-    {
+// The usual reading (annexed table 46; BO.1408-1, Fig. 15).
+impl Default for Mapping {
+    ghost is_default = { λ m. (m.conjugate ≡ false) × (m.qpsk_p1_on_q ≡ false) × (m.tc8psk_c1_is_y ≡ true) };
+
+    fn default() -> Self {
         Self {
             conjugate: false,
             qpsk_p1_on_q: false,

@@ -3,9 +3,7 @@ use mathlib.Core.Path.{◌≡◌, sym, ◌∙◌}
 use mathlib.Core.List.{List, [], ◌∷◌}
 use Prim.Native.Nat.{ℕ}
 use lib.Dec.{ltb}
-use Rattle.refusal.specs.declared.Answer.{Answer}
-use Rattle.refusal.specs.declared.Answer.TheVariants.{Accepted, State, Space}
-use Rattle.refusal.specs.Rows.{Row, first_row}
+use Rattle.refusal.specs.Rows.{Answer, Accepted, State, Space, Row, first_row}
 use Rattle.refusal.proofs.RowLaws.{refused_by, passed_by}
 use Rattle.isdbs_tables.specs.declared.Table.{Table}
 use Rattle.isdbs_tables.specs.Tables.{table_rows, table_answer}

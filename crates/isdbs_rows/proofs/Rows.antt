@@ -6,10 +6,8 @@ use Prim.Native.Nat.{ℕ, suc, ◌+◌}
 use native.Mathlib.Omega.{arith}
 use lib.ListN.{get_or}
 use lib.Ieee.{Float, nan}
-use Rattle.refusal.specs.Rows.{Row, first_row}
+use Rattle.refusal.specs.Rows.{Row, first_row, Answer, Accepted}
 use Rattle.refusal.proofs.RowLaws.{refused_by, passed_by}
-use Rattle.refusal.specs.declared.Answer.{Answer}
-use Rattle.refusal.specs.declared.Answer.TheVariants.{Accepted}
 use Rattle.isdbs_tables.specs.declared.Table.{Table}
 use Rattle.isdbs_tables.specs.Tables.{table_rows, table_answer}
 use Rattle.isdbs_tables.proofs.TableLaws.{table_refusing}

@@ -2,8 +2,7 @@
 use Rattle.std.specs.Prelude.{Bool, false, not, ◌||◌, List, [], ◌∷◌, ◌++◌, ℕ, zero, suc, ◌+◌, ltb, length, get_or, Float}
 use Rattle.std.specs.Float.{nan, binary32, binary64}
 use Rattle.std.specs.Float.Ieee.{lt, of_bits}
-use Rattle.refusal.specs.Rows.{Row}
-use Rattle.refusal.specs.declared.Answer.TheVariants.{Symbols, Sample, Scale, Space}
+use Rattle.refusal.specs.Rows.{Row, Symbols, Sample, Scale, Space}
 use Rattle.ieee.specs.Within.{within}
 use Rattle.isdbs_tables.specs.declared.Table.{Table}
 use Rattle.isdbs_tables.specs.Tables.{table_rows}

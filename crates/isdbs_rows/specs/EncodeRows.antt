@@ -1,7 +1,6 @@
 -- The rows of the encoding calls.
 use Rattle.std.specs.Prelude.{Bool, ◌||◌, List, [], ◌∷◌, ◌++◌, ℕ, leb, ltb}
-use Rattle.refusal.specs.declared.Answer.TheVariants.{State, Space}
-use Rattle.refusal.specs.Rows.{Row}
+use Rattle.refusal.specs.Rows.{State, Space, Row}
 use Rattle.isdbs_tables.specs.declared.Table.{Table}
 use Rattle.isdbs_frame.specs.Frame.{main_symbols}
 use Rattle.isdbs_tables.specs.Tables.{table_rows}

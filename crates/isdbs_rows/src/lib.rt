@@ -2,7 +2,7 @@
 #![tactic(auto)]
 
 ghost use Rattle.std.specs.Prelude.{◌≡◌, cond, not, ◌≤◌, length};
-ghost use Rattle.refusal.specs.Rows.{first_row};
+ghost use Rattle.refusal.specs.Rows.{first_row, Accepted, Space};
 ghost use Rattle.isdbs_plan.specs.RunsOf.{plan_of, Planned};
 ghost use Rattle.isdbs_rows.specs.DecodeRows.{bad_scale, some_bad, short_space, point_rows, decode_rows, some_of_beyond};
 ghost use Rattle.ieee.specs.Within.{within};
@@ -12,7 +12,7 @@ use isdbs_core::frame::{MAIN_SYMBOLS, SYNC_BITS};
 use isdbs_core::slots::Plan;
 use isdbs_core::tmcc::{Table, table_answer};
 use isdbs_points::PART_LIMIT;
-use refusal::Answer;
+use refusal::Refusal;
 use trellis::FRAME_WORDS;
 
 // The greatest scale that is taken (document 01, refusal 8: "not above 0, or above 64").
@@ -31,8 +31,8 @@ pub fn some_beyond(xs: &[f64], n: usize, limit: f64) -> bool
     ensures { result ≡ some_of_beyond limit xs.now n }
 {
     let mut some = false;
-    for i in 0..n {
-        some = some | beyond(xs[i], limit);
+    for x in &xs[..n] {
+        some = some | beyond(*x, limit);
     }
     some
 }
@@ -49,49 +49,55 @@ pub fn some_bad(scales: [f32; 7]) -> bool
     ensures { result ≡ some_bad scales }
 {
     let mut some = false;
-    for i in 0..7 {
-        some = some | bad_scale(scales[i]);
+    for s in &scales {
+        some = some | bad_scale(*s);
     }
     some
 }
 
 // Rows 6 and 7.
-pub fn points_answer(re: &[f64], im: &[f64]) -> Answer
+pub fn points_answer(re: &[f64], im: &[f64]) -> Result<(), Refusal>
     ensures { result ≡ first_row (point_rows re.now im.now) }
 {
     if re.len() < MAIN_SYMBOLS {
-        return Answer::Symbols;
+        return Err(Refusal::Symbols);
     }
     if im.len() < MAIN_SYMBOLS {
-        return Answer::Symbols;
+        return Err(Refusal::Symbols);
     }
     if some_beyond(re, MAIN_SYMBOLS, PART_LIMIT) {
-        return Answer::Sample;
+        return Err(Refusal::Sample);
     }
     if some_beyond(im, MAIN_SYMBOLS, PART_LIMIT) {
-        return Answer::Sample;
+        return Err(Refusal::Sample);
     }
-    Answer::Accepted
+    Ok(())
 }
 
 // Row 9.
-fn space_answer(p: Plan, decisions: usize, bits: usize, bytes: usize, counts: usize) -> Answer
+fn space_answer(
+    p: Plan,
+    decisions: usize,
+    bits: usize,
+    bytes: usize,
+    counts: usize,
+) -> Result<(), Refusal>
     requires { Planned p }
-    ensures { result ≡ cond (short_space p.table decisions bits bytes counts) Answer.Space Answer.Accepted }
+    ensures { result ≡ cond (short_space p.table decisions bits bytes counts) Space Accepted }
 {
     if decisions < FRAME_WORDS {
-        return Answer::Space;
+        return Err(Refusal::Space);
     }
     if bits < p.steps + SYNC_BITS {
-        return Answer::Space;
+        return Err(Refusal::Space);
     }
     if bytes < p.bytes {
-        return Answer::Space;
+        return Err(Refusal::Space);
     }
     if counts < p.valid_slots {
-        return Answer::Space;
+        return Err(Refusal::Space);
     }
-    Answer::Accepted
+    Ok(())
 }
 
 // The answer of `decode_frame`, over the lengths of the lent outputs.
@@ -104,40 +110,31 @@ pub fn decode_answer(
     bits: usize,
     bytes: usize,
     counts: usize,
-) -> Answer
+) -> Result<(), Refusal>
     requires { (p ≡ plan_of p.table) × (p.count ≤ 4) }
     ensures { result ≡ first_row (decode_rows p.table re.now im.now scales decisions bits bytes counts) }
 {
-    let table = table_answer(p.table);
-    let Answer::Accepted = table else {
-        return table;
-    };
-    let points = points_answer(re, im);
-    let Answer::Accepted = points else {
-        return points;
-    };
+    table_answer(p.table)?;
+    points_answer(re, im)?;
     if some_bad(scales) {
-        return Answer::Scale;
+        return Err(Refusal::Scale);
     }
     space_answer(p, decisions, bits, bytes, counts)
 }
 
 // The answer of `encode_frame_with_state`: the parts have a and b elements.
-pub fn encode_answer(t: Table, state: u8, a: usize, b: usize) -> Answer
+pub fn encode_answer(t: Table, state: u8, a: usize, b: usize) -> Result<(), Refusal>
     ensures { result ≡ first_row (encode_rows t state a b) }
 {
-    let first = table_answer(t);
-    let Answer::Accepted = first else {
-        return first;
-    };
+    table_answer(t)?;
     if state > 63 {
-        return Answer::State;
+        return Err(Refusal::State);
     }
     if a < MAIN_SYMBOLS {
-        return Answer::Space;
+        return Err(Refusal::Space);
     }
     if b < MAIN_SYMBOLS {
-        return Answer::Space;
+        return Err(Refusal::Space);
     }
-    Answer::Accepted
+    Ok(())
 }

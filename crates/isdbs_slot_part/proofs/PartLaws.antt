@@ -8,8 +8,7 @@ use lib.Dec.{leb, eqb}
 use lib.ListN.{length, get_or, take, drop, length-take, length-drop}
 use lib.Seq.{get_or-take, get_or-drop, take-add}
 use borrow.Author.Tests.{leb-false, eqb-true, not-false, le-leb, lt-leb, eq-eqb, ne_eqb}
-use Rattle.refusal.specs.declared.Answer.TheVariants.{Accepted, Position, Length}
-use Rattle.refusal.specs.Rows.{accepted, Row, first_row}
+use Rattle.refusal.specs.Rows.{Accepted, Position, Length, accepted, Row, first_row}
 use Rattle.refusal.proofs.RowLaws.{accepted_is, refused_is, passed}
 use Rattle.isdbs_tables.specs.declared.Table as declared
 use Rattle.isdbs_tables.specs.Tables.{table_answer}

@@ -1,8 +1,6 @@
 -- Document 01: "The bytes of valid slot k are handed back as a part of the caller's decoded bytes".
 use Rattle.std.specs.Prelude.{cond, not, List, [], ◌∷◌, ◌++◌, ℕ, ◌*◌, leb, eqb, length, take, drop}
-use Rattle.refusal.specs.declared.Answer.{Answer}
-use Rattle.refusal.specs.declared.Answer.TheVariants.{Position, Length}
-use Rattle.refusal.specs.Rows.{accepted, Row, first_row}
+use Rattle.refusal.specs.Rows.{Answer, Position, Length, accepted, Row, first_row}
 use Rattle.isdbs_tables.specs.declared.Table.{Table}
 use Rattle.isdbs_frame.specs.Frame.{slot_bytes}
 use Rattle.isdbs_tables.specs.Tables.{table_rows}

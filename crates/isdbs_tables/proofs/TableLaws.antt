@@ -1,7 +1,7 @@
 -- What follows from a table's rows: the one place where they are opened.
 use Rattle.std.specs.Prelude.{◌≡◌, Bool, false, List, [], ◌∷◌, ◌++◌, ℕ, ◌≤◌, T}
 use borrow.Author.Tests.{ltb-false}
-use Rattle.refusal.specs.declared.Answer.TheVariants as answer
+use Rattle.refusal.specs.Rows as answer
 use Rattle.refusal.specs.Rows.{Row, first_row}
 use Rattle.refusal.specs.RowLaws.{refusing}
 use Rattle.refusal.proofs.RowLaws.{neither, refusing_both, passed, refused_above, passed_above, both_passed}

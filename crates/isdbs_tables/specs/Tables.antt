@@ -1,18 +1,16 @@
 -- Document 01: "a table of four entries (a word, of which the low 4 bits count, and an 8-bit slot count)".
-use Rattle.std.specs.Prelude.{◌≡◌, Bool, false, not, ◌||◌, List, [], ◌∷◌, ℕ, ◌+◌, ◌%◌, eqb, ltb}
-use Rattle.refusal.specs.declared.Answer.{Answer}
-use Rattle.refusal.specs.declared.Answer.TheVariants as answer
-use Rattle.refusal.specs.Rows.{Row, first_row}
+use Rattle.isdbs_combination.specs.declared.Combination.{Combination}
+use Rattle.std.specs.Prelude.{◌≡◌, Bool, false, not, ◌||◌, List, [], ◌∷◌, ℕ, ◌+◌, ◌%◌, eqb, ltb, Option, Some, None}
+use Rattle.refusal.specs.Rows.{Answer, Row, first_row}
+use Rattle.refusal.specs.Rows as answer
 use Rattle.isdbs_combination.specs.declared.CombinationWord.{CombinationWord}
 use Rattle.isdbs_combination.specs.declared.CombinationWord.TheVariants.{Assigned, Dummy, Reserved}
-use Rattle.isdbs_combination.specs.declared.MaybeCombination.{MaybeCombination}
-use Rattle.isdbs_combination.specs.declared.MaybeCombination.TheVariants.{Some, None}
 use Rattle.isdbs_tables.specs.declared.Entry.{Entry}
 use Rattle.isdbs_tables.specs.declared.Table.{Table}
 use Rattle.isdbs_combination.specs.Combinations.{combination_of, word_means, unit_of, frame_slots}
 
 -- "`CombinationEntry::combination` means the assigned combination of the word, or none"
-abbrev pub entry_combination : Entry → MaybeCombination
+abbrev pub entry_combination : Entry → Option Combination
 entry_combination e = combination_of (e.word % 16)
 
 unfoldable pub slot_sum : List Entry → ℕ
@@ -20,7 +18,7 @@ slot_sum [] = 0
 slot_sum (e ∷ es) = e.slots + slot_sum es
 
 -- refusal 10: "an entry with slots that don't fill whole units"
-abbrev pub unfilled : MaybeCombination → ℕ → Bool
+abbrev pub unfilled : Option Combination → ℕ → Bool
 unfilled (Some c) n = not (eqb (n % (unit_of c).slots) 0)
 unfilled None n = false
 

@@ -4,8 +4,8 @@
 ghost use Rattle.std.specs.Prelude.{◌≡◌};
 ghost use Rattle.isdbs_tables.specs.Tables.{entry_combination, slot_sum, part_unit, reserved_word, some, table_answer};
 
-use isdbs_combination::{CombinationWord, FRAME_SLOTS, MaybeCombination};
-use refusal::Answer;
+use isdbs_combination::{Combination, CombinationWord, FRAME_SLOTS};
+use refusal::Refusal;
 
 // Combinations that a table carries, CM (BO.1408-1, Appendix 1, Table 3 item 8).
 pub const CM: usize = 4;
@@ -22,7 +22,7 @@ pub const DUMMY: Entry = Entry { word: 15, slots: 0 };
 
 impl Entry {
     // The combination of the word, or none.
-    pub fn combination(self) -> MaybeCombination
+    pub fn combination(self) -> Option<Combination>
         ensures { result ≡ entry_combination self }
     {
         CombinationWord::from_word(self.word).combination()
@@ -33,11 +33,11 @@ impl Entry {
         ensures { result ≡ part_unit self }
     {
         match self.combination() {
-            MaybeCombination::Some(c) => {
+            Some(c) => {
                 let u = c.slot_unit();
                 self.slots as usize % u.slots != 0
             }
-            MaybeCombination::None => false,
+            None => false,
         }
     }
 
@@ -97,17 +97,17 @@ fn has_reserved(t: Table) -> bool
 }
 
 // Whether a call with this table is turned back.
-pub fn table_answer(t: Table) -> Answer
+pub fn table_answer(t: Table) -> Result<(), Refusal>
     ensures { result ≡ table_answer t }
 {
     if slot_sum(t) > FRAME_SLOTS {
-        return Answer::Table;
+        return Err(Refusal::Table);
     }
     if has_part(t) {
-        return Answer::PartUnit;
+        return Err(Refusal::PartUnit);
     }
     if has_reserved(t) {
-        return Answer::ReservedWord;
+        return Err(Refusal::ReservedWord);
     }
-    Answer::Accepted
+    Ok(())
 }

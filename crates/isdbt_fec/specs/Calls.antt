@@ -9,7 +9,6 @@ use Rattle.trellis.specs.Step.{pair}
 use Rattle.trellis.specs.Run.{Decoder, start_at, block, depth}
 use Rattle.isdbt_table.specs.declared.CodeRate.{CodeRate}
 use Rattle.isdbt_fec.specs.declared.conv.Encoded.{Encoded}
-use Rattle.isdbt_fec.specs.declared.conv.Done.{Done}
 use Rattle.isdbt_table.specs.Table.{period, sent}
 use Rattle.isdbt_table.specs.Puncture.{punctured, depunctured}
 use Rattle.trellis.specs.Encoded.{low_bits}
@@ -21,20 +20,10 @@ pub record Encodes (rate : CodeRate) (s : ℕ) (bits : List ℕ) (r : Encoded) (
   pub count_is : r.count ≡ length bits / period rate * sent rate
   pub bits_are : out ≡ laid (punctured rate s bits) out₀
 
--- "states come back as given and no buffer changes"
-pub record Unencoded (s : ℕ) (r : Encoded) (out₀ out : List ℕ) : Type 0 where
-  pub state_is : r.enc.state ≡ s
-  pub count_is : r.count ≡ 0
-  pub bits_are : out ≡ out₀
-
 -- the depunctured values at the front, the rest as before
-pub record Depunctures (rate : CodeRate) (xs : List Float) (r : Done) (out₀ out : List Float) : Type 0 where
-  pub count_is : r.count ≡ length xs / sent rate * (2 * period rate)
+pub record Depunctures (rate : CodeRate) (xs : List Float) (count : ℕ) (out₀ out : List Float) : Type 0 where
+  pub count_is : count ≡ length xs / sent rate * (2 * period rate)
   pub values : out ≡ laid (depunctured rate xs) out₀
-
-pub record Untouched (r : Done) (out₀ out : List Float) : Type 0 where
-  pub count_is : r.count ≡ 0
-  pub values : out ≡ out₀
 
 -- the steps of a decoding call: the soft values by twos
 abbrev pub steps : CodeRate → List Float → ℕ → trellis.Step
@@ -50,12 +39,12 @@ decoded_bits rate xs tb =
     (flush (call tb (steps rate xs) fresh (length xs / sent rate * period rate))).bits
 
 -- the bits at the front, the rest as before; "the first 4,096 + traceback decision words are 0", the rest as before
-pub record Decodes (rate : CodeRate) (xs : List Float) (tb : ℕ) (r : Done) (decisions₀ decisions out₀ out : List ℕ) : Type 0 where
-  pub count_is : r.count ≡ length xs / sent rate * period rate
+pub record Decodes (rate : CodeRate) (xs : List Float) (tb : ℕ) (count : ℕ) (decisions₀ decisions out₀ out : List ℕ) : Type 0 where
+  pub count_is : count ≡ length xs / sent rate * period rate
   pub words : decisions ≡ laid (replicate (block + depth tb) 0) decisions₀
   pub bits_are : out ≡ laid (decoded_bits rate xs (depth tb)) out₀
 
-pub record Undecoded (r : Done) (decisions₀ decisions out₀ out : List ℕ) : Type 0 where
-  pub count_is : r.count ≡ 0
+-- "no buffer changes"
+pub record Undecoded (decisions₀ decisions out₀ out : List ℕ) : Type 0 where
   pub words : decisions ≡ decisions₀
   pub bits_are : out ≡ out₀

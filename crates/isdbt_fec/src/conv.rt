@@ -1,14 +1,14 @@
 // The punctured convolutional code of ISDB-T (ARIB STD-B31, section 3.8, Table 3-8): puncturing, and its inverse on soft values.
 // The mother code and its Viterbi decoder are those of isdb_fec::conv.
-ghost use Rattle.std.specs.Prelude.{◌≡◌, ℕ, ◌+◌, ◌-◌, ◌*◌, ◌<◌, ◌≤◌, ◌/◌, ◌%◌, length, get_or, replicate};
-ghost use Rattle.refusal.specs.Rows.{first_row, Either};
+ghost use Rattle.std.specs.Prelude.{◌≡◌, ℕ, ◌+◌, ◌-◌, ◌*◌, ◌<◌, ◌≤◌, ◌/◌, ◌%◌, length, get_or, replicate, MatchResult};
+ghost use Rattle.refusal.specs.Rows.{first_row, answer_of};
 ghost use Rattle.trellis.specs.Lists.{upto, laid};
 ghost use Rattle.trellis.specs.Code.{state_at};
 ghost use Rattle.isdbt_table.specs.Table.{period, sent};
 ghost use Rattle.isdbt_table.specs.Puncture.{mother, punctured, depunctured};
 ghost use Rattle.trellis.specs.Encoded.{low_bits};
 ghost use Rattle.isdbt_rows.specs.Rows.{encode_rows, depuncture_rows, decode_rows};
-ghost use Rattle.isdbt_fec.specs.Calls.{Encodes, Unencoded, Depunctures, Untouched, decoded_bits, Decodes, Undecoded};
+ghost use Rattle.isdbt_fec.specs.Calls.{Encodes, Depunctures, decoded_bits, Decodes, Undecoded};
 ghost use Rattle.trellis.specs.Run.{traceback_limit, block};
 ghost use Rattle.trellis.specs.Isdb;
 
@@ -16,7 +16,7 @@ use isdb_fec::conv::ConvEncoder;
 use isdbt_rows::{answer_decode, answer_depuncture, answer_encode};
 use isdbt_steps::{end_call, places_of, soft_at, soft_block};
 pub use isdbt_table::{CodeRate, PunctureSpec, Puncturing, TABLE_3_8, puncture_spec};
-use refusal::Answer;
+use refusal::Refusal;
 use viterbi_core::{At, depth_of, run_steps, start_at};
 use viterbi_encode::encode_bit;
 use viterbi_steps::Kind;
@@ -82,44 +82,34 @@ fn encode_periods(rate: CodeRate, state: u8, bits: &[u8], out: &mut [u8]) -> u8
     s
 }
 
+// The encoder after a call, and how many bits it has written at the front of the lent slice.
 #[derive(Clone, Copy)]
 pub struct Encoded {
-    pub answer: Answer,
     pub enc: ConvEncoder,
-    pub count: usize,
-}
-
-// The answer of a call, and how many elements it has written at the front of the lent slice.
-#[derive(Clone, Copy)]
-pub struct Done {
-    pub answer: Answer,
     pub count: usize,
 }
 
 // Encodes whole periods and punctures them: the transmitted bits go to the front of `out`. The pattern starts at its first position with
 // the call, the encoder goes on from its state: call once per frame.
-pub fn encode_punctured(enc: ConvEncoder, rate: CodeRate, bits: &[u8], out: &mut [u8]) -> Encoded
-    ensures answers { result.answer ≡ first_row (encode_rows rate enc.state (length bits.now) (length out.old)) }
-    ensures leaves { Either result.answer
-        (Encodes rate enc.state bits.now result out.old out.new)
-        (Unencoded enc.state result out.old out.new) }
+pub fn encode_punctured(
+    enc: ConvEncoder,
+    rate: CodeRate,
+    bits: &[u8],
+    out: &mut [u8],
+) -> Result<Encoded, Refusal>
+    ensures answers { answer_of result ≡ first_row (encode_rows rate enc.state (length bits.now) (length out.old)) }
+    ensures leaves { MatchResult result
+        (λ r. Encodes rate enc.state bits.now r out.old out.new)
+        (λ _. out.new ≡ out.old) }
 {
     let state = enc.state;
-    let answer = answer_encode(rate, state, bits.len(), out.len());
-    let Answer::Accepted = answer else {
-        return Encoded {
-            answer,
-            enc,
-            count: 0,
-        };
-    };
+    answer_encode(rate, state, bits.len(), out.len())?;
     let p = Puncturing::new(rate);
     let last = encode_periods(rate, state, bits, out);
-    Encoded {
-        answer: Answer::Accepted,
+    Ok(Encoded {
         enc: ConvEncoder { state: last },
         count: bits.len() / p.period * p.n,
-    }
+    })
 }
 
 // Depunctures whole periods.
@@ -140,22 +130,15 @@ fn depuncture_periods(rate: CodeRate, llrs: &[f32], out: &mut [f32]) -> usize
 }
 
 // The inverse of puncturing on soft values: expands values in transmission order to pairs (X, Y, X, Y, ..) of the mother code, with 0.0 at
-// punctured positions. The pattern restarts with the call.
-pub fn depuncture(rate: CodeRate, llrs: &[f32], out: &mut [f32]) -> Done
-    ensures answers { result.answer ≡ first_row (depuncture_rows rate (length llrs.now) (length out.old)) }
-    ensures leaves { Either result.answer
-        (Depunctures rate llrs.now result out.old out.new)
-        (Untouched result out.old out.new) }
+// punctured positions. The pattern restarts with the call. How many values that is.
+pub fn depuncture(rate: CodeRate, llrs: &[f32], out: &mut [f32]) -> Result<usize, Refusal>
+    ensures answers { answer_of result ≡ first_row (depuncture_rows rate (length llrs.now) (length out.old)) }
+    ensures leaves { MatchResult result
+        (λ count. Depunctures rate llrs.now count out.old out.new)
+        (λ _. out.new ≡ out.old) }
 {
-    let answer = answer_depuncture(rate, llrs.len(), out.len());
-    let Answer::Accepted = answer else {
-        return Done { answer, count: 0 };
-    };
-    let count = depuncture_periods(rate, llrs, out);
-    Done {
-        answer: Answer::Accepted,
-        count,
-    }
+    answer_depuncture(rate, llrs.len(), out.len())?;
+    Ok(depuncture_periods(rate, llrs, out))
 }
 
 // How many of the steps left are taken at once.
@@ -208,26 +191,20 @@ fn decode_periods(
     end_call(&mut pm, at, traceback, decisions, out)
 }
 
-// Decodes a complete punctured block from state 0: depuncturing, the Viterbi decoder, its flush. The bits go to the front of `out`.
+// Decodes a complete punctured block from state 0: depuncturing, the Viterbi decoder, its flush. The bits go to the front of `out`. How many.
 pub fn decode_punctured(
     rate: CodeRate,
     llrs: &[f32],
     traceback: usize,
     decisions: &mut [u64],
     out: &mut [u8],
-) -> Done
-    ensures answers { result.answer ≡ first_row (decode_rows rate llrs.now traceback (length decisions.old) (length out.old)) }
-    ensures leaves { Either result.answer
-        (Decodes rate llrs.now traceback result decisions.old decisions.new out.old out.new)
-        (Undecoded result decisions.old decisions.new out.old out.new) }
+) -> Result<usize, Refusal>
+    ensures answers { answer_of result ≡ first_row (decode_rows rate llrs.now traceback (length decisions.old) (length out.old)) }
+    ensures leaves { MatchResult result
+        (λ count. Decodes rate llrs.now traceback count decisions.old decisions.new out.old out.new)
+        (λ _. Undecoded decisions.old decisions.new out.old out.new) }
 {
-    let answer = answer_decode(rate, llrs, traceback, decisions.len(), out.len());
-    let Answer::Accepted = answer else {
-        return Done { answer, count: 0 };
-    };
-    let count = decode_periods(rate, llrs, depth_of(traceback), decisions, out);
-    Done {
-        answer: Answer::Accepted,
-        count,
-    }
+    answer_decode(rate, llrs, traceback, decisions.len(), out.len())?;
+    let depth = depth_of(traceback);
+    Ok(decode_periods(rate, llrs, depth, decisions, out))
 }

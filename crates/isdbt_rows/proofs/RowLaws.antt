@@ -2,8 +2,7 @@
 use Rattle.std.specs.Prelude.{◌≡◌, false, List, ℕ, ◌+◌, ◌*◌, ◌/◌, ◌%◌, ◌<◌, ◌≤◌, eqb, ltb, length, Float}
 use Rattle.std.proofs.Common.{sym, arith, ltb-false, eqb-true}
 use Rattle.std.proofs.lemmas.Bool.{not-false}
-use Rattle.refusal.specs.Rows.{first_row}
-use Rattle.refusal.specs.declared.Answer.TheVariants.{Accepted, Traceback, State, Length, Space}
+use Rattle.refusal.specs.Rows.{first_row, Accepted, Traceback, State, Length, Space}
 use Rattle.refusal.proofs.RowLaws.{passed, neither}
 use Rattle.isdbt_table.specs.declared.CodeRate.{CodeRate}
 use Rattle.isdbt_table.specs.Table.{period, sent}

@@ -1,7 +1,6 @@
 -- The refusal rows of each call, in document 01's order.
 use Rattle.std.specs.Prelude.{Bool, not, ◌||◌, List, [], ◌∷◌, ℕ, ◌+◌, ◌*◌, ◌/◌, ◌%◌, eqb, leb, ltb, length, Float}
-use Rattle.refusal.specs.Rows.{Row}
-use Rattle.refusal.specs.declared.Answer.TheVariants.{Traceback, State, Length, Sample, Space}
+use Rattle.refusal.specs.Rows.{Row, Traceback, State, Length, Sample, Space}
 use Rattle.trellis.specs.Run.{block, traceback_limit, depth}
 use Rattle.isdb_fec.specs.Values.{some_beyond, stream_limit}
 use Rattle.isdbt_table.specs.declared.CodeRate.{CodeRate}

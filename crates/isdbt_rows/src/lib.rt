@@ -7,7 +7,7 @@ ghost use Rattle.isdbt_rows.specs.Rows.{encode_rows, depuncture_rows, decode_row
 
 use isdb_fec::conv::{STREAM_LIMIT, TRACEBACK_LIMIT};
 use isdbt_table::{CodeRate, Puncturing};
-use refusal::Answer;
+use refusal::Refusal;
 use trellis::BLOCK;
 use viterbi_core::depth_of;
 use viterbi_rows::some_beyond;
@@ -21,34 +21,34 @@ fn few(space: usize, per: usize, blocks: usize) -> bool
 }
 
 // The answer to an encoding of `count` bytes into `space` places.
-pub fn answer_encode(rate: CodeRate, state: u8, count: usize, space: usize) -> Answer
+pub fn answer_encode(rate: CodeRate, state: u8, count: usize, space: usize) -> Result<(), Refusal>
     ensures { result ≡ first_row (encode_rows rate state count space) }
 {
     let p = Puncturing::new(rate);
     if state > 63 {
-        return Answer::State;
+        return Err(Refusal::State);
     }
     if count % p.period != 0 {
-        return Answer::Length;
+        return Err(Refusal::Length);
     }
     if few(space, p.n, count / p.period) {
-        return Answer::Space;
+        return Err(Refusal::Space);
     }
-    Answer::Accepted
+    Ok(())
 }
 
 // The answer to a depuncturing of `count` values into `space` places.
-pub fn answer_depuncture(rate: CodeRate, count: usize, space: usize) -> Answer
+pub fn answer_depuncture(rate: CodeRate, count: usize, space: usize) -> Result<(), Refusal>
     ensures { result ≡ first_row (depuncture_rows rate count space) }
 {
     let p = Puncturing::new(rate);
     if count % p.n != 0 {
-        return Answer::Length;
+        return Err(Refusal::Length);
     }
     if few(space, 2 * p.period, count / p.n) {
-        return Answer::Space;
+        return Err(Refusal::Space);
     }
-    Answer::Accepted
+    Ok(())
 }
 
 // The answer to a decoding with `decisions` words into `space` places.
@@ -58,24 +58,24 @@ pub fn answer_decode(
     traceback: usize,
     decisions: usize,
     space: usize,
-) -> Answer
+) -> Result<(), Refusal>
     ensures { result ≡ first_row (decode_rows rate llrs.now traceback decisions space) }
 {
     let p = Puncturing::new(rate);
     if traceback > TRACEBACK_LIMIT {
-        return Answer::Traceback;
+        return Err(Refusal::Traceback);
     }
     if llrs.len() % p.n != 0 {
-        return Answer::Length;
+        return Err(Refusal::Length);
     }
     if some_beyond(llrs, STREAM_LIMIT) {
-        return Answer::Sample;
+        return Err(Refusal::Sample);
     }
     if few(space, p.period, llrs.len() / p.n) {
-        return Answer::Space;
+        return Err(Refusal::Space);
     }
     if decisions < BLOCK + depth_of(traceback) {
-        return Answer::Space;
+        return Err(Refusal::Space);
     }
-    Answer::Accepted
+    Ok(())
 }

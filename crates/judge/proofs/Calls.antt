@@ -6,16 +6,14 @@ use Prim.Native.Nat.{ℕ, ◌<◌}
 use lib.ListN.{length, get_or}
 use lib.Ieee.{Float}
 use Rattle.trellis.specs.Lists.{laid}
-use Rattle.refusal.specs.declared.Answer.{Answer}
-use Rattle.refusal.specs.declared.Answer.TheVariants.{Accepted}
-use Rattle.refusal.specs.Rows.{first_row, Either, says}
+use Rattle.refusal.specs.Rows.{Answer, Accepted, first_row, Either, says}
 use Rattle.refusal.proofs.RowLaws as row
-use Rattle.refusal.proofs.RowLaws.{is_refused}
+use Rattle.refusal.proofs.RowLaws.{is_refused, err_refuses}
 use Rattle.isdbs_tables.specs.declared.Table.{Table}
 use Rattle.isdbs_points.specs.declared.Mapping.{Mapping}
 use Rattle.judge_points.specs.Outside.{outside_counts, outside_sum}
-use Rattle.judge.specs.declared.FrameJudged.{FrameJudged}
-use Rattle.judge.specs.declared.FrameJudged.TheVariants.{Judged, Refused}
+use Rattle.std.specs.Prelude.{Result, Ok, Err}
+use Rattle.refusal.specs.declared.Refusal.{Refusal}
 use Rattle.judge.specs.Rows.{judge_rows}
 use Rattle.judge.specs.Judged.{judged_said, judged_answer, CountsLaid, Worth}
 use Rattle.judge.proofs.JudgedLaws.{passed, refused_worth, judged_worth}
@@ -25,7 +23,7 @@ module _ (re im : List Float) (load : List ℕ) (t : Table) (m : Mapping) (first
   answer = first_row (judge_rows t (length load) re im (length counts₀))
 
   -- the clauses of the contract
-  abbrev pub Call : List ℕ → FrameJudged → Type 0
+  abbrev pub Call : List ℕ → Result ℕ Refusal → Type 0
   Call counts r =
       (judged_said r ≡ judged_answer re im load t m first (length counts₀))
       × (Either answer (counts ≡ laid (outside_counts re im load t m first) counts₀) (counts ≡ counts₀)
@@ -34,14 +32,14 @@ module _ (re im : List Float) (load : List ℕ) (t : Table) (m : Mapping) (first
   abbrev values : List ℕ
   values = outside_sum re im load t m first ∷ []
 
-  refused_says : (x : Answer) → (x ≡ Accepted → ⊥) → judged_said (Refused x) ≡ says x (outside_sum re im load t m first ∷ [])
-  refused_says x n = rw (is_refused x n)
+  pub refused : (x : Refusal) → Err x ≡ answer → Call counts₀ (Err x)
+  refused x e = (
+    (rw (is_refused (Err x) err_refuses)) ∙ ap (λ (z : Answer). says z values) e,
+    (row.refused answer (λ q. err_refuses (e ∙ q)) refl, refused_worth re im load t m first x),
+  )
 
-  pub refused : (x : Answer) → x ≡ answer → (x ≡ Accepted → ⊥) → Call counts₀ (Refused x)
-  refused x e n = (refused_says x n ∙ ap (λ (z : Answer). says z values) e, (row.refused answer (λ q. n (e ∙ q)) refl, refused_worth re im load t m first x))
-
-  pub done : (counts : List ℕ) (sum : ℕ) → Accepted ≡ answer → CountsLaid re im load t m first counts₀ counts sum → ((k : ℕ) → get_or load k 0 < 256) → Call counts (Judged sum)
+  pub done : (counts : List ℕ) (sum : ℕ) → Accepted ≡ answer → CountsLaid re im load t m first counts₀ counts sum → ((k : ℕ) → get_or load k 0 < 256) → Call counts (Ok sum)
   done counts sum h c small = (
-    ap (λ (z : ℕ). judged_said (Judged z)) c.sum_is ∙ ap (λ (z : Answer). says z values) h,
+    ap (λ (z : ℕ). judged_said (Ok z)) c.sum_is ∙ ap (λ (z : Answer). says z values) h,
     (((λ q. c.counts_are), (λ n. absurd (n (sym h)))), judged_worth re im load t m first (length counts₀) sum (passed t (length load) re im (length counts₀) (sym h)) small c.sum_is),
   )

@@ -8,9 +8,7 @@ use lib.Dec.{eqb, ltb}
 use lib.ListN.{length, get_or}
 use lib.Ieee.{Float}
 use borrow.Author.Tests.{ltb-false, eqb-true, not-false}
-use Rattle.refusal.specs.declared.Answer.{Answer}
-use Rattle.refusal.specs.declared.Answer.TheVariants.{Accepted, Length, Symbols, Space}
-use Rattle.refusal.specs.Rows.{first_row}
+use Rattle.refusal.specs.Rows.{Answer, Accepted, Length, Symbols, Space, first_row}
 use Rattle.refusal.proofs.RowLaws as row
 use Rattle.refusal.proofs.RowLaws.{neither}
 use Rattle.isdbs_tables.specs.declared.Table.{Table}
@@ -26,7 +24,8 @@ use Rattle.judge_points.proofs.OutsideLaws.{sum_zero_within, within_sum_zero}
 use Rattle.judge_points.proofs.CertainLaws.{certain}
 use Rattle.judge.specs.Rows.{lent_rows, judge_rows}
 use Rattle.judge.specs.Judged.{Worth}
-use Rattle.judge.specs.declared.FrameJudged.TheVariants.{Judged, Refused}
+use Rattle.std.specs.Prelude.{Ok, Err}
+use Rattle.refusal.specs.declared.Refusal.{Refusal}
 
 -- what an accepted call may rest on
 pub record Passed (t : Table) (bytes : ℕ) (re im : List Float) (counts : ℕ) : Type 0 where
@@ -51,15 +50,15 @@ passed t bytes re im counts h =
 
 module _ (re im : List Float) (load : List ℕ) (t : Table) (m : Mapping) (first : Bool) where
   -- a refusal promises nothing
-  pub refused_worth : (a : Answer) → Worth re im load t m first (Refused a)
-  refused_worth a =
+  pub refused_worth : (row : Refusal) → Worth re im load t m first (Err row)
+  refused_worth row =
       record {
         certain = λ q. absurd (let z : ◌≡◌ {A = ℕ} 0 1 = cc in omega arith);
         doubtful = λ n q h w. let z : ◌≡◌ {A = ℕ} 0 1 = cc in omega arith;
       }
 
   -- an accepted call: its bytes are bytes, and its sum is that of the points outside
-  pub judged_worth : (counts sum : ℕ) → Passed t (length load) re im counts → ((k : ℕ) → get_or load k 0 < 256) → sum ≡ outside_sum re im load t m first → Worth re im load t m first (Judged sum)
+  pub judged_worth : (counts sum : ℕ) → Passed t (length load) re im counts → ((k : ℕ) → get_or load k 0 < 256) → sum ≡ outside_sum re im load t m first → Worth re im load t m first (Ok sum)
   judged_worth counts sum p small e =
       let full : FullLoad load (load_bytes t) = record { size = p.whole; bytes = λ k l. small k } in
       record {

@@ -3,10 +3,8 @@ use mathlib.Core.Path.{◌≡◌}
 use mathlib.Core.List.{List}
 use Prim.Native.Nat.{ℕ}
 use lib.Ieee.{Float}
-use Rattle.refusal.specs.Rows.{first_row}
+use Rattle.refusal.specs.Rows.{first_row, Answer, Accepted}
 use Rattle.refusal.proofs.RowLaws.{refused_by, passed_by}
-use Rattle.refusal.specs.declared.Answer.{Answer}
-use Rattle.refusal.specs.declared.Answer.TheVariants.{Accepted}
 use Rattle.isdbs_tables.specs.declared.Table.{Table}
 use Rattle.isdbs_tables.specs.Tables.{table_rows, table_answer}
 use Rattle.isdbs_tables.proofs.TableLaws.{table_refusing}

@@ -1,5 +1,5 @@
 -- What `judge` answers and leaves, and what it is worth. Definitions only.
-use Rattle.std.specs.Prelude.{◌≡◌, Bool, List, [], ◌∷◌, ℕ, length, Float}
+use Rattle.std.specs.Prelude.{◌≡◌, Bool, List, [], ◌∷◌, ℕ, length, Float, Result, Ok, Err}
 use Rattle.trellis.specs.Lists.{laid}
 use Rattle.refusal.specs.Rows.{number_of, first_row, Said, says}
 use Rattle.isdbs_tables.specs.declared.Table.{Table}
@@ -9,13 +9,12 @@ use Rattle.isdbs_points.specs.Layout.{FullLoad}
 use Rattle.margins.specs.Margins.{Within}
 use Rattle.judge_points.specs.Outside.{outside_counts, outside_sum}
 use Rattle.judge.specs.Rows.{judge_rows}
-use Rattle.judge.specs.declared.FrameJudged.{FrameJudged}
-use Rattle.judge.specs.declared.FrameJudged.TheVariants.{Judged, Refused}
+use Rattle.refusal.specs.declared.Refusal.{Refusal}
 
 -- what the call says: the number, and the sum
-abbrev pub judged_said : FrameJudged → Said
-judged_said (Judged sum) = (0, sum ∷ [])
-judged_said (Refused a) = (number_of a, [])
+abbrev pub judged_said : Result ℕ Refusal → Said
+judged_said (Ok sum) = (0, sum ∷ [])
+judged_said (Err row) = (number_of (Err row), [])
 
 module _ (re im : List Float) (load : List ℕ) (t : Table) (m : Mapping) (first : Bool) where
   -- by the first row that holds; where none does, with the number of points outside
@@ -33,6 +32,6 @@ module _ (re im : List Float) (load : List ℕ) (t : Table) (m : Mapping) (first
     pub only : (other : List ℕ) → FullLoad other (load_bytes t) → Within re im other t m first → other ≡ load
 
   -- judged with sum 0 it is certain, and with another sum the points do not lie within the margins
-  pub record Worth (r : FrameJudged) : Type 0 where
-    pub certain : r ≡ Judged 0 → Certain
-    pub doubtful : (sum : ℕ) → r ≡ Judged sum → (sum ≡ 0 → ⊥) → Within re im load t m first → ⊥
+  pub record Worth (r : Result ℕ Refusal) : Type 0 where
+    pub certain : r ≡ Ok 0 → Certain
+    pub doubtful : (sum : ℕ) → r ≡ Ok sum → (sum ≡ 0 → ⊥) → Within re im load t m first → ⊥

@@ -22,34 +22,34 @@ use isdbs_points::start_state;
 use isdbs_rows::points_answer;
 pub use judge_points::{FRAME_SLOTS, SLOT_SYMBOLS};
 use judge_points::{clear_counts, count_points};
-use refusal::Answer;
+use refusal::Refusal;
 
 // Rows 5, 6, 7 and 9: the load has `need` bytes, `bytes` and `counts` are the lengths that are lent.
-fn lent_answer(need: usize, bytes: usize, re: &[f64], im: &[f64], counts: usize) -> Answer
+fn lent_answer(
+    need: usize,
+    bytes: usize,
+    re: &[f64],
+    im: &[f64],
+    counts: usize,
+) -> Result<(), Refusal>
     ensures { result ≡ first_row (lent_rows need bytes re.now im.now counts) }
 {
     if bytes != need {
-        return Answer::Length;
+        return Err(Refusal::Length);
     }
-    let points = points_answer(re, im);
-    let Answer::Accepted = points else {
-        return points;
-    };
+    points_answer(re, im)?;
     if counts < FRAME_SLOTS {
-        return Answer::Space;
+        return Err(Refusal::Space);
     }
-    Answer::Accepted
+    Ok(())
 }
 
 // Why the call is turned back.
-fn judge_answer(p: Plan, bytes: usize, re: &[f64], im: &[f64], counts: usize) -> Answer
+fn judge_answer(p: Plan, bytes: usize, re: &[f64], im: &[f64], counts: usize) -> Result<(), Refusal>
     requires { p ≡ plan_of p.table }
     ensures { result ≡ first_row (judge_rows p.table bytes re.now im.now counts) }
 {
-    let table = table_answer(p.table);
-    let Answer::Accepted = table else {
-        return table;
-    };
+    table_answer(p.table)?;
     lent_answer(p.bytes, bytes, re, im, counts)
 }
 
@@ -110,14 +110,7 @@ fn judge_frame(f: FrameForm, re: &[f64], im: &[f64], bytes: &[u8], counts: &mut 
     judge_arrays(f, re, im, bytes, &mut xs, &mut ys, counts)
 }
 
-// What judging answers: the points with a part outside its margin, or why it is turned back.
-#[derive(Clone, Copy)]
-pub enum FrameJudged {
-    Judged(u32),
-    Refused(Answer),
-}
-
-// The first 38,976 points that are lent, held to the margins of demand 3 of a full load: `counts` begins with the points of each slot outside, and the answer has the sum. Where it is 0,
+// The first 38,976 points that are lent, held to the margins of demand 3 of a full load: `counts` begins with the points of each slot outside, and the answer is their sum. Where it is 0,
 // every full load within whose margins the points lie is the given one.
 pub fn judge(
     re: &[f64],
@@ -127,7 +120,7 @@ pub fn judge(
     first: bool,
     bytes: &[u8],
     counts: &mut [u32],
-) -> FrameJudged
+) -> Result<u32, Refusal>
     ensures answers { judged_said result ≡ judged_answer re.now im.now bytes.now t m first (length counts.old) }
     ensures leaves { Either (first_row (judge_rows t (length bytes.now) re.now im.now (length counts.old)))
         (counts.new ≡ laid (outside_counts re.now im.now bytes.now t m first) counts.old)
@@ -135,14 +128,11 @@ pub fn judge(
     ensures worth { Worth re.now im.now bytes.now t m first result }
 {
     let p = plan_of(t);
-    let answer = judge_answer(p, bytes.len(), re, im, counts.len());
-    let Answer::Accepted = answer else {
-        return FrameJudged::Refused(answer);
-    };
+    judge_answer(p, bytes.len(), re, im, counts.len())?;
     let f = FrameForm {
         plan: p,
         mapping: m,
         first,
     };
-    FrameJudged::Judged(judge_frame(f, re, im, bytes, counts))
+    Ok(judge_frame(f, re, im, bytes, counts))
 }

@@ -1,7 +1,9 @@
 -- Counts that grow by one point, and what stands in a list.
 use mathlib.Core.Path.{◌≡◌, refl, sym, ◌∙◌, ap}
 use mathlib.Core.Bool.{Bool, true, false, ◌&&◌}
-use mathlib.Core.List.{List, [], ◌∷◌}
+use mathlib.Core.List.{List, [], ◌∷◌, ◌++◌}
+use Rattle.std.proofs.Common.{replicate}
+use Rattle.std.proofs.lemmas.List.{replicate-append-replicate}
 use Prim.Native.Nat.{ℕ, zero, suc, ◌+◌, ◌-◌, ◌/◌, ◌<◌, ◌≤◌}
 use native.Mathlib.Nat.{not-suc-le-zero}
 use native.Mathlib.Numerals.{add-one}
@@ -12,13 +14,19 @@ use lib.Ieee.{Float, nan}
 use lib.ListN.{get_or, length, set, length-set}
 use lib.Seq.{get_or-set_same, get_or-set_other}
 use borrow.Author.Tests.{eqb-true, eqb-false}
-use Rattle.trellis.specs.Lists.{bit}
+use Rattle.trellis.specs.Lists.{bit, upto}
 use Rattle.isdbs_metrics.specs.DigitLaws.{bool_bit}
 use Rattle.strain_marks.specs.Counts.{summed, counted}
 use Rattle.isdbs_combination.specs.Combinations.{slot_symbols}
 use Rattle.isdbs_plan.specs.declared.Run.{Run}
 use Rattle.isdbs_points.specs.Points.{zero64}
 use Rattle.judge_points.specs.Given.{outside_given, given_at, added, Counted}
+
+-- a filled front
+pub filled : {A : Type 0} (v : A) (n : ℕ) → replicate n v ≡ upto (λ _. v) n
+unfolding upto
+filled {A} v zero = refl
+filled {A} v (suc n) = ap (λ (k : ℕ). replicate k v) (sym (add-one n)) ∙ sym (replicate-append-replicate n 1 v) ∙ ap (λ (l : List A). l ++ (v ∷ [])) (filled v n)
 
 pub bool_few : (b : Bool) → bool_byte b ≤ 1
 bool_few true = omega arith

@@ -1,5 +1,5 @@
 -- Points that are counted part after part: all of them, with the runs of a table and the frame that a load encodes to, are those of the verdict.
-use Rattle.std.specs.Prelude.{◌≡◌, Bool, true, false, ◌&&◌, eqb, ltb, get_or, length, drop, replicate, Float}
+use Rattle.std.specs.Prelude.{◌≡◌, Bool, true, false, ◌&&◌, eqb, ltb, get_or, length, drop, replicate, Float, Option, Some, None}
 use Rattle.std.proofs.Math.Path.{refl}
 use Rattle.std.proofs.Common.{sym, ◌∙◌, ap, zero-add, ext_get_or, get_or-append-add, get_or-drop, le-ltb, eq-eqb, ne_eqb, ltb-true, ltb-false}
 use mathlib.Core.List.{List, [], ◌∷◌, ◌++◌}
@@ -9,8 +9,6 @@ use Rattle.std.specs.Float.{nan}
 use Rattle.trellis.specs.Lists.{bit, upto, laid, padded}
 use Rattle.trellis.specs.ListLaws.{length_upto}
 use Rattle.isdbs_combination.specs.declared.Combination.{Combination}
-use Rattle.isdbs_combination.specs.declared.MaybeCombination.{MaybeCombination}
-use Rattle.isdbs_combination.specs.declared.MaybeCombination.TheVariants.{Some, None}
 use Rattle.isdbs_plan.specs.declared.Run.{Run}
 use Rattle.isdbs_tables.specs.declared.Entry.{Entry}
 use Rattle.isdbs_tables.specs.declared.Table.{Table}
@@ -48,7 +46,7 @@ module _ {A : Type 0} (none : A) (f : Combination → A) (k : ℕ) where
   padded_run [] n = past_runs n
   padded_run (r ∷ rs) n = rw (padded_run rs n)
 
-  entry_run : (c : MaybeCombination) (n slot symbol : ℕ) (rs : List Run) → ((s b : ℕ) → in_segments rs s b ≡ in_runs rs) → (s b : ℕ)
+  entry_run : (c : Option Combination) (n slot symbol : ℕ) (rs : List Run) → ((s b : ℕ) → in_segments rs s b ≡ in_runs rs) → (s b : ℕ)
       → in_segments (entry_runs c n slot symbol ++ rs) s b ≡ in_runs (entry_runs c n slot symbol ++ rs)
   unfolding run_at among segments_from
   entry_run (Some c) n slot symbol rs h s b =

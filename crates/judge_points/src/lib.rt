@@ -11,7 +11,7 @@ ghost use Rattle.judge_points.specs.Given.{re_free, im_free, outside_given, give
 
 pub use isdbs_combination::{FRAME_SLOTS, SLOT_SYMBOLS};
 use isdbs_core::slots::{Plan, Run};
-use margins::{both, holds, is_bpsk};
+use margins::{holds, is_bpsk};
 
 // Which parts of a point are free.
 #[derive(Clone, Copy)]
@@ -25,13 +25,11 @@ fn free_at(list: [Run; 4], k: usize) -> Free
     requires { length list ≡ 4 }
     ensures { (result.re ≡ re_free list k) × (result.im ≡ im_free list k) }
 {
-    for i in 0..4 {
-        let r = list[i];
-        if k < r.symbol_end {
-            let c = r.combination;
+    for run in &list {
+        if k < run.symbol_end {
             return Free {
                 re: false,
-                im: is_bpsk(c),
+                im: is_bpsk(run.combination),
             };
         }
     }
@@ -46,14 +44,14 @@ fn outside(list: [Run; 4], x: f64, y: f64, re: &[f64], im: &[f64], k: usize) -> 
     let f = free_at(list, k);
     let a = holds(f.re, x, re[k]);
     let b = holds(f.im, y, im[k]);
-    !both(a, b)
+    !(a && b)
 }
 
 // Part i of a block; 0 past it.
 fn part(xs: &[f64], i: usize) -> f64
     ensures { result ≡ get_or xs.now i zero64 }
 {
-    if i < xs.len() { xs[i] } else { 0.0 }
+    xs.get(i).copied().unwrap_or(0.0)
 }
 
 // No point of the first `slots` slots has been counted.
@@ -61,9 +59,7 @@ pub fn clear_counts(counts: &mut [u32], slots: usize)
     requires { slots ≤ length counts.old }
     ensures { counts.new ≡ laid (upto (λ _. 0) slots) counts.old }
 {
-    for j in 0..slots {
-        counts[j] = 0;
-    }
+    counts[..slots].fill(0);
 }
 
 // The n points from number `from` on, held to the margins of the clean parts xs and ys, which begin there: each that is outside counts in its slot. How many there are.
@@ -86,8 +82,8 @@ pub fn count_points(
         let k = from + i;
         let one = outside(list, part(xs, i), part(ys, i), re, im, k) as u32;
         let j = k / SLOT_SYMBOLS;
-        counts[j] = counts[j] + one;
-        sum = sum + one;
+        counts[j] += one;
+        sum += one;
     }
     sum
 }

@@ -1,7 +1,6 @@
 -- The three calls put together.
-use mathlib.Core.Path.{◌≡◌, refl, sym, ap, ◌∙◌, subst}
+use mathlib.Core.Path.{◌≡◌, refl, sym, ap, ◌∙◌}
 use mathlib.Core.Bool.{◌||◌}
-use mathlib.Core.Logic.{⊎_elim}
 use mathlib.Core.List.{List, [], ◌∷◌, ◌++◌}
 use Prim.Native.Nat.{ℕ, ◌+◌, ◌-◌, ◌*◌, ◌/◌, ◌%◌, ◌≤◌}
 use native.Mathlib.Omega.{arith}
@@ -10,10 +9,10 @@ use lib.Dec.{ltb}
 use borrow.Rule.Slice.PartMut.{mid_of, put_mid}
 use lib.ListN.{length, take, drop, replicate, length-append, length-drop}
 use lib.Ieee.{Float}
-use Rattle.refusal.specs.Rows.{first_row, Either}
-use Rattle.refusal.specs.declared.Answer.{Answer}
-use Rattle.refusal.specs.declared.Answer.TheVariants.{Accepted, Space}
-use Rattle.refusal.proofs.RowLaws.{none_accepted, refused, decided}
+use Rattle.std.specs.Prelude.{Result, Ok, Err, IfOk, MatchResult}
+use Rattle.refusal.specs.declared.Refusal.{Refusal}
+use Rattle.refusal.specs.Rows.{first_row, Answer, answer_of, Accepted, Space}
+use Rattle.refusal.proofs.RowLaws.{none_accepted, err_refuses}
 use Rattle.trellis.specs.Isdb
 use Rattle.trellis.specs.Isdb.{flush_at}
 use Rattle.trellis.specs.Lists.{laid}
@@ -25,10 +24,9 @@ use Rattle.trellis.specs.LaidLaws.{take_laid, laid_after}
 use Rattle.viterbi_core.specs.PartLaws.{tail_whole, written_tail}
 use Rattle.viterbi_core.specs.TracedLaws.{length_traced}
 use Rattle.isdb_fec.specs.declared.conv.ViterbiDecoder.{ViterbiDecoder}
-use Rattle.isdb_fec.specs.declared.conv.Made.{Made}
 use Rattle.isdb_fec.specs.declared.conv.Released.{Released}
-use Rattle.isdb_fec.specs.Rows.{fresh_rows, stream_rest, push_rows, flush_rows}
-use Rattle.isdb_fec.specs.Calls.{call, handed, Fresh, Zero, Leaves, FlushesAt, Unchanged}
+use Rattle.isdb_fec.specs.Rows.{stream_rest, push_rows, flush_rows}
+use Rattle.isdb_fec.specs.Calls.{call, handed, Leaves, FlushesAt, Unchanged}
 use Rattle.isdb_fec.specs.AnswerLaws.{flush_enough}
 use Rattle.isdb_fec.proofs.TwoCallLaws.{soft_call}
 use Rattle.range_calls.specs.Reached.{Reached, Floats, with_state}
@@ -38,10 +36,10 @@ use Rattle.range_calls.specs.Finished.{Finished}
 use Rattle.trellis.proofs.RunLaws.{depth_range}
 use Rattle.known_end.specs.Calls.{read, between_rows, Left, Corrects}
 use Rattle.known_end.specs.Behind.{Behind}
-use Rattle.known_end.proofs.Rows.{started, Passed, passed, fresh_passes, fresh_is, started_is, soft_rows}
+use Rattle.known_end.proofs.Rows.{started, Passed, passed, fresh_passes, soft_rows}
 
 -- ---- the theorem follows from the rows and from what is left
-corrects : (tb s e : ℕ) (xs : List Float) (r : Released) (dec₀ dec out₀ out : List ℕ) → r.answer ≡ first_row (between_rows tb xs (length dec₀) (length out₀)) → Left tb s e xs r dec₀ dec out₀ out
+corrects : (tb s e : ℕ) (xs : List Float) (r : Result Released Refusal) (dec₀ dec out₀ out : List ℕ) → answer_of r ≡ first_row (between_rows tb xs (length dec₀) (length out₀)) → Left tb s e xs r dec₀ dec out₀ out
     → Corrects tb s e xs r (length dec₀) (length out₀) out
 corrects tb s e xs r dec₀ dec out₀ out a l us ps h few bits ends coded count four is =
     let n : length xs / 2 ≡ length us = let k = ap length is ∙ length_soft ps in omega arith in
@@ -51,68 +49,77 @@ corrects tb s e xs r dec₀ dec out₀ out a l us ps h few bits ends coded count
     (λ k g. let p = soft_at_lem ps k (omega arith) in rw (is, p.0, p.1) refl) in (
       a ∙ ap (λ (x : List Float). first_row (between_rows tb x (length dec₀) (length out₀))) is ∙ soft_rows tb ps (length dec₀) (length out₀) h
           ∙ ap (λ (k : ℕ). first_row ((Space, ltb (length out₀) k || ltb (length dec₀) (block + depth tb)) ∷ [])) count,
-      λ y.
-          let g = l.0 y in (
+      λ x y.
+          let g = rw y at l in (
             g.count_is ∙ ap length b,
             ap (λ (x : List ℕ). take (length us) x) g.bits ∙ ap (λ (x : List ℕ). take (length us) (laid x out₀)) b ∙ take_laid us out₀,
           ),
     )
 
 -- what is promised of the whole
-abbrev pub Meets : ℕ → ℕ → ℕ → List Float → Released → List ℕ → List ℕ → List ℕ → List ℕ → Type 0
+abbrev pub Meets : ℕ → ℕ → ℕ → List Float → Result Released Refusal → List ℕ → List ℕ → List ℕ → List ℕ → Type 0
 Meets tb s e xs r dec₀ dec out₀ out =
-    (r.answer ≡ first_row (between_rows tb xs (length dec₀) (length out₀))) × Left tb s e xs r dec₀ dec out₀ out × Corrects tb s e xs r (length dec₀) (length out₀) out
+    (answer_of r ≡ first_row (between_rows tb xs (length dec₀) (length out₀))) × Left tb s e xs r dec₀ dec out₀ out × Corrects tb s e xs r (length dec₀) (length out₀) out
 
-meets : (tb s e : ℕ) (xs : List Float) (r : Released) (dec₀ dec out₀ out : List ℕ) → r.answer ≡ first_row (between_rows tb xs (length dec₀) (length out₀)) → Left tb s e xs r dec₀ dec out₀ out
+meets : (tb s e : ℕ) (xs : List Float) (r : Result Released Refusal) (dec₀ dec out₀ out : List ℕ) → answer_of r ≡ first_row (between_rows tb xs (length dec₀) (length out₀)) → Left tb s e xs r dec₀ dec out₀ out
     → Meets tb s e xs r dec₀ dec out₀ out
 meets tb s e xs r dec₀ dec out₀ out a l = (a, l, corrects tb s e xs r dec₀ dec out₀ out a l)
 
--- ---- refused: the fresh decoder, and nothing is written
-pub turned_back : (tb s e : ℕ) (xs : List Float) (m : Made) (a : Answer) (dec out : List ℕ) → (m.answer ≡ first_row (fresh_rows tb)) × Either m.answer (Fresh tb (start_at 64 s) m.dec) (Zero m.dec)
-    → a ≡ first_row (between_rows tb xs (length dec) (length out)) → (a ≡ Accepted → ⊥) → Meets tb s e xs (record { answer = a; dec = m.dec; count = 0 }) dec dec out out
-turned_back tb s e xs m a dec out made is never =
-    meets tb s e xs (record { answer = a; dec = m.dec; count = 0 }) dec dec out out is
-    (refused a never (record { state = fresh_is tb s m.answer m.dec made.0 made.1; count_is = refl; words = refl; bits = refl }))
+-- ---- refused: nothing is written
+pub turned_back : (tb s e : ℕ) (xs : List Float) (row : Refusal) (dec out : List ℕ) → Err row ≡ first_row (between_rows tb xs (length dec) (length out)) → Meets tb s e xs (Err row) dec dec out out
+turned_back tb s e xs row dec out is = meets tb s e xs (Err row) dec dec out out is (record { words = refl; bits = refl })
 
 -- ---- a flush behind the bits that are there: no more bits than places
-pub few_bits : (e : ℕ) (v : ViterbiDecoder) (rest : Released) (dec₁ dec₂ part end : List ℕ) → rest.answer ≡ first_row (flush_rows v (length dec₁) (length part))
-    → Either rest.answer (FlushesAt e v rest dec₁ dec₂ part end) (Unchanged v rest dec₁ dec₂ part end) → rest.count ≤ length part
+pub few_bits : (e : ℕ) (v : ViterbiDecoder) (rest : Released) (dec₁ dec₂ part end : List ℕ) → Accepted ≡ first_row (flush_rows v (length dec₁) (length part)) → FlushesAt e v rest dec₁ dec₂ part end → rest.count ≤ length part
 few_bits e v rest dec₁ dec₂ part end a l =
-    ⊎_elim
-    (λ y. let k = (l.0 y).count_is in let h = (flush_enough v (length dec₁) (length part) (sym y ∙ a)).room in omega arith)
-    (λ n. let k = (l.1 n).count_is in omega arith)
-    (decided rest.answer)
+    let k = l.count_is in
+    let h = (flush_enough v (length dec₁) (length part) a).room in
+    omega arith
 
 pub length_tail : (a : ℕ) (out : List ℕ) → a ≤ length out → length (mid_of a (length out - a) out) ≡ length out - a
 length_tail a out h = ap length (tail_whole a out [] [] h) ∙ length-drop a out
 
-pub behind : (e : ℕ) (p rest : Released) (dec₁ dec₂ out₁ end : List ℕ) → p.count ≤ length out₁
-    → rest.answer ≡ first_row (flush_rows p.dec (length dec₁) (length (mid_of p.count (length out₁ - p.count) out₁)))
-    → Either rest.answer (FlushesAt e p.dec rest dec₁ dec₂ (mid_of p.count (length out₁ - p.count) out₁) end) (Unchanged p.dec rest dec₁ dec₂ (mid_of p.count (length out₁ - p.count) out₁) end)
-    → (rest.answer ≡ first_row (flush_rows p.dec (length dec₁) (length out₁ - p.count)))
-    × (rest.answer ≡ Accepted → Behind e p (record { answer = rest.answer; dec = rest.dec; count = p.count + rest.count }) dec₁ dec₂ out₁ (put_mid p.count (length out₁ - p.count) out₁ end))
-behind e p rest dec₁ dec₂ out₁ end h a l = (
-  a ∙ ap (λ (k : ℕ). first_row (flush_rows p.dec (length dec₁) k)) (length_tail p.count out₁ h),
-  λ y.
-      let f = l.0 y in
-      record {
-        values = f.values;
-        held_is = f.held_is;
-        traceback_is = f.traceback_is;
-        count_is = ap (λ (k : ℕ). p.count + k) f.count_is;
-        words = f.words;
-        bits = written_tail p.count out₁ end (flush_at e (handed p.dec dec₁)).bits h f.bits;
-      },
-)
+pub answers_behind : (p : Released) (a : Answer) (dec₁ out₁ : List ℕ) → p.count ≤ length out₁ → a ≡ first_row (flush_rows p.dec (length dec₁) (length (mid_of p.count (length out₁ - p.count) out₁)))
+    → a ≡ first_row (flush_rows p.dec (length dec₁) (length out₁ - p.count))
+answers_behind p a dec₁ out₁ h is = is ∙ ap (λ (k : ℕ). first_row (flush_rows p.dec (length dec₁) k)) (length_tail p.count out₁ h)
 
--- ---- what `push` says of the decoder v
-abbrev Push : ViterbiDecoder → List Float → Released → List ℕ → List ℕ → List ℕ → List ℕ → Type 0
-Push v xs p dec₀ dec₁ out₀ out₁ =
-    (p.answer ≡ first_row (push_rows v xs (length dec₀) (length out₀)))
-    × Either p.answer (Leaves v.traceback (call v.traceback (pair_steps xs) (handed v dec₀) (length xs / 2)) p dec₀ dec₁ out₀ out₁) (Unchanged v p dec₀ dec₁ out₀ out₁)
+pub behind : (e : ℕ) (p rest : Released) (dec₁ dec₂ out₁ end : List ℕ) → p.count ≤ length out₁ → FlushesAt e p.dec rest dec₁ dec₂ (mid_of p.count (length out₁ - p.count) out₁) end
+    → Behind e p (record { dec = rest.dec; count = p.count + rest.count }) dec₁ dec₂ out₁ (put_mid p.count (length out₁ - p.count) out₁ end)
+behind e p rest dec₁ dec₂ out₁ end h f =
+    record {
+      values = f.values;
+      held_is = f.held_is;
+      traceback_is = f.traceback_is;
+      count_is = ap (λ (k : ℕ). p.count + k) f.count_is;
+      words = f.words;
+      bits = written_tail p.count out₁ end (flush_at e (handed p.dec dec₁)).bits h f.bits;
+    }
 
-module _ (tb s e : ℕ) (xs : List Float) (dec₀ dec₁ out₀ out₁ : List ℕ) (p : Released) (m : Made) (ok : first_row (between_rows tb xs (length dec₀) (length out₀)) ≡ Accepted)
-    (made : (m.answer ≡ first_row (fresh_rows tb)) × Either m.answer (Fresh tb (start_at 64 s) m.dec) (Zero m.dec)) (pushes : Push m.dec xs p dec₀ dec₁ out₀ out₁) where
+-- ---- what `push` says of the fresh decoder
+abbrev pub Push : ℕ → ℕ → List Float → Result Released Refusal → List ℕ → List ℕ → List ℕ → List ℕ → Type 0
+Push tb s xs p dec₀ dec₁ out₀ out₁ =
+    (answer_of p ≡ first_row (push_rows (started tb s) xs (length dec₀) (length out₀)))
+    × MatchResult p (λ x. Leaves (depth tb) (call (depth tb) (pair_steps xs) (handed (started tb s) dec₀) (length xs / 2)) x dec₀ dec₁ out₀ out₁) (λ _. Unchanged dec₀ dec₁ out₀ out₁)
+
+begun : (tb s : ℕ) → tb ≤ 1024 → Reached (started tb s)
+begun tb s h = with_state tb s (fresh_passes tb h) (record { values = refl; held_is = refl; traceback_is = refl })
+
+-- `push` accepts
+push_accepts : (tb s : ℕ) (xs : List Float) (dec₀ out₀ : List ℕ) → first_row (between_rows tb xs (length dec₀) (length out₀)) ≡ Accepted → first_row (push_rows (started tb s) xs (length dec₀) (length out₀)) ≡ Accepted
+push_accepts tb s xs dec₀ out₀ ok =
+    let pass = passed tb xs (length dec₀) (length out₀) ok in
+    let small = depth_range tb pass.traceback in
+    let r = releases_le (depth tb) 0 (length xs / 2) small.1 in
+    let o = pass.places in
+    stream_answer (begun tb s pass.traceback) 2 xs (length dec₀) (length out₀)
+    ∙ none_accepted (stream_rest 2 (started tb s) xs (length dec₀) (length out₀))
+    (pass.whole, (pass.inside, (rw (le-ltb (length out₀) (block * releases (depth tb) 0 (length xs / 2)) (omega arith), le-ltb (length dec₀) (block + depth tb) pass.words) refl, tt)))
+
+pub push_taken : (tb s : ℕ) (xs : List Float) (row : Refusal) (dec₀ dec₁ out₀ out₁ : List ℕ) → first_row (between_rows tb xs (length dec₀) (length out₀)) ≡ Accepted → Push tb s xs (Err row) dec₀ dec₁ out₀ out₁ → ⊥
+push_taken tb s xs row dec₀ dec₁ out₀ out₁ ok says = err_refuses {row = row} (says.0 ∙ push_accepts tb s xs dec₀ out₀ ok)
+
+module _ (tb s e : ℕ) (xs : List Float) (dec₀ dec₁ out₀ out₁ : List ℕ) (p : Released) (ok : first_row (between_rows tb xs (length dec₀) (length out₀)) ≡ Accepted)
+    (says : Push tb s xs (Ok p) dec₀ dec₁ out₀ out₁) where
   abbrev n : ℕ
   n = length xs / 2
 
@@ -125,23 +132,8 @@ module _ (tb s e : ℕ) (xs : List Float) (dec₀ dec₁ out₀ out₁ : List �
   small : (1 ≤ depth tb) × (depth tb ≤ 1024)
   small = depth_range tb pass.traceback
 
-  says : Push (started tb s) xs p dec₀ dec₁ out₀ out₁
-  says = subst (λ (v : ViterbiDecoder). Push v xs p dec₀ dec₁ out₀ out₁) (started_is tb s m.answer m.dec pass.traceback made.0 made.1) pushes
-
-  begun : Reached (started tb s)
-  begun = with_state tb s (fresh_passes tb pass.traceback) (record { values = refl; held_is = refl; traceback_is = refl })
-
-  -- `push` accepts
-  yes : p.answer ≡ Accepted
-  yes =
-      let r = releases_le (depth tb) 0 n small.1 in
-      let o = pass.places in
-      says.0 ∙ stream_answer begun 2 xs (length dec₀) (length out₀)
-      ∙ none_accepted (stream_rest 2 (started tb s) xs (length dec₀) (length out₀))
-      (pass.whole, (pass.inside, (rw (le-ltb (length out₀) (block * releases (depth tb) 0 n) (omega arith), le-ltb (length dec₀) (block + depth tb) pass.words) refl, tt)))
-
   left : Leaves (depth tb) d p dec₀ dec₁ out₀ out₁
-  left = says.1.0 yes
+  left = says.1
 
   counts : Counted (depth tb) 0 0 n d
   counts = soft_call (pair_steps xs) n (depth tb) (record { values = start_at 64 s; words = []; bits = [] }) small.0 small.1 (omega arith)
@@ -157,12 +149,11 @@ module _ (tb s e : ℕ) (xs : List Float) (dec₀ dec₁ out₀ out₁ : List �
       holding_is (depth tb) d dec₀ out₀ p.dec.pm p.dec.held p.count dec₁ out₁
       (record { values = left.values; held_is = left.held_is; count_is = left.count_is; words = left.words; bits = left.bits })
 
-  module _ (fit : Floats xs) (same-dec : length dec₁ ≡ length dec₀) (same_out : length out₁ ≡ length out₀) (r : Released) (dec₂ out₂ : List ℕ)
-      (a : r.answer ≡ first_row (flush_rows p.dec (length dec₁) (length out₁ - p.count))) (b : r.answer ≡ Accepted → Behind e p r dec₁ dec₂ out₁ out₂) where
+  module _ (fit : Floats xs) (same-dec : length dec₁ ≡ length dec₀) (same_out : length out₁ ≡ length out₀) (dec₂ out₂ : List ℕ) where
     -- `flush_at` accepts
-    done : r.answer ≡ Accepted
-    done =
-        let i = push_hands begun p dec₀ dec₁ out₀ out₁ xs fit says.0 says.1 in
+    done : (a : Answer) → a ≡ first_row (flush_rows p.dec (length dec₁) (length out₁ - p.count)) → a ≡ Accepted
+    done a is =
+        let i = push_hands (begun tb s pass.traceback) dec₀ dec₁ out₀ out₁ (Ok p) xs fit says.0 says.1 in
         let w = counts.words_left in
         let o = counts.bits_out in
         let h = left.held_is in
@@ -170,13 +161,12 @@ module _ (tb s e : ℕ) (xs : List Float) (dec₀ dec₁ out₀ out₁ : List �
         let t = left.traceback_is in
         let g = pass.places in
         let k = pass.words in
-        a ∙ flush_answer i (length dec₁) (length out₁ - p.count)
+        is ∙ flush_answer i (length dec₁) (length out₁ - p.count)
         ∙ none_accepted ((Space, ltb (length out₁ - p.count) p.dec.held || ltb (length dec₁) (block + p.dec.traceback)) ∷ [])
         (rw (le-ltb (length out₁ - p.count) p.dec.held (omega arith), le-ltb (length dec₁) (block + p.dec.traceback) (omega arith)) refl, tt)
 
-    finished : Finished (depth tb) (flush_at e d).bits d r dec₀ dec₂ out₀ out₂
-    finished =
-        let g = b done in
+    finished : (r : Released) → Behind e p r dec₁ dec₂ out₁ out₂ → Finished (depth tb) (flush_at e d).bits d r dec₀ dec₂ out₀ out₂
+    finished r g =
         let c = left.count_is in
         let h = left.held_is in
         let m = length-append d.bits (Isdb.traced d.words (e % 64)) in
@@ -196,5 +186,6 @@ module _ (tb s e : ℕ) (xs : List Float) (dec₀ dec₁ out₀ out₁ : List �
               ∙ laid_after d.bits (Isdb.traced d.words (e % 64)) out₀;
         }
 
-    pub accepted : Meets tb s e xs r dec₀ dec₂ out₀ out₂
-    accepted = meets tb s e xs r dec₀ dec₂ out₀ out₂ (done ∙ sym ok) ((λ y. finished), (λ never. absurd (never done)))
+    pub accepted : (r : Result Released Refusal) → answer_of r ≡ first_row (flush_rows p.dec (length dec₁) (length out₁ - p.count)) → IfOk r (λ x. Behind e p x dec₁ dec₂ out₁ out₂) → Meets tb s e xs r dec₀ dec₂ out₀ out₂
+    accepted (Ok x) a b = meets tb s e xs (Ok x) dec₀ dec₂ out₀ out₂ (sym ok) (finished x b)
+    accepted (Err row) a b = absurd (err_refuses {row = row} (done (Err row) a))

@@ -6,13 +6,13 @@ use Prim.Native.Nat.{ℕ, ◌+◌, ◌/◌, ◌%◌, ◌≤◌}
 use native.Mathlib.Omega.{arith}
 use borrow.Author.Tests.{ltb-false, le-ltb}
 use lib.Dec.{eqb, ltb}
-use lib.ListN.{length, replicate}
+use lib.ListN.{length}
 use lib.Ieee.{Float, binary32, neg, le, of_bits}
-use Rattle.refusal.specs.Rows.{first_row, Either}
+use Rattle.std.specs.Prelude.{Result, Ok, Err, IfOk}
+use Rattle.refusal.specs.declared.Refusal.{Refusal}
+use Rattle.refusal.specs.Rows.{first_row, answer_of, Accepted, Traceback, Length, Sample, Space}
 use Rattle.refusal.proofs.RowLaws as row
 use Rattle.refusal.proofs.RowLaws.{neither}
-use Rattle.refusal.specs.declared.Answer.{Answer}
-use Rattle.refusal.specs.declared.Answer.TheVariants.{Accepted, Traceback, Length, Sample, Space}
 use Rattle.trellis.specs.Run.{block, start_at, depth}
 use Rattle.path_greatest.specs.Hard.{soft_pairs}
 use Rattle.path_greatest.proofs.Corrected.{length_soft}
@@ -20,26 +20,13 @@ use Rattle.isdb_fec.specs.declared.conv.ViterbiDecoder.{ViterbiDecoder}
 use Rattle.ieee.specs.Within.{within}
 use Rattle.isdb_fec.specs.Values.{some_beyond, stream_limit}
 use Rattle.isdb_fec.specs.Rows.{fresh_rows}
-use Rattle.isdb_fec.specs.Calls.{Fresh, Zero}
-use Rattle.known_end.specs.Calls.{fresh, between_rows}
+use Rattle.isdb_fec.specs.Calls.{Fresh}
+use Rattle.known_end.specs.Calls.{between_rows}
 
 -- ---- the fresh decoder
 -- of a traceback that is accepted
 abbrev pub started : ℕ → ℕ → ViterbiDecoder
 started tb s = record { pm = start_at 64 s; held = 0; traceback = depth tb }
-
-pub fresh_is : (tb s : ℕ) (a : Answer) (v : ViterbiDecoder) → a ≡ first_row (fresh_rows tb) → Either a (Fresh tb (start_at 64 s) v) (Zero v) → v ≡ fresh tb s
-fresh_is tb s a v e h = go (ltb 1024 tb) refl
-  where
-    zero : Zero v → v ≡ record { pm = replicate 64 (of_bits binary32 0); held = 0; traceback = 0 }
-    zero z = let x = z.values in let y = z.held_is in let t = z.traceback_is in λ i. record { pm = x i; held = y i; traceback = t i }
-
-    good : Fresh tb (start_at 64 s) v → v ≡ started tb s
-    good f = let x = f.values in let y = f.held_is in let t = f.traceback_is in λ i. record { pm = x i; held = y i; traceback = t i }
-
-    go : (w : Bool) → ltb 1024 tb ≡ w → v ≡ cond w (record { pm = replicate 64 (of_bits binary32 0); held = 0; traceback = 0 }) (started tb s)
-    go true t = zero (h.1 (λ y. row.holds (fresh_rows tb) tt Traceback t (sym e ∙ y)))
-    go false t = good (h.0 (rw t at e))
 
 -- ---- a reading that passes
 pub record Passed (tb : ℕ) (xs : List Float) (decisions out : ℕ) : Type 0 where
@@ -64,13 +51,13 @@ passed tb xs decisions out e =
 pub fresh_passes : (tb : ℕ) → tb ≤ 1024 → Accepted ≡ first_row (fresh_rows tb)
 fresh_passes tb h = sym (row.none_accepted (fresh_rows tb) (le-ltb 1024 tb h, tt))
 
-pub started_is : (tb s : ℕ) (a : Answer) (v : ViterbiDecoder) → tb ≤ 1024 → a ≡ first_row (fresh_rows tb) → Either a (Fresh tb (start_at 64 s) v) (Zero v) → v ≡ started tb s
-started_is tb s a v h e m =
-    let f = m.0 (e ∙ sym (fresh_passes tb h)) in
+pub started_is : (tb s : ℕ) (r : Result ViterbiDecoder Refusal) → tb ≤ 1024 → answer_of r ≡ first_row (fresh_rows tb) → IfOk r (λ v. Fresh tb (start_at 64 s) v) → r ≡ Ok (started tb s)
+started_is tb s (Err why) h e m = absurd (row.err_refuses {row = why} (e ∙ sym (fresh_passes tb h)))
+started_is tb s (Ok v) h e f =
     let x = f.values in
     let y = f.held_is in
     let z = f.traceback_is in
-    λ i. record { pm = x i; held = y i; traceback = z i }
+    λ i. Ok (record { pm = x i; held = y i; traceback = z i })
 
 -- ---- a stretch of +1 and -1: row 9 alone is left
 one_inside : (w : Bool) → within stream_limit (cond w (of_bits binary32 0xbf80_0000) (of_bits binary32 0x3f80_0000)) ≡ true

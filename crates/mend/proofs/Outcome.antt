@@ -6,10 +6,12 @@ use Prim.Native.Nat.{ℕ, ◌%◌, ◌≤◌, ◌<◌}
 use native.Mathlib.Omega.{arith}
 use borrow.Author.Tests.{lt-ltb, le-ltb}
 use lib.ListN.{length, take, replicate, length-replicate}
-use Rattle.refusal.specs.Rows.{first_row, Row}
-use Rattle.refusal.proofs.RowLaws.{numbered, refused, refused_by, passed_by, not_answered}
-use Rattle.refusal.specs.declared.Answer.{Answer}
-use Rattle.refusal.specs.declared.Answer.TheVariants.{Accepted, Unmendable}
+use Rattle.std.specs.Prelude.{Ok, Err}
+use Rattle.refusal.specs.declared.Refusal.{Refusal}
+use Rattle.refusal.specs.declared.Refusal.TheVariants as refusal
+use Rattle.refusal.specs.Rows.{first_row, Row, Accepted, Unmendable}
+use Rattle.refusal.proofs.RowLaws as rows
+use Rattle.refusal.proofs.RowLaws.{numbered, passed_by, not_answered}
 use Rattle.trellis.specs.Lists.{upto, laid}
 use Rattle.trellis.specs.ListLaws.{length_upto}
 use Rattle.trellis.specs.LaidLaws.{laid_laid, take_laid}
@@ -17,7 +19,6 @@ use Rattle.mend_distance.specs.Stretches.{most_changed, unlike, sent_from}
 use Rattle.mend_distance.proofs.StretchLaws.{length_sent}
 use Rattle.mend_distance.specs.Distances.{least, unmendable}
 use Rattle.mend_distance.proofs.DistanceLaws.{none_within}
-use Rattle.mend.specs.declared.Mended.{Mended}
 use Rattle.mend.specs.Rows.{lent_rows}
 use Rattle.trellis.specs.Isdb.{frame_words}
 use Rattle.mend.specs.Allowed.{allowed}
@@ -52,37 +53,37 @@ module _ (s e : ℕ) (bits decisions₀ out₀ list₀ : List ℕ) where
   abbrev last : List Row
   last = (Unmendable, unmendable (s % 64) (e % 64) bits) ∷ []
 
-  kept : (a : Answer) → Unchanged (record { answer = a; count = 0 }) decisions₀ decisions₀ out₀ out₀ list₀ list₀
-  kept a = record { count_is = refl; decisions_is = refl; out_is = refl; list_is = refl }
+  kept : Unchanged decisions₀ decisions₀ out₀ out₀ list₀ list₀
+  kept = record { decisions_is = refl; out_is = refl; list_is = refl }
 
-  pub turned_back : (a : Answer) → a ≡ first_row above → (a ≡ Accepted → ⊥) → Called s e bits (record { answer = a; count = 0 }) decisions₀ decisions₀ out₀ out₀ list₀ list₀
-  turned_back a q n =
+  pub turned_back : (row : Refusal) → Err row ≡ first_row above → Called s e bits (Err row) decisions₀ decisions₀ out₀ out₀ list₀ list₀
+  turned_back row q =
       record {
         far = unmendable (s % 64) (e % 64) bits;
-        answers = refused_by above last a q n;
-        leaves = refused a n (kept a);
+        answers = rows.turned_back above last row q;
+        leaves = kept;
         none = λ z. absurd (not_answered above Unmendable tt (numbered Unmendable (omega arith)) (sym q ∙ z));
       }
 
-  pub unmended : first_row above ≡ Accepted → most_changed < least (s % 64) (e % 64) bits → Called s e bits (record { answer = Unmendable; count = 0 }) decisions₀ decisions₀ out₀ out₀ list₀ list₀
+  pub unmended : first_row above ≡ Accepted → most_changed < least (s % 64) (e % 64) bits → Called s e bits (Err refusal.Unmendable) decisions₀ decisions₀ out₀ out₀ list₀ list₀
   unfolding unmendable
   unmended q h =
       let t : unmendable (s % 64) (e % 64) bits ≡ true = lt-ltb most_changed (least (s % 64) (e % 64) bits) h in
       record {
         far = unmendable (s % 64) (e % 64) bits;
         answers = passed_by above last {a = Unmendable} tt (sym q) (rw t refl);
-        leaves = refused Unmendable (numbered Unmendable (omega arith)) (kept Unmendable);
+        leaves = kept;
         none = λ z. none_within (s % 64) (e % 64) bits (omega arith) (allowed bits (length decisions₀) (length out₀) (length list₀) q).are_bits t;
       }
 
-  pub mended : (r : Mended) (decisions out list : List ℕ) → first_row above ≡ Accepted → least (s % 64) (e % 64) bits ≤ most_changed → r.answer ≡ Accepted
-      → Mends s e bits r decisions₀ decisions out₀ out list₀ list → Called s e bits r decisions₀ decisions out₀ out list₀ list
+  pub mended : (count : ℕ) (decisions out list : List ℕ) → first_row above ≡ Accepted → least (s % 64) (e % 64) bits ≤ most_changed
+      → Mends s e bits count decisions₀ decisions out₀ out list₀ list → Called s e bits (Ok count) decisions₀ decisions out₀ out list₀ list
   unfolding unmendable
-  mended r decisions out list q h ok m =
+  mended count decisions out list q h m =
       let t : unmendable (s % 64) (e % 64) bits ≡ false = le-ltb most_changed (least (s % 64) (e % 64) bits) h in
       record {
         far = unmendable (s % 64) (e % 64) bits;
-        answers = ok ∙ passed_by above last {a = Accepted} tt (sym q) (rw t refl);
-        leaves = ((λ z. m), (λ n. absurd (n ok)));
-        none = λ z. absurd (numbered Unmendable (omega arith) (sym z ∙ ok));
+        answers = passed_by above last {a = Accepted} tt (sym q) (rw t refl);
+        leaves = m;
+        none = λ z. absurd (numbered Unmendable (omega arith) (sym z));
       }

@@ -2,10 +2,9 @@
 use Rattle.std.specs.Prelude.{◌≡◌, refl, false, not, ◌||◌, List, [], ◌∷◌, ℕ, ◌%◌, ◌≤◌, eqb, ltb, length}
 use Rattle.std.proofs.Common.{arith, ltb-false, eqb-true, le-ltb}
 use Rattle.std.proofs.lemmas.Bool.{not-false}
-use Rattle.refusal.specs.Rows.{first_row}
+use Rattle.refusal.specs.Rows.{first_row, Accepted, Length, Space}
 use Rattle.refusal.proofs.RowLaws as row
 use Rattle.refusal.proofs.RowLaws.{neither}
-use Rattle.refusal.specs.declared.Answer.TheVariants.{Accepted, Length, Space}
 use Rattle.trellis.specs.Stretch.{Bits}
 use Rattle.mend.specs.Rows.{some_no_bit, most_bits, places, lent_rows}
 use Rattle.trellis.specs.Isdb.{frame_words}
@@ -19,7 +18,6 @@ pub record Allowed (bits : List ℕ) (decisions out list : ℕ) : Type 0 where
   pub words_room : frame_words ≤ decisions
 
 pub bits_only : (bits : List ℕ) → some_no_bit bits ≡ false → Bits bits
-unfolding some_no_bit
 bits_only [] e = tt
 bits_only (b ∷ bs) e =
     let n = neither (ltb 1 b) (some_no_bit bs) e in
@@ -27,7 +25,6 @@ bits_only (b ∷ bs) e =
     (omega arith, bits_only bs n.1)
 
 pub no_other : (bits : List ℕ) → Bits bits → some_no_bit bits ≡ false
-unfolding some_no_bit
 no_other [] h = refl
 no_other (b ∷ bs) h = let l = h.0 in rw (le-ltb 1 b (omega arith), no_other bs h.1) refl
 

@@ -1,13 +1,12 @@
 -- The rows of `mend`: request P13, and document 01, "Where a call is turned back".
 use Rattle.std.specs.Prelude.{Bool, false, not, ◌||◌, List, [], ◌∷◌, ◌++◌, ℕ, ◌*◌, ◌%◌, eqb, ltb, length}
-use Rattle.refusal.specs.Rows.{Row}
-use Rattle.refusal.specs.declared.Answer.TheVariants.{Length, Space, Unmendable}
+use Rattle.refusal.specs.Rows.{Row, Length, Space, Unmendable}
+use Rattle.std.specs.List.{list_any}
 use Rattle.trellis.specs.Isdb.{frame_words}
 
 -- "A bit byte above 1"
-unfoldable pub some_no_bit : List ℕ → Bool
-some_no_bit [] = false
-some_no_bit (b ∷ bs) = ltb 1 b || some_no_bit bs
+abbrev pub some_no_bit : List ℕ → Bool
+some_no_bit bits = list_any (λ b. ltb 1 b) bits
 
 -- "at most 4,096 steps", two bits each
 abbrev pub most_steps : ℕ

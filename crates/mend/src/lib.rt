@@ -14,7 +14,7 @@ ghost use Rattle.mend.specs.Allowed.{Allowed};
 ghost use Rattle.trellis.specs.Isdb;
 
 use mend_distance::{keep_words, least_distance};
-use refusal::Answer;
+use refusal::Refusal;
 use trellis::FRAME_WORDS;
 use viterbi_core::clear;
 use viterbi_encode::encode_bit;
@@ -30,46 +30,35 @@ const MOST_CHANGED: u8 = 4;
 // P13: "the position list always needing four places".
 const PLACES: usize = 4;
 
-// What a call gives: how many positions were changed. Refused: 0.
-#[derive(Clone, Copy)]
-pub struct Mended {
-    pub answer: Answer,
-    pub count: usize,
-}
-
 fn some_no_bit(bits: &[u8]) -> bool
     ensures { result ≡ some_no_bit bits.now }
 {
-    let mut some = false;
-    for i in 0..bits.len() {
-        some = some | (bits[i] > 1);
-    }
-    some
+    bits.iter().any(|b| *b > 1)
 }
 
 // Rows 5 and 9.
-fn answer_lent(bits: &[u8], decisions: usize, out: usize, list: usize) -> Answer
+fn answer_lent(bits: &[u8], decisions: usize, out: usize, list: usize) -> Result<(), Refusal>
     ensures { result ≡ first_row (lent_rows bits.now decisions out list) }
 {
     if bits.len() % 2 != 0 {
-        return Answer::Length;
+        return Err(Refusal::Length);
     }
     if bits.len() > MOST_BITS {
-        return Answer::Length;
+        return Err(Refusal::Length);
     }
     if some_no_bit(bits) {
-        return Answer::Length;
+        return Err(Refusal::Length);
     }
     if out < bits.len() {
-        return Answer::Space;
+        return Err(Refusal::Space);
     }
     if list < PLACES {
-        return Answer::Space;
+        return Err(Refusal::Space);
     }
     if decisions < FRAME_WORDS {
-        return Answer::Space;
+        return Err(Refusal::Space);
     }
-    Answer::Accepted
+    Ok(())
 }
 
 // The predecessor of the state s that the decision word w keeps.
@@ -89,9 +78,7 @@ fn write_stretch(bits: &[u8], start: u8, end: u8, decisions: &mut [u64], out: &m
 {
     keep_words(bits, start, decisions);
     let mut s = end % 64;
-    let mut t = bits.len() / 2;
-    while t > 0 {
-        t -= 1;
+    for t in (0..bits.len() / 2).rev() {
         let from = kept_predecessor(s, decisions[t]);
         let sent = encode_bit(from, s / 32);
         out[2 * t + 1] = sent.y;
@@ -106,8 +93,8 @@ fn list_changes(mended: &[u8], bits: &[u8], list: &mut [u32]) -> usize
     ensures { (result ≡ length (changed 0 mended.now bits.now)) × (list.new ≡ laid (changed 0 mended.now bits.now) list.old) }
 {
     let mut count: usize = 0;
-    for i in 0..bits.len() {
-        if mended[i] != bits[i] {
+    for (i, bit) in bits.iter().enumerate() {
+        if mended[i] != *bit {
             list[count] = i as u32;
             count += 1;
         }
@@ -115,7 +102,7 @@ fn list_changes(mended: &[u8], bits: &[u8], list: &mut [u32]) -> usize
     count
 }
 
-// Where a coded stretch lies within four bits: it is written, the words are cleared, and the changed positions are listed.
+// Where a coded stretch lies within four bits: it is written, the words are cleared, and the changed positions are listed. How many.
 fn mend_near(
     bits: &[u8],
     start: u8,
@@ -123,22 +110,18 @@ fn mend_near(
     decisions: &mut [u64],
     out: &mut [u8],
     list: &mut [u32],
-) -> Mended
+) -> usize
     requires { Allowed bits.now (length decisions.old) (length out.old) (length list.old) × (least (start % Isdb.states) (end % Isdb.states) bits.now ≤ most_changed) }
-    ensures { (result.answer ≡ Answer.Accepted) × Mends start end bits.now result decisions.old decisions.new out.old out.new list.old list.new }
+    ensures { Mends start end bits.now result decisions.old decisions.new out.old out.new list.old list.new }
 {
     let n = bits.len();
     write_stretch(bits, start, end, decisions, out);
     clear(decisions, FRAME_WORDS);
-    let count = list_changes(&out[..n], bits, list);
-    Mended {
-        answer: Answer::Accepted,
-        count,
-    }
+    list_changes(&out[..n], bits, list)
 }
 
 // The coded stretch from `start` to `end`, both mod 64, that differs from `bits` in at most four bits, at the front of `out`, and the positions in which it differs at the front of
-// `list`: X of step t at 2t, Y at 2t + 1. The first 4,224 words of `decisions` become 0.
+// `list`: X of step t at 2t, Y at 2t + 1. How many positions were changed. The first 4,224 words of `decisions` become 0.
 pub fn mend(
     bits: &[u8],
     start: u8,
@@ -146,18 +129,12 @@ pub fn mend(
     decisions: &mut [u64],
     out: &mut [u8],
     list: &mut [u32],
-) -> Mended
+) -> Result<usize, Refusal>
     ensures { Called start end bits.now result decisions.old decisions.new out.old out.new list.old list.new }
 {
-    let answer = answer_lent(bits, decisions.len(), out.len(), list.len());
-    let Answer::Accepted = answer else {
-        return Mended { answer, count: 0 };
-    };
+    answer_lent(bits, decisions.len(), out.len(), list.len())?;
     if least_distance(bits, start, end) > MOST_CHANGED {
-        return Mended {
-            answer: Answer::Unmendable,
-            count: 0,
-        };
+        return Err(Refusal::Unmendable);
     }
-    mend_near(bits, start, end, decisions, out, list)
+    Ok(mend_near(bits, start, end, decisions, out, list))
 }

@@ -2,7 +2,7 @@
 // decision words by which that stretch is traced back.
 #![tactic(auto)]
 
-ghost use Rattle.std.specs.Prelude.{◌≡◌, ◌+◌, ◌*◌, ◌/◌, ◌%◌, ◌<◌, ◌≤◌, min, ltb, length};
+ghost use Rattle.std.specs.Prelude.{◌≡◌, ◌+◌, ◌*◌, ◌/◌, ◌%◌, ◌<◌, ◌≤◌, ltb, length};
 ghost use Rattle.trellis.specs.Lists.{bit, upto, laid};
 ghost use Rattle.trellis.specs.Stretch.{Bits};
 ghost use Rattle.mend_distance.specs.Distances.{through, nexts, word, begun, Capped, least, word_at};
@@ -22,17 +22,11 @@ fn states(d: &[u8; STATES]) -> usize
     numbers.len()
 }
 
-fn smaller(a: u8, b: u8) -> u8
-    ensures { result ≡ min a b }
-{
-    if a < b { a } else { b }
-}
-
 // Whether the odd way differs in fewer bits, as a bit.
 fn beats(odd: u8, even: u8) -> u64
     ensures { result ≡ bit (ltb odd even) }
 {
-    (odd < even) as u64
+    u64::from(odd < even)
 }
 
 // The bits in which the way to the state k by its predecessor with the low bit b differs; the step's bits are x and y.
@@ -56,7 +50,7 @@ fn distance_step(d: &mut [u8; STATES], x: u8, y: u8) -> u64
     for k in 0..n {
         let even = way(&old, k, 0, x, y);
         let odd = way(&old, k, 1, x, y);
-        d[k] = smaller(FAR, smaller(even, odd));
+        d[k] = FAR.min(even.min(odd));
         w = w | (beats(odd, even) << k);
     }
     w
@@ -77,8 +71,7 @@ pub fn least_distance(bits: &[u8], start: u8, end: u8) -> u8
     requires { Bits bits.now }
     ensures { result ≡ least (start % Isdb.states) (end % Isdb.states) bits.now }
 {
-    let first = start_table(start);
-    let mut d = first;
+    let mut d = start_table(start);
     let n = bits.len() / 2;
     for t in 0..n {
         distance_step(&mut d, bits[2 * t], bits[2 * t + 1]);
@@ -92,8 +85,7 @@ pub fn keep_words(bits: &[u8], start: u8, decisions: &mut [u64])
     requires { Bits bits.now × (length bits.now / 2 ≤ length decisions.old) }
     ensures { decisions.new ≡ laid (upto (word_at (start % Isdb.states) bits.now) (length bits.now / 2)) decisions.old }
 {
-    let first = start_table(start);
-    let mut d = first;
+    let mut d = start_table(start);
     let n = bits.len() / 2;
     for t in 0..n {
         let w = distance_step(&mut d, bits[2 * t], bits[2 * t + 1]);

@@ -8,9 +8,12 @@ use borrow.Author.Tests.{ltb-false, leb-false, eqb-true, not-false}
 use lib.Bits.{bit_xor}
 use lib.Dec.{eqb, leb, ltb}
 use lib.ListN.{length, take}
+use Rattle.std.specs.Prelude.{refl, Result, Ok, Err, IsOk}
+use Rattle.std.proofs.Common.{true≢false}
+use Rattle.refusal.specs.declared.Refusal.{Refusal}
 use Rattle.refusal.specs.Rows.{first_row}
 use Rattle.refusal.proofs.RowLaws.{neither, passed}
-use Rattle.refusal.specs.declared.Answer.TheVariants as answer
+use Rattle.refusal.specs.Rows as answer
 use Rattle.trellis.specs.Lists.{laid}
 use Rattle.trellis.specs.Encoded.{coded_bits, last_state}
 use Rattle.trellis.specs.LaidLaws.{take_laid}
@@ -22,6 +25,11 @@ use Rattle.overlay_laws.proofs.CodingLaws.{length_outputs, code_overlays}
 use Rattle.overlay_parts.specs.declared.Encodings.{Encodings}
 use Rattle.overlay_parts.specs.Rows.{overlay_rows}
 use Rattle.overlay_parts.specs.Calls.{Lent, Three, Encodes, Overlays}
+
+-- the encodings that are there
+pub made : (m : Result Encodings Refusal) → IsOk m → (e : Encodings) × (m ≡ Ok e)
+made (Ok e) h = (e, refl)
+made (Err row) h = absurd (true≢false (sym h))
 
 -- ---- the rows
 pub record Enough (c : Code) (s r n m bits x y z : ℕ) : Type 0 where

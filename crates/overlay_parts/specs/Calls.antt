@@ -26,13 +26,6 @@ pub record Encodes (c : Code) (s r : ℕ) (us vs : List ℕ) (e : Encodings) (be
   pub second_are : after.second ≡ laid (coded_bits (code_of c) r vs) before.second
   pub third_are : after.third ≡ laid (coded_bits (code_of c) (bit_xor s r) (overlaid us vs)) before.third
 
--- "states come back as given and no buffer changes"; the third encoder, which is not given, is in state 0
-pub record Unencoded (s r : ℕ) (e : Encodings) (before after : Lent) : Type 0 where
-  pub first_is : e.first.state ≡ s
-  pub second_is : e.second.state ≡ r
-  pub third_is : e.third.state ≡ 0
-  pub outputs : after ≡ before
-
 -- "gives the exclusive-or of both outputs and both end states", of n inputs
 pub record Overlays (n : ℕ) (e : Encodings) (after : Lent) : Type 0 where
   pub outputs : take (2 * n) after.third ≡ overlaid (take (2 * n) after.first) (take (2 * n) after.second)

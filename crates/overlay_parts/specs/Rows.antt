@@ -1,7 +1,7 @@
 -- The refusal rows of the three encodings.
 use Rattle.std.specs.Prelude.{Bool, not, ◌||◌, List, [], ◌∷◌, ℕ, ◌*◌, eqb, leb, ltb}
 use Rattle.refusal.specs.Rows.{Row}
-use Rattle.refusal.specs.declared.Answer.TheVariants as answer
+use Rattle.refusal.specs.Rows as answer
 use Rattle.short_code.specs.declared.Code.{Code}
 use Rattle.short_code.specs.Codes.{good_code, states_of}
 

@@ -5,7 +5,7 @@
 //   Calls  what the three encodings leave
 #![tactic(auto)]
 
-ghost use Rattle.std.specs.Prelude.{◌≡◌, true, ◌*◌, ◌≤◌, leb, length};
+ghost use Rattle.std.specs.Prelude.{◌≡◌, true, ◌*◌, ◌≤◌, leb, length, IfOk, IsOk};
 ghost use Rattle.refusal.specs.Rows.{first_row};
 ghost use Rattle.trellis.specs.Lists.{laid};
 ghost use Rattle.short_code.specs.Codes.{good_code, states_of};
@@ -14,7 +14,7 @@ ghost use Rattle.overlay_parts.specs.Rows.{short_outputs, overlay_rows};
 ghost use Rattle.overlay_parts.specs.Calls.{lent, Three, Encodes};
 
 use isdb_fec::conv::ConvEncoder;
-use refusal::Answer;
+use refusal::Refusal;
 use short_code::{good, half};
 pub use short_encode::Code;
 use short_encode::encode;
@@ -39,10 +39,9 @@ pub struct Lengths {
     pub out3: usize,
 }
 
-// The answer, and the encoders of the first string, of the second and of their exclusive-or after the call.
+// The encoders of the first string, of the second and of their exclusive-or after the call.
 #[derive(Clone, Copy)]
 pub struct Encodings {
-    pub answer: Answer,
     pub first: ConvEncoder,
     pub second: ConvEncoder,
     pub third: ConvEncoder,
@@ -73,25 +72,25 @@ fn short(n: usize, bits: usize, x: usize, y: usize, z: usize) -> bool
 }
 
 // The answer to strings of these lengths from the states s and r.
-pub fn answer_overlay(code: Code, s: u8, r: u8, lent: Lengths) -> Answer
+pub fn answer_overlay(code: Code, s: u8, r: u8, lent: Lengths) -> Result<(), Refusal>
     ensures { result ≡ first_row (overlay_rows code s r lent.first lent.second lent.sum lent.out1 lent.out2 lent.out3) }
 {
     if !good(code) {
-        return Answer::Code;
+        return Err(Refusal::Code);
     }
     if beyond(code, s) {
-        return Answer::State;
+        return Err(Refusal::State);
     }
     if beyond(code, r) {
-        return Answer::State;
+        return Err(Refusal::State);
     }
     if lent.first != lent.second {
-        return Answer::Length;
+        return Err(Refusal::Length);
     }
     if short(lent.first, lent.sum, lent.out1, lent.out2, lent.out3) {
-        return Answer::Space;
+        return Err(Refusal::Space);
     }
-    Answer::Accepted
+    Ok(())
 }
 
 // The exclusive-or of two strings of equal length, at the front of `ws`.
@@ -104,7 +103,7 @@ pub fn lay_overlaid(us: &[u8], vs: &[u8], ws: &mut [u8])
     }
 }
 
-// The strings `us` and `vs` from their states, and their exclusive-or, the string `ws`, from the exclusive-or of the states.
+// The strings `us` and `vs` from their states, and their exclusive-or, the string `ws`, from the exclusive-or of the states. None of the three is refused.
 pub fn encode_three(
     given: Encoders,
     us: &[u8],
@@ -113,26 +112,22 @@ pub fn encode_three(
     out1: &mut [u8],
     out2: &mut [u8],
     out3: &mut [u8],
-) -> Encodings
+) -> Result<Encodings, Refusal>
     requires { Three given.code given.first.state given.second.state us.now vs.now ws.now (length out1.old) (length out2.old) (length out3.old) }
-    ensures { (result.answer ≡ Answer.Accepted)
-        × Encodes given.code given.first.state given.second.state us.now vs.now result (lent out1.old out2.old out3.old) (lent out1.new out2.new out3.new) }
+    ensures accepted { IsOk result }
+    ensures encodes { IfOk result (λ e. Encodes given.code given.first.state given.second.state us.now vs.now e (lent out1.old out2.old out3.old) (lent out1.new out2.new out3.new)) }
 {
     let code = given.code;
     let e1 = given.first;
     let e2 = given.second;
     let s = e1.state;
     let r = e2.state;
-    let x = encode(code, e1, us, out1);
-    let y = encode(code, e2, vs, out2);
-    let z = encode(code, ConvEncoder { state: s ^ r }, ws, out3);
-    let first = x.enc;
-    let second = y.enc;
-    let third = z.enc;
-    Encodings {
-        answer: Answer::Accepted,
+    let first = encode(code, e1, us, out1)?;
+    let second = encode(code, e2, vs, out2)?;
+    let third = encode(code, ConvEncoder { state: s ^ r }, ws, out3)?;
+    Ok(Encodings {
         first,
         second,
         third,
-    }
+    })
 }

@@ -7,9 +7,8 @@ use native.Mathlib.Omega.{arith}
 use lib.IntN.{ℤ}
 use lib.Dec.{T, eqb, ltb, lit≤, lit<}
 use lib.ListN.{length, get_or}
-use lib.Ieee.{Float, nan, binary32, le, fits}
-use Rattle.refusal.specs.Rows.{first_row}
-use Rattle.refusal.specs.declared.Answer.TheVariants.{Accepted, Sample, Space}
+use lib.Ieee.{Float, nan, binary32, fits}
+use Rattle.refusal.specs.Rows.{first_row, Accepted, Sample, Space}
 use Rattle.trellis.specs.Isdb
 use Rattle.trellis.specs.Step.{four}
 use Rattle.trellis.specs.Run.{block, quadruple, releases, four_steps, fresh_from}

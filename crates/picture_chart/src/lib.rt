@@ -4,122 +4,71 @@
 mod cloud;
 mod panel;
 
+use cloud::Points;
 use isdbs_core::frame::MAIN_SYMBOLS;
 use isdbs_core::slots;
-use isdbs_core::slots::Run;
 use isdbs_core::tmcc::Table;
-use panel::{Drawn, ON_LEFT, ON_RIGHT, PAIRED};
-use picture_sheet::{Sheet, Squares, put};
+use panel::{Drawn, Layout};
+use picture_sheet::{Sheet, Squares};
 
-// What is drawn: the frame's table; whether its gain or turn are off, so that its points are shown after alignment too, and the mean gain and turn as one number.
+// The mean gain and turn of a frame as one number.
+#[derive(Clone, Copy)]
+pub struct Mean {
+    pub re: f64,
+    pub im: f64,
+}
+
+// What is drawn: the frame's table; and where its gain or turn are off, their mean, by which its points are shown after alignment too.
 #[derive(Clone, Copy)]
 pub struct Chart {
     pub table: Table,
-    pub is_aside: bool,
-    pub mean_re: f64,
-    pub mean_im: f64,
+    pub aside: Option<Mean>,
 }
 
-// The panels of the first `count` runs, and how they stand.
-#[derive(Clone, Copy)]
-struct Ordered {
-    runs: [Run; 4],
-    count: usize,
-    layout: u8,
-}
-
-// The panel of run i of n.
-fn spot(run: Run, i: usize, n: usize, layout: u8) -> Drawn {
-    Drawn {
-        is_there: i < n,
-        run,
-        i,
-        layout,
-    }
-}
-
-fn panels(
-    sheet: &mut Sheet,
-    at: usize,
-    bins: &mut Squares,
-    p: Ordered,
-    re: &[f64; MAIN_SYMBOLS],
-    im: &[f64; MAIN_SYMBOLS],
-    clean_re: &[f64; MAIN_SYMBOLS],
-    clean_im: &[f64; MAIN_SYMBOLS],
-) -> usize {
-    let rs = p.runs;
-    let n = p.count;
-    let l = p.layout;
-    let first = spot(rs[0], 0, n, l);
-    let a = panel::panel(sheet, at, bins, first, re, im, clean_re, clean_im);
-    let second = spot(rs[1], 1, n, l);
-    let b = panel::panel(sheet, a, bins, second, re, im, clean_re, clean_im);
-    let third = spot(rs[2], 2, n, l);
-    let c = panel::panel(sheet, b, bins, third, re, im, clean_re, clean_im);
-    let fourth = spot(rs[3], 3, n, l);
-    panel::panel(sheet, c, bins, fourth, re, im, clean_re, clean_im)
-}
-
-fn plan(t: Table, layout: u8) -> Ordered {
-    let all = slots::runs(t);
-    let runs = all.runs;
-    Ordered {
-        runs,
-        count: all.count,
-        layout,
+// The panels of the runs of a table.
+fn panels(sheet: &mut Sheet, bins: &mut Squares, t: Table, layout: Layout, points: Points) {
+    let all = slots::runs(t).unwrap_or(slots::NO_RUNS);
+    for (i, &run) in all.runs.iter().enumerate().take(all.count) {
+        panel::panel(sheet, bins, Drawn { run, i, layout }, points);
     }
 }
 
 // The panels of the points after alignment.
-fn aligned_panels(
-    sheet: &mut Sheet,
-    at: usize,
-    bins: &mut Squares,
-    c: Chart,
-    re: &[f64; MAIN_SYMBOLS],
-    im: &[f64; MAIN_SYMBOLS],
-    clean_re: &[f64; MAIN_SYMBOLS],
-    clean_im: &[f64; MAIN_SYMBOLS],
-) -> usize {
-    if !c.is_aside {
-        return at;
-    }
-    let mut x = [0.0f64; MAIN_SYMBOLS];
-    let mut y = [0.0f64; MAIN_SYMBOLS];
-    cloud::align(c.mean_re, c.mean_im, re, im, &mut x, &mut y);
-    let t = c.table;
-    panels(
-        sheet,
-        at,
-        bins,
-        plan(t, ON_RIGHT),
-        &x,
-        &y,
-        clean_re,
-        clean_im,
-    )
+fn aligned_panels(sheet: &mut Sheet, bins: &mut Squares, t: Table, mean: Mean, points: Points) {
+    let mut re = [0.0f64; MAIN_SYMBOLS];
+    let mut im = [0.0f64; MAIN_SYMBOLS];
+    cloud::align(mean, points, &mut re, &mut im);
+    let aligned = Points {
+        re: &re,
+        im: &im,
+        clean_re: points.clean_re,
+        clean_im: points.clean_im,
+    };
+    panels(sheet, bins, t, Layout::OnRight, aligned);
 }
 
-fn layout_of(is_aside: bool) -> u8 {
-    if is_aside { ON_LEFT } else { PAIRED }
-}
-
-// Draws the panels of a frame from a place on, after the picture's upper part, and answers where the picture ends; more than the sheet has where it does
-// not fit. Lent are the received points and those of the bytes that were read.
+// Draws the panels of a frame after the picture's upper part, and ends the picture. Lent are the received points and those of the bytes that were read.
 pub fn draw(
     sheet: &mut Sheet,
-    at: usize,
     bins: &mut Squares,
     c: Chart,
     re: &[f64; MAIN_SYMBOLS],
     im: &[f64; MAIN_SYMBOLS],
     clean_re: &[f64; MAIN_SYMBOLS],
     clean_im: &[f64; MAIN_SYMBOLS],
-) -> usize {
-    let t = c.table;
-    let received = plan(t, layout_of(c.is_aside));
-    let a = panels(sheet, at, bins, received, re, im, clean_re, clean_im);
-    let b = aligned_panels(sheet, a, bins, c, re, im, clean_re, clean_im);
-    put(sheet, b, b"</svg>\n")
+) {
+    let points = Points {
+        re,
+        im,
+        clean_re,
+        clean_im,
+    };
+    match c.aside {
+        None => panels(sheet, bins, c.table, Layout::Paired, points),
+        Some(mean) => {
+            panels(sheet, bins, c.table, Layout::OnLeft, points);
+            aligned_panels(sheet, bins, c.table, mean, points);
+        }
+    }
+    sheet.put(b"</svg>\n");
 }

@@ -1,64 +1,54 @@
 // Squares of 1/64 by 1/64, shaded by how many points lie in each.
-ghost use Rattle.std.specs.Prelude.{◌<◌};
-
 use picture_bars::form::fill_form;
-use picture_sheet::{BINS, Sheet, Squares, put};
+use picture_sheet::{BINS, Sheet, Squares};
 
-// Four shades: 1 point, 2 or 3, 4 to 15, 16 and more; 0 for none.
-fn shade(n: u32) -> usize {
+// 1 point, 2 or 3, 4 to 15, 16 and more.
+#[derive(Clone, Copy, PartialEq, Eq)]
+pub(crate) enum Shade {
+    One,
+    Few,
+    Several,
+    Many,
+}
+
+// The shade of a square of n points, where there are any.
+fn shade_of(n: u32) -> Option<Shade> {
     match n {
-        0 => 0,
-        1 => 1,
-        2 | 3 => 2,
-        4..=15 => 3,
-        _ => 4,
+        0 => None,
+        1 => Some(Shade::One),
+        2 | 3 => Some(Shade::Few),
+        4..=15 => Some(Shade::Several),
+        _ => Some(Shade::Many),
     }
 }
 
-// A square at (x, y), as a stroke after one that ended at `from`, which is 0 where there is none in this row.
-fn square(sheet: &mut Sheet, at: usize, from: usize, x: usize, y: usize) -> usize {
-    if from == x {
-        if x > 0 {
-            return put(sheet, at, b"h1");
-        }
+// A square at (x, y), as a stroke after the one in this row that ended last, where there is one.
+fn square(sheet: &mut Sheet, last: Option<usize>, x: usize, y: usize) {
+    match last {
+        None => fill_form(sheet, b"M@ @h1", &[x, y]),
+        Some(end) if end == x => sheet.put(b"h1"),
+        Some(end) => fill_form(sheet, b"m@ 0h1", &[x.saturating_sub(end)]),
     }
-    if from == 0 {
-        return fill_form(sheet, at, b"M@ @h1", &[x, y]);
-    }
-    if from > x {
-        return at;
-    }
-    fill_form(sheet, at, b"m@ 0h1", &[x - from])
 }
 
 // The squares of one shade in row y.
-fn row(sheet: &mut Sheet, at: usize, bins: &Squares, y: usize, which: usize) -> usize
-    requires { y < 192 }
-{
-    let mut place = at;
-    let mut from: usize = 0;
-    for x in 0..BINS {
-        if shade(bins[BINS * y + x]) == which {
-            place = square(sheet, place, from, x, y);
-            from = x + 1;
+fn row(sheet: &mut Sheet, counts: &[u32; BINS], y: usize, which: Shade) {
+    let mut last = None;
+    for (x, &n) in counts.iter().enumerate() {
+        if shade_of(n) == Some(which) {
+            square(sheet, last, x, y);
+            last = Some(x + 1);
         }
     }
-    place
 }
 
 // The squares of one shade, in units of a square.
-pub(crate) fn squares(
-    sheet: &mut Sheet,
-    at: usize,
-    bins: &Squares,
-    which: usize,
-    colour: &[u8],
-) -> usize {
-    let a = put(sheet, at, b"<path stroke=\"");
-    let b = put(sheet, a, colour);
-    let mut place = put(sheet, b, b"\" d=\"");
-    for y in 0..BINS {
-        place = row(sheet, place, bins, y, which);
+pub(crate) fn squares(sheet: &mut Sheet, bins: &Squares, which: Shade, colour: &[u8]) {
+    sheet.put(b"<path stroke=\"");
+    sheet.put(colour);
+    sheet.put(b"\" d=\"");
+    for (y, counts) in bins.iter().enumerate() {
+        row(sheet, counts, y, which);
     }
-    put(sheet, place, b"\"/>\n")
+    sheet.put(b"\"/>\n");
 }

@@ -8,50 +8,53 @@ ghost use Rattle.picture_sheet.specs.Places.{bin_at, bin_of, height_of, unit_for
 // The bytes of a sheet.
 pub const SHEET_BYTES: usize = 655_360;
 
-pub type Sheet = [u8; SHEET_BYTES];
-
 // The place of a sheet on which something did not fit.
 pub const OVER: usize = SHEET_BYTES + 1;
+
+// A sheet, and the place after what was put on it: OVER where something did not fit.
+#[derive(Drop)]
+pub struct Sheet {
+    pub bytes: [u8; SHEET_BYTES],
+    pub at: usize,
+}
+
+impl Sheet {
+    // Puts s at the sheet's place, whole or not at all.
+    pub fn put(&mut self, s: &[u8])
+        ensures { Put self.old.at s.now self.old.bytes self.new.bytes self.new.at }
+    {
+        if self.at > SHEET_BYTES || s.len() > SHEET_BYTES - self.at {
+            self.at = OVER;
+            return;
+        }
+        let end = self.at + s.len();
+        self.bytes[self.at..end].copy_from_slice(s);
+        self.at = end;
+    }
+
+    // Puts the decimal digits of n.
+    pub fn number(&mut self, n: u64)
+        ensures { PutNumber self.old.at n self.old.bytes self.new.bytes self.new.at }
+    {
+        let mut digits = [0u8; 20];
+        let k = io::decimal(n, &mut digits);
+        self.put(&digits[..k]);
+    }
+
+    // The bytes from a place up to another; none where there are none.
+    pub fn between(&self, from: usize, to: usize) -> &[u8] {
+        if from <= to && to <= SHEET_BYTES {
+            return &self.bytes[from..to];
+        }
+        &self.bytes[..0]
+    }
+}
 
 // The bins of a part of a point.
 pub const BINS: usize = 192;
 
-// A count for each square of two bins.
-pub type Squares = [u32; BINS * BINS];
-
-// The bytes of a sheet, which its type fixes.
-fn size(sheet: &Sheet) -> usize
-    ensures { (result ≡ 655360) × (length sheet.now ≡ 655360) }
-{
-    let bytes: &[u8] = sheet;
-    bytes.len()
-}
-
-// Puts s at a place of the sheet, whole or not at all, and answers the place after it.
-pub fn put(sheet: &mut Sheet, at: usize, s: &[u8]) -> usize
-    ensures { Put at s.now sheet.old sheet.new result }
-{
-    let n = size(sheet);
-    if at > n {
-        return OVER;
-    }
-    if s.len() > n - at {
-        return OVER;
-    }
-    for i in 0..s.len() {
-        sheet[at + i] = s[i];
-    }
-    at + s.len()
-}
-
-// Puts the decimal digits of n.
-pub fn number(sheet: &mut Sheet, at: usize, n: u64) -> usize
-    ensures { PutNumber at n sheet.old sheet.new result }
-{
-    let mut digits = [0u8; 20];
-    let k = io::decimal(n, &mut digits);
-    put(sheet, at, &digits[..k])
-}
+// A count for each square of two bins, in rows.
+pub type Squares = [[u32; BINS]; BINS];
 
 // Where t is above -1 and below 2^64, its whole part; it is 0 or 191 where that lies beyond.
 fn bin_at(t: f64) -> usize
@@ -71,6 +74,7 @@ fn bin_at(t: f64) -> usize
 }
 
 // The bin of a part of a point, of 192 between -1.5 and 1.5; a part beyond is in the first or the last.
+#[tactic(auto, unfolding(crate::specs::Places::bin_of))]
 pub fn bin(x: f64) -> usize
     ensures { (result ≡ bin_of x) × (result < 192) }
 {
@@ -78,37 +82,25 @@ pub fn bin(x: f64) -> usize
 }
 
 // What a line of a bar scale of five stands for, where the greatest bar is `most`.
+#[tactic(auto, unfolding(crate::specs::Places::unit_for))]
 pub fn scale_unit(most: usize) -> usize
     ensures { ((0 < result) × (result ≤ 400)) × (result ≡ unit_for most) }
 {
-    if most <= 5 {
-        return 1;
+    match most {
+        ..=5 => 1,
+        6..=10 => 2,
+        11..=25 => 5,
+        26..=50 => 10,
+        51..=100 => 20,
+        101..=250 => 50,
+        251..=500 => 100,
+        501..=1000 => 200,
+        _ => 400,
     }
-    if most <= 10 {
-        return 2;
-    }
-    if most <= 25 {
-        return 5;
-    }
-    if most <= 50 {
-        return 10;
-    }
-    if most <= 100 {
-        return 20;
-    }
-    if most <= 250 {
-        return 50;
-    }
-    if most <= 500 {
-        return 100;
-    }
-    if most <= 1000 {
-        return 200;
-    }
-    400
 }
 
 // The height of a bar on the scale of the greatest bar, `most`, which is 320 high; a bar that is larger ends with the scale.
+#[tactic(auto, unfolding(crate::specs::Places::height_of))]
 pub fn height(n: usize, most: usize) -> usize
     ensures { (result ≤ 320) × (result ≡ height_of n (5 * unit_for most)) }
 {

@@ -6,11 +6,9 @@ use lib.Dec.{ltb}
 use lib.ListN.{length}
 use lib.Ieee.{Float}
 use borrow.Author.Tests.{ltb-false}
-use Rattle.refusal.specs.Rows.{first_row}
+use Rattle.refusal.specs.Rows.{first_row, Answer, Accepted, Symbols, Space}
 use Rattle.refusal.proofs.RowLaws as row
 use Rattle.refusal.proofs.RowLaws.{neither, refused_by, passed_by}
-use Rattle.refusal.specs.declared.Answer.{Answer}
-use Rattle.refusal.specs.declared.Answer.TheVariants.{Accepted, Symbols, Space}
 use Rattle.isdbs_frame.specs.Frame.{main_symbols}
 use Rattle.isdbs_tables.specs.declared.Table.{Table}
 use Rattle.isdbs_tables.specs.Tables.{table_rows, table_answer, TableAccepted}

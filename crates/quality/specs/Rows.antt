@@ -1,7 +1,6 @@
 -- The rows of `quality`: "Rows as `isdbs_judge` (1, 10, 11, 5, 6, 7, 9)".
 use Rattle.std.specs.Prelude.{not, List, [], ◌∷◌, ◌++◌, ℕ, eqb, ltb, Float}
-use Rattle.refusal.specs.declared.Answer.TheVariants.{Length, Space}
-use Rattle.refusal.specs.Rows.{Row}
+use Rattle.refusal.specs.Rows.{Length, Space, Row}
 use Rattle.isdbs_tables.specs.declared.Table.{Table}
 use Rattle.isdbs_tables.specs.Tables.{table_rows}
 use Rattle.isdbs_plan.specs.RunsOf.{load_bytes}

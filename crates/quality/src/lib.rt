@@ -24,34 +24,34 @@ use isdbs_rows::points_answer;
 use margins::is_bpsk;
 pub use quality_sums::{QUALITY_NUMBERS, SLOT_NUMBERS};
 use quality_sums::{add_block, begin};
-use refusal::Answer;
+use refusal::Refusal;
 
 // Rows 5, 6, 7 and 9: the load has `need` bytes, `bytes` and `room` are the lengths that are lent.
-fn lent_answer(need: usize, bytes: usize, re: &[f64], im: &[f64], room: usize) -> Answer
+fn lent_answer(
+    need: usize,
+    bytes: usize,
+    re: &[f64],
+    im: &[f64],
+    room: usize,
+) -> Result<(), Refusal>
     ensures { result ≡ first_row (lent_rows need bytes re.now im.now room) }
 {
     if bytes != need {
-        return Answer::Length;
+        return Err(Refusal::Length);
     }
-    let points = points_answer(re, im);
-    let Answer::Accepted = points else {
-        return points;
-    };
+    points_answer(re, im)?;
     if room < QUALITY_NUMBERS {
-        return Answer::Space;
+        return Err(Refusal::Space);
     }
-    Answer::Accepted
+    Ok(())
 }
 
 // Why the call is turned back.
-fn quality_answer(p: Plan, bytes: usize, re: &[f64], im: &[f64], room: usize) -> Answer
+fn quality_answer(p: Plan, bytes: usize, re: &[f64], im: &[f64], room: usize) -> Result<(), Refusal>
     requires { p ≡ plan_of p.table }
     ensures { result ≡ first_row (quality_rows p.table bytes re.now im.now room) }
 {
-    let table = table_answer(p.table);
-    let Answer::Accepted = table else {
-        return table;
-    };
+    table_answer(p.table)?;
     lent_answer(p.bytes, bytes, re, im, room)
 }
 
@@ -136,20 +136,17 @@ pub fn quality(
     first: bool,
     bytes: &[u8],
     out: &mut [f64],
-) -> Answer
+) -> Result<(), Refusal>
     ensures answers { result ≡ first_row (quality_rows t (length bytes.now) re.now im.now (length out.old)) }
     ensures leaves { out.new ≡ cond (accepted result) (laid (qualities re.now im.now bytes.now t m first) out.old) out.old }
 {
     let p = plan_of(t);
-    let answer = quality_answer(p, bytes.len(), re, im, out.len());
-    let Answer::Accepted = answer else {
-        return answer;
-    };
+    quality_answer(p, bytes.len(), re, im, out.len())?;
     let f = FrameForm {
         plan: p,
         mapping: m,
         first,
     };
     sum_frame(f, re, im, bytes, out);
-    answer
+    Ok(())
 }

@@ -1,7 +1,9 @@
 -- What stands where after terms were added.
-use Rattle.std.specs.Prelude.{◌≡◌, Bool, List, length, Float}
+use Rattle.std.specs.Prelude.{◌≡◌, Bool, List, [], ◌∷◌, ◌++◌, length, replicate, Float}
+use Rattle.std.proofs.lemmas.List.{replicate-append-replicate}
+use Rattle.trellis.specs.Lists.{upto}
 use Rattle.std.proofs.Math.Path.{refl, ap}
-use Rattle.std.proofs.Common.{◌∙◌, arith, not-suc-le-zero, add-one, get_or-set_same}
+use Rattle.std.proofs.Common.{sym, ◌∙◌, arith, not-suc-le-zero, add-one, get_or-set_same}
 use Prim.Native.Nat.{ℕ, zero, suc, ◌+◌, ◌<◌, ◌≤◌}
 use borrow.Author.Count.{below_more}
 use Rattle.std.proofs.Math.ListN.{get_or, length-set}
@@ -9,6 +11,12 @@ use Rattle.std.proofs.Math.Seq.{get_or-set_other}
 use Rattle.std.specs.Float.Ieee.{nan, binary64, add}
 use Rattle.quality_sums.specs.Terms.{terms_of, imaginary}
 use Rattle.quality_sums.specs.Adding.{added, point_added, block_added}
+
+-- a filled front
+pub filled : (v : Float) (n : ℕ) → replicate n v ≡ upto (λ _. v) n
+unfolding upto
+filled v zero = refl
+filled v (suc n) = ap (λ (k : ℕ). replicate k v) (sym (add-one n)) ∙ sym (replicate-append-replicate n 1 v) ∙ ap (λ (l : List Float). l ++ (v ∷ [])) (filled v n)
 
 pub seven_terms : (zx zy cx cy : Float) → length (terms_of zx zy cx cy) ≡ 7
 unfolding terms_of

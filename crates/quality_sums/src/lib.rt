@@ -24,6 +24,7 @@ fn imaginary(bpsk: bool, y: f64) -> f64
 }
 
 // What a received point z and its encoded point c add: 1, |c|^2, |z - c|^2, the parts of z conj(c), the parts of z - c.
+#[tactic(auto, unfolding(crate::specs::Terms::terms_of))]
 fn terms_of(zx: f64, zy: f64, cx: f64, cy: f64) -> [f64; SLOT_NUMBERS]
     ensures { result ≡ terms_of zx zy cx cy }
 {
@@ -45,8 +46,8 @@ fn add_terms(terms: [f64; SLOT_NUMBERS], at: usize, out: &mut [f64])
     requires { (length terms ≡ slot_numbers) × (at + slot_numbers ≤ length out.old) }
     ensures { out.new ≡ added terms at out.old slot_numbers }
 {
-    for n in 0..SLOT_NUMBERS {
-        out[at + n] = out[at + n] + terms[n];
+    for (n, term) in terms.iter().enumerate() {
+        out[at + n] += *term;
     }
 }
 
@@ -78,7 +79,5 @@ pub fn begin(out: &mut [f64])
     requires { quality_numbers ≤ length out.old }
     ensures { out.new ≡ laid (upto (λ i. zero64) quality_numbers) out.old }
 {
-    for i in 0..QUALITY_NUMBERS {
-        out[i] = 0.0;
-    }
+    out[..QUALITY_NUMBERS].fill(0.0);
 }

@@ -1,8 +1,7 @@
 -- What the calls can still answer to such a state: a stream 5, 7 or 9, known bits and a flush 9 alone.
 use Rattle.std.specs.Prelude.{◌≡◌, List, [], ◌∷◌, ℕ, Float}
-use Rattle.refusal.specs.Rows.{first_row}
+use Rattle.refusal.specs.Rows.{first_row, Space}
 use Rattle.refusal.proofs.RowLaws.{passed_above}
-use Rattle.refusal.specs.declared.Answer.TheVariants.{Space}
 use Rattle.isdb_fec.specs.declared.conv.ViterbiDecoder.{ViterbiDecoder}
 use Rattle.isdb_fec.specs.Rows.{handed_rows, stream_rest, stream_rows, push_known_rows, flush_rows, steps_short, short_of}
 use Rattle.range_calls.specs.Reached.{Reached}

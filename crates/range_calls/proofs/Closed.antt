@@ -5,8 +5,7 @@ use Rattle.std.proofs.Common.{sym, arith, ltb-false, eqb→eq, leb→le, ltb→l
 use Rattle.std.proofs.Math.Nat.{min-le_left}
 use Rattle.std.specs.Float.{nan, binary32}
 use Rattle.std.specs.Float.Ieee.{le, of_bits}
-use Rattle.refusal.specs.Rows.{first_row}
-use Rattle.refusal.specs.declared.Answer.TheVariants.{Accepted, Traceback, Sample}
+use Rattle.refusal.specs.Rows.{first_row, Accepted, Traceback, Sample}
 use Rattle.trellis.specs.Isdb
 use Rattle.trellis.specs.Step.{Step}
 use Rattle.trellis.specs.Run.{Decoder, block, traceback_limit, pair_steps, four_steps, known_steps}

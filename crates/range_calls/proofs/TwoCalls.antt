@@ -8,8 +8,7 @@ use Rattle.std.proofs.Math.ListN.{get_or}
 use Rattle.std.specs.Float.{nan, binary32}
 use Rattle.std.specs.Float.Ieee.{of_bits}
 use Rattle.ieee.proofs.Zero.{plain}
-use Rattle.refusal.specs.Rows.{first_row}
-use Rattle.refusal.specs.declared.Answer.TheVariants.{Accepted}
+use Rattle.refusal.specs.Rows.{first_row, Accepted}
 use Rattle.trellis.specs.Isdb
 use Rattle.trellis.specs.Isdb.{values_at, nexts}
 use Rattle.trellis.specs.ListLaws.{get_d_upto}

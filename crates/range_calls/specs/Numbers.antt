@@ -1,6 +1,6 @@
 -- The bounds of a decoder's stream values and path values, in one place. All but the stream's limit itself are multiples of 512, which is the unit of
 -- crate range_paths.
-use Rattle.std.specs.Prelude.{ℕ, ◌+◌, ◌*◌, Float}
+use Rattle.std.specs.Prelude.{ℕ, Float}
 use Rattle.std.specs.Float.{binary32}
 use Rattle.std.specs.Float.Ieee.{of_bits}
 use Rattle.range_paths.specs.Bounds.{ruled_out}

@@ -13,8 +13,8 @@
 //   Finished    what a reading from a fresh decoder leaves
 #![tactic(auto)]
 
-ghost use Rattle.std.specs.Prelude.{◌≡◌, ◌/◌, length};
-ghost use Rattle.refusal.specs.Rows.{first_row, Either};
+ghost use Rattle.std.specs.Prelude.{◌≡◌, ◌/◌, length, MatchResult};
+ghost use Rattle.refusal.specs.Rows.{first_row, answer_of};
 ghost use Rattle.isdb_fec.specs.Calls.{call, handed, Leaves, Unchanged};
 ghost use Rattle.range_calls.specs.Finished.{fresh};
 ghost use Rattle.trellis.specs.Run.{pair_steps};
@@ -22,16 +22,21 @@ ghost use Rattle.isdb_fec.specs.Rows.{stream_rest};
 ghost use Rattle.trellis.specs.Isdb.{frame_traceback};
 
 use isdb_fec::conv::{Released, ViterbiDecoder};
+use refusal::Refusal;
 use trellis::FRAME_TRACEBACK;
 
 // `push` on a fresh decoder of traceback 128 that starts in the given state, mod 64: it is never refused for its state, only by 5, 7 and 9.
-pub fn push_fresh(state: u8, pairs: &[f32], decisions: &mut [u64], out: &mut [u8]) -> Released
-    ensures answers { result.answer ≡ first_row (stream_rest 2 (fresh state) pairs.now (length decisions.old) (length out.old)) }
-    ensures leaves { Either result.answer
-        (Leaves frame_traceback (call frame_traceback (pair_steps pairs.now) (handed (fresh state) decisions.old) (length pairs.now / 2)) result decisions.old decisions.new out.old out.new)
-        (Unchanged (fresh state) result decisions.old decisions.new out.old out.new) }
+pub fn push_fresh(
+    state: u8,
+    pairs: &[f32],
+    decisions: &mut [u64],
+    out: &mut [u8],
+) -> Result<Released, Refusal>
+    ensures answers { answer_of result ≡ first_row (stream_rest 2 (fresh state) pairs.now (length decisions.old) (length out.old)) }
+    ensures leaves { MatchResult result
+        (λ r. Leaves frame_traceback (call frame_traceback (pair_steps pairs.now) (handed (fresh state) decisions.old) (length pairs.now / 2)) r decisions.old decisions.new out.old out.new)
+        (λ _. Unchanged decisions.old decisions.new out.old out.new) }
 {
-    let made = ViterbiDecoder::with_state(FRAME_TRACEBACK, state);
-    let dec = made.dec;
+    let dec = ViterbiDecoder::with_state(FRAME_TRACEBACK, state)?;
     dec.push(pairs, decisions, out)
 }

@@ -10,6 +10,7 @@ ghost use Rattle.range_metrics.specs.Ranges.{Promised};
 
 use isdbs_core::tmcc::Table;
 use isdbs_phy::demod::{DemodOptions, FrameDecoded, decode_frame};
+use refusal::Refusal;
 
 // decode_frame, with the ranges as part of its contract: where it is accepted, every soft value of BPSK and QPSK, branch metric and path value stays in its range.
 pub fn decode_in_range(
@@ -22,7 +23,7 @@ pub fn decode_in_range(
     bits: &mut [u8],
     bytes: &mut [u8],
     counts: &mut [u32],
-) -> FrameDecoded
+) -> Result<FrameDecoded, Refusal>
     ensures answers { frame_said result ≡ frame_answer (first_row (decode_rows t re.now im.now o.scales (length decisions.old) (length bits.old) (length bytes.old) (length counts.old))) t (strain_sum t (received_by re.now im.now o.mapping o.scales) o.known_start first) }
     ensures leaves { Either (first_row (decode_rows t re.now im.now o.scales (length decisions.old) (length bits.old) (length bytes.old) (length counts.old)))
         (FrameLeft t (received_by re.now im.now o.mapping o.scales) o.known_start first decisions.old decisions.new bits.old bits.new bytes.old bytes.new counts.old counts.new)

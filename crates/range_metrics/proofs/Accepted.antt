@@ -4,8 +4,7 @@ use Rattle.std.proofs.Common.{sym, subst, inl, inr, not-suc-le-zero, arith, belo
 use Rattle.std.specs.Float.{nan, inf, fin, binary32, binary64}
 use Rattle.std.specs.Float.Ieee.{neg, lt, le, fits, of_bits}
 use Rattle.std.specs.Float.Ieee.Fits.{and_i, and_l, and_r}
-use Rattle.refusal.specs.Rows.{Row, first_row}
-use Rattle.refusal.specs.declared.Answer.TheVariants.{Accepted, Sample, Scale}
+use Rattle.refusal.specs.Rows.{Row, first_row, Accepted, Sample, Scale}
 use Rattle.ieee.specs.Value.{Num, hi_neg, num_neg}
 use Rattle.ieee.specs.Order.{le→value, lt→value, not-lt→value, value→le, num_between}
 use Rattle.ieee.proofs.Constants.{two_to, two_to_num}

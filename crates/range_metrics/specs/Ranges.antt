@@ -3,8 +3,7 @@
 use Rattle.std.specs.Prelude.{◌≡◌, Bool, List, ℕ, ◌<◌, ◌≤◌, T, get_or, Float}
 use Rattle.std.specs.Float.{nan, binary32}
 use Rattle.std.specs.Float.Ieee.{le, of_bits}
-use Rattle.refusal.specs.Rows.{first_row}
-use Rattle.refusal.specs.declared.Answer.TheVariants.{Accepted}
+use Rattle.refusal.specs.Rows.{first_row, Accepted}
 use Rattle.trellis.specs.Isdb.{rule, frame_traceback}
 use Rattle.trellis.specs.Step.{Tie, nexts}
 use Rattle.trellis.specs.Run.{Decoder, after, pushed, fresh_from}

@@ -1,12 +1,11 @@
 -- Laws of answers and of the rows of a call.
-use Rattle.std.specs.Prelude.{◌≡◌, refl, ◌⊎◌, Bool, true, false, cond, not, ◌&&◌, ◌||◌, List, [], ◌∷◌, ◌++◌, ℕ, ◌<◌, T, eqb, length, get_or}
+use Rattle.std.specs.Prelude.{◌≡◌, refl, ◌⊎◌, Bool, true, false, cond, not, ◌&&◌, ◌||◌, List, [], ◌∷◌, ◌++◌, ℕ, ◌<◌, T, eqb, length, get_or, Result, Ok, Err, is_ok}
 use Rattle.std.proofs.Common.{sym, ◌∙◌, ap, inl, inr, ⊎_elim, true≢false, arith, eqb-true, ne_eqb}
 use Rattle.std.proofs.lemmas.Bool.{eqb-false}
 use types.Run.{OneOf, miss}
 use Rattle.trellis.specs.Lists.{first_place}
-use Rattle.refusal.specs.declared.Answer.{Answer}
-use Rattle.refusal.specs.declared.Answer.TheVariants.{Accepted, Table, Position, Traceback, State, Length, Symbols, Sample, Scale, Space, PartUnit, ReservedWord, Window, Code, NoLoad, Unmendable}
-use Rattle.refusal.specs.Rows.{number_of, accepted, Row, first_row, placed, Either, Said, says, from_top}
+use Rattle.refusal.specs.declared.Refusal.{Refusal}
+use Rattle.refusal.specs.Rows.{answered, answer_of, Answer, Accepted, Table, Position, Traceback, State, Length, Symbols, Sample, Scale, Space, PartUnit, ReservedWord, Window, Code, NoLoad, Unmendable, number_of, accepted, Row, first_row, placed, Either, Said, says, from_top}
 use Rattle.refusal.specs.RowLaws.{NoneHolds, answers, condition_of, lacking, refusals, refusing, whole_table, without}
 
 by_number : (a : Answer) → get_or answers (number_of a) Accepted ≡ a
@@ -30,6 +29,9 @@ by_number Unmendable = refl
 -- answers of one number are the same
 pub same_number : (a b : Answer) → number_of a ≡ number_of b → a ≡ b
 same_number a b e = sym (by_number a) ∙ ap (λ (n : ℕ). get_or answers n Accepted) e ∙ by_number b
+
+pub err_refuses : {row : Refusal} → Err row ≡ Accepted → ⊥
+err_refuses e = true≢false (sym (ap is_ok e))
 
 -- only accepted has the number 0
 pub zero_accepted : (a : Answer) → number_of a ≡ 0 → a ≡ Accepted
@@ -65,6 +67,19 @@ done p = ((λ e. p), (λ n. absurd (n refl)))
 
 pub refused : {P Q : Type 0} (a : Answer) → (a ≡ Accepted → ⊥) → Q → Either a P Q
 refused a n q = ((λ e. absurd (n e)), (λ m. q))
+
+-- a result tells its answer, and what was made
+pub answered_of : {A : Type 0} (a : Answer) (made : A) → answer_of (answered a made) ≡ a
+answered_of (Ok _) made = refl
+answered_of (Err row) made = refl
+
+pub accepted_by : {A : Type 0} (a : Answer) (made r : A) → Ok r ≡ answered a made → (a ≡ Accepted) × (r ≡ made)
+accepted_by (Ok _) made r e = (refl, cc)
+accepted_by (Err row) made r e = absurd (true≢false (ap is_ok e))
+
+pub refused_with : {A : Type 0} (a : Answer) (made : A) (row : Refusal) → Err row ≡ answered a made → Err row ≡ a
+refused_with (Ok _) made row e = absurd (true≢false (sym (ap is_ok e)))
+refused_with (Err other) made row e = cc
 
 -- ---- what a call says
 pub says_number : (a : Answer) (values : List ℕ) → (says a values).0 ≡ number_of a
@@ -222,6 +237,9 @@ last_silent above a b r n = by (decided (first_row above))
 pub refused_by : (above below : List Row) (a : Answer) → a ≡ first_row above → (a ≡ Accepted → ⊥) → a ≡ first_row (above ++ below)
 refused_by above below a e n = e ∙ sym (refused_above above below (λ y. n (e ∙ y)))
 
+pub turned_back : (above below : List Row) (row : Refusal) → Err row ≡ first_row above → Err row ≡ first_row (above ++ below)
+turned_back above below row e = refused_by above below (Err row) e err_refuses
+
 pub passed_by : (above below : List Row) {a : Answer} → T (refusing above) → Accepted ≡ first_row above → a ≡ first_row below → a ≡ first_row (above ++ below)
 passed_by above below r e b = b ∙ sym (passed_above above below r (sym e))
 
@@ -240,4 +258,4 @@ last_refuses above a r n e = n (both_passed above ((a, true) ∷ []) r e).1
 
 pub whole_from_top : (table part reserved position traceback code state window long symbols sample scale space load mend : Bool) → T (from_top (whole_table table part reserved position traceback code state window long symbols sample scale space load mend))
 unfolding first_place
-whole_from_top table part reserved position traceback code state window long symbols sample scale space load mend = tt
+whole_from_top _ _ _ _ _ _ _ _ _ _ _ _ _ _ _ = tt

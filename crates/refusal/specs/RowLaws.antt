@@ -1,8 +1,6 @@
 -- Laws of answers and of the rows of a call.
 use Rattle.std.specs.Prelude.{◌≡◌, Bool, true, false, cond, List, [], ◌∷◌, ℕ, eqb}
-use Rattle.refusal.specs.declared.Answer.{Answer}
-use Rattle.refusal.specs.declared.Answer.TheVariants.{Accepted, Table, Position, Traceback, State, Length, Symbols, Sample, Scale, Space, PartUnit, ReservedWord, Window, Code, NoLoad, Unmendable}
-use Rattle.refusal.specs.Rows.{number_of, accepted, Row}
+use Rattle.refusal.specs.Rows.{Answer, Accepted, Table, Position, Traceback, State, Length, Symbols, Sample, Scale, Space, PartUnit, ReservedWord, Window, Code, NoLoad, Unmendable, number_of, accepted, Row}
 
 -- ---- answers
 -- the answers by their numbers

@@ -1,8 +1,61 @@
 -- Document 01, "Where a call is turned back".
 use Rattle.std.specs.Prelude.{◌≡◌, Bool, true, false, cond, List, [], ◌∷◌, ℕ, eqb, leb, ltb, length}
 use Rattle.trellis.specs.Lists.{first_place}
-use Rattle.refusal.specs.declared.Answer.{Answer}
-use Rattle.refusal.specs.declared.Answer.TheVariants.{Accepted, Table, Position, Traceback, State, Length, Symbols, Sample, Scale, Space, PartUnit, ReservedWord, Window, Code, NoLoad, Unmendable}
+use Rattle.std.specs.Prelude.{Result, Ok, Err}
+use Rattle.refusal.specs.declared.Refusal.{Refusal}
+use Rattle.refusal.specs.declared.Refusal.TheVariants as row
+
+-- what a call answers: accepted, or the row that turns it back
+abbrev pub Answer : Type 0
+Answer = Result Unit Refusal
+
+pattern abbrev pub Accepted : Answer
+Accepted = Ok tt
+
+pattern abbrev pub Table : Answer
+Table = Err row.Table
+
+pattern abbrev pub Position : Answer
+Position = Err row.Position
+
+pattern abbrev pub Traceback : Answer
+Traceback = Err row.Traceback
+
+pattern abbrev pub State : Answer
+State = Err row.State
+
+pattern abbrev pub Length : Answer
+Length = Err row.Length
+
+pattern abbrev pub Symbols : Answer
+Symbols = Err row.Symbols
+
+pattern abbrev pub Sample : Answer
+Sample = Err row.Sample
+
+pattern abbrev pub Scale : Answer
+Scale = Err row.Scale
+
+pattern abbrev pub Space : Answer
+Space = Err row.Space
+
+pattern abbrev pub PartUnit : Answer
+PartUnit = Err row.PartUnit
+
+pattern abbrev pub ReservedWord : Answer
+ReservedWord = Err row.ReservedWord
+
+pattern abbrev pub Window : Answer
+Window = Err row.Window
+
+pattern abbrev pub Code : Answer
+Code = Err row.Code
+
+pattern abbrev pub NoLoad : Answer
+NoLoad = Err row.NoLoad
+
+pattern abbrev pub Unmendable : Answer
+Unmendable = Err row.Unmendable
 
 -- the table's first column; 0 where no row holds
 abbrev pub number_of : Answer → ℕ
@@ -49,6 +102,16 @@ placed stands new (row ∷ rows) = cond (stands row) (row ∷ placed stands new 
 -- one thing where the call is accepted, another where it is refused
 abbrev pub Either : Answer → Type 0 → Type 0 → Type 0
 Either a done kept = (a ≡ Accepted → done) × ((a ≡ Accepted → ⊥) → kept)
+
+-- what a call with a result answers: the row that turns it back, or what it made
+abbrev pub answered : {A : Type 0} → Answer → A → Result A Refusal
+answered (Ok _) made = Ok made
+answered (Err row) made = Err row
+
+-- and its answer alone
+abbrev pub answer_of : {A : Type 0} → Result A Refusal → Answer
+answer_of (Ok _) = Accepted
+answer_of (Err row) = Err row
 
 -- what a call says: the number, and the values that come with an acceptance
 abbrev pub Said : Type 0

@@ -4,10 +4,9 @@
 ghost use Rattle.std.specs.Prelude.{◌≡◌};
 ghost use Rattle.refusal.specs.Rows.{number_of};
 
-// Accepted, or the row of document 01's table "Where a call is turned back" as document 02 leaves it.
+// A row of document 01's table "Where a call is turned back" as document 02 leaves it: why a call is turned back. A call that only answers gives `Result<(), Refusal>`.
 #[derive(Clone, Copy)]
-pub enum Answer {
-    Accepted,
+pub enum Refusal {
     Table,
     Position,
     Traceback,
@@ -26,25 +25,25 @@ pub enum Answer {
 }
 
 // The row's number, and 0 for accepted.
-pub fn number(answer: Answer) -> u32
+pub fn number(answer: Result<(), Refusal>) -> u32
     ensures { result ≡ number_of answer }
 {
     match answer {
-        Answer::Accepted => 0,
-        Answer::Table => 1,
-        Answer::Position => 2,
-        Answer::Traceback => 3,
-        Answer::State => 4,
-        Answer::Length => 5,
-        Answer::Symbols => 6,
-        Answer::Sample => 7,
-        Answer::Scale => 8,
-        Answer::Space => 9,
-        Answer::PartUnit => 10,
-        Answer::ReservedWord => 11,
-        Answer::Window => 14,
-        Answer::Code => 12,
-        Answer::NoLoad => 13,
-        Answer::Unmendable => 15,
+        Ok(()) => 0,
+        Err(Refusal::Table) => 1,
+        Err(Refusal::Position) => 2,
+        Err(Refusal::Traceback) => 3,
+        Err(Refusal::State) => 4,
+        Err(Refusal::Length) => 5,
+        Err(Refusal::Symbols) => 6,
+        Err(Refusal::Sample) => 7,
+        Err(Refusal::Scale) => 8,
+        Err(Refusal::Space) => 9,
+        Err(Refusal::PartUnit) => 10,
+        Err(Refusal::ReservedWord) => 11,
+        Err(Refusal::Window) => 14,
+        Err(Refusal::Code) => 12,
+        Err(Refusal::NoLoad) => 13,
+        Err(Refusal::Unmendable) => 15,
     }
 }

@@ -2,8 +2,8 @@
 // path of greatest sum.
 #![tactic(auto)]
 
-ghost use Rattle.std.specs.Prelude.{◌≡◌, ◌||◌, ◌*◌, ◌<◌, ◌≤◌, ◌/◌, ltb, length};
-ghost use Rattle.refusal.specs.Rows.{first_row, Either};
+ghost use Rattle.std.specs.Prelude.{◌≡◌, ◌||◌, ◌*◌, ◌<◌, ◌≤◌, ◌/◌, ltb, length, MatchResult};
+ghost use Rattle.refusal.specs.Rows.{first_row, answer_of};
 ghost use Rattle.trellis.specs.Run.{start_unknown};
 ghost use Rattle.short_code.specs.Codes.{Fits};
 ghost use Rattle.path_greatest.specs.Fresh.{start_values};
@@ -13,7 +13,7 @@ ghost use Rattle.trellis.specs.Isdb;
 
 use isdb_fec::conv::STREAM_LIMIT;
 pub use path_greatest::Start;
-use refusal::Answer;
+use refusal::Refusal;
 pub use short_code::Code;
 use short_code::{bad, half};
 use short_step::{best_state, renormalise, start_at};
@@ -22,49 +22,38 @@ use trellis::{FRAME_TRACEBACK, FRAME_WORDS, STATES};
 use viterbi_core::At;
 use viterbi_rows::some_beyond;
 
-// The answer, and how many bits stand at the front of the output.
-#[derive(Clone, Copy)]
-pub struct Done {
-    pub answer: Answer,
-    pub count: usize,
-}
-
 // Whether the lent memory is too short for n bits.
 fn short(n: usize, decisions: usize, out: usize) -> bool
     ensures { result ≡ (ltb out n || ltb decisions frame_words) }
 {
-    if out < n {
-        true
-    } else {
-        decisions < FRAME_WORDS
-    }
+    out < n || decisions < FRAME_WORDS
 }
 
 // The answer to a reading.
-fn answer_reading(code: Code, metrics: &[f32], decisions: usize, out: usize) -> Answer
+fn answer_reading(code: Code, metrics: &[f32], decisions: usize, out: usize) -> Result<(), Refusal>
     ensures { result ≡ first_row (reading_rows code metrics.now decisions out) }
 {
     if bad(code) {
-        return Answer::Code;
+        return Err(Refusal::Code);
     }
     if metrics.len() % 4 != 0 {
-        return Answer::Length;
+        return Err(Refusal::Length);
     }
     if some_beyond(metrics, STREAM_LIMIT) {
-        return Answer::Sample;
+        return Err(Refusal::Sample);
     }
     if short(metrics.len() / 4, decisions, out) {
-        return Answer::Space;
+        return Err(Refusal::Space);
     }
-    Answer::Accepted
+    Ok(())
 }
 
 // The path values of an unknown start.
 fn start_unknown(pm: &mut [f32])
     ensures { pm.new ≡ start_unknown (length pm.old) }
 {
-    for k in 0..pm.len() {
-        pm[k] = 0.0;
+    for v in pm.iter_mut() {
+        *v = 0.0;
     }
 }
 
@@ -106,30 +95,24 @@ fn run(
     finish_at(best, h, end, decisions, out)
 }
 
-// The reading of the metrics, four for each step, by a fresh decoder of traceback 128.
+// The reading of the metrics, four for each step, by a fresh decoder of traceback 128. How many bits stand at the front of the output.
 pub fn greatest_sum_reading(
     code: Code,
     metrics: &[f32],
     start: Start,
     decisions: &mut [u64],
     out: &mut [u8],
-) -> Done
-    ensures answers { result.answer ≡ first_row (reading_rows code metrics.now (length decisions.old) (length out.old)) }
-    ensures leaves { Either result.answer
-        (Finished code start metrics.now result.count decisions.old decisions.new out.old out.new)
-        (Refused result.count decisions.old decisions.new out.old out.new) }
+) -> Result<usize, Refusal>
+    ensures answers { answer_of result ≡ first_row (reading_rows code metrics.now (length decisions.old) (length out.old)) }
+    ensures leaves { MatchResult result
+        (λ count. Finished code start metrics.now count decisions.old decisions.new out.old out.new)
+        (λ _. Refused decisions.old decisions.new out.old out.new) }
     ensures greatest { GreatestSum code start metrics.now result (length decisions.old) (length out.old) out.new }
 {
-    let answer = answer_reading(code, metrics, decisions.len(), out.len());
-    let Answer::Accepted = answer else {
-        return Done { answer, count: 0 };
-    };
+    answer_reading(code, metrics, decisions.len(), out.len())?;
     let h = half(code);
     let n = 2 * h;
     let mut pm = [0.0f32; STATES];
     let count = run(&mut pm[0..n], code, h, start, metrics, decisions, out);
-    Done {
-        answer: Answer::Accepted,
-        count,
-    }
+    Ok(count)
 }

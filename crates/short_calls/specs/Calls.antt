@@ -1,13 +1,16 @@
 -- What the three calls in a row leave and read. Definitions only.
-use Rattle.std.specs.Prelude.{◌≡◌, true, List, ℕ, ◌*◌, ◌/◌, ◌≤◌, ℤ, length, take, replicate, Float}
+use Rattle.std.specs.Prelude.{◌≡◌, true, List, ℕ, ◌*◌, ◌/◌, ◌≤◌, ℤ, length, take, replicate, Float, Result, Ok, Err, MatchResult}
 use Rattle.std.specs.Float.{binary32}
 use Rattle.std.specs.Float.Ieee.{of_bits}
-use Rattle.refusal.specs.Rows.{first_row, Either}
-use Rattle.refusal.specs.declared.Answer.TheVariants.{Accepted}
+use Rattle.refusal.specs.declared.Refusal.{Refusal}
+use Rattle.refusal.specs.Rows.{first_row, answer_of}
 use Rattle.trellis.specs.Isdb.{rule, states, frame_words}
 use Rattle.trellis.specs.Lists.{laid}
 use Rattle.trellis.specs.Run.{quadruple, four_steps}
+use Rattle.isdb_fec.specs.declared.conv.ViterbiDecoder.{ViterbiDecoder}
+use Rattle.isdb_fec.specs.declared.conv.Released.{Released}
 use Rattle.isdb_fec.specs.Calls.{Unchanged}
+use Rattle.range_calls.specs.Handed.{decoder_after}
 use Rattle.path_greatest.specs.Paths.{longest, Quadruples, Reading}
 use Rattle.path_greatest.specs.declared.Start.{Start}
 use Rattle.path_greatest.specs.Fresh.{start_values, StartsIn}
@@ -26,19 +29,19 @@ fresh_values c start = laid (start_values (states_of c) start) (replicate states
 pub record PushedFlushed (c : Code) (xs : List Float) (r : Three) (decisions₀ decisions out₀ out : List ℕ) : Type 0 where
   pub words : List ℕ
   pub sent : List ℕ
-  pub push_answers : r.pushed.answer ≡ first_row (stream_rows c 4 r.made.dec xs (length decisions₀) (length out₀))
+  pub push_answers : answer_of r.pushed ≡ first_row (stream_rows c 4 r.made xs (length decisions₀) (length out₀))
   pub push_leaves :
-      Either r.pushed.answer
-      (Leaves r.made.dec (call c r.made.dec.traceback (four_steps xs) (handed c r.made.dec decisions₀) (length xs / 4)) r.pushed decisions₀ words out₀ sent)
-      (Unchanged r.made.dec r.pushed decisions₀ words out₀ sent)
-  pub flush_answers : r.flushed.answer ≡ first_row (flush_rows c r.pushed.dec (length words) (length sent))
+      MatchResult r.pushed
+      (λ p. Leaves r.made (call c r.made.traceback (four_steps xs) (handed c r.made decisions₀) (length xs / 4)) p decisions₀ words out₀ sent)
+      (λ _. Unchanged decisions₀ words out₀ sent)
+  pub flush_answers : answer_of r.flushed ≡ first_row (flush_rows c (decoder_after r.made r.pushed) (length words) (length sent))
   pub flush_leaves :
-      Either r.flushed.answer
-      (Flushes c r.pushed.dec (best_of c r.pushed.dec) r.flushed words decisions sent out)
-      (Unchanged r.pushed.dec r.flushed words decisions sent out)
+      MatchResult r.flushed
+      (λ f. Flushes c (decoder_after r.made r.pushed) (best_of c (decoder_after r.made r.pushed)) f words decisions sent out)
+      (λ _. Unchanged words decisions sent out)
 
 -- of at most 4,096 quadruples of whole numbers within 16, with memory enough lent, all accept, and the bits are those of the first path of greatest sum
-pub record ThreeRead (c : Code) (start : Start) (xs : List Float) (r : Three) (decisions out : ℕ) (bits : List ℕ) : Type 0 where
+pub record ThreeRead (c : Code) (start : Start) (xs : List Float) (r : Result Three Refusal) (decisions out : ℕ) (bits : List ℕ) : Type 0 where
   pub reads : (n : ℕ) (m : ℕ → ℕ → ℤ) → good_code c ≡ true → length xs ≡ 4 * n → n ≤ longest → Quadruples (quadruple xs) m n → frame_words ≤ decisions → n ≤ out
-      → (r.made.answer ≡ Accepted) × (r.pushed.answer ≡ Accepted) × (r.pushed.count ≡ 0) × (r.flushed.answer ≡ Accepted) × (r.flushed.count ≡ n)
+      → (t : Three) × (r ≡ Ok t) × (p : Released) × (t.pushed ≡ Ok p) × (p.count ≡ 0) × (f : Released) × (t.flushed ≡ Ok f) × (f.count ≡ n)
       × Reading (half_of c) (labels c) rule (StartsIn (states_of c) start) m n (take n bits)

@@ -1,6 +1,6 @@
 -- P7: "The best-path statement is established over the length": of the calls of short_fec in a row, a fresh decoder of traceback 128, `push_metrics` and `flush`. Of at most 4,096
 -- quadruples of whole numbers within 16, with memory enough lent, all accept, and the bits are those of the first path of greatest sum.
-use Rattle.std.specs.Prelude.{◌≡◌, refl, true, false, cond, List, [], ◌++◌, ℕ, ◌-◌, ◌*◌, ◌/◌, ◌%◌, ◌≤◌, ◌<◌, ℤ, eqb, length, get_or, take, replicate, Float}
+use Rattle.std.specs.Prelude.{◌≡◌, refl, true, false, cond, List, [], ◌++◌, ℕ, ◌-◌, ◌*◌, ◌/◌, ◌%◌, ◌≤◌, ◌<◌, ℤ, eqb, length, get_or, take, replicate, Float, Result, Ok, Err, IfOk, MatchResult}
 use Rattle.std.proofs.Common.{sym, ap, ◌∙◌, subst, arith, le_refl, le_of_eq, le-ltb, pow_pos, lit<, lit≤}
 use Rattle.std.proofs.lemmas.Bool.{lt-leb}
 use Rattle.std.specs.Float.{nan, binary32}
@@ -9,9 +9,10 @@ use Rattle.std.specs.Float.Ieee.Fits.{and_i}
 use Rattle.ieee.specs.Value.{hi, lo}
 use Rattle.ieee.specs.Rounding.{pow2}
 use Rattle.ieee.proofs.Whole.{on_neg}
-use Rattle.refusal.specs.Rows.{first_row, Either}
-use Rattle.refusal.proofs.RowLaws.{passed}
-use Rattle.refusal.specs.declared.Answer.TheVariants as answer
+use Rattle.refusal.specs.declared.Refusal.{Refusal}
+use Rattle.refusal.specs.Rows.{first_row, answer_of}
+use Rattle.refusal.proofs.RowLaws.{passed, err_refuses}
+use Rattle.refusal.specs.Rows as answer
 use Rattle.trellis.specs.Isdb.{rule, frame_traceback, frame_words}
 use Rattle.trellis.specs.Lists.{laid}
 use Rattle.trellis.specs.ListLaws.{length_upto, none_listed}
@@ -32,8 +33,7 @@ use Rattle.path_greatest.proofs.Calls.{plain_four, follows, start_given, start_u
 use Rattle.isdb_fec.specs.declared.conv.ViterbiDecoder.{ViterbiDecoder}
 use Rattle.isdb_fec.specs.declared.conv.Released.{Released}
 use Rattle.isdb_fec.specs.Values.{some_beyond, path_limit}
-use Rattle.isdb_fec.specs.declared.conv.Made.{Made}
-use Rattle.isdb_fec.specs.Calls.{Fresh, Zero, Unchanged}
+use Rattle.isdb_fec.specs.Calls.{Fresh, Unchanged}
 use Rattle.range_calls.specs.Inside.{none_beyond}
 use Rattle.short_code.specs.declared.Code.{Code}
 use Rattle.short_code.specs.Codes.{code_of, labels, half_of, states_of, good_code}
@@ -44,6 +44,7 @@ use Rattle.path_greatest.specs.declared.Start.{Start}
 use Rattle.path_greatest.specs.declared.Start.TheVariants.{Given, Unknown}
 use Rattle.path_greatest.specs.Fresh.{start_values, StartsIn}
 use Rattle.short_best.specs.Readings.{read, read_bits, reading_rows}
+use Rattle.range_calls.specs.Handed.{decoder_after}
 use Rattle.short_same_code.specs.SameLaws.{after_length}
 use Rattle.short_best.specs.BestLaws.{accepts, reads}
 
@@ -140,14 +141,13 @@ module _ (c : Code) (start : Start) (xs : List Float) (n : ℕ) (m : ℕ → ℕ
   fresh = record { pm = values; held = 0; traceback = frame_traceback }
 
   -- it is what `with_state` and `new_unknown_state` make
-  pub made_is : (made : Made) → made.answer ≡ first_row (short.fresh_rows c frame_traceback) → Either made.answer (Fresh frame_traceback values made.dec) (Zero made.dec) → (made.answer ≡ answer.Accepted) × (made.dec ≡ fresh)
-  made_is made a e =
-      let yes : made.answer ≡ answer.Accepted = a ∙ rw good refl in
-      let f = e.0 yes in
+  pub made_is : (made : Result ViterbiDecoder Refusal) → answer_of made ≡ first_row (short.fresh_rows c frame_traceback) → IfOk made (λ v. Fresh frame_traceback values v) → made ≡ Ok fresh
+  made_is (Err row) a f = absurd (err_refuses {row = row} (a ∙ rw good refl))
+  made_is (Ok v) a f =
       let x = f.values in
       let y = f.held_is in
       let z = f.traceback_is in
-      (yes, λ i. record { pm = x i; held = y i; traceback = z i })
+      λ i. Ok (record { pm = x i; held = y i; traceback = z i })
 
   front : take (states_of c) values ≡ start_values (states_of c) start
   front = ap (λ (k : ℕ). take k values) (sym (start_length (states_of c) start)) ∙ take_laid (start_values (states_of c) start) (replicate 64 (of_bits binary32 0))
@@ -161,20 +161,14 @@ module _ (c : Code) (start : Start) (xs : List Float) (n : ℕ) (m : ℕ → ℕ
       let r : releases frame_traceback 0 (length xs / 4) ≡ 0 = releases_is frame_traceback 0 (length xs / 4) (lit≤ tt) ∙ omega arith in
       rw (good, front, start_inside, p answer.Length, p answer.Sample, le-ltb O (block * releases frame_traceback 0 (length xs / 4)) (omega arith), le-ltb D frame_words hd) refl
 
-  -- ---- the two calls on it
-  module _ (p r : Released) (dec₀ dec₁ dec₂ out₀ out₁ out₂ : List ℕ) (hd : frame_words ≤ length dec₀) (ho : n ≤ length out₀)
-      (pa : p.answer ≡ first_row (short.stream_rows c 4 fresh xs (length dec₀) (length out₀)))
-      (pl : Either p.answer (Leaves fresh (call c frame_traceback (four_steps xs) (handed c fresh dec₀) (length xs / 4)) p dec₀ dec₁ out₀ out₁) (Unchanged fresh p dec₀ dec₁ out₀ out₁))
-      (ra : r.answer ≡ first_row (short.flush_rows c p.dec (length dec₁) (length out₁)))
-      (rl : Either r.answer (Flushes c p.dec (best_of c p.dec) r dec₁ dec₂ out₁ out₂) (Unchanged p.dec r dec₁ dec₂ out₁ out₂)) where
+  -- ---- the two calls on it: once the first has accepted
+  module _ (p : Released) (dec₀ dec₁ out₀ out₁ : List ℕ) (hd : frame_words ≤ length dec₀) (ho : n ≤ length out₀)
+      (pl : Leaves fresh (call c frame_traceback (four_steps xs) (handed c fresh dec₀) (length xs / 4)) p dec₀ dec₁ out₀ out₁) where
     abbrev d : Decoder
     d = read c start xs
 
-    pushed : p.answer ≡ answer.Accepted
-    pushed = pa ∙ push_accepts (length dec₀) (length out₀) hd ho
-
     left : Leaves fresh d p dec₀ dec₁ out₀ out₁
-    left = subst (λ (x : Decoder). Leaves fresh (call c frame_traceback (four_steps xs) x (length xs / 4)) p dec₀ dec₁ out₀ out₁) (handed_is dec₀) (pl.0 pushed)
+    left = subst (λ (x : Decoder). Leaves fresh (call c frame_traceback (four_steps xs) x (length xs / 4)) p dec₀ dec₁ out₀ out₁) (handed_is dec₀) pl
 
     sizes : (length d.words ≡ n) × (length d.bits ≡ 0)
     sizes =
@@ -196,17 +190,13 @@ module _ (c : Code) (start : Start) (xs : List Float) (n : ℕ) (m : ℕ → ℕ
     pm_is : take (states_of c) p.dec.pm ≡ d.values
     pm_is = ap (λ (v : List Float). take (states_of c) v) left.values ∙ ap (λ (k : ℕ). take k (laid d.values values)) (sym read_length) ∙ take_laid d.values values
 
-    flush_accepts : r.answer ≡ answer.Accepted
+    flush_accepts : first_row (short.flush_rows c p.dec (length dec₁) (length out₁)) ≡ answer.Accepted
     flush_accepts =
         let z = sizes.0 in
         let h : p.dec.held ≡ n = left.held_is ∙ z in
         let lo : length out₁ ≡ length out₀ = ap length out_is in
         let ld : length dec₁ ≡ length dec₀ = ap length dec_is ∙ length_laid d.words dec₀ (omega arith) in
-        ra
-        ∙ rw (left.traceback_is, good, pm_is, end_inside, h, lt-leb frame_words n (omega arith), le-ltb (length out₁) n (omega arith), le-ltb (length dec₁) frame_words (omega arith)) refl
-
-    done : Flushes c p.dec (best_of c p.dec) r dec₁ dec₂ out₁ out₂
-    done = rl.0 flush_accepts
+        rw (left.traceback_is, good, pm_is, end_inside, h, lt-leb frame_words n (omega arith), le-ltb (length out₁) n (omega arith), le-ltb (length dec₁) frame_words (omega arith)) refl
 
     traced_is : traced half (take p.dec.held dec₁) (best_of c p.dec) ≡ read_bits c start xs
     traced_is =
@@ -217,10 +207,23 @@ module _ (c : Code) (start : Start) (xs : List Float) (n : ℕ) (m : ℕ → ℕ
         ∙ ap (λ (b : List ℕ). b ++ traced half d.words (best rule d.values (2 * half - 1))) (sym none_out)
 
     -- all bits come with the flush: they are the inputs of the first path of greatest sum
-    pub three_calls : (p.answer ≡ answer.Accepted) × (p.count ≡ 0) × (r.answer ≡ answer.Accepted) × (r.count ≡ n) × Reading half (labels c) rule (StartsIn (states_of c) start) m n (take n out₂)
-    three_calls =
+    all_read : (r : Released) (dec₂ out₂ : List ℕ) → Flushes c p.dec (best_of c p.dec) r dec₁ dec₂ out₁ out₂ → (p.count ≡ 0) × (r.count ≡ n) × Reading half (labels c) rule (StartsIn (states_of c) start) m n (take n out₂)
+    all_read r dec₂ out₂ done =
         let b = reads c xs n m good count few quads start in
         let k : length (read_bits c start xs) ≡ n = b.best.path.count in
         let o : out₂ ≡ laid (read_bits c start xs) out₁ = done.bits ∙ ap (λ (l : List ℕ). laid l out₁) traced_is in
         let t : take n out₂ ≡ read_bits c start xs = ap (λ (x : List ℕ). take n x) o ∙ ap (λ (j : ℕ). take j (laid (read_bits c start xs) out₁)) (sym k) ∙ take_laid (read_bits c start xs) out₁ in
-        (pushed, left.count_is ∙ sizes.1, flush_accepts, done.count_is ∙ left.held_is ∙ sizes.0, subst (λ (x : List ℕ). Reading half (labels c) rule (StartsIn (states_of c) start) m n x) (sym t) b)
+        (left.count_is ∙ sizes.1, done.count_is ∙ left.held_is ∙ sizes.0, subst (λ (x : List ℕ). Reading half (labels c) rule (StartsIn (states_of c) start) m n x) (sym t) b)
+
+  -- both accept
+  pub three_calls : (p r : Result Released Refusal) (dec₀ dec₁ dec₂ out₀ out₁ out₂ : List ℕ) → frame_words ≤ length dec₀ → n ≤ length out₀
+      → answer_of p ≡ first_row (short.stream_rows c 4 fresh xs (length dec₀) (length out₀))
+      → MatchResult p (λ x. Leaves fresh (call c frame_traceback (four_steps xs) (handed c fresh dec₀) (length xs / 4)) x dec₀ dec₁ out₀ out₁) (λ _. Unchanged dec₀ dec₁ out₀ out₁)
+      → answer_of r ≡ first_row (short.flush_rows c (decoder_after fresh p) (length dec₁) (length out₁))
+      → MatchResult r (λ y. Flushes c (decoder_after fresh p) (best_of c (decoder_after fresh p)) y dec₁ dec₂ out₁ out₂) (λ _. Unchanged dec₁ dec₂ out₁ out₂)
+      → (x : Released) × (p ≡ Ok x) × (x.count ≡ 0) × (y : Released) × (r ≡ Ok y) × (y.count ≡ n) × Reading half (labels c) rule (StartsIn (states_of c) start) m n (take n out₂)
+  three_calls (Err row) r dec₀ dec₁ dec₂ out₀ out₁ out₂ hd ho pa pl ra rl = absurd (err_refuses {row = row} (pa ∙ push_accepts (length dec₀) (length out₀) hd ho))
+  three_calls (Ok x) (Err row) dec₀ dec₁ dec₂ out₀ out₁ out₂ hd ho pa pl ra rl = absurd (err_refuses {row = row} (ra ∙ flush_accepts x dec₀ dec₁ out₀ out₁ hd ho pl))
+  three_calls (Ok x) (Ok y) dec₀ dec₁ dec₂ out₀ out₁ out₂ hd ho pa pl ra rl =
+      let a = all_read x dec₀ dec₁ out₀ out₁ hd ho pl y dec₂ out₂ rl in
+      (x, refl, a.0, y, refl, a.1, a.2)

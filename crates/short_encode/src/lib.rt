@@ -1,8 +1,8 @@
 // The list encoder of a code of constraint length 3 to 7 with two generators: X then Y of each input bit, one in a byte.
 #![tactic(auto)]
 
-ghost use Rattle.std.specs.Prelude.{◌≡◌, ◌*◌, ◌<◌, ◌≤◌, length};
-ghost use Rattle.refusal.specs.Rows.{first_row, Either};
+ghost use Rattle.std.specs.Prelude.{◌≡◌, ◌*◌, ◌<◌, ◌≤◌, length, IfOk, MatchResult};
+ghost use Rattle.refusal.specs.Rows.{first_row, answer_of};
 ghost use Rattle.trellis.specs.Lists.{laid};
 ghost use Rattle.trellis.specs.Encoded.{coded_bits, last_state};
 ghost use Rattle.short_code.specs.Codes.{code_of, Fits};
@@ -10,32 +10,25 @@ ghost use Rattle.short_fec.specs.Rows.{encode_rows};
 ghost use Rattle.trellis.specs.Isdb;
 
 use isdb_fec::conv::ConvEncoder;
-use refusal::Answer;
+use refusal::Refusal;
 pub use short_code::Code;
 use short_code::{bad, encode_bit, half};
 use short_rows::few;
 
-// The answer, and the encoder after the call.
-#[derive(Clone, Copy)]
-pub struct Encoded {
-    pub answer: Answer,
-    pub enc: ConvEncoder,
-}
-
 // The answer to an encoding of n inputs into `space` places.
-fn answer_encode(code: Code, state: u8, n: usize, space: usize) -> Answer
+fn answer_encode(code: Code, state: u8, n: usize, space: usize) -> Result<(), Refusal>
     ensures { result ≡ first_row (encode_rows code state n space) }
 {
     if bad(code) {
-        return Answer::Code;
+        return Err(Refusal::Code);
     }
     if (state as usize) >= 2 * half(code) {
-        return Answer::State;
+        return Err(Refusal::State);
     }
     if few(space, n) {
-        return Answer::Space;
+        return Err(Refusal::Space);
     }
-    Answer::Accepted
+    Ok(())
 }
 
 // X and Y of each input at the front of `out`. The state after the last.
@@ -53,20 +46,19 @@ fn encode_all(code: Code, h: usize, state: u8, bits: &[u8], out: &mut [u8]) -> u
     s
 }
 
-// Encodes the low bit of each byte: X then Y of each at the front of `out`.
-pub fn encode(code: Code, enc: ConvEncoder, bits: &[u8], out: &mut [u8]) -> Encoded
-    ensures answers { result.answer ≡ first_row (encode_rows code enc.state (length bits.now) (length out.old)) }
-    ensures state { Either result.answer (result.enc.state ≡ last_state (code_of code) enc.state bits.now) (result.enc.state ≡ enc.state) }
-    ensures coded { Either result.answer (out.new ≡ laid (coded_bits (code_of code) enc.state bits.now) out.old) (out.new ≡ out.old) }
+// Encodes the low bit of each byte: X then Y of each at the front of `out`. The encoder after the call.
+pub fn encode(
+    code: Code,
+    enc: ConvEncoder,
+    bits: &[u8],
+    out: &mut [u8],
+) -> Result<ConvEncoder, Refusal>
+    ensures answers { answer_of result ≡ first_row (encode_rows code enc.state (length bits.now) (length out.old)) }
+    ensures state { IfOk result (λ e. e.state ≡ last_state (code_of code) enc.state bits.now) }
+    ensures coded { MatchResult result (λ _. out.new ≡ laid (coded_bits (code_of code) enc.state bits.now) out.old) (λ _. out.new ≡ out.old) }
 {
     let state = enc.state;
-    let answer = answer_encode(code, state, bits.len(), out.len());
-    let Answer::Accepted = answer else {
-        return Encoded { answer, enc };
-    };
+    answer_encode(code, state, bits.len(), out.len())?;
     let last = encode_all(code, half(code), state, bits, out);
-    Encoded {
-        answer: Answer::Accepted,
-        enc: ConvEncoder { state: last },
-    }
+    Ok(ConvEncoder { state: last })
 }

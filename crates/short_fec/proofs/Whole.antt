@@ -1,7 +1,7 @@
 -- What is left of a decoder whose first path values were lent to the steps of a call.
 use mathlib.Core.Path.{◌≡◌, refl, sym, ◌∙◌, ap}
-use mathlib.Core.List.{List, [], ◌++◌}
-use Prim.Native.Nat.{ℕ, ◌+◌, ◌-◌, ◌*◌, ◌<◌, ◌≤◌}
+use mathlib.Core.List.{List, ◌++◌}
+use Prim.Native.Nat.{ℕ, ◌-◌, ◌*◌, ◌≤◌}
 use mathlib.Core.Bool.{cond}
 use Prim.Native.Nat.{◌%◌}
 use native.Mathlib.Omega.{arith}
@@ -11,8 +11,10 @@ use lib.Seq.{length-take-le, get_or-take}
 use lib.Ieee.{Float, nan, binary32, of_bits}
 use Rattle.trellis.specs.ListLaws.{length_upto}
 use Rattle.trellis.specs.WrittenLaws.{written_whole}
-use borrow.Rule.Slice.PartMut.{mid_of, put_mid}
-use Rattle.refusal.specs.declared.Answer.TheVariants.{Accepted}
+use borrow.Rule.Slice.PartMut.{put_mid}
+use Rattle.std.specs.Prelude.{Result, Ok, Err, IfOk}
+use Rattle.refusal.specs.declared.Refusal.{Refusal}
+use Rattle.refusal.specs.Rows.{Accepted, answer_of}
 use Rattle.trellis.specs.Lists.{laid}
 use Rattle.trellis.specs.Run.{Decoder, start_at, start_unknown}
 use Rattle.viterbi_core.specs.Calls.{Holds}
@@ -22,13 +24,18 @@ use Rattle.short_code.specs.Codes.{half_of, states_of, Fits}
 use Rattle.short_code.specs.CodeLaws.{states_are}
 use Rattle.short_fec.specs.Calls.{Leaves}
 
+-- what an accepted call made has what follows from what it has
+pub onward : {A : Type 0} (r : Result A Refusal) (P Q : A → Type 0) → (answer_of r ≡ Accepted → (x : A) → P x → Q x) → IfOk r P → IfOk r Q
+onward (Ok x) P Q f p = f refl x p
+onward (Err row) P Q f p = tt
+
 pub put_front : (m : ℕ) (l p : List Float) → length p ≡ m → put_mid 0 m l p ≡ laid p l
 put_front m l p e = ap (λ (k : ℕ). p ++ drop k l) (sym e)
 
 -- the decoder D by half of the states and their number
 pub left : (c : Code) (h m : ℕ) (v : ViterbiDecoder) (D : ℕ → ℕ → Decoder) (p : List Float) (held count : ℕ) (dec₀ dec out₀ out : List ℕ) → Fits c h → m ≡ 2 * h → length p ≡ m
     → Holds v.traceback dec₀ out₀ (D h m) p held count dec out
-    → Leaves v (D (half_of c) (states_of c)) (record { answer = Accepted; dec = record { pm = put_mid 0 m v.pm p; held = held; traceback = v.traceback }; count = count }) dec₀ dec out₀ out
+    → Leaves v (D (half_of c) (states_of c)) (record { dec = record { pm = put_mid 0 m v.pm p; held = held; traceback = v.traceback }; count = count }) dec₀ dec out₀ out
 left c h m v D p held count dec₀ dec out₀ out f e l s =
     let all : m ≡ states_of c = e ∙ states_are c h f in
     let same : D h m ≡ D (half_of c) (states_of c) = ap (λ (k : ℕ). D k m) f.half_is ∙ ap (λ (k : ℕ). D (half_of c) k) all in

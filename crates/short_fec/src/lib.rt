@@ -2,22 +2,22 @@
 // first 2^(length-1) count, the held count and the traceback.
 #![tactic(auto)]
 
-ghost use Rattle.std.specs.Prelude.{◌≡◌, ◌⊎◌, true, ◌+◌, ◌*◌, ◌<◌, ◌≤◌, ◌/◌, ◌%◌, length};
-ghost use Rattle.refusal.specs.Rows.{first_row, Either};
+ghost use Rattle.std.specs.Prelude.{◌≡◌, ◌⊎◌, true, ◌+◌, ◌*◌, ◌<◌, ◌≤◌, ◌/◌, ◌%◌, length, IfOk, MatchResult};
+ghost use Rattle.refusal.specs.Rows.{first_row, answer_of};
 ghost use Rattle.trellis.specs.Code.{output, moved};
 ghost use Rattle.trellis.specs.Run.{pushed, block, traceback_limit, pair_steps, four_steps, known_steps, releases, holding};
 ghost use Rattle.trellis.specs.Isdb.{rule};
 ghost use Rattle.viterbi_core.specs.Calls.{Holds};
 ghost use Rattle.short_code.specs.Codes.{code_of, labels, half_of, states_of, good_code, Fits};
 ghost use Rattle.short_viterbi.specs.Soft.{soft_steps};
-ghost use Rattle.isdb_fec.specs.Calls.{Fresh, Zero, Unchanged};
+ghost use Rattle.isdb_fec.specs.Calls.{Fresh, Unchanged};
 ghost use Rattle.isdb_fec.specs.AnswerLaws.{Enough};
 ghost use Rattle.short_fec.specs.Rows.{encoder_rows, fresh_rows, stream_rows, known_rows, flush_rows};
 ghost use Rattle.short_fec.specs.Calls.{start_values, unknown_values, call, steps, handed, best_of, end_of, Leaves, Flushes};
 ghost use Rattle.trellis.specs.Isdb;
 
-use isdb_fec::conv::{ConvEncoder, Made, Pushed, Released, TRACEBACK_LIMIT, ViterbiDecoder};
-use refusal::Answer;
+use isdb_fec::conv::{ConvEncoder, Pushed, Released, TRACEBACK_LIMIT, ViterbiDecoder};
+use refusal::Refusal;
 pub use short_code::Code;
 use short_code::{bad, encode_bit, good, half};
 use short_rows::{answer_encoder, answer_flush, answer_known, answer_stream};
@@ -28,63 +28,37 @@ use viterbi_core::{At, depth_of};
 use viterbi_step::states;
 
 // Encodes one bit.
-pub fn push_bit(code: Code, enc: ConvEncoder, u: u8) -> Pushed
-    ensures answers { result.answer ≡ first_row (encoder_rows code enc.state) }
-    ensures outputs { Either result.answer ((result.x ≡ output (code_of code) code.g1 (u % 2) enc.state) × (result.y ≡ output (code_of code) code.g2 (u % 2) enc.state) × (result.enc.state ≡ moved (half_of code) (u % 2) enc.state)) ((result.x ≡ 0) × (result.y ≡ 0) × (result.enc.state ≡ enc.state)) }
+pub fn push_bit(code: Code, enc: ConvEncoder, u: u8) -> Result<Pushed, Refusal>
+    ensures answers { answer_of result ≡ first_row (encoder_rows code enc.state) }
+    ensures outputs { IfOk result (λ p. (p.x ≡ output (code_of code) code.g1 (u % 2) enc.state) × (p.y ≡ output (code_of code) code.g2 (u % 2) enc.state) × (p.enc.state ≡ moved (half_of code) (u % 2) enc.state)) }
 {
     let state = enc.state;
-    let answer = answer_encoder(code, state);
-    let Answer::Accepted = answer else {
-        return Pushed {
-            answer,
-            enc,
-            x: 0,
-            y: 0,
-        };
-    };
+    answer_encoder(code, state)?;
     let c = encode_bit(code, half(code), state, u);
-    Pushed {
-        answer: Answer::Accepted,
+    Ok(Pushed {
         enc: ConvEncoder { state: c.state },
         x: c.x,
         y: c.y,
-    }
+    })
 }
 
-// A fresh decoder with the path values pm; a refused one is all zero.
-fn fresh(code: Code, traceback: usize, pm: [f32; STATES]) -> Made
-    ensures answers { result.answer ≡ first_row (fresh_rows code traceback) }
-    ensures made { Either result.answer (Fresh traceback pm result.dec) (Zero result.dec) }
+// A fresh decoder with the path values pm.
+fn fresh(code: Code, traceback: usize, pm: [f32; STATES]) -> Result<ViterbiDecoder, Refusal>
+    ensures answers { answer_of result ≡ first_row (fresh_rows code traceback) }
+    ensures made { IfOk result (λ v. Fresh traceback pm v) }
 {
     if traceback > TRACEBACK_LIMIT {
-        return Made {
-            answer: Answer::Traceback,
-            dec: ViterbiDecoder {
-                pm: [0.0f32; STATES],
-                held: 0,
-                traceback: 0,
-            },
-        };
+        return Err(Refusal::Traceback);
     }
     if bad(code) {
-        return Made {
-            answer: Answer::Code,
-            dec: ViterbiDecoder {
-                pm: [0.0f32; STATES],
-                held: 0,
-                traceback: 0,
-            },
-        };
+        return Err(Refusal::Code);
     }
     let depth = depth_of(traceback);
-    Made {
-        answer: Answer::Accepted,
-        dec: ViterbiDecoder {
-            pm,
-            held: 0,
-            traceback: depth,
-        },
-    }
+    Ok(ViterbiDecoder {
+        pm,
+        held: 0,
+        traceback: depth,
+    })
 }
 
 // The path values of a known start; all 0 for a code that is refused.
@@ -100,17 +74,17 @@ fn start(code: Code, state: u8) -> [f32; STATES]
 }
 
 // A decoder that starts in the given state, mod 2^(length-1).
-pub fn with_state(code: Code, traceback: usize, state: u8) -> Made
-    ensures answers { result.answer ≡ first_row (fresh_rows code traceback) }
-    ensures made { Either result.answer (Fresh traceback (start_values code state) result.dec) (Zero result.dec) }
+pub fn with_state(code: Code, traceback: usize, state: u8) -> Result<ViterbiDecoder, Refusal>
+    ensures answers { answer_of result ≡ first_row (fresh_rows code traceback) }
+    ensures made { IfOk result (λ v. Fresh traceback (start_values code state) v) }
 {
     fresh(code, traceback, start(code, state))
 }
 
 // A decoder whose start state is not known.
-pub fn new_unknown_state(code: Code, traceback: usize) -> Made
-    ensures answers { result.answer ≡ first_row (fresh_rows code traceback) }
-    ensures made { Either result.answer (Fresh traceback (unknown_values code) result.dec) (Zero result.dec) }
+pub fn new_unknown_state(code: Code, traceback: usize) -> Result<ViterbiDecoder, Refusal>
+    ensures answers { answer_of result ≡ first_row (fresh_rows code traceback) }
+    ensures made { IfOk result (λ v. Fresh traceback (unknown_values code) v) }
 {
     fresh(code, traceback, [0.0f32; STATES])
 }
@@ -147,7 +121,7 @@ fn soft(
     out: &mut [u8],
 ) -> Released
     requires { ((per ≡ 2) ⊎ (per ≡ 4)) × (good_code code ≡ true) × Enough dec (length values.now / per) (length decisions.old) (length out.old) }
-    ensures { (result.answer ≡ Answer.Accepted) × Leaves dec (call code dec.traceback (soft_steps per values.now) (handed code dec decisions.old) (length values.now / per)) result decisions.old decisions.new out.old out.new }
+    ensures { Leaves dec (call code dec.traceback (soft_steps per values.now) (handed code dec decisions.old) (length values.now / per)) result decisions.old decisions.new out.old out.new }
 {
     let h = half(code);
     let n = 2 * h;
@@ -162,7 +136,6 @@ fn soft(
     let count = values.len() / per;
     let end = soft_run(&mut pm[0..n], s, at, values, per, count, decisions, out);
     Released {
-        answer: Answer::Accepted,
         dec: ViterbiDecoder {
             pm,
             held: end.held,
@@ -179,21 +152,14 @@ pub fn push(
     pairs: &[f32],
     decisions: &mut [u64],
     out: &mut [u8],
-) -> Released
-    ensures answers { result.answer ≡ first_row (stream_rows code 2 dec pairs.now (length decisions.old) (length out.old)) }
-    ensures leaves { Either result.answer
-        (Leaves dec (call code dec.traceback (pair_steps pairs.now) (handed code dec decisions.old) (length pairs.now / 2)) result decisions.old decisions.new out.old out.new)
-        (Unchanged dec result decisions.old decisions.new out.old out.new) }
+) -> Result<Released, Refusal>
+    ensures answers { answer_of result ≡ first_row (stream_rows code 2 dec pairs.now (length decisions.old) (length out.old)) }
+    ensures leaves { MatchResult result
+        (λ r. Leaves dec (call code dec.traceback (pair_steps pairs.now) (handed code dec decisions.old) (length pairs.now / 2)) r decisions.old decisions.new out.old out.new)
+        (λ _. Unchanged decisions.old decisions.new out.old out.new) }
 {
-    let answer = answer_stream(code, dec, pairs, 2, decisions.len(), out.len());
-    let Answer::Accepted = answer else {
-        return Released {
-            answer,
-            dec,
-            count: 0,
-        };
-    };
-    soft(code, dec, pairs, 2, decisions, out)
+    answer_stream(code, dec, pairs, 2, decisions.len(), out.len())?;
+    Ok(soft(code, dec, pairs, 2, decisions, out))
 }
 
 // Feeds metrics, four for each step: that of the branches with the outputs (X, Y) at 2X + Y.
@@ -203,21 +169,14 @@ pub fn push_metrics(
     metrics: &[f32],
     decisions: &mut [u64],
     out: &mut [u8],
-) -> Released
-    ensures answers { result.answer ≡ first_row (stream_rows code 4 dec metrics.now (length decisions.old) (length out.old)) }
-    ensures leaves { Either result.answer
-        (Leaves dec (call code dec.traceback (four_steps metrics.now) (handed code dec decisions.old) (length metrics.now / 4)) result decisions.old decisions.new out.old out.new)
-        (Unchanged dec result decisions.old decisions.new out.old out.new) }
+) -> Result<Released, Refusal>
+    ensures answers { answer_of result ≡ first_row (stream_rows code 4 dec metrics.now (length decisions.old) (length out.old)) }
+    ensures leaves { MatchResult result
+        (λ r. Leaves dec (call code dec.traceback (four_steps metrics.now) (handed code dec decisions.old) (length metrics.now / 4)) r decisions.old decisions.new out.old out.new)
+        (λ _. Unchanged decisions.old decisions.new out.old out.new) }
 {
-    let answer = answer_stream(code, dec, metrics, 4, decisions.len(), out.len());
-    let Answer::Accepted = answer else {
-        return Released {
-            answer,
-            dec,
-            count: 0,
-        };
-    };
-    soft(code, dec, metrics, 4, decisions, out)
+    answer_stream(code, dec, metrics, 4, decisions.len(), out.len())?;
+    Ok(soft(code, dec, metrics, 4, decisions, out))
 }
 
 // Advances over known input bits: only the low bit of each byte counts.
@@ -227,20 +186,13 @@ pub fn push_known(
     bits: &[u8],
     decisions: &mut [u64],
     out: &mut [u8],
-) -> Released
-    ensures answers { result.answer ≡ first_row (known_rows code dec (length bits.now) (length decisions.old) (length out.old)) }
-    ensures leaves { Either result.answer
-        (Leaves dec (steps code dec.traceback (known_steps bits.now) (handed code dec decisions.old) (length bits.now)) result decisions.old decisions.new out.old out.new)
-        (Unchanged dec result decisions.old decisions.new out.old out.new) }
+) -> Result<Released, Refusal>
+    ensures answers { answer_of result ≡ first_row (known_rows code dec (length bits.now) (length decisions.old) (length out.old)) }
+    ensures leaves { MatchResult result
+        (λ r. Leaves dec (steps code dec.traceback (known_steps bits.now) (handed code dec decisions.old) (length bits.now)) r decisions.old decisions.new out.old out.new)
+        (λ _. Unchanged decisions.old decisions.new out.old out.new) }
 {
-    let answer = answer_known(code, dec, bits.len(), decisions.len(), out.len());
-    let Answer::Accepted = answer else {
-        return Released {
-            answer,
-            dec,
-            count: 0,
-        };
-    };
+    answer_known(code, dec, bits.len(), decisions.len(), out.len())?;
     let h = half(code);
     let n = 2 * h;
     let traceback = dec.traceback;
@@ -252,15 +204,14 @@ pub fn push_known(
     };
     let s = Setup { code, h, traceback };
     let end = known_steps(&mut pm[0..n], s, at, bits, decisions, out);
-    Released {
-        answer: Answer::Accepted,
+    Ok(Released {
         dec: ViterbiDecoder {
             pm,
             held: end.held,
             traceback,
         },
         count: end.count,
-    }
+    })
 }
 
 // Puts out all held bits of a decoder that is not refused, traced from `state`.
@@ -272,7 +223,7 @@ fn flush_from(
     out: &mut [u8],
 ) -> Released
     requires { (good_code code ≡ true) × (state < states_of code) × (dec.held ≤ length decisions.old) × (dec.held ≤ length out.old) }
-    ensures { (result.answer ≡ Answer.Accepted) × Flushes code dec state result decisions.old decisions.new out.old out.new }
+    ensures { Flushes code dec state result decisions.old decisions.new out.old out.new }
 {
     let pm = dec.pm;
     let at = At {
@@ -281,7 +232,6 @@ fn flush_from(
     };
     let count = finish_at(state, half(code), at, decisions, out);
     Released {
-        answer: Answer::Accepted,
         dec: ViterbiDecoder {
             pm,
             held: 0,
@@ -292,26 +242,24 @@ fn flush_from(
 }
 
 // Puts out all held bits, traced from the best state.
-pub fn flush(code: Code, dec: ViterbiDecoder, decisions: &mut [u64], out: &mut [u8]) -> Released
-    ensures answers { result.answer ≡ first_row (flush_rows code dec (length decisions.old) (length out.old)) }
-    ensures leaves { Either result.answer
-        (Flushes code dec (best_of code dec) result decisions.old decisions.new out.old out.new)
-        (Unchanged dec result decisions.old decisions.new out.old out.new) }
+pub fn flush(
+    code: Code,
+    dec: ViterbiDecoder,
+    decisions: &mut [u64],
+    out: &mut [u8],
+) -> Result<Released, Refusal>
+    ensures answers { answer_of result ≡ first_row (flush_rows code dec (length decisions.old) (length out.old)) }
+    ensures leaves { MatchResult result
+        (λ r. Flushes code dec (best_of code dec) r decisions.old decisions.new out.old out.new)
+        (λ _. Unchanged decisions.old decisions.new out.old out.new) }
 {
-    let answer = answer_flush(code, dec, decisions.len(), out.len());
-    let Answer::Accepted = answer else {
-        return Released {
-            answer,
-            dec,
-            count: 0,
-        };
-    };
+    answer_flush(code, dec, decisions.len(), out.len())?;
     let pm = dec.pm;
     let all = states(&pm);
     let h = half(code);
     let n = 2 * h;
     let best = best_state(&pm[0..n], h);
-    flush_from(code, dec, best, decisions, out)
+    Ok(flush_from(code, dec, best, decisions, out))
 }
 
 // Puts out all held bits, traced from a known end, which is taken mod 2^(length-1).
@@ -321,20 +269,13 @@ pub fn flush_at(
     end: u8,
     decisions: &mut [u64],
     out: &mut [u8],
-) -> Released
-    ensures answers { result.answer ≡ first_row (flush_rows code dec (length decisions.old) (length out.old)) }
-    ensures leaves { Either result.answer
-        (Flushes code dec (end_of code end) result decisions.old decisions.new out.old out.new)
-        (Unchanged dec result decisions.old decisions.new out.old out.new) }
+) -> Result<Released, Refusal>
+    ensures answers { answer_of result ≡ first_row (flush_rows code dec (length decisions.old) (length out.old)) }
+    ensures leaves { MatchResult result
+        (λ r. Flushes code dec (end_of code end) r decisions.old decisions.new out.old out.new)
+        (λ _. Unchanged decisions.old decisions.new out.old out.new) }
 {
-    let answer = answer_flush(code, dec, decisions.len(), out.len());
-    let Answer::Accepted = answer else {
-        return Released {
-            answer,
-            dec,
-            count: 0,
-        };
-    };
+    answer_flush(code, dec, decisions.len(), out.len())?;
     let state = (end as usize) % (2 * half(code));
-    flush_from(code, dec, state, decisions, out)
+    Ok(flush_from(code, dec, state, decisions, out))
 }

@@ -4,7 +4,7 @@ use Rattle.std.proofs.Common.{sym, arith, ltb-false, leb-false}
 use Rattle.std.proofs.lemmas.Bool.{eqb-false, not-false}
 use Rattle.refusal.specs.Rows.{Row, first_row}
 use Rattle.refusal.proofs.RowLaws.{neither, passed, both_passed}
-use Rattle.refusal.specs.declared.Answer.TheVariants as answer
+use Rattle.refusal.specs.Rows as answer
 use Rattle.trellis.specs.Run.{block, traceback_limit, releases}
 use Rattle.isdb_fec.specs.declared.conv.ViterbiDecoder.{ViterbiDecoder}
 use Rattle.isdb_fec.specs.Values.{some_beyond, path_limit}

@@ -1,7 +1,7 @@
 -- The refusal rows of each call: those of isdb_fec with row 12 right before 4.
 use Rattle.std.specs.Prelude.{Bool, not, ◌||◌, List, [], ◌∷◌, ◌++◌, ℕ, ◌+◌, ◌-◌, ◌*◌, ◌/◌, ◌%◌, eqb, leb, ltb, length, take, Float}
 use Rattle.refusal.specs.Rows.{Row}
-use Rattle.refusal.specs.declared.Answer.TheVariants as answer
+use Rattle.refusal.specs.Rows as answer
 use Rattle.trellis.specs.Run.{block}
 use Rattle.isdb_fec.specs.declared.conv.ViterbiDecoder.{ViterbiDecoder}
 use Rattle.isdb_fec.specs.Values.{some_beyond, path_limit}

@@ -7,8 +7,8 @@ ghost use Rattle.isdb_fec.specs.Rows as isdbRows;
 ghost use Rattle.isdb_fec.specs.Calls as isdbCalls;
 ghost use Rattle.short_fec.specs.Rows as shortRows;
 ghost use Rattle.short_fec.specs.Calls as shortCalls;
-ghost use Rattle.std.specs.Prelude.{◌≡◌, ◌/◌, length};
-ghost use Rattle.refusal.specs.Rows.{first_row, Either};
+ghost use Rattle.std.specs.Prelude.{◌≡◌, ◌/◌, length, MatchResult};
+ghost use Rattle.refusal.specs.Rows.{first_row, answer_of};
 ghost use Rattle.trellis.specs.Run.{pair_steps, four_steps, known_steps};
 ghost use Rattle.isdb_fec.specs.Calls.{Unchanged};
 ghost use Rattle.short_same_code.specs.IsdbCode.{isdb_code};
@@ -31,14 +31,14 @@ pub fn push(
     decisions2: &mut [u64],
     out2: &mut [u8],
 ) -> Both
-    ensures short_answers { result.short.answer ≡ first_row (shortRows.stream_rows isdb_code 2 dec pairs.now (length decisions.old) (length out.old)) }
-    ensures short_leaves { Either result.short.answer
-        (shortCalls.Leaves dec (shortCalls.call isdb_code dec.traceback (pair_steps pairs.now) (shortCalls.handed isdb_code dec decisions.old) (length pairs.now / 2)) result.short decisions.old decisions.new out.old out.new)
-        (Unchanged dec result.short decisions.old decisions.new out.old out.new) }
-    ensures isdb_answers { result.isdb.answer ≡ first_row (isdbRows.push_rows dec pairs.now (length decisions2.old) (length out2.old)) }
-    ensures isdb_leaves { Either result.isdb.answer
-        (isdbCalls.Leaves dec.traceback (isdbCalls.call dec.traceback (pair_steps pairs.now) (isdbCalls.handed dec decisions2.old) (length pairs.now / 2)) result.isdb decisions2.old decisions2.new out2.old out2.new)
-        (Unchanged dec result.isdb decisions2.old decisions2.new out2.old out2.new) }
+    ensures short_answers { answer_of result.short ≡ first_row (shortRows.stream_rows isdb_code 2 dec pairs.now (length decisions.old) (length out.old)) }
+    ensures short_leaves { MatchResult result.short
+        (λ r. shortCalls.Leaves dec (shortCalls.call isdb_code dec.traceback (pair_steps pairs.now) (shortCalls.handed isdb_code dec decisions.old) (length pairs.now / 2)) r decisions.old decisions.new out.old out.new)
+        (λ _. Unchanged decisions.old decisions.new out.old out.new) }
+    ensures isdb_answers { answer_of result.isdb ≡ first_row (isdbRows.push_rows dec pairs.now (length decisions2.old) (length out2.old)) }
+    ensures isdb_leaves { MatchResult result.isdb
+        (λ r. isdbCalls.Leaves dec.traceback (isdbCalls.call dec.traceback (pair_steps pairs.now) (isdbCalls.handed dec decisions2.old) (length pairs.now / 2)) r decisions2.old decisions2.new out2.old out2.new)
+        (λ _. Unchanged decisions2.old decisions2.new out2.old out2.new) }
     ensures agree { (decisions.old ≡ decisions2.old) → (out.old ≡ out2.old)
         → Agree result.short result.isdb decisions.new decisions2.new out.new out2.new }
 {
@@ -58,14 +58,14 @@ pub fn push_metrics(
     decisions2: &mut [u64],
     out2: &mut [u8],
 ) -> Both
-    ensures short_answers { result.short.answer ≡ first_row (shortRows.stream_rows isdb_code 4 dec metrics.now (length decisions.old) (length out.old)) }
-    ensures short_leaves { Either result.short.answer
-        (shortCalls.Leaves dec (shortCalls.call isdb_code dec.traceback (four_steps metrics.now) (shortCalls.handed isdb_code dec decisions.old) (length metrics.now / 4)) result.short decisions.old decisions.new out.old out.new)
-        (Unchanged dec result.short decisions.old decisions.new out.old out.new) }
-    ensures isdb_answers { result.isdb.answer ≡ first_row (isdbRows.push_metrics_rows dec metrics.now (length decisions2.old) (length out2.old)) }
-    ensures isdb_leaves { Either result.isdb.answer
-        (isdbCalls.Leaves dec.traceback (isdbCalls.call dec.traceback (four_steps metrics.now) (isdbCalls.handed dec decisions2.old) (length metrics.now / 4)) result.isdb decisions2.old decisions2.new out2.old out2.new)
-        (Unchanged dec result.isdb decisions2.old decisions2.new out2.old out2.new) }
+    ensures short_answers { answer_of result.short ≡ first_row (shortRows.stream_rows isdb_code 4 dec metrics.now (length decisions.old) (length out.old)) }
+    ensures short_leaves { MatchResult result.short
+        (λ r. shortCalls.Leaves dec (shortCalls.call isdb_code dec.traceback (four_steps metrics.now) (shortCalls.handed isdb_code dec decisions.old) (length metrics.now / 4)) r decisions.old decisions.new out.old out.new)
+        (λ _. Unchanged decisions.old decisions.new out.old out.new) }
+    ensures isdb_answers { answer_of result.isdb ≡ first_row (isdbRows.push_metrics_rows dec metrics.now (length decisions2.old) (length out2.old)) }
+    ensures isdb_leaves { MatchResult result.isdb
+        (λ r. isdbCalls.Leaves dec.traceback (isdbCalls.call dec.traceback (four_steps metrics.now) (isdbCalls.handed dec decisions2.old) (length metrics.now / 4)) r decisions2.old decisions2.new out2.old out2.new)
+        (λ _. Unchanged decisions2.old decisions2.new out2.old out2.new) }
     ensures agree { (decisions.old ≡ decisions2.old) → (out.old ≡ out2.old)
         → Agree result.short result.isdb decisions.new decisions2.new out.new out2.new }
 {
@@ -85,14 +85,14 @@ pub fn push_known(
     decisions2: &mut [u64],
     out2: &mut [u8],
 ) -> Both
-    ensures short_answers { result.short.answer ≡ first_row (shortRows.known_rows isdb_code dec (length bits.now) (length decisions.old) (length out.old)) }
-    ensures short_leaves { Either result.short.answer
-        (shortCalls.Leaves dec (shortCalls.steps isdb_code dec.traceback (known_steps bits.now) (shortCalls.handed isdb_code dec decisions.old) (length bits.now)) result.short decisions.old decisions.new out.old out.new)
-        (Unchanged dec result.short decisions.old decisions.new out.old out.new) }
-    ensures isdb_answers { result.isdb.answer ≡ first_row (isdbRows.push_known_rows dec (length bits.now) (length decisions2.old) (length out2.old)) }
-    ensures isdb_leaves { Either result.isdb.answer
-        (isdbCalls.Leaves dec.traceback (isdbCalls.steps dec.traceback (known_steps bits.now) (isdbCalls.handed dec decisions2.old) (length bits.now)) result.isdb decisions2.old decisions2.new out2.old out2.new)
-        (Unchanged dec result.isdb decisions2.old decisions2.new out2.old out2.new) }
+    ensures short_answers { answer_of result.short ≡ first_row (shortRows.known_rows isdb_code dec (length bits.now) (length decisions.old) (length out.old)) }
+    ensures short_leaves { MatchResult result.short
+        (λ r. shortCalls.Leaves dec (shortCalls.steps isdb_code dec.traceback (known_steps bits.now) (shortCalls.handed isdb_code dec decisions.old) (length bits.now)) r decisions.old decisions.new out.old out.new)
+        (λ _. Unchanged decisions.old decisions.new out.old out.new) }
+    ensures isdb_answers { answer_of result.isdb ≡ first_row (isdbRows.push_known_rows dec (length bits.now) (length decisions2.old) (length out2.old)) }
+    ensures isdb_leaves { MatchResult result.isdb
+        (λ r. isdbCalls.Leaves dec.traceback (isdbCalls.steps dec.traceback (known_steps bits.now) (isdbCalls.handed dec decisions2.old) (length bits.now)) r decisions2.old decisions2.new out2.old out2.new)
+        (λ _. Unchanged decisions2.old decisions2.new out2.old out2.new) }
     ensures agree { (decisions.old ≡ decisions2.old) → (out.old ≡ out2.old)
         → Agree result.short result.isdb decisions.new decisions2.new out.new out2.new }
 {

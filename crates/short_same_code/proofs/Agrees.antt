@@ -1,15 +1,16 @@
 -- P7: "length 7 with 171 and 133 octal agrees with the existing pair on every input", of the list encoder: two results that meet the contracts of `encode` of
 -- crate short_encode and of `encode_punctured` at rate 1/2, which sends every bit, are one, accepted or refused: the answer, the state and the output.
 --
-use Rattle.std.specs.Prelude.{◌≡◌, cond, List, [], ◌∷◌, eqb}
+use Rattle.std.specs.Prelude.{◌≡◌, cond, List, [], ◌∷◌, eqb, Result, Ok, Err, IfOk, MatchResult}
 use Rattle.std.proofs.Math.Path.{refl, sym, ap}
-use Rattle.std.proofs.Common.{◌∙◌, ⊎_elim}
+use Rattle.std.proofs.Common.{◌∙◌}
 use Prim.Native.Nat.{ℕ, zero, suc, ◌+◌, ◌*◌, ◌/◌, ◌%◌, ◌<◌}
 use native.Mathlib.Omega.{arith}
 use Rattle.std.proofs.Math.ListN.{length, get_or}
 use Rattle.std.proofs.Math.Seq.{ext_get_or}
-use Rattle.refusal.specs.Rows.{first_row, Either}
-use Rattle.refusal.proofs.RowLaws.{decided}
+use Rattle.refusal.specs.declared.Refusal.{Refusal}
+use Rattle.refusal.specs.Rows.{first_row, Answer, answer_of}
+use Rattle.refusal.proofs.RowLaws.{err_refuses}
 use Rattle.trellis.specs.Lists.{upto, laid}
 use Rattle.trellis.specs.ListLaws.{length_upto, get_d_upto}
 use Rattle.trellis.specs.Code.{isdb, output, state_at}
@@ -19,10 +20,10 @@ use Rattle.isdbt_table.specs.declared.CodeRate.TheVariants.{R1_2}
 use Rattle.isdbt_fec.specs.declared.conv.Encoded as isdbt
 use Rattle.isdbt_table.specs.Puncture.{mother, bit_place, punctured}
 use Rattle.isdbt_rows.specs.Rows as isdbt-rows
-use Rattle.isdbt_fec.specs.Calls.{Encodes, Unencoded}
+use Rattle.isdbt_fec.specs.Calls.{Encodes}
 use Rattle.short_code.specs.Codes.{code_of}
 use Rattle.short_fec.specs.Rows as short-rows
-use Rattle.short_encode.specs.declared.Encoded as short
+use Rattle.isdb_fec.specs.declared.conv.ConvEncoder.{ConvEncoder}
 use Rattle.short_encode.specs.EncodingLaws.{length_low, length_coded, coded_x, coded_y}
 use Rattle.short_same_code.specs.IsdbCode.{isdb_code}
 use Rattle.short_same_code.specs.Alike.{Alike}
@@ -76,28 +77,29 @@ module _ (s : ℕ) (us : List ℕ) where
   last_state_lem = reached_is (code_of isdb_code) s (low_bits us) ∙ ap (state_at 32 s (low_bits us)) (length_low us)
 
 -- ---- the contracts of the two calls, of the state s and the input bytes us
-pub encode_agrees : (s : ℕ) (us out₀ out out' : List ℕ) (r : short.Encoded) (r' : isdbt.Encoded)
-    → r.answer ≡ first_row (short-rows.encode_rows isdb_code s (length us) (length out₀))
-    → Either r.answer (r.enc.state ≡ last_state (code_of isdb_code) s us) (r.enc.state ≡ s)
-    → Either r.answer (out ≡ laid (coded_bits (code_of isdb_code) s us) out₀) (out ≡ out₀)
-    → r'.answer ≡ first_row (isdbt-rows.encode_rows R1_2 s (length us) (length out₀))
-    → Either r'.answer (Encodes R1_2 s us r' out₀ out') (Unencoded s r' out₀ out')
+pub encode_agrees : (s : ℕ) (us out₀ out out' : List ℕ) (r : Result ConvEncoder Refusal) (r' : Result isdbt.Encoded Refusal)
+    → answer_of r ≡ first_row (short-rows.encode_rows isdb_code s (length us) (length out₀))
+    → IfOk r (λ e. e.state ≡ last_state (code_of isdb_code) s us)
+    → MatchResult r (λ _. out ≡ laid (coded_bits (code_of isdb_code) s us) out₀) (λ _. out ≡ out₀)
+    → answer_of r' ≡ first_row (isdbt-rows.encode_rows R1_2 s (length us) (length out₀))
+    → MatchResult r' (λ x. Encodes R1_2 s us x out₀ out') (λ _. out' ≡ out₀)
     → Alike r r' out out'
-encode_agrees s us out₀ out out' r r' a st co a' f =
-    let same : r.answer ≡ r'.answer = a ∙ encode_rows_lem s (length us) (length out₀) ∙ sym a' in
-    ⊎_elim
-    (λ y.
-    let k = f.0 (sym same ∙ y) in
-    (same, st.0 y ∙ last_state_lem s us ∙ sym k.state_is, co.0 y ∙ ap (λ (l : List ℕ). laid l out₀) (coded_punctured s us) ∙ sym k.bits_are))
-    (λ n.
-    let k = f.1 (λ y. n (same ∙ y)) in
-    (same, st.1 n ∙ sym k.state_is, co.1 n ∙ sym k.bits_are))
-    (decided r.answer)
+encode_agrees s us out₀ out out' (Ok e) (Ok x) a st co a' f =
+    let p = st ∙ last_state_lem s us ∙ sym f.state_is in
+    (λ i. Ok (record { state = p i }), co ∙ ap (λ (l : List ℕ). laid l out₀) (coded_punctured s us) ∙ sym f.bits_are)
+encode_agrees s us out₀ out out' (Ok e) (Err row) a st co a' f = absurd (err_refuses {row = row} (a' ∙ sym (encode_rows_lem s (length us) (length out₀)) ∙ sym a))
+encode_agrees s us out₀ out out' (Err row) (Ok x) a st co a' f = absurd (err_refuses {row = row} (a ∙ encode_rows_lem s (length us) (length out₀) ∙ sym a'))
+encode_agrees s us out₀ out out' (Err row) (Err other) a st co a' f =
+    let same : ◌≡◌ {A = Answer} (Err row) (Err other) = a ∙ encode_rows_lem s (length us) (length out₀) ∙ sym a' in
+    (cc, co ∙ sym f)
 
 -- the count of `encode_punctured` is that of the bits which the code sends
-pub counts_coded : (s : ℕ) (us out₀ out : List ℕ) (r : isdbt.Encoded)
-    → Either r.answer (Encodes R1_2 s us r out₀ out) (Unencoded s r out₀ out)
-    → Either r.answer (r.count ≡ length (coded_bits (code_of isdb_code) s us)) (r.count ≡ 0)
-counts_coded s us out₀ out r f =
+pub counts_coded : (s : ℕ) (us out₀ out : List ℕ) (r : Result isdbt.Encoded Refusal)
+    → MatchResult r (λ x. Encodes R1_2 s us x out₀ out) (λ _. out ≡ out₀)
+    → IfOk r (λ x. x.count ≡ length (coded_bits (code_of isdb_code) s us))
+counts_coded s us out₀ out (Ok x) f =
     let l = length_coded isdb_code s us in
-    (λ y. let k = (f.0 y).count_is in let e : length us / 1 * 2 ≡ 2 * length us = omega arith in k ∙ e ∙ sym l, λ n. (f.1 n).count_is)
+    let k = f.count_is in
+    let e : length us / 1 * 2 ≡ 2 * length us = omega arith in
+    k ∙ e ∙ sym l
+counts_coded s us out₀ out (Err row) f = tt

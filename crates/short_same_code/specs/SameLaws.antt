@@ -1,14 +1,15 @@
 -- P7: "length 7 with 171 and 133 octal agrees with the existing pair on every input": two results that meet the contracts of the two calls are one, accepted
 -- or refused: the answer, the state, the count and both lent slices. The path values are the 64 of the state's type.
-use Rattle.std.specs.Prelude.{◌≡◌, refl, Bool, true, false, List, ◌++◌, eqb, length, get_or, replicate, take, Float}
-use Rattle.std.proofs.Common.{sym, ◌∙◌, ap, ⊎_elim, append-nil, arith, drop_of_length-le, take_all}
+use Rattle.std.specs.Prelude.{◌≡◌, refl, Bool, true, false, List, ◌++◌, eqb, length, get_or, replicate, take, Float, Result, Ok, Err, IfOk, MatchResult}
+use Rattle.std.proofs.Common.{sym, ◌∙◌, ap, append-nil, arith, drop_of_length-le, take_all}
 use Rattle.std.proofs.Math.Bool.{cond}
 use Prim.Native.Nat.{ℕ, zero, suc, ◌*◌, ◌/◌, ◌%◌, ◌≤◌}
 use Rattle.std.proofs.lemmas.List.{length-replicate}
 use Rattle.std.specs.Float.{nan}
 use Rattle.std.specs.Float.Ieee.{binary32, of_bits}
-use Rattle.refusal.specs.Rows.{first_row, Either}
-use Rattle.refusal.proofs.RowLaws.{decided}
+use Rattle.refusal.specs.declared.Refusal.{Refusal}
+use Rattle.refusal.specs.Rows.{first_row, answer_of, Answer}
+use Rattle.refusal.proofs.RowLaws.{err_refuses}
 use Rattle.trellis.specs.Lists.{laid}
 use Rattle.trellis.specs.ListLaws.{length_upto}
 use Rattle.trellis.specs.Step.{Step, Tie, pair, four, known, nexts, renormalised, ruled, traced}
@@ -19,11 +20,9 @@ use Rattle.isdb_fec.specs.declared.conv.ViterbiDecoder.{ViterbiDecoder}
 use Rattle.isdb_fec.specs.declared.conv.Released.{Released}
 use Rattle.isdb_fec.specs.Rows as fec
 use Rattle.isdb_fec.specs.Calls as fec-calls
-use Rattle.isdb_fec.specs.declared.conv.Made.{Made}
 use Rattle.isdb_fec.specs.declared.conv.Pushed.{Pushed}
-use Rattle.isdb_fec.specs.Calls.{Unchanged, Fresh, Zero}
+use Rattle.isdb_fec.specs.Calls.{Unchanged, Fresh}
 use Rattle.isdb_fec.proofs.TwoCallLaws.{leaves_same}
-use Rattle.short_code.specs.declared.Code.{Code}
 use Rattle.trellis.specs.Code as trellis
 use Rattle.trellis.specs.Code.{output, moved}
 use Rattle.short_code.specs.Codes.{code_of, half_of}
@@ -71,111 +70,112 @@ module _ (half : ℕ) (out : ℕ → ℕ → ℕ) (t : Tie) where
   after_length tb steps d n e = ap length (after_values half out t tb steps d n) ∙ values_length steps d.values n e
 
 -- ---- what both calls leave
-module _ (v : ViterbiDecoder) (long : length v.pm ≡ 64) (r r' : Released) (dec₀ dec dec' out₀ out out' : List ℕ) where
+module _ (v : ViterbiDecoder) (long : length v.pm ≡ 64) (r r' : Result Released Refusal) (dec₀ dec dec' out₀ out out' : List ℕ) where
   all_laid : (front : List Float) → length front ≡ 64 → laid front v.pm ≡ front
   all_laid front e = ap (λ (y : List Float). front ++ y) (drop_of_length-le v.pm {i = length front} (omega arith)) ∙ append-nil front
 
   -- a call that leaves the decoder d, of 64 path values
-  agree : (d d' : Decoder) → d ≡ d' → length d'.values ≡ 64 → r.answer ≡ r'.answer
-      → Either r.answer (short-calls.Leaves v d r dec₀ dec out₀ out) (Unchanged v r dec₀ dec out₀ out)
-      → Either r'.answer (fec-calls.Leaves v.traceback d' r' dec₀ dec' out₀ out') (Unchanged v r' dec₀ dec' out₀ out')
+  agree : (d d' : Decoder) → d ≡ d' → length d'.values ≡ 64 → (r r' : Result Released Refusal) → answer_of r ≡ answer_of r'
+      → MatchResult r (λ x. short-calls.Leaves v d x dec₀ dec out₀ out) (λ _. Unchanged dec₀ dec out₀ out)
+      → MatchResult r' (λ x. fec-calls.Leaves v.traceback d' x dec₀ dec' out₀ out') (λ _. Unchanged dec₀ dec' out₀ out')
       → Agree r r' dec dec' out out'
-  agree d d' e all a s f =
-      ⊎_elim
-      (λ y.
-      let k = rw e at (s.0 y) in
-      let l = f.0 (sym a ∙ y) in
-      let whole-leaves : fec-calls.Leaves v.traceback d' r dec₀ dec out₀ out = record { values = k.values ∙ all_laid d'.values all; held_is = k.held_is; traceback_is = k.traceback_is; count_is = k.count_is; words = k.words; bits = k.bits } in
-      let m = leaves_same {tb = v.traceback} {d = d'} {r = r} {r' = r'} {dec₀ = dec₀} {dec = dec} {dec' = dec'} {out₀ = out₀} {out = out} {out' = out'} whole-leaves l in
-      (a, m.0, m.1, m.2, m.3))
-      (λ n.
-      let k = s.1 n in
-      let l = f.1 (λ y. n (a ∙ y)) in
-      (a, k.state ∙ sym l.state, k.count_is ∙ sym l.count_is, k.words ∙ sym l.words, k.bits ∙ sym l.bits))
-      (decided r.answer)
+  agree d d' e all (Ok x) (Ok y) a s l =
+      let k = rw e at s in
+      let whole-leaves : fec-calls.Leaves v.traceback d' x dec₀ dec out₀ out = record { values = k.values ∙ all_laid d'.values all; held_is = k.held_is; traceback_is = k.traceback_is; count_is = k.count_is; words = k.words; bits = k.bits } in
+      let m = leaves_same {tb = v.traceback} {d = d'} {r = x} {r' = y} {dec₀ = dec₀} {dec = dec} {dec' = dec'} {out₀ = out₀} {out = out} {out' = out'} whole-leaves l in
+      let p = m.0 in
+      let q = m.1 in
+      (λ i. Ok (record { dec = p i; count = q i }), m.2, m.3)
+  agree d d' e all (Ok x) (Err row) a s l = absurd (err_refuses {row = row} (sym a))
+  agree d d' e all (Err row) (Ok y) a s l = absurd (err_refuses {row = row} a)
+  agree d d' e all (Err row) (Err other) a s l =
+      let same : ◌≡◌ {A = Answer} (Err row) (Err other) = a in
+      (cc, s.words ∙ sym l.words, s.bits ∙ sym l.bits)
 
   -- soft values or metrics
   soft_agree : (per : ℕ) (xs : List Float) (steps : ℕ → Step) (n : ℕ)
-      → r.answer ≡ first_row (short.stream_rows isdb_code per v xs (length dec₀) (length out₀))
-      → Either r.answer (short-calls.Leaves v (short-calls.call isdb_code v.traceback steps (short-calls.handed isdb_code v dec₀) n) r dec₀ dec out₀ out) (Unchanged v r dec₀ dec out₀ out)
-      → r'.answer ≡ first_row (fec.stream_rows per v xs (length dec₀) (length out₀))
-      → Either r'.answer (fec-calls.Leaves v.traceback (isdb.call v.traceback steps (fec-calls.handed v dec₀) n) r' dec₀ dec' out₀ out') (Unchanged v r' dec₀ dec' out₀ out')
+      → answer_of r ≡ first_row (short.stream_rows isdb_code per v xs (length dec₀) (length out₀))
+      → MatchResult r (λ x. short-calls.Leaves v (short-calls.call isdb_code v.traceback steps (short-calls.handed isdb_code v dec₀) n) x dec₀ dec out₀ out) (λ _. Unchanged dec₀ dec out₀ out)
+      → answer_of r' ≡ first_row (fec.stream_rows per v xs (length dec₀) (length out₀))
+      → MatchResult r' (λ x. fec-calls.Leaves v.traceback (isdb.call v.traceback steps (fec-calls.handed v dec₀) n) x dec₀ dec' out₀ out') (λ _. Unchanged dec₀ dec' out₀ out')
       → Agree r r' dec dec' out out'
   soft_agree per xs steps n a s a' f =
       agree (short-calls.call isdb_code v.traceback steps (short-calls.handed isdb_code v dec₀) n) (isdb.call v.traceback steps (fec-calls.handed v dec₀) n)
       (ap (λ (y : List Float). isdb.call v.traceback steps (holding y v.held dec₀) n) (whole v long))
       (renormalised_length isdb.half (isdb.steps v.traceback steps (fec-calls.handed v dec₀) n).values ∙ after_length isdb.half isdb.labels isdb.rule v.traceback steps (fec-calls.handed v dec₀) n long)
-      (a ∙ stream_rows_lem v long per xs (length dec₀) (length out₀) ∙ sym a') s f
+      r r' (a ∙ stream_rows_lem v long per xs (length dec₀) (length out₀) ∙ sym a') s f
 
   -- `push` and `push_metrics`: the contracts of the two calls
   pub push_agrees : (xs : List Float)
-      → r.answer ≡ first_row (short.stream_rows isdb_code 2 v xs (length dec₀) (length out₀))
-      → Either r.answer (short-calls.Leaves v (short-calls.call isdb_code v.traceback (pair_steps xs) (short-calls.handed isdb_code v dec₀) (length xs / 2)) r dec₀ dec out₀ out) (Unchanged v r dec₀ dec out₀ out)
-      → r'.answer ≡ first_row (fec.push_rows v xs (length dec₀) (length out₀))
-      → Either r'.answer (fec-calls.Leaves v.traceback (isdb.call v.traceback (pair_steps xs) (fec-calls.handed v dec₀) (length xs / 2)) r' dec₀ dec' out₀ out') (Unchanged v r' dec₀ dec' out₀ out')
+      → answer_of r ≡ first_row (short.stream_rows isdb_code 2 v xs (length dec₀) (length out₀))
+      → MatchResult r (λ x. short-calls.Leaves v (short-calls.call isdb_code v.traceback (pair_steps xs) (short-calls.handed isdb_code v dec₀) (length xs / 2)) x dec₀ dec out₀ out) (λ _. Unchanged dec₀ dec out₀ out)
+      → answer_of r' ≡ first_row (fec.push_rows v xs (length dec₀) (length out₀))
+      → MatchResult r' (λ x. fec-calls.Leaves v.traceback (isdb.call v.traceback (pair_steps xs) (fec-calls.handed v dec₀) (length xs / 2)) x dec₀ dec' out₀ out') (λ _. Unchanged dec₀ dec' out₀ out')
       → Agree r r' dec dec' out out'
   push_agrees xs = soft_agree 2 xs (pair_steps xs) (length xs / 2)
 
   pub push_metrics_agrees : (xs : List Float)
-      → r.answer ≡ first_row (short.stream_rows isdb_code 4 v xs (length dec₀) (length out₀))
-      → Either r.answer (short-calls.Leaves v (short-calls.call isdb_code v.traceback (four_steps xs) (short-calls.handed isdb_code v dec₀) (length xs / 4)) r dec₀ dec out₀ out) (Unchanged v r dec₀ dec out₀ out)
-      → r'.answer ≡ first_row (fec.push_metrics_rows v xs (length dec₀) (length out₀))
-      → Either r'.answer (fec-calls.Leaves v.traceback (isdb.call v.traceback (four_steps xs) (fec-calls.handed v dec₀) (length xs / 4)) r' dec₀ dec' out₀ out') (Unchanged v r' dec₀ dec' out₀ out')
+      → answer_of r ≡ first_row (short.stream_rows isdb_code 4 v xs (length dec₀) (length out₀))
+      → MatchResult r (λ x. short-calls.Leaves v (short-calls.call isdb_code v.traceback (four_steps xs) (short-calls.handed isdb_code v dec₀) (length xs / 4)) x dec₀ dec out₀ out) (λ _. Unchanged dec₀ dec out₀ out)
+      → answer_of r' ≡ first_row (fec.push_metrics_rows v xs (length dec₀) (length out₀))
+      → MatchResult r' (λ x. fec-calls.Leaves v.traceback (isdb.call v.traceback (four_steps xs) (fec-calls.handed v dec₀) (length xs / 4)) x dec₀ dec' out₀ out') (λ _. Unchanged dec₀ dec' out₀ out')
       → Agree r r' dec dec' out out'
   push_metrics_agrees xs = soft_agree 4 xs (four_steps xs) (length xs / 4)
 
   pub push_known_agrees : (bits : List ℕ)
-      → r.answer ≡ first_row (short.known_rows isdb_code v (length bits) (length dec₀) (length out₀))
-      → Either r.answer (short-calls.Leaves v (short-calls.steps isdb_code v.traceback (known_steps bits) (short-calls.handed isdb_code v dec₀) (length bits)) r dec₀ dec out₀ out) (Unchanged v r dec₀ dec out₀ out)
-      → r'.answer ≡ first_row (fec.push_known_rows v (length bits) (length dec₀) (length out₀))
-      → Either r'.answer (fec-calls.Leaves v.traceback (isdb.steps v.traceback (known_steps bits) (fec-calls.handed v dec₀) (length bits)) r' dec₀ dec' out₀ out') (Unchanged v r' dec₀ dec' out₀ out')
+      → answer_of r ≡ first_row (short.known_rows isdb_code v (length bits) (length dec₀) (length out₀))
+      → MatchResult r (λ x. short-calls.Leaves v (short-calls.steps isdb_code v.traceback (known_steps bits) (short-calls.handed isdb_code v dec₀) (length bits)) x dec₀ dec out₀ out) (λ _. Unchanged dec₀ dec out₀ out)
+      → answer_of r' ≡ first_row (fec.push_known_rows v (length bits) (length dec₀) (length out₀))
+      → MatchResult r' (λ x. fec-calls.Leaves v.traceback (isdb.steps v.traceback (known_steps bits) (fec-calls.handed v dec₀) (length bits)) x dec₀ dec' out₀ out') (λ _. Unchanged dec₀ dec' out₀ out')
       → Agree r r' dec dec' out out'
   push_known_agrees bits a s a' f =
       let n = length bits in
       agree (short-calls.steps isdb_code v.traceback (known_steps bits) (short-calls.handed isdb_code v dec₀) n) (isdb.steps v.traceback (known_steps bits) (fec-calls.handed v dec₀) n)
       (ap (λ (y : List Float). isdb.steps v.traceback (known_steps bits) (holding y v.held dec₀) n) (whole v long))
       (after_length isdb.half isdb.labels isdb.rule v.traceback (known_steps bits) (fec-calls.handed v dec₀) n long)
-      (a ∙ known_rows_lem v long n (length dec₀) (length out₀) ∙ sym a') s f
+      r r' (a ∙ known_rows_lem v long n (length dec₀) (length out₀) ∙ sym a') s f
 
   -- a flush that traces from the state e, which puts out what the other does
   flushed_agree : (e : ℕ) (emitted : List ℕ) → traced isdb.half (take v.held dec₀) e ≡ emitted
-      → r.answer ≡ first_row (short.flush_rows isdb_code v (length dec₀) (length out₀))
-      → Either r.answer (short-calls.Flushes isdb_code v e r dec₀ dec out₀ out) (Unchanged v r dec₀ dec out₀ out)
-      → r'.answer ≡ first_row (fec.flush_rows v (length dec₀) (length out₀))
-      → Either r'.answer (fec-calls.Emits emitted v r' dec₀ dec' out₀ out') (Unchanged v r' dec₀ dec' out₀ out')
+      → answer_of r ≡ first_row (short.flush_rows isdb_code v (length dec₀) (length out₀))
+      → MatchResult r (λ x. short-calls.Flushes isdb_code v e x dec₀ dec out₀ out) (λ _. Unchanged dec₀ dec out₀ out)
+      → answer_of r' ≡ first_row (fec.flush_rows v (length dec₀) (length out₀))
+      → MatchResult r' (λ x. fec-calls.Emits emitted v x dec₀ dec' out₀ out') (λ _. Unchanged dec₀ dec' out₀ out')
       → Agree r r' dec dec' out out'
-  flushed_agree e emitted is a s a' f =
-      let same : r.answer ≡ r'.answer = a ∙ flush_rows_lem v long (length dec₀) (length out₀) ∙ sym a' in
-      ⊎_elim
-      (λ y.
-      let k = s.0 y in
-      let l = f.0 (sym same ∙ y) in
-      let p = k.values ∙ sym l.values in
-      let h = k.held_is ∙ sym l.held_is in
-      let t = k.traceback_is ∙ sym l.traceback_is in
-      (same, λ i. record { pm = p i; held = h i; traceback = t i }, k.count_is ∙ sym l.count_is, k.words ∙ sym l.words, k.bits ∙ ap (λ (x : List ℕ). laid x out₀) is ∙ sym l.bits))
-      (λ n.
-      let k = s.1 n in
-      let l = f.1 (λ y. n (same ∙ y)) in
-      (same, k.state ∙ sym l.state, k.count_is ∙ sym l.count_is, k.words ∙ sym l.words, k.bits ∙ sym l.bits))
-      (decided r.answer)
+  flushed_agree e emitted is a s a' f = go r r' (a ∙ flush_rows_lem v long (length dec₀) (length out₀) ∙ sym a') s f
+    where
+      go : (r r' : Result Released Refusal) → answer_of r ≡ answer_of r'
+          → MatchResult r (λ x. short-calls.Flushes isdb_code v e x dec₀ dec out₀ out) (λ _. Unchanged dec₀ dec out₀ out)
+          → MatchResult r' (λ x. fec-calls.Emits emitted v x dec₀ dec' out₀ out') (λ _. Unchanged dec₀ dec' out₀ out')
+          → Agree r r' dec dec' out out'
+      go (Ok x) (Ok y) same k l =
+          let p = k.values ∙ sym l.values in
+          let h = k.held_is ∙ sym l.held_is in
+          let t = k.traceback_is ∙ sym l.traceback_is in
+          let c = k.count_is ∙ sym l.count_is in
+          (λ i. Ok (record { dec = record { pm = p i; held = h i; traceback = t i }; count = c i }), k.words ∙ sym l.words, k.bits ∙ ap (λ (x : List ℕ). laid x out₀) is ∙ sym l.bits)
+      go (Ok x) (Err row) same k l = absurd (err_refuses {row = row} (sym same))
+      go (Err row) (Ok y) same k l = absurd (err_refuses {row = row} same)
+      go (Err row) (Err other) same k l =
+          let one : ◌≡◌ {A = Answer} (Err row) (Err other) = same in
+          (cc, k.words ∙ sym l.words, k.bits ∙ sym l.bits)
 
   -- `flush`, and `flush_at` with a known end
   pub flush_agrees :
-      r.answer ≡ first_row (short.flush_rows isdb_code v (length dec₀) (length out₀))
-      → Either r.answer (short-calls.Flushes isdb_code v (short-calls.best_of isdb_code v) r dec₀ dec out₀ out) (Unchanged v r dec₀ dec out₀ out)
-      → r'.answer ≡ first_row (fec.flush_rows v (length dec₀) (length out₀))
-      → Either r'.answer (fec-calls.Flushes v r' dec₀ dec' out₀ out') (Unchanged v r' dec₀ dec' out₀ out')
+      answer_of r ≡ first_row (short.flush_rows isdb_code v (length dec₀) (length out₀))
+      → MatchResult r (λ x. short-calls.Flushes isdb_code v (short-calls.best_of isdb_code v) x dec₀ dec out₀ out) (λ _. Unchanged dec₀ dec out₀ out)
+      → answer_of r' ≡ first_row (fec.flush_rows v (length dec₀) (length out₀))
+      → MatchResult r' (λ x. fec-calls.Flushes v x dec₀ dec' out₀ out') (λ _. Unchanged dec₀ dec' out₀ out')
       → Agree r r' dec dec' out out'
   flush_agrees =
       flushed_agree (short-calls.best_of isdb_code v) (isdb.flush (fec-calls.handed v dec₀)).bits
       (ap (λ (y : List Float). traced isdb.half (take v.held dec₀) (isdb.best y 63)) (whole v long))
 
   pub flush_at_agrees : (end : ℕ)
-      → r.answer ≡ first_row (short.flush_rows isdb_code v (length dec₀) (length out₀))
-      → Either r.answer (short-calls.Flushes isdb_code v (short-calls.end_of isdb_code end) r dec₀ dec out₀ out) (Unchanged v r dec₀ dec out₀ out)
-      → r'.answer ≡ first_row (fec.flush_rows v (length dec₀) (length out₀))
-      → Either r'.answer (fec-calls.FlushesAt end v r' dec₀ dec' out₀ out') (Unchanged v r' dec₀ dec' out₀ out')
+      → answer_of r ≡ first_row (short.flush_rows isdb_code v (length dec₀) (length out₀))
+      → MatchResult r (λ x. short-calls.Flushes isdb_code v (short-calls.end_of isdb_code end) x dec₀ dec out₀ out) (λ _. Unchanged dec₀ dec out₀ out)
+      → answer_of r' ≡ first_row (fec.flush_rows v (length dec₀) (length out₀))
+      → MatchResult r' (λ x. fec-calls.FlushesAt end v x dec₀ dec' out₀ out') (λ _. Unchanged dec₀ dec' out₀ out')
       → Agree r r' dec dec' out out'
   flush_at_agrees end = flushed_agree (short-calls.end_of isdb_code end) (isdb.flush_at end (fec-calls.handed v dec₀)).bits refl
 
@@ -197,67 +197,48 @@ unknown_same =
     let z = length-replicate 64 (of_bits binary32 0) in
     front_alone (start_unknown 64) (replicate 64 (of_bits binary32 0)) (omega arith)
 
-module _ (tb : ℕ) (r r' : Made) where
+module _ (tb : ℕ) where
   -- decoders with the path values pm and pm'
-  fresh_agree : (pm pm' : List Float) → pm ≡ pm'
-      → r.answer ≡ first_row (short.fresh_rows isdb_code tb) → Either r.answer (Fresh tb pm r.dec) (Zero r.dec)
-      → r'.answer ≡ first_row (fec.fresh_rows tb) → Either r'.answer (Fresh tb pm' r'.dec) (Zero r'.dec)
+  fresh_agree : (pm pm' : List Float) → pm ≡ pm' → (r r' : Result ViterbiDecoder Refusal)
+      → answer_of r ≡ first_row (short.fresh_rows isdb_code tb) → IfOk r (λ v. Fresh tb pm v)
+      → answer_of r' ≡ first_row (fec.fresh_rows tb) → IfOk r' (λ v. Fresh tb pm' v)
       → MadeAlike r r'
-  fresh_agree pm pm' e a s a' f =
-      let same : r.answer ≡ r'.answer = a ∙ sym a' in (
-        same,
-        ⊎_elim
-            (λ y.
-            let k = s.0 y in
-            let l = f.0 (sym same ∙ y) in
-            let p = k.values ∙ e ∙ sym l.values in
-            let h = k.held_is ∙ sym l.held_is in
-            let t = k.traceback_is ∙ sym l.traceback_is in
-            λ i. record { pm = p i; held = h i; traceback = t i })
-            (λ n.
-            let k = s.1 n in
-            let l = f.1 (λ y. n (same ∙ y)) in
-            let p = k.values ∙ sym l.values in
-            let h = k.held_is ∙ sym l.held_is in
-            let t = k.traceback_is ∙ sym l.traceback_is in
-            λ i. record { pm = p i; held = h i; traceback = t i })
-            (decided r.answer),
-      )
+  fresh_agree pm pm' e (Ok x) (Ok y) a k a' l =
+      let p = k.values ∙ e ∙ sym l.values in
+      let h = k.held_is ∙ sym l.held_is in
+      let t = k.traceback_is ∙ sym l.traceback_is in
+      λ i. Ok (record { pm = p i; held = h i; traceback = t i })
+  fresh_agree pm pm' e (Ok x) (Err row) a k a' l = absurd (err_refuses {row = row} (a' ∙ sym a))
+  fresh_agree pm pm' e (Err row) (Ok y) a k a' l = absurd (err_refuses {row = row} (a ∙ sym a'))
+  fresh_agree pm pm' e (Err row) (Err other) a k a' l = let same : ◌≡◌ {A = Answer} (Err row) (Err other) = a ∙ sym a' in cc
 
   -- `with_state` and `new_unknown_state`
-  pub with_state_agrees : (s : ℕ)
-      → r.answer ≡ first_row (short.fresh_rows isdb_code tb) → Either r.answer (Fresh tb (short-calls.start_values isdb_code s) r.dec) (Zero r.dec)
-      → r'.answer ≡ first_row (fec.fresh_rows tb) → Either r'.answer (Fresh tb (start_at 64 s) r'.dec) (Zero r'.dec)
+  pub with_state_agrees : (r r' : Result ViterbiDecoder Refusal) (s : ℕ)
+      → answer_of r ≡ first_row (short.fresh_rows isdb_code tb) → IfOk r (λ v. Fresh tb (short-calls.start_values isdb_code s) v)
+      → answer_of r' ≡ first_row (fec.fresh_rows tb) → IfOk r' (λ v. Fresh tb (start_at 64 s) v)
       → MadeAlike r r'
-  with_state_agrees s = fresh_agree (short-calls.start_values isdb_code s) (start_at 64 s) (start_same s)
+  with_state_agrees r r' s = fresh_agree (short-calls.start_values isdb_code s) (start_at 64 s) (start_same s) r r'
 
-  pub unknown_state_agrees :
-      r.answer ≡ first_row (short.fresh_rows isdb_code tb) → Either r.answer (Fresh tb (short-calls.unknown_values isdb_code) r.dec) (Zero r.dec)
-      → r'.answer ≡ first_row (fec.fresh_rows tb) → Either r'.answer (Fresh tb (start_unknown 64) r'.dec) (Zero r'.dec)
+  pub unknown_state_agrees : (r r' : Result ViterbiDecoder Refusal)
+      → answer_of r ≡ first_row (short.fresh_rows isdb_code tb) → IfOk r (λ v. Fresh tb (short-calls.unknown_values isdb_code) v)
+      → answer_of r' ≡ first_row (fec.fresh_rows tb) → IfOk r' (λ v. Fresh tb (start_unknown 64) v)
       → MadeAlike r r'
-  unknown_state_agrees = fresh_agree (short-calls.unknown_values isdb_code) (start_unknown 64) unknown_same
+  unknown_state_agrees r r' = fresh_agree (short-calls.unknown_values isdb_code) (start_unknown 64) unknown_same r r'
 
 -- ---- the encoder
 -- what `push_bit` and `ConvEncoder::push` say of the code c of crate trellis with half h of its states, the state s and the input byte u
-abbrev Coded : trellis.Code → ℕ → ℕ → ℕ → Pushed → Type 0
-Coded c h s u r =
-    Either r.answer
-    ((r.x ≡ output c c.g1 (u % 2) s) × (r.y ≡ output c c.g2 (u % 2) s) × (r.enc.state ≡ moved h (u % 2) s))
-    ((r.x ≡ 0) × (r.y ≡ 0) × (r.enc.state ≡ s))
+abbrev Coded : trellis.Code → ℕ → ℕ → ℕ → Result Pushed Refusal → Type 0
+Coded c h s u r = IfOk r (λ p. (p.x ≡ output c c.g1 (u % 2) s) × (p.y ≡ output c c.g2 (u % 2) s) × (p.enc.state ≡ moved h (u % 2) s))
 
-pub bit_agrees : (s u : ℕ) (r r' : Pushed)
-    → r.answer ≡ first_row (short.encoder_rows isdb_code s) → Coded (code_of isdb_code) (half_of isdb_code) s u r
-    → r'.answer ≡ first_row (fec.encoder_rows s) → Coded trellis.isdb 32 s u r'
+pub bit_agrees : (s u : ℕ) (r r' : Result Pushed Refusal)
+    → answer_of r ≡ first_row (short.encoder_rows isdb_code s) → Coded (code_of isdb_code) (half_of isdb_code) s u r
+    → answer_of r' ≡ first_row (fec.encoder_rows s) → Coded trellis.isdb 32 s u r'
     → SentAlike r r'
-bit_agrees s u r r' a k a' l =
-    let same : r.answer ≡ r'.answer = a ∙ sym a' in
-    ⊎_elim
-    (λ y.
-    let p = k.0 y in
-    let q = l.0 (sym same ∙ y) in
-    (same, p.0 ∙ sym q.0, p.1 ∙ sym q.1, p.2 ∙ sym q.2))
-    (λ n.
-    let p = k.1 n in
-    let q = l.1 (λ y. n (same ∙ y)) in
-    (same, p.0 ∙ sym q.0, p.1 ∙ sym q.1, p.2 ∙ sym q.2))
-    (decided r.answer)
+bit_agrees s u (Ok p) (Ok q) a k a' l =
+    let x = k.0 ∙ sym l.0 in
+    let y = k.1 ∙ sym l.1 in
+    let z = k.2 ∙ sym l.2 in
+    λ i. Ok (record { enc = record { state = z i }; x = x i; y = y i })
+bit_agrees s u (Ok p) (Err row) a k a' l = absurd (err_refuses {row = row} (a' ∙ sym a))
+bit_agrees s u (Err row) (Ok q) a k a' l = absurd (err_refuses {row = row} (a ∙ sym a'))
+bit_agrees s u (Err row) (Err other) a k a' l = let same : ◌≡◌ {A = Answer} (Err row) (Err other) = a ∙ sym a' in cc

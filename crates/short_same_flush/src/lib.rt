@@ -5,8 +5,8 @@ ghost use Rattle.isdb_fec.specs.Rows as isdbRows;
 ghost use Rattle.isdb_fec.specs.Calls as isdbCalls;
 ghost use Rattle.short_fec.specs.Rows as shortRows;
 ghost use Rattle.short_fec.specs.Calls as shortCalls;
-ghost use Rattle.std.specs.Prelude.{◌≡◌, length};
-ghost use Rattle.refusal.specs.Rows.{first_row, Either};
+ghost use Rattle.std.specs.Prelude.{◌≡◌, length, MatchResult};
+ghost use Rattle.refusal.specs.Rows.{first_row, answer_of};
 ghost use Rattle.isdb_fec.specs.Calls.{Unchanged};
 ghost use Rattle.short_same_code.specs.IsdbCode.{isdb_code};
 ghost use Rattle.short_same_code.specs.Agree.{Agree};
@@ -23,14 +23,14 @@ pub fn flush(
     decisions2: &mut [u64],
     out2: &mut [u8],
 ) -> Both
-    ensures short_answers { result.short.answer ≡ first_row (shortRows.flush_rows isdb_code dec (length decisions.old) (length out.old)) }
-    ensures short_leaves { Either result.short.answer
-        (shortCalls.Flushes isdb_code dec (shortCalls.best_of isdb_code dec) result.short decisions.old decisions.new out.old out.new)
-        (Unchanged dec result.short decisions.old decisions.new out.old out.new) }
-    ensures isdb_answers { result.isdb.answer ≡ first_row (isdbRows.flush_rows dec (length decisions2.old) (length out2.old)) }
-    ensures isdb_leaves { Either result.isdb.answer
-        (isdbCalls.Flushes dec result.isdb decisions2.old decisions2.new out2.old out2.new)
-        (Unchanged dec result.isdb decisions2.old decisions2.new out2.old out2.new) }
+    ensures short_answers { answer_of result.short ≡ first_row (shortRows.flush_rows isdb_code dec (length decisions.old) (length out.old)) }
+    ensures short_leaves { MatchResult result.short
+        (λ r. shortCalls.Flushes isdb_code dec (shortCalls.best_of isdb_code dec) r decisions.old decisions.new out.old out.new)
+        (λ _. Unchanged decisions.old decisions.new out.old out.new) }
+    ensures isdb_answers { answer_of result.isdb ≡ first_row (isdbRows.flush_rows dec (length decisions2.old) (length out2.old)) }
+    ensures isdb_leaves { MatchResult result.isdb
+        (λ r. isdbCalls.Flushes dec r decisions2.old decisions2.new out2.old out2.new)
+        (λ _. Unchanged decisions2.old decisions2.new out2.old out2.new) }
     ensures agree { (decisions.old ≡ decisions2.old) → (out.old ≡ out2.old)
         → Agree result.short result.isdb decisions.new decisions2.new out.new out2.new }
 {
@@ -50,14 +50,14 @@ pub fn flush_at(
     decisions2: &mut [u64],
     out2: &mut [u8],
 ) -> Both
-    ensures short_answers { result.short.answer ≡ first_row (shortRows.flush_rows isdb_code dec (length decisions.old) (length out.old)) }
-    ensures short_leaves { Either result.short.answer
-        (shortCalls.Flushes isdb_code dec (shortCalls.end_of isdb_code end) result.short decisions.old decisions.new out.old out.new)
-        (Unchanged dec result.short decisions.old decisions.new out.old out.new) }
-    ensures isdb_answers { result.isdb.answer ≡ first_row (isdbRows.flush_rows dec (length decisions2.old) (length out2.old)) }
-    ensures isdb_leaves { Either result.isdb.answer
-        (isdbCalls.FlushesAt end dec result.isdb decisions2.old decisions2.new out2.old out2.new)
-        (Unchanged dec result.isdb decisions2.old decisions2.new out2.old out2.new) }
+    ensures short_answers { answer_of result.short ≡ first_row (shortRows.flush_rows isdb_code dec (length decisions.old) (length out.old)) }
+    ensures short_leaves { MatchResult result.short
+        (λ r. shortCalls.Flushes isdb_code dec (shortCalls.end_of isdb_code end) r decisions.old decisions.new out.old out.new)
+        (λ _. Unchanged decisions.old decisions.new out.old out.new) }
+    ensures isdb_answers { answer_of result.isdb ≡ first_row (isdbRows.flush_rows dec (length decisions2.old) (length out2.old)) }
+    ensures isdb_leaves { MatchResult result.isdb
+        (λ r. isdbCalls.FlushesAt end dec r decisions2.old decisions2.new out2.old out2.new)
+        (λ _. Unchanged decisions2.old decisions2.new out2.old out2.new) }
     ensures agree { (decisions.old ≡ decisions2.old) → (out.old ≡ out2.old)
         → Agree result.short result.isdb decisions.new decisions2.new out.new out2.new }
 {

@@ -80,9 +80,8 @@ fn copy(new: &[f32; STATES], pm: &mut [f32])
     requires { length pm.old ≤ Isdb.states }
     ensures { pm.new ≡ upto (λ i. get_or new.now i nan) (length pm.old) }
 {
-    for i in 0..pm.len() {
-        pm[i] = new[i];
-    }
+    let n = pm.len();
+    pm.copy_from_slice(&new[..n]);
 }
 
 // Adds, compares and selects. The decision word.
@@ -101,8 +100,8 @@ fn greatest(pm: &[f32]) -> f32
     ensures { result ≡ top pm.now (length pm.now) }
 {
     let mut t = -3.4028235e38f32;
-    for s in 0..pm.len() {
-        t = greater(t, pm[s]);
+    for v in pm {
+        t = greater(t, *v);
     }
     t
 }
@@ -113,8 +112,8 @@ pub fn renormalise(pm: &mut [f32], h: usize)
     ensures { pm.new ≡ renormalised h pm.old }
 {
     let t = greatest(pm);
-    for s in 0..pm.len() {
-        pm[s] = pm[s] - t;
+    for v in pm.iter_mut() {
+        *v = *v - t;
     }
 }
 
@@ -124,9 +123,9 @@ fn rule_out(pm: &mut [f32], h: usize, b: u8)
     ensures { pm.new ≡ ruled h b pm.old }
 {
     let kept = (b % 2) as usize;
-    for s in 0..pm.len() {
+    for (s, v) in pm.iter_mut().enumerate() {
         if s / h != kept {
-            pm[s] = -1.0e9;
+            *v = -1.0e9;
         }
     }
 }
@@ -182,7 +181,7 @@ pub fn start_at(pm: &mut [f32], state: u8)
     ensures { pm.new ≡ start_at (length pm.old) state }
 {
     let start = (state as usize) % pm.len();
-    for k in 0..pm.len() {
-        pm[k] = start_value(k, start);
+    for (k, v) in pm.iter_mut().enumerate() {
+        *v = start_value(k, start);
     }
 }

@@ -2,9 +2,9 @@
 use Rattle.std.specs.Prelude.{◌≡◌, refl, Bool, true, false, not, ◌||◌, List, [], ◌∷◌, ℕ, ◌+◌, ◌<◌, min, ltb, length}
 use Rattle.std.proofs.Common.{◌∙◌, ap, arith, eq-or-lt_of_le, mod-lt, mod-eq_of_lt, ⊎_elim, le-ltb, eq-eqb, ne_eqb, take-append-drop}
 use Rattle.std.proofs.lemmas.Bool.{lt-leb}
-use Rattle.refusal.specs.Rows.{first_row}
+use Rattle.std.specs.Prelude.{Ok}
+use Rattle.refusal.specs.Rows.{first_row, Window, Space}
 use Rattle.refusal.specs.RowLaws.{replaced}
-use Rattle.refusal.specs.declared.Answer.TheVariants.{Accepted, Window, Space}
 use Rattle.strain_window.specs.declared.WindowState.{WindowState}
 use Rattle.strain_window.specs.declared.Pushed.{Pushed}
 use Rattle.strain_window.specs.Rows.{most_sum, sum_above, bad_state, kept_sums, push_rows}
@@ -42,19 +42,18 @@ pub record Passed (v : WindowState) (kept : List ℕ) : Type 0 where
   pub state_sound : Sound v
   pub kept_below : sum_above (kept_sums v kept) ≡ false
 
-passed_after : (clear : Bool) (v : WindowState) (sum : ℕ) (lent kept : List ℕ) (r : Pushed) → Called v clear sum lent r kept → r.answer ≡ Accepted → Passed r.state kept
-passed_after clear v sum lent kept r c ok =
-    let p = c.leaves.0 ok in
-    let a = call_allowed c ok in
+passed_after : (clear : Bool) (v : WindowState) (sum : ℕ) (lent kept : List ℕ) (r : Pushed) → Called v clear sum lent (Ok r) kept → Passed r.state kept
+passed_after clear v sum lent kept r c =
+    let p = c.leaves in
+    let a = call_allowed c in
     rw (p.state_is, p.kept_is) (record { state_sound = sound_after clear v a.state_sound; kept_below = next_below clear v sum lent a })
 
 pub passed : {w : ℕ} {v : WindowState} {kept h : List ℕ} {last : Pushed} → Run w v kept h last → Passed v kept
-passed (history.first {v = v} {clear = clear} {sum = sum} {lent = lent} {kept = kept} {r = r} e st c ok) = passed_after clear v sum lent kept r c ok
-passed (history.accepted {v = v} {clear = clear} {sum = sum} {lent = lent} {kept = kept} {r = r} run same c ok) = passed_after clear v sum lent kept r c ok
-passed (history.refused n memory run same c not) =
-    let p = c.leaves.1 not in
+passed (history.first {v = v} {clear = clear} {sum = sum} {lent = lent} {kept = kept} {r = r} e st c) = passed_after clear v sum lent kept r c
+passed (history.accepted {v = v} {clear = clear} {sum = sum} {lent = lent} {kept = kept} {r = r} run same c) = passed_after clear v sum lent kept r c
+passed (history.refused n memory run same c) =
     let i = passed run in
-    rw (p.state_is, p.kept_is, take-append-drop n memory) (record { state_sound = i.state_sound; kept_below = rw same i.kept_below })
+    rw (c.leaves, take-append-drop n memory) (record { state_sound = i.state_sound; kept_below = rw same i.kept_below })
 
 pub next_answer : {w : ℕ} {v : WindowState} {left h : List ℕ} {last : Pushed} → Run w v left h last → (sum : ℕ) (lent : List ℕ) → kept_sums v lent ≡ kept_sums v left
     → first_row (push_rows v sum lent) ≡ first_row ((Window, ltb most_sum sum) ∷ (Space, ltb (length lent) w) ∷ [])

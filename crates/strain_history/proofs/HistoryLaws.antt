@@ -6,7 +6,8 @@ use Rattle.std.proofs.Math.Nat.{mod_self, mod-add-mod, max_comm}
 use Rattle.std.proofs.Math.Seq.{take-length, drop-length}
 use Rattle.std.proofs.lemmas.List.{drop-append-le}
 use Rattle.refusal.proofs.RowLaws.{passed}
-use Rattle.refusal.specs.declared.Answer.TheVariants.{Accepted, Window, Space}
+use Rattle.std.specs.Prelude.{Ok}
+use Rattle.refusal.specs.Rows.{Window, Space}
 use Rattle.strain_window.specs.declared.WindowState.{WindowState}
 use Rattle.strain_window.specs.declared.Pushed.{Pushed}
 use Rattle.strain_window.specs.Rows.{kept_sums, push_rows}
@@ -68,9 +69,9 @@ pub record Held (w : ℕ) (v : WindowState) (kept h : List ℕ) : Type 0 where
   pub order : last_of w h ≡ rotated v.next (kept_sums v kept)
 
 -- an accepted push was allowed
-pub call_allowed : {v : WindowState} {clear : Bool} {sum : ℕ} {lent kept : List ℕ} {r : Pushed} → Called v clear sum lent r kept → r.answer ≡ Accepted → Allowed v sum lent
-call_allowed {v} {clear} {sum} {lent} c ok =
-    let p = passed (push_rows v sum lent) tt (sym c.answers ∙ ok) in
+pub call_allowed : {v : WindowState} {clear : Bool} {sum : ℕ} {lent kept : List ℕ} {r : Pushed} → Called v clear sum lent (Ok r) kept → Allowed v sum lent
+call_allowed {v} {clear} {sum} {lent} c =
+    let p = passed (push_rows v sum lent) tt (sym c.answers) in
     allowed v sum lent (p Window) (ltb-false (length lent) v.window (p Space))
 
 -- the first push of a window: one sum is kept, at place 0
@@ -150,19 +151,18 @@ module _ (w : ℕ) (v : WindowState) (sum : ℕ) (left lent h : List ℕ) (i : H
 
 -- the invariant is that of every run
 pub held : {w : ℕ} {v : WindowState} {kept h : List ℕ} {last : Pushed} → Run w v kept h last → Held w v kept h
-held {w} (history.first {v = v} {clear = clear} {sum = sum} {lent = lent} e st c ok) =
-    let p = c.leaves.0 ok in
-    rw (p.state_is, p.kept_is) (begins w clear v sum lent e st (call_allowed c ok))
-held {w} (history.accepted {v = v} {left = left} {history = h} {clear = true} {sum = sum} {lent = lent} run same c ok) =
-    let p = c.leaves.0 ok in
-    rw (p.state_is, p.kept_is) (begins w true v sum lent (held run).window_is (inl refl) (call_allowed c ok))
-held {w} (history.accepted {v = v} {left = left} {history = h} {clear = false} {sum = sum} {lent = lent} run same c ok) =
-    let p = c.leaves.0 ok in
-    rw (p.state_is, p.kept_is) (goes_on w v sum left lent h (held run) same (call_allowed c ok))
-held {w} (history.refused n memory run same c not) =
-    let p = c.leaves.1 not in
+held {w} (history.first {v = v} {clear = clear} {sum = sum} {lent = lent} e st c) =
+    let p = c.leaves in
+    rw (p.state_is, p.kept_is) (begins w clear v sum lent e st (call_allowed c))
+held {w} (history.accepted {v = v} {left = left} {history = h} {clear = true} {sum = sum} {lent = lent} run same c) =
+    let p = c.leaves in
+    rw (p.state_is, p.kept_is) (begins w true v sum lent (held run).window_is (inl refl) (call_allowed c))
+held {w} (history.accepted {v = v} {left = left} {history = h} {clear = false} {sum = sum} {lent = lent} run same c) =
+    let p = c.leaves in
+    rw (p.state_is, p.kept_is) (goes_on w v sum left lent h (held run) same (call_allowed c))
+held {w} (history.refused n memory run same c) =
     let i = held run in
-    rw (p.state_is, p.kept_is, take-append-drop n memory) (record { window_is = i.window_is; fill_is = i.fill_is; next_is = i.next_is; order = rw same i.order })
+    rw (c.leaves, take-append-drop n memory) (record { window_is = i.window_is; fill_is = i.fill_is; next_is = i.next_is; order = rw same i.order })
 
 -- ---- the theorem
 told : {w : ℕ} {v : WindowState} {clear : Bool} {sum : ℕ} {lent kept h : List ℕ} {r : Pushed} → Held w r.state kept h → Pushes v clear sum r lent kept → Afresh w h r
@@ -176,6 +176,6 @@ told {w} {v} {clear} {sum} {lent} {kept} {h} {r} i p =
     }
 
 pub afresh : {w : ℕ} {v : WindowState} {kept h : List ℕ} {last : Pushed} → Run w v kept h last → Afresh w h last
-afresh (history.first e st c ok) = told (held (history.first e st c ok)) (c.leaves.0 ok)
-afresh (history.accepted run same c ok) = told (held (history.accepted run same c ok)) (c.leaves.0 ok)
-afresh (history.refused n memory run same c not) = afresh run
+afresh (history.first e st c) = told (held (history.first e st c)) (c.leaves)
+afresh (history.accepted run same c) = told (held (history.accepted run same c)) (c.leaves)
+afresh (history.refused n memory run same c) = afresh run

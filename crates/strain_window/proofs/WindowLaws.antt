@@ -1,9 +1,10 @@
 -- Laws of totals, greatest sums and rows.
 use Rattle.std.specs.Prelude.{◌≡◌, refl, Bool, true, false, not, ◌&&◌, ◌||◌, List, [], ◌∷◌, ◌++◌, ℕ, zero, suc, ◌+◌, ◌≤◌, ◌<◌, min, max, ltb, leb, eqb, length, get_or, take}
 use Rattle.std.proofs.Common.{ap, arith, ltb-false, leb-false, eqb-true, ne_eqb, take-suc}
+use Rattle.std.specs.List.{list_any}
 use Rattle.std.proofs.Math.Nat.{suc-min-suc}
 use Rattle.std.proofs.lemmas.Bool.{eqb-false, not-false}
-use Rattle.std.proofs.Math.Seq.{take-nil}
+use Rattle.std.proofs.Math.Seq.{take-nil, take-length}
 use Rattle.refusal.proofs.RowLaws.{neither}
 use Rattle.strain_window.specs.declared.WindowState.{WindowState}
 use Rattle.strain_window.specs.Rows.{most_sum, sum_above, bad_state}
@@ -34,6 +35,17 @@ total_next xs i h = rw (take-suc xs i 0 h, total_append, total_one) refl
 
 pub greatest_next : (xs : List ℕ) (i : ℕ) → i < length xs → greatest_of (take (suc i) xs) ≡ max (greatest_of (take i xs)) (get_or xs i 0)
 greatest_next xs i h = rw (take-suc xs i 0 h, greatest_append, greatest_one) refl
+
+pub total_all : (xs : List ℕ) → total_of (take (length xs) xs) ≡ total_of xs
+total_all xs = ap total_of (take-length xs)
+
+pub greatest_all : (xs : List ℕ) → greatest_of (take (length xs) xs) ≡ greatest_of xs
+greatest_all xs = ap greatest_of (take-length xs)
+
+pub above_any : (xs : List ℕ) → sum_above xs ≡ list_any (λ x. ltb most_sum x) xs
+unfolding sum_above
+above_any [] = refl
+above_any (x ∷ xs) = rw (above_any xs) refl
 
 -- each sum is at most 68,208
 pub none_above : (xs : List ℕ) → sum_above xs ≡ false → (i : ℕ) → get_or xs i 0 ≤ most_sum

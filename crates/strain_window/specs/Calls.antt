@@ -1,6 +1,8 @@
 -- What a push leaves: request P11.
 use Rattle.std.specs.Prelude.{◌≡◌, Bool, cond, List, [], ◌∷◌, ℕ, ◌+◌, ◌%◌, min, max, set}
-use Rattle.refusal.specs.Rows.{first_row, Either}
+use Rattle.std.specs.Prelude.{Result, Ok, Err}
+use Rattle.refusal.specs.declared.Refusal.{Refusal}
+use Rattle.refusal.specs.Rows.{first_row, answer_of}
 use Rattle.strain_window.specs.declared.WindowState.{WindowState}
 use Rattle.strain_window.specs.declared.Pushed.{Pushed}
 use Rattle.strain_window.specs.Rows.{kept_sums, push_rows}
@@ -32,14 +34,17 @@ pub record Pushes (v : WindowState) (clear : Bool) (sum : ℕ) (r : Pushed) (kep
   pub total_is : r.total ≡ total_of (kept_sums (pushed_state clear v) kept)
   pub greatest_is : r.greatest ≡ greatest_of (kept_sums (pushed_state clear v) kept)
 
--- "states come back as given and no buffer changes"; total and greatest, which document 01 leaves free for a refused push, are 0
-pub record Unchanged (v : WindowState) (r : Pushed) (kept₀ kept : List ℕ) : Type 0 where
-  pub state_is : r.state ≡ v
-  pub kept_is : kept ≡ kept₀
-  pub total_is : r.total ≡ 0
-  pub greatest_is : r.greatest ≡ 0
+-- "no buffer changes" of a refused push. Its state "comes back as given": the caller has the one that was handed in, and a refusal gives no other. Total and
+-- greatest, which document 01 leaves free for a refused push, are not given
+abbrev pub Unchanged : List ℕ → List ℕ → Type 0
+Unchanged kept₀ kept = kept ≡ kept₀
+
+-- what it leaves, by its result
+abbrev pub Leaves : WindowState → Bool → ℕ → List ℕ → Result Pushed Refusal → List ℕ → Type 0
+Leaves v clear sum kept₀ (Ok r) kept = Pushes v clear sum r kept₀ kept
+Leaves v clear sum kept₀ (Err row) kept = Unchanged kept₀ kept
 
 -- a push that was handed the state v and lent the sums kept₀, gave r and left the sums kept: the whole contract
-pub record Called (v : WindowState) (clear : Bool) (sum : ℕ) (kept₀ : List ℕ) (r : Pushed) (kept : List ℕ) : Type 0 where
-  pub answers : r.answer ≡ first_row (push_rows v sum kept₀)
-  pub leaves : Either r.answer (Pushes v clear sum r kept₀ kept) (Unchanged v r kept₀ kept)
+pub record Called (v : WindowState) (clear : Bool) (sum : ℕ) (kept₀ : List ℕ) (r : Result Pushed Refusal) (kept : List ℕ) : Type 0 where
+  pub answers : answer_of r ≡ first_row (push_rows v sum kept₀)
+  pub leaves : Leaves v clear sum kept₀ r kept

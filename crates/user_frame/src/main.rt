@@ -3,8 +3,7 @@
 
 use isdbs_core::frame::{LOAD_BYTES, MAIN_SYMBOLS, SLOT_BYTES, SLOTS};
 use isdbs_core::tmcc::{DUMMY, Entry, Table};
-use isdbs_phy::demod::{DemodOptions, FrameDecoded, Mapping, decode_frame, encode_frame};
-use refusal::Answer;
+use isdbs_phy::demod::{DemodOptions, Mapping, decode_frame, encode_frame};
 
 // The number of standard output.
 const STDOUT_FILENO: i32 = 1;
@@ -26,19 +25,14 @@ fn table() -> Table {
 }
 
 fn fill_load(load: &mut [u8; LOAD_BYTES]) {
-    for i in 0..CARRIED {
-        load[i] = (i % 251) as u8;
+    for (i, byte) in load[..CARRIED].iter_mut().enumerate() {
+        *byte = (i % 251) as u8;
     }
 }
 
 // Whether the bytes that are carried are the same.
 fn same(a: &[u8; LOAD_BYTES], b: &[u8; LOAD_BYTES]) -> bool {
-    for i in 0..CARRIED {
-        if a[i] != b[i] {
-            return false;
-        }
-    }
-    true
+    a[..CARRIED] == b[..CARRIED]
 }
 
 fn say(line: &[u8]) {
@@ -68,14 +62,14 @@ fn read(
         &mut counts,
     );
     match done {
-        FrameDecoded::Decoded(_, _, strained) => {
-            if strained == 0 && same(load, bytes) {
+        Ok(f) => {
+            if f.strained == 0 && same(load, bytes) {
                 say(b"read: the bytes that were sent, no step strained\n");
             } else {
                 say(b"failed\n");
             }
         }
-        FrameDecoded::Refused(_) => say(b"refused\n"),
+        Err(_) => say(b"refused\n"),
     }
 }
 
@@ -89,7 +83,7 @@ fn read_in_space(load: &[u8; LOAD_BYTES], re: &[f64; MAIN_SYMBOLS], im: &[f64; M
 // Makes the frame, and reads it.
 fn make(load: &[u8; LOAD_BYTES], re: &mut [f64; MAIN_SYMBOLS], im: &mut [f64; MAIN_SYMBOLS]) {
     let answer = encode_frame(load, table(), true, Mapping::default(), re, im);
-    let Answer::Accepted = answer else {
+    let Ok(()) = answer else {
         say(b"refused\n");
         return;
     };

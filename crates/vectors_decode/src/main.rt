@@ -7,11 +7,12 @@ ghost use Rattle.std.specs.Prelude.{◌≤◌, ◌<◌};
 
 use cases_frames::{mapping_of, table_of};
 use cases_lib::{
-    digest, double_of, draw, end_line, float_of, front, nan, number, one, passed, read_line, row,
-    show, show_agreeing, show_bits, show_one, step, words_of,
+    agreeing, digest, double_of, draw, end_line, float_of, front, nan, number, row, show,
+    show_agreeing, show_bits, show_one, step, words_of,
 };
 use isdbs_core::frame::{FRAME_BITS, LOAD_BYTES, MAIN_SYMBOLS, SLOT_BYTES, SLOTS};
 use isdbs_phy::demod::{DemodOptions, FrameDecoded, decode_frame, encode_frame};
+use refusal::Refusal;
 use std::fs::File;
 use std::os::fd::AsRawFd;
 use trellis::{FRAME_WORDS, LONGEST_FRAME};
@@ -53,34 +54,31 @@ fn receive(
     amplitude: f64,
 ) {
     let mut x = seed;
-    for k in 0..MAIN_SYMBOLS {
+    for (real, imaginary) in re.iter_mut().zip(im.iter_mut()) {
         x = step(x);
-        re[k] = part(kind, re[k], x, amplitude);
+        *real = part(kind, *real, x, amplitude);
         x = step(x);
-        im[k] = part(kind, im[k], x, amplitude);
+        *imaginary = part(kind, *imaginary, x, amplitude);
     }
 }
 
 // Scale i of the line.
-fn scale_of(line: &[u8; 166], i: usize) -> f32
+fn scale_of(line: &[u8], i: usize) -> f32
     requires { i < 7 }
 {
     float_of((number(line, 26 + 8 * i, 34 + 8 * i) % 0x1_0000_0000) as u32)
 }
 
-fn scales_of(line: &[u8; 166]) -> [f32; 7] {
-    let a = scale_of(line, 0);
-    let b = scale_of(line, 1);
-    let c = scale_of(line, 2);
-    let d = scale_of(line, 3);
-    let e = scale_of(line, 4);
-    let f = scale_of(line, 5);
-    let g = scale_of(line, 6);
-    [a, b, c, d, e, f, g]
+fn scales_of(line: &[u8]) -> [f32; 7] {
+    let mut scales = [0.0f32; 7];
+    for (i, scale) in scales.iter_mut().enumerate() {
+        *scale = scale_of(line, i);
+    }
+    scales
 }
 
 // What decoding is asked for.
-fn options(line: &[u8; 166]) -> DemodOptions {
+fn options(line: &[u8]) -> DemodOptions {
     let scales = scales_of(line);
     let mapping = mapping_of(number(line, 17, 19));
     DemodOptions {
@@ -90,12 +88,12 @@ fn options(line: &[u8; 166]) -> DemodOptions {
     }
 }
 
-fn is_first(line: &[u8; 166]) -> bool {
+fn is_first(line: &[u8]) -> bool {
     number(line, 20, 22) == 1
 }
 
 // The clean frame of the line's load: the answer's number.
-fn clean(line: &[u8; 166], re: &mut [f64; MAIN_SYMBOLS], im: &mut [f64; MAIN_SYMBOLS]) -> usize {
+fn clean(line: &[u8], re: &mut [f64; MAIN_SYMBOLS], im: &mut [f64; MAIN_SYMBOLS]) -> usize {
     let mut bytes = [0u8; LOAD_BYTES];
     let count = (number(line, 129, 131) % 49) as usize * SLOT_BYTES;
     draw(&mut bytes, count, number(line, 83, 99));
@@ -106,7 +104,7 @@ fn clean(line: &[u8; 166], re: &mut [f64; MAIN_SYMBOLS], im: &mut [f64; MAIN_SYM
 
 // Whether the counts and the digests are the line's.
 fn matches(
-    line: &[u8; 166],
+    line: &[u8],
     count: usize,
     steps: usize,
     bits: &[u8; FRAME_BITS],
@@ -131,7 +129,7 @@ fn decode(
     decisions: &mut [u64; FRAME_WORDS],
     bits: &mut [u8; FRAME_BITS],
     bytes: &mut [u8; LOAD_BYTES],
-) -> FrameDecoded {
+) -> Result<FrameDecoded, Refusal> {
     let mut counts = [0u32; SLOTS];
     decode_frame(
         re,
@@ -147,7 +145,7 @@ fn decode(
 }
 
 // Whether the points are decoded as the Rust decodes them. What is lent holds no zeros.
-fn decodes(line: &[u8; 166], re: &[f64; MAIN_SYMBOLS], im: &[f64; MAIN_SYMBOLS]) -> bool {
+fn decodes(line: &[u8], re: &[f64; MAIN_SYMBOLS], im: &[f64; MAIN_SYMBOLS]) -> bool {
     let mut decisions = [0xffff_ffff_ffff_ffffu64; FRAME_WORDS];
     let mut bits = [7u8; FRAME_BITS];
     let mut bytes = [165u8; LOAD_BYTES];
@@ -162,13 +160,13 @@ fn decodes(line: &[u8; 166], re: &[f64; MAIN_SYMBOLS], im: &[f64; MAIN_SYMBOLS])
         &mut bytes,
     );
     match r {
-        FrameDecoded::Decoded(n, steps, _) => matches(line, n, steps, &bits, &bytes),
-        FrameDecoded::Refused(_) => false,
+        Ok(f) => matches(line, f.bytes, f.steps, &bits, &bytes),
+        Err(_) => false,
     }
 }
 
 // Whether the line's frame is decoded as the Rust decodes it.
-fn agrees(line: &[u8; 166]) -> bool {
+fn agrees(line: &[u8]) -> bool {
     let mut re = [0.0f64; MAIN_SYMBOLS];
     let mut im = [0.0f64; MAIN_SYMBOLS];
     let made = clean(line, &mut re, &mut im);
@@ -180,27 +178,6 @@ fn agrees(line: &[u8; 166]) -> bool {
         double_of(number(line, 103, 119)),
     );
     (made == 0) & decodes(line, &re, &im)
-}
-
-// Whether a whole line was read and its frame agrees; a line where it does not is shown.
-fn passes(file: i32) -> bool {
-    let mut line = [0u8; 166];
-    if !read_line(file, &mut line) {
-        return false;
-    }
-    let same = agrees(&line);
-    passed(&line, same)
-}
-
-// How many of the lines pass: none of those that are missing.
-fn agreeing(file: i32) -> usize
-    ensures { result ≤ 286 }
-{
-    let mut agree: usize = 0;
-    for i in 0..LINES {
-        agree += one(passes(file));
-    }
-    agree
 }
 
 // Scales of 8, with another one at a place.
@@ -220,10 +197,10 @@ fn empty_table() {
     let mut decisions = [0xffff_ffff_ffff_ffffu64; 4230];
     let mut bits = [7u8; 18];
     let r = decode_empty(&re, &im, &mut decisions, &mut bits);
-    let FrameDecoded::Decoded(n, steps, _) = r else {
+    let Ok(f) = r else {
         return;
     };
-    show_empty(n, steps, &bits, &decisions);
+    show_empty(f.bytes, f.steps, &bits, &decisions);
 }
 
 fn decode_empty(
@@ -231,7 +208,7 @@ fn decode_empty(
     im: &[f64; MAIN_SYMBOLS],
     decisions: &mut [u64; 4230],
     bits: &mut [u8; 18],
-) -> FrameDecoded {
+) -> Result<FrameDecoded, Refusal> {
     let mut bytes = [0u8; 4];
     let mut counts = [7u32; 1];
     let o = DemodOptions {
@@ -264,17 +241,20 @@ fn show_empty(n: usize, steps: usize, bits: &[u8; 18], decisions: &[u64; 4230]) 
 }
 
 // Scales that row 8 turns back: a NaN, 0, -0, below 0, infinity, the next above 64; then two that pass, the least and 64.
-fn tried_scale(k: usize) -> f32 {
-    match k {
-        0 => 0.0f32 / 0.0f32,
-        1 => 0.0f32,
-        2 => -0.0f32,
-        3 => -1.0f32,
-        4 => float_of(0x7f80_0000),
-        5 => float_of(0x4280_0001),
-        6 => float_of(1),
-        _ => 64.0f32,
-    }
+fn tried_scales() -> [f32; 8] {
+    let infinity = float_of(0x7f80_0000);
+    let above = float_of(0x4280_0001);
+    let least = float_of(1);
+    [
+        0.0f32 / 0.0f32,
+        0.0f32,
+        -0.0f32,
+        -1.0f32,
+        infinity,
+        above,
+        least,
+        64.0f32,
+    ]
 }
 
 // The number that decoding answers with the scale at one place and 8 at the others, where the last point's real part is x and the other parts are 1/2.
@@ -303,8 +283,8 @@ fn answer_at(table: u64, place: usize, scale: f32, x: f64) -> usize
         &mut bytes,
     );
     match r {
-        FrameDecoded::Decoded(_, _, _) => 0,
-        FrameDecoded::Refused(a) => row(a),
+        Ok(_) => 0,
+        Err(a) => row(Err(a)),
     }
 }
 
@@ -313,8 +293,8 @@ fn show_place(place: usize)
     requires { place < 7 }
 {
     show_one(b"scale # wrong, then good:", place);
-    for k in 0..8usize {
-        show_one(b" #", answer_at(0x3007, place, tried_scale(k), 0.0));
+    for scale in tried_scales() {
+        show_one(b" #", answer_at(0x3007, place, scale, 0.0));
     }
     end_line();
 }
@@ -339,7 +319,7 @@ fn main(rt: HostRuntime) {
             return;
         }
     };
-    let agree = agreeing(file.as_raw_fd());
+    let agree = agreeing(file.as_raw_fd(), LINES, &mut [0u8; 166], agrees);
     show_agreeing(agree, LINES);
     wrong_scales();
     empty_table();

@@ -6,12 +6,11 @@
 ghost use Rattle.std.specs.Prelude.{◌≤◌, ◌<◌};
 
 use cases_frames::{mapping_of, table_of};
-use cases_lib::{
-    double_bits, draw, front, number, one, passed, read_line, row, show_agreeing, show_one, step,
-};
+use cases_lib::{agreeing, double_bits, draw, front, number, row, show_agreeing, show_one, step};
 use isdb_fec::conv::ConvEncoder;
 use isdbs_core::frame::MAIN_SYMBOLS;
-use isdbs_phy::demod::{FrameEncoded, encode_frame_with_state};
+use isdbs_phy::demod::encode_frame_with_state;
+use refusal::Refusal;
 use std::fs::File;
 use std::os::fd::AsRawFd;
 
@@ -20,15 +19,15 @@ const LINES: usize = 389;
 // The lists' digest of the points.
 fn digest(re: &[f64; MAIN_SYMBOLS], im: &[f64; MAIN_SYMBOLS]) -> u64 {
     let mut h: u64 = 0x9e37_79b9_7f4a_7c15;
-    for k in 0..MAIN_SYMBOLS {
-        h = step(h ^ double_bits(re[k]));
-        h = step(h ^ double_bits(im[k]));
+    for (x, y) in re.iter().zip(im.iter()) {
+        h = step(h ^ double_bits(*x));
+        h = step(h ^ double_bits(*y));
     }
     h
 }
 
 // Whether the frame has the line's digest, end state and sample.
-fn matches(line: &[u8; 104], end: u8, re: &[f64; MAIN_SYMBOLS], im: &[f64; MAIN_SYMBOLS]) -> bool {
+fn matches(line: &[u8], end: u8, re: &[f64; MAIN_SYMBOLS], im: &[f64; MAIN_SYMBOLS]) -> bool {
     let k = (number(line, 65, 69) % MAIN_SYMBOLS as u64) as usize;
     (digest(re, im) == number(line, 45, 61))
         & (end as u64 == number(line, 62, 64))
@@ -38,10 +37,10 @@ fn matches(line: &[u8; 104], end: u8, re: &[f64; MAIN_SYMBOLS], im: &[f64; MAIN_
 
 // The frame of the line's load.
 fn encode(
-    line: &[u8; 104],
+    line: &[u8],
     re: &mut [f64; MAIN_SYMBOLS],
     im: &mut [f64; MAIN_SYMBOLS],
-) -> FrameEncoded {
+) -> Result<ConvEncoder, Refusal> {
     let mut bytes = [0u8; 10240];
     let count = (number(line, 23, 27) % 10241) as usize;
     draw(&mut bytes, count, number(line, 28, 44));
@@ -54,33 +53,13 @@ fn encode(
 }
 
 // Whether the line's frame is made as the Rust makes it.
-fn agrees(line: &[u8; 104]) -> bool {
+fn agrees(line: &[u8]) -> bool {
     let mut re = [0.0f64; MAIN_SYMBOLS];
     let mut im = [0.0f64; MAIN_SYMBOLS];
-    let made = encode(line, &mut re, &mut im);
-    let answer = made.answer;
-    (row(answer) == 0) & matches(line, made.enc.state, &re, &im)
-}
-
-// Whether a whole line was read and its frame agrees; a line where it does not is shown.
-fn passes(file: i32) -> bool {
-    let mut line = [0u8; 104];
-    if !read_line(file, &mut line) {
-        return false;
+    match encode(line, &mut re, &mut im) {
+        Ok(end) => matches(line, end.state, &re, &im),
+        Err(_) => false,
     }
-    let same = agrees(&line);
-    passed(&line, same)
-}
-
-// How many of the lines pass: none of those that are missing.
-fn agreeing(file: i32) -> usize
-    ensures { result ≤ 389 }
-{
-    let mut agree: usize = 0;
-    for i in 0..LINES {
-        agree += one(passes(file));
-    }
-    agree
 }
 
 // The row of QPSK 2/3 in 5 slots from state 64: row 10 stands above row 4.
@@ -88,9 +67,10 @@ fn part_unit() -> usize {
     let mut re = [0.0f64; MAIN_SYMBOLS];
     let mut im = [0.0f64; MAIN_SYMBOLS];
     let enc = ConvEncoder { state: 64 };
-    let made = encode_frame_with_state(b"", table_of(0x0503), enc, mapping_of(4), &mut re, &mut im);
-    let answer = made.answer;
-    row(answer)
+    match encode_frame_with_state(b"", table_of(0x0503), enc, mapping_of(4), &mut re, &mut im) {
+        Ok(_) => 0,
+        Err(a) => row(Err(a)),
+    }
 }
 
 fn main(rt: HostRuntime) {
@@ -102,7 +82,7 @@ fn main(rt: HostRuntime) {
             return;
         }
     };
-    let agree = agreeing(file.as_raw_fd());
+    let agree = agreeing(file.as_raw_fd(), LINES, &mut [0u8; 104], agrees);
     show_agreeing(agree, LINES);
     show_one(b"part unit from state 64: refused #\n", part_unit());
 }

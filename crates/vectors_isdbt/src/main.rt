@@ -5,10 +5,9 @@
 
 ghost use Rattle.std.specs.Prelude.{◌≤◌, ◌<◌};
 
-use cases_lib::{float_bits, float_of, number, one, passed, read_line, show_agreeing, small, wide};
+use cases_lib::{float_bits, float_of, number, passed, read_line, show_agreeing, small, wide};
 use isdb_fec::conv::ConvEncoder;
 use isdbt_fec::conv::{CodeRate, Puncturing, decode_punctured, depuncture, encode_punctured};
-use refusal::Answer;
 use std::fs::File;
 use std::os::fd::AsRawFd;
 
@@ -35,35 +34,31 @@ fn soft_of(a: u64, b: u64) -> f32
 
 fn fill_bytes(out: &mut [u8], seed: u64) {
     let mut s = seed;
-    for i in 0..out.len() {
+    for x in out.iter_mut() {
         s = draw(s);
-        out[i] = (s / 65536 % 256) as u8;
+        *x = (s / 65536 % 256) as u8;
     }
 }
 
 fn fill_values(out: &mut [f32], seed: u64) {
     let mut s = seed;
-    for i in 0..out.len() {
+    for x in out.iter_mut() {
         let a = draw(s);
         s = draw(a);
-        out[i] = soft_of(a / 65536, s / 65536);
+        *x = soft_of(a / 65536, s / 65536);
     }
 }
 
 fn digest_bytes(start: u64, bytes: &[u8]) -> u64 {
-    let mut digest = start;
-    for i in 0..bytes.len() {
-        digest = digested(digest, small(bytes[i]));
-    }
-    digest
+    bytes
+        .iter()
+        .fold(start, |digest, &x| digested(digest, small(x)))
 }
 
 fn digest_values(start: u64, values: &[f32]) -> u64 {
-    let mut digest = start;
-    for i in 0..values.len() {
-        digest = digested(digest, wide(float_bits(values[i])));
-    }
-    digest
+    values
+        .iter()
+        .fold(start, |digest, &x| digested(digest, wide(float_bits(x))))
 }
 
 // What a line asks for.
@@ -95,9 +90,7 @@ struct Sent {
 }
 
 fn encoding(enc: ConvEncoder, rate: CodeRate, digest: u64, bits: &[u8], out: &mut [u8]) -> Sent {
-    let r = encode_punctured(enc, rate, bits, out);
-    let answer = r.answer;
-    let Answer::Accepted = answer else {
+    let Ok(r) = encode_punctured(enc, rate, bits, out) else {
         return Sent { enc, digest: 1 };
     };
     let next = r.enc;
@@ -120,9 +113,7 @@ fn encode_twice(c: Case, bits: &mut [u8], out: &mut [u8]) -> u64 {
 fn depunctured(c: Case, values: &mut [f32], out: &mut [f32]) -> u64 {
     fill_values(values, c.seed);
     let rate = c.rate;
-    let r = depuncture(rate, values, out);
-    let answer = r.answer;
-    let Answer::Accepted = answer else {
+    let Ok(_) = depuncture(rate, values, out) else {
         return 1;
     };
     digest_values(0, out)
@@ -131,12 +122,10 @@ fn depunctured(c: Case, values: &mut [f32], out: &mut [f32]) -> u64 {
 fn decoded(c: Case, values: &mut [f32], decisions: &mut [u64], out: &mut [u8]) -> u64 {
     fill_values(values, c.seed);
     let rate = c.rate;
-    let r = decode_punctured(rate, values, c.traceback, decisions, out);
-    let answer = r.answer;
-    let Answer::Accepted = answer else {
+    let Ok(count) = decode_punctured(rate, values, c.traceback, decisions, out) else {
         return 1;
     };
-    digest_bytes(r.count as u64, out)
+    digest_bytes(count as u64, out)
 }
 
 // The same on as much of the lists as the call needs, no place more; 1 where they are too short.
@@ -253,11 +242,7 @@ fn passes(file: i32) -> bool {
 fn agreeing(file: i32) -> usize
     ensures { result ≤ 220 }
 {
-    let mut agree: usize = 0;
-    for i in 0..LINES {
-        agree += one(passes(file));
-    }
-    agree
+    (0..LINES).filter(|_| passes(file)).count()
 }
 
 fn main(rt: HostRuntime) {

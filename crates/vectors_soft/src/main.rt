@@ -4,7 +4,7 @@
 
 ghost use Rattle.std.specs.Prelude.{◌≤◌, ◌<◌};
 
-use cases_lib::{double_of, float_bits, number, one, passed, read_line, show_agreeing};
+use cases_lib::{agreeing, double_of, float_bits, number, show_agreeing};
 use std::fs::File;
 use std::os::fd::AsRawFd;
 
@@ -20,30 +20,9 @@ fn float_of(bits: u64) -> f64 {
 }
 
 // Whether `soft` gives the line's answer.
-fn agrees(line: &[u8; 26]) -> bool {
+fn agrees(line: &[u8]) -> bool {
     let x = float_of(number(line, 0, 16));
     (float_bits(isdbs_phy::soft(x)) as u64) == number(line, 17, 25)
-}
-
-// Whether a whole line was read and `soft` gives its answer; a line where it does not is shown.
-fn passes(file: i32) -> bool {
-    let mut line = [0u8; 26];
-    if !read_line(file, &mut line) {
-        return false;
-    }
-    let same = agrees(&line);
-    passed(&line, same)
-}
-
-// How many of the lines pass: none of those that are missing.
-fn agreeing(file: i32) -> usize
-    ensures { result ≤ 5324 }
-{
-    let mut agree: usize = 0;
-    for i in 0..LINES {
-        agree += one(passes(file));
-    }
-    agree
 }
 
 fn main(rt: HostRuntime) {
@@ -55,6 +34,6 @@ fn main(rt: HostRuntime) {
             return;
         }
     };
-    let agree = agreeing(file.as_raw_fd());
+    let agree = agreeing(file.as_raw_fd(), LINES, &mut [0u8; 26], agrees);
     show_agreeing(agree, LINES);
 }

@@ -2,9 +2,8 @@
 use Rattle.std.specs.Prelude.{◌≡◌, false, List, ℕ, ◌+◌, ◌≤◌, ◌<◌, eqb, leb, ltb, Float}
 use Rattle.std.proofs.Common.{sym, arith, ltb-false, leb-false}
 use Rattle.std.proofs.lemmas.Bool.{eqb-false}
-use Rattle.refusal.specs.Rows.{first_row}
+use Rattle.refusal.specs.Rows.{first_row, Accepted, Traceback, State}
 use Rattle.refusal.proofs.RowLaws.{neither, passed}
-use Rattle.refusal.specs.declared.Answer.TheVariants.{Accepted, Traceback, State}
 use Rattle.trellis.specs.Run.{block, traceback_limit}
 use Rattle.viterbi_rows.specs.Values.{some_beyond, path_limit}
 use Rattle.viterbi_rows.specs.Rows.{handed_rows}

@@ -1,7 +1,6 @@
 -- The refusal rows of a call on a handed state, in document 01's order: its path values, the words that it holds, and its traceback.
 use Rattle.std.specs.Prelude.{Bool, not, ◌||◌, List, [], ◌∷◌, ◌++◌, ℕ, ◌+◌, ◌*◌, ◌/◌, ◌%◌, eqb, leb, ltb, length, Float}
-use Rattle.refusal.specs.Rows.{Row}
-use Rattle.refusal.specs.declared.Answer.TheVariants.{Traceback, State, Length, Sample, Space}
+use Rattle.refusal.specs.Rows.{Row, Traceback, State, Length, Sample, Space}
 use Rattle.trellis.specs.Run.{block, traceback_limit, releases}
 use Rattle.viterbi_rows.specs.Values.{some_beyond, path_limit, stream_limit}
 

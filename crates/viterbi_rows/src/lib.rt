@@ -2,14 +2,14 @@
 #![tactic(auto)]
 
 ghost use Rattle.std.specs.Prelude.{◌≡◌, cond, not, ℕ, ◌+◌, ◌<◌, ◌≤◌, take};
-ghost use Rattle.refusal.specs.Rows.{first_row};
+ghost use Rattle.refusal.specs.Rows.{first_row, Accepted, Space};
 ghost use Rattle.trellis.specs.Isdb;
 ghost use Rattle.ieee.specs.Within.{within};
 ghost use Rattle.viterbi_rows.specs.Values.{some_beyond};
 ghost use Rattle.trellis.specs.Run.{traceback_limit, block};
 ghost use Rattle.viterbi_rows.specs.Rows.{handed_rows, stream_rows, known_rows, flush_rows, steps_short};
 
-use refusal::Answer;
+use refusal::Refusal;
 use trellis::{BLOCK, STATES, TRACEBACK_LIMIT};
 use viterbi_core::few_places;
 
@@ -37,26 +37,26 @@ pub fn some_beyond(xs: &[f32], limit: f32) -> bool
 }
 
 // The rows of a handed state.
-pub fn answer_handed(pm: &[f32], held: usize, traceback: usize) -> Answer
+pub fn answer_handed(pm: &[f32], held: usize, traceback: usize) -> Result<(), Refusal>
     ensures { result ≡ first_row (handed_rows pm.now held traceback) }
 {
     if traceback == 0 {
-        return Answer::Traceback;
+        return Err(Refusal::Traceback);
     }
     if traceback > TRACEBACK_LIMIT {
-        return Answer::Traceback;
+        return Err(Refusal::Traceback);
     }
     if held >= BLOCK + traceback {
-        return Answer::State;
+        return Err(Refusal::State);
     }
     if some_beyond(pm, PATH_LIMIT) {
-        return Answer::State;
+        return Err(Refusal::State);
     }
-    Answer::Accepted
+    Ok(())
 }
 
 // The same of a state whose path values need not be 64: the first 64 of what is lent.
-pub fn answer_lent(pm: &[f32], held: usize, traceback: usize) -> Answer
+pub fn answer_lent(pm: &[f32], held: usize, traceback: usize) -> Result<(), Refusal>
     ensures { result ≡ first_row (handed_rows (take Isdb.states pm.now) held traceback) }
 {
     if pm.len() < STATES {
@@ -67,17 +67,23 @@ pub fn answer_lent(pm: &[f32], held: usize, traceback: usize) -> Answer
 }
 
 // The answer to a call of n steps on a state that is not refused: is there space?
-pub fn answer_space(held: usize, traceback: usize, n: usize, decisions: usize, out: usize) -> Answer
+pub fn answer_space(
+    held: usize,
+    traceback: usize,
+    n: usize,
+    decisions: usize,
+    out: usize,
+) -> Result<(), Refusal>
     requires { (1 ≤ traceback) × (traceback ≤ traceback_limit) × (held < block + traceback) }
-    ensures { result ≡ cond (steps_short n held traceback decisions out) Answer.Space Answer.Accepted }
+    ensures { result ≡ cond (steps_short n held traceback decisions out) Space Accepted }
 {
     if few_places(traceback, held, n, out) {
-        return Answer::Space;
+        return Err(Refusal::Space);
     }
     if decisions < BLOCK + traceback {
-        return Answer::Space;
+        return Err(Refusal::Space);
     }
-    Answer::Accepted
+    Ok(())
 }
 
 // The answer to a call of soft values or metrics, `per` for each step.
@@ -89,19 +95,16 @@ pub fn answer_stream(
     per: usize,
     decisions: usize,
     out: usize,
-) -> Answer
+) -> Result<(), Refusal>
     requires { 0 < per }
     ensures { result ≡ first_row (stream_rows per pm.now held traceback values.now decisions out) }
 {
-    let answer = answer_handed(pm, held, traceback);
-    let Answer::Accepted = answer else {
-        return answer;
-    };
+    answer_handed(pm, held, traceback)?;
     if values.len() % per != 0 {
-        return Answer::Length;
+        return Err(Refusal::Length);
     }
     if some_beyond(values, STREAM_LIMIT) {
-        return Answer::Sample;
+        return Err(Refusal::Sample);
     }
     answer_space(held, traceback, values.len() / per, decisions, out)
 }
@@ -114,13 +117,10 @@ pub fn answer_known(
     n: usize,
     decisions: usize,
     out: usize,
-) -> Answer
+) -> Result<(), Refusal>
     ensures { result ≡ first_row (known_rows pm.now held traceback n decisions out) }
 {
-    let answer = answer_handed(pm, held, traceback);
-    let Answer::Accepted = answer else {
-        return answer;
-    };
+    answer_handed(pm, held, traceback)?;
     answer_space(held, traceback, n, decisions, out)
 }
 
@@ -131,18 +131,15 @@ pub fn answer_flush(
     traceback: usize,
     decisions: usize,
     out: usize,
-) -> Answer
+) -> Result<(), Refusal>
     ensures { result ≡ first_row (flush_rows pm.now held traceback decisions out) }
 {
-    let answer = answer_handed(pm, held, traceback);
-    let Answer::Accepted = answer else {
-        return answer;
-    };
+    answer_handed(pm, held, traceback)?;
     if out < held {
-        return Answer::Space;
+        return Err(Refusal::Space);
     }
     if BLOCK + traceback > decisions {
-        return Answer::Space;
+        return Err(Refusal::Space);
     }
-    Answer::Accepted
+    Ok(())
 }

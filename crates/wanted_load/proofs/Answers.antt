@@ -7,9 +7,7 @@ use Prim.Native.Nat.{ℕ}
 use lib.Dec.{T}
 use lib.ListN.{length}
 use lib.Ieee.{Float}
-use Rattle.refusal.specs.declared.Answer.{Answer}
-use Rattle.refusal.specs.declared.Answer.TheVariants.{Accepted, NoLoad}
-use Rattle.refusal.specs.Rows.{Row, first_row, Either, says}
+use Rattle.refusal.specs.Rows.{Answer, Accepted, NoLoad, Row, first_row, Either, says, Said, answer_of, number_of}
 use Rattle.refusal.specs.RowLaws.{refusing}
 use Rattle.refusal.proofs.RowLaws.{decided, is_refused, refused_above, passed_above}
 use Rattle.isdbs_tables.specs.declared.Table.{Table}
@@ -18,8 +16,8 @@ use Rattle.isdbs_tables.proofs.TableLaws.{then_refusing}
 use Rattle.isdbs_plan.specs.RunsOf.{load_bytes}
 use Rattle.isdbs_points.specs.declared.Mapping.{Mapping}
 use Rattle.wanted_read.specs.Wanted.{Unwanted}
-use Rattle.wanted_load.specs.declared.LoadFound.{LoadFound}
-use Rattle.wanted_load.specs.declared.LoadFound.TheVariants.{Load, Refused}
+use Rattle.std.specs.Prelude.{Result, Ok, Err}
+use Rattle.refusal.specs.declared.Refusal.{Refusal}
 use Rattle.wanted_load.specs.Rows.{lent_rows, earlier_rows, wanted_rows}
 use Rattle.wanted_load.specs.Found.{load_said, Tells, Answered, Outcome, found, none, Turned}
 
@@ -30,17 +28,21 @@ last_row t re im bytes b = refl
 earlier_refusing : (t : Table) (re im bytes : ℕ) → T (refusing (earlier_rows t re im bytes))
 earlier_refusing t re im bytes = then_refusing t (lent_rows (load_bytes t) re im bytes) tt
 
-module _ (t : Table) (m : Mapping) (first : Bool) (re im : List Float) (r : LoadFound) (bytes₀ bytes : List ℕ) where
+refused_said : (r : Result ℕ Refusal) (a : Answer) → answer_of r ≡ a → (a ≡ Accepted → ⊥) → ◌≡◌ {A = Said} (load_said r) (number_of a, [])
+refused_said (Ok k) a q n = absurd (n (sym q))
+refused_said (Err row) a q n = rw (sym q)
+
+module _ (t : Table) (m : Mapping) (first : Bool) (re im : List Float) (r : Result ℕ Refusal) (bytes₀ bytes : List ℕ) where
   abbrev rows : List Row
   rows = earlier_rows t (length re) (length im) (length bytes₀)
 
   abbrev Says : Bool → Type 0
   Says b = load_said r ≡ says (first_row (wanted_rows t (length re) (length im) (length bytes₀) b)) (load_bytes t ∷ [])
 
-  refused_says : (a : Answer) (b : Bool) → (a ≡ Accepted → ⊥) → first_row rows ≡ a → r ≡ Refused a → Says b
+  refused_says : (a : Answer) (b : Bool) → (a ≡ Accepted → ⊥) → first_row rows ≡ a → answer_of r ≡ a → Says b
   refused_says a b n e q =
       let f : first_row (rows ++ (NoLoad, b) ∷ []) ≡ a = refused_above rows ((NoLoad, b) ∷ []) (λ y. n (sym e ∙ y)) ∙ e in
-      rw (last_row t (length re) (length im) (length bytes₀) b) (rw (q, f, is_refused a n))
+      rw (last_row t (length re) (length im) (length bytes₀) b) (refused_said r a q n ∙ rw (f, is_refused a n))
 
   outcome_says : (b : Bool) → Tells b (Unwanted t m first re im) → first_row rows ≡ Accepted → Outcome t m first re im r bytes₀ bytes → Says b
   outcome_says b h e o =

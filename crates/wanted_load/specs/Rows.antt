@@ -1,7 +1,6 @@
 -- The rows of `wanted_load`. Document 02, P9: "Refusals 1, 6 and 9 apply, also 10 and 11; 7 isn't checked here."
 use Rattle.std.specs.Prelude.{Bool, ◌||◌, List, [], ◌∷◌, ◌++◌, ℕ, ltb}
-use Rattle.refusal.specs.declared.Answer.TheVariants.{Symbols, Space, NoLoad}
-use Rattle.refusal.specs.Rows.{Row}
+use Rattle.refusal.specs.Rows.{Symbols, Space, NoLoad, Row}
 use Rattle.isdbs_tables.specs.declared.Table.{Table}
 use Rattle.isdbs_frame.specs.Frame.{main_symbols}
 use Rattle.isdbs_tables.specs.Tables.{table_rows}

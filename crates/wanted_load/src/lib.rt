@@ -18,7 +18,7 @@ use isdbs_core::tmcc::{Table, table_answer};
 use isdbs_plan::plan_of;
 pub use isdbs_points::Mapping;
 use isdbs_points::start_state;
-use refusal::Answer;
+use refusal::Refusal;
 use wanted_match::matches;
 use wanted_read::read_load;
 
@@ -27,9 +27,7 @@ fn put(load: &[u8], bytes: &mut [u8])
     requires { length load.now ≤ length bytes.old }
     ensures { bytes.new ≡ laid load.now bytes.old }
 {
-    for i in 0..load.len() {
-        bytes[i] = load[i];
-    }
+    bytes[..load.len()].copy_from_slice(load);
 }
 
 // Lays a load over the beginning of the lent bytes if it encodes to the frame.
@@ -102,41 +100,31 @@ fn find_load(f: FrameForm, re: &[f64], im: &[f64], bytes: &mut [u8]) -> bool
 }
 
 // Rows 6 and 9: the lent slices have these lengths, and the load has `need` bytes.
-fn lent_answer(need: usize, re: usize, im: usize, bytes: usize) -> Answer
+fn lent_answer(need: usize, re: usize, im: usize, bytes: usize) -> Result<(), Refusal>
     ensures { result ≡ first_row (lent_rows need re im bytes) }
 {
     if re < MAIN_SYMBOLS {
-        return Answer::Symbols;
+        return Err(Refusal::Symbols);
     }
     if im < MAIN_SYMBOLS {
-        return Answer::Symbols;
+        return Err(Refusal::Symbols);
     }
     if bytes < need {
-        return Answer::Space;
+        return Err(Refusal::Space);
     }
-    Answer::Accepted
+    Ok(())
 }
 
 // Why the call is turned back before the frame is read.
-fn earlier_answer(p: Plan, re: usize, im: usize, bytes: usize) -> Answer
+fn earlier_answer(p: Plan, re: usize, im: usize, bytes: usize) -> Result<(), Refusal>
     requires { p ≡ plan_of p.table }
     ensures { result ≡ first_row (earlier_rows p.table re im bytes) }
 {
-    let table = table_answer(p.table);
-    let Answer::Accepted = table else {
-        return table;
-    };
+    table_answer(p.table)?;
     lent_answer(p.bytes, re, im, bytes)
 }
 
-// What the call answers: the bytes of the load, or why it is turned back.
-#[derive(Clone, Copy)]
-pub enum LoadFound {
-    Load(usize),
-    Refused(Answer),
-}
-
-// The bytes behind a wanted frame: the full load that encodes, from the start state for `first`, to exactly the first 38,976 points that are lent.
+// The bytes behind a wanted frame, and how many they are: the full load that encodes, from the start state for `first`, to exactly the first 38,976 points that are lent.
 pub fn wanted_load(
     re: &[f64],
     im: &[f64],
@@ -144,25 +132,22 @@ pub fn wanted_load(
     m: Mapping,
     first: bool,
     bytes: &mut [u8],
-) -> LoadFound
+) -> Result<usize, Refusal>
     ensures answers { Answered t m first re.now im.now (length bytes.old) result }
     ensures leaves { Either (first_row (earlier_rows t (length re.now) (length im.now) (length bytes.old)))
         (Outcome t m first re.now im.now result bytes.old bytes.new)
         (Turned (first_row (earlier_rows t (length re.now) (length im.now) (length bytes.old))) result bytes.old bytes.new) }
 {
     let p = plan_of(t);
-    let answer = earlier_answer(p, re.len(), im.len(), bytes.len());
-    let Answer::Accepted = answer else {
-        return LoadFound::Refused(answer);
-    };
+    earlier_answer(p, re.len(), im.len(), bytes.len())?;
     let f = FrameForm {
         plan: p,
         mapping: m,
         first,
     };
     if find_load(f, re, im, bytes) {
-        LoadFound::Load(p.bytes)
+        Ok(p.bytes)
     } else {
-        LoadFound::Refused(Answer::NoLoad)
+        Err(Refusal::NoLoad)
     }
 }

@@ -1,6 +1,6 @@
 -- Two f64 are equal exactly when their bits are, where neither is a NaN; and so are two lists of them.
 use mathlib.Core.Path.{◌≡◌, refl, sym, ◌∙◌, ap, subst}
-use mathlib.Core.Bool.{Bool, true, false, true≢false}
+use mathlib.Core.Bool.{Bool, true, false, not, true≢false}
 use mathlib.Core.List.{List}
 use Prim.Native.Nat.{ℕ, ◌+◌, ◌<◌}
 use native.Mathlib.Omega.{arith}
@@ -8,15 +8,24 @@ use borrow.Author.Count.{below_more}
 use borrow.Author.Tests.{eq-eqb}
 use lib.Dec.{T, eqb, eqb→eq}
 use lib.ListN.{get_or}
-use lib.Ieee.{Float, nan, ne, eq, binary64, fits, to_bits, of_bits}
+use lib.Ieee.{Float, nan, inf, fin, is_nan, ne, eq, binary64, fits, to_bits, of_bits}
 use lib.Ieee.Bits.{of_bits-to_bits}
 use Rattle.wanted_match.specs.Alike.{Same, SameParts, SamePoints}
 
-pub same_nan : (x y : Float) → ne x x ≡ true → Same x y false
-same_nan x y e = record { yes = λ q. absurd (true≢false (sym q)); no = λ q h. subst (λ (z : Float). ne z z ≡ true) h e }
+-- what equals a value is a number
+pub equal_first : (x y : Float) → eq x y ≡ true → T (not (is_nan x))
+unfolding eq is_nan
+equal_first nan y e = absurd (true≢false (sym e))
+equal_first (inf s) y e = tt
+equal_first (fin s m d) y e = tt
 
-pub same_nan_2 : (x y : Float) → ne y y ≡ true → Same x y false
-same_nan_2 x y e = record { yes = λ q. absurd (true≢false (sym q)); no = λ q h. e }
+pub equal_second : (x y : Float) → eq x y ≡ true → T (not (is_nan y))
+unfolding eq is_nan
+equal_second x (inf s) e = tt
+equal_second x (fin s m d) e = tt
+equal_second nan nan e = absurd (true≢false (sym e))
+equal_second (inf s) nan e = absurd (true≢false (sym e))
+equal_second (fin s m d) nan e = absurd (true≢false (sym e))
 
 pub same_bits : (x y : Float) → T (fits binary64 x) → T (fits binary64 y) → Same x y (eqb (to_bits binary64 x) (to_bits binary64 y))
 same_bits x y p q =

@@ -17,17 +17,7 @@ use isdbs_points::{Mapping, mirror, start_state};
 fn same_bits(x: f64, y: f64) -> bool
     ensures { Same x y result }
 {
-    if x != x {
-        return false;
-    }
-    if y != y {
-        return false;
-    }
-    if x == y {
-        f64::to_bits(x) == f64::to_bits(y)
-    } else {
-        false
-    }
+    x == y && f64::to_bits(x) == f64::to_bits(y)
 }
 
 // Whether the n parts from number `from` on have the same bits as the first n of ys.
@@ -35,8 +25,8 @@ fn same_parts(xs: &[f64], from: usize, ys: &[f64], n: usize) -> bool
     requires { (from + n ≤ length xs.now) × (n ≤ length ys.now) }
     ensures { SameParts xs.now from (λ k. get_or ys.now k nan) n result }
 {
-    for i in 0..n {
-        if same_bits(xs[from + i], ys[i]) {} else {
+    for (i, y) in ys[..n].iter().enumerate() {
+        if !same_bits(xs[from + i], *y) {
             return false;
         }
     }
@@ -48,8 +38,8 @@ fn same_value(xs: &[f64], from: usize, y: f64, n: usize) -> bool
     requires { from + n ≤ length xs.now }
     ensures { SameParts xs.now from (λ k. y) n result }
 {
-    for i in 0..n {
-        if same_bits(xs[from + i], y) {} else {
+    for x in &xs[from..from + n] {
+        if !same_bits(*x, y) {
             return false;
         }
     }
@@ -57,28 +47,22 @@ fn same_value(xs: &[f64], from: usize, y: f64, n: usize) -> bool
 }
 
 // Whether the n points from number `from` on are those of a block.
+#[tactic(auto, using(crate::proofs::Compare::both_compared, crate::proofs::Compare::first_differs))]
 fn same_block(re: &[f64], im: &[f64], from: usize, xs: &[f64], ys: &[f64], n: usize) -> bool
     requires { (from + n ≤ length re.now) × (from + n ≤ length im.now) × (n ≤ length xs.now) × (n ≤ length ys.now) }
     ensures { SamePoints re.now im.now from (λ k. get_or xs.now k nan) (λ k. get_or ys.now k nan) n result }
 {
-    if same_parts(re, from, xs, n) {
-        same_parts(im, from, ys, n)
-    } else {
-        false
-    }
+    same_parts(re, from, xs, n) && same_parts(im, from, ys, n)
 }
 
 // Whether the frame's points from number `from` on are unused ones.
+#[tactic(auto, using(crate::proofs::Compare::both_compared, crate::proofs::Compare::first_differs))]
 fn same_unused(re: &[f64], im: &[f64], from: usize, m: Mapping) -> bool
     requires { (from ≤ main_symbols) × (main_symbols ≤ length re.now) × (main_symbols ≤ length im.now) }
     ensures { SamePoints re.now im.now from (λ k. zero64) (λ k. conjugated m.conjugate zero64) (main_symbols - from) result }
 {
     let y = mirror(m.conjugate, 0.0);
-    if same_value(re, from, 0.0, MAIN_SYMBOLS - from) {
-        same_value(im, from, y, MAIN_SYMBOLS - from)
-    } else {
-        false
-    }
+    same_value(re, from, 0.0, MAIN_SYMBOLS - from) && same_value(im, from, y, MAIN_SYMBOLS - from)
 }
 
 // Whether a load encodes to the frame, which is made block by block in the lent xs and ys.
@@ -99,7 +83,7 @@ pub fn matches(
     let mut at = start_place(start_state(first));
     while at.run < p.count {
         let next = next_block(p, load, m, at, xs, ys);
-        if same_block(re, im, at.symbol, xs, ys, next.symbol - at.symbol) {} else {
+        if !same_block(re, im, at.symbol, xs, ys, next.symbol - at.symbol) {
             return false;
         }
         at = next;

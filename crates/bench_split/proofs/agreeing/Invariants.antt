@@ -1,12 +1,7 @@
 -- `agreeing` meets its contract.
-use mathlib.Core.Path.{◌≡◌}
-use Prim.Native.Nat.{◌+◌, ◌-◌, ◌≤◌}
-use lib.ListN.{length, drop}
+use Rattle.std.proofs.Common.{◌≡◌, ◌+◌}
 use Rattle.bench_split.specs.Agreement.{agreement}
 use Rattle.bench_split.proofs.agreeing.Given as goal
 
-abbrev pub invariant-loop-i : goal.invariant-loop-i
-invariant-loop-i l = ((l.n ≤ l.i) × (l.i ≤ length l.a)) × (l.n + agreement (drop l.i l.a) (drop l.i l.b) ≡ agreement l.a l.b)
-
-abbrev pub decreases-loop-i : goal.decreases-loop-i
-decreases-loop-i l = length l.a - l.i
+abbrev pub invariant-loop-x : goal.invariant-loop-x
+invariant-loop-x l = l.n + agreement l.x-iterator.a.rest.now l.x-iterator.b.rest.now ≡ agreement l.a l.b

@@ -12,6 +12,6 @@ returns c =
     let same = other in
     let start = same in
     let a = start.args in (
-      least_either a.after.now (listed a.low.now) a.u (2 * a.s.j + a.s.b) _ _ _ start.requires.0 same.ahead-same.ensures other.ahead-other.ensures c.smaller.ensures,
-      c.smaller-3.ensures ∙ rw (c.smaller-2.ensures, other.ahead-other.ensures, later.ahead-later.ensures, aside.ahead-aside.ensures) refl,
+      least_either a.after.now (listed a.low.now) a.u (2 * a.s.j + a.s.b) _ _ _ start.requires.0 same.ahead-same.ensures other.ahead-other.ensures c.min.ensures,
+      c.min-3.ensures ∙ rw (c.min-2.ensures, other.ahead-other.ensures, later.ahead-later.ensures, aside.ahead-aside.ensures) refl,
     )

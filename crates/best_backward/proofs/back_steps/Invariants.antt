@@ -7,6 +7,3 @@ use Rattle.best_backward.proofs.back_steps.Given as goal
 
 abbrev pub invariant-loop-left : goal.invariant-loop-left
 invariant-loop-left l = (l.left ≤ l.count) × (l.b ≡ back_run l.initial.b (low (two l.metrics l.sides) (price_at l.metrics l.sides)) (l.at + l.left) (l.count - l.left)) × (l.d ≡ other_run (two l.metrics l.sides) (price_at l.metrics l.sides) (seq l.bits) (seq l.uncoded) l.initial.d l.initial.b (l.at + l.left) (l.count - l.left))
-
-abbrev pub decreases-loop-left : goal.decreases-loop-left
-decreases-loop-left l = l.left

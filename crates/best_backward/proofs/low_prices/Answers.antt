@@ -7,4 +7,4 @@ returns c =
     let smaller = smaller2 in
     let start = smaller in
     let a = start.args in
-    lower_four a.kept.now a.turned.now _ _ _ _ smaller.smaller-a.ensures smaller2.smaller-b.ensures c.smaller-c.ensures c.smaller-e.ensures
+    lower_four a.kept.now a.turned.now _ _ _ _ smaller.min-a.ensures smaller2.min-b.ensures c.min-c.ensures c.min-e.ensures

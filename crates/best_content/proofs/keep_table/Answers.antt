@@ -1,36 +1,23 @@
-use mathlib.Core.Path.{◌≡◌, refl, ap, ◌∙◌}
+-- `best_content::keep_table` meets its contract.
+use mathlib.Core.Path.{◌≡◌, refl, sym, ◌∙◌}
 use mathlib.Core.List.{List}
-use Prim.Native.Nat.{ℕ, ◌-◌, ◌<◌}
+use Prim.Native.Nat.{ℕ}
 use native.Mathlib.Omega.{arith}
-use lib.ListN.{length, get_or, set}
+use lib.ListN.{length}
+use lib.Seq.{length-take-le}
+use Rattle.std.proofs.lemmas.Grind.{same_number_lists}
 use Rattle.trellis.specs.Lists.{upto}
-use Rattle.trellis.specs.LaidLaws.{laid_upto, length_laid_upto}
+use Rattle.trellis.specs.ListLaws.{get_d_upto, length_upto}
 use Rattle.best_grid.specs.Leading.{seq}
 use Rattle.best_content.proofs.keep_table.Goals as goal
 
-pub loop-s-init : goal.loop-s-init
-unfolding upto
-loop-s-init c = (omega arith, refl)
+-- a table by its states
+by_states : (d : List ℕ) → length d ≡ 64 → d ≡ upto (seq d) 64
+by_states d l = same_number_lists d (upto (seq d) 64) (l ∙ sym (length_upto (seq d) 64)) (λ k h. sym (get_d_upto (seq d) 0 64 k (omega arith)))
 
-pub bounds-tables-s : goal.bounds-tables-s
-bounds-tables-s c = let at = c in
-    let a = at.args in
-    let l = length_laid_upto (seq a.d.now) at.loop-s.s a.tables.now (omega arith) in
-    rw at.loop-s.invariant.1 (omega arith)
-
-pub loop-s-preserved : goal.loop-s-preserved
-loop-s-preserved c = let at = c in
-    let a = at.args in
-    let s = at.loop-s.s in
-    let h : s < length a.tables.now = omega arith in
-    (omega arith, ap (λ (x : List ℕ). set x s (get_or a.d.now s 0)) at.loop-s.invariant.1 ∙ laid_upto (seq a.d.now) s a.tables.now (get_or a.d.now s 0) h refl)
-
-pub shape_of-tables : goal.shape_of-tables
-shape_of-tables c = let at = c in
-    let a = at.args in
-    rw at.loop-s.invariant.1 (length_laid_upto (seq a.d.now) at.loop-s.s a.tables.now (omega arith))
+pub copy_from_slice-requires : goal.copy_from_slice-requires
+copy_from_slice-requires c = length-take-le 64 c.args.tables.now (omega arith) ∙ sym c.told-d
 
 pub returns : goal.returns
-returns c = let at = c in
-    let e : at.loop-s.s ≡ 64 = omega arith in
-    (rw e at at.loop-s.invariant).1
+returns c =
+    rw (c.copy_from_slice.ensures.after, length_upto (seq c.args.d.now) 64, ← by_states c.args.d.now c.told-d) refl

@@ -223,9 +223,9 @@ loop-left-preserved c =
     let len = inv.1 in
     let bt = rw (← e) at inv.3 in (
       omega arith,
-      length-set at.loop-left.leads k c.beyond.result ∙ inv.1,
+      length-set at.loop-left.leads k c.saturating_sub.result ∙ inv.1,
       back_slot a.metrics.now a.sides.now a.bits.now a.uncoded.now a.marks.now a.tables.now a.own n x y at.loop-left.b _ (omega arith) u b-is g.0,
-      between_more 0 f k (length a.leads.now) at.loop-left.leads c.beyond.result (omega arith) bt (lead_slot_is a.metrics.now a.sides.now a.bits.now a.uncoded.now a.marks.now a.tables.now a.own n k at.loop-left.b lead-slot.lead_slot-m.result c.beyond.result b-is g.1 c.beyond.ensures),
+      between_more 0 f k (length a.leads.now) at.loop-left.leads c.saturating_sub.result (omega arith) bt (lead_slot_is a.metrics.now a.sides.now a.bits.now a.uncoded.now a.marks.now a.tables.now a.own n k at.loop-left.b lead-slot.lead_slot-m.result c.saturating_sub.result b-is g.1 c.saturating_sub.ensures),
     )
 
 pub shape_of-leads : goal.shape_of-leads

@@ -15,7 +15,7 @@ overflow_add-table c = let q = c.requires.1 c.loop-s.s (omega arith) in omega ar
 pub loop-s-preserved : goal.loop-s-preserved
 loop-s-preserved c = let at = c in
     let a = c.args in
-    (omega arith, least_more a.table.now a.d.now at.loop-s.s at.loop-s.m _ at.loop-s.invariant.1 c.smaller-m.ensures)
+    (omega arith, least_more a.table.now a.d.now at.loop-s.s at.loop-s.m _ at.loop-s.invariant.1 c.min-m.ensures)
 
 pub returns : goal.returns
 returns c = let at = c in

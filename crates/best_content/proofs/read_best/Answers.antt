@@ -13,7 +13,7 @@ pass_slots-requires c =
     let p = start.requires in
     let a = start.args in
     let few = p.1 in
-    (p.0, p.2, p.3, start_room a.start (length a.metrics.now / 4) start-table.start_table-first.result (omega arith) start-table.start_table-first.ensures)
+    (p.0, p.2, p.3, start_room a.start (length a.metrics.now / 4) start-table.start_table-d.result (omega arith) start-table.start_table-d.ensures)
 
 pub returns : goal.returns
 returns c =
@@ -24,7 +24,7 @@ returns c =
     let start = start-table in
     let a = start.args in
     let p = start.requires in
-    let st = start-table.start_table-first in
+    let st = start-table.start_table-d in
     let ps = pass-slots.pass_slots in
     let ch = cheapest-state.cheapest_state-end in
     let tr = trace.trace in

@@ -6,6 +6,3 @@ use Rattle.best_content.proofs.traced_start.Given as goal
 
 abbrev pub invariant-loop-t : goal.invariant-loop-t
 invariant-loop-t l = (l.t ≤ l.n) × (l.s < 64) × (l.s ≡ back 32 (take l.n l.decisions) l.n l.state (l.n - l.t))
-
-abbrev pub decreases-loop-t : goal.decreases-loop-t
-decreases-loop-t l = l.t

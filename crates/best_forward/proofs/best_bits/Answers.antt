@@ -11,7 +11,7 @@ use Rattle.best_forward.proofs.best_bits.Goals as goal
 pub pass-requires : goal.pass-requires
 pass-requires c = let start = c in
     let a = start.args in
-    (start.requires.1, start_room a.start (length a.metrics.now / 4) c.start_table-first.result start.requires.0 c.start_table-first.ensures)
+    (start.requires.1, start_room a.start (length a.metrics.now / 4) c.start_table-d.result start.requires.0 c.start_table-d.ensures)
 
 pub returns : goal.returns
 returns c = let tr = c in
@@ -24,6 +24,6 @@ returns c = let tr = c in
     let q = quadruple a.metrics.now in record {
       reads = tr.trace.ensures
           ∙ ap (λ (x : List ℕ). laid x a.bits.now)
-          (traced_best a.start q n ch.cheapest_state-end.result st.start_table-first.result _ _ a.decisions.now st.start_table-first.ensures pa.pass.ensures.table pa.pass.ensures.words ch.cheapest_state-end.ensures.1);
+          (traced_best a.start q n ch.cheapest_state-end.result st.start_table-d.result _ _ a.decisions.now st.start_table-d.ensures pa.pass.ensures.table pa.pass.ensures.words ch.cheapest_state-end.ensures.1);
       greatest = best_reading a.start q n start.requires.0;
     }

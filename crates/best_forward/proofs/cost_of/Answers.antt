@@ -16,20 +16,20 @@ float_to_bits-x c = number c.args.x c.if-x.false
 
 pub overflow_sub-result : goal.overflow_sub-result
 overflow_sub-result c = let e = c.units-u.ensures in
-    let m = units_at_most (c.wide-bits.result % 2147483648) in
+    let m = units_at_most (c.from-bits.result % 2147483648) in
     omega arith
 
 pub overflow_add-result : goal.overflow_add-result
 overflow_add-result c = let e = c.units-u.ensures in
-    let m = units_at_most (c.wide-bits.result % 2147483648) in
+    let m = units_at_most (c.from-bits.result % 2147483648) in
     omega arith
 
 pub returns-then-bits-lt2147483648 : goal.returns-then-bits-lt2147483648
-returns-then-bits-lt2147483648 c = let w = c.wide-bits.ensures in
+returns-then-bits-lt2147483648 c = let w = c.from-bits.ensures in
     let e = c.units-u.ensures in
     rw e (rw w (sym (cost_plus c.args.x (subst T (sym c.well_formed.0.1) tt) (number c.args.x c.if-x.false) (omega arith))))
 
 pub returns-else-bits-lt2147483648 : goal.returns-else-bits-lt2147483648
-returns-else-bits-lt2147483648 c = let w = c.wide-bits.ensures in
+returns-else-bits-lt2147483648 c = let w = c.from-bits.ensures in
     let e = c.units-u.ensures in
     rw e (rw w (sym (cost_minus c.args.x (subst T (sym c.well_formed.0.1) tt) (number c.args.x c.if-x.false) (omega arith))))

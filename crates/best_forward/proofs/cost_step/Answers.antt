@@ -30,8 +30,8 @@ loop-j-preserved c =
       omega arith,
       inv.3,
       stepped_more a.d.now (listed a.m.now) j at.loop-j.d at.loop-j.low at.loop-j.high inv.4 (omega arith) _ _ _ _
-          (chosen a.d.now (listed a.m.now) j _ _ _ _ (rw e at first.way-even.ensures) (rw e at second.way-odd.ensures) storing.smaller.ensures deciding.beats.ensures)
-          (chosen a.d.now (listed a.m.now) (32 + j) _ _ _ _ third.way-even_above.ensures fourth.way-odd_above.ensures deciding.smaller-in-loop-j.ensures c.beats-in-loop-j.ensures),
+          (chosen a.d.now (listed a.m.now) j _ _ _ _ (rw e at first.way-even.ensures) (rw e at second.way-odd.ensures) storing.min.ensures deciding.beats.ensures)
+          (chosen a.d.now (listed a.m.now) (32 + j) _ _ _ _ third.way-even_above.ensures fourth.way-odd_above.ensures deciding.min-in-loop-j.ensures c.beats-in-loop-j.ensures),
     )
 
 pub join-requires : goal.join-requires

@@ -1,60 +1,40 @@
 -- `best_answer` meets its contract.
 use mathlib.Core.Path.{sym, ◌∙◌}
+use Rattle.std.proofs.lemmas.Result.{err_from_is_err_and}
+use Rattle.refusal.proofs.RowLaws.{err_refuses}
 use Rattle.best_frame.specs.RowLaws.{by_table, by_points, by_last}
 use Rattle.best_frame.proofs.best_answer.Goals as goal
 
-pub returns-in_default : goal.returns-in_default
-returns-in_default c =
+pub returns-in_err-table_answer : goal.returns-in_err-table_answer
+returns-in_err-table_answer c =
     let a = c.args in
-    let table = c.table_answer-table in
-    by_table a.p.table a.re.now a.im.now a.scales a.l table.result table.ensures c.in_default.not-Accepted
+    let p = err_from_is_err_and c.from_residual.result c.from_residual.ensures.1 in
+    rw (p.1, p.2) (by_table a.p.table a.re.now a.im.now a.scales a.l _ (sym c.in_err-table_answer.was ∙ c.table_answer.ensures) err_refuses)
 
-pub returns-in_default-points : goal.returns-in_default-points
-returns-in_default-points c =
+pub returns-in_err-points_answer : goal.returns-in_err-points_answer
+returns-in_err-points_answer c =
     let a = c.args in
-    let table = c.table_answer-table in
-    let points = c.points_answer-points in
-    by_points a.p.table a.re.now a.im.now a.scales a.l (sym c.in-Accepted.is ∙ table.ensures) points.result points.ensures c.in_default-points.not-Accepted
+    let p = err_from_is_err_and c.from_residual-in_err-points_answer.result c.from_residual-in_err-points_answer.ensures.1 in
+    rw (p.1, p.2) (by_points a.p.table a.re.now a.im.now a.scales a.l (sym c.in_ok-table_answer.was ∙ c.table_answer.ensures) _ (sym c.in_err-points_answer.was ∙ c.points_answer.ensures) err_refuses)
 
 pub returns-then-some_bad : goal.returns-then-some_bad
 returns-then-some_bad c =
-    let points-answer = c in
-    let table-answer = points-answer in
-    let start = table-answer in
-    let a = start.args in
-    let table = table-answer.table_answer-table in
-    let points = points-answer.points_answer-points in
-    by_last a.p.table a.re.now a.im.now a.scales a.l (sym points-answer.in-Accepted.is ∙ table.ensures) (sym c.in-Accepted-points.is ∙ points.ensures)
+    let a = c.args in
+    by_last a.p.table a.re.now a.im.now a.scales a.l (sym c.in_ok-table_answer.was ∙ c.table_answer.ensures) (sym c.in_ok-points_answer.was ∙ c.points_answer.ensures)
     (rw (sym c.some_bad.ensures ∙ c.if-some_bad.true))
 
 pub short-requires : goal.short-requires
 short-requires c =
-    let at-enum-told = c in
-    let table-answer = at-enum-told in
-    let st = table-answer in
-    let table = table-answer.table_answer-table in
-    record { is = st.requires.0; few = st.requires.1; accepted = sym table.ensures ∙ at-enum-told.in-Accepted.is }
+    record { is = c.requires.0; few = c.requires.1; accepted = sym c.table_answer.ensures ∙ c.in_ok-table_answer.was }
 
 pub returns-then-short : goal.returns-then-short
 returns-then-short c =
-    let enum-told2 = c in
-    let points-answer = enum-told2 in
-    let table-answer = points-answer in
-    let start = table-answer in
-    let a = start.args in
-    let table = table-answer.table_answer-table in
-    let points = points-answer.points_answer-points in
-    by_last a.p.table a.re.now a.im.now a.scales a.l (sym points-answer.in-Accepted.is ∙ table.ensures) (sym enum-told2.in-Accepted-points.is ∙ points.ensures)
+    let a = c.args in
+    by_last a.p.table a.re.now a.im.now a.scales a.l (sym c.in_ok-table_answer.was ∙ c.table_answer.ensures) (sym c.in_ok-points_answer.was ∙ c.points_answer.ensures)
     (rw (sym c.some_bad.ensures ∙ c.if-some_bad.false, sym c.short.ensures ∙ c.if-short.true))
 
 pub returns : goal.returns
 returns c =
-    let enum-told2 = c in
-    let points-answer = enum-told2 in
-    let table-answer = points-answer in
-    let start = table-answer in
-    let a = start.args in
-    let table = table-answer.table_answer-table in
-    let points = points-answer.points_answer-points in
-    by_last a.p.table a.re.now a.im.now a.scales a.l (sym points-answer.in-Accepted.is ∙ table.ensures) (sym enum-told2.in-Accepted-points.is ∙ points.ensures)
+    let a = c.args in
+    by_last a.p.table a.re.now a.im.now a.scales a.l (sym c.in_ok-table_answer.was ∙ c.table_answer.ensures) (sym c.in_ok-points_answer.was ∙ c.points_answer.ensures)
     (rw (sym c.some_bad.ensures ∙ c.if-some_bad.false, sym c.short.ensures ∙ c.if-short.false))

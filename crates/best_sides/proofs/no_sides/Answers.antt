@@ -1,36 +1,25 @@
-use mathlib.Core.Path.{◌≡◌, refl, ap, ◌∙◌}
-use mathlib.Core.List.{List}
-use Prim.Native.Nat.{ℕ, ◌-◌, ◌<◌}
+-- `no_sides` meets its contract.
+use mathlib.Core.Path.{◌≡◌, refl, sym, ◌∙◌}
+use Prim.Native.Nat.{ℕ}
 use native.Mathlib.Omega.{arith}
-use lib.ListN.{length, set}
+use lib.ListN.{length, take, replicate}
+use lib.Seq.{length-take-le}
+use Rattle.std.proofs.lemmas.List.{length-replicate, get_or-replicate}
+use Rattle.std.proofs.lemmas.Grind.{same_number_lists}
 use Rattle.trellis.specs.Lists.{upto}
-use Rattle.trellis.specs.LaidLaws.{laid_upto, length_laid_upto}
-use Rattle.best_sides.proofs.no_sides.Invariants.{none}
+use Rattle.trellis.specs.ListLaws.{get_d_upto, length_upto}
 use Rattle.best_sides.proofs.no_sides.Goals as goal
 
-pub loop-k-init : goal.loop-k-init
-unfolding upto
-loop-k-init c = (omega arith, refl)
+abbrev none : ℕ → ℕ
+none k = 0
 
-pub bounds-sides-k : goal.bounds-sides-k
-bounds-sides-k c = let at = c in
-    let a = c.args in
-    let l = length_laid_upto none at.loop-k.k a.sides.now (omega arith) in
-    rw at.loop-k.invariant.1 (omega arith)
-
-pub loop-k-preserved : goal.loop-k-preserved
-loop-k-preserved c = let at = c in
-    let a = c.args in
-    let k = at.loop-k.k in
-    let h : k < length a.sides.now = omega arith in
-    (omega arith, ap (λ (x : List ℕ). set x k 0) at.loop-k.invariant.1 ∙ laid_upto none k a.sides.now 0 h refl)
-
-pub shape_of-sides : goal.shape_of-sides
-shape_of-sides c = let at = c in
-    let a = c.args in
-    rw at.loop-k.invariant.1 (length_laid_upto none at.loop-k.k a.sides.now (omega arith))
+zeros : (n : ℕ) → replicate n 0 ≡ upto none n
+zeros n =
+    let l : length (replicate n 0) ≡ n = length-replicate n 0 in
+    same_number_lists (replicate n 0) (upto none n) (l ∙ sym (length_upto none n)) (λ k h. get_or-replicate n k 0 0 (omega (arith, l)) ∙ sym (get_d_upto none 0 n k (omega (arith, l))))
 
 pub returns : goal.returns
-returns c = let at = c in
-    let e : at.loop-k.k ≡ c.args.n = omega arith in
-    (rw e at at.loop-k.invariant).1
+returns c =
+    let n = c.args.n in
+    let l : length (take n c.args.sides.now) ≡ n = length-take-le n c.args.sides.now (omega arith) in
+    rw (c.fill.ensures.after (λ y e. e), l, zeros n, length_upto none n) refl

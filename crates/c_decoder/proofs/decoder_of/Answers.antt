@@ -1,7 +1,6 @@
 use borrow.Author.Count.{below_none}
 use Rattle.trellis.specs.WrittenLaws.{written_more}
 use mathlib.Core.Path.{◌≡◌, refl}
-use Prim.Native.Nat.{◌-◌}
 use native.Mathlib.Omega.{arith}
 use lib.ListN.{length-set}
 use lib.Ieee.{nan}

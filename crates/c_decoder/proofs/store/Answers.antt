@@ -1,10 +1,9 @@
 -- `store` meets its contract.
-use Rattle.c_answers.specs.AnswerLaws.{kept}
+use mathlib.Core.Path.{refl}
 use Rattle.c_decoder.proofs.store.Goals as goal
 
-pub returns-then-answer-ne0 : goal.returns-then-answer-ne0
-returns-then-answer-ne0 c = record {
-  answers = c.number-answer.ensures;
-  values = kept c.number-answer.result _ _ c.if-answer-ne0.true;
-  counts = (kept c.number-answer.result _ _ c.if-answer-ne0.true, kept c.number-answer.result _ _ c.if-answer-ne0.true);
-}
+pub returns-in-Ok : goal.returns-in-Ok
+returns-in-Ok c = rw c.in-Ok.is (record { answers = refl; places = (c.put_values.ensures, refl, refl) })
+
+pub returns-in-Err : goal.returns-in-Err
+returns-in-Err c = rw c.in-Err.is (record { answers = c.number.ensures; places = (refl, refl, refl) })

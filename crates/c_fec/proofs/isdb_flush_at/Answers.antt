@@ -36,5 +36,5 @@ returns c =
     let v = d.decoder_of-v.result in
     let w : ViterbiDecoder = decoder_of a.pm.now a.held.now a.traceback in
     let e : v ≡ w = d.decoder_of-v.ensures in
-    let both = flush_done v w e (λ v. flush_rows v (length a.decisions.now) (length a.out.now)) p.flush_at-r.result s.store.result s.store.new.pm s.store.new.held a.count.now s.store.new.count a.decisions.now p.flush_at-r.new.decisions a.out.now p.flush_at-r.new.out if1.if-pm-ne-STATES.false s.store.ensures.answers s.store.ensures.values s.store.ensures.counts.0 s.store.ensures.counts.1 p.flush_at-r.ensures.answers (λ v. (flush_at a.end (handed v a.decisions.now)).bits) p.flush_at-r.ensures.leaves in
+    let both = flush_done v w e (λ v. flush_rows v (length a.decisions.now) (length a.out.now)) p.flush_at-r.result s.store.result s.store.new.pm s.store.new.held a.count.now s.store.new.count a.decisions.now p.flush_at-r.new.decisions a.out.now p.flush_at-r.new.out if1.if-pm-ne-STATES.false s.store.ensures.answers s.store.ensures.places p.flush_at-r.ensures.answers (λ v. (flush_at a.end (handed v a.decisions.now)).bits) p.flush_at-r.ensures.leaves in
     record { answers = both.0; leaves = both.1 }

@@ -38,5 +38,5 @@ returns c =
     let v = d.decoder_of-v.result in
     let w : ViterbiDecoder = decoder_of a.pm.now a.held.now a.traceback in
     let e : v ≡ w = d.decoder_of-v.ensures in
-    let both = pushed v w e (λ v. push_rows v a.pairs.now (length a.decisions.now) (length a.out.now)) p.push-r.result s.store.result s.store.new.pm s.store.new.held a.count.now s.store.new.count a.decisions.now p.push-r.new.decisions a.out.now p.push-r.new.out if1.if-pm-ne-STATES.false s.store.ensures.answers s.store.ensures.values s.store.ensures.counts.0 s.store.ensures.counts.1 p.push-r.ensures.answers (λ v. call v.traceback (pair_steps a.pairs.now) (handed v a.decisions.now) (length a.pairs.now / 2)) p.push-r.ensures.leaves in
+    let both = pushed v w e (λ v. push_rows v a.pairs.now (length a.decisions.now) (length a.out.now)) p.push-r.result s.store.result s.store.new.pm s.store.new.held a.count.now s.store.new.count a.decisions.now p.push-r.new.decisions a.out.now p.push-r.new.out if1.if-pm-ne-STATES.false s.store.ensures.answers s.store.ensures.places p.push-r.ensures.answers (λ v. call v.traceback (pair_steps a.pairs.now) (handed v a.decisions.now) (length a.pairs.now / 2)) p.push-r.ensures.leaves in
     record { answers = both.0; leaves = both.1 }

@@ -4,26 +4,21 @@ use Rattle.refusal.specs.Rows.{number_of}
 use Rattle.c_mend.proofs.Numbered.{left_refused, left_accepted}
 use Rattle.c_mend.proofs.isdb_mend.Goals as goal
 
-pub returns-then-answer-ne0 : goal.returns-then-answer-ne0
-returns-then-answer-ne0 c =
-    let mend = c in
-    let start = mend in
-    let a = start.args in
-    let n = c.number-answer in
-    let m = mend.mend-m in
+pub returns-in-Ok : goal.returns-in-Ok
+returns-in-Ok c =
+    let a = c.args in
+    let m = rw c.in-Ok.is at c.mend.ensures in
     record {
-      answers = record { far = m.ensures.far; answers = n.ensures ∙ ap number_of m.ensures.answers };
-      leaves = left_refused a.start a.end a.bits.now m.result a.decisions.now _ a.out.now _ a.places.now _ m.ensures n.result n.ensures a.count.now c.if-answer-ne0.true;
+      answers = record { far = m.far; answers = ap number_of m.answers };
+      leaves = left_accepted a.start a.end a.bits.now a.decisions.now _ a.out.now _ a.places.now _ _ m a.count.now;
     }
 
-pub returns : goal.returns
-returns c =
-    let mend = c in
-    let start = mend in
-    let a = start.args in
-    let n = c.number-answer in
-    let m = mend.mend-m in
+pub returns-in-Err : goal.returns-in-Err
+returns-in-Err c =
+    let a = c.args in
+    let m = rw c.in-Err.is at c.mend.ensures in
+    let n = c.number in
     record {
-      answers = record { far = m.ensures.far; answers = sym c.if-answer-ne0.false ∙ n.ensures ∙ ap number_of m.ensures.answers };
-      leaves = left_accepted a.start a.end a.bits.now m.result a.decisions.now _ a.out.now _ a.places.now _ m.ensures n.result n.ensures a.count.now c.if-answer-ne0.false;
+      answers = record { far = m.far; answers = n.ensures ∙ ap number_of m.answers };
+      leaves = left_refused a.start a.end a.bits.now a.decisions.now _ a.out.now _ a.places.now _ _ m n.result n.ensures a.count.now;
     }

@@ -2,8 +2,7 @@
 use mathlib.Core.Path.{sym, ◌∙◌, ap}
 use mathlib.Core.Bool.{true}
 use mathlib.Core.List.{[], ◌∷◌}
-use Rattle.refusal.specs.declared.Answer.TheVariants.{Length}
-use Rattle.refusal.specs.Rows.{number_of}
+use Rattle.refusal.specs.Rows.{Length, number_of}
 use Rattle.refusal.proofs.RowLaws.{zero_accepted}
 use Rattle.isdbs_tables.proofs.TableLaws.{then_rows, before_rows}
 use Rattle.c_scales.proofs.not_scales.Goals as goal

@@ -38,5 +38,5 @@ returns c =
     let v = d.decoder_of-v.result in
     let w : ViterbiDecoder = decoder_of a.pm.now a.held.now a.traceback in
     let e : v ≡ w = d.decoder_of-v.ensures in
-    let t = flushed code.result (code_from a.constraint a.g1 a.g2) code.ensures v w e (λ k v. flush_rows k v (length a.decisions.now) (length a.out.now)) p.flush_at-r.result s.store.result s.store.new.pm s.store.new.held a.count.now s.store.new.count a.decisions.now p.flush_at-r.new.decisions a.out.now p.flush_at-r.new.out if1.if-pm-ne-STATES.false s.store.ensures.answers s.store.ensures.values s.store.ensures.counts.0 s.store.ensures.counts.1 p.flush_at-r.ensures.answers (λ k v. end_of k a.end) p.flush_at-r.ensures.leaves in
+    let t = flushed code.result (code_from a.constraint a.g1 a.g2) code.ensures v w e (λ k v. flush_rows k v (length a.decisions.now) (length a.out.now)) p.flush_at-r.result s.store.result s.store.new.pm s.store.new.held a.count.now s.store.new.count a.decisions.now p.flush_at-r.new.decisions a.out.now p.flush_at-r.new.out if1.if-pm-ne-STATES.false s.store.ensures.answers s.store.ensures.places p.flush_at-r.ensures.answers (λ k v. end_of k a.end) p.flush_at-r.ensures.leaves in
     record { answers = t.0; leaves = t.1 }

@@ -37,5 +37,5 @@ returns c =
     let v = d.decoder_of-v.result in
     let w : ViterbiDecoder = decoder_of a.pm.now a.held.now a.traceback in
     let e : v ≡ w = d.decoder_of-v.ensures in
-    let t = pushed code.result (code_from a.constraint a.g1 a.g2) code.ensures v w e (λ k v. known_rows k v (length a.bits.now) (length a.decisions.now) (length a.out.now)) p.push_known-r.result s.store.result s.store.new.pm s.store.new.held a.count.now s.store.new.count a.decisions.now p.push_known-r.new.decisions a.out.now p.push_known-r.new.out if1.if-pm-ne-STATES.false s.store.ensures.answers s.store.ensures.values s.store.ensures.counts.0 s.store.ensures.counts.1 p.push_known-r.ensures.answers (λ k v. steps k v.traceback (known_steps a.bits.now) (handed k v a.decisions.now) (length a.bits.now)) p.push_known-r.ensures.leaves in
+    let t = pushed code.result (code_from a.constraint a.g1 a.g2) code.ensures v w e (λ k v. known_rows k v (length a.bits.now) (length a.decisions.now) (length a.out.now)) p.push_known-r.result s.store.result s.store.new.pm s.store.new.held a.count.now s.store.new.count a.decisions.now p.push_known-r.new.decisions a.out.now p.push_known-r.new.out if1.if-pm-ne-STATES.false s.store.ensures.answers s.store.ensures.places p.push_known-r.ensures.answers (λ k v. steps k v.traceback (known_steps a.bits.now) (handed k v a.decisions.now) (length a.bits.now)) p.push_known-r.ensures.leaves in
     record { answers = t.0; leaves = t.1 }

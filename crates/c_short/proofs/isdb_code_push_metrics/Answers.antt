@@ -38,5 +38,5 @@ returns c =
     let v = d.decoder_of-v.result in
     let w : ViterbiDecoder = decoder_of a.pm.now a.held.now a.traceback in
     let e : v ≡ w = d.decoder_of-v.ensures in
-    let t = pushed code.result (code_from a.constraint a.g1 a.g2) code.ensures v w e (λ k v. stream_rows k 4 v a.metrics.now (length a.decisions.now) (length a.out.now)) p.push_metrics-r.result s.store.result s.store.new.pm s.store.new.held a.count.now s.store.new.count a.decisions.now p.push_metrics-r.new.decisions a.out.now p.push_metrics-r.new.out if1.if-pm-ne-STATES.false s.store.ensures.answers s.store.ensures.values s.store.ensures.counts.0 s.store.ensures.counts.1 p.push_metrics-r.ensures.answers (λ k v. call k v.traceback (four_steps a.metrics.now) (handed k v a.decisions.now) (length a.metrics.now / 4)) p.push_metrics-r.ensures.leaves in
+    let t = pushed code.result (code_from a.constraint a.g1 a.g2) code.ensures v w e (λ k v. stream_rows k 4 v a.metrics.now (length a.decisions.now) (length a.out.now)) p.push_metrics-r.result s.store.result s.store.new.pm s.store.new.held a.count.now s.store.new.count a.decisions.now p.push_metrics-r.new.decisions a.out.now p.push_metrics-r.new.out if1.if-pm-ne-STATES.false s.store.ensures.answers s.store.ensures.places p.push_metrics-r.ensures.answers (λ k v. call k v.traceback (four_steps a.metrics.now) (handed k v a.decisions.now) (length a.metrics.now / 4)) p.push_metrics-r.ensures.leaves in
     record { answers = t.0; leaves = t.1 }

@@ -1,5 +1,4 @@
-use Prim.Native.Nat.{◌-◌}
 use Rattle.cases_fec.proofs.tail.Goals as goal
 
-pub push-p-requires : goal.push-p-requires
-push-p-requires c = tt
+pub push-requires : goal.push-requires
+push-requires c = tt

@@ -1,4 +1,4 @@
--- `decode_bytes::last_state` meets its contract: the last byte's bits alone are in the state.
+-- `decode_bytes::last_state` meets its contract: the last six bits alone are in the state.
 use mathlib.Core.Path.{◌≡◌, refl}
 use Prim.Native.Nat.{◌+◌, ◌-◌, ◌*◌}
 use native.Mathlib.Omega.{arith}
@@ -17,11 +17,11 @@ returns-then-n-eq0 c =
     let e : st.args.n ≡ 0 = omega arith in
     rw e (refl, st.requires.0)
 
-pub byte_state-requires : goal.byte_state-requires
-byte_state-requires c =
+pub six_state-requires : goal.six_state-requires
+six_state-requires c =
     let st = c in
     let us = st.args.bits.now in
-    let from = 8 * st.args.n - 8 in
+    let from = 8 * st.args.n - 6 in
     let e = length-drop from us in
     rw (tail_is from us) (omega arith, λ i l. rw (get_or-drop from us i 0) (st.requires.3 (from + i) (omega arith)))
 
@@ -30,8 +30,8 @@ returns c =
     let st = c in
     let us = st.args.bits.now in
     let n = st.args.n in
-    let from = 8 * n - 8 in
+    let from = 8 * n - 6 in
     let before = state_at 32 st.args.start us from in
     let small = state_small st.args.start us from st.requires.0 (λ i l. st.requires.3 i (omega arith)) in
-    let got = rw (tail_is from us) at c.byte_state.ensures in
-    (state_more st.args.start us from 8 (8 * n) before _ (omega arith) refl (got.1 before small), got.0)
+    let got = rw (tail_is from us) at c.six_state.ensures in
+    (state_more st.args.start us from 6 (8 * n) before _ (omega arith) refl (got.1 before small), got.0)

@@ -7,7 +7,7 @@ use borrow.Author.Rules.{rules}
 use Rattle.isdbs_points.specs.Layout.{byte_of}
 use Rattle.trellis.specs.Lists.{upto}
 use native.Mathlib.Omega.{arith}
-use Prim.Native.Nat.{◌+◌, ◌-◌, ◌*◌}
+use Prim.Native.Nat.{◌+◌, ◌*◌}
 use mathlib.Core.Path.{◌≡◌, refl, ◌∙◌, ap}
 use Rattle.decode_bytes.proofs.pack_plain.Goals as goal
 

@@ -1,7 +1,6 @@
 use Rattle.isdbs_metrics.specs.FrameRunLaws.{fewer}
 use Rattle.decode_bytes.specs.PackingLaws.{packing_first, packing_bounds, packing_asks, packing_next, packing_last}
 use native.Mathlib.Nat.{le_refl}
-use Prim.Native.Nat.{◌-◌}
 use Rattle.decode_bytes.proofs.pack_tc8psk.Goals as goal
 
 pub register_points-points-requires : goal.register_points-points-requires

@@ -1,10 +1,7 @@
 -- `write_bytes` meets its contract.
 use Rattle.decode_bytes.specs.FrameByteLaws.{Written}
-use Prim.Native.Nat.{◌-◌}
+use Rattle.std.specs.Prelude.{take}
 use Rattle.decode_bytes.proofs.write_bytes.Given as goal
 
-abbrev pub invariant-loop-i : goal.invariant-loop-i
-invariant-loop-i l = Written l.m l.start l.re l.im l.bits l.initial.bytes l.count l.list l.bytes l.state l.step l.done l.i
-
-abbrev pub decreases-loop-i : goal.decreases-loop-i
-decreases-loop-i l = l.count - l.i
+abbrev pub invariant-loop-r : goal.invariant-loop-r
+invariant-loop-r l = Written l.m l.start l.re l.im l.bits l.initial.bytes l.fn.p.count (take l.fn.p.count l.fn.p.runs) l.bytes l.state l.step l.done l.r-index

@@ -14,10 +14,10 @@ pub loop-i-preserved : goal.loop-i-preserved
 loop-i-preserved c =
     let at = c in
     let inv = at.loop-i.invariant in
-    (omega arith, simp length-set inv.1, written_more 0 (word_bit w1) at.loop-i.i at.loop-i.known _ (omega arith) inv.2 c.word_bit.ensures)
+    (omega arith, simp length-set inv.1, written_more 0 (word_bit w1) at.loop-i.i at.loop-i.bit-items _ (omega arith) inv.2 c.word_bit.ensures)
 
 pub returns : goal.returns
 returns c =
     let at = c in
     let e : at.loop-i.i ≡ 16 = omega arith in
-    written_whole 0 (word_bit w1) 16 at.loop-i.known at.loop-i.invariant.1 (rw e at at.loop-i.invariant.2)
+    written_whole 0 (word_bit w1) 16 at.loop-i.bit-items at.loop-i.invariant.1 (rw e at at.loop-i.invariant.2)

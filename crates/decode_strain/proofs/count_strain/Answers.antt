@@ -2,68 +2,69 @@ use native.Mathlib.Nat.{le_refl}
 use native.Mathlib.Omega.{arith}
 use Prim.Native.Nat.{◌-◌}
 use mathlib.Core.Path.{◌≡◌, ◌∙◌}
-use lib.ListN.{get_or}
+use lib.ListN.{get_or, take, length}
+use Rattle.isdbs_plan.specs.declared.Plan.{Plan}
+use Rattle.isdbs_plan.specs.RunsOf.{Planned}
+use Rattle.isdbs_metrics.specs.FrameRunLaws.{Listed}
 use Rattle.isdbs_plan.specs.RunsOf.{no_run}
-use Rattle.isdbs_metrics.specs.FrameRunLaws.{listed_runs, steps_by_lem, all_valid, fewer, run_number_lem, run_steps_lem}
+use Rattle.isdbs_metrics.specs.FrameRunLaws.{walked_runs, walked_count, steps_by_lem, all_valid, fewer, run_number_lem, run_steps_lem}
 use Rattle.strain_marks.specs.Slots.{by_slot}
 use Rattle.decode_strain.proofs.Frames.{slot_steps_few, done_first, done_room, done_bounds, done_small, done_next}
 use Rattle.decode_strain.proofs.count_strain.Goals as goal
 
+-- the runs that the loop walks, by their number
+runs_here : (p : Plan) → Planned p → Listed p.table (length (take p.count p.runs)) (take p.count p.runs)
+runs_here p h = rw (walked_count p h) (walked_runs p h)
+
 pub labels-labels-requires : goal.labels-labels-requires
 labels-labels-requires c = tt
 
-pub loop-i-init : goal.loop-i-init
-loop-i-init c =
+pub loop-r-init : goal.loop-r-init
+loop-r-init c =
     let st = c in
-    done_first (listed_runs st.args.p st.requires.1) st.requires.0 st.requires.2 st.requires.3 st.requires.4 st.requires.5
-
-pub offset_bounds-list-i : goal.offset_bounds-list-i
-offset_bounds-list-i c = record { fits = (run_number_lem c.loop-i.invariant.run c.loop-i-test.true).1 }
-
-pub bounds-list-i : goal.bounds-list-i
-bounds-list-i c = (run_number_lem c.loop-i.invariant.run c.loop-i-test.true).0
+    done_first (runs_here st.args.p st.requires.1) st.requires.0 st.requires.2 st.requires.3 st.requires.4 st.requires.5
 
 pub steps_per_slot-w-requires : goal.steps_per_slot-w-requires
 steps_per_slot-w-requires c = tt
 
 pub slice_bounds-count_run-count : goal.slice_bounds-count_run-count
-slice_bounds-count_run-count c = (done_bounds c.loop-i.invariant).marks_start
+slice_bounds-count_run-count c = (done_bounds c.loop-r.invariant).marks_start
 
 pub slice_bounds-count_run-start : goal.slice_bounds-count_run-start
-slice_bounds-count_run-start c = (done_bounds c.loop-i.invariant).marks_start
+slice_bounds-count_run-start c = (done_bounds c.loop-r.invariant).marks_start
 
 pub slice_bounds-count_run-end : goal.slice_bounds-count_run-end
 slice_bounds-count_run-end c = le_refl _
 
-pub slice_bounds-count_run-count-in-loop-i : goal.slice_bounds-count_run-count-in-loop-i
-slice_bounds-count_run-count-in-loop-i c = (done_bounds c.loop-i.invariant).bits_start
+pub slice_bounds-count_run-count-in-loop-r : goal.slice_bounds-count_run-count-in-loop-r
+slice_bounds-count_run-count-in-loop-r c = (done_bounds c.loop-r.invariant).bits_start
 
-pub slice_bounds-count_run-start-in-loop-i : goal.slice_bounds-count_run-start-in-loop-i
-slice_bounds-count_run-start-in-loop-i c = (done_bounds c.loop-i.invariant).bits_start
+pub slice_bounds-count_run-start-in-loop-r : goal.slice_bounds-count_run-start-in-loop-r
+slice_bounds-count_run-start-in-loop-r c = (done_bounds c.loop-r.invariant).bits_start
 
-pub slice_bounds-count_run-end-in-loop-i : goal.slice_bounds-count_run-end-in-loop-i
-slice_bounds-count_run-end-in-loop-i c = le_refl _
+pub slice_bounds-count_run-end-in-loop-r : goal.slice_bounds-count_run-end-in-loop-r
+slice_bounds-count_run-end-in-loop-r c = le_refl _
 
 pub offset_bounds-counts-done : goal.offset_bounds-counts-done
-offset_bounds-counts-done c = record { fits = (done_bounds c.loop-i.invariant).scaled_small }
+offset_bounds-counts-done c = record { fits = (done_bounds c.loop-r.invariant).scaled_small }
 
-pub slice_bounds-count_run-count-in-loop-i-2 : goal.slice_bounds-count_run-count-in-loop-i-2
-slice_bounds-count_run-count-in-loop-i-2 c = (done_bounds c.loop-i.invariant).counts_start
+pub slice_bounds-count_run-count-in-loop-r-2 : goal.slice_bounds-count_run-count-in-loop-r-2
+slice_bounds-count_run-count-in-loop-r-2 c = (done_bounds c.loop-r.invariant).counts_start
 
-pub slice_bounds-count_run-start-in-loop-i-2 : goal.slice_bounds-count_run-start-in-loop-i-2
-slice_bounds-count_run-start-in-loop-i-2 c = (done_bounds c.loop-i.invariant).counts_start
+pub slice_bounds-count_run-start-in-loop-r-2 : goal.slice_bounds-count_run-start-in-loop-r-2
+slice_bounds-count_run-start-in-loop-r-2 c = (done_bounds c.loop-r.invariant).counts_start
 
-pub slice_bounds-count_run-end-in-loop-i-2 : goal.slice_bounds-count_run-end-in-loop-i-2
-slice_bounds-count_run-end-in-loop-i-2 c = le_refl _
+pub slice_bounds-count_run-end-in-loop-r-2 : goal.slice_bounds-count_run-end-in-loop-r-2
+slice_bounds-count_run-end-in-loop-r-2 c = le_refl _
 
 pub count_run-x-requires : goal.count_run-x-requires
 count_run-x-requires c =
     let steps-per-slot = c in
     let looped = steps-per-slot in
     let st = looped in
-    let at = looped.loop-i in
+    let at = looped.loop-r in
     let sp = steps-per-slot.steps_per_slot-w in
-    let few = slot_steps_few (get_or st.args.p.runs at.i no_run).combination in
+    let few = slot_steps_few (get_or (take st.args.p.count st.args.p.runs) at.r-index no_run).combination in
     let r = done_room at.invariant in
     (looped.labels-labels.ensures, rw sp.ensures few, r.0, rw sp.ensures r.1, rw sp.ensures r.2, rw sp.ensures r.3, at.invariant.small, (done_bounds at.invariant).room)
 
@@ -72,49 +73,41 @@ overflow_add-sum c =
     let steps-per-slot = c in
     let looped = steps-per-slot in
     let k = rw steps-per-slot.steps_per_slot-w.ensures at c.count_run-x.ensures in
-    record { fits = done_small looped.loop-i.invariant k }
+    record { fits = done_small looped.loop-r.invariant k }
 
 pub overflow_mul-step : goal.overflow_mul-step
 overflow_mul-step c =
     let steps-per-slot = c in
-    record { fits = (run_steps_lem steps-per-slot.loop-i.invariant.run steps-per-slot.steps_per_slot-w.ensures).0 }
+    record { fits = (run_steps_lem steps-per-slot.loop-r.invariant.run steps-per-slot.steps_per_slot-w.ensures).0 }
 
 pub overflow_add-step : goal.overflow_add-step
 overflow_add-step c =
     let steps-per-slot = c in
-    record { fits = (run_steps_lem steps-per-slot.loop-i.invariant.run steps-per-slot.steps_per_slot-w.ensures).1 }
+    record { fits = (run_steps_lem steps-per-slot.loop-r.invariant.run steps-per-slot.steps_per_slot-w.ensures).1 }
 
 pub overflow_add-done : goal.overflow_add-done
-overflow_add-done c = record { fits = (done_bounds c.loop-i.invariant).next_small }
+overflow_add-done c = record { fits = (done_bounds c.loop-r.invariant).next_small }
 
-pub overflow_step-i : goal.overflow_step-i
-overflow_step-i c =
-    let tested = c in
-    record { fits = (run_number_lem tested.loop-i.invariant.run tested.loop-i-test.true).2 }
-
-pub loop-i-smaller : goal.loop-i-smaller
-loop-i-smaller c = fewer c.loop-i-test.true
-
-pub loop-i-preserved : goal.loop-i-preserved
-loop-i-preserved c =
+pub loop-r-preserved : goal.loop-r-preserved
+loop-r-preserved c =
     let steps-per-slot = c in
     let tested = steps-per-slot in
     let looped = tested in
     let start = looped in
-    let at = looped.loop-i in
+    let at = looped.loop-r in
     let sp = steps-per-slot.steps_per_slot-w in
     let k = rw sp.ensures at c.count_run-x.ensures in
-    done_next at.invariant tested.loop-i-test.true (steps_by_lem (get_or start.args.p.runs at.i no_run) _ sp.ensures) k
+    done_next at.invariant tested.loop-r-test.true (steps_by_lem (get_or (take start.args.p.count start.args.p.runs) at.r-index no_run) _ sp.ensures) k
 
 pub shape_of-counts : goal.shape_of-counts
-shape_of-counts c = c.loop-i.invariant.same
+shape_of-counts c = c.loop-r.invariant.same
 
 pub returns : goal.returns
 unfolding by_slot
 returns c =
     let st = c in
-    let l = listed_runs st.args.p st.requires.1 in
-    let w = c.loop-i.invariant in
-    let e : c.loop-i.i ≡ st.args.p.count = omega arith in
+    let l = runs_here st.args.p st.requires.1 in
+    let w = c.loop-r.invariant in
+    let e : c.loop-r.r-index ≡ length (take st.args.p.count st.args.p.runs) = omega arith in
     let ed = (rw e at w.done_is) ∙ all_valid l in
     (rw (ed, l.listed) at w.counts_are, rw (ed, l.listed) at w.sum_is)

@@ -1,6 +1,5 @@
 -- `encode_main` meets its contract.
 use mathlib.Core.Path.{sym, ◌∙◌, ap}
-use Prim.Native.Nat.{◌-◌}
 use native.Mathlib.Omega.{arith}
 use lib.ListN.{length}
 use Rattle.encode_main.specs.TableLaws.{table_tiled, runs_count, runs_front, end_small, re_length, im_length, runs_state, frame_laid}

@@ -1,6 +1,5 @@
 -- `encode_tc8psk` meets its contract.
-use mathlib.Core.Path.{◌≡◌}
-use Prim.Native.Nat.{◌-◌, ◌%◌, ◌<◌, ◌≤◌}
+use Prim.Native.Nat.{◌*◌, ◌/◌, ◌<◌, ◌≤◌}
 use lib.Ieee.{nan}
 use lib.ListN.{get_or}
 use Rattle.encode_bits.specs.Windows.{backward}
@@ -10,12 +9,8 @@ use Rattle.encode_run.specs.PieceLaws.{Going}
 use Rattle.encode_run.proofs.EncodeTc8psk.{tc8psk_register}
 use Rattle.encode_run.proofs.encode_tc8psk.Given as goal
 
-abbrev pub invariant-loop-k : goal.invariant-loop-k
-invariant-loop-k l =
-    (l.k ≤ l.n)
-    × (l.k % 4 ≡ 0)
-    × Going (piece_inputs Tc8psk2_3 l.bytes l.bit l.n) l.start (λ j. get_or l.xs (tc8psk_register l.bytes l.bit l.n l.start j) nan) (λ j. get_or l.ys (tc8psk_register l.bytes l.bit l.n l.start j) nan) l.initial.re l.initial.im l.re l.im (backward l.state) l.k l.k
+abbrev pub invariant-loop-j : goal.invariant-loop-j
+invariant-loop-j l =
+    (l.j ≤ l.fn.n / 4)
+    × Going (piece_inputs Tc8psk2_3 l.bytes l.bit l.fn.n) l.start (λ j. get_or l.xs (tc8psk_register l.bytes l.bit l.fn.n l.start j) nan) (λ j. get_or l.ys (tc8psk_register l.bytes l.bit l.fn.n l.start j) nan) l.initial.re l.initial.im l.re l.im (backward l.state) (4 * l.j) (4 * l.j)
     × (l.state < 64)
-
-abbrev pub decreases-loop-k : goal.decreases-loop-k
-decreases-loop-k l = l.n - l.k

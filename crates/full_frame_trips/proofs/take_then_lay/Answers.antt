@@ -1,8 +1,10 @@
 -- `take_then_lay` meets its contract.
-use mathlib.Core.Path.{◌≡◌, ap}
+use mathlib.Core.Path.{◌≡◌, sym, ◌∙◌, ap}
+use Rattle.std.specs.Prelude.{Err}
+use Rattle.std.proofs.lemmas.Result.{err_from_is_err_and}
 use mathlib.Core.Bool.{◌||◌}
 use Rattle.refusal.specs.Rows.{number_of}
-use Rattle.refusal.proofs.RowLaws.{zero_accepted}
+use Rattle.refusal.proofs.RowLaws.{zero_accepted, err_refuses}
 use Rattle.full_frame_parts.specs.declared.Input.TheVariants.{Header, Main, Burst}
 use Rattle.full_frame_parts.specs.Places.{lent_inputs, taken}
 use Rattle.full_frame_parts.specs.Rows.{inputs_short, short_frame}
@@ -10,17 +12,18 @@ use lib.ListN.{length, take}
 use Rattle.full_frame_trips.proofs.Both.{by_tests, none_short, kept, each_taken, taken_laid_again}
 use Rattle.full_frame_trips.proofs.take_then_lay.Goals as goal
 
-pub returns-in_default : goal.returns-in_default
-returns-in_default c =
+pub returns-in_err-first_row : goal.returns-in_err-first_row
+returns-in_err-first_row c =
     let short-parts = c in
     let start = short-parts in
     let x = start.args in
     let res = lent_inputs x.header_re.now x.main_re.now x.burst_re.now in
     let ims = lent_inputs x.header_im.now x.main_im.now x.burst_im.now in
-    let a = c.first_row-answer.result in
-    let h = by_tests a (short_frame (length x.re.now) (length x.im.now)) (inputs_short res || inputs_short ims) (short_frame (length x.out_re.now) (length x.out_im.now)) c.short_frame-frame.ensures short-parts.short_parts-parts.ensures c.short_frame.ensures c.first_row-answer.ensures in
-    let n : number_of a ≡ 0 → ⊥ = λ z. c.in_default.not-Accepted (zero_accepted a z) in
-    record { answers = h; real = kept a (take 39936 x.re.now) x.out_re.now n; imaginary = kept a (take 39936 x.im.now) x.out_im.now n; header_real = kept a (taken Header x.re.now) x.header_re.now n; header_imaginary = kept a (taken Header x.im.now) x.header_im.now n; main_real = kept a (taken Main x.re.now) x.main_re.now n; main_imaginary = kept a (taken Main x.im.now) x.main_im.now n; burst_real = kept a (taken Burst x.re.now) x.burst_re.now n; burst_imaginary = kept a (taken Burst x.im.now) x.burst_im.now n }
+    let p = err_from_is_err_and c.from_residual.result c.from_residual.ensures.1 in
+    let a = Err c.in_err-first_row.field-0.0 in
+    let h = by_tests a (short_frame (length x.re.now) (length x.im.now)) (inputs_short res || inputs_short ims) (short_frame (length x.out_re.now) (length x.out_im.now)) c.short_frame-frame.ensures short-parts.short_parts-parts.ensures c.short_frame.ensures (sym c.in_err-first_row.was ∙ c.first_row.ensures) in
+    let n : number_of a ≡ 0 → ⊥ = λ z. err_refuses (zero_accepted a z) in
+    rw (p.1, p.2) (record { answers = h; real = kept a (take 39936 x.re.now) x.out_re.now n; imaginary = kept a (take 39936 x.im.now) x.out_im.now n; header_real = kept a (taken Header x.re.now) x.header_re.now n; header_imaginary = kept a (taken Header x.im.now) x.header_im.now n; main_real = kept a (taken Main x.re.now) x.main_re.now n; main_imaginary = kept a (taken Main x.im.now) x.main_im.now n; burst_real = kept a (taken Burst x.re.now) x.burst_re.now n; burst_imaginary = kept a (taken Burst x.im.now) x.burst_im.now n })
 
 pub returns : goal.returns
 returns c =
@@ -34,9 +37,9 @@ returns c =
     let x = start.args in
     let res = lent_inputs x.header_re.now x.main_re.now x.burst_re.now in
     let ims = lent_inputs x.header_im.now x.main_im.now x.burst_im.now in
-    let a = first-row.first_row-answer.result in
-    let h = by_tests a (short_frame (length x.re.now) (length x.im.now)) (inputs_short res || inputs_short ims) (short_frame (length x.out_re.now) (length x.out_im.now)) short-frame.short_frame-frame.ensures short-parts.short_parts-parts.ensures first-row.short_frame.ensures first-row.first_row-answer.ensures in
-    let z : number_of a ≡ 0 = ap number_of at-enum-told.in-Accepted.is in
+    let a = first-row.first_row.result in
+    let h = by_tests a (short_frame (length x.re.now) (length x.im.now)) (inputs_short res || inputs_short ims) (short_frame (length x.out_re.now) (length x.out_im.now)) short-frame.short_frame-frame.ensures short-parts.short_parts-parts.ensures first-row.short_frame.ensures first-row.first_row.ensures in
+    let z : number_of a ≡ 0 = ap number_of at-enum-told.in_ok-first_row.was in
     let tests = none_short a (short_frame (length x.re.now) (length x.im.now)) (inputs_short res || inputs_short ims) (short_frame (length x.out_re.now) (length x.out_im.now)) h z in
     let b = take-apart.take_apart.result in
     let e = take-apart.take_apart.ensures in

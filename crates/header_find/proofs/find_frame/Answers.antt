@@ -30,8 +30,8 @@ best_here-place-requires c =
     let f = c.further_of-count.ensures in
     (omega arith, omega arith)
 
-pub header_here-header-requires : goal.header_here-header-requires
-header_here-header-requires c =
+pub header_here-requires : goal.header_here-requires
+header_here-requires c =
     let at = c in
     let x = at.args in
     let e : no_frame (length x.re.now) (length x.im.now) x.from ≡ false = sym at.no_frame.ensures ∙ at.if-no_frame.false in
@@ -45,4 +45,4 @@ returns c =
     let at = c in
     let x = at.args in
     let e : no_frame (length x.re.now) (length x.im.now) x.from ≡ false = sym at.no_frame.ensures ∙ at.if-no_frame.false in
-    rw (e, c.doubted_of.ensures, c.header_here-header.ensures.0, c.best_here-place.ensures.0, c.further_of-count.ensures) refl
+    rw (e, c.doubted_of-header.ensures, c.header_here.ensures.0, c.best_here-place.ensures.0, c.further_of-count.ensures) refl

@@ -1,7 +1,7 @@
 use Prim.Native.Nat.{◌-◌}
 use Rattle.trellis.specs.WrittenLaws.{written_none, written_more, written_whole}
 use Rattle.isdbs_marks.specs.Marks.{mark}
-use Rattle.isdbs_combination.specs.declared.MaybeCombination.TheVariants.{None}
+use Rattle.std.specs.Prelude.{None}
 use lib.ListN.{length-set}
 use mathlib.Core.Path.{◌≡◌, ap}
 use native.Mathlib.Omega.{arith}

@@ -2,7 +2,7 @@
 use Prim.Native.Nat.{ℕ, ◌-◌, ◌≤◌}
 use Rattle.trellis.specs.WrittenLaws.{Written}
 use Rattle.isdbs_marks.specs.Marks.{mark_at, mark}
-use Rattle.isdbs_combination.specs.declared.MaybeCombination.TheVariants.{None}
+use Rattle.std.specs.Prelude.{None}
 use Rattle.isdbs_marks.specs.declared.SlotMark.{SlotMark}
 use Rattle.isdbs_tables.specs.declared.Table.{Table}
 use lib.ListN.{length}

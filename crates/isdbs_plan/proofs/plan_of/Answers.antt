@@ -8,7 +8,7 @@ use Rattle.isdbs_tables.specs.Tables.{entry_combination}
 use Rattle.isdbs_combination.specs.declared.CombinationWord.TheVariants.{Assigned, Dummy, Reserved}
 use Rattle.isdbs_combination.specs.declared.Combination.{Combination}
 use Rattle.isdbs_combination.specs.declared.CombinationWord.{CombinationWord}
-use Rattle.isdbs_combination.specs.declared.MaybeCombination.TheVariants.{Some, None}
+use Rattle.std.specs.Prelude.{Some, None}
 use denote.Enum.Declared.{tag_of, declared}
 use lib.ListN.{length, get_or, length-map}
 use mathlib.Core.Logic.{◌⊎◌, inl, inr}

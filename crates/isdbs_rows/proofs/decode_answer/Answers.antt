@@ -1,41 +1,37 @@
 -- `decode_answer` meets its contract.
 use mathlib.Core.Path.{sym, ◌∙◌}
-use Rattle.refusal.proofs.Told.{told}
+use Rattle.std.proofs.lemmas.Result.{err_from_is_err_and}
+use Rattle.refusal.proofs.RowLaws.{err_refuses}
 use Rattle.isdbs_rows.proofs.Rows.{by_table, by_points, by_last}
 use Rattle.isdbs_rows.specs.DecodeRows.{some_bad}
 use Rattle.isdbs_rows.proofs.decode_answer.Goals as goal
 
-pub returns-in_default : goal.returns-in_default
-returns-in_default c =
-    let st = c in
-    by_table st.args.p.table st.args.re.now st.args.im.now (some_bad st.args.scales) st.args.decisions st.args.bits st.args.bytes st.args.counts c.table_answer-table.result c.table_answer-table.ensures c.in_default.not-Accepted
+pub returns-in_err-table_answer : goal.returns-in_err-table_answer
+returns-in_err-table_answer c =
+    let a = c.args in
+    let p = err_from_is_err_and c.from_residual.result c.from_residual.ensures.1 in
+    rw (p.1, p.2) (by_table a.p.table a.re.now a.im.now (some_bad a.scales) a.decisions a.bits a.bytes a.counts _ (sym c.in_err-table_answer.was ∙ c.table_answer.ensures) err_refuses)
 
-pub returns-in_default-points : goal.returns-in_default-points
-returns-in_default-points c =
-    let st = c in
-    by_points st.args.p.table st.args.re.now st.args.im.now (some_bad st.args.scales) st.args.decisions st.args.bits st.args.bytes st.args.counts (sym c.in-Accepted.is ∙ c.table_answer-table.ensures)
-    c.points_answer-points.result c.points_answer-points.ensures c.in_default-points.not-Accepted
+pub returns-in_err-points_answer : goal.returns-in_err-points_answer
+returns-in_err-points_answer c =
+    let a = c.args in
+    let p = err_from_is_err_and c.from_residual-in_err-points_answer.result c.from_residual-in_err-points_answer.ensures.1 in
+    rw (p.1, p.2) (by_points a.p.table a.re.now a.im.now (some_bad a.scales) a.decisions a.bits a.bytes a.counts (sym c.in_ok-table_answer.was ∙ c.table_answer.ensures)
+    _ (sym c.in_err-points_answer.was ∙ c.points_answer.ensures) err_refuses)
 
 pub returns-then-some_bad : goal.returns-then-some_bad
 returns-then-some_bad c =
-    let points-answer = c in
-    let table-answer = points-answer in
-    let st = table-answer in
-    by_last st.args.p.table st.args.re.now st.args.im.now (some_bad st.args.scales) st.args.decisions st.args.bits st.args.bytes st.args.counts (sym points-answer.in-Accepted.is ∙ table-answer.table_answer-table.ensures)
-    (sym c.in-Accepted-points.is ∙ points-answer.points_answer-points.ensures) (rw (sym c.some_bad.ensures ∙ c.if-some_bad.true))
+    let a = c.args in
+    by_last a.p.table a.re.now a.im.now (some_bad a.scales) a.decisions a.bits a.bytes a.counts (sym c.in_ok-table_answer.was ∙ c.table_answer.ensures)
+    (sym c.in_ok-points_answer.was ∙ c.points_answer.ensures) (rw (sym c.some_bad.ensures ∙ c.if-some_bad.true))
 
 pub space_answer-requires : goal.space_answer-requires
 space_answer-requires c =
-    let at-enum-told = c in
-    let table-answer = at-enum-told in
-    let st = table-answer in
-    record { is = st.requires.0; few = st.requires.1; accepted = sym table-answer.table_answer-table.ensures ∙ at-enum-told.in-Accepted.is }
+    record { is = c.requires.0; few = c.requires.1; accepted = sym c.table_answer.ensures ∙ c.in_ok-table_answer.was }
 
 pub returns : goal.returns
 returns c =
-    let points-answer = c in
-    let table-answer = points-answer in
-    let st = table-answer in
-    by_last st.args.p.table st.args.re.now st.args.im.now (some_bad st.args.scales) st.args.decisions st.args.bits st.args.bytes st.args.counts (sym points-answer.in-Accepted.is ∙ table-answer.table_answer-table.ensures)
-    (sym c.in-Accepted-points.is ∙ points-answer.points_answer-points.ensures)
+    let a = c.args in
+    by_last a.p.table a.re.now a.im.now (some_bad a.scales) a.decisions a.bits a.bytes a.counts (sym c.in_ok-table_answer.was ∙ c.table_answer.ensures)
+    (sym c.in_ok-points_answer.was ∙ c.points_answer.ensures)
     (rw (sym c.some_bad.ensures ∙ c.if-some_bad.false) c.space_answer.ensures)

@@ -1,22 +1,26 @@
-use borrow.Author.Rules.{rules}
 use Rattle.isdbs_rows.proofs.Rows.{some_more}
 use Rattle.isdbs_rows.specs.DecodeRows.{some_of}
 use Rattle.ieee.specs.Within.{within}
+use Rattle.std.proofs.lemmas.List.{get_or-take, length-take-le}
 use native.Mathlib.Omega.{arith}
-use Prim.Native.Nat.{◌-◌}
+use lib.Ieee.{nan}
 use mathlib.Core.Bool.{not}
 use mathlib.Core.Path.{◌≡◌, refl}
 use Rattle.isdbs_rows.proofs.some_beyond.Goals as goal
 
-pub loop-i-init : goal.loop-i-init
+pub loop-x-init : goal.loop-x-init
 unfolding some_of
-loop-i-init c = (search rules, refl)
+loop-x-init c = refl
 
-pub loop-i-preserved : goal.loop-i-preserved
-loop-i-preserved c =
-    let at = c in
-    let a = at.args in
-    (omega arith, some_more (λ x. not (within a.limit x)) a.xs.now at.loop-i.i at.loop-i.some c.beyond-some.result at.loop-i.invariant.1 c.beyond-some.ensures)
+pub loop-x-preserved : goal.loop-x-preserved
+loop-x-preserved c =
+    let a = c.args in
+    let h = rw (length-take-le a.n a.xs.now c.requires) at c.loop-x-test.true in
+    let b = rw (get_or-take a.n a.xs.now c.loop-x.x-index nan h) at c.beyond-some.ensures in
+    some_more (λ x. not (within a.limit x)) a.xs.now c.loop-x.x-index c.loop-x.some c.beyond-some.result c.loop-x.invariant b
 
 pub returns : goal.returns
-returns c = let e : c.loop-i.i ≡ c.args.n = omega arith in rw e at c.loop-i.invariant.1
+returns c =
+    let l = length-take-le c.args.n c.args.xs.now c.requires in
+    let e : c.loop-x.x-index ≡ c.args.n = omega arith in
+    rw e at c.loop-x.invariant

@@ -3,7 +3,6 @@ use Prim.Native.Nat.{ℕ, ◌+◌, ◌-◌, ◌*◌}
 use lib.ListN.{take, drop}
 use Rattle.refusal.specs.Rows.{accepted}
 use Rattle.refusal.proofs.RowLaws.{is_refused}
-use Rattle.refusal.proofs.Told.{told}
 use Rattle.isdbs_slot_part.proofs.PartLaws.{part_whole, part_is}
 use Rattle.isdbs_slot_part.specs.SlotPart.{slot_part_answer}
 use mathlib.Core.Path.{◌≡◌, sym, ◌∙◌, ap}
@@ -19,7 +18,7 @@ returns-in_default c =
     let bytes = st.args.bytes.now in
     let t = st.args.t in
     let k = st.args.k in
-    rw (is_refused (slot_part_answer bytes t k) (λ q. c.in_default.not-Accepted (st.slot_part_answer-answer.ensures ∙ q)))
+    rw (is_refused (slot_part_answer bytes t k) (λ q. c.in_default.not-Ok tt (st.slot_part_answer-answer.ensures ∙ q)))
 
 pub overflow_mul-result : goal.overflow_mul-result
 overflow_mul-result c =
@@ -27,7 +26,7 @@ overflow_mul-result c =
     let bytes = st.args.bytes.now in
     let t = st.args.t in
     let k = st.args.k in
-    let ok = ap accepted (sym st.slot_part_answer-answer.ensures ∙ c.in-Accepted.is) in
+    let ok = ap accepted (sym st.slot_part_answer-answer.ensures ∙ c.in-Ok.is) in
     let p = part_whole bytes t k ok in omega arith
 
 pub overflow_mul-result-2 : goal.overflow_mul-result-2
@@ -36,7 +35,7 @@ overflow_mul-result-2 c =
     let bytes = st.args.bytes.now in
     let t = st.args.t in
     let k = st.args.k in
-    let ok = ap accepted (sym st.slot_part_answer-answer.ensures ∙ c.in-Accepted.is) in
+    let ok = ap accepted (sym st.slot_part_answer-answer.ensures ∙ c.in-Ok.is) in
     let p = part_whole bytes t k ok in omega arith
 
 pub overflow_add-result : goal.overflow_add-result
@@ -45,7 +44,7 @@ overflow_add-result c =
     let bytes = st.args.bytes.now in
     let t = st.args.t in
     let k = st.args.k in
-    let ok = ap accepted (sym st.slot_part_answer-answer.ensures ∙ c.in-Accepted.is) in
+    let ok = ap accepted (sym st.slot_part_answer-answer.ensures ∙ c.in-Ok.is) in
     let p = part_whole bytes t k ok in omega arith
 
 pub slice_bounds-result-end-2 : goal.slice_bounds-result-end-2
@@ -54,7 +53,7 @@ slice_bounds-result-end-2 c =
     let bytes = st.args.bytes.now in
     let t = st.args.t in
     let k = st.args.k in
-    let ok = ap accepted (sym st.slot_part_answer-answer.ensures ∙ c.in-Accepted.is) in
+    let ok = ap accepted (sym st.slot_part_answer-answer.ensures ∙ c.in-Ok.is) in
     let p = part_whole bytes t k ok in omega arith
 
 pub returns : goal.returns
@@ -63,7 +62,7 @@ returns c =
     let bytes = st.args.bytes.now in
     let t = st.args.t in
     let k = st.args.k in
-    let ok = ap accepted (sym st.slot_part_answer-answer.ensures ∙ c.in-Accepted.is) in
+    let ok = ap accepted (sym st.slot_part_answer-answer.ensures ∙ c.in-Ok.is) in
     let p = part_whole bytes t k ok in
     let w : 203 * k + 203 - 203 * k ≡ 203 = omega arith in
     ap (λ (n : ℕ). take n (drop (203 * k) bytes)) w ∙ sym (part_is bytes t k ok)

@@ -1,5 +1,5 @@
 -- `mend::mend_near` meets its contract.
-use mathlib.Core.Path.{refl, sym}
+use mathlib.Core.Path.{sym}
 use Prim.Native.Nat.{◌/◌, ◌%◌}
 use native.Mathlib.Omega.{arith}
 use lib.ListN.{length}
@@ -14,8 +14,8 @@ slice_bounds-list_changes-end-2 c =
     let a = start.args in
     sym (front_long (a.start % 64) (a.end % 64) a.bits.now a.out.now _ write-stretch.write_stretch.ensures.writes)
 
-pub list_changes-count-requires : goal.list_changes-count-requires
-list_changes-count-requires c =
+pub list_changes-requires : goal.list_changes-requires
+list_changes-requires c =
     let write-stretch = c in
     let start = write-stretch in
     let a = start.args in
@@ -31,17 +31,15 @@ returns c =
     let bits = a.bits.now in
     let s = a.start % 64 in
     let wrote = write-stretch.write_stretch.ensures in
-    let listed = c.list_changes-count.ensures in
+    let listed = c.list_changes.ensures in
     let w = wrote.writes in
     let front = front_is s (a.end % 64) bits a.out.now _ w in
-    let few = start.requires.0.few in (
-      refl,
-      record {
-        inputs = w.inputs;
-        within = w.within;
-        out_is = w.out_is;
-        count_is = rw front at listed.0;
-        list_is = rw front at listed.1;
-        decisions_is = cleared (word_at s bits) (length bits / 2) a.decisions.now _ _ (omega arith) wrote.words clear.clear.ensures;
-      },
-    )
+    let few = start.requires.0.few in
+    record {
+      inputs = w.inputs;
+      within = w.within;
+      out_is = w.out_is;
+      count_is = rw front at listed.0;
+      list_is = rw front at listed.1;
+      decisions_is = cleared (word_at s bits) (length bits / 2) a.decisions.now _ _ (omega arith) wrote.words clear.clear.ensures;
+    }

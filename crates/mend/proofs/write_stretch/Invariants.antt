@@ -7,6 +7,3 @@ use Rattle.mend.proofs.write_stretch.Given as goal
 
 abbrev pub invariant-loop-t : goal.invariant-loop-t
 invariant-loop-t l = (l.s < 64) × (length l.out ≡ length l.initial.out) × (l.t ≤ length l.bits / 2) × Tail (l.start % 64) (l.end % 64) l.bits l.initial.out l.t l.s l.out
-
-abbrev pub decreases-loop-t : goal.decreases-loop-t
-decreases-loop-t l = l.t

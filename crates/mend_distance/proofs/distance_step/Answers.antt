@@ -23,7 +23,7 @@ loop-k-preserved c =
       omega arith,
       inv.2,
       stepped_more a.d.now (2 * a.x + a.y) k at.loop-k.d at.loop-k.w inv.3 h _ _ _ _ _
-          way.way-even.ensures c.way-odd.ensures c.smaller.ensures c.smaller-in-loop-k.ensures c.beats.ensures,
+          way.way-even.ensures c.way-odd.ensures c.min.ensures c.min-in-loop-k.ensures c.beats.ensures,
     )
 
 pub returns : goal.returns

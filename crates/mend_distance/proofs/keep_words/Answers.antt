@@ -12,7 +12,7 @@ pub loop-t-init : goal.loop-t-init
 loop-t-init c =
     let a = c.args in (
       search rules,
-      table_none (a.start % 64) (pair_at a.bits.now) c.start_table-first.result c.start_table-first.ensures,
+      table_none (a.start % 64) (pair_at a.bits.now) c.start_table-d.result c.start_table-d.ensures,
       words_none (word_at (a.start % 64) a.bits.now) a.decisions.now,
     )
 

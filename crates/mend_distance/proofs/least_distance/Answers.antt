@@ -12,7 +12,7 @@ use Rattle.mend_distance.proofs.least_distance.Goals as goal
 pub loop-t-init : goal.loop-t-init
 loop-t-init c =
     let a = c.args in
-    (search rules, table_none (a.start % 64) (pair_at a.bits.now) c.start_table-first.result c.start_table-first.ensures)
+    (search rules, table_none (a.start % 64) (pair_at a.bits.now) c.start_table-d.result c.start_table-d.ensures)
 
 pub distance_step-requires : goal.distance_step-requires
 distance_step-requires c =

@@ -4,7 +4,7 @@ use borrow.Author.Tests.{lt-ltb, le-ltb, eq-eqb, ne_eqb}
 use lib.Dec.{lit<}
 use lib.ListN.{length}
 use Rattle.refusal.proofs.RowLaws.{numbered, refused, done}
-use Rattle.refusal.specs.declared.Answer.TheVariants.{Length, Space}
+use Rattle.refusal.specs.Rows.{Length, Space}
 use Rattle.overlay.proofs.overlay.Goals as goal
 
 pub returns-then-us-vs : goal.returns-then-us-vs

@@ -3,6 +3,8 @@ use mathlib.Core.Path.{◌≡◌, ap, ◌∙◌}
 use Prim.Native.Nat.{◌-◌}
 use native.Mathlib.Omega.{arith}
 use lib.ListN.{length, length-drop}
+use Rattle.std.specs.Prelude.{Ok, Err}
+use Rattle.std.proofs.lemmas.Result.{err_from_is_err_and}
 use borrow.Rule.Slice.PartMut.{mid_of}
 use Rattle.path_reading.proofs.Parts.{mid_rest, put_rest}
 use Rattle.path_reading.proofs.Compose.{flushed, flushed_few}
@@ -10,17 +12,22 @@ use Rattle.path_reading.proofs.finished.Goals as goal
 
 pub overflow_add-result : goal.overflow_add-result
 overflow_add-result c =
-    let x6 = c in
-    let at = x6 in
-    let g = x6.flush-rest.ensures in
-    let part = mid_of at.args.pushed.count (length at.args.out.now - at.args.pushed.count) at.args.out.now in
-    let k = flushed_few at.args.pushed.dec x6.flush-rest.result at.args.decisions.now x6.flush-rest.new.decisions part x6.flush-rest.new.out g.answers g.leaves in
-    let l : length part ≡ length at.args.out.now - at.args.pushed.count = ap length (mid_rest at.args.pushed.count at.args.out.now) ∙ length-drop at.args.pushed.count at.args.out.now in
+    let a = c.args in
+    let g = rw c.in_ok-rest.was at c.flush.ensures in
+    let part = mid_of a.pushed.count (length a.out.now - a.pushed.count) a.out.now in
+    let k = flushed_few a.pushed.dec c.in_ok-rest.rest a.decisions.now c.flush.new.decisions part c.flush.new.out g.answers g.leaves in
+    let l : length part ≡ length a.out.now - a.pushed.count = ap length (mid_rest a.pushed.count a.out.now) ∙ length-drop a.pushed.count a.out.now in
     omega arith
+
+pub returns-in_err-rest : goal.returns-in_err-rest
+returns-in_err-rest c =
+    let a = c.args in
+    let p = err_from_is_err_and c.from_residual.result c.from_residual.ensures.1 in
+    let g = rw c.in_err-rest.was at c.flush.ensures in
+    rw (p.1, p.2) (flushed a.pushed (Err _) a.decisions.now c.flush.new.decisions a.out.now (mid_of a.pushed.count (length a.out.now - a.pushed.count) a.out.now) c.flush.new.out _ (omega arith) (mid_rest a.pushed.count a.out.now) g.answers g.leaves (put_rest a.pushed.count a.out.now c.flush.new.out (omega arith)))
 
 pub returns : goal.returns
 returns c =
-    let x6 = c in
-    let at = x6 in
-    let g = x6.flush-rest.ensures in
-    flushed at.args.pushed x6.flush-rest.result at.args.decisions.now x6.flush-rest.new.decisions at.args.out.now (mid_of at.args.pushed.count (length at.args.out.now - at.args.pushed.count) at.args.out.now) x6.flush-rest.new.out _ (omega arith) (mid_rest at.args.pushed.count at.args.out.now) g.answers g.leaves (put_rest at.args.pushed.count at.args.out.now x6.flush-rest.new.out (omega arith))
+    let a = c.args in
+    let g = rw c.in_ok-rest.was at c.flush.ensures in
+    flushed a.pushed (Ok c.in_ok-rest.rest) a.decisions.now c.flush.new.decisions a.out.now (mid_of a.pushed.count (length a.out.now - a.pushed.count) a.out.now) c.flush.new.out _ (omega arith) (mid_rest a.pushed.count a.out.now) g.answers g.leaves (put_rest a.pushed.count a.out.now c.flush.new.out (omega arith))

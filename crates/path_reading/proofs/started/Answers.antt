@@ -7,10 +7,10 @@ use Rattle.path_reading.proofs.started.Goals as goal
 
 pub returns-in-Given : goal.returns-in-Given
 returns-in-Given c =
-    let g = c.with_state-made.ensures in
-    fresh_is c.args.start _ c.with_state-made.result.answer c.with_state-made.result.dec (ap (start_values Isdb.states) c.in-Given.is) g.answers g.made
+    let g = c.with_state.ensures in
+    fresh_is c.args.start _ c.with_state.result (ap (start_values Isdb.states) c.in-Given.is) g.answers g.made
 
 pub returns-in-Unknown : goal.returns-in-Unknown
 returns-in-Unknown c =
-    let g = c.new_unknown_state-made.ensures in
-    fresh_is c.args.start _ c.new_unknown_state-made.result.answer c.new_unknown_state-made.result.dec (ap (start_values Isdb.states) c.in-Unknown.is) g.answers g.made
+    let g = c.new_unknown_state.ensures in
+    fresh_is c.args.start _ c.new_unknown_state.result (ap (start_values Isdb.states) c.in-Unknown.is) g.answers g.made

@@ -1,26 +1,14 @@
-use mathlib.Core.Path.{◌≡◌, refl, ◌∙◌, ap}
-use Prim.Native.Nat.{◌-◌}
-use native.Mathlib.Omega.{arith}
-use lib.ListN.{set}
-use borrow.Author.Rules.{rules}
-use lib.Ieee.{Float}
-use mathlib.Core.List.{List}
+-- `begin` meets its contract.
+use Rattle.std.proofs.Common.{◌≡◌, refl, ◌∙◌, sym, length, take, length-take-le}
 use Rattle.trellis.specs.Lists.{upto}
-use Rattle.trellis.specs.LaidLaws.{laid_upto}
+use Rattle.trellis.specs.ListLaws.{length_upto}
 use Rattle.isdbs_points.specs.Points.{zero64}
+use Rattle.quality_sums.specs.AddingLaws.{filled}
 use Rattle.quality_sums.proofs.begin.Goals as goal
-
-pub loop-i-init : goal.loop-i-init
-unfolding upto
-loop-i-init c = (omega arith, refl, refl)
-
-pub loop-i-preserved : goal.loop-i-preserved
-loop-i-preserved c =
-    let at = c.loop-i in
-    let w = c.args.out.now in
-    (omega arith, search rules, ap (λ (b : List Float). set b at.i zero64) at.invariant.2 ∙ laid_upto (λ k. zero64) at.i w zero64 (omega arith) refl)
 
 pub returns : goal.returns
 returns c =
-    let e : c.loop-i.i ≡ 336 = omega arith in
-    rw e at c.loop-i.invariant.2
+    let out = c.args.out.now in
+    let n : length (take 336 out) ≡ 336 = length-take-le 336 out c.requires in
+    let e : c.fill.new.self ≡ upto (λ _. zero64) 336 = c.fill.ensures.after (λ y h. h) ∙ rw n (filled zero64 336) in
+    rw (e, length_upto (λ _. zero64) 336) refl

@@ -9,14 +9,15 @@ use lib.Dec.{ltb}
 use lib.ListN.{length, replicate, length-replicate}
 use lib.Seq.{length-take-le}
 use lib.Ieee.{Float, binary32, of_bits}
-use Rattle.refusal.specs.Rows.{first_row, Either}
-use Rattle.refusal.specs.declared.Answer.{Answer}
-use Rattle.refusal.proofs.RowLaws.{done, refused, passed, neither}
-use Rattle.refusal.specs.declared.Answer.TheVariants as answer
+use Rattle.std.specs.Prelude.{Ok, Err}
+use Rattle.std.proofs.lemmas.Result.{err_from_is_err_and}
+use Rattle.refusal.specs.Rows.{first_row}
+use Rattle.refusal.proofs.RowLaws.{passed, neither}
+use Rattle.refusal.specs.Rows as answer
 use Rattle.short_code.specs.declared.Code.{Code}
 use Rattle.short_code.specs.Codes.{good_code}
 use Rattle.short_code.specs.CodeLaws.{good_length_lem}
-use Rattle.short_best.specs.Readings.{reading_rows, Finished, Refused}
+use Rattle.short_best.specs.Readings.{reading_rows, Refused}
 use Rattle.path_greatest.specs.declared.Start.{Start}
 use Rattle.short_best.specs.BestLaws.{greatest_sum}
 use Rattle.short_best.proofs.greatest_sum_reading.Goals as goal
@@ -33,29 +34,25 @@ enough c xs decisions out e =
     let s = neither (ltb out (length xs / 4)) (ltb decisions 4224) (p answer.Space) in
     record { good = not-false (good_code c) (p answer.Code); words = ltb-false decisions 4224 s.1; places = ltb-false out (length xs / 4) s.0 }
 
--- a refused one leaves what was there
-unread : (c : Code) (start : Start) (xs : List Float) (a : Answer) (decisions out : List ℕ) → (a ≡ answer.Accepted → ⊥) → Either a (Finished c start xs 0 decisions decisions out out) (Refused 0 decisions decisions out out)
-unread c start xs a decisions out n = refused a n (record { count_is = refl; words = refl; bits = refl })
-
-pub returns-in_default : goal.returns-in_default
-returns-in_default c =
+pub returns-in_err-answer_reading : goal.returns-in_err-answer_reading
+returns-in_err-answer_reading c =
     let a = c.args in
-    let r = c.answer_reading-answer.result in
-    let no = c.in_default.not-Accepted in
-    let e = c.answer_reading-answer.ensures in
-    let l = unread a.code a.start a.metrics.now r a.decisions.now a.out.now no in record { answers = e; leaves = l; greatest = greatest_sum a.code a.start a.metrics.now (record { answer = r; count = 0 }) a.decisions.now _ a.out.now _ e l }
+    let p = err_from_is_err_and c.from_residual.result c.from_residual.ensures.1 in
+    let e = sym c.in_err-answer_reading.was ∙ c.answer_reading.ensures in
+    let l : Refused a.decisions.now a.decisions.now a.out.now a.out.now = record { words = refl; bits = refl } in
+    rw (p.1, p.2) (record { answers = e; leaves = l; greatest = greatest_sum a.code a.start a.metrics.now (Err _) a.decisions.now _ a.out.now _ e l })
 
 pub half-h-requires : goal.half-h-requires
 half-h-requires c =
     let a = c.args in
-    let e = enough a.code a.metrics.now (length a.decisions.now) (length a.out.now) (sym c.in-Accepted.is ∙ c.answer_reading-answer.ensures) in
+    let e = enough a.code a.metrics.now (length a.decisions.now) (length a.out.now) (sym c.in_ok-answer_reading.was ∙ c.answer_reading.ensures) in
     good_length_lem a.code e.good
 
 pub run-count-requires : goal.run-count-requires
 run-count-requires c =
     let t = c in
     let a = t.args in
-    let e = enough a.code a.metrics.now (length a.decisions.now) (length a.out.now) (sym t.in-Accepted.is ∙ t.answer_reading-answer.ensures) in
+    let e = enough a.code a.metrics.now (length a.decisions.now) (length a.out.now) (sym t.in_ok-answer_reading.was ∙ t.answer_reading.ensures) in
     let half = c.half-h in
     let most = half.ensures.1 in
     let long = length-replicate 64 (of_bits binary32 0) in
@@ -69,5 +66,5 @@ returns c =
     let start = answer-reading in
     let a = start.args in
     let run = at-run.run-count in
-    let e = sym t.in-Accepted.is ∙ answer-reading.answer_reading-answer.ensures in
-    let l : Either answer.Accepted (Finished a.code a.start a.metrics.now run.result a.decisions.now run.new.decisions a.out.now run.new.out) (Refused run.result a.decisions.now run.new.decisions a.out.now run.new.out) = done run.ensures in record { answers = e; leaves = l; greatest = greatest_sum a.code a.start a.metrics.now (record { answer = answer.Accepted; count = run.result }) a.decisions.now run.new.decisions a.out.now run.new.out e l }
+    let e = sym t.in_ok-answer_reading.was ∙ answer-reading.answer_reading.ensures in
+    record { answers = e; leaves = run.ensures; greatest = greatest_sum a.code a.start a.metrics.now (Ok run.result) a.decisions.now run.new.decisions a.out.now run.new.out e run.ensures }

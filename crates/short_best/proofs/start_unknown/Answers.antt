@@ -8,24 +8,24 @@ use Rattle.trellis.specs.WrittenLaws.{written_none, written_more, written_whole}
 use Rattle.short_best.proofs.start_unknown.Invariants.{value}
 use Rattle.short_best.proofs.start_unknown.Goals as goal
 
-pub loop-k-init : goal.loop-k-init
-loop-k-init c = (refl, omega arith, refl, written_none nan value c.args.pm.now)
+pub loop-v-init : goal.loop-v-init
+loop-v-init c = (omega arith, refl, written_none nan value c.args.pm.now)
 
-pub loop-k-preserved : goal.loop-k-preserved
-loop-k-preserved c =
+pub loop-v-preserved : goal.loop-v-preserved
+loop-v-preserved c =
     let at = c in
-    let inv = at.loop-k.invariant in
-    let h : at.loop-k.k < length at.loop-k.pm = omega arith in
-    (inv.0, omega arith, simp length-set inv.2, written_more nan value at.loop-k.k at.loop-k.pm _ h inv.3 refl)
+    let inv = at.loop-v.invariant in
+    let h : at.loop-v.v-index < length at.loop-v.pm = omega arith in
+    (omega arith, simp length-set inv.1, written_more nan value at.loop-v.v-index at.loop-v.pm _ h inv.2 refl)
 
 pub shape_of-pm : goal.shape_of-pm
-shape_of-pm c = c.loop-k.invariant.2
+shape_of-pm c = c.loop-v.invariant.1
 
 pub returns : goal.returns
 unfolding start_unknown
 returns c =
     let at = c in
-    let inv = at.loop-k.invariant in
+    let inv = at.loop-v.invariant in
     let n = length at.args.pm.now in
-    let e : at.loop-k.k ≡ n = omega arith in
-    written_whole nan value n at.loop-k.pm inv.2 (rw e at inv).3
+    let e : at.loop-v.v-index ≡ n = omega arith in
+    written_whole nan value n at.loop-v.pm inv.1 (rw e at inv).2

@@ -1,7 +1,7 @@
 -- `short_fec::flush_from` meets its contract.
 use mathlib.Core.Path.{refl, sym, ◌∙◌, ap}
 use native.Mathlib.Omega.{arith}
-use Prim.Native.Nat.{ℕ, ◌-◌}
+use Prim.Native.Nat.{ℕ}
 use Rattle.short_code.specs.CodeLaws.{states_are, good_length_lem}
 use lib.ListN.{take}
 use native.Mathlib.Nat.{zero-add}
@@ -26,14 +26,12 @@ returns c =
     let start = at-half in
     let a = start.args in
     let half = at-half.half in
-    let done = finish-at.finish_at-count.ensures in (
-      refl,
-      record {
-        values = refl;
-        held_is = refl;
-        traceback_is = refl;
-        count_is = done.0 ∙ zero-add a.dec.held;
-        words = done.1;
-        bits = done.2 ∙ ap (λ (k : ℕ). laid (traced k (take a.dec.held a.decisions.now) a.state) a.out.now) half.ensures.2.half_is;
-      },
-    )
+    let done = finish-at.finish_at-count.ensures in
+    record {
+      values = refl;
+      held_is = refl;
+      traceback_is = refl;
+      count_is = done.0 ∙ zero-add a.dec.held;
+      words = done.1;
+      bits = done.2 ∙ ap (λ (k : ℕ). laid (traced k (take a.dec.held a.decisions.now) a.state) a.out.now) half.ensures.2.half_is;
+    }

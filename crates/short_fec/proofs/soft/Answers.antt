@@ -43,8 +43,6 @@ returns c =
     let end = soft-run.soft_run-end in
     let n = half.ensures.1 in
     let long = states.states-all.ensures.1 in
-    let taken = length-take-le (2 * half.result - 0) a.dec.pm (omega arith) in (
-      refl,
-      left a.code half.result (2 * half.result - 0) a.dec (λ h m. pushed h (labels a.code) rule a.dec.traceback (soft_steps a.per a.values.now) (holding (take m a.dec.pm) a.dec.held a.decisions.now) (length a.values.now / a.per))
-          end.new.pm end.result.held end.result.count a.decisions.now _ a.out.now _ half.ensures.2 (omega arith) (omega arith) end.ensures,
-    )
+    let taken = length-take-le (2 * half.result - 0) a.dec.pm (omega arith) in
+    left a.code half.result (2 * half.result - 0) a.dec (λ h m. pushed h (labels a.code) rule a.dec.traceback (soft_steps a.per a.values.now) (holding (take m a.dec.pm) a.dec.held a.decisions.now) (length a.values.now / a.per))
+    end.new.pm end.result.held end.result.count a.decisions.now _ a.out.now _ half.ensures.2 (omega arith) (omega arith) end.ensures

@@ -1,5 +1,4 @@
 -- `short_fec::soft_run` meets its contract.
-use Prim.Native.Nat.{◌-◌}
 use Rattle.trellis.specs.Isdb.{rule}
 use Rattle.trellis.specs.Run.{holding}
 use Rattle.viterbi_core.specs.HoldingLaws.{holds_closed}

@@ -2,7 +2,7 @@
 use mathlib.Core.Path.{◌≡◌, sym, ◌∙◌, ap}
 use native.Mathlib.Omega.{arith}
 use mathlib.Core.Bool.{Bool, true, false, cond}
-use Prim.Native.Nat.{ℕ, ◌-◌}
+use Prim.Native.Nat.{ℕ}
 use Rattle.short_code.specs.CodeLaws.{good_length_lem}
 use Rattle.short_fec.proofs.Whole.{started}
 use Rattle.short_fec.proofs.start.Goals as goal

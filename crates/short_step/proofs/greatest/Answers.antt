@@ -1,5 +1,4 @@
 use mathlib.Core.Path.{◌≡◌, refl, ◌∙◌}
-use Prim.Native.Nat.{◌-◌}
 use native.Mathlib.Omega.{arith}
 use lib.ListN.{length}
 use lib.Ieee.{neg, of_bits}
@@ -7,18 +6,18 @@ use Rattle.trellis.specs.Step.{top}
 use Rattle.trellis.proofs.RunLaws.{top_more}
 use Rattle.short_step.proofs.greatest.Goals as goal
 
-pub loop-s-init : goal.loop-s-init
+pub loop-v-init : goal.loop-v-init
 unfolding top of_bits neg
-loop-s-init c = (refl, omega arith, refl)
+loop-v-init c = (omega arith, refl)
 
-pub loop-s-preserved : goal.loop-s-preserved
-loop-s-preserved c =
+pub loop-v-preserved : goal.loop-v-preserved
+loop-v-preserved c =
     let at = c in
-    (at.loop-s.invariant.0, omega arith, c.greater-t.ensures ∙ top_more at.args.pm.now at.loop-s.t at.loop-s.s at.loop-s.invariant.2)
+    (omega arith, c.greater-t.ensures ∙ top_more at.args.pm.now at.loop-v.t at.loop-v.v-index at.loop-v.invariant.1)
 
 pub returns : goal.returns
 returns c =
     let at = c in
-    let inv = at.loop-s.invariant in
-    let e : at.loop-s.s ≡ length at.args.pm.now = omega arith in
-    (rw e at inv).2
+    let inv = at.loop-v.invariant in
+    let e : at.loop-v.v-index ≡ length at.args.pm.now = omega arith in
+    (rw e at inv).1

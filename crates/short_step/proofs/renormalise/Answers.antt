@@ -18,36 +18,35 @@ less pm new t long w =
     (long ∙ sym (length-map pm (λ x. sub binary32 x t)))
     (λ i h. w i (rw long at h) ∙ sym (get_or-map (λ x. sub binary32 x t) pm i nan))
 
-pub loop-s-init : goal.loop-s-init
-loop-s-init c =
+pub loop-v-init : goal.loop-v-init
+loop-v-init c =
     let pm = c.args.pm.now in
-    (refl, omega arith, refl, written_none nan (λ i. sub binary32 (get_or pm i nan) c.greatest-t.result) pm, λ i h. refl)
+    (omega arith, refl, written_none nan (λ i. sub binary32 (get_or pm i nan) c.greatest-t.result) pm, λ i h. refl)
 
-pub loop-s-preserved : goal.loop-s-preserved
-loop-s-preserved c =
+pub loop-v-preserved : goal.loop-v-preserved
+loop-v-preserved c =
     let at = c in
     let pm₀ = at.args.pm.now in
     let t = at.greatest-t.result in
-    let s = at.loop-s.s in
-    let inv = at.loop-s.invariant in
-    let h : s < length at.loop-s.pm = omega arith in (
-      inv.0,
+    let s = at.loop-v.v-index in
+    let inv = at.loop-v.invariant in
+    let h : s < length at.loop-v.pm = omega arith in (
       omega arith,
-      simp length-set inv.2,
-      written_more nan (λ i. sub binary32 (get_or pm₀ i nan) t) s at.loop-s.pm _ h inv.3 (ap (λ (x : Float). sub binary32 x t) (inv.4 s (omega arith))),
-      kept_more nan pm₀ s at.loop-s.pm _ inv.4,
+      simp length-set inv.1,
+      written_more nan (λ i. sub binary32 (get_or pm₀ i nan) t) s at.loop-v.pm _ h inv.2 (ap (λ (x : Float). sub binary32 x t) (inv.3 s (omega arith))),
+      kept_more nan pm₀ s at.loop-v.pm _ inv.3,
     )
 
 pub shape_of-pm : goal.shape_of-pm
-shape_of-pm c = c.loop-s.invariant.2
+shape_of-pm c = c.loop-v.invariant.1
 
 pub returns : goal.returns
 unfolding renormalised
 returns c =
     let at = c in
-    let inv = at.loop-s.invariant in
+    let inv = at.loop-v.invariant in
     let start = at in
     let pm = start.args.pm.now in
-    let e : at.loop-s.s ≡ length pm = omega arith in
-    less pm at.loop-s.pm at.greatest-t.result inv.2 (rw e at inv).3
+    let e : at.loop-v.v-index ≡ length pm = omega arith in
+    less pm at.loop-v.pm at.greatest-t.result inv.1 (rw e at inv).2
     ∙ ap (λ (t : Float). map (λ x. sub binary32 x t) pm) (at.greatest-t.ensures ∙ ap (top pm) start.requires)

@@ -7,7 +7,7 @@ use lib.ListN.{length, get_or, length-set}
 use lib.Ieee.{Float, nan, binary32, neg, of_bits}
 use borrow.Author.Tests.{eq-eqb, ne_eqb}
 use Rattle.trellis.specs.Step.{ruled}
-use Rattle.trellis.specs.WrittenLaws.{written_none, written_more, written_skip, kept_more, kept_skip, written_whole}
+use Rattle.trellis.specs.WrittenLaws.{written_none, written_more, kept_more, written_whole}
 use Rattle.short_step.proofs.rule_out.Invariants.{ruled_at}
 use Rattle.short_step.proofs.rule_out.Goals as goal
 use Rattle.short_step.proofs.rule_out.Goals.{then-s-h, else-s-h}
@@ -22,7 +22,7 @@ pub loop-s-init : goal.loop-s-init
 loop-s-init c =
     let start = c in
     let pm = start.args.pm.now in
-    (refl, omega arith, refl, refl, written_none nan (ruled_at start.args.h start.args.b pm) pm, λ i h. refl)
+    (omega arith, refl, refl, written_none nan (ruled_at start.args.h start.args.b pm) pm, λ i h. refl)
 
 pub loop-s-preserved : goal.loop-s-preserved
 unfolding of_bits neg
@@ -38,12 +38,12 @@ loop-s-preserved c =
     let inv = at.loop-s.invariant in
     let i : s < length pm = omega arith in
     elim c.if-s-h.branch [
-      | then-s-h w ↦ rw w.pm-is (inv.0, omega arith, inv.2, simp length-set inv.3, written_more nan f s pm _ i inv.4 (out h b pm₀ s (rw inv.2 at w.if-s-h.true)), kept_more nan pm₀ s pm _ inv.5)
-      | else-s-h w ↦ rw w.pm-is (inv.0, omega arith, inv.2, inv.3, written_skip nan f s pm inv.4 (inv.5 s (omega arith) ∙ stays h b pm₀ s (w.if-s-h.false ∙ inv.2)), kept_skip nan pm₀ s pm inv.5)
+      | then-s-h w ↦ rw w.pm-is (omega arith, inv.1, simp length-set inv.2, written_more nan f s pm _ i inv.3 (out h b pm₀ s (rw inv.1 at w.if-s-h.true)), kept_more nan pm₀ s pm _ inv.4)
+      | else-s-h w ↦ rw w.pm-is (omega arith, inv.1, simp length-set inv.2, written_more nan f s pm _ i inv.3 (inv.4 s (omega arith) ∙ stays h b pm₀ s (w.if-s-h.false ∙ inv.1)), kept_more nan pm₀ s pm _ inv.4)
     ]
 
 pub shape_of-pm : goal.shape_of-pm
-shape_of-pm c = c.loop-s.invariant.3
+shape_of-pm c = c.loop-s.invariant.2
 
 pub returns : goal.returns
 unfolding ruled
@@ -52,4 +52,4 @@ returns c =
     let start = at in
     let inv = at.loop-s.invariant in
     let e : at.loop-s.s ≡ 2 * start.args.h = omega arith in
-    written_whole nan (ruled_at start.args.h start.args.b start.args.pm.now) (2 * start.args.h) at.loop-s.pm (omega arith) (rw e at inv).4
+    written_whole nan (ruled_at start.args.h start.args.b start.args.pm.now) (2 * start.args.h) at.loop-s.pm (omega arith) (rw e at inv).3

@@ -9,21 +9,20 @@ use Rattle.short_step.proofs.start_at.Invariants.{value}
 use Rattle.short_step.proofs.start_at.Goals as goal
 
 pub loop-k-init : goal.loop-k-init
-loop-k-init c = (refl, omega arith, refl, written_none nan (value (c.args.state % length c.args.pm.now)) c.args.pm.now)
+loop-k-init c = (omega arith, refl, written_none nan (value (c.args.state % length c.args.pm.now)) c.args.pm.now)
 
 pub loop-k-preserved : goal.loop-k-preserved
 loop-k-preserved c =
     let at = c in
     let inv = at.loop-k.invariant in
     let h : at.loop-k.k < length at.loop-k.pm = omega arith in (
-      inv.0,
       omega arith,
-      simp length-set inv.2,
-      written_more nan (value (at.args.state % length at.args.pm.now)) at.loop-k.k at.loop-k.pm _ h inv.3 c.start_value.ensures,
+      simp length-set inv.1,
+      written_more nan (value (at.args.state % length at.args.pm.now)) at.loop-k.k at.loop-k.pm _ h inv.2 c.start_value.ensures,
     )
 
 pub shape_of-pm : goal.shape_of-pm
-shape_of-pm c = c.loop-k.invariant.2
+shape_of-pm c = c.loop-k.invariant.1
 
 pub returns : goal.returns
 unfolding start_at
@@ -33,4 +32,4 @@ returns c =
     let inv = at.loop-k.invariant in
     let n = length a.pm.now in
     let e : at.loop-k.k ≡ n = omega arith in
-    written_whole nan (value (a.state % n)) n at.loop-k.pm inv.2 (rw e at inv).3
+    written_whole nan (value (a.state % n)) n at.loop-k.pm inv.1 (rw e at inv).2

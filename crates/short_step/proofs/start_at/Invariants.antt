@@ -1,7 +1,7 @@
 -- `short_step::start_at` meets its contract. The invariant: the values below k are those of the start.
 use mathlib.Core.Path.{◌≡◌}
 use mathlib.Core.Bool.{cond}
-use Prim.Native.Nat.{ℕ, ◌-◌, ◌≤◌}
+use Prim.Native.Nat.{ℕ, ◌≤◌}
 use lib.Dec.{eqb}
 use lib.ListN.{length}
 use lib.Ieee.{Float, nan, binary32, of_bits}
@@ -12,7 +12,4 @@ abbrev pub value : ℕ → ℕ → Float
 value start k = cond (eqb k start) (of_bits binary32 0) (of_bits binary32 0xc974_2400)
 
 abbrev pub invariant-loop-k : goal.invariant-loop-k
-invariant-loop-k l = (l.k-end ≡ length l.initial.pm) × (l.k ≤ length l.initial.pm) × (length l.pm ≡ length l.initial.pm) × Written nan (value l.start) l.k l.pm
-
-abbrev pub decreases-loop-k : goal.decreases-loop-k
-decreases-loop-k l = length l.initial.pm - l.k
+invariant-loop-k l = (l.k ≤ length l.initial.pm) × (length l.pm ≡ length l.initial.pm) × Written nan (value l.start) l.k l.pm

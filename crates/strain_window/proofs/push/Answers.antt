@@ -1,10 +1,9 @@
 -- `push` meets its contract.
 use mathlib.Core.Path.{refl, sym, ◌∙◌}
 use Prim.Native.Nat.{◌<◌, ◌≤◌}
-use native.Mathlib.Omega.{arith}
 use borrow.Author.Tests.{lt-ltb}
 use lib.ListN.{length}
-use Rattle.refusal.specs.declared.Answer.TheVariants.{Window, Space}
+use Rattle.refusal.specs.declared.Refusal.TheVariants as row
 use Rattle.strain_window.proofs.After.{allowed}
 use Rattle.strain_window.proofs.Outcome.{turned_back, carried_out}
 use Rattle.strain_window.proofs.push.Goals as goal
@@ -12,16 +11,16 @@ use Rattle.strain_window.proofs.push.Goals as goal
 pub returns-then-is_outside : goal.returns-then-is_outside
 returns-then-is_outside c =
     let a = c.args in
-    turned_back Window a.state a.clear a.sum a.kept.now c.refused.result c.refused.ensures (omega arith)
+    turned_back row.Window a.state a.clear a.sum a.kept.now
     (rw (sym c.is_outside.ensures ∙ c.if-is_outside.true) refl)
 
-pub returns-then-kept-index : goal.returns-then-kept-index
-returns-then-kept-index c =
+pub returns-then-kept-state : goal.returns-then-kept-state
+returns-then-kept-state c =
     let past = c in
     let a = past.args in
     let inside = sym past.is_outside.ensures ∙ past.if-is_outside.false in
-    let short : length a.kept.now < a.state.window = rw past.index.ensures at past.if-kept-index.true in
-    turned_back Space a.state a.clear a.sum a.kept.now c.refused-then-kept-index.result c.refused-then-kept-index.ensures (omega arith)
+    let short : length a.kept.now < a.state.window = past.if-kept-state.true in
+    turned_back row.Space a.state a.clear a.sum a.kept.now
     (rw (inside, lt-ltb (length a.kept.now) a.state.window short) refl)
 
 pub keep_sum-requires : goal.keep_sum-requires
@@ -29,7 +28,7 @@ keep_sum-requires c =
     let past = c in
     let a = past.args in
     let inside = sym past.is_outside.ensures ∙ past.if-is_outside.false in
-    let room : a.state.window ≤ length a.kept.now = rw past.index.ensures at past.if-kept-index.false in
+    let room : a.state.window ≤ length a.kept.now = past.if-kept-state.false in
     allowed a.state a.sum a.kept.now inside room
 
 pub returns : goal.returns
@@ -38,5 +37,5 @@ returns c =
     let past = c in
     let a = past.args in
     let inside = sym past.is_outside.ensures ∙ past.if-is_outside.false in
-    let room : a.state.window ≤ length a.kept.now = rw past.index.ensures at past.if-kept-index.false in
-    carried_out inside room done.0 done.1
+    let room : a.state.window ≤ length a.kept.now = past.if-kept-state.false in
+    carried_out inside room done

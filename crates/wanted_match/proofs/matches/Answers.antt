@@ -43,8 +43,8 @@ same_block-requires c =
     let fits = on.0.fits in
     (omega (arith, fits, on.1, st.requires.1), omega (arith, fits, on.1, st.requires.2), omega (arith, on.2, lx, loop.invariant.2, st.requires.3), omega (arith, on.2, ly, loop.invariant.3, st.requires.4))
 
-pub returns-else-same_block : goal.returns-else-same_block
-returns-else-same_block c =
+pub returns-then-not-same_block : goal.returns-then-not-same_block
+returns-then-not-same_block c =
     let next-block = c in
     let at = next-block in
     let st = at in
@@ -52,7 +52,7 @@ returns-else-same_block c =
     let inv = at.loop-at.invariant in
     let made = next-block.next_block-next in
     let on = made.ensures.place in
-    block_differs a.f.plan st.requires.0 a.f.mapping a.f.first a.re.now a.im.now a.load.now at.loop-at.at made.result _ _ _ _ (made.ensures.block (start_state a.f.first) inv.1) on.1 on.0.fits c.same_block.result c.if-same_block.false c.same_block.ensures
+    block_differs a.f.plan st.requires.0 a.f.mapping a.f.first a.re.now a.im.now a.load.now at.loop-at.at made.result _ _ _ _ (made.ensures.block (start_state a.f.first) inv.1) on.1 on.0.fits c.same_block.result c.if-not-same_block.true c.same_block.ensures
 
 pub loop-at-smaller : goal.loop-at-smaller
 loop-at-smaller c =
@@ -79,7 +79,7 @@ loop-at-preserved c =
       block.state_is,
       lx ∙ inv.2,
       ly ∙ inv.3,
-      block_alike a.f.plan st.requires.0 a.f.mapping a.f.first a.re.now a.im.now a.load.now at.loop-at.at made.result _ _ _ _ block on.1 on.0.fits c.same_block.result c.if-same_block.true c.same_block.ensures inv.4,
+      block_alike a.f.plan st.requires.0 a.f.mapping a.f.first a.re.now a.im.now a.load.now at.loop-at.at made.result _ _ _ _ block on.1 on.0.fits c.same_block.result c.if-not-same_block.false c.same_block.ensures inv.4,
     )
 
 pub same_unused-requires : goal.same_unused-requires

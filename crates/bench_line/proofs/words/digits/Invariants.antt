@@ -1,11 +1,11 @@
 -- `digits` meets its contract.
-use Rattle.std.proofs.Common.{◌≡◌, ◌-◌, ◌<◌, ◌≤◌, length, drop}
+use Rattle.std.proofs.Common.{◌≡◌, ◌<◌, drop}
 use Rattle.bench_line.specs.Numbers.{number_from}
 use Rattle.bench_line.specs.NumberLaws.{most}
 use Rattle.bench_line.proofs.words.digits.Given as goal
 
-abbrev pub invariant-loop-i : goal.invariant-loop-i
-invariant-loop-i l = (l.i-end ≡ length l.s) × ((l.i ≤ length l.s) × (l.value < most l.i)) × (number_from l.value (drop l.i l.s) ≡ number_from 0 l.s)
-
-abbrev pub decreases-loop-i : goal.decreases-loop-i
-decreases-loop-i l = length l.s - l.i
+abbrev pub invariant-loop-b : goal.invariant-loop-b
+invariant-loop-b l = record {
+  small : l.value < most l.b-index;
+  rest : number_from l.value (drop l.b-index l.s) ≡ number_from 0 l.s;
+}

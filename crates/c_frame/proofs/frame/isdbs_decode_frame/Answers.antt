@@ -1,8 +1,7 @@
 -- `isdbs_decode_frame` meets its contract.
 use mathlib.Core.Path.{◌≡◌, refl, sym, ◌∙◌, ap}
 use lib.ListN.{length}
-use Rattle.refusal.specs.declared.Answer.{Answer}
-use Rattle.refusal.specs.Rows.{first_row, number_of}
+use Rattle.refusal.specs.Rows.{Answer, first_row, number_of}
 use Rattle.refusal.proofs.RowLaws.{zero_accepted}
 use Rattle.isdbs_phy.specs.DecodeRows.{decode_rows}
 use Rattle.isdbs_tables.specs.Tables.{table_rows}
@@ -38,8 +37,8 @@ returns-then-scales-ne7 c =
       total = kept n _ _ h;
     }
 
-pub returns-in-Decoded : goal.returns-in-Decoded
-returns-in-Decoded c =
+pub returns-in-Ok : goal.returns-in-Ok
+returns-in-Ok c =
     let p = c in
     let o = p in
     let g = o in
@@ -54,7 +53,7 @@ returns-in-Decoded c =
     let k-is : k ≡ first_row (scales_rows (table_of a.table) a.re.now a.im.now a.scales.now (length a.decisions.now) (length a.bits.now) (length a.bytes.now) (length a.counts.now)) = rw (t, z) (sym seven) in
     let x = strain_sum q.table_of-t.result (received_by a.re.now a.im.now g.mapping_of-m.result o.scales_of-all.result) (is_set a.known_start) (is_set a.first) in
     let e = p.decode_frame-r.ensures.answers in
-    let s = decoded k q.table_of-t.result x p.decode_frame-r.result e _ _ _ c.in-Decoded.is in
+    let s = decoded k q.table_of-t.result x p.decode_frame-r.result e c.in-Ok.f c.in-Ok.is in
     let f = p.decode_frame-r.ensures.leaves.0 s.0 in
     record {
       answers = sym (ap number_of s.0) ∙ ap number_of k-is;
@@ -65,8 +64,8 @@ returns-in-Decoded c =
       total = s.1 ∙ rw (t, m, z) refl;
     }
 
-pub returns-in-Refused : goal.returns-in-Refused
-returns-in-Refused c =
+pub returns-in-Err : goal.returns-in-Err
+returns-in-Err c =
     let p = c in
     let o = p in
     let g = o in
@@ -81,7 +80,7 @@ returns-in-Refused c =
     let k-is : k ≡ first_row (scales_rows (table_of a.table) a.re.now a.im.now a.scales.now (length a.decisions.now) (length a.bits.now) (length a.bytes.now) (length a.counts.now)) = rw (t, z) (sym seven) in
     let x = strain_sum q.table_of-t.result (received_by a.re.now a.im.now g.mapping_of-m.result o.scales_of-all.result) (is_set a.known_start) (is_set a.first) in
     let e = p.decode_frame-r.ensures.answers in
-    let n = refused k q.table_of-t.result x p.decode_frame-r.result e c.in-Refused.a c.in-Refused.is in
+    let n = refused k q.table_of-t.result x p.decode_frame-r.result e c.in-Err.row c.in-Err.is in
     let w : c.number.result ≡ number_of k = c.number.ensures ∙ n.0 in
     let h : c.number.result ≡ 0 → ⊥ = λ z. n.1 (zero_accepted k (sym w ∙ z)) in
     let l = p.decode_frame-r.ensures.leaves.1 n.1 in

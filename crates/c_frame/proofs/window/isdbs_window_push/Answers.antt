@@ -1,35 +1,32 @@
 -- `isdbs_window_push` meets its contract: it is one push of the library.
-use mathlib.Core.Path.{sym, ◌∙◌, ap}
+use mathlib.Core.Path.{◌≡◌, sym, ◌∙◌, ap}
+use Rattle.std.specs.Prelude.{Err}
 use Rattle.refusal.specs.Rows.{number_of}
-use Rattle.refusal.proofs.RowLaws.{zero_accepted}
+use Rattle.refusal.proofs.RowLaws.{err_refuses, zero_accepted}
 use Rattle.strain_window.specs.declared.WindowState.{WindowState}
 use Rattle.c_answers.specs.AnswerLaws.{kept}
 use Rattle.c_frame.proofs.window.isdbs_window_push.Goals as goal
 
-pub returns-then-answer-ne0 : goal.returns-then-answer-ne0
-returns-then-answer-ne0 c =
-    let n = c.number-answer in
-    let s = c.push-r.ensures in
-    let h = c.if-answer-ne0.true in
-    let l = s.leaves.1 (λ y. h (n.ensures ∙ ap number_of y)) in
+pub returns-in-Err : goal.returns-in-Err
+returns-in-Err c =
+    let n = c.number in
+    let s = rw c.in-Err.is at c.push.ensures in
+    let h : n.result ≡ 0 → ⊥ = λ z. err_refuses (zero_accepted (Err c.in-Err.row) (sym n.ensures ∙ z)) in
     record {
       answers = n.ensures ∙ ap number_of s.answers;
       filled = kept n.result _ _ h;
       follows = kept n.result _ _ h;
-      keeps = l.kept_is ∙ kept n.result _ _ h;
+      keeps = s.leaves ∙ kept n.result _ _ h;
       sums = kept n.result _ _ h;
       tops = kept n.result _ _ h;
     }
 
-pub returns : goal.returns
-returns c =
-    let n = c.number-answer in
-    let p = c.push-r in
-    let s = p.ensures in
-    let z = c.if-answer-ne0.false in
-    let l = s.leaves.0 (zero_accepted p.result.answer (sym n.ensures ∙ z)) in
+pub returns-in-Ok : goal.returns-in-Ok
+returns-in-Ok c =
+    let s = rw c.in-Ok.is at c.push.ensures in
+    let l = s.leaves in
     record {
-      answers = sym z ∙ n.ensures ∙ ap number_of s.answers;
+      answers = ap number_of s.answers;
       filled = ap (λ (v : WindowState). v.fill) l.state_is;
       follows = ap (λ (v : WindowState). v.next) l.state_is;
       keeps = l.kept_is;

@@ -6,11 +6,9 @@ use native.Mathlib.Omega.{arith}
 use lib.Bits.{bit_and}
 use lib.Dec.{T, eqb, eqb→eq}
 use borrow.Author.Tests.{lt-ltb, le-ltb}
-use Rattle.refusal.specs.declared.Answer.TheVariants.{State}
 use Rattle.trellis.specs.Code.{isdb, output, tapped}
 use Rattle.trellis.specs.Parity.{ones}
 use Rattle.trellis.specs.EachLaws.{all, each}
-use Rattle.isdb_fec.specs.AnswerLaws.{accepted, refused, numbered}
 use Rattle.isdb_fec.proofs.conv.branch_output.Goals as goal
 
 -- of w = 64 u + s: the parity under the generator g, and its output
@@ -24,7 +22,7 @@ right g t w u s e h k =
     rw (top, rest) at (eqb→eq (ones 8 (bit_and w g) % 2) (output isdb g (w / 64) (w % 64)) (each 128 (same g) t w (omega arith)))
 
 pub returns-then-state-ge-STATES : goal.returns-then-state-ge-STATES
-returns-then-state-ge-STATES c = record { answers = rw (lt-ltb 63 c.args.state (omega arith)) refl; outputs = refused State (numbered State (omega arith)) (refl, refl) }
+returns-then-state-ge-STATES c = record { answers = rw (lt-ltb 63 c.args.state (omega arith)) refl; outputs = tt }
 
 pub returns : goal.returns
 unfolding output tapped ones
@@ -33,7 +31,7 @@ returns c =
     let h : a.state < 64 = omega arith in
     let w : (a.u % 2 * 64) % 256 + a.state ≡ 64 * (a.u % 2) + a.state = omega arith in record {
       answers = rw (le-ltb 63 a.state (omega arith)) refl;
-      outputs = accepted (
+      outputs = (
         c.parity.ensures ∙ right 121 tt ((a.u % 2 * 64) % 256 + a.state) (a.u % 2) a.state w h (omega arith),
         c.parity-2.ensures ∙ right 91 tt ((a.u % 2 * 64) % 256 + a.state) (a.u % 2) a.state w h (omega arith),
       );

@@ -1,14 +1,13 @@
 -- `slot_byte_symbol` meets its contract.
-use Rattle.refusal.specs.Rows.{accepted}
-use Rattle.refusal.proofs.RowLaws.{is_refused}
-use Rattle.refusal.proofs.Told.{told}
-use Rattle.isdbs_plan.specs.PlanLaws.{runs_answer, runs_are, runs_in, runs_units}
+use Rattle.std.specs.Prelude.{Option, None, Result, Ok, Err}
+use Rattle.std.proofs.lemmas.Result.{err_from_is_err_and}
+use Rattle.refusal.specs.declared.Refusal.{Refusal}
+use Rattle.refusal.specs.Rows.{answered}
+use Rattle.isdbs_plan.specs.PlanLaws.{runs_accepted, runs_refused, runs_are, runs_in, runs_units}
 use Rattle.isdbs_plan.specs.RunsOf.{runs_of}
 use Rattle.isdbs_core.specs.SymbolLaws.{byte_padded, byte_said_lem}
 use Rattle.isdbs_core.specs.Symbols.{byte_in, slot_byte_symbol, slot_byte_said}
 use Rattle.isdbs_core.specs.Answers.{byte_said}
-use Rattle.isdbs_core.specs.declared.slots.SlotByte.{SlotByte}
-use Rattle.isdbs_core.specs.declared.slots.SlotByte.TheVariants.{Nothing, Refused}
 use Rattle.isdbs_tables.specs.declared.Table.{Table}
 use Prim.Native.Nat.{ℕ}
 use Rattle.isdbs_tables.specs.Tables.{table_answer}
@@ -20,52 +19,35 @@ use mathlib.Core.Path.{◌≡◌, sym, ◌∙◌, ap}
 use Rattle.isdbs_core.proofs.slots.slot_byte_symbol.Goals as goal
 
 -- the second clause from the first
-said_by : (t : Table) (slot byte : ℕ) (r : SlotByte) → r ≡ slot_byte_symbol t slot byte → byte_said r ≡ slot_byte_said t slot byte
+said_by : (t : Table) (slot byte : ℕ) (r : Result (Option ℕ) Refusal) → r ≡ slot_byte_symbol t slot byte → byte_said r ≡ slot_byte_said t slot byte
 said_by t slot byte r e = ap byte_said e ∙ byte_said_lem t slot byte
 
-pub runs-all-requires : goal.runs-all-requires
-runs-all-requires c = tt
-
-pub returns-in_default : goal.returns-in_default
-returns-in_default c =
-    let st = c in
-    let t = st.args.t in
-    let r = st.runs-all.result in
-    let e = st.runs-all.ensures in
-    let no = is_refused (table_answer t) (λ q. c.in_default.not-Accepted (runs_answer t r e ∙ q)) in
-    let is : Refused r.answer ≡ slot_byte_symbol t st.args.slot st.args.byte = rw (runs_answer t r e, no) in
-    record { is = is; said = said_by t st.args.slot st.args.byte (Refused r.answer) is }
+pub returns-in_err-all : goal.returns-in_err-all
+returns-in_err-all c =
+    let a = c.args in
+    let p = err_from_is_err_and c.from_residual.result c.from_residual.ensures.1 in
+    let e = runs_refused a.t _ (sym c.in_err-all.was ∙ c.runs.ensures) in
+    let is : c.from_residual.result ≡ slot_byte_symbol a.t a.slot a.byte = rw (p.1, p.2, ← e) in
+    record { is = is; said = said_by a.t a.slot a.byte c.from_residual.result is }
 
 pub returns-then-byte-ge-SLOT_BYTES : goal.returns-then-byte-ge-SLOT_BYTES
 returns-then-byte-ge-SLOT_BYTES c =
-    let st = c in
-    let t = st.args.t in
-    let r = st.runs-all.result in
-    let e = st.runs-all.ensures in
-    let ok = ap accepted (sym (runs_answer t r e) ∙ c.in-Accepted.is) in
-    let byte = st.args.byte in
-    let is : Nothing ≡ slot_byte_symbol t st.args.slot byte =
-    sym (byte_none (runs_of t) st.args.slot byte (le-ltb byte 203 c.if-byte-ge-SLOT_BYTES.true)) ∙ rw ok in
-    record { is = is; said = said_by t st.args.slot byte Nothing is }
+    let a = c.args in
+    let ok = runs_accepted a.t _ (sym c.in_ok-all.was ∙ c.runs.ensures) in
+    let is : Ok None ≡ slot_byte_symbol a.t a.slot a.byte =
+    rw (ok, byte_none (runs_of a.t) a.slot a.byte (le-ltb a.byte 203 c.if-byte-ge-SLOT_BYTES.true)) in
+    record { is = is; said = said_by a.t a.slot a.byte (Ok None) is }
 
 pub byte_in-requires : goal.byte_in-requires
 byte_in-requires c =
-    let st = c in
-    let t = st.args.t in
-    let r = st.runs-all.result in
-    let e = st.runs-all.ensures in
-    let ok = ap accepted (sym (runs_answer t r e) ∙ c.in-Accepted.is) in
-    (runs_in t r e ok, runs_units t r e ok, c.if-byte-ge-SLOT_BYTES.false)
+    let e = sym c.in_ok-all.was ∙ c.runs.ensures in
+    (runs_in c.args.t _ e, runs_units c.args.t _ e, c.if-byte-ge-SLOT_BYTES.false)
 
 pub returns : goal.returns
 returns c =
-    let st = c in
-    let t = st.args.t in
-    let r = st.runs-all.result in
-    let e = st.runs-all.ensures in
-    let ok = ap accepted (sym (runs_answer t r e) ∙ c.in-Accepted.is) in
-    let slot = st.args.slot in
-    let byte = st.args.byte in
-    let is : c.byte_in.result ≡ slot_byte_symbol t slot byte =
-    c.byte_in.ensures ∙ ap (λ (l : List Run). byte_in l slot byte) (runs_are t r e ok) ∙ byte_padded 4 (runs_of t) slot byte ∙ rw ok in
-    record { is = is; said = said_by t slot byte c.byte_in.result is }
+    let a = c.args in
+    let e = sym c.in_ok-all.was ∙ c.runs.ensures in
+    let b : c.byte_in.result ≡ byte_in (runs_of a.t) a.slot a.byte =
+    c.byte_in.ensures ∙ ap (λ (l : List Run). byte_in l a.slot a.byte) (runs_are a.t _ e) ∙ byte_padded 4 (runs_of a.t) a.slot a.byte in
+    let is : Ok c.byte_in.result ≡ slot_byte_symbol a.t a.slot a.byte = rw (runs_accepted a.t _ e, b) in
+    record { is = is; said = said_by a.t a.slot a.byte (Ok c.byte_in.result) is }

@@ -1,8 +1,7 @@
 -- `demod::decode_frame_one_scale` meets its contract: that of `decode_frame` at seven equal scales.
 use mathlib.Core.Path.{◌≡◌, sym, ◌∙◌, ap, subst}
 use lib.ListN.{length, replicate}
-use Rattle.refusal.specs.declared.Answer.{Answer}
-use Rattle.refusal.specs.Rows.{first_row}
+use Rattle.refusal.specs.Rows.{Answer, first_row}
 use Rattle.isdbs_metrics.specs.Reading.{Received}
 use Rattle.strain_marks.specs.Strain.{strain_sum}
 use Rattle.isdbs_phy.specs.DecodeRows.{decode_rows, one_scale_rows, frame_answer, FrameLeft}

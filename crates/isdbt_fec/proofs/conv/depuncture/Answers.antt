@@ -1,18 +1,19 @@
 -- `conv::depuncture` meets its contract.
 use mathlib.Core.Path.{refl, sym, ◌∙◌}
 use lib.ListN.{length}
+use Rattle.std.proofs.lemmas.Result.{err_from_is_err_and}
 use Rattle.isdbt_rows.proofs.RowLaws.{depuncture_enough}
-use Rattle.isdb_fec.specs.AnswerLaws.{accepted, refused}
-use Rattle.refusal.proofs.Told.{told}
 use Rattle.isdbt_fec.proofs.conv.depuncture.Goals as goal
 
-pub returns-in_default : goal.returns-in_default
-returns-in_default c = record { answers = c.answer_depuncture-answer.ensures; leaves = refused c.answer_depuncture-answer.result c.in_default.not-Accepted (record { count_is = refl; values = refl }) }
+pub returns-in_err-answer_depuncture : goal.returns-in_err-answer_depuncture
+returns-in_err-answer_depuncture c =
+    let p = err_from_is_err_and c.from_residual.result c.from_residual.ensures.1 in
+    record { answers = rw (p.1, p.2) (sym c.in_err-answer_depuncture.was ∙ c.answer_depuncture.ensures); leaves = rw p.1 refl }
 
-pub depuncture_periods-count-requires : goal.depuncture_periods-count-requires
-depuncture_periods-count-requires c =
+pub depuncture_periods-requires : goal.depuncture_periods-requires
+depuncture_periods-requires c =
     let a = c.args in
-    let yes = sym c.in-Accepted.is ∙ c.answer_depuncture-answer.ensures in
+    let yes = sym c.in_ok-answer_depuncture.was ∙ c.answer_depuncture.ensures in
     depuncture_enough a.rate (length a.llrs.now) (length a.out.now) yes
 
 pub returns : goal.returns
@@ -21,5 +22,5 @@ returns c =
     let answer-depuncture = at-enum-told in
     let start = answer-depuncture in
     let a = start.args in
-    let yes = sym at-enum-told.in-Accepted.is ∙ answer-depuncture.answer_depuncture-answer.ensures in
-    let q = c.depuncture_periods-count.ensures in record { answers = yes; leaves = accepted (record { count_is = q.0; values = q.1 }) }
+    let yes = sym at-enum-told.in_ok-answer_depuncture.was ∙ answer-depuncture.answer_depuncture.ensures in
+    let q = c.depuncture_periods.ensures in record { answers = yes; leaves = (record { count_is = q.0; values = q.1 }) }

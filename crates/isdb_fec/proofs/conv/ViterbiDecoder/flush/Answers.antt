@@ -1,25 +1,23 @@
 -- `conv::ViterbiDecoder::flush` meets its contract.
 use mathlib.Core.Path.{refl, sym, ◌∙◌}
-use Prim.Native.Nat.{◌-◌}
 use native.Mathlib.Omega.{arith}
 use lib.ListN.{length}
-use Rattle.isdb_fec.specs.AnswerLaws.{accepted, flush_enough}
+use Rattle.std.proofs.lemmas.Result.{err_from_is_err_and}
+use Rattle.isdb_fec.specs.AnswerLaws.{flush_enough}
 use Rattle.isdb_fec.proofs.WholeLaws.{as_given}
 use Rattle.isdb_fec.proofs.conv.ViterbiDecoder.flush.Goals as goal
 
-pub returns-in_default : goal.returns-in_default
-returns-in_default c =
+pub returns-in_err-answer_flush : goal.returns-in_err-answer_flush
+returns-in_err-answer_flush c =
     let a = c.args in
-    record {
-      answers = c.answer_flush-answer.ensures;
-      leaves = as_given a.self c.answer_flush-answer.result a.decisions.now a.out.now c.in_default.not-Accepted;
-    }
+    let p = err_from_is_err_and c.from_residual.result c.from_residual.ensures.1 in
+    record { answers = rw (p.1, p.2) (sym c.in_err-answer_flush.was ∙ c.answer_flush.ensures); leaves = rw p.1 (as_given a.decisions.now a.out.now) }
 
 pub finish-count-requires : goal.finish-count-requires
 finish-count-requires c =
     let told = c in
     let a = told.args in
-    let ok = sym told.in-Accepted.is ∙ told.answer_flush-answer.ensures in
+    let ok = sym told.in_ok-answer_flush.was ∙ told.answer_flush.ensures in
     let e = flush_enough a.self (length a.decisions.now) (length a.out.now) ok in
     (omega arith, omega arith)
 
@@ -30,9 +28,9 @@ returns c =
     let answer-flush = told in
     let start = answer-flush in
     let a = start.args in
-    let ok = sym told.in-Accepted.is ∙ answer-flush.answer_flush-answer.ensures in
+    let ok = sym told.in_ok-answer_flush.was ∙ answer-flush.answer_flush.ensures in
     let e = flush_enough a.self (length a.decisions.now) (length a.out.now) ok in
     let done = finish.finish-count.ensures in record {
       answers = ok;
-      leaves = accepted (record { values = refl; held_is = refl; traceback_is = refl; count_is = done.0 ∙ omega arith; words = done.1; bits = done.2 });
+      leaves = (record { values = refl; held_is = refl; traceback_is = refl; count_is = done.0 ∙ omega arith; words = done.1; bits = done.2 });
     }

@@ -4,24 +4,23 @@ use Prim.Native.Nat.{◌/◌}
 use native.Mathlib.Omega.{arith}
 use borrow.Author.Rules.{rules}
 use lib.ListN.{length}
+use Rattle.std.proofs.lemmas.Result.{err_from_is_err_and}
 use Rattle.trellis.specs.Run.{four_steps}
-use Rattle.isdb_fec.specs.AnswerLaws.{accepted, stream_enough}
+use Rattle.isdb_fec.specs.AnswerLaws.{stream_enough}
 use Rattle.isdb_fec.proofs.WholeLaws.{runs, closes, as_given}
 use Rattle.isdb_fec.proofs.conv.ViterbiDecoder.push_metrics.Goals as goal
 
-pub returns-in_default : goal.returns-in_default
-returns-in_default c =
+pub returns-in_err-answer_stream : goal.returns-in_err-answer_stream
+returns-in_err-answer_stream c =
     let a = c.args in
-    record {
-      answers = c.answer_stream-answer.ensures;
-      leaves = as_given a.self c.answer_stream-answer.result a.decisions.now a.out.now c.in_default.not-Accepted;
-    }
+    let p = err_from_is_err_and c.from_residual.result c.from_residual.ensures.1 in
+    record { answers = rw (p.1, p.2) (sym c.in_err-answer_stream.was ∙ c.answer_stream.ensures); leaves = rw p.1 (as_given a.decisions.now a.out.now) }
 
 pub run_steps-at-requires : goal.run_steps-at-requires
 run_steps-at-requires c =
     let known = c in
     let a = known.args in
-    let e = stream_enough 4 a.self a.metrics.now (length a.decisions.now) (length a.out.now) (sym known.in-Accepted.is ∙ known.answer_stream-answer.ensures) in
+    let e = stream_enough 4 a.self a.metrics.now (length a.decisions.now) (length a.out.now) (sym known.in_ok-answer_stream.was ∙ known.answer_stream.ensures) in
     let room = e.room in
     (e.least, e.most, e.fewer, e.fits, omega arith, search rules, omega arith)
 
@@ -38,11 +37,11 @@ returns c =
     let n = length a.metrics.now / 4 in
     let dec = a.decisions.now in
     let out = a.out.now in
-    let taken = sym known.in-Accepted.is ∙ answer-stream.answer_stream-answer.ensures in
+    let taken = sym known.in_ok-answer_stream.was ∙ answer-stream.answer_stream.ensures in
     let e = stream_enough 4 v a.metrics.now (length dec) (length out) taken in
     let dec' = ran.new.decisions in
     let out' = ran.new.out in
     record {
       answers = taken;
-      leaves = accepted (closes v xs n dec out e ran.new.pm c.renormalise.new.pm ran.result dec' out' (runs v xs n dec out e ran.result ran.new.pm dec' out' ran.ensures) c.renormalise.ensures);
+      leaves = (closes v xs n dec out e ran.new.pm c.renormalise.new.pm ran.result dec' out' (runs v xs n dec out e ran.result ran.new.pm dec' out' ran.ensures) c.renormalise.ensures);
     }

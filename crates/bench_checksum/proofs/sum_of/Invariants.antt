@@ -1,9 +1,0 @@
--- `sum_of` is safe and ends.
-use Prim.Native.Nat.{◌-◌, ◌≤◌}
-use Rattle.bench_checksum.proofs.sum_of.Given as goal
-
-abbrev pub invariant-loop : goal.invariant-loop
-invariant-loop l = l.counter ≤ 1000000
-
-abbrev pub decreases-loop : goal.decreases-loop
-decreases-loop l = 1000000 - l.counter

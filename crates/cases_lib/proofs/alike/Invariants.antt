@@ -1,9 +1,0 @@
--- `alike` meets its contract.
-use Prim.Native.Nat.{◌-◌, ◌≤◌}
-use Rattle.cases_lib.proofs.alike.Given as goal
-
-abbrev pub invariant-loop-i : goal.invariant-loop-i
-invariant-loop-i l = (l.same ≤ l.i) × (l.i ≤ l.end)
-
-abbrev pub decreases-loop-i : goal.decreases-loop-i
-decreases-loop-i l = l.end - l.i

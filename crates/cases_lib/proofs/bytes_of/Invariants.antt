@@ -1,9 +1,0 @@
--- `bytes_of` meets its contract.
-use Prim.Native.Nat.{◌-◌, ◌≤◌}
-use Rattle.cases_lib.proofs.bytes_of.Given as goal
-
-abbrev pub invariant-loop-i : goal.invariant-loop-i
-invariant-loop-i l = l.n ≤ l.i
-
-abbrev pub decreases-loop-i : goal.decreases-loop-i
-decreases-loop-i l = l.end - l.i

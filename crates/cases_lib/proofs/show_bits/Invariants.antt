@@ -1,9 +1,0 @@
--- `show_bits` meets its contract.
-use Prim.Native.Nat.{◌-◌, ◌≤◌}
-use Rattle.cases_lib.proofs.show_bits.Given as goal
-
-abbrev pub invariant-loop-i : goal.invariant-loop-i
-invariant-loop-i l = l.i ≤ l.i-end
-
-abbrev pub decreases-loop-i : goal.decreases-loop-i
-decreases-loop-i l = l.i-end - l.i

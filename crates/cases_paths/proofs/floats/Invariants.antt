@@ -1,9 +1,0 @@
--- `floats` is safe and ends.
-use Prim.Native.Nat.{◌-◌, ◌≤◌}
-use Rattle.cases_paths.proofs.floats.Given as goal
-
-abbrev pub invariant-loop-k : goal.invariant-loop-k
-invariant-loop-k l = l.k ≤ 32
-
-abbrev pub decreases-loop-k : goal.decreases-loop-k
-decreases-loop-k l = 32 - l.k

@@ -1,9 +1,0 @@
--- `right` meets its contract.
-use Prim.Native.Nat.{◌-◌, ◌≤◌}
-use Rattle.cases_quality.proofs.right.Given as goal
-
-abbrev pub invariant-loop-k : goal.invariant-loop-k
-invariant-loop-k l = (l.n ≤ l.k) × (l.k ≤ 336)
-
-abbrev pub decreases-loop-k : goal.decreases-loop-k
-decreases-loop-k l = 336 - l.k

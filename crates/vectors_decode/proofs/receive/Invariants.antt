@@ -1,9 +1,0 @@
--- `receive` meets its contract.
-use Prim.Native.Nat.{◌-◌, ◌≤◌}
-use Rattle.vectors_decode.proofs.receive.Given as goal
-
-abbrev pub invariant-loop-k : goal.invariant-loop-k
-invariant-loop-k l = l.k ≤ 38976
-
-abbrev pub decreases-loop-k : goal.decreases-loop-k
-decreases-loop-k l = 38976 - l.k
