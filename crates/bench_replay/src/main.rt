@@ -72,12 +72,11 @@ fn nibble(digits: &[u8], i: usize) -> u8
 
 // The bytes of hexadecimal digits, two for each; answers how many.
 fn unhex(digits: &[u8], bytes: &mut [u8; LINE_BYTES]) -> usize {
-    let mut i: usize = 0;
-    while i < LINE_BYTES && 2 * i < digits.len() {
-        bytes[i] = 16 * nibble(digits, 2 * i) + nibble(digits, 2 * i + 1);
-        i = i + 1;
+    let count = digits.len().div_ceil(2).min(LINE_BYTES);
+    for (i, byte) in bytes.iter_mut().enumerate().take(count) {
+        *byte = 16 * nibble(digits, 2 * i) + nibble(digits, 2 * i + 1);
     }
-    i
+    count
 }
 
 // Writes the bytes of a line into a file at its place.
@@ -115,9 +114,10 @@ fn copy_some(from: i32, to: i32) -> bool {
 
 // Copies an open file of up to 1,000 buffers.
 fn copy_all(from: i32, to: i32) {
-    let mut turns: usize = 1_000;
-    while turns > 0 && copy_some(from, to) {
-        turns = turns - 1;
+    for _ in 0..1_000 {
+        if !copy_some(from, to) {
+            return;
+        }
     }
 }
 
@@ -163,9 +163,10 @@ fn turn_part(from: i32, to: i32) -> bool {
 
 // Copies the points of an open file, of up to ten frames, turned by 180 degrees.
 fn turn_all(from: i32, to: i32) {
-    let mut turns: usize = 10 * PARTS;
-    while turns > 0 && turn_part(from, to) {
-        turns = turns - 1;
+    for _ in 0..10 * PARTS {
+        if !turn_part(from, to) {
+            return;
+        }
     }
 }
 

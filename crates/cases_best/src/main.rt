@@ -5,7 +5,7 @@
 ghost use Rattle.std.specs.Prelude.{◌≤◌};
 
 use cases_lib::{end_line, one, row, show, show_bits, show_one, wide};
-use cases_paths::{Survey, floats, has_inputs, larger, scattered, search_all};
+use cases_paths::{Survey, floats, has_inputs, scattered, search_all};
 use isdb_fec::conv::{G1, G2};
 use path_reading::Start;
 use trellis::FRAME_WORDS;
@@ -25,8 +25,8 @@ fn search(metrics: &[u8; 32], n: usize, from: u32, to: u32) -> Survey {
 fn inputs_of(inputs: u32) -> [u8; 8] {
     let mut bits = inputs;
     let mut us = [0u8; 8];
-    for k in 0..8usize {
-        us[k] = (bits % 2) as u8;
+    for u in us.iter_mut() {
+        *u = (bits % 2) as u8;
         bits = bits / 2;
     }
     us
@@ -119,7 +119,7 @@ fn stretch(n: usize)
         let given = tried(&ms, n, Start::Given(from as u8), from, from + 1);
         let any = tried(&ms, n, Start::Unknown, 0, 64);
         first = first + given.first + any.first;
-        paths = larger(paths, larger(given.paths, any.paths));
+        paths = paths.max(given.paths.max(any.paths));
     }
     let found = [n, first, wide(paths)];
     show(b"steps $ first $ of 00032, equal paths up to $\n", &found);

@@ -8,7 +8,7 @@ ghost use Rattle.best_grid.specs.Sides.{Upright};
 
 use best_content::best_content;
 use cases_lib::{one, show, text, wide};
-use cases_paths::{isdb_label, larger, next};
+use cases_paths::{isdb_label, next};
 use path_greatest::Start;
 
 // The lowest k bits.
@@ -410,7 +410,7 @@ fn counted(t: Tally, one_more: Trial) -> Tally {
         agree: t.agree % 65536 + one_more.agrees % 2,
         equal: t.equal % 65536 + one(one_more.contents > 1),
         zeros: t.zeros % 65536 + one_more.zeros % 4,
-        most: larger(t.most, one_more.contents),
+        most: t.most.max(one_more.contents),
     }
 }
 

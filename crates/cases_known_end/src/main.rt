@@ -14,9 +14,9 @@ const PLACES: [u32; 10] = [1, 2, 4, 16, 32, 64, 128, 2048, 4096, 8192];
 fn soft_pairs(received: u32) -> [f32; 14] {
     let mut bits = received;
     let mut xs = [1.0f32; 14];
-    for k in 0..14 {
+    for x in xs.iter_mut() {
         if bits % 2 == 1 {
-            xs[k] = -1.0f32;
+            *x = -1.0f32;
         }
         bits = bits / 2;
     }
@@ -47,14 +47,13 @@ struct Errors {
 
 // The places that the bits of c choose.
 fn chosen(c: u32) -> Errors {
-    let places = PLACES;
     let mut rest = c;
     let mut count: u32 = 0;
     let mut wrong: u32 = 0;
-    for i in 0..10 {
+    for place in PLACES {
         if rest % 2 == 1 {
             count = count % 10 + 1;
-            wrong = wrong | places[i];
+            wrong = wrong | place;
         }
         rest = rest / 2;
     }

@@ -5,7 +5,7 @@
 
 ghost use Rattle.std.specs.Prelude.{◌≤◌, ◌<◌};
 
-use cases_lib::{float_bits, float_of, number, passed, read_line, show_agreeing, small, wide};
+use cases_lib::{agreeing, float_bits, float_of, number, show_agreeing, small, wide};
 use isdb_fec::conv::ConvEncoder;
 use isdbt_fec::conv::{CodeRate, Puncturing, decode_punctured, depuncture, encode_punctured};
 use std::fs::File;
@@ -181,11 +181,11 @@ fn rate_of(row: u64) -> CodeRate {
     }
 }
 
-fn case_of(line: &[u8; 24]) -> Case {
+fn case_of(line: &[u8]) -> Case {
     let row = number(line, 2, 3) % 16;
     let periods = number(line, 9, 14) % 0x10_0000;
     Case {
-        call: line[0],
+        call: line.first().copied().unwrap_or(b'd'),
         rate: rate_of(row),
         seed: row * 100000 + periods,
         traceback: (number(line, 4, 8) % 0x1_0000) as usize,
@@ -211,7 +211,7 @@ fn answer(
 }
 
 // Whether the call gives the line's digest.
-fn agrees(line: &[u8; 24]) -> bool {
+fn agrees(line: &[u8]) -> bool {
     let mut values = [0.0f32; 18688];
     let mut spread = [0.0f32; 9856];
     let mut decisions = [0u64; 5120];
@@ -228,23 +228,6 @@ fn agrees(line: &[u8; 24]) -> bool {
     given == number(line, 15, 23)
 }
 
-// Whether a whole line was read and the call gives its digest; a line where it does not is shown.
-fn passes(file: i32) -> bool {
-    let mut line = [0u8; 24];
-    if !read_line(file, &mut line) {
-        return false;
-    }
-    let same = agrees(&line);
-    passed(&line, same)
-}
-
-// How many of the lines pass: none of those that are missing.
-fn agreeing(file: i32) -> usize
-    ensures { result ≤ 220 }
-{
-    (0..LINES).filter(|_| passes(file)).count()
-}
-
 fn main(rt: HostRuntime) {
     let path = "isdbt.txt";
     let file = match File::open(&rt, path) {
@@ -254,6 +237,6 @@ fn main(rt: HostRuntime) {
             return;
         }
     };
-    let agree = agreeing(file.as_raw_fd());
+    let agree = agreeing(file.as_raw_fd(), LINES, &mut [0u8; 24], agrees);
     show_agreeing(agree, LINES);
 }
