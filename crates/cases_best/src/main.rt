@@ -40,7 +40,8 @@ fn read(
     out: &mut [u8; 8],
 ) -> usize {
     let xs = floats(metrics);
-    row(path_reading::greatest_sum_reading(&xs, start, decisions, out).map(|_| ()))
+    let r = path_reading::greatest_sum_reading(&xs, start, decisions, out);
+    row(r.map(|_| ()).map_err(|t| t.row))
 }
 
 fn show_eight(bits: &[u8; 8]) {

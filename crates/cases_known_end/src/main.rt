@@ -32,7 +32,8 @@ fn read(
     out: &mut [u8; 7],
 ) -> usize {
     let xs = soft_pairs(received);
-    row(known_end::read_between(1024, start, end, &xs, decisions, out).map(|_| ()))
+    let r = known_end::read_between(1024, start, end, &xs, decisions, out);
+    row(r.map(|_| ()).map_err(|t| t.row))
 }
 
 fn are_zero(out: &[u8; 7]) -> bool {

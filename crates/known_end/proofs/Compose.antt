@@ -34,12 +34,14 @@ use Rattle.range_calls.specs.Handed.{push_hands}
 use Rattle.range_calls.proofs.Answers.{stream_answer, flush_answer}
 use Rattle.range_calls.specs.Finished.{Finished}
 use Rattle.trellis.proofs.RunLaws.{depth_range}
-use Rattle.known_end.specs.Calls.{read, between_rows, Left, Corrects}
+use Rattle.range_calls.specs.declared.TurnedBack.{TurnedBack}
+use Rattle.range_calls.specs.Turned.{row_of, turned}
+use Rattle.known_end.specs.Calls.{fresh, read, between_rows, Left, Corrects}
 use Rattle.known_end.specs.Behind.{Behind}
 use Rattle.known_end.proofs.Rows.{started, Passed, passed, fresh_passes, soft_rows}
 
 -- ---- the theorem follows from the rows and from what is left
-corrects : (tb s e : ℕ) (xs : List Float) (r : Result Released Refusal) (dec₀ dec out₀ out : List ℕ) → answer_of r ≡ first_row (between_rows tb xs (length dec₀) (length out₀)) → Left tb s e xs r dec₀ dec out₀ out
+corrects : (tb s e : ℕ) (xs : List Float) (r : Result Released TurnedBack) (dec₀ dec out₀ out : List ℕ) → row_of r ≡ first_row (between_rows tb xs (length dec₀) (length out₀)) → Left tb s e xs r dec₀ dec out₀ out
     → Corrects tb s e xs r (length dec₀) (length out₀) out
 corrects tb s e xs r dec₀ dec out₀ out a l us ps h few bits ends coded count four is =
     let n : length xs / 2 ≡ length us = let k = ap length is ∙ length_soft ps in omega arith in
@@ -57,17 +59,17 @@ corrects tb s e xs r dec₀ dec out₀ out a l us ps h few bits ends coded count
     )
 
 -- what is promised of the whole
-abbrev pub Meets : ℕ → ℕ → ℕ → List Float → Result Released Refusal → List ℕ → List ℕ → List ℕ → List ℕ → Type 0
+abbrev pub Meets : ℕ → ℕ → ℕ → List Float → Result Released TurnedBack → List ℕ → List ℕ → List ℕ → List ℕ → Type 0
 Meets tb s e xs r dec₀ dec out₀ out =
-    (answer_of r ≡ first_row (between_rows tb xs (length dec₀) (length out₀))) × Left tb s e xs r dec₀ dec out₀ out × Corrects tb s e xs r (length dec₀) (length out₀) out
+    (row_of r ≡ first_row (between_rows tb xs (length dec₀) (length out₀))) × Left tb s e xs r dec₀ dec out₀ out × Corrects tb s e xs r (length dec₀) (length out₀) out
 
-meets : (tb s e : ℕ) (xs : List Float) (r : Result Released Refusal) (dec₀ dec out₀ out : List ℕ) → answer_of r ≡ first_row (between_rows tb xs (length dec₀) (length out₀)) → Left tb s e xs r dec₀ dec out₀ out
+meets : (tb s e : ℕ) (xs : List Float) (r : Result Released TurnedBack) (dec₀ dec out₀ out : List ℕ) → row_of r ≡ first_row (between_rows tb xs (length dec₀) (length out₀)) → Left tb s e xs r dec₀ dec out₀ out
     → Meets tb s e xs r dec₀ dec out₀ out
 meets tb s e xs r dec₀ dec out₀ out a l = (a, l, corrects tb s e xs r dec₀ dec out₀ out a l)
 
--- ---- refused: nothing is written
-pub turned_back : (tb s e : ℕ) (xs : List Float) (row : Refusal) (dec out : List ℕ) → Err row ≡ first_row (between_rows tb xs (length dec) (length out)) → Meets tb s e xs (Err row) dec dec out out
-turned_back tb s e xs row dec out is = meets tb s e xs (Err row) dec dec out out is (record { words = refl; bits = refl })
+-- ---- refused: the fresh decoder, and nothing is written
+pub turned_back : (tb s e : ℕ) (xs : List Float) (t : TurnedBack) (dec out : List ℕ) → t.dec ≡ fresh tb s → Err t.row ≡ first_row (between_rows tb xs (length dec) (length out)) → Meets tb s e xs (Err t) dec dec out out
+turned_back tb s e xs t dec out made is = meets tb s e xs (Err t) dec dec out out is (made, record { words = refl; bits = refl })
 
 -- ---- a flush behind the bits that are there: no more bits than places
 pub few_bits : (e : ℕ) (v : ViterbiDecoder) (rest : Released) (dec₁ dec₂ part end : List ℕ) → Accepted ≡ first_row (flush_rows v (length dec₁) (length part)) → FlushesAt e v rest dec₁ dec₂ part end → rest.count ≤ length part
@@ -186,6 +188,6 @@ module _ (tb s e : ℕ) (xs : List Float) (dec₀ dec₁ out₀ out₁ : List �
               ∙ laid_after d.bits (Isdb.traced d.words (e % 64)) out₀;
         }
 
-    pub accepted : (r : Result Released Refusal) → answer_of r ≡ first_row (flush_rows p.dec (length dec₁) (length out₁ - p.count)) → IfOk r (λ x. Behind e p x dec₁ dec₂ out₁ out₂) → Meets tb s e xs r dec₀ dec₂ out₀ out₂
+    pub accepted : (r : Result Released Refusal) → answer_of r ≡ first_row (flush_rows p.dec (length dec₁) (length out₁ - p.count)) → IfOk r (λ x. Behind e p x dec₁ dec₂ out₁ out₂) → Meets tb s e xs (turned (fresh tb s) r) dec₀ dec₂ out₀ out₂
     accepted (Ok x) a b = meets tb s e xs (Ok x) dec₀ dec₂ out₀ out₂ (sym ok) (finished x b)
     accepted (Err row) a b = absurd (err_refuses {row = row} (done (Err row) a))

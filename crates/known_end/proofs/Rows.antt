@@ -1,5 +1,5 @@
 -- Which rows hold: of a reading that passes, and of a stretch of +1 and -1.
-use mathlib.Core.Path.{◌≡◌, refl, sym, ◌∙◌}
+use mathlib.Core.Path.{◌≡◌, refl, sym}
 use mathlib.Core.Bool.{Bool, true, false, not, cond, ◌||◌}
 use mathlib.Core.List.{List, [], ◌∷◌}
 use Prim.Native.Nat.{ℕ, ◌+◌, ◌/◌, ◌%◌, ◌≤◌}
@@ -9,6 +9,7 @@ use lib.Dec.{eqb, ltb}
 use lib.ListN.{length}
 use lib.Ieee.{Float, binary32, neg, le, of_bits}
 use Rattle.std.specs.Prelude.{Result, Ok, Err, IfOk}
+use Rattle.std.specs.Result.{result_unwrap_or}
 use Rattle.refusal.specs.declared.Refusal.{Refusal}
 use Rattle.refusal.specs.Rows.{first_row, answer_of, Accepted, Traceback, Length, Sample, Space}
 use Rattle.refusal.proofs.RowLaws as row
@@ -21,12 +22,26 @@ use Rattle.ieee.specs.Within.{within}
 use Rattle.isdb_fec.specs.Values.{some_beyond, stream_limit}
 use Rattle.isdb_fec.specs.Rows.{fresh_rows}
 use Rattle.isdb_fec.specs.Calls.{Fresh}
-use Rattle.known_end.specs.Calls.{between_rows}
+use Rattle.range_calls.specs.Turned.{zeros}
+use Rattle.known_end.specs.Calls.{fresh, between_rows}
 
 -- ---- the fresh decoder
 -- of a traceback that is accepted
 abbrev pub started : ℕ → ℕ → ViterbiDecoder
 started tb s = record { pm = start_at 64 s; held = 0; traceback = depth tb }
+
+pub fresh_is : (tb s : ℕ) (r : Result ViterbiDecoder Refusal) → answer_of r ≡ first_row (fresh_rows tb) → IfOk r (λ v. Fresh tb (start_at 64 s) v) → result_unwrap_or r zeros ≡ fresh tb s
+fresh_is tb s r e m = by (ltb 1024 tb) r e m
+  where
+    by : (w : Bool) (r : Result ViterbiDecoder Refusal) → answer_of r ≡ cond w Traceback Accepted → IfOk r (λ v. Fresh tb (start_at 64 s) v) → result_unwrap_or r zeros ≡ cond w zeros (started tb s)
+    by true (Ok v) e f = absurd (row.err_refuses (sym e))
+    by true (Err why) e f = refl
+    by false (Err why) e f = absurd (row.err_refuses {row = why} e)
+    by false (Ok v) e f =
+        let x = f.values in
+        let y = f.held_is in
+        let z = f.traceback_is in
+        λ i. record { pm = x i; held = y i; traceback = z i }
 
 -- ---- a reading that passes
 pub record Passed (tb : ℕ) (xs : List Float) (decisions out : ℕ) : Type 0 where
@@ -51,13 +66,8 @@ passed tb xs decisions out e =
 pub fresh_passes : (tb : ℕ) → tb ≤ 1024 → Accepted ≡ first_row (fresh_rows tb)
 fresh_passes tb h = sym (row.none_accepted (fresh_rows tb) (le-ltb 1024 tb h, tt))
 
-pub started_is : (tb s : ℕ) (r : Result ViterbiDecoder Refusal) → tb ≤ 1024 → answer_of r ≡ first_row (fresh_rows tb) → IfOk r (λ v. Fresh tb (start_at 64 s) v) → r ≡ Ok (started tb s)
-started_is tb s (Err why) h e m = absurd (row.err_refuses {row = why} (e ∙ sym (fresh_passes tb h)))
-started_is tb s (Ok v) h e f =
-    let x = f.values in
-    let y = f.held_is in
-    let z = f.traceback_is in
-    λ i. Ok (record { pm = x i; held = y i; traceback = z i })
+pub started_is : (tb s : ℕ) → tb ≤ 1024 → fresh tb s ≡ started tb s
+started_is tb s h = rw (le-ltb 1024 tb h) refl
 
 -- ---- a stretch of +1 and -1: row 9 alone is left
 one_inside : (w : Bool) → within stream_limit (cond w (of_bits binary32 0xbf80_0000) (of_bits binary32 0x3f80_0000)) ≡ true

@@ -5,9 +5,11 @@ ghost use Rattle.std.specs.Prelude.{◌≡◌, ◌-◌, ◌≤◌, length, IfOk}
 ghost use Rattle.refusal.specs.Rows.{first_row, answer_of};
 ghost use Rattle.isdb_fec.specs.Rows.{flush_rows};
 ghost use Rattle.known_end.specs.Behind.{Behind};
-ghost use Rattle.known_end.specs.Calls.{between_rows, Left, Corrects};
+ghost use Rattle.known_end.specs.Calls.{between_rows, fresh, Left, Corrects};
+ghost use Rattle.range_calls.specs.Turned.{row_of};
 
 use isdb_fec::conv::{Released, STREAM_LIMIT, TRACEBACK_LIMIT, ViterbiDecoder};
+use range_calls::{TurnedBack, turned, zeros};
 use refusal::Refusal;
 use trellis::BLOCK;
 use viterbi_core::depth_of;
@@ -61,6 +63,13 @@ fn flush_behind(
     })
 }
 
+// The decoder that a reading makes first: fresh, or zeros where the traceback is refused.
+fn begun(traceback: usize, start: u8) -> ViterbiDecoder
+    ensures { result ≡ fresh traceback start }
+{
+    ViterbiDecoder::with_state(traceback, start).unwrap_or(zeros())
+}
+
 // The inputs of the soft pairs, from the state `start` to the state `end`, both mod 64: `with_state`, `push`, and `flush_at` behind the bits that came out.
 pub fn read_between(
     traceback: usize,
@@ -69,13 +78,14 @@ pub fn read_between(
     pairs: &[f32],
     decisions: &mut [u64],
     out: &mut [u8],
-) -> Result<Released, Refusal>
-    ensures answers { answer_of result ≡ first_row (between_rows traceback pairs.now (length decisions.old) (length out.old)) }
+) -> Result<Released, TurnedBack>
+    ensures answers { row_of result ≡ first_row (between_rows traceback pairs.now (length decisions.old) (length out.old)) }
     ensures leaves { Left traceback start end pairs.now result decisions.old decisions.new out.old out.new }
     ensures corrects { Corrects traceback start end pairs.now result (length decisions.old) (length out.old) out.new }
 {
-    answer_between(traceback, pairs, decisions.len(), out.len())?;
-    let dec = ViterbiDecoder::with_state(traceback, start)?;
-    let pushed = dec.push(pairs, decisions, out)?;
-    flush_behind(pushed, end, decisions, out)
+    let dec = begun(traceback, start);
+    let answer = answer_between(traceback, pairs, decisions.len(), out.len());
+    turned(dec, answer)?;
+    let pushed = turned(dec, dec.push(pairs, decisions, out))?;
+    turned(dec, flush_behind(pushed, end, decisions, out))
 }

@@ -25,6 +25,9 @@ use Rattle.refusal.proofs.RowLaws.{passed, err_refuses}
 use Rattle.trellis.specs.LaidLaws.{take_laid, laid_after}
 use Rattle.path_greatest.specs.declared.Start.{Start}
 use Rattle.path_greatest.specs.Fresh.{start_values, StartsIn}
+use Rattle.range_calls.specs.declared.TurnedBack.{TurnedBack}
+use Rattle.range_calls.specs.Turned.{row_of, turned}
+use Rattle.range_calls.specs.TurnedLaws.{same_row}
 use Rattle.path_reading.specs.Calls.{fresh, read, state_of, with_before, Flushed, Left, GreatestSum}
 use Rattle.path_reading.proofs.Accepts.{same_rows, short_rows, short_refused, flush_accepts, whole_accepts, reads}
 
@@ -61,14 +64,14 @@ flushed_few v rest dec₁ dec₂ part end a l =
     omega arith
 
 -- what is promised of the whole; the last follows from the others
-pub record All (start : Start) (xs : List Float) (r : Result Released Refusal) (decisions₀ decisions out₀ out : List ℕ) : Type 0 where
-  pub answers : answer_of r ≡ first_row (reading_rows xs (length decisions₀) (length out₀))
+pub record All (start : Start) (xs : List Float) (r : Result Released TurnedBack) (decisions₀ decisions out₀ out : List ℕ) : Type 0 where
+  pub answers : row_of r ≡ first_row (reading_rows xs (length decisions₀) (length out₀))
   pub leaves : Left start xs r decisions₀ decisions out₀ out
   pub greatest : GreatestSum start xs r (length decisions₀) (length out₀) out
 
 -- of whole quadruples it is accepted
-none_refused : (start : Start) (xs : List Float) (r : Result Released Refusal) (dec₀ dec₁ out₀ out₁ : List ℕ) → answer_of r ≡ first_row (reading_rows xs (length dec₀) (length out₀)) → Left start xs r dec₀ dec₁ out₀ out₁ → GreatestSum start xs r (length dec₀) (length out₀) out₁
-none_refused start xs (Err row) dec₀ dec₁ out₀ out₁ a l n m count few quads hd ho = absurd (err_refuses {row = row} (a ∙ whole_accepts start xs n m count few quads (length dec₀) (length out₀) hd ho))
+none_refused : (start : Start) (xs : List Float) (r : Result Released TurnedBack) (dec₀ dec₁ out₀ out₁ : List ℕ) → row_of r ≡ first_row (reading_rows xs (length dec₀) (length out₀)) → Left start xs r dec₀ dec₁ out₀ out₁ → GreatestSum start xs r (length dec₀) (length out₀) out₁
+none_refused start xs (Err t) dec₀ dec₁ out₀ out₁ a l n m count few quads hd ho = absurd (err_refuses {row = t.row} (a ∙ whole_accepts start xs n m count few quads (length dec₀) (length out₀) hd ho))
 none_refused start xs (Ok x) dec₀ dec₁ out₀ out₁ a g n m count few quads hd ho =
     let b = reads start xs n m count few quads in
     let d = read start xs in
@@ -76,7 +79,7 @@ none_refused start xs (Ok x) dec₀ dec₁ out₀ out₁ a g n m count few quads
     let t : take n out₁ ≡ (flush d).bits = ap (λ (l : List ℕ). take n l) g.bits ∙ ap (λ (j : ℕ). take j (laid (flush d).bits out₀)) (sym k) ∙ take_laid (flush d).bits out₀ in
     (x, refl, g.count_is ∙ k, subst (λ (l : List ℕ). Reading Isdb.half Isdb.labels Isdb.rule (StartsIn Isdb.states start) m n l) (sym t) b)
 
-all_of : (start : Start) (xs : List Float) (r : Result Released Refusal) (dec₀ dec₁ out₀ out₁ : List ℕ) → answer_of r ≡ first_row (reading_rows xs (length dec₀) (length out₀)) → Left start xs r dec₀ dec₁ out₀ out₁ → All start xs r dec₀ dec₁ out₀ out₁
+all_of : (start : Start) (xs : List Float) (r : Result Released TurnedBack) (dec₀ dec₁ out₀ out₁ : List ℕ) → row_of r ≡ first_row (reading_rows xs (length dec₀) (length out₀)) → Left start xs r dec₀ dec₁ out₀ out₁ → All start xs r dec₀ dec₁ out₀ out₁
 all_of start xs r dec₀ dec₁ out₀ out₁ a l = record { answers = a; leaves = l; greatest = none_refused start xs r dec₀ dec₁ out₀ out₁ a l }
 
 -- what `push_metrics` says of the fresh decoder
@@ -86,18 +89,18 @@ Push start xs p dec₀ dec₁ out₀ out₁ =
     × MatchResult p (λ x. Leaves 128 (call 128 (four_steps xs) (handed (fresh start) dec₀) (length xs / 4)) x dec₀ dec₁ out₀ out₁) (λ _. Unchanged dec₀ dec₁ out₀ out₁)
 
 -- too few places for the bits: `push_metrics` was lent the part [] of the decisions
-pub short : (start : Start) (xs : List Float) (dec₀ dec₁ out₀ out₁ dec : List ℕ) (p : Result Released Refusal) → Push start xs p dec₀ dec₁ out₀ out₁ → length out₀ < length xs / 4 → dec₀ ≡ [] → All start xs p dec (dec₁ ++ dec) out₀ out₁
+pub short : (start : Start) (xs : List Float) (dec₀ dec₁ out₀ out₁ dec : List ℕ) (p : Result Released Refusal) → Push start xs p dec₀ dec₁ out₀ out₁ → length out₀ < length xs / 4 → dec₀ ≡ [] → All start xs (turned (fresh start) p) dec (dec₁ ++ dec) out₀ out₁
 short start xs dec₀ dec₁ out₀ out₁ dec (Ok x) says h e =
     let a = says.0 ∙ ap (λ (l : List ℕ). first_row (push_metrics_rows (fresh start) xs (length l) (length out₀))) e ∙ short_rows start xs (length dec) (length out₀) h in
     absurd (short_refused start xs (length dec) (length out₀) h (sym a))
 short start xs dec₀ dec₁ out₀ out₁ dec (Err row) says h e =
     let a = says.0 ∙ ap (λ (l : List ℕ). first_row (push_metrics_rows (fresh start) xs (length l) (length out₀))) e ∙ short_rows start xs (length dec) (length out₀) h in
     let u = says.1 in
-    all_of start xs (Err row) dec (dec₁ ++ dec) out₀ out₁ a (record { words = ap (λ (l : List ℕ). l ++ dec) (u.words ∙ e); bits = u.bits })
+    all_of start xs (Err (record { row = row; dec = fresh start })) dec (dec₁ ++ dec) out₀ out₁ a (refl, record { words = ap (λ (l : List ℕ). l ++ dec) (u.words ∙ e); bits = u.bits })
 
 -- places enough, and `push_metrics` refuses
-pub refused : (start : Start) (xs : List Float) (dec₀ dec₁ out₀ out₁ : List ℕ) (row : Refusal) → Push start xs (Err row) dec₀ dec₁ out₀ out₁ → length xs / 4 ≤ length out₀ → All start xs (Err row) dec₀ dec₁ out₀ out₁
-refused start xs dec₀ dec₁ out₀ out₁ row says fits_out = all_of start xs (Err row) dec₀ dec₁ out₀ out₁ (says.0 ∙ same_rows start xs (length dec₀) (length out₀) fits_out) says.1
+pub refused : (start : Start) (xs : List Float) (dec₀ dec₁ out₀ out₁ : List ℕ) (t : TurnedBack) → t.dec ≡ fresh start → Push start xs (Err t.row) dec₀ dec₁ out₀ out₁ → length xs / 4 ≤ length out₀ → All start xs (Err t) dec₀ dec₁ out₀ out₁
+refused start xs dec₀ dec₁ out₀ out₁ t made says fits_out = all_of start xs (Err t) dec₀ dec₁ out₀ out₁ (says.0 ∙ same_rows start xs (length dec₀) (length out₀) fits_out) (made, says.1)
 
 module _ (start : Start) (xs : List Float) (dec₀ dec₁ out₀ out₁ : List ℕ) (p : Released) (says : Push start xs (Ok p) dec₀ dec₁ out₀ out₁) where
   abbrev d : Decoder
@@ -146,7 +149,7 @@ module _ (start : Start) (xs : List Float) (dec₀ dec₁ out₀ out₁ : List �
         traced_count = length_upto (input 32 d.words (length d.words) (best_state d.values)) (length d.words)
 
         -- `flush` accepts
-        finished : (rest : Result Released Refusal) → answer_of rest ≡ Accepted → MatchResult rest (λ x. Flushes p.dec x dec₁ dec₂ (drop p.count out₁) f.end) (λ _. Unchanged dec₁ dec₂ (drop p.count out₁) f.end) → Left start xs (with_before p.count rest) dec₀ dec₂ out₀ out₂
+        finished : (rest : Result Released Refusal) → answer_of rest ≡ Accepted → MatchResult rest (λ x. Flushes p.dec x dec₁ dec₂ (drop p.count out₁) f.end) (λ _. Unchanged dec₁ dec₂ (drop p.count out₁) f.end) → Left start xs (turned (fresh start) (with_before p.count rest)) dec₀ dec₂ out₀ out₂
         finished (Err row) e g = absurd (err_refuses {row = row} e)
         finished (Ok x) e g =
             let c = left.count_is in
@@ -171,8 +174,9 @@ module _ (start : Start) (xs : List Float) (dec₀ dec₁ out₀ out₁ : List �
         same_answer (Ok x) = refl
         same_answer (Err row) = refl
 
-        pub accepted : All start xs r dec₀ dec₂ out₀ out₂
+        pub accepted : All start xs (turned (fresh start) r) dec₀ dec₂ out₀ out₂
         accepted =
             let e = answer_is ∙ flush_accepts start xs fit (length dec₀) (length out₀) (sym pa) in
             let a : answer_of r ≡ Accepted = ap (λ (x : Result Released Refusal). answer_of x) f.after_is ∙ same_answer f.rest ∙ e in
-            all_of start xs r dec₀ dec₂ out₀ out₂ (a ∙ pa) (subst (λ (x : Result Released Refusal). Left start xs x dec₀ dec₂ out₀ out₂) (sym f.after_is) (finished f.rest e f.leaves))
+            all_of start xs (turned (fresh start) r) dec₀ dec₂ out₀ out₂ (same_row (fresh start) r ∙ a ∙ pa)
+            (subst (λ (x : Result Released Refusal). Left start xs (turned (fresh start) x) dec₀ dec₂ out₀ out₂) (sym f.after_is) (finished f.rest e f.leaves))

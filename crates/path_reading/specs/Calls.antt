@@ -9,6 +9,7 @@ use Rattle.isdb_fec.specs.declared.conv.ViterbiDecoder.{ViterbiDecoder}
 use Rattle.isdb_fec.specs.declared.conv.Released.{Released}
 use Rattle.isdb_fec.specs.Rows.{flush_rows}
 use Rattle.isdb_fec.specs.Calls.{call, flush, Flushes, Unchanged}
+use Rattle.range_calls.specs.declared.TurnedBack.{TurnedBack}
 use Rattle.range_calls.specs.Finished.{Finished}
 use Rattle.path_greatest.specs.declared.Start.{Start}
 use Rattle.path_greatest.specs.Fresh.{start_values, StartsIn}
@@ -38,15 +39,15 @@ pub record Flushed (before : Released) (after : Result Released Refusal) (decisi
   pub out_is : out ≡ take before.count out₀ ++ end
   pub after_is : after ≡ with_before before.count rest
 
--- accepted, all bits are put out, one for each quadruple; refused, the lent memory is as it was
-abbrev pub Left : Start → List Float → Result Released Refusal → List ℕ → List ℕ → List ℕ → List ℕ → Type 0
+-- accepted, all bits are put out, one for each quadruple; refused, the fresh decoder and the lent memory are as they were
+abbrev pub Left : Start → List Float → Result Released TurnedBack → List ℕ → List ℕ → List ℕ → List ℕ → Type 0
 Left start xs r decisions₀ decisions out₀ out =
-    MatchResult r (λ x. Finished frame_traceback (flush (read start xs)).bits (read start xs) x decisions₀ decisions out₀ out) (λ _. Unchanged decisions₀ decisions out₀ out)
+    MatchResult r (λ x. Finished frame_traceback (flush (read start xs)).bits (read start xs) x decisions₀ decisions out₀ out) (λ t. (t.dec ≡ fresh start) × Unchanged decisions₀ decisions out₀ out)
 
 -- Viterbi's rule: of at most 4,096 quadruples of whole numbers within 16 of 0, with memory enough lent, the reading is accepted, has a bit for
 -- each quadruple, and its bits are the inputs of the first path of greatest sum from the given start, or from any where none is given
 -- (`Reading.best`); any path from there with the greatest sum and none of that sum before it is the one returned (`Reading.only`)
-abbrev pub GreatestSum : Start → List Float → Result Released Refusal → ℕ → ℕ → List ℕ → Type 0
+abbrev pub GreatestSum : Start → List Float → Result Released TurnedBack → ℕ → ℕ → List ℕ → Type 0
 GreatestSum start xs r decisions space out =
     (n : ℕ) (m : ℕ → ℕ → ℤ) → length xs ≡ 4 * n → n ≤ longest → Quadruples (quadruple xs) m n → block + frame_traceback ≤ decisions → n ≤ space
     → (x : Released) × (r ≡ Ok x) × (x.count ≡ n) × Reading Isdb.half Isdb.labels Isdb.rule (StartsIn Isdb.states start) m n (take n out)

@@ -9,3 +9,5 @@ pub mod Reached
 pub mod Handed
 pub mod CutAtOne
 pub mod Finished
+pub mod Turned
+pub mod TurnedLaws

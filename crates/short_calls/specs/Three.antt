@@ -1,6 +1,6 @@
 -- P7: "The best-path statement is established over the length": of the calls of short_fec in a row, a fresh decoder of traceback 128, `push_metrics` and `flush`. Of at most 4,096
 -- quadruples of whole numbers within 16, with memory enough lent, all accept, and the bits are those of the first path of greatest sum.
-use Rattle.std.specs.Prelude.{◌≡◌, refl, true, false, cond, List, [], ◌++◌, ℕ, ◌-◌, ◌*◌, ◌/◌, ◌%◌, ◌≤◌, ◌<◌, ℤ, eqb, length, get_or, take, replicate, Float, Result, Ok, Err, IfOk, MatchResult}
+use Rattle.std.specs.Prelude.{◌≡◌, refl, true, false, cond, List, [], ◌++◌, ℕ, ◌-◌, ◌*◌, ◌/◌, ◌%◌, ◌≤◌, ◌<◌, ℤ, eqb, length, get_or, take, replicate, Float, Result, Ok, Err, IfOk, IfErr, MatchResult}
 use Rattle.std.proofs.Common.{sym, ap, ◌∙◌, subst, arith, le_refl, le_of_eq, le-ltb, pow_pos, lit<, lit≤}
 use Rattle.std.proofs.lemmas.Bool.{lt-leb}
 use Rattle.std.specs.Float.{nan, binary32}
@@ -45,6 +45,7 @@ use Rattle.path_greatest.specs.declared.Start.TheVariants.{Given, Unknown}
 use Rattle.path_greatest.specs.Fresh.{start_values, StartsIn}
 use Rattle.short_best.specs.Readings.{read, read_bits, reading_rows}
 use Rattle.range_calls.specs.Handed.{decoder_after}
+use Rattle.short_calls.specs.Calls.{made_or_zeros}
 use Rattle.short_same_code.specs.SameLaws.{after_length}
 use Rattle.short_best.specs.BestLaws.{accepts, reads}
 
@@ -227,3 +228,19 @@ module _ (c : Code) (start : Start) (xs : List Float) (n : ℕ) (m : ℕ → ℕ
   three_calls (Ok x) (Ok y) dec₀ dec₁ dec₂ out₀ out₁ out₂ hd ho pa pl ra rl =
       let a = all_read x dec₀ dec₁ out₀ out₁ hd ho pl y dec₂ out₂ rl in
       (x, refl, a.0, y, refl, a.1, a.2)
+
+-- ---- where the start is refused
+pub unmade : (c : Code) (xs : List Float) (made : Result ViterbiDecoder Refusal) (p r : Result Released Refusal) (dec₀ dec₁ dec₂ out₀ out₁ out₂ : List ℕ)
+    → answer_of p ≡ first_row (short.stream_rows c 4 (made_or_zeros made) xs (length dec₀) (length out₀))
+    → MatchResult p
+    (λ x. Leaves (made_or_zeros made) (call c (made_or_zeros made).traceback (four_steps xs) (handed c (made_or_zeros made) dec₀) (length xs / 4)) x dec₀ dec₁ out₀ out₁)
+    (λ _. Unchanged dec₀ dec₁ out₀ out₁)
+    → answer_of r ≡ first_row (short.flush_rows c (decoder_after (made_or_zeros made) p) (length dec₁) (length out₁))
+    → MatchResult r
+    (λ y. Flushes c (decoder_after (made_or_zeros made) p) (best_of c (decoder_after (made_or_zeros made) p)) y dec₁ dec₂ out₁ out₂)
+    (λ _. Unchanged dec₁ dec₂ out₁ out₂)
+    → IfErr made (λ _. (answer_of p ≡ answer.Traceback) × (answer_of r ≡ answer.Traceback) × Unchanged dec₀ dec₂ out₀ out₂)
+unmade c xs (Ok v) p r dec₀ dec₁ dec₂ out₀ out₁ out₂ pa pl ra rl = tt
+unmade c xs (Err row) (Ok x) r dec₀ dec₁ dec₂ out₀ out₁ out₂ pa pl ra rl = absurd (err_refuses (sym pa))
+unmade c xs (Err row) (Err why) (Ok y) dec₀ dec₁ dec₂ out₀ out₁ out₂ pa pl ra rl = absurd (err_refuses (sym ra))
+unmade c xs (Err row) (Err why) (Err other) dec₀ dec₁ dec₂ out₀ out₁ out₂ pa pl ra rl = (pa, ra, record { words = rl.words ∙ pl.words; bits = rl.bits ∙ pl.bits })
