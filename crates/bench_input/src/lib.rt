@@ -63,6 +63,9 @@ fn is_full(line: &[u8], points: usize) -> bool {
 // More bytes than a file has: of a pipe it is not known how many are left.
 const MANY: usize = 0x2000_0000_0000_0000;
 
+// From so many bytes on a rest is not counted.
+const MOST_LEFT: usize = 0x4000_0000_0000_0000;
+
 // How many bytes of an open file were not read; of a pipe MANY where there are any.
 fn bytes_left(opened: &File) -> usize {
     let Some(here) = system::place(opened) else {
@@ -273,6 +276,8 @@ fn take_in(
     let rest = if got.well { bytes_left(&opened) } else { 0 };
     drop(opened);
     if got.well {
+        // A rest of 2^62 bytes or more is not counted: nothing is said of it.
+        let rest = if rest < MOST_LEFT { rest } else { 0 };
         tell_points(line, got.count, got.over.saturating_add(rest));
     }
     got

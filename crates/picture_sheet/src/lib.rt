@@ -12,7 +12,7 @@ pub const SHEET_BYTES: usize = 655_360;
 pub const OVER: usize = SHEET_BYTES + 1;
 
 // A sheet, and the place after what was put on it: OVER where something did not fit.
-#[derive(Drop)]
+#[derive(Clone, Copy)]
 pub struct Sheet {
     pub bytes: [u8; SHEET_BYTES],
     pub at: usize,
