@@ -2,3 +2,4 @@ pub mod Numbers
 pub mod Tails
 pub mod Lettered
 pub mod RowOrder
+pub mod ByteState
