@@ -197,10 +197,20 @@ fn digit(byte: u8) -> u64 {
     }
 }
 
+// The places from..to of a list, as far as it reaches: without a walk to them.
+fn part<'a, T>(all: &'a [T], from: usize, to: usize) -> &'a [T] {
+    let end = least(to, all.len());
+    if from <= end {
+        &all[from..end]
+    } else {
+        &all[..0]
+    }
+}
+
 // The number of the hexadecimal digits from..to of a line, of which the last 16 count.
 pub fn number(line: &[u8], from: usize, to: usize) -> u64 {
     let mut value: u64 = 0;
-    for byte in line.iter().take(to).skip(from) {
+    for byte in part(line, from, to) {
         value = value % 0x1000_0000_0000_0000 * 16 + digit(*byte) % 16;
     }
     value
@@ -273,20 +283,13 @@ pub fn alike(a: &[u8], from: usize, b: &[u8], n: usize) -> usize
 
 // How many of the bytes from..to are x, as far as they reach.
 pub fn bytes_of(bytes: &[u8], from: usize, to: usize, x: u8) -> usize {
-    bytes
-        .iter()
-        .take(to)
-        .skip(from)
-        .filter(|b| **b == x)
-        .count()
+    part(bytes, from, to).iter().filter(|b| **b == x).count()
 }
 
 // How many of the words from..to are w, as far as they reach.
 pub fn words_of(words: &[u64], from: usize, to: usize, w: u64) -> usize {
-    words
+    part(words, from, to)
         .iter()
-        .take(to)
-        .skip(from)
         .filter(|word| **word == w)
         .count()
 }

@@ -11,7 +11,7 @@ ghost use Rattle.judge_points.specs.Given.{re_free, im_free, outside_given, give
 
 pub use isdbs_combination::{FRAME_SLOTS, SLOT_SYMBOLS};
 use isdbs_core::slots::{Plan, Run};
-use margins::{holds, is_bpsk};
+use margins::{both, holds, is_bpsk};
 
 // Which parts of a point are free.
 #[derive(Clone, Copy)]
@@ -44,7 +44,8 @@ fn outside(list: [Run; 4], x: f64, y: f64, re: &[f64], im: &[f64], k: usize) -> 
     let f = free_at(list, k);
     let a = holds(f.re, x, re[k]);
     let b = holds(f.im, y, im[k]);
-    !(a && b)
+    // By `both`: with `a && b` here the compiler tests all margins of every point, and judging takes half as long again.
+    !both(a, b)
 }
 
 // Part i of a block; 0 past it.

@@ -1,9 +1,10 @@
 -- Laws of totals, greatest sums and rows.
 use Rattle.std.specs.Prelude.{◌≡◌, refl, Bool, true, false, not, ◌&&◌, ◌||◌, List, [], ◌∷◌, ◌++◌, ℕ, zero, suc, ◌+◌, ◌≤◌, ◌<◌, min, max, ltb, leb, eqb, length, get_or, take}
-use Rattle.std.proofs.Common.{ap, arith, ltb-false, leb-false, eqb-true, ne_eqb, take-suc}
+use Rattle.std.proofs.Common.{ap, sym, ◌∙◌, arith, ltb-false, leb-false, eqb-true, ne_eqb, take-suc}
 use Rattle.std.specs.List.{list_any}
 use Rattle.std.proofs.Math.Nat.{suc-min-suc}
 use Rattle.std.proofs.lemmas.Bool.{eqb-false, not-false}
+use mathlib.Core.Bool.{or_assoc}
 use Rattle.std.proofs.Math.Seq.{take-nil, take-length}
 use Rattle.refusal.proofs.RowLaws.{neither}
 use Rattle.strain_window.specs.declared.WindowState.{WindowState}
@@ -41,6 +42,25 @@ total_all xs = ap total_of (take-length xs)
 
 pub greatest_all : (xs : List ℕ) → greatest_of (take (length xs) xs) ≡ greatest_of xs
 greatest_all xs = ap greatest_of (take-length xs)
+
+pub above_append : (xs ys : List ℕ) → sum_above (xs ++ ys) ≡ (sum_above xs || sum_above ys)
+unfolding sum_above
+above_append [] ys = refl
+above_append (x ∷ xs) ys = ap (λ (b : Bool). ltb most_sum x || b) (above_append xs ys) ∙ sym (or_assoc (ltb most_sum x) (sum_above xs) (sum_above ys))
+
+above_one : (x : ℕ) → sum_above (x ∷ []) ≡ ltb most_sum x
+unfolding sum_above
+above_one x = go (ltb most_sum x)
+  where
+    go : (b : Bool) → (b || false) ≡ b
+    go true = refl
+    go false = refl
+
+pub above_next : (xs : List ℕ) (i : ℕ) → i < length xs → sum_above (take (suc i) xs) ≡ (sum_above (take i xs) || ltb most_sum (get_or xs i 0))
+above_next xs i h = rw (take-suc xs i 0 h, above_append, above_one) refl
+
+pub above_all : (xs : List ℕ) → sum_above (take (length xs) xs) ≡ sum_above xs
+above_all xs = ap sum_above (take-length xs)
 
 pub above_any : (xs : List ℕ) → sum_above xs ≡ list_any (λ x. ltb most_sum x) xs
 unfolding sum_above

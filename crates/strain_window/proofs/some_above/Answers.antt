@@ -1,12 +1,19 @@
--- `some_above` meets its contract.
-use Rattle.std.proofs.Common.{◌∙◌, sym, ltb, rules, tests}
-use Rattle.std.proofs.lemmas.Iterator.{YieldsList-from_slice}
-use Rattle.std.proofs.lemmas.Iterator.Search.{any_from_yields_List}
-use Rattle.strain_window.specs.Rows.{most_sum}
-use Rattle.strain_window.proofs.WindowLaws.{above_any}
+use Rattle.std.proofs.Common.{◌≡◌, ◌∙◌, ◌+◌, ◌<◌, ℕ, Bool, ◌||◌, suc, sym, ap, arith, add-one, ltb, length, take, get_or}
+use Rattle.strain_window.specs.Rows.{most_sum, sum_above}
+use Rattle.strain_window.proofs.WindowLaws.{above_next, above_all}
 use Rattle.strain_window.proofs.some_above.Goals as goal
+
+pub loop-sum-preserved : goal.loop-sum-preserved
+loop-sum-preserved c =
+    let at = c in
+    let xs = at.args.sums.now in
+    let i = at.loop-sum.sum-index in
+    let h : i < length xs = omega arith in
+    rw (add-one i) (ap (λ (b : Bool). b || ltb most_sum (get_or xs i 0)) at.loop-sum.invariant ∙ sym (above_next xs i h))
 
 pub returns : goal.returns
 returns c =
-    any_from_yields_List (λ x. ltb most_sum x) _ _ c.any.result c.any.ensures.ran (YieldsList-from_slice c.args.sums.now cc) (λ x b q k. search (rules, tests))
-    ∙ sym (above_any c.args.sums.now)
+    let at = c in
+    let xs = at.args.sums.now in
+    let e : at.loop-sum.sum-index ≡ length xs = omega arith in
+    at.loop-sum.invariant ∙ ap (λ (k : ℕ). sum_above (take k xs)) e ∙ above_all xs
