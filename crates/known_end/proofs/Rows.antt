@@ -1,5 +1,5 @@
 -- Which rows hold: of a reading that passes, and of a stretch of +1 and -1.
-use mathlib.Core.Path.{◌≡◌, refl, sym}
+use mathlib.Core.Path.{◌≡◌, refl, sym, ◌∙◌}
 use mathlib.Core.Bool.{Bool, true, false, not, cond, ◌||◌}
 use mathlib.Core.List.{List, [], ◌∷◌}
 use Prim.Native.Nat.{ℕ, ◌+◌, ◌/◌, ◌%◌, ◌≤◌}
@@ -66,8 +66,17 @@ passed tb xs decisions out e =
 pub fresh_passes : (tb : ℕ) → tb ≤ 1024 → Accepted ≡ first_row (fresh_rows tb)
 fresh_passes tb h = sym (row.none_accepted (fresh_rows tb) (le-ltb 1024 tb h, tt))
 
-pub started_is : (tb s : ℕ) → tb ≤ 1024 → fresh tb s ≡ started tb s
-started_is tb s h = rw (le-ltb 1024 tb h) refl
+-- what `with_state` then answers
+pub started_is : (tb s : ℕ) (r : Result ViterbiDecoder Refusal) → tb ≤ 1024 → answer_of r ≡ first_row (fresh_rows tb) → IfOk r (λ v. Fresh tb (start_at 64 s) v) → r ≡ Ok (started tb s)
+started_is tb s (Err why) h e m = absurd (row.err_refuses {row = why} (e ∙ sym (fresh_passes tb h)))
+started_is tb s (Ok v) h e f =
+    let x = f.values in
+    let y = f.held_is in
+    let z = f.traceback_is in
+    λ i. Ok (record { pm = x i; held = y i; traceback = z i })
+
+pub fresh_started : (tb s : ℕ) → tb ≤ 1024 → fresh tb s ≡ started tb s
+fresh_started tb s h = rw (le-ltb 1024 tb h) refl
 
 -- ---- a stretch of +1 and -1: row 9 alone is left
 one_inside : (w : Bool) → within stream_limit (cond w (of_bits binary32 0xbf80_0000) (of_bits binary32 0x3f80_0000)) ≡ true

@@ -5,7 +5,7 @@ use Rattle.isdb_fec.specs.declared.conv.ViterbiDecoder.{ViterbiDecoder}
 use Rattle.range_calls.specs.Turned.{turned}
 use Rattle.range_calls.specs.TurnedLaws.{turned_ok, turned_err}
 use lib.ListN.{length}
-use Rattle.known_end.proofs.Rows.{passed, started_is}
+use Rattle.known_end.proofs.Rows.{passed, fresh_started}
 use Rattle.known_end.proofs.Compose.{turned_back, push_taken, fits_out, accepted}
 use Rattle.known_end.proofs.read_between.Goals as goal
 
@@ -23,7 +23,7 @@ returns-in_err-pushed c =
     let v = turned_ok c.begun-dec.result c.answer_between-answer.result c.in_ok-turned.field-0 (sym c.turned.ensures ∙ c.in_ok-turned.was) in
     let ok = sym c.answer_between-answer.ensures ∙ v in
     let h = (passed a.traceback a.pairs.now (length a.decisions.now) (length a.out.now) ok).traceback in
-    let is = c.begun-dec.ensures ∙ started_is a.traceback a.start h in
+    let is = c.begun-dec.ensures ∙ fresh_started a.traceback a.start h in
     let t = turned_err c.begun-dec.result c.push.result c.in_err-pushed.field-0.0 (sym c.turned-2.ensures ∙ c.in_err-pushed.was) in
     let g = rw (is, t.0) at c.push.ensures in
     absurd (push_taken a.traceback a.start a.pairs.now _ a.decisions.now c.push.new.decisions a.out.now c.push.new.out ok (g.answers, g.leaves))
@@ -34,7 +34,7 @@ flush_behind-requires c =
     let v = turned_ok c.begun-dec.result c.answer_between-answer.result c.in_ok-turned.field-0 (sym c.turned.ensures ∙ c.in_ok-turned.was) in
     let ok = sym c.answer_between-answer.ensures ∙ v in
     let h = (passed a.traceback a.pairs.now (length a.decisions.now) (length a.out.now) ok).traceback in
-    let is = c.begun-dec.ensures ∙ started_is a.traceback a.start h in
+    let is = c.begun-dec.ensures ∙ fresh_started a.traceback a.start h in
     let p = turned_ok c.begun-dec.result c.push.result c.in_ok-pushed.pushed (sym c.turned-2.ensures ∙ c.in_ok-pushed.was) in
     let g = rw (is, p) at c.push.ensures in
     fits_out a.traceback a.start a.end a.pairs.now a.decisions.now c.push.new.decisions a.out.now c.push.new.out c.in_ok-pushed.pushed ok (g.answers, g.leaves)
@@ -45,7 +45,7 @@ returns c =
     let v = turned_ok c.begun-dec.result c.answer_between-answer.result c.in_ok-turned.field-0 (sym c.turned.ensures ∙ c.in_ok-turned.was) in
     let ok = sym c.answer_between-answer.ensures ∙ v in
     let h = (passed a.traceback a.pairs.now (length a.decisions.now) (length a.out.now) ok).traceback in
-    let is = c.begun-dec.ensures ∙ started_is a.traceback a.start h in
+    let is = c.begun-dec.ensures ∙ fresh_started a.traceback a.start h in
     let p = turned_ok c.begun-dec.result c.push.result c.in_ok-pushed.pushed (sym c.turned-2.ensures ∙ c.in_ok-pushed.was) in
     let g = rw (is, p) at c.push.ensures in
     let w = accepted a.traceback a.start a.end a.pairs.now a.decisions.now c.push.new.decisions a.out.now c.push.new.out c.in_ok-pushed.pushed ok (g.answers, g.leaves) c.type_inv.pairs c.decisions-1.given c.out-1.given
